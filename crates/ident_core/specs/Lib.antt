@@ -1,0 +1,5 @@
+pub mod SerialFields
+pub mod Order
+pub mod Coverage
+pub mod HeadFields
+pub mod RangeLayout

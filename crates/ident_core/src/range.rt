@@ -1,0 +1,96 @@
+ghost use Rattle.std.specs.Prelude.{◌≡◌, ◌↔◌, IsTrue, IsNone};
+ghost use Rattle.octets_core.specs.Linked.{is_after};
+ghost use Rattle.octets_core.specs.Reading.{ReadsField};
+ghost use Rattle.ident_core.specs.Coverage.{Covers, covers as covers_of, LiesWithin, lies_in_some, first_outside, AreRanges, RangesFit};
+ghost use Rattle.ident_core.specs.RangeLayout.{range};
+
+use octets_core::{Cursor, Field, Key32, LayoutFault, read_key_after, read_u64};
+
+/// The most ranges that the head of a part holds.
+pub const MAX_RANGES: usize = 1024;
+
+/// When a log saw a certificate.
+#[derive(Clone, Copy, Debug, PartialEq, Eq)]
+pub struct Sighting {
+    pub log: Key32,
+    /// The timestamp, in milliseconds since 1970-01-01 00:00:00 UTC (RFC 6962, 3.1).
+    pub time: u64,
+}
+
+/// A span of a log's timestamps, in milliseconds. Both ends lie in it.
+#[derive(Clone, Copy, Debug, PartialEq, Eq)]
+pub struct Range {
+    pub log: Key32,
+    pub from: u64,
+    pub to: u64,
+}
+
+/// Whether one of the ranges covers the sighting.
+pub fn covers(ranges: &[Range], s: &Sighting) -> bool
+    ensures meaning { IsTrue result ↔ Covers ranges.now s.now }
+    ensures value { result ≡ covers_of ranges.now s.now }
+{
+    ranges
+        .iter()
+        .any(|r| r.log == s.log && r.from <= s.time && s.time <= r.to)
+}
+
+fn lies_in_one(new: &[Range], r: &Range) -> bool
+    ensures { result ≡ lies_in_some new.now r.now }
+{
+    new.iter().any(|outer| outer.log == r.log && outer.from <= r.from && r.to <= outer.to)
+}
+
+fn first_log_outside(old: &[Range], new: &[Range]) -> Option<Key32>
+    ensures { result ≡ first_outside old.now new.now }
+{
+    old.iter().find(|r| !lies_in_one(new, r)).map(|r| r.log)
+}
+
+/// The log of the first old range that doesn't lie in a new range of its log.
+pub fn shrinks(old: &[Range], new: &[Range]) -> Option<Key32>
+    ensures none { IsNone result ↔ LiesWithin old.now new.now }
+    ensures first { result ≡ first_outside old.now new.now }
+{
+    first_log_outside(old, new)
+}
+
+fn follows(previous: Option<Key32>, log: &Key32) -> bool
+    ensures { result ≡ is_after previous log.now }
+{
+    match previous {
+        None => true,
+        Some(previous) => previous.cmp(log).is_lt(),
+    }
+}
+
+fn are_ranges(ranges: &[Range]) -> bool
+    ensures { IsTrue result ↔ AreRanges ranges.now }
+{
+    let mut previous = None;
+    for r in ranges {
+        if !follows(previous, &r.log) || r.to < r.from {
+            return false;
+        }
+        previous = Some(r.log);
+    }
+    true
+}
+
+/// Whether the head of a part may hold the ranges: at most 1,024, logs strictly ascending, none that ends before it begins.
+pub fn ranges_fit(ranges: &[Range]) -> bool
+    ensures { IsTrue result ↔ RangesFit ranges.now }
+{
+    ranges.len() <= MAX_RANGES && are_ranges(ranges)
+}
+
+/// Reads a range off a layout, behind the range of the previous log.
+#[tactic(auto, unfolding(crate::specs::RangeLayout::range))]
+pub fn read_range(cursor: &mut Cursor<'_>, previous: Option<Key32>) -> Result<Range, LayoutFault>
+    ensures { ReadsField (λ x. x) (range previous) cursor.old cursor.new result }
+{
+    let log = read_key_after(cursor, Field::RangeLog, previous)?;
+    let from = read_u64(cursor, Field::RangeFrom, 0, u64::MAX)?;
+    let to = read_u64(cursor, Field::RangeTo, from, u64::MAX)?;
+    Ok(Range { log, from, to })
+}
