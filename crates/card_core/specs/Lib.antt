@@ -1,0 +1,2 @@
+pub mod PartFields
+pub mod Consulting
