@@ -1,0 +1,5 @@
+pub mod Files
+pub mod Written
+pub mod Feeding
+mod Entries
+mod View

@@ -1,0 +1,7 @@
+pub mod Files
+pub mod Written
+pub mod Calls
+pub mod Entries
+pub mod View
+pub mod Feeding
+pub mod Filling

@@ -1,0 +1,14 @@
+//! What a command reads from and writes to: files under names, and one stream of text; both in memory too, and a
+//! file that is read in order.
+#![tactic(auto)]
+
+mod depot;
+mod feed;
+mod memory;
+mod sink;
+mod window;
+
+pub use depot::{Depot, Failed};
+pub use feed::Feed;
+pub use memory::{MemoryDepot, MemorySink};
+pub use sink::{Sink, write_all};

@@ -1,0 +1,79 @@
+ghost use Rattle.std.specs.Prelude.{◌≡◌, ◌++◌, ◌-◌, List, ℕ, length, min, OnOk, OnErr};
+ghost use Rattle.std.specs.FinMap.{insert};
+ghost use Rattle.outside_core.specs.Files.{held, IsPiece};
+ghost use Rattle.outside_core.specs.Entries.{place_of, files_of};
+
+use octets_core::NoMemory;
+use std::alloc::Global;
+
+/// A name and what it holds.
+#[derive(Drop)]
+pub struct Entry {
+    pub name: String,
+    pub bytes: Vec<u8>,
+}
+
+/// The place of a name.
+pub fn place(entries: &[Entry], name: &str) -> Option<usize>
+    ensures { result ≡ place_of entries.now name.now }
+{
+    entries.iter().position(|e| e.name.as_str() == name)
+}
+
+/// Makes the name hold the bytes. After want of memory it holds what it held.
+pub fn put(
+    alloc: Global,
+    entries: &mut Vec<Entry>,
+    name: &str,
+    bytes: Vec<u8>,
+) -> Result<(), NoMemory>
+    ensures ok { OnOk result (files_of entries.new.items ≡ insert (files_of entries.old.items) name.now bytes.items) }
+    ensures err { OnErr result (entries.new.items ≡ entries.old.items) }
+{
+    match place(entries, name) {
+        Some(i) => {
+            let entry = &mut entries[i];
+            entry.bytes = bytes;
+        }
+        None => {
+            let name = String::from_str(alloc, name)?;
+            entries.push(Entry { name, bytes })?;
+        }
+    }
+    Ok(())
+}
+
+/// Adds the bytes behind what the name holds. After want of memory it holds what it held.
+pub fn add(
+    alloc: Global,
+    entries: &mut Vec<Entry>,
+    name: &str,
+    bytes: &[u8],
+) -> Result<(), NoMemory>
+    ensures ok { OnOk result (files_of entries.new.items ≡ insert (files_of entries.old.items) name.now (held (files_of entries.old.items) name.now ++ bytes.now)) }
+    ensures err { OnErr result (files_of entries.new.items ≡ files_of entries.old.items) }
+{
+    match place(entries, name) {
+        Some(i) => {
+            let entry = &mut entries[i];
+            entry.bytes.extend_from_slice(bytes)?;
+        }
+        None => put(alloc, entries, name, bytes.to_vec(alloc)?)?,
+    }
+    Ok(())
+}
+
+/// Copies the bytes from a place on into the front of the buffer, as many as there are and fit.
+pub fn copy_from(bytes: &[u8], at: u64, buf: &mut [u8]) -> usize
+    ensures count { result ≡ min (length buf.old) (length bytes.now - at) }
+    ensures piece { IsPiece bytes.now at buf.new result }
+{
+    let len = bytes.len() as u64;
+    if at >= len {
+        return 0;
+    }
+    let rest = &bytes[at as usize..];
+    let n = rest.len().min(buf.len());
+    buf[..n].copy_from_slice(&rest[..n]);
+    n
+}
