@@ -1,0 +1,4 @@
+pub mod Digits
+pub mod RowLaws
+pub mod Rows
+pub mod Sizes

@@ -1,0 +1,32 @@
+ghost use Rattle.std.specs.Prelude.{◌≡◌, ◌<◌, ◌≤◌, ◌^◌, ℕ};
+ghost use Rattle.ident_core.specs.declared.identity.Identity.{Identity};
+ghost use Rattle.equation_core.specs.declared.hash.Row.{Row};
+ghost use Rattle.equation_core.specs.Rows.{IsRow};
+
+use ident_core::Identity;
+
+/// What an identity gives to a ribbon filter (Dillinger and Walzer, "Ribbon filter: practically smaller than Bloom
+/// and Xor", 2021): the columns that its equation adds up, and what the sum is to be in each plane.
+#[derive(Clone, Copy, Debug, PartialEq, Eq)]
+pub struct Row {
+    /// The first column that the equation may choose, which it does choose.
+    pub start: u32,
+    /// Bit `j` says whether column `start + j` is chosen.
+    pub coeff: u128,
+    /// Bit `p` is the identity's tag in plane `p`.
+    pub tag: u16,
+}
+
+/// A way to give each identity a row, for each stage and seed of a filter and each count of starts.
+pub trait EquationHash {
+    /// The row is a function of the hash's value and the four arguments.
+    ghost row_of: { Self → ℕ → ℕ → Identity → ℕ → Row };
+
+    fn row(&self, stage: u8, seed: u8, id: &Identity, starts: u32) -> Row
+        requires { 1 ≤ starts }
+        ensures value { result ≡ row_of self.now stage seed id.now starts }
+        ensures formed { IsRow starts result };
+
+    /// Each row begins at one of the starts with an odd coefficient, and fits its fields.
+    ghost formed: { (hash : Self) (stage seed : ℕ) (id : Identity) (starts : ℕ) → stage < 2 ^ 8 → seed < 2 ^ 8 → 1 ≤ starts → starts < 2 ^ 32 → IsRow starts (row_of hash stage seed id starts) };
+}

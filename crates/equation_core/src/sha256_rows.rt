@@ -1,0 +1,44 @@
+ghost use Rattle.equation_core.specs.Rows.{sha256_row};
+ghost use Rattle.equation_core.specs.RowLaws.{sha256_row-is};
+
+use crate::hash::{EquationHash, Row};
+use ident_core::Identity;
+use sha2::{Digest, Sha256};
+
+/// Rows by SHA-256 (FIPS 180-4), cut from the digest of this project's own row message: the mark `CCROW1`, the stage,
+/// the seed, the issuer, the serial's length and the serial.
+#[derive(Clone, Copy, Debug, PartialEq, Eq)]
+pub struct Sha256Rows;
+
+impl EquationHash for Sha256Rows {
+    ghost row_of = { λ _ stage seed id starts. sha256_row stage seed id starts };
+
+    ghost formed = { λ _ stage seed id starts _ _ some _. sha256_row-is stage seed id starts some };
+
+    // Bytes 0 to 15 of the digest are the coefficient, whose bit 0 is set, bytes 16 to 23 give the start, and bytes 24
+    // and 25 are the tag.
+    fn row(&self, stage: u8, seed: u8, id: &Identity, starts: u32) -> Row {
+        let serial = id.serial.bytes();
+        let mut hasher = Sha256::new();
+        hasher.update(b"CCROW1");
+        hasher.update(&[stage, seed]);
+        hasher.update(id.issuer.bytes());
+        hasher.update(&[serial.len() as u8]);
+        hasher.update(serial);
+        let d = hasher.finalize();
+        let coeff = u128::from_be_bytes([
+            d[0], d[1], d[2], d[3], d[4], d[5], d[6], d[7], d[8], d[9], d[10], d[11], d[12], d[13],
+            d[14], d[15],
+        ]) | 1;
+        let start = u64::from_be_bytes([d[16], d[17], d[18], d[19], d[20], d[21], d[22], d[23]]);
+        let tag = u16::from_be_bytes([d[24], d[25]]);
+        Row {
+            start: (start % starts as u64) as u32,
+            coeff,
+            tag,
+        }
+    }
+}
+
+#[cfg(test)]
+mod tests;

@@ -1,0 +1,14 @@
+pub mod Added
+pub mod Adding
+pub mod BackSubstitution
+pub mod Bands
+pub mod ColumnSums
+pub mod KeptEquations
+pub mod LeastLaws
+pub mod Parity
+pub mod Reduction
+pub mod Solution
+pub mod Solved
+pub mod Sums
+pub mod Window
+pub mod Words

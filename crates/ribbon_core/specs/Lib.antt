@@ -1,0 +1,5 @@
+pub mod Bands
+pub mod Equations
+pub mod Kept
+pub mod PlaneWords
+pub mod Rows

@@ -1,0 +1,35 @@
+-- Planes, and the words that hold their columns.
+use Rattle.std.specs.Prelude.{◌≡◌, ℕ, zero, suc, ◌+◌, ◌*◌, ◌^◌, ◌<◌, ◌≤◌, List, length, get_or, map}
+use Rattle.std.specs.List.{range_with_len}
+use Rattle.equation_core.specs.Sizes.{words_for}
+
+-- what a public contract sees of planes: of each the columns
+pub record PlaneColumns : Type 0 where
+  pub starts : ℕ
+  pub columns : List ℕ
+
+-- the number whose words of 64 bits f gives, the lowest first: n words from word i on
+unfoldable pub number_by : (ℕ → ℕ) → ℕ → ℕ → ℕ
+number_by f i zero = 0
+number_by f i (suc n) = f i + 2 ^ 64 * number_by f (suc i) n
+
+-- word i of a plane, where the planes stand one after the other
+abbrev pub word_of : List ℕ → ℕ → ℕ → ℕ → ℕ
+word_of words width plane i = get_or words (plane * width + i) 0
+
+-- the columns of a plane
+abbrev pub plane_of_words : List ℕ → ℕ → ℕ → ℕ
+plane_of_words words width plane = number_by (word_of words width plane) 0 width
+
+-- the columns of each plane
+abbrev pub columns_of : ℕ → ℕ → List ℕ → List ℕ
+columns_of starts planes words = map (plane_of_words words (words_for starts)) (range_with_len 0 planes)
+
+-- the fields of planes
+pub record ArePlanes (starts planes : ℕ) (words : List ℕ) : Type 0 where
+  pub some_starts : 1 ≤ starts
+  pub few_starts : starts ≤ 4718593
+  pub some_planes : 1 ≤ planes
+  pub few_planes : planes ≤ 16
+  pub room : length words ≡ planes * words_for starts
+  pub padding : (plane : ℕ) → plane < planes → plane_of_words words (words_for starts) plane < 2 ^ (starts + 127)

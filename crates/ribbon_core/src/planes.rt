@@ -1,0 +1,114 @@
+ghost use Rattle.std.specs.Prelude.{◌≡◌, ℕ, ◌+◌, ◌*◌, ◌/◌, ◌%◌, ◌^◌, ◌<◌, ◌≤◌, length, slice_index, if◌then◌else◌, ◌==◌, IfOk};
+ghost use Rattle.std.specs.Int.{bit_at};
+ghost use Rattle.std.specs.List.{All};
+ghost use Rattle.equation_core.specs.Sizes.{words_for as words_of};
+ghost use Rattle.ribbon_core.specs.Equations.{sum_of};
+ghost use Rattle.ribbon_core.specs.PlaneWords.{ArePlanes, columns_of, plane_of_words};
+ghost use Rattle.ribbon_core.specs.Rows.{equation_of};
+
+use crate::reading::{sums_of, word_of};
+use equation_core::{Row, words_for};
+use octets_core::{NoMemory, Steps};
+use std::alloc::Global;
+use std::marker::Model;
+use std::sync::ledger::Ledger;
+
+/// The columns of 1 to 16 planes, each of as many words as its columns need. The bits behind the last column are zero.
+#[derive(Drop)]
+pub struct Planes {
+    starts: u32,
+    planes: u8,
+    words: Vec<u64>,
+}
+
+impl Model for Planes {
+    ghost use Rattle.ribbon_core.specs.PlaneWords.{PlaneColumns, columns_of, ArePlanes};
+
+    ghost Value = { PlaneColumns };
+
+    ghost view = { λ p. record { starts = p.starts; columns = columns_of p.starts p.planes p.words.items } };
+
+    ghost invariant = { λ p. ArePlanes p.starts p.planes p.words.items };
+}
+
+impl Planes {
+    /// The planes whose words these are, plane after plane, the lowest columns first.
+    pub fn of_words(
+        alloc: Global,
+        starts: u32,
+        planes: u8,
+        words: &[u64],
+    ) -> Result<Planes, NoMemory>
+        requires some_starts { 1 ≤ starts }
+        requires few_starts { starts ≤ 4718593 }
+        requires some_planes { 1 ≤ planes }
+        requires few_planes { planes ≤ 16 }
+        requires room { length words.now ≡ planes * words_of starts }
+        requires padding { (plane : ℕ) → plane < planes → plane_of_words words.now (words_of starts) plane < 2 ^ (starts + 127) }
+        ensures { IfOk result (λ p. p ≡ record { starts = starts; columns = columns_of starts planes words.now }) }
+    {
+        let words = Vec::from_slice(alloc, words)?;
+        Ok(Planes::from_words(starts, planes, words))
+    }
+
+    // The same, of words that stand as the type keeps them.
+    pub(crate) fn from_words(starts: u32, planes: u8, words: Vec<u64>) -> Planes
+        requires { ArePlanes starts planes words.items }
+        ensures { result ≡ record { starts = starts; columns = columns_of starts planes words.items } }
+    {
+        Planes {
+            starts,
+            planes,
+            words,
+        }
+    }
+
+    /// How many starts there are, which is 127 less than columns.
+    pub fn starts(&self) -> u32
+        ensures value { result ≡ self.now.starts }
+        ensures some { 1 ≤ result }
+        ensures few { result ≤ 4718593 }
+    {
+        self.starts
+    }
+
+    /// How many planes there are.
+    pub fn planes(&self) -> u8
+        ensures count { result ≡ length self.now.columns }
+        ensures some { 1 ≤ result }
+        ensures few { result ≤ 16 }
+        ensures padding { All (λ Z. Z < 2 ^ (self.now.starts + 127)) self.now.columns }
+    {
+        self.planes
+    }
+
+    /// Word `i` of a plane: its columns from `64 * i` on, the lowest in the lowest bit. It takes one step.
+    pub fn word<L: Ledger>(&self, plane: u8, i: usize, words: &mut Steps<L>) -> u64
+        requires plane { plane < length self.now.columns }
+        requires word { i < words_of self.now.starts }
+        ensures value { result ≡ slice_index self.now.columns plane / 2 ^ (64 * i) % 2 ^ 64 }
+        ensures steps { words.new ≡ words.old + 1 }
+    {
+        word_of(&self.words, words_for(self.starts), plane, i, words)
+    }
+
+    /// In bit `p`, the sum modulo 2 of the columns of plane `p` that the row chooses. Each word that is read takes a
+    /// step.
+    pub fn parity<L: Ledger>(&self, row: &Row, words: &mut Steps<L>) -> u16
+        requires { row.now.start < self.now.starts }
+        ensures sums { (plane : ℕ) → plane < length self.now.columns → bit_at result plane ≡ sum_of (equation_of row.now) (slice_index self.now.columns plane) }
+        ensures few_planes { result < 2 ^ length self.now.columns }
+        ensures steps { words.new ≡ words.old + length self.now.columns * (if row.now.start % 64 == 0 then 2 else 3) }
+    {
+        let Row { start, coeff, .. } = *row;
+        let width = words_for(self.starts);
+        sums_of(
+            &self.words,
+            width,
+            self.planes,
+            start as usize,
+            coeff,
+            words,
+        )
+    }
+}

@@ -1,0 +1,102 @@
+ghost use Rattle.std.specs.Prelude.{◌≡◌, ℕ, ◌+◌, ◌%◌, ◌^◌, ◌<◌, ◌≤◌, ◌↔◌, List, [], length, slice_index, OnOk, OnErr, IfOk, IsErr};
+ghost use Rattle.std.specs.List.{All};
+ghost use Rattle.ribbon_core.specs.Equations.{IsAdded, IsContradicted, IsEquation, Least};
+ghost use Rattle.ribbon_core.specs.Rows.{equation_with};
+
+use crate::elimination::{Inconsistent, reduce};
+use crate::planes::Planes;
+use crate::substitution::solve_planes;
+use equation_core::{Row, words_for};
+use octets_core::NoMemory;
+use std::alloc::Global;
+use std::marker::Model;
+
+/// Equations over the columns of 1 to 16 planes. A coefficient serves all planes, and bit `p` of a target is for plane
+/// `p`.
+#[derive(Drop)]
+pub struct System {
+    starts: u32,
+    planes: u8,
+    // of each column the coefficient whose lowest one stands there, or 0, with its target
+    coeffs: Vec<u128>,
+    targets: Vec<u16>,
+    // room for the solution
+    words: Vec<u64>,
+}
+
+impl Model for System {
+    ghost use Rattle.ribbon_core.specs.Kept.{Kept, kept_from, IsSystem};
+
+    ghost Value = { Kept };
+
+    ghost view = { λ s. record { starts = s.starts; planes = s.planes; equations = kept_from 0 s.coeffs.items s.targets.items } };
+
+    ghost invariant = { λ s. IsSystem s.starts s.planes s.coeffs.items s.targets.items s.words.items };
+}
+
+impl System {
+    /// A system that keeps no equation, with `starts + 127` columns. It takes all the memory that `add` and `solve`
+    /// need: 18 bytes a column and the words of the planes.
+    pub fn new(alloc: Global, starts: u32, planes: u8) -> Result<System, NoMemory>
+        requires some_starts { 1 ≤ starts }
+        requires few_starts { starts ≤ 4718593 }
+        requires some_planes { 1 ≤ planes }
+        requires few_planes { planes ≤ 16 }
+        ensures { IfOk result (λ s. s ≡ record { starts = starts; planes = planes; equations = [] }) }
+    {
+        let columns = starts as usize + 127;
+        let coeffs = vec![in alloc; 0u128; columns]?;
+        let targets = vec![in alloc; 0u16; columns]?;
+        let words = vec![in alloc; 0u64; planes as usize * words_for(starts)]?;
+        Ok(System {
+            starts,
+            planes,
+            coeffs,
+            targets,
+            words,
+        })
+    }
+
+    /// Keeps one equation more in each plane. What is kept are equations with the same solutions, maybe not the given
+    /// ones. The tag of the row is not looked at.
+    pub fn add(&mut self, row: &Row, target: u16) -> Result<(), Inconsistent>
+        requires start { row.now.start < self.old.starts }
+        requires odd { row.now.coeff % 2 ≡ 1 }
+        requires few_planes { target < 2 ^ self.old.planes }
+        ensures starts { self.new.starts ≡ self.old.starts }
+        ensures planes { self.new.planes ≡ self.old.planes }
+        ensures formed { All (IsEquation (self.new.starts + 127)) self.new.equations }
+
+        ensures inconsistent { IsErr result ↔ IsContradicted self.old.planes self.old.equations (equation_with target row.now) }
+        ensures err { OnErr result (self.new ≡ self.old) }
+        ensures ok { OnOk result (IsAdded self.old.equations (equation_with target row.now) self.new.equations) }
+    {
+        let Row { start, coeff, .. } = *row;
+        reduce(
+            &mut self.coeffs,
+            &mut self.targets,
+            self.planes,
+            start as usize,
+            coeff,
+            target,
+        )
+    }
+
+    /// The least solution of each plane. There is one, since `add` keeps no equation that contradicts the others.
+    pub fn solve(self) -> Planes
+        ensures starts { result.starts ≡ self.starts }
+        ensures planes { length result.columns ≡ self.planes }
+        ensures formed { All (IsEquation (self.starts + 127)) self.equations }
+        ensures least { (plane : ℕ) → plane < self.planes → Least plane self.equations (slice_index result.columns plane) }
+    {
+        let System {
+            starts,
+            planes,
+            coeffs,
+            targets,
+            mut words,
+        } = self;
+        solve_planes(&coeffs, &targets, planes, words_for(starts), &mut words);
+        Planes::from_words(starts, planes, words)
+    }
+}
