@@ -1,0 +1,5 @@
+pub mod Extensions
+pub mod Form
+pub mod Grammar
+pub mod Findings
+pub mod Outcome

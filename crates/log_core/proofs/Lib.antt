@@ -1,0 +1,4 @@
+pub mod ChainLaws
+pub mod VectorLaws
+pub mod CertificateLaws
+pub mod EntryLaws

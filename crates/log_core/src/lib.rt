@@ -1,0 +1,17 @@
+//! Entries of certificate transparency logs (RFC 6962), and what is read of certificates (RFC 5280). No call takes
+//! memory.
+#![tactic(auto)]
+
+mod certificate;
+mod entry;
+mod leaf;
+
+pub use certificate::issuer_hash;
+pub use entry::read_entry;
+
+/// The entry, or the certificate, isn't one that this profile reads.
+#[derive(Clone, Copy, Debug, PartialEq, Eq)]
+pub struct Unread;
+
+#[cfg(test)]
+mod tests;
