@@ -1,0 +1,9 @@
+pub mod PartFacts
+pub mod PartBounds
+pub mod Embedded
+pub mod Reading
+pub mod StoreSpans
+pub mod QueryReplies
+pub mod Endings
+pub mod Pairs
+pub mod Numbers

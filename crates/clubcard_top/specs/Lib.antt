@@ -1,0 +1,12 @@
+pub mod Decoding
+pub mod Offsets
+pub mod PartLayout
+pub mod StoreLayout
+pub mod Statuses
+pub mod Verdict
+pub mod QueryFields
+pub mod Words
+pub mod ReplyFields
+pub mod Replies
+pub mod Inputs
+pub mod Runs

@@ -1,0 +1,41 @@
+-- How a call of the program may end.
+use Rattle.std.specs.Prelude.{ℕ, List, [], ◌∷◌, Bool, nat_eq}
+use Rattle.std.specs.List.{list_any}
+
+abbrev pub done : ℕ
+done = 0
+
+abbrev pub usage : ℕ
+usage = 2
+
+abbrev pub bad_layout : ℕ
+bad_layout = 3
+
+abbrev pub chain : ℕ
+chain = 5
+
+abbrev pub read_fault : ℕ
+read_fault = 8
+
+abbrev pub write_fault : ℕ
+write_fault = 9
+
+abbrev pub mixed_block : ℕ
+mixed_block = 10
+
+abbrev pub many_parts : ℕ
+many_parts = 11
+
+abbrev pub no_memory : ℕ
+no_memory = 70
+
+abbrev pub is_one_of : List ℕ → ℕ → Bool
+is_one_of statuses n = list_any (λ m. nat_eq m n) statuses
+
+-- the statuses that a reply has: all but that of a failed sink and that of want of memory
+abbrev pub of_replies : List ℕ
+of_replies = done ∷ usage ∷ bad_layout ∷ chain ∷ read_fault ∷ mixed_block ∷ many_parts ∷ []
+
+-- all statuses
+abbrev pub all : List ℕ
+all = write_fault ∷ no_memory ∷ of_replies

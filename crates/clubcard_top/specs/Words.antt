@@ -1,0 +1,79 @@
+-- What the words of a call spell (docs/FORMATS.md, "Words").
+use Rattle.std.specs.Prelude.{ℕ, ◌^◌, List, [], ◌∷◌, length, Bool, ◌&&◌, not, ◌==◌, nat_le, nat_lt, if◌then◌else◌, Option, Some, None, Result, Ok, Err, codes}
+use Rattle.std.specs.Char.{is_ascii_digit}
+use Rattle.std.specs.List.{list_all}
+use Rattle.std.specs.Str.{bytes_eq}
+use Rattle.std.specs.Str.Parse.{digits_value}
+use Rattle.hex.specs.Hex.{decode_of, decode_sized}
+use Rattle.hex.specs.declared.error.FromHexError.{FromHexError}
+use Rattle.octets_core.specs.Layout.{within}
+use Rattle.ident_core.specs.declared.range.Sighting.{Sighting}
+use Rattle.clubcard_top.specs.QueryFields.{QueryFields}
+use Rattle.clubcard_top.specs.declared.command.Command.{Command}
+use Rattle.clubcard_top.specs.declared.command.Command.TheVariants as commands
+
+infixl 10 ◌>>=◌
+abbrev pub ◌>>=◌ : {A B : Type 0} → Option A → (A → Option B) → Option B
+(Some x) >>= f = f x
+None >>= f = None
+
+abbrev pub ok_of : Result (List ℕ) FromHexError → Option (List ℕ)
+ok_of (Ok bytes) = Some bytes
+ok_of (Err e) = None
+
+-- no control character
+abbrev pub is_plain : ℕ → Bool
+is_plain b = nat_le 32 b && not (b == 127)
+
+-- 1 to 4096 bytes, none of them a control character
+abbrev pub is_name : List ℕ → Bool
+is_name word = within 1 4096 (length word) && list_all is_plain word
+
+-- 64 hexadecimal digits
+abbrev pub key_of : List ℕ → Option (List ℕ)
+key_of word = ok_of (decode_sized word 32)
+
+-- an even number of hexadecimal digits, 2 to 64
+abbrev pub serial_of : List ℕ → Option (List ℕ)
+serial_of word = if within 2 64 (length word) then ok_of (decode_of word) else None
+
+-- 1 to 20 decimal digits, of a value below 2 ^ 64
+abbrev pub number_of : List ℕ → Option ℕ
+number_of word = if within 1 20 (length word) && list_all is_ascii_digit word && nat_lt (digits_value 10 word) (2 ^ 64) then Some (digits_value 10 word) else None
+
+-- pairs of a log and a time
+abbrev pub pairs_of : List (List ℕ) → Option (List Sighting)
+pairs_of [] = Some []
+pairs_of (log ∷ []) = None
+pairs_of (log ∷ time ∷ rest) = do
+  l ← key_of log
+  t ← number_of time
+  others ← pairs_of rest
+  Some (record { log = l; time = t } ∷ others)
+
+abbrev pub name_of : List ℕ → Option (List ℕ)
+name_of word = if is_name word then Some word else None
+
+-- 1 to 64 pairs
+abbrev pub sightings_of : List (List ℕ) → Option (List Sighting)
+sightings_of words = if within 2 128 (length words) then pairs_of words else None
+
+-- STORE ISSUER SERIAL, and the pairs
+abbrev pub query_of : List (List ℕ) → Option QueryFields
+query_of (store ∷ issuer ∷ serial ∷ pairs) = do
+  name ← name_of store
+  i ← key_of issuer
+  s ← serial_of serial
+  sightings ← sightings_of pairs
+  Some (record { store = name; id = record { issuer = i; serial = s }; sightings = sightings })
+query_of words = None
+
+-- the query, or no command
+abbrev pub query_or_usage : Option QueryFields → Command
+query_or_usage (Some q) = commands.Query q
+query_or_usage None = commands.Usage
+
+-- what the words of a call ask for
+abbrev pub command_of : List (List ℕ) → Command
+command_of [] = commands.Usage
+command_of (command ∷ words) = if bytes_eq command (codes "query") then query_or_usage (query_of words) else commands.Usage

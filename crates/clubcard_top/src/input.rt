@@ -1,0 +1,75 @@
+//! Files that are taken whole.
+
+ghost use Rattle.std.specs.Prelude.{◌≡◌, ◌≤◌, ◌+◌, ◌++◌, ◌⊎◌, length, take, drop, IfOk, OnOk, IsErrOf, vec_len};
+ghost use Rattle.outside_core.specs.Files.{Rose, IsMissing, ReadFailed};
+ghost use Rattle.clubcard_top.specs.Inputs.{WhereHeld, IsHeld};
+
+use outside_core::{Depot, Failed};
+use std::alloc::{AllocError, Global};
+
+/// Why a file could not be taken.
+#[derive(Clone, Copy, Debug, PartialEq, Eq)]
+pub enum InputFault {
+    /// A read failed.
+    Failed,
+    /// Want of memory.
+    NoMemory,
+}
+
+/// The most bytes that one read asks for.
+const PIECE: usize = 16_384;
+
+/// Reads the next piece of a file behind the bytes that were read, and answers how many bytes came: none only at the
+/// end of the file, or where as many as the limit were read.
+fn read_piece<D: Depot>(
+    depot: &mut D,
+    name: &str,
+    bytes: &mut Vec<u8>,
+    limit: usize,
+) -> Result<usize, InputFault>
+    requires { vec_len bytes.old ≤ limit }
+    ensures few { IfOk result (λ n. vec_len bytes.old + n ≤ limit) }
+    ensures len { IfOk result (λ n. vec_len bytes.new ≡ vec_len bytes.old + n) }
+    ensures piece { IfOk result (λ n. IsHeld (D.files depot.old) name.now (λ file.
+        (bytes.new.items ≡ bytes.old.items ++ take n (drop (vec_len bytes.old) file))
+        × (n ≡ 0 → (limit ≡ vec_len bytes.old) ⊎ (length file ≤ vec_len bytes.old)))) }
+    ensures failed { IsErrOf result InputFault.Failed → ReadFailed (D.files depot.old) name.now (D.read_faults depot.old) (D.read_faults depot.new) }
+    ensures later { D.read_faults depot.old ≤ D.read_faults depot.new }
+    ensures same_files { D.files depot.new ≡ D.files depot.old }
+    ensures same_writes { D.write_faults depot.new ≡ D.write_faults depot.old }
+{
+    let mut buffer = [0u8; PIECE];
+    let want = (limit - bytes.len()).min(PIECE);
+    let n = match depot.read_at(name, bytes.len() as u64, &mut buffer[..want]) {
+        Ok(n) => n,
+        Err(Failed) => return Err(InputFault::Failed),
+    };
+    match bytes.extend_from_slice(&buffer[..n]) {
+        Ok(()) => Ok(n),
+        Err(AllocError) => Err(InputFault::NoMemory),
+    }
+}
+
+/// Takes the first `limit` bytes of a file, or all where it has fewer.
+pub fn read_file<D: Depot>(
+    alloc: Global,
+    depot: &mut D,
+    name: &str,
+    limit: usize,
+) -> Result<Vec<u8>, InputFault>
+    ensures bytes { IfOk result (λ bytes. IsHeld (D.files depot.old) name.now (λ file. bytes.items ≡ take limit file)) }
+    ensures failed { IsErrOf result InputFault.Failed → ReadFailed (D.files depot.old) name.now (D.read_faults depot.old) (D.read_faults depot.new) }
+    ensures later { D.read_faults depot.old ≤ D.read_faults depot.new }
+    ensures same_files { D.files depot.new ≡ D.files depot.old }
+    ensures same_writes { D.write_faults depot.new ≡ D.write_faults depot.old }
+{
+    let Ok(mut bytes) = Vec::with_capacity(alloc, limit) else {
+        return Err(InputFault::NoMemory);
+    };
+    loop {
+        let n = read_piece(depot, name, &mut bytes, limit)?;
+        if n == 0 {
+            return Ok(bytes);
+        }
+    }
+}
