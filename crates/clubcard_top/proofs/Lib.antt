@@ -1,9 +1,8 @@
-pub mod PartFacts
-pub mod PartBounds
 pub mod Embedded
 pub mod Reading
 pub mod StoreSpans
-pub mod QueryReplies
+pub mod FileReplies
 pub mod Endings
+pub mod Sending
 pub mod Pairs
 pub mod Numbers

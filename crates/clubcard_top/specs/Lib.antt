@@ -1,12 +1,13 @@
-pub mod Decoding
-pub mod Offsets
-pub mod PartLayout
 pub mod StoreLayout
+pub mod PartFile
 pub mod Statuses
 pub mod Verdict
 pub mod QueryFields
 pub mod Words
 pub mod ReplyFields
+pub mod Lines
 pub mod Replies
 pub mod Inputs
 pub mod Runs
+pub mod Sending
+pub mod Answering

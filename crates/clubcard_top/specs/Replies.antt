@@ -1,38 +1,24 @@
 -- What each command answers over files that are told. Each refusal has its cause here.
-use Rattle.std.specs.Prelude.{ℕ, List, [], ◌∷◌, ◌++◌, Option, Some, None, Result, Ok, Err, codes, take}
+use Rattle.std.specs.Prelude.{ℕ, List, [], take, Option, Some, None, Result, Ok, Err, codes}
 use Rattle.std.specs.FinMap.{get}
 use Rattle.std.specs.Option.{option_map}
-use Rattle.card_core.specs.PartFields.{PartFields}
 use Rattle.outside_core.specs.Files.{Files}
-use Rattle.clubcard_top.specs.declared.fault.StoreFault.{StoreFault}
-use Rattle.clubcard_top.specs.declared.fault.StoreFault.TheVariants as faults
-use Rattle.clubcard_top.specs.declared.verdict.Verdict.{Verdict as Answer}
-use Rattle.clubcard_top.specs.declared.verdict.Verdict.TheVariants as answers
+use Rattle.part_codec.specs.Decoding.{value_of}
+use Rattle.part_codec.specs.SealedFields.{SealedFields}
+use Rattle.clubcard_top.specs.declared.fault.FileFault.{FileFault}
+use Rattle.clubcard_top.specs.declared.fault.FileFault.TheVariants as faults
 use Rattle.clubcard_top.specs.declared.command.Command.{Command}
 use Rattle.clubcard_top.specs.declared.command.Command.TheVariants as commands
 use Rattle.clubcard_top.specs.QueryFields.{QueryFields}
 use Rattle.clubcard_top.specs.ReplyFields.{ReplyFields}
-use Rattle.clubcard_top.specs.Decoding.{value_of}
 use Rattle.clubcard_top.specs.StoreLayout.{store}
+use Rattle.clubcard_top.specs.PartFile.{part_file}
 use Rattle.clubcard_top.specs.Statuses as status
 use Rattle.clubcard_top.specs.Verdict.{verdict}
+use Rattle.clubcard_top.specs.Lines.{line, line_about, layout_line, verdict_word, check_line, show_text}
 
--- one line of words
-abbrev pub line : List ℕ → List ℕ
-line words = words ++ 10 ∷ []
-
--- one line about a file
-abbrev pub line_about : List ℕ → List ℕ → List ℕ
-line_about words name = line (words ++ 32 ∷ name)
-
-abbrev pub word_of : Answer → List ℕ
-word_of answers.NotCovered = codes "not-covered"
-word_of answers.NotEnrolled = codes "not-enrolled"
-word_of answers.Good = codes "good"
-word_of answers.Revoked = codes "revoked"
-
-abbrev pub verdict_line : Answer → ReplyFields
-verdict_line answer = record { status = status.done; text = line (word_of answer) }
+abbrev pub done : List ℕ → ReplyFields
+done text = record { status = status.done; text = text }
 
 abbrev pub usage : ReplyFields
 usage = record { status = status.usage; text = line (codes "usage") }
@@ -45,35 +31,66 @@ read_fault name = record { status = status.read_fault; text = line_about (codes 
 abbrev pub no_memory : ReplyFields
 no_memory = record { status = status.no_memory; text = [] }
 
--- bytes under this name are no store of one snapshot whose blocks say none or all
-abbrev pub refusal : List ℕ → StoreFault → ReplyFields
-refusal name (faults.Layout f) = record { status = status.bad_layout; text = line_about (codes "layout") name }
+-- bytes under this name aren't what the command reads
+abbrev pub refusal : List ℕ → FileFault → ReplyFields
+refusal name (faults.Layout f) = record { status = status.bad_layout; text = layout_line f name }
 refusal name faults.NotSnapshot = record { status = status.chain; text = line_about (codes "chain not-snapshot") name }
 refusal name faults.Mixed = record { status = status.mixed_block; text = line_about (codes "mixed") name }
 refusal name faults.Many = record { status = status.many_parts; text = line_about (codes "many") name }
 refusal name faults.NoMemory = no_memory
 
-abbrev pub answer_by : QueryFields → Result (List PartFields) StoreFault → ReplyFields
-answer_by q (Ok parts) = verdict_line (verdict parts q.id q.sightings)
-answer_by q (Err fault) = refusal q.store fault
+-- what was read makes the text, or is refused
+abbrev pub answer_by : {A : Type 0} → List ℕ → (A → List ℕ) → Result A FileFault → ReplyFields
+answer_by name text (Ok x) = done (text x)
+answer_by name text (Err fault) = refusal name fault
 
--- the answer over the bytes of a store
-abbrev pub answer_in : QueryFields → List ℕ → ReplyFields
-answer_in q bytes = answer_by q (value_of (store bytes 0))
+-- the verdict of the store's parts
+abbrev pub query_reply : QueryFields → List ℕ → ReplyFields
+query_reply q bytes = answer_by q.store (λ parts. line (verdict_word (verdict parts q.id q.sightings))) (value_of (store bytes 0))
 
-abbrev pub answer_over : QueryFields → Option (List ℕ) → ReplyFields
-answer_over q None = read_fault q.store
-answer_over q (Some bytes) = answer_in q bytes
+-- the part's head in short, and how many bytes it has
+abbrev pub check_reply : List ℕ → List ℕ → ReplyFields
+check_reply name bytes = answer_by name (λ (x : SealedFields × ℕ). check_line x.0 x.1) (part_file bytes 0)
+
+-- all that the part holds
+abbrev pub show_reply : List ℕ → List ℕ → ReplyFields
+show_reply name bytes = answer_by name (λ (x : SealedFields × ℕ). show_text x.0) (part_file bytes 0)
+
+-- the name that a command reads
+abbrev pub input_of : Command → Option (List ℕ)
+input_of commands.Usage = None
+input_of (commands.Query q) = Some q.store
+input_of (commands.Check name) = Some name
+input_of (commands.Show name) = Some name
+
+-- the reply over the bytes of the command's input
+abbrev pub reply_in : Command → List ℕ → ReplyFields
+reply_in commands.Usage bytes = usage
+reply_in (commands.Query q) bytes = query_reply q bytes
+reply_in (commands.Check name) bytes = check_reply name bytes
+reply_in (commands.Show name) bytes = show_reply name bytes
+
+-- the reply over what is held under the name
+abbrev pub reply_over : Command → List ℕ → Option (List ℕ) → ReplyFields
+reply_over command name None = read_fault name
+reply_over command name (Some bytes) = reply_in command bytes
+
+abbrev pub reply_by : Command → Option (List ℕ) → Files → ReplyFields
+reply_by command None files = usage
+reply_by command (Some name) files = reply_over command name (get files name)
 
 abbrev pub reply_to : Command → Files → ReplyFields
-reply_to commands.Usage files = usage
-reply_to (commands.Query q) files = answer_over q (get files q.store)
+reply_to command files = reply_by command (input_of command) files
 
--- The longest store of this form has 2,211,905 bytes, and one more tells that a store goes on.
-abbrev pub most_read : ℕ
-most_read = 2211906
+-- The longest store of this form has 2,211,905 bytes and the longest part 2,211,895, and one more tells that they go on.
+abbrev pub most_read : Command → ℕ
+most_read (commands.Query q) = 2211906
+most_read command = 2211896
+
+abbrev pub front_by : Command → Option (List ℕ) → Files → ReplyFields
+front_by command None files = usage
+front_by command (Some name) files = reply_over command name (option_map (λ bytes. take (most_read command) bytes) (get files name))
 
 -- the same over the bytes up to there
 abbrev pub reply_to_fronts : Command → Files → ReplyFields
-reply_to_fronts commands.Usage files = usage
-reply_to_fronts (commands.Query q) files = answer_over q (option_map (λ bytes. take most_read bytes) (get files q.store))
+reply_to_fronts command files = front_by command (input_of command) files

@@ -68,12 +68,21 @@ query_of (store ∷ issuer ∷ serial ∷ pairs) = do
   Some (record { store = name; id = record { issuer = i; serial = s }; sightings = sightings })
 query_of words = None
 
--- the query, or no command
-abbrev pub query_or_usage : Option QueryFields → Command
-query_or_usage (Some q) = commands.Query q
-query_or_usage None = commands.Usage
+-- one name
+abbrev pub name_alone : List (List ℕ) → Option (List ℕ)
+name_alone (word ∷ []) = name_of word
+name_alone words = None
+
+-- a command where its words are there, or none
+abbrev pub asks : {A : Type 0} → (A → Command) → Option A → Command
+asks command (Some x) = command x
+asks command None = commands.Usage
 
 -- what the words of a call ask for
 abbrev pub command_of : List (List ℕ) → Command
 command_of [] = commands.Usage
-command_of (command ∷ words) = if bytes_eq command (codes "query") then query_or_usage (query_of words) else commands.Usage
+command_of (command ∷ words) =
+    if bytes_eq command (codes "query") then asks commands.Query (query_of words)
+    else if bytes_eq command (codes "check") then asks commands.Check (name_alone words)
+    else if bytes_eq command (codes "show") then asks commands.Show (name_alone words)
+    else commands.Usage

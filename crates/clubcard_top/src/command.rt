@@ -3,29 +3,60 @@
 use ident_core::{Identity, Sighting};
 use std::marker::Model;
 
+/// The name of a file.
+#[derive(Debug, Drop)]
+pub struct FileName {
+    text: String,
+}
+
+impl Model for FileName {
+    ghost use Rattle.std.specs.Prelude.{List, ℕ, string_bytes};
+
+    ghost Value = { List ℕ };
+
+    ghost view = { λ n. string_bytes n.text };
+}
+
+impl FileName {
+    ghost use Rattle.std.specs.Prelude.{◌≡◌, string_bytes};
+
+    /// The name of this text.
+    pub fn new(text: String) -> FileName
+        ensures { result ≡ string_bytes text }
+    {
+        FileName { text }
+    }
+
+    /// The name's text.
+    pub fn as_str(&self) -> &str
+        ensures { result.now ≡ self.now }
+    {
+        self.text.as_str()
+    }
+}
+
 /// A question about one certificate, asked of the store in a file.
 #[derive(Debug, Drop)]
 pub struct Query {
-    store: String,
+    store: FileName,
     id: Identity,
     sightings: Vec<Sighting>,
 }
 
 impl Model for Query {
-    ghost use Rattle.std.specs.Prelude.{string_bytes};
     ghost use Rattle.clubcard_top.specs.QueryFields.{QueryFields};
 
     ghost Value = { QueryFields };
 
-    ghost view = { λ q. record { store = string_bytes q.store; id = q.id; sightings = q.sightings.items } };
+    ghost view = { λ q. record { store = q.store; id = q.id; sightings = q.sightings.items } };
 }
 
 impl Query {
-    ghost use Rattle.std.specs.Prelude.{◌≡◌, string_bytes};
+    ghost use Rattle.std.specs.Prelude.{◌≡◌};
 
     /// The query of these.
-    pub fn new(store: String, id: Identity, sightings: Vec<Sighting>) -> Query
-        ensures { result ≡ record { store = string_bytes store; id = id; sightings = sightings.items } }
+    pub fn new(store: FileName, id: Identity, sightings: Vec<Sighting>) -> Query
+        ensures { result ≡ record { store = store; id = id; sightings = sightings.items } }
     {
         Query {
             store,
@@ -63,4 +94,8 @@ pub enum Command {
     Usage,
     /// What the parts of a store say of a certificate.
     Query(Query),
+    /// Whether a file is a part.
+    Check(FileName),
+    /// What a part holds.
+    Show(FileName),
 }

@@ -1,15 +1,17 @@
-//! The commands: the words of a call, the layouts of part and store, the verdict, and the top call `run`, whose clauses say
-//! what the program does.
+//! The commands: the words of a call, the layout of stores, the verdict, the lines, and the top call `run`, whose clauses
+//! say what the program does.
 #![tactic(auto)]
 
+mod answer;
 mod command;
+mod commands;
 mod fault;
+mod files;
 mod input;
-mod part_layout;
-mod query;
+mod line;
 mod reply;
+mod show;
 mod status;
-mod store_layout;
 #[cfg(test)]
 mod tests;
 mod top;

@@ -3,12 +3,15 @@
 
 ghost use Rattle.std.specs.Prelude.{◌≡◌, IfOk, IsErr, IsTrue};
 ghost use Rattle.clubcard_top.specs.Statuses as statuses;
-ghost use Rattle.clubcard_top.specs.Replies.{line, line_about, verdict_line, refusal, read_fault, usage};
+ghost use Rattle.clubcard_top.specs.Lines.{line, line_about, layout_line, why_word, verdict_word, check_line};
+ghost use Rattle.clubcard_top.specs.Replies.{done, refusal, read_fault, usage};
 
-use crate::fault::StoreFault;
+use crate::fault::FileFault;
+use crate::line::checked;
 use crate::status::Status;
 use crate::verdict::Verdict;
-use octets_core::NoMemory;
+use octets_core::{LayoutFault, NoMemory, Why};
+use part_codec::Sealed;
 use std::alloc::Global;
 use std::marker::Model;
 
@@ -16,19 +19,29 @@ use std::marker::Model;
 #[derive(Debug, Drop)]
 pub struct Reply {
     status: Status,
-    text: String,
+    text: Vec<u8>,
 }
 
 impl Model for Reply {
-    ghost use Rattle.std.specs.Prelude.{string_bytes, IsTrue};
+    ghost use Rattle.std.specs.Prelude.{IsTrue};
     ghost use Rattle.clubcard_top.specs.ReplyFields.{ReplyFields};
     ghost use Rattle.clubcard_top.specs.Statuses as statuses;
 
     ghost Value = { ReplyFields };
 
-    ghost view = { λ r. record { status = r.status.0; text = string_bytes r.text } };
+    ghost view = { λ r. record { status = r.status.0; text = r.text.items } };
 
     ghost invariant = { λ r. IsTrue (statuses.is_one_of statuses.of_replies r.status.0) };
+}
+
+fn why_text(why: Why) -> &'static str
+    ensures { result.now ≡ why_word why }
+{
+    match why {
+        Why::Short => "short",
+        Why::Value => "value",
+        Why::Digest => "digest",
+    }
 }
 
 impl Reply {
@@ -38,7 +51,10 @@ impl Reply {
         ensures { IfOk result (λ r. r ≡ record { status = status.0; text = line words.now }) }
     {
         match format!(in alloc; "{words}\n") {
-            Ok(text) => Ok(Reply { status, text }),
+            Ok(text) => Ok(Reply {
+                status,
+                text: text.into_bytes(),
+            }),
             Err(_) => Err(NoMemory),
         }
     }
@@ -49,7 +65,26 @@ impl Reply {
         ensures { IfOk result (λ r. r ≡ record { status = status.0; text = line_about words.now name.now }) }
     {
         match format!(in alloc; "{words} {name}\n") {
-            Ok(text) => Ok(Reply { status, text }),
+            Ok(text) => Ok(Reply {
+                status,
+                text: text.into_bytes(),
+            }),
+            Err(_) => Err(NoMemory),
+        }
+    }
+
+    /// The reply about the field of a file that is short or fails its test.
+    fn layout(alloc: Global, fault: LayoutFault, name: &str) -> Result<Reply, NoMemory>
+        ensures { IfOk result (λ r. r ≡ record { status = statuses.bad_layout; text = layout_line fault name.now }) }
+    {
+        let at = fault.at;
+        let field = fault.field.name();
+        let why = why_text(fault.why);
+        match format!(in alloc; "layout {at} {field} {why} {name}\n") {
+            Ok(text) => Ok(Reply {
+                status: Status::BAD_LAYOUT,
+                text: text.into_bytes(),
+            }),
             Err(_) => Err(NoMemory),
         }
     }
@@ -70,7 +105,7 @@ impl Reply {
 
     /// The reply of a verdict.
     pub fn verdict(alloc: Global, verdict: Verdict) -> Result<Reply, NoMemory>
-        ensures { IfOk result (λ r. r ≡ verdict_line verdict) }
+        ensures { IfOk result (λ r. r ≡ done (line (verdict_word verdict))) }
     {
         match verdict {
             Verdict::NotCovered => Reply::of_line(alloc, Status::DONE, "not-covered"),
@@ -80,19 +115,33 @@ impl Reply {
         }
     }
 
-    /// The reply about a file that gives no store.
-    pub fn refusal(alloc: Global, name: &str, fault: StoreFault) -> Result<Reply, NoMemory>
+    /// The reply of `check` to a part of so many bytes.
+    pub fn checked(alloc: Global, sealed: &Sealed, size: usize) -> Result<Reply, NoMemory>
+        ensures { IfOk result (λ r. r ≡ done (check_line sealed.now size)) }
+    {
+        let line = checked(sealed, size);
+        match line.text().to_vec(alloc) {
+            Ok(text) => Ok(Reply {
+                status: Status::DONE,
+                text,
+            }),
+            Err(_) => Err(NoMemory),
+        }
+    }
+
+    /// The reply about a file that isn't what the command reads.
+    pub fn refusal(alloc: Global, name: &str, fault: FileFault) -> Result<Reply, NoMemory>
         ensures ok { IfOk result (λ r. r ≡ refusal name.now fault) }
-        ensures memory { fault ≡ StoreFault.NoMemory → IsErr result }
+        ensures memory { fault ≡ FileFault.NoMemory → IsErr result }
     {
         match fault {
-            StoreFault::Layout(_) => Reply::about_file(alloc, Status::BAD_LAYOUT, "layout", name),
-            StoreFault::NotSnapshot => {
+            FileFault::Layout(fault) => Reply::layout(alloc, fault, name),
+            FileFault::NotSnapshot => {
                 Reply::about_file(alloc, Status::CHAIN, "chain not-snapshot", name)
             }
-            StoreFault::Mixed => Reply::about_file(alloc, Status::MIXED_BLOCK, "mixed", name),
-            StoreFault::Many => Reply::about_file(alloc, Status::MANY_PARTS, "many", name),
-            StoreFault::NoMemory => Err(NoMemory),
+            FileFault::Mixed => Reply::about_file(alloc, Status::MIXED_BLOCK, "mixed", name),
+            FileFault::Many => Reply::about_file(alloc, Status::MANY_PARTS, "many", name),
+            FileFault::NoMemory => Err(NoMemory),
         }
     }
 
@@ -108,6 +157,6 @@ impl Reply {
     pub fn text(&self) -> &[u8]
         ensures { result.now ≡ self.now.text }
     {
-        self.text.as_bytes()
+        self.text.as_slice()
     }
 }

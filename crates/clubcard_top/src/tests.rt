@@ -1,4 +1,4 @@
-//! The worked examples of `query` over files and a sink in memory. The stores' bytes were written by another program
+//! The worked examples of the commands over files and a sink in memory. The stores' bytes were written by another program
 //! (Python, with its hashlib for the trailers) by the tables of docs/FORMATS.md.
 
 use crate::{Status, run};
@@ -28,7 +28,10 @@ const ONE_GOOD: &str =
 // The same with mode all.
 const ONE_REVOKED: &str =
     "434c554253544f520101434c5542434152440100000000000000000100000000000000000000000000000000000000000000000000000000000000000001aaaaaaaaaaaaaaaaaaaaaaaaaaaaaaaaaaaaaaaaaaaaaaaaaaaaaaaaaaaaaaaa0000018bcfe568000000018bcfe56be800000001111111111111111111111111111111111111111111111111111111111111111101da82b3b0690711ee120227b798fe5a2a7fdf4b98418e78bf300309aa3f49d202";
-// The same as a delta.
+// Its part alone.
+const PART_REVOKED: &str =
+    "434c5542434152440100000000000000000100000000000000000000000000000000000000000000000000000000000000000001aaaaaaaaaaaaaaaaaaaaaaaaaaaaaaaaaaaaaaaaaaaaaaaaaaaaaaaaaaaaaaaa0000018bcfe568000000018bcfe56be800000001111111111111111111111111111111111111111111111111111111111111111101da82b3b0690711ee120227b798fe5a2a7fdf4b98418e78bf300309aa3f49d202";
+// The same store with its part as a delta.
 const ONE_DELTA: &str =
     "434c554253544f520101434c5542434152440101000000000000000100000000000000000000000000000000000000000000000000000000000000000001aaaaaaaaaaaaaaaaaaaaaaaaaaaaaaaaaaaaaaaaaaaaaaaaaaaaaaaaaaaaaaaa0000018bcfe568000000018bcfe56be80000000111111111111111111111111111111111111111111111111111111111111111110148a4af994491c01ee25deedfd0718a84d01fceab133a69d4b919d81267388b85";
 
@@ -68,7 +71,7 @@ fn changed(alloc: Global, store: &str, change: Change) -> Result<Vec<u8>, Fail> 
     Ok(bytes)
 }
 
-/// A depot whose file `S` holds a store.
+/// A depot whose file `S` holds these bytes.
 fn depot_of(alloc: Global, store: &str, change: Change) -> Result<MemoryDepot, Fail> {
     let mut depot = MemoryDepot::new(alloc);
     let bytes = changed(alloc, store, change)?;
@@ -101,8 +104,8 @@ fn verdicts(rt: HostRuntime) -> Result<(), Fail> {
     Ok(())
 }
 
-// The refusals of a store: the mode 2, the counts 2, 64, 65 and 0, a delta (also with a byte behind it), and fields that are short or
-// fail their tests.
+// The refusals of a store: the mode 2, the counts 2, 64, 65 and 0, a delta (also with a byte behind it), and fields that
+// are short or fail their tests, each with its offset in the store.
 #[test]
 fn refusals(rt: HostRuntime) -> Result<(), Fail> {
     let alloc = rt.alloc();
@@ -117,7 +120,7 @@ fn refusals(rt: HostRuntime) -> Result<(), Fail> {
             ONE_REVOKED,
             Change::Byte(146, 3),
             Status::BAD_LAYOUT,
-            "layout S\n",
+            "layout 146 block.mode value S\n",
         ),
         (
             ONE_REVOKED,
@@ -135,13 +138,13 @@ fn refusals(rt: HostRuntime) -> Result<(), Fail> {
             ONE_REVOKED,
             Change::Byte(9, 65),
             Status::BAD_LAYOUT,
-            "layout S\n",
+            "layout 9 store.count value S\n",
         ),
         (
             ONE_REVOKED,
             Change::Byte(9, 0),
             Status::BAD_LAYOUT,
-            "layout S\n",
+            "layout 9 store.count value S\n",
         ),
         (
             ONE_DELTA,
@@ -155,30 +158,47 @@ fn refusals(rt: HostRuntime) -> Result<(), Fail> {
             Status::CHAIN,
             "chain not-snapshot S\n",
         ),
-        (ONE_REVOKED, Change::More, Status::BAD_LAYOUT, "layout S\n"),
+        (
+            ONE_REVOKED,
+            Change::More,
+            Status::BAD_LAYOUT,
+            "layout 179 end value S\n",
+        ),
+        (
+            ONE_REVOKED,
+            Change::Cut(110),
+            Status::BAD_LAYOUT,
+            "layout 110 part.issuers short S\n",
+        ),
         (
             ONE_REVOKED,
             Change::Cut(178),
             Status::BAD_LAYOUT,
-            "layout S\n",
+            "layout 147 part.trailer short S\n",
         ),
         (
             ONE_REVOKED,
             Change::Cut(0),
             Status::BAD_LAYOUT,
-            "layout S\n",
+            "layout 0 store.magic short S\n",
         ),
         (
             ONE_REVOKED,
-            Change::Byte(178, 0),
+            Change::Byte(28, 1),
             Status::BAD_LAYOUT,
-            "layout S\n",
+            "layout 28 part.parent value S\n",
         ),
         (
             ONE_REVOKED,
-            Change::Byte(62, 0),
+            Change::Byte(94, 1),
             Status::BAD_LAYOUT,
-            "layout S\n",
+            "layout 102 range.to value S\n",
+        ),
+        (
+            ONE_REVOKED,
+            Change::Byte(20, 1),
+            Status::BAD_LAYOUT,
+            "layout 147 part.trailer digest S\n",
         ),
     ] {
         let mut depot = depot_of(alloc, store, change)?;
@@ -191,17 +211,99 @@ fn refusals(rt: HostRuntime) -> Result<(), Fail> {
     Ok(())
 }
 
+// check_one_revoked, and the damaged parts.
+#[test]
+fn checks(rt: HostRuntime) -> Result<(), Fail> {
+    let alloc = rt.alloc();
+    for (change, status, expected) in [
+        (
+            Change::Nothing,
+            Status::DONE,
+            "part snapshot epoch 1 ranges 1 issuers 1 bytes 169\n",
+        ),
+        (
+            Change::Cut(100),
+            Status::BAD_LAYOUT,
+            "layout 100 part.issuers short S\n",
+        ),
+        (
+            Change::Byte(136, 3),
+            Status::BAD_LAYOUT,
+            "layout 136 block.mode value S\n",
+        ),
+        (
+            Change::Byte(18, 1),
+            Status::BAD_LAYOUT,
+            "layout 18 part.parent value S\n",
+        ),
+        (
+            Change::Byte(84, 1),
+            Status::BAD_LAYOUT,
+            "layout 92 range.to value S\n",
+        ),
+        (
+            Change::Byte(10, 1),
+            Status::BAD_LAYOUT,
+            "layout 137 part.trailer digest S\n",
+        ),
+        (Change::More, Status::BAD_LAYOUT, "layout 169 end value S\n"),
+        (Change::Byte(136, 2), Status::MIXED_BLOCK, "mixed S\n"),
+    ] {
+        let mut depot = depot_of(alloc, PART_REVOKED, change)?;
+        let mut out = MemorySink::new(alloc);
+        let words = words_of(alloc, &["check", "S"])?;
+        let ended = run(&rt, alloc, &words, &mut depot, &mut out);
+        assert_eq!(rt; ended, status, "{change:?}");
+        assert_eq!(rt; out.bytes(), expected.as_bytes(), "{change:?}");
+    }
+    Ok(())
+}
+
+// show_one_revoked, whole and with each write of the sink failing in turn.
+#[test]
+fn shows(rt: HostRuntime) -> Result<(), Fail> {
+    let alloc = rt.alloc();
+    let lines = [
+        "part snapshot version 1 epoch 1 parent 0000000000000000000000000000000000000000000000000000000000000000\n",
+        "range aaaaaaaaaaaaaaaaaaaaaaaaaaaaaaaaaaaaaaaaaaaaaaaaaaaaaaaaaaaaaaaa 1700000000000 1700000001000\n",
+        "issuer 1111111111111111111111111111111111111111111111111111111111111111 all\n",
+        "trailer da82b3b0690711ee120227b798fe5a2a7fdf4b98418e78bf300309aa3f49d202\n",
+    ];
+    let words = words_of(alloc, &["show", "S"])?;
+    for call in 0..5 {
+        let mut expected = Vec::new(alloc);
+        for (line, text) in lines.iter().enumerate() {
+            if (line as u64) < call {
+                expected.extend_from_slice(text.as_bytes())?;
+            }
+        }
+        let mut depot = depot_of(alloc, PART_REVOKED, Change::Nothing)?;
+        let mut out = MemorySink::new(alloc);
+        out.fail_writes(&[call])?;
+        let ended = run(&rt, alloc, &words, &mut depot, &mut out);
+        let status = if call < 4 {
+            Status::WRITE_FAULT
+        } else {
+            Status::DONE
+        };
+        assert_eq!(rt; ended, status, "write {call}");
+        assert_eq!(rt; out.bytes(), expected.as_slice(), "write {call}");
+    }
+    Ok(())
+}
+
 // bad_words, and more words that are no query: each ends with the usage line, and no file is asked for.
 #[test]
 fn bad_words(rt: HostRuntime) -> Result<(), Fail> {
     let alloc = rt.alloc();
     let long = "0505050505050505050505050505050505050505050505050505050505050505050505";
-    let cases: [&[&str]; 16] = [
+    let cases: [&[&str]; 17] = [
         &[],
         &["snapshot", "J", "P", "P", "1"],
         &["snapshot", "J", "P", "L", "0"],
         &["query", "S", K1, long, LA, T],
         &["check", "A", "B"],
+        &["show"],
         &["Query", "S", K1, "05", LA, T],
         &["query", "S", K1, "05"],
         &["query", "S", K1, "05", LA],
@@ -316,17 +418,25 @@ impl Depot for Endless {
     }
 }
 
-// No byte is read behind the longest store of one part and one byte more.
+// No byte is read behind the longest store or part and one byte more.
 #[test]
-fn reads_no_more_than_a_store(rt: HostRuntime) -> Result<(), Fail> {
+fn reads_no_more_than_a_file(rt: HostRuntime) -> Result<(), Fail> {
     let alloc = rt.alloc();
-    let words = words_of(alloc, &["query", "S", K1, "05", LA, T])?;
-    let mut depot = Endless { asked: 0 };
-    let mut out = MemorySink::new(alloc);
-    assert_eq!(rt;
-        run(&rt, alloc, &words, &mut depot, &mut out),
-        Status::BAD_LAYOUT
-    );
-    assert_eq!(rt; depot.asked, 2_211_906);
+    let query = words_of(alloc, &["query", "S", K1, "05", LA, T])?;
+    let check = words_of(alloc, &["check", "S"])?;
+    let show = words_of(alloc, &["show", "S"])?;
+    for (words, most) in [
+        (query.as_slice(), 2_211_906),
+        (check.as_slice(), 2_211_896),
+        (show.as_slice(), 2_211_896),
+    ] {
+        let mut depot = Endless { asked: 0 };
+        let mut out = MemorySink::new(alloc);
+        assert_eq!(rt;
+            run(&rt, alloc, words, &mut depot, &mut out),
+            Status::BAD_LAYOUT
+        );
+        assert_eq!(rt; depot.asked, most);
+    }
     Ok(())
 }

@@ -7,44 +7,36 @@ ghost use Rattle.octets_core.specs.declared.fault.LayoutFault.{LayoutFault};
 ghost use Rattle.clubcard_top.specs.Statuses as statuses;
 ghost use Rattle.clubcard_top.specs.Replies.{reply_to, reply_to_fronts, usage};
 ghost use Rattle.clubcard_top.specs.Words.{command_of};
+ghost use Rattle.clubcard_top.specs.Answering.{shown};
 ghost use Rattle.clubcard_top.specs.Runs.{IsReply, EndsSo, Ends, IsCutShort, Answers, Refuses, HasReadCause, WritesFaultLine};
 
+use crate::answer::{Answer, send};
 use crate::command::Command;
-use crate::fault::StoreFault;
-use crate::query::query_reply;
+use crate::commands::{answer_check, answer_query, answer_show};
+use crate::fault::FileFault;
 use crate::reply::Reply;
 use crate::status::Status;
 use crate::words::read_words;
 use octets_core::NoMemory;
-use outside_core::{Depot, Failed, Sink, write_all};
+use outside_core::{Depot, Sink};
 use std::alloc::Global;
 use std::thread::Threads;
 
-/// Writes a reply.
-fn send<K: Sink>(reply: &Reply, out: &mut K) -> Status
-    ensures ends { EndsSo reply.now result.0 (K.written out.old) (K.written out.new) (Rose (K.faults out.old) (K.faults out.new)) }
-    ensures own { IsTrue (statuses.is_one_of statuses.of_replies reply.now.status) }
-{
-    let status = reply.status();
-    match write_all(out, reply.text()) {
-        Ok(()) => status,
-        Err(Failed) => Status::WRITE_FAULT,
-    }
-}
-
-/// The reply to a command.
-fn reply_for<D: Depot>(alloc: Global, command: &Command, depot: &mut D) -> Result<Reply, NoMemory>
-    ensures reply { IfOk result (λ r. IsReply command.now (D.files depot.old) (Rose (D.read_faults depot.old) (D.read_faults depot.new)) r) }
+/// The answer to a command.
+fn answer_for<D: Depot>(alloc: Global, command: &Command, depot: &mut D) -> Result<Answer, NoMemory>
+    ensures reply { IfOk result (λ a. IsReply command.now (D.files depot.old) (Rose (D.read_faults depot.old) (D.read_faults depot.new)) (shown a)) }
     ensures same_files { D.files depot.new ≡ D.files depot.old }
     ensures same_writes { D.write_faults depot.new ≡ D.write_faults depot.old }
 {
     match command {
-        Command::Usage => Reply::usage(alloc),
-        Command::Query(query) => query_reply(alloc, query, depot),
+        Command::Usage => Ok(Answer::Reply(Reply::usage(alloc)?)),
+        Command::Query(asked) => answer_query(alloc, asked, depot),
+        Command::Check(name) => answer_check(alloc, name, depot),
+        Command::Show(name) => answer_show(alloc, name, depot),
     }
 }
 
-/// Runs a command, and writes its reply.
+/// Runs a command, and writes its answer.
 fn run_command<D: Depot, K: Sink>(
     alloc: Global,
     command: &Command,
@@ -56,8 +48,8 @@ fn run_command<D: Depot, K: Sink>(
     ensures same_files { D.files depot.new ≡ D.files depot.old }
     ensures same_writes { D.write_faults depot.new ≡ D.write_faults depot.old }
 {
-    match reply_for(alloc, command, depot) {
-        Ok(reply) => send(&reply, out),
+    match answer_for(alloc, command, depot) {
+        Ok(answer) => send(&answer, out),
         Err(NoMemory) => Status::NO_MEMORY,
     }
 }
@@ -111,10 +103,10 @@ pub fn run<R: Threads + Sync, D: Depot, K: Sink>(
     ensures usage { result.0 ≡ statuses.usage → (command_of (map string_bytes words.now) ≡ Command.Usage) × (K.written out.new ≡ followed_by (K.written out.old) usage.text) }
     ensures no_command { command_of (map string_bytes words.now) ≡ Command.Usage → IsTrue (statuses.is_one_of (statuses.usage ∷ statuses.write_fault ∷ statuses.no_memory ∷ []) result.0) }
     ensures bad_layout { IfSome (D.files depot.old) (λ files. result.0 ≡ statuses.bad_layout
-        → (f : LayoutFault) × Refuses (command_of (map string_bytes words.now)) files (StoreFault.Layout f) (K.written out.old) (K.written out.new)) }
-    ensures chain { IfSome (D.files depot.old) (λ files. result.0 ≡ statuses.chain → Refuses (command_of (map string_bytes words.now)) files StoreFault.NotSnapshot (K.written out.old) (K.written out.new)) }
-    ensures mixed_block { IfSome (D.files depot.old) (λ files. result.0 ≡ statuses.mixed_block → Refuses (command_of (map string_bytes words.now)) files StoreFault.Mixed (K.written out.old) (K.written out.new)) }
-    ensures many_parts { IfSome (D.files depot.old) (λ files. result.0 ≡ statuses.many_parts → Refuses (command_of (map string_bytes words.now)) files StoreFault.Many (K.written out.old) (K.written out.new)) }
+        → (f : LayoutFault) × Refuses (command_of (map string_bytes words.now)) files (FileFault.Layout f) (K.written out.old) (K.written out.new)) }
+    ensures chain { IfSome (D.files depot.old) (λ files. result.0 ≡ statuses.chain → Refuses (command_of (map string_bytes words.now)) files FileFault.NotSnapshot (K.written out.old) (K.written out.new)) }
+    ensures mixed_block { IfSome (D.files depot.old) (λ files. result.0 ≡ statuses.mixed_block → Refuses (command_of (map string_bytes words.now)) files FileFault.Mixed (K.written out.old) (K.written out.new)) }
+    ensures many_parts { IfSome (D.files depot.old) (λ files. result.0 ≡ statuses.many_parts → Refuses (command_of (map string_bytes words.now)) files FileFault.Many (K.written out.old) (K.written out.new)) }
     ensures read_fault { result.0 ≡ statuses.read_fault → HasReadCause (command_of (map string_bytes words.now)) (D.files depot.old) (Rose (D.read_faults depot.old) (D.read_faults depot.new))
         × WritesFaultLine (command_of (map string_bytes words.now)) (K.written out.old) (K.written out.new) }
     ensures write_fault { result.0 ≡ statuses.write_fault → Rose (K.faults out.old) (K.faults out.new) × IsCutShort (command_of (map string_bytes words.now)) (D.files depot.old)

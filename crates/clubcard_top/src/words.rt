@@ -4,9 +4,10 @@ ghost use Rattle.std.specs.Prelude.{◌≡◌, IfOk, IfSome, IsNone, map, string
 ghost use Rattle.std.specs.List.{list_all};
 ghost use Rattle.std.specs.Char.{is_ascii_digit};
 ghost use Rattle.std.specs.Option.{option_map};
-ghost use Rattle.clubcard_top.specs.Words.{command_of, query_of, pairs_of, key_of, serial_of, number_of, is_name, is_plain};
+ghost use Rattle.clubcard_top.specs.declared.command.Command.TheVariants as commands;
+ghost use Rattle.clubcard_top.specs.Words.{command_of, asks, query_of, name_alone, name_of, pairs_of, key_of, serial_of, number_of, is_name, is_plain};
 
-use crate::command::{Command, Query};
+use crate::command::{Command, FileName, Query};
 use hex::FromHex;
 use ident_core::{Identity, Serial, Sighting};
 use octets_core::{Key32, NoMemory};
@@ -93,6 +94,19 @@ fn read_pairs(alloc: Global, words: &[String]) -> Result<Option<Vec<Sighting>>, 
     Ok(Some(sightings))
 }
 
+/// The name that a word spells, if it spells one.
+fn read_name(alloc: Global, word: &str) -> Result<Option<FileName>, NoMemory>
+    ensures { IfOk result (λ n. n ≡ name_of word.now) }
+{
+    if !is_file_name(word) {
+        return Ok(None);
+    }
+    match String::from_str(alloc, word) {
+        Ok(text) => Ok(Some(FileName::new(text))),
+        Err(_) => Err(NoMemory),
+    }
+}
+
 /// The query that words spell, if they spell one.
 fn read_query(alloc: Global, words: &[String]) -> Result<Option<Query>, NoMemory>
     ensures { IfOk result (λ q. q ≡ query_of (map string_bytes words.now)) }
@@ -100,9 +114,6 @@ fn read_query(alloc: Global, words: &[String]) -> Result<Option<Query>, NoMemory
     let [store, issuer, serial, pairs @ ..] = words else {
         return Ok(None);
     };
-    if !is_file_name(store.as_str()) {
-        return Ok(None);
-    }
     let Some(issuer) = key_word(issuer.as_str()) else {
         return Ok(None);
     };
@@ -115,10 +126,50 @@ fn read_query(alloc: Global, words: &[String]) -> Result<Option<Query>, NoMemory
     let Some(sightings) = read_pairs(alloc, pairs)? else {
         return Ok(None);
     };
-    let Ok(store) = String::from_str(alloc, store.as_str()) else {
-        return Err(NoMemory);
+    let Some(store) = read_name(alloc, store.as_str())? else {
+        return Ok(None);
     };
     Ok(Some(Query::new(store, Identity { issuer, serial }, sightings)))
+}
+
+/// The name that words spell, if they are one word that spells one.
+fn read_name_alone(alloc: Global, words: &[String]) -> Result<Option<FileName>, NoMemory>
+    ensures { IfOk result (λ n. n ≡ name_alone (map string_bytes words.now)) }
+{
+    match words {
+        [word] => read_name(alloc, word.as_str()),
+        _ => Ok(None),
+    }
+}
+
+/// The command `query` of the words behind it.
+fn query_command(alloc: Global, words: &[String]) -> Result<Command, NoMemory>
+    ensures { IfOk result (λ c. c ≡ asks commands.Query (query_of (map string_bytes words.now))) }
+{
+    match read_query(alloc, words)? {
+        Some(query) => Ok(Command::Query(query)),
+        None => Ok(Command::Usage),
+    }
+}
+
+/// The command `check` of the words behind it.
+fn check_command(alloc: Global, words: &[String]) -> Result<Command, NoMemory>
+    ensures { IfOk result (λ c. c ≡ asks commands.Check (name_alone (map string_bytes words.now))) }
+{
+    match read_name_alone(alloc, words)? {
+        Some(name) => Ok(Command::Check(name)),
+        None => Ok(Command::Usage),
+    }
+}
+
+/// The command `show` of the words behind it.
+fn show_command(alloc: Global, words: &[String]) -> Result<Command, NoMemory>
+    ensures { IfOk result (λ c. c ≡ asks commands.Show (name_alone (map string_bytes words.now))) }
+{
+    match read_name_alone(alloc, words)? {
+        Some(name) => Ok(Command::Show(name)),
+        None => Ok(Command::Usage),
+    }
 }
 
 /// What words ask for.
@@ -128,11 +179,14 @@ pub fn read_words(alloc: Global, words: &[String]) -> Result<Command, NoMemory>
     let [command, rest @ ..] = words else {
         return Ok(Command::Usage);
     };
-    if command.as_str() != "query" {
-        return Ok(Command::Usage);
+    if command.as_str() == "query" {
+        return query_command(alloc, rest);
     }
-    match read_query(alloc, rest)? {
-        Some(query) => Ok(Command::Query(query)),
-        None => Ok(Command::Usage),
+    if command.as_str() == "check" {
+        return check_command(alloc, rest);
     }
+    if command.as_str() == "show" {
+        return show_command(alloc, rest);
+    }
+    Ok(Command::Usage)
 }

@@ -1,4 +1,0 @@
-use Rattle.clubcard_top.proofs.query.reply_over.Given as goal
-
-abbrev pub ghosts-verdict_by : goal.ghosts-verdict_by
-ghosts-verdict_by a = record { name = a.blank.name; parts = a.blank.parts }

@@ -1,0 +1,91 @@
+-- A part's faults lie within its bytes.
+use Rattle.std.proofs.Common.{◌≡◌, ℕ, zero, suc, ◌≤◌, ◌-◌, ◌^◌, List, length, Option, None, Result, Ok, Err, refl, subst, arith, IfErr}
+use Rattle.std.specs.Int.{Width, w8, w16, w32, w64}
+use Rattle.octets_core.specs.Layout.{Layout, bytes_field}
+use Rattle.octets_core.specs.Linked.{is_after}
+use Rattle.octets_core.specs.Reading.{fault_at, number}
+use Rattle.octets_core.proofs.Bounds.{IsWithin, IsBounded, bytes_field-bounded, number_field-bounded, sum_field-bounded, whole-bounded, refused-bounded, repeated-bounded, mapped-bounded, ◌>>>◌}
+use Rattle.octets_core.specs.declared.field.Field.{Field}
+use Rattle.octets_core.specs.declared.field.Field.TheVariants as fields
+use Rattle.octets_core.specs.declared.fault.Why.TheVariants as why
+use Rattle.octets_core.specs.declared.fault.LayoutFault.{LayoutFault}
+use Rattle.ident_core.specs.RangeLayout.{range}
+use Rattle.part_codec.specs.SealedFields.{SealedFields}
+use Rattle.part_codec.specs.Decoding.{GivesUnless}
+use Rattle.part_codec.specs.declared.fault.PartFault.{PartFault}
+use Rattle.part_codec.specs.declared.fault.PartFault.TheVariants as faults
+use Rattle.part_codec.specs.Offsets.{offset_in_part}
+use Rattle.part_codec.specs.PartLayout.{fielded, head, block, body_of, unsealed, part}
+
+abbrev offset : LayoutFault → ℕ
+offset f = f.at
+
+number-bounded : (name : Field) (w : Width) (low high : ℕ) → IsBounded offset (number name w low high)
+number-bounded name w low high = number_field-bounded offset _ _ w low high (λ at. refl) (λ at. refl)
+
+bytes-bounded : (name : Field) (width : ℕ) (test : List ℕ → _) → IsBounded offset (bytes_field (fault_at why.Short name) (fault_at why.Value name) width test)
+bytes-bounded name width test = bytes_field-bounded offset _ _ width test (λ at. refl) (λ at. refl)
+
+fielded-bounded : {A : Type 0} (layout : Layout LayoutFault A) → IsBounded offset layout → IsBounded offset_in_part (fielded layout)
+fielded-bounded layout b = mapped-bounded offset offset_in_part faults.Layout layout (λ e. refl) b
+
+pub range-bounded : (previous : Option (List ℕ)) → IsBounded offset (range previous)
+unfolding range
+range-bounded previous =
+    bytes-bounded fields.RangeLog 32 (is_after previous) >>> λ log.
+    number-bounded fields.RangeFrom w64 0 (2 ^ 64 - 1) >>> λ from.
+    number-bounded fields.RangeTo w64 from (2 ^ 64 - 1) >>> λ to.
+    whole-bounded offset _
+
+pub head-bounded : IsBounded offset head
+unfolding head
+head-bounded =
+    bytes-bounded fields.PartMagic 8 _ >>> λ begin.
+    number-bounded fields.PartVersion w8 1 1 >>> λ version.
+    number-bounded fields.PartKind w8 0 1 >>> λ kind.
+    number-bounded fields.PartEpoch w64 0 (2 ^ 64 - 1) >>> λ epoch.
+    bytes-bounded fields.PartParent 32 _ >>> λ parent.
+    number-bounded fields.PartRanges w16 0 1024 >>> λ count.
+    repeated-bounded offset range _ range-bounded count None >>> λ list.
+    whole-bounded offset _
+
+body-bounded : (n : ℕ) → IsBounded offset_in_part (body_of n)
+body-bounded zero = whole-bounded offset_in_part _
+body-bounded (suc zero) = whole-bounded offset_in_part _
+body-bounded (suc (suc n)) = refused-bounded offset_in_part faults.Mixed refl
+
+pub block-bounded : (previous : Option (List ℕ)) → IsBounded offset_in_part (block previous)
+unfolding block
+block-bounded previous =
+    fielded-bounded _ (bytes-bounded fields.BlockIssuer 32 (is_after previous)) >>> λ issuer.
+    fielded-bounded _ (number-bounded fields.BlockMode w8 0 2) >>> λ mode.
+    body-bounded mode >>> λ body.
+    whole-bounded offset_in_part _
+
+unsealed-bounded : IsBounded offset_in_part unsealed
+unfolding unsealed
+unsealed-bounded =
+    fielded-bounded head head-bounded >>> λ h.
+    fielded-bounded _ (number-bounded fields.PartIssuers w32 0 65535) >>> λ count.
+    repeated-bounded offset_in_part block _ block-bounded count None >>> λ list.
+    whole-bounded offset_in_part _
+
+pub part-bounded : IsBounded offset_in_part part
+unfolding part
+part-bounded =
+    unsealed-bounded >>> λ p.
+    fielded-bounded _ (sum_field-bounded offset _ _ 32 _ (λ at. refl) (λ at. refl)) >>> λ trailer.
+    whole-bounded offset_in_part _
+
+within-err : (bytes : List ℕ) (e : PartFault) (read : Result (SealedFields × ℕ) PartFault) → IsWithin offset_in_part bytes read → read ≡ Err e → offset_in_part e ≤ length bytes
+within-err bytes e read h is = subst (IsWithin offset_in_part bytes) is h
+
+fault-within : (e : PartFault) (bytes : List ℕ) → ((e ≡ faults.NoMemory → ⊥) → part bytes 0 ≡ Err e) → offset_in_part e ≤ length bytes
+fault-within faults.NoMemory bytes h = omega arith
+fault-within (faults.Layout f) bytes h = within-err bytes (faults.Layout f) (part bytes 0) (part-bounded.each bytes 0 (omega arith)) (h (λ e. cc))
+fault-within faults.Mixed bytes h = omega arith
+
+-- a fault lies within the bytes
+pub at-of : (bytes : List ℕ) (r : Result (SealedFields × ℕ) PartFault) → GivesUnless faults.NoMemory (λ (x : SealedFields × ℕ). x) r (part bytes 0) → IfErr r (λ e. offset_in_part e ≤ length bytes)
+at-of bytes (Ok x) h = tt
+at-of bytes (Err e) h = fault-within e bytes h

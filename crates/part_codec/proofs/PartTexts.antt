@@ -1,0 +1,254 @@
+-- What is read as a part is spelled so, and what is spelled so is read, whatever follows.
+use Rattle.std.proofs.Common.{arith, true, ◌≡◌, ℕ, zero, suc, ◌-◌, ◌<◌, ◌≤◌, ◌^◌, List, [], ◌++◌, length, Option, Some, None, Result, Ok, Err, refl, sym, ap, ◌∙◌, subst, IfOk}
+use Rattle.std.specs.Prelude.{codes, take}
+use Rattle.std.specs.Int.{w8, w16, w32, w64, to_be_bytes}
+use Rattle.std.specs.Str.{bytes_eq}
+use Rattle.std.proofs.lemmas.List.{append-nil, length-take}
+use Rattle.std.proofs.lemmas.Slice.Eq.{bytes_eq-Decides}
+use Rattle.sha2.specs.Sha256.{sha256}
+use Rattle.sha2.proofs.Facts256.{length-sha256}
+use Rattle.octets_core.specs.Position.{Position, start_of}
+use Rattle.octets_core.specs.Layout.{whole}
+use Rattle.octets_core.specs.Linked.{is_after}
+use Rattle.octets_core.specs.Reading.{number, key, digest}
+use Rattle.octets_core.specs.declared.field.Field.TheVariants as fields
+use Rattle.ident_core.specs.declared.range.Range.{Range}
+use Rattle.ident_core.specs.declared.kind.Kind.{Kind}
+use Rattle.ident_core.specs.declared.kind.Kind.TheVariants as kinds
+use Rattle.ident_core.specs.HeadFields.{HeadFields, zero_key}
+use Rattle.ident_core.specs.Coverage.{IsRangeAfter}
+use Rattle.ident_core.specs.RangeLayout.{range}
+use Rattle.card_core.specs.declared.block.Block.{Block}
+use Rattle.card_core.specs.declared.block.Body.{Body}
+use Rattle.card_core.specs.declared.block.Body.TheVariants as bodies
+use Rattle.card_core.specs.PartFields.{PartFields}
+use Rattle.part_codec.specs.declared.fault.PartFault.{PartFault}
+use Rattle.part_codec.specs.declared.fault.PartFault.TheVariants as faults
+use Rattle.part_codec.specs.Decoding.{GivesUnless}
+use Rattle.part_codec.specs.SealedFields.{SealedFields}
+use Rattle.part_codec.specs.PartLayout.{kind_of, is_parent, body_of, head, block, unsealed, part}
+use Rattle.part_codec.specs.PartText.{range_text, kind_number, head_text, mode_of, block_text, unsealed_text, spelling}
+use Rattle.part_codec.specs.Fitting.{FitsRange, FitsBlock, FitsHead, FitsPart, Fits}
+use Rattle.part_codec.proofs.Texts.{bytes_eq-refl, Takes-as, repeated-read, repeated-leaves, sum_field-read, sum_field-leaves, whole-read, mapped-read, mapped-leaves, IsBytes, IsRead, reads, done, from_front, bytes_field-read, number_field-read, Leaves, Takes, ◌>>>◌, Continues, ◌>>-◌, whole-leaves, bytes_field-leaves, number_field-leaves, wide8, wide16, wide32, wide64, Linked-weaken}
+
+below_limit : (n : ℕ) → n < 2 ^ 64 → n ≤ 2 ^ 64 - 1
+below_limit n h = omega arith
+
+pub range-read : (previous : Option (List ℕ)) (before : List ℕ) (r : Range) → FitsRange previous r → IsRead (range previous) before r (range_text r)
+unfolding range
+range-read previous before r fits = from_front
+    (reads _ (bytes_field-read _ _ 32 (is_after previous) _ r.log fits.1.0 fits.0.0)
+    (reads _ (number_field-read _ _ w64 (2 ^ 64) 0 (2 ^ 64 - 1) wide64 _ r.from (omega arith) (below_limit _ fits.1.1) fits.1.1)
+    (reads _ (number_field-read _ _ w64 (2 ^ 64) r.from (2 ^ 64 - 1) wide64 _ r.to fits.0.1 (below_limit _ fits.1.2) fits.1.2)
+    (done r))))
+
+pub range-leaves : (bytes : List ℕ) → IsBytes bytes → (previous : Option (List ℕ)) (at : ℕ) → Leaves (range previous) bytes at (λ r end. Takes bytes at (range_text r) end × FitsRange previous r)
+unfolding range
+range-leaves bytes fits previous at =
+    bytes_field-leaves _ _ 32 (is_after previous) bytes at >>- λ log p a.
+    number_field-leaves _ _ w64 (2 ^ 64) 0 (2 ^ 64 - 1) wide64 bytes fits p >>- λ from q b.
+    number_field-leaves _ _ w64 (2 ^ 64) from (2 ^ 64 - 1) wide64 bytes fits q >>- λ to end c.
+    whole-leaves _ bytes end _ (a.takes >>> b.takes >>> c.takes, ((a.passed, c.from_low), (a.len, omega (arith, b.to_high), omega (arith, c.to_high))))
+
+-- ---- head
+
+kind_back : (k : Kind) → kind_of (kind_number k) ≡ k
+kind_back kinds.Snapshot = refl
+kind_back kinds.Delta = refl
+
+kind_again : (n : ℕ) → n ≤ 1 → kind_number (kind_of n) ≡ n
+kind_again zero le = refl
+kind_again (suc zero) le = refl
+kind_again (suc (suc n)) le = absurd (omega arith)
+
+kind_few : (k : Kind) → kind_number k ≤ 1
+kind_few kinds.Snapshot = omega arith
+kind_few kinds.Delta = omega arith
+
+parent_passes : (k : Kind) (parent : List ℕ) → (k ≡ kinds.Snapshot → parent ≡ zero_key) → is_parent (kind_number k) parent ≡ true
+parent_passes kinds.Snapshot parent zeros = rw (zeros refl) (bytes_eq-refl zero_key)
+parent_passes kinds.Delta parent zeros = refl
+
+parent_tells : (n : ℕ) (parent : List ℕ) → n ≤ 1 → is_parent n parent ≡ true → kind_of n ≡ kinds.Snapshot → parent ≡ zero_key
+parent_tells zero parent le passed is = (bytes_eq-Decides parent zero_key).0 passed
+parent_tells (suc n) parent le passed is = absurd cc
+
+is_one : (n : ℕ) → 1 ≤ n → n ≤ 1 → n ≡ 1
+is_one n low high = omega arith
+
+range-facts : (previous : Option (List ℕ)) (r : Range) → FitsRange previous r → IsRangeAfter previous r
+range-facts previous r fits = fits.0
+
+pub head-read : (before : List ℕ) (h : HeadFields) → FitsHead h → IsRead head before h (head_text h)
+unfolding head head_text
+head-read before h fits =
+    subst (λ (k : Kind). IsRead head before (record h { kind = k }) (head_text h)) (kind_back h.kind) (from_front
+    (reads _ (bytes_field-read _ _ 8 (bytes_eq (codes "CLUBCARD")) _ (codes "CLUBCARD") refl refl)
+    (reads _ (number_field-read _ _ w8 (2 ^ 8) 1 1 wide8 _ 1 (omega arith) (omega arith) (omega arith))
+    (reads _ (number_field-read _ _ w8 (2 ^ 8) 0 1 wide8 _ (kind_number h.kind) (omega arith) (kind_few h.kind) (omega (arith, kind_few h.kind)))
+    (reads _ (number_field-read _ _ w64 (2 ^ 64) 0 (2 ^ 64 - 1) wide64 _ h.epoch (omega arith) (below_limit _ fits.epoch) fits.epoch)
+    (reads _ (bytes_field-read _ _ 32 (is_parent (kind_number h.kind)) _ h.parent fits.parent (parent_passes h.kind h.parent fits.facts.snapshot))
+    (reads _ (number_field-read _ _ w16 (2 ^ 16) 0 1024 wide16 _ (length h.ranges) (omega arith) fits.facts.ranges.few (omega (arith, fits.facts.ranges.few)))
+    (reads _ (repeated-read range (λ previous r. Some r.log) FitsRange range_text range-read None _ h.ranges fits.ranges)
+    (done _)))))))))
+
+pub head-leaves : (bytes : List ℕ) → IsBytes bytes → (at : ℕ) → Leaves head bytes at (λ h end. Takes bytes at (head_text h) end × FitsHead h)
+unfolding head head_text
+head-leaves bytes fits at =
+    bytes_field-leaves _ _ 8 (bytes_eq (codes "CLUBCARD")) bytes at >>- λ begin p a.
+    number_field-leaves _ _ w8 (2 ^ 8) 1 1 wide8 bytes fits p >>- λ version q b.
+    number_field-leaves _ _ w8 (2 ^ 8) 0 1 wide8 bytes fits q >>- λ kind r c.
+    number_field-leaves _ _ w64 (2 ^ 64) 0 (2 ^ 64 - 1) wide64 bytes fits r >>- λ epoch s d.
+    bytes_field-leaves _ _ 32 (is_parent kind) bytes s >>- λ parent t e.
+    number_field-leaves _ _ w16 (2 ^ 16) 0 1024 wide16 bytes fits t >>- λ count u f.
+    repeated-leaves range (λ previous r. Some r.log) FitsRange range_text bytes (range-leaves bytes fits) count None u f.takes.room >>- λ list end g.
+    whole-leaves _ bytes end _ (
+      Takes-as begin (codes "CLUBCARD") (sym ((bytes_eq-Decides (codes "CLUBCARD") begin).0 a.passed)) a.takes
+          >>> Takes-as (to_be_bytes w8 version) (to_be_bytes w8 1) (ap (to_be_bytes w8) (is_one version b.from_low b.to_high)) b.takes
+          >>> Takes-as (to_be_bytes w8 kind) (to_be_bytes w8 (kind_number (kind_of kind))) (ap (to_be_bytes w8) (sym (kind_again kind c.to_high))) c.takes
+          >>> d.takes >>> e.takes
+          >>> Takes-as (to_be_bytes w16 count) (to_be_bytes w16 (length list)) (ap (to_be_bytes w16) (sym g.2)) f.takes
+          >>> g.0,
+      record {
+        facts = record {
+          ranges = record { few = omega (arith, g.2, f.to_high); ascending = Linked-weaken FitsRange IsRangeAfter (λ previous r. Some r.log) range-facts None list g.1 };
+          snapshot = parent_tells kind parent c.to_high e.passed;
+        };
+        epoch = omega (arith, d.to_high);
+        parent = e.len;
+        ranges = g.1;
+      },
+    )
+
+-- ---- blocks
+
+mode_few : (b : Body) → mode_of b ≤ 1
+mode_few bodies.Clean = omega arith
+mode_few bodies.Every = omega arith
+
+body-read : (before : List ℕ) (b : Body) → IsRead (body_of (mode_of b)) before b []
+body-read before bodies.Clean = whole-read before bodies.Clean
+body-read before bodies.Every = whole-read before bodies.Every
+
+body-leaves : (n : ℕ) (bytes : List ℕ) (at : ℕ) → Leaves (body_of n) bytes at (λ b end. (end ≡ at) × (mode_of b ≡ n))
+body-leaves zero bytes at = whole-leaves bodies.Clean bytes at _ (refl, refl)
+body-leaves (suc zero) bytes at = whole-leaves bodies.Every bytes at _ (refl, refl)
+body-leaves (suc (suc n)) bytes at = record { each = λ x h. absurd cc }
+
+pub block-read : (previous : Option (List ℕ)) (before : List ℕ) (b : Block) → FitsBlock previous b → IsRead (block previous) before b (block_text b)
+unfolding block
+block-read previous before b fits = from_front
+    (reads _ (mapped-read faults.Layout _ _ _ _ (bytes_field-read _ _ 32 (is_after previous) _ b.issuer fits.1 fits.0))
+    (reads _ (mapped-read faults.Layout _ _ _ _ (number_field-read _ _ w8 (2 ^ 8) 0 2 wide8 _ (mode_of b.body) (omega arith) (omega (arith, mode_few b.body)) (omega (arith, mode_few b.body))))
+    (reads _ (body-read _ b.body)
+    (subst (λ (l : List ℕ). Continues {E = PartFault} (whole b) before l b (block_text b)) (sym (append-nil (block_text b))) (done b)))))
+
+pub block-leaves : (bytes : List ℕ) → IsBytes bytes → (previous : Option (List ℕ)) (at : ℕ) → Leaves (block previous) bytes at (λ b end. Takes bytes at (block_text b) end × FitsBlock previous b)
+unfolding block
+block-leaves bytes fits previous at =
+    mapped-leaves faults.Layout (key fields.BlockIssuer (is_after previous)) bytes at _ (bytes_field-leaves _ _ 32 (is_after previous) bytes at) >>- λ issuer p a.
+    mapped-leaves faults.Layout (number fields.BlockMode w8 0 2) bytes p _ (number_field-leaves _ _ w8 (2 ^ 8) 0 2 wide8 bytes fits p) >>- λ mode q b.
+    body-leaves mode bytes q >>- λ body end c.
+    whole-leaves _ bytes end _ (
+      subst (λ (n : ℕ). Takes bytes at (issuer ++ to_be_bytes w8 (mode_of body)) n) (sym c.0)
+          (a.takes >>> (Takes-as (to_be_bytes w8 mode) (to_be_bytes w8 (mode_of body)) (ap (to_be_bytes w8) (sym c.1)) b.takes)),
+      (a.passed, a.len),
+    )
+
+-- ---- part
+
+abbrev IsAfter : Option (List ℕ) → Block → Type 0
+IsAfter previous b = is_after previous b.issuer ≡ true
+
+block-facts : (previous : Option (List ℕ)) (b : Block) → FitsBlock previous b → IsAfter previous b
+block-facts previous b fits = fits.0
+
+pub unsealed-read : (p : PartFields) → FitsPart p → IsRead unsealed [] p (unsealed_text p)
+unfolding unsealed unsealed_text
+unsealed-read p fits = from_front
+    (reads _ (mapped-read faults.Layout head _ _ _ (head-read _ p.head fits.head))
+    (reads _ (mapped-read faults.Layout _ _ _ _ (number_field-read _ _ w32 (2 ^ 32) 0 65535 wide32 _ (length p.blocks) (omega arith) fits.facts.few (omega (arith, fits.facts.few))))
+    (reads _ (repeated-read block (λ previous b. Some b.issuer) FitsBlock block_text block-read None _ p.blocks fits.blocks)
+    (done p))))
+
+pub unsealed-leaves : (bytes : List ℕ) → IsBytes bytes → Leaves unsealed bytes 0 (λ p end. Takes bytes 0 (unsealed_text p) end × FitsPart p)
+unfolding unsealed unsealed_text
+unsealed-leaves bytes fits =
+    mapped-leaves faults.Layout head bytes 0 _ (head-leaves bytes fits 0) >>- λ h p a.
+    mapped-leaves faults.Layout (number fields.PartIssuers w32 0 65535) bytes p _ (number_field-leaves _ _ w32 (2 ^ 32) 0 65535 wide32 bytes fits p) >>- λ count q b.
+    repeated-leaves block (λ previous b. Some b.issuer) FitsBlock block_text bytes (block-leaves bytes fits) count None q b.takes.room >>- λ list end c.
+    whole-leaves _ bytes end _ (
+      a.0 >>> Takes-as (to_be_bytes w32 count) (to_be_bytes w32 (length list)) (ap (to_be_bytes w32) (sym c.2)) b.takes >>> c.0,
+      record {
+        facts = record { few = omega (arith, c.2, b.to_high); ascending = Linked-weaken FitsBlock IsAfter (λ previous b. Some b.issuer) block-facts None list c.1 };
+        head = a.1;
+        blocks = c.1;
+      },
+    )
+
+-- the digest behind a part's text is that of the text
+sum_is : (bytes trailer text : List ℕ) (end : ℕ) → take end bytes ≡ text → bytes_eq (sha256 (take end bytes)) trailer ≡ true → trailer ≡ sha256 text
+sum_is bytes trailer text end front passed = sym ((bytes_eq-Decides (sha256 (take end bytes)) trailer).0 passed) ∙ ap sha256 front
+
+pub sealed-from : (bytes : List ℕ) → IsBytes bytes → (p : PartFields) (end : ℕ) (trailer : List ℕ) (after : ℕ)
+    → unsealed bytes 0 ≡ Ok (p, end) → digest fields.PartTrailer bytes end ≡ Ok (trailer, after) → trailer ≡ sha256 (unsealed_text p)
+sealed-from bytes fits p end trailer after front sum =
+    let a = (unsealed-leaves bytes fits).each (p, end) front in
+    let b = (sum_field-leaves _ _ 32 sha256 bytes end).each (trailer, after) sum in
+    sum_is bytes trailer (unsealed_text p) end a.0.parts b.passed
+
+-- the same of a cursor that began at the first byte
+pub sealed-by_cursor : (bytes : List ℕ) → IsBytes bytes → (old new : Position) (p : PartFields) (trailer : List ℕ) (after : ℕ) → old ≡ start_of bytes
+    → (unsealed old.bytes old.at ≡ Ok (p, new.at)) × (new.bytes ≡ old.bytes) → digest fields.PartTrailer new.bytes new.at ≡ Ok (trailer, after) → trailer ≡ sha256 (unsealed_text p)
+sealed-by_cursor bytes fits old new p trailer after is front sum =
+    let same : new.bytes ≡ bytes = front.1 ∙ ap (λ (q : Position). q.bytes) is in
+    sealed-from bytes fits p new.at trailer after
+    (subst (λ (q : Position). unsealed q.bytes q.at ≡ Ok (p, new.at)) is front.0)
+    (subst (λ (l : List ℕ). digest fields.PartTrailer l new.at ≡ Ok (trailer, after)) same sum)
+
+sealed-read : (p : PartFields) → FitsPart p → IsRead part [] (record { part = p; trailer = sha256 (unsealed_text p) }) (unsealed_text p ++ sha256 (unsealed_text p))
+unfolding part
+sealed-read p fits = from_front
+    (reads _ (unsealed-read p fits)
+    (reads _ (mapped-read faults.Layout _ _ _ _ (sum_field-read _ _ 32 sha256 length-sha256 _))
+    (done (record { part = p; trailer = sha256 (unsealed_text p) }))))
+
+pub part-read : (s : SealedFields) → Fits s → IsRead part [] s (spelling s)
+unfolding spelling
+part-read s fits = subst (λ (trailer : List ℕ). IsRead part [] (record { part = s.part; trailer = trailer }) (unsealed_text s.part ++ trailer)) (sym fits.trailer) (sealed-read s.part fits.part)
+
+pub part-leaves : (bytes : List ℕ) → IsBytes bytes → Leaves part bytes 0 (λ s end. Takes bytes 0 (spelling s) end × Fits s)
+unfolding part spelling
+part-leaves bytes fits =
+    unsealed-leaves bytes fits >>- λ p q a.
+    mapped-leaves faults.Layout (digest fields.PartTrailer) bytes q _ (sum_field-leaves _ _ 32 sha256 bytes q) >>- λ trailer end b.
+    whole-leaves _ bytes end _ (a.0 >>> b.takes, record { part = a.1; trailer = sum_is bytes trailer (unsealed_text p) q a.0.parts b.passed })
+
+-- ---- what a decoder gives
+
+pub found-of : (bytes : List ℕ) (r : Result (SealedFields × ℕ) PartFault) → IsBytes bytes → GivesUnless faults.NoMemory (λ (x : SealedFields × ℕ). x) r (part bytes 0)
+    → IfOk r (λ x. (take x.1 bytes ≡ spelling x.0) × Fits x.0)
+found-of bytes (Ok x) fits h = let l = (part-leaves bytes fits).each x h in (l.0.parts, l.1)
+found-of bytes (Err e) fits h = tt
+
+-- where a text ends that begins at the first byte
+end_of : (bytes text : List ℕ) (end : ℕ) → Takes bytes 0 text end → end ≡ length text
+end_of bytes text end t = omega (arith, length-take end bytes, ap length t.parts, t.room)
+
+pub takes-of : (bytes : List ℕ) (r : Result (SealedFields × ℕ) PartFault) → IsBytes bytes → GivesUnless faults.NoMemory (λ (x : SealedFields × ℕ). x) r (part bytes 0)
+    → IfOk r (λ x. x.1 ≡ length (spelling x.0))
+takes-of bytes (Ok x) fits h = end_of bytes (spelling x.0) x.1 ((part-leaves bytes fits).each x h).0
+takes-of bytes (Err e) fits h = tt
+
+pub len-of : (bytes : List ℕ) (r : Result (SealedFields × ℕ) PartFault) → IsBytes bytes → GivesUnless faults.NoMemory (λ (x : SealedFields × ℕ). x) r (part bytes 0)
+    → IfOk r (λ x. x.1 ≤ length bytes)
+len-of bytes (Ok x) fits h = ((part-leaves bytes fits).each x h).0.room
+len-of bytes (Err e) fits h = tt
+
+pub part-again : (s : SealedFields) (rest : List ℕ) → Fits s → part (spelling s ++ rest) 0 ≡ Ok (s, length (spelling s))
+part-again s rest fits = (part-read s fits).each rest ∙ ap (λ (n : ℕ). Ok (s, n)) (omega arith)
+
+pub only-of : (bytes : List ℕ) (r : Result (SealedFields × ℕ) PartFault) (s : SealedFields) (rest : List ℕ) → GivesUnless faults.NoMemory (λ (x : SealedFields × ℕ). x) r (part bytes 0)
+    → Fits s → bytes ≡ spelling s ++ rest → GivesUnless faults.NoMemory (λ (x : SealedFields × ℕ). x) r (Ok (s, length (spelling s)))
+only-of bytes r s rest h fits is =
+    subst (λ (f : Result (SealedFields × ℕ) PartFault). GivesUnless faults.NoMemory (λ (x : SealedFields × ℕ). x) r f) (ap (λ (l : List ℕ). part l 0) is ∙ part-again s rest fits) h

@@ -1,0 +1,11 @@
+use Rattle.std.proofs.Common.{◌≡◌, ◌++◌, take}
+use Rattle.std.specs.Prelude.{flat_map, All}
+use Rattle.part_codec.specs.PartText.{range_text}
+use Rattle.part_codec.specs.Fitting.{RangeFits}
+use Rattle.part_codec.proofs.encode.put_ranges.Given as goal
+
+abbrev pub invariant-loop-range : goal.invariant-loop-range
+invariant-loop-range l = record {
+  text : l.out.items ≡ l.fn.out.items ++ flat_map range_text (take l.range-index l.ranges);
+  fits : All RangeFits (take l.range-index l.ranges);
+}

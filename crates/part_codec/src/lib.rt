@@ -1,0 +1,17 @@
+//! The layout of a part, both ways: a part with its trailer, the bytes that it is written as, and the part that bytes
+//! begin with.
+#![tactic(auto)]
+
+mod decode;
+mod encode;
+mod fault;
+mod laws;
+mod sealed;
+#[cfg(test)]
+mod tests;
+
+pub use decode::decode_part;
+pub use encode::encode_part;
+pub use fault::PartFault;
+pub use laws::a_text_is_read_back;
+pub use sealed::{Sealed, seal};

@@ -1,0 +1,141 @@
+//! Parts with their trailers.
+
+ghost use Rattle.std.specs.Prelude.{◌≡◌, flat_map};
+ghost use Rattle.sha2.specs.Sha256.{sha256};
+ghost use Rattle.part_codec.specs.PartText.{range_text, kind_number, head_text, mode_of, block_text, unsealed_text};
+ghost use Rattle.part_codec.specs.Hashing.{Hashed};
+
+use card_core::{Block, Body, Part};
+use ident_core::{Head, Kind, Range};
+use octets_core::Key32;
+use sha2::{Digest, Sha256};
+use std::marker::Model;
+
+/// A part with its trailer, which is the SHA-256 (FIPS 180-4) of the bytes of its text before it.
+#[derive(Debug, Drop)]
+pub struct Sealed {
+    part: Part,
+    trailer: Key32,
+}
+
+impl Model for Sealed {
+    ghost use Rattle.std.specs.Prelude.{◌≡◌};
+    ghost use Rattle.sha2.specs.Sha256.{sha256};
+    ghost use Rattle.part_codec.specs.SealedFields.{SealedFields};
+    ghost use Rattle.part_codec.specs.PartText.{unsealed_text};
+
+    ghost Value = { SealedFields };
+
+    ghost view = { λ s. record { part = s.part; trailer = s.trailer } };
+
+    ghost invariant = { λ s. s.trailer ≡ sha256 (unsealed_text s.part) };
+}
+
+impl Sealed {
+    pub(crate) fn new(part: Part, trailer: Key32) -> Sealed
+        requires { trailer ≡ sha256 (unsealed_text part) }
+        ensures { result ≡ record { part = part; trailer = trailer } }
+    {
+        Sealed { part, trailer }
+    }
+
+    /// The part.
+    pub fn part(&self) -> &Part
+        ensures { result.now ≡ self.now.part }
+    {
+        &self.part
+    }
+
+    /// The SHA-256 of the text before it.
+    pub fn trailer(&self) -> Key32
+        ensures value { result ≡ self.now.trailer }
+        ensures digest { self.now.trailer ≡ sha256 (unsealed_text self.now.part) }
+    {
+        self.trailer
+    }
+}
+
+/// The number of a part's kind in its layout.
+pub(crate) fn kind_byte(kind: Kind) -> u8
+    ensures { result ≡ kind_number kind }
+{
+    match kind {
+        Kind::Snapshot => 0,
+        Kind::Delta => 1,
+    }
+}
+
+/// The number of a block's mode in its layout.
+pub(crate) fn mode_byte(body: &Body) -> u8
+    ensures { result ≡ mode_of body.now }
+{
+    match body {
+        Body::Clean => 0,
+        Body::Every => 1,
+    }
+}
+
+fn hash_range(hasher: &mut Sha256, range: &Range)
+    ensures { Hashed hasher.old hasher.new (range_text range.now) }
+{
+    hasher.update(range.log.bytes());
+    hasher.update(&range.from.to_be_bytes());
+    hasher.update(&range.to.to_be_bytes());
+}
+
+fn hash_ranges(hasher: &mut Sha256, ranges: &[Range])
+    ensures { Hashed hasher.old hasher.new (flat_map range_text ranges.now) }
+{
+    for range in ranges {
+        hash_range(hasher, range);
+    }
+}
+
+#[tactic(auto, unfolding(crate::specs::PartText::head_text))]
+fn hash_head(hasher: &mut Sha256, head: &Head)
+    ensures { Hashed hasher.old hasher.new (head_text head.now) }
+{
+    hasher.update(b"CLUBCARD");
+    hasher.update(&[1]);
+    hasher.update(&[kind_byte(head.kind())]);
+    hasher.update(&head.epoch().to_be_bytes());
+    hasher.update(head.parent().bytes());
+    let ranges = head.ranges();
+    hasher.update(&(ranges.len() as u16).to_be_bytes());
+    hash_ranges(hasher, ranges);
+}
+
+fn hash_block(hasher: &mut Sha256, block: &Block)
+    ensures { Hashed hasher.old hasher.new (block_text block.now) }
+{
+    hasher.update(block.issuer.bytes());
+    hasher.update(&[mode_byte(&block.body)]);
+}
+
+fn hash_blocks(hasher: &mut Sha256, blocks: &[Block])
+    ensures { Hashed hasher.old hasher.new (flat_map block_text blocks.now) }
+{
+    for block in blocks {
+        hash_block(hasher, block);
+    }
+}
+
+#[tactic(auto, unfolding(crate::specs::PartText::unsealed_text))]
+fn digest_of(part: &Part) -> Key32
+    ensures { result ≡ sha256 (unsealed_text part.now) }
+{
+    let mut hasher = Sha256::new();
+    hash_head(&mut hasher, part.head());
+    let blocks = part.blocks();
+    hasher.update(&(blocks.len() as u32).to_be_bytes());
+    hash_blocks(&mut hasher, blocks);
+    Key32::new(hasher.finalize())
+}
+
+/// The part with its trailer. No memory is taken.
+pub fn seal(part: Part) -> Sealed
+    ensures { result ≡ record { part = part; trailer = sha256 (unsealed_text part) } }
+{
+    let trailer = digest_of(&part);
+    Sealed { part, trailer }
+}
