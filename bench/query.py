@@ -1,34 +1,37 @@
 #!/usr/bin/env python3
-"""Times `clubcard query` and `clubcard check`: a small store against a program that only prints a word, the longest store
-of one part, and the longest part against its SHA-256, with the memory that a run takes at most. Run it at the top of the repository after ./clubcard has built the program:
+"""Times `clubcard query` and `clubcard check`: a small store against a program that only prints a word, the longest
+store of one part, and the longest part against its SHA-256 by the same sha2, with the memory that a run takes at most (by
+/usr/bin/time). Run it at the top of the repository once `./clubcard query` and, in crates/digest_bench, `rt run` have built
+the programs:
 
     python3 bench/query.py
 """
 
 import hashlib
 import os
-import resource
 import subprocess
 import sys
 import tempfile
 import time
 
 PROGRAM = "crates/clubcard/out/clubcard"
+DIGEST = "crates/digest_bench/out/digest_bench"
 T = 1700000000000
 LOG = bytes([0xAA] * 32)
 
 
 def store(ranges, issuers):
-    """A store of one snapshot: ranges of other logs and one of LOG, and a block of mode all for each issuer."""
+    """A store of one snapshot with a block of mode all for each issuer, and the last issuer."""
     part = b"CLUBCARD" + bytes([1, 0]) + (1).to_bytes(8, "big") + bytes(32)
     logs = sorted([i.to_bytes(32, "big") for i in range(1, ranges)] + [LOG])
     part += len(logs).to_bytes(2, "big")
     for log in logs:
         part += log + T.to_bytes(8, "big") + (T + 1000).to_bytes(8, "big")
     part += issuers.to_bytes(4, "big")
-    part += b"".join(i.to_bytes(32, "big") + b"\x01" for i in range(1, issuers + 1))
+    keys = sorted(hashlib.sha256(i.to_bytes(4, "big")).digest() for i in range(issuers))
+    part += b"".join(key + b"\x01" for key in keys)
     part += hashlib.sha256(part).digest()
-    return b"CLUBSTOR" + bytes([1, 1]) + part
+    return b"CLUBSTOR" + bytes([1, 1]) + part, keys[-1]
 
 
 def best(command, runs):
@@ -43,32 +46,40 @@ def best(command, runs):
     return least * 1000, output
 
 
+def memory(command):
+    """The most memory that a command takes, in KiB."""
+    timed = ["/usr/bin/time", "-f", "%M"] + command
+    done = subprocess.run(timed, stdout=subprocess.DEVNULL, stderr=subprocess.PIPE, check=False)
+    return int(done.stderr.split()[-1])
+
+
 def main():
-    if not os.access(PROGRAM, os.X_OK):
-        sys.exit("build the program first: ./clubcard query")
+    if not os.access(PROGRAM, os.X_OK) or not os.access(DIGEST, os.X_OK):
+        sys.exit("build the programs first: ./clubcard query; (cd crates/digest_bench && rt run)")
     with tempfile.TemporaryDirectory() as folder:
-        print("store            bytes    time     answer")
+        print("run         bytes      time   memory  output")
         echo, _ = best(["/bin/echo", "revoked"], 200)
-        print(f"(/bin/echo)          -  {echo:5.2f} ms")
-        for name, ranges, issuers in (("small", 1, 1), ("longest", 1024, 65535)):
-            path = os.path.join(folder, name)
-            data = store(ranges, issuers)
+        print(f"/bin/echo       -  {echo:5.2f} ms        -  revoked")
+        for ranges, issuers in ((1, 1), (1024, 65535)):
+            path = os.path.join(folder, "store")
+            data, issuer = store(ranges, issuers)
             with open(path, "wb") as file:
                 file.write(data)
-            asked = issuers.to_bytes(32, "big").hex()
-            command = [PROGRAM, "query", path, asked, "05", LOG.hex(), str(T)]
+            command = [PROGRAM, "query", path, issuer.hex(), "05", LOG.hex(), str(T)]
             took, output = best(command, 200 if issuers == 1 else 50)
-            print(f"{name:10} {len(data):11}  {took:5.2f} ms  {output.decode().strip()}")
+            print(f"query     {len(data):7} {took:6.2f} ms {memory(command):4} KiB  {output.decode().strip()}")
         part = os.path.join(folder, "part")
         with open(part, "wb") as file:
             file.write(data[10:])
-        took, output = best([PROGRAM, "check", part], 50)
-        print(f"check      {len(data) - 10:11}  {took:5.2f} ms  {output.decode().strip()}")
-        start = time.perf_counter()
-        hashlib.sha256(data[10:]).digest()
-        print(f"(SHA-256 of it by Python's hashlib: {(time.perf_counter() - start) * 1000:.2f} ms)")
-    most = resource.getrusage(resource.RUSAGE_CHILDREN).ru_maxrss
-    print(f"most memory of a run: {most} KiB")
+        digest, _ = best([DIGEST, part], 50)
+        print(f"SHA-256   {len(data) - 10:7} {digest:6.2f} ms {memory([DIGEST, part]):4} KiB")
+        for word in ("check", "show"):
+            command = [PROGRAM, word, part]
+            took, output = best(command, 50)
+            lines = output.count(b"\n")
+            print(
+                f"{word:8}  {len(data) - 10:7} {took:6.2f} ms {memory(command):4} KiB  {lines} lines, {took / digest:.2f} of SHA-256"
+            )
 
 
 main()

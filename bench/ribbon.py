@@ -37,8 +37,8 @@ def main():
         for keys, rounds in ((1000000, 1), (16000, 100)):
             for planes in (1, 6, 16):
                 words = [str(keys), str(planes), str(rounds)]
-                ours, printed = best(PROGRAM, words, 5)
-                theirs, expected = best(reference, words, 5)
+                ours, printed = best(PROGRAM, words, 9)
+                theirs, expected = best(reference, words, 9)
                 if printed != expected:
                     sys.exit("the two programs print different counts")
                 print(f"{rounds:7} {keys:9} {planes:7} {ours:11.3f} s {theirs:9.3f} s {ours / theirs:6.2f}")

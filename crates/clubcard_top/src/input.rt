@@ -16,8 +16,8 @@ pub enum InputFault {
     NoMemory,
 }
 
-/// The most bytes that one read asks for.
-const PIECE: usize = 16_384;
+/// The most bytes that one read asks for: few reads of a long file, since a depot opens it for each.
+const PIECE: usize = 65_536;
 
 /// Reads the next piece of a file behind the bytes that were read, and answers how many bytes came: none only at the
 /// end of the file, or where as many as the limit were read.

@@ -1,6 +1,7 @@
 //! Parts from bytes.
 
 ghost use Rattle.std.specs.Prelude.{◌≡◌, ◌++◌, ◌≤◌, ℕ, List, length, take, Ok, IfOk, IfErr, true};
+ghost use Rattle.octets_core.specs.Linked.{is_after};
 ghost use Rattle.octets_core.specs.Reading.{ReadsField, key};
 ghost use Rattle.ident_core.specs.Coverage.{AreRanges};
 ghost use Rattle.ident_core.specs.RangeLayout.{ranges as ranges_layout};
@@ -17,8 +18,8 @@ use crate::sealed::Sealed;
 use card_core::{Block, Body, MAX_BLOCKS, Part};
 use ident_core::{Head, Kind, Range, read_range};
 use octets_core::{
-    Cursor, Field, Key32, LayoutFault, Why, read_digest, read_key, read_key_after, read_magic,
-    read_u8, read_u16, read_u32, read_u64,
+    Cursor, Field, Key32, LayoutFault, Why, read_digest, read_key, read_magic, read_u8, read_u16,
+    read_u32, read_u64,
 };
 use std::alloc::Global;
 
@@ -51,20 +52,27 @@ fn is_parent_of(kind: u8, key: Key32) -> bool
     kind == 1 || key == Key32::new([0; 32])
 }
 
+/// The fault of a field whose value fails its test.
+fn bad_value(at: usize, field: Field) -> LayoutFault
+    ensures { result ≡ record { at = at; field = field; why = Why.Value } }
+{
+    LayoutFault {
+        at: at as u64,
+        field,
+        why: Why::Value,
+    }
+}
+
 /// The parent, which is zeros in a snapshot.
 #[tactic(auto, unfolding(octets_core::specs::Layout::bytes_field))]
 fn parent_of(cursor: &mut Cursor<'_>, kind: u8) -> Result<Key32, LayoutFault>
     ensures exact { ReadsField (λ x. x) (key Field.PartParent (is_parent kind)) cursor.old cursor.new result }
     ensures passes { IfOk result (λ key. is_parent kind key ≡ true) }
 {
-    let at = cursor.at() as u64;
+    let at = cursor.at();
     let parent = read_key(cursor, Field::PartParent)?;
     if !is_parent_of(kind, parent) {
-        return Err(LayoutFault {
-            at,
-            field: Field::PartParent,
-            why: Why::Value,
-        });
+        return Err(bad_value(at, Field::PartParent));
     }
     Ok(parent)
 }
@@ -83,11 +91,34 @@ fn head_of(alloc: Global, cursor: &mut Cursor<'_>) -> Result<Head, PartFault>
     Ok(Head::new(kind(number), epoch, parent, ranges))
 }
 
+fn is_above(issuer: &Key32, previous: &Option<Key32>) -> bool
+    ensures { result ≡ is_after previous.now issuer.now }
+{
+    match previous {
+        None => true,
+        Some(previous) => previous.cmp(issuer).is_lt(),
+    }
+}
+
+/// The issuer of a block, which is above that of the block before. A call of its own, since most of a part is issuers, and
+/// the loop over blocks is much faster where this is compiled into it.
+#[tactic(auto, unfolding(octets_core::specs::Layout::bytes_field))]
+fn issuer_of(cursor: &mut Cursor<'_>, previous: Option<Key32>) -> Result<Key32, LayoutFault>
+    ensures { ReadsField (λ x. x) (key Field.BlockIssuer (is_after previous)) cursor.old cursor.new result }
+{
+    let at = cursor.at();
+    let issuer = read_key(cursor, Field::BlockIssuer)?;
+    if !is_above(&issuer, &previous) {
+        return Err(bad_value(at, Field::BlockIssuer));
+    }
+    Ok(issuer)
+}
+
 #[tactic(auto, unfolding(crate::specs::PartLayout::block))]
 fn block_of(cursor: &mut Cursor<'_>, previous: Option<Key32>) -> Result<Block, PartFault>
     ensures { Reads (λ b. b) (block previous) cursor.old cursor.new result }
 {
-    let issuer = read_key_after(cursor, Field::BlockIssuer, previous)?;
+    let issuer = issuer_of(cursor, previous)?;
     let body = match read_u8(cursor, Field::BlockMode, 0, 2)? {
         0 => Body::Clean,
         1 => Body::Every,
