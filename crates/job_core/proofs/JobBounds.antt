@@ -1,0 +1,177 @@
+-- A job's faults lie within its bytes, and are of its fields or its limits.
+use Rattle.std.proofs.Common.{◌≡◌, ℕ, zero, suc, ◌+◌, ◌≤◌, ◌-◌, ◌^◌, Bool, true, false, List, length, Option, Some, None, Result, Ok, Err, refl, subst, arith, IfErr}
+use Rattle.std.specs.Prelude.{nat_le, if◌then◌else◌}
+use Rattle.std.specs.Int.{Width, w32, w64}
+use Rattle.octets_core.specs.Layout.{Layout, ◌>>=◌, whole, refused}
+use Rattle.octets_core.specs.Linked.{is_after}
+use Rattle.octets_core.specs.Reading.{fault_at, number, end}
+use Rattle.octets_core.proofs.Bounds.{IsWithin, IsBounded, bytes_field-bounded, number_field-bounded, whole-bounded, mapped-bounded, ◌>>>◌}
+use Rattle.octets_core.specs.declared.field.Field.{Field}
+use Rattle.octets_core.specs.declared.field.Field.TheVariants as fields
+use Rattle.octets_core.specs.declared.fault.Why.TheVariants as why
+use Rattle.octets_core.specs.declared.fault.LayoutFault.{LayoutFault}
+use Rattle.ident_core.specs.RangeLayout.{range}
+use Rattle.crl_core.specs.Outcome.{outcome}
+use Rattle.job_core.specs.declared.bounds.Limits.{Limits}
+use Rattle.job_core.specs.declared.bounds.What.{What}
+use Rattle.job_core.specs.declared.bounds.What.TheVariants as what
+use Rattle.job_core.specs.declared.fault.JobFault.{JobFault}
+use Rattle.job_core.specs.declared.fault.JobFault.TheVariants as faults
+use Rattle.job_core.specs.JobFields.{JobFields}
+use Rattle.job_core.specs.JobLayout.{fielded, length_of_three, record_kind, crl, entry, SoFar, nothing_yet, Item, at_most, kept, range_item, crl_item, entry_item, item_of, next_item, with_item, with_others, records_within, records, job, job_of, value_of}
+use Rattle.job_core.specs.Reading.{GivesUnless}
+use Rattle.job_core.specs.Offsets.{offset_in_job}
+
+abbrev offset : LayoutFault → ℕ
+offset f = f.at
+
+-- where a fault of a field or a limit stands; any other stands at n
+abbrev place : ℕ → JobFault → ℕ
+place n (faults.Layout f) = f.at
+place n (faults.TooMany thing limit) = 0
+place n faults.ReadFault = n
+place n faults.NoMemory = n
+
+number-bounded : (name : Field) (w : Width) (low high : ℕ) → IsBounded offset (number name w low high)
+number-bounded name w low high = number_field-bounded offset _ _ w low high (λ at. refl) (λ at. refl)
+
+bytes-bounded : (name : Field) (width : ℕ) (test : List ℕ → Bool) → IsBounded offset (Rattle.octets_core.specs.Layout.bytes_field (fault_at why.Short name) (fault_at why.Value name) width test)
+bytes-bounded name width test = bytes_field-bounded offset _ _ width test (λ at. refl) (λ at. refl)
+
+fielded-bounded : {A : Type 0} (n : ℕ) (layout : Layout LayoutFault A) → IsBounded offset layout → IsBounded (place n) (fielded layout)
+fielded-bounded n layout b = mapped-bounded offset (place n) faults.Layout layout (λ e. refl) b
+
+three-bounded : (name : Field) → IsBounded offset (length_of_three name)
+unfolding length_of_three
+three-bounded name = bytes-bounded name 3 _ >>> λ b. whole-bounded offset _
+
+kind-bounded : (previous : ℕ) → IsBounded offset (record_kind previous)
+unfolding record_kind
+kind-bounded previous = bytes-bounded fields.RecordKind 1 _ >>> λ b. whole-bounded offset _
+
+range-bounded : (previous : Option (List ℕ)) → IsBounded offset (range previous)
+unfolding range
+range-bounded previous =
+    bytes-bounded fields.RangeLog 32 (is_after previous) >>> λ log.
+    number-bounded fields.RangeFrom w64 0 (2 ^ 64 - 1) >>> λ from.
+    number-bounded fields.RangeTo w64 from (2 ^ 64 - 1) >>> λ to.
+    whole-bounded offset _
+
+crl-bounded : IsBounded offset crl
+unfolding crl
+crl-bounded =
+    bytes-bounded fields.CrlIssuer 32 _ >>> λ issuer.
+    number-bounded fields.CrlLength w32 0 67108864 >>> λ width.
+    bytes-bounded fields.CrlBytes width _ >>> λ bytes.
+    whole-bounded offset _
+
+entry-bounded : IsBounded offset entry
+unfolding entry
+entry-bounded =
+    bytes-bounded fields.EntryLog 32 _ >>> λ log.
+    three-bounded fields.EntryLeafLength >>> λ leaf_width.
+    bytes-bounded fields.EntryLeaf leaf_width _ >>> λ leaf.
+    three-bounded fields.EntryExtraLength >>> λ extra_width.
+    bytes-bounded fields.EntryExtra extra_width _ >>> λ extra.
+    whole-bounded offset _
+
+end-within : (bytes : List ℕ) (at : ℕ) (b : Bool) → at ≤ length bytes → IsWithin offset bytes (if b then Err (fault_at why.Value fields.End at) else Ok (tt {0}, at))
+end-within bytes at true le = le
+end-within bytes at false le = le
+
+end-bounded : IsBounded offset end
+end-bounded = record { each = λ bytes at le. end-within bytes at _ le }
+
+either-bounded : {A : Type 0} (n : ℕ) (b : Bool) (x y : Layout JobFault A) → IsBounded (place n) x → IsBounded (place n) y → IsBounded (place n) (if b then x else y)
+either-bounded n true x y hx hy = hx
+either-bounded n false x y hx hy = hy
+
+limit-bounded : (n : ℕ) (thing : What) (limit count : ℕ) → IsBounded (place n) (at_most thing limit count)
+limit-bounded n thing limit count =
+    either-bounded n (nat_le count limit) (whole tt) (refused (faults.TooMany thing limit)) (whole-bounded (place n) tt) (record { each = λ bytes at le. omega arith })
+
+range_item-bounded : (n : ℕ) (limits : Limits) (s : SoFar) → IsBounded (place n) (range_item limits s)
+unfolding range_item
+range_item-bounded n limits s =
+    limit-bounded n what.Ranges limits.ranges (length s.ranges + 1) >>> λ room.
+    fielded-bounded n _ (range-bounded s.log) >>> λ r.
+    whole-bounded (place n) _
+
+crl_item-bounded : (n : ℕ) (limits : Limits) (s : SoFar) → IsBounded (place n) (crl_item limits s)
+unfolding crl_item
+crl_item-bounded n limits s =
+    limit-bounded n what.Crls limits.crls (length s.crls + 1) >>> λ room.
+    fielded-bounded n crl crl-bounded >>> λ c.
+    limit-bounded n what.Serials limits.serials (s.serials + kept (outcome c.bytes)) >>> λ few.
+    whole-bounded (place n) _
+
+entry_item-bounded : (n : ℕ) (limits : Limits) (s : SoFar) → IsBounded (place n) (entry_item limits s)
+unfolding entry_item
+entry_item-bounded n limits s =
+    limit-bounded n what.Entries limits.entries (length s.entries + 1) >>> λ room.
+    fielded-bounded n entry entry-bounded >>> λ e.
+    whole-bounded (place n) _
+
+item-bounded : (n kind : ℕ) (limits : Limits) (s : SoFar) → IsBounded (place n) (item_of kind limits s)
+item-bounded n kind limits s =
+    either-bounded n _ (range_item limits s) _ (range_item-bounded n limits s)
+    (either-bounded n _ (crl_item limits s) (entry_item limits s) (crl_item-bounded n limits s) (entry_item-bounded n limits s))
+
+next-bounded : (n : ℕ) (limits : Limits) (s : SoFar) → IsBounded (place n) (next_item limits s)
+unfolding next_item
+next-bounded n limits s =
+    fielded-bounded n _ (kind-bounded s.kind) >>> λ kind.
+    either-bounded n _ _ _ (whole-bounded (place n) None) (item-bounded n kind limits s >>> λ x. whole-bounded (place n) _)
+
+others-bounded : (n : ℕ) (others : SoFar → Layout JobFault SoFar) (s : SoFar) (x : Option Item) → ((t : SoFar) → IsBounded (place n) (others t)) → IsBounded (place n) (with_others others s x)
+others-bounded n others s None each = whole-bounded (place n) s
+others-bounded n others s (Some x) each = each (with_item s x)
+
+records-bounded : (n count : ℕ) (limits : Limits) (s : SoFar) → IsBounded (place n) (records_within count limits s)
+unfolding records_within
+records-bounded n zero limits s = record { each = λ bytes at le. le }
+records-bounded n (suc count) limits s = next-bounded n limits s >>> λ x. others-bounded n (records_within count limits) s x (λ t. records-bounded n count limits t)
+
+all-bounded : (n : ℕ) (limits : Limits) (s : SoFar) → IsBounded (place n) (records limits s)
+all-bounded n limits s = record { each = λ bytes at le. (records-bounded n (length bytes - at) limits s).each bytes at le }
+
+pub job-bounded : (n : ℕ) (limits : Limits) → IsBounded (place n) (job limits)
+unfolding job
+job-bounded n limits =
+    fielded-bounded n _ (bytes-bounded fields.JobMagic 8 _) >>> λ begin.
+    fielded-bounded n _ (number-bounded fields.JobEpoch w64 0 (2 ^ 64 - 1)) >>> λ epoch.
+    fielded-bounded n _ (number-bounded fields.JobMoment w64 0 (2 ^ 64 - 1)) >>> λ moment.
+    all-bounded n limits nothing_yet >>> λ s.
+    fielded-bounded n end end-bounded >>> λ over.
+    whole-bounded (place n) _
+
+fault-within : (n : ℕ) (bytes : List ℕ) (e : JobFault) (read : Result (JobFields × ℕ) JobFault) → IsWithin (place n) bytes read → value_of read ≡ Err e → place n e ≤ length bytes
+fault-within n bytes e (Ok x) h is = absurd cc
+fault-within n bytes e (Err d) h is =
+    let same : d ≡ e = cc in
+    subst (λ (f : JobFault). place n f ≤ length bytes) same h
+
+fault-place : (n : ℕ) (limits : Limits) (bytes : List ℕ) (e : JobFault) → job_of limits bytes ≡ Err e → place n e ≤ length bytes
+fault-place n limits bytes e is = fault-within n bytes e (job limits bytes 0) ((job-bounded n limits).each bytes 0 (omega arith)) is
+
+offset-of : (limits : Limits) (bytes : List ℕ) (e : JobFault) → ((e ≡ faults.NoMemory → ⊥) → job_of limits bytes ≡ Err e) → offset_in_job e ≤ length bytes
+offset-of limits bytes faults.NoMemory h = omega arith
+offset-of limits bytes faults.ReadFault h = omega arith
+offset-of limits bytes (faults.TooMany thing limit) h = omega arith
+offset-of limits bytes (faults.Layout f) h = fault-place 0 limits bytes (faults.Layout f) (h (λ e. cc))
+
+never-read_fault : (limits : Limits) (bytes : List ℕ) (e : JobFault) → ((e ≡ faults.NoMemory → ⊥) → job_of limits bytes ≡ Err e) → e ≡ faults.ReadFault → ⊥
+never-read_fault limits bytes e h is =
+    let none : e ≡ faults.NoMemory → ⊥ = λ other. cc in
+    let far = fault-place (length bytes + 1) limits bytes faults.ReadFault (subst (λ (f : JobFault). job_of limits bytes ≡ Err f) is (h none)) in
+    omega (arith, far)
+
+-- a fault lies within the bytes
+pub at-of : {X : Type 0} (view : X → JobFields) (limits : Limits) (bytes : List ℕ) (r : Result X JobFault) → GivesUnless faults.NoMemory view r (job_of limits bytes) → IfErr r (λ e. offset_in_job e ≤ length bytes)
+at-of view limits bytes (Ok x) h = tt
+at-of view limits bytes (Err e) h = offset-of limits bytes e h
+
+-- no fault is that of a read
+pub never-of : {X : Type 0} (view : X → JobFields) (limits : Limits) (bytes : List ℕ) (r : Result X JobFault) → GivesUnless faults.NoMemory view r (job_of limits bytes) → IfErr r (λ e. e ≡ faults.ReadFault → ⊥)
+never-of view limits bytes (Ok x) h = tt
+never-of view limits bytes (Err e) h = never-read_fault limits bytes e h

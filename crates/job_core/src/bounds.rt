@@ -1,0 +1,32 @@
+/// What a job has a limited number of.
+#[derive(Clone, Copy, Debug, PartialEq, Eq)]
+pub enum What {
+    Ranges,
+    Crls,
+    /// The serials that are kept of all CRLs of a job together.
+    Serials,
+    Entries,
+    Identities,
+}
+
+/// How many of each a job may have.
+#[derive(Clone, Copy, Debug, PartialEq, Eq)]
+pub struct Limits {
+    pub ranges: u32,
+    pub crls: u32,
+    /// The serials that are kept of all CRLs of a job together.
+    pub serials: u32,
+    pub entries: u32,
+    pub identities: u32,
+}
+
+impl Limits {
+    /// The limits that a published chain keeps.
+    pub const PUBLISHED: Limits = Limits {
+        ranges: 1024,
+        crls: 65_535,
+        serials: 16_777_216,
+        entries: 4_194_304,
+        identities: 4_194_304,
+    };
+}

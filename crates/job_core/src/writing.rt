@@ -1,0 +1,124 @@
+//! Jobs as bytes.
+
+ghost use Rattle.std.specs.Prelude.{◌≡◌, ◌++◌, ◌↔◌, IsTrue, IfOk, OnOk, flat_map, All};
+ghost use Rattle.job_core.specs.JobText.{range_text, crl_text, entry_text, job_text, CrlFits, EntryFits, JobFits};
+
+use crate::fields::MAX_CRL;
+use crate::raw::{RawCrl, RawEntry, RawJob};
+use ident_core::{Range, ranges_fit};
+use octets_core::{NoMemory, put_bytes, put_u8, put_u24, put_u32, put_u64};
+use std::alloc::Global;
+
+/// The lengths of leaves and extra data are below it.
+const LENGTHS: usize = 16_777_216;
+
+fn crls_fit(crls: &[RawCrl]) -> bool
+    ensures { IsTrue result ↔ All CrlFits crls.now }
+{
+    crls.iter().all(|c| c.bytes.len() <= MAX_CRL as usize)
+}
+
+fn entries_fit(entries: &[RawEntry]) -> bool
+    ensures { IsTrue result ↔ All EntryFits entries.now }
+{
+    entries
+        .iter()
+        .all(|e| e.leaf.len() < LENGTHS && e.extra.len() < LENGTHS)
+}
+
+/// Whether the job can be written: its ranges fit a part, CRLs and entries keep the published limits, and each length
+/// fits its field.
+pub fn job_fits(job: &RawJob) -> bool
+    ensures { IsTrue result ↔ JobFits job.now }
+{
+    if job.crls.len() > 65_535 || job.entries.len() > 4_194_304 {
+        return false;
+    }
+    if !ranges_fit(job.ranges.as_slice()) {
+        return false;
+    }
+    if !crls_fit(job.crls.as_slice()) {
+        return false;
+    }
+    entries_fit(job.entries.as_slice())
+}
+
+fn put_range(out: &mut Vec<u8>, range: &Range) -> Result<(), NoMemory>
+    ensures { OnOk result (out.new.items ≡ out.old.items ++ range_text range.now) }
+{
+    put_u8(out, 1)?;
+    put_bytes(out, range.log.bytes())?;
+    put_u64(out, range.from)?;
+    put_u64(out, range.to)?;
+    Ok(())
+}
+
+fn put_ranges(out: &mut Vec<u8>, ranges: &[Range]) -> Result<(), NoMemory>
+    ensures { OnOk result (out.new.items ≡ out.old.items ++ flat_map range_text ranges.now) }
+{
+    for range in ranges {
+        put_range(out, range)?;
+    }
+    Ok(())
+}
+
+fn put_crl(out: &mut Vec<u8>, crl: &RawCrl) -> Result<(), NoMemory>
+    requires { CrlFits crl.now }
+    ensures { OnOk result (out.new.items ≡ out.old.items ++ crl_text crl.now) }
+{
+    put_u8(out, 2)?;
+    put_bytes(out, crl.issuer.bytes())?;
+    put_u32(out, crl.bytes.len() as u32)?;
+    put_bytes(out, crl.bytes.as_slice())?;
+    Ok(())
+}
+
+fn put_crls(out: &mut Vec<u8>, crls: &[RawCrl]) -> Result<(), NoMemory>
+    requires { All CrlFits crls.now }
+    ensures { OnOk result (out.new.items ≡ out.old.items ++ flat_map crl_text crls.now) }
+{
+    for crl in crls {
+        put_crl(out, crl)?;
+    }
+    Ok(())
+}
+
+fn put_entry(out: &mut Vec<u8>, entry: &RawEntry) -> Result<(), NoMemory>
+    requires { EntryFits entry.now }
+    ensures { OnOk result (out.new.items ≡ out.old.items ++ entry_text entry.now) }
+{
+    put_u8(out, 3)?;
+    put_bytes(out, entry.log.bytes())?;
+    put_u24(out, entry.leaf.len() as u32)?;
+    put_bytes(out, entry.leaf.as_slice())?;
+    put_u24(out, entry.extra.len() as u32)?;
+    put_bytes(out, entry.extra.as_slice())?;
+    Ok(())
+}
+
+fn put_entries(out: &mut Vec<u8>, entries: &[RawEntry]) -> Result<(), NoMemory>
+    requires { All EntryFits entries.now }
+    ensures { OnOk result (out.new.items ≡ out.old.items ++ flat_map entry_text entries.now) }
+{
+    for entry in entries {
+        put_entry(out, entry)?;
+    }
+    Ok(())
+}
+
+/// The bytes of the job, whose records are the raw job's in their order.
+#[tactic(auto, unfolding(crate::specs::JobText::job_text))]
+pub fn write_job(alloc: Global, job: &RawJob) -> Result<Vec<u8>, NoMemory>
+    requires { JobFits job.now }
+    ensures { IfOk result (λ out. out.items ≡ job_text job.now) }
+{
+    let mut out = Vec::new(alloc);
+    put_bytes(&mut out, b"CLUBJOB1")?;
+    put_u64(&mut out, job.epoch)?;
+    put_u64(&mut out, job.moment)?;
+    put_ranges(&mut out, job.ranges.as_slice())?;
+    put_crls(&mut out, job.crls.as_slice())?;
+    put_entries(&mut out, job.entries.as_slice())?;
+    put_u8(&mut out, 0)?;
+    Ok(out)
+}
