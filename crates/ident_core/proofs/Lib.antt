@@ -1,2 +1,3 @@
 pub mod Serials
 pub mod Within
+pub mod RangeTexts

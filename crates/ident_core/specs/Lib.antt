@@ -3,3 +3,4 @@ pub mod Order
 pub mod Coverage
 pub mod HeadFields
 pub mod RangeLayout
+pub mod RangeText

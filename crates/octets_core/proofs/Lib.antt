@@ -4,3 +4,6 @@ pub mod Bounds
 pub mod Spans
 pub mod Filling
 pub mod Powers
+pub mod Texts
+pub mod Loops
+pub mod ThreeBytes

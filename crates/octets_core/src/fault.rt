@@ -1,3 +1,5 @@
+ghost use Rattle.std.specs.Prelude.{◌≡◌};
+
 use crate::field::Field;
 
 /// What is wrong with a field.
@@ -18,4 +20,17 @@ pub struct LayoutFault {
     pub at: u64,
     pub field: Field,
     pub why: Why,
+}
+
+impl LayoutFault {
+    /// The fault of the field whose first byte has this offset.
+    pub fn new(at: usize, field: Field, why: Why) -> LayoutFault
+        ensures { result ≡ record { at = at; field = field; why = why } }
+    {
+        LayoutFault {
+            at: at as u64,
+            field,
+            why,
+        }
+    }
 }

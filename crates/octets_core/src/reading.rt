@@ -4,23 +4,13 @@
 ghost use Rattle.std.specs.Prelude.{◌≡◌, ◌≤◌, length, take, IfOk};
 ghost use Rattle.std.specs.Int.{w8, w16, w32, w64};
 ghost use Rattle.octets_core.specs.Linked.{is_after};
-ghost use Rattle.octets_core.specs.Reading.{ReadsField, number, key, any_key, magic, digest, end as end_of};
+ghost use Rattle.octets_core.specs.Reading.{ReadsField, number, octets, length_of_three, key, any_key, magic, digest, end as end_of};
 
 use crate::cursor::{Cursor, Short};
 use crate::fault::{LayoutFault, Why};
 use crate::field::Field;
 use crate::key::Key32;
 use sha2::{Digest, Sha256};
-
-fn fault(at: usize, field: Field, why: Why) -> LayoutFault
-    ensures { result ≡ record { at = at; field = field; why = why } }
-{
-    LayoutFault {
-        at: at as u64,
-        field,
-        why,
-    }
-}
 
 /// A number of one byte, from `low` to `high`.
 #[tactic(auto, unfolding(crate::specs::Layout::number_field))]
@@ -31,8 +21,8 @@ pub fn read_u8(cursor: &mut Cursor<'_>, field: Field, low: u8, high: u8) -> Resu
     let at = cursor.at();
     match cursor.u8() {
         Ok(n) if low <= n && n <= high => Ok(n),
-        Ok(_) => Err(fault(at, field, Why::Value)),
-        Err(Short) => Err(fault(at, field, Why::Short)),
+        Ok(_) => Err(LayoutFault::new(at, field, Why::Value)),
+        Err(Short) => Err(LayoutFault::new(at, field, Why::Short)),
     }
 }
 
@@ -50,8 +40,20 @@ pub fn read_u16(
     let at = cursor.at();
     match cursor.u16() {
         Ok(n) if low <= n && n <= high => Ok(n),
-        Ok(_) => Err(fault(at, field, Why::Value)),
-        Err(Short) => Err(fault(at, field, Why::Short)),
+        Ok(_) => Err(LayoutFault::new(at, field, Why::Value)),
+        Err(Short) => Err(LayoutFault::new(at, field, Why::Short)),
+    }
+}
+
+/// A number of three bytes.
+#[tactic(auto, unfolding(crate::specs::Layout::bytes_field, crate::specs::Reading::length_of_three))]
+pub fn read_u24(cursor: &mut Cursor<'_>, field: Field) -> Result<u32, LayoutFault>
+    ensures { ReadsField (λ n. n) (length_of_three field) cursor.old cursor.new result }
+{
+    let at = cursor.at();
+    match cursor.u24() {
+        Ok(n) => Ok(n),
+        Err(Short) => Err(LayoutFault::new(at, field, Why::Short)),
     }
 }
 
@@ -69,8 +71,8 @@ pub fn read_u32(
     let at = cursor.at();
     match cursor.u32() {
         Ok(n) if low <= n && n <= high => Ok(n),
-        Ok(_) => Err(fault(at, field, Why::Value)),
-        Err(Short) => Err(fault(at, field, Why::Short)),
+        Ok(_) => Err(LayoutFault::new(at, field, Why::Value)),
+        Err(Short) => Err(LayoutFault::new(at, field, Why::Short)),
     }
 }
 
@@ -88,8 +90,24 @@ pub fn read_u64(
     let at = cursor.at();
     match cursor.u64() {
         Ok(n) if low <= n && n <= high => Ok(n),
-        Ok(_) => Err(fault(at, field, Why::Value)),
-        Err(Short) => Err(fault(at, field, Why::Short)),
+        Ok(_) => Err(LayoutFault::new(at, field, Why::Value)),
+        Err(Short) => Err(LayoutFault::new(at, field, Why::Short)),
+    }
+}
+
+/// So many bytes, where they stand.
+#[tactic(auto, unfolding(crate::specs::Layout::bytes_field))]
+pub fn read_octets<'a>(
+    cursor: &mut Cursor<'a>,
+    field: Field,
+    count: u32,
+) -> Result<&'a [u8], LayoutFault>
+    ensures { ReadsField (λ b. b.now) (octets field count) cursor.old cursor.new result }
+{
+    let at = cursor.at();
+    match cursor.take(count as usize) {
+        Ok(taken) => Ok(taken),
+        Err(Short) => Err(LayoutFault::new(at, field, Why::Short)),
     }
 }
 
@@ -110,7 +128,7 @@ pub fn read_key(cursor: &mut Cursor<'_>, field: Field) -> Result<Key32, LayoutFa
     let at = cursor.at();
     match cursor.take(32) {
         Ok(taken) => Ok(key_of(taken)),
-        Err(Short) => Err(fault(at, field, Why::Short)),
+        Err(Short) => Err(LayoutFault::new(at, field, Why::Short)),
     }
 }
 
@@ -135,7 +153,7 @@ pub fn read_key_after(
     let at = cursor.at();
     let key = read_key(cursor, field)?;
     if !is_above(key, previous) {
-        return Err(fault(at, field, Why::Value));
+        return Err(LayoutFault::new(at, field, Why::Value));
     }
     Ok(key)
 }
@@ -147,10 +165,10 @@ pub fn read_magic(cursor: &mut Cursor<'_>, field: Field, text: &[u8; 8]) -> Resu
 {
     let at = cursor.at();
     let Ok(taken) = cursor.take(8) else {
-        return Err(fault(at, field, Why::Short));
+        return Err(LayoutFault::new(at, field, Why::Short));
     };
     if text.as_slice() != taken {
-        return Err(fault(at, field, Why::Value));
+        return Err(LayoutFault::new(at, field, Why::Value));
     }
     Ok(())
 }
@@ -163,11 +181,11 @@ pub fn read_digest(cursor: &mut Cursor<'_>, field: Field) -> Result<Key32, Layou
     let at = cursor.at();
     let passed = cursor.passed();
     let Ok(taken) = cursor.take(32) else {
-        return Err(fault(at, field, Why::Short));
+        return Err(LayoutFault::new(at, field, Why::Short));
     };
     let sum = Sha256::digest(passed);
     if sum.as_slice() != taken {
-        return Err(fault(at, field, Why::Digest));
+        return Err(LayoutFault::new(at, field, Why::Digest));
     }
     Ok(key_of(taken))
 }
@@ -177,7 +195,7 @@ pub fn read_end(cursor: &mut Cursor<'_>) -> Result<(), LayoutFault>
     ensures { ReadsField (λ x. x) end_of cursor.old cursor.new result }
 {
     if cursor.left() > 0 {
-        return Err(fault(cursor.at(), Field::End, Why::Value));
+        return Err(LayoutFault::new(cursor.at(), Field::End, Why::Value));
     }
     Ok(())
 }
