@@ -14,7 +14,7 @@ use Rattle.std.proofs.lemmas.Slice.Eq.{bytes_eq-Decides}
 use Rattle.outside_core.specs.declared.memory.entries.Entry.{Entry}
 use Rattle.outside_core.specs.Files.{held}
 use Rattle.outside_core.specs.Entries.{pair_of, files_of, place_of}
-use Rattle.outside_core.proofs.Files.{not_true, insert-held}
+use Rattle.outside_core.proofs.Files.{not_true, hidden, insert-held}
 
 -- what the first entry of a name holds
 abbrev pub look : List ℕ → List Entry → Option (List ℕ)
@@ -38,10 +38,6 @@ files_of-insert es fs name bytes is = same_map nat_list_cmp_total (slice_cmp-IsA
     ∙ ap (λ o. cond (bytes_eq q name) (Some bytes) o) (sym (get-files_of es q))
     ∙ ap (λ t. cond t (Some bytes) (get (files_of es) q)) (sym (is_eq-slice_cmp q name))
     ∙ sym (get-insert nat_list_cmp_total (files_of es) name bytes q))
-
-hidden : {A : Type 0} (t : Bool) (x y z : A) → cond t x z ≡ cond t x (cond t y z)
-hidden true x y z = refl
-hidden false x y z = refl
 
 swapped : {A : Type 0} (t u : Bool) (x y z : A) → (t ≡ true → u ≡ true → ⊥) → cond t x (cond u y z) ≡ cond u y (cond t x z)
 swapped true true x y z h = absurd (h refl refl)

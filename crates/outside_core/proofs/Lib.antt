@@ -1,5 +1,6 @@
 pub mod Files
 pub mod Written
+pub mod Appending
 pub mod Feeding
 mod Entries
 mod View

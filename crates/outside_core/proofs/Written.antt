@@ -1,25 +1,21 @@
 -- What one piece after another leaves in a sink.
-use Rattle.std.proofs.Common.{◌≡◌, ℕ, ◌+◌, ◌≤◌, List, ◌++◌, take, drop, length, Option, None, Some, refl, sym, ap, ◌∙◌, append_assoc, arith, length-take, length-drop}
-use Rattle.std.proofs.lemmas.List.{take-take}
-use Rattle.std.proofs.Math.Seq.{take-add}
+use Rattle.std.proofs.Common.{◌≡◌, ℕ, ◌+◌, ◌≤◌, List, ◌++◌, take, drop, length, Option, None, Some, refl, ap, ◌∙◌, append_assoc, arith, length-take, length-drop}
 use Rattle.outside_core.specs.Written.{followed_by, CutShort}
+use Rattle.outside_core.proofs.Files.{taken-next}
 
--- a prefix of the next piece behind the pieces before it
-pub followed_by-more : (told : Option (List ℕ)) (xs : List ℕ) (i m n : ℕ) → n ≤ m
-    → followed_by (followed_by told (take i xs)) (take n (take m (drop i xs))) ≡ followed_by told (take (i + n) xs)
-followed_by-more None xs i m n le = refl
-followed_by-more (Some bytes) xs i m n le =
-    ap Some (append_assoc bytes (take i xs) _ ∙ ap (λ (p : List ℕ). bytes ++ p) (ap (λ (p : List ℕ). take i xs ++ p) (take-take n m (drop i xs) le) ∙ sym (take-add i n xs)))
+-- two pieces are one
+pub followed_by-twice : (told : Option (List ℕ)) (first second : List ℕ) → followed_by (followed_by told first) second ≡ followed_by told (first ++ second)
+followed_by-twice None first second = refl
+followed_by-twice (Some bytes) first second = ap Some (append_assoc bytes first second)
 
--- the same from the piece's own equation
+-- a front of the next piece behind the pieces before it
 pub followed_by-next : (told mid new : Option (List ℕ)) (xs piece : List ℕ) (i m n : ℕ) → piece ≡ take m (drop i xs) → n ≤ length piece
     → mid ≡ followed_by told (take i xs) → new ≡ followed_by mid (take n piece) → new ≡ followed_by told (take (i + n) xs)
 followed_by-next told mid new xs piece i m n offered within before after =
-    let few : n ≤ m = omega (arith, length-take m (drop i xs), ap length offered) in
     after
     ∙ ap (λ (t : Option (List ℕ)). followed_by t (take n piece)) before
-    ∙ ap (λ (p : List ℕ). followed_by (followed_by told (take i xs)) (take n p)) offered
-    ∙ followed_by-more told xs i m n few
+    ∙ followed_by-twice told (take i xs) (take n piece)
+    ∙ ap (λ (bytes : List ℕ). followed_by told bytes) (taken-next xs piece i m n offered within)
 
 -- a piece that was cut short behind the pieces before it
 pub CutShort-next : (told mid new : Option (List ℕ)) (xs piece : List ℕ) (i m : ℕ) → piece ≡ take m (drop i xs) → i ≤ length xs

@@ -2,12 +2,15 @@
 //! file that is read in order.
 #![tactic(auto)]
 
+mod append;
 mod depot;
 mod feed;
 mod memory;
+mod piece;
 mod sink;
 mod window;
 
+pub use append::append_all;
 pub use depot::{Depot, Failed};
 pub use feed::Feed;
 pub use memory::{MemoryDepot, MemorySink};

@@ -1,8 +1,9 @@
-ghost use Rattle.std.specs.Prelude.{◌≡◌, ℕ, ◌≤◌, Option, List, take, OnOk, IfOk, OnErr};
+ghost use Rattle.std.specs.Prelude.{◌≡◌, ℕ, ◌≤◌, Option, List, OnOk, IfOk, OnErr};
 ghost use Rattle.outside_core.specs.Files.{Rose};
 ghost use Rattle.outside_core.specs.Written.{followed_by, Took, CutShort};
 
 use crate::depot::Failed;
+use crate::piece::next_piece;
 
 /// A stream that is written to. What it holds may be told to contracts or not, and no call changes whether it is.
 pub trait Sink {
@@ -20,9 +21,6 @@ pub trait Sink {
         ensures later { faults self.old ≤ faults self.new };
 }
 
-/// The most bytes that one call offers.
-const PIECE: usize = 4096;
-
 /// Writes all the bytes. Each call of the sink offers the next 4,096 that aren't taken, or all that are left. After
 /// `Failed` some front of the bytes was written.
 pub fn write_all<K: Sink>(sink: &mut K, bytes: &[u8]) -> Result<(), Failed>
@@ -36,13 +34,6 @@ pub fn write_all<K: Sink>(sink: &mut K, bytes: &[u8]) -> Result<(), Failed>
         done += sink.write(next_piece(&bytes[done..]))?;
     }
     Ok(())
-}
-
-// What the next call offers of the bytes that aren't taken.
-fn next_piece(left: &[u8]) -> &[u8]
-    ensures { result.now ≡ take 4096 left.now }
-{
-    &left[..left.len().min(PIECE)]
 }
 
 #[cfg(test)]

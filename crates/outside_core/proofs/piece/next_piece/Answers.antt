@@ -1,6 +1,6 @@
 use Rattle.std.proofs.Common.{◌≡◌, ℕ, min, length, take, ap, ◌∙◌, arith}
 use Rattle.std.proofs.lemmas.List.{take_min}
-use Rattle.outside_core.proofs.sink.next_piece.Goals as goal
+use Rattle.outside_core.proofs.piece.next_piece.Goals as goal
 
 pub returns : goal.returns
 returns c =

@@ -1,0 +1,25 @@
+ghost use Rattle.std.specs.Prelude.{◌≡◌, ◌≤◌, OnOk, OnErr};
+ghost use Rattle.outside_core.specs.Files.{extending, Torn, KeepsOthers, Rose};
+
+use crate::depot::{Depot, Failed};
+use crate::piece::next_piece;
+
+/// Adds all the bytes behind what the name holds. Each call of the depot offers the next 4,096 that aren't taken, or
+/// all that are left; without bytes there is no call. After `Failed` some front of the bytes stands there.
+pub fn append_all<D: Depot>(depot: &mut D, name: &str, bytes: &[u8]) -> Result<(), Failed>
+    ensures ok { OnOk result (D.files depot.new ≡ extending (D.files depot.old) name.now bytes.now) }
+    ensures err { OnErr result (Torn (D.files depot.old) (D.files depot.new) name.now bytes.now) }
+    ensures others { KeepsOthers (D.files depot.old) (D.files depot.new) name.now }
+    ensures cause { OnErr result (Rose (D.write_faults depot.old) (D.write_faults depot.new)) }
+    ensures later { D.write_faults depot.old ≤ D.write_faults depot.new }
+    ensures same_reads { D.read_faults depot.new ≡ D.read_faults depot.old }
+{
+    let mut done = 0;
+    while done < bytes.len() {
+        done += depot.append(name, next_piece(&bytes[done..]))?;
+    }
+    Ok(())
+}
+
+#[cfg(test)]
+mod tests;
