@@ -1,0 +1,12 @@
+//! Sets of keys and of identities, as ascending lists without repeats. No call takes memory.
+#![tactic(auto)]
+
+mod laws;
+mod searching;
+mod sorting;
+#[cfg(test)]
+mod tests;
+
+pub use laws::sets_are_canonical;
+pub use searching::{holds_key, place_of};
+pub use sorting::{sort_identities_once, sort_keys_once, sort_once};
