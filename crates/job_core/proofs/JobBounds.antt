@@ -4,7 +4,7 @@ use Rattle.std.specs.Prelude.{nat_le, if◌then◌else◌}
 use Rattle.std.specs.Int.{Width, w32, w64}
 use Rattle.octets_core.specs.Layout.{Layout, ◌>>=◌, whole, refused}
 use Rattle.octets_core.specs.Linked.{is_after}
-use Rattle.octets_core.specs.Reading.{fault_at, number, end}
+use Rattle.octets_core.specs.Reading.{GivesUnless, value_of, fault_at, number, length_of_three, end}
 use Rattle.octets_core.proofs.Bounds.{IsWithin, IsBounded, bytes_field-bounded, number_field-bounded, whole-bounded, mapped-bounded, ◌>>>◌}
 use Rattle.octets_core.specs.declared.field.Field.{Field}
 use Rattle.octets_core.specs.declared.field.Field.TheVariants as fields
@@ -18,8 +18,7 @@ use Rattle.job_core.specs.declared.bounds.What.TheVariants as what
 use Rattle.job_core.specs.declared.fault.JobFault.{JobFault}
 use Rattle.job_core.specs.declared.fault.JobFault.TheVariants as faults
 use Rattle.job_core.specs.JobFields.{JobFields}
-use Rattle.job_core.specs.JobLayout.{fielded, length_of_three, record_kind, crl, entry, SoFar, nothing_yet, Item, at_most, kept, range_item, crl_item, entry_item, item_of, next_item, with_item, with_others, records_within, records, job, job_of, value_of}
-use Rattle.job_core.specs.Reading.{GivesUnless}
+use Rattle.job_core.specs.JobLayout.{fielded, record_kind, crl, entry, SoFar, nothing_yet, Item, at_most, kept, range_item, crl_item, entry_item, item_of, next_item, with_item, with_others, records_within, records, job, job_of}
 use Rattle.job_core.specs.Offsets.{offset_in_job}
 
 abbrev offset : LayoutFault → ℕ

@@ -1,3 +1,10 @@
 pub mod Records
 pub mod JobBounds
-pub mod Texts
+pub mod Giving
+pub mod RecordTexts
+pub mod JobReads
+pub mod WrittenJob
+pub mod RecordsSpelled
+pub mod JobSpelled
+pub mod Steps
+pub mod JobFacts

@@ -1,10 +1,9 @@
 -- The layout of a job, line by line as in docs/FORMATS.md.
-use Rattle.std.specs.Prelude.{ℕ, zero, suc, ◌+◌, ◌-◌, ◌^◌, List, [], ◌∷◌, ◌++◌, length, Bool, true, ◌||◌, ◌==◌, nat_le, if◌then◌else◌, Result, Ok, Err, Option, Some, None, codes}
+use Rattle.std.specs.Prelude.{ℕ, zero, suc, ◌+◌, ◌-◌, ◌^◌, List, [], ◌∷◌, ◌++◌, length, Bool, ◌||◌, ◌==◌, nat_le, if◌then◌else◌, Result, Ok, Err, Option, Some, None, codes}
 use Rattle.std.specs.Int.{w8, w32, w64, from_be_bytes}
-use Rattle.octets_core.specs.Position.{Position, from_three}
+use Rattle.octets_core.specs.Position.{Position}
 use Rattle.octets_core.specs.Layout.{Layout, ◌>>=◌, whole, refused, mapped, within, bytes_field}
-use Rattle.octets_core.specs.Reading.{ReadsUnless, fault_at, number, key, any_key, magic, end}
-use Rattle.octets_core.specs.declared.field.Field.{Field}
+use Rattle.octets_core.specs.Reading.{ReadsUnless, value_of, fault_at, number, octets, length_of_three, key, any_key, magic, end}
 use Rattle.octets_core.specs.declared.field.Field.TheVariants as fields
 use Rattle.octets_core.specs.declared.fault.Why.TheVariants as why
 use Rattle.octets_core.specs.declared.fault.LayoutFault.{LayoutFault}
@@ -27,16 +26,6 @@ Reads view layout old new result = ReadsUnless faults.NoMemory view layout old n
 -- a layout whose faults are those of its fields
 abbrev pub fielded : {A : Type 0} → Layout LayoutFault A → Layout JobFault A
 fielded layout = mapped faults.Layout layout
-
--- so many bytes, whatever they are
-abbrev pub octets : Field → ℕ → Layout LayoutFault (List ℕ)
-octets name width = bytes_field (fault_at why.Short name) (fault_at why.Value name) width (λ b. true)
-
--- a number of three bytes
-unfoldable pub length_of_three : Field → Layout LayoutFault ℕ
-length_of_three name = do
-  bytes ← octets name 3
-  whole (from_three bytes)
 
 -- 0 ends a job; ranges, CRLs and entries, which have the kinds 1 to 3, stand in this order
 abbrev pub is_kind : ℕ → ℕ → Bool
@@ -162,11 +151,6 @@ records_within (suc n) limits s = do
 
 abbrev pub records : Limits → SoFar → Layout JobFault SoFar
 records limits s bytes at = records_within (length bytes - at) limits s bytes at
-
--- what was read, without the place behind it
-abbrev pub value_of : {E A : Type 0} → Result (A × ℕ) E → Result A E
-value_of (Ok x) = Ok x.0
-value_of (Err e) = Err e
 
 unfoldable pub job : Limits → Layout JobFault JobFields
 job limits = do

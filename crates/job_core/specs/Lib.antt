@@ -1,6 +1,7 @@
 pub mod JobFields
 pub mod JobLayout
 pub mod Drafts
-pub mod Reading
 pub mod Offsets
 pub mod JobText
+pub mod JobMeaning
+pub mod JobFacts

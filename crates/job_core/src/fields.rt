@@ -1,11 +1,13 @@
 //! The fields of records, read off a cursor.
 
-ghost use Rattle.std.specs.Prelude.{◌≡◌, ◌<◌, ◌≤◌, ◌^◌, IfOk, length};
+ghost use Rattle.std.specs.Prelude.{◌≡◌, ◌≤◌, IfOk};
 ghost use Rattle.octets_core.specs.Reading.{ReadsField};
-ghost use Rattle.job_core.specs.JobLayout.{is_kind, record_kind, octets, length_of_three, crl, entry};
+ghost use Rattle.job_core.specs.JobLayout.{is_kind, record_kind, crl, entry};
 ghost use Rattle.job_core.specs.Drafts.{crl_text, entry_text};
 
-use octets_core::{Cursor, Field, Key32, LayoutFault, Short, Why, read_key, read_u32};
+use octets_core::{
+    Cursor, Field, Key32, LayoutFault, Short, Why, read_key, read_octets, read_u24, read_u32,
+};
 
 /// The most bytes of a CRL.
 pub const MAX_CRL: u32 = 67_108_864;
@@ -25,16 +27,6 @@ pub struct EntrySlice<'a> {
     pub extra: &'a [u8],
 }
 
-fn fault(at: usize, field: Field, why: Why) -> LayoutFault
-    ensures { result ≡ record { at = at; field = field; why = why } }
-{
-    LayoutFault {
-        at: at as u64,
-        field,
-        why,
-    }
-}
-
 fn is_kind_after(previous: u8, kind: u8) -> bool
     ensures { result ≡ is_kind previous kind }
 {
@@ -50,36 +42,8 @@ pub fn read_kind(cursor: &mut Cursor<'_>, previous: u8) -> Result<u8, LayoutFaul
     let at = cursor.at();
     match cursor.u8() {
         Ok(kind) if is_kind_after(previous, kind) => Ok(kind),
-        Ok(_) => Err(fault(at, Field::RecordKind, Why::Value)),
-        Err(Short) => Err(fault(at, Field::RecordKind, Why::Short)),
-    }
-}
-
-/// A number of three bytes.
-#[tactic(auto, unfolding(octets_core::specs::Layout::bytes_field, crate::specs::JobLayout::length_of_three))]
-fn read_u24(cursor: &mut Cursor<'_>, field: Field) -> Result<u32, LayoutFault>
-    ensures { ReadsField (λ n. n) (length_of_three field) cursor.old cursor.new result }
-{
-    let at = cursor.at();
-    match cursor.u24() {
-        Ok(n) => Ok(n),
-        Err(Short) => Err(fault(at, field, Why::Short)),
-    }
-}
-
-/// So many bytes, where they stand.
-#[tactic(auto, unfolding(octets_core::specs::Layout::bytes_field))]
-fn read_octets<'a>(
-    cursor: &mut Cursor<'a>,
-    field: Field,
-    count: u32,
-) -> Result<&'a [u8], LayoutFault>
-    ensures { ReadsField (λ b. b.now) (octets field count) cursor.old cursor.new result }
-{
-    let at = cursor.at();
-    match cursor.take(count as usize) {
-        Ok(taken) => Ok(taken),
-        Err(Short) => Err(fault(at, field, Why::Short)),
+        Ok(_) => Err(LayoutFault::new(at, Field::RecordKind, Why::Value)),
+        Err(Short) => Err(LayoutFault::new(at, Field::RecordKind, Why::Short)),
     }
 }
 

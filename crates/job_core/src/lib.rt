@@ -5,6 +5,7 @@ mod bounds;
 mod draft;
 mod fault;
 mod fields;
+mod laws;
 mod meaning;
 mod raw;
 mod reading;
@@ -14,6 +15,7 @@ mod writing;
 
 pub use bounds::{Limits, What};
 pub use fault::JobFault;
+pub use laws::{a_job_is_its_text, records_are_read_whole};
 pub use meaning::{Job, JobCrl};
 pub use raw::{RawCrl, RawEntry, RawJob};
 pub use reading::read_job;

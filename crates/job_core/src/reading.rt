@@ -1,17 +1,21 @@
 //! Jobs from bytes.
 
-ghost use Rattle.std.specs.Prelude.{◌≡◌, ◌≢◌, ◌≤◌, length, IfErr};
-ghost use Rattle.job_core.specs.JobFields.{fields_of_job, AreWithin};
+ghost use Rattle.std.specs.Prelude.{◌≡◌, ◌≢◌, ◌≤◌, length, map, All, Ok, IfSome, IfOk, IfErr};
+ghost use Rattle.job_core.specs.JobFields.{entry_view, fields_of_job, AreWithin};
 ghost use Rattle.job_core.specs.JobLayout.{Reads, nothing_yet, records, job, job_of};
 ghost use Rattle.job_core.specs.Drafts.{so_far};
-ghost use Rattle.job_core.specs.Reading.{GivesUnless};
+ghost use Rattle.octets_core.specs.Reading.{GivesUnless};
+ghost use Rattle.job_core.specs.JobText.{JobContents, FitsJob, spelling};
+ghost use Rattle.job_core.specs.JobMeaning.{reading_of};
+ghost use Rattle.job_core.specs.JobFacts.{EntryFieldsFit, FitsFields, IsWithinLimits};
 ghost use Rattle.job_core.specs.Offsets.{offset_in_job};
 
 use crate::bounds::Limits;
 use crate::draft::{Draft, new_draft, next_record, put_record};
 use crate::fault::JobFault;
 use crate::meaning::Job;
-use octets_core::{Cursor, Field, LayoutFault, Why, read_end, read_magic, read_u64};
+use ident_core::{Identity, Sighting};
+use octets_core::{Cursor, Field, Key32, LayoutFault, Why, read_end, read_magic, read_u64};
 use std::alloc::Global;
 
 /// The records up to the one that ends the job.
@@ -26,16 +30,38 @@ fn records_of(alloc: Global, cursor: &mut Cursor<'_>, limits: &Limits) -> Result
             Some(record) => put_record(&mut draft, record)?,
         }
     }
-    Err(JobFault::Layout(LayoutFault {
-        at: cursor.at() as u64,
-        field: Field::RecordKind,
-        why: Why::Short,
-    }))
+    Err(JobFault::Layout(LayoutFault::new(cursor.at(), Field::RecordKind, Why::Short)))
+}
+
+/// What the types of an entry's fields say of them; the calls do no more than bring it.
+fn field_facts(id: &Identity, log: &Key32, time: u64)
+    ensures { EntryFieldsFit (record { issuer = id.now.issuer; serial = id.now.serial; log = log.now; time = time }) }
+{
+    let _ = id.issuer.bytes();
+    let _ = id.serial.bytes();
+    let _ = log.bytes();
+}
+
+fn entry_facts(entry: &Option<(Identity, Sighting)>)
+    ensures { IfSome (entry_view entry.now) EntryFieldsFit }
+{
+    if let Some((id, sighting)) = entry {
+        field_facts(id, &sighting.log, sighting.time);
+    }
+}
+
+fn entries_facts(entries: &[Option<(Identity, Sighting)>])
+    ensures { All (λ e. IfSome e EntryFieldsFit) (map entry_view entries.now) }
+{
+    for entry in entries {
+        entry_facts(entry);
+    }
 }
 
 #[tactic(auto, unfolding(crate::specs::JobLayout::job))]
 fn job_in(alloc: Global, bytes: &[u8], limits: &Limits) -> Result<Job, JobFault>
-    ensures { GivesUnless JobFault.NoMemory fields_of_job result (job_of limits.now bytes.now) }
+    ensures exact { GivesUnless JobFault.NoMemory fields_of_job result (job_of limits.now bytes.now) }
+    ensures entries { IfOk result (λ job. All (λ e. IfSome e EntryFieldsFit) (map entry_view job.entries.items)) }
 {
     let mut cursor = Cursor::new(bytes);
     read_magic(&mut cursor, Field::JobMagic, b"CLUBJOB1")?;
@@ -43,6 +69,7 @@ fn job_in(alloc: Global, bytes: &[u8], limits: &Limits) -> Result<Job, JobFault>
     let moment = read_u64(&mut cursor, Field::JobMoment, 0, u64::MAX)?;
     let draft = records_of(alloc, &mut cursor, limits)?;
     read_end(&mut cursor)?;
+    entries_facts(&draft.entries);
     Ok(Job {
         epoch,
         moment,
@@ -58,6 +85,10 @@ fn job_in(alloc: Global, bytes: &[u8], limits: &Limits) -> Result<Job, JobFault>
 pub fn read_job(alloc: Global, bytes: &[u8], limits: &Limits) -> Result<Job, JobFault>
     requires { AreWithin limits.now Limits.PUBLISHED }
     ensures exact { GivesUnless JobFault.NoMemory fields_of_job result (job_of limits.now bytes.now) }
+    // What is read is spelled so, each byte of it, and says what its records mean.
+    ensures found { IfOk result (λ job. (j : JobContents) × (bytes.now ≡ spelling j) × FitsJob limits.now j × (reading_of limits.now j ≡ Ok (fields_of_job job))) }
+    ensures fits { IfOk result (λ job. FitsFields (fields_of_job job)) }
+    ensures within { IfOk result (λ job. IsWithinLimits limits.now (fields_of_job job)) }
     ensures at { IfErr result (λ e. offset_in_job e ≤ length bytes.now) }
     ensures no_read { IfErr result (λ e. e ≢ JobFault.ReadFault) }
 {

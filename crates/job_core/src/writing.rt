@@ -1,8 +1,12 @@
 //! Jobs as bytes.
 
 ghost use Rattle.std.specs.Prelude.{◌≡◌, ◌++◌, ◌↔◌, IsTrue, IfOk, OnOk, flat_map, All};
-ghost use Rattle.job_core.specs.JobText.{range_text, crl_text, entry_text, job_text, CrlFits, EntryFits, JobFits};
+ghost use Rattle.ident_core.specs.RangeText.{RangeFits};
+ghost use Rattle.job_core.specs.JobLayout.{job_of};
+ghost use Rattle.job_core.specs.JobText.{range_record, crl_record, entry_record, spelling, crl_held, entry_held, contents_of, FitsCrl, FitsEntry, FitsJob, CrlFits, EntryFits, JobFits};
+ghost use Rattle.job_core.specs.JobMeaning.{reading_of};
 
+use crate::bounds::Limits;
 use crate::fields::MAX_CRL;
 use crate::raw::{RawCrl, RawEntry, RawJob};
 use ident_core::{Range, ranges_fit};
@@ -44,7 +48,8 @@ pub fn job_fits(job: &RawJob) -> bool
 }
 
 fn put_range(out: &mut Vec<u8>, range: &Range) -> Result<(), NoMemory>
-    ensures { OnOk result (out.new.items ≡ out.old.items ++ range_text range.now) }
+    ensures text { OnOk result (out.new.items ≡ out.old.items ++ range_record range.now) }
+    ensures fits { OnOk result (RangeFits range.now) }
 {
     put_u8(out, 1)?;
     put_bytes(out, range.log.bytes())?;
@@ -54,7 +59,8 @@ fn put_range(out: &mut Vec<u8>, range: &Range) -> Result<(), NoMemory>
 }
 
 fn put_ranges(out: &mut Vec<u8>, ranges: &[Range]) -> Result<(), NoMemory>
-    ensures { OnOk result (out.new.items ≡ out.old.items ++ flat_map range_text ranges.now) }
+    ensures text { OnOk result (out.new.items ≡ out.old.items ++ flat_map range_record ranges.now) }
+    ensures fits { OnOk result (All RangeFits ranges.now) }
 {
     for range in ranges {
         put_range(out, range)?;
@@ -64,7 +70,8 @@ fn put_ranges(out: &mut Vec<u8>, ranges: &[Range]) -> Result<(), NoMemory>
 
 fn put_crl(out: &mut Vec<u8>, crl: &RawCrl) -> Result<(), NoMemory>
     requires { CrlFits crl.now }
-    ensures { OnOk result (out.new.items ≡ out.old.items ++ crl_text crl.now) }
+    ensures text { OnOk result (out.new.items ≡ out.old.items ++ crl_record (crl_held crl.now)) }
+    ensures fits { OnOk result (FitsCrl (crl_held crl.now)) }
 {
     put_u8(out, 2)?;
     put_bytes(out, crl.issuer.bytes())?;
@@ -75,7 +82,8 @@ fn put_crl(out: &mut Vec<u8>, crl: &RawCrl) -> Result<(), NoMemory>
 
 fn put_crls(out: &mut Vec<u8>, crls: &[RawCrl]) -> Result<(), NoMemory>
     requires { All CrlFits crls.now }
-    ensures { OnOk result (out.new.items ≡ out.old.items ++ flat_map crl_text crls.now) }
+    ensures text { OnOk result (out.new.items ≡ out.old.items ++ flat_map (λ x. crl_record (crl_held x)) crls.now) }
+    ensures fits { OnOk result (All (λ x. FitsCrl (crl_held x)) crls.now) }
 {
     for crl in crls {
         put_crl(out, crl)?;
@@ -85,7 +93,8 @@ fn put_crls(out: &mut Vec<u8>, crls: &[RawCrl]) -> Result<(), NoMemory>
 
 fn put_entry(out: &mut Vec<u8>, entry: &RawEntry) -> Result<(), NoMemory>
     requires { EntryFits entry.now }
-    ensures { OnOk result (out.new.items ≡ out.old.items ++ entry_text entry.now) }
+    ensures text { OnOk result (out.new.items ≡ out.old.items ++ entry_record (entry_held entry.now)) }
+    ensures fits { OnOk result (FitsEntry (entry_held entry.now)) }
 {
     put_u8(out, 3)?;
     put_bytes(out, entry.log.bytes())?;
@@ -98,7 +107,8 @@ fn put_entry(out: &mut Vec<u8>, entry: &RawEntry) -> Result<(), NoMemory>
 
 fn put_entries(out: &mut Vec<u8>, entries: &[RawEntry]) -> Result<(), NoMemory>
     requires { All EntryFits entries.now }
-    ensures { OnOk result (out.new.items ≡ out.old.items ++ flat_map entry_text entries.now) }
+    ensures text { OnOk result (out.new.items ≡ out.old.items ++ flat_map (λ x. entry_record (entry_held x)) entries.now) }
+    ensures fits { OnOk result (All (λ x. FitsEntry (entry_held x)) entries.now) }
 {
     for entry in entries {
         put_entry(out, entry)?;
@@ -106,11 +116,11 @@ fn put_entries(out: &mut Vec<u8>, entries: &[RawEntry]) -> Result<(), NoMemory>
     Ok(())
 }
 
-/// The bytes of the job, whose records are the raw job's in their order.
-#[tactic(auto, unfolding(crate::specs::JobText::job_text))]
-pub fn write_job(alloc: Global, job: &RawJob) -> Result<Vec<u8>, NoMemory>
+#[tactic(auto, unfolding(crate::specs::JobText::spelling))]
+fn bytes_of(alloc: Global, job: &RawJob) -> Result<Vec<u8>, NoMemory>
     requires { JobFits job.now }
-    ensures { IfOk result (λ out. out.items ≡ job_text job.now) }
+    ensures text { IfOk result (λ out. out.items ≡ spelling (contents_of job.now)) }
+    ensures fits { OnOk result (FitsJob Limits.PUBLISHED (contents_of job.now)) }
 {
     let mut out = Vec::new(alloc);
     put_bytes(&mut out, b"CLUBJOB1")?;
@@ -121,4 +131,14 @@ pub fn write_job(alloc: Global, job: &RawJob) -> Result<Vec<u8>, NoMemory>
     put_entries(&mut out, job.entries.as_slice())?;
     put_u8(&mut out, 0)?;
     Ok(out)
+}
+
+/// The bytes of the job, whose records are the raw job's in their order.
+pub fn write_job(alloc: Global, job: &RawJob) -> Result<Vec<u8>, NoMemory>
+    requires { JobFits job.now }
+    ensures text { IfOk result (λ out. out.items ≡ spelling (contents_of job.now)) }
+    // They are read as what the raw job means; or, where its CRLs bring too many serials, that is the answer.
+    ensures read_back { IfOk result (λ out. job_of Limits.PUBLISHED out.items ≡ reading_of Limits.PUBLISHED (contents_of job.now)) }
+{
+    bytes_of(alloc, job)
 }

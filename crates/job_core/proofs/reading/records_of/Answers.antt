@@ -31,4 +31,4 @@ loop-preserved c =
     }
 
 pub returns : goal.returns
-returns c = λ wants. rw c.at.ensures.value (runs_out c.args.limits.now c.left-left.result c.loop.counter (so_far c.loop.draft) c.loop.cursor.bytes c.loop.cursor.at _ c.loop-test.false c.loop.invariant.read)
+returns c = λ wants. rw (c.new.ensures, c.at.ensures.value) (runs_out c.args.limits.now c.left-left.result c.loop.counter (so_far c.loop.draft) c.loop.cursor.bytes c.loop.cursor.at _ c.loop-test.false c.loop.invariant.read)

@@ -1,0 +1,73 @@
+-- What holds of a job that was read, from what its text holds.
+use Rattle.std.proofs.Common.{◌≡◌, ℕ, ◌≤◌, Bool, true, false, List, length, Result, Ok, Err, refl, subst, arith, IfOk}
+use Rattle.std.specs.Prelude.{All, nat_le, if◌then◌else◌, IfSome}
+use Rattle.std.proofs.lemmas.Bool.{leb-true}
+use Rattle.std.proofs.lemmas.List.{length-map}
+use Rattle.std.proofs.lemmas.List.Elements.{All-map}
+use Rattle.octets_core.specs.Reading.{GivesUnless}
+use Rattle.octets_core.proofs.Fields.{ok_is}
+use Rattle.octets_core.proofs.Texts.{IsBytes}
+use Rattle.ident_core.proofs.RangeTexts.{ranges-ascend}
+use Rattle.job_core.specs.declared.bounds.Limits.{Limits}
+use Rattle.job_core.specs.declared.fault.JobFault.{JobFault}
+use Rattle.job_core.specs.declared.fault.JobFault.TheVariants as faults
+use Rattle.job_core.specs.JobFields.{CrlMeaning, JobFields}
+use Rattle.job_core.specs.JobLayout.{job_of}
+use Rattle.job_core.specs.JobText.{JobContents, FitsJob}
+use Rattle.job_core.specs.JobMeaning.{crl_meaning, entry_meaning, meaning_of, kept_in}
+use Rattle.job_core.specs.JobFacts.{EntryFieldsFit, FitsFields, IsWithinLimits}
+use Rattle.job_core.proofs.JobSpelled.{read-spelled}
+
+read-by : (b : Bool) (e : JobFault) (m f : JobFields) → (if b then Ok m else Err e) ≡ Ok f → (b ≡ true) × (m ≡ f)
+read-by true e m f h = (refl, ok_is {E = JobFault} m f h)
+read-by false e m f h = absurd cc
+
+-- what is said comes from contents that fit
+Said : Limits → JobFields → Type 0
+Said limits f = (j : JobContents) × FitsJob limits j × (kept_in (meaning_of j).crls ≤ limits.serials) × (meaning_of j ≡ f)
+
+said : (limits : Limits) (bytes : List ℕ) (f : JobFields) → IsBytes bytes → job_of limits bytes ≡ Ok f → Said limits f
+unfolding Said
+said limits bytes f fits h =
+    let (j, text, fitting, is) = read-spelled limits bytes f fits h in
+    let r = read-by (nat_le (kept_in (meaning_of j).crls) limits.serials) _ (meaning_of j) f is in
+    (j, fitting, leb-true (kept_in (meaning_of j).crls) limits.serials r.0, r.1)
+
+within-meaning : (limits : Limits) (j : JobContents) → FitsJob limits j → kept_in (meaning_of j).crls ≤ limits.serials → IsWithinLimits limits (meaning_of j)
+within-meaning limits j fits few = record {
+  ranges = fits.few_ranges;
+  crls = omega (arith, fits.few_crls, length-map j.crls crl_meaning);
+  serials = few;
+  entries = omega (arith, fits.few_entries, length-map j.entries entry_meaning);
+}
+
+fits-meaning : (limits : Limits) (j : JobContents) → FitsJob limits j → limits.ranges ≤ 1024 → All (λ e. IfSome e EntryFieldsFit) (meaning_of j).entries → FitsFields (meaning_of j)
+fits-meaning limits j fits published entries = record {
+  epoch = fits.epoch;
+  moment = fits.moment;
+  ranges_fit = record { few = omega (arith, fits.few_ranges, published); ascending = ranges-ascend j.ranges fits.ranges };
+  ranges = fits.ranges;
+  crls = All-map (λ (c : CrlMeaning). length c.issuer ≡ 32) crl_meaning j.crls (λ k d lt. (fits.crls k d lt).0);
+  entries = entries;
+}
+
+within-read : (limits : Limits) (bytes : List ℕ) (f : JobFields) → IsBytes bytes → job_of limits bytes ≡ Ok f → IsWithinLimits limits f
+unfolding Said
+within-read limits bytes f fits h =
+    let (j, fitting, few, is) = said limits bytes f fits h in
+    subst (λ (g : JobFields). IsWithinLimits limits g) is (within-meaning limits j fitting few)
+
+fits-read : (limits : Limits) (bytes : List ℕ) (f : JobFields) → IsBytes bytes → limits.ranges ≤ 1024 → All (λ e. IfSome e EntryFieldsFit) f.entries → job_of limits bytes ≡ Ok f → FitsFields f
+unfolding Said
+fits-read limits bytes f fits published entries h =
+    let (j, fitting, few, is) = said limits bytes f fits h in
+    subst (λ (g : JobFields). All (λ e. IfSome e EntryFieldsFit) g.entries → FitsFields g) is (λ all. fits-meaning limits j fitting published all) entries
+
+pub within-of : {X : Type 0} (view : X → JobFields) (limits : Limits) (bytes : List ℕ) (r : Result X JobFault) → IsBytes bytes → GivesUnless faults.NoMemory view r (job_of limits bytes) → IfOk r (λ x. IsWithinLimits limits (view x))
+within-of view limits bytes (Ok x) fits h = within-read limits bytes (view x) fits h
+within-of view limits bytes (Err e) fits h = tt
+
+pub fits-of : {X : Type 0} (view : X → JobFields) (limits : Limits) (bytes : List ℕ) (r : Result X JobFault) → IsBytes bytes → limits.ranges ≤ 1024 → IfOk r (λ x. All (λ e. IfSome e EntryFieldsFit) (view x).entries)
+    → GivesUnless faults.NoMemory view r (job_of limits bytes) → IfOk r (λ x. FitsFields (view x))
+fits-of view limits bytes (Ok x) fits published entries h = fits-read limits bytes (view x) fits published entries h
+fits-of view limits bytes (Err e) fits published entries h = tt

@@ -1,0 +1,33 @@
+-- What holds of each job that was read.
+use Rattle.std.specs.Prelude.{◌≡◌, ◌<◌, ◌≤◌, ◌^◌, length, Some, None, All, IfSome}
+use Rattle.octets_core.specs.Linked.{Linked}
+use Rattle.ident_core.specs.Coverage.{RangesFit}
+use Rattle.ident_core.specs.RangeText.{FitsRange}
+use Rattle.log_core.specs.Entries.{EntryFields}
+use Rattle.job_core.specs.declared.bounds.Limits.{Limits}
+use Rattle.job_core.specs.JobFields.{JobFields}
+use Rattle.job_core.specs.JobMeaning.{kept_in}
+
+-- keys of 32 bytes, a serial of 1 to 32, and a time of 64 bits
+pub record EntryFieldsFit (e : EntryFields) : Type 0 where
+  pub issuer : length e.issuer ≡ 32
+  pub some_serial : 1 ≤ length e.serial
+  pub short_serial : length e.serial ≤ 32
+  pub log : length e.log ≡ 32
+  pub time : e.time < 2 ^ 64
+
+-- numbers, keys and serials fit their fields, and the ranges are as the head of a part holds them
+pub record FitsFields (job : JobFields) : Type 0 where
+  pub epoch : job.epoch < 2 ^ 64
+  pub moment : job.moment < 2 ^ 64
+  pub ranges_fit : RangesFit job.ranges
+  pub ranges : Linked FitsRange (λ previous r. Some r.log) None job.ranges
+  pub crls : All (λ c. length c.issuer ≡ 32) job.crls
+  pub entries : All (λ e. IfSome e EntryFieldsFit) job.entries
+
+-- no more of each than the limit
+pub record IsWithinLimits (limits : Limits) (job : JobFields) : Type 0 where
+  pub ranges : length job.ranges ≤ limits.ranges
+  pub crls : length job.crls ≤ limits.crls
+  pub serials : kept_in job.crls ≤ limits.serials
+  pub entries : length job.entries ≤ limits.entries
