@@ -1,0 +1,188 @@
+//! Ledgers as bytes.
+
+ghost use Rattle.std.specs.Prelude.{◌≡◌, ◌≤◌, ◌*◌, ◌++◌, ℕ, length, map, flat_map, All, Ok, OnOk, IfOk};
+ghost use Rattle.ident_core.specs.RangeText.{range_text, RangeFits};
+ghost use Rattle.ledger_core.specs.LedgerFields.{part_fields};
+ghost use Rattle.ledger_core.specs.LedgerText.{last_number, part_text, item_text, body_text, ledger_text};
+ghost use Rattle.ledger_core.specs.LedgerLayout.{ledger as layout};
+ghost use Rattle.ledger_core.specs.Fitting.{IsKey, IsSmall, PartFits, ItemFits, Fits};
+
+use crate::fields::{LedgerItem, LedgerPart};
+use crate::ledger::Ledger;
+use ident_core::Range;
+use octets_core::{Key32, NoMemory, put_bytes, put_u8, put_u16, put_u32, put_u64};
+use sha2::{Digest, Sha256};
+use std::alloc::Global;
+
+/// The bytes of a ledger with neither parts nor identities.
+const FRAME: usize = 46;
+
+/// The bytes of a part with neither ranges nor issuers.
+const PART: usize = 46;
+
+/// The bytes of a range.
+pub(crate) const RANGE: usize = 48;
+
+/// The bytes of an issuer.
+pub(crate) const ISSUER: usize = 32;
+
+/// The bytes of an identity without its serial.
+pub(crate) const ITEM: usize = 35;
+
+/// The number that stands for no last place.
+pub(crate) const NONE: u8 = 255;
+
+fn part_len(part: &LedgerPart) -> usize
+    requires { IsSmall (part_fields part.now) }
+    ensures { result ≤ 2146318 }
+{
+    PART + RANGE * part.ranges.len() + ISSUER * part.issuers.len()
+}
+
+fn parts_len(parts: &[LedgerPart]) -> usize
+    requires few { length parts.now ≤ 64 }
+    requires small { All (λ p. IsSmall (part_fields p)) parts.now }
+    ensures { result ≤ length parts.now * 2146318 }
+{
+    let mut total = 0;
+    for part in parts {
+        total += part_len(part);
+    }
+    total
+}
+
+fn items_len(items: &[LedgerItem]) -> usize
+    requires { length items.now ≤ 4194304 }
+    ensures { result ≤ length items.now * 67 }
+{
+    let mut total = 0;
+    for item in items {
+        total += ITEM + item.id.serial.bytes().len();
+    }
+    total
+}
+
+fn put_range(out: &mut Vec<u8>, range: &Range) -> Result<(), NoMemory>
+    ensures text { OnOk result (out.new.items ≡ out.old.items ++ range_text range.now) }
+    ensures fits { OnOk result (RangeFits range.now) }
+{
+    put_bytes(out, range.log.bytes())?;
+    put_u64(out, range.from)?;
+    put_u64(out, range.to)?;
+    Ok(())
+}
+
+fn put_ranges(out: &mut Vec<u8>, ranges: &[Range]) -> Result<(), NoMemory>
+    ensures text { OnOk result (out.new.items ≡ out.old.items ++ flat_map range_text ranges.now) }
+    ensures fits { OnOk result (All RangeFits ranges.now) }
+{
+    for range in ranges {
+        put_range(out, range)?;
+    }
+    Ok(())
+}
+
+fn put_issuer(out: &mut Vec<u8>, issuer: &Key32) -> Result<(), NoMemory>
+    ensures text { OnOk result (out.new.items ≡ out.old.items ++ issuer.now) }
+    ensures fits { OnOk result (IsKey issuer.now) }
+{
+    put_bytes(out, issuer.bytes())
+}
+
+fn put_issuers(out: &mut Vec<u8>, issuers: &[Key32]) -> Result<(), NoMemory>
+    ensures text { OnOk result (out.new.items ≡ out.old.items ++ flat_map (λ issuer. issuer) issuers.now) }
+    ensures fits { OnOk result (All IsKey issuers.now) }
+{
+    for issuer in issuers {
+        put_issuer(out, issuer)?;
+    }
+    Ok(())
+}
+
+#[tactic(auto, unfolding(crate::specs::LedgerText::part_text))]
+fn put_part(out: &mut Vec<u8>, part: &LedgerPart) -> Result<(), NoMemory>
+    requires { IsSmall (part_fields part.now) }
+    ensures text { OnOk result (out.new.items ≡ out.old.items ++ part_text (part_fields part.now)) }
+    ensures fits { OnOk result (PartFits (part_fields part.now)) }
+{
+    put_u64(out, part.epoch)?;
+    put_bytes(out, part.trailer.bytes())?;
+    put_u16(out, part.ranges.len() as u16)?;
+    put_ranges(out, &part.ranges)?;
+    put_u32(out, part.issuers.len() as u32)?;
+    put_issuers(out, &part.issuers)?;
+    Ok(())
+}
+
+fn put_parts(out: &mut Vec<u8>, parts: &[LedgerPart]) -> Result<(), NoMemory>
+    requires { All (λ p. IsSmall (part_fields p)) parts.now }
+    ensures text { OnOk result (out.new.items ≡ out.old.items ++ flat_map part_text (map part_fields parts.now)) }
+    ensures fits { OnOk result (All PartFits (map part_fields parts.now)) }
+{
+    for part in parts {
+        put_part(out, part)?;
+    }
+    Ok(())
+}
+
+fn last_byte(last: Option<u8>) -> u8
+    ensures { result ≡ last_number last }
+{
+    last.unwrap_or(NONE)
+}
+
+#[tactic(auto, unfolding(crate::specs::LedgerText::item_text))]
+fn put_item(out: &mut Vec<u8>, item: &LedgerItem) -> Result<(), NoMemory>
+    ensures text { OnOk result (out.new.items ≡ out.old.items ++ item_text item.now) }
+    ensures fits { OnOk result (ItemFits item.now) }
+{
+    put_bytes(out, item.id.issuer.bytes())?;
+    let serial = item.id.serial.bytes();
+    put_u8(out, serial.len() as u8)?;
+    put_bytes(out, serial)?;
+    put_u8(out, item.birth)?;
+    put_u8(out, last_byte(item.last))?;
+    Ok(())
+}
+
+fn put_items(out: &mut Vec<u8>, items: &[LedgerItem]) -> Result<(), NoMemory>
+    ensures text { OnOk result (out.new.items ≡ out.old.items ++ flat_map item_text items.now) }
+    ensures fits { OnOk result (All ItemFits items.now) }
+{
+    for item in items {
+        put_item(out, item)?;
+    }
+    Ok(())
+}
+
+#[tactic(auto, unfolding(crate::specs::LedgerText::body_text))]
+fn put_body(out: &mut Vec<u8>, ledger: &Ledger) -> Result<(), NoMemory>
+    ensures text { OnOk result (out.new.items ≡ out.old.items ++ body_text ledger.now) }
+    ensures fits { OnOk result (Fits ledger.now) }
+{
+    let parts = ledger.parts();
+    let items = ledger.items();
+    put_bytes(out, b"CLUBLEDG")?;
+    put_u8(out, 1)?;
+    put_u8(out, parts.len() as u8)?;
+    put_parts(out, parts)?;
+    put_u32(out, items.len() as u32)?;
+    put_items(out, items)?;
+    Ok(())
+}
+
+/// The text of the ledger, of which the last 32 bytes are the SHA-256 (FIPS 180-4) of those before them. Memory is asked
+/// for once, for the whole text.
+#[tactic(auto, unfolding(crate::specs::LedgerText::ledger_text))]
+pub fn encode_ledger(alloc: Global, ledger: &Ledger) -> Result<Vec<u8>, NoMemory>
+    ensures text { IfOk result (λ text. text.items ≡ ledger_text ledger.now) }
+    ensures fits { OnOk result (Fits ledger.now) }
+    ensures read_back { IfOk result (λ text. layout text.items 0 ≡ Ok (ledger.now, length text.items)) }
+{
+    let room = FRAME + parts_len(ledger.parts()) + items_len(ledger.items());
+    let mut out = Vec::with_capacity(alloc, room)?;
+    put_body(&mut out, ledger)?;
+    let digest = Sha256::digest(out.as_slice());
+    put_bytes(&mut out, &digest)?;
+    Ok(out)
+}

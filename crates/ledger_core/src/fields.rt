@@ -1,0 +1,25 @@
+use ident_core::{Identity, Range};
+use octets_core::Key32;
+
+/// What the publisher remembers of a part.
+#[derive(Debug, Drop)]
+pub struct LedgerPart {
+    /// The epoch of the part's job.
+    pub epoch: u64,
+    /// The SHA-256 of the part's text before its trailer.
+    pub trailer: Key32,
+    /// The ranges of the part's job.
+    pub ranges: Vec<Range>,
+    /// The issuers that were enrolled in the part's job.
+    pub issuers: Vec<Key32>,
+}
+
+/// What the publisher remembers of an identity that was accepted.
+#[derive(Clone, Copy, Debug, PartialEq, Eq)]
+pub struct LedgerItem {
+    pub id: Identity,
+    /// The place in the chain, from 0, of the first part whose job accepted an entry of the identity.
+    pub birth: u8,
+    /// The place of the last part whose filter was built with the identity as revoked, if there is one.
+    pub last: Option<u8>,
+}
