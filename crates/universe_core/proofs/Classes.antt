@@ -1,0 +1,69 @@
+-- What an entry is by its job alone, and what is read and counted of it.
+use Rattle.std.specs.List.{filter_map, cons_option, count_by}
+use Rattle.std.specs.Option.{option_map}
+use Rattle.std.proofs.Common.{◌≡◌, ℕ, ◌+◌, ◌<◌, List, [], ◌∷◌, ◌++◌, map, length, get_or, take, Bool, true, false, cond, not, ◌&&◌, Option, Some, None, refl, sym, ap, ◌∙◌, arith}
+use Rattle.std.proofs.lemmas.List.Elements.{filter_map-append}
+use Rattle.std.proofs.lemmas.List.Sums.{count_by_more_yes, count_by_more_no}
+use Rattle.ident_core.specs.declared.identity.Identity.{Identity}
+use Rattle.ident_core.specs.declared.range.Sighting.{Sighting}
+use Rattle.ident_core.specs.declared.range.Range.{Range}
+use Rattle.ident_core.specs.Coverage.{covers}
+use Rattle.job_core.specs.JobFields.{entry_view}
+use Rattle.sets_core.specs.Sets.{has_key}
+use Rattle.sets_core.proofs.Keys.{take_is}
+use Rattle.universe_core.specs.Jobs.{Entry, entry_of}
+use Rattle.universe_core.specs.History.{class_by, if_accepted}
+use Rattle.universe_core.specs.Ledgers.{no_ledger, past_in, parts_before, item_of}
+use Rattle.universe_core.specs.Reading.{told_entry, if_read, class_alone, one_if}
+use Rattle.universe_core.specs.declared.class.Class.TheVariants.{Unread, Uncovered, Unenrolled, Late, Accepted}
+
+-- without parts nothing is late
+pub none_late : (x : Identity) (s : Sighting) → (past_in no_ledger).lacked x s ≡ false
+unfolding past_in parts_before item_of
+none_late x s = refl
+
+module _ (ranges : List Range) (issuers : List (List ℕ)) where
+  pub class_unread : Unread ≡ class_alone ranges issuers None
+  unfolding class_by
+  class_unread = refl
+
+  pub class_uncovered : (e : Entry) → covers ranges e.sighting ≡ false → Uncovered ≡ class_alone ranges issuers (Some e)
+  unfolding class_by
+  class_uncovered e c = rw c refl
+
+  pub class_unenrolled : (e : Entry) → covers ranges e.sighting ≡ true → has_key issuers e.id.issuer ≡ false → Unenrolled ≡ class_alone ranges issuers (Some e)
+  unfolding class_by
+  class_unenrolled e c n = rw (c, n) refl
+
+  pub class_accepted : (e : Entry) → covers ranges e.sighting ≡ true → has_key issuers e.id.issuer ≡ true → Accepted ≡ class_alone ranges issuers (Some e)
+  unfolding class_by
+  class_accepted e c n = let l = none_late e.id e.sighting in rw (c, n, l) refl
+
+  taken_by : (c n l : Bool) (e : Entry) → l ≡ false → if_accepted (cond (not c) Uncovered (cond (not n) Unenrolled (cond l Late Accepted))) (Some e) ≡ cond (c && n) (Some e) None
+  taken_by true true true e h = absurd cc
+  taken_by true true false e h = refl
+  taken_by true false l e h = refl
+  taken_by false n l e h = refl
+
+  -- what is taken of an entry is what is read of it
+  pub taken_is : (o : Option Entry) → if_accepted (class_alone ranges issuers o) o ≡ if_read ranges issuers o
+  unfolding class_by
+  taken_is None = refl
+  taken_is (Some e) = taken_by (covers ranges e.sighting) (has_key issuers e.id.issuer) ((past_in no_ledger).lacked e.id e.sighting) e (none_late e.id e.sighting)
+
+  -- of the entries as the job of some bytes tells them
+  pub read_told : (es : List (Option (Identity × Sighting))) → filter_map (λ e. if_read ranges issuers (told_entry e)) es ≡ filter_map (if_read ranges issuers) (map (option_map entry_of) (map entry_view es))
+  read_told [] = refl
+  read_told (e ∷ es) = ap (λ z. cons_option (if_read ranges issuers (told_entry e)) z) (read_told es)
+
+-- ---- one more
+
+pub read_more : {A C : Type 0} (h : A → Option C) (xs : List A) (i : ℕ) (x : A) (old new : List C) (o : Option C) → i < length xs → x ≡ get_or xs i x
+    → old ≡ filter_map h (take i xs) → o ≡ h x → new ≡ old ++ cons_option o [] → new ≡ filter_map h (take (i + 1) xs)
+read_more h xs i x old new o l e a b c =
+    c ∙ ap (λ z. z ++ cons_option o []) a ∙ ap (λ z. filter_map h (take i xs) ++ cons_option z []) b ∙ sym (ap (filter_map h) (take_is xs i x l e) ∙ filter_map-append h (take i xs) (x ∷ []))
+
+pub count_more : {A : Type 0} (p : A → Bool) (xs : List A) (i : ℕ) (x : A) (n m : ℕ) (b : Bool) → i < length xs → x ≡ get_or xs i x
+    → n ≡ count_by p (take i xs) → b ≡ p x → m ≡ n + one_if b → m ≡ count_by p (take (i + 1) xs)
+count_more p xs i x n m true l e a b c = c ∙ ap (λ k. k + 1) a ∙ sym (count_by_more_yes p xs i x l (ap p (sym e) ∙ sym b))
+count_more p xs i x n m false l e a b c = let k = count_by_more_no p xs i x l (ap p (sym e) ∙ sym b) in omega arith

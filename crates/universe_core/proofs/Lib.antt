@@ -1,0 +1,13 @@
+pub mod Merge
+pub mod Classes
+pub mod Members
+pub mod Sorting
+pub mod Searching
+pub mod Issuers
+pub mod Revoking
+pub mod Cutting
+pub mod Tallies
+pub mod Beginning
+pub mod Building
+pub mod Late
+pub mod Continuing

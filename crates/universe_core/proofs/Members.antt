@@ -1,0 +1,286 @@
+-- What the merge gives is what the definitions say.
+use Rattle.std.proofs.Common.{◌≡◌, ℕ, zero, suc, ◌⊎◌, inl, inr, ⊎_elim, List, [], ◌∷◌, map, filter, find, length, Bool, true, false, cond, not, Option, Some, None, refl, sym, ap, ◌∙◌, subst, ◌&&◌, ◌||◌, take}
+use Rattle.std.specs.List.{list_any, filter_map, cons_option, slice_get}
+use Rattle.std.specs.Option.{option_map}
+use Rattle.std.specs.List.Sorted.{IsStrictlySortedBy}
+use Rattle.std.proofs.lemmas.Bool.{true≢false, or_cases, or_left, or_right}
+use Rattle.std.proofs.lemmas.List.{length-map}
+use Rattle.std.proofs.lemmas.List.Kept.{IsStrictlySortedBy-filter}
+use Rattle.sets_core.specs.Among.{Among}
+use Rattle.ident_core.specs.declared.identity.Identity.{Identity}
+use Rattle.ident_core.specs.declared.range.Sighting.{Sighting}
+use Rattle.universe_core.specs.Jobs.{Entry, Job, enrolled}
+use Rattle.ident_core.specs.Order.{is_same, identity_cmp}
+use Rattle.sets_core.specs.Sets.{has_key}
+use Rattle.ident_core.specs.Coverage.{covers}
+use Rattle.universe_core.specs.declared.class.Class.TheVariants.{Uncovered, Unenrolled, Late, Accepted}
+use Rattle.universe_core.specs.History.{Past, class_by, class_of, if_accepted, shown, sightings, accepted_with, covers_all}
+use Rattle.universe_core.specs.Ledgers.{past_in, parts_before, item_of, birth_or, last_or_none, last_covers, part_covers}
+use Rattle.ledger_core.specs.LedgerFields.{LedgerFields, LedgerPartFields, part_fields, ledger_fields}
+use Rattle.ledger_core.specs.declared.fields.LedgerPart.{LedgerPart}
+use Rattle.ledger_core.specs.declared.fields.LedgerItem.{LedgerItem}
+use Rattle.sets_core.proofs.Elements.{Among-filter, Among-in_filter, Among-map, Among-in_map, Among-filter_map, Among-in_filter_map, found, any_at, all_at, all_from, bool_same, map_agree}
+use Rattle.sets_core.proofs.Sets.{same_is, same_refl, identity_total, Among-with_all, Among-in_with_all}
+use Rattle.sets_core.proofs.Order.{sorted_unique, sorted_all_inserted}
+use Rattle.universe_core.specs.declared.member.ReadEntry.{ReadEntry}
+use Rattle.universe_core.specs.declared.member.Member.{Member}
+use Rattle.universe_core.specs.Reading.{entry_fields}
+use Rattle.universe_core.specs.Merging.{all_ids, merged}
+use Rattle.universe_core.specs.Judging.{is_some_item, lacked_in, settled_in, part_covers_all, timely, is_member_of, member_of, judge_of}
+use Rattle.universe_core.proofs.Merge.{item_ids}
+
+-- ---- lists
+
+filter_map_test : {A B : Type 0} (t : A → Bool) (f : A → B) (xs : List A) → filter_map (λ x. cond (t x) (Some (f x)) None) xs ≡ map f (filter t xs)
+filter_map_test t f [] = refl
+filter_map_test t f (x ∷ xs) =
+    (elim (t x) as (λ b. cons_option (cond b (Some (f x)) None) (filter_map (λ y. cond (t y) (Some (f y)) None) xs) ≡ map f (cond b (x ∷ filter t xs) (filter t xs)))
+    [ true ↦ ap (λ z. f x ∷ z) (filter_map_test t f xs) | false ↦ filter_map_test t f xs ])
+
+slice_is : (parts : List LedgerPart) (r : ℕ) → slice_get (map part_fields parts) r ≡ option_map part_fields (slice_get parts r)
+slice_is [] r = refl
+slice_is (p ∷ ps) zero = refl
+slice_is (p ∷ ps) (suc r) = slice_is ps r
+
+-- ---- classes
+
+accept_yes : (c n l : Bool) (e : Entry) → c ≡ true → n ≡ true → l ≡ false → if_accepted (cond (not c) Uncovered (cond (not n) Unenrolled (cond l Late Accepted))) (Some e) ≡ Some e
+accept_yes true true false e a b d = refl
+accept_yes true true true e a b d = absurd (true≢false d)
+accept_yes true false l e a b d = absurd (true≢false (sym b))
+accept_yes false n l e a b d = absurd (true≢false (sym a))
+
+some_entry : (d e : Entry) → ◌≡◌ {A = Option Entry} (Some d) (Some e) → d ≡ e
+some_entry d e h = cc
+
+accept_is : (c n l : Bool) (d e : Entry) → if_accepted (cond (not c) Uncovered (cond (not n) Unenrolled (cond l Late Accepted))) (Some d) ≡ Some e → (d ≡ e) × (c ≡ true) × (n ≡ true) × (l ≡ false)
+accept_is true true false d e h = (some_entry d e h, refl, refl, refl)
+accept_is true true true d e h = absurd cc
+accept_is true false l d e h = absurd cc
+accept_is false n l d e h = absurd cc
+
+-- the sorted entries of a job are those that its ranges cover and whose issuers are enrolled
+pub record AreRead (job : Job) (sorted : List ReadEntry) : Type 0 where
+  pub among : (e : ReadEntry) → Among sorted e → Among job.entries (Some (entry_fields e)) × (covers job.ranges e.sighting.now ≡ true) × (has_key (enrolled job) e.id.issuer ≡ true)
+  pub all : (e : Entry) → Among job.entries (Some e) → covers job.ranges e.sighting ≡ true → has_key (enrolled job) e.id.issuer ≡ true → (d : ReadEntry) × Among sorted d × (entry_fields d ≡ e)
+
+module _ (past : Past) (job : Job) (sorted : List ReadEntry) (reads : AreRead job sorted) where
+  shown_to : (d : ReadEntry) → Among sorted d → past.lacked d.id d.sighting.now ≡ false → Among (shown past job) (entry_fields d)
+  unfolding shown class_by
+  shown_to d a l =
+      let r = reads.among d a in
+      Among-in_filter_map (λ o. if_accepted (class_of past job o) o) job.entries (Some (entry_fields d)) (entry_fields d) r.0
+      (accept_yes (covers job.ranges d.sighting.now) (has_key (enrolled job) d.id.issuer) (past.lacked d.id d.sighting.now) (entry_fields d) r.1 r.2 l)
+
+  from_entry : (o : Option Entry) (e : Entry) → Among job.entries o → if_accepted (class_of past job o) o ≡ Some e
+      → (d : ReadEntry) × Among sorted d × (entry_fields d ≡ e) × (past.lacked d.id d.sighting.now ≡ false)
+  unfolding class_by
+  from_entry None e a h = absurd cc
+  from_entry (Some d) e a h =
+      let t = accept_is (covers job.ranges d.sighting) (has_key (enrolled job) d.id.issuer) (past.lacked d.id d.sighting) d e h in
+      let r = reads.all d a t.1 t.2 in
+      (r.0, r.1, r.2 ∙ t.0, subst (λ (z : Entry). past.lacked z.id z.sighting ≡ false) (sym r.2) t.3)
+
+  shown_from : (e : Entry) → Among (shown past job) e → (d : ReadEntry) × Among sorted d × (entry_fields d ≡ e) × (past.lacked d.id d.sighting.now ≡ false)
+  unfolding shown
+  shown_from e a =
+      let f = Among-filter_map (λ o. if_accepted (class_of past job o) o) job.entries e a in
+      from_entry f.0 e f.1 f.2
+
+-- ---- the sightings of an identity
+
+Among-sightings : (x : Identity) (entries : List Entry) (s : Sighting) → Among (sightings x entries) s → (e : Entry) × Among entries e × (x ≡ e.id) × (e.sighting ≡ s)
+unfolding sightings
+Among-sightings x entries s a =
+    let m = Among-map (λ (e : Entry). e.sighting) (filter (λ (e : Entry). is_same x e.id) entries) s a in
+    let f = Among-filter (λ (e : Entry). is_same x e.id) entries m.0 m.1 in
+    (m.0, f.0, same_is x m.0.id f.1, m.2)
+
+Among-in_sightings : (entries : List Entry) (e : Entry) → Among entries e → Among (sightings e.id entries) e.sighting
+unfolding sightings
+Among-in_sightings entries e a = Among-in_map (λ (d : Entry). d.sighting) (filter (λ (d : Entry). is_same e.id d.id) entries) e (Among-in_filter (λ (d : Entry). is_same e.id d.id) entries e a (same_refl e.id))
+
+not_yes : (b : Bool) → not b ≡ true → b ≡ false
+not_yes false h = refl
+not_yes true h = absurd (true≢false (sym h))
+
+not_no : (b : Bool) → b ≡ false → not b ≡ true
+not_no false h = refl
+not_no true h = absurd (true≢false h)
+
+any_parts : (x : Identity) (s : Sighting) (n : ℕ) (parts : List LedgerPart)
+    → list_any (λ (p : LedgerPartFields). covers p.ranges s && has_key p.issuers x.issuer) (take n (map part_fields parts)) ≡ list_any (λ (p : LedgerPart). covers p.ranges.items s && has_key p.issuers.items x.issuer) (take n parts)
+any_parts x s zero parts = refl
+any_parts x s (suc n) [] = refl
+any_parts x s (suc n) (p ∷ parts) = ap (λ (b : Bool). (covers p.ranges.items s && has_key p.issuers.items x.issuer) || b) (any_parts x s n parts)
+
+pub lacked_is : (parts : List LedgerPart) (items : List LedgerItem) (x : Identity) (s : Sighting) → (past_in (ledger_fields parts items)).lacked x s
+    ≡ list_any (λ (p : LedgerPart). covers p.ranges.items s && has_key p.issuers.items x.issuer) (take (birth_or (length parts) (find (λ (i : LedgerItem). is_same x i.id) items)) parts)
+unfolding past_in parts_before item_of
+lacked_is parts items x s =
+    any_parts x s (birth_or (length (map part_fields parts)) (find (λ (i : LedgerItem). is_same x i.id) items)) parts
+    ∙ ap (λ n. list_any (λ (p : LedgerPart). covers p.ranges.items s && has_key p.issuers.items x.issuer) (take (birth_or n (find (λ (i : LedgerItem). is_same x i.id) items)) parts)) (length-map parts part_fields)
+
+item_step : (x : Identity) (i : LedgerItem) (is : List LedgerItem) (b : Bool) → is_same x i.id ≡ b → (Among (item_ids is) x → is_some_item (find (λ (j : LedgerItem). is_same x j.id) is) ≡ true)
+    → Among (item_ids (i ∷ is)) x → is_some_item (cond b (Some i) (find (λ (j : LedgerItem). is_same x j.id) is)) ≡ true
+item_step x i is true e next a = refl
+item_step x i is false e next (inl h) = absurd (true≢false (sym (subst (λ y. is_same y i.id ≡ true) h (same_refl i.id)) ∙ e))
+item_step x i is false e next (inr a) = next a
+
+some_item : (x : Identity) (is : List LedgerItem) → Among (item_ids is) x → is_some_item (find (λ (j : LedgerItem). is_same x j.id) is) ≡ true
+some_item x [] a = absurd a
+some_item x (i ∷ is) a = item_step x i is (is_same x i.id) refl (some_item x is) a
+
+back_step : (x : Identity) (i : LedgerItem) (is : List LedgerItem) (b : Bool) → is_same x i.id ≡ b → (is_some_item (find (λ (j : LedgerItem). is_same x j.id) is) ≡ true → Among (item_ids is) x)
+    → is_some_item (cond b (Some i) (find (λ (j : LedgerItem). is_same x j.id) is)) ≡ true → Among (item_ids (i ∷ is)) x
+back_step x i is true e next h = inl (sym (same_is x i.id e))
+back_step x i is false e next h = inr (next h)
+
+item_some : (x : Identity) (is : List LedgerItem) → is_some_item (find (λ (j : LedgerItem). is_same x j.id) is) ≡ true → Among (item_ids is) x
+item_some x [] h = absurd (true≢false (sym h))
+item_some x (i ∷ is) h = back_step x i is (is_same x i.id) refl (item_some x is) h
+
+module _ (parts : List LedgerPart) (items : List LedgerItem) (job : Job) (sorted : List ReadEntry) (reads : AreRead job sorted) where
+  abbrev ledger : LedgerFields
+  ledger = ledger_fields parts items
+
+  abbrev item_at : Identity → Option LedgerItem
+  item_at x = find (λ (i : LedgerItem). is_same x i.id) items
+
+  abbrev run_at : Identity → List ReadEntry
+  run_at x = filter (λ (e : ReadEntry). is_same x e.id) sorted
+
+  late_is : (x : Identity) (e : ReadEntry) → x ≡ e.id → lacked_in parts (birth_or (length parts) (item_at x)) e ≡ (past_in ledger).lacked e.id e.sighting.now
+  late_is x e h =
+      subst (λ y. lacked_in parts (birth_or (length parts) (item_at y)) e ≡ (past_in ledger).lacked e.id e.sighting.now) (sym h) (sym (lacked_is parts items e.id e.sighting.now))
+
+  timely_to : (x : Identity) (e : ReadEntry) → Among (timely parts (item_at x) (run_at x)) e → Among sorted e × (x ≡ e.id) × ((past_in ledger).lacked e.id e.sighting.now ≡ false)
+  timely_to x e a =
+      let f = Among-filter (λ d. not (lacked_in parts (birth_or (length parts) (item_at x)) d)) (run_at x) e a in
+      let g = Among-filter (λ (d : ReadEntry). is_same x d.id) sorted e f.0 in
+      let i = same_is x e.id g.1 in
+      (g.0, i, sym (late_is x e i) ∙ not_yes (lacked_in parts (birth_or (length parts) (item_at x)) e) f.1)
+
+  run_from : (x : Identity) (e : ReadEntry) → Among sorted e → x ≡ e.id → Among (run_at x) e
+  run_from x e a i = Among-in_filter (λ (d : ReadEntry). is_same x d.id) sorted e a (subst (λ y. is_same x y ≡ true) i (same_refl x))
+
+  timely_at : (x : Identity) (e : ReadEntry) → x ≡ e.id → (past_in ledger).lacked e.id e.sighting.now ≡ false → not (lacked_in parts (birth_or (length parts) (item_at x)) e) ≡ true
+  timely_at x e i l = not_no (lacked_in parts (birth_or (length parts) (item_at x)) e) (late_is x e i ∙ l)
+
+  timely_from : (x : Identity) (e : ReadEntry) → Among sorted e → x ≡ e.id → (past_in ledger).lacked e.id e.sighting.now ≡ false → Among (timely parts (item_at x) (run_at x)) e
+  timely_from x e a i l = Among-in_filter (λ d. not (lacked_in parts (birth_or (length parts) (item_at x)) d)) (run_at x) e (run_from x e a i) (timely_at x e i l)
+
+  -- ---- the fields of a member
+
+  covered_is : (p : LedgerPart) (x : Identity) → part_covers_all (Some p) (timely parts (item_at x) (run_at x)) ≡ covers_all p.ranges.items (sightings x (shown (past_in ledger) job))
+  covered_is p x =
+      bool_same (part_covers_all (Some p) (timely parts (item_at x) (run_at x))) (covers_all p.ranges.items (sightings x (shown (past_in ledger) job)))
+      (λ h. all_from (covers p.ranges.items) (sightings x (shown (past_in ledger) job)) (λ s a.
+      let m = Among-sightings x (shown (past_in ledger) job) s a in
+      let d = shown_from (past_in ledger) job sorted reads m.0 m.1 in
+      let i : x ≡ d.0.id = m.2 ∙ ap (λ (e : Entry). e.id) (sym d.2) in
+      let c : covers p.ranges.items d.0.sighting.now ≡ true = all_at (λ (e : ReadEntry). covers p.ranges.items e.sighting.now) (timely parts (item_at x) (run_at x)) d.0 h (timely_from x d.0 d.1 i d.3) in
+      subst (λ t. covers p.ranges.items t ≡ true) (ap (λ (e : Entry). e.sighting) d.2 ∙ m.3) c))
+      (λ h. all_from (λ (e : ReadEntry). covers p.ranges.items e.sighting.now) (timely parts (item_at x) (run_at x)) (λ e a.
+      let t = timely_to x e a in
+      let s : Among (shown (past_in ledger) job) (entry_fields e) = shown_to (past_in ledger) job sorted reads e t.0 t.2 in
+      let w : Among (sightings x (shown (past_in ledger) job)) e.sighting.now =
+      subst (λ y. Among (sightings y (shown (past_in ledger) job)) e.sighting.now) (sym t.1) (Among-in_sightings (shown (past_in ledger) job) (entry_fields e) s) in
+      all_at (covers p.ranges.items) (sightings x (shown (past_in ledger) job)) e.sighting.now h w))
+
+  settled_part : (q : Option LedgerPart) (x : Identity) → part_covers_all q (timely parts (item_at x) (run_at x)) ≡ part_covers (option_map part_fields q) (sightings x (shown (past_in ledger) job))
+  settled_part None x = refl
+  settled_part (Some p) x = covered_is p x
+
+  settled_last : (o : Option ℕ) (x : Identity) → settled_in parts o (timely parts (item_at x) (run_at x)) ≡ last_covers (map part_fields parts) o (sightings x (shown (past_in ledger) job))
+  settled_last None x = refl
+  settled_last (Some r) x = settled_part (slice_get parts r) x ∙ ap (λ q. part_covers q (sightings x (shown (past_in ledger) job))) (sym (slice_is parts r))
+
+  -- what the definitions say of an identity
+  abbrev pub member_for : Identity → Member
+  member_for x = record {
+    id = x;
+    birth = birth_or (length ledger.parts) (item_of ledger x);
+    last = last_or_none (item_of ledger x);
+    settled = (past_in ledger).is_settled x (sightings x (shown (past_in ledger) job));
+  }
+
+  member_is : (x : Identity) → member_of parts x (item_at x) (run_at x) ≡ member_for x
+  unfolding item_of past_in
+  member_is x =
+      let b : birth_or (length parts) (item_at x) ≡ birth_or (length (map part_fields parts)) (item_at x) = ap (λ n. birth_or n (item_at x)) (sym (length-map parts part_fields)) in
+      let s : settled_in parts (last_or_none (item_at x)) (timely parts (item_at x) (run_at x)) ≡ last_covers (map part_fields parts) (last_or_none (item_at x)) (sightings x (shown (past_in ledger) job)) =
+      settled_last (last_or_none (item_at x)) x in
+      λ k. record { id = x; birth = b k; last = last_or_none (item_at x); settled = s k }
+
+  -- ---- the members
+
+  abbrev test : Identity → Bool
+  test x = is_member_of parts (item_at x) (run_at x)
+
+  abbrev late_test : Identity → ReadEntry → Bool
+  late_test x e = not (lacked_in parts (birth_or (length parts) (item_at x)) e)
+
+  abbrev accepted : List Identity
+  accepted = accepted_with (past_in ledger) job
+
+  in_accepted : (z : Identity) → Among (map (λ (e : Entry). e.id) (shown (past_in ledger) job)) z ⊎ Among (item_ids items) z → Among accepted z
+  unfolding accepted_with past_in
+  in_accepted z a =
+      Among-in_with_all (map (λ (e : Entry). e.id) (shown (past_in ledger) job)) (item_ids items) z
+      a
+
+  of_accepted : (z : Identity) → Among accepted z → Among (map (λ (e : Entry). e.id) (shown (past_in ledger) job)) z ⊎ Among (item_ids items) z
+  unfolding accepted_with past_in
+  of_accepted z a =
+      Among-with_all (map (λ (e : Entry). e.id) (shown (past_in ledger) job)) (item_ids items) z a
+
+  accepted_sorted : IsStrictlySortedBy identity_cmp (item_ids items) → IsStrictlySortedBy identity_cmp accepted
+  unfolding accepted_with past_in
+  accepted_sorted s =
+      sorted_all_inserted identity_cmp identity_total (map (λ (e : Entry). e.id) (shown (past_in ledger) job)) (item_ids items)
+      s
+
+  shown_id : (z : Identity) (e : ReadEntry) → Among sorted e → z ≡ e.id → (past_in ledger).lacked e.id e.sighting.now ≡ false → Among (map (λ (d : Entry). d.id) (shown (past_in ledger) job)) z
+  shown_id z e a i l =
+      subst (λ y. Among (map (λ (d : Entry). d.id) (shown (past_in ledger) job)) y) (sym i)
+      (Among-in_map (λ (d : Entry). d.id) (shown (past_in ledger) job) (entry_fields e) (shown_to (past_in ledger) job sorted reads e a l))
+
+  kept_to : (z : Identity) → Among (filter test (all_ids items sorted)) z → Among accepted z
+  kept_to z a =
+      let f = Among-filter test (all_ids items sorted) z a in
+      ⊎_elim (λ h. in_accepted z (inr (item_some z items h)))
+      (λ h.
+      let e = found (late_test z) (run_at z) h in
+      let t = timely_to z e.0 (Among-in_filter (late_test z) (run_at z) e.0 e.1 e.2) in
+      in_accepted z (inl (shown_id z e.0 t.0 t.1 t.2)))
+      (or_cases (is_some_item (item_at z)) (list_any (late_test z) (run_at z)) f.1)
+
+  from_shown : (z : Identity) → Among (map (λ (e : Entry). e.id) (shown (past_in ledger) job)) z → Among (filter test (all_ids items sorted)) z
+  from_shown z a =
+      let m = Among-map (λ (e : Entry). e.id) (shown (past_in ledger) job) z a in
+      let d = shown_from (past_in ledger) job sorted reads m.0 m.1 in
+      let i : z ≡ d.0.id = sym m.2 ∙ ap (λ (e : Entry). e.id) (sym d.2) in
+      let u : Among (all_ids items sorted) z =
+      Among-in_with_all (map (λ (e : ReadEntry). e.id) sorted) (item_ids items) z (inl (subst (λ y. Among (map (λ (e : ReadEntry). e.id) sorted) y) (sym i) (Among-in_map (λ (e : ReadEntry). e.id) sorted d.0 d.1))) in
+      Among-in_filter test (all_ids items sorted) z u
+      (or_right (is_some_item (item_at z)) (list_any (late_test z) (run_at z)) (any_at (late_test z) (run_at z) d.0 (run_from z d.0 d.1 i) (timely_at z d.0 i d.3)))
+
+  from_item : (z : Identity) → Among (item_ids items) z → Among (filter test (all_ids items sorted)) z
+  from_item z a =
+      Among-in_filter test (all_ids items sorted) z (Among-in_with_all (map (λ (e : ReadEntry). e.id) sorted) (item_ids items) z (inr a))
+      (or_left (is_some_item (item_at z)) (list_any (late_test z) (run_at z)) (some_item z items a))
+
+  kept_is : IsStrictlySortedBy identity_cmp (item_ids items) → filter test (all_ids items sorted) ≡ accepted
+  kept_is s =
+      sorted_unique identity_cmp identity_total (filter test (all_ids items sorted)) accepted
+      (IsStrictlySortedBy-filter identity_cmp test (all_ids items sorted) (sorted_all_inserted identity_cmp identity_total (map (λ (e : ReadEntry). e.id) sorted) (item_ids items) s))
+      (accepted_sorted s) kept_to (λ z a. ⊎_elim (λ p. from_shown z p) (λ q. from_item z q) (of_accepted z a))
+
+  -- the merge gives the accepted identities, each with its birth, its last and whether its sightings are settled
+  pub members_are : IsStrictlySortedBy identity_cmp (item_ids items) → merged (judge_of parts) items sorted ≡ map member_for accepted
+  unfolding merged
+  members_are s =
+      filter_map_test test (λ x. member_of parts x (item_at x) (run_at x)) (all_ids items sorted)
+      ∙ ap (map (λ x. member_of parts x (item_at x) (run_at x))) (kept_is s)
+      ∙ map_agree (λ x. member_of parts x (item_at x) (run_at x)) member_for accepted (λ x a. member_is x)

@@ -1,0 +1,365 @@
+-- One step of the merge.
+use Rattle.std.proofs.Common.{◌≡◌, ℕ, suc, ◌+◌, ◌<◌, ◌≤◌, ◌⊎◌, inl, inr, ⊎_elim, List, [], ◌∷◌, ◌++◌, map, length, take, drop, Bool, true, false, cond, Option, Some, None, refl, sym, ap, ◌∙◌, subst, arith, append_assoc}
+use Rattle.std.specs.List.{AllByRecursion, take_while, filter, filter_map, find, cons_option}
+use Rattle.std.specs.List.Sorted.{IsStrictlySortedBy}
+use Rattle.std.specs.declared.cmp.Ordering.{Ordering}
+use Rattle.std.specs.declared.cmp.Ordering.TheVariants.{Less, Equal, Greater}
+use Rattle.std.specs.Ordering.{is_lt, is_gt, ordering_reverse}
+use Rattle.std.proofs.lemmas.Cmp.{tied_itself}
+use Rattle.std.proofs.lemmas.Bool.{true≢false}
+use Rattle.std.proofs.lemmas.List.{append-nil}
+use Rattle.std.proofs.lemmas.List.Sums.{take_while-cons}
+use Rattle.sets_core.specs.Among.{Among}
+use Rattle.ident_core.specs.declared.identity.Identity.{Identity}
+use Rattle.ident_core.specs.Order.{is_same, identity_cmp}
+use Rattle.sets_core.specs.Sets.{with_all, all_inserted}
+use Rattle.ledger_core.specs.declared.fields.LedgerItem.{LedgerItem}
+use Rattle.sets_core.proofs.Sets.{same_is, same_refl, identity_exact, identity_total, Among-with_all, Among-in_with_all}
+use Rattle.sets_core.proofs.Order.{sorted_unique, sorted_all_inserted, sorted_head, sorted_tail}
+use Rattle.universe_core.specs.declared.member.ReadEntry.{ReadEntry}
+use Rattle.universe_core.specs.Merging.{IsRising, lower, least_of, run_of, after_run, first_of, after_first, all_ids, merged}
+use Rattle.sets_core.proofs.Canonical.{sorted_cons, all_from}
+use Rattle.sets_core.proofs.Keys.{same_other, less_other}
+
+-- ---- the union without its least
+
+pub union_step : (x : Identity) (a a' b b' : List Identity) → IsStrictlySortedBy identity_cmp b → IsStrictlySortedBy identity_cmp b'
+    → ((z : Identity) → Among a z → (x ≡ z) ⊎ Among a' z) → ((z : Identity) → Among b z → (x ≡ z) ⊎ Among b' z)
+    → ((z : Identity) → Among a' z → Among a z) → ((z : Identity) → Among b' z → Among b z)
+    → Among a x ⊎ Among b x
+    → ((z : Identity) → Among a' z → identity_cmp x z ≡ Less) → ((z : Identity) → Among b' z → identity_cmp x z ≡ Less)
+    → with_all a b ≡ x ∷ with_all a' b'
+union_step x a a' b b' s s' fa fb ga gb has la lb =
+    sorted_unique identity_cmp identity_total (with_all a b) (x ∷ with_all a' b') (sorted_all_inserted identity_cmp identity_total a b s)
+    (sorted_cons identity_cmp x (with_all a' b') (λ z m. ⊎_elim (λ p. la z p) (λ q. lb z q) (Among-with_all a' b' z m)) (sorted_all_inserted identity_cmp identity_total a' b' s'))
+    (λ z m. ⊎_elim (λ p. ⊎_elim (λ e. inl e) (λ r. inr (Among-in_with_all a' b' z (inl r))) (fa z p)) (λ q. ⊎_elim (λ e. inl e) (λ r. inr (Among-in_with_all a' b' z (inr r))) (fb z q)) (Among-with_all a b z m))
+    (λ z m. Among-in_with_all a b z (⊎_elim (λ (e : x ≡ z). subst (λ w. Among a w ⊎ Among b w) e has) (λ r. ⊎_elim (λ p. inl (ga z p)) (λ q. inr (gb z q)) (Among-with_all a' b' z r)) m))
+
+-- ---- orders
+
+not_equal : (x y : Identity) → is_same x y ≡ false → identity_cmp x y ≡ Equal → ⊥
+not_equal x y n e = absurd (true≢false (sym (subst (λ z. is_same x z ≡ true) (identity_exact x y e) (same_refl x)) ∙ n))
+
+is_less : (o : Ordering) → is_gt o ≡ false → (o ≡ Equal → ⊥) → o ≡ Less
+is_less Less g n = refl
+is_less Equal g n = absurd (n refl)
+is_less Greater g n = absurd (true≢false g)
+
+through : (x y z : Identity) (o : Ordering) → identity_cmp x y ≡ Less → identity_cmp y z ≡ o → is_gt o ≡ false → identity_cmp x z ≡ Less
+through x y z Less l e g = identity_total.trans x y z l e
+through x y z Equal l e g = subst (λ w. identity_cmp x w ≡ Less) (identity_exact y z e) l
+through x y z Greater l e g = absurd (true≢false g)
+
+weaken : {A : Type 0} (P Q : A → Type 0) → ((x : A) → P x → Q x) → (xs : List A) → AllByRecursion P xs → AllByRecursion Q xs
+weaken P Q f [] h = tt
+weaken P Q f (x ∷ xs) h = (f x h.0, weaken P Q f xs h.1)
+
+abbrev pub NotAbove : Identity → List ReadEntry → Type 0
+NotAbove x es = AllByRecursion (λ (d : ReadEntry). is_gt (identity_cmp x d.id) ≡ false) es
+
+-- ---- the run
+
+abbrev After : Identity → List ReadEntry → Type 0
+After x es = AllByRecursion (λ (d : ReadEntry). identity_cmp x d.id ≡ Less) es
+
+after_step : (x : Identity) (e : ReadEntry) (es : List ReadEntry) (b : Bool) → is_same x e.id ≡ b → NotAbove x (e ∷ es) → IsRising (e ∷ es) → After x (after_run x es) → After x (cond b (after_run x es) (e ∷ es))
+after_step x e es true i n r next = next
+after_step x e es false i n r next =
+    let l : identity_cmp x e.id ≡ Less = is_less (identity_cmp x e.id) n.0 (not_equal x e.id i) in
+    (l, weaken (λ (d : ReadEntry). is_gt (identity_cmp e.id d.id) ≡ false) (λ (d : ReadEntry). identity_cmp x d.id ≡ Less) (λ d g. through x e.id d.id (identity_cmp e.id d.id) l refl g) es r.0)
+
+pub after_is : (x : Identity) (es : List ReadEntry) → NotAbove x es → IsRising es → After x (after_run x es)
+after_is x [] n r = tt
+after_is x (e ∷ es) n r = after_step x e es (is_same x e.id) refl n r (after_is x es n.1 r.1)
+
+-- an identity below all of them is none of theirs
+none_same : (x : Identity) (es : List ReadEntry) → After x es → filter (λ (e : ReadEntry). is_same x e.id) es ≡ []
+none_same x [] h = refl
+none_same x (e ∷ es) h = ap (λ b. cond b (e ∷ filter (λ (d : ReadEntry). is_same x d.id) es) (filter (λ (d : ReadEntry). is_same x d.id) es)) (same_other x e.id (less_other x e.id h.0)) ∙ none_same x es h.1
+
+run_step : (x : Identity) (e : ReadEntry) (es : List ReadEntry) (b : Bool) → is_same x e.id ≡ b → After x (cond b (after_run x es) (e ∷ es)) → (After x (after_run x es) → filter (λ (d : ReadEntry). is_same x d.id) es ≡ run_of x es)
+    → cond b (e ∷ filter (λ (d : ReadEntry). is_same x d.id) es) (filter (λ (d : ReadEntry). is_same x d.id) es) ≡ cond b (e ∷ run_of x es) []
+run_step x e es true i h next = ap (λ (z : List ReadEntry). e ∷ z) (next h)
+run_step x e es false i h next = none_same x es h.1
+
+-- the run has all entries of the identity
+pub run_is : (x : Identity) (es : List ReadEntry) → After x (after_run x es) → filter (λ (e : ReadEntry). is_same x e.id) es ≡ run_of x es
+run_is x [] h = refl
+run_is x (e ∷ es) h = run_step x e es (is_same x e.id) refl h (run_is x es)
+
+other_step : (x y : Identity) (e : ReadEntry) (es : List ReadEntry) (b : Bool) → is_same x e.id ≡ b → (x ≡ y → ⊥)
+    → filter (λ (d : ReadEntry). is_same y d.id) es ≡ filter (λ (d : ReadEntry). is_same y d.id) (after_run x es)
+    → filter (λ (d : ReadEntry). is_same y d.id) (e ∷ es) ≡ filter (λ (d : ReadEntry). is_same y d.id) (cond b (after_run x es) (e ∷ es))
+other_step x y e es false i n next = refl
+other_step x y e es true i n next =
+    ap (λ b. cond b (e ∷ filter (λ (d : ReadEntry). is_same y d.id) es) (filter (λ (d : ReadEntry). is_same y d.id) es)) (same_other y e.id (λ q. n (same_is x e.id i ∙ sym q))) ∙ next
+
+-- other identities have their entries behind it
+pub others_behind : (x y : Identity) (es : List ReadEntry) → (x ≡ y → ⊥) → filter (λ (e : ReadEntry). is_same y e.id) es ≡ filter (λ (e : ReadEntry). is_same y e.id) (after_run x es)
+others_behind x y [] n = refl
+others_behind x y (e ∷ es) n = other_step x y e es (is_same x e.id) refl n (others_behind x y es n)
+
+pub rising_after : (x : Identity) (es : List ReadEntry) → IsRising es → IsRising (after_run x es)
+rising_after x [] r = tt
+rising_after x (e ∷ es) r = elim (is_same x e.id) as (λ b. IsRising (cond b (after_run x es) (e ∷ es))) [ true ↦ rising_after x es r.1 | false ↦ r ]
+
+cases_step : (x : Identity) (e : ReadEntry) (es : List ReadEntry) (z : Identity) (b : Bool) → is_same x e.id ≡ b → (Among (map (λ (d : ReadEntry). d.id) es) z → (x ≡ z) ⊎ Among (map (λ (d : ReadEntry). d.id) (after_run x es)) z)
+    → Among (map (λ (d : ReadEntry). d.id) (e ∷ es)) z → (x ≡ z) ⊎ Among (map (λ (d : ReadEntry). d.id) (cond b (after_run x es) (e ∷ es))) z
+cases_step x e es z false i next m = inr m
+cases_step x e es z true i next (inl h) = inl (same_is x e.id i ∙ h)
+cases_step x e es z true i next (inr m) = next m
+
+ids_cases : (x : Identity) (es : List ReadEntry) (z : Identity) → Among (map (λ (e : ReadEntry). e.id) es) z → (x ≡ z) ⊎ Among (map (λ (e : ReadEntry). e.id) (after_run x es)) z
+ids_cases x [] z a = absurd a
+ids_cases x (e ∷ es) z a = cases_step x e es z (is_same x e.id) refl (ids_cases x es z) a
+
+back_step : (x : Identity) (e : ReadEntry) (es : List ReadEntry) (z : Identity) (b : Bool) → (Among (map (λ (d : ReadEntry). d.id) (after_run x es)) z → Among (map (λ (d : ReadEntry). d.id) es) z)
+    → Among (map (λ (d : ReadEntry). d.id) (cond b (after_run x es) (e ∷ es))) z → Among (map (λ (d : ReadEntry). d.id) (e ∷ es)) z
+back_step x e es z false next m = m
+back_step x e es z true next m = inr (next m)
+
+ids_back : (x : Identity) (es : List ReadEntry) (z : Identity) → Among (map (λ (e : ReadEntry). e.id) (after_run x es)) z → Among (map (λ (e : ReadEntry). e.id) es) z
+ids_back x [] z a = a
+ids_back x (e ∷ es) z a = back_step x e es z (is_same x e.id) (ids_back x es z) a
+
+after_ids : (x : Identity) (es : List ReadEntry) (z : Identity) → After x es → Among (map (λ (e : ReadEntry). e.id) es) z → identity_cmp x z ≡ Less
+after_ids x [] z h a = absurd a
+after_ids x (e ∷ es) z h (inl i) = subst (λ w. identity_cmp x w ≡ Less) i h.0
+after_ids x (e ∷ es) z h (inr a) = after_ids x es z h.1 a
+
+-- ---- the first item
+
+abbrev pub item_ids : List LedgerItem → List Identity
+item_ids items = map (λ (i : LedgerItem). i.id) items
+
+abbrev pub NoneBelow : Identity → List Identity → Type 0
+NoneBelow x ids = AllByRecursion (λ (z : Identity). is_gt (identity_cmp x z) ≡ false) ids
+
+first_step : (x : Identity) (i : LedgerItem) (is : List LedgerItem) (b : Bool) → is_same x i.id ≡ b → is_gt (identity_cmp x i.id) ≡ false → IsStrictlySortedBy identity_cmp (i.id ∷ item_ids is)
+    → (z : Identity) → Among (item_ids (cond b is (i ∷ is))) z → identity_cmp x z ≡ Less
+first_step x i is true e g s z a = subst (λ w. identity_cmp w z ≡ Less) (sym (same_is x i.id e)) (sorted_head identity_cmp i.id (item_ids is) z s a)
+first_step x i is false e g s z (inl h) = subst (λ w. identity_cmp x w ≡ Less) h (is_less (identity_cmp x i.id) g (not_equal x i.id e))
+first_step x i is false e g s z (inr a) = identity_total.trans x i.id z (is_less (identity_cmp x i.id) g (not_equal x i.id e)) (sorted_head identity_cmp i.id (item_ids is) z s a)
+
+first_less : (x : Identity) (is : List LedgerItem) → NoneBelow x (item_ids is) → IsStrictlySortedBy identity_cmp (item_ids is) → (z : Identity) → Among (item_ids (after_first x is)) z → identity_cmp x z ≡ Less
+first_less x [] n s z a = absurd a
+first_less x (i ∷ is) n s z a = first_step x i is (is_same x i.id) refl n.0 s z a
+
+first_cases : (x : Identity) (is : List LedgerItem) (z : Identity) → Among (item_ids is) z → (x ≡ z) ⊎ Among (item_ids (after_first x is)) z
+first_cases x [] z a = absurd a
+first_cases x (i ∷ is) z a = split (is_same x i.id) refl a
+  where
+    split : (b : Bool) → is_same x i.id ≡ b → Among (item_ids (i ∷ is)) z → (x ≡ z) ⊎ Among (item_ids (cond b is (i ∷ is))) z
+    split false e m = inr m
+    split true e (inl h) = inl (same_is x i.id e ∙ h)
+    split true e (inr m) = inr m
+
+first_back : (x : Identity) (is : List LedgerItem) (z : Identity) → Among (item_ids (after_first x is)) z → Among (item_ids is) z
+first_back x [] z a = a
+first_back x (i ∷ is) z a = split (is_same x i.id) a
+  where
+    split : (b : Bool) → Among (item_ids (cond b is (i ∷ is))) z → Among (item_ids (i ∷ is)) z
+    split false m = m
+    split true m = inr m
+
+pub first_sorted : (x : Identity) (is : List LedgerItem) → IsStrictlySortedBy identity_cmp (item_ids is) → IsStrictlySortedBy identity_cmp (item_ids (after_first x is))
+first_sorted x [] s = s
+first_sorted x (i ∷ is) s = elim (is_same x i.id) as (λ b. IsStrictlySortedBy identity_cmp (item_ids (cond b is (i ∷ is)))) [ true ↦ sorted_tail identity_cmp i.id (item_ids is) s | false ↦ s ]
+
+none_found : (x : Identity) (is : List LedgerItem) → ((z : Identity) → Among (item_ids is) z → identity_cmp x z ≡ Less) → find (λ (i : LedgerItem). is_same x i.id) is ≡ None
+none_found x [] f = refl
+none_found x (i ∷ is) f =
+    ap (λ b. cond b (Some i) (find (λ (j : LedgerItem). is_same x j.id) is)) (same_other x i.id (less_other x i.id (f i.id (inl refl)))) ∙ none_found x is (λ z a. f z (inr a))
+
+found_step : (x : Identity) (i : LedgerItem) (is : List LedgerItem) (b : Bool) → ((z : Identity) → Among (item_ids (cond b is (i ∷ is))) z → identity_cmp x z ≡ Less)
+    → cond b (Some i) (find (λ (j : LedgerItem). is_same x j.id) is) ≡ cond b (Some i) None
+found_step x i is true f = refl
+found_step x i is false f = none_found x is (λ z a. f z (inr a))
+
+first_found : (x : Identity) (is : List LedgerItem) → ((z : Identity) → Among (item_ids (after_first x is)) z → identity_cmp x z ≡ Less) → find (λ (i : LedgerItem). is_same x i.id) is ≡ first_of x is
+first_found x [] f = refl
+first_found x (i ∷ is) f = found_step x i is (is_same x i.id) f
+
+pass_step : (x y : Identity) (i : LedgerItem) (is : List LedgerItem) (b : Bool) → is_same x i.id ≡ b → (x ≡ y → ⊥) → find (λ (j : LedgerItem). is_same y j.id) (i ∷ is) ≡ find (λ (j : LedgerItem). is_same y j.id) (cond b is (i ∷ is))
+pass_step x y i is false e n = refl
+pass_step x y i is true e n = ap (λ b. cond b (Some i) (find (λ (j : LedgerItem). is_same y j.id) is)) (same_other y i.id (λ q. n (same_is x i.id e ∙ sym q)))
+
+first_passed : (x y : Identity) (is : List LedgerItem) → (x ≡ y → ⊥) → find (λ (i : LedgerItem). is_same y i.id) is ≡ find (λ (i : LedgerItem). is_same y i.id) (after_first x is)
+first_passed x y [] n = refl
+first_passed x y (i ∷ is) n = pass_step x y i is (is_same x i.id) refl n
+
+-- ---- the least
+
+record IsLeast (x : Identity) (items : List LedgerItem) (entries : List ReadEntry) : Type 0 where
+  entries_not_below : NotAbove x entries
+  items_not_below : NoneBelow x (item_ids items)
+  among : Among (map (λ (e : ReadEntry). e.id) entries) x ⊎ Among (item_ids items) x
+
+self : (x : Identity) → is_gt (identity_cmp x x) ≡ false
+self x = ap is_gt (tied_itself identity_total x)
+
+less_gt : (x : Identity) (ids : List Identity) → ((z : Identity) → Among ids z → identity_cmp x z ≡ Less) → NoneBelow x ids
+less_gt x ids f = all_from (λ (z : Identity). is_gt (identity_cmp x z) ≡ false) ids (λ z a. ap is_gt (f z a))
+
+least_both : (o : Ordering) (i : LedgerItem) (is : List LedgerItem) (e : ReadEntry) (es : List ReadEntry) → identity_cmp i.id e.id ≡ o → IsStrictlySortedBy identity_cmp (i.id ∷ item_ids is) → IsRising (e ∷ es)
+    → IsLeast (cond (is_lt o) i.id e.id) (i ∷ is) (e ∷ es)
+least_both Less i is e es h s r = record {
+  entries_not_below = (
+    ap is_gt h,
+    weaken (λ (d : ReadEntry). is_gt (identity_cmp e.id d.id) ≡ false) (λ (d : ReadEntry). is_gt (identity_cmp i.id d.id) ≡ false)
+        (λ d g. ap is_gt (through i.id e.id d.id (identity_cmp e.id d.id) h refl g)) es r.0,
+  );
+  items_not_below = (self i.id, less_gt i.id (item_ids is) (λ z a. sorted_head identity_cmp i.id (item_ids is) z s a));
+  among = inr (inl refl);
+}
+least_both Equal i is e es h s r =
+    let q : i.id ≡ e.id = identity_exact i.id e.id h in record {
+      entries_not_below = (self e.id, r.0);
+      items_not_below = (subst (λ w. is_gt (identity_cmp w i.id) ≡ false) q (self i.id), less_gt e.id (item_ids is) (λ z a. subst (λ w. identity_cmp w z ≡ Less) q (sorted_head identity_cmp i.id (item_ids is) z s a)));
+      among = inl (inl refl);
+    }
+least_both Greater i is e es h s r =
+    let l : identity_cmp e.id i.id ≡ Less = identity_total.antisymm e.id i.id ∙ ap ordering_reverse h in record {
+      entries_not_below = (self e.id, r.0);
+      items_not_below = (ap is_gt l, less_gt e.id (item_ids is) (λ z a. identity_total.trans e.id i.id z l (sorted_head identity_cmp i.id (item_ids is) z s a)));
+      among = inl (inl refl);
+    }
+
+some_same : (x y : Identity) → ◌≡◌ {A = Option Identity} (Some x) (Some y) → x ≡ y
+some_same x y h = cc
+
+least_is : (x : Identity) (items : List LedgerItem) (entries : List ReadEntry) → IsStrictlySortedBy identity_cmp (item_ids items) → IsRising entries → least_of items entries ≡ Some x → IsLeast x items entries
+least_is x [] [] s r h = absurd cc
+least_is x (i ∷ is) [] s r h = subst (λ w. IsLeast w (i ∷ is) []) (some_same i.id x h) (record {
+  entries_not_below = tt;
+  items_not_below = (self i.id, less_gt i.id (item_ids is) (λ z a. sorted_head identity_cmp i.id (item_ids is) z s a));
+  among = inr (inl refl);
+})
+least_is x [] (e ∷ es) s r h = subst (λ w. IsLeast w [] (e ∷ es)) (some_same e.id x h) (record { entries_not_below = (self e.id, r.0); items_not_below = tt; among = inl (inl refl) })
+least_is x (i ∷ is) (e ∷ es) s r h = subst (λ w. IsLeast w (i ∷ is) (e ∷ es)) (some_same (lower i.id e.id) x h) (least_both (identity_cmp i.id e.id) i is e es refl s r)
+
+-- ---- the step
+
+agree : {M : Type 0} (f g : Identity → Option M) (ys : List Identity) → ((y : Identity) → Among ys y → f y ≡ g y) → filter_map f ys ≡ filter_map g ys
+agree f g [] h = refl
+agree f g (y ∷ ys) h = rw (h y (inl refl), agree f g ys (λ z a. h z (inr a))) refl
+
+pub merged_step : {M : Type 0} (judge : Identity → Option LedgerItem → List ReadEntry → Option M) (x : Identity) (items : List LedgerItem) (entries : List ReadEntry)
+    → IsStrictlySortedBy identity_cmp (item_ids items) → IsRising entries → least_of items entries ≡ Some x
+    → merged judge items entries ≡ cons_option (judge x (first_of x items) (run_of x entries)) (merged judge (after_first x items) (after_run x entries))
+unfolding merged
+merged_step {M} judge x items entries s r h =
+    let l = least_is x items entries s r h in
+    let behind = after_is x entries l.entries_not_below r in
+    let above = first_less x items l.items_not_below s in
+    let f : Identity → Option M = λ y. judge y (find (λ (i : LedgerItem). is_same y i.id) items) (filter (λ (e : ReadEntry). is_same y e.id) entries) in
+    let g : Identity → Option M = λ y. judge y (find (λ (i : LedgerItem). is_same y i.id) (after_first x items)) (filter (λ (e : ReadEntry). is_same y e.id) (after_run x entries)) in
+    let rest : List Identity = all_ids (after_first x items) (after_run x entries) in
+    let ids : all_ids items entries ≡ x ∷ rest =
+    union_step x (map (λ (e : ReadEntry). e.id) entries) (map (λ (e : ReadEntry). e.id) (after_run x entries)) (item_ids items) (item_ids (after_first x items)) s (first_sorted x items s)
+    (ids_cases x entries) (first_cases x items) (ids_back x entries) (first_back x items) l.among (λ z a. after_ids x (after_run x entries) z behind a) above in
+    let here : f x ≡ judge x (first_of x items) (run_of x entries) =
+    ap (λ o. judge x o (filter (λ (e : ReadEntry). is_same x e.id) entries)) (first_found x items above) ∙ ap (judge x (first_of x items)) (run_is x entries behind) in
+    let there : filter_map f rest ≡ filter_map g rest =
+    agree f g rest (λ y a.
+    let n : (x ≡ y) → ⊥ = less_other x y (⊎_elim (λ p. after_ids x (after_run x entries) y behind p) (λ q. above y q) (Among-with_all (map (λ (e : ReadEntry). e.id) (after_run x entries)) (item_ids (after_first x items)) y a)) in
+    ap (λ o. judge y o (filter (λ (e : ReadEntry). is_same y e.id) entries)) (first_passed x y items n) ∙ ap (judge y (find (λ (i : LedgerItem). is_same y i.id) (after_first x items))) (others_behind x y entries n)) in
+    ap (filter_map f) ids ∙ ap (λ o. cons_option o (filter_map f rest)) here ∙ ap (cons_option (judge x (first_of x items) (run_of x entries))) there
+
+-- ---- what the loop keeps
+
+cons_more : {M : Type 0} (out rest : List M) (m : Option M) → (out ++ cons_option m []) ++ rest ≡ out ++ cons_option m rest
+cons_more out rest None = ap (λ z. z ++ rest) (append-nil out)
+cons_more out rest (Some m) = rw append_assoc refl
+
+pub step_done : {M : Type 0} (judge : Identity → Option LedgerItem → List ReadEntry → Option M) (x : Identity) (items left : List LedgerItem) (entries after : List ReadEntry) (m : Option M) (out more whole : List M)
+    → IsStrictlySortedBy identity_cmp (item_ids items) → IsRising entries → least_of items entries ≡ Some x
+    → left ≡ after_first x items → after ≡ after_run x entries → m ≡ judge x (first_of x items) (run_of x entries) → more ≡ out ++ cons_option m []
+    → out ++ merged judge items entries ≡ whole → more ++ merged judge left after ≡ whole
+step_done judge x items left entries after m out more whole s r h l a j o w =
+    ap (λ z. z ++ merged judge left after) o ∙ cons_more out (merged judge left after) m
+    ∙ ap (λ z. out ++ cons_option z (merged judge left after)) j
+    ∙ ap (λ z. out ++ cons_option (judge x (first_of x items) (run_of x entries)) (merged judge z after)) l
+    ∙ ap (λ z. out ++ cons_option (judge x (first_of x items) (run_of x entries)) (merged judge (after_first x items) z)) a
+    ∙ ap (λ z. out ++ z) (sym (merged_step judge x items entries s r h)) ∙ w
+
+merged_none : {M : Type 0} (judge : Identity → Option LedgerItem → List ReadEntry → Option M) (items : List LedgerItem) (entries : List ReadEntry) → least_of items entries ≡ None → merged judge items entries ≡ []
+unfolding merged all_inserted
+merged_none judge [] [] h = refl
+merged_none judge (i ∷ is) [] h = absurd cc
+merged_none judge [] (e ∷ es) h = absurd cc
+merged_none judge (i ∷ is) (e ∷ es) h = absurd cc
+
+pub all_done : {M : Type 0} (judge : Identity → Option LedgerItem → List ReadEntry → Option M) (items : List LedgerItem) (entries : List ReadEntry) (out whole : List M) → least_of items entries ≡ None
+    → out ++ merged judge items entries ≡ whole → out ≡ whole
+all_done judge items entries out whole h w = sym (append-nil out) ∙ ap (λ z. out ++ z) (sym (merged_none judge items entries h)) ∙ w
+
+take_run : (x : Identity) (es : List ReadEntry) → take (length (run_of x es)) es ≡ run_of x es
+take_run x [] = refl
+take_run x (e ∷ es) = elim (is_same x e.id) as (λ b. take (length (cond b (e ∷ run_of x es) [])) (e ∷ es) ≡ cond b (e ∷ run_of x es) []) [ true ↦ ap (λ (z : List ReadEntry). e ∷ z) (take_run x es) | false ↦ refl ]
+
+drop_run : (x : Identity) (es : List ReadEntry) → drop (length (run_of x es)) es ≡ after_run x es
+drop_run x [] = refl
+drop_run x (e ∷ es) = elim (is_same x e.id) as (λ b. drop (length (cond b (e ∷ run_of x es) [])) (e ∷ es) ≡ cond b (after_run x es) (e ∷ es)) [ true ↦ drop_run x es | false ↦ refl ]
+
+run_short : (x : Identity) (es : List ReadEntry) → length (run_of x es) ≤ length es
+run_short x [] = omega arith
+run_short x (e ∷ es) = elim (is_same x e.id) as (λ b. length (cond b (e ∷ run_of x es) []) ≤ length (e ∷ es)) [ true ↦ (let h = run_short x es in omega arith) | false ↦ omega arith ]
+
+pub run_taken : (n : ℕ) (x : Identity) (es : List ReadEntry) → n ≡ length (run_of x es) → take n es ≡ run_of x es
+run_taken n x es h = ap (λ k. take k es) h ∙ take_run x es
+
+pub run_dropped : (n : ℕ) (x : Identity) (es : List ReadEntry) → n ≡ length (run_of x es) → drop n es ≡ after_run x es
+run_dropped n x es h = ap (λ k. drop k es) h ∙ drop_run x es
+
+pub run_within : (n : ℕ) (x : Identity) (es : List ReadEntry) → n ≡ length (run_of x es) → n ≤ length es
+run_within n x es h = let k = run_short x es in omega arith
+
+-- ---- the measure
+
+after_short : (x : Identity) (es : List ReadEntry) → length (after_run x es) ≤ length es
+after_short x [] = omega arith
+after_short x (e ∷ es) = elim (is_same x e.id) as (λ b. length (cond b (after_run x es) (e ∷ es)) ≤ length (e ∷ es)) [ true ↦ (let h = after_short x es in omega arith) | false ↦ omega arith ]
+
+first_short : (x : Identity) (is : List LedgerItem) → length (after_first x is) ≤ length is
+first_short x [] = omega arith
+first_short x (i ∷ is) = elim (is_same x i.id) as (λ b. length (cond b is (i ∷ is)) ≤ length (i ∷ is)) [ true ↦ omega arith | false ↦ omega arith ]
+
+item_gone : (x : Identity) (i : LedgerItem) (is : List LedgerItem) → i.id ≡ x → length (after_first x (i ∷ is)) < length (i ∷ is)
+item_gone x i is h =
+    let e : is_same x i.id ≡ true = subst (λ w. is_same w i.id ≡ true) h (same_refl i.id) in
+    subst (λ b. length (cond b is (i ∷ is)) < length (i ∷ is)) (sym e) (omega arith)
+
+entry_gone : (x : Identity) (e : ReadEntry) (es : List ReadEntry) → e.id ≡ x → length (after_run x (e ∷ es)) < length (e ∷ es)
+entry_gone x e es h =
+    let i : is_same x e.id ≡ true = subst (λ w. is_same w e.id ≡ true) h (same_refl e.id) in
+    let l = after_short x es in
+    subst (λ b. length (cond b (after_run x es) (e ∷ es)) < length (e ∷ es)) (sym i) (omega arith)
+
+lower_cases : (b : Bool) (x y z : Identity) → cond b x y ≡ z → (x ≡ z) ⊎ (y ≡ z)
+lower_cases true x y z h = inl h
+lower_cases false x y z h = inr h
+
+pub smaller : (x : Identity) (items : List LedgerItem) (entries : List ReadEntry) → least_of items entries ≡ Some x
+    → length (after_first x items) + length (after_run x entries) < length items + length entries
+smaller x [] [] h = absurd cc
+smaller x (i ∷ is) [] h = let l = item_gone x i is (some_same i.id x h) in omega arith
+smaller x [] (e ∷ es) h = let l = entry_gone x e es (some_same e.id x h) in omega arith
+smaller x (i ∷ is) (e ∷ es) h =
+    ⊎_elim (λ (q : i.id ≡ x). let l = item_gone x i is q in let k = after_short x (e ∷ es) in omega arith) (λ (q : e.id ≡ x). let l = entry_gone x e es q in let k = first_short x (i ∷ is) in omega arith)
+    (lower_cases (is_lt (identity_cmp i.id e.id)) i.id e.id x (some_same (lower i.id e.id) x h))
+
+pub lower_yes : (x y : Identity) (b : Bool) → b ≡ true → b ≡ is_lt (identity_cmp x y) → x ≡ lower x y
+lower_yes x y b t e = ap (λ c. cond c x y) (sym t ∙ e)
+
+pub lower_no : (x y : Identity) (b : Bool) → b ≡ false → b ≡ is_lt (identity_cmp x y) → y ≡ lower x y
+lower_no x y b t e = ap (λ c. cond c x y) (sym t ∙ e)
+
+counted : (x : Identity) (es : List ReadEntry) → length (take_while (λ (e : ReadEntry). is_same x e.id) es) ≡ length (run_of x es)
+counted x [] = refl
+counted x (e ∷ es) =
+    ap length (take_while-cons (λ (d : ReadEntry). is_same x d.id) e es)
+    ∙ (elim (is_same x e.id) as (λ b. length (cond b (e ∷ take_while (λ (d : ReadEntry). is_same x d.id) es) []) ≡ length (cond b (e ∷ run_of x es) [])) [ true ↦ ap suc (counted x es) | false ↦ refl ])
+
+pub run_counted : (n : ℕ) (x : Identity) (es : List ReadEntry) → n ≡ length (take_while (λ (e : ReadEntry). is_same x e.id) es) → n ≡ length (run_of x es)
+run_counted n x es h = h ∙ counted x es

@@ -1,0 +1,110 @@
+-- The counts of a job.
+use Rattle.std.specs.List.{count_by, filter_map}
+use Rattle.std.specs.Option.{option_map}
+use Rattle.std.proofs.Common.{◌≡◌, ℕ, suc, inl, inr, List, [], ◌∷◌, map, filter, length, Bool, true, false, cond, not, ◌&&◌, Option, Some, None, refl, sym, ap, ◌∙◌}
+use Rattle.std.proofs.lemmas.Bool.{false_from_ne_true, true≢false}
+use Rattle.std.proofs.lemmas.List.Sums.{length-filter}
+use Rattle.ident_core.specs.declared.identity.Identity.{Identity}
+use Rattle.ident_core.specs.declared.range.Sighting.{Sighting}
+use Rattle.ident_core.specs.declared.range.Range.{Range}
+use Rattle.job_core.specs.declared.meaning.Job.{Job as CodeJob}
+use Rattle.job_core.specs.JobFields.{entry_view, fields_of_job}
+use Rattle.ledger_core.specs.LedgerFields.{LedgerFields}
+use Rattle.ident_core.specs.Coverage.{covers}
+use Rattle.sets_core.specs.Among.{Among}
+use Rattle.sets_core.specs.Sets.{has, has_key}
+use Rattle.sets_core.proofs.Elements.{bool_same}
+use Rattle.sets_core.proofs.Sets.{has-from_Among}
+use Rattle.sets_core.proofs.Runs.{filter_none}
+use Rattle.universe_core.specs.Jobs.{Entry, Job, entry_of, told, enrolled}
+use Rattle.universe_core.specs.History.{Past, class_by, class_of, accepted_with, universe, is_revoked, revoked}
+use Rattle.universe_core.specs.Ledgers.{no_ledger, past_in}
+use Rattle.universe_core.specs.Counting.{is_class, count}
+use Rattle.universe_core.specs.Reading.{told_entry, class_alone, if_read}
+use Rattle.universe_core.specs.Members.{member_in}
+use Rattle.universe_core.specs.declared.class.Class.{Class}
+use Rattle.universe_core.specs.declared.class.Class.TheVariants.{Uncovered, Unenrolled, Late, Accepted}
+use Rattle.universe_core.specs.declared.member.Member.{Member}
+use Rattle.universe_core.proofs.Classes.{none_late, read_told}
+use Rattle.universe_core.proofs.Revoking.{universe_is, universe_has, revoked_is, revoked_has}
+
+length_mapped : {A B : Type 0} (p : B → Bool) (f : A → B) (xs : List A) → length (filter p (map f xs)) ≡ length (filter (λ x. p (f x)) xs)
+length_mapped p f [] = refl
+length_mapped p f (x ∷ xs) =
+    (elim (p (f x)) as (λ b. length (cond b (f x ∷ filter p (map f xs)) (filter p (map f xs))) ≡ length (cond b (x ∷ filter (λ y. p (f y)) xs) (filter (λ y. p (f y)) xs)))
+    [ true ↦ ap suc (length_mapped p f xs) | false ↦ length_mapped p f xs ])
+
+pub count_by-map : {A B : Type 0} (p : B → Bool) (f : A → B) (xs : List A) → count_by p (map f xs) ≡ count_by (λ x. p (f x)) xs
+count_by-map p f xs = sym (length-filter p (map f xs)) ∙ length_mapped p f xs ∙ length-filter (λ x. p (f x)) xs
+
+-- the count of a class, without parts
+pub count_told : (k : Class) (job : Job) (es : List (Option (Identity × Sighting))) → job.entries ≡ map (option_map entry_of) (map entry_view es)
+    → count_by (λ e. is_class k (class_alone job.ranges (enrolled job) (told_entry e))) es ≡ count k (past_in no_ledger) job
+count_told k job es t =
+    sym (count_by-map (λ e. is_class k (class_alone job.ranges (enrolled job) (option_map entry_of e))) entry_view es)
+    ∙ sym (count_by-map (λ e. is_class k (class_alone job.ranges (enrolled job) e)) (option_map entry_of) (map entry_view es))
+    ∙ ap (count_by (λ e. is_class k (class_alone job.ranges (enrolled job) e))) (sym t)
+
+-- ---- of a job, as slices show it
+
+pub count_job : (k : Class) (job : CodeJob) (ranges : List Range) (issuers : List (List ℕ)) (es : List (Option (Identity × Sighting))) (n : ℕ) → ranges ≡ job.ranges.items → issuers ≡ enrolled (told (fields_of_job job)) → es ≡ job.entries.items
+    → n ≡ count_by (λ e. is_class k (class_alone ranges issuers (told_entry e))) es → n ≡ count k (past_in no_ledger) (told (fields_of_job job))
+count_job k job ranges issuers es n r i e h =
+    h ∙ ap (λ z. count_by (λ d. is_class k (class_alone z issuers (told_entry d))) es) r ∙ ap (λ z. count_by (λ d. is_class k (class_alone job.ranges.items z (told_entry d))) es) i
+    ∙ ap (count_by (λ d. is_class k (class_alone job.ranges.items (enrolled (told (fields_of_job job))) (told_entry d)))) e ∙ count_told k (told (fields_of_job job)) job.entries.items refl
+
+pub read_job : (job : CodeJob) (ranges : List Range) (issuers : List (List ℕ)) (es : List (Option (Identity × Sighting))) (left : List Entry) → ranges ≡ job.ranges.items → issuers ≡ enrolled (told (fields_of_job job)) → es ≡ job.entries.items
+    → left ≡ filter_map (λ e. if_read ranges issuers (told_entry e)) es → left ≡ filter_map (if_read job.ranges.items (enrolled (told (fields_of_job job)))) (map (option_map entry_of) (map entry_view job.entries.items))
+read_job job ranges issuers es left r i e h =
+    h ∙ ap (λ z. filter_map (λ d. if_read z issuers (told_entry d)) es) r ∙ ap (λ z. filter_map (λ d. if_read job.ranges.items z (told_entry d)) es) i
+    ∙ ap (filter_map (λ d. if_read job.ranges.items (enrolled (told (fields_of_job job))) (told_entry d))) e ∙ read_told job.ranges.items (enrolled (told (fields_of_job job))) job.entries.items
+
+count_none : {A : Type 0} (p : A → Bool) (xs : List A) → ((x : A) → p x ≡ false) → count_by p xs ≡ 0
+count_none p xs f = sym (length-filter p xs) ∙ ap length (filter_none p xs (λ x a. f x))
+
+not_late : (c n l : Bool) → l ≡ false → is_class Late (cond (not c) Uncovered (cond (not n) Unenrolled (cond l Late Accepted))) ≡ false
+not_late true true true h = h
+not_late true true false h = refl
+not_late true false l h = refl
+not_late false n l h = refl
+
+pub late_none : (job : Job) → 0 ≡ count Late (past_in no_ledger) job
+unfolding class_by
+late_none job = sym (count_none (λ e. is_class Late (class_of (past_in no_ledger) job e)) job.entries (none job))
+  where
+    none : (job : Job) (e : Option Entry) → is_class Late (class_of (past_in no_ledger) job e) ≡ false
+    none job None = refl
+    none job (Some e) = not_late (covers job.ranges e.sighting) (has_key (enrolled job) e.id.issuer) ((past_in no_ledger).lacked e.id e.sighting) (none_late e.id e.sighting)
+
+-- ---- the universe and the revoked set
+
+pub universe_count : (ledger : LedgerFields) (job : Job) (issuers : List (List ℕ)) (members : List Member) → issuers ≡ enrolled job → members ≡ map (member_in ledger job) (accepted_with (past_in ledger) job)
+    → count_by (λ m. has_key issuers m.id.issuer) members ≡ length (universe (past_in ledger) job)
+unfolding universe
+universe_count ledger job issuers members k m =
+    ap (λ ks. count_by (λ (d : Member). has_key ks d.id.issuer) members) k ∙ ap (count_by (λ (d : Member). has_key (enrolled job) d.id.issuer)) m
+    ∙ count_by-map (λ (d : Member). has_key (enrolled job) d.id.issuer) (member_in ledger job) (accepted_with (past_in ledger) job)
+    ∙ sym (length-filter (λ x. has_key (enrolled job) x.issuer) (accepted_with (past_in ledger) job))
+
+test_by : (past : Past) (job : Job) (x : Identity) (b : Bool) → has_key (enrolled job) x.issuer ≡ b → has (accepted_with past job) x ≡ true → has (revoked past job) x ≡ (b && is_revoked past job x)
+test_by past job x true e a = bool_same (has (revoked past job) x) (is_revoked past job x) (λ h. (revoked_is past job x h).1) (revoked_has past job x (universe_has past job x a e))
+test_by past job x false e a = false_from_ne_true (has (revoked past job) x) (λ h. absurd (true≢false (sym (universe_is past job x (revoked_is past job x h).0).1 ∙ e)))
+
+twice_step : {A : Type 0} (p : A → Bool) (x : A) (qs rs : List A) (b c : Bool) → c ≡ (b && p x) → filter p qs ≡ rs → filter p (cond b (x ∷ qs) qs) ≡ cond c (x ∷ rs) rs
+twice_step p x qs rs true c e rest = ap (λ z. cond (p x) (x ∷ z) z) rest ∙ ap (λ t. cond t (x ∷ rs) rs) (sym e)
+twice_step p x qs rs false c e rest = rest ∙ ap (λ t. cond t (x ∷ rs) rs) (sym e)
+
+filter_twice : {A : Type 0} (p q r : A → Bool) (xs : List A) → ((x : A) → Among xs x → r x ≡ (q x && p x)) → filter p (filter q xs) ≡ filter r xs
+filter_twice p q r [] h = refl
+filter_twice p q r (x ∷ xs) h = twice_step p x (filter q xs) (filter r xs) (q x) (r x) (h x (inl refl)) (filter_twice p q r xs (λ y a. h y (inr a)))
+
+revoked_filter : (past : Past) (job : Job) → revoked past job ≡ filter (has (revoked past job)) (accepted_with past job)
+unfolding revoked universe
+revoked_filter past job =
+    filter_twice (is_revoked past job) (λ x. has_key (enrolled job) x.issuer) (has (revoked past job)) (accepted_with past job)
+    (λ x a. test_by past job x (has_key (enrolled job) x.issuer) refl (has-from_Among (accepted_with past job) x a))
+
+pub revoked_count : (past : Past) (job : Job) (flags : List Bool) → flags ≡ map (has (revoked past job)) (accepted_with past job) → count_by (λ b. b) flags ≡ length (revoked past job)
+revoked_count past job flags f =
+    ap (count_by (λ b. b)) f ∙ count_by-map (λ b. b) (has (revoked past job)) (accepted_with past job)
+    ∙ sym (length-filter (has (revoked past job)) (accepted_with past job)) ∙ ap length (sym (revoked_filter past job))

@@ -1,0 +1,13 @@
+use Rattle.std.proofs.Common.{◌≡◌, ◌∙◌, ap, sym, length, false, arith}
+use Rattle.ident_core.specs.declared.identity.Identity.{Identity}
+use Rattle.sets_core.proofs.Marks.{written_back}
+use Rattle.universe_core.specs.declared.member.Member.{Member}
+use Rattle.universe_core.proofs.Revoking.{map_map}
+use Rattle.universe_core.proofs.marking.listed_now.Goals as goal
+
+pub returns : goal.returns
+returns c =
+    let v = c.deref_mut.ensures.value in
+    let l : c.in_ok-flags.flags.len ≡ length c.in_ok-flags.flags.items = omega arith in
+    written_back c.in_ok-flags.flags.len c.mark_all.new.flags c.in_ok-flags.flags.items (c.mark_all.auto.flags ∙ ap length v) l
+    ∙ c.mark_all.ensures (λ (x : Identity). false) (v ∙ c.in_ok-flags.ensures ∙ sym (map_map (λ (m : Member). m.id) (λ (x : Identity). false) c.args.members.now))

@@ -1,0 +1,67 @@
+-- What a job says by itself: its CRLs and entries, its coverage, which issuers it enrolls and which identities it lists.
+use Rattle.std.specs.Prelude.{ℕ, ℤ, pos, ◌*ℤ◌, int_lt, List, map, filter, filter_map, Bool, false, not, Option, Some, None, Result, Ok, Err}
+use Rattle.std.specs.List.{list_any, list_all}
+use Rattle.std.specs.Option.{option_map}
+use Rattle.std.specs.Str.{bytes_eq}
+use Rattle.ident_core.specs.declared.identity.Identity.{Identity}
+use Rattle.ident_core.specs.declared.range.Sighting.{Sighting}
+use Rattle.ident_core.specs.declared.range.Range.{Range}
+use Rattle.crl_core.specs.declared.crl.CrlFault.{CrlFault}
+use Rattle.crl_core.specs.Outcome.{CrlFields}
+use Rattle.log_core.specs.Entries.{EntryFields}
+use Rattle.job_core.specs.JobFields.{CrlMeaning, JobFields}
+use Rattle.sets_core.specs.Sets.{has_key, key_set}
+
+-- an issuer's CRL: when it goes out of date, in seconds since 1970, and the serials that it holds
+pub record Crl : Type 0 where
+  pub issuer : List ℕ
+  pub next_update : Option ℤ
+  pub serials : List (List ℕ)
+
+-- an entry that is read: a certificate, and when a log saw it
+pub record Entry : Type 0 where
+  pub id : Identity
+  pub sighting : Sighting
+
+-- A job whose CRLs are all accepted. The moment is in milliseconds since 1970; an entry that isn't read is none.
+pub record Job : Type 0 where
+  pub epoch : ℕ
+  pub moment : ℕ
+  pub ranges : List Range
+  pub crls : List Crl
+  pub entries : List (Option Entry)
+
+-- ---- what the job of some bytes tells
+
+abbrev pub crl_by : List ℕ → Result CrlFields CrlFault → Option Crl
+crl_by issuer (Ok c) = Some (record { issuer = issuer; next_update = c.next_update; serials = c.serials })
+crl_by issuer (Err e) = None
+
+-- the CRL, if it is accepted
+abbrev pub accepted_crl : CrlMeaning → Option Crl
+accepted_crl c = crl_by c.issuer c.outcome
+
+abbrev pub entry_of : EntryFields → Entry
+entry_of e = record { id = record { issuer = e.issuer; serial = e.serial }; sighting = record { log = e.log; time = e.time } }
+
+abbrev pub told : JobFields → Job
+told j = record { epoch = j.epoch; moment = j.moment; ranges = j.ranges; crls = filter_map accepted_crl j.crls; entries = map (option_map entry_of) j.entries }
+
+-- ---- enrolment and listing
+
+-- whether a CRL is out of date at a moment: its nextUpdate is there, and lies before it
+abbrev pub is_stale : ℕ → Option ℤ → Bool
+is_stale moment None = false
+is_stale moment (Some seconds) = int_lt (pos 1000 *ℤ seconds) (pos moment)
+
+-- the CRLs of an issuer
+abbrev pub crls_of : List ℕ → Job → List Crl
+crls_of issuer job = filter (λ c. bytes_eq issuer c.issuer) job.crls
+
+-- The enrolled issuers: those with a CRL, none of whose CRLs is out of date.
+unfoldable pub enrolled : Job → List (List ℕ)
+enrolled job = filter (λ issuer. list_all (λ c. not (is_stale job.moment c.next_update)) (crls_of issuer job)) (key_set (map (λ c. c.issuer) job.crls))
+
+-- whether the job lists an identity: a CRL of its issuer holds its serial
+unfoldable pub lists : Job → Identity → Bool
+lists job x = list_any (λ c. has_key c.serials x.serial) (crls_of x.issuer job)

@@ -1,0 +1,12 @@
+pub mod Jobs
+pub mod History
+pub mod Groups
+pub mod Counting
+pub mod Ledgers
+pub mod Step
+pub mod Enrolling
+pub mod Reading
+pub mod Merging
+pub mod Judging
+pub mod Members
+pub mod Following

@@ -1,0 +1,34 @@
+-- What is said of an identity that is accepted.
+use Rattle.std.specs.Prelude.{ℕ, List, map, length, Bool, cond, Some}
+use Rattle.ident_core.specs.declared.identity.Identity.{Identity}
+use Rattle.ident_core.specs.declared.range.Range.{Range}
+use Rattle.ident_core.specs.HeadFields.{zero_key}
+use Rattle.ledger_core.specs.declared.fields.LedgerItem.{LedgerItem}
+use Rattle.ledger_core.specs.LedgerFields.{LedgerFields, LedgerPartFields}
+use Rattle.universe_core.specs.Jobs.{Job}
+use Rattle.universe_core.specs.History.{shown, sightings}
+use Rattle.universe_core.specs.Ledgers.{past_in, item_of, birth_or, last_or_none}
+use Rattle.universe_core.specs.Groups.{GroupFields, members_of}
+use Rattle.universe_core.specs.declared.member.Member.{Member}
+
+abbrev pub ids_of : List Member → List Identity
+ids_of members = map (λ m. m.id) members
+
+abbrev pub member_in : LedgerFields → Job → Identity → Member
+member_in ledger job x = record {
+  id = x;
+  birth = birth_or (length ledger.parts) (item_of ledger x);
+  last = last_or_none (item_of ledger x);
+  settled = (past_in ledger).is_settled x (sightings x (shown (past_in ledger) job));
+}
+
+abbrev pub next_of : ℕ → Bool → Member → LedgerItem
+next_of place revoked m = record { id = m.id; birth = m.birth; last = cond revoked (Some place) m.last }
+
+-- the group of an issuer, where a test says what is revoked
+abbrev pub group_with : (Identity → Bool) → List Identity → List ℕ → GroupFields
+group_with revoked xs issuer = record { issuer = issuer; universe = members_of issuer xs; revoked = map revoked (members_of issuer xs) }
+
+-- the part of the first job, whose trailer isn't known yet
+abbrev pub first_part : ℕ → List Range → List (List ℕ) → LedgerPartFields
+first_part epoch ranges issuers = record { epoch = epoch; trailer = zero_key; ranges = ranges; issuers = issuers }

@@ -1,0 +1,50 @@
+-- Items of a ledger and entries of a job, merged.
+use Rattle.std.specs.Prelude.{◌≡◌, List, [], ◌∷◌, map, filter, filter_map, find, false, cond, Option, Some, None}
+use Rattle.std.specs.List.{AllByRecursion}
+use Rattle.std.specs.Ordering.{is_lt, is_gt}
+use Rattle.ident_core.specs.declared.identity.Identity.{Identity}
+use Rattle.ident_core.specs.Order.{is_same, identity_cmp}
+use Rattle.sets_core.specs.Sets.{with_all}
+use Rattle.ledger_core.specs.declared.fields.LedgerItem.{LedgerItem}
+use Rattle.universe_core.specs.declared.member.ReadEntry.{ReadEntry}
+
+-- no entry is above a later one
+abbrev pub IsRising : List ReadEntry → Type 0
+IsRising [] = Unit {0}
+IsRising (e ∷ es) = AllByRecursion (λ d. is_gt (identity_cmp e.id d.id) ≡ false) es × IsRising es
+
+abbrev pub lower : Identity → Identity → Identity
+lower x y = cond (is_lt (identity_cmp x y)) x y
+
+-- the least identity of both
+abbrev pub least_of : List LedgerItem → List ReadEntry → Option Identity
+least_of [] [] = None
+least_of (i ∷ is) [] = Some i.id
+least_of [] (e ∷ es) = Some e.id
+least_of (i ∷ is) (e ∷ es) = Some (lower i.id e.id)
+
+-- the first entries, of one identity
+abbrev pub run_of : Identity → List ReadEntry → List ReadEntry
+run_of x [] = []
+run_of x (e ∷ es) = cond (is_same x e.id) (e ∷ run_of x es) []
+
+abbrev pub after_run : Identity → List ReadEntry → List ReadEntry
+after_run x [] = []
+after_run x (e ∷ es) = cond (is_same x e.id) (after_run x es) (e ∷ es)
+
+-- the first item, if it is the identity's
+abbrev pub first_of : Identity → List LedgerItem → Option LedgerItem
+first_of x [] = None
+first_of x (i ∷ is) = cond (is_same x i.id) (Some i) None
+
+abbrev pub after_first : Identity → List LedgerItem → List LedgerItem
+after_first x [] = []
+after_first x (i ∷ is) = cond (is_same x i.id) is (i ∷ is)
+
+-- the identities of items and entries
+abbrev pub all_ids : List LedgerItem → List ReadEntry → List Identity
+all_ids items entries = with_all (map (λ (e : ReadEntry). e.id) entries) (map (λ (i : LedgerItem). i.id) items)
+
+-- what a judge makes of the identities of both, each from its item and its entries
+unfoldable pub merged : {M : Type 0} → (Identity → Option LedgerItem → List ReadEntry → Option M) → List LedgerItem → List ReadEntry → List M
+merged judge items entries = filter_map (λ x. judge x (find (λ (i : LedgerItem). is_same x i.id) items) (filter (λ (e : ReadEntry). is_same x e.id) entries)) (all_ids items entries)

@@ -1,0 +1,219 @@
+//! The step from a ledger to the next.
+
+ghost use Rattle.std.specs.Prelude.{◌≡◌, ◌≢◌, ◌≤◌, ◌<◌, ℕ, List, [], ◌∷◌, length, map, None, Some, IfOk, IfErr, OnOk, All};
+ghost use Rattle.std.specs.List.Sorted.{IsStrictlySortedBy};
+ghost use Rattle.ident_core.specs.Order.{identity_cmp};
+ghost use Rattle.ident_core.specs.Coverage.{RangesFit};
+ghost use Rattle.job_core.specs.JobFields.{AreWithin, fields_of_job};
+ghost use Rattle.ledger_core.specs.LedgerFields.{LedgerFields, ledger_fields, sealed_with};
+ghost use Rattle.universe_core.specs.Jobs.{told, enrolled as enrolled_of};
+ghost use Rattle.universe_core.specs.History.{accepted_with, universe, revoked};
+ghost use Rattle.universe_core.specs.Counting.{count};
+ghost use Rattle.universe_core.specs.Groups.{group_fields, IsGroup};
+ghost use Rattle.universe_core.specs.Ledgers.{no_ledger, past_in, next_item, next_ledger};
+ghost use Rattle.universe_core.specs.Members.{ids_of, member_in};
+ghost use Rattle.universe_core.specs.Following.{IsBefore};
+ghost use Rattle.universe_core.specs.Step.{KeepsLimits, refusal, head_after, groups_after, counts_after};
+ghost use Rattle.universe_core.specs.declared.class.Class.TheVariants as class;
+
+use crate::admitted::{Admitted, Group};
+use crate::counting::set_flags;
+use crate::counts::Counts;
+use crate::enrolling::enrolled;
+use crate::fault::AdmitFault;
+use crate::flagging::{next_items, revoked_now};
+use crate::following::{early_fault, next_draft, next_head};
+use crate::grouping::groups;
+use crate::lateness::late_entries;
+use crate::member::Member;
+use crate::merging::members;
+use crate::reading::{Tally, read};
+use job_core::{Job, Limits, What};
+use ledger_core::{Ledger, LedgerItem, LedgerPart};
+use octets_core::Key32;
+use std::alloc::{AllocError, Global};
+
+/// What is accepted: the enrolled issuers, the identities, and how many entries there are of each class.
+#[derive(Drop)]
+struct Acceptance {
+    issuers: Vec<Key32>,
+    members: Vec<Member>,
+    tally: Tally,
+    late: u32,
+    accepted: u32,
+}
+
+/// What accepted identities make: the groups, the items of the next ledger, and how many are of the universe and revoked.
+#[derive(Drop)]
+struct Built {
+    groups: Vec<Group>,
+    items: Vec<LedgerItem>,
+    universe: u32,
+    revoked: u32,
+}
+
+/// Accepts a job's entries, beside a ledger.
+fn accept(
+    alloc: Global,
+    parts: &[LedgerPart],
+    items: &[LedgerItem],
+    job: &Job,
+) -> Result<Acceptance, AllocError>
+    requires few_parts { length parts.now < 256 }
+    requires ascend { IsStrictlySortedBy identity_cmp (map (λ i. i.id) items.now) }
+    requires few_entries { length job.now.entries.items ≤ 4294967295 }
+    ensures issuers { IfOk result (λ a. a.issuers.items ≡ enrolled_of (told (fields_of_job job.now))) }
+    ensures members { IfOk result (λ a. a.members.items ≡ map (member_in (ledger_fields parts.now items.now) (told (fields_of_job job.now))) (accepted_with (past_in (ledger_fields parts.now items.now)) (told (fields_of_job job.now)))) }
+    ensures unread { IfOk result (λ a. a.tally.unread ≡ count class.Unread (past_in (ledger_fields parts.now items.now)) (told (fields_of_job job.now))) }
+    ensures uncovered { IfOk result (λ a. a.tally.uncovered ≡ count class.Uncovered (past_in (ledger_fields parts.now items.now)) (told (fields_of_job job.now))) }
+    ensures unenrolled { IfOk result (λ a. a.tally.unenrolled ≡ count class.Unenrolled (past_in (ledger_fields parts.now items.now)) (told (fields_of_job job.now))) }
+    ensures late { IfOk result (λ a. a.late ≡ count class.Late (past_in (ledger_fields parts.now items.now)) (told (fields_of_job job.now))) }
+    ensures accepted { IfOk result (λ a. a.accepted ≡ count class.Accepted (past_in (ledger_fields parts.now items.now)) (told (fields_of_job job.now))) }
+{
+    let issuers = enrolled(alloc, job)?;
+    let reading = read(alloc, &job.ranges, &issuers, &job.entries)?;
+    let tally = reading.tally;
+    let mut entries = reading.entries;
+    let members = members(alloc, parts, items, &mut entries)?;
+    let late = late_entries(parts, items, &entries) as u32;
+    Ok(Acceptance {
+        issuers,
+        members,
+        tally,
+        late,
+        accepted: tally.read - late,
+    })
+}
+
+/// Makes the next items and the groups of accepted identities, for a part at this place. The members are let go before the
+/// groups are made.
+fn build(
+    alloc: Global,
+    job: &Job,
+    issuers: &[Key32],
+    members: Vec<Member>,
+    place: u8,
+) -> Result<Built, AllocError>
+    requires issuers { issuers.now ≡ enrolled_of (told (fields_of_job job.now)) }
+    requires ascend { IsStrictlySortedBy identity_cmp (ids_of members.items) }
+    requires few { length members.items ≤ 4294967295 }
+    ensures groups { (ledger : LedgerFields) → members.items ≡ map (member_in ledger (told (fields_of_job job.now))) (accepted_with (past_in ledger) (told (fields_of_job job.now)))
+        → IfOk result (λ b. map group_fields b.groups.items ≡ groups_after ledger (told (fields_of_job job.now))) }
+    ensures items { (ledger : LedgerFields) → members.items ≡ map (member_in ledger (told (fields_of_job job.now))) (accepted_with (past_in ledger) (told (fields_of_job job.now))) → place ≡ length ledger.parts
+        → IfOk result (λ b. b.items.items ≡ map (next_item (past_in ledger) ledger (told (fields_of_job job.now))) (accepted_with (past_in ledger) (told (fields_of_job job.now)))) }
+    ensures universe { (ledger : LedgerFields) → members.items ≡ map (member_in ledger (told (fields_of_job job.now))) (accepted_with (past_in ledger) (told (fields_of_job job.now)))
+        → IfOk result (λ b. b.universe ≡ length (universe (past_in ledger) (told (fields_of_job job.now)))) }
+    ensures revoked { (ledger : LedgerFields) → members.items ≡ map (member_in ledger (told (fields_of_job job.now))) (accepted_with (past_in ledger) (told (fields_of_job job.now)))
+        → IfOk result (λ b. b.revoked ≡ length (revoked (past_in ledger) (told (fields_of_job job.now)))) }
+{
+    let flags = revoked_now(alloc, job, issuers, &members)?;
+    let items = next_items(alloc, &members, &flags.revoked, place)?;
+    drop(members);
+    let groups = groups(alloc, issuers, &items, &flags.revoked)?;
+    let revoked = set_flags(&flags.revoked);
+    Ok(Built {
+        groups,
+        items,
+        universe: flags.universe,
+        revoked,
+    })
+}
+
+/// Admits a job behind these parts and items, of which a chain's first job has none.
+fn step(
+    alloc: Global,
+    parts: &[LedgerPart],
+    items: &[LedgerItem],
+    job: &Job,
+    limits: &Limits,
+) -> Result<Admitted, AdmitFault>
+    requires published { AreWithin limits.now Limits.PUBLISHED }
+    requires ranges { RangesFit job.now.ranges.items }
+    requires few { KeepsLimits limits.now (fields_of_job job.now) }
+    requires few_parts { length parts.now ≤ 64 }
+    requires before { IsBefore (ledger_fields parts.now items.now) }
+    ensures admitted { OnOk result (refusal limits.now (ledger_fields parts.now items.now) (fields_of_job job.now) ≡ None) }
+    ensures refused { IfErr result (λ e. e ≢ AdmitFault.NoMemory → refusal limits.now (ledger_fields parts.now items.now) (fields_of_job job.now) ≡ Some e) }
+    ensures head { IfOk result (λ a. a.head ≡ head_after (ledger_fields parts.now items.now).parts (told (fields_of_job job.now))) }
+    ensures groups { IfOk result (λ a. map group_fields a.groups.items ≡ groups_after (ledger_fields parts.now items.now) (told (fields_of_job job.now))) }
+    ensures facts { IfOk result (λ a. All IsGroup (map group_fields a.groups.items)) }
+    ensures counts { IfOk result (λ a. a.counts ≡ counts_after (ledger_fields parts.now items.now) (told (fields_of_job job.now))) }
+    ensures next { IfOk result (λ a. (trailer : List ℕ) → sealed_with a.next trailer ≡ next_ledger (ledger_fields parts.now items.now) (told (fields_of_job job.now)) trailer) }
+{
+    if let Some(fault) = early_fault(parts, job) {
+        return Err(fault);
+    }
+    let accepted = accept(alloc, parts, items, job)?;
+    if accepted.members.len() > limits.identities as usize {
+        return Err(AdmitFault::TooMany {
+            what: What::Identities,
+            limit: limits.identities,
+        });
+    }
+    let tally = accepted.tally;
+    let late = accepted.late;
+    let timely = accepted.accepted;
+    let members = accepted.members;
+    let issuers = accepted.issuers;
+    let place = parts.len() as u8;
+    let built = build(alloc, job, &issuers, members, place)?;
+    let counts = Counts {
+        issuers: issuers.len() as u32,
+        universe: built.universe,
+        revoked: built.revoked,
+        unread: tally.unread,
+        uncovered: tally.uncovered,
+        unenrolled: tally.unenrolled,
+        late,
+        accepted: timely,
+    };
+    let head = next_head(alloc, parts, job)?;
+    let next = next_draft(alloc, parts, job, issuers, built.items)?;
+    Ok(Admitted {
+        head,
+        groups: built.groups,
+        counts,
+        next,
+    })
+}
+
+/// Admits a job as the first of a chain. Its ranges fit, and its numbers of ranges, CRLs and entries keep the limits. The
+/// answer is never `OldEpoch`, `CoverageShrinks` or `ChainFull`.
+pub fn first(alloc: Global, job: &Job, limits: &Limits) -> Result<Admitted, AdmitFault>
+    requires published { AreWithin limits.now Limits.PUBLISHED }
+    requires ranges { RangesFit job.now.ranges.items }
+    requires few { KeepsLimits limits.now (fields_of_job job.now) }
+    ensures admitted { OnOk result (refusal limits.now no_ledger (fields_of_job job.now) ≡ None) }
+    ensures refused { IfErr result (λ e. e ≢ AdmitFault.NoMemory → refusal limits.now no_ledger (fields_of_job job.now) ≡ Some e) }
+    ensures head { IfOk result (λ a. a.head ≡ head_after no_ledger.parts (told (fields_of_job job.now))) }
+    ensures groups { IfOk result (λ a. map group_fields a.groups.items ≡ groups_after no_ledger (told (fields_of_job job.now))) }
+    ensures facts { IfOk result (λ a. All IsGroup (map group_fields a.groups.items)) }
+    ensures counts { IfOk result (λ a. a.counts ≡ counts_after no_ledger (told (fields_of_job job.now))) }
+    // For every trailer that the next part may have.
+    ensures next { IfOk result (λ a. (trailer : List ℕ) → sealed_with a.next trailer ≡ next_ledger no_ledger (told (fields_of_job job.now)) trailer) }
+{
+    step(alloc, &[], &[], job, limits)
+}
+
+/// Admits a job behind a ledger. Its ranges fit, and its numbers of ranges, CRLs and entries keep the limits. The ledger
+/// stays as it is.
+pub fn admit(
+    alloc: Global,
+    ledger: &Ledger,
+    job: &Job,
+    limits: &Limits,
+) -> Result<Admitted, AdmitFault>
+    requires published { AreWithin limits.now Limits.PUBLISHED }
+    requires ranges { RangesFit job.now.ranges.items }
+    requires few { KeepsLimits limits.now (fields_of_job job.now) }
+    ensures admitted { OnOk result (refusal limits.now ledger.now (fields_of_job job.now) ≡ None) }
+    ensures refused { IfErr result (λ e. e ≢ AdmitFault.NoMemory → refusal limits.now ledger.now (fields_of_job job.now) ≡ Some e) }
+    ensures head { IfOk result (λ a. a.head ≡ head_after ledger.now.parts (told (fields_of_job job.now))) }
+    ensures groups { IfOk result (λ a. map group_fields a.groups.items ≡ groups_after ledger.now (told (fields_of_job job.now))) }
+    ensures facts { IfOk result (λ a. All IsGroup (map group_fields a.groups.items)) }
+    ensures counts { IfOk result (λ a. a.counts ≡ counts_after ledger.now (told (fields_of_job job.now))) }
+    // For every trailer that the next part may have.
+    ensures next { IfOk result (λ a. (trailer : List ℕ) → sealed_with a.next trailer ≡ next_ledger ledger.now (told (fields_of_job job.now)) trailer) }
+{
+    step(alloc, ledger.parts(), ledger.items(), job, limits)
+}

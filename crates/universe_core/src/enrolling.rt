@@ -1,0 +1,87 @@
+ghost use Rattle.std.specs.Prelude.{◌≡◌, IfOk, filter, filter_map, not};
+ghost use Rattle.std.specs.List.Sorted.{IsStrictlySortedBy};
+ghost use Rattle.ident_core.specs.Order.{octets_cmp};
+ghost use Rattle.job_core.specs.JobFields.{fields_of_job};
+ghost use Rattle.sets_core.specs.Sets.{has_key};
+ghost use Rattle.universe_core.specs.Jobs.{told, is_stale, enrolled as enrolled_of};
+ghost use Rattle.universe_core.specs.Enrolling.{told_crl, issuer_if, stale_issuer_if};
+
+use job_core::{Job, JobCrl};
+use octets_core::Key32;
+use sets_core::{holds_key, sort_keys_once};
+use std::alloc::{AllocError, Global};
+
+/// Whether a CRL is out of date at a moment, in milliseconds. Its nextUpdate is in seconds.
+fn is_out_of_date(moment: u64, next_update: Option<i64>) -> bool
+    ensures { result ≡ is_stale moment next_update }
+{
+    match next_update {
+        Some(seconds) => 1000 * i128::from(seconds) < i128::from(moment),
+        None => false,
+    }
+}
+
+fn issuer_of(crl: &JobCrl) -> Option<Key32>
+    ensures { result ≡ issuer_if (told_crl crl.now) }
+{
+    match &crl.outcome {
+        Ok(_) => Some(crl.issuer),
+        Err(_) => None,
+    }
+}
+
+/// The issuer of a CRL that is accepted and out of date.
+fn stale_issuer_of(crl: &JobCrl, moment: u64) -> Option<Key32>
+    ensures { result ≡ stale_issuer_if moment (told_crl crl.now) }
+{
+    match &crl.outcome {
+        Ok(list) => {
+            if is_out_of_date(moment, list.next_update) {
+                Some(crl.issuer)
+            } else {
+                None
+            }
+        }
+        Err(_) => None,
+    }
+}
+
+fn issuers_of(alloc: Global, crls: &[JobCrl]) -> Result<Vec<Key32>, AllocError>
+    ensures { IfOk result (λ keys. keys.items ≡ filter_map (λ c. issuer_if (told_crl c)) crls.now) }
+{
+    crls.iter().filter_map(|c| issuer_of(c)).collect(alloc)
+}
+
+fn stale_issuers_of(alloc: Global, crls: &[JobCrl], moment: u64) -> Result<Vec<Key32>, AllocError>
+    ensures { IfOk result (λ keys. keys.items ≡ filter_map (λ c. stale_issuer_if moment (told_crl c)) crls.now) }
+{
+    crls.iter()
+        .filter_map(|c| stale_issuer_of(c, moment))
+        .collect(alloc)
+}
+
+/// The keys that aren't among others.
+fn without(alloc: Global, keys: &[Key32], others: &[Key32]) -> Result<Vec<Key32>, AllocError>
+    requires { IsStrictlySortedBy octets_cmp others.now }
+    ensures { IfOk result (λ left. left.items ≡ filter (λ k. not (has_key others.now k)) keys.now) }
+{
+    let mut left = Vec::with_capacity(alloc, keys.len())?;
+    for key in keys {
+        if !holds_key(others, key) {
+            left.push(*key)?;
+        }
+    }
+    Ok(left)
+}
+
+/// The issuers with a CRL, none of whose CRLs is out of date, ascending.
+pub(crate) fn enrolled(alloc: Global, job: &Job) -> Result<Vec<Key32>, AllocError>
+    ensures { IfOk result (λ keys. keys.items ≡ enrolled_of (told (fields_of_job job.now))) }
+{
+    let mut stale = stale_issuers_of(alloc, &job.crls, job.moment)?;
+    sort_keys_once(&mut stale);
+    let mut keys = issuers_of(alloc, &job.crls)?;
+    sort_keys_once(&mut keys);
+    let left = without(alloc, &keys, &stale)?;
+    Ok(left)
+}

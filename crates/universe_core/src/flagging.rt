@@ -1,0 +1,144 @@
+ghost use Rattle.std.specs.Prelude.{◌≡◌, ◌≤◌, ◌&&◌, ◌||◌, IfOk, map, not, Bool, length};
+ghost use Rattle.std.specs.List.{count_by};
+ghost use Rattle.std.specs.List.Sorted.{IsStrictlySortedBy};
+ghost use Rattle.ident_core.specs.Order.{octets_cmp};
+ghost use Rattle.ident_core.specs.declared.identity.Identity.{Identity as IdentityFields};
+ghost use Rattle.sets_core.specs.Sets.{has_key};
+ghost use Rattle.universe_core.specs.Ledgers.{some_last};
+ghost use Rattle.universe_core.specs.Members.{ids_of, next_of};
+ghost use Rattle.universe_core.specs.Reading.{one_if};
+ghost use Rattle.ident_core.specs.Order.{identity_cmp};
+ghost use Rattle.job_core.specs.JobFields.{fields_of_job};
+ghost use Rattle.ledger_core.specs.LedgerFields.{LedgerFields, ids};
+ghost use Rattle.sets_core.specs.Sets.{has};
+ghost use Rattle.universe_core.specs.Jobs.{told, enrolled};
+ghost use Rattle.universe_core.specs.History.{accepted_with, revoked as revoked_of};
+ghost use Rattle.universe_core.specs.Ledgers.{past_in};
+ghost use Rattle.universe_core.specs.Members.{member_in};
+
+use crate::marking::listed_now;
+use crate::member::Member;
+use job_core::Job;
+use ledger_core::LedgerItem;
+use octets_core::Key32;
+use sets_core::holds_key;
+use std::alloc::{AllocError, Global};
+
+/// Beside each member whether it is revoked, and how many are of the universe.
+#[derive(Drop)]
+pub(crate) struct Flags {
+    pub(crate) revoked: Vec<bool>,
+    pub(crate) universe: u32,
+}
+
+fn has_last(last: Option<u8>) -> bool
+    ensures { result ≡ some_last last }
+{
+    match last {
+        Some(_) => true,
+        None => false,
+    }
+}
+
+fn is_flagged(member: &Member, listed: bool) -> bool
+    ensures { result ≡ ((some_last member.now.last || listed) && not member.now.settled) }
+{
+    let was = has_last(member.last);
+    (was || listed) && !member.settled
+}
+
+fn is_enrolled(issuers: &[Key32], member: &Member) -> bool
+    requires { IsStrictlySortedBy octets_cmp issuers.now }
+    ensures { result ≡ has_key issuers.now member.now.id.issuer }
+{
+    holds_key(issuers, &member.id.issuer)
+}
+
+fn both(enrolled: bool, flagged: bool) -> bool
+    ensures { result ≡ (enrolled && flagged) }
+{
+    enrolled && flagged
+}
+
+fn one(is: bool) -> u32
+    ensures { result ≡ one_if is }
+{
+    if is { 1 } else { 0 }
+}
+
+/// Which members are revoked, where it is known which a job lists.
+fn flag(
+    alloc: Global,
+    issuers: &[Key32],
+    members: &[Member],
+    listed: &[bool],
+) -> Result<Flags, AllocError>
+    requires beside { length listed.now ≡ length members.now }
+    requires ascend { IsStrictlySortedBy octets_cmp issuers.now }
+    requires few { length members.now ≤ 4294967295 }
+    ensures revoked { (g : IdentityFields → Bool) → listed.now ≡ map (λ m. g m.id) members.now
+        → IfOk result (λ f. f.revoked.items ≡ map (λ m. has_key issuers.now m.id.issuer && ((some_last m.last || g m.id) && not m.settled)) members.now) }
+    ensures universe { IfOk result (λ f. f.universe ≡ count_by (λ m. has_key issuers.now m.id.issuer) members.now) }
+{
+    let mut revoked = Vec::with_capacity(alloc, members.len())?;
+    let mut universe = 0;
+    for i in 0..members.len() {
+        let enrolled = is_enrolled(issuers, &members[i]);
+        let flagged = is_flagged(&members[i], listed[i]);
+        revoked.push(both(enrolled, flagged))?;
+        universe += one(enrolled);
+    }
+    Ok(Flags { revoked, universe })
+}
+
+/// Which members of a job are revoked.
+pub(crate) fn revoked_now(
+    alloc: Global,
+    job: &Job,
+    issuers: &[Key32],
+    members: &[Member],
+) -> Result<Flags, AllocError>
+    requires issuers { issuers.now ≡ enrolled (told (fields_of_job job.now)) }
+    requires ascend { IsStrictlySortedBy identity_cmp (ids_of members.now) }
+    requires few { length members.now ≤ 4294967295 }
+    ensures revoked { (ledger : LedgerFields) → members.now ≡ map (member_in ledger (told (fields_of_job job.now))) (accepted_with (past_in ledger) (told (fields_of_job job.now)))
+        → IfOk result (λ f. f.revoked.items ≡ map (has (revoked_of (past_in ledger) (told (fields_of_job job.now)))) (accepted_with (past_in ledger) (told (fields_of_job job.now)))) }
+    ensures beside { IfOk result (λ f. length f.revoked.items ≡ length members.now) }
+    ensures universe { IfOk result (λ f. f.universe ≡ count_by (λ m. has_key issuers.now m.id.issuer) members.now) }
+{
+    let listed = listed_now(alloc, members, &job.crls)?;
+    let flags = flag(alloc, issuers, members, &listed)?;
+    Ok(flags)
+}
+
+/// The item of a member, where it is known whether it is revoked.
+fn next_item(member: &Member, revoked: bool, place: u8) -> LedgerItem
+    ensures { result ≡ next_of place revoked member.now }
+{
+    let last = if revoked { Some(place) } else { member.last };
+    LedgerItem {
+        id: member.id,
+        birth: member.birth,
+        last,
+    }
+}
+
+/// The items of the next ledger, where it is known which members are revoked.
+pub(crate) fn next_items(
+    alloc: Global,
+    members: &[Member],
+    revoked: &[bool],
+    place: u8,
+) -> Result<Vec<LedgerItem>, AllocError>
+    requires { length revoked.now ≡ length members.now }
+    ensures items { (h : IdentityFields → Bool) → revoked.now ≡ map (λ m. h m.id) members.now
+        → IfOk result (λ items. items.items ≡ map (λ m. next_of place (h m.id) m) members.now) }
+    ensures same { IfOk result (λ items. ids items.items ≡ ids_of members.now) }
+{
+    let mut out = Vec::with_capacity(alloc, members.len())?;
+    for i in 0..members.len() {
+        let item = next_item(&members[i], revoked[i], place);
+        out.push(item)?;
+    }
+    Ok(out)
+}

@@ -1,0 +1,200 @@
+//! What a job must be to follow the parts of a chain, and what follows them.
+
+ghost use Rattle.std.specs.Prelude.{◌≡◌, ◌≤◌, ◌++◌, ◌∷◌, [], length, map, slice_get, IfOk, Some};
+ghost use Rattle.std.specs.Option.{option_copied, option_map};
+ghost use Rattle.ident_core.specs.Coverage.{RangesFit, first_outside};
+ghost use Rattle.job_core.specs.JobFields.{fields_of_job, crl_view};
+ghost use Rattle.ledger_core.specs.LedgerFields.{IsLedger, part_fields};
+ghost use Rattle.universe_core.specs.Jobs.{told};
+ghost use Rattle.universe_core.specs.Members.{first_part};
+ghost use Rattle.universe_core.specs.Step.{first_or, bad_crl_at, bad_crl_from, newest, old_epoch, shrunk, chain_full, head_after};
+ghost use Rattle.universe_core.specs.Following.{early};
+ghost use Rattle.universe_core.specs.declared.fault.AdmitFault.TheVariants as faults;
+
+use crate::fault::AdmitFault;
+use ident_core::{Head, Kind, Range, shrinks};
+use job_core::{Job, JobCrl};
+use ledger_core::{Draft, LedgerItem, LedgerPart, MAX_PARTS};
+use octets_core::Key32;
+use std::alloc::{AllocError, Global};
+
+fn fault_at(place: u32, crl: &JobCrl) -> Option<AdmitFault>
+    ensures { result ≡ bad_crl_at place (crl_view crl.now).outcome }
+{
+    match &crl.outcome {
+        Ok(_) => None,
+        Err(fault) => Some(AdmitFault::BadCrl {
+            place,
+            fault: *fault,
+        }),
+    }
+}
+
+/// The first CRL that isn't accepted.
+fn bad_crl(crls: &[JobCrl]) -> Option<AdmitFault>
+    requires { length crls.now ≤ 65535 }
+    ensures { result ≡ bad_crl_from 0 (map crl_view crls.now) }
+{
+    let mut place = 0;
+    for crl in crls {
+        let fault = fault_at(place, crl);
+        if fault.is_some() {
+            return fault;
+        }
+        place += 1;
+    }
+    None
+}
+
+fn old_epoch_of(part: &LedgerPart, epoch: u64) -> Option<AdmitFault>
+    ensures { result ≡ old_epoch (Some (part_fields part.now)) epoch }
+{
+    if epoch <= part.epoch {
+        return Some(AdmitFault::OldEpoch {
+            held: part.epoch,
+            given: epoch,
+        });
+    }
+    None
+}
+
+/// Whether the epoch isn't above the newest part's.
+fn old_epoch_in(parts: &[LedgerPart], epoch: u64) -> Option<AdmitFault>
+    ensures { result ≡ old_epoch (newest (map part_fields parts.now)) epoch }
+{
+    match parts.last() {
+        Some(part) => old_epoch_of(part, epoch),
+        None => None,
+    }
+}
+
+fn shrunk_of(part: &LedgerPart, ranges: &[Range]) -> Option<AdmitFault>
+    ensures { result ≡ option_map faults.CoverageShrinks (first_outside part.now.ranges.items ranges.now) }
+{
+    match shrinks(&part.ranges, ranges) {
+        Some(log) => Some(AdmitFault::CoverageShrinks { log }),
+        None => None,
+    }
+}
+
+/// Whether a range of the newest part lies in none of the job's.
+fn shrunk_in(parts: &[LedgerPart], job: &Job) -> Option<AdmitFault>
+    ensures { result ≡ shrunk (newest (map part_fields parts.now)) (told (fields_of_job job.now)) }
+{
+    match parts.last() {
+        Some(part) => shrunk_of(part, &job.ranges),
+        None => None,
+    }
+}
+
+fn full_chain(parts: &[LedgerPart]) -> Option<AdmitFault>
+    ensures { result ≡ chain_full (map part_fields parts.now) }
+{
+    if MAX_PARTS <= parts.len() {
+        return Some(AdmitFault::ChainFull);
+    }
+    None
+}
+
+fn first_fault(one: Option<AdmitFault>, other: Option<AdmitFault>) -> Option<AdmitFault>
+    ensures { result ≡ first_or one other }
+{
+    match one {
+        None => other,
+        Some(_) => one,
+    }
+}
+
+/// Why a job can't follow these parts, but for the number of its identities.
+pub(crate) fn early_fault(parts: &[LedgerPart], job: &Job) -> Option<AdmitFault>
+    requires { length job.now.crls.items ≤ 65535 }
+    ensures { result ≡ early (map part_fields parts.now) (fields_of_job job.now) }
+{
+    let bad = bad_crl(&job.crls);
+    let old = old_epoch_in(parts, job.epoch);
+    let shrunk = shrunk_in(parts, job);
+    let full = full_chain(parts);
+    let later = first_fault(shrunk, full);
+    let rest = first_fault(old, later);
+    first_fault(bad, rest)
+}
+
+fn copied(alloc: Global, ranges: &[Range]) -> Result<Vec<Range>, AllocError>
+    ensures { IfOk result (λ out. out.items ≡ ranges.now) }
+{
+    ranges.iter().copied().collect(alloc)
+}
+
+fn copied_keys(alloc: Global, keys: &[Key32]) -> Result<Vec<Key32>, AllocError>
+    ensures { IfOk result (λ out. out.items ≡ keys.now) }
+{
+    keys.iter().copied().collect(alloc)
+}
+
+/// The head of the part that follows these.
+pub(crate) fn next_head(alloc: Global, parts: &[LedgerPart], job: &Job) -> Result<Head, AllocError>
+    requires { RangesFit job.now.ranges.items }
+    ensures { IfOk result (λ h. h ≡ head_after (map part_fields parts.now) (told (fields_of_job job.now))) }
+{
+    let ranges = copied(alloc, &job.ranges)?;
+    match parts.last() {
+        Some(part) => Ok(Head::new(Kind::Delta, job.epoch, part.trailer, ranges)),
+        None => Ok(Head::new(Kind::Snapshot, job.epoch, Key32::new([0; 32]), ranges)),
+    }
+}
+
+fn copied_part(alloc: Global, part: &LedgerPart) -> Result<LedgerPart, AllocError>
+    ensures { IfOk result (λ p. part_fields p ≡ part_fields part.now) }
+{
+    let ranges = copied(alloc, &part.ranges)?;
+    let issuers = copied_keys(alloc, &part.issuers)?;
+    Ok(LedgerPart {
+        epoch: part.epoch,
+        trailer: part.trailer,
+        ranges,
+        issuers,
+    })
+}
+
+/// The parts, in memory of their own with room for one more.
+fn copied_parts(alloc: Global, parts: &[LedgerPart]) -> Result<Vec<LedgerPart>, AllocError>
+    ensures { IfOk result (λ out. map part_fields out.items ≡ map part_fields parts.now) }
+{
+    let mut out = Vec::with_capacity(alloc, parts.len().saturating_add(1))?;
+    for part in parts {
+        let one = copied_part(alloc, part)?;
+        out.push(one)?;
+    }
+    Ok(out)
+}
+
+/// The part of a job, whose trailer isn't known yet.
+fn new_part(alloc: Global, job: &Job, issuers: Vec<Key32>) -> Result<LedgerPart, AllocError>
+    ensures { IfOk result (λ p. part_fields p ≡ first_part job.now.epoch job.now.ranges.items issuers.items) }
+{
+    let ranges = copied(alloc, &job.ranges)?;
+    Ok(LedgerPart {
+        epoch: job.epoch,
+        trailer: Key32::new([0; 32]),
+        ranges,
+        issuers,
+    })
+}
+
+/// The next ledger, but for its newest part's trailer.
+pub(crate) fn next_draft(
+    alloc: Global,
+    parts: &[LedgerPart],
+    job: &Job,
+    issuers: Vec<Key32>,
+    items: Vec<LedgerItem>,
+) -> Result<Draft, AllocError>
+    requires { IsLedger (record { parts = map part_fields parts.now ++ first_part job.now.epoch job.now.ranges.items issuers.items ∷ []; items = items.items }) }
+    ensures { IfOk result (λ d. d ≡ record { parts = map part_fields parts.now ++ first_part job.now.epoch job.now.ranges.items issuers.items ∷ []; items = items.items }) }
+{
+    let part = new_part(alloc, job, issuers)?;
+    let mut all = copied_parts(alloc, parts)?;
+    all.push(part)?;
+    let draft = Draft::new(all, items);
+    Ok(draft)
+}

@@ -1,0 +1,29 @@
+//! Admission: what a job adds to a history of jobs, and the step from a ledger to the next.
+#![tactic(auto)]
+
+mod admission;
+mod admitted;
+mod class;
+mod counting;
+mod counts;
+mod enrolling;
+mod fault;
+mod flagging;
+mod following;
+mod grouping;
+mod judging;
+mod lateness;
+mod marking;
+mod member;
+mod merging;
+mod reading;
+#[cfg(test)]
+mod slow;
+#[cfg(test)]
+mod tests;
+
+pub use admission::{admit, first};
+pub use admitted::{Admitted, Group};
+pub use class::Class;
+pub use counts::Counts;
+pub use fault::AdmitFault;

@@ -1,0 +1,18 @@
+use ident_core::{Identity, Sighting};
+
+/// An entry that is read. Its sighting stays where the job has it.
+#[derive(Clone, Copy)]
+pub(crate) struct ReadEntry<'a> {
+    pub(crate) id: Identity,
+    pub(crate) sighting: &'a Sighting,
+}
+
+/// An identity accepted so far, and what its item and its entries say.
+#[derive(Clone, Copy)]
+pub(crate) struct Member {
+    pub(crate) id: Identity,
+    pub(crate) birth: u8,
+    pub(crate) last: Option<u8>,
+    /// Whether the part of its last covers the sightings that are accepted now.
+    pub(crate) settled: bool,
+}
