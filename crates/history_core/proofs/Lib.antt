@@ -1,0 +1,14 @@
+pub mod Sightings
+pub mod Coverage
+pub mod Following
+pub mod Accepting
+pub mod Releases
+pub mod Sound
+pub mod Histories
+pub mod Places
+pub mod Ledger
+pub mod Publishing
+pub mod Answers
+pub mod Words
+pub mod Beginnings
+pub mod Computed

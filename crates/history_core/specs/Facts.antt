@@ -1,0 +1,59 @@
+-- What holds of the releases of a history, after each job.
+use Rattle.std.specs.Prelude.{◌≡◌, ℕ, List, [], ◌∷◌, ◌++◌, ◌&&◌, true}
+use Rattle.std.specs.List.Sorted.{IsStrictlySortedBy}
+use Rattle.ident_core.specs.declared.identity.Identity.{Identity}
+use Rattle.ident_core.specs.declared.range.Sighting.{Sighting}
+use Rattle.ident_core.specs.Order.{octets_cmp, identity_cmp}
+use Rattle.ident_core.specs.Coverage.{covers}
+use Rattle.sets_core.specs.Among.{Among}
+use Rattle.sets_core.specs.Sets.{has, has_key}
+use Rattle.universe_core.specs.Jobs.{Entry, Job, enrolled, lists}
+use Rattle.universe_core.specs.History.{Release, seen, is_listed, is_settled_by, sightings, past_of, released, lie_within}
+
+-- q covers and has accepted all that r did
+pub record IsWider (r q : Release) : Type 0 where
+  pub covered : (s : Sighting) → covers r.ranges s ≡ true → covers q.ranges s ≡ true
+  pub accepted : (x : Identity) → has r.accepted x ≡ true → has q.accepted x ≡ true
+
+-- each release is wider than those before it
+abbrev pub Widens : List Release → Type 0
+Widens [] = Unit {0}
+Widens (r ∷ rs) = ((q : Release) → Among rs q → IsWider r q) × Widens rs
+
+-- what holds of one release by itself
+pub record IsFormed (r : Release) : Type 0 where
+  pub issuers_ascend : IsStrictlySortedBy octets_cmp r.issuers
+  pub accepted_ascend : IsStrictlySortedBy identity_cmp r.accepted
+  pub enrolled : (x : Identity) → has r.revoked x ≡ true → has_key r.issuers x.issuer ≡ true
+  pub accepted : (x : Identity) → has r.revoked x ≡ true → has r.accepted x ≡ true
+  pub listed : (x : Identity) → has r.listed x ≡ true → has r.accepted x ≡ true
+  pub shown : (e : Entry) → Among r.shown e → has r.accepted e.id ≡ true
+
+-- The facts from which the ledger's step and the answers follow.
+pub record IsSound (rs : List Release) : Type 0 where
+  pub widens : Widens rs
+  pub formed : (r : Release) → Among rs r → IsFormed r
+  -- each accepted sighting is covered by some release that enrolls the issuer
+  pub covered : (e : Entry) → Among (seen rs) e → (r : Release) × Among rs r × (covers r.ranges e.sighting ≡ true) × (has_key r.issuers e.id.issuer ≡ true)
+  -- and each such release has accepted the identity
+  pub timely : (e : Entry) → Among (seen rs) e → (r : Release) → Among rs r → covers r.ranges e.sighting ≡ true → has_key r.issuers e.id.issuer ≡ true → has r.accepted e.id ≡ true
+  -- what is revoked is listed
+  pub revoked : (x : Identity) (r : Release) → Among rs r → has r.revoked x ≡ true → is_listed rs x ≡ true
+  -- what is listed is revoked by some release that covers all its sightings
+  pub settled : (x : Identity) → is_listed rs x ≡ true → is_settled_by rs x (sightings x (seen rs)) ≡ true
+
+-- each of the newest release's ranges lies in one of the job's
+abbrev pub Follows : List Release → Job → Type 0
+Follows [] job = Unit {0}
+Follows (r ∷ []) job = lie_within r.ranges job.ranges ≡ true
+Follows (r ∷ q ∷ rs) job = Follows (q ∷ rs) job
+
+-- each job follows those before it
+abbrev pub AllFollow : (List Release → Job → List ℕ) → List Release → List Job → Type 0
+AllFollow trailer rs [] = Unit {0}
+AllFollow trailer rs (job ∷ jobs) = Follows rs job × AllFollow trailer (rs ++ released (past_of rs) job (trailer rs job) ∷ []) jobs
+
+-- what a release has of its job
+pub record Leaves (job : Job) (r : Release) : Type 0 where
+  pub issuers : r.issuers ≡ enrolled job
+  pub listed : (x : Identity) → has r.listed x ≡ (lists job x && (has_key (enrolled job) x.issuer && has r.accepted x))
