@@ -1,2 +1,5 @@
+pub mod MixedFields
+pub mod Leaf
+pub mod Laws
 pub mod PartFields
 pub mod Consulting

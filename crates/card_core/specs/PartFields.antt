@@ -1,5 +1,5 @@
 -- What a part holds.
-use Rattle.std.specs.Prelude.{◌≡◌, ℕ, ◌≤◌, List, [], ◌∷◌, length, Option, Some, None, true}
+use Rattle.std.specs.Prelude.{◌≡◌, ◌≤◌, List, length, Some, None, true}
 use Rattle.ident_core.specs.HeadFields.{HeadFields}
 use Rattle.octets_core.specs.Linked.{Linked, is_after}
 use Rattle.card_core.specs.declared.block.Block.{Block}

@@ -1,33 +1,45 @@
-ghost use Rattle.std.specs.Prelude.{◌≡◌};
-
+use crate::mixed::Mixed;
+use equation_core::EquationHash;
 use ident_core::Identity;
-use octets_core::Key32;
+use octets_core::{Key32, Steps};
+use std::sync::ledger::Ledger;
 
 /// What a block says of its issuer's certificates.
-#[derive(Clone, Copy, Debug, PartialEq, Eq)]
+#[derive(Drop)]
 pub enum Body {
     /// None is revoked (mode 0).
     Clean,
     /// Each one is revoked (mode 1).
     Every,
+    /// Some are revoked (mode 2).
+    Mixed(Mixed),
 }
 
 impl Body {
-    ghost use Rattle.card_core.specs.Consulting.{tests_positive as positive_of};
+    ghost use Rattle.std.specs.Prelude.{◌≡◌, ◌≤◌, ◌+◌};
+    ghost use Rattle.card_core.specs.Leaf.{is_positive};
 
-    /// Whether the block tests positive for a certificate of its issuer.
-    pub fn tests_positive(&self, id: &Identity) -> bool
-        ensures { result ≡ positive_of id.now self.now }
+    /// Whether the block tests positive for a certificate of its issuer. Each word that is read takes a step.
+    pub fn tests_positive<H: EquationHash, M: Ledger>(
+        &self,
+        hash: &H,
+        id: &Identity,
+        words: &mut Steps<M>,
+    ) -> bool
+        ensures value { result ≡ is_positive (H.row_of hash.now) id.now self.now }
+        ensures more { words.old ≤ words.new }
+        ensures steps { words.new ≤ words.old + 51 }
     {
         match self {
             Body::Clean => false,
             Body::Every => true,
+            Body::Mixed(mixed) => mixed.tests_positive(hash, id, words),
         }
     }
 }
 
 /// What a part says of one issuer's certificates.
-#[derive(Clone, Copy, Debug, PartialEq, Eq)]
+#[derive(Drop)]
 pub struct Block {
     pub issuer: Key32,
     pub body: Body,

@@ -2,7 +2,15 @@
 #![tactic(auto)]
 
 mod block;
+mod laws;
+mod mixed;
 mod part;
+mod stage;
 
 pub use block::{Block, Body};
+pub use laws::{
+    block_is_exact, leaf_is_exact, leaf_is_unique, one_stage_is_refused, refused_has_no_leaf,
+};
+pub use mixed::Mixed;
 pub use part::{MAX_BLOCKS, Part};
+pub use stage::{Stage, accepts};

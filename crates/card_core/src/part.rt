@@ -1,10 +1,12 @@
-ghost use Rattle.std.specs.Prelude.{◌≡◌};
-ghost use Rattle.card_core.specs.PartFields.{IsPart};
-ghost use Rattle.card_core.specs.Consulting.{consulted, covers_some};
+ghost use Rattle.std.specs.Prelude.{◌≡◌, ◌≤◌, ◌+◌, ◌-◌, ◌*◌, ◌^◌, length};
+ghost use Rattle.card_core.specs.PartFields.{IsPart, AreBlocks};
+ghost use Rattle.card_core.specs.Consulting.{IsPlaceOf, consulted, covers_some};
 
 use crate::block::Block;
+use equation_core::EquationHash;
 use ident_core::{Head, Identity, Sighting, covers};
-use octets_core::Steps;
+use octets_core::{Key32, Steps};
+use std::cmp::Ordering;
 use std::marker::Model;
 use std::sync::ledger::Ledger;
 
@@ -13,7 +15,7 @@ pub const MAX_BLOCKS: u32 = 65_535;
 
 /// A part: its head, and a block for each issuer that was enrolled in its job. Each part keeps at most 65,535 blocks,
 /// with strictly ascending issuers.
-#[derive(Debug, Drop)]
+#[derive(Drop)]
 pub struct Part {
     head: Head,
     blocks: Vec<Block>,
@@ -61,16 +63,45 @@ impl Part {
         sightings.iter().any(|s| covers(ranges, s))
     }
 
-    /// What the block of the certificate's issuer says, if there is one. Each comparison of issuers is one probe.
-    pub fn consult<L: Ledger>(&self, id: &Identity, probes: &mut Steps<L>) -> Option<bool>
-        ensures { result ≡ consulted id.now self.now.blocks }
+    /// What the block of the certificate's issuer says, if there is one. Each comparison of issuers is one probe, and
+    /// each word that is read takes a step of `words`.
+    pub fn consult<H: EquationHash, L: Ledger, M: Ledger>(
+        &self,
+        hash: &H,
+        id: &Identity,
+        probes: &mut Steps<L>,
+        words: &mut Steps<M>,
+    ) -> Option<bool>
+        ensures value { result ≡ consulted (H.row_of hash.now) id.now self.now.blocks }
+        ensures more_probes { probes.old ≤ probes.new }
+        ensures few_probes { 2 ^ (probes.new - probes.old) ≤ 2 * length self.now.blocks + 1 }
+        ensures more_words { words.old ≤ words.new }
+        ensures few_words { words.new ≤ words.old + 51 }
     {
-        for block in &self.blocks {
-            probes.tick();
-            if block.issuer == id.issuer {
-                return Some(block.body.tests_positive(id));
-            }
+        match place_of(&self.blocks, &id.issuer, probes) {
+            None => None,
+            Some(place) => Some(self.blocks[place].body.tests_positive(hash, id, words)),
         }
-        None
     }
+}
+
+// Where the block of an issuer stands, by halves.
+fn place_of<L: Ledger>(blocks: &[Block], issuer: &Key32, probes: &mut Steps<L>) -> Option<usize>
+    requires { AreBlocks blocks.now }
+    ensures place { IsPlaceOf issuer.now blocks.now result }
+    ensures later { probes.old ≤ probes.new }
+    ensures few { 2 ^ (probes.new - probes.old) ≤ 2 * length blocks.now + 1 }
+{
+    let mut low = 0;
+    let mut high = blocks.len();
+    while low < high {
+        let middle = low + (high - low) / 2;
+        probes.tick();
+        match blocks[middle].issuer.cmp(issuer) {
+            Ordering::Equal => return Some(middle),
+            Ordering::Less => low = middle + 1,
+            Ordering::Greater => high = middle,
+        }
+    }
+    None
 }

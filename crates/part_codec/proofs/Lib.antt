@@ -1,7 +1,10 @@
-pub mod Texts
 pub mod PartFacts
 pub mod PartBounds
-pub mod PartSpans
+pub mod PlaneBytes
+pub mod Planes
+pub mod MixedTexts
 pub mod PartTexts
 mod Appends
 pub mod Loops
+pub mod Words
+pub mod Lengths

@@ -1,21 +1,23 @@
 -- A part's faults lie within its bytes.
-use Rattle.std.proofs.Common.{◌≡◌, ℕ, zero, suc, ◌≤◌, ◌-◌, ◌^◌, List, length, Option, None, Result, Ok, Err, refl, subst, arith, IfErr}
+use Rattle.std.proofs.Common.{◌≡◌, ℕ, zero, suc, ◌≤◌, ◌-◌, ◌*◌, ◌^◌, List, length, Option, None, Result, Ok, Err, refl, subst, arith, IfErr}
 use Rattle.std.specs.Int.{Width, w8, w16, w32, w64}
 use Rattle.octets_core.specs.Layout.{Layout, bytes_field}
 use Rattle.octets_core.specs.Linked.{is_after}
 use Rattle.octets_core.specs.Reading.{fault_at, number}
-use Rattle.octets_core.proofs.Bounds.{IsWithin, IsBounded, bytes_field-bounded, number_field-bounded, sum_field-bounded, whole-bounded, refused-bounded, repeated-bounded, mapped-bounded, ◌>>>◌}
+use Rattle.octets_core.proofs.Bounds.{IsWithin, IsBounded, bytes_field-bounded, number_field-bounded, sum_field-bounded, whole-bounded, repeated-bounded, mapped-bounded, ◌>>>◌}
 use Rattle.octets_core.specs.declared.field.Field.{Field}
 use Rattle.octets_core.specs.declared.field.Field.TheVariants as fields
 use Rattle.octets_core.specs.declared.fault.Why.TheVariants as why
 use Rattle.octets_core.specs.declared.fault.LayoutFault.{LayoutFault}
 use Rattle.ident_core.specs.RangeLayout.{range}
 use Rattle.part_codec.specs.SealedFields.{SealedFields}
-use Rattle.part_codec.specs.Decoding.{GivesUnless}
+use Rattle.octets_core.specs.Reading.{GivesUnless}
 use Rattle.part_codec.specs.declared.fault.PartFault.{PartFault}
 use Rattle.part_codec.specs.declared.fault.PartFault.TheVariants as faults
 use Rattle.part_codec.specs.Offsets.{offset_in_part}
-use Rattle.part_codec.specs.PartLayout.{fielded, head, block, body_of, unsealed, part}
+use Rattle.equation_core.specs.Sizes.{words_for}
+use Rattle.part_codec.specs.PlaneBytes.{is_padded}
+use Rattle.part_codec.specs.PartLayout.{fielded, head, plane, planes, approx_stage, approx, exact, mixed, block, body_of, unsealed, part}
 
 abbrev offset : LayoutFault → ℕ
 offset f = f.at
@@ -49,17 +51,56 @@ head-bounded =
     repeated-bounded offset range _ range-bounded count None >>> λ list.
     whole-bounded offset _
 
-body-bounded : (n : ℕ) → IsBounded offset_in_part (body_of n)
-body-bounded zero = whole-bounded offset_in_part _
-body-bounded (suc zero) = whole-bounded offset_in_part _
-body-bounded (suc (suc n)) = refused-bounded offset_in_part faults.Mixed refl
+plane-bounded : (name : Field) (starts : ℕ) → IsBounded offset (plane name starts)
+unfolding plane
+plane-bounded name starts =
+    bytes-bounded name (8 * words_for starts) (is_padded starts) >>> λ bytes.
+    whole-bounded offset _
+
+planes-bounded : (starts_name plane_name : Field) (count : ℕ) → IsBounded offset (planes starts_name plane_name count)
+unfolding planes
+planes-bounded starts_name plane_name count =
+    number-bounded starts_name w32 1 4718593 >>> λ starts.
+    repeated-bounded offset (λ (s : Unit {0}). plane plane_name starts) _ (λ s. plane-bounded plane_name starts) count tt >>> λ list.
+    whole-bounded offset _
+
+approx_stage-bounded : (k : ℕ) → IsBounded offset (approx_stage k)
+unfolding approx_stage
+approx_stage-bounded k =
+    number-bounded fields.ApproxSeed w8 0 255 >>> λ seed.
+    planes-bounded fields.ApproxStarts fields.ApproxPlane k >>> λ p.
+    whole-bounded offset _
+
+approx-bounded : (k : ℕ) → IsBounded offset (approx k)
+approx-bounded zero = whole-bounded offset _
+approx-bounded (suc n) = approx_stage-bounded (suc n)
+
+exact-bounded : IsBounded offset exact
+unfolding exact
+exact-bounded =
+    number-bounded fields.ExactSeed w8 0 255 >>> λ seed.
+    planes-bounded fields.ExactStarts fields.ExactPlane 1 >>> λ p.
+    whole-bounded offset _
+
+mixed-bounded : IsBounded offset mixed
+unfolding mixed
+mixed-bounded =
+    number-bounded fields.BlockK w8 0 16 >>> λ k.
+    approx-bounded k >>> λ first.
+    exact-bounded >>> λ second.
+    whole-bounded offset _
+
+body-bounded : (n : ℕ) → IsBounded offset (body_of n)
+body-bounded zero = whole-bounded offset _
+body-bounded (suc zero) = whole-bounded offset _
+body-bounded (suc (suc n)) = mixed-bounded >>> λ m. whole-bounded offset _
 
 pub block-bounded : (previous : Option (List ℕ)) → IsBounded offset_in_part (block previous)
 unfolding block
 block-bounded previous =
     fielded-bounded _ (bytes-bounded fields.BlockIssuer 32 (is_after previous)) >>> λ issuer.
     fielded-bounded _ (number-bounded fields.BlockMode w8 0 2) >>> λ mode.
-    body-bounded mode >>> λ body.
+    fielded-bounded _ (body-bounded mode) >>> λ body.
     whole-bounded offset_in_part _
 
 unsealed-bounded : IsBounded offset_in_part unsealed
@@ -83,7 +124,6 @@ within-err bytes e read h is = subst (IsWithin offset_in_part bytes) is h
 fault-within : (e : PartFault) (bytes : List ℕ) → ((e ≡ faults.NoMemory → ⊥) → part bytes 0 ≡ Err e) → offset_in_part e ≤ length bytes
 fault-within faults.NoMemory bytes h = omega arith
 fault-within (faults.Layout f) bytes h = within-err bytes (faults.Layout f) (part bytes 0) (part-bounded.each bytes 0 (omega arith)) (h (λ e. cc))
-fault-within faults.Mixed bytes h = omega arith
 
 -- a fault lies within the bytes
 pub at-of : (bytes : List ℕ) (r : Result (SealedFields × ℕ) PartFault) → GivesUnless faults.NoMemory (λ (x : SealedFields × ℕ). x) r (part bytes 0) → IfErr r (λ e. offset_in_part e ≤ length bytes)

@@ -33,9 +33,9 @@ ranges-ok count bytes at y h = repeated-ok range (λ previous r. Some r.log) IsR
 block-ok : (previous : Option (List ℕ)) (bytes : List ℕ) (at : ℕ) (x : Block × ℕ) → block previous bytes at ≡ Ok x → is_after previous x.0.issuer ≡ true
 unfolding block
 block-ok previous bytes at x h =
-    let a = then_read-ok (fielded (key fields.BlockIssuer (is_after previous)) bytes at) (λ issuer. fielded (number fields.BlockMode w8 0 2) >>= λ mode. body_of mode >>= λ body. whole (record { issuer = issuer; body = body })) bytes x h in
-    let b = then_read-ok (fielded (number fields.BlockMode w8 0 2) bytes a.0.1) (λ mode. body_of mode >>= λ body. whole (record { issuer = a.0.0; body = body })) bytes x a.2 in
-    let c = then_read-ok (body_of b.0.0 bytes b.0.1) (λ body. whole (record { issuer = a.0.0; body = body })) bytes x b.2 in
+    let a = then_read-ok (fielded (key fields.BlockIssuer (is_after previous)) bytes at) (λ issuer. fielded (number fields.BlockMode w8 0 2) >>= λ mode. fielded (body_of mode) >>= λ body. whole (record { issuer = issuer; body = body })) bytes x h in
+    let b = then_read-ok (fielded (number fields.BlockMode w8 0 2) bytes a.0.1) (λ mode. fielded (body_of mode) >>= λ body. whole (record { issuer = a.0.0; body = body })) bytes x a.2 in
+    let c = then_read-ok (fielded (body_of b.0.0) bytes b.0.1) (λ body. whole (record { issuer = a.0.0; body = body })) bytes x b.2 in
     let issuer = bytes_field-ok _ _ 32 (is_after previous) bytes at a.0 (mapped-ok faults.Layout (key fields.BlockIssuer (is_after previous)) bytes at a.0 a.1) in
     let made : Block × ℕ = (record { issuer = a.0.0; body = c.0.0 }, c.0.1) in
     subst (λ (y : Block × ℕ). is_after previous y.0.issuer ≡ true) (ok_is {E = PartFault} made x c.2) (rw (← issuer.value) issuer.passed)

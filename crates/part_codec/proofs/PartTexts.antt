@@ -1,54 +1,33 @@
 -- What is read as a part is spelled so, and what is spelled so is read, whatever follows.
-use Rattle.std.proofs.Common.{arith, true, ◌≡◌, ℕ, zero, suc, ◌-◌, ◌<◌, ◌≤◌, ◌^◌, List, [], ◌++◌, length, Option, Some, None, Result, Ok, Err, refl, sym, ap, ◌∙◌, subst, IfOk}
+use Rattle.std.proofs.Common.{arith, true, ◌≡◌, ℕ, zero, suc, ◌-◌, ◌≤◌, ◌^◌, List, [], ◌++◌, length, Option, Some, None, Result, Ok, Err, refl, sym, ap, ◌∙◌, subst, IfOk}
 use Rattle.std.specs.Prelude.{codes, take}
 use Rattle.std.specs.Int.{w8, w16, w32, w64, to_be_bytes}
 use Rattle.std.specs.Str.{bytes_eq}
-use Rattle.std.proofs.lemmas.List.{append-nil, length-take}
+use Rattle.std.proofs.lemmas.List.{length-take}
 use Rattle.std.proofs.lemmas.Slice.Eq.{bytes_eq-Decides}
 use Rattle.sha2.specs.Sha256.{sha256}
 use Rattle.sha2.proofs.Facts256.{length-sha256}
 use Rattle.octets_core.specs.Position.{Position, start_of}
-use Rattle.octets_core.specs.Layout.{whole}
 use Rattle.octets_core.specs.Linked.{is_after}
 use Rattle.octets_core.specs.Reading.{number, key, digest}
 use Rattle.octets_core.specs.declared.field.Field.TheVariants as fields
-use Rattle.ident_core.specs.declared.range.Range.{Range}
 use Rattle.ident_core.specs.declared.kind.Kind.{Kind}
 use Rattle.ident_core.specs.declared.kind.Kind.TheVariants as kinds
 use Rattle.ident_core.specs.HeadFields.{HeadFields, zero_key}
-use Rattle.ident_core.specs.Coverage.{IsRangeAfter}
-use Rattle.ident_core.specs.RangeLayout.{range}
+use Rattle.ident_core.proofs.RangeTexts.{below_limit, ranges-read, ranges-leaves, ranges-ascend}
 use Rattle.card_core.specs.declared.block.Block.{Block}
 use Rattle.card_core.specs.declared.block.Body.{Body}
 use Rattle.card_core.specs.declared.block.Body.TheVariants as bodies
 use Rattle.card_core.specs.PartFields.{PartFields}
 use Rattle.part_codec.specs.declared.fault.PartFault.{PartFault}
 use Rattle.part_codec.specs.declared.fault.PartFault.TheVariants as faults
-use Rattle.part_codec.specs.Decoding.{GivesUnless}
+use Rattle.octets_core.specs.Reading.{GivesUnless}
 use Rattle.part_codec.specs.SealedFields.{SealedFields}
 use Rattle.part_codec.specs.PartLayout.{kind_of, is_parent, body_of, head, block, unsealed, part}
-use Rattle.part_codec.specs.PartText.{range_text, kind_number, head_text, mode_of, block_text, unsealed_text, spelling}
-use Rattle.part_codec.specs.Fitting.{FitsRange, FitsBlock, FitsHead, FitsPart, Fits}
-use Rattle.part_codec.proofs.Texts.{bytes_eq-refl, Takes-as, repeated-read, repeated-leaves, sum_field-read, sum_field-leaves, whole-read, mapped-read, mapped-leaves, IsBytes, IsRead, reads, done, from_front, bytes_field-read, number_field-read, Leaves, Takes, ◌>>>◌, Continues, ◌>>-◌, whole-leaves, bytes_field-leaves, number_field-leaves, wide8, wide16, wide32, wide64, Linked-weaken}
-
-below_limit : (n : ℕ) → n < 2 ^ 64 → n ≤ 2 ^ 64 - 1
-below_limit n h = omega arith
-
-pub range-read : (previous : Option (List ℕ)) (before : List ℕ) (r : Range) → FitsRange previous r → IsRead (range previous) before r (range_text r)
-unfolding range
-range-read previous before r fits = from_front
-    (reads _ (bytes_field-read _ _ 32 (is_after previous) _ r.log fits.1.0 fits.0.0)
-    (reads _ (number_field-read _ _ w64 (2 ^ 64) 0 (2 ^ 64 - 1) wide64 _ r.from (omega arith) (below_limit _ fits.1.1) fits.1.1)
-    (reads _ (number_field-read _ _ w64 (2 ^ 64) r.from (2 ^ 64 - 1) wide64 _ r.to fits.0.1 (below_limit _ fits.1.2) fits.1.2)
-    (done r))))
-
-pub range-leaves : (bytes : List ℕ) → IsBytes bytes → (previous : Option (List ℕ)) (at : ℕ) → Leaves (range previous) bytes at (λ r end. Takes bytes at (range_text r) end × FitsRange previous r)
-unfolding range
-range-leaves bytes fits previous at =
-    bytes_field-leaves _ _ 32 (is_after previous) bytes at >>- λ log p a.
-    number_field-leaves _ _ w64 (2 ^ 64) 0 (2 ^ 64 - 1) wide64 bytes fits p >>- λ from q b.
-    number_field-leaves _ _ w64 (2 ^ 64) from (2 ^ 64 - 1) wide64 bytes fits q >>- λ to end c.
-    whole-leaves _ bytes end _ (a.takes >>> b.takes >>> c.takes, ((a.passed, c.from_low), (a.len, omega (arith, b.to_high), omega (arith, c.to_high))))
+use Rattle.part_codec.specs.PartText.{kind_number, head_text, mode_of, block_text, unsealed_text, spelling}
+use Rattle.part_codec.proofs.MixedTexts.{body-read, body-leaves}
+use Rattle.part_codec.specs.Fitting.{FitsBlock, FitsHead, FitsPart, Fits}
+use Rattle.octets_core.proofs.Texts.{bytes_eq-refl, Takes-as, repeated-read, repeated-leaves, sum_field-read, sum_field-leaves, mapped-read, mapped-leaves, IsBytes, IsRead, reads, done, from_front, bytes_field-read, number_field-read, Leaves, Takes, ◌>>>◌, ◌>>-◌, whole-leaves, bytes_field-leaves, number_field-leaves, wide8, wide16, wide32, wide64, Linked-weaken}
 
 -- ---- head
 
@@ -76,9 +55,6 @@ parent_tells (suc n) parent le passed is = absurd cc
 is_one : (n : ℕ) → 1 ≤ n → n ≤ 1 → n ≡ 1
 is_one n low high = omega arith
 
-range-facts : (previous : Option (List ℕ)) (r : Range) → FitsRange previous r → IsRangeAfter previous r
-range-facts previous r fits = fits.0
-
 pub head-read : (before : List ℕ) (h : HeadFields) → FitsHead h → IsRead head before h (head_text h)
 unfolding head head_text
 head-read before h fits =
@@ -89,7 +65,7 @@ head-read before h fits =
     (reads _ (number_field-read _ _ w64 (2 ^ 64) 0 (2 ^ 64 - 1) wide64 _ h.epoch (omega arith) (below_limit _ fits.epoch) fits.epoch)
     (reads _ (bytes_field-read _ _ 32 (is_parent (kind_number h.kind)) _ h.parent fits.parent (parent_passes h.kind h.parent fits.facts.snapshot))
     (reads _ (number_field-read _ _ w16 (2 ^ 16) 0 1024 wide16 _ (length h.ranges) (omega arith) fits.facts.ranges.few (omega (arith, fits.facts.ranges.few)))
-    (reads _ (repeated-read range (λ previous r. Some r.log) FitsRange range_text range-read None _ h.ranges fits.ranges)
+    (reads _ (ranges-read _ h.ranges fits.ranges)
     (done _)))))))))
 
 pub head-leaves : (bytes : List ℕ) → IsBytes bytes → (at : ℕ) → Leaves head bytes at (λ h end. Takes bytes at (head_text h) end × FitsHead h)
@@ -101,7 +77,7 @@ head-leaves bytes fits at =
     number_field-leaves _ _ w64 (2 ^ 64) 0 (2 ^ 64 - 1) wide64 bytes fits r >>- λ epoch s d.
     bytes_field-leaves _ _ 32 (is_parent kind) bytes s >>- λ parent t e.
     number_field-leaves _ _ w16 (2 ^ 16) 0 1024 wide16 bytes fits t >>- λ count u f.
-    repeated-leaves range (λ previous r. Some r.log) FitsRange range_text bytes (range-leaves bytes fits) count None u f.takes.room >>- λ list end g.
+    ranges-leaves bytes fits count u f.takes.room >>- λ list end g.
     whole-leaves _ bytes end _ (
       Takes-as begin (codes "CLUBCARD") (sym ((bytes_eq-Decides (codes "CLUBCARD") begin).0 a.passed)) a.takes
           >>> Takes-as (to_be_bytes w8 version) (to_be_bytes w8 1) (ap (to_be_bytes w8) (is_one version b.from_low b.to_high)) b.takes
@@ -111,7 +87,7 @@ head-leaves bytes fits at =
           >>> g.0,
       record {
         facts = record {
-          ranges = record { few = omega (arith, g.2, f.to_high); ascending = Linked-weaken FitsRange IsRangeAfter (λ previous r. Some r.log) range-facts None list g.1 };
+          ranges = record { few = omega (arith, g.2, f.to_high); ascending = ranges-ascend list g.1 };
           snapshot = parent_tells kind parent c.to_high e.passed;
         };
         epoch = omega (arith, d.to_high);
@@ -122,37 +98,28 @@ head-leaves bytes fits at =
 
 -- ---- blocks
 
-mode_few : (b : Body) → mode_of b ≤ 1
+mode_few : (b : Body) → mode_of b ≤ 2
 mode_few bodies.Clean = omega arith
 mode_few bodies.Every = omega arith
-
-body-read : (before : List ℕ) (b : Body) → IsRead (body_of (mode_of b)) before b []
-body-read before bodies.Clean = whole-read before bodies.Clean
-body-read before bodies.Every = whole-read before bodies.Every
-
-body-leaves : (n : ℕ) (bytes : List ℕ) (at : ℕ) → Leaves (body_of n) bytes at (λ b end. (end ≡ at) × (mode_of b ≡ n))
-body-leaves zero bytes at = whole-leaves bodies.Clean bytes at _ (refl, refl)
-body-leaves (suc zero) bytes at = whole-leaves bodies.Every bytes at _ (refl, refl)
-body-leaves (suc (suc n)) bytes at = record { each = λ x h. absurd cc }
+mode_few (bodies.Mixed m) = omega arith
 
 pub block-read : (previous : Option (List ℕ)) (before : List ℕ) (b : Block) → FitsBlock previous b → IsRead (block previous) before b (block_text b)
 unfolding block
 block-read previous before b fits = from_front
-    (reads _ (mapped-read faults.Layout _ _ _ _ (bytes_field-read _ _ 32 (is_after previous) _ b.issuer fits.1 fits.0))
-    (reads _ (mapped-read faults.Layout _ _ _ _ (number_field-read _ _ w8 (2 ^ 8) 0 2 wide8 _ (mode_of b.body) (omega arith) (omega (arith, mode_few b.body)) (omega (arith, mode_few b.body))))
-    (reads _ (body-read _ b.body)
-    (subst (λ (l : List ℕ). Continues {E = PartFault} (whole b) before l b (block_text b)) (sym (append-nil (block_text b))) (done b)))))
+    (reads _ (mapped-read faults.Layout _ _ _ _ (bytes_field-read _ _ 32 (is_after previous) _ b.issuer fits.1.issuer fits.0))
+    (reads _ (mapped-read faults.Layout _ _ _ _ (number_field-read _ _ w8 (2 ^ 8) 0 2 wide8 _ (mode_of b.body) (omega arith) (mode_few b.body) (omega (arith, mode_few b.body))))
+    (reads _ (mapped-read faults.Layout (body_of (mode_of b.body)) _ _ _ (body-read _ b.body fits.1.body))
+    (done b))))
 
 pub block-leaves : (bytes : List ℕ) → IsBytes bytes → (previous : Option (List ℕ)) (at : ℕ) → Leaves (block previous) bytes at (λ b end. Takes bytes at (block_text b) end × FitsBlock previous b)
 unfolding block
 block-leaves bytes fits previous at =
     mapped-leaves faults.Layout (key fields.BlockIssuer (is_after previous)) bytes at _ (bytes_field-leaves _ _ 32 (is_after previous) bytes at) >>- λ issuer p a.
     mapped-leaves faults.Layout (number fields.BlockMode w8 0 2) bytes p _ (number_field-leaves _ _ w8 (2 ^ 8) 0 2 wide8 bytes fits p) >>- λ mode q b.
-    body-leaves mode bytes q >>- λ body end c.
+    mapped-leaves faults.Layout (body_of mode) bytes q _ (body-leaves mode bytes fits q b.to_high b.takes.room) >>- λ body end c.
     whole-leaves _ bytes end _ (
-      subst (λ (n : ℕ). Takes bytes at (issuer ++ to_be_bytes w8 (mode_of body)) n) (sym c.0)
-          (a.takes >>> (Takes-as (to_be_bytes w8 mode) (to_be_bytes w8 (mode_of body)) (ap (to_be_bytes w8) (sym c.1)) b.takes)),
-      (a.passed, a.len),
+      a.takes >>> Takes-as (to_be_bytes w8 mode) (to_be_bytes w8 (mode_of body)) (ap (to_be_bytes w8) (sym c.2)) b.takes >>> c.0,
+      (a.passed, record { issuer = a.len; body = c.1 }),
     )
 
 -- ---- part

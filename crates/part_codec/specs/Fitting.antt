@@ -1,25 +1,55 @@
 -- The parts that have a text: numbers and keys fit their fields, the facts of a part hold, and the trailer is the digest.
-use Rattle.std.specs.Prelude.{◌≡◌, ℕ, ◌<◌, ◌^◌, List, length, Option, Some, None, true}
+use Rattle.std.specs.Prelude.{◌≡◌, ℕ, ◌<◌, ◌≤◌, ◌^◌, List, length, Option, Some, None, true, All}
 use Rattle.sha2.specs.Sha256.{sha256}
 use Rattle.octets_core.specs.Linked.{Linked, is_after}
-use Rattle.ident_core.specs.declared.range.Range.{Range}
+use Rattle.equation_core.specs.Sizes.{columns_for}
+use Rattle.ribbon_core.specs.PlaneWords.{PlaneColumns}
 use Rattle.ident_core.specs.HeadFields.{HeadFields, IsHead}
-use Rattle.ident_core.specs.Coverage.{IsRangeAfter}
+use Rattle.ident_core.specs.RangeText.{FitsRange}
 use Rattle.card_core.specs.declared.block.Block.{Block}
+use Rattle.card_core.specs.declared.block.Body.{Body}
+use Rattle.card_core.specs.declared.block.Body.TheVariants as bodies
+use Rattle.card_core.specs.declared.stage.Stage.{Stage}
+use Rattle.card_core.specs.MixedFields.{MixedFields}
 use Rattle.card_core.specs.PartFields.{PartFields, IsPart}
 use Rattle.part_codec.specs.SealedFields.{SealedFields}
 use Rattle.part_codec.specs.PartText.{unsealed_text}
 
--- the log is a key, and the ends have 64 bits
-abbrev pub RangeFits : Range → Type 0
-RangeFits r = (length r.log ≡ 32) × (r.from < 2 ^ 64) × (r.to < 2 ^ 64)
+-- no column stands behind the last one
+pub record PlanesFit (p : PlaneColumns) : Type 0 where
+  pub some_starts : 1 ≤ p.starts
+  pub few_starts : p.starts ≤ 4718593
+  pub padding : All (λ Z. Z < 2 ^ columns_for p.starts) p.columns
 
-abbrev pub FitsRange : Option (List ℕ) → Range → Type 0
-FitsRange previous r = IsRangeAfter previous r × RangeFits r
+pub record StageFits (s : Stage) : Type 0 where
+  pub seed : s.seed < 256
+  pub planes : PlanesFit s.planes
+
+-- an approximate stage has 1 to 16 planes
+pub record ApproxFits (s : Stage) : Type 0 where
+  pub stage : StageFits s
+  pub some : 1 ≤ length s.planes.columns
+  pub few : length s.planes.columns ≤ 16
+
+abbrev pub FirstFits : Option Stage → Type 0
+FirstFits None = Unit {0}
+FirstFits (Some s) = ApproxFits s
+
+-- and an exact stage has one
+pub record MixedFits (m : MixedFields) : Type 0 where
+  pub approx : FirstFits m.approx
+  pub exact : StageFits m.exact
+  pub one : length m.exact.planes.columns ≡ 1
+
+abbrev pub BodyFits : Body → Type 0
+BodyFits bodies.Clean = Unit {0}
+BodyFits bodies.Every = Unit {0}
+BodyFits (bodies.Mixed m) = MixedFits m
 
 -- the issuer is a key
-abbrev pub BlockFits : Block → Type 0
-BlockFits b = length b.issuer ≡ 32
+pub record BlockFits (b : Block) : Type 0 where
+  pub issuer : length b.issuer ≡ 32
+  pub body : BodyFits b.body
 
 abbrev pub FitsBlock : Option (List ℕ) → Block → Type 0
 FitsBlock previous b = (is_after previous b.issuer ≡ true) × BlockFits b

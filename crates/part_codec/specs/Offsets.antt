@@ -7,4 +7,3 @@ use Rattle.part_codec.specs.declared.fault.PartFault.TheVariants as faults
 abbrev pub offset_in_part : PartFault → ℕ
 offset_in_part faults.NoMemory = 0
 offset_in_part (faults.Layout f) = f.at
-offset_in_part faults.Mixed = 0

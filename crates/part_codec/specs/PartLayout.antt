@@ -1,13 +1,17 @@
 -- The layout of a part, line by line as in docs/FORMATS.md.
-use Rattle.std.specs.Prelude.{ℕ, zero, suc, ◌-◌, ◌^◌, List, Bool, ◌==◌, ◌||◌, Result, Option, Some, None, codes}
+use Rattle.std.specs.Prelude.{ℕ, zero, suc, ◌-◌, ◌*◌, ◌^◌, List, Bool, ◌==◌, ◌||◌, Result, Option, Some, None, codes}
 use Rattle.std.specs.Int.{w8, w16, w32, w64}
 use Rattle.std.specs.Str.{bytes_eq}
 use Rattle.octets_core.specs.Linked.{is_after}
 use Rattle.octets_core.specs.Position.{Position}
-use Rattle.octets_core.specs.Layout.{Layout, ◌>>=◌, whole, repeated, refused, mapped}
-use Rattle.octets_core.specs.Reading.{ReadsUnless, number, key, magic, digest}
+use Rattle.octets_core.specs.Layout.{Layout, ◌>>=◌, whole, bytes_field, repeated, mapped}
+use Rattle.octets_core.specs.Reading.{ReadsUnless, fault_at, number, key, magic, digest}
+use Rattle.octets_core.specs.declared.field.Field.{Field}
 use Rattle.octets_core.specs.declared.field.Field.TheVariants as fields
 use Rattle.octets_core.specs.declared.fault.LayoutFault.{LayoutFault}
+use Rattle.octets_core.specs.declared.fault.Why.TheVariants as why
+use Rattle.equation_core.specs.Sizes.{words_for}
+use Rattle.ribbon_core.specs.PlaneWords.{PlaneColumns}
 use Rattle.ident_core.specs.declared.kind.Kind.{Kind}
 use Rattle.ident_core.specs.declared.kind.Kind.TheVariants as kinds
 use Rattle.ident_core.specs.HeadFields.{HeadFields, zero_key}
@@ -15,7 +19,10 @@ use Rattle.ident_core.specs.RangeLayout.{ranges}
 use Rattle.card_core.specs.declared.block.Block.{Block}
 use Rattle.card_core.specs.declared.block.Body.{Body}
 use Rattle.card_core.specs.declared.block.Body.TheVariants as bodies
+use Rattle.card_core.specs.declared.stage.Stage.{Stage}
+use Rattle.card_core.specs.MixedFields.{MixedFields}
 use Rattle.card_core.specs.PartFields.{PartFields}
+use Rattle.part_codec.specs.PlaneBytes.{columns_of_bytes, is_padded}
 use Rattle.part_codec.specs.SealedFields.{SealedFields}
 use Rattle.part_codec.specs.declared.fault.PartFault.{PartFault}
 use Rattle.part_codec.specs.declared.fault.PartFault.TheVariants as faults
@@ -47,18 +54,64 @@ head = do
   list ← ranges count
   whole (record { kind = kind_of kind; epoch = epoch; parent = parent; ranges = list })
 
--- none and all; what a mixed block holds isn't read yet
-abbrev pub body_of : ℕ → Layout PartFault Body
+-- the bytes of a plane, whose padding bits are zero
+abbrev pub plane_bytes : Field → ℕ → Layout LayoutFault (List ℕ)
+plane_bytes name starts = bytes_field (fault_at why.Short name) (fault_at why.Value name) (8 * words_for starts) (is_padded starts)
+
+unfoldable pub plane : Field → ℕ → Layout LayoutFault ℕ
+plane name starts = do
+  bytes ← plane_bytes name starts
+  whole (columns_of_bytes (words_for starts) bytes)
+
+-- so many planes of so many starts
+abbrev pub columns : Field → ℕ → ℕ → Layout LayoutFault (List ℕ)
+columns name starts count = repeated (λ (s : Unit {0}). plane name starts) (λ s Z. s) count tt
+
+-- so many planes, and their starts before them
+unfoldable pub planes : Field → Field → ℕ → Layout LayoutFault PlaneColumns
+planes starts_name plane_name count = do
+  starts ← number starts_name w32 1 4718593
+  list ← columns plane_name starts count
+  whole (record { starts = starts; columns = list })
+
+unfoldable pub approx_stage : ℕ → Layout LayoutFault (Option Stage)
+approx_stage k = do
+  seed ← number fields.ApproxSeed w8 0 255
+  p ← planes fields.ApproxStarts fields.ApproxPlane k
+  whole (Some (record { seed = seed; planes = p }))
+
+-- no approximate stage where k is 0
+abbrev pub approx : ℕ → Layout LayoutFault (Option Stage)
+approx zero = whole None
+approx (suc n) = approx_stage (suc n)
+
+unfoldable pub exact : Layout LayoutFault Stage
+exact = do
+  seed ← number fields.ExactSeed w8 0 255
+  p ← planes fields.ExactStarts fields.ExactPlane 1
+  whole (record { seed = seed; planes = p })
+
+unfoldable pub mixed : Layout LayoutFault MixedFields
+mixed = do
+  k ← number fields.BlockK w8 0 16
+  first ← approx k
+  second ← exact
+  whole (record { approx = first; exact = second })
+
+-- none, all or mixed
+abbrev pub body_of : ℕ → Layout LayoutFault Body
 body_of zero = whole bodies.Clean
 body_of (suc zero) = whole bodies.Every
-body_of (suc (suc n)) = refused faults.Mixed
+body_of (suc (suc n)) = do
+  m ← mixed
+  whole (bodies.Mixed m)
 
 -- behind an issuer, if there is one before it
 unfoldable pub block : Option (List ℕ) → Layout PartFault Block
 block previous = do
   issuer ← fielded (key fields.BlockIssuer (is_after previous))
   mode ← fielded (number fields.BlockMode w8 0 2)
-  body ← body_of mode
+  body ← fielded (body_of mode)
   whole (record { issuer = issuer; body = body })
 
 -- so many blocks

@@ -1,18 +1,20 @@
 -- The text of a part: the bytes that its layout reads as it.
-use Rattle.std.specs.Prelude.{ℕ, List, ◌++◌, length, codes, flat_map}
+use Rattle.std.specs.Prelude.{ℕ, List, [], ◌++◌, length, Option, Some, None, codes, flat_map}
 use Rattle.std.specs.Int.{w8, w16, w32, w64, to_be_bytes}
-use Rattle.ident_core.specs.declared.range.Range.{Range}
+use Rattle.equation_core.specs.Sizes.{words_for}
+use Rattle.ribbon_core.specs.PlaneWords.{PlaneColumns}
 use Rattle.ident_core.specs.declared.kind.Kind.{Kind}
 use Rattle.ident_core.specs.declared.kind.Kind.TheVariants as kinds
 use Rattle.ident_core.specs.HeadFields.{HeadFields}
+use Rattle.ident_core.specs.RangeText.{range_text}
 use Rattle.card_core.specs.declared.block.Block.{Block}
 use Rattle.card_core.specs.declared.block.Body.{Body}
 use Rattle.card_core.specs.declared.block.Body.TheVariants as bodies
+use Rattle.card_core.specs.declared.stage.Stage.{Stage}
+use Rattle.card_core.specs.MixedFields.{MixedFields}
 use Rattle.card_core.specs.PartFields.{PartFields}
+use Rattle.part_codec.specs.PlaneBytes.{bytes_of_columns}
 use Rattle.part_codec.specs.SealedFields.{SealedFields}
-
-abbrev pub range_text : Range → List ℕ
-range_text r = r.log ++ to_be_bytes w64 r.from ++ to_be_bytes w64 r.to
 
 abbrev pub kind_number : Kind → ℕ
 kind_number kinds.Snapshot = 0
@@ -26,9 +28,35 @@ head_text h =
 abbrev pub mode_of : Body → ℕ
 mode_of bodies.Clean = 0
 mode_of bodies.Every = 1
+mode_of (bodies.Mixed m) = 2
+
+-- the starts, and plane after plane
+unfoldable pub planes_text : PlaneColumns → List ℕ
+planes_text p = to_be_bytes w32 p.starts ++ flat_map (bytes_of_columns (words_for p.starts)) p.columns
+
+unfoldable pub stage_text : Stage → List ℕ
+stage_text s = to_be_bytes w8 s.seed ++ planes_text s.planes
+
+-- how many planes the approximate stage has, if there is one
+abbrev pub width_of : Option Stage → ℕ
+width_of None = 0
+width_of (Some s) = length s.planes.columns
+
+abbrev pub approx_text : Option Stage → List ℕ
+approx_text None = []
+approx_text (Some s) = stage_text s
+
+unfoldable pub mixed_text : MixedFields → List ℕ
+mixed_text m = to_be_bytes w8 (width_of m.approx) ++ approx_text m.approx ++ stage_text m.exact
+
+-- what follows the mode
+abbrev pub body_text : Body → List ℕ
+body_text bodies.Clean = []
+body_text bodies.Every = []
+body_text (bodies.Mixed m) = mixed_text m
 
 abbrev pub block_text : Block → List ℕ
-block_text b = b.issuer ++ to_be_bytes w8 (mode_of b.body)
+block_text b = b.issuer ++ to_be_bytes w8 (mode_of b.body) ++ body_text b.body
 
 -- all but the trailer
 unfoldable pub unsealed_text : PartFields → List ℕ

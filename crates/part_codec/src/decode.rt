@@ -1,27 +1,35 @@
 //! Parts from bytes.
 
-ghost use Rattle.std.specs.Prelude.{◌≡◌, ◌++◌, ◌≤◌, ℕ, List, length, take, Ok, IfOk, IfErr, true};
+ghost use Rattle.std.specs.Prelude.{◌≡◌, ◌++◌, ◌≤◌, ◌*◌, ◌/◌, ℕ, List, length, map, take, Ok, IfOk, OnOk, IfErr, true};
+ghost use Rattle.std.specs.Int.{w64, from_be_bytes};
+ghost use Rattle.std.specs.Simd.{first_chunks};
 ghost use Rattle.octets_core.specs.Linked.{is_after};
-ghost use Rattle.octets_core.specs.Reading.{ReadsField, key};
+ghost use Rattle.octets_core.specs.Reading.{ReadsField, GivesUnless, key};
+ghost use Rattle.equation_core.specs.Sizes.{words_for as words_of};
 ghost use Rattle.ident_core.specs.Coverage.{AreRanges};
 ghost use Rattle.ident_core.specs.RangeLayout.{ranges as ranges_layout};
 ghost use Rattle.card_core.specs.PartFields.{AreBlocks};
-ghost use Rattle.part_codec.specs.Decoding.{GivesUnless};
 ghost use Rattle.part_codec.specs.SealedFields.{SealedFields};
-ghost use Rattle.part_codec.specs.PartLayout.{Reads, fielded, head, block, blocks as blocks_layout, unsealed, part, kind_of, is_parent};
+ghost use Rattle.part_codec.specs.PartLayout.{Reads, fielded, head, plane_bytes as plane_layout, columns as columns_layout, planes as planes_layout, approx as approx_layout, exact as exact_layout, mixed as mixed_layout, body_of as body_layout, block, blocks as blocks_layout, unsealed, part, kind_of, is_parent};
+ghost use Rattle.part_codec.specs.PlaneBytes.{is_padded as are_padded};
 ghost use Rattle.part_codec.specs.PartText.{spelling};
 ghost use Rattle.part_codec.specs.Fitting.{Fits};
 ghost use Rattle.part_codec.specs.Offsets.{offset_in_part};
 
 use crate::fault::PartFault;
 use crate::sealed::Sealed;
-use card_core::{Block, Body, MAX_BLOCKS, Part};
+use card_core::{Block, Body, MAX_BLOCKS, Mixed, Part, Stage};
+use equation_core::words_for;
 use ident_core::{Head, Kind, Range, read_range};
 use octets_core::{
-    Cursor, Field, Key32, LayoutFault, Why, read_digest, read_key, read_magic, read_u8, read_u16,
-    read_u32, read_u64,
+    Cursor, Field, Key32, LayoutFault, NoMemory, Why, read_digest, read_key, read_magic, read_u8,
+    read_u16, read_u32, read_u64,
 };
+use ribbon_core::Planes;
 use std::alloc::Global;
+
+/// The most starts of a stage.
+const MAX_STARTS: u32 = 4_718_593;
 
 fn ranges_of(alloc: Global, cursor: &mut Cursor<'_>, count: u16) -> Result<Vec<Range>, PartFault>
     ensures exact { Reads (λ v. v.items) (fielded (ranges_layout count)) cursor.old cursor.new result }
@@ -52,17 +60,6 @@ fn is_parent_of(kind: u8, key: Key32) -> bool
     kind == 1 || key == Key32::new([0; 32])
 }
 
-/// The fault of a field whose value fails its test.
-fn bad_value(at: usize, field: Field) -> LayoutFault
-    ensures { result ≡ record { at = at; field = field; why = Why.Value } }
-{
-    LayoutFault {
-        at: at as u64,
-        field,
-        why: Why::Value,
-    }
-}
-
 /// The parent, which is zeros in a snapshot.
 #[tactic(auto, unfolding(octets_core::specs::Layout::bytes_field))]
 fn parent_of(cursor: &mut Cursor<'_>, kind: u8) -> Result<Key32, LayoutFault>
@@ -72,7 +69,7 @@ fn parent_of(cursor: &mut Cursor<'_>, kind: u8) -> Result<Key32, LayoutFault>
     let at = cursor.at();
     let parent = read_key(cursor, Field::PartParent)?;
     if !is_parent_of(kind, parent) {
-        return Err(bad_value(at, Field::PartParent));
+        return Err(LayoutFault::new(at, Field::PartParent, Why::Value));
     }
     Ok(parent)
 }
@@ -109,21 +106,162 @@ fn issuer_of(cursor: &mut Cursor<'_>, previous: Option<Key32>) -> Result<Key32, 
     let at = cursor.at();
     let issuer = read_key(cursor, Field::BlockIssuer)?;
     if !is_above(&issuer, &previous) {
-        return Err(bad_value(at, Field::BlockIssuer));
+        return Err(LayoutFault::new(at, Field::BlockIssuer, Why::Value));
     }
     Ok(issuer)
 }
 
+/// Whether the bits of a plane behind its last column are zero.
+fn is_padded(starts: u32, plane: &[u8]) -> bool
+    requires some { 1 ≤ starts }
+    requires few { starts ≤ 4718593 }
+    requires len { length plane.now ≡ 8 * words_of starts }
+    ensures { result ≡ are_padded starts plane.now }
+{
+    let full = words_for(starts) - 1;
+    let (words, _) = plane.as_chunks::<8>();
+    let last = u64::from_be_bytes(words[full]);
+    let columns = starts as usize + 127 - 64 * full;
+    u128::from(last) >> columns == 0
+}
+
+/// The bytes of a plane.
+#[tactic(auto, unfolding(octets_core::specs::Layout::bytes_field))]
+fn plane_bytes<'a>(
+    cursor: &mut Cursor<'a>,
+    field: Field,
+    starts: u32,
+) -> Result<&'a [u8], LayoutFault>
+    requires some { 1 ≤ starts }
+    requires few { starts ≤ 4718593 }
+    ensures exact { ReadsField (λ bytes. bytes.now) (plane_layout field starts) cursor.old cursor.new result }
+    ensures len { IfOk result (λ bytes. length bytes.now ≡ 8 * words_of starts) }
+    ensures padded { IfOk result (λ bytes. are_padded starts bytes.now ≡ true) }
+{
+    let at = cursor.at();
+    let Ok(taken) = cursor.take(8 * words_for(starts)) else {
+        return Err(LayoutFault::new(at, field, Why::Short));
+    };
+    if !is_padded(starts, taken) {
+        return Err(LayoutFault::new(at, field, Why::Value));
+    }
+    Ok(taken)
+}
+
+/// Appends the words that these bytes spell.
+fn push_words(words: &mut Vec<u64>, bytes: &[u8]) -> Result<(), NoMemory>
+    ensures { OnOk result (words.new.items ≡ words.old.items ++ map (from_be_bytes w64) (first_chunks 8 (length bytes.now / 8) bytes.now)) }
+{
+    let (chunks, _) = bytes.as_chunks::<8>();
+    for chunk in chunks {
+        words.push(u64::from_be_bytes(*chunk))?;
+    }
+    Ok(())
+}
+
+/// The columns of so many planes. Memory is asked for once, and for no more words than there are bytes left for.
+fn columns_of(
+    alloc: Global,
+    cursor: &mut Cursor<'_>,
+    field: Field,
+    starts: u32,
+    count: u8,
+) -> Result<Planes, PartFault>
+    requires some_starts { 1 ≤ starts }
+    requires few_starts { starts ≤ 4718593 }
+    requires some_planes { 1 ≤ count }
+    requires few_planes { count ≤ 16 }
+    ensures exact { Reads (λ p. p.columns) (fielded (columns_layout field starts count)) cursor.old cursor.new result }
+    ensures starts { IfOk result (λ p. p.starts ≡ starts) }
+    ensures count { IfOk result (λ p. length p.columns ≡ count) }
+{
+    let all = count as usize * words_for(starts);
+    let mut words = Vec::with_capacity(alloc, all.min(cursor.left() / 8))?;
+    for _ in 0..count {
+        let bytes = plane_bytes(cursor, field, starts)?;
+        push_words(&mut words, bytes)?;
+    }
+    Ok(Planes::of_words(alloc, starts, count, &words)?)
+}
+
+#[tactic(auto, unfolding(crate::specs::PartLayout::planes))]
+fn planes_of(
+    alloc: Global,
+    cursor: &mut Cursor<'_>,
+    starts: Field,
+    plane: Field,
+    count: u8,
+) -> Result<Planes, PartFault>
+    requires some { 1 ≤ count }
+    requires few { count ≤ 16 }
+    ensures exact { Reads (λ p. p) (fielded (planes_layout starts plane count)) cursor.old cursor.new result }
+    ensures count { IfOk result (λ p. length p.columns ≡ count) }
+{
+    let starts = read_u32(cursor, starts, 1, MAX_STARTS)?;
+    columns_of(alloc, cursor, plane, starts, count)
+}
+
+/// The approximate stage, if it has planes.
+#[tactic(auto, unfolding(crate::specs::PartLayout::approx_stage))]
+fn approx_of(alloc: Global, cursor: &mut Cursor<'_>, count: u8) -> Result<Option<Stage>, PartFault>
+    requires { count ≤ 16 }
+    ensures { Reads (λ stage. stage) (fielded (approx_layout count)) cursor.old cursor.new result }
+{
+    if count == 0 {
+        return Ok(None);
+    }
+    let seed = read_u8(cursor, Field::ApproxSeed, 0, u8::MAX)?;
+    let planes = planes_of(
+        alloc,
+        cursor,
+        Field::ApproxStarts,
+        Field::ApproxPlane,
+        count,
+    )?;
+    Ok(Some(Stage { seed, planes }))
+}
+
+#[tactic(auto, unfolding(crate::specs::PartLayout::exact))]
+fn exact_of(alloc: Global, cursor: &mut Cursor<'_>) -> Result<Stage, PartFault>
+    ensures exact { Reads (λ stage. stage) (fielded exact_layout) cursor.old cursor.new result }
+    ensures one { IfOk result (λ stage. length stage.planes.columns ≡ 1) }
+{
+    let seed = read_u8(cursor, Field::ExactSeed, 0, u8::MAX)?;
+    let planes = planes_of(alloc, cursor, Field::ExactStarts, Field::ExactPlane, 1)?;
+    Ok(Stage { seed, planes })
+}
+
+#[tactic(auto, unfolding(crate::specs::PartLayout::mixed))]
+fn mixed_of(alloc: Global, cursor: &mut Cursor<'_>) -> Result<Mixed, PartFault>
+    ensures { Reads (λ mixed. mixed) (fielded mixed_layout) cursor.old cursor.new result }
+{
+    let count = read_u8(cursor, Field::BlockK, 0, 16)?;
+    let approx = approx_of(alloc, cursor, count)?;
+    let exact = exact_of(alloc, cursor)?;
+    Ok(Mixed::new(approx, exact))
+}
+
+fn body_of(alloc: Global, cursor: &mut Cursor<'_>, mode: u8) -> Result<Body, PartFault>
+    ensures { Reads (λ body. body) (fielded (body_layout mode)) cursor.old cursor.new result }
+{
+    match mode {
+        0 => Ok(Body::Clean),
+        1 => Ok(Body::Every),
+        _ => Ok(Body::Mixed(mixed_of(alloc, cursor)?)),
+    }
+}
+
 #[tactic(auto, unfolding(crate::specs::PartLayout::block))]
-fn block_of(cursor: &mut Cursor<'_>, previous: Option<Key32>) -> Result<Block, PartFault>
-    ensures { Reads (λ b. b) (block previous) cursor.old cursor.new result }
+fn block_of(
+    alloc: Global,
+    cursor: &mut Cursor<'_>,
+    previous: Option<Key32>,
+) -> Result<Block, PartFault>
+    ensures { Reads (λ block. block) (block previous) cursor.old cursor.new result }
 {
     let issuer = issuer_of(cursor, previous)?;
-    let body = match read_u8(cursor, Field::BlockMode, 0, 2)? {
-        0 => Body::Clean,
-        1 => Body::Every,
-        _ => return Err(PartFault::Mixed),
-    };
+    let mode = read_u8(cursor, Field::BlockMode, 0, 2)?;
+    let body = body_of(alloc, cursor, mode)?;
     Ok(Block { issuer, body })
 }
 
@@ -134,7 +272,7 @@ fn blocks_of(alloc: Global, cursor: &mut Cursor<'_>, count: u32) -> Result<Vec<B
     let mut blocks = Vec::with_capacity(alloc, count as usize)?;
     let mut previous = None;
     for _ in 0..count {
-        let block = block_of(cursor, previous)?;
+        let block = block_of(alloc, cursor, previous)?;
         previous = Some(block.issuer);
         blocks.push(block)?;
     }

@@ -1,6 +1,6 @@
 ghost use Rattle.std.specs.Prelude.{◌≡◌};
 
-use octets_core::LayoutFault;
+use octets_core::{LayoutFault, NoMemory};
 use std::alloc::{AllocError, AllocFailed};
 
 /// Why bytes give no part.
@@ -8,8 +8,6 @@ use std::alloc::{AllocError, AllocFailed};
 pub enum PartFault {
     /// A field is short or fails its test.
     Layout(LayoutFault),
-    /// A block is mixed, of mode 2, which isn't read yet.
-    Mixed,
     /// Want of memory.
     NoMemory,
 }
@@ -40,6 +38,16 @@ impl<T: Drop> From<AllocFailed<T>> for PartFault {
     ghost from_gives = { λ _ e. e ≡ NoMemory };
 
     fn from(_: AllocFailed<T>) -> PartFault {
+        PartFault::NoMemory
+    }
+}
+
+impl From<NoMemory> for PartFault {
+    ghost use Rattle.part_codec.specs.declared.fault.PartFault.TheVariants.{NoMemory};
+
+    ghost from_gives = { λ _ e. e ≡ NoMemory };
+
+    fn from(_: NoMemory) -> PartFault {
         PartFault::NoMemory
     }
 }

@@ -1,11 +1,17 @@
 //! Parts against bytes that another program wrote (Python, with its hashlib for the trailers) by the table of
 //! docs/FORMATS.md.
 
+ghost use Rattle.std.specs.Prelude.{◌≡◌, ◌<◌};
+
 use crate::{PartFault, decode_part, encode_part, seal};
-use card_core::{Block, Body, Part};
+use card_core::{Block, Body, Part, Stage};
+use equation_core::words_for;
 use ident_core::{Head, Kind, Range};
-use octets_core::{Field, Key32, LayoutFault, Why};
+use octets_core::{Field, Key32, LayoutFault, Steps, Why};
 use std::alloc::Global;
+use std::marker::Brand;
+use std::process::Abort;
+use std::sync::ledger::{Blank, Ledger};
 use std::test::Fail;
 
 // A snapshot of epoch 0 with neither ranges nor blocks.
@@ -19,6 +25,15 @@ const ONE_REVOKED: &str =
 // A delta with two ranges and three blocks, of modes none, all and none.
 const TWO_RANGES: &str =
     "434c5542434152440101010203040506070844444444444444444444444444444444444444444444444444444444444444440002aaaaaaaaaaaaaaaaaaaaaaaaaaaaaaaaaaaaaaaaaaaaaaaaaaaaaaaaaaaaaaaa0000018bcfe568000000018bcfe56be8bbbbbbbbbbbbbbbbbbbbbbbbbbbbbbbbbbbbbbbbbbbbbbbbbbbbbbbbbbbbbbbb0000000000000000ffffffffffffffff000000031111111111111111111111111111111111111111111111111111111111111111002222222222222222222222222222222222222222222222222222222222222222013333333333333333333333333333333333333333333333333333333333333333006ba23b0a3f623cf69ae259128b03b6f0ceff3f86309b565f0315f3c10268f1dc";
+
+// A delta with one range and one mixed block, with no approximate stage. Of its issuer's certificates the serial 05 is
+// revoked and 06 is not, and the program solved the exact stage of these two.
+const MIXED: &str =
+    "434c554243415244010100000000000000023c5297690856618bbb3bc14ceaf19ce2d0f4c977bf05c935e445542588879af30001aaaaaaaaaaaaaaaaaaaaaaaaaaaaaaaaaaaaaaaaaaaaaaaaaaaaaaaaaaaaaaaa0000018bcfe568000000018bcfe56fd000000001111111111111111111111111111111111111111111111111111111111111111102000000000003000000000000000200000000000000000000000000000000d720f255b1870ad1dd8b011598e3d444bd97fc8550a021a271b7d0ce89fddd26";
+
+// A snapshot of epoch 7 with two blocks: a mixed one with two planes in its approximate stage, and one of mode all.
+const TWO_STAGES: &str =
+    "434c55424341524401000000000000000007000000000000000000000000000000000000000000000000000000000000000000000000000211111111111111111111111111111111111111111111111111111111111111110202c8000000010123456789abcdeffedcba9876543210112233445566778899aabbccddeeff0003000000420000000000000001000000000000000200000000000000030000000000000001222222222222222222222222222222222222222222222222222222222222222201ac9860f02a76857bbb43bb353209ed0eff12cf3009f3cd172c2f5553e2d5d0e1";
 
 #[test]
 fn seals_and_writes_an_empty_part(rt: HostRuntime) -> Result<(), Fail> {
@@ -54,16 +69,93 @@ fn reads_two_ranges_and_three_blocks(rt: HostRuntime) -> Result<(), Fail> {
         },
     ];
     assert_eq!(rt; head.ranges(), ranges.as_slice());
-    let blocks = [
-        (0x11, Body::Clean),
-        (0x22, Body::Every),
-        (0x33, Body::Clean),
-    ]
-    .map(|(byte, body)| Block {
-        issuer: Key32::new([byte; 32]),
-        body,
-    });
-    assert_eq!(rt; sealed.part().blocks(), blocks.as_slice());
+    let [first, second, third] = sealed.part().blocks() else {
+        return Err(Fail::new("not three blocks"));
+    };
+    assert_eq!(rt; first.issuer, Key32::new([0x11; 32]));
+    assert_eq!(rt; second.issuer, Key32::new([0x22; 32]));
+    assert_eq!(rt; third.issuer, Key32::new([0x33; 32]));
+    assert!(rt; matches!(first.body, Body::Clean));
+    assert!(rt; matches!(second.body, Body::Every));
+    assert!(rt; matches!(third.body, Body::Clean));
+    assert_eq!(rt; encode_part(alloc, &sealed)?, text);
+    Ok(())
+}
+
+// The words of a stage, plane after plane.
+fn compare_words<L: Ledger>(rt: &impl Abort, stage: &Stage, want: &[u64], blank: Blank)
+    requires name { blank.name ≡ L.name }
+    requires parts { blank.parts ≡ L.parts }
+    requires some { 0 < L.parts }
+{
+    let planes = &stage.planes;
+    let mut steps: Steps<L> = Steps::new(blank);
+    let width = words_for(planes.starts());
+    assert_eq!(rt; want.len(), width * usize::from(planes.planes()));
+    for place in 0..want.len() {
+        let plane = place / width;
+        assert!(rt; plane < usize::from(planes.planes()));
+        let word = planes.word(plane as u8, place % width, &mut steps);
+        assert_eq!(rt; word, want[place], "at word {place}");
+    }
+}
+
+#[test]
+fn reads_a_mixed_block(rt: HostRuntime) -> Result<(), Fail> {
+    let alloc = rt.alloc();
+    let text = hex::decode(alloc, MIXED)?;
+    let mut longer = hex::decode(alloc, MIXED)?;
+    longer.push(0)?;
+    let (sealed, len) = decode_part(alloc, &longer)?;
+    assert_eq!(rt; len, 199);
+    let [
+        Block {
+            body: Body::Mixed(mixed),
+            ..
+        },
+    ] = sealed.part().blocks()
+    else {
+        return Err(Fail::new("no mixed block"));
+    };
+    assert!(rt; mixed.approx().is_none());
+    let exact = mixed.exact();
+    assert_eq!(rt; exact.seed, 0);
+    assert_eq!(rt; exact.planes.starts(), 3);
+    compare_words::<Brand>(&rt, exact, &[2, 0, 0], Blank::new(1));
+    assert_eq!(rt; encode_part(alloc, &sealed)?, text);
+    Ok(())
+}
+
+#[test]
+fn reads_two_stages(rt: HostRuntime) -> Result<(), Fail> {
+    let alloc = rt.alloc();
+    let text = hex::decode(alloc, TWO_STAGES)?;
+    let (sealed, len) = decode_part(alloc, &text)?;
+    assert_eq!(rt; len, 229);
+    let [
+        Block {
+            body: Body::Mixed(mixed),
+            ..
+        },
+        last,
+    ] = sealed.part().blocks()
+    else {
+        return Err(Fail::new("no mixed block before another"));
+    };
+    assert!(rt; matches!(last.body, Body::Every));
+    let Some(approx) = mixed.approx() else {
+        return Err(Fail::new("no approximate stage"));
+    };
+    assert_eq!(rt; approx.seed, 200);
+    let words = [
+        0x0123_4567_89ab_cdef,
+        0xfedc_ba98_7654_3210,
+        0x1122_3344_5566_7788,
+        0x99aa_bbcc_ddee_ff00,
+    ];
+    compare_words::<Brand>(&rt, approx, &words, Blank::new(1));
+    assert_eq!(rt; mixed.exact().seed, 3);
+    compare_words::<Brand>(&rt, mixed.exact(), &[1, 2, 3, 1], Blank::new(1));
     assert_eq!(rt; encode_part(alloc, &sealed)?, text);
     Ok(())
 }
@@ -147,7 +239,13 @@ fn names_the_first_field_that_fails(rt: HostRuntime) -> Result<(), Fail> {
             1,
             fault_at(92, Field::RangeTo, Why::Value),
         ),
-        (ONE_REVOKED, 169, 136, 2, PartFault::Mixed),
+        (
+            ONE_REVOKED,
+            169,
+            136,
+            2,
+            fault_at(137, Field::BlockK, Why::Value),
+        ),
         (
             ONE_REVOKED,
             169,
@@ -168,6 +266,56 @@ fn names_the_first_field_that_fails(rt: HostRuntime) -> Result<(), Fail> {
             185,
             1,
             fault_at(185, Field::BlockIssuer, Why::Value),
+        ),
+        (
+            MIXED,
+            100,
+            0,
+            0x43,
+            fault_at(100, Field::PartIssuers, Why::Short),
+        ),
+        (
+            MIXED,
+            150,
+            0,
+            0x43,
+            fault_at(143, Field::ExactPlane, Why::Short),
+        ),
+        (MIXED, 199, 9, 2, fault_at(9, Field::PartKind, Why::Value)),
+        (
+            MIXED,
+            199,
+            159,
+            0x80,
+            fault_at(143, Field::ExactPlane, Why::Value),
+        ),
+        (
+            MIXED,
+            199,
+            143,
+            1,
+            fault_at(167, Field::PartTrailer, Why::Digest),
+        ),
+        (
+            MIXED,
+            199,
+            137,
+            17,
+            fault_at(137, Field::BlockK, Why::Value),
+        ),
+        (
+            MIXED,
+            199,
+            142,
+            0,
+            fault_at(139, Field::ExactStarts, Why::Value),
+        ),
+        (
+            MIXED,
+            199,
+            140,
+            0x40,
+            fault_at(143, Field::ExactPlane, Why::Short),
         ),
     ];
     for (text, len, place, value, fault) in rows {

@@ -1,6 +1,6 @@
 use Rattle.part_codec.specs.PartText.{block_text}
 use Rattle.part_codec.specs.Fitting.{BlockFits}
-use Rattle.part_codec.proofs.Loops.{appended-more, all-more}
+use Rattle.octets_core.proofs.Loops.{appended-more, all-more}
 use Rattle.part_codec.proofs.encode.put_blocks.Goals as goal
 
 pub loop-block-preserved : goal.loop-block-preserved

@@ -1,11 +1,10 @@
-use Rattle.std.proofs.Common.{◌++◌, length, ℕ, List, Some, None, ap, subst, ◌∙◌, rules}
+use Rattle.std.proofs.Common.{◌++◌, length, ℕ, List, ap, subst, ◌∙◌, rules}
 use Rattle.std.specs.Prelude.{codes, flat_map, All}
 use Rattle.std.specs.Int.{w8, w16, w64, to_be_bytes}
 use Rattle.ident_core.specs.declared.range.Range.{Range}
-use Rattle.part_codec.specs.PartText.{range_text, head_text, kind_number}
-use Rattle.ident_core.specs.Coverage.{IsRangeAfter}
-use Rattle.part_codec.specs.Fitting.{RangeFits}
-use Rattle.part_codec.proofs.Loops.{Linked-with}
+use Rattle.ident_core.specs.RangeText.{range_text, RangeFits}
+use Rattle.part_codec.specs.PartText.{head_text, kind_number}
+use Rattle.ident_core.proofs.RangeTexts.{ranges-fit}
 use Rattle.part_codec.proofs.Appends.{appended-seven}
 use Rattle.part_codec.proofs.encode.put_head.Goals as goal
 
@@ -28,6 +27,6 @@ returns-clause-fits c = record {
   facts = c.ranges-ranges.ensures.facts;
   epoch = search rules;
   parent = rw (← c.parent.ensures) c.bytes.ensures.len;
-  ranges = Linked-with IsRangeAfter RangeFits (λ previous r. Some r.log) None c.args.head.now.ranges c.ranges-ranges.ensures.facts.ranges.ascending
+  ranges = ranges-fit c.args.head.now.ranges c.ranges-ranges.ensures.facts.ranges.ascending
       (subst (λ (rs : List Range). All RangeFits rs) c.ranges-ranges.ensures.value c.in_ok-put_ranges.ensures.fits);
 }

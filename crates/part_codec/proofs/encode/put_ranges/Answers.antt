@@ -1,6 +1,5 @@
-use Rattle.part_codec.specs.PartText.{range_text}
-use Rattle.part_codec.specs.Fitting.{RangeFits}
-use Rattle.part_codec.proofs.Loops.{appended-more, all-more}
+use Rattle.ident_core.specs.RangeText.{range_text, RangeFits}
+use Rattle.octets_core.proofs.Loops.{appended-more, all-more}
 use Rattle.part_codec.proofs.encode.put_ranges.Goals as goal
 
 pub loop-range-preserved : goal.loop-range-preserved

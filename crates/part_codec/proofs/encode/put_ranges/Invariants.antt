@@ -1,7 +1,6 @@
 use Rattle.std.proofs.Common.{◌≡◌, ◌++◌, take}
 use Rattle.std.specs.Prelude.{flat_map, All}
-use Rattle.part_codec.specs.PartText.{range_text}
-use Rattle.part_codec.specs.Fitting.{RangeFits}
+use Rattle.ident_core.specs.RangeText.{range_text, RangeFits}
 use Rattle.part_codec.proofs.encode.put_ranges.Given as goal
 
 abbrev pub invariant-loop-range : goal.invariant-loop-range

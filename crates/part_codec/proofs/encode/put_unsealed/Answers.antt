@@ -4,7 +4,7 @@ use Rattle.octets_core.specs.Linked.{is_after}
 use Rattle.card_core.specs.declared.block.Block.{Block}
 use Rattle.ident_core.specs.HeadFields.{HeadFields}
 use Rattle.part_codec.specs.Fitting.{BlockFits, FitsHead}
-use Rattle.part_codec.proofs.Loops.{Linked-with}
+use Rattle.octets_core.proofs.Loops.{Linked-with}
 use Rattle.part_codec.proofs.encode.put_unsealed.Goals as goal
 
 pub returns-clause-fits : goal.returns-clause-fits

@@ -4,7 +4,8 @@ use Rattle.std.specs.Int.{w8, w16, w64, to_be_bytes}
 use Rattle.ident_core.specs.declared.range.Range.{Range}
 use Rattle.ident_core.specs.declared.kind.Kind.{Kind}
 use Rattle.ident_core.specs.declared.kind.Kind.TheVariants as kinds
-use Rattle.part_codec.specs.PartText.{range_text, head_text, kind_number}
+use Rattle.ident_core.specs.RangeText.{range_text}
+use Rattle.part_codec.specs.PartText.{head_text, kind_number}
 use Rattle.part_codec.specs.Hashing.{Hashed}
 use Rattle.part_codec.proofs.Loops.{hashed-seven}
 use Rattle.part_codec.proofs.sealed.hash_head.Goals as goal

@@ -1,4 +1,4 @@
-use Rattle.part_codec.specs.PartText.{range_text}
+use Rattle.ident_core.specs.RangeText.{range_text}
 use Rattle.part_codec.proofs.Loops.{hashed-more}
 use Rattle.part_codec.proofs.sealed.hash_ranges.Goals as goal
 

@@ -1,6 +1,6 @@
 use Rattle.std.proofs.Common.{take}
 use Rattle.std.specs.Prelude.{flat_map}
-use Rattle.part_codec.specs.PartText.{range_text}
+use Rattle.ident_core.specs.RangeText.{range_text}
 use Rattle.part_codec.specs.Hashing.{Hashed}
 use Rattle.part_codec.proofs.sealed.hash_ranges.Given as goal
 

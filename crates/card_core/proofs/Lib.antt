@@ -1,0 +1,4 @@
+pub mod LeafLaws
+pub mod Accepting
+pub mod Ascending
+pub mod Searching

@@ -1,0 +1,112 @@
+-- The filter of a universe: which stages it has, and for whom it tests positive.
+use Rattle.std.specs.Prelude.{◌≡◌, ◌<◌, ◌≤◌, ◌+◌, ◌*◌, ◌^◌, ◌⊎◌, ◌==◌, ◌&&◌, ℕ, Bool, true, false, not, List, [], ◌∷◌, ◌++◌, length, map, filter, slice_index, Option, Some, None, cond}
+use Rattle.std.specs.List.{list_all, range_with_len}
+use Rattle.std.specs.Int.{bit_at}
+use Rattle.ident_core.specs.declared.identity.Identity.{Identity}
+use Rattle.equation_core.specs.Rows.{Rows}
+use Rattle.equation_core.specs.Sizes.{starts_for}
+use Rattle.ribbon_core.specs.Equations.{Equation, sum_of, IsSolvable, Least}
+use Rattle.ribbon_core.specs.Rows.{equation_of, equation_with}
+use Rattle.card_core.specs.declared.stage.Stage.{Stage}
+use Rattle.card_core.specs.declared.block.Block.{Block}
+use Rattle.card_core.specs.declared.block.Body.{Body}
+use Rattle.card_core.specs.declared.block.Body.TheVariants.{Clean, Every, Mixed}
+use Rattle.card_core.specs.MixedFields.{MixedFields}
+
+-- the identities whose flag is set
+abbrev pub flagged : List Identity → List Bool → List Identity
+flagged [] flags = []
+flagged (x ∷ xs) [] = []
+flagged (x ∷ xs) (f ∷ flags) = cond f (x ∷ flagged xs flags) (flagged xs flags)
+
+-- k is 0 where the revoked are more than the others, else the greatest number up to 16 with revoked * 2 ^ k ≤ others
+pub record IsWidth (revoked others k : ℕ) : Type 0 where
+  pub most : k ≤ 16
+  pub fits : revoked ≤ others → revoked * 2 ^ k ≤ others
+  pub greatest : (j : ℕ) → j ≤ 16 → revoked * 2 ^ j ≤ others → j ≤ k
+  pub none : others < revoked → k ≡ 0
+
+-- in each plane the equations have a common solution
+abbrev pub Solvable : ℕ → List Equation → Type 0
+Solvable planes es = (p : ℕ) → p < planes → IsSolvable p es
+
+-- the least seed at which the equations of all planes are solvable, and their least solutions
+pub record IsStage (equations : ℕ → List Equation) (starts planes : ℕ) (s : Stage) : Type 0 where
+  pub below : s.seed < 256
+  pub size : s.planes.starts ≡ starts
+  pub count : length s.planes.columns ≡ planes
+  pub least : (p : ℕ) → p < planes → Least p (equations s.seed) (slice_index s.planes.columns p)
+  pub first : (seed : ℕ) → seed < s.seed → Solvable planes (equations seed) → ⊥
+
+-- there is no such seed
+abbrev pub IsExhausted : (ℕ → List Equation) → ℕ → Type 0
+IsExhausted equations planes = (seed : ℕ) → seed < 256 → Solvable planes (equations seed) → ⊥
+
+-- the equations of the approximate stage: the bits of a row's tag are the targets
+abbrev pub approx_equations : Rows → List Identity → ℕ → List Equation
+approx_equations rows revoked seed = map (λ x. equation_of (rows 1 seed x (starts_for (length revoked)))) revoked
+
+-- the equations of the exact stage: one for the revoked, zero for those that the approximate stage passes with them
+abbrev pub exact_equations : Rows → List Identity → List Identity → ℕ → List Equation
+exact_equations rows revoked passed seed =
+    map (λ x. equation_with 1 (rows 2 seed x (starts_for (length revoked + length passed)))) revoked
+    ++ map (λ x. equation_with 0 (rows 2 seed x (starts_for (length revoked + length passed)))) passed
+
+-- whether each plane solves the identity's own equation
+abbrev pub accepts : Rows → Stage → Identity → Bool
+accepts rows s x =
+    list_all (λ p. sum_of (equation_of (rows 1 s.seed x s.planes.starts)) (slice_index s.planes.columns p) == bit_at (rows 1 s.seed x s.planes.starts).tag p)
+    (range_with_len 0 (length s.planes.columns))
+
+-- with no approximate stage all are passed
+abbrev pub passes : Rows → Option Stage → Identity → Bool
+passes rows None x = true
+passes rows (Some s) x = accepts rows s x
+
+-- the sum of the exact stage
+abbrev pub exact_sum : Rows → Stage → Identity → ℕ
+exact_sum rows s x = sum_of (equation_of (rows 2 s.seed x s.planes.starts)) (slice_index s.planes.columns 0)
+
+-- whether a filter tests positive for an identity
+abbrev pub is_positive : Rows → Identity → Body → Bool
+is_positive rows x Clean = false
+is_positive rows x Every = true
+is_positive rows x (Mixed m) = passes rows m.approx x && exact_sum rows m.exact x == 1
+
+-- the approximate stage, where the width isn't 0
+abbrev pub IsApprox : Rows → List Identity → List Identity → Option Stage → Type 0
+IsApprox rows revoked others None = IsWidth (length revoked) (length others) 0
+IsApprox rows revoked others (Some s) =
+    (1 ≤ length s.planes.columns)
+    × IsWidth (length revoked) (length others) (length s.planes.columns)
+    × IsStage (approx_equations rows revoked) (starts_for (length revoked)) (length s.planes.columns) s
+
+abbrev pub false_positives : Rows → Option Stage → List Identity → List Identity
+false_positives rows approx others = filter (passes rows approx) others
+
+-- the exact stage
+abbrev pub IsExact : Rows → List Identity → List Identity → Stage → Type 0
+IsExact rows revoked passed s = IsStage (exact_equations rows revoked passed) (starts_for (length revoked + length passed)) 1 s
+
+pub record IsMixed (rows : Rows) (revoked others : List Identity) (m : MixedFields) : Type 0 where
+  pub some_revoked : 1 ≤ length revoked
+  pub some_others : 1 ≤ length others
+  pub approx : IsApprox rows revoked others m.approx
+  pub exact : IsExact rows revoked (false_positives rows m.approx others) m.exact
+
+-- the filter of the revoked and the other identities of a universe
+abbrev pub IsLeaf : Rows → List Identity → List Identity → Body → Type 0
+IsLeaf rows revoked others Clean = length revoked ≡ 0
+IsLeaf rows revoked others Every = (1 ≤ length revoked) × (length others ≡ 0)
+IsLeaf rows revoked others (Mixed m) = IsMixed rows revoked others m
+
+-- the stage that is unsolvable at each seed
+abbrev pub IsRefused : Rows → List Identity → List Identity → ℕ → Type 0
+IsRefused rows revoked others stage =
+    (1 ≤ length revoked) × (1 ≤ length others)
+    × (((stage ≡ 1) × ((k : ℕ) × (1 ≤ k) × IsWidth (length revoked) (length others) k × IsExhausted (approx_equations rows revoked) k))
+    ⊎ ((stage ≡ 2) × ((approx : Option Stage) × IsApprox rows revoked others approx × IsExhausted (exact_equations rows revoked (false_positives rows approx others)) 1)))
+
+-- the block of an issuer whose identities have these flags
+abbrev pub IsBlock : Rows → List ℕ → List Identity → List Bool → Block → Type 0
+IsBlock rows issuer universe flags block = (block.issuer ≡ issuer) × IsLeaf rows (flagged universe flags) (flagged universe (map not flags)) block.body

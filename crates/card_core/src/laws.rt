@@ -1,0 +1,30 @@
+//! Laws of the definitions, apart from all code. Each is a function that does nothing, and its clause says the law.
+
+ghost use Rattle.card_core.specs.Laws.{BlockIsExact, LeafIsExact, LeafIsUnique, OneStageIsRefused, RefusedHasNoLeaf};
+
+/// A filter is exact on its universe: it tests positive for the revoked identities, and not for the others. This holds
+/// under any hash.
+pub fn leaf_is_exact()
+    ensures { LeafIsExact }
+{}
+
+/// A universe and its revoked part have one filter at most.
+pub fn leaf_is_unique()
+    ensures { LeafIsUnique }
+{}
+
+/// Where a stage is refused there is no filter.
+pub fn refused_has_no_leaf()
+    ensures { RefusedHasNoLeaf }
+{}
+
+/// A universe and its revoked part have one refused stage at most.
+pub fn one_stage_is_refused()
+    ensures { OneStageIsRefused }
+{}
+
+/// For a member of the universe, the block of the universe and its revoked part says yes exactly if it is in the revoked
+/// part.
+pub fn block_is_exact()
+    ensures { BlockIsExact }
+{}

@@ -1,0 +1,35 @@
+-- How many bytes texts have.
+use Rattle.std.proofs.Common.{◌≡◌, ℕ, suc, ◌+◌, ◌*◌, ◌<◌, List, [], ◌∷◌, ◌++◌, length, take, get_or, ap, length-append, arith}
+use Rattle.std.specs.Prelude.{flat_map}
+use Rattle.std.specs.Int.{w8, w32, to_be_bytes}
+use Rattle.octets_core.proofs.Loops.{flat_map-more}
+use Rattle.equation_core.specs.Sizes.{words_for}
+use Rattle.card_core.specs.declared.block.Block.{Block}
+use Rattle.card_core.specs.declared.stage.Stage.{Stage}
+use Rattle.card_core.specs.MixedFields.{MixedFields}
+use Rattle.part_codec.specs.PlaneBytes.{bytes_of_columns}
+use Rattle.part_codec.specs.PartText.{planes_text, stage_text, width_of, approx_text, mixed_text, block_text}
+use Rattle.part_codec.proofs.PlaneBytes.{length-bytes}
+
+length-planes : (n : ℕ) (columns : List ℕ) → length (flat_map (bytes_of_columns n) columns) ≡ length columns * (8 * n)
+length-planes n [] = omega arith
+length-planes n (Z ∷ columns) =
+    let e : suc (length columns) * (8 * n) ≡ 8 * n + length columns * (8 * n) = grind arith in
+    omega (arith, e, length-append (bytes_of_columns n Z) (flat_map (bytes_of_columns n) columns), length-bytes n Z, length-planes n columns)
+
+pub length_stage : (s : Stage) → length (stage_text s) ≡ 5 + length s.planes.columns * (8 * words_for s.planes.starts)
+unfolding stage_text planes_text
+length_stage s =
+    let planes : List ℕ = flat_map (bytes_of_columns (words_for s.planes.starts)) s.planes.columns in
+    omega (arith, length-append (to_be_bytes w8 s.seed) (to_be_bytes w32 s.planes.starts ++ planes), length-append (to_be_bytes w32 s.planes.starts) planes, length-planes (words_for s.planes.starts) s.planes.columns)
+
+pub length_mixed : (m : MixedFields) → length (mixed_text m) ≡ 1 + length (approx_text m.approx) + length (stage_text m.exact)
+unfolding mixed_text
+length_mixed m =
+    omega (arith, length-append (to_be_bytes w8 (width_of m.approx) ++ approx_text m.approx) (stage_text m.exact), length-append (to_be_bytes w8 (width_of m.approx)) (approx_text m.approx))
+
+-- one block more
+pub longer : (blocks : List Block) (i : ℕ) (block : Block) (len one : ℕ) → i < length blocks → block ≡ get_or blocks i block
+    → len ≡ length (flat_map block_text (take i blocks)) → one ≡ length (block_text block) → len + one ≡ length (flat_map block_text (take (i + 1) blocks))
+longer blocks i block len one lt is so_far more =
+    omega (arith, so_far, more, ap length (flat_map-more block_text blocks i block lt is), length-append (flat_map block_text (take i blocks)) (block_text block))
