@@ -4,7 +4,7 @@ use Rattle.octets_core.specs.Layout.{embedded, from_there}
 use Rattle.part_codec.specs.SealedFields.{SealedFields}
 use Rattle.part_codec.specs.declared.fault.PartFault.{PartFault}
 use Rattle.part_codec.specs.declared.fault.PartFault.TheVariants as faults
-use Rattle.part_codec.specs.Decoding.{GivesUnless}
+use Rattle.octets_core.specs.Reading.{GivesUnless}
 use Rattle.part_codec.specs.PartLayout.{part}
 use Rattle.clubcard_top.specs.declared.fault.FileFault.TheVariants as of_file
 use Rattle.clubcard_top.specs.StoreLayout.{moved}
@@ -13,4 +13,3 @@ pub gives-embedded : (e : PartFault) (bytes rest : List ℕ) (at : ℕ) → rest
     → GivesUnless of_file.NoMemory (λ (x : SealedFields × ℕ). x) (Err (moved at e)) (embedded moved part bytes at)
 gives-embedded faults.NoMemory bytes rest at r h = λ wants. absurd (wants refl)
 gives-embedded (faults.Layout f) bytes rest at r h = λ wants. rw (← r) (ap (from_there moved at) (h (λ e. cc)))
-gives-embedded faults.Mixed bytes rest at r h = λ wants. rw (← r) (ap (from_there moved at) (h (λ e. cc)))

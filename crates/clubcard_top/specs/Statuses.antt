@@ -11,8 +11,14 @@ usage = 2
 abbrev pub bad_layout : ℕ
 bad_layout = 3
 
+abbrev pub bad_crl : ℕ
+bad_crl = 4
+
 abbrev pub chain : ℕ
 chain = 5
+
+abbrev pub too_many : ℕ
+too_many = 6
 
 abbrev pub read_fault : ℕ
 read_fault = 8
@@ -34,7 +40,7 @@ is_one_of statuses n = list_any (λ m. nat_eq m n) statuses
 
 -- the statuses that a reply has: all but that of a failed sink and that of want of memory
 abbrev pub of_replies : List ℕ
-of_replies = done ∷ usage ∷ bad_layout ∷ chain ∷ read_fault ∷ mixed_block ∷ many_parts ∷ []
+of_replies = done ∷ usage ∷ bad_layout ∷ bad_crl ∷ chain ∷ too_many ∷ read_fault ∷ mixed_block ∷ many_parts ∷ []
 
 -- all statuses
 abbrev pub all : List ℕ

@@ -19,7 +19,6 @@ use Rattle.clubcard_top.specs.declared.fault.FileFault.TheVariants as faults
 abbrev pub moved : ℕ → PartFault → FileFault
 moved at of_part.NoMemory = faults.NoMemory
 moved at (of_part.Layout f) = faults.Layout (record f { at = at + f.at })
-moved at of_part.Mixed = faults.Mixed
 
 -- a layout whose faults are those of its fields
 abbrev pub fielded : {A : Type 0} → Layout LayoutFault A → Layout FileFault A

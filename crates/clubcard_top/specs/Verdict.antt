@@ -3,6 +3,7 @@ use Rattle.std.specs.Prelude.{List, [], ◌∷◌, Bool, if◌then◌else◌, fi
 use Rattle.std.specs.List.{list_any}
 use Rattle.ident_core.specs.declared.identity.Identity.{Identity}
 use Rattle.ident_core.specs.declared.range.Sighting.{Sighting}
+use Rattle.equation_core.specs.Rows.{sha256_row}
 use Rattle.card_core.specs.PartFields.{PartFields}
 use Rattle.card_core.specs.Consulting.{consulted, covers_some}
 use Rattle.clubcard_top.specs.declared.verdict.Verdict.{Verdict}
@@ -12,9 +13,9 @@ use Rattle.clubcard_top.specs.declared.verdict.Verdict.TheVariants.{NotCovered, 
 abbrev pub covering : List Sighting → List PartFields → List PartFields
 covering sightings parts = filter (covers_some sightings) parts
 
--- what the blocks of the certificate's issuer in these parts say
+-- what the blocks of the certificate's issuer in these parts say, by rows of SHA-256
 abbrev pub answers : Identity → List PartFields → List Bool
-answers x parts = filter_map (λ part. consulted x part.blocks) parts
+answers x parts = filter_map (λ part. consulted sha256_row x part.blocks) parts
 
 abbrev pub by_answers : List Bool → Verdict
 by_answers [] = NotEnrolled

@@ -1,5 +1,5 @@
 -- What the words of a call spell (docs/FORMATS.md, "Words").
-use Rattle.std.specs.Prelude.{ℕ, ◌^◌, List, [], ◌∷◌, length, Bool, ◌&&◌, not, ◌==◌, nat_le, nat_lt, if◌then◌else◌, Option, Some, None, Result, Ok, Err, codes}
+use Rattle.std.specs.Prelude.{ℕ, ◌^◌, List, [], ◌∷◌, length, Bool, ◌&&◌, ◌||◌, not, ◌==◌, nat_le, nat_lt, if◌then◌else◌, Option, Some, None, Result, Ok, Err, codes}
 use Rattle.std.specs.Char.{is_ascii_digit}
 use Rattle.std.specs.List.{list_all}
 use Rattle.std.specs.Str.{bytes_eq}
@@ -9,6 +9,7 @@ use Rattle.hex.specs.declared.error.FromHexError.{FromHexError}
 use Rattle.octets_core.specs.Layout.{within}
 use Rattle.ident_core.specs.declared.range.Sighting.{Sighting}
 use Rattle.clubcard_top.specs.QueryFields.{QueryFields}
+use Rattle.clubcard_top.specs.PublishFields.{SnapshotFields, StartFields}
 use Rattle.clubcard_top.specs.declared.command.Command.{Command}
 use Rattle.clubcard_top.specs.declared.command.Command.TheVariants as commands
 
@@ -73,6 +74,30 @@ abbrev pub name_alone : List (List ℕ) → Option (List ℕ)
 name_alone (word ∷ []) = name_of word
 name_alone words = None
 
+-- 1 to 64
+abbrev pub workers_of : List ℕ → Option ℕ
+workers_of word = do
+  n ← number_of word
+  if within 1 64 n then Some n else None
+
+-- JOB PART LEDGER WORKERS; no two of the names are the same
+abbrev pub snapshot_of : List (List ℕ) → Option SnapshotFields
+snapshot_of (job ∷ part ∷ ledger ∷ workers ∷ []) = do
+  j ← name_of job
+  p ← name_of part
+  l ← name_of ledger
+  n ← workers_of workers
+  if bytes_eq job part || bytes_eq job ledger || bytes_eq part ledger then None else Some (record { job = j; part = p; ledger = l; workers = n })
+snapshot_of words = None
+
+-- PART STORE, of different names
+abbrev pub start_of : List (List ℕ) → Option StartFields
+start_of (part ∷ store ∷ []) = do
+  p ← name_of part
+  s ← name_of store
+  if bytes_eq part store then None else Some (record { part = p; store = s })
+start_of words = None
+
 -- a command where its words are there, or none
 abbrev pub asks : {A : Type 0} → (A → Command) → Option A → Command
 asks command (Some x) = command x
@@ -85,4 +110,6 @@ command_of (command ∷ words) =
     if bytes_eq command (codes "query") then asks commands.Query (query_of words)
     else if bytes_eq command (codes "check") then asks commands.Check (name_alone words)
     else if bytes_eq command (codes "show") then asks commands.Show (name_alone words)
+    else if bytes_eq command (codes "snapshot") then asks commands.Snapshot (snapshot_of words)
+    else if bytes_eq command (codes "start") then asks commands.Start (start_of words)
     else commands.Usage

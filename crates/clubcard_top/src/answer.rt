@@ -1,41 +1,55 @@
-//! Answers, which are sent when all has been read.
+//! Answers, which are sent when all has been read and made.
 
-ghost use Rattle.std.specs.Prelude.{◌≡◌, IsTrue};
+ghost use Rattle.std.specs.Prelude.{◌≡◌, ◌≤◌, [], IsTrue};
 ghost use Rattle.outside_core.specs.Files.{Rose};
 ghost use Rattle.clubcard_top.specs.Statuses as statuses;
-ghost use Rattle.clubcard_top.specs.Answering.{shown};
-ghost use Rattle.clubcard_top.specs.Runs.{EndsSo};
+ghost use Rattle.clubcard_top.specs.Answering.{shown, with_files};
+ghost use Rattle.clubcard_top.specs.Runs.{SentSo, EndsSo};
 
+use crate::output::{Output, write_outputs};
 use crate::reply::Reply;
 use crate::show::write_sealed;
 use crate::status::Status;
-use outside_core::{Failed, Sink, write_all};
+use outside_core::{Depot, Failed, Sink, write_all};
 use part_codec::Sealed;
 
 /// What a command answers.
-#[derive(Debug, Drop)]
+#[derive(Drop)]
 pub enum Answer {
     /// One line.
     Reply(Reply),
     /// All that a part holds, a line each.
     Part(Sealed),
+    /// Files that are written first, and one line once they are whole.
+    Files(Vec<Output>, Reply),
 }
 
-/// Sends a reply.
-fn send_reply<K: Sink>(reply: &Reply, out: &mut K) -> Status
-    ensures ends { EndsSo reply.now result.0 (K.written out.old) (K.written out.new) (Rose (K.faults out.old) (K.faults out.new)) }
-    ensures own { IsTrue (statuses.is_one_of statuses.of_replies reply.now.status) }
+/// Sends one text, behind which the call ends so.
+fn send_text<K: Sink>(text: &[u8], status: Status, out: &mut K) -> Status
+    ensures sent { SentSo (record { status = status.0; text = text.now; outputs = [] }) result.0 (K.written out.old) (K.written out.new) (Rose (K.faults out.old) (K.faults out.new)) }
+    ensures later { K.faults out.old ≤ K.faults out.new }
 {
-    let status = reply.status();
-    match write_all(out, reply.text()) {
+    match write_all(out, text) {
         Ok(()) => status,
         Err(Failed) => Status::WRITE_FAULT,
     }
 }
 
+/// Sends a reply.
+fn send_reply<K: Sink>(reply: &Reply, out: &mut K) -> Status
+    ensures sent { SentSo reply.now result.0 (K.written out.old) (K.written out.new) (Rose (K.faults out.old) (K.faults out.new)) }
+    ensures own { IsTrue (statuses.is_one_of statuses.of_replies reply.now.status) }
+    ensures none { reply.now.outputs ≡ [] }
+    ensures later { K.faults out.old ≤ K.faults out.new }
+{
+    let status = reply.status();
+    send_text(reply.text(), status, out)
+}
+
 /// Sends what a part holds.
 fn send_part<K: Sink>(sealed: &Sealed, out: &mut K) -> Status
-    ensures { EndsSo (shown (Answer.Part sealed.now)) result.0 (K.written out.old) (K.written out.new) (Rose (K.faults out.old) (K.faults out.new)) }
+    ensures sent { SentSo (shown (Answer.Part sealed.now)) result.0 (K.written out.old) (K.written out.new) (Rose (K.faults out.old) (K.faults out.new)) }
+    ensures later { K.faults out.old ≤ K.faults out.new }
 {
     match write_sealed(sealed, out) {
         Ok(()) => Status::DONE,
@@ -43,13 +57,41 @@ fn send_part<K: Sink>(sealed: &Sealed, out: &mut K) -> Status
     }
 }
 
-/// Sends an answer.
-pub fn send<K: Sink>(answer: &Answer, out: &mut K) -> Status
-    ensures ends { EndsSo (shown answer.now) result.0 (K.written out.old) (K.written out.new) (Rose (K.faults out.old) (K.faults out.new)) }
+/// Writes the outputs, and then sends the reply, or the line that says which can't be written.
+fn send_files<D: Depot, K: Sink>(
+    outputs: &[Output],
+    reply: &Reply,
+    depot: &mut D,
+    out: &mut K,
+) -> Status
+    ensures ends { EndsSo (with_files outputs.now reply.now) result.0 (K.written out.old) (K.written out.new) (Rose (K.faults out.old) (K.faults out.new))
+        (D.files depot.old) (D.files depot.new) (Rose (D.write_faults depot.old) (D.write_faults depot.new)) }
+    ensures own { IsTrue (statuses.is_one_of statuses.of_replies reply.now.status) }
+    ensures quiet { outputs.now ≡ [] → D.write_faults depot.new ≡ D.write_faults depot.old }
+    ensures same_reads { D.read_faults depot.new ≡ D.read_faults depot.old }
+    ensures later { D.write_faults depot.old ≤ D.write_faults depot.new }
+    ensures later_out { K.faults out.old ≤ K.faults out.new }
+{
+    let status = reply.status();
+    match write_outputs(outputs, depot) {
+        None => send_text(reply.text(), status, out),
+        Some(output) => send_text(output.fault_line(), Status::WRITE_FAULT, out),
+    }
+}
+
+/// Sends an answer. No memory is taken.
+pub fn send<D: Depot, K: Sink>(answer: &Answer, depot: &mut D, out: &mut K) -> Status
+    ensures ends { EndsSo (shown answer.now) result.0 (K.written out.old) (K.written out.new) (Rose (K.faults out.old) (K.faults out.new))
+        (D.files depot.old) (D.files depot.new) (Rose (D.write_faults depot.old) (D.write_faults depot.new)) }
     ensures own { IsTrue (statuses.is_one_of statuses.of_replies (shown answer.now).status) }
+    ensures quiet { (shown answer.now).outputs ≡ [] → D.write_faults depot.new ≡ D.write_faults depot.old }
+    ensures same_reads { D.read_faults depot.new ≡ D.read_faults depot.old }
+    ensures later { D.write_faults depot.old ≤ D.write_faults depot.new }
+    ensures later_out { K.faults out.old ≤ K.faults out.new }
 {
     match answer {
         Answer::Reply(reply) => send_reply(reply, out),
         Answer::Part(sealed) => send_part(sealed, out),
+        Answer::Files(outputs, reply) => send_files(outputs, reply, depot, out),
     }
 }

@@ -87,6 +87,100 @@ impl Query {
     }
 }
 
+/// A job to be published as the first of a chain.
+#[derive(Debug, Drop)]
+pub struct Snapshot {
+    job: FileName,
+    part: FileName,
+    ledger: FileName,
+    workers: u32,
+}
+
+impl Model for Snapshot {
+    ghost use Rattle.clubcard_top.specs.PublishFields.{SnapshotFields};
+
+    ghost Value = { SnapshotFields };
+
+    ghost view = { λ s. record { job = s.job; part = s.part; ledger = s.ledger; workers = s.workers } };
+}
+
+impl Snapshot {
+    ghost use Rattle.std.specs.Prelude.{◌≡◌};
+
+    /// The job in the file `job`, to be built by so many workers and written to the files `part` and `ledger`.
+    pub fn new(job: FileName, part: FileName, ledger: FileName, workers: u32) -> Snapshot
+        ensures { result ≡ record { job = job; part = part; ledger = ledger; workers = workers } }
+    {
+        Snapshot {
+            job,
+            part,
+            ledger,
+            workers,
+        }
+    }
+
+    /// The name of the file that holds the job.
+    pub fn job(&self) -> &str
+        ensures { result.now ≡ self.now.job }
+    {
+        self.job.as_str()
+    }
+
+    /// The name of the file that the part is written to.
+    pub fn part(&self) -> &str
+        ensures { result.now ≡ self.now.part }
+    {
+        self.part.as_str()
+    }
+
+    /// The name of the file that the ledger is written to.
+    pub fn ledger(&self) -> &str
+        ensures { result.now ≡ self.now.ledger }
+    {
+        self.ledger.as_str()
+    }
+}
+
+/// A part that a store is begun with.
+#[derive(Debug, Drop)]
+pub struct Start {
+    part: FileName,
+    store: FileName,
+}
+
+impl Model for Start {
+    ghost use Rattle.clubcard_top.specs.PublishFields.{StartFields};
+
+    ghost Value = { StartFields };
+
+    ghost view = { λ s. record { part = s.part; store = s.store } };
+}
+
+impl Start {
+    ghost use Rattle.std.specs.Prelude.{◌≡◌};
+
+    /// The part in the file `part`, to be written as a store to the file `store`.
+    pub fn new(part: FileName, store: FileName) -> Start
+        ensures { result ≡ record { part = part; store = store } }
+    {
+        Start { part, store }
+    }
+
+    /// The name of the file that holds the part.
+    pub fn part(&self) -> &str
+        ensures { result.now ≡ self.now.part }
+    {
+        self.part.as_str()
+    }
+
+    /// The name of the file that the store is written to.
+    pub fn store(&self) -> &str
+        ensures { result.now ≡ self.now.store }
+    {
+        self.store.as_str()
+    }
+}
+
 /// What the words of a call ask for.
 #[derive(Debug, Drop)]
 pub enum Command {
@@ -98,4 +192,8 @@ pub enum Command {
     Check(FileName),
     /// What a part holds.
     Show(FileName),
+    /// To publish a job as the first of a chain: its part and its ledger.
+    Snapshot(Snapshot),
+    /// To begin a store with a part.
+    Start(Start),
 }

@@ -11,7 +11,7 @@ ghost use Rattle.clubcard_top.specs.declared.command.Command.{Command};
 use crate::answer::Answer;
 use crate::command::{FileName, Query};
 use crate::files::{read_part, read_store};
-use crate::input::{InputFault, read_file};
+use crate::input::{InputFault, read_all};
 use crate::reply::Reply;
 use crate::verdict::{Verdict, verdict_of_part};
 use card_core::Part;
@@ -21,15 +21,24 @@ use std::alloc::Global;
 use std::marker::Brand;
 use std::sync::ledger::{Blank, Ledger};
 
-/// What a part says of a query, with a counter of probes that nothing reads.
-fn verdict_by<L: Ledger>(part: &Part, query: &Query, blank: Blank) -> Verdict
-    requires name { blank.name ≡ L.name }
-    requires parts { blank.parts ≡ L.parts }
-    requires some { 0 < L.parts }
+/// What a part says of a query, with counters of probes and of words that nothing reads.
+fn verdict_by<L: Ledger, M: Ledger>(
+    part: &Part,
+    query: &Query,
+    probes: Blank,
+    words: Blank,
+) -> Verdict
+    requires probes_name { probes.name ≡ L.name }
+    requires probes_parts { probes.parts ≡ L.parts }
+    requires some_probes { 0 < L.parts }
+    requires words_name { words.name ≡ M.name }
+    requires words_parts { words.parts ≡ M.parts }
+    requires some_words { 0 < M.parts }
     ensures { result ≡ verdict_of (part.now ∷ []) query.now.id query.now.sightings }
 {
-    let mut probes: Steps<L> = Steps::new(blank);
-    verdict_of_part(part, query.id(), query.sightings(), &mut probes)
+    let mut probes: Steps<L> = Steps::new(probes);
+    let mut words: Steps<M> = Steps::new(words);
+    verdict_of_part(part, query.id(), query.sightings(), &mut probes, &mut words)
 }
 
 /// The answer to a query over the bytes of a store.
@@ -38,7 +47,12 @@ fn query_over(alloc: Global, query: &Query, bytes: &[u8]) -> Result<Answer, NoMe
 {
     let reply = match read_store(alloc, bytes) {
         Ok(sealed) => {
-            let verdict = verdict_by::<Brand>(sealed.part(), query, Blank::new(1));
+            let verdict = verdict_by::<Brand, Brand>(
+                sealed.part(),
+                query,
+                Blank::new(1),
+                Blank::new(1),
+            );
             Reply::verdict(alloc, verdict)?
         }
         Err(fault) => Reply::refusal(alloc, query.store(), fault)?,
@@ -68,17 +82,11 @@ fn show_over(alloc: Global, name: &str, bytes: &[u8]) -> Result<Answer, NoMemory
 }
 
 /// The answer about a file that can't be read.
-fn fault_answer(alloc: Global, name: &str) -> Result<Answer, NoMemory>
+pub(crate) fn fault_answer(alloc: Global, name: &str) -> Result<Answer, NoMemory>
     ensures { IfOk result (λ a. shown a ≡ read_fault name.now) }
 {
     Ok(Answer::Reply(Reply::read_fault(alloc, name)?))
 }
-
-/// The most bytes of a store that are read: one more than the longest store of one part whose blocks say none or all.
-const MAX_STORE: usize = 2_211_906;
-
-/// The most bytes of a part that are read: one more than the longest part whose blocks say none or all.
-const MAX_PART: usize = 2_211_896;
 
 /// The answer to a query.
 pub fn answer_query<D: Depot>(
@@ -87,10 +95,11 @@ pub fn answer_query<D: Depot>(
     depot: &mut D,
 ) -> Result<Answer, NoMemory>
     ensures reply { IfOk result (λ a. IsFileReply (Command.Query query.now) query.now.store (D.files depot.old) (Rose (D.read_faults depot.old) (D.read_faults depot.new)) (shown a)) }
+    ensures later { D.read_faults depot.old ≤ D.read_faults depot.new }
     ensures same_files { D.files depot.new ≡ D.files depot.old }
     ensures same_writes { D.write_faults depot.new ≡ D.write_faults depot.old }
 {
-    match read_file(alloc, depot, query.store(), MAX_STORE) {
+    match read_all(alloc, depot, query.store()) {
         Ok(bytes) => query_over(alloc, query, &bytes),
         Err(InputFault::Failed) => fault_answer(alloc, query.store()),
         Err(InputFault::NoMemory) => Err(NoMemory),
@@ -104,10 +113,11 @@ pub fn answer_check<D: Depot>(
     depot: &mut D,
 ) -> Result<Answer, NoMemory>
     ensures reply { IfOk result (λ a. IsFileReply (Command.Check name.now) name.now (D.files depot.old) (Rose (D.read_faults depot.old) (D.read_faults depot.new)) (shown a)) }
+    ensures later { D.read_faults depot.old ≤ D.read_faults depot.new }
     ensures same_files { D.files depot.new ≡ D.files depot.old }
     ensures same_writes { D.write_faults depot.new ≡ D.write_faults depot.old }
 {
-    match read_file(alloc, depot, name.as_str(), MAX_PART) {
+    match read_all(alloc, depot, name.as_str()) {
         Ok(bytes) => check_over(alloc, name.as_str(), &bytes),
         Err(InputFault::Failed) => fault_answer(alloc, name.as_str()),
         Err(InputFault::NoMemory) => Err(NoMemory),
@@ -121,10 +131,11 @@ pub fn answer_show<D: Depot>(
     depot: &mut D,
 ) -> Result<Answer, NoMemory>
     ensures reply { IfOk result (λ a. IsFileReply (Command.Show name.now) name.now (D.files depot.old) (Rose (D.read_faults depot.old) (D.read_faults depot.new)) (shown a)) }
+    ensures later { D.read_faults depot.old ≤ D.read_faults depot.new }
     ensures same_files { D.files depot.new ≡ D.files depot.old }
     ensures same_writes { D.write_faults depot.new ≡ D.write_faults depot.old }
 {
-    match read_file(alloc, depot, name.as_str(), MAX_PART) {
+    match read_all(alloc, depot, name.as_str()) {
         Ok(bytes) => show_over(alloc, name.as_str(), &bytes),
         Err(InputFault::Failed) => fault_answer(alloc, name.as_str()),
         Err(InputFault::NoMemory) => Err(NoMemory),

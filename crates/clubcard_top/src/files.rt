@@ -2,7 +2,7 @@
 
 ghost use Rattle.std.specs.Prelude.{◌≡◌, ◌+◌, ◌<◌, ◌^◌, ◌≤◌, ◌↔◌, IsTrue, length, [], ◌∷◌, IfOk};
 ghost use Rattle.octets_core.specs.Layout.{embedded};
-ghost use Rattle.part_codec.specs.Decoding.{GivesUnless, value_of};
+ghost use Rattle.octets_core.specs.Reading.{GivesUnless, value_of};
 ghost use Rattle.part_codec.specs.Offsets.{offset_in_part};
 ghost use Rattle.part_codec.specs.PartLayout.{part};
 ghost use Rattle.clubcard_top.specs.StoreLayout.{store, moved as moved_by};
@@ -25,7 +25,6 @@ fn moved(at: u64, fault: PartFault) -> FileFault
             field: f.field,
             why: f.why,
         }),
-        PartFault::Mixed => FileFault::Mixed,
         PartFault::NoMemory => FileFault::NoMemory,
     }
 }
@@ -46,11 +45,7 @@ fn part_at(alloc: Global, bytes: &[u8], at: usize) -> Result<(Sealed, usize), Fi
 fn behind(end: usize) -> FileFault
     ensures { result ≡ FileFault.Layout (record { at = end; field = Field.End; why = Why.Value }) }
 {
-    FileFault::Layout(LayoutFault {
-        at: end as u64,
-        field: Field::End,
-        why: Why::Value,
-    })
+    FileFault::Layout(LayoutFault::new(end, Field::End, Why::Value))
 }
 
 /// The part that a file holds, and how many bytes it has.

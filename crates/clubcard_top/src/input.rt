@@ -1,6 +1,6 @@
 //! Files that are taken whole.
 
-ghost use Rattle.std.specs.Prelude.{◌≡◌, ◌≤◌, ◌+◌, ◌++◌, ◌⊎◌, length, take, drop, IfOk, OnOk, IsErrOf, vec_len};
+ghost use Rattle.std.specs.Prelude.{◌≡◌, ◌≤◌, ◌+◌, ◌++◌, length, take, drop, IfOk, OnOk, IsErrOf, vec_len};
 ghost use Rattle.outside_core.specs.Files.{Rose, IsMissing, ReadFailed};
 ghost use Rattle.clubcard_top.specs.Inputs.{WhereHeld, IsHeld};
 
@@ -20,27 +20,19 @@ pub enum InputFault {
 const PIECE: usize = 65_536;
 
 /// Reads the next piece of a file behind the bytes that were read, and answers how many bytes came: none only at the
-/// end of the file, or where as many as the limit were read.
-fn read_piece<D: Depot>(
-    depot: &mut D,
-    name: &str,
-    bytes: &mut Vec<u8>,
-    limit: usize,
-) -> Result<usize, InputFault>
-    requires { vec_len bytes.old ≤ limit }
-    ensures few { IfOk result (λ n. vec_len bytes.old + n ≤ limit) }
+/// end of the file.
+fn read_piece<D: Depot>(depot: &mut D, name: &str, bytes: &mut Vec<u8>) -> Result<usize, InputFault>
     ensures len { IfOk result (λ n. vec_len bytes.new ≡ vec_len bytes.old + n) }
     ensures piece { IfOk result (λ n. IsHeld (D.files depot.old) name.now (λ file.
         (bytes.new.items ≡ bytes.old.items ++ take n (drop (vec_len bytes.old) file))
-        × (n ≡ 0 → (limit ≡ vec_len bytes.old) ⊎ (length file ≤ vec_len bytes.old)))) }
+        × (n ≡ 0 → length file ≤ vec_len bytes.old))) }
     ensures failed { IsErrOf result InputFault.Failed → ReadFailed (D.files depot.old) name.now (D.read_faults depot.old) (D.read_faults depot.new) }
     ensures later { D.read_faults depot.old ≤ D.read_faults depot.new }
     ensures same_files { D.files depot.new ≡ D.files depot.old }
     ensures same_writes { D.write_faults depot.new ≡ D.write_faults depot.old }
 {
     let mut buffer = [0u8; PIECE];
-    let want = (limit - bytes.len()).min(PIECE);
-    let n = match depot.read_at(name, bytes.len() as u64, &mut buffer[..want]) {
+    let n = match depot.read_at(name, bytes.len() as u64, &mut buffer) {
         Ok(n) => n,
         Err(Failed) => return Err(InputFault::Failed),
     };
@@ -50,26 +42,32 @@ fn read_piece<D: Depot>(
     }
 }
 
-/// Takes the first `limit` bytes of a file, or all where it has fewer.
-pub fn read_file<D: Depot>(
-    alloc: Global,
-    depot: &mut D,
-    name: &str,
-    limit: usize,
-) -> Result<Vec<u8>, InputFault>
-    ensures bytes { IfOk result (λ bytes. IsHeld (D.files depot.old) name.now (λ file. bytes.items ≡ take limit file)) }
+/// Takes the bytes of a file behind none.
+fn read_on<D: Depot>(depot: &mut D, name: &str, taken: Vec<u8>) -> Result<Vec<u8>, InputFault>
+    requires { vec_len taken ≡ 0 }
+    ensures bytes { IfOk result (λ bytes. IsHeld (D.files depot.old) name.now (λ file. bytes.items ≡ file)) }
     ensures failed { IsErrOf result InputFault.Failed → ReadFailed (D.files depot.old) name.now (D.read_faults depot.old) (D.read_faults depot.new) }
     ensures later { D.read_faults depot.old ≤ D.read_faults depot.new }
     ensures same_files { D.files depot.new ≡ D.files depot.old }
     ensures same_writes { D.write_faults depot.new ≡ D.write_faults depot.old }
 {
-    let Ok(mut bytes) = Vec::with_capacity(alloc, limit) else {
-        return Err(InputFault::NoMemory);
-    };
+    let mut bytes = taken;
     loop {
-        let n = read_piece(depot, name, &mut bytes, limit)?;
+        let n = read_piece(depot, name, &mut bytes)?;
         if n == 0 {
             return Ok(bytes);
         }
     }
+}
+
+/// Takes all bytes of a file. Its length isn't known before its end, so room is taken as the bytes come; a file that
+/// doesn't fit is want of memory.
+pub fn read_all<D: Depot>(alloc: Global, depot: &mut D, name: &str) -> Result<Vec<u8>, InputFault>
+    ensures bytes { IfOk result (λ bytes. IsHeld (D.files depot.old) name.now (λ file. bytes.items ≡ file)) }
+    ensures failed { IsErrOf result InputFault.Failed → ReadFailed (D.files depot.old) name.now (D.read_faults depot.old) (D.read_faults depot.new) }
+    ensures later { D.read_faults depot.old ≤ D.read_faults depot.new }
+    ensures same_files { D.files depot.new ≡ D.files depot.old }
+    ensures same_writes { D.write_faults depot.new ≡ D.write_faults depot.old }
+{
+    read_on(depot, name, Vec::new(alloc))
 }

@@ -8,15 +8,25 @@ mod commands;
 mod fault;
 mod files;
 mod input;
+mod laws;
 mod line;
+mod output;
+mod publish;
+mod publishing;
 mod reply;
 mod show;
 mod status;
+mod store;
 #[cfg(test)]
 mod tests;
 mod top;
 mod verdict;
 mod words;
 
+pub use laws::{
+    first_jobs_are_published, first_parts_begin_stores, first_steps_are_the_historys,
+    texts_are_read_back, verdicts_are_the_truth,
+};
 pub use status::Status;
+pub use store::{StartFault, Store};
 pub use top::run;

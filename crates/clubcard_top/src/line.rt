@@ -2,16 +2,18 @@
 
 ghost use Rattle.std.specs.Prelude.{◌≡◌, ◌+◌, ◌*◌, ◌≤◌, [], ◌∷◌, ◌++◌, length, codes, decimal};
 ghost use Rattle.hex.specs.Hex.{encode_lower};
-ghost use Rattle.clubcard_top.specs.Lines.{kind_word, body_word, check_line, head_line, range_line, block_line, trailer_line};
+ghost use Rattle.part_codec.specs.PartText.{width_of};
+ghost use Rattle.clubcard_top.specs.Lines.{kind_word, stage_words, approx_words, mixed_words, body_words, check_line, report_line, store_line, head_line, range_line, block_line, trailer_line};
 
-use card_core::{Block, Body};
+use card_core::{Block, Body, Mixed, Stage};
 use ident_core::{Head, Kind, Range};
 use octets_core::Key32;
 use part_codec::Sealed;
 use std::marker::Model;
+use universe_core::Counts;
 
 /// The most bytes of a line.
-const ROOM: usize = 256;
+const ROOM: usize = 320;
 
 /// One line.
 #[derive(Drop)]
@@ -27,7 +29,7 @@ impl Model for Line {
 
     ghost view = { λ l. take l.len l.bytes };
 
-    ghost invariant = { λ l. (l.len ≤ 256) × (length l.bytes ≡ 256) };
+    ghost invariant = { λ l. (l.len ≤ 320) × (length l.bytes ≡ 320) };
 }
 
 impl Line {
@@ -42,7 +44,7 @@ impl Line {
     }
 
     fn push(&mut self, piece: &[u8])
-        requires { length self.old + length piece.now ≤ 256 }
+        requires { length self.old + length piece.now ≤ 320 }
         ensures value { self.new ≡ self.old ++ piece.now }
         ensures len { length self.new ≡ length self.old + length piece.now }
     {
@@ -52,7 +54,7 @@ impl Line {
     }
 
     fn push_number(&mut self, n: u64)
-        requires { length self.old + 20 ≤ 256 }
+        requires { length self.old + 20 ≤ 320 }
         ensures value { self.new ≡ self.old ++ decimal n }
         ensures len { length self.new ≤ length self.old + 20 }
     {
@@ -60,14 +62,74 @@ impl Line {
         self.push(buffer.format(n).as_bytes());
     }
 
+    /// A word and a number.
+    fn push_count(&mut self, word: &[u8], n: u64)
+        requires { length self.old + length word.now + 20 ≤ 320 }
+        ensures value { self.new ≡ self.old ++ word.now ++ decimal n }
+        ensures len { length self.new ≤ length self.old + length word.now + 20 }
+    {
+        self.push(word);
+        self.push_number(n);
+    }
+
     fn push_key(&mut self, key: &Key32)
-        requires { length self.old + 64 ≤ 256 }
+        requires { length self.old + 64 ≤ 320 }
         ensures value { self.new ≡ self.old ++ encode_lower key.now }
         ensures len { length self.new ≡ length self.old + 64 }
     {
         let mut text = [0u8; 64];
         let _ = hex::encode_to_slice(key.bytes(), &mut text);
         self.push(&text);
+    }
+
+    /// A stage's seed and how many starts it has.
+    fn push_stage(&mut self, stage: &Stage)
+        requires { length self.old + 41 ≤ 320 }
+        ensures value { self.new ≡ self.old ++ stage_words stage.now }
+        ensures len { length self.new ≤ length self.old + 41 }
+    {
+        self.push_number(stage.seed as u64);
+        self.push(b" ");
+        self.push_number(stage.planes.starts() as u64);
+    }
+
+    /// How many planes the approximate stage has, and the stage if there is one.
+    fn push_approx(&mut self, mixed: &Mixed)
+        requires { length self.old + 69 ≤ 320 }
+        ensures value { self.new ≡ self.old ++ decimal (width_of mixed.now.approx) ++ approx_words mixed.now.approx }
+        ensures len { length self.new ≤ length self.old + 69 }
+    {
+        match mixed.approx() {
+            None => self.push_number(0),
+            Some(stage) => {
+                self.push_number(stage.planes.planes() as u64);
+                self.push(b" approx ");
+                self.push_stage(stage);
+            }
+        }
+    }
+
+    fn push_mixed(&mut self, mixed: &Mixed)
+        requires { length self.old + 125 ≤ 320 }
+        ensures value { self.new ≡ self.old ++ mixed_words mixed.now }
+        ensures len { length self.new ≤ length self.old + 125 }
+    {
+        self.push(b"mixed k ");
+        self.push_approx(mixed);
+        self.push(b" exact ");
+        self.push_stage(mixed.exact());
+    }
+
+    fn push_body(&mut self, body: &Body)
+        requires { length self.old + 125 ≤ 320 }
+        ensures value { self.new ≡ self.old ++ body_words body.now }
+        ensures len { length self.new ≤ length self.old + 125 }
+    {
+        match body {
+            Body::Clean => self.push(b"none"),
+            Body::Every => self.push(b"all"),
+            Body::Mixed(mixed) => self.push_mixed(mixed),
+        }
     }
 
     /// The line's text.
@@ -88,16 +150,6 @@ fn kind_text(kind: Kind) -> &'static [u8]
     }
 }
 
-fn body_text(body: &Body) -> &'static [u8]
-    ensures value { result.now ≡ body_word body.now }
-    ensures len { length result.now ≤ 4 }
-{
-    match body {
-        Body::Clean => b"none",
-        Body::Every => b"all",
-    }
-}
-
 /// `part KIND epoch E ranges N issuers M bytes B`
 pub fn checked(sealed: &Sealed, size: usize) -> Line
     ensures { result ≡ check_line sealed.now size }
@@ -115,6 +167,36 @@ pub fn checked(sealed: &Sealed, size: usize) -> Line
     line.push_number(part.blocks().len() as u64);
     line.push(b" bytes ");
     line.push_number(size as u64);
+    line.push(b"\n");
+    line
+}
+
+/// `epoch E part P issuers I universe U revoked R unread A uncovered B unenrolled C late D accepted F`
+pub fn reported(epoch: u64, place: u32, counts: &Counts) -> Line
+    ensures { result ≡ report_line epoch place counts.now }
+{
+    let mut line = Line::new();
+    line.push_count(b"epoch ", epoch);
+    line.push_count(b" part ", place as u64);
+    line.push_count(b" issuers ", counts.issuers as u64);
+    line.push_count(b" universe ", counts.universe as u64);
+    line.push_count(b" revoked ", counts.revoked as u64);
+    line.push_count(b" unread ", counts.unread as u64);
+    line.push_count(b" uncovered ", counts.uncovered as u64);
+    line.push_count(b" unenrolled ", counts.unenrolled as u64);
+    line.push_count(b" late ", counts.late as u64);
+    line.push_count(b" accepted ", counts.accepted as u64);
+    line.push(b"\n");
+    line
+}
+
+/// `store parts N epoch E`
+pub fn stored(parts: usize, epoch: u64) -> Line
+    ensures { result ≡ store_line parts epoch }
+{
+    let mut line = Line::new();
+    line.push_count(b"store parts ", parts as u64);
+    line.push_count(b" epoch ", epoch);
     line.push(b"\n");
     line
 }
@@ -149,7 +231,7 @@ pub fn range_shown(range: &Range) -> Line
     line
 }
 
-/// `issuer KEY none`, or `all`
+/// `issuer KEY none`, `all`, or `mixed k K approx SEED STARTS exact SEED STARTS`
 pub fn block_shown(block: &Block) -> Line
     ensures { result ≡ block_line block.now }
 {
@@ -157,7 +239,7 @@ pub fn block_shown(block: &Block) -> Line
     line.push(b"issuer ");
     line.push_key(&block.issuer);
     line.push(b" ");
-    line.push(body_text(&block.body));
+    line.push_body(&block.body);
     line.push(b"\n");
     line
 }

@@ -2,9 +2,12 @@
 //! (Python, with its hashlib for the trailers) by the tables of docs/FORMATS.md.
 
 use crate::{Status, run};
-use outside_core::{Depot, Failed, MemoryDepot, MemorySink};
+use outside_core::{MemoryDepot, MemorySink};
 use std::alloc::Global;
 use std::test::Fail;
+use std::thread::Threads;
+
+mod publishing;
 
 const K1: &str = "1111111111111111111111111111111111111111111111111111111111111111";
 
@@ -35,6 +38,17 @@ const PART_REVOKED: &str =
 const ONE_DELTA: &str =
     "434c554253544f520101434c5542434152440101000000000000000100000000000000000000000000000000000000000000000000000000000000000001aaaaaaaaaaaaaaaaaaaaaaaaaaaaaaaaaaaaaaaaaaaaaaaaaaaaaaaaaaaaaaaa0000018bcfe568000000018bcfe56be80000000111111111111111111111111111111111111111111111111111111111111111110148a4af994491c01ee25deedfd0718a84d01fceab133a69d4b919d81267388b85";
 
+// A snapshot of epoch 1 that covers LA from T to T + 1000, with one mixed block of K1, with no approximate stage: the
+// serial 05 is revoked and 06 is not.
+const PART_MIXED: &str =
+    "434c5542434152440100000000000000000100000000000000000000000000000000000000000000000000000000000000000001aaaaaaaaaaaaaaaaaaaaaaaaaaaaaaaaaaaaaaaaaaaaaaaaaaaaaaaaaaaaaaaa0000018bcfe568000000018bcfe56be8000000011111111111111111111111111111111111111111111111111111111111111111020000000000030000000000000002000000000000000000000000000000002dc0833351c88c3277058ec448b168eb45f48c5ab41dc68b71e9122410bc74e4";
+// The same block in a delta of epoch 2.
+const DELTA_MIXED: &str =
+    "434c554243415244010100000000000000023c5297690856618bbb3bc14ceaf19ce2d0f4c977bf05c935e445542588879af30001aaaaaaaaaaaaaaaaaaaaaaaaaaaaaaaaaaaaaaaaaaaaaaaaaaaaaaaaaaaaaaaa0000018bcfe568000000018bcfe56fd000000001111111111111111111111111111111111111111111111111111111111111111102000000000003000000000000000200000000000000000000000000000000d720f255b1870ad1dd8b011598e3d444bd97fc8550a021a271b7d0ce89fddd26";
+// A snapshot of epoch 7 with a mixed block of two stages and one of mode all.
+const TWO_STAGES: &str =
+    "434c55424341524401000000000000000007000000000000000000000000000000000000000000000000000000000000000000000000000211111111111111111111111111111111111111111111111111111111111111110202c8000000010123456789abcdeffedcba9876543210112233445566778899aabbccddeeff0003000000420000000000000001000000000000000200000000000000030000000000000001222222222222222222222222222222222222222222222222222222222222222201ac9860f02a76857bbb43bb353209ed0eff12cf3009f3cd172c2f5553e2d5d0e1";
+
 /// What a store becomes before it is asked.
 #[derive(Clone, Copy, Debug)]
 enum Change {
@@ -45,6 +59,17 @@ enum Change {
     Cut(usize),
     /// One byte more.
     More,
+}
+
+/// Runs the words. A test looks at what came of it and needs none of the clauses of `run`.
+fn ended_by<R: Threads + Sync>(
+    rt: &R,
+    alloc: Global,
+    words: &[String],
+    depot: &mut MemoryDepot,
+    out: &mut MemorySink,
+) -> Status {
+    run(rt, alloc, words, depot, out)
 }
 
 /// A command's words, each a word.
@@ -97,14 +122,14 @@ fn verdicts(rt: HostRuntime) -> Result<(), Fail> {
         let mut depot = depot_of(alloc, store, Change::Nothing)?;
         let mut out = MemorySink::new(alloc);
         let words = words_of(alloc, &["query", "S", issuer, "05", LB, "0", log, time])?;
-        let status = run(&rt, alloc, &words, &mut depot, &mut out);
+        let status = ended_by(&rt, alloc, &words, &mut depot, &mut out);
         assert_eq!(rt; status, Status::DONE, "{expected}");
         assert_eq!(rt; out.bytes(), expected.as_bytes());
     }
     Ok(())
 }
 
-// The refusals of a store: the mode 2, the counts 2, 64, 65 and 0, a delta (also with a byte behind it), and fields that
+// The refusals of a store: a mode of 2 with nothing mixed behind it, the counts 2, 64, 65 and 0, a delta (also with a byte behind it), and fields that
 // are short or fail their tests, each with its offset in the store.
 #[test]
 fn refusals(rt: HostRuntime) -> Result<(), Fail> {
@@ -113,8 +138,8 @@ fn refusals(rt: HostRuntime) -> Result<(), Fail> {
         (
             ONE_REVOKED,
             Change::Byte(146, 2),
-            Status::MIXED_BLOCK,
-            "mixed S\n",
+            Status::BAD_LAYOUT,
+            "layout 147 block.k value S\n",
         ),
         (
             ONE_REVOKED,
@@ -204,7 +229,7 @@ fn refusals(rt: HostRuntime) -> Result<(), Fail> {
         let mut depot = depot_of(alloc, store, change)?;
         let mut out = MemorySink::new(alloc);
         let words = words_of(alloc, &["query", "S", K1, "05", LA, T])?;
-        let ended = run(&rt, alloc, &words, &mut depot, &mut out);
+        let ended = ended_by(&rt, alloc, &words, &mut depot, &mut out);
         assert_eq!(rt; ended, status, "{change:?}");
         assert_eq!(rt; out.bytes(), expected.as_bytes(), "{change:?}");
     }
@@ -247,12 +272,16 @@ fn checks(rt: HostRuntime) -> Result<(), Fail> {
             "layout 137 part.trailer digest S\n",
         ),
         (Change::More, Status::BAD_LAYOUT, "layout 169 end value S\n"),
-        (Change::Byte(136, 2), Status::MIXED_BLOCK, "mixed S\n"),
+        (
+            Change::Byte(136, 2),
+            Status::BAD_LAYOUT,
+            "layout 137 block.k value S\n",
+        ),
     ] {
         let mut depot = depot_of(alloc, PART_REVOKED, change)?;
         let mut out = MemorySink::new(alloc);
         let words = words_of(alloc, &["check", "S"])?;
-        let ended = run(&rt, alloc, &words, &mut depot, &mut out);
+        let ended = ended_by(&rt, alloc, &words, &mut depot, &mut out);
         assert_eq!(rt; ended, status, "{change:?}");
         assert_eq!(rt; out.bytes(), expected.as_bytes(), "{change:?}");
     }
@@ -280,7 +309,7 @@ fn shows(rt: HostRuntime) -> Result<(), Fail> {
         let mut depot = depot_of(alloc, PART_REVOKED, Change::Nothing)?;
         let mut out = MemorySink::new(alloc);
         out.fail_writes(&[call])?;
-        let ended = run(&rt, alloc, &words, &mut depot, &mut out);
+        let ended = ended_by(&rt, alloc, &words, &mut depot, &mut out);
         let status = if call < 4 {
             Status::WRITE_FAULT
         } else {
@@ -288,6 +317,73 @@ fn shows(rt: HostRuntime) -> Result<(), Fail> {
         };
         assert_eq!(rt; ended, status, "write {call}");
         assert_eq!(rt; out.bytes(), expected.as_slice(), "write {call}");
+    }
+    Ok(())
+}
+
+// One line for each mixed block, with and without an approximate stage; and a padding bit that is set.
+#[test]
+fn reads_mixed_blocks(rt: HostRuntime) -> Result<(), Fail> {
+    let alloc = rt.alloc();
+    for (command, part, change, status, expected) in [
+        (
+            "check",
+            DELTA_MIXED,
+            Change::Nothing,
+            Status::DONE,
+            "part delta epoch 2 ranges 1 issuers 1 bytes 199\n",
+        ),
+        (
+            "check",
+            DELTA_MIXED,
+            Change::Byte(159, 1),
+            Status::BAD_LAYOUT,
+            "layout 143 exact.plane value S\n",
+        ),
+        (
+            "show",
+            DELTA_MIXED,
+            Change::Nothing,
+            Status::DONE,
+            "part delta version 1 epoch 2 parent 3c5297690856618bbb3bc14ceaf19ce2d0f4c977bf05c935e445542588879af3\nrange aaaaaaaaaaaaaaaaaaaaaaaaaaaaaaaaaaaaaaaaaaaaaaaaaaaaaaaaaaaaaaaa 1700000000000 1700000002000\nissuer 1111111111111111111111111111111111111111111111111111111111111111 mixed k 0 exact 0 3\ntrailer d720f255b1870ad1dd8b011598e3d444bd97fc8550a021a271b7d0ce89fddd26\n",
+        ),
+        (
+            "show",
+            TWO_STAGES,
+            Change::Nothing,
+            Status::DONE,
+            "part snapshot version 1 epoch 7 parent 0000000000000000000000000000000000000000000000000000000000000000\nissuer 1111111111111111111111111111111111111111111111111111111111111111 mixed k 2 approx 200 1 exact 3 66\nissuer 2222222222222222222222222222222222222222222222222222222222222222 all\ntrailer ac9860f02a76857bbb43bb353209ed0eff12cf3009f3cd172c2f5553e2d5d0e1\n",
+        ),
+    ] {
+        let mut depot = depot_of(alloc, part, change)?;
+        let mut out = MemorySink::new(alloc);
+        let words = words_of(alloc, &[command, "S"])?;
+        let ended = ended_by(&rt, alloc, &words, &mut depot, &mut out);
+        assert_eq!(rt; ended, status, "{command} {change:?}");
+        assert_eq!(rt; out.bytes(), expected.as_bytes(), "{command} {change:?}");
+    }
+    Ok(())
+}
+
+// A store that is begun with a mixed part, and its verdicts.
+#[test]
+fn verdicts_of_a_mixed_block(rt: HostRuntime) -> Result<(), Fail> {
+    let alloc = rt.alloc();
+    let part = hex::decode(alloc, PART_MIXED)?;
+    let mut depot = MemoryDepot::new(alloc);
+    depot.put("P", &part)?;
+    let cases: [(&[&str], &str); 4] = [
+        (&["start", "P", "S"], "store parts 1 epoch 1\n"),
+        (&["query", "S", K1, "05", LA, T], "revoked\n"),
+        (&["query", "S", K1, "06", LA, T], "good\n"),
+        (&["query", "S", K1, "06", LA, T_PAST], "not-covered\n"),
+    ];
+    for (words, expected) in cases {
+        let mut out = MemorySink::new(alloc);
+        let words = words_of(alloc, words)?;
+        let ended = ended_by(&rt, alloc, &words, &mut depot, &mut out);
+        assert_eq!(rt; ended, Status::DONE, "{expected}");
+        assert_eq!(rt; out.bytes(), expected.as_bytes());
     }
     Ok(())
 }
@@ -321,7 +417,7 @@ fn bad_words(rt: HostRuntime) -> Result<(), Fail> {
         depot.fail_reads(&[0])?;
         let mut out = MemorySink::new(alloc);
         let words = words_of(alloc, words)?;
-        let ended = run(&rt, alloc, &words, &mut depot, &mut out);
+        let ended = ended_by(&rt, alloc, &words, &mut depot, &mut out);
         assert_eq!(rt; ended, Status::USAGE);
         assert_eq!(rt; out.bytes(), b"usage\n".as_slice());
     }
@@ -338,7 +434,7 @@ fn reads_fail_in_turn(rt: HostRuntime) -> Result<(), Fail> {
         let mut depot = depot_of(alloc, ONE_REVOKED, Change::Nothing)?;
         depot.fail_reads(&[call])?;
         let mut out = MemorySink::new(alloc);
-        let ended = run(&rt, alloc, &words, &mut depot, &mut out);
+        let ended = ended_by(&rt, alloc, &words, &mut depot, &mut out);
         let held = hex::decode(alloc, ONE_REVOKED)?;
         assert_eq!(rt; depot.bytes_of("S"), Some(held.as_slice()));
         if ended == Status::DONE {
@@ -353,7 +449,7 @@ fn reads_fail_in_turn(rt: HostRuntime) -> Result<(), Fail> {
     let mut depot = MemoryDepot::new(alloc);
     let mut out = MemorySink::new(alloc);
     assert_eq!(rt;
-        run(&rt, alloc, &words, &mut depot, &mut out),
+        ended_by(&rt, alloc, &words, &mut depot, &mut out),
         Status::READ_FAULT
     );
     assert_eq!(rt; out.bytes(), b"read-fault S\n".as_slice());
@@ -375,7 +471,7 @@ fn writes_fail_in_turn(rt: HostRuntime) -> Result<(), Fail> {
             let mut depot = depot_of(alloc, ONE_REVOKED, Change::Nothing)?;
             let mut out = MemorySink::new(alloc);
             out.fail_writes(&[call])?;
-            let ended = run(&rt, alloc, words, &mut depot, &mut out);
+            let ended = ended_by(&rt, alloc, words, &mut depot, &mut out);
             if ended == status {
                 assert_eq!(rt; out.bytes(), expected.as_bytes());
                 break;
@@ -385,58 +481,6 @@ fn writes_fail_in_turn(rt: HostRuntime) -> Result<(), Fail> {
             met = met.saturating_add(1);
         }
         assert_eq!(rt; met, 1, "one line, one write");
-    }
-    Ok(())
-}
-
-/// A file of zeros with no end. It keeps how far it was asked.
-#[derive(Drop)]
-struct Endless {
-    asked: u64,
-}
-
-impl Depot for Endless {
-    ghost use Rattle.std.specs.Prelude.{None};
-
-    ghost files = { λ _. None };
-
-    ghost read_faults = { λ _. 0 };
-
-    ghost write_faults = { λ _. 0 };
-
-    fn read_at(&mut self, _name: &str, at: u64, buf: &mut [u8]) -> Result<usize, Failed> {
-        self.asked = self.asked.max(at.saturating_add(buf.len() as u64));
-        Ok(buf.len())
-    }
-
-    fn begin(&mut self, _name: &str) -> Result<(), Failed> {
-        Ok(())
-    }
-
-    fn append(&mut self, _name: &str, bytes: &[u8]) -> Result<usize, Failed> {
-        Ok(bytes.len())
-    }
-}
-
-// No byte is read behind the longest store or part and one byte more.
-#[test]
-fn reads_no_more_than_a_file(rt: HostRuntime) -> Result<(), Fail> {
-    let alloc = rt.alloc();
-    let query = words_of(alloc, &["query", "S", K1, "05", LA, T])?;
-    let check = words_of(alloc, &["check", "S"])?;
-    let show = words_of(alloc, &["show", "S"])?;
-    for (words, most) in [
-        (query.as_slice(), 2_211_906),
-        (check.as_slice(), 2_211_896),
-        (show.as_slice(), 2_211_896),
-    ] {
-        let mut depot = Endless { asked: 0 };
-        let mut out = MemorySink::new(alloc);
-        assert_eq!(rt;
-            run(&rt, alloc, words, &mut depot, &mut out),
-            Status::BAD_LAYOUT
-        );
-        assert_eq!(rt; depot.asked, most);
     }
     Ok(())
 }

@@ -5,9 +5,9 @@ ghost use Rattle.std.specs.List.{list_all};
 ghost use Rattle.std.specs.Char.{is_ascii_digit};
 ghost use Rattle.std.specs.Option.{option_map};
 ghost use Rattle.clubcard_top.specs.declared.command.Command.TheVariants as commands;
-ghost use Rattle.clubcard_top.specs.Words.{command_of, asks, query_of, name_alone, name_of, pairs_of, key_of, serial_of, number_of, is_name, is_plain};
+ghost use Rattle.clubcard_top.specs.Words.{command_of, asks, query_of, name_alone, name_of, pairs_of, key_of, serial_of, number_of, workers_of, snapshot_of, start_of, is_name, is_plain};
 
-use crate::command::{Command, FileName, Query};
+use crate::command::{Command, FileName, Query, Snapshot, Start};
 use hex::FromHex;
 use ident_core::{Identity, Serial, Sighting};
 use octets_core::{Key32, NoMemory};
@@ -68,6 +68,17 @@ fn number_word(word: &str) -> Option<u64>
         Ok(n) => Some(n),
         Err(_) => None,
     }
+}
+
+/// The number of workers that a word spells, 1 to 64.
+fn workers_word(word: &str) -> Option<u32>
+    ensures { result ≡ workers_of word.now }
+{
+    let n = number_word(word)?;
+    if n < 1 || n > 64 {
+        return None;
+    }
+    Some(n as u32)
 }
 
 /// The sightings that words spell, two words each.
@@ -142,6 +153,53 @@ fn read_name_alone(alloc: Global, words: &[String]) -> Result<Option<FileName>, 
     }
 }
 
+/// The job to be published that words spell, if they spell one.
+fn read_snapshot(alloc: Global, words: &[String]) -> Result<Option<Snapshot>, NoMemory>
+    ensures { IfOk result (λ s. s ≡ snapshot_of (map string_bytes words.now)) }
+{
+    let [job, part, ledger, workers] = words else {
+        return Ok(None);
+    };
+    if job.as_str() == part.as_str()
+        || job.as_str() == ledger.as_str()
+        || part.as_str() == ledger.as_str()
+    {
+        return Ok(None);
+    }
+    let Some(workers) = workers_word(workers.as_str()) else {
+        return Ok(None);
+    };
+    let Some(job) = read_name(alloc, job.as_str())? else {
+        return Ok(None);
+    };
+    let Some(part) = read_name(alloc, part.as_str())? else {
+        return Ok(None);
+    };
+    let Some(ledger) = read_name(alloc, ledger.as_str())? else {
+        return Ok(None);
+    };
+    Ok(Some(Snapshot::new(job, part, ledger, workers)))
+}
+
+/// The beginning of a store that words spell, if they spell one.
+fn read_start(alloc: Global, words: &[String]) -> Result<Option<Start>, NoMemory>
+    ensures { IfOk result (λ s. s ≡ start_of (map string_bytes words.now)) }
+{
+    let [part, store] = words else {
+        return Ok(None);
+    };
+    if part.as_str() == store.as_str() {
+        return Ok(None);
+    }
+    let Some(part) = read_name(alloc, part.as_str())? else {
+        return Ok(None);
+    };
+    let Some(store) = read_name(alloc, store.as_str())? else {
+        return Ok(None);
+    };
+    Ok(Some(Start::new(part, store)))
+}
+
 /// The command `query` of the words behind it.
 fn query_command(alloc: Global, words: &[String]) -> Result<Command, NoMemory>
     ensures { IfOk result (λ c. c ≡ asks commands.Query (query_of (map string_bytes words.now))) }
@@ -172,6 +230,26 @@ fn show_command(alloc: Global, words: &[String]) -> Result<Command, NoMemory>
     }
 }
 
+/// The command `snapshot` of the words behind it.
+fn snapshot_command(alloc: Global, words: &[String]) -> Result<Command, NoMemory>
+    ensures { IfOk result (λ c. c ≡ asks commands.Snapshot (snapshot_of (map string_bytes words.now))) }
+{
+    match read_snapshot(alloc, words)? {
+        Some(snapshot) => Ok(Command::Snapshot(snapshot)),
+        None => Ok(Command::Usage),
+    }
+}
+
+/// The command `start` of the words behind it.
+fn start_command(alloc: Global, words: &[String]) -> Result<Command, NoMemory>
+    ensures { IfOk result (λ c. c ≡ asks commands.Start (start_of (map string_bytes words.now))) }
+{
+    match read_start(alloc, words)? {
+        Some(start) => Ok(Command::Start(start)),
+        None => Ok(Command::Usage),
+    }
+}
+
 /// What words ask for.
 pub fn read_words(alloc: Global, words: &[String]) -> Result<Command, NoMemory>
     ensures { IfOk result (λ c. c ≡ command_of (map string_bytes words.now)) }
@@ -187,6 +265,12 @@ pub fn read_words(alloc: Global, words: &[String]) -> Result<Command, NoMemory>
     }
     if command.as_str() == "show" {
         return show_command(alloc, rest);
+    }
+    if command.as_str() == "snapshot" {
+        return snapshot_command(alloc, rest);
+    }
+    if command.as_str() == "start" {
+        return start_command(alloc, rest);
     }
     Ok(Command::Usage)
 }

@@ -1,44 +1,60 @@
 use Rattle.clubcard_top.proofs.Endings as endings
+use Rattle.clubcard_top.proofs.Tellings as tellings
 use Rattle.clubcard_top.proofs.top.run.Goals as goal
 
 pub returns-clause-statuses : goal.returns-clause-statuses
-returns-clause-statuses g c = endings.statuses _ _ _ _ _ _ _ c.run_words.ensures.ends
+returns-clause-statuses g c = endings.statuses _ _ _ _ _ _ _ _ _ c.run_words.ensures.ends
 
 pub returns-clause-usage : goal.returns-clause-usage
-returns-clause-usage g c = endings.usage_line _ _ _ _ _ _ _ c.run_words.ensures.ends
-
-pub returns-clause-no_command : goal.returns-clause-no_command
-returns-clause-no_command g c = endings.no_command _ _ _ _ _ _ _ c.run_words.ensures.ends
+returns-clause-usage g c = endings.usage_line _ _ _ _ _ _ _ _ _ c.run_words.ensures.ends
 
 pub returns-clause-read_fault : goal.returns-clause-read_fault
-returns-clause-read_fault g c = endings.read_fault_line _ _ _ _ _ _ _ c.run_words.ensures.ends
+returns-clause-read_fault g c = endings.read_fault_line _ _ _ _ _ _ _ _ _ c.run_words.ensures.ends
 
 pub returns-clause-write_fault : goal.returns-clause-write_fault
-returns-clause-write_fault g c = endings.write_fault _ _ _ _ _ _ _ c.run_words.ensures.ends
+returns-clause-write_fault g c = endings.write_fault _ _ _ _ _ _ _ _ _ c.run_words.ensures.ends
 
 pub returns-clause-no_memory : goal.returns-clause-no_memory
-returns-clause-no_memory g c = endings.no_memory _ _ _ _ _ _ _ c.run_words.ensures.ends
+returns-clause-no_memory g c = endings.no_memory _ _ _ _ _ _ _ _ _ c.run_words.ensures.ends
+
+pub returns-clause-unchanged : goal.returns-clause-unchanged
+returns-clause-unchanged g c = endings.unchanged _ _ _ _ _ _ _ _ _ c.run_words.ensures.ends
+
+pub returns-clause-other_files : goal.returns-clause-other_files
+returns-clause-other_files g c = endings.other_files _ _ _ _ _ _ _ _ _ c.run_words.ensures.ends
+
+pub returns-clause-reading : goal.returns-clause-reading
+returns-clause-reading g c = λ none. (endings.reading _ _ _ _ _ _ _ _ _ c.run_words.ensures.ends none, c.run_words.ensures.reading none)
+
+pub returns-clause-no_command : goal.returns-clause-no_command
+returns-clause-no_command g c = endings.no_command _ _ _ _ _ _ _ _ _ c.run_words.ensures.ends
 
 pub returns-clause-answer : goal.returns-clause-answer
-returns-clause-answer g c = endings.answer _ _ _ _ _ _ _ c.run_words.ensures.ends
+returns-clause-answer g c = tellings.answer _ _ _ _ _ _ _ _ _ c.run_words.ensures.ends
 
 pub returns-clause-complete : goal.returns-clause-complete
-returns-clause-complete g c = endings.complete _ _ _ _ _ _ _ c.run_words.ensures.ends
-
-pub returns-clause-done : goal.returns-clause-done
-returns-clause-done g c = endings.done _ _ _ _ _ _ _ c.run_words.ensures.ends
+returns-clause-complete g c = tellings.complete _ _ _ _ _ _ _ _ _ c.run_words.ensures.ends
 
 pub returns-clause-bad_layout : goal.returns-clause-bad_layout
-returns-clause-bad_layout g c = endings.layout _ _ _ _ _ _ _ c.run_words.ensures.ends
+returns-clause-bad_layout g c = tellings.layout _ _ _ _ _ _ _ _ _ c.run_words.ensures.ends
+
+pub returns-clause-bad_crl : goal.returns-clause-bad_crl
+returns-clause-bad_crl g c = tellings.crl _ _ _ _ _ _ _ _ _ c.run_words.ensures.ends
 
 pub returns-clause-chain : goal.returns-clause-chain
-returns-clause-chain g c = endings.chain _ _ _ _ _ _ _ c.run_words.ensures.ends
+returns-clause-chain g c = tellings.chain _ _ _ _ _ _ _ _ _ c.run_words.ensures.ends
+
+pub returns-clause-too_many : goal.returns-clause-too_many
+returns-clause-too_many g c = tellings.limit _ _ _ _ _ _ _ _ _ c.run_words.ensures.ends
 
 pub returns-clause-mixed_block : goal.returns-clause-mixed_block
-returns-clause-mixed_block g c = endings.mixed _ _ _ _ _ _ _ c.run_words.ensures.ends
+returns-clause-mixed_block g c = tellings.mixed _ _ _ _ _ _ _ _ _ c.run_words.ensures.ends
 
 pub returns-clause-many_parts : goal.returns-clause-many_parts
-returns-clause-many_parts g c = endings.many _ _ _ _ _ _ _ c.run_words.ensures.ends
+returns-clause-many_parts g c = tellings.many _ _ _ _ _ _ _ _ _ c.run_words.ensures.ends
 
-pub returns-clause-fronts : goal.returns-clause-fronts
-returns-clause-fronts g c = endings.fronts _ _
+pub returns-clause-truth : goal.returns-clause-truth
+returns-clause-truth g c = tellings.true_answer _ _ _ _ _ _ _ _ _ c.run_words.ensures.ends
+
+pub returns-clause-done : goal.returns-clause-done
+returns-clause-done g c = tellings.done _ _ _ _ _ _ _ _ _ c.run_words.ensures.fits c.run_words.ensures.ends

@@ -1,0 +1,6 @@
+use Rattle.std.proofs.Common.{inl, sym}
+use Rattle.clubcard_top.proofs.Outputs.{none-written}
+use Rattle.clubcard_top.proofs.answer.send.Goals as goal
+
+pub returns-in-Reply-clause-ends : goal.returns-in-Reply-clause-ends
+returns-in-Reply-clause-ends g c = rw c.in-Reply.is (inl (sym (none-written _ _ c.send_reply.ensures.none), c.send_reply.ensures.sent))

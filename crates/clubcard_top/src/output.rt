@@ -1,0 +1,102 @@
+//! Files that a command writes. All that a write and its failure say is made before the first is begun.
+
+ghost use Rattle.std.specs.Prelude.{◌≡◌, ◌≤◌, [], IfOk, OnOk, OnErr, IfSome, IsNone};
+ghost use Rattle.outside_core.specs.Files.{Rose, putting};
+ghost use Rattle.clubcard_top.specs.Replies.{write_fault};
+ghost use Rattle.clubcard_top.specs.Runs.{with_outputs, IsLeft, IsTorn};
+
+use crate::command::FileName;
+use octets_core::NoMemory;
+use outside_core::{Depot, Failed, append_all};
+use std::alloc::Global;
+use std::marker::Model;
+
+/// A file to be written: its name, the bytes that it then holds, and the line that says that it can't be written.
+#[derive(Debug, Drop)]
+pub struct Output {
+    name: FileName,
+    bytes: Vec<u8>,
+    fault: String,
+}
+
+impl Model for Output {
+    ghost use Rattle.std.specs.Prelude.{◌≡◌, string_bytes};
+    ghost use Rattle.clubcard_top.specs.ReplyFields.{OutputFields};
+    ghost use Rattle.clubcard_top.specs.Replies.{write_fault};
+
+    ghost Value = { OutputFields };
+
+    ghost view = { λ o. record { name = o.name; bytes = o.bytes.items } };
+
+    ghost invariant = { λ o. string_bytes o.fault ≡ (write_fault o.name).text };
+}
+
+impl Output {
+    /// The output of these bytes to the file of this name.
+    pub fn new(alloc: Global, name: &str, bytes: Vec<u8>) -> Result<Output, NoMemory>
+        ensures { IfOk result (λ o. o ≡ record { name = name.now; bytes = bytes.items }) }
+    {
+        let Ok(fault) = format!(in alloc; "write-fault {name}\n") else {
+            return Err(NoMemory);
+        };
+        let Ok(name) = String::from_str(alloc, name) else {
+            return Err(NoMemory);
+        };
+        Ok(Output {
+            name: FileName::new(name),
+            bytes,
+            fault,
+        })
+    }
+
+    /// The file's name.
+    fn name(&self) -> &str
+        ensures { result.now ≡ self.now.name }
+    {
+        self.name.as_str()
+    }
+
+    /// The bytes that it then holds.
+    fn bytes(&self) -> &[u8]
+        ensures { result.now ≡ self.now.bytes }
+    {
+        self.bytes.as_slice()
+    }
+
+    /// The line that says that it can't be written.
+    pub fn fault_line(&self) -> &[u8]
+        ensures { result.now ≡ (write_fault self.now.name).text }
+    {
+        self.fault.as_bytes()
+    }
+}
+
+/// Writes one output: begins its file, and offers it all bytes as one text.
+fn write_output<D: Depot>(output: &Output, depot: &mut D) -> Result<(), Failed>
+    ensures ok { OnOk result (D.files depot.new ≡ putting (D.files depot.old) output.now.name output.now.bytes) }
+    ensures err { OnErr result (IsLeft (D.files depot.old) (D.files depot.new) output.now) }
+    ensures cause { OnErr result (Rose (D.write_faults depot.old) (D.write_faults depot.new)) }
+    ensures later { D.write_faults depot.old ≤ D.write_faults depot.new }
+    ensures same_reads { D.read_faults depot.new ≡ D.read_faults depot.old }
+{
+    depot.begin(output.name())?;
+    append_all(depot, output.name(), output.bytes())
+}
+
+/// Writes the outputs in their order, each once the one before it is whole, and answers the first that can't be written.
+pub fn write_outputs<'a, D: Depot>(outputs: &'a [Output], depot: &mut D) -> Option<&'a Output>
+    ensures all { IsNone result → D.files depot.new ≡ with_outputs (D.files depot.old) outputs.now }
+    ensures torn { IfSome result (λ o. IsTorn (D.files depot.old) (D.files depot.new) outputs.now o.now.name) }
+    ensures cause { IfSome result (λ o. Rose (D.write_faults depot.old) (D.write_faults depot.new)) }
+    ensures quiet { outputs.now ≡ [] → D.write_faults depot.new ≡ D.write_faults depot.old }
+    ensures later { D.write_faults depot.old ≤ D.write_faults depot.new }
+    ensures same_reads { D.read_faults depot.new ≡ D.read_faults depot.old }
+{
+    for output in outputs {
+        match write_output(output, depot) {
+            Ok(()) => {}
+            Err(Failed) => return Some(output),
+        }
+    }
+    None
+}
