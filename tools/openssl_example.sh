@@ -1,0 +1,158 @@
+#!/bin/sh
+# Certificates, CRLs and keys made by openssl, through the program and back: what `clubcard query` says of each certificate
+# is compared with what `openssl verify -crl_check` says of it. It needs openssl (3.0 or later) and python3.
+#
+#     tools/openssl_example.sh [mixed]
+#
+# It makes the authorities of the table below, packs their CRLs and certificates into a job (tools/pack_job.py), and runs
+#
+#     clubcard snapshot JOB PART LEDGER 1
+#     clubcard start PART STORE
+#     clubcard query STORE ISSUER SERIAL LOG TIME      for each certificate (ISSUER and SERIAL by tools/identity.py)
+#
+# It prints a line for each certificate, and ends with status 0 exactly where the two agree on all of them. With the word
+# `mixed` there is an authority besides that revoked some of its certificates and not the others; `snapshot` has no block
+# for it yet and answers `mixed job`, and the script ends with its status. All files lie in a new folder, which is removed.
+set -eu
+
+# The authorities: a name, and what becomes of each of its certificates.
+authorities() {
+    echo "oak good good good"
+    echo "elm revoked revoked"
+    [ "$kind" != mixed ] || echo "ash good revoked good"
+}
+
+# The log that saw them all, from this moment on, one millisecond after the other.
+log=aaaaaaaaaaaaaaaaaaaaaaaaaaaaaaaaaaaaaaaaaaaaaaaaaaaaaaaaaaaaaaaa
+moment=$(($(date +%s) * 1000))
+
+kind=${1-}
+if [ $# -gt 1 ] || { [ -n "$kind" ] && [ "$kind" != mixed ]; }; then
+    echo "usage: $0 [mixed]" >&2
+    exit 2
+fi
+top=$(cd "$(dirname "$0")/.." && pwd)
+work=$(mktemp -d)
+trap 'rm -r "$work"' EXIT
+trap 'exit 1' HUP INT TERM
+cd "$work"
+
+cat >openssl.cnf <<'CONFIG'
+[req]
+distinguished_name = name
+[name]
+[ca]
+default_ca = authority
+[authority]
+database = index.txt
+serial = serial
+crlnumber = crlnumber
+new_certs_dir = .
+certificate = ca.pem
+private_key = ca.key
+default_md = sha256
+default_days = 30
+default_crl_days = 30
+policy = policy
+x509_extensions = leaf
+crl_extensions = crl
+[policy]
+commonName = supplied
+[ca_certificate]
+basicConstraints = critical, CA:true
+keyUsage = critical, keyCertSign, cRLSign
+subjectKeyIdentifier = hash
+[leaf]
+basicConstraints = CA:false
+[crl]
+authorityKeyIdentifier = keyid
+CONFIG
+export OPENSSL_CONF="$work/openssl.cnf"
+
+# Runs openssl. What it says is shown only where it fails.
+quiet() {
+    openssl "$@" </dev/null >openssl.log 2>&1 || {
+        cat openssl.log >&2
+        return 1
+    }
+}
+
+# Asks for a certificate on a new key.
+request() {
+    quiet req "$@" -newkey ec -pkeyopt ec_paramgen_curve:P-256 -nodes
+}
+
+# Makes an authority in a folder of its name: ca.pem, crl.pem and a certificate for each further word, N.pem. The first
+# serial is 80, whose INTEGER has two octets.
+make_authority() (
+    name=$1
+    shift
+    mkdir "$name"
+    cd "$name"
+    : >index.txt
+    echo 80 >serial
+    echo 01 >crlnumber
+    request -x509 -keyout ca.key -out ca.pem -subj "/CN=$name" -days 30 -extensions ca_certificate
+    n=0
+    for fate in "$@"; do
+        n=$((n + 1))
+        request -new -keyout leaf.key -out leaf.csr -subj "/CN=$n.$name.example"
+        quiet ca -batch -notext -in leaf.csr -out "$n.pem"
+        [ "$fate" = good ] || quiet ca -revoke "$n.pem"
+    done
+    quiet ca -gencrl -out crl.pem
+)
+
+# The certificates, one a line: the authority, the number, and the time at which the log saw it.
+certificates() {
+    time=$moment
+    authorities | while read -r name fates; do
+        n=0
+        for fate in $fates; do
+            n=$((n + 1))
+            time=$((time + 1))
+            echo "$name $n $time"
+        done
+    done
+}
+
+# What openssl says of a certificate.
+openssl_verdict() {
+    if openssl verify -no-CApath -no-CAstore -crl_check -CAfile "$1/ca.pem" -CRLfile "$1/crl.pem" "$1/$2.pem" \
+        >verify.log 2>&1; then
+        echo good
+    elif grep -q '^error 23 at 0 depth' verify.log; then
+        echo revoked
+    else
+        cat verify.log >&2
+        echo unknown
+    fi
+}
+
+authorities >authorities.txt
+while read -r name fates; do
+    # shellcheck disable=SC2086 # a word for each certificate
+    make_authority "$name" $fates
+    echo "--crl $name/ca.pem $name/crl.pem" >>options
+done <authorities.txt
+certificates >certificates.txt
+while read -r name n time; do
+    echo "--certificate $name/$n.pem $name/ca.pem $log $time" >>options
+done <certificates.txt
+
+python3 "$top/tools/pack_job.py" --epoch 1 --moment "$moment" --range "$log" "$moment" "$((moment + 1000))" @options job
+"$top/clubcard" snapshot job part ledger 1
+"$top/clubcard" start part store
+
+differing=0
+while read -r name n time; do
+    identity=$(python3 "$top/tools/identity.py" "$name/$n.pem" "$name/ca.pem")
+    # shellcheck disable=SC2086 # two words
+    verdict=$("$top/clubcard" query store $identity "$log" "$time") || true
+    wanted=$(openssl_verdict "$name" "$n")
+    echo "$name $n: clubcard $verdict, openssl $wanted"
+    [ "$verdict" = "$wanted" ] || differing=$((differing + 1))
+done <certificates.txt
+
+echo "$differing of $(wc -l <certificates.txt) certificates differ"
+[ "$differing" -eq 0 ]
