@@ -17,8 +17,6 @@ mod reply;
 mod show;
 mod status;
 mod store;
-#[cfg(test)]
-mod tests;
 mod top;
 mod verdict;
 mod words;
