@@ -1,0 +1,36 @@
+-- What the words of a command name.
+use Rattle.std.specs.Prelude.{ℕ, List}
+use Rattle.ident_core.specs.declared.identity.Identity.{Identity}
+use Rattle.ident_core.specs.declared.range.Sighting.{Sighting}
+
+-- a question about one certificate
+pub record QueryFields : Type 0 where
+  pub store : List ℕ
+  pub id : Identity
+  pub sightings : List Sighting
+
+-- the first part of a chain
+pub record SnapshotFields : Type 0 where
+  pub job : List ℕ
+  pub part : List ℕ
+  pub ledger : List ℕ
+  pub workers : ℕ
+
+-- a later part of a chain
+pub record DeltaFields : Type 0 where
+  pub job : List ℕ
+  pub ledger : List ℕ
+  pub part : List ℕ
+  pub new_ledger : List ℕ
+  pub workers : ℕ
+
+-- a store that is begun
+pub record StartFields : Type 0 where
+  pub part : List ℕ
+  pub store : List ℕ
+
+-- a store that a part is added to
+pub record InstallFields : Type 0 where
+  pub store : List ℕ
+  pub part : List ℕ
+  pub new_store : List ℕ

@@ -1,0 +1,3 @@
+pub mod CommandFields
+pub mod Words
+pub mod Names

@@ -1,0 +1,26 @@
+-- The files that a command reads and writes.
+use Rattle.std.specs.Prelude.{ℕ, List, [], ◌∷◌}
+use Rattle.word_core.specs.declared.command.Command.{Command}
+use Rattle.word_core.specs.declared.command.Command.TheVariants.{Usage, Query, Check, Show, Snapshot, Delta, Start, Install}
+
+-- the names of the files that a command reads, in the order of reading
+abbrev pub inputs_of : Command → List (List ℕ)
+inputs_of Usage = []
+inputs_of (Query query) = query.store ∷ []
+inputs_of (Check name) = name ∷ []
+inputs_of (Show name) = name ∷ []
+inputs_of (Snapshot snapshot) = snapshot.job ∷ []
+inputs_of (Delta delta) = delta.job ∷ delta.ledger ∷ []
+inputs_of (Start start) = start.part ∷ []
+inputs_of (Install install) = install.store ∷ install.part ∷ []
+
+-- the names of the files that a command writes, in the order of writing
+abbrev pub outputs_of : Command → List (List ℕ)
+outputs_of Usage = []
+outputs_of (Query query) = []
+outputs_of (Check name) = []
+outputs_of (Show name) = []
+outputs_of (Snapshot snapshot) = snapshot.part ∷ snapshot.ledger ∷ []
+outputs_of (Delta delta) = delta.part ∷ delta.new_ledger ∷ []
+outputs_of (Start start) = start.store ∷ []
+outputs_of (Install install) = install.new_store ∷ []

@@ -1,0 +1,152 @@
+-- What the words of a call spell (docs/FORMATS.md, "Words").
+use Rattle.std.specs.Prelude.{ℕ, ◌^◌, List, [], ◌∷◌, length, Bool, true, ◌&&◌, not, ◌==◌, nat_le, nat_lt, if◌then◌else◌, Option, Some, None, Result, Ok, Err, codes}
+use Rattle.std.specs.Char.{is_ascii_digit}
+use Rattle.std.specs.List.{list_all, list_any}
+use Rattle.std.specs.Str.{bytes_eq}
+use Rattle.std.specs.Str.Parse.{digits_value}
+use Rattle.hex.specs.Hex.{decode_of, decode_sized}
+use Rattle.hex.specs.declared.error.FromHexError.{FromHexError}
+use Rattle.octets_core.specs.Layout.{within}
+use Rattle.ident_core.specs.declared.range.Sighting.{Sighting}
+use Rattle.word_core.specs.CommandFields.{QueryFields, SnapshotFields, DeltaFields, StartFields, InstallFields}
+use Rattle.word_core.specs.declared.command.Command.{Command}
+use Rattle.word_core.specs.declared.command.Command.TheVariants as commands
+
+infixl 10 ◌>>=◌
+abbrev pub ◌>>=◌ : {A B : Type 0} → Option A → (A → Option B) → Option B
+(Some x) >>= f = f x
+None >>= f = None
+
+abbrev pub ok_of : Result (List ℕ) FromHexError → Option (List ℕ)
+ok_of (Ok bytes) = Some bytes
+ok_of (Err e) = None
+
+-- no control character
+abbrev pub is_plain : ℕ → Bool
+is_plain b = nat_le 32 b && not (b == 127)
+
+-- 1 to 4096 bytes, none of them a control character
+abbrev pub is_name : List ℕ → Bool
+is_name word = within 1 4096 (length word) && list_all is_plain word
+
+-- 64 hexadecimal digits
+abbrev pub key_of : List ℕ → Option (List ℕ)
+key_of word = ok_of (decode_sized word 32)
+
+-- an even number of hexadecimal digits, 2 to 64
+abbrev pub serial_of : List ℕ → Option (List ℕ)
+serial_of word = if within 2 64 (length word) then ok_of (decode_of word) else None
+
+-- 1 to 20 decimal digits, of a value below 2 ^ 64
+abbrev pub number_of : List ℕ → Option ℕ
+number_of word = if within 1 20 (length word) && list_all is_ascii_digit word && nat_lt (digits_value 10 word) (2 ^ 64) then Some (digits_value 10 word) else None
+
+-- pairs of a log and a time
+abbrev pub pairs_of : List (List ℕ) → Option (List Sighting)
+pairs_of [] = Some []
+pairs_of (log ∷ []) = None
+pairs_of (log ∷ time ∷ rest) = do
+  l ← key_of log
+  t ← number_of time
+  others ← pairs_of rest
+  Some (record { log = l; time = t } ∷ others)
+
+abbrev pub name_of : List ℕ → Option (List ℕ)
+name_of word = if is_name word then Some word else None
+
+-- 1 to 64 pairs
+abbrev pub sightings_of : List (List ℕ) → Option (List Sighting)
+sightings_of words = if within 2 128 (length words) then pairs_of words else None
+
+-- STORE ISSUER SERIAL, and the pairs
+abbrev pub query_of : List (List ℕ) → Option QueryFields
+query_of (store ∷ issuer ∷ serial ∷ pairs) = do
+  name ← name_of store
+  i ← key_of issuer
+  s ← serial_of serial
+  sightings ← sightings_of pairs
+  Some (record { store = name; id = record { issuer = i; serial = s }; sightings = sightings })
+query_of words = None
+
+-- one name
+abbrev pub name_alone : List (List ℕ) → Option (List ℕ)
+name_alone (word ∷ []) = name_of word
+name_alone words = None
+
+-- 1 to 64
+abbrev pub workers_of : List ℕ → Option ℕ
+workers_of word = do
+  n ← number_of word
+  if within 1 64 n then Some n else None
+
+abbrev pub is_among : List ℕ → List (List ℕ) → Bool
+is_among name names = list_any (λ other. bytes_eq other name) names
+
+-- no output has the name of an input or of another output
+abbrev pub are_apart : List (List ℕ) → List (List ℕ) → Bool
+are_apart inputs [] = true
+are_apart inputs (output ∷ others) = not (is_among output inputs) && not (is_among output others) && are_apart inputs others
+
+-- JOB PART LEDGER WORKERS
+abbrev pub snapshot_of : List (List ℕ) → Option SnapshotFields
+snapshot_of (job ∷ part ∷ ledger ∷ workers ∷ []) = do
+  j ← name_of job
+  p ← name_of part
+  l ← name_of ledger
+  n ← workers_of workers
+  if are_apart (job ∷ []) (part ∷ ledger ∷ []) then Some (record { job = j; part = p; ledger = l; workers = n }) else None
+snapshot_of words = None
+
+abbrev pub two_names_of : List ℕ → List ℕ → Option (List ℕ × List ℕ)
+two_names_of first second = do
+  a ← name_of first
+  b ← name_of second
+  Some (a, b)
+
+abbrev pub named_delta : (job ledger part new_ledger : List ℕ) → ℕ → Option DeltaFields
+named_delta job ledger part new_ledger workers = do
+  inputs ← two_names_of job ledger
+  outputs ← two_names_of part new_ledger
+  Some (record { job = inputs.0; ledger = inputs.1; part = outputs.0; new_ledger = outputs.1; workers = workers })
+
+-- JOB LEDGER PART NEWLEDGER WORKERS
+abbrev pub delta_of : List (List ℕ) → Option DeltaFields
+delta_of (job ∷ ledger ∷ part ∷ new_ledger ∷ workers ∷ []) = do
+  n ← workers_of workers
+  if are_apart (job ∷ ledger ∷ []) (part ∷ new_ledger ∷ []) then named_delta job ledger part new_ledger n else None
+delta_of words = None
+
+-- PART STORE
+abbrev pub start_of : List (List ℕ) → Option StartFields
+start_of (part ∷ store ∷ []) = do
+  p ← name_of part
+  s ← name_of store
+  if are_apart (part ∷ []) (store ∷ []) then Some (record { part = p; store = s }) else None
+start_of words = None
+
+-- STORE PART NEWSTORE
+abbrev pub install_of : List (List ℕ) → Option InstallFields
+install_of (store ∷ part ∷ new_store ∷ []) = do
+  s ← name_of store
+  p ← name_of part
+  n ← name_of new_store
+  if are_apart (store ∷ part ∷ []) (new_store ∷ []) then Some (record { store = s; part = p; new_store = n }) else None
+install_of words = None
+
+-- a command where its words are there, or none
+abbrev pub asks : {A : Type 0} → (A → Command) → Option A → Command
+asks command (Some x) = command x
+asks command None = commands.Usage
+
+-- what the words of a call ask for
+abbrev pub command_of : List (List ℕ) → Command
+command_of [] = commands.Usage
+command_of (command ∷ words) =
+    if bytes_eq command (codes "query") then asks commands.Query (query_of words)
+    else if bytes_eq command (codes "check") then asks commands.Check (name_alone words)
+    else if bytes_eq command (codes "show") then asks commands.Show (name_alone words)
+    else if bytes_eq command (codes "snapshot") then asks commands.Snapshot (snapshot_of words)
+    else if bytes_eq command (codes "delta") then asks commands.Delta (delta_of words)
+    else if bytes_eq command (codes "start") then asks commands.Start (start_of words)
+    else if bytes_eq command (codes "install") then asks commands.Install (install_of words)
+    else commands.Usage

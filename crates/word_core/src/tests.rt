@@ -1,0 +1,111 @@
+//! Words of each command, and words that are no command.
+
+use crate::{Command, read_words};
+use octets_core::NoMemory;
+use std::alloc::{AllocError, Global};
+use std::test::Fail;
+
+const KEY: &str = "1111111111111111111111111111111111111111111111111111111111111111";
+
+const LOG: &str = "aAaAaAaAaAaAaAaAaAaAaAaAaAaAaAaAaAaAaAaAaAaAaAaAaAaAaAaAaAaAaAaA";
+
+const LONG: &str = "050505050505050505050505050505050505050505050505050505050505050505";
+
+fn texts(alloc: Global, words: &[&str]) -> Result<Vec<String>, AllocError> {
+    let mut texts = Vec::new(alloc);
+    for word in words {
+        texts.push(String::from_str(alloc, word)?)?;
+    }
+    Ok(texts)
+}
+
+/// The name of the command that words are.
+fn name_of(alloc: Global, words: &[&str]) -> Result<&'static str, NoMemory> {
+    let Ok(words) = texts(alloc, words) else {
+        return Err(NoMemory);
+    };
+    match read_words(alloc, &words)? {
+        Command::Usage => Ok("usage"),
+        Command::Query(_) => Ok("query"),
+        Command::Check(_) => Ok("check"),
+        Command::Show(_) => Ok("show"),
+        Command::Snapshot(_) => Ok("snapshot"),
+        Command::Delta(_) => Ok("delta"),
+        Command::Start(_) => Ok("start"),
+        Command::Install(_) => Ok("install"),
+    }
+}
+
+#[test]
+fn reads_each_command(rt: HostRuntime) -> Result<(), Fail> {
+    let cases: [&[&str]; 12] = [
+        &["query", "S", KEY, "05", LOG, "00000000000000000001"],
+        &[
+            "query",
+            "-",
+            KEY,
+            "aAbB",
+            LOG,
+            "1",
+            KEY,
+            "18446744073709551615",
+        ],
+        &["check", "P"],
+        &["show", "a part"],
+        &["snapshot", "J", "P", "L", "1"],
+        &["snapshot", "J", "P", "L", "064"],
+        &["delta", "J", "L", "P", "K", "64"],
+        &["delta", "J", "J", "P", "K", "1"],
+        &["start", "P", "S"],
+        &["start", "S", "s"],
+        &["install", "S", "P", "N"],
+        &["install", "S", "S", "N"],
+    ];
+    for words in cases {
+        assert_eq!(rt; name_of(rt.alloc(), words), Ok(words[0]));
+    }
+    Ok(())
+}
+
+#[test]
+fn refuses_what_is_no_command(rt: HostRuntime) -> Result<(), Fail> {
+    let cases: [&[&str]; 33] = [
+        &[],
+        &["--help"],
+        &["Query", "S", KEY, "05", LOG, "1"],
+        &["query", "S", KEY, "05"],
+        &["query", "S", KEY, "05", LOG],
+        &["query", "S", KEY, "05", LOG, "1", LOG],
+        &["query", "", KEY, "05", LOG, "1"],
+        &["query", "S\n", KEY, "05", LOG, "1"],
+        &["query", "S", "11", "05", LOG, "1"],
+        &["query", "S", KEY, "5", LOG, "1"],
+        &["query", "S", KEY, "", LOG, "1"],
+        &["query", "S", KEY, LONG, LOG, "1"],
+        &["query", "S", KEY, "05", LOG, "18446744073709551616"],
+        &["query", "S", KEY, "05", LOG, "000000000000000000001"],
+        &["query", "S", KEY, "05", LOG, "+1"],
+        &["check", "A", "B"],
+        &["check", "A\u{7f}"],
+        &["show"],
+        &["snapshot", "J", "P", "P", "1"],
+        &["snapshot", "J", "J", "L", "1"],
+        &["snapshot", "J", "P", "J", "1"],
+        &["snapshot", "J", "P", "L", "0"],
+        &["snapshot", "J", "P", "L", "65"],
+        &["snapshot", "J", "P", "L"],
+        &["delta", "J", "L", "J", "K", "1"],
+        &["delta", "J", "L", "P", "L", "1"],
+        &["delta", "J", "L", "P", "P", "1"],
+        &["delta", "J", "L", "P", "K", "65"],
+        &["delta", "J", "L", "P", "K"],
+        &["start", "P", "P"],
+        &["install", "S", "P", "S"],
+        &["install", "S", "P", "P"],
+        &["install", "S", "P"],
+    ];
+    for words in cases {
+        assert_eq!(rt; name_of(rt.alloc(), words), Ok("usage"));
+    }
+    Ok(())
+}
