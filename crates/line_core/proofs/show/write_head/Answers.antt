@@ -1,0 +1,15 @@
+use Rattle.std.proofs.lemmas.Result.{err_from_is_err_and}
+use Rattle.line_core.proofs.Sending.{Sends-front, Sends-then}
+use Rattle.line_core.proofs.show.write_head.Goals as goal
+
+pub returns-in_err-write_line : goal.returns-in_err-write_line
+returns-in_err-write_line g c =
+    let p = err_from_is_err_and c.from_residual.result c.from_residual.ensures.1 in
+    let failed = rw c.head_shown.ensures at c.in_err-write_line.ensures in
+    rw (p.1, p.2) (Sends-front _ _ _ _ _ _ _ failed)
+
+pub returns : goal.returns
+returns g c =
+    let first = rw c.head_shown.ensures at c.in_ok-write_line.ensures in
+    let second = rw c.ranges-2.ensures.value at c.write_ranges.ensures in
+    Sends-then _ _ _ _ _ _ c.write_ranges.result _ _ first.ok first.later second

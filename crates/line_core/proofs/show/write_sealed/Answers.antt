@@ -1,0 +1,15 @@
+use Rattle.std.proofs.lemmas.Result.{err_from_is_err_and}
+use Rattle.line_core.proofs.Sending.{Sends-front, Sends-then}
+use Rattle.line_core.proofs.show.write_sealed.Goals as goal
+
+pub returns-in_err-write_part : goal.returns-in_err-write_part
+returns-in_err-write_part g c =
+    let p = err_from_is_err_and c.from_residual.result c.from_residual.ensures.1 in
+    let failed = rw c.part.ensures at c.in_err-write_part.ensures in
+    rw (p.1, p.2) (Sends-front _ _ _ _ _ _ _ failed)
+
+pub returns : goal.returns
+returns g c =
+    let first = rw c.part.ensures at c.in_ok-write_part.ensures in
+    let second = rw (c.trailer_shown.ensures, c.trailer.ensures.value) at c.write_line.ensures in
+    Sends-then _ _ _ _ _ _ c.write_line.result _ _ first.ok first.later second

@@ -1,0 +1,137 @@
+-- The lines that the program prints (docs/FORMATS.md, "Lines and statuses"). Numbers are decimal, keys lower hexadecimal.
+use Rattle.std.specs.Prelude.{ℕ, List, [], ◌∷◌, ◌++◌, length, codes, decimal, flat_map, Option, Some, None}
+use Rattle.hex.specs.Hex.{encode_lower}
+use Rattle.octets_core.specs.FieldNames.{name_of}
+use Rattle.octets_core.specs.declared.fault.Why.{Why}
+use Rattle.octets_core.specs.declared.fault.Why.TheVariants as why
+use Rattle.octets_core.specs.declared.fault.LayoutFault.{LayoutFault}
+use Rattle.ident_core.specs.declared.kind.Kind.{Kind}
+use Rattle.ident_core.specs.declared.kind.Kind.TheVariants as kinds
+use Rattle.ident_core.specs.declared.range.Range.{Range}
+use Rattle.ident_core.specs.HeadFields.{HeadFields}
+use Rattle.card_core.specs.declared.block.Block.{Block}
+use Rattle.card_core.specs.declared.block.Body.{Body}
+use Rattle.card_core.specs.declared.block.Body.TheVariants as bodies
+use Rattle.card_core.specs.declared.stage.Stage.{Stage}
+use Rattle.card_core.specs.MixedFields.{MixedFields}
+use Rattle.part_codec.specs.SealedFields.{SealedFields}
+use Rattle.part_codec.specs.PartText.{width_of}
+use Rattle.crl_core.specs.declared.crl.CrlFault.{CrlFault}
+use Rattle.crl_core.specs.declared.crl.CrlFault.TheVariants as crl_faults
+use Rattle.job_core.specs.declared.bounds.What.{What}
+use Rattle.job_core.specs.declared.bounds.What.TheVariants as what
+use Rattle.universe_core.specs.declared.counts.Counts.{Counts}
+
+-- one line of words
+abbrev pub line : List ℕ → List ℕ
+line words = words ++ 10 ∷ []
+
+-- one line about a file
+abbrev pub line_about : List ℕ → List ℕ → List ℕ
+line_about words name = line (words ++ 32 ∷ name)
+
+abbrev pub why_word : Why → List ℕ
+why_word why.Short = codes "short"
+why_word why.Value = codes "value"
+why_word why.Digest = codes "digest"
+
+-- layout AT FIELD WHY NAME
+abbrev pub layout_line : LayoutFault → List ℕ → List ℕ
+layout_line f name = codes "layout " ++ decimal f.at ++ 32 ∷ name_of f.field ++ 32 ∷ why_word f.why ++ 32 ∷ name ++ 10 ∷ []
+
+abbrev pub kind_word : Kind → List ℕ
+kind_word kinds.Snapshot = codes "snapshot"
+kind_word kinds.Delta = codes "delta"
+
+-- part KIND epoch E ranges N issuers M bytes B
+abbrev pub check_line : SealedFields → ℕ → List ℕ
+check_line s size =
+    codes "part " ++ kind_word s.part.head.kind ++ codes " epoch " ++ decimal s.part.head.epoch ++ codes " ranges " ++ decimal (length s.part.head.ranges)
+    ++ codes " issuers " ++ decimal (length s.part.blocks) ++ codes " bytes " ++ decimal size ++ 10 ∷ []
+
+-- part KIND version 1 epoch E parent KEY
+abbrev pub head_line : HeadFields → List ℕ
+head_line h = codes "part " ++ kind_word h.kind ++ codes " version 1 epoch " ++ decimal h.epoch ++ codes " parent " ++ encode_lower h.parent ++ 10 ∷ []
+
+-- range LOG FROM TO
+abbrev pub range_line : Range → List ℕ
+range_line r = codes "range " ++ encode_lower r.log ++ 32 ∷ [] ++ decimal r.from ++ 32 ∷ [] ++ decimal r.to ++ 10 ∷ []
+
+-- SEED STARTS
+abbrev pub stage_words : Stage → List ℕ
+stage_words s = decimal s.seed ++ 32 ∷ decimal s.planes.starts
+
+-- nothing where there is no approximate stage
+abbrev pub approx_words : Option Stage → List ℕ
+approx_words None = []
+approx_words (Some s) = codes " approx " ++ stage_words s
+
+-- mixed k K approx SEED STARTS exact SEED STARTS
+abbrev pub mixed_words : MixedFields → List ℕ
+mixed_words m = codes "mixed k " ++ decimal (width_of m.approx) ++ approx_words m.approx ++ codes " exact " ++ stage_words m.exact
+
+abbrev pub body_words : Body → List ℕ
+body_words bodies.Clean = codes "none"
+body_words bodies.Every = codes "all"
+body_words (bodies.Mixed m) = mixed_words m
+
+-- issuer KEY none, all, or mixed and its stages
+abbrev pub block_line : Block → List ℕ
+block_line b = codes "issuer " ++ encode_lower b.issuer ++ 32 ∷ [] ++ body_words b.body ++ 10 ∷ []
+
+-- trailer KEY
+abbrev pub trailer_line : List ℕ → List ℕ
+trailer_line trailer = codes "trailer " ++ encode_lower trailer ++ 10 ∷ []
+
+-- the head, the ranges, the blocks and the trailer, a line each
+abbrev pub show_text : SealedFields → List ℕ
+show_text s = head_line s.part.head ++ flat_map range_line s.part.head.ranges ++ flat_map block_line s.part.blocks ++ trailer_line s.trailer
+
+-- store parts N epoch E
+abbrev pub store_line : ℕ → ℕ → List ℕ
+store_line parts epoch = codes "store parts " ++ decimal parts ++ codes " epoch " ++ decimal epoch ++ 10 ∷ []
+
+-- epoch E part P issuers I universe U revoked R unread A uncovered B unenrolled C late D accepted F
+abbrev pub report_line : ℕ → ℕ → Counts → List ℕ
+report_line epoch place c =
+    codes "epoch " ++ decimal epoch ++ codes " part " ++ decimal place ++ codes " issuers " ++ decimal c.issuers ++ codes " universe " ++ decimal c.universe
+    ++ codes " revoked " ++ decimal c.revoked ++ codes " unread " ++ decimal c.unread ++ codes " uncovered " ++ decimal c.uncovered
+    ++ codes " unenrolled " ++ decimal c.unenrolled ++ codes " late " ++ decimal c.late ++ codes " accepted " ++ decimal c.accepted ++ 10 ∷ []
+
+abbrev pub crl_word : CrlFault → List ℕ
+crl_word crl_faults.Malformed = codes "malformed"
+crl_word crl_faults.DeltaCrl = codes "delta"
+crl_word crl_faults.Indirect = codes "indirect"
+crl_word crl_faults.UnknownCritical = codes "critical"
+crl_word crl_faults.NoMemory = []
+
+-- crl RECORD FAULT NAME
+abbrev pub crl_line : ℕ → CrlFault → List ℕ → List ℕ
+crl_line place fault name = codes "crl " ++ decimal place ++ 32 ∷ crl_word fault ++ 32 ∷ name ++ 10 ∷ []
+
+abbrev pub what_word : What → List ℕ
+what_word what.Ranges = codes "ranges"
+what_word what.Crls = codes "crls"
+what_word what.Serials = codes "serials"
+what_word what.Entries = codes "entries"
+what_word what.Identities = codes "identities"
+
+-- limit WHAT LIMIT NAME
+abbrev pub limit_line : What → ℕ → List ℕ → List ℕ
+limit_line thing limit name = codes "limit " ++ what_word thing ++ 32 ∷ decimal limit ++ 32 ∷ name ++ 10 ∷ []
+
+-- chain parent HELD GIVEN NAME
+abbrev pub parent_line : List ℕ → List ℕ → List ℕ → List ℕ
+parent_line held given name = codes "chain parent " ++ encode_lower held ++ 32 ∷ encode_lower given ++ 32 ∷ name ++ 10 ∷ []
+
+-- chain epoch HELD GIVEN NAME
+abbrev pub epoch_line : ℕ → ℕ → List ℕ → List ℕ
+epoch_line held given name = codes "chain epoch " ++ decimal held ++ 32 ∷ decimal given ++ 32 ∷ name ++ 10 ∷ []
+
+-- chain coverage LOG NAME
+abbrev pub coverage_line : List ℕ → List ℕ → List ℕ
+coverage_line log name = codes "chain coverage " ++ encode_lower log ++ 32 ∷ name ++ 10 ∷ []
+
+-- seeds ISSUER STAGE
+abbrev pub seeds_line : List ℕ → ℕ → List ℕ
+seeds_line issuer stage = codes "seeds " ++ encode_lower issuer ++ 32 ∷ decimal stage ++ 10 ∷ []

@@ -1,0 +1,257 @@
+//! Lines of text that are made without taking memory.
+
+ghost use Rattle.std.specs.Prelude.{◌≡◌, ◌+◌, ◌*◌, ◌≤◌, [], ◌∷◌, ◌++◌, length, codes, decimal};
+ghost use Rattle.hex.specs.Hex.{encode_lower};
+ghost use Rattle.part_codec.specs.PartText.{width_of};
+ghost use Rattle.line_core.specs.Lines.{stage_words, approx_words, mixed_words, body_words, check_line, report_line, store_line, head_line, range_line, block_line, trailer_line, seeds_line};
+
+use crate::words::kind_text;
+use card_core::{Block, Body, Mixed, Stage};
+use ident_core::{Head, Range};
+use octets_core::Key32;
+use part_codec::Sealed;
+use std::marker::Model;
+use universe_core::Counts;
+
+/// The most bytes of a line.
+const ROOM: usize = 320;
+
+/// One line.
+#[derive(Drop)]
+pub struct Line {
+    bytes: [u8; ROOM],
+    len: usize,
+}
+
+impl Model for Line {
+    ghost use Rattle.std.specs.Prelude.{List, ℕ, ◌≡◌, ◌≤◌, take, length};
+
+    ghost Value = { List ℕ };
+
+    ghost view = { λ l. take l.len l.bytes };
+
+    ghost invariant = { λ l. (l.len ≤ 320) × (length l.bytes ≡ 320) };
+}
+
+impl Line {
+    /// An empty line.
+    fn new() -> Line
+        ensures { result ≡ [] }
+    {
+        Line {
+            bytes: [0; ROOM],
+            len: 0,
+        }
+    }
+
+    fn push(&mut self, piece: &[u8])
+        requires { length self.old + length piece.now ≤ 320 }
+        ensures value { self.new ≡ self.old ++ piece.now }
+        ensures len { length self.new ≡ length self.old + length piece.now }
+    {
+        let end = self.len + piece.len();
+        self.bytes[self.len..end].copy_from_slice(piece);
+        self.len = end;
+    }
+
+    fn push_number(&mut self, n: u64)
+        requires { length self.old + 20 ≤ 320 }
+        ensures value { self.new ≡ self.old ++ decimal n }
+        ensures len { length self.new ≤ length self.old + 20 }
+    {
+        let mut buffer = itoa::Buffer::new();
+        self.push(buffer.format(n).as_bytes());
+    }
+
+    /// A word and a number.
+    fn push_count(&mut self, word: &[u8], n: u64)
+        requires { length self.old + length word.now + 20 ≤ 320 }
+        ensures value { self.new ≡ self.old ++ word.now ++ decimal n }
+        ensures len { length self.new ≤ length self.old + length word.now + 20 }
+    {
+        self.push(word);
+        self.push_number(n);
+    }
+
+    fn push_key(&mut self, key: &Key32)
+        requires { length self.old + 64 ≤ 320 }
+        ensures value { self.new ≡ self.old ++ encode_lower key.now }
+        ensures len { length self.new ≡ length self.old + 64 }
+    {
+        let mut text = [0u8; 64];
+        let _ = hex::encode_to_slice(key.bytes(), &mut text);
+        self.push(&text);
+    }
+
+    /// A stage's seed and how many starts it has.
+    fn push_stage(&mut self, stage: &Stage)
+        requires { length self.old + 41 ≤ 320 }
+        ensures value { self.new ≡ self.old ++ stage_words stage.now }
+        ensures len { length self.new ≤ length self.old + 41 }
+    {
+        self.push_number(stage.seed as u64);
+        self.push(b" ");
+        self.push_number(stage.planes.starts() as u64);
+    }
+
+    /// How many planes the approximate stage has, and the stage if there is one.
+    fn push_approx(&mut self, mixed: &Mixed)
+        requires { length self.old + 69 ≤ 320 }
+        ensures value { self.new ≡ self.old ++ decimal (width_of mixed.now.approx) ++ approx_words mixed.now.approx }
+        ensures len { length self.new ≤ length self.old + 69 }
+    {
+        match mixed.approx() {
+            None => self.push_number(0),
+            Some(stage) => {
+                self.push_number(stage.planes.planes() as u64);
+                self.push(b" approx ");
+                self.push_stage(stage);
+            }
+        }
+    }
+
+    fn push_mixed(&mut self, mixed: &Mixed)
+        requires { length self.old + 125 ≤ 320 }
+        ensures value { self.new ≡ self.old ++ mixed_words mixed.now }
+        ensures len { length self.new ≤ length self.old + 125 }
+    {
+        self.push(b"mixed k ");
+        self.push_approx(mixed);
+        self.push(b" exact ");
+        self.push_stage(mixed.exact());
+    }
+
+    fn push_body(&mut self, body: &Body)
+        requires { length self.old + 125 ≤ 320 }
+        ensures value { self.new ≡ self.old ++ body_words body.now }
+        ensures len { length self.new ≤ length self.old + 125 }
+    {
+        match body {
+            Body::Clean => self.push(b"none"),
+            Body::Every => self.push(b"all"),
+            Body::Mixed(mixed) => self.push_mixed(mixed),
+        }
+    }
+
+    /// The line's text.
+    pub fn text(&self) -> &[u8]
+        ensures { result.now ≡ self.now }
+    {
+        &self.bytes[..self.len]
+    }
+}
+
+/// `part KIND epoch E ranges N issuers M bytes B`
+pub fn checked(sealed: &Sealed, size: usize) -> Line
+    ensures { result ≡ check_line sealed.now size }
+{
+    let part = sealed.part();
+    let head = part.head();
+    let mut line = Line::new();
+    line.push(b"part ");
+    line.push(kind_text(head.kind()));
+    line.push(b" epoch ");
+    line.push_number(head.epoch());
+    line.push(b" ranges ");
+    line.push_number(head.ranges().len() as u64);
+    line.push(b" issuers ");
+    line.push_number(part.blocks().len() as u64);
+    line.push(b" bytes ");
+    line.push_number(size as u64);
+    line.push(b"\n");
+    line
+}
+
+/// `epoch E part P issuers I universe U revoked R unread A uncovered B unenrolled C late D accepted F`
+pub fn reported(epoch: u64, place: u32, counts: &Counts) -> Line
+    ensures { result ≡ report_line epoch place counts.now }
+{
+    let mut line = Line::new();
+    line.push_count(b"epoch ", epoch);
+    line.push_count(b" part ", place as u64);
+    line.push_count(b" issuers ", counts.issuers as u64);
+    line.push_count(b" universe ", counts.universe as u64);
+    line.push_count(b" revoked ", counts.revoked as u64);
+    line.push_count(b" unread ", counts.unread as u64);
+    line.push_count(b" uncovered ", counts.uncovered as u64);
+    line.push_count(b" unenrolled ", counts.unenrolled as u64);
+    line.push_count(b" late ", counts.late as u64);
+    line.push_count(b" accepted ", counts.accepted as u64);
+    line.push(b"\n");
+    line
+}
+
+/// `store parts N epoch E`
+pub fn stored(parts: usize, epoch: u64) -> Line
+    ensures { result ≡ store_line parts epoch }
+{
+    let mut line = Line::new();
+    line.push_count(b"store parts ", parts as u64);
+    line.push_count(b" epoch ", epoch);
+    line.push(b"\n");
+    line
+}
+
+/// `seeds ISSUER STAGE`
+pub fn seeds_line(issuer: &Key32, stage: u8) -> Line
+    ensures { result ≡ seeds_line issuer.now stage }
+{
+    let mut line = Line::new();
+    line.push(b"seeds ");
+    line.push_key(issuer);
+    line.push_count(b" ", stage as u64);
+    line.push(b"\n");
+    line
+}
+
+/// `part KIND version 1 epoch E parent KEY`
+pub(crate) fn head_shown(head: &Head) -> Line
+    ensures { result ≡ head_line head.now }
+{
+    let mut line = Line::new();
+    line.push(b"part ");
+    line.push(kind_text(head.kind()));
+    line.push(b" version 1 epoch ");
+    line.push_number(head.epoch());
+    line.push(b" parent ");
+    line.push_key(&head.parent());
+    line.push(b"\n");
+    line
+}
+
+/// `range LOG FROM TO`
+pub(crate) fn range_shown(range: &Range) -> Line
+    ensures { result ≡ range_line range.now }
+{
+    let mut line = Line::new();
+    line.push(b"range ");
+    line.push_key(&range.log);
+    line.push_count(b" ", range.from);
+    line.push_count(b" ", range.to);
+    line.push(b"\n");
+    line
+}
+
+/// `issuer KEY none`, `all`, or `mixed k K approx SEED STARTS exact SEED STARTS`
+pub(crate) fn block_shown(block: &Block) -> Line
+    ensures { result ≡ block_line block.now }
+{
+    let mut line = Line::new();
+    line.push(b"issuer ");
+    line.push_key(&block.issuer);
+    line.push(b" ");
+    line.push_body(&block.body);
+    line.push(b"\n");
+    line
+}
+
+/// `trailer KEY`
+pub(crate) fn trailer_shown(trailer: &Key32) -> Line
+    ensures { result ≡ trailer_line trailer.now }
+{
+    let mut line = Line::new();
+    line.push(b"trailer ");
+    line.push_key(trailer);
+    line.push(b"\n");
+    line
+}

@@ -1,0 +1,58 @@
+//! The lines of `show`, written one by one: no memory is taken, and no more than one line is held.
+
+ghost use Rattle.std.specs.Prelude.{◌≡◌, ◌++◌, flat_map};
+ghost use Rattle.line_core.specs.Lines.{head_line, range_line, block_line, trailer_line, show_text};
+ghost use Rattle.line_core.specs.Sending.{Sends};
+
+use crate::line::{Line, block_shown, head_shown, range_shown, trailer_shown};
+use card_core::{Block, Part};
+use ident_core::{Head, Range};
+use outside_core::{Failed, Sink, write_all};
+use part_codec::Sealed;
+
+fn write_line<K: Sink>(line: &Line, out: &mut K) -> Result<(), Failed>
+    ensures { Sends (K.written out.old) (K.written out.new) (K.faults out.old) (K.faults out.new) result line.now }
+{
+    write_all(out, line.text())
+}
+
+fn write_ranges<K: Sink>(ranges: &[Range], out: &mut K) -> Result<(), Failed>
+    ensures { Sends (K.written out.old) (K.written out.new) (K.faults out.old) (K.faults out.new) result (flat_map range_line ranges.now) }
+{
+    for range in ranges {
+        write_line(&range_shown(range), out)?;
+    }
+    Ok(())
+}
+
+fn write_blocks<K: Sink>(blocks: &[Block], out: &mut K) -> Result<(), Failed>
+    ensures { Sends (K.written out.old) (K.written out.new) (K.faults out.old) (K.faults out.new) result (flat_map block_line blocks.now) }
+{
+    for block in blocks {
+        write_line(&block_shown(block), out)?;
+    }
+    Ok(())
+}
+
+fn write_head<K: Sink>(head: &Head, out: &mut K) -> Result<(), Failed>
+    ensures { Sends (K.written out.old) (K.written out.new) (K.faults out.old) (K.faults out.new) result (head_line head.now ++ flat_map range_line head.now.ranges) }
+{
+    write_line(&head_shown(head), out)?;
+    write_ranges(head.ranges(), out)
+}
+
+fn write_part<K: Sink>(part: &Part, out: &mut K) -> Result<(), Failed>
+    ensures { Sends (K.written out.old) (K.written out.new) (K.faults out.old) (K.faults out.new) result
+        (head_line part.now.head ++ flat_map range_line part.now.head.ranges ++ flat_map block_line part.now.blocks) }
+{
+    write_head(part.head(), out)?;
+    write_blocks(part.blocks(), out)
+}
+
+/// Writes all that a part holds.
+pub fn write_sealed<K: Sink>(sealed: &Sealed, out: &mut K) -> Result<(), Failed>
+    ensures { Sends (K.written out.old) (K.written out.new) (K.faults out.old) (K.faults out.new) result (show_text sealed.now) }
+{
+    write_part(sealed.part(), out)?;
+    write_line(&trailer_shown(&sealed.trailer()), out)
+}
