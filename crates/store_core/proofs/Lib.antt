@@ -1,0 +1,7 @@
+pub mod Growing
+pub mod Embedded
+pub mod Reading
+pub mod StoreTexts
+pub mod StoreSpelled
+pub mod StoreChains
+pub mod Verdicts

@@ -1,0 +1,4 @@
+pub mod Chain
+pub mod Starting
+pub mod StoreLayout
+pub mod Verdict

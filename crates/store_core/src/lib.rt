@@ -1,0 +1,21 @@
+//! A client's store: a chain of 1 to 64 parts, the rules by which it takes a further part, what its parts say together of a
+//! certificate, and the bytes that it is written as.
+#![tactic(auto)]
+
+mod chain;
+mod decode;
+mod encode;
+mod fault;
+mod laws;
+mod store;
+#[cfg(test)]
+mod tests;
+mod verdict;
+
+pub use chain::{Refusal, Refused};
+pub use decode::decode_store;
+pub use encode::encode_store;
+pub use fault::StoreFault;
+pub use laws::{chains_grow, stores_are_read_back, what_is_read_is_a_chain};
+pub use store::{StartFault, Store};
+pub use verdict::Verdict;

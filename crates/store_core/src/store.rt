@@ -1,0 +1,101 @@
+//! Stores: how one begins, and how it takes a further part.
+
+ghost use Rattle.std.specs.Prelude.{◌≡◌, ◌++◌, ◌≤◌, [], ◌∷◌, length, Some, None, IfOk, IfErr, OnOk, OnErr};
+ghost use Rattle.store_core.specs.Chain.{newest_of, refusal_of, IsChain};
+ghost use Rattle.store_core.specs.Starting.{IsNotBegun};
+
+use crate::chain::{Refusal, Refused, broken_by};
+use ident_core::Kind;
+use part_codec::Sealed;
+use std::alloc::Global;
+use std::marker::Model;
+
+/// The most parts of a store.
+const MAX_PARTS: usize = 64;
+
+/// A chain of 1 to 64 parts with their trailers, oldest first: the first is a snapshot, and each later one is a delta that
+/// follows the part before it. It has room for 64.
+#[derive(Drop)]
+pub struct Store {
+    parts: Vec<Sealed>,
+}
+
+impl Model for Store {
+    ghost use Rattle.std.specs.Prelude.{List, ◌≤◌, vec_capacity};
+    ghost use Rattle.part_codec.specs.SealedFields.{SealedFields};
+    ghost use Rattle.store_core.specs.Chain.{IsStore};
+
+    ghost Value = { List SealedFields };
+
+    ghost view = { λ s. s.parts.items };
+
+    ghost invariant = { λ s. IsStore s.parts.items × (64 ≤ vec_capacity s.parts) };
+}
+
+/// Why a part begins no store. The part is given back.
+#[derive(Drop)]
+pub enum StartFault {
+    /// The part is a delta.
+    NotSnapshot(Sealed),
+    /// Want of memory.
+    NoMemory(Sealed),
+}
+
+impl Store {
+    /// The store of this part alone, which is a snapshot. Room for 64 parts is taken.
+    pub fn start(alloc: Global, part: Sealed) -> Result<Store, StartFault>
+        ensures store { IfOk result (λ store. store ≡ part ∷ []) }
+        ensures snapshot { OnOk result (part.part.head.kind ≡ Kind.Snapshot) }
+        ensures refused { IfErr result (IsNotBegun part) }
+    {
+        if part.part().head().kind() == Kind::Delta {
+            return Err(StartFault::NotSnapshot(part));
+        }
+        let Ok(mut parts) = Vec::with_capacity(alloc, MAX_PARTS) else {
+            return Err(StartFault::NoMemory(part));
+        };
+        parts.push(part).unwrap();
+        Ok(Store { parts })
+    }
+
+    fn newest(&self) -> &Sealed
+        ensures { newest_of self.now ≡ Some result.now }
+    {
+        &self.parts[self.parts.len() - 1]
+    }
+
+    /// Why the chain doesn't take the part.
+    fn refusal(&self, part: &Sealed) -> Option<Refusal>
+        ensures { result ≡ refusal_of self.now part.now }
+    {
+        let why = broken_by(self.newest(), part);
+        if why.is_none() && self.parts.len() >= MAX_PARTS {
+            return Some(Refusal::Full);
+        }
+        why
+    }
+
+    /// Takes the part behind the others. A part that is refused is given back. No memory is taken.
+    pub fn install(&mut self, part: Sealed) -> Result<(), Refused>
+        ensures admitted { OnOk result (refusal_of self.old part ≡ None) }
+        ensures added { OnOk result (self.new ≡ self.old ++ part ∷ []) }
+        ensures refused { IfErr result (λ refused. (refused.part ≡ part) × (refusal_of self.old part ≡ Some refused.why)) }
+        ensures kept { OnErr result (self.new ≡ self.old) }
+    {
+        if let Some(why) = self.refusal(&part) {
+            return Err(Refused { part, why });
+        }
+        self.parts.push(part).unwrap();
+        Ok(())
+    }
+
+    /// The parts, oldest first.
+    pub fn parts(&self) -> &[Sealed]
+        ensures value { result.now ≡ self.now }
+        ensures chain { IsChain self.now }
+        ensures some { 1 ≤ length self.now }
+        ensures few { length self.now ≤ 64 }
+    {
+        self.parts.as_slice()
+    }
+}
