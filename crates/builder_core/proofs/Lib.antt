@@ -1,0 +1,3 @@
+pub mod GroupBlocks
+pub mod FirstRefused
+pub mod Admitted

@@ -1,0 +1,60 @@
+ghost use Rattle.std.specs.Prelude.{◌≤◌, All, length, map};
+ghost use Rattle.std.specs.List.Sorted.{IsStrictlySortedBy};
+ghost use Rattle.ident_core.specs.Order.{octets_cmp};
+ghost use Rattle.universe_core.specs.Groups.{group_fields, IsGroup};
+ghost use Rattle.builder_core.specs.Building.{BuildsBlocks, BuildsPart, identities_in, issuers_of};
+
+use crate::{BuildFault, Gate};
+use card_core::{Block, Part};
+use equation_core::EquationHash;
+use ident_core::Head;
+use stage_core::build_block;
+use std::alloc::Global;
+use std::thread::Threads;
+use universe_core::Group;
+
+// The blocks of the groups, one after the other.
+fn build_blocks<H: EquationHash, G: Gate>(
+    alloc: Global,
+    hash: &H,
+    gate: &G,
+    groups: &[Group],
+) -> Result<Vec<Block>, BuildFault>
+    requires facts { All IsGroup (map group_fields groups.now) }
+    requires few { length groups.now ≤ 65535 }
+    requires identities { identities_in (map group_fields groups.now) ≤ 4194304 }
+    ensures { BuildsBlocks (H.row_of hash.now) (map group_fields groups.now) result }
+{
+    let mut blocks = Vec::with_capacity(alloc, groups.len())?;
+    for (place, group) in groups.iter().enumerate() {
+        gate.enter(place as u32);
+        match build_block(alloc, hash, group.issuer, &group.universe, &group.revoked) {
+            Ok(block) => blocks.push(block)?,
+            Err(fault) => return Err(BuildFault::new(group.issuer, fault)),
+        }
+    }
+    Ok(blocks)
+}
+
+/// The part of this head with the block of each group, or the first refusal. The groups are built one after the other on
+/// the caller's thread, whatever `workers` says, and the gate is entered before each.
+pub fn build_part<R: Threads + Sync, H: EquationHash + Sync, G: Gate + Sync>(
+    rt: &R,
+    alloc: Global,
+    hash: &H,
+    gate: &G,
+    groups: &[Group],
+    head: Head,
+    workers: u32,
+) -> Result<Part, BuildFault>
+    requires facts { All IsGroup (map group_fields groups.now) }
+    requires ascending { IsStrictlySortedBy octets_cmp (issuers_of (map group_fields groups.now)) }
+    requires few { length groups.now ≤ 65535 }
+    requires identities { identities_in (map group_fields groups.now) ≤ 4194304 }
+    requires some_workers { 1 ≤ workers }
+    requires few_workers { workers ≤ 64 }
+    ensures { BuildsPart (H.row_of hash.now) head (map group_fields groups.now) result }
+{
+    let blocks = build_blocks(alloc, hash, gate, groups)?;
+    Ok(Part::new(head, blocks))
+}

@@ -1,0 +1,18 @@
+//! Laws of the definitions, apart from all code. Each is a function that does nothing, and its clause says the law.
+
+ghost use Rattle.builder_core.specs.Laws.{GroupBlocksAreUnique, OneIsFirstRefused, RefusedHasNoBlocks};
+
+/// Groups have one list of blocks at most.
+pub fn group_blocks_are_unique()
+    ensures { GroupBlocksAreUnique }
+{}
+
+/// Where a group is refused there are no blocks of all groups.
+pub fn refused_has_no_blocks()
+    ensures { RefusedHasNoBlocks }
+{}
+
+/// One issuer at most is the first that is refused, at one stage.
+pub fn one_is_first_refused()
+    ensures { OneIsFirstRefused }
+{}

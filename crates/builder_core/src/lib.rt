@@ -1,0 +1,14 @@
+//! Building a part: the block of each group, in the order of their issuers.
+#![tactic(auto)]
+
+mod building;
+mod fault;
+mod gate;
+mod laws;
+#[cfg(test)]
+mod tests;
+
+pub use building::build_part;
+pub use fault::BuildFault;
+pub use gate::{Gate, Open};
+pub use laws::{group_blocks_are_unique, one_is_first_refused, refused_has_no_blocks};

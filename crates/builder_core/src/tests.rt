@@ -1,0 +1,261 @@
+ghost use Rattle.std.specs.Prelude.{◌≡◌, ◌<◌};
+
+use crate::{BuildFault, Gate, Open, build_part};
+use card_core::Part;
+use crl_core::Crl;
+use equation_core::{EquationHash, Row, Sha256Rows};
+use ident_core::{Identity, Range, Serial, Sighting, ranges_fit};
+use job_core::{Job, JobCrl, Limits};
+use octets_core::{Key32, Steps};
+use std::alloc::Global;
+use std::marker::Brand;
+use std::process::Abort;
+use std::sync::atomic::{AtomicU32, Ordering};
+use std::sync::ledger::{Blank, Ledger};
+use std::test::Fail;
+use std::thread::Threads;
+use universe_core::{Admitted, first};
+
+#[derive(Clone, Copy)]
+enum Revoked {
+    None,
+    EachFiftieth,
+    All,
+}
+
+// An issuer with a certificate for each serial below `count`.
+#[derive(Clone, Copy)]
+struct Authority {
+    issuer: u8,
+    count: u16,
+    revoked: Revoked,
+}
+
+const LOG: [u8; 32] = [0xaa; 32];
+
+fn is_revoked(revoked: Revoked, number: u16) -> bool {
+    match revoked {
+        Revoked::None => false,
+        Revoked::EachFiftieth => number % 50 == 0,
+        Revoked::All => true,
+    }
+}
+
+fn identity(issuer: u8, number: u16) -> Result<Identity, Fail> {
+    Ok(Identity {
+        issuer: Key32::new([issuer; 32]),
+        serial: Serial::new(&number.to_be_bytes())?,
+    })
+}
+
+fn entry(issuer: u8, number: u16) -> Result<(Identity, Sighting), Fail> {
+    let log = Key32::new(LOG);
+    Ok((identity(issuer, number)?, Sighting { log, time: 0 }))
+}
+
+fn crl_of(alloc: Global, authority: Authority) -> Result<JobCrl, Fail> {
+    let mut serials = Vec::new(alloc);
+    for number in 0..authority.count {
+        if is_revoked(authority.revoked, number) {
+            serials.push(Serial::new(&number.to_be_bytes())?)?;
+        }
+    }
+    Ok(JobCrl {
+        issuer: Key32::new([authority.issuer; 32]),
+        outcome: Ok(Crl {
+            this_update: 0,
+            next_update: None,
+            serials,
+        }),
+    })
+}
+
+fn enter(job: &mut Job, authority: Authority) -> Result<(), Fail> {
+    for number in 0..authority.count {
+        job.entries.push(Some(entry(authority.issuer, number)?))?;
+    }
+    Ok(())
+}
+
+fn job_of(alloc: Global, authorities: &[Authority]) -> Result<Job, Fail> {
+    let mut job = Job {
+        epoch: 1,
+        moment: 0,
+        ranges: Vec::new(alloc),
+        crls: Vec::new(alloc),
+        entries: Vec::new(alloc),
+    };
+    let log = Key32::new(LOG);
+    job.ranges.push(Range {
+        log,
+        from: 0,
+        to: 9,
+    })?;
+    for authority in authorities {
+        job.crls.push(crl_of(alloc, *authority)?)?;
+        enter(&mut job, *authority)?;
+    }
+    Ok(job)
+}
+
+fn part_of<R: Threads + Sync, H: EquationHash + Sync, G: Gate + Sync>(
+    rt: &R,
+    alloc: Global,
+    hash: &H,
+    gate: &G,
+    job: &Job,
+) -> Result<Result<Part, BuildFault>, Fail> {
+    let few = job.crls.len() <= 65_535 && job.entries.len() <= 4_194_304;
+    let fits = job.ranges.len() <= 1024 && ranges_fit(&job.ranges);
+    if !(few && fits) {
+        return Err(Fail::from(BuildFault::NoMemory));
+    }
+    let Admitted { head, groups, .. } = first(alloc, job, &Limits::PUBLISHED)?;
+    if groups.len() > 65_535 {
+        return Err(Fail::from(BuildFault::NoMemory));
+    }
+    Ok(build_part(rt, alloc, hash, gate, &groups, head, 1))
+}
+
+// What a part says, with no step counted.
+fn consulted<L: Ledger, M: Ledger>(
+    part: &Part,
+    id: &Identity,
+    probes: Blank,
+    words: Blank,
+) -> Option<bool>
+    requires probes_name { probes.name ≡ L.name }
+    requires probes_parts { probes.parts ≡ L.parts }
+    requires some_probes { 0 < L.parts }
+    requires words_name { words.name ≡ M.name }
+    requires words_parts { words.parts ≡ M.parts }
+    requires some_words { 0 < M.parts }
+{
+    let mut probes: Steps<L> = Steps::new(probes);
+    let mut words: Steps<M> = Steps::new(words);
+    part.consult(&Sha256Rows, id, &mut probes, &mut words)
+}
+
+fn says(part: &Part, id: &Identity) -> Option<bool> {
+    consulted::<Brand, Brand>(part, id, Blank::new(1), Blank::new(1))
+}
+
+fn ask_each(rt: &impl Abort, part: &Part, authority: Authority) -> Result<(), Fail> {
+    for number in 0..authority.count {
+        let id = identity(authority.issuer, number)?;
+        let revoked = is_revoked(authority.revoked, number);
+        assert_eq!(rt;
+            says(part, &id),
+            Some(revoked),
+            "{number} of {}",
+            authority.issuer
+        );
+    }
+    Ok(())
+}
+
+const SOME: Authority = Authority {
+    issuer: 0x33,
+    count: 60,
+    revoked: Revoked::EachFiftieth,
+};
+
+const EVERY: Authority = Authority {
+    issuer: 0x11,
+    count: 3,
+    revoked: Revoked::All,
+};
+
+const NONE: Authority = Authority {
+    issuer: 0x22,
+    count: 4,
+    revoked: Revoked::None,
+};
+
+const MANY: Authority = Authority {
+    issuer: 0x44,
+    count: 300,
+    revoked: Revoked::EachFiftieth,
+};
+// One is revoked, and one isn't.
+const TWO: Authority = Authority {
+    issuer: 0x22,
+    count: 2,
+    revoked: Revoked::EachFiftieth,
+};
+
+#[test]
+fn each_member_is_consulted(rt: HostRuntime) -> Result<(), Fail> {
+    let job = job_of(rt.alloc(), &[SOME, EVERY, NONE])?;
+    let part = part_of(&rt, rt.alloc(), &Sha256Rows, &Open, &job)??;
+    ask_each(&rt, &part, SOME)?;
+    ask_each(&rt, &part, EVERY)?;
+    ask_each(&rt, &part, NONE)
+}
+
+#[test]
+fn each_member_of_many_is_consulted(rt: HostRuntime) -> Result<(), Fail> {
+    let job = job_of(rt.alloc(), &[MANY])?;
+    let part = part_of(&rt, rt.alloc(), &Sha256Rows, &Open, &job)??;
+    ask_each(&rt, &part, MANY)
+}
+
+// Each row chooses the first column alone.
+struct RowsAlike;
+
+impl EquationHash for RowsAlike {
+    ghost use Rattle.builder_core.specs.TestRows.{row_alike, row_alike-is};
+
+    ghost row_of = { λ _ stage seed id starts. row_alike stage seed id starts };
+
+    ghost formed = { λ _ stage seed id starts _ _ some _. row_alike-is stage seed id starts some };
+
+    fn row(&self, _stage: u8, _seed: u8, _id: &Identity, _starts: u32) -> Row {
+        Row {
+            start: 0,
+            coeff: 1,
+            tag: 0,
+        }
+    }
+}
+
+// The equations of the exact stage are the same but for their targets.
+#[test]
+fn the_first_refusal_is_answered(rt: HostRuntime) -> Result<(), Fail> {
+    let job = job_of(rt.alloc(), &[SOME, EVERY, TWO])?;
+    let fault = part_of(&rt, rt.alloc(), &RowsAlike, &Open, &job)?.err();
+    let issuer = Key32::new([0x22; 32]);
+    assert_eq!(&rt;
+        fault,
+        Some(BuildFault::SeedsExhausted { issuer, stage: 2 })
+    );
+    Ok(())
+}
+
+// Counts the groups that enter in order.
+#[derive(Drop)]
+struct InOrder {
+    entered: AtomicU32,
+}
+
+impl Gate for InOrder {
+    fn enter(&self, place: u32) {
+        let _ = self.entered.compare_exchange(
+            place,
+            place.saturating_add(1),
+            Ordering::SeqCst,
+            Ordering::SeqCst,
+        );
+    }
+}
+
+#[test]
+fn each_group_enters(rt: HostRuntime) -> Result<(), Fail> {
+    let gate = InOrder {
+        entered: AtomicU32::new(0),
+    };
+    let job = job_of(rt.alloc(), &[SOME, EVERY, NONE])?;
+    let _ = part_of(&rt, rt.alloc(), &Sha256Rows, &gate, &job)??;
+    assert_eq!(&rt; gate.entered.load(Ordering::SeqCst), 3);
+    Ok(())
+}
