@@ -1,7 +1,8 @@
-use crate::{AdmitFault, Admitted, Class, first, slow};
+use crate::{AdmitFault, Admitted, Class, admit, first, slow};
 use crl_core::{Crl, CrlFault};
 use ident_core::{Identity, Kind, Range, Serial, Sighting, ranges_fit};
 use job_core::{Job, JobCrl, Limits};
+use ledger_core::{Ledger, LedgerItem};
 use octets_core::Key32;
 use std::alloc::Global;
 use std::test::Fail;
@@ -26,34 +27,43 @@ fn crl(alloc: Global, row: &CrlRow<'_>) -> Result<JobCrl, Fail> {
     })
 }
 
-/// An entry of an issuer and a serial of one octet, seen by log `aa` so long after noon.
-fn entry(issuer: u8, octet: u8, after: u64) -> Result<Option<(Identity, Sighting)>, Fail> {
-    let id = Identity {
+/// The identity of an issuer and a serial of one octet.
+fn identity(issuer: u8, octet: u8) -> Result<Identity, Fail> {
+    Ok(Identity {
         issuer: Key32::new([issuer; 32]),
         serial: Serial::new(&[octet])?,
-    };
+    })
+}
+
+/// An entry of an identity, seen by a log so long after noon.
+fn entry(log: u8, id: Identity, after: u64) -> Option<(Identity, Sighting)> {
     let sighting = Sighting {
-        log: Key32::new([0xaa; 32]),
+        log: Key32::new([log; 32]),
         time: NOON.saturating_add(after),
     };
-    Ok(Some((id, sighting)))
+    Some((id, sighting))
+}
+
+/// A range of a log.
+fn range(log: u8, from: u64, to: u64) -> Range {
+    Range {
+        log: Key32::new([log; 32]),
+        from,
+        to,
+    }
 }
 
 /// A job of epoch 1 at noon that covers log `aa` for a second.
 fn job(alloc: Global, crls: &[CrlRow<'_>], rows: &[(u8, u8, u64)]) -> Result<Job, Fail> {
     let mut ranges = Vec::new(alloc);
-    ranges.push(Range {
-        log: Key32::new([0xaa; 32]),
-        from: NOON,
-        to: NOON + 1000,
-    })?;
+    ranges.push(range(0xaa, NOON, NOON + 1000))?;
     let mut lists = Vec::new(alloc);
     for row in crls {
         lists.push(crl(alloc, row)?)?;
     }
     let mut entries = Vec::new(alloc);
     for (issuer, octet, after) in rows {
-        entries.push(entry(*issuer, *octet, *after)?)?;
+        entries.push(entry(0xaa, identity(*issuer, *octet)?, *after))?;
     }
     Ok(Job {
         epoch: 1,
@@ -65,7 +75,7 @@ fn job(alloc: Global, crls: &[CrlRow<'_>], rows: &[(u8, u8, u64)]) -> Result<Job
 }
 
 /// `first`, where the job keeps the limits; else a fault that `first` never gives.
-fn admit(alloc: Global, job: &Job) -> Result<Admitted, AdmitFault> {
+fn admit_first(alloc: Global, job: &Job) -> Result<Admitted, AdmitFault> {
     let few = job.crls.len() <= 65_535 && job.entries.len() <= 4_194_304;
     let fits = job.ranges.len() <= 1024 && ranges_fit(&job.ranges);
     if few && fits {
@@ -99,7 +109,10 @@ fn counts_what_is_not_accepted(rt: HostRuntime) -> Result<(), Fail> {
     for _ in 0..3 {
         some.entries.push(None)?;
     }
-    assert_eq!(rt; numbers(&admit(alloc, &some)?), [1, 1, 0, 3, 1, 0, 0, 1]);
+    assert_eq!(rt;
+        numbers(&admit_first(alloc, &some)?),
+        [1, 1, 0, 3, 1, 0, 0, 1]
+    );
     Ok(())
 }
 
@@ -111,13 +124,19 @@ fn a_crl_out_of_date_enrolls_no_issuer(rt: HostRuntime) -> Result<(), Fail> {
         &[(0x11, None, &[]), (0x11, Some(1_699_999_999), &[])],
         &[(0x11, 5, 0)],
     )?;
-    assert_eq!(rt; numbers(&admit(alloc, &stale)?), [0, 0, 0, 0, 0, 1, 0, 0]);
+    assert_eq!(rt;
+        numbers(&admit_first(alloc, &stale)?),
+        [0, 0, 0, 0, 0, 1, 0, 0]
+    );
     let fresh = job(
         alloc,
         &[(0x11, None, &[]), (0x11, Some(1_700_000_000), &[])],
         &[(0x11, 5, 0)],
     )?;
-    assert_eq!(rt; numbers(&admit(alloc, &fresh)?), [1, 1, 0, 0, 0, 0, 0, 1]);
+    assert_eq!(rt;
+        numbers(&admit_first(alloc, &fresh)?),
+        [1, 1, 0, 0, 0, 0, 0, 1]
+    );
     Ok(())
 }
 
@@ -131,7 +150,7 @@ fn an_empty_job_is_admitted(rt: HostRuntime) -> Result<(), Fail> {
         crls: Vec::new(alloc),
         entries: Vec::new(alloc),
     };
-    let admitted = admit(alloc, &empty)?;
+    let admitted = admit_first(alloc, &empty)?;
     assert_eq!(rt; numbers(&admitted), [0; 8]);
     assert_eq!(rt; admitted.groups.len(), 0);
     assert_eq!(rt; admitted.head.kind(), Kind::Snapshot);
@@ -150,13 +169,13 @@ fn names_the_first_bad_crl(rt: HostRuntime) -> Result<(), Fail> {
         place: 1,
         fault: CrlFault::Malformed,
     };
-    assert_eq!(rt; admit(alloc, &bad).err(), Some(fault));
+    assert_eq!(rt; admit_first(alloc, &bad).err(), Some(fault));
     Ok(())
 }
 
 /// Whether groups and counts are those that the definitions' words give.
 fn agrees(alloc: Global, job: &Job) -> Result<bool, Fail> {
-    let admitted = admit(alloc, job)?;
+    let admitted = admit_first(alloc, job)?;
     let mut universe = 0;
     let mut same = admitted.groups.len() == slow::issuers(alloc, job)?.len();
     for group in &admitted.groups {
@@ -198,7 +217,132 @@ fn gives_what_the_words_of_the_definitions_give(rt: HostRuntime) -> Result<(), F
     assert!(rt; agrees(alloc, &job(alloc, &crls, &entries)?)?);
     assert!(rt; agrees(alloc, &job(alloc, &crls, &entries[..3])?)?);
     assert!(rt; agrees(alloc, &job(alloc, &crls[..1], &entries)?)?);
-    let all = admit(alloc, &job(alloc, &crls, &entries)?)?;
+    let all = admit_first(alloc, &job(alloc, &crls, &entries)?)?;
     assert_eq!(rt; numbers(&all), [3, 4, 2, 0, 1, 2, 0, 5]);
+    Ok(())
+}
+
+/// `admit`, where the job keeps the limits; else a fault that no test here wants.
+fn admit_behind(alloc: Global, ledger: &Ledger, job: &Job) -> Result<Admitted, AdmitFault> {
+    let few = job.crls.len() <= 65_535 && job.entries.len() <= 4_194_304;
+    let fits = job.ranges.len() <= 1024 && ranges_fit(&job.ranges);
+    if few && fits {
+        return admit(alloc, ledger, job, &Limits::PUBLISHED);
+    }
+    Err(AdmitFault::ChainFull)
+}
+
+/// The trailers of the first part and the second.
+const TRAILERS: [[u8; 32]; 2] = [[0x77; 32], [0x88; 32]];
+
+/// Behind a job that accepts serial 5, seen by log `aa` at noon.
+fn first_ledger(alloc: Global) -> Result<Ledger, Fail> {
+    let begins = job(alloc, &[(0x11, None, &[])], &[(0x11, 5, 0)])?;
+    let admitted = admit_first(alloc, &begins)?;
+    Ok(admitted.next.seal(Key32::new(TRAILERS[0])))
+}
+
+/// A job of epoch 2 that covers log `aa` for two seconds and lists serials 5 and 8. The first job covers when serial 7 was
+/// seen, and not when 6 was.
+fn second_job(alloc: Global) -> Result<Job, Fail> {
+    let crls: [CrlRow<'_>; 1] = [(0x11, None, &[5, 8])];
+    let mut second = job(alloc, &crls, &[(0x11, 6, 1500), (0x11, 7, 500)])?;
+    second.epoch = 2;
+    let mut ranges = Vec::new(alloc);
+    ranges.push(range(0xaa, NOON, NOON + 2000))?;
+    second.ranges = ranges;
+    Ok(second)
+}
+
+fn second_ledger(alloc: Global) -> Result<Ledger, Fail> {
+    let ledger = first_ledger(alloc)?;
+    let admitted = admit_behind(alloc, &ledger, &second_job(alloc)?)?;
+    Ok(admitted.next.seal(Key32::new(TRAILERS[1])))
+}
+
+/// A job of epoch 3 that covers log `bb` too, which sees serials 5 and 8, and lists none.
+fn third_job(alloc: Global) -> Result<Job, Fail> {
+    let mut third = job(alloc, &[(0x11, None, &[])], &[])?;
+    third.epoch = 3;
+    let mut ranges = Vec::new(alloc);
+    ranges.push(range(0xaa, NOON, NOON + 2000))?;
+    ranges.push(range(0xbb, NOON, NOON + 1000))?;
+    third.ranges = ranges;
+    third.entries.push(entry(0xbb, identity(0x11, 5)?, 10))?;
+    third.entries.push(entry(0xbb, identity(0x11, 8)?, 20))?;
+    Ok(third)
+}
+
+/// Whether there is one group, of issuer `11`, with these serials and flags.
+fn has_group(
+    alloc: Global,
+    admitted: &Admitted,
+    octets: &[u8],
+    revoked: &[bool],
+) -> Result<bool, Fail> {
+    let mut ids = Vec::new(alloc);
+    for octet in octets {
+        ids.push(identity(0x11, *octet)?)?;
+    }
+    let groups = admitted.groups.as_slice();
+    Ok(
+        groups.len() == 1
+            && groups.iter().all(|group| {
+                group.issuer == Key32::new([0x11; 32])
+                    && group.universe == ids
+                    && group.revoked.as_slice() == revoked
+            }),
+    )
+}
+
+/// The item of a serial of issuer `11`.
+fn item(octet: u8, birth: u8, last: Option<u8>) -> Result<LedgerItem, Fail> {
+    let id = identity(0x11, octet)?;
+    Ok(LedgerItem { id, birth, last })
+}
+
+#[test]
+fn a_second_job_revokes_and_has_a_late_entry(rt: HostRuntime) -> Result<(), Fail> {
+    let alloc = rt.alloc();
+    let ledger = first_ledger(alloc)?;
+    let admitted = admit_behind(alloc, &ledger, &second_job(alloc)?)?;
+    assert_eq!(rt; numbers(&admitted), [1, 2, 1, 0, 0, 0, 1, 1]);
+    assert_eq!(rt; admitted.head.kind(), Kind::Delta);
+    assert_eq!(rt; admitted.head.parent(), Key32::new(TRAILERS[0]));
+    assert!(rt; has_group(alloc, &admitted, &[5, 6], &[true, false])?);
+    let next = admitted.next.seal(Key32::new(TRAILERS[1]));
+    let items = [item(5, 0, Some(1))?, item(6, 1, None)?];
+    assert_eq!(rt; next.items(), items.as_slice());
+    Ok(())
+}
+
+#[test]
+fn a_third_job_revokes_again_what_a_new_log_sees(rt: HostRuntime) -> Result<(), Fail> {
+    let alloc = rt.alloc();
+    let ledger = second_ledger(alloc)?;
+    let admitted = admit_behind(alloc, &ledger, &third_job(alloc)?)?;
+    assert_eq!(rt; numbers(&admitted), [1, 3, 1, 0, 0, 0, 0, 2]);
+    assert_eq!(rt; admitted.head.parent(), Key32::new(TRAILERS[1]));
+    assert!(rt; has_group(alloc, &admitted, &[5, 6, 8], &[true, false, false])?);
+    let next = admitted.next.seal(Key32::new([0x99; 32]));
+    let items = [item(5, 0, Some(2))?, item(6, 1, None)?, item(8, 2, None)?];
+    assert_eq!(rt; next.items(), items.as_slice());
+    Ok(())
+}
+
+#[test]
+fn a_job_must_follow_the_newest_part(rt: HostRuntime) -> Result<(), Fail> {
+    let alloc = rt.alloc();
+    let ledger = second_ledger(alloc)?;
+    let mut later = second_job(alloc)?;
+    let fault = AdmitFault::OldEpoch { held: 2, given: 2 };
+    assert_eq!(rt; admit_behind(alloc, &ledger, &later).err(), Some(fault));
+    later.epoch = 3;
+    let mut ranges = Vec::new(alloc);
+    ranges.push(range(0xaa, NOON + 1, NOON + 2000))?;
+    later.ranges = ranges;
+    let log = Key32::new([0xaa; 32]);
+    let fault = AdmitFault::CoverageShrinks { log };
+    assert_eq!(rt; admit_behind(alloc, &ledger, &later).err(), Some(fault));
     Ok(())
 }
