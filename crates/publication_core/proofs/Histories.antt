@@ -1,0 +1,77 @@
+-- Histories with one job more, and the facts that hold after each job.
+use Rattle.std.proofs.Common.{◌≡◌, suc, ◌+◌, List, [], ◌∷◌, ◌++◌, length, Bool, true, false, cond, not, Option, Some, refl, ap, arith}
+use Rattle.std.specs.Prelude.{IsNone, IfSome}
+use Rattle.std.specs.List.{find}
+use Rattle.std.specs.Option.{option_map}
+use Rattle.std.proofs.lemmas.Bool.{and_from}
+use Rattle.ident_core.specs.declared.range.Range.{Range}
+use Rattle.ident_core.specs.Coverage.{lies_in_some, first_outside}
+use Rattle.ident_core.proofs.Within.{within-iff}
+use Rattle.part_codec.specs.SealedFields.{SealedFields}
+use Rattle.job_core.specs.JobFields.{JobFields}
+use Rattle.universe_core.specs.Jobs.{told}
+use Rattle.universe_core.specs.History.{Release, lie_within}
+use Rattle.history_core.specs.Facts.{Follows, IsSound}
+use Rattle.history_core.proofs.Sound.{nothing_sound, keeps_sound}
+use Rattle.publication_core.specs.Histories.{newest_of, GoesOn, IsAdmissible, IsPartOf, release_of, history_after, AreAdmissible, IsHistory, history}
+
+-- ---- one job more
+
+pub history_push : (rs : List Release) (jobs : List JobFields) (parts : List SealedFields) (job : JobFields) (s : SealedFields) → AreAdmissible rs jobs parts
+    → history_after rs (jobs ++ job ∷ []) (parts ++ s ∷ []) ≡ history_after rs jobs parts ++ release_of (history_after rs jobs parts) (told job) s ∷ []
+history_push rs [] [] job s h = refl
+history_push rs [] (p ∷ parts) job s h = absurd h
+history_push rs (j ∷ jobs) [] job s h = absurd h
+history_push rs (j ∷ jobs) (p ∷ parts) job s h = history_push (rs ++ release_of rs (told j) p ∷ []) jobs parts job s h.2
+
+pub admissible_push : (rs : List Release) (jobs : List JobFields) (parts : List SealedFields) (job : JobFields) (s : SealedFields) → AreAdmissible rs jobs parts
+    → IsAdmissible (history_after rs jobs parts) job → IsPartOf (history_after rs jobs parts) (told job) s → AreAdmissible rs (jobs ++ job ∷ []) (parts ++ s ∷ [])
+admissible_push rs [] [] job s h a p = (a, p, tt)
+admissible_push rs [] (q ∷ parts) job s h a p = absurd h
+admissible_push rs (j ∷ jobs) [] job s h a p = absurd h
+admissible_push rs (j ∷ jobs) (q ∷ parts) job s h a p = (h.0, h.1, admissible_push (rs ++ release_of rs (told j) q ∷ []) jobs parts job s h.2 a p)
+
+length_more : {A : Type 0} (xs : List A) (x : A) → length (xs ++ x ∷ []) ≡ suc (length xs)
+length_more [] x = refl
+length_more (y ∷ xs) x = ap suc (length_more xs x)
+
+pub history_length : (rs : List Release) (jobs : List JobFields) (parts : List SealedFields) → AreAdmissible rs jobs parts → length (history_after rs jobs parts) ≡ length rs + length jobs
+history_length rs [] [] h = omega arith
+history_length rs [] (p ∷ parts) h = absurd h
+history_length rs (j ∷ jobs) [] h = absurd h
+history_length rs (j ∷ jobs) (p ∷ parts) h =
+    let more = length_more rs (release_of rs (told j) p) in
+    omega (arith, more, history_length (rs ++ release_of rs (told j) p ∷ []) jobs parts h.2)
+
+pub parts_length : (rs : List Release) (jobs : List JobFields) (parts : List SealedFields) → AreAdmissible rs jobs parts → length parts ≡ length jobs
+parts_length rs [] [] h = refl
+parts_length rs [] (p ∷ parts) h = absurd h
+parts_length rs (j ∷ jobs) [] h = absurd h
+parts_length rs (j ∷ jobs) (p ∷ parts) h = ap suc (parts_length (rs ++ release_of rs (told j) p ∷ []) jobs parts h.2)
+
+-- ---- each job goes on from those before it
+
+none_outside : (b : Bool) (r : Range) (rest : Option Range) → IsNone (option_map (λ (x : Range). x.log) (cond (not b) (Some r) rest)) → (b ≡ true) × IsNone (option_map (λ (x : Range). x.log) rest)
+none_outside true r rest h = (refl, h)
+none_outside false r rest h = absurd cc
+
+all_lie : (new old : List Range) → IsNone (first_outside old new) → lie_within old new ≡ true
+all_lie new [] h = refl
+all_lie new (r ∷ old) h =
+    let n = none_outside (lies_in_some new r) r (find (λ (x : Range). not (lies_in_some new x)) old) h in
+    and_from (lies_in_some new r) (lie_within old new) n.0 (all_lie new old n.1)
+
+pub follows : (rs : List Release) (job : JobFields) → IfSome (newest_of rs) (GoesOn job) → Follows rs (told job)
+follows [] job h = tt
+follows (r ∷ []) job h = all_lie job.ranges r.ranges ((within-iff r.ranges job.ranges (first_outside r.ranges job.ranges) refl).1 h.coverage)
+follows (r ∷ q ∷ rs) job h = follows (q ∷ rs) job h
+
+pub after_sound : (rs : List Release) (jobs : List JobFields) (parts : List SealedFields) → IsSound rs → AreAdmissible rs jobs parts → IsSound (history_after rs jobs parts)
+after_sound rs [] [] sound h = sound
+after_sound rs [] (p ∷ parts) sound h = absurd h
+after_sound rs (j ∷ jobs) [] sound h = absurd h
+after_sound rs (j ∷ jobs) (p ∷ parts) sound h =
+    after_sound (rs ++ release_of rs (told j) p ∷ []) jobs parts (keeps_sound rs (told j) p.trailer sound (follows rs j h.0.goes_on)) h.2
+
+pub history_sound : (jobs : List JobFields) (parts : List SealedFields) → IsHistory jobs parts → IsSound (history jobs parts)
+history_sound jobs parts h = after_sound [] jobs parts nothing_sound h

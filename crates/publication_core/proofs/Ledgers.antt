@@ -1,0 +1,215 @@
+-- The ledger of a history has a text, from which it is read back.
+use Rattle.std.proofs.Common.{◌≡◌, ℕ, ◌≤◌, ⊎_elim, List, [], ◌∷◌, ◌++◌, map, length, true, Option, Some, None, Result, Ok, Err, refl, sym, ap, ◌∙◌, subst, arith}
+use Rattle.std.specs.Prelude.{All, IfSome, not}
+use Rattle.std.specs.List.{list_all}
+use Rattle.std.specs.Option.{option_map}
+use Rattle.std.proofs.lemmas.List.{length-map}
+use Rattle.std.proofs.lemmas.List.Elements.{All-nil, All-cons, All-append, All-map, All-contains, All-from_recursion}
+use Rattle.sha2.proofs.Facts256.{length-sha256}
+use Rattle.octets_core.specs.Linked.{Linked}
+use Rattle.octets_core.specs.Layout.{with_fault}
+use Rattle.octets_core.specs.Reading.{value_of}
+use Rattle.ident_core.specs.declared.identity.Identity.{Identity}
+use Rattle.ident_core.specs.declared.range.Range.{Range}
+use Rattle.ident_core.specs.RangeText.{RangeFits, FitsRange}
+use Rattle.crl_core.specs.declared.crl.CrlFault.{CrlFault}
+use Rattle.crl_core.specs.Outcome.{CrlFields}
+use Rattle.log_core.specs.Entries.{EntryFields}
+use Rattle.part_codec.specs.SealedFields.{SealedFields}
+use Rattle.part_codec.specs.PartText.{unsealed_text}
+use Rattle.job_core.specs.declared.bounds.TheConstants.Limits.{PUBLISHED}
+use Rattle.job_core.specs.JobFields.{CrlMeaning, JobFields}
+use Rattle.job_core.specs.JobFacts.{EntryFieldsFit, FitsFields}
+use Rattle.ledger_core.specs.declared.fault.LedgerFault.TheVariants as ledger_faults
+use Rattle.ledger_core.specs.declared.fields.LedgerItem.{LedgerItem}
+use Rattle.ledger_core.specs.LedgerFields.{LedgerFields, IsLedger, ids}
+use Rattle.ledger_core.specs.Fitting.{IsKey, PartFits, ItemFits, Fits}
+use Rattle.ledger_core.specs.LedgerLayout.{ledger}
+use Rattle.ledger_core.specs.LedgerReading.{ledger_of as read_ledger}
+use Rattle.ledger_core.proofs.LedgerTexts.{ledger-again}
+use Rattle.ledger_core.proofs.Seals.{IsLedger-sealed}
+use Rattle.sets_core.specs.Among.{Among}
+use Rattle.sets_core.specs.Sets.{has, key_set}
+use Rattle.sets_core.proofs.Elements.{Among-filter, Among-map, Among-filter_map, some_item}
+use Rattle.sets_core.proofs.Sets.{Among-from_has, has-from_Among, Among-from_key_set}
+use Rattle.sets_core.proofs.Canonical.{Contains-from_Among, all_from}
+use Rattle.universe_core.specs.Jobs.{Crl, Entry, crl_by, accepted_crl, entry_of, told, is_stale, crls_of, enrolled}
+use Rattle.universe_core.specs.History.{Release, past_of, accepted_with}
+use Rattle.universe_core.specs.Ledgers.{no_ledger, past_in, next_item, part_after, next_ledger, part_from, ledger_of}
+use Rattle.universe_core.specs.Members.{first_part}
+use Rattle.universe_core.specs.Step.{first_or, bad_crl_from, newest, old_epoch, shrunk, chain_full, too_many, refusal}
+use Rattle.universe_core.specs.Following.{IsBefore, early}
+use Rattle.universe_core.specs.declared.fault.AdmitFault.{AdmitFault}
+use Rattle.universe_core.proofs.Beginning.{issuers_few}
+use Rattle.universe_core.proofs.Continuing.{before_none, before_ledger, is_next, next_is}
+use Rattle.history_core.specs.Facts.{IsSound}
+use Rattle.history_core.proofs.Accepting.{accepted_cases, shown_entry}
+use Rattle.history_core.proofs.Beginnings.{ledger_of_none}
+use Rattle.history_core.proofs.Ledger as histories
+use Rattle.history_core.proofs.Sound.{nothing_sound, keeps_sound}
+use Rattle.publication_core.specs.Histories.{IsAdmissible, IsPartOf, release_of, history_after, AreAdmissible, IsHistory, history, ledger_bytes}
+use Rattle.publication_core.proofs.Admitting.{not_refused}
+use Rattle.publication_core.proofs.Histories.{follows, history_length}
+
+all_among : {A : Type 0} (P : A → Type 0) (xs : List A) (x : A) → All P xs → Among xs x → P x
+all_among P xs x h a = All-contains P xs x h (Contains-from_Among xs x a)
+
+-- ---- the job's ranges, issuers and entries fit
+
+ranges_fit : (previous : Option (List ℕ)) (rs : List Range) → Linked FitsRange (λ previous r. Some r.log) previous rs → All RangeFits rs
+ranges_fit previous [] h = All-nil RangeFits
+ranges_fit previous (r ∷ rs) h = All-cons RangeFits r rs h.0.1 (ranges_fit (Some r.log) rs h.1)
+
+crl_issuer : (issuer : List ℕ) (r : Result CrlFields CrlFault) (c : Crl) → crl_by issuer r ≡ Some c → c.issuer ≡ issuer
+crl_issuer issuer (Ok f) c h = sym (ap (λ (d : Crl). d.issuer) (some_item (record { issuer = issuer; next_update = f.next_update; serials = f.serials }) c h))
+crl_issuer issuer (Err e) c h = absurd cc
+
+-- each enrolled issuer is that of a CRL
+enrolled_key : (job : JobFields) → All (λ c. length c.issuer ≡ 32) job.crls → (k : List ℕ) → Among (enrolled (told job)) k → IsKey k
+unfolding enrolled
+enrolled_key job wide k a =
+    let f = Among-filter (λ issuer. list_all (λ c. not (is_stale job.moment c.next_update)) (crls_of issuer (told job))) (key_set (map (λ c. c.issuer) (told job).crls)) k a in
+    let m = Among-map (λ (c : Crl). c.issuer) (told job).crls k (Among-from_key_set (map (λ (c : Crl). c.issuer) (told job).crls) k f.0) in
+    let c = Among-filter_map accepted_crl job.crls m.0 m.1 in
+    ap length (sym m.2 ∙ crl_issuer c.0.issuer c.0.outcome m.0 c.2) ∙ all_among (λ (d : CrlMeaning). length d.issuer ≡ 32) job.crls c.0 wide c.1
+
+part_fits : (job : JobFields) (trailer : List ℕ) → FitsFields job → IsKey trailer → PartFits (part_after (told job) trailer)
+part_fits job trailer fits key = record {
+  epoch = fits.epoch;
+  trailer = key;
+  ranges = ranges_fit None job.ranges fits.ranges;
+  issuers = All-from_recursion IsKey (enrolled (told job)) (all_from IsKey (enrolled (told job)) (enrolled_key job fits.crls));
+}
+
+-- the key and the serial of an identity fit
+pub record IdentityFits (x : Identity) : Type 0 where
+  pub issuer : IsKey x.issuer
+  pub some_octets : 1 ≤ length x.serial
+  pub few_octets : length x.serial ≤ 32
+
+entry_fits : (o : Option EntryFields) (e : Entry) → IfSome o EntryFieldsFit → option_map entry_of o ≡ Some e → IdentityFits e.id
+entry_fits None e fits h = absurd cc
+entry_fits (Some f) e fits h =
+    subst (λ (d : Entry). IdentityFits d.id) (some_item (entry_of f) e h) (record { issuer = fits.issuer; some_octets = fits.some_serial; few_octets = fits.short_serial })
+
+entries_fit : (job : JobFields) (e : Entry) → All (λ o. IfSome o EntryFieldsFit) job.entries → Among (told job).entries (Some e) → IdentityFits e.id
+entries_fit job e fits a =
+    let o = Among-map (option_map entry_of) job.entries (Some e) a in
+    entry_fits o.0 e (all_among (λ (p : Option EntryFields). IfSome p EntryFieldsFit) job.entries o.0 fits o.1) o.2
+
+-- ---- one job more
+
+-- what each ledger that fits keeps, and what there is before the first job too
+pub record FitsBefore (l : LedgerFields) : Type 0 where
+  pub before : IsBefore l
+  pub few_items : length l.items ≤ 4194304
+  pub parts : All PartFits l.parts
+  pub items : All ItemFits l.items
+
+none_fits : FitsBefore no_ledger
+none_fits = record { before = before_none; few_items = omega arith; parts = All-nil PartFits; items = All-nil ItemFits }
+
+fits_before : (l : LedgerFields) → Fits l → FitsBefore l
+fits_before l fits = record { before = before_ledger l fits.facts; few_items = fits.facts.few_items; parts = fits.parts; items = fits.items }
+
+early_none : (a b c d e : Option AdmitFault) → first_or a (first_or b (first_or c (first_or d e))) ≡ None → first_or a (first_or b (first_or c d)) ≡ None
+early_none (Some x) b c d e h = absurd cc
+early_none None (Some x) c d e h = absurd cc
+early_none None None (Some x) d e h = absurd cc
+early_none None None None (Some x) e h = absurd cc
+early_none None None None None e h = refl
+
+not_early : (l : LedgerFields) (job : JobFields) → refusal PUBLISHED l job ≡ None → early l.parts job ≡ None
+unfolding refusal
+not_early l job h =
+    early_none (bad_crl_from 0 job.crls) (old_epoch (newest l.parts) job.epoch) (shrunk (newest l.parts) (told job)) (chain_full l.parts) (too_many PUBLISHED l (told job)) h
+
+module _ (l : LedgerFields) (job : JobFields) (kept : FitsBefore l) (fits : FitsFields job) where
+  -- an identity of the ledger fits
+  old_fits : (x : Identity) → has (past_in l).accepted x ≡ true → IdentityFits x
+  unfolding past_in
+  old_fits x h =
+      let i = Among-map (λ (i : LedgerItem). i.id) l.items x (Among-from_has (ids l.items) x h) in
+      let f = all_among ItemFits l.items i.0 kept.items i.1 in
+      subst IdentityFits i.2 (record { issuer = f.issuer; some_octets = f.some_octets; few_octets = f.few_octets })
+
+  accepted_fits : (x : Identity) → Among (accepted_with (past_in l) (told job)) x → IdentityFits x
+  accepted_fits x a =
+      ⊎_elim (λ old. old_fits x old) (λ new. subst IdentityFits new.2 (entries_fit job new.0 fits.entries (shown_entry (past_in l) (told job) new.0 new.1)))
+      (accepted_cases (past_in l) (told job) x (has-from_Among (accepted_with (past_in l) (told job)) x a))
+
+  item_fits : (x : Identity) → Among (accepted_with (past_in l) (told job)) x → ItemFits (next_item (past_in l) l (told job) x)
+  item_fits x a = let f = accepted_fits x a in record { issuer = f.issuer; some_octets = f.some_octets; few_octets = f.few_octets }
+
+  items_fit : All ItemFits (map (next_item (past_in l) l (told job)) (accepted_with (past_in l) (told job)))
+  items_fit =
+      let item : Identity → LedgerItem = next_item (past_in l) l (told job) in
+      let xs : List Identity = accepted_with (past_in l) (told job) in
+      All-map ItemFits item xs (All-from_recursion (λ x. ItemFits (item x)) xs (all_from (λ x. ItemFits (item x)) xs item_fits))
+
+  next_ledger_is : (trailer : List ℕ) → early l.parts job ≡ None → length job.crls ≤ 65535 → length (accepted_with (past_in l) (told job)) ≤ 4194304
+      → IsLedger (next_ledger l (told job) trailer)
+  next_ledger_is trailer none crls few =
+      let items : List LedgerItem = map (next_item (past_in l) l (told job)) (accepted_with (past_in l) (told job)) in
+      let drafted : LedgerFields = record { parts = l.parts ++ first_part job.epoch job.ranges (enrolled (told job)) ∷ []; items = items } in
+      subst IsLedger (next_is l (told job) (enrolled (told job)) items trailer refl refl)
+      (IsLedger-sealed drafted trailer (is_next l job (enrolled (told job)) items kept.before none fits.ranges_fit refl refl (omega (arith, issuers_few job, crls)) few))
+
+  next_fits : (trailer : List ℕ) → IsKey trailer → early l.parts job ≡ None → length job.crls ≤ 65535 → length (accepted_with (past_in l) (told job)) ≤ 4194304
+      → Fits (next_ledger l (told job) trailer)
+  next_fits trailer key none crls few = record {
+    facts = next_ledger_is trailer none crls few;
+    parts = All-append PartFits l.parts (part_after (told job) trailer ∷ []) kept.parts
+        (All-cons PartFits (part_after (told job) trailer) [] (part_fits job trailer fits key) (All-nil PartFits));
+    items = items_fit;
+  }
+
+-- ---- a history's ledger
+
+-- the ledger of releases and of one job more
+step_fits : (rs : List Release) (job : JobFields) (s : SealedFields) → IsSound rs → FitsBefore (ledger_of rs) → IsAdmissible rs job → IsPartOf rs (told job) s
+    → FitsBefore (ledger_of (rs ++ release_of rs (told job) s ∷ []))
+step_fits rs job s sound kept a part =
+    let none = not_early (ledger_of rs) job (not_refused rs job sound (record { crls = a.crls; goes_on = a.goes_on; few_parts = a.few_parts; few_identities = a.few_identities })) in
+    let same : length (accepted_with (past_in (ledger_of rs)) (told job)) ≡ length (accepted_with (past_of rs) (told job))
+    = ap (λ past. length (accepted_with past (told job))) (histories.past_in_ledger rs sound) in
+    let few : length (accepted_with (past_in (ledger_of rs)) (told job)) ≤ 4194304 = omega (arith, same, a.few_identities) in
+    let key : IsKey s.trailer = ap length part.trailer ∙ length-sha256 (unsealed_text s.part) in
+    subst FitsBefore (histories.next_is rs sound (told job) s.trailer)
+    (fits_before (next_ledger (ledger_of rs) (told job) s.trailer) (next_fits (ledger_of rs) job kept a.fits s.trailer key none a.limits.crls few))
+
+after_fits : (rs : List Release) (jobs : List JobFields) (parts : List SealedFields) → IsSound rs → FitsBefore (ledger_of rs) → AreAdmissible rs jobs parts
+    → FitsBefore (ledger_of (history_after rs jobs parts))
+after_fits rs [] [] sound kept h = kept
+after_fits rs [] (s ∷ parts) sound kept h = absurd h
+after_fits rs (job ∷ jobs) [] sound kept h = absurd h
+after_fits rs (job ∷ jobs) (s ∷ parts) sound kept h =
+    after_fits (rs ++ release_of rs (told job) s ∷ []) jobs parts (keeps_sound rs (told job) s.trailer sound (follows rs job h.0.goes_on)) (step_fits rs job s sound kept h.0 h.1) h.2
+
+parts_many : (rs : List Release) → length (ledger_of rs).parts ≡ length rs
+unfolding ledger_of
+parts_many rs = length-map rs part_from
+
+module _ (jobs : List JobFields) (parts : List SealedFields) (is : IsHistory jobs parts) (some : 1 ≤ length jobs) where
+  pub history_ledger_fits : Fits (ledger_of (history jobs parts))
+  history_ledger_fits =
+      let l : LedgerFields = ledger_of (history jobs parts) in
+      let kept : FitsBefore l = after_fits [] jobs parts nothing_sound (subst FitsBefore (sym ledger_of_none) none_fits) is in
+      record {
+        facts = record {
+          some_parts = omega (arith, parts_many (history jobs parts), history_length [] jobs parts is, some);
+          few_parts = kept.before.few_parts;
+          parts = kept.before.parts;
+          few_items = kept.few_items;
+          items_ascend = kept.before.items_ascend;
+          items = kept.before.items;
+        };
+        parts = kept.parts;
+        items = kept.items;
+      }
+
+  pub history_ledger_read : ledger (ledger_bytes jobs parts) 0 ≡ Ok (ledger_of (history jobs parts), length (ledger_bytes jobs parts))
+  history_ledger_read = ledger-again (ledger_of (history jobs parts)) history_ledger_fits
+
+  pub history_ledger_value : read_ledger (ledger_bytes jobs parts) ≡ Ok (ledger_of (history jobs parts))
+  history_ledger_value = ap (λ r. value_of (with_fault ledger_faults.Layout r)) history_ledger_read

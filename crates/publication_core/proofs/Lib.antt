@@ -1,0 +1,11 @@
+pub mod Leaves
+pub mod Histories
+pub mod Admitting
+pub mod Unique
+pub mod Publications
+pub mod Publishing
+pub mod Shown
+pub mod Verdicts
+pub mod Ledgers
+pub mod PartTexts
+pub mod Chains

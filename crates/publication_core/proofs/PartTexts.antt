@@ -1,0 +1,142 @@
+-- The part of an admissible job has a text.
+use Rattle.std.proofs.Common.{◌≡◌, ℕ, ◌≤◌, inl, inr, List, [], ◌∷◌, map, length, true, not, Option, Some, None, Result, Ok, Err, refl, sym, ap, ◌∙◌, subst, arith}
+use Rattle.std.specs.Prelude.{All, IfSome}
+use Rattle.std.specs.List.{list_all}
+use Rattle.std.specs.Option.{option_map}
+use Rattle.std.specs.Str.{bytes_eq}
+use Rattle.std.proofs.lemmas.List.{length-map}
+use Rattle.std.proofs.lemmas.List.Sums.{length-filter, count_by-le-length}
+use Rattle.std.proofs.lemmas.List.Elements.{All-contains}
+use Rattle.octets_core.specs.Linked.{Linked, is_after}
+use Rattle.octets_core.proofs.Texts.{Linked-weaken}
+use Rattle.ident_core.specs.declared.identity.Identity.{Identity}
+use Rattle.ident_core.specs.declared.kind.Kind.TheVariants as kinds
+use Rattle.ident_core.specs.HeadFields.{zero_key}
+use Rattle.crl_core.specs.declared.crl.CrlFault.{CrlFault}
+use Rattle.crl_core.specs.Outcome.{CrlFields}
+use Rattle.equation_core.specs.Rows.{sha256_row}
+use Rattle.card_core.specs.declared.block.Block.{Block}
+use Rattle.part_codec.specs.SealedFields.{SealedFields}
+use Rattle.part_codec.specs.Fitting.{FitsBlock, FitsHead, Fits}
+use Rattle.job_core.specs.JobFields.{CrlMeaning, JobFields}
+use Rattle.job_core.specs.JobFacts.{FitsFields}
+use Rattle.ledger_core.specs.LedgerFields.{LedgerPartFields}
+use Rattle.ledger_core.proofs.Orders.{keys-linked}
+use Rattle.sets_core.specs.Among.{Among}
+use Rattle.sets_core.specs.Sets.{has, key_set}
+use Rattle.sets_core.proofs.Elements.{Among-filter, Among-map, Among-filter_map, some_item}
+use Rattle.sets_core.proofs.Sets.{Among-from_key_set}
+use Rattle.sets_core.proofs.Canonical.{Contains-from_Among}
+use Rattle.universe_core.specs.Jobs.{Crl, accepted_crl, crl_by, crls_of, enrolled, is_stale, told}
+use Rattle.universe_core.specs.History.{Release, past_of, released}
+use Rattle.universe_core.specs.Groups.{members_of, group_of, groups}
+use Rattle.universe_core.specs.Ledgers.{part_from}
+use Rattle.universe_core.specs.Step.{newest, kind_by, parent_by, head_after}
+use Rattle.universe_core.proofs.Beginning.{issuers_few}
+use Rattle.universe_core.proofs.Issuers.{enrolled_ascend}
+use Rattle.builder_core.specs.Building.{AreGroupBlocks}
+use Rattle.builder_core.proofs.GroupBlocks.{blocks_length}
+use Rattle.publication_core.specs.Histories.{newest_of, IsPartOf, IsAdmissible}
+use Rattle.publication_core.proofs.Leaves.{blocks_have_texts}
+
+-- ---- the head
+
+pub newest_part : (rs : List Release) → newest (map part_from rs) ≡ option_map part_from (newest_of rs)
+newest_part [] = refl
+newest_part (r ∷ []) = refl
+newest_part (r ∷ q ∷ rs) = newest_part (q ∷ rs)
+
+parent_wide : (newest : Option Release) → IfSome newest (λ r. length r.trailer ≡ 32) → length (parent_by (option_map part_from newest)) ≡ 32
+parent_wide None h = refl
+parent_wide (Some r) h = h
+
+-- a snapshot has no parent
+no_parent : (rs : List Release) → kind_by (map part_from rs) ≡ kinds.Snapshot → parent_by (newest (map part_from rs)) ≡ zero_key
+no_parent [] h = refl
+no_parent (r ∷ rs) h = absurd cc
+
+head_fits : (rs : List Release) (job : JobFields) → FitsFields job → IfSome (newest_of rs) (λ r. length r.trailer ≡ 32) → FitsHead (head_after (map part_from rs) (told job))
+head_fits rs job fits digest = record {
+  facts = record { ranges = fits.ranges_fit; snapshot = no_parent rs };
+  epoch = fits.epoch;
+  parent = ap (λ (o : Option LedgerPartFields). length (parent_by o)) (newest_part rs) ∙ parent_wide (newest_of rs) digest;
+  ranges = fits.ranges;
+}
+
+-- ---- the keys of the enrolled issuers
+
+crl_issuer : (issuer : List ℕ) (r : Result CrlFields CrlFault) (c : Crl) → crl_by issuer r ≡ Some c → c.issuer ≡ issuer
+crl_issuer issuer (Ok f) c h = sym (ap (λ (d : Crl). d.issuer) (some_item (record { issuer = issuer; next_update = f.next_update; serials = f.serials }) c h))
+crl_issuer issuer (Err e) c h = absurd cc
+
+enrolled_keys : (job : JobFields) → All (λ c. length c.issuer ≡ 32) job.crls → (k : List ℕ) → Among (enrolled (told job)) k → length k ≡ 32
+unfolding enrolled
+enrolled_keys job wide k a =
+    let f = Among-filter (λ issuer. list_all (λ c. not (is_stale job.moment c.next_update)) (crls_of issuer (told job))) (key_set (map (λ c. c.issuer) (told job).crls)) k a in
+    let m = Among-map (λ (c : Crl). c.issuer) (told job).crls k (Among-from_key_set (map (λ (c : Crl). c.issuer) (told job).crls) k f.0) in
+    let c = Among-filter_map accepted_crl job.crls m.0 m.1 in
+    let is : k ≡ c.0.issuer = sym m.2 ∙ crl_issuer c.0.issuer c.0.outcome m.0 c.2 in
+    ap length is ∙ All-contains (λ (c : CrlMeaning). length c.issuer ≡ 32) job.crls c.0 wide (Contains-from_Among job.crls c.0 c.1)
+
+-- ---- the blocks
+
+members_within : (k : List ℕ) (xs : List Identity) → length (members_of k xs) ≤ length xs
+members_within k xs = omega (arith, length-filter (λ (x : Identity). bytes_eq k x.issuer) xs, count_by-le-length (λ (x : Identity). bytes_eq k x.issuer) xs)
+
+-- blocks of the groups of ascending keys, each of few identities
+blocks_fit : (r : Release) (previous : Option (List ℕ)) (ks : List (List ℕ)) (blocks : List Block) → length r.accepted ≤ 4194304
+    → Linked (λ previous k. is_after previous k ≡ true) (λ previous k. Some k) previous ks → ((k : List ℕ) → Among ks k → length k ≡ 32)
+    → AreGroupBlocks sha256_row (map (group_of r) ks) blocks → Linked FitsBlock (λ previous b. Some b.issuer) previous blocks
+blocks_fit r previous [] [] few linked wide are = tt
+blocks_fit r previous [] (b ∷ blocks) few linked wide are = absurd are
+blocks_fit r previous (k ∷ ks) [] few linked wide are = absurd are
+blocks_fit r previous (k ∷ ks) (b ∷ blocks) few linked wide are =
+    let members : List Identity = members_of k r.accepted in (
+      (
+        subst (λ (i : List ℕ). is_after previous i ≡ true) (sym are.0.0) linked.0,
+        blocks_have_texts k members (map (has r.revoked) members) b (wide k (inl refl)) (omega (arith, members_within k r.accepted, few)) are.0,
+      ),
+      blocks_fit r (Some b.issuer) ks blocks few
+          (subst (λ (i : List ℕ). Linked (λ previous k. is_after previous k ≡ true) (λ previous k. Some k) (Some i) ks) (sym are.0.0) linked.1)
+          (λ x a. wide x (inr a)) are.1,
+    )
+
+block_after : (previous : Option (List ℕ)) (b : Block) → FitsBlock previous b → is_after previous b.issuer ≡ true
+block_after previous b fits = fits.0
+
+module _ (rs : List Release) (job : JobFields) (s : SealedFields) (admissible : IsAdmissible rs job) (is : IsPartOf rs (told job) s) where
+  abbrev made : Release
+  made = released (past_of rs) (told job) []
+
+  blocks_are : AreGroupBlocks sha256_row (map (group_of made) (enrolled (told job))) s.part.blocks
+  unfolding groups
+  blocks_are = is.blocks
+
+  blocks_linked : Linked FitsBlock (λ previous b. Some b.issuer) None s.part.blocks
+  blocks_linked =
+      blocks_fit made None (enrolled (told job)) s.part.blocks admissible.few_identities (keys-linked (enrolled (told job)) (enrolled_ascend (told job)))
+      (enrolled_keys job admissible.fits.crls) blocks_are
+
+  blocks_few : length s.part.blocks ≤ 65535
+  blocks_few =
+      omega (
+        arith,
+        blocks_length sha256_row (map (group_of made) (enrolled (told job))) s.part.blocks blocks_are,
+        length-map (enrolled (told job)) (group_of made),
+        issuers_few job,
+        admissible.limits.crls,
+      )
+
+  -- The part has a text where the trailer of the newest release, if there is one, is a digest.
+  pub part_has_text : IfSome (newest_of rs) (λ r. length r.trailer ≡ 32) → Fits s
+  part_has_text digest = record {
+    part = record {
+      facts = record {
+        few = blocks_few;
+        ascending = Linked-weaken FitsBlock (λ previous b. is_after previous b.issuer ≡ true) (λ previous b. Some b.issuer) block_after None s.part.blocks blocks_linked;
+      };
+      head = subst FitsHead (sym is.head) (head_fits rs job admissible.fits digest);
+      blocks = blocks_linked;
+    };
+    trailer = is.trailer;
+  }

@@ -1,0 +1,86 @@
+-- A job has one part at most, and one thing comes of it behind a ledger.
+use Rattle.std.proofs.Common.{◌≡◌, List, [], ◌∷◌, ◌++◌, Option, Some, None, Result, Ok, Err, refl, sym, ap, ◌∙◌, subst}
+use Rattle.sha2.specs.Sha256.{sha256}
+use Rattle.ident_core.specs.HeadFields.{HeadFields}
+use Rattle.equation_core.specs.Rows.{sha256_row}
+use Rattle.card_core.specs.PartFields.{PartFields}
+use Rattle.part_codec.specs.SealedFields.{SealedFields}
+use Rattle.part_codec.specs.PartText.{unsealed_text}
+use Rattle.job_core.specs.declared.bounds.TheConstants.Limits.{PUBLISHED}
+use Rattle.job_core.specs.JobFields.{JobFields}
+use Rattle.ledger_core.specs.LedgerFields.{LedgerFields}
+use Rattle.universe_core.specs.declared.fault.AdmitFault.{AdmitFault}
+use Rattle.universe_core.specs.Jobs.{Job, told}
+use Rattle.universe_core.specs.History.{Release}
+use Rattle.universe_core.specs.Groups.{GroupFields}
+use Rattle.universe_core.specs.Ledgers.{next_ledger}
+use Rattle.universe_core.specs.Step.{refusal, groups_after}
+use Rattle.builder_core.specs.Building.{AreGroupBlocks}
+use Rattle.builder_core.proofs.GroupBlocks.{blocks_unique}
+use Rattle.builder_core.proofs.FirstRefused.{refused_no_blocks, first_refused_once}
+use Rattle.publication_core.specs.declared.fault.PublishFault.{PublishFault}
+use Rattle.publication_core.specs.declared.fault.PublishFault.TheVariants.{Admission, SeedsExhausted, NoMemory}
+use Rattle.publication_core.specs.Histories.{groups_of, IsPartOf, release_of, AreAdmissible, IsHistory}
+use Rattle.publication_core.specs.Publishing.{Published, IsPublication, Publishes}
+
+-- parts with the same head, blocks of the same groups, and their digests
+sealed_same : (head : HeadFields) (gs : List GroupFields) (a b : SealedFields) → a.part.head ≡ head → b.part.head ≡ head → AreGroupBlocks sha256_row gs a.part.blocks
+    → AreGroupBlocks sha256_row gs b.part.blocks → a.trailer ≡ sha256 (unsealed_text a.part) → b.trailer ≡ sha256 (unsealed_text b.part) → a ≡ b
+sealed_same head gs a b ha hb ba bb ta tb =
+    let blocks : a.part.blocks ≡ b.part.blocks = blocks_unique sha256_row gs a.part.blocks b.part.blocks ba bb in
+    let part : a.part ≡ b.part = λ i. record { head = (ha ∙ sym hb) i; blocks = blocks i } in
+    λ i. record { part = part i; trailer = (ta ∙ ap (λ (p : PartFields). sha256 (unsealed_text p)) part ∙ sym tb) i }
+
+pub part_unique : (rs : List Release) (job : Job) (a b : SealedFields) → IsPartOf rs job a → IsPartOf rs job b → a ≡ b
+part_unique rs job a b x y = sealed_same _ (groups_of rs job) a b x.head y.head x.blocks y.blocks x.trailer y.trailer
+
+after_unique : (rs : List Release) (jobs : List JobFields) (a b : List SealedFields) → AreAdmissible rs jobs a → AreAdmissible rs jobs b → a ≡ b
+after_unique rs [] [] [] x y = refl
+after_unique rs [] [] (t ∷ b) x y = absurd y
+after_unique rs [] (s ∷ a) b x y = absurd x
+after_unique rs (j ∷ jobs) [] b x y = absurd x
+after_unique rs (j ∷ jobs) (s ∷ a) [] x y = absurd y
+after_unique rs (j ∷ jobs) (s ∷ a) (t ∷ b) x y =
+    let same : s ≡ t = part_unique rs (told j) s t x.1 y.1 in
+    let rest : a ≡ b = after_unique (rs ++ release_of rs (told j) s ∷ []) jobs a b x.2 (subst (λ z. AreAdmissible (rs ++ release_of rs (told j) z ∷ []) jobs b) (sym same) y.2) in
+    λ i. same i ∷ rest i
+
+pub history_unique : (jobs : List JobFields) (a b : List SealedFields) → IsHistory jobs a → IsHistory jobs b → a ≡ b
+history_unique jobs a b x y = after_unique [] jobs a b x y
+
+-- ---- what comes of a job behind a ledger
+
+publication_unique : (ledger : LedgerFields) (job : JobFields) (p q : Published) → IsPublication ledger job p → IsPublication ledger job q → p ≡ q
+publication_unique ledger job p q x y =
+    let sealed : p.sealed ≡ q.sealed = sealed_same _ (groups_after ledger (told job)) p.sealed q.sealed x.head y.head x.blocks y.blocks x.trailer y.trailer in
+    λ i. record {
+      place = (x.place ∙ sym y.place) i;
+      sealed = sealed i;
+      ledger = (x.next ∙ ap (λ (s : SealedFields). next_ledger ledger (told job) s.trailer) sealed ∙ sym y.next) i;
+      counts = (x.counts ∙ sym y.counts) i;
+    }
+
+some_same : (a b : AdmitFault) → ◌≡◌ {A = Option AdmitFault} (Some a) (Some b) → a ≡ b
+some_same a b h = cc
+
+not_both : {A : Type 0} (o : Option AdmitFault) (fault : AdmitFault) → o ≡ None → o ≡ Some fault → A
+not_both o fault none some = absurd (let h : ◌≡◌ {A = Option AdmitFault} None (Some fault) = sym none ∙ some in cc)
+
+pub outcome_unique : (ledger : LedgerFields) (job : JobFields) (a b : Result Published PublishFault) → Publishes ledger job a → Publishes ledger job b → a ≡ b
+outcome_unique ledger job (Ok p) (Ok q) x y = ap (λ (r : Published). Ok r) (publication_unique ledger job p q x.1 y.1)
+outcome_unique ledger job (Ok p) (Err (Admission fault)) x y = not_both (refusal PUBLISHED ledger job) fault x.0 y
+outcome_unique ledger job (Ok p) (Err (SeedsExhausted issuer stage)) x y =
+    absurd (refused_no_blocks sha256_row (groups_after ledger (told job)) issuer stage p.sealed.part.blocks y.1 x.1.blocks)
+outcome_unique ledger job (Ok p) (Err NoMemory) x y = absurd y
+outcome_unique ledger job (Err NoMemory) b x y = absurd x
+outcome_unique ledger job (Err (Admission fault)) (Ok q) x y = not_both (refusal PUBLISHED ledger job) fault y.0 x
+outcome_unique ledger job (Err (Admission fault)) (Err (Admission other)) x y = ap (λ (f : AdmitFault). Err (Admission f)) (some_same fault other (sym x ∙ y))
+outcome_unique ledger job (Err (Admission fault)) (Err (SeedsExhausted issuer stage)) x y = not_both (refusal PUBLISHED ledger job) fault y.0 x
+outcome_unique ledger job (Err (Admission fault)) (Err NoMemory) x y = absurd y
+outcome_unique ledger job (Err (SeedsExhausted issuer stage)) (Ok q) x y =
+    absurd (refused_no_blocks sha256_row (groups_after ledger (told job)) issuer stage q.sealed.part.blocks x.1 y.1.blocks)
+outcome_unique ledger job (Err (SeedsExhausted issuer stage)) (Err (Admission fault)) x y = not_both (refusal PUBLISHED ledger job) fault x.0 y
+outcome_unique ledger job (Err (SeedsExhausted issuer stage)) (Err (SeedsExhausted other at)) x y =
+    let same = first_refused_once sha256_row (groups_after ledger (told job)) issuer other stage at x.1 y.1 in
+    λ i. Err (SeedsExhausted (same.0 i) (same.1 i))
+outcome_unique ledger job (Err (SeedsExhausted issuer stage)) (Err NoMemory) x y = absurd y

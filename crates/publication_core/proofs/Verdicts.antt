@@ -1,0 +1,75 @@
+-- The verdict of the parts of a history is its truth.
+use Rattle.std.proofs.Common.{◌≡◌, ◌≤◌, List, [], ◌∷◌, ◌++◌, map, length, Bool, true, false, cond, refl, sym, ap, ◌∙◌, subst, append_assoc, arith}
+use Rattle.std.specs.List.{list_any, filter, filter_map, cons_option, AllZip}
+use Rattle.std.proofs.lemmas.List.{append-nil}
+use Rattle.ident_core.specs.declared.identity.Identity.{Identity}
+use Rattle.ident_core.specs.declared.range.Sighting.{Sighting}
+use Rattle.ident_core.specs.Coverage.{covers}
+use Rattle.equation_core.specs.Rows.{sha256_row}
+use Rattle.card_core.specs.PartFields.{PartFields}
+use Rattle.card_core.specs.Consulting.{consulted, covers_some}
+use Rattle.part_codec.specs.SealedFields.{SealedFields}
+use Rattle.job_core.specs.JobFields.{JobFields}
+use Rattle.sets_core.specs.Among.{Among}
+use Rattle.universe_core.specs.Jobs.{told}
+use Rattle.universe_core.specs.History.{Release, seen, sightings}
+use Rattle.history_core.specs.Facts.{IsSound}
+use Rattle.history_core.specs.Showing.{PartView, Shows, answers_of}
+use Rattle.history_core.proofs.Answers.{answers_are_truth}
+use Rattle.store_core.specs.declared.verdict.Verdict.TheVariants.{Good, Revoked}
+use Rattle.store_core.specs.Verdict.{covering, answers, by_answers, by_covering, verdict}
+use Rattle.publication_core.specs.Histories.{release_of, history_after, AreAdmissible, IsHistory, history}
+use Rattle.publication_core.specs.Truth.{truth}
+use Rattle.publication_core.proofs.Histories.{history_sound}
+use Rattle.publication_core.proofs.Shown.{shown_by, part_shows}
+
+-- ---- the verdict, and the answers of the parts
+
+answered : (x : Identity) (part : PartFields) (parts : List PartFields) (b : Bool) (rest : List PartView) → filter_map (λ (v : PartView). v.consulted x) rest ≡ answers x parts
+    → filter_map (λ (v : PartView). v.consulted x) (cond b (shown_by part ∷ rest) rest) ≡ answers x (cond b (part ∷ parts) parts)
+answered x part parts true rest e = ap (cons_option (consulted sha256_row x part.blocks)) e
+answered x part parts false rest e = e
+
+answers_same : (x : Identity) (ss : List Sighting) (parts : List PartFields) → answers_of x ss (map shown_by parts) ≡ answers x (covering ss parts)
+unfolding answers_of
+answers_same x ss [] = refl
+answers_same x ss (part ∷ parts) =
+    answered x part (covering ss parts) (covers_some ss part) (filter (λ (v : PartView). list_any (covers v.ranges) ss) (map shown_by parts)) (answers_same x ss parts)
+
+by_answers_of : (x : Identity) (parts : List PartFields) (a : Bool) (others : List Bool) → answers x parts ≡ a ∷ others → by_covering x parts ≡ by_answers (a ∷ others)
+by_answers_of x [] a others h = absurd cc
+by_answers_of x (part ∷ parts) a others h = ap by_answers h
+
+-- Parts that show the releases give the truth, asked with accepted sightings.
+verdict_is_truth : (parts : List PartFields) (rs : List Release) (x : Identity) (s : Sighting) (ss : List Sighting) → IsSound rs → AllZip Shows (map shown_by parts) rs
+    → ((t : Sighting) → Among (s ∷ ss) t → Among (sightings x (seen rs)) t) → verdict parts x (s ∷ ss) ≡ truth rs x
+verdict_is_truth parts rs x s ss sound shows asked =
+    let a = answers_are_truth (map shown_by parts) rs x s ss sound shows asked in
+    by_answers_of x (covering (s ∷ ss) parts) a.0 a.1 (sym (answers_same x (s ∷ ss) parts) ∙ a.2) ∙ ap (λ (r : Bool). cond r Revoked Good) a.3
+
+-- ---- the parts of a history show what its jobs leave
+
+shows_push : (views : List PartView) (rs : List Release) (v : PartView) (r : Release) → AllZip Shows views rs → Shows v r → AllZip Shows (views ++ v ∷ []) (rs ++ r ∷ [])
+shows_push [] [] v r z s = (s, tt)
+shows_push [] (q ∷ rs) v r z s = absurd z
+shows_push (w ∷ views) [] v r z s = absurd z
+shows_push (w ∷ views) (q ∷ rs) v r z s = (z.0, shows_push views rs v r z.1 s)
+
+-- behind views that show the releases before
+after_shown : (views : List PartView) (rs : List Release) (jobs : List JobFields) (parts : List SealedFields) → AllZip Shows views rs → AreAdmissible rs jobs parts
+    → AllZip Shows (views ++ map shown_by (map (λ s. s.part) parts)) (history_after rs jobs parts)
+after_shown views rs [] [] z h = rw append-nil z
+after_shown views rs [] (s ∷ parts) z h = absurd h
+after_shown views rs (job ∷ jobs) [] z h = absurd h
+after_shown views rs (job ∷ jobs) (s ∷ parts) z h =
+    let after : List Release = rs ++ release_of rs (told job) s ∷ [] in
+    let pushed : AllZip Shows (views ++ shown_by s.part ∷ []) after = shows_push views rs (shown_by s.part) (release_of rs (told job) s) z (part_shows rs (told job) s h.1) in
+    subst (λ (vs : List PartView). AllZip Shows vs (history_after after jobs parts)) (append_assoc views (shown_by s.part ∷ []) (map shown_by (map (λ t. t.part) parts)))
+    (after_shown (views ++ shown_by s.part ∷ []) after jobs parts pushed h.2)
+
+-- The parts of a history answer its truth, asked with accepted sightings.
+pub history_verdict : (jobs : List JobFields) (parts : List SealedFields) (x : Identity) (ss : List Sighting) → IsHistory jobs parts → 1 ≤ length ss
+    → ((s : Sighting) → Among ss s → Among (sightings x (seen (history jobs parts))) s) → verdict (map (λ s. s.part) parts) x ss ≡ truth (history jobs parts) x
+history_verdict jobs parts x [] h some asked = absurd (omega arith)
+history_verdict jobs parts x (s ∷ ss) h some asked =
+    verdict_is_truth (map (λ t. t.part) parts) (history jobs parts) x s ss (history_sound jobs parts h) (after_shown [] [] jobs parts tt h) asked

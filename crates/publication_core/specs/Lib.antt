@@ -1,0 +1,5 @@
+pub mod Histories
+pub mod Publishing
+pub mod Faults
+pub mod Building
+pub mod Truth

@@ -1,0 +1,46 @@
+-- What is published of a job behind a ledger, which need not be that of a history; and why nothing is.
+use Rattle.std.specs.Prelude.{◌≡◌, ℕ, length, Some, None, Result, Ok, Err}
+use Rattle.sha2.specs.Sha256.{sha256}
+use Rattle.equation_core.specs.Rows.{sha256_row}
+use Rattle.part_codec.specs.SealedFields.{SealedFields}
+use Rattle.part_codec.specs.PartText.{unsealed_text}
+use Rattle.job_core.specs.declared.bounds.TheConstants.Limits as limits
+use Rattle.job_core.specs.JobFields.{JobFields}
+use Rattle.ledger_core.specs.LedgerFields.{LedgerFields}
+use Rattle.universe_core.specs.declared.counts.Counts.{Counts}
+use Rattle.universe_core.specs.Jobs.{told}
+use Rattle.universe_core.specs.Ledgers.{next_ledger}
+use Rattle.universe_core.specs.Step.{refusal, head_after, groups_after, counts_after}
+use Rattle.builder_core.specs.Building.{AreGroupBlocks, IsFirstRefused}
+use Rattle.publication_core.specs.declared.fault.PublishFault.{PublishFault}
+use Rattle.publication_core.specs.declared.fault.PublishFault.TheVariants.{Admission, SeedsExhausted, NoMemory}
+
+-- A part with its place in the chain, the ledger behind it, and how many the job has of each.
+pub record Published : Type 0 where
+  pub place : ℕ
+  pub sealed : SealedFields
+  pub ledger : LedgerFields
+  pub counts : Counts
+
+-- what the ledger and the job make
+pub record IsPublication (ledger : LedgerFields) (job : JobFields) (p : Published) : Type 0 where
+  pub place : p.place ≡ length ledger.parts
+  pub head : p.sealed.part.head ≡ head_after ledger.parts (told job)
+  pub blocks : AreGroupBlocks sha256_row (groups_after ledger (told job)) p.sealed.part.blocks
+  pub trailer : p.sealed.trailer ≡ sha256 (unsealed_text p.sealed.part)
+  pub next : p.ledger ≡ next_ledger ledger (told job) p.sealed.trailer
+  pub counts : p.counts ≡ counts_after ledger (told job)
+
+-- The job is admitted, and its publication is that; or it is refused; or it is admitted, and an issuer has no block.
+abbrev pub Publishes : LedgerFields → JobFields → Result Published PublishFault → Type 0
+Publishes ledger job (Ok p) = (refusal limits.PUBLISHED ledger job ≡ None) × IsPublication ledger job p
+Publishes ledger job (Err (Admission fault)) = refusal limits.PUBLISHED ledger job ≡ Some fault
+Publishes ledger job (Err (SeedsExhausted issuer stage)) =
+    (refusal limits.PUBLISHED ledger job ≡ None) × IsFirstRefused sha256_row (groups_after ledger (told job)) issuer stage
+Publishes ledger job (Err NoMemory) = ⊥
+
+-- the same, or want of memory
+abbrev pub PublishesUnless : LedgerFields → JobFields → Result Published PublishFault → Type 0
+PublishesUnless ledger job (Ok p) = Publishes ledger job (Ok p)
+PublishesUnless ledger job (Err NoMemory) = Unit {0}
+PublishesUnless ledger job (Err fault) = Publishes ledger job (Err fault)

@@ -1,0 +1,100 @@
+//! What is published of a job.
+
+ghost use Rattle.std.specs.Prelude.{◌≡◌, ◌≤◌, All, length, map};
+ghost use Rattle.std.specs.List.Sorted.{IsStrictlySortedBy};
+ghost use Rattle.ident_core.specs.Order.{octets_cmp};
+ghost use Rattle.job_core.specs.JobFields.{fields_of_job};
+ghost use Rattle.job_core.specs.JobFacts.{FitsFields, IsWithinLimits};
+ghost use Rattle.universe_core.specs.Groups.{group_fields, IsGroup};
+ghost use Rattle.universe_core.specs.Ledgers.{no_ledger};
+ghost use Rattle.builder_core.specs.Building.{identities_in, issuers_of};
+ghost use Rattle.publication_core.specs.Building.{Builds};
+ghost use Rattle.publication_core.specs.Publishing.{PublishesUnless};
+
+use crate::fault::{PublishFault, admission_fault, building_fault};
+use crate::publication::Publication;
+use builder_core::{Open, build_part};
+use equation_core::Sha256Rows;
+use job_core::{Job, Limits};
+use ledger_core::Ledger;
+use part_codec::seal;
+use std::alloc::Global;
+use std::thread::Threads;
+use universe_core::{Admitted, admit, first};
+
+/// Builds and seals the part of an admitted job.
+fn built<R: Threads + Sync>(
+    rt: &R,
+    alloc: Global,
+    place: u32,
+    admitted: Admitted,
+    workers: u32,
+) -> Result<Publication, PublishFault>
+    requires facts { All IsGroup (map group_fields admitted.groups.items) }
+    requires ascending { IsStrictlySortedBy octets_cmp (issuers_of (map group_fields admitted.groups.items)) }
+    requires few { length admitted.groups.items ≤ 65535 }
+    requires identities { identities_in (map group_fields admitted.groups.items) ≤ 4194304 }
+    requires some_workers { 1 ≤ workers }
+    requires few_workers { workers ≤ 64 }
+    ensures { Builds place admitted.head (map group_fields admitted.groups.items) admitted.next admitted.counts result }
+{
+    let Admitted {
+        head,
+        groups,
+        counts,
+        next,
+    } = admitted;
+    let part = match build_part(rt, alloc, &Sha256Rows, &Open, &groups, head, workers) {
+        Ok(part) => part,
+        Err(fault) => return Err(building_fault(fault)),
+    };
+    let sealed = seal(part);
+    let ledger = next.seal(sealed.trailer());
+    Ok(Publication::new(place, sealed, ledger, counts))
+}
+
+/// What is published of a job as the first of a chain, by 1 to 64 workers. The job is dropped once it is admitted.
+pub fn publish_first<R: Threads + Sync>(
+    rt: &R,
+    alloc: Global,
+    job: Job,
+    workers: u32,
+) -> Result<Publication, PublishFault>
+    requires fits { FitsFields (fields_of_job job) }
+    requires within { IsWithinLimits Limits.PUBLISHED (fields_of_job job) }
+    requires some_workers { 1 ≤ workers }
+    requires few_workers { workers ≤ 64 }
+    ensures { PublishesUnless no_ledger (fields_of_job job) result }
+{
+    let admitted = match first(alloc, &job, &Limits::PUBLISHED) {
+        Ok(admitted) => admitted,
+        Err(fault) => return Err(admission_fault(fault)),
+    };
+    drop(job);
+    built(rt, alloc, 0, admitted, workers)
+}
+
+/// What is published of a job behind a ledger, by 1 to 64 workers. The ledger and the job are dropped once the job is
+/// admitted.
+pub fn publish_after<R: Threads + Sync>(
+    rt: &R,
+    alloc: Global,
+    ledger: Ledger,
+    job: Job,
+    workers: u32,
+) -> Result<Publication, PublishFault>
+    requires fits { FitsFields (fields_of_job job) }
+    requires within { IsWithinLimits Limits.PUBLISHED (fields_of_job job) }
+    requires some_workers { 1 ≤ workers }
+    requires few_workers { workers ≤ 64 }
+    ensures { PublishesUnless ledger (fields_of_job job) result }
+{
+    let place = ledger.parts().len() as u32;
+    let admitted = match admit(alloc, &ledger, &job, &Limits::PUBLISHED) {
+        Ok(admitted) => admitted,
+        Err(fault) => return Err(admission_fault(fault)),
+    };
+    drop(ledger);
+    drop(job);
+    built(rt, alloc, place, admitted, workers)
+}
