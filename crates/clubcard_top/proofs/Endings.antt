@@ -1,34 +1,78 @@
 -- What follows from how a call ends, whatever the depot tells.
-use Rattle.std.proofs.Common.{◌≡◌, ℕ, Bool, true, false, ◌||◌, ◌⊎◌, inl, inr, List, [], ◌∷◌, Option, Some, None, refl, sym, ap, subst, ◌∙◌, arith}
-use Rattle.std.specs.Prelude.{IsTrue, IfSome}
+use Rattle.std.proofs.Common.{◌≡◌, ℕ, Bool, true, false, ◌||◌, ◌⊎◌, inl, inr, List, [], ◌∷◌, Option, Result, Ok, Err, refl, sym, ap, subst, ◌∙◌, arith}
+use Rattle.std.specs.Prelude.{IsTrue}
+use Rattle.std.proofs.lemmas.Bool.{false≢true}
 use Rattle.outside_core.specs.Files.{Files}
 use Rattle.outside_core.specs.Written.{followed_by}
-use Rattle.clubcard_top.specs.declared.command.Command.{Command}
-use Rattle.clubcard_top.specs.declared.command.Command.TheVariants as commands
-use Rattle.clubcard_top.specs.ReplyFields.{OutputFields, ReplyFields}
+use Rattle.word_core.specs.declared.command.Command.{Command}
+use Rattle.word_core.specs.declared.command.Command.TheVariants as commands
+use Rattle.word_core.specs.Names.{inputs_of, outputs_of}
+use Rattle.clubcard_top.specs.declared.fault.FileFault.{FileFault}
+use Rattle.clubcard_top.specs.declared.fault.FileFault.TheVariants as faults
+use Rattle.clubcard_top.specs.ReplyFields.{OutputFields, ReplyFields, Done, NamedFault}
 use Rattle.clubcard_top.specs.Statuses.{is_one_of, of_replies, all}
-use Rattle.clubcard_top.specs.Replies.{usage, read_fault, input_of, outputs_of, reply_in}
-use Rattle.clubcard_top.specs.Runs.{IsReplyBy, SentSo, EndsSo, Ends, ReadCause, HasReadCause, FaultLine, WritesFaultLine, IsWriteFault, IsTorn, KeepsAllBut, with_outputs}
+use Rattle.clubcard_top.specs.Inputs.{AreRead}
+use Rattle.clubcard_top.specs.Commands.{Makes}
+use Rattle.clubcard_top.specs.Replies.{usage, refusal, reply_of, IsReplyOver}
+use Rattle.clubcard_top.specs.Runs.{IsReply, Ends, IsUnread, IsWriteFault, IsTorn, KeepsAllBut, with_outputs}
 use Rattle.clubcard_top.proofs.Outputs.{names_of, keeps-same, keeps-written, keeps-torn, none-torn, none-written}
-use Rattle.clubcard_top.proofs.ReplyFacts.{not_among, not_reply, quiet, named, unwritten}
+use Rattle.clubcard_top.proofs.Makings.{refusal_quiet, outcome_status, of_commands, done_names, unread_cause}
+
+-- a number that is among some is none that isn't
+pub not_among : (ns : List ℕ) (n m : ℕ) → IsTrue (is_one_of ns n) → n ≡ m → is_one_of ns m ≡ false → ⊥
+not_among ns n m among is not = false≢true (sym not ∙ subst (λ (k : ℕ). is_one_of ns k ≡ true) is among)
 
 or_right : (a b : Bool) → b ≡ true → (a || b) ≡ true
 or_right true b h = refl
 or_right false b h = h
 
--- only words that are no command read nothing
-usage_alone : (c : Command) → input_of c ≡ None → c ≡ commands.Usage
-usage_alone commands.Usage is = refl
-usage_alone (commands.Query q) is = absurd cc
-usage_alone (commands.Check n) is = absurd cc
-usage_alone (commands.Show n) is = absurd cc
-usage_alone (commands.Snapshot s) is = absurd cc
-usage_alone (commands.Start s) is = absurd cc
+-- ---- outputs of a reply
+
+-- the outputs are those of the command, or none
+abbrev pub AreOf : List (List ℕ) → List OutputFields → Type 0
+AreOf names outputs = (names_of outputs ≡ names) ⊎ (outputs ≡ [])
+
+outputs_as : (reply other : ReplyFields) → reply ≡ other → reply.outputs ≡ other.outputs
+outputs_as reply other is = ap (λ (r : ReplyFields). r.outputs) is
+
+module _ (c : Command) (inputs : List (Option (List ℕ))) (reply : ReplyFields) where
+  quiet_by : (o : Result Done NamedFault) → reply ≡ reply_of o → (reply.status ≡ 0 → ⊥) → reply.outputs ≡ []
+  quiet_by (Ok d) is not = absurd (not (ap (λ (r : ReplyFields). r.status) is))
+  quiet_by (Err e) is not = outputs_as reply (refusal e.name e.fault) is ∙ refusal_quiet e.name e.fault
+
+  named_by : (o : Result Done NamedFault) → Makes c inputs o → reply ≡ reply_of o → AreOf (outputs_of c) reply.outputs
+  named_by (Ok d) m is = inl (ap names_of (outputs_as reply (reply_of (Ok d)) is) ∙ done_names c inputs d m)
+  named_by (Err e) m is = inr (outputs_as reply (refusal e.name e.fault) is ∙ refusal_quiet e.name e.fault)
+
+  -- a reply that isn't done has none
+  quiet_over : IsReplyOver c inputs reply → (reply.status ≡ 0 → ⊥) → reply.outputs ≡ []
+  quiet_over (inl (refute, is)) not = outputs_as reply usage is
+  quiet_over (inr (o, m, is)) not = quiet_by o is not
+
+  named_over : IsReplyOver c inputs reply → AreOf (outputs_of c) reply.outputs
+  named_over (inl (refute, is)) = inr (outputs_as reply usage is)
+  named_over (inr (o, m, is)) = named_by o m is
+
+module _ (c : Command) (told : Option Files) (rose : Type 0) (reply : ReplyFields) where
+  pub quiet : IsReply c told rose reply → (reply.status ≡ 0 → ⊥) → reply.outputs ≡ []
+  quiet (inputs, read, over) not = quiet_over c inputs reply over not
+
+  pub named : IsReply c told rose reply → AreOf (outputs_of c) reply.outputs
+  named (inputs, read, over) = named_over c inputs reply over
+
+no_names : (outputs : List OutputFields) → names_of outputs ≡ [] → outputs ≡ []
+no_names [] is = refl
+no_names (o ∷ outputs) is = absurd cc
+
+-- a command that writes no file has none
+pub unwritten : (names : List (List ℕ)) (outputs : List OutputFields) → AreOf names outputs → names ≡ [] → outputs ≡ []
+unwritten names outputs (inl are) none = no_names outputs (are ∙ none)
+unwritten names outputs (inr are) none = are
 
 -- a reply that was sent behind its outputs
-pub record IsSent (asked : Command) (input : Option (List ℕ)) (told : Option Files) (rose : Type 0) (ended : ℕ) (old new : Option (List ℕ)) (after : Option Files) : Type 0 where
+pub record IsSent (asked : Command) (told : Option Files) (rose : Type 0) (ended : ℕ) (old new : Option (List ℕ)) (after : Option Files) : Type 0 where
   pub reply : ReplyFields
-  pub is : IsReplyBy asked input told rose reply
+  pub is : IsReply asked told rose reply
   pub status : ended ≡ reply.status
   pub text : new ≡ followed_by old reply.text
   pub files : after ≡ with_outputs told reply.outputs
@@ -44,24 +88,10 @@ keeps-of_torn : (names : List (List ℕ)) (told after : Option Files) (outputs :
 keeps-of_torn names told after outputs name (inl are) torn = subst (λ (ns : List (List ℕ)). KeepsAllBut ns told after) are (keeps-torn told after outputs name torn)
 keeps-of_torn names told after outputs name (inr none) torn = absurd (none-torn told after outputs name none torn)
 
--- a call that ended as done sent a reply that is
-pub ended-done : (reply : ReplyFields) (ended : ℕ) (old new : Option (List ℕ)) (failed : Type 0) (before after : Option Files) (wrong : Type 0)
-    → EndsSo reply ended old new failed before after wrong → ended ≡ 0 → reply.status ≡ 0
-ended-done reply ended old new failed before after wrong (inl (files, inl (status, text))) done = sym status ∙ done
-ended-done reply ended old new failed before after wrong (inl (files, inr (status, cut, why))) done = absurd (omega arith)
-ended-done reply ended old new failed before after wrong (inr (amiss, (name, torn, inl (status, text)))) done = absurd (omega arith)
-ended-done reply ended old new failed before after wrong (inr (amiss, (name, torn, inr (status, cut, why)))) done = absurd (omega arith)
-
--- what holds where the reply is done holds where the call ended so
-pub fits-done : (told : Option Files) (P : Files → Type 0) (reply : ReplyFields) (ended : ℕ) (old new : Option (List ℕ)) (failed : Type 0) (before after : Option Files) (wrong : Type 0)
-    → IfSome told (λ files. reply.status ≡ 0 → P files) → EndsSo reply ended old new failed before after wrong → IfSome told (λ files. ended ≡ 0 → P files)
-fits-done None P reply ended old new failed before after wrong fits ends = tt
-fits-done (Some files) P reply ended old new failed before after wrong fits ends = λ done. fits (ended-done reply ended old new failed before after wrong ends done)
-
 -- ---- statuses
 
 module _ (asked : Command) (told : Option Files) (rose : Type 0) (ended : ℕ) (old new : Option (List ℕ)) (failed : Type 0) (after : Option Files) (wrong : Type 0) where
-  pub sent : Ends asked told rose ended old new failed after wrong → (ended ≡ 9 → ⊥) → (ended ≡ 70 → ⊥) → IsSent asked (input_of asked) told rose ended old new after
+  pub sent : Ends asked told rose ended old new failed after wrong → (ended ≡ 9 → ⊥) → (ended ≡ 70 → ⊥) → IsSent asked told rose ended old new after
   sent (inl (is, same, files)) no_fault no_want = absurd (no_want is)
   sent (inr (reply, is, own, inl (files, inl (status, text)))) no_fault no_want = record { reply = reply; is = is; status = status; text = text; files = files }
   sent (inr (reply, is, own, inl (files, inr (status, cut, why)))) no_fault no_want = absurd (no_fault status)
@@ -94,52 +124,70 @@ module _ (asked : Command) (told : Option Files) (rose : Type 0) (ended : ℕ) (
   pub unchanged : Ends asked told rose ended old new failed after wrong → (ended ≡ 0 → ⊥) → (ended ≡ 9 → ⊥) → after ≡ told
   unchanged (inl (is, same, files)) not_done no_fault = files
   unchanged (inr (reply, is, own, inl (files, inl (status, text)))) not_done no_fault =
-      files ∙ none-written told reply.outputs (quiet asked told rose reply (input_of asked) is (λ e. not_done (status ∙ e)))
+      files ∙ none-written told reply.outputs (quiet asked told rose reply is (λ e. not_done (status ∙ e)))
   unchanged (inr (reply, is, own, inl (files, inr (status, cut, why)))) not_done no_fault = absurd (no_fault status)
   unchanged (inr (reply, is, own, inr (amiss, (name, torn, inl (status, text))))) not_done no_fault = absurd (no_fault status)
   unchanged (inr (reply, is, own, inr (amiss, (name, torn, inr (status, cut, why))))) not_done no_fault = absurd (no_fault status)
 
   pub other_files : Ends asked told rose ended old new failed after wrong → KeepsAllBut (outputs_of asked) told after
   other_files (inl (is, same, files)) = rw files (keeps-same (outputs_of asked) told)
-  other_files (inr (reply, is, own, inl (files, how))) = keeps-of (outputs_of asked) told after reply.outputs (named asked told rose reply (input_of asked) is) files
-  other_files (inr (reply, is, own, inr (amiss, (name, torn, how)))) = keeps-of_torn (outputs_of asked) told after reply.outputs name (named asked told rose reply (input_of asked) is) torn
+  other_files (inr (reply, is, own, inl (files, how))) = keeps-of (outputs_of asked) told after reply.outputs (named asked told rose reply is) files
+  other_files (inr (reply, is, own, inr (amiss, (name, torn, how)))) = keeps-of_torn (outputs_of asked) told after reply.outputs name (named asked told rose reply is) torn
 
   pub reading : Ends asked told rose ended old new failed after wrong → outputs_of asked ≡ [] → after ≡ told
   reading (inl (is, same, files)) none = files
   reading (inr (reply, is, own, inl (files, how))) none =
-      files ∙ none-written told reply.outputs (unwritten (outputs_of asked) reply.outputs (named asked told rose reply (input_of asked) is) none)
+      files ∙ none-written told reply.outputs (unwritten (outputs_of asked) reply.outputs (named asked told rose reply is) none)
   reading (inr (reply, is, own, inr (amiss, (name, torn, how)))) none =
-      absurd (none-torn told after reply.outputs name (unwritten (outputs_of asked) reply.outputs (named asked told rose reply (input_of asked) is) none) torn)
+      absurd (none-torn told after reply.outputs name (unwritten (outputs_of asked) reply.outputs (named asked told rose reply is) none) torn)
 
   -- ---- lines
 
-  not_usage : (name : List ℕ) → input_of asked ≡ Some name → (s : IsSent asked (Some name) told rose ended old new after) → ended ≡ 2 → IsReplyBy asked (Some name) told rose s.reply → ⊥
-  not_usage name input s two (inl (is, cause)) = let eight : s.reply.status ≡ 8 = ap (λ (r : ReplyFields). r.status) is in omega (arith, s.status)
-  not_usage name input s two (inr (bytes, is, rest)) = not_reply asked name bytes 2 input (sym two ∙ s.status ∙ ap (λ (r : ReplyFields). r.status) is) refl
+  usage_by : (s : IsSent asked told rose ended old new after) → ended ≡ 2 → (inputs : List (Option (List ℕ))) → IsReplyOver asked inputs s.reply → (asked ≡ commands.Usage) × (new ≡ followed_by old usage.text)
+  usage_by s two inputs (inl (refute, is)) = (refute, s.text ∙ ap (λ (r : ReplyFields). followed_by old r.text) is)
+  usage_by s two inputs (inr (o, m, is)) =
+      absurd (not_among of_commands (reply_of o).status 2 (outcome_status o) (sym (ap (λ (r : ReplyFields). r.status) is) ∙ sym s.status ∙ two) refl)
 
-  usage_sent : (input : Option (List ℕ)) → input_of asked ≡ input → IsSent asked input told rose ended old new after → ended ≡ 2 → (asked ≡ commands.Usage) × (new ≡ followed_by old usage.text)
-  usage_sent None input s two = (usage_alone asked input, s.text ∙ ap (λ (r : ReplyFields). followed_by old r.text) s.is)
-  usage_sent (Some name) input s two = absurd (not_usage name input s two s.is)
+  usage_sent : IsSent asked told rose ended old new after → ended ≡ 2 → (asked ≡ commands.Usage) × (new ≡ followed_by old usage.text)
+  usage_sent s two = usage_by s two s.is.0 s.is.2
 
   pub usage_line : Ends asked told rose ended old new failed after wrong → ended ≡ 2 → (asked ≡ commands.Usage) × (new ≡ followed_by old usage.text)
-  usage_line ends two = usage_sent (input_of asked) refl (sent ends (λ e. omega arith) (λ e. omega arith)) two
+  usage_line ends two = usage_sent (sent ends (λ e. omega arith) (λ e. omega arith)) two
 
-  fault_by : (name : List ℕ) → input_of asked ≡ Some name → (s : IsSent asked (Some name) told rose ended old new after) → ended ≡ 8 → IsReplyBy asked (Some name) told rose s.reply
-      → ReadCause (Some name) told rose × FaultLine (Some name) old new
-  fault_by name input s eight (inl (is, cause)) = (cause, s.text ∙ ap (λ (r : ReplyFields). followed_by old r.text) is)
-  fault_by name input s eight (inr (bytes, is, rest)) = absurd (not_reply asked name bytes 8 input (sym eight ∙ s.status ∙ ap (λ (r : ReplyFields). r.status) is) refl)
+  unread_by : (s : IsSent asked told rose ended old new after) (name : List ℕ) (fault : FileFault) (inputs : List (Option (List ℕ))) → AreRead told rose (inputs_of asked) inputs
+      → Makes asked inputs (Err (record { name = name; fault = fault })) → s.reply ≡ refusal name fault → ended ≡ 8 → IsUnread asked told rose old new
+  unread_by s name faults.Unread inputs read m is eight =
+      let cause = unread_cause told rose (record { name = name; fault = faults.Unread }) refl asked inputs read m in
+      record { name = name; is_input = cause.0; cause = cause.1; written = s.text ∙ ap (λ (r : ReplyFields). followed_by old r.text) is }
+  unread_by s name (faults.Layout f) inputs read m is eight = let status = s.status ∙ ap (λ (r : ReplyFields). r.status) is in absurd (omega (arith, status))
+  unread_by s name faults.NotSnapshot inputs read m is eight = let status = s.status ∙ ap (λ (r : ReplyFields). r.status) is in absurd (omega (arith, status))
+  unread_by s name (faults.Chain why) inputs read m is eight = let status = s.status ∙ ap (λ (r : ReplyFields). r.status) is in absurd (omega (arith, status))
+  unread_by s name (faults.BadCrl place fault) inputs read m is eight = let status = s.status ∙ ap (λ (r : ReplyFields). r.status) is in absurd (omega (arith, status))
+  unread_by s name (faults.TooMany thing limit) inputs read m is eight = let status = s.status ∙ ap (λ (r : ReplyFields). r.status) is in absurd (omega (arith, status))
+  unread_by s name (faults.Seeds issuer stage) inputs read m is eight = let status = s.status ∙ ap (λ (r : ReplyFields). r.status) is in absurd (omega (arith, status))
+  unread_by s name faults.NoMemory inputs read m is eight = let status = s.status ∙ ap (λ (r : ReplyFields). r.status) is in absurd (omega (arith, status))
 
-  fault_sent : (input : Option (List ℕ)) → input_of asked ≡ input → IsSent asked input told rose ended old new after → ended ≡ 8 → ReadCause input told rose × FaultLine input old new
-  fault_sent None input s eight = let two : s.reply.status ≡ 2 = ap (λ (r : ReplyFields). r.status) s.is in absurd (omega (arith, s.status))
-  fault_sent (Some name) input s eight = fault_by name input s eight s.is
+  unread_of : (s : IsSent asked told rose ended old new after) (o : Result Done NamedFault) (inputs : List (Option (List ℕ))) → AreRead told rose (inputs_of asked) inputs
+      → Makes asked inputs o → s.reply ≡ reply_of o → ended ≡ 8 → IsUnread asked told rose old new
+  unread_of s (Ok d) inputs read m is eight = let status = s.status ∙ ap (λ (r : ReplyFields). r.status) is in absurd (omega (arith, status))
+  unread_of s (Err e) inputs read m is eight = unread_by s e.name e.fault inputs read m is eight
 
-  pub read_fault_line : Ends asked told rose ended old new failed after wrong → ended ≡ 8 → HasReadCause asked told rose × WritesFaultLine asked old new
-  read_fault_line ends eight = fault_sent (input_of asked) refl (sent ends (λ e. omega arith) (λ e. omega arith)) eight
+  unread_over : (s : IsSent asked told rose ended old new after) → ended ≡ 8 → (inputs : List (Option (List ℕ))) → AreRead told rose (inputs_of asked) inputs → IsReplyOver asked inputs s.reply
+      → IsUnread asked told rose old new
+  unread_over s eight inputs read (inl (refute, is)) = let status = s.status ∙ ap (λ (r : ReplyFields). r.status) is in absurd (omega (arith, status))
+  unread_over s eight inputs read (inr (o, m, is)) = unread_of s o inputs read m is eight
+
+  unread_sent : IsSent asked told rose ended old new after → ended ≡ 8 → IsUnread asked told rose old new
+  unread_sent s eight = unread_over s eight s.is.0 s.is.1 s.is.2
+
+  pub read_fault_line : Ends asked told rose ended old new failed after wrong → ended ≡ 8 → IsUnread asked told rose old new
+  read_fault_line ends eight = unread_sent (sent ends (λ e. omega arith) (λ e. omega arith)) eight
 
 module _ (told : Option Files) (rose : Type 0) (ended : ℕ) (old new : Option (List ℕ)) (failed : Type 0) (after : Option Files) (wrong : Type 0) where
   usage_ends : Ends commands.Usage told rose ended old new failed after wrong → IsTrue (is_one_of (2 ∷ 9 ∷ 70 ∷ []) ended)
   usage_ends (inl (is, same, files)) = rw is refl
-  usage_ends (inr (reply, is, own, inl (files, inl (status, text)))) = rw (status, is) refl
+  usage_ends (inr (reply, (inputs, read, inl (refute, is)), own, inl (files, inl (status, text)))) = rw (status, is) refl
+  usage_ends (inr (reply, (inputs, read, inr (o, m, is)), own, inl (files, inl (status, text)))) = absurd m
   usage_ends (inr (reply, is, own, inl (files, inr (status, cut, why)))) = rw status refl
   usage_ends (inr (reply, is, own, inr (amiss, (name, torn, inl (status, text))))) = rw status refl
   usage_ends (inr (reply, is, own, inr (amiss, (name, torn, inr (status, cut, why))))) = rw status refl

@@ -1,11 +1,9 @@
 -- Files that are read piece by piece.
-use Rattle.std.proofs.Common.{◌≡◌, ℕ, ◌+◌, ◌-◌, ◌^◌, ◌<◌, ◌≤◌, List, ◌++◌, length, take, drop, Option, Some, None, Result, Ok, IfOk, Vec, Global, inl, inr, sym, ap, subst, ◌∙◌, arith}
+use Rattle.std.proofs.Common.{◌≡◌, ℕ, ◌+◌, ◌≤◌, List, ◌++◌, take, drop, Option, Some, None, inl, inr, sym, ap, subst, ◌∙◌, arith}
 use Rattle.std.specs.Prelude.{IsErrOf, Err}
 use Rattle.std.proofs.Math.Seq.{take-add}
-use Rattle.std.proofs.lemmas.List.{length-take, take_all}
 use Rattle.outside_core.specs.Files.{Files, IsMissing, ReadFailed}
 use Rattle.clubcard_top.specs.Inputs.{WhereHeld, IsHeld}
-use Rattle.clubcard_top.specs.declared.input.InputFault.{InputFault}
 
 -- a read that failed later in a call failed in it
 pub ReadFailed-earlier : (told now : Option Files) (name : List ℕ) (first then last : ℕ) → now ≡ told → first ≤ then → ReadFailed now name then last → ReadFailed told name first last

@@ -1,345 +1,362 @@
 -- What the status of a call tells of the files, where they are told.
-use Rattle.std.proofs.Common.{◌≡◌, ℕ, inl, inr, List, [], ◌∷◌, Option, Some, None, Result, Ok, Err, refl, sym, ap, subst, ◌∙◌, arith}
-use Rattle.std.specs.Prelude.{◌≢◌, IfSome}
-use Rattle.std.specs.FinMap.{get}
+use Rattle.std.proofs.Common.{◌≡◌, ℕ, ◌⊎◌, inl, inr, List, [], ◌∷◌, ◌++◌, Option, Some, None, Result, Ok, Err, refl, sym, ap, subst, ◌∙◌, arith}
+use Rattle.std.specs.Prelude.{◌≢◌, IfSome, IsTrue}
 use Rattle.outside_core.specs.Files.{Files}
 use Rattle.outside_core.specs.Written.{followed_by}
 use Rattle.octets_core.specs.declared.fault.LayoutFault.{LayoutFault}
-use Rattle.octets_core.specs.Reading.{value_of}
 use Rattle.crl_core.specs.declared.crl.CrlFault.{CrlFault}
-use Rattle.ident_core.specs.declared.kind.Kind.{Kind}
-use Rattle.ident_core.specs.declared.kind.Kind.TheVariants as kinds
 use Rattle.job_core.specs.declared.bounds.What.{What}
-use Rattle.job_core.specs.declared.bounds.TheConstants.Limits as limits
 use Rattle.job_core.specs.JobFields.{JobFields}
-use Rattle.job_core.specs.JobLayout.{job_of}
 use Rattle.part_codec.specs.SealedFields.{SealedFields}
-use Rattle.universe_core.specs.Jobs.{told as job_told}
-use Rattle.clubcard_top.specs.declared.command.Command.{Command}
-use Rattle.clubcard_top.specs.declared.command.Command.TheVariants as commands
+use Rattle.store_core.specs.declared.chain.Refusal.{Refusal}
+use Rattle.publication_core.specs.Histories.{IsAdmissible, IsHistory, history}
+use Rattle.word_core.specs.declared.command.Command.{Command}
+use Rattle.word_core.specs.declared.command.Command.TheVariants as commands
+use Rattle.word_core.specs.CommandFields.{QueryFields}
+use Rattle.word_core.specs.Names.{inputs_of}
 use Rattle.clubcard_top.specs.declared.fault.FileFault.{FileFault}
 use Rattle.clubcard_top.specs.declared.fault.FileFault.TheVariants as faults
-use Rattle.clubcard_top.specs.PublishFields.{SnapshotFields, StartFields}
-use Rattle.clubcard_top.specs.QueryFields.{QueryFields}
-use Rattle.clubcard_top.specs.ReplyFields.{OutputFields, ReplyFields}
-use Rattle.clubcard_top.specs.StoreLayout.{store}
-use Rattle.clubcard_top.specs.PartFile.{part_file}
-use Rattle.clubcard_top.specs.Verdict.{verdict}
-use Rattle.clubcard_top.specs.Lines.{line, verdict_word, check_line, show_text}
-use Rattle.clubcard_top.specs.JobInputs.{IsFitJob, FitsInput}
-use Rattle.clubcard_top.specs.Publication.{history}
-use Rattle.clubcard_top.specs.Publishing.{Published, published, published_by, snapshot_text, snapshot_outputs, started, started_if, started_by, start_text, start_outputs}
-use Rattle.clubcard_top.specs.Replies.{done as done_with, read_fault, refusal, answer_by, no_outputs, input_of, reply_in, reply_over, reply_by, reply_to}
-use Rattle.clubcard_top.specs.Runs.{IsReplyBy, Ends, IsAnswer, IsSnapshot, IsStart, fault_of, fault_in, Answers, Refuses, with_outputs}
-use Rattle.clubcard_top.specs.Truth.{truth, AsksHistory}
-use Rattle.clubcard_top.proofs.Unmixed.{of_snapshot}
+use Rattle.clubcard_top.specs.ReplyFields.{ReplyFields, Done, NamedFault}
+use Rattle.clubcard_top.specs.Statuses.{is_one_of}
+use Rattle.clubcard_top.specs.Commands.{Makes}
+use Rattle.clubcard_top.specs.Replies.{refusal, reply_of, IsReplyOver, IsReplyTo, held_by}
+use Rattle.clubcard_top.specs.Runs.{IsReply, Ends, Answers, Refuses, with_outputs}
+use Rattle.clubcard_top.specs.Headline.{AsksHistory, IsPublished, IsStored, PublishesJob, StoresPart, truth_done}
 use Rattle.clubcard_top.proofs.Endings.{IsSent, sent}
-use Rattle.clubcard_top.proofs.LawsHistory.{published_history}
-use Rattle.clubcard_top.proofs.LawsTruth.{first_snapshot_outputs, query_is_truth}
+use Rattle.clubcard_top.proofs.Overs.{IsSeen, over_files, held_all}
 
 -- ---- the reply over these files
 
--- a reply that is the one to the command over these files
-record Replies (asked : Command) (files : Files) (ended : ℕ) (old new : Option (List ℕ)) (after : Option Files) : Type 0 where
-  status : ended ≡ (reply_to asked files).status
-  text : new ≡ followed_by old (reply_to asked files).text
-  outputs : after ≡ with_outputs (Some files) (reply_to asked files).outputs
+-- a reply to the command over these files, as the call ended
+abbrev pub Replied : Command → Files → ℕ → Option (List ℕ) → Option (List ℕ) → Option Files → Type 0
+Replied asked files ended old new after =
+    (reply : ReplyFields) × IsReplyTo asked files reply × (ended ≡ reply.status) × (new ≡ followed_by old reply.text) × (after ≡ with_outputs (Some files) reply.outputs)
 
-some_is : (f g : Files) → ◌≡◌ {A = Option Files} (Some f) (Some g) → f ≡ g
-some_is f g e = cc
+seen_by : (o : Result Done NamedFault) (ended : ℕ) → (ended ≡ 8 → ⊥) → ended ≡ (reply_of o).status → IsSeen o
+seen_by o ended refute is = λ e same unread. refute (is ∙ ap (λ (r : Result Done NamedFault). (reply_of r).status) same ∙ ap (λ (f : FileFault). (refusal e.name f).status) unread)
 
 module _ (asked : Command) (files : Files) (rose : Type 0) (ended : ℕ) (old new : Option (List ℕ)) (failed : Type 0) (after : Option Files) (wrong : Type 0) where
-  -- the same by the command's input
-  record RepliesBy (input : Option (List ℕ)) : Type 0 where
-    status : ended ≡ (reply_by asked input files).status
-    text : new ≡ followed_by old (reply_by asked input files).text
-    outputs : after ≡ with_outputs (Some files) (reply_by asked input files).outputs
+  over_seen : (s : IsSent asked (Some files) rose ended old new after) → (ended ≡ 8 → ⊥) → IsReply asked (Some files) rose s.reply → IsReplyTo asked files s.reply
+  over_seen s refute (inputs, read, inl (none, is)) = inl (none, is)
+  over_seen s refute (inputs, read, inr (o, m, is)) =
+      inr (o, over_files files rose asked inputs o (seen_by o ended refute (s.status ∙ ap (λ (r : ReplyFields). r.status) is)) read m, is)
 
-  replied : (input : Option (List ℕ)) (s : IsSent asked input (Some files) rose ended old new after) → s.reply ≡ reply_by asked input files → RepliesBy input
-  replied input s is = record {
-    status = s.status ∙ ap (λ (r : ReplyFields). r.status) is;
-    text = s.text ∙ ap (λ (r : ReplyFields). followed_by old r.text) is;
-    outputs = s.files ∙ ap (λ (r : ReplyFields). with_outputs (Some files) r.outputs) is;
+  pub over_quiet : (s : IsSent asked (Some files) rose ended old new after) → (rose → ⊥) → IsReply asked (Some files) rose s.reply → IsReplyTo asked files s.reply
+  over_quiet s quiet (inputs, read, over) = subst (λ (g : List (Option (List ℕ))). IsReplyOver asked g s.reply) (held_all files rose (inputs_of asked) inputs quiet read) over
+
+  replied : (s : IsSent asked (Some files) rose ended old new after) → IsReplyTo asked files s.reply → Replied asked files ended old new after
+  replied s is = (s.reply, is, s.status, s.text, s.files)
+
+  pub answered : Ends asked (Some files) rose ended old new failed after wrong → (ended ≡ 8 → ⊥) → (ended ≡ 9 → ⊥) → (ended ≡ 70 → ⊥) → Replied asked files ended old new after
+  answered ends no_read no_write no_want =
+      let s = sent asked (Some files) rose ended old new failed after wrong ends no_write no_want in
+      replied s (over_seen s no_read s.is)
+
+  sent_quiet : Ends asked (Some files) rose ended old new failed after wrong → (wrong → ⊥) → (failed → ⊥) → (ended ≡ 70 → ⊥) → IsSent asked (Some files) rose ended old new after
+  sent_quiet (inl (is, same, kept)) sane calm no_want = absurd (no_want is)
+  sent_quiet (inr (reply, is, own, inl (done, inl (status, text)))) sane calm no_want = record { reply = reply; is = is; status = status; text = text; files = done }
+  sent_quiet (inr (reply, is, own, inl (done, inr (status, cut, why)))) sane calm no_want = absurd (calm why)
+  sent_quiet (inr (reply, is, own, inr (amiss, rest))) sane calm no_want = absurd (sane amiss)
+
+  pub completed : Ends asked (Some files) rose ended old new failed after wrong → (rose → ⊥) → (wrong → ⊥) → (failed → ⊥) → (ended ≡ 70 → ⊥) → Replied asked files ended old new after
+  completed ends quiet sane calm no_want =
+      let s = sent_quiet ends sane calm no_want in
+      replied s (over_quiet s quiet s.is)
+
+-- ---- what each status tells of what is wrong
+
+layout_of : (name : List ℕ) (fault : FileFault) → (refusal name fault).status ≡ 3 → (f : LayoutFault) × (fault ≡ faults.Layout f)
+layout_of name faults.Unread h = absurd (omega (arith, h))
+layout_of name (faults.Layout f) h = (f, refl)
+layout_of name faults.NotSnapshot h = absurd (omega (arith, h))
+layout_of name (faults.Chain why) h = absurd (omega (arith, h))
+layout_of name (faults.BadCrl place fault) h = absurd (omega (arith, h))
+layout_of name (faults.TooMany thing limit) h = absurd (omega (arith, h))
+layout_of name (faults.Seeds issuer stage) h = absurd (omega (arith, h))
+layout_of name faults.NoMemory h = absurd (omega (arith, h))
+
+crl_of : (name : List ℕ) (fault : FileFault) → (refusal name fault).status ≡ 4 → (place : ℕ) × (f : CrlFault) × (fault ≡ faults.BadCrl place f)
+crl_of name faults.Unread h = absurd (omega (arith, h))
+crl_of name (faults.Layout f) h = absurd (omega (arith, h))
+crl_of name faults.NotSnapshot h = absurd (omega (arith, h))
+crl_of name (faults.Chain why) h = absurd (omega (arith, h))
+crl_of name (faults.BadCrl place fault) h = (place, fault, refl)
+crl_of name (faults.TooMany thing limit) h = absurd (omega (arith, h))
+crl_of name (faults.Seeds issuer stage) h = absurd (omega (arith, h))
+crl_of name faults.NoMemory h = absurd (omega (arith, h))
+
+chain_of : (name : List ℕ) (fault : FileFault) → (refusal name fault).status ≡ 5 → (fault ≡ faults.NotSnapshot) ⊎ ((why : Refusal) × (fault ≡ faults.Chain why))
+chain_of name faults.Unread h = absurd (omega (arith, h))
+chain_of name (faults.Layout f) h = absurd (omega (arith, h))
+chain_of name faults.NotSnapshot h = inl refl
+chain_of name (faults.Chain why) h = inr (why, refl)
+chain_of name (faults.BadCrl place fault) h = absurd (omega (arith, h))
+chain_of name (faults.TooMany thing limit) h = absurd (omega (arith, h))
+chain_of name (faults.Seeds issuer stage) h = absurd (omega (arith, h))
+chain_of name faults.NoMemory h = absurd (omega (arith, h))
+
+limit_of : (name : List ℕ) (fault : FileFault) → (refusal name fault).status ≡ 6 → (thing : What) × (n : ℕ) × (fault ≡ faults.TooMany thing n)
+limit_of name faults.Unread h = absurd (omega (arith, h))
+limit_of name (faults.Layout f) h = absurd (omega (arith, h))
+limit_of name faults.NotSnapshot h = absurd (omega (arith, h))
+limit_of name (faults.Chain why) h = absurd (omega (arith, h))
+limit_of name (faults.BadCrl place fault) h = absurd (omega (arith, h))
+limit_of name (faults.TooMany thing limit) h = (thing, limit, refl)
+limit_of name (faults.Seeds issuer stage) h = absurd (omega (arith, h))
+limit_of name faults.NoMemory h = absurd (omega (arith, h))
+
+seeds_of : (name : List ℕ) (fault : FileFault) → (refusal name fault).status ≡ 7 → (issuer : List ℕ) × (stage : ℕ) × (fault ≡ faults.Seeds issuer stage)
+seeds_of name faults.Unread h = absurd (omega (arith, h))
+seeds_of name (faults.Layout f) h = absurd (omega (arith, h))
+seeds_of name faults.NotSnapshot h = absurd (omega (arith, h))
+seeds_of name (faults.Chain why) h = absurd (omega (arith, h))
+seeds_of name (faults.BadCrl place fault) h = absurd (omega (arith, h))
+seeds_of name (faults.TooMany thing limit) h = absurd (omega (arith, h))
+seeds_of name (faults.Seeds issuer stage) h = (issuer, stage, refl)
+seeds_of name faults.NoMemory h = absurd (omega (arith, h))
+
+done_of : (name : List ℕ) (fault : FileFault) → (refusal name fault).status ≡ 0 → ⊥
+done_of name faults.Unread h = omega (arith, h)
+done_of name (faults.Layout f) h = omega (arith, h)
+done_of name faults.NotSnapshot h = omega (arith, h)
+done_of name (faults.Chain why) h = omega (arith, h)
+done_of name (faults.BadCrl place fault) h = omega (arith, h)
+done_of name (faults.TooMany thing limit) h = omega (arith, h)
+done_of name (faults.Seeds issuer stage) h = omega (arith, h)
+done_of name faults.NoMemory h = omega (arith, h)
+
+refusal_quiet_files : (files : Files) (name : List ℕ) (fault : FileFault) → with_outputs (Some files) (refusal name fault).outputs ≡ Some files
+refusal_quiet_files files name faults.Unread = refl
+refusal_quiet_files files name (faults.Layout f) = refl
+refusal_quiet_files files name faults.NotSnapshot = refl
+refusal_quiet_files files name (faults.Chain why) = refl
+refusal_quiet_files files name (faults.BadCrl place fault) = refl
+refusal_quiet_files files name (faults.TooMany thing limit) = refl
+refusal_quiet_files files name (faults.Seeds issuer stage) = refl
+refusal_quiet_files files name faults.NoMemory = refl
+
+module _ (asked : Command) (files : Files) (ended : ℕ) (old new : Option (List ℕ)) (after : Option Files) where
+  -- what came of the command, as the call ended
+  pub record Came : Type 0 where
+    pub outcome : Result Done NamedFault
+    pub makes : Makes asked (held_by asked files) outcome
+    pub status : ended ≡ (reply_of outcome).status
+    pub text : new ≡ followed_by old (reply_of outcome).text
+    pub files_are : after ≡ with_outputs (Some files) (reply_of outcome).outputs
+
+  pub came : Replied asked files ended old new after → (ended ≡ 2 → ⊥) → Came
+  came (reply, inl (none, is), status, text, kept) refute = absurd (refute (status ∙ ap (λ (r : ReplyFields). r.status) is))
+  came (reply, inr (o, m, is), status, text, kept) refute = record {
+    outcome = o;
+    makes = m;
+    status = status ∙ ap (λ (r : ReplyFields). r.status) is;
+    text = text ∙ ap (λ (r : ReplyFields). followed_by old r.text) is;
+    files_are = kept ∙ ap (λ (r : ReplyFields). with_outputs (Some files) r.outputs) is;
   }
 
-  answer_file : (name : List ℕ) (s : IsSent asked (Some name) (Some files) rose ended old new after) → (ended ≡ 8 → ⊥) → IsReplyBy asked (Some name) (Some files) rose s.reply → RepliesBy (Some name)
-  answer_file name s no_fault (inl (is, cause)) = absurd (no_fault (s.status ∙ ap (λ (r : ReplyFields). r.status) is))
-  answer_file name s no_fault (inr (bytes, is, over)) = replied (Some name) s over
+  -- it was done, or an input is at fault
+  pub record Fails : Type 0 where
+    pub name : List ℕ
+    pub fault : FileFault
+    pub status : (refusal name fault).status ≡ ended
+    pub refuses : Refuses asked files fault old new after
 
-  answer_sent : (input : Option (List ℕ)) → IsSent asked input (Some files) rose ended old new after → (ended ≡ 8 → ⊥) → RepliesBy input
-  answer_sent None s no_fault = replied None s s.is
-  answer_sent (Some name) s no_fault = answer_file name s no_fault s.is
+  -- the call was done, or an input is at fault
+  came_by : (o : Result Done NamedFault) → Makes asked (held_by asked files) o → ended ≡ (reply_of o).status → new ≡ followed_by old (reply_of o).text
+      → after ≡ with_outputs (Some files) (reply_of o).outputs → ((ended ≡ 0) × Answers asked files old new after) ⊎ Fails
+  came_by (Ok d) m status text kept = inl (status, record { done = d; makes = m; written = text; files_are = kept })
+  came_by (Err e) m status text kept = inr (record {
+    name = e.name;
+    fault = e.fault;
+    status = sym status;
+    refuses = record { name = e.name; makes = m; written = text; same_files = kept ∙ refusal_quiet_files files e.name e.fault };
+  })
 
-  complete_file : (name : List ℕ) (s : IsSent asked (Some name) (Some files) rose ended old new after) → (rose → ⊥) → IsReplyBy asked (Some name) (Some files) rose s.reply → RepliesBy (Some name)
-  complete_file name s quiet (inl (is, inl why)) = absurd (quiet why)
-  complete_file name s quiet (inl (is, inr (told, same, none))) =
-      let one : told ≡ files = some_is told files (sym same) in
-      let missing : get files name ≡ None = subst (λ (f : Files). get f name ≡ None) one none in
-      replied (Some name) s (is ∙ sym (ap (reply_over asked name) missing))
-  complete_file name s quiet (inr (bytes, is, over)) = replied (Some name) s over
+  done_told : ((ended ≡ 0) × Answers asked files old new after) ⊎ Fails → ended ≡ 0 → Answers asked files old new after
+  done_told (inl a) zero = a.1
+  done_told (inr x) zero = absurd (done_of x.name x.fault (x.status ∙ zero))
 
-  complete_sent : (input : Option (List ℕ)) → IsSent asked input (Some files) rose ended old new after → (rose → ⊥) → RepliesBy input
-  complete_sent None s quiet = replied None s s.is
-  complete_sent (Some name) s quiet = complete_file name s quiet s.is
+  fails_told : ((ended ≡ 0) × Answers asked files old new after) ⊎ Fails → (ended ≡ 0 → ⊥) → Fails
+  fails_told (inl a) refute = absurd (refute a.0)
+  fails_told (inr x) refute = x
 
-  whole : RepliesBy (input_of asked) → Replies asked files ended old new after
-  whole r = record { status = r.status; text = r.text; outputs = r.outputs }
+  pub done_case : Came → ended ≡ 0 → Answers asked files old new after
+  done_case c zero = done_told (came_by c.outcome c.makes c.status c.text c.files_are) zero
 
-  answered : Ends asked (Some files) rose ended old new failed after wrong → (ended ≡ 8 → ⊥) → (ended ≡ 9 → ⊥) → (ended ≡ 70 → ⊥) → Replies asked files ended old new after
-  answered ends no_read no_write no_want = whole (answer_sent (input_of asked) (sent asked (Some files) rose ended old new failed after wrong ends no_write no_want) no_read)
+  fails_case : Came → (ended ≡ 0 → ⊥) → Fails
+  fails_case c refute = fails_told (came_by c.outcome c.makes c.status c.text c.files_are) refute
 
-  completed : Ends asked (Some files) rose ended old new failed after wrong → (rose → ⊥) → (wrong → ⊥) → (failed → ⊥) → (ended ≡ 70 → ⊥) → Replies asked files ended old new after
-  completed (inl (is, same, kept)) quiet sane calm no_want = absurd (no_want is)
-  completed (inr (reply, is, own, inl (done, inl (status, text)))) quiet sane calm no_want =
-      whole (complete_sent (input_of asked) (record { reply = reply; is = is; status = status; text = text; files = done }) quiet)
-  completed (inr (reply, is, own, inl (done, inr (status, cut, why)))) quiet sane calm no_want = absurd (calm why)
-  completed (inr (reply, is, own, inr (amiss, rest))) quiet sane calm no_want = absurd (sane amiss)
+  refuses_as : (x : Fails) (fault : FileFault) → x.fault ≡ fault → Refuses asked files fault old new after
+  refuses_as x fault is = subst (λ (f : FileFault). Refuses asked files f old new after) is x.refuses
 
--- ---- what each status of a command's answer tells
+  pub layout_case : Came → ended ≡ 3 → (f : LayoutFault) × Refuses asked files (faults.Layout f) old new after
+  layout_case c is = let x = fails_case c (λ z. omega (arith, z, is)) in let f = layout_of x.name x.fault (x.status ∙ is) in (f.0, refuses_as x (faults.Layout f.0) f.1)
 
-record Tells (asked : Command) (files : Files) (ended : ℕ) (old new : Option (List ℕ)) (after : Option Files) : Type 0 where
-  done : ended ≡ 0 → Answers asked files old new after
-  layout : ended ≡ 3 → (f : LayoutFault) × Refuses asked files (faults.Layout f) old new after
-  crl : ended ≡ 4 → (place : ℕ) × (f : CrlFault) × Refuses asked files (faults.BadCrl place f) old new after
-  chain : ended ≡ 5 → Refuses asked files faults.NotSnapshot old new after
-  limit : ended ≡ 6 → (thing : What) × (n : ℕ) × Refuses asked files (faults.TooMany thing n) old new after
-  mixed : ended ≡ 10 → Refuses asked files faults.Mixed old new after
-  many : ended ≡ 11 → Refuses asked files faults.Many old new after
+  pub crl_case : Came → ended ≡ 4 → (place : ℕ) × (f : CrlFault) × Refuses asked files (faults.BadCrl place f) old new after
+  crl_case c is = let x = fails_case c (λ z. omega (arith, z, is)) in let f = crl_of x.name x.fault (x.status ∙ is) in (f.0, f.1, refuses_as x (faults.BadCrl f.0 f.1) f.2)
 
--- the reply over what is held, from what is read in it
-abbrev by_held : {A : Type 0} → List ℕ → (A → List ℕ) → (A → List OutputFields) → (List ℕ → Result A FileFault) → Option (List ℕ) → ReplyFields
-by_held name text outputs read None = read_fault name
-by_held name text outputs read (Some bytes) = answer_by name text outputs (read bytes)
+  chain_by : (x : Fails) → (x.fault ≡ faults.NotSnapshot) ⊎ ((why : Refusal) × (x.fault ≡ faults.Chain why))
+      → Refuses asked files faults.NotSnapshot old new after ⊎ ((why : Refusal) × Refuses asked files (faults.Chain why) old new after)
+  chain_by x (inl is) = inl (refuses_as x faults.NotSnapshot is)
+  chain_by x (inr (why, is)) = inr (why, refuses_as x (faults.Chain why) is)
 
-module _ (asked : Command) (files : Files) (ended : ℕ) (old new : Option (List ℕ)) (after : Option Files) (name : List ℕ) (input : input_of asked ≡ Some name) where
-  refuses : (bytes : List ℕ) (fault : FileFault) → get files name ≡ Some bytes → fault_in asked bytes ≡ Some fault → new ≡ followed_by old (refusal name fault).text → after ≡ Some files
-      → Refuses asked files fault old new after
-  refuses bytes fault held is text same = record { name = name; is_input = input; bytes = bytes; is_held = held; is_fault = is; written = text; same_files = same }
+  pub chain_case : Came → ended ≡ 5 → Refuses asked files faults.NotSnapshot old new after ⊎ ((why : Refusal) × Refuses asked files (faults.Chain why) old new after)
+  chain_case c is = let x = fails_case c (λ z. omega (arith, z, is)) in chain_by x (chain_of x.name x.fault (x.status ∙ is))
 
-  tells_read : {A : Type 0} (text : A → List ℕ) (outputs : A → List OutputFields) (bytes : List ℕ) (read : Result A FileFault) → get files name ≡ Some bytes → fault_in asked bytes ≡ fault_of read
-      → ((x : A) → ended ≡ 0 → read ≡ Ok x → IsAnswer asked bytes (text x) (outputs x)) → ended ≡ (answer_by name text outputs read).status
-      → new ≡ followed_by old (answer_by name text outputs read).text → after ≡ with_outputs (Some files) (answer_by name text outputs read).outputs → Tells asked files ended old new after
-  tells_read text outputs bytes (Ok x) held is answers status written files_are = record {
-    done = λ e. record { name = name; is_input = input; bytes = bytes; is_held = held; text = text x; outputs = outputs x; is_answer = answers x e refl; written = written; files_are = files_are };
-    layout = λ e. absurd (omega arith);
-    crl = λ e. absurd (omega arith);
-    chain = λ e. absurd (omega arith);
-    limit = λ e. absurd (omega arith);
-    mixed = λ e. absurd (omega arith);
-    many = λ e. absurd (omega arith);
-  }
-  tells_read text outputs bytes (Err (faults.Layout f)) held is answers status written files_are = record {
-    done = λ e. absurd (omega arith);
-    layout = λ e. (f, refuses bytes (faults.Layout f) held is written files_are);
-    crl = λ e. absurd (omega arith);
-    chain = λ e. absurd (omega arith);
-    limit = λ e. absurd (omega arith);
-    mixed = λ e. absurd (omega arith);
-    many = λ e. absurd (omega arith);
-  }
-  tells_read text outputs bytes (Err (faults.BadCrl place f)) held is answers status written files_are = record {
-    done = λ e. absurd (omega arith);
-    layout = λ e. absurd (omega arith);
-    crl = λ e. (place, f, refuses bytes (faults.BadCrl place f) held is written files_are);
-    chain = λ e. absurd (omega arith);
-    limit = λ e. absurd (omega arith);
-    mixed = λ e. absurd (omega arith);
-    many = λ e. absurd (omega arith);
-  }
-  tells_read text outputs bytes (Err faults.NotSnapshot) held is answers status written files_are = record {
-    done = λ e. absurd (omega arith);
-    layout = λ e. absurd (omega arith);
-    crl = λ e. absurd (omega arith);
-    chain = λ e. refuses bytes faults.NotSnapshot held is written files_are;
-    limit = λ e. absurd (omega arith);
-    mixed = λ e. absurd (omega arith);
-    many = λ e. absurd (omega arith);
-  }
-  tells_read text outputs bytes (Err (faults.TooMany thing n)) held is answers status written files_are = record {
-    done = λ e. absurd (omega arith);
-    layout = λ e. absurd (omega arith);
-    crl = λ e. absurd (omega arith);
-    chain = λ e. absurd (omega arith);
-    limit = λ e. (thing, n, refuses bytes (faults.TooMany thing n) held is written files_are);
-    mixed = λ e. absurd (omega arith);
-    many = λ e. absurd (omega arith);
-  }
-  tells_read text outputs bytes (Err faults.Mixed) held is answers status written files_are = record {
-    done = λ e. absurd (omega arith);
-    layout = λ e. absurd (omega arith);
-    crl = λ e. absurd (omega arith);
-    chain = λ e. absurd (omega arith);
-    limit = λ e. absurd (omega arith);
-    mixed = λ e. refuses bytes faults.Mixed held is written files_are;
-    many = λ e. absurd (omega arith);
-  }
-  tells_read text outputs bytes (Err faults.Many) held is answers status written files_are = record {
-    done = λ e. absurd (omega arith);
-    layout = λ e. absurd (omega arith);
-    crl = λ e. absurd (omega arith);
-    chain = λ e. absurd (omega arith);
-    limit = λ e. absurd (omega arith);
-    mixed = λ e. absurd (omega arith);
-    many = λ e. refuses bytes faults.Many held is written files_are;
-  }
-  tells_read text outputs bytes (Err faults.NoMemory) held is answers status written files_are = record {
-    done = λ e. absurd (omega arith);
-    layout = λ e. absurd (omega arith);
-    crl = λ e. absurd (omega arith);
-    chain = λ e. absurd (omega arith);
-    limit = λ e. absurd (omega arith);
-    mixed = λ e. absurd (omega arith);
-    many = λ e. absurd (omega arith);
-  }
+  pub limit_case : Came → ended ≡ 6 → (thing : What) × (n : ℕ) × Refuses asked files (faults.TooMany thing n) old new after
+  limit_case c is = let x = fails_case c (λ z. omega (arith, z, is)) in let f = limit_of x.name x.fault (x.status ∙ is) in (f.0, f.1, refuses_as x (faults.TooMany f.0 f.1) f.2)
 
-  tells_held : {A : Type 0} (text : A → List ℕ) (outputs : A → List OutputFields) (read : List ℕ → Result A FileFault) → ((bytes : List ℕ) → fault_in asked bytes ≡ fault_of (read bytes))
-      → ((bytes : List ℕ) (x : A) → get files name ≡ Some bytes → ended ≡ 0 → read bytes ≡ Ok x → IsAnswer asked bytes (text x) (outputs x)) → (held : Option (List ℕ)) → get files name ≡ held
-      → ended ≡ (by_held name text outputs read held).status → new ≡ followed_by old (by_held name text outputs read held).text
-      → after ≡ with_outputs (Some files) (by_held name text outputs read held).outputs → Tells asked files ended old new after
-  tells_held text outputs read is answers None held status written files_are = record {
-    done = λ e. absurd (omega arith);
-    layout = λ e. absurd (omega arith);
-    crl = λ e. absurd (omega arith);
-    chain = λ e. absurd (omega arith);
-    limit = λ e. absurd (omega arith);
-    mixed = λ e. absurd (omega arith);
-    many = λ e. absurd (omega arith);
-  }
-  tells_held text outputs read is answers (Some bytes) held status written files_are =
-      tells_read text outputs bytes (read bytes) held (is bytes) (λ x. answers bytes x held) status written files_are
+  pub seeds_case : Came → ended ≡ 7 → (issuer : List ℕ) × (stage : ℕ) × Refuses asked files (faults.Seeds issuer stage) old new after
+  seeds_case c is = let x = fails_case c (λ z. omega (arith, z, is)) in let f = seeds_of x.name x.fault (x.status ∙ is) in (f.0, f.1, refuses_as x (faults.Seeds f.0 f.1) f.2)
 
-  tells_by : {A : Type 0} (text : A → List ℕ) (outputs : A → List OutputFields) (read : List ℕ → Result A FileFault) → ((bytes : List ℕ) → fault_in asked bytes ≡ fault_of (read bytes))
-      → ((bytes : List ℕ) (x : A) → get files name ≡ Some bytes → ended ≡ 0 → read bytes ≡ Ok x → IsAnswer asked bytes (text x) (outputs x))
-      → (reply : ReplyFields) → reply ≡ by_held name text outputs read (get files name)
-      → ended ≡ reply.status → new ≡ followed_by old reply.text → after ≡ with_outputs (Some files) reply.outputs → Tells asked files ended old new after
-  tells_by text outputs read is answers reply same status written files_are =
-      tells_held text outputs read is answers (get files name) refl (status ∙ ap (λ (r : ReplyFields). r.status) same) (written ∙ ap (λ (r : ReplyFields). followed_by old r.text) same)
-      (files_are ∙ ap (λ (r : ReplyFields). with_outputs (Some files) r.outputs) same)
-
-held-same : {A : Type 0} (c : Command) (name : List ℕ) (text : A → List ℕ) (outputs : A → List OutputFields) (read : List ℕ → Result A FileFault)
-    → ((bytes : List ℕ) → reply_in c bytes ≡ answer_by name text outputs (read bytes)) → (held : Option (List ℕ)) → reply_over c name held ≡ by_held name text outputs read held
-held-same c name text outputs read is None = refl
-held-same c name text outputs read is (Some bytes) = is bytes
-
--- ---- what is published, and stores that are begun
-
-ok_is : {A : Type 0} (x y : A) → ◌≡◌ {A = Result A FileFault} (Ok x) (Ok y) → x ≡ y
-ok_is x y e = cc
-
-started-kind : (s : SealedFields) (size : ℕ) (k : Kind) → s.part.head.kind ≡ k → (x : SealedFields) → started_by s k ≡ Ok x
-    → (n : ℕ) × (◌≡◌ {A = Result (SealedFields × ℕ) FileFault} (Ok (s, size)) (Ok (x, n))) × (x.part.head.kind ≡ kinds.Snapshot)
-started-kind s size kinds.Snapshot is x h =
-    let same : s ≡ x = ok_is s x h in
-    (size, ap (λ (y : SealedFields). Ok (y, size)) same, subst (λ (y : SealedFields). y.part.head.kind ≡ kinds.Snapshot) same is)
-started-kind s size kinds.Delta is x h = absurd cc
-
-started-is : (r : Result (SealedFields × ℕ) FileFault) (x : SealedFields) → started_if r ≡ Ok x → (n : ℕ) × (r ≡ Ok (x, n)) × (x.part.head.kind ≡ kinds.Snapshot)
-started-is (Ok (s, size)) x h = started-kind s size s.part.head.kind refl x h
-started-is (Err fault) x h = absurd cc
-
-start-answer : (s : StartFields) (bytes : List ℕ) (x : SealedFields) → started bytes ≡ Ok x → IsStart s bytes (start_text x) (start_outputs s x)
-start-answer s bytes x h =
-    let (size, part, kind) = started-is (part_file bytes 0) x h in
-    record { sealed = x; size = size; is_part = part; snapshot = kind; outputs_are = refl; line_is = refl }
-
-snapshot-answer : (s : SnapshotFields) (bytes : List ℕ) (p : Published) → IsFitJob bytes → published bytes ≡ Ok p → IsSnapshot s bytes (snapshot_text p) (snapshot_outputs s p)
-snapshot-answer s bytes p (job, is, fits, within) h =
-    let (admissible, same) = published_history job p fits within (sym (ap published_by is) ∙ h) in
-    record {
-      job = job;
-      is_job = is;
-      admissible = admissible;
-      outputs_are = ap (snapshot_outputs s) same ∙ first_snapshot_outputs s (job_told job);
-      report = ap snapshot_text same;
-    }
-
-fit_held : (held : Option (List ℕ)) (bytes : List ℕ) → held ≡ Some bytes → IfSome held IsFitJob → IsFitJob bytes
-fit_held None bytes is fits = absurd cc
-fit_held (Some other) bytes is fits = let same : other ≡ bytes = cc in subst IsFitJob same fits
-
-tells : (asked : Command) (files : Files) (ended : ℕ) (old new : Option (List ℕ)) (after : Option Files) → (ended ≡ 0 → FitsInput asked files) → Replies asked files ended old new after
-    → Tells asked files ended old new after
-tells commands.Usage files ended old new after fit r = record {
-  done = λ e. absurd (omega (arith, r.status));
-  layout = λ e. absurd (omega (arith, r.status));
-  crl = λ e. absurd (omega (arith, r.status));
-  chain = λ e. absurd (omega (arith, r.status));
-  limit = λ e. absurd (omega (arith, r.status));
-  mixed = λ e. absurd (omega (arith, r.status));
-  many = λ e. absurd (omega (arith, r.status));
-}
-tells (commands.Query q) files ended old new after fit r =
-    tells_by (commands.Query q) files ended old new after q.store refl (λ parts. line (verdict_word (verdict parts q.id q.sightings))) no_outputs (λ bytes. value_of (store bytes 0)) (λ bytes. refl) (λ bytes x held e is. (x, is, refl, refl))
-    (reply_to (commands.Query q) files) (held-same (commands.Query q) q.store (λ parts. line (verdict_word (verdict parts q.id q.sightings))) no_outputs (λ bytes. value_of (store bytes 0)) (λ bytes. refl) (get files q.store)) r.status r.text r.outputs
-tells (commands.Check n) files ended old new after fit r =
-    tells_by (commands.Check n) files ended old new after n refl (λ (x : SealedFields × ℕ). check_line x.0 x.1) no_outputs (λ bytes. part_file bytes 0) (λ bytes. refl) (λ bytes x held e is. (x, is, refl, refl))
-    (reply_to (commands.Check n) files) (held-same (commands.Check n) n (λ (x : SealedFields × ℕ). check_line x.0 x.1) no_outputs (λ bytes. part_file bytes 0) (λ bytes. refl) (get files n)) r.status r.text r.outputs
-tells (commands.Show n) files ended old new after fit r =
-    tells_by (commands.Show n) files ended old new after n refl (λ (x : SealedFields × ℕ). show_text x.0) no_outputs (λ bytes. part_file bytes 0) (λ bytes. refl) (λ bytes x held e is. (x, is, refl, refl))
-    (reply_to (commands.Show n) files) (held-same (commands.Show n) n (λ (x : SealedFields × ℕ). show_text x.0) no_outputs (λ bytes. part_file bytes 0) (λ bytes. refl) (get files n)) r.status r.text r.outputs
-tells (commands.Snapshot s) files ended old new after fit r =
-    tells_by (commands.Snapshot s) files ended old new after s.job refl snapshot_text (snapshot_outputs s) published (λ bytes. refl) (λ bytes p held e is. snapshot-answer s bytes p (fit_held (get files s.job) bytes held (fit e)) is)
-    (reply_to (commands.Snapshot s) files) (held-same (commands.Snapshot s) s.job snapshot_text (snapshot_outputs s) published (λ bytes. refl) (get files s.job)) r.status r.text r.outputs
-tells (commands.Start s) files ended old new after fit r =
-    tells_by (commands.Start s) files ended old new after s.part refl start_text (start_outputs s) started (λ bytes. refl) (λ bytes x held e is. start-answer s bytes x is)
-    (reply_to (commands.Start s) files) (held-same (commands.Start s) s.part start_text (start_outputs s) started (λ bytes. refl) (get files s.part)) r.status r.text r.outputs
-
--- ---- the clauses of the top call, over files that may be told
+-- ---- the clauses
 
 module _ (asked : Command) (rose : Type 0) (ended : ℕ) (old new : Option (List ℕ)) (failed : Type 0) (after : Option Files) (wrong : Type 0) where
-  pub answer : (told : Option Files) → Ends asked told rose ended old new failed after wrong
-      → IfSome told (λ files. ended ≢ 8 → ended ≢ 9 → ended ≢ 70 → (ended ≡ (reply_to asked files).status) × (new ≡ followed_by old (reply_to asked files).text) × (after ≡ with_outputs told (reply_to asked files).outputs))
+  pub answer : (told : Option Files) → Ends asked told rose ended old new failed after wrong → IfSome told (λ files. ended ≢ 8 → ended ≢ 9 → ended ≢ 70
+      → (reply : ReplyFields) × IsReplyTo asked files reply × (ended ≡ reply.status) × (new ≡ followed_by old reply.text) × (after ≡ with_outputs told reply.outputs))
   answer None ends = tt
-  answer (Some files) ends = λ a b c. let r = answered asked files rose ended old new failed after wrong ends a b c in (r.status, r.text, r.outputs)
+  answer (Some files) ends = λ no_read no_write no_want. answered asked files rose ended old new failed after wrong ends no_read no_write no_want
 
-  pub complete : (told : Option Files) → Ends asked told rose ended old new failed after wrong
-      → IfSome told (λ files. (rose → ⊥) → (wrong → ⊥) → (failed → ⊥) → ended ≢ 70 → (ended ≡ (reply_to asked files).status) × (new ≡ followed_by old (reply_to asked files).text) × (after ≡ with_outputs told (reply_to asked files).outputs))
+  pub complete : (told : Option Files) → Ends asked told rose ended old new failed after wrong → IfSome told (λ files. (rose → ⊥) → (wrong → ⊥) → (failed → ⊥) → ended ≢ 70
+      → (reply : ReplyFields) × IsReplyTo asked files reply × (ended ≡ reply.status) × (new ≡ followed_by old reply.text) × (after ≡ with_outputs told reply.outputs))
   complete None ends = tt
-  complete (Some files) ends = λ a b c d. let r = completed asked files rose ended old new failed after wrong ends a b c d in (r.status, r.text, r.outputs)
+  complete (Some files) ends = λ quiet sane calm no_want. completed asked files rose ended old new failed after wrong ends quiet sane calm no_want
 
-  told-by : (files : Files) → (ended ≡ 0 → FitsInput asked files) → Ends asked (Some files) rose ended old new failed after wrong → (ended ≡ 8 → ⊥) → (ended ≡ 9 → ⊥) → (ended ≡ 70 → ⊥) → Tells asked files ended old new after
-  told-by files fit ends a b c = tells asked files ended old new after fit (answered asked files rose ended old new failed after wrong ends a b c)
+  came_told : (files : Files) (n : ℕ) → Ends asked (Some files) rose ended old new failed after wrong → ended ≡ n → (n ≡ 8 → ⊥) → (n ≡ 9 → ⊥) → (n ≡ 70 → ⊥) → (n ≡ 2 → ⊥) → Came asked files ended old new after
+  came_told files n ends is no_read no_write no_want no_usage =
+      came asked files ended old new after
+      (answered asked files rose ended old new failed after wrong ends (λ z. no_read (sym is ∙ z)) (λ z. no_write (sym is ∙ z)) (λ z. no_want (sym is ∙ z))) (λ z. no_usage (sym is ∙ z))
 
-  pub done : (told : Option Files) → IfSome told (λ files. ended ≡ 0 → FitsInput asked files) → Ends asked told rose ended old new failed after wrong → IfSome told (λ files. ended ≡ 0 → Answers asked files old new after)
-  done None fit ends = tt
-  done (Some files) fit ends = λ e. (told-by files fit ends (λ x. omega arith) (λ x. omega arith) (λ x. omega arith)).done e
+  pub done : (told : Option Files) → Ends asked told rose ended old new failed after wrong → IfSome told (λ files. ended ≡ 0 → Answers asked files old new after)
+  done None ends = tt
+  done (Some files) ends = λ is. done_case asked files ended old new after (came_told files 0 ends is (λ z. omega arith) (λ z. omega arith) (λ z. omega arith) (λ z. omega arith)) is
 
   pub layout : (told : Option Files) → Ends asked told rose ended old new failed after wrong → IfSome told (λ files. ended ≡ 3 → (f : LayoutFault) × Refuses asked files (faults.Layout f) old new after)
   layout None ends = tt
-  layout (Some files) ends = λ e. (told-by files (λ z. absurd (omega arith)) ends (λ x. omega arith) (λ x. omega arith) (λ x. omega arith)).layout e
+  layout (Some files) ends = λ is. layout_case asked files ended old new after (came_told files 3 ends is (λ z. omega arith) (λ z. omega arith) (λ z. omega arith) (λ z. omega arith)) is
 
   pub crl : (told : Option Files) → Ends asked told rose ended old new failed after wrong → IfSome told (λ files. ended ≡ 4 → (place : ℕ) × (f : CrlFault) × Refuses asked files (faults.BadCrl place f) old new after)
   crl None ends = tt
-  crl (Some files) ends = λ e. (told-by files (λ z. absurd (omega arith)) ends (λ x. omega arith) (λ x. omega arith) (λ x. omega arith)).crl e
+  crl (Some files) ends = λ is. crl_case asked files ended old new after (came_told files 4 ends is (λ z. omega arith) (λ z. omega arith) (λ z. omega arith) (λ z. omega arith)) is
 
-  pub chain : (told : Option Files) → Ends asked told rose ended old new failed after wrong → IfSome told (λ files. ended ≡ 5 → Refuses asked files faults.NotSnapshot old new after)
+  pub chain : (told : Option Files) → Ends asked told rose ended old new failed after wrong
+      → IfSome told (λ files. ended ≡ 5 → Refuses asked files faults.NotSnapshot old new after ⊎ ((why : Refusal) × Refuses asked files (faults.Chain why) old new after))
   chain None ends = tt
-  chain (Some files) ends = λ e. (told-by files (λ z. absurd (omega arith)) ends (λ x. omega arith) (λ x. omega arith) (λ x. omega arith)).chain e
+  chain (Some files) ends = λ is. chain_case asked files ended old new after (came_told files 5 ends is (λ z. omega arith) (λ z. omega arith) (λ z. omega arith) (λ z. omega arith)) is
 
   pub limit : (told : Option Files) → Ends asked told rose ended old new failed after wrong → IfSome told (λ files. ended ≡ 6 → (thing : What) × (n : ℕ) × Refuses asked files (faults.TooMany thing n) old new after)
   limit None ends = tt
-  limit (Some files) ends = λ e. (told-by files (λ z. absurd (omega arith)) ends (λ x. omega arith) (λ x. omega arith) (λ x. omega arith)).limit e
+  limit (Some files) ends = λ is. limit_case asked files ended old new after (came_told files 6 ends is (λ z. omega arith) (λ z. omega arith) (λ z. omega arith) (λ z. omega arith)) is
 
-  mixed_job : (files : Files) → Refuses asked files faults.Mixed old new after → (s : SnapshotFields) × (asked ≡ commands.Snapshot s) × Refuses asked files faults.Mixed old new after
-  mixed_job files refused = let job = of_snapshot asked refused.bytes refused.is_fault in (job.0, job.1, refused)
+  pub seeds : (told : Option Files) → Ends asked told rose ended old new failed after wrong → IfSome told (λ files. ended ≡ 7 → (issuer : List ℕ) × (stage : ℕ) × Refuses asked files (faults.Seeds issuer stage) old new after)
+  seeds None ends = tt
+  seeds (Some files) ends = λ is. seeds_case asked files ended old new after (came_told files 7 ends is (λ z. omega arith) (λ z. omega arith) (λ z. omega arith) (λ z. omega arith)) is
 
-  pub mixed : (told : Option Files) → Ends asked told rose ended old new failed after wrong
-      → IfSome told (λ files. ended ≡ 10 → (s : SnapshotFields) × (asked ≡ commands.Snapshot s) × Refuses asked files faults.Mixed old new after)
-  mixed None ends = tt
-  mixed (Some files) ends = λ e. mixed_job files ((told-by files (λ z. absurd (omega arith)) ends (λ x. omega arith) (λ x. omega arith) (λ x. omega arith)).mixed e)
+  -- ---- histories
 
-  pub many : (told : Option Files) → Ends asked told rose ended old new failed after wrong → IfSome told (λ files. ended ≡ 11 → Refuses asked files faults.Many old new after)
-  many None ends = tt
-  many (Some files) ends = λ e. (told-by files (λ z. absurd (omega arith)) ends (λ x. omega arith) (λ x. omega arith) (λ x. omega arith)).many e
+  -- what a law says of what comes of a command, where the call was done
+  told_done : (files : Files) (P : Done → Type 0) → ((d : Done) → Makes asked (held_by asked files) (Ok d) → P d) → Ends asked (Some files) rose ended old new failed after wrong → ended ≡ 0
+      → (d : Done) × P d × (new ≡ followed_by old d.text) × (after ≡ with_outputs (Some files) d.outputs)
+  told_done files P law ends is =
+      let a = done (Some files) ends is in
+      (a.done, law a.done a.makes, a.written, a.files_are)
 
-  true-line : (files : Files) (q : QueryFields) (job : JobFields) → AsksHistory asked files q job → Ends asked (Some files) rose ended old new failed after wrong → ended ≡ 0
-      → new ≡ followed_by old (line (verdict_word (truth (history (job_told job ∷ [])) q.id)))
-  true-line files q job asks ends e =
-      (answered asked files rose ended old new failed after wrong ends (λ x. omega arith) (λ x. omega arith) (λ x. omega arith)).text
-      ∙ ap (λ (r : ReplyFields). followed_by old r.text) (query_is_truth asked files q job asks)
+  well_by : (files : Files) → (asked ≡ commands.Usage → ⊥) → ((o : Result Done NamedFault) → Makes asked (held_by asked files) o → (d : Done) × (o ≡ Ok d)) → (reply : ReplyFields)
+      → IsReplyTo asked files reply → ended ≡ reply.status → IsTrue (is_one_of (0 ∷ 70 ∷ []) ended)
+  well_by files some law reply (inl (none, is)) status = absurd (some none)
+  well_by files some law reply (inr (o, m, is)) status =
+      let d = law o m in
+      let zero : ended ≡ 0 = status ∙ ap (λ (r : ReplyFields). r.status) is ∙ ap (λ (r : Result Done NamedFault). (reply_of r).status) d.1 in
+      rw zero refl
 
-  pub true_answer : (told : Option Files) → Ends asked told rose ended old new failed after wrong → IfSome told (λ files. (q : QueryFields) (job : JobFields) → AsksHistory asked files q job
-      → (reply_to asked files ≡ done_with (line (verdict_word (truth (history (job_told job ∷ [])) q.id))))
-      × (ended ≡ 0 → new ≡ followed_by old (line (verdict_word (truth (history (job_told job ∷ [])) q.id)))))
-  true_answer None ends = tt
-  true_answer (Some files) ends = λ q job asks. (query_is_truth asked files q job asks, true-line files q job asks ends)
+  -- and where no fault was counted, and the command is one whose outcome is done
+  ends_well : (files : Files) → (asked ≡ commands.Usage → ⊥) → ((o : Result Done NamedFault) → Makes asked (held_by asked files) o → (d : Done) × (o ≡ Ok d)) → Ends asked (Some files) rose ended old new failed after wrong
+      → (rose → ⊥) → (wrong → ⊥) → (failed → ⊥) → IsTrue (is_one_of (0 ∷ 70 ∷ []) ended)
+  ends_well files some law (inl (is, same, kept)) quiet sane calm = rw is refl
+  ends_well files some law (inr (reply, is, own, inl (done, inl (status, text)))) quiet sane calm = well_by files some law reply (over_quiet asked files rose ended old new failed after wrong (record { reply = reply; is = is; status = status; text = text; files = done }) quiet is) status
+  ends_well files some law (inr (reply, is, own, inl (done, inr (status, cut, why)))) quiet sane calm = absurd (calm why)
+  ends_well files some law (inr (reply, is, own, inr (amiss, rest))) quiet sane calm = absurd (sane amiss)
+
+  -- the laws of histories that the clauses stand on
+  pub record Laws : Type 0 where
+    pub published : (files : Files) (jobs : List JobFields) (parts : List SealedFields) (job : JobFields) (d : Done) → IsHistory jobs parts → PublishesJob asked files jobs parts job
+        → Makes asked (held_by asked files) (Ok d) → IsPublished asked jobs parts job d
+    pub admitted : (files : Files) (jobs : List JobFields) (parts : List SealedFields) (job : JobFields) (o : Result Done NamedFault) → IsHistory jobs parts → PublishesJob asked files jobs parts job
+        → IsAdmissible (history jobs parts) job → Makes asked (held_by asked files) o → (d : Done) × (o ≡ Ok d)
+    pub stored : (files : Files) (jobs : List JobFields) (parts : List SealedFields) (s : SealedFields) (o : Result Done NamedFault) → IsHistory jobs (parts ++ s ∷ []) → StoresPart asked files parts s
+        → Makes asked (held_by asked files) o → (d : Done) × (o ≡ Ok d) × IsStored asked parts s d
+    pub asks : (files : Files) (q : QueryFields) (jobs : List JobFields) (parts : List SealedFields) (o : Result Done NamedFault) → IsHistory jobs parts → AsksHistory asked files q jobs parts
+        → Makes asked (held_by asked files) o → o ≡ Ok (truth_done jobs parts q)
+
+  ok_same : (x y : Done) → ◌≡◌ {A = Result Done NamedFault} (Ok x) (Ok y) → x ≡ y
+  ok_same x y h = cc
+
+  publishes_some : (files : Files) (jobs : List JobFields) (parts : List SealedFields) (job : JobFields) → (c : Command) → PublishesJob c files jobs parts job → c ≡ commands.Usage → ⊥
+  publishes_some files jobs parts job commands.Usage p is = p
+  publishes_some files jobs parts job (commands.Query q) p is = p
+  publishes_some files jobs parts job (commands.Check n) p is = p
+  publishes_some files jobs parts job (commands.Show n) p is = p
+  publishes_some files jobs parts job (commands.Snapshot s) p is = absurd cc
+  publishes_some files jobs parts job (commands.Delta d) p is = absurd cc
+  publishes_some files jobs parts job (commands.Start t) p is = p
+  publishes_some files jobs parts job (commands.Install i) p is = p
+
+  stores_some : (files : Files) (parts : List SealedFields) (s : SealedFields) → (c : Command) → StoresPart c files parts s → c ≡ commands.Usage → ⊥
+  stores_some files parts s commands.Usage p is = p
+  stores_some files parts s (commands.Query q) p is = p
+  stores_some files parts s (commands.Check n) p is = p
+  stores_some files parts s (commands.Show n) p is = p
+  stores_some files parts s (commands.Snapshot t) p is = p
+  stores_some files parts s (commands.Delta d) p is = p
+  stores_some files parts s (commands.Start t) p is = absurd cc
+  stores_some files parts s (commands.Install i) p is = absurd cc
+
+  query_some : (c : Command) (q : QueryFields) → c ≡ commands.Query q → c ≡ commands.Usage → ⊥
+  query_some c q is refute = let h : commands.Query q ≡ commands.Usage = sym is ∙ refute in cc
+
+  module _ (laws : Laws) where
+    pub published_clause : (told : Option Files) → Ends asked told rose ended old new failed after wrong
+        → IfSome told (λ files. (jobs : List JobFields) (parts : List SealedFields) (job : JobFields) → IsHistory jobs parts → PublishesJob asked files jobs parts job → ended ≡ 0
+        → (d : Done) × IsPublished asked jobs parts job d × (new ≡ followed_by old d.text) × (after ≡ with_outputs told d.outputs))
+    published_clause None ends = tt
+    published_clause (Some files) ends = λ jobs parts job h p is. told_done files (IsPublished asked jobs parts job) (λ d m. laws.published files jobs parts job d h p m) ends is
+
+    pub admitted_clause : (told : Option Files) → Ends asked told rose ended old new failed after wrong
+        → IfSome told (λ files. (jobs : List JobFields) (parts : List SealedFields) (job : JobFields) → IsHistory jobs parts → PublishesJob asked files jobs parts job → IsAdmissible (history jobs parts) job
+        → (rose → ⊥) → (wrong → ⊥) → (failed → ⊥) → IsTrue (is_one_of (0 ∷ 70 ∷ []) ended))
+    admitted_clause None ends = tt
+    admitted_clause (Some files) ends = λ jobs parts job h p a quiet sane calm.
+        ends_well files (publishes_some files jobs parts job asked p) (λ o m. laws.admitted files jobs parts job o h p a m) ends quiet sane calm
+
+    stored_by : (files : Files) (jobs : List JobFields) (parts : List SealedFields) (s : SealedFields) → IsHistory jobs (parts ++ s ∷ []) → StoresPart asked files parts s → (d : Done)
+        → Makes asked (held_by asked files) (Ok d) → IsStored asked parts s d
+    stored_by files jobs parts s h p d m =
+        let l = laws.stored files jobs parts s (Ok d) h p m in subst (IsStored asked parts s) (sym (ok_same d l.0 l.1)) l.2
+
+    pub stored_clause : (told : Option Files) → Ends asked told rose ended old new failed after wrong
+        → IfSome told (λ files. (jobs : List JobFields) (parts : List SealedFields) (s : SealedFields) → IsHistory jobs (parts ++ s ∷ []) → StoresPart asked files parts s → ended ≡ 0
+        → (d : Done) × IsStored asked parts s d × (new ≡ followed_by old d.text) × (after ≡ with_outputs told d.outputs))
+    stored_clause None ends = tt
+    stored_clause (Some files) ends = λ jobs parts s h p is. told_done files (IsStored asked parts s) (stored_by files jobs parts s h p) ends is
+
+    pub taken_clause : (told : Option Files) → Ends asked told rose ended old new failed after wrong
+        → IfSome told (λ files. (jobs : List JobFields) (parts : List SealedFields) (s : SealedFields) → IsHistory jobs (parts ++ s ∷ []) → StoresPart asked files parts s
+        → (rose → ⊥) → (wrong → ⊥) → (failed → ⊥) → IsTrue (is_one_of (0 ∷ 70 ∷ []) ended))
+    taken_clause None ends = tt
+    taken_clause (Some files) ends = λ jobs parts s h p quiet sane calm.
+        ends_well files (stores_some files parts s asked p) (λ o m. let l = laws.stored files jobs parts s o h p m in (l.0, l.1)) ends quiet sane calm
+
+    pub truth_clause : (told : Option Files) → Ends asked told rose ended old new failed after wrong
+        → IfSome told (λ files. (q : QueryFields) (jobs : List JobFields) (parts : List SealedFields) → IsHistory jobs parts → AsksHistory asked files q jobs parts → ended ≡ 0
+        → new ≡ followed_by old (truth_done jobs parts q).text)
+    truth_clause None ends = tt
+    truth_clause (Some files) ends = λ q jobs parts h p is.
+        let a = done (Some files) ends is in
+        a.written ∙ ap (λ (d : Done). followed_by old d.text) (ok_same a.done (truth_done jobs parts q) (laws.asks files q jobs parts (Ok a.done) h p a.makes))
+
+    pub answered_clause : (told : Option Files) → Ends asked told rose ended old new failed after wrong
+        → IfSome told (λ files. (q : QueryFields) (jobs : List JobFields) (parts : List SealedFields) → IsHistory jobs parts → AsksHistory asked files q jobs parts
+        → (rose → ⊥) → (wrong → ⊥) → (failed → ⊥) → IsTrue (is_one_of (0 ∷ 70 ∷ []) ended))
+    answered_clause None ends = tt
+    answered_clause (Some files) ends = λ q jobs parts h p quiet sane calm.
+        ends_well files (query_some asked q p.0) (λ o m. (truth_done jobs parts q, laws.asks files q jobs parts o h p m)) ends quiet sane calm

@@ -1,9 +1,10 @@
 -- What an answer says: how the call ends, the text, and the files before it.
 use Rattle.std.specs.Prelude.{List}
+use Rattle.line_core.specs.Lines.{show_text}
 use Rattle.clubcard_top.specs.declared.answer.Answer.{Answer}
 use Rattle.clubcard_top.specs.declared.answer.Answer.TheVariants as answers
 use Rattle.clubcard_top.specs.ReplyFields.{OutputFields, ReplyFields}
-use Rattle.clubcard_top.specs.Lines.{show_text}
+use Rattle.clubcard_top.specs.Commands.{only}
 use Rattle.clubcard_top.specs.Replies.{done}
 
 -- a reply behind these outputs
@@ -12,5 +13,5 @@ with_files outputs r = record { status = r.status; text = r.text; outputs = outp
 
 abbrev pub shown : Answer → ReplyFields
 shown (answers.Reply r) = r
-shown (answers.Part s) = done (show_text s)
+shown (answers.Part s) = done (only (show_text s))
 shown (answers.Files outputs r) = with_files outputs.items r

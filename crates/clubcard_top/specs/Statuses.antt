@@ -20,17 +20,14 @@ chain = 5
 abbrev pub too_many : ℕ
 too_many = 6
 
+abbrev pub seeds : ℕ
+seeds = 7
+
 abbrev pub read_fault : ℕ
 read_fault = 8
 
 abbrev pub write_fault : ℕ
 write_fault = 9
-
-abbrev pub mixed_block : ℕ
-mixed_block = 10
-
-abbrev pub many_parts : ℕ
-many_parts = 11
 
 abbrev pub no_memory : ℕ
 no_memory = 70
@@ -38,9 +35,9 @@ no_memory = 70
 abbrev pub is_one_of : List ℕ → ℕ → Bool
 is_one_of statuses n = list_any (λ m. nat_eq m n) statuses
 
--- the statuses that a reply has: all but that of a failed sink and that of want of memory
+-- the statuses that a reply has: all but that of a failed write and that of want of memory
 abbrev pub of_replies : List ℕ
-of_replies = done ∷ usage ∷ bad_layout ∷ bad_crl ∷ chain ∷ too_many ∷ read_fault ∷ mixed_block ∷ many_parts ∷ []
+of_replies = done ∷ usage ∷ bad_layout ∷ bad_crl ∷ chain ∷ too_many ∷ seeds ∷ read_fault ∷ []
 
 -- all statuses
 abbrev pub all : List ℕ

@@ -8,8 +8,8 @@ ghost use Rattle.clubcard_top.specs.Runs.{SentSo, EndsSo};
 
 use crate::output::{Output, write_outputs};
 use crate::reply::Reply;
-use crate::show::write_sealed;
 use crate::status::Status;
+use line_core::write_sealed;
 use outside_core::{Depot, Failed, Sink, write_all};
 use part_codec::Sealed;
 

@@ -1,29 +1,37 @@
-//! What each command answers, from what its file holds.
+//! The commands that ask: what each answers, from what its file holds.
 
-ghost use Rattle.std.specs.Prelude.{◌≡◌, ◌<◌, ◌≤◌, [], ◌∷◌, IfOk};
+ghost use Rattle.std.specs.Prelude.{◌≡◌, ◌<◌, ◌≤◌, IfOk, IsErr, map};
 ghost use Rattle.outside_core.specs.Files.{Rose};
-ghost use Rattle.clubcard_top.specs.Verdict.{verdict as verdict_of};
-ghost use Rattle.clubcard_top.specs.Replies.{read_fault, query_reply, check_reply, show_reply};
+ghost use Rattle.store_core.specs.Verdict.{verdict as verdict_of};
+ghost use Rattle.word_core.specs.declared.command.Command.{Command};
 ghost use Rattle.clubcard_top.specs.Answering.{shown};
-ghost use Rattle.clubcard_top.specs.Runs.{IsFileReply};
-ghost use Rattle.clubcard_top.specs.declared.command.Command.{Command};
+ghost use Rattle.clubcard_top.specs.Replies.{refusal};
+ghost use Rattle.clubcard_top.specs.Runs.{IsReply};
 
 use crate::answer::Answer;
-use crate::command::{FileName, Query};
-use crate::files::{read_part, read_store};
-use crate::input::{InputFault, read_all};
+use crate::fault::FileFault;
+use crate::inputs::{part_in, store_in};
 use crate::reply::Reply;
-use crate::verdict::{Verdict, verdict_of_part};
-use card_core::Part;
+use line_core::checked;
 use octets_core::{NoMemory, Steps};
 use outside_core::Depot;
 use std::alloc::Global;
 use std::marker::Brand;
 use std::sync::ledger::{Blank, Ledger};
+use store_core::{Store, Verdict};
+use word_core::{FileName, Query};
 
-/// What a part says of a query, with counters of probes and of words that nothing reads.
+/// The answer about what is wrong with the file of this name.
+pub(crate) fn refused(alloc: Global, name: &str, fault: FileFault) -> Result<Answer, NoMemory>
+    ensures ok { IfOk result (λ a. shown a ≡ refusal name.now fault) }
+    ensures memory { fault ≡ FileFault.NoMemory → IsErr result }
+{
+    Ok(Answer::Reply(Reply::refusal(alloc, name, fault)?))
+}
+
+/// The verdict of a store, with counters of probes and of words that nothing reads.
 fn verdict_by<L: Ledger, M: Ledger>(
-    part: &Part,
+    store: &Store,
     query: &Query,
     probes: Blank,
     words: Blank,
@@ -34,58 +42,11 @@ fn verdict_by<L: Ledger, M: Ledger>(
     requires words_name { words.name ≡ M.name }
     requires words_parts { words.parts ≡ M.parts }
     requires some_words { 0 < M.parts }
-    ensures { result ≡ verdict_of (part.now ∷ []) query.now.id query.now.sightings }
+    ensures { result ≡ verdict_of (map (λ s. s.part) store.now) query.now.id query.now.sightings }
 {
     let mut probes: Steps<L> = Steps::new(probes);
     let mut words: Steps<M> = Steps::new(words);
-    verdict_of_part(part, query.id(), query.sightings(), &mut probes, &mut words)
-}
-
-/// The answer to a query over the bytes of a store.
-fn query_over(alloc: Global, query: &Query, bytes: &[u8]) -> Result<Answer, NoMemory>
-    ensures { IfOk result (λ a. shown a ≡ query_reply query.now bytes.now) }
-{
-    let reply = match read_store(alloc, bytes) {
-        Ok(sealed) => {
-            let verdict = verdict_by::<Brand, Brand>(
-                sealed.part(),
-                query,
-                Blank::new(1),
-                Blank::new(1),
-            );
-            Reply::verdict(alloc, verdict)?
-        }
-        Err(fault) => Reply::refusal(alloc, query.store(), fault)?,
-    };
-    Ok(Answer::Reply(reply))
-}
-
-/// The answer of `check` over the bytes of a file.
-fn check_over(alloc: Global, name: &str, bytes: &[u8]) -> Result<Answer, NoMemory>
-    ensures { IfOk result (λ a. shown a ≡ check_reply name.now bytes.now) }
-{
-    let reply = match read_part(alloc, bytes) {
-        Ok((sealed, size)) => Reply::checked(alloc, &sealed, size)?,
-        Err(fault) => Reply::refusal(alloc, name, fault)?,
-    };
-    Ok(Answer::Reply(reply))
-}
-
-/// The answer of `show` over the bytes of a file.
-fn show_over(alloc: Global, name: &str, bytes: &[u8]) -> Result<Answer, NoMemory>
-    ensures { IfOk result (λ a. shown a ≡ show_reply name.now bytes.now) }
-{
-    match read_part(alloc, bytes) {
-        Ok((sealed, _)) => Ok(Answer::Part(sealed)),
-        Err(fault) => Ok(Answer::Reply(Reply::refusal(alloc, name, fault)?)),
-    }
-}
-
-/// The answer about a file that can't be read.
-pub(crate) fn fault_answer(alloc: Global, name: &str) -> Result<Answer, NoMemory>
-    ensures { IfOk result (λ a. shown a ≡ read_fault name.now) }
-{
-    Ok(Answer::Reply(Reply::read_fault(alloc, name)?))
+    store.verdict(query.id(), query.sightings(), &mut probes, &mut words)
 }
 
 /// The answer to a query.
@@ -94,15 +55,17 @@ pub fn answer_query<D: Depot>(
     query: &Query,
     depot: &mut D,
 ) -> Result<Answer, NoMemory>
-    ensures reply { IfOk result (λ a. IsFileReply (Command.Query query.now) query.now.store (D.files depot.old) (Rose (D.read_faults depot.old) (D.read_faults depot.new)) (shown a)) }
+    ensures reply { IfOk result (λ a. IsReply (Command.Query query.now) (D.files depot.old) (Rose (D.read_faults depot.old) (D.read_faults depot.new)) (shown a)) }
     ensures later { D.read_faults depot.old ≤ D.read_faults depot.new }
     ensures same_files { D.files depot.new ≡ D.files depot.old }
     ensures same_writes { D.write_faults depot.new ≡ D.write_faults depot.old }
 {
-    match read_all(alloc, depot, query.store()) {
-        Ok(bytes) => query_over(alloc, query, &bytes),
-        Err(InputFault::Failed) => fault_answer(alloc, query.store()),
-        Err(InputFault::NoMemory) => Err(NoMemory),
+    match store_in(alloc, depot, query.store()) {
+        Ok(store) => {
+            let verdict = verdict_by::<Brand, Brand>(&store, query, Blank::new(1), Blank::new(1));
+            Ok(Answer::Reply(Reply::verdict(alloc, verdict)?))
+        }
+        Err(fault) => refused(alloc, query.store(), fault),
     }
 }
 
@@ -112,15 +75,14 @@ pub fn answer_check<D: Depot>(
     name: &FileName,
     depot: &mut D,
 ) -> Result<Answer, NoMemory>
-    ensures reply { IfOk result (λ a. IsFileReply (Command.Check name.now) name.now (D.files depot.old) (Rose (D.read_faults depot.old) (D.read_faults depot.new)) (shown a)) }
+    ensures reply { IfOk result (λ a. IsReply (Command.Check name.now) (D.files depot.old) (Rose (D.read_faults depot.old) (D.read_faults depot.new)) (shown a)) }
     ensures later { D.read_faults depot.old ≤ D.read_faults depot.new }
     ensures same_files { D.files depot.new ≡ D.files depot.old }
     ensures same_writes { D.write_faults depot.new ≡ D.write_faults depot.old }
 {
-    match read_all(alloc, depot, name.as_str()) {
-        Ok(bytes) => check_over(alloc, name.as_str(), &bytes),
-        Err(InputFault::Failed) => fault_answer(alloc, name.as_str()),
-        Err(InputFault::NoMemory) => Err(NoMemory),
+    match part_in(alloc, depot, name.as_str()) {
+        Ok((sealed, size)) => Ok(Answer::Reply(Reply::done(alloc, &checked(&sealed, size))?)),
+        Err(fault) => refused(alloc, name.as_str(), fault),
     }
 }
 
@@ -130,14 +92,13 @@ pub fn answer_show<D: Depot>(
     name: &FileName,
     depot: &mut D,
 ) -> Result<Answer, NoMemory>
-    ensures reply { IfOk result (λ a. IsFileReply (Command.Show name.now) name.now (D.files depot.old) (Rose (D.read_faults depot.old) (D.read_faults depot.new)) (shown a)) }
+    ensures reply { IfOk result (λ a. IsReply (Command.Show name.now) (D.files depot.old) (Rose (D.read_faults depot.old) (D.read_faults depot.new)) (shown a)) }
     ensures later { D.read_faults depot.old ≤ D.read_faults depot.new }
     ensures same_files { D.files depot.new ≡ D.files depot.old }
     ensures same_writes { D.write_faults depot.new ≡ D.write_faults depot.old }
 {
-    match read_all(alloc, depot, name.as_str()) {
-        Ok(bytes) => show_over(alloc, name.as_str(), &bytes),
-        Err(InputFault::Failed) => fault_answer(alloc, name.as_str()),
-        Err(InputFault::NoMemory) => Err(NoMemory),
+    match part_in(alloc, depot, name.as_str()) {
+        Ok((sealed, _)) => Ok(Answer::Part(sealed)),
+        Err(fault) => refused(alloc, name.as_str(), fault),
     }
 }

@@ -1,24 +1,31 @@
 ghost use Rattle.std.specs.Prelude.{◌≡◌};
 
 use crl_core::CrlFault;
-use job_core::What;
-use octets_core::LayoutFault;
+use job_core::{JobFault, What};
+use ledger_core::LedgerFault;
+use octets_core::{Key32, LayoutFault};
+use part_codec::PartFault;
+use publication_core::PublishFault;
+use store_core::{Refusal, StoreFault};
+use universe_core::AdmitFault;
 
-/// Why a file's bytes give no store, no part, or no job that is published.
+/// What is wrong with a file that a command reads.
 #[derive(Clone, Copy, Debug, PartialEq, Eq)]
 pub enum FileFault {
+    /// It can't be read.
+    Unread,
     /// A field is short or fails its test.
     Layout(LayoutFault),
-    /// A group of a job is mixed, which isn't built yet.
-    Mixed,
     /// The first part of a store is a delta.
     NotSnapshot,
-    /// A store has 2 to 64 parts, of which only one is read yet.
-    Many,
+    /// A chain doesn't take a part, or the part of a job.
+    Chain(Refusal),
     /// A CRL of a job isn't accepted. Its place counts the job's CRLs from 0.
     BadCrl { place: u32, fault: CrlFault },
     /// There is one more than the limit.
     TooMany { what: What, limit: u32 },
+    /// The equations of this issuer's approximate stage (1) or exact stage (2) are unsolvable at each of the 256 seeds.
+    Seeds { issuer: Key32, stage: u8 },
     /// Want of memory.
     NoMemory,
 }
@@ -30,5 +37,97 @@ impl From<LayoutFault> for FileFault {
 
     fn from(fault: LayoutFault) -> FileFault {
         FileFault::Layout(fault)
+    }
+}
+
+impl From<JobFault> for FileFault {
+    ghost use Rattle.clubcard_top.specs.Faults.{of_job};
+
+    ghost from_gives = { λ f e. e ≡ of_job f };
+
+    fn from(fault: JobFault) -> FileFault {
+        match fault {
+            JobFault::Layout(fault) => FileFault::Layout(fault),
+            JobFault::TooMany { what, limit } => FileFault::TooMany { what, limit },
+            // Bytes that are there are read with no fault.
+            JobFault::ReadFault => FileFault::NoMemory,
+            JobFault::NoMemory => FileFault::NoMemory,
+        }
+    }
+}
+
+impl From<LedgerFault> for FileFault {
+    ghost use Rattle.clubcard_top.specs.Faults.{of_ledger};
+
+    ghost from_gives = { λ f e. e ≡ of_ledger f };
+
+    fn from(fault: LedgerFault) -> FileFault {
+        match fault {
+            LedgerFault::Layout(fault) => FileFault::Layout(fault),
+            LedgerFault::NoMemory => FileFault::NoMemory,
+        }
+    }
+}
+
+impl From<PartFault> for FileFault {
+    ghost use Rattle.clubcard_top.specs.Faults.{of_part};
+
+    ghost from_gives = { λ f e. e ≡ of_part f };
+
+    fn from(fault: PartFault) -> FileFault {
+        match fault {
+            PartFault::Layout(fault) => FileFault::Layout(fault),
+            PartFault::NoMemory => FileFault::NoMemory,
+        }
+    }
+}
+
+impl From<StoreFault> for FileFault {
+    ghost use Rattle.clubcard_top.specs.Faults.{of_store};
+
+    ghost from_gives = { λ f e. e ≡ of_store f };
+
+    fn from(fault: StoreFault) -> FileFault {
+        match fault {
+            StoreFault::Layout(fault) => FileFault::Layout(fault),
+            StoreFault::NotSnapshot => FileFault::NotSnapshot,
+            StoreFault::Refused(why) => FileFault::Chain(why),
+            StoreFault::NoMemory => FileFault::NoMemory,
+        }
+    }
+}
+
+impl From<AdmitFault> for FileFault {
+    ghost use Rattle.clubcard_top.specs.Faults.{of_admission};
+
+    ghost from_gives = { λ f e. e ≡ of_admission f };
+
+    fn from(fault: AdmitFault) -> FileFault {
+        match fault {
+            AdmitFault::BadCrl { place, fault } => FileFault::BadCrl { place, fault },
+            AdmitFault::OldEpoch { held, given } => {
+                FileFault::Chain(Refusal::OldEpoch { held, given })
+            }
+            AdmitFault::CoverageShrinks { log } => {
+                FileFault::Chain(Refusal::CoverageShrinks { log })
+            }
+            AdmitFault::ChainFull => FileFault::Chain(Refusal::Full),
+            AdmitFault::TooMany { what, limit } => FileFault::TooMany { what, limit },
+            AdmitFault::NoMemory => FileFault::NoMemory,
+        }
+    }
+}
+
+impl From<PublishFault> for FileFault {
+    ghost use Rattle.clubcard_top.specs.Faults.{of_publishing};
+
+    ghost from_gives = { λ f e. e ≡ of_publishing f };
+
+    fn from(fault: PublishFault) -> FileFault {
+        match fault {
+            PublishFault::Admission(fault) => fault.into(),
+            PublishFault::SeedsExhausted { issuer, stage } => FileFault::Seeds { issuer, stage },
+            PublishFault::NoMemory => FileFault::NoMemory,
+        }
     }
 }

@@ -4,6 +4,7 @@ ghost use Rattle.std.specs.Prelude.{◌≡◌, ◌≤◌, ◌+◌, ◌++◌, len
 ghost use Rattle.outside_core.specs.Files.{Rose, IsMissing, ReadFailed};
 ghost use Rattle.clubcard_top.specs.Inputs.{WhereHeld, IsHeld};
 
+use crate::fault::FileFault;
 use outside_core::{Depot, Failed};
 use std::alloc::{AllocError, Global};
 
@@ -14,6 +15,20 @@ pub enum InputFault {
     Failed,
     /// Want of memory.
     NoMemory,
+}
+
+impl From<InputFault> for FileFault {
+    ghost use Rattle.std.specs.Prelude.{◌≡◌};
+    ghost use Rattle.clubcard_top.specs.Faults.{of_input};
+
+    ghost from_gives = { λ f e. e ≡ of_input f };
+
+    fn from(fault: InputFault) -> FileFault {
+        match fault {
+            InputFault::Failed => FileFault::Unread,
+            InputFault::NoMemory => FileFault::NoMemory,
+        }
+    }
 }
 
 /// The most bytes that one read asks for: few reads of a long file, since a depot opens it for each.

@@ -5,11 +5,12 @@ ghost use Rattle.outside_core.specs.Files.{Rose, putting};
 ghost use Rattle.clubcard_top.specs.Replies.{write_fault};
 ghost use Rattle.clubcard_top.specs.Runs.{with_outputs, IsLeft, IsTorn};
 
-use crate::command::FileName;
+use line_core::about_file;
 use octets_core::NoMemory;
 use outside_core::{Depot, Failed, append_all};
 use std::alloc::Global;
 use std::marker::Model;
+use word_core::FileName;
 
 /// A file to be written: its name, the bytes that it then holds, and the line that says that it can't be written.
 #[derive(Debug, Drop)]
@@ -36,12 +37,8 @@ impl Output {
     pub fn new(alloc: Global, name: &str, bytes: Vec<u8>) -> Result<Output, NoMemory>
         ensures { IfOk result (λ o. o ≡ record { name = name.now; bytes = bytes.items }) }
     {
-        let Ok(fault) = format!(in alloc; "write-fault {name}\n") else {
-            return Err(NoMemory);
-        };
-        let Ok(name) = String::from_str(alloc, name) else {
-            return Err(NoMemory);
-        };
+        let fault = about_file(alloc, "write-fault", name)?;
+        let name = String::from_str(alloc, name)?;
         Ok(Output {
             name: FileName::new(name),
             bytes,

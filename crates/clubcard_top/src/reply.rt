@@ -1,22 +1,22 @@
 //! What the program answers: how it ends, and what it writes. A reply owns its text, which is made before anything is
 //! written.
 
-ghost use Rattle.std.specs.Prelude.{◌≡◌, [], IfOk, IsErr, IsTrue};
+ghost use Rattle.std.specs.Prelude.{◌≡◌, [], IfOk, IsErr, IsTrue, string_bytes};
 ghost use Rattle.clubcard_top.specs.Statuses as statuses;
-ghost use Rattle.clubcard_top.specs.Lines.{line, line_about, layout_line, crl_line, limit_line, why_word, crl_word, what_word, verdict_word, check_line, store_line, report_line};
-ghost use Rattle.clubcard_top.specs.Replies.{done, refusal, read_fault, usage};
+ghost use Rattle.line_core.specs.Lines.{line as line_of_words};
+ghost use Rattle.clubcard_top.specs.Commands.{only, verdict_word};
+ghost use Rattle.clubcard_top.specs.Replies.{chain_text, done, refusal, says, usage};
 
 use crate::fault::FileFault;
-use crate::line::{Line, checked, reported, stored};
 use crate::status::Status;
-use crate::verdict::Verdict;
-use crl_core::CrlFault;
-use job_core::What;
-use octets_core::{LayoutFault, NoMemory, Why};
-use part_codec::Sealed;
+use line_core::{
+    Line, about_file, coverage_line, crl_line, epoch_line, layout_line, limit_line, line_of,
+    parent_line, seeds_line,
+};
+use octets_core::NoMemory;
 use std::alloc::Global;
 use std::marker::Model;
-use universe_core::Counts;
+use store_core::{Refusal, Verdict};
 
 /// How the program ends unless a write fails, and what it writes to its sink.
 #[derive(Debug, Drop)]
@@ -37,194 +37,97 @@ impl Model for Reply {
     ghost invariant = { λ r. IsTrue (statuses.is_one_of statuses.of_replies r.status.0) };
 }
 
-fn why_text(why: Why) -> &'static str
-    ensures { result.now ≡ why_word why }
+fn verdict_text(verdict: Verdict) -> &'static str
+    ensures { result.now ≡ verdict_word verdict }
+{
+    match verdict {
+        Verdict::NotCovered => "not-covered",
+        Verdict::NotEnrolled => "not-enrolled",
+        Verdict::Good => "good",
+        Verdict::Revoked => "revoked",
+    }
+}
+
+/// The line about a file whose part, or job, a chain doesn't take.
+fn chain_line(alloc: Global, name: &str, why: Refusal) -> Result<String, NoMemory>
+    ensures { IfOk result (λ text. string_bytes text ≡ chain_text name.now why) }
 {
     match why {
-        Why::Short => "short",
-        Why::Value => "value",
-        Why::Digest => "digest",
-    }
-}
-
-fn crl_text(fault: CrlFault) -> &'static str
-    ensures { result.now ≡ crl_word fault }
-{
-    match fault {
-        CrlFault::Malformed => "malformed",
-        CrlFault::DeltaCrl => "delta",
-        CrlFault::Indirect => "indirect",
-        CrlFault::UnknownCritical => "critical",
-        CrlFault::NoMemory => "",
-    }
-}
-
-fn what_text(what: What) -> &'static str
-    ensures { result.now ≡ what_word what }
-{
-    match what {
-        What::Ranges => "ranges",
-        What::Crls => "crls",
-        What::Serials => "serials",
-        What::Entries => "entries",
-        What::Identities => "identities",
+        Refusal::NotDelta => about_file(alloc, "chain not-delta", name),
+        Refusal::WrongParent { held, given } => parent_line(alloc, &held, &given, name),
+        Refusal::OldEpoch { held, given } => epoch_line(alloc, held, given, name),
+        Refusal::CoverageShrinks { log } => coverage_line(alloc, &log, name),
+        Refusal::Full => about_file(alloc, "chain full", name),
     }
 }
 
 impl Reply {
-    /// The reply of these words as one line.
-    fn of_line(alloc: Global, status: Status, words: &str) -> Result<Reply, NoMemory>
+    /// The reply of a text.
+    fn of_text(status: Status, text: String) -> Reply
         requires { IsTrue (statuses.is_one_of statuses.of_replies status.0) }
-        ensures { IfOk result (λ r. r ≡ record { status = status.0; text = line words.now; outputs = [] }) }
+        ensures { result ≡ says status.0 (string_bytes text) }
     {
-        match format!(in alloc; "{words}\n") {
-            Ok(text) => Ok(Reply {
-                status,
-                text: text.into_bytes(),
-            }),
-            Err(_) => Err(NoMemory),
+        Reply {
+            status,
+            text: text.into_bytes(),
         }
     }
 
-    /// The reply of these words and a file's name as one line.
-    fn about_file(alloc: Global, status: Status, words: &str, name: &str) -> Result<Reply, NoMemory>
+    /// The reply of a line.
+    fn of_line(alloc: Global, status: Status, line: &Line) -> Result<Reply, NoMemory>
         requires { IsTrue (statuses.is_one_of statuses.of_replies status.0) }
-        ensures { IfOk result (λ r. r ≡ record { status = status.0; text = line_about words.now name.now; outputs = [] }) }
+        ensures { IfOk result (λ r. r ≡ says status.0 line.now) }
     {
-        match format!(in alloc; "{words} {name}\n") {
-            Ok(text) => Ok(Reply {
-                status,
-                text: text.into_bytes(),
-            }),
-            Err(_) => Err(NoMemory),
-        }
-    }
-
-    /// The reply about the field of a file that is short or fails its test.
-    fn layout(alloc: Global, fault: LayoutFault, name: &str) -> Result<Reply, NoMemory>
-        ensures { IfOk result (λ r. r ≡ record { status = statuses.bad_layout; text = layout_line fault name.now; outputs = [] }) }
-    {
-        let at = fault.at;
-        let field = fault.field.name();
-        let why = why_text(fault.why);
-        match format!(in alloc; "layout {at} {field} {why} {name}\n") {
-            Ok(text) => Ok(Reply {
-                status: Status::BAD_LAYOUT,
-                text: text.into_bytes(),
-            }),
-            Err(_) => Err(NoMemory),
-        }
-    }
-
-    /// The reply about a CRL that isn't accepted.
-    fn bad_crl(alloc: Global, place: u32, fault: CrlFault, name: &str) -> Result<Reply, NoMemory>
-        ensures { IfOk result (λ r. r ≡ record { status = statuses.bad_crl; text = crl_line place fault name.now; outputs = [] }) }
-    {
-        let fault = crl_text(fault);
-        match format!(in alloc; "crl {place} {fault} {name}\n") {
-            Ok(text) => Ok(Reply {
-                status: Status::BAD_CRL,
-                text: text.into_bytes(),
-            }),
-            Err(_) => Err(NoMemory),
-        }
-    }
-
-    /// The reply about a job that is past a limit.
-    fn too_many(alloc: Global, what: What, limit: u32, name: &str) -> Result<Reply, NoMemory>
-        ensures { IfOk result (λ r. r ≡ record { status = statuses.too_many; text = limit_line what limit name.now; outputs = [] }) }
-    {
-        let what = what_text(what);
-        match format!(in alloc; "limit {what} {limit} {name}\n") {
-            Ok(text) => Ok(Reply {
-                status: Status::TOO_MANY,
-                text: text.into_bytes(),
-            }),
-            Err(_) => Err(NoMemory),
-        }
+        let text = line.text().to_vec(alloc)?;
+        Ok(Reply { status, text })
     }
 
     /// The reply to words that are no command.
     pub fn usage(alloc: Global) -> Result<Reply, NoMemory>
         ensures { IfOk result (λ r. r ≡ usage) }
     {
-        Reply::of_line(alloc, Status::USAGE, "usage")
+        Ok(Reply::of_text(Status::USAGE, line_of(alloc, "usage")?))
     }
 
-    /// The reply about a file that can't be read.
-    pub fn read_fault(alloc: Global, name: &str) -> Result<Reply, NoMemory>
-        ensures { IfOk result (λ r. r ≡ read_fault name.now) }
+    /// The reply of a command that was done: this line.
+    pub fn done(alloc: Global, line: &Line) -> Result<Reply, NoMemory>
+        ensures { IfOk result (λ r. r ≡ done (only line.now)) }
     {
-        Reply::about_file(alloc, Status::READ_FAULT, "read-fault", name)
+        Reply::of_line(alloc, Status::DONE, line)
     }
 
-    /// The reply of a verdict.
+    /// The reply of a command that was done: the line of a verdict.
     pub fn verdict(alloc: Global, verdict: Verdict) -> Result<Reply, NoMemory>
-        ensures { IfOk result (λ r. r ≡ done (line (verdict_word verdict))) }
+        ensures { IfOk result (λ r. r ≡ done (only (line_of_words (verdict_word verdict)))) }
     {
-        match verdict {
-            Verdict::NotCovered => Reply::of_line(alloc, Status::DONE, "not-covered"),
-            Verdict::NotEnrolled => Reply::of_line(alloc, Status::DONE, "not-enrolled"),
-            Verdict::Good => Reply::of_line(alloc, Status::DONE, "good"),
-            Verdict::Revoked => Reply::of_line(alloc, Status::DONE, "revoked"),
-        }
+        Ok(Reply::of_text(Status::DONE, line_of(alloc, verdict_text(verdict))?))
     }
 
-    /// The reply of a line that was made.
-    fn of_made(alloc: Global, line: &Line) -> Result<Reply, NoMemory>
-        ensures { IfOk result (λ r. r ≡ done line.now) }
-    {
-        match line.text().to_vec(alloc) {
-            Ok(text) => Ok(Reply {
-                status: Status::DONE,
-                text,
-            }),
-            Err(_) => Err(NoMemory),
-        }
-    }
-
-    /// The reply of `check` to a part of so many bytes.
-    pub fn checked(alloc: Global, sealed: &Sealed, size: usize) -> Result<Reply, NoMemory>
-        ensures { IfOk result (λ r. r ≡ done (check_line sealed.now size)) }
-    {
-        Reply::of_made(alloc, &checked(sealed, size))
-    }
-
-    /// The reply about a job that was published: its epoch, the place of its part in the chain, and its counts.
-    pub fn published(
-        alloc: Global,
-        epoch: u64,
-        place: u32,
-        counts: &Counts,
-    ) -> Result<Reply, NoMemory>
-        ensures { IfOk result (λ r. r ≡ done (report_line epoch place counts.now)) }
-    {
-        Reply::of_made(alloc, &reported(epoch, place, counts))
-    }
-
-    /// The reply about a store of so many parts that was written, and the epoch of the newest.
-    pub fn stored(alloc: Global, parts: usize, epoch: u64) -> Result<Reply, NoMemory>
-        ensures { IfOk result (λ r. r ≡ done (store_line parts epoch)) }
-    {
-        Reply::of_made(alloc, &stored(parts, epoch))
-    }
-
-    /// The reply about a file that isn't what the command reads.
+    /// The reply about what is wrong with the file of this name.
     pub fn refusal(alloc: Global, name: &str, fault: FileFault) -> Result<Reply, NoMemory>
         ensures ok { IfOk result (λ r. r ≡ refusal name.now fault) }
         ensures memory { fault ≡ FileFault.NoMemory → IsErr result }
     {
-        match fault {
-            FileFault::Layout(fault) => Reply::layout(alloc, fault, name),
-            FileFault::NotSnapshot => {
-                Reply::about_file(alloc, Status::CHAIN, "chain not-snapshot", name)
+        let (status, text) = match fault {
+            FileFault::Unread => (Status::READ_FAULT, about_file(alloc, "read-fault", name)?),
+            FileFault::Layout(fault) => (Status::BAD_LAYOUT, layout_line(alloc, fault, name)?),
+            FileFault::NotSnapshot => (
+                Status::CHAIN,
+                about_file(alloc, "chain not-snapshot", name)?,
+            ),
+            FileFault::Chain(why) => (Status::CHAIN, chain_line(alloc, name, why)?),
+            FileFault::BadCrl { place, fault } => {
+                (Status::BAD_CRL, crl_line(alloc, place, fault, name)?)
             }
-            FileFault::Mixed => Reply::about_file(alloc, Status::MIXED_BLOCK, "mixed", name),
-            FileFault::Many => Reply::about_file(alloc, Status::MANY_PARTS, "many", name),
-            FileFault::BadCrl { place, fault } => Reply::bad_crl(alloc, place, fault, name),
-            FileFault::TooMany { what, limit } => Reply::too_many(alloc, what, limit, name),
-            FileFault::NoMemory => Err(NoMemory),
-        }
+            FileFault::TooMany { what, limit } => {
+                (Status::TOO_MANY, limit_line(alloc, what, limit, name)?)
+            }
+            FileFault::Seeds { issuer, stage } => {
+                return Reply::of_line(alloc, Status::SEEDS, &seeds_line(&issuer, stage));
+            }
+            FileFault::NoMemory => return Err(NoMemory),
+        };
+        Ok(Reply::of_text(status, text))
     }
 
     /// How the program ends.

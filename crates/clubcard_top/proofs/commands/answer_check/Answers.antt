@@ -1,12 +1,12 @@
-use Rattle.std.proofs.Common.{Err, ap}
-use Rattle.clubcard_top.specs.declared.command.Command.TheVariants as commands
-use Rattle.clubcard_top.proofs.FileReplies.{answer-reply, fault-reply}
+use Rattle.std.proofs.Common.{Ok}
+use Rattle.clubcard_top.specs.declared.answer.Answer.TheVariants as answers
+use Rattle.clubcard_top.proofs.Replying.{check_made, check_refused}
 use Rattle.clubcard_top.proofs.commands.answer_check.Goals as goal
 
-pub returns-in-Ok-clause-reply : goal.returns-in-Ok-clause-reply
-returns-in-Ok-clause-reply g c =
-    answer-reply (commands.Check c.args.name.now) c.args.name.now (g.D.Depot.files c.args.depot.now) _ c.in-Ok.bytes.items c.check_over.result (rw (← c.as_str.ensures) c.in-Ok.ensures.bytes) (rw (← c.deref.ensures.value, ← c.as_str-in-Ok.ensures) c.check_over.ensures)
+pub returns-in_ok-done-in-Ok-clause-reply : goal.returns-in_ok-done-in-Ok-clause-reply
+returns-in_ok-done-in-Ok-clause-reply g c =
+    check_made (g.D.Depot.files c.args.depot.now) _ (Ok (answers.Reply c.in_ok-done-in-Ok.field-0)) c.args.name.now (λ x. x) (c.in-Ok.sealed, c.in-Ok.size) (rw c.as_str.ensures at c.in-Ok.ensures.input) (rw c.checked.ensures at c.in_ok-done-in-Ok.ensures)
 
-pub returns-in-Err-Failed-clause-reply : goal.returns-in-Err-Failed-clause-reply
-returns-in-Err-Failed-clause-reply g c =
-    fault-reply (commands.Check c.args.name.now) c.args.name.now (g.D.Depot.files c.args.depot.now) _ c.fault_answer.result (rw (← c.as_str-in-Err-Failed.ensures) c.fault_answer.ensures) (rw (← c.as_str.ensures) (c.in-Err-Failed.ensures.failed (ap Err c.in-Err-Failed.field-0-is)))
+pub returns-in-Err-clause-reply : goal.returns-in-Err-clause-reply
+returns-in-Err-clause-reply g c =
+    check_refused (g.D.Depot.files c.args.depot.now) _ c.refused.result c.args.name.now (λ x. x) c.in-Err.fault (rw c.as_str.ensures at c.in-Err.ensures.input) c.refused.ensures.memory (rw c.as_str-in-Err.ensures at c.refused.ensures.ok)

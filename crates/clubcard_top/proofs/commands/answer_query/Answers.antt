@@ -1,12 +1,12 @@
-use Rattle.std.proofs.Common.{Err, ap}
-use Rattle.clubcard_top.specs.declared.command.Command.TheVariants as commands
-use Rattle.clubcard_top.proofs.FileReplies.{answer-reply, fault-reply}
+use Rattle.std.proofs.Common.{Ok}
+use Rattle.clubcard_top.specs.declared.answer.Answer.TheVariants as answers
+use Rattle.clubcard_top.proofs.Replying.{query_made, query_refused}
 use Rattle.clubcard_top.proofs.commands.answer_query.Goals as goal
 
-pub returns-in-Ok-clause-reply : goal.returns-in-Ok-clause-reply
-returns-in-Ok-clause-reply g c =
-    answer-reply (commands.Query c.args.query.now) c.args.query.now.store (g.D.Depot.files c.args.depot.now) _ c.in-Ok.bytes.items c.query_over.result (rw (← c.store.ensures) c.in-Ok.ensures.bytes) (rw (← c.deref.ensures.value) c.query_over.ensures)
+pub returns-in_ok-verdict-in-Ok-clause-reply : goal.returns-in_ok-verdict-in-Ok-clause-reply
+returns-in_ok-verdict-in-Ok-clause-reply g c =
+    query_made (g.D.Depot.files c.args.depot.now) _ (Ok (answers.Reply c.in_ok-verdict-in-Ok.field-0)) c.args.query.now (λ s. s) c.in-Ok.store (rw c.store.ensures at c.in-Ok.ensures.input) (rw c.verdict_by-verdict.ensures at c.in_ok-verdict-in-Ok.ensures)
 
-pub returns-in-Err-Failed-clause-reply : goal.returns-in-Err-Failed-clause-reply
-returns-in-Err-Failed-clause-reply g c =
-    fault-reply (commands.Query c.args.query.now) c.args.query.now.store (g.D.Depot.files c.args.depot.now) _ c.fault_answer.result (rw (← c.store-in-Err-Failed.ensures) c.fault_answer.ensures) (rw (← c.store.ensures) (c.in-Err-Failed.ensures.failed (ap Err c.in-Err-Failed.field-0-is)))
+pub returns-in-Err-clause-reply : goal.returns-in-Err-clause-reply
+returns-in-Err-clause-reply g c =
+    query_refused (g.D.Depot.files c.args.depot.now) _ c.refused.result c.args.query.now (λ s. s) c.in-Err.fault (rw c.store.ensures at c.in-Err.ensures.input) c.refused.ensures.memory (rw c.store-in-Err.ensures at c.refused.ensures.ok)

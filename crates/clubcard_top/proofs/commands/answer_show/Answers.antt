@@ -1,12 +1,11 @@
-use Rattle.std.proofs.Common.{Err, ap}
-use Rattle.clubcard_top.specs.declared.command.Command.TheVariants as commands
-use Rattle.clubcard_top.proofs.FileReplies.{answer-reply, fault-reply}
+use Rattle.std.proofs.Common.{Ok, refl}
+use Rattle.clubcard_top.specs.declared.answer.Answer.TheVariants as answers
+use Rattle.clubcard_top.proofs.Replying.{show_made, show_refused}
 use Rattle.clubcard_top.proofs.commands.answer_show.Goals as goal
 
 pub returns-in-Ok-clause-reply : goal.returns-in-Ok-clause-reply
-returns-in-Ok-clause-reply g c =
-    answer-reply (commands.Show c.args.name.now) c.args.name.now (g.D.Depot.files c.args.depot.now) _ c.in-Ok.bytes.items c.show_over.result (rw (← c.as_str.ensures) c.in-Ok.ensures.bytes) (rw (← c.deref.ensures.value, ← c.as_str-in-Ok.ensures) c.show_over.ensures)
+returns-in-Ok-clause-reply g c = show_made (g.D.Depot.files c.args.depot.now) _ (Ok (answers.Part c.in-Ok.sealed)) c.args.name.now (λ x. x) (c.in-Ok.sealed, c.in-Ok.field-0-1) (rw c.as_str.ensures at c.in-Ok.ensures.input) refl
 
-pub returns-in-Err-Failed-clause-reply : goal.returns-in-Err-Failed-clause-reply
-returns-in-Err-Failed-clause-reply g c =
-    fault-reply (commands.Show c.args.name.now) c.args.name.now (g.D.Depot.files c.args.depot.now) _ c.fault_answer.result (rw (← c.as_str-in-Err-Failed.ensures) c.fault_answer.ensures) (rw (← c.as_str.ensures) (c.in-Err-Failed.ensures.failed (ap Err c.in-Err-Failed.field-0-is)))
+pub returns-in-Err-clause-reply : goal.returns-in-Err-clause-reply
+returns-in-Err-clause-reply g c =
+    show_refused (g.D.Depot.files c.args.depot.now) _ c.refused.result c.args.name.now (λ x. x) c.in-Err.fault (rw c.as_str.ensures at c.in-Err.ensures.input) c.refused.ensures.memory (rw c.as_str-in-Err.ensures at c.refused.ensures.ok)

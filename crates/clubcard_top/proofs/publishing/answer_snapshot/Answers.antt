@@ -1,20 +1,18 @@
-use Rattle.std.proofs.Common.{Err, ap}
-use Rattle.clubcard_top.specs.declared.command.Command.TheVariants as commands
-use Rattle.clubcard_top.proofs.FileReplies.{answer-reply, fault-reply, job-fits, fault-fits}
+use Rattle.job_core.specs.JobFields.{fields_of_job}
+use Rattle.clubcard_top.proofs.Replying.{snapshot_made, snapshot_refused, snapshot_not}
 use Rattle.clubcard_top.proofs.publishing.answer_snapshot.Goals as goal
 
-pub returns-in-Ok-clause-reply : goal.returns-in-Ok-clause-reply
-returns-in-Ok-clause-reply g c =
-    answer-reply (commands.Snapshot c.args.snapshot.now) c.args.snapshot.now.job (g.D.Depot.files c.args.depot.now) _ c.in-Ok.bytes.items c.snapshot_over.result (rw (← c.job.ensures) c.in-Ok.ensures.bytes) c.snapshot_over.ensures.reply
+pub returns-in-Err-clause-reply : goal.returns-in-Err-clause-reply
+returns-in-Err-clause-reply g c =
+    snapshot_refused (g.D.Depot.files c.args.depot.now) _ c.refused.result c.args.snapshot.now fields_of_job c.in-Err.fault (rw c.job.ensures at c.in-Err.ensures.input) c.refused.ensures.memory (rw c.job-in-Err.ensures at c.refused.ensures.ok)
 
-pub returns-in-Err-Failed-clause-reply : goal.returns-in-Err-Failed-clause-reply
-returns-in-Err-Failed-clause-reply g c =
-    fault-reply (commands.Snapshot c.args.snapshot.now) c.args.snapshot.now.job (g.D.Depot.files c.args.depot.now) _ c.fault_answer.result (rw (← c.job-in-Err-Failed.ensures) c.fault_answer.ensures) (rw (← c.job.ensures) (c.in-Err-Failed.ensures.failed (ap Err c.in-Err-Failed.field-0-is)))
+pub returns-in-Ok-publish_first-clause-reply : goal.returns-in-Ok-publish_first-clause-reply
+returns-in-Ok-publish_first-clause-reply g c =
+    snapshot_made (g.D.Depot.files c.args.depot.now) _ c.published.result c.args.snapshot.now fields_of_job c.in-Ok.job c.in-Ok-publish_first.publication (rw c.job.ensures at c.in-Ok.ensures.input) c.in-Ok.ensures.fits
+    c.in-Ok.ensures.within c.in-Ok-publish_first.ensures (rw (c.part.ensures, c.ledger.ensures) at c.published.ensures)
 
-pub returns-in-Ok-clause-fits : goal.returns-in-Ok-clause-fits
-returns-in-Ok-clause-fits g c =
-    job-fits c.args.snapshot.now.job (g.D.Depot.files c.args.depot.now) c.in-Ok.bytes.items c.snapshot_over.result (rw (← c.job.ensures) c.in-Ok.ensures.bytes) c.snapshot_over.ensures.fits
-
-pub returns-in-Err-Failed-clause-fits : goal.returns-in-Err-Failed-clause-fits
-returns-in-Err-Failed-clause-fits g c =
-    fault-fits c.args.snapshot.now.job (g.D.Depot.files c.args.depot.now) c.fault_answer.result (rw (← c.job-in-Err-Failed.ensures) c.fault_answer.ensures)
+pub returns-in-Err-publish_first-clause-reply : goal.returns-in-Err-publish_first-clause-reply
+returns-in-Err-publish_first-clause-reply g c =
+    snapshot_not (g.D.Depot.files c.args.depot.now) _ c.refused-in-Err-publish_first.result c.args.snapshot.now fields_of_job c.in-Ok.job c.in-Err-publish_first.fault (rw c.job.ensures at c.in-Ok.ensures.input) c.in-Ok.ensures.fits
+    c.in-Ok.ensures.within c.in-Err-publish_first.ensures (rw c.into.ensures at c.refused-in-Err-publish_first.ensures.memory)
+    (rw (c.into.ensures, c.job-in-Err-publish_first.ensures) at c.refused-in-Err-publish_first.ensures.ok)

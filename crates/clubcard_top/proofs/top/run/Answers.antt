@@ -23,9 +23,6 @@ returns-clause-unchanged g c = endings.unchanged _ _ _ _ _ _ _ _ _ c.run_words.e
 pub returns-clause-other_files : goal.returns-clause-other_files
 returns-clause-other_files g c = endings.other_files _ _ _ _ _ _ _ _ _ c.run_words.ensures.ends
 
-pub returns-clause-reading : goal.returns-clause-reading
-returns-clause-reading g c = λ none. (endings.reading _ _ _ _ _ _ _ _ _ c.run_words.ensures.ends none, c.run_words.ensures.reading none)
-
 pub returns-clause-no_command : goal.returns-clause-no_command
 returns-clause-no_command g c = endings.no_command _ _ _ _ _ _ _ _ _ c.run_words.ensures.ends
 
@@ -34,6 +31,9 @@ returns-clause-answer g c = tellings.answer _ _ _ _ _ _ _ _ _ c.run_words.ensure
 
 pub returns-clause-complete : goal.returns-clause-complete
 returns-clause-complete g c = tellings.complete _ _ _ _ _ _ _ _ _ c.run_words.ensures.ends
+
+pub returns-clause-done : goal.returns-clause-done
+returns-clause-done g c = tellings.done _ _ _ _ _ _ _ _ _ c.run_words.ensures.ends
 
 pub returns-clause-bad_layout : goal.returns-clause-bad_layout
 returns-clause-bad_layout g c = tellings.layout _ _ _ _ _ _ _ _ _ c.run_words.ensures.ends
@@ -47,14 +47,62 @@ returns-clause-chain g c = tellings.chain _ _ _ _ _ _ _ _ _ c.run_words.ensures.
 pub returns-clause-too_many : goal.returns-clause-too_many
 returns-clause-too_many g c = tellings.limit _ _ _ _ _ _ _ _ _ c.run_words.ensures.ends
 
-pub returns-clause-mixed_block : goal.returns-clause-mixed_block
-returns-clause-mixed_block g c = tellings.mixed _ _ _ _ _ _ _ _ _ c.run_words.ensures.ends
+pub returns-clause-seeds : goal.returns-clause-seeds
+returns-clause-seeds g c = tellings.seeds _ _ _ _ _ _ _ _ _ c.run_words.ensures.ends
 
-pub returns-clause-many_parts : goal.returns-clause-many_parts
-returns-clause-many_parts g c = tellings.many _ _ _ _ _ _ _ _ _ c.run_words.ensures.ends
+pub returns-clause-reading : goal.returns-clause-reading
+returns-clause-reading g c = λ none. (endings.reading _ _ _ _ _ _ _ _ _ c.run_words.ensures.ends none, c.run_words.ensures.reading none)
+
+pub returns-clause-published : goal.returns-clause-published
+returns-clause-published g c =
+    tellings.published_clause _ _ _ _ _ _ _ _ (record {
+      published = c.histories_are_made.ensures.published _;
+      admitted = c.histories_are_made.ensures.admitted _;
+      stored = c.histories_are_made.ensures.stored _;
+      asks = c.histories_are_made.ensures.asked _;
+    }) _ c.run_words.ensures.ends
+
+pub returns-clause-admitted : goal.returns-clause-admitted
+returns-clause-admitted g c =
+    tellings.admitted_clause _ _ _ _ _ _ _ _ (record {
+      published = c.histories_are_made.ensures.published _;
+      admitted = c.histories_are_made.ensures.admitted _;
+      stored = c.histories_are_made.ensures.stored _;
+      asks = c.histories_are_made.ensures.asked _;
+    }) _ c.run_words.ensures.ends
+
+pub returns-clause-stored : goal.returns-clause-stored
+returns-clause-stored g c =
+    tellings.stored_clause _ _ _ _ _ _ _ _ (record {
+      published = c.histories_are_made.ensures.published _;
+      admitted = c.histories_are_made.ensures.admitted _;
+      stored = c.histories_are_made.ensures.stored _;
+      asks = c.histories_are_made.ensures.asked _;
+    }) _ c.run_words.ensures.ends
+
+pub returns-clause-taken : goal.returns-clause-taken
+returns-clause-taken g c =
+    tellings.taken_clause _ _ _ _ _ _ _ _ (record {
+      published = c.histories_are_made.ensures.published _;
+      admitted = c.histories_are_made.ensures.admitted _;
+      stored = c.histories_are_made.ensures.stored _;
+      asks = c.histories_are_made.ensures.asked _;
+    }) _ c.run_words.ensures.ends
 
 pub returns-clause-truth : goal.returns-clause-truth
-returns-clause-truth g c = tellings.true_answer _ _ _ _ _ _ _ _ _ c.run_words.ensures.ends
+returns-clause-truth g c =
+    tellings.truth_clause _ _ _ _ _ _ _ _ (record {
+      published = c.histories_are_made.ensures.published _;
+      admitted = c.histories_are_made.ensures.admitted _;
+      stored = c.histories_are_made.ensures.stored _;
+      asks = c.histories_are_made.ensures.asked _;
+    }) _ c.run_words.ensures.ends
 
-pub returns-clause-done : goal.returns-clause-done
-returns-clause-done g c = tellings.done _ _ _ _ _ _ _ _ _ c.run_words.ensures.fits c.run_words.ensures.ends
+pub returns-clause-answered : goal.returns-clause-answered
+returns-clause-answered g c =
+    tellings.answered_clause _ _ _ _ _ _ _ _ (record {
+      published = c.histories_are_made.ensures.published _;
+      admitted = c.histories_are_made.ensures.admitted _;
+      stored = c.histories_are_made.ensures.stored _;
+      asks = c.histories_are_made.ensures.asked _;
+    }) _ c.run_words.ensures.ends

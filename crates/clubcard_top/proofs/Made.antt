@@ -1,0 +1,270 @@
+-- What comes of commands over the files of histories, from what the layers promise of histories.
+use Rattle.std.proofs.Common.{◌≡◌, ℕ, ◌+◌, ◌<◌, ◌≤◌, List, [], ◌∷◌, ◌++◌, map, length, Option, Some, None, Result, Ok, Err, refl, sym, ap, ◌∙◌, subst, arith}
+use Rattle.std.specs.Prelude.{All}
+use Rattle.std.specs.FinMap.{get}
+use Rattle.std.proofs.lemmas.Bool.{le-ltb}
+use Rattle.std.proofs.lemmas.List.{append-nil}
+use Rattle.std.proofs.lemmas.List.Elements.{All-nil, All-cons, All-head, All-tail}
+use Rattle.ident_core.specs.declared.identity.Identity.{Identity}
+use Rattle.ident_core.specs.declared.kind.Kind.{Kind}
+use Rattle.ident_core.specs.declared.kind.Kind.TheVariants as kinds
+use Rattle.ident_core.specs.declared.range.Sighting.{Sighting}
+use Rattle.ident_core.specs.HeadFields.{HeadFields}
+use Rattle.octets_core.specs.Reading.{value_of}
+use Rattle.outside_core.specs.Files.{Files}
+use Rattle.part_codec.specs.SealedFields.{SealedFields}
+use Rattle.part_codec.specs.PartText.{spelling}
+use Rattle.part_codec.specs.PartLayout.{part}
+use Rattle.part_codec.specs.Fitting.{Fits}
+use Rattle.job_core.specs.declared.bounds.TheConstants.Limits.{PUBLISHED}
+use Rattle.job_core.specs.JobFields.{JobFields}
+use Rattle.job_core.specs.JobLayout.{job_of}
+use Rattle.job_core.specs.JobFacts.{FitsFields, IsWithinLimits}
+use Rattle.ledger_core.specs.LedgerFields.{LedgerFields}
+use Rattle.ledger_core.specs.LedgerText.{ledger_text}
+use Rattle.ledger_core.specs.LedgerReading.{ledger_of as ledger_of_bytes}
+use Rattle.ledger_core.specs.declared.fault.LedgerFault.{LedgerFault}
+use Rattle.sets_core.specs.Among.{Among}
+use Rattle.universe_core.specs.Jobs.{told}
+use Rattle.universe_core.specs.History.{past_of, seen, sightings}
+use Rattle.universe_core.specs.Counting.{counts}
+use Rattle.universe_core.specs.Ledgers.{no_ledger, ledger_of}
+use Rattle.store_core.specs.declared.chain.Refusal.{Refusal}
+use Rattle.store_core.specs.declared.fault.StoreFault.{StoreFault}
+use Rattle.store_core.specs.declared.verdict.Verdict.{Verdict}
+use Rattle.store_core.specs.Chain.{newest_of, refusal_of, IsChain}
+use Rattle.store_core.specs.StoreLayout.{store, store_text}
+use Rattle.store_core.specs.Verdict.{verdict}
+use Rattle.publication_core.specs.declared.fault.PublishFault.{PublishFault}
+use Rattle.publication_core.specs.Histories.{IsAdmissible, IsHistory, history, part_bytes, ledger_bytes, store_bytes}
+use Rattle.publication_core.specs.Publishing.{Published, Publishes}
+use Rattle.publication_core.specs.Truth.{truth}
+use Rattle.word_core.specs.declared.command.Command.{Command}
+use Rattle.word_core.specs.declared.command.Command.TheVariants as commands
+use Rattle.word_core.specs.CommandFields.{QueryFields, StartFields, InstallFields}
+use Rattle.line_core.specs.Lines.{line, report_line, store_line}
+use Rattle.clubcard_top.specs.declared.fault.FileFault.{FileFault}
+use Rattle.clubcard_top.specs.Faults.{of_job, of_ledger, of_store}
+use Rattle.clubcard_top.specs.PartFile.{part_file}
+use Rattle.clubcard_top.specs.Readings.{faulted, job_in, ledger_in, part_in, store_in}
+use Rattle.clubcard_top.specs.ReplyFields.{Done, NamedFault}
+use Rattle.clubcard_top.specs.Commands.{◌>>=◌, named, input, only, verdict_word, query_done, query_makes, epoch_of, stored, begun_by, installed_by, start_makes, install_makes, publication_done, published_as, MakesPart, MakesSnapshot, MakesDelta, Makes}
+use Rattle.clubcard_top.specs.Replies.{held_by}
+use Rattle.clubcard_top.specs.Headline.{HoldsJob, PublishesJob, publishes_to, IsPublished, StoresPart, stores_to, IsStored, AsksHistory, truth_done}
+use Rattle.clubcard_top.proofs.Unique.{OnePublication}
+
+-- What the layers promise of histories.
+pub record Layers : Type 0 where
+  pub one : OnePublication
+  pub none : ledger_of (history [] []) ≡ no_ledger
+  pub admissible : (jobs : List JobFields) (parts : List SealedFields) (job : JobFields) (p : Published) → IsHistory jobs parts → FitsFields job → IsWithinLimits PUBLISHED job
+      → Publishes (ledger_of (history jobs parts)) job (Ok p) → IsAdmissible (history jobs parts) job
+  pub next : (jobs : List JobFields) (parts : List SealedFields) (job : JobFields) (p : Published) → IsHistory jobs parts → FitsFields job → IsWithinLimits PUBLISHED job
+      → Publishes (ledger_of (history jobs parts)) job (Ok p) → IsHistory (jobs ++ job ∷ []) (parts ++ p.sealed ∷ [])
+  pub ledger : (jobs : List JobFields) (parts : List SealedFields) (job : JobFields) (p : Published) → IsHistory jobs parts
+      → Publishes (ledger_of (history jobs parts)) job (Ok p) → p.ledger ≡ ledger_of (history (jobs ++ job ∷ []) (parts ++ p.sealed ∷ []))
+  pub numbers : (jobs : List JobFields) (parts : List SealedFields) (job : JobFields) (p : Published) → IsHistory jobs parts
+      → Publishes (ledger_of (history jobs parts)) job (Ok p) → p.counts ≡ counts (past_of (history jobs parts)) (told job)
+  pub place : (jobs : List JobFields) (parts : List SealedFields) (job : JobFields) (p : Published) → IsHistory jobs parts → Publishes (ledger_of (history jobs parts)) job (Ok p) → p.place ≡ length jobs
+  pub complete : (jobs : List JobFields) (parts : List SealedFields) (job : JobFields) → IsHistory jobs parts → IsAdmissible (history jobs parts) job
+      → (p : Published) × Publishes (ledger_of (history jobs parts)) job (Ok p)
+  pub ledger_read : (jobs : List JobFields) (parts : List SealedFields) → IsHistory jobs parts → 1 ≤ length jobs → ledger_of_bytes (ledger_bytes jobs parts) ≡ Ok (ledger_of (history jobs parts))
+  pub chain : (jobs : List JobFields) (parts : List SealedFields) → IsHistory jobs parts → IsChain parts
+  pub few : (jobs : List JobFields) (parts : List SealedFields) → IsHistory jobs parts → length parts ≤ 64
+  pub texts : (jobs : List JobFields) (parts : List SealedFields) → IsHistory jobs parts → All Fits parts
+  pub truths : (jobs : List JobFields) (parts : List SealedFields) (x : Identity) (ss : List Sighting) → IsHistory jobs parts → 1 ≤ length ss
+      → ((s : Sighting) → Among ss s → Among (sightings x (seen (history jobs parts))) s) → verdict (map (λ s. s.part) parts) x ss ≡ truth (history jobs parts) x
+  pub grown : (parts : List SealedFields) (p : SealedFields) → IsChain (parts ++ p ∷ []) → 1 ≤ length parts → length parts < 64 → IsChain parts × (refusal_of parts p ≡ None)
+  pub store_read : (parts : List SealedFields) → IsChain parts → 1 ≤ length parts → length parts ≤ 64 → All Fits parts → value_of (store (store_text parts) 0) ≡ Ok parts
+  pub part_read : (s : SealedFields) (rest : List ℕ) → Fits s → part (spelling s ++ rest) 0 ≡ Ok (s, length (spelling s))
+
+ok_same : {A E : Type 0} (x y : A) → ◌≡◌ {A = Result A E} (Ok x) (Ok y) → x ≡ y
+ok_same {A} {E} x y h = cc
+
+-- ---- publishing
+
+read_job : (bytes : List ℕ) (job : JobFields) → job_of PUBLISHED bytes ≡ Ok job → job_in bytes ≡ Ok job
+read_job bytes job h = ap (faulted of_job) h
+
+job_input : (files : Files) (name : List ℕ) (job : JobFields) → HoldsJob files name job → input name job_in (get files name) ≡ Ok job
+job_input files name job h = rw h.1 (ap (named name) (read_job h.0 job h.2))
+
+module _ (layers : Layers) where
+  -- what is published behind the ledger of a history
+  published_by : (asked : Command) (jobs : List JobFields) (parts : List SealedFields) (job : JobFields) (d : Done) (name part ledger : List ℕ) (before : LedgerFields) → IsHistory jobs parts
+      → before ≡ ledger_of (history jobs parts) → ((a b : List ℕ) → publishes_to asked a b ≡ record { name = part; bytes = a } ∷ record { name = ledger; bytes = b } ∷ [])
+      → (fits : FitsFields job) (limits : IsWithinLimits PUBLISHED job) (r : Result Published PublishFault) → Publishes before job r → Ok d ≡ published_as name part ledger r → IsPublished asked jobs parts job d
+  published_by asked jobs parts job d name part ledger before is ledger_is outputs fits limits (Ok p) pub_ is_done =
+      let same : d ≡ publication_done part ledger p = ok_same {E = NamedFault} d (publication_done part ledger p) is_done in
+      let x : Publishes (ledger_of (history jobs parts)) job (Ok p) = subst (λ (l : LedgerFields). Publishes l job (Ok p)) ledger_is pub_ in
+      record {
+        sealed = p.sealed;
+        admissible = layers.admissible jobs parts job p is fits limits x;
+        is_history = layers.next jobs parts job p is fits limits x;
+        outputs = ap (λ (e : Done). e.outputs) same ∙ ap (λ (l : LedgerFields). record { name = part; bytes = spelling p.sealed } ∷ record { name = ledger; bytes = ledger_text l } ∷ []) (layers.ledger jobs parts job p is x)
+            ∙ sym (outputs (part_bytes p.sealed) (ledger_bytes (jobs ++ job ∷ []) (parts ++ p.sealed ∷ [])));
+        report = ap (λ (e : Done). e.text) same ∙ ap (λ (h : HeadFields). report_line h.epoch p.place p.counts) x.1.head ∙ ap (λ (n : ℕ). report_line job.epoch n p.counts) (layers.place jobs parts job p is x)
+            ∙ ap (report_line job.epoch (length jobs)) (layers.numbers jobs parts job p is x);
+      }
+  published_by asked jobs parts job d name part ledger before is ledger_is outputs fits limits (Err fault) pub_ is_done =
+      absurd (let h : ◌≡◌ {A = Result Done NamedFault} (Ok d) (published_as name part ledger (Err fault)) = is_done in cc)
+
+  ledger_input : (files : Files) (name : List ℕ) (jobs : List JobFields) (parts : List SealedFields) → IsHistory jobs parts → 1 ≤ length jobs → get files name ≡ Some (ledger_bytes jobs parts)
+      → input name ledger_in (get files name) ≡ Ok (ledger_of (history jobs parts))
+  ledger_input files name jobs parts is some held = rw held (ap (λ (r : Result LedgerFields LedgerFault). named name (faulted of_ledger r)) (layers.ledger_read jobs parts is some))
+
+  -- what a command that publishes a job behind a history makes
+  pub record Behind (asked : Command) (jobs : List JobFields) (parts : List SealedFields) (job : JobFields) (o : Result Done NamedFault) : Type 0 where
+    pub name : List ℕ
+    pub part_name : List ℕ
+    pub ledger_name : List ℕ
+    pub before : LedgerFields
+    pub is_before : before ≡ ledger_of (history jobs parts)
+    pub outputs : (a b : List ℕ) → publishes_to asked a b ≡ record { name = part_name; bytes = a } ∷ record { name = ledger_name; bytes = b } ∷ []
+    pub makes : MakesPart name part_name ledger_name before job o
+
+  behind : (asked : Command) (files : Files) (jobs : List JobFields) (parts : List SealedFields) (job : JobFields) (o : Result Done NamedFault) → IsHistory jobs parts → PublishesJob asked files jobs parts job
+      → Makes asked (held_by asked files) o → Behind asked jobs parts job o
+  behind commands.Usage files jobs parts job o is p m = absurd p
+  behind (commands.Query q) files jobs parts job o is p m = absurd p
+  behind (commands.Check n) files jobs parts job o is p m = absurd p
+  behind (commands.Show n) files jobs parts job o is p m = absurd p
+  behind (commands.Start t) files jobs parts job o is p m = absurd p
+  behind (commands.Install i) files jobs parts job o is p m = absurd p
+  behind (commands.Snapshot s) files jobs parts job o is p m = record {
+    name = s.job;
+    part_name = s.part;
+    ledger_name = s.ledger;
+    before = no_ledger;
+    is_before = sym layers.none ∙ ap (λ (js : List JobFields). ledger_of (history js [])) (sym p.0) ∙ ap (λ (ps : List SealedFields). ledger_of (history jobs ps)) (sym p.1);
+    outputs = λ a b. refl;
+    makes = subst (λ (r : Result JobFields NamedFault). MakesSnapshot s r o) (job_input files s.job job p.2) m;
+  }
+  behind (commands.Delta t) files jobs parts job o is p m = record {
+    name = t.job;
+    part_name = t.part;
+    ledger_name = t.new_ledger;
+    before = ledger_of (history jobs parts);
+    is_before = refl;
+    outputs = λ a b. refl;
+    makes = subst (λ (l : Result LedgerFields NamedFault). MakesDelta t (Ok job) l o) (ledger_input files t.ledger jobs parts is p.0 p.1)
+        (subst (λ (r : Result JobFields NamedFault). MakesDelta t r (input t.ledger ledger_in (get files t.ledger)) o) (job_input files t.job job p.2) m);
+  }
+
+  pub published : (asked : Command) (files : Files) (jobs : List JobFields) (parts : List SealedFields) (job : JobFields) (d : Done) → IsHistory jobs parts → PublishesJob asked files jobs parts job
+      → Makes asked (held_by asked files) (Ok d) → IsPublished asked jobs parts job d
+  published asked files jobs parts job d is p m =
+      let b = behind asked files jobs parts job (Ok d) is p m in
+      published_by asked jobs parts job d b.name b.part_name b.ledger_name b.before is b.is_before b.outputs b.makes.fits b.makes.limits b.makes.result b.makes.publishes b.makes.is
+
+  done_by : (name part ledger : List ℕ) (before : LedgerFields) (job : JobFields) (o : Result Done NamedFault) (p : Published) → Publishes before job (Ok p) → (r : Result Published PublishFault)
+      → Publishes before job r → o ≡ published_as name part ledger r → (d : Done) × (o ≡ Ok d)
+  done_by name part ledger before job o p x (Ok q) y is = (publication_done part ledger q, is)
+  done_by name part ledger before job o p x (Err fault) y is =
+      absurd (let h : ◌≡◌ {A = Result Published PublishFault} (Ok p) (Err fault) = layers.one before job (Ok p) (Err fault) x y in cc)
+
+  pub admitted : (asked : Command) (files : Files) (jobs : List JobFields) (parts : List SealedFields) (job : JobFields) (o : Result Done NamedFault) → IsHistory jobs parts → PublishesJob asked files jobs parts job
+      → IsAdmissible (history jobs parts) job → Makes asked (held_by asked files) o → (d : Done) × (o ≡ Ok d)
+  admitted asked files jobs parts job o is p a m =
+      let b = behind asked files jobs parts job o is p m in
+      let x = layers.complete jobs parts job is a in
+      done_by b.name b.part_name b.ledger_name b.before job o x.0 (subst (λ (l : LedgerFields). Publishes l job (Ok x.0)) (sym b.is_before) x.1) b.makes.result b.makes.publishes b.makes.is
+
+  -- ---- stores
+
+  part_text_read : (s : SealedFields) → Fits s → part (spelling s) 0 ≡ Ok (s, length (spelling s))
+  part_text_read s fits = ap (λ (b : List ℕ). part b 0) (sym (append-nil (spelling s))) ∙ layers.part_read s [] fits
+
+  part_text : (s : SealedFields) → Fits s → part_in (spelling s) ≡ Ok (s, length (spelling s))
+  unfolding part_file
+  part_text s fits =
+      rw (part_text_read s fits, le-ltb (length (spelling s)) (length (spelling s)) (omega arith)) refl
+
+  part_input : (files : Files) (name : List ℕ) (s : SealedFields) → Fits s → get files name ≡ Some (part_bytes s) → input name part_in (get files name) ≡ Ok (s, length (spelling s))
+  part_input files name s fits held = rw held (ap (named name) (part_text s fits))
+
+  store_input : (files : Files) (name : List ℕ) (parts : List SealedFields) → IsChain parts → 1 ≤ length parts → length parts ≤ 64 → All Fits parts → get files name ≡ Some (store_bytes parts)
+      → input name store_in (get files name) ≡ Ok parts
+  store_input files name parts chain some few fits held = rw held (ap (λ (r : Result (List SealedFields) StoreFault). named name (faulted of_store r)) (layers.store_read parts chain some few fits))
+
+  newest_push : (parts : List SealedFields) (s : SealedFields) → newest_of (parts ++ s ∷ []) ≡ Some s
+  newest_push [] s = refl
+  newest_push (p ∷ []) s = refl
+  newest_push (p ∷ q ∷ parts) s = newest_push (q ∷ parts) s
+
+  length_push : (parts : List SealedFields) (s : SealedFields) → length (parts ++ s ∷ []) ≡ length parts + 1
+  length_push [] s = refl
+  length_push (p ∷ parts) s = let h = length_push parts s in omega arith
+
+  -- all but the last, and the last
+  front_fits : (parts : List SealedFields) (s : SealedFields) → All Fits (parts ++ s ∷ []) → All Fits parts
+  front_fits [] s all = All-nil Fits
+  front_fits (p ∷ parts) s all = All-cons Fits p parts (All-head Fits p (parts ++ s ∷ []) all) (front_fits parts s (All-tail Fits p (parts ++ s ∷ []) all))
+
+  last_fits : (parts : List SealedFields) (s : SealedFields) → All Fits (parts ++ s ∷ []) → Fits s
+  last_fits [] s all = All-head Fits s [] all
+  last_fits (p ∷ parts) s all = last_fits parts s (All-tail Fits p (parts ++ s ∷ []) all)
+
+  stored_is : (asked : Command) (name : List ℕ) (parts : List SealedFields) (s : SealedFields) (o : Result Done NamedFault) → ((b : List ℕ) → stores_to asked b ≡ record { name = name; bytes = b } ∷ [])
+      → o ≡ Ok (stored name (parts ++ s ∷ [])) → (d : Done) × (o ≡ Ok d) × IsStored asked parts s d
+  stored_is asked name parts s o outputs is = (
+    stored name (parts ++ s ∷ []),
+    is,
+    record {
+      outputs = sym (outputs (store_bytes (parts ++ s ∷ [])));
+      text = ap (λ (n : Option SealedFields). store_line (length (parts ++ s ∷ [])) (epoch_of n)) (newest_push parts s);
+    },
+  )
+
+  begun_with : (s : SealedFields) (kind : Kind) → kind ≡ kinds.Snapshot → begun_by s kind ≡ Ok (s ∷ [])
+  begun_with s kinds.Snapshot h = refl
+  begun_with s kinds.Delta h = absurd cc
+
+  start_stored : (t : StartFields) (files : Files) (jobs : List JobFields) (s : SealedFields) (o : Result Done NamedFault) → IsHistory jobs (s ∷ []) → get files t.part ≡ Some (part_bytes s)
+      → o ≡ start_makes t (get files t.part) → o ≡ Ok (stored t.store (s ∷ []))
+  start_stored t files jobs s o is held m =
+      let fits : Fits s = All-head Fits s [] (layers.texts jobs (s ∷ []) is) in
+      m ∙ ap (λ (r : Result (SealedFields × ℕ) NamedFault). r >>= (λ x. named t.part (begun_by x.0 x.0.part.head.kind) >>= (λ parts. Ok (stored t.store parts)))) (part_input files t.part s fits held)
+      ∙ ap (λ (r : Result (List SealedFields) FileFault). named t.part r >>= (λ parts. Ok (stored t.store parts))) (begun_with s s.part.head.kind (layers.chain jobs (s ∷ []) is).0)
+
+  install_stored : (i : InstallFields) (files : Files) (jobs : List JobFields) (parts : List SealedFields) (s : SealedFields) (o : Result Done NamedFault) → IsHistory jobs (parts ++ s ∷ []) → 1 ≤ length parts
+      → get files i.store ≡ Some (store_bytes parts) → get files i.part ≡ Some (part_bytes s) → o ≡ install_makes i (get files i.store) (get files i.part) → o ≡ Ok (stored i.new_store (parts ++ s ∷ []))
+  install_stored i files jobs parts s o is some store_held part_held m =
+      let few : length parts < 64 = omega (arith, layers.few jobs (parts ++ s ∷ []) is, length_push parts s) in
+      let grown = layers.grown parts s (layers.chain jobs (parts ++ s ∷ []) is) some few in
+      let all = layers.texts jobs (parts ++ s ∷ []) is in
+      m ∙ ap (λ (r : Result (List SealedFields) NamedFault). r >>= (λ ps. input i.part part_in (get files i.part) >>= (λ x. named i.part (installed_by (refusal_of ps x.0) ps x.0) >>= (λ more. Ok (stored i.new_store more)))))
+      (store_input files i.store parts grown.0 some (omega (arith, few)) (front_fits parts s all) store_held)
+      ∙ ap (λ (r : Result (SealedFields × ℕ) NamedFault). r >>= (λ x. named i.part (installed_by (refusal_of parts x.0) parts x.0) >>= (λ more. Ok (stored i.new_store more)))) (part_input files i.part s (last_fits parts s all) part_held)
+      ∙ ap (λ (why : Option Refusal). named i.part (installed_by why parts s) >>= (λ more. Ok (stored i.new_store more))) grown.1
+
+  pub stored_law : (asked : Command) (files : Files) (jobs : List JobFields) (parts : List SealedFields) (s : SealedFields) (o : Result Done NamedFault) → IsHistory jobs (parts ++ s ∷ [])
+      → StoresPart asked files parts s → Makes asked (held_by asked files) o → (d : Done) × (o ≡ Ok d) × IsStored asked parts s d
+  stored_law commands.Usage files jobs parts s o is p m = absurd p
+  stored_law (commands.Query q) files jobs parts s o is p m = absurd p
+  stored_law (commands.Check n) files jobs parts s o is p m = absurd p
+  stored_law (commands.Show n) files jobs parts s o is p m = absurd p
+  stored_law (commands.Snapshot t) files jobs parts s o is p m = absurd p
+  stored_law (commands.Delta d) files jobs parts s o is p m = absurd p
+  stored_law (commands.Start t) files jobs [] s o is p m = stored_is (commands.Start t) t.store [] s o (λ b. refl) (start_stored t files jobs s o is p.1 m)
+  stored_law (commands.Start t) files jobs (q ∷ parts) s o is p m = absurd (let h : ◌≡◌ {A = List SealedFields} (q ∷ parts) [] = p.0 in cc)
+  stored_law (commands.Install i) files jobs parts s o is p m = stored_is (commands.Install i) i.new_store parts s o (λ b. refl) (install_stored i files jobs parts s o is p.0 p.1 p.2 m)
+
+  -- ---- asking
+
+  some_parts : (jobs : List JobFields) (parts : List SealedFields) → IsHistory jobs parts → 1 ≤ length jobs → 1 ≤ length parts
+  some_parts [] parts is some = absurd (omega (arith, some))
+  some_parts (j ∷ jobs) [] is some = absurd is
+  some_parts (j ∷ jobs) (s ∷ parts) is some = omega arith
+
+  query_asked : (q : QueryFields) (files : Files) (jobs : List JobFields) (parts : List SealedFields) (o : Result Done NamedFault) → IsHistory jobs parts → 1 ≤ length jobs → get files q.store ≡ Some (store_bytes parts)
+      → 1 ≤ length q.sightings → ((s : Sighting) → Among q.sightings s → Among (sightings q.id (seen (history jobs parts))) s) → o ≡ query_makes q (get files q.store) → o ≡ Ok (truth_done jobs parts q)
+  query_asked q files jobs parts o is some held asked accepted m =
+      m ∙ ap (λ (r : Result (List SealedFields) NamedFault). r >>= (λ ps. Ok (query_done q ps)))
+      (store_input files q.store parts (layers.chain jobs parts is) (some_parts jobs parts is some) (layers.few jobs parts is) (layers.texts jobs parts is) held)
+      ∙ ap (λ (v : Verdict). Ok (only (line (verdict_word v)))) (layers.truths jobs parts q.id q.sightings is asked accepted)
+
+  pub asked_law : (asked : Command) (files : Files) (q : QueryFields) (jobs : List JobFields) (parts : List SealedFields) (o : Result Done NamedFault) → IsHistory jobs parts → AsksHistory asked files q jobs parts
+      → Makes asked (held_by asked files) o → o ≡ Ok (truth_done jobs parts q)
+  asked_law asked files q jobs parts o is p m =
+      query_asked q files jobs parts o is p.1 p.2 p.3 p.4 (subst (λ (c : Command). Makes c (held_by c files) o) p.0 m)

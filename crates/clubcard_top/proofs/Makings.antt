@@ -1,0 +1,350 @@
+-- What comes of a command: its outputs, its statuses, and which inputs it rests on.
+use Rattle.std.proofs.Common.{◌≡◌, ℕ, ◌⊎◌, inl, inr, List, [], ◌∷◌, ◌++◌, Option, Some, None, Result, Ok, Err, refl, sym, ap, ◌∙◌, subst}
+use Rattle.std.specs.Prelude.{IsTrue}
+use Rattle.octets_core.specs.Layout.{Layout, then_read, with_fault, mapped, whole}
+use Rattle.octets_core.specs.Reading.{end, value_of}
+use Rattle.octets_core.specs.declared.fault.LayoutFault.{LayoutFault}
+use Rattle.outside_core.specs.Files.{Files, IsMissing}
+use Rattle.sets_core.specs.Among.{Among}
+use Rattle.part_codec.specs.SealedFields.{SealedFields}
+use Rattle.part_codec.specs.PartLayout.{part}
+use Rattle.part_codec.specs.declared.fault.PartFault.{PartFault}
+use Rattle.part_codec.specs.declared.fault.PartFault.TheVariants as of_part_faults
+use Rattle.ledger_core.specs.LedgerReading.{ledger_of}
+use Rattle.ledger_core.specs.LedgerFields.{LedgerFields}
+use Rattle.ledger_core.specs.declared.fault.LedgerFault.{LedgerFault}
+use Rattle.ledger_core.specs.declared.fault.LedgerFault.TheVariants as of_ledger_faults
+use Rattle.job_core.specs.declared.bounds.TheConstants.Limits.{PUBLISHED}
+use Rattle.job_core.specs.JobFields.{JobFields}
+use Rattle.job_core.specs.JobLayout.{job_of}
+use Rattle.job_core.specs.declared.fault.JobFault.{JobFault}
+use Rattle.job_core.specs.declared.fault.JobFault.TheVariants as of_job_faults
+use Rattle.ident_core.specs.declared.kind.Kind.{Kind}
+use Rattle.ident_core.specs.declared.kind.Kind.TheVariants as kinds
+use Rattle.universe_core.specs.declared.fault.AdmitFault.{AdmitFault}
+use Rattle.universe_core.specs.declared.fault.AdmitFault.TheVariants as admit
+use Rattle.store_core.specs.declared.chain.Refusal.{Refusal}
+use Rattle.store_core.specs.declared.fault.StoreFault.{StoreFault}
+use Rattle.store_core.specs.declared.fault.StoreFault.TheVariants as of_store_faults
+use Rattle.store_core.specs.Chain.{refusal_of}
+use Rattle.store_core.specs.StoreLayout.{store}
+use Rattle.publication_core.specs.declared.fault.PublishFault.{PublishFault}
+use Rattle.publication_core.specs.declared.fault.PublishFault.TheVariants as publish
+use Rattle.publication_core.specs.Publishing.{Published}
+use Rattle.word_core.specs.declared.command.Command.{Command}
+use Rattle.word_core.specs.declared.command.Command.TheVariants as commands
+use Rattle.word_core.specs.CommandFields.{SnapshotFields, DeltaFields, StartFields, InstallFields}
+use Rattle.word_core.specs.Names.{inputs_of, outputs_of}
+use Rattle.clubcard_top.specs.declared.fault.FileFault.{FileFault}
+use Rattle.clubcard_top.specs.declared.fault.FileFault.TheVariants as faults
+use Rattle.clubcard_top.specs.Faults.{of_job, of_ledger, of_part, of_store, of_admission, of_publishing}
+use Rattle.clubcard_top.specs.PartFile.{part_file}
+use Rattle.clubcard_top.specs.Readings.{faulted, job_in, ledger_in, part_in, store_in}
+use Rattle.clubcard_top.specs.ReplyFields.{Done, NamedFault}
+use Rattle.clubcard_top.specs.Statuses.{is_one_of}
+use Rattle.clubcard_top.specs.Commands.{◌>>=◌, named, input, begun_by, begun, installed_by, installed, stored, query_done, check_done, show_done, publication_done, published_as, MakesSnapshot, MakesDelta, Makes}
+use Rattle.clubcard_top.specs.Replies.{refusal, reply_of}
+use Rattle.clubcard_top.specs.Inputs.{IsRead, AreRead}
+use Rattle.clubcard_top.proofs.Outputs.{names_of}
+
+-- ---- replies of refusals
+
+pub refusal_quiet : (name : List ℕ) (fault : FileFault) → (refusal name fault).outputs ≡ []
+refusal_quiet name faults.Unread = refl
+refusal_quiet name (faults.Layout f) = refl
+refusal_quiet name faults.NotSnapshot = refl
+refusal_quiet name (faults.Chain why) = refl
+refusal_quiet name (faults.BadCrl place fault) = refl
+refusal_quiet name (faults.TooMany thing limit) = refl
+refusal_quiet name (faults.Seeds issuer stage) = refl
+refusal_quiet name faults.NoMemory = refl
+
+-- the statuses of a command that isn't `Usage`
+abbrev pub of_commands : List ℕ
+of_commands = 0 ∷ 3 ∷ 4 ∷ 5 ∷ 6 ∷ 7 ∷ 8 ∷ 70 ∷ []
+
+pub fault_status : (name : List ℕ) (fault : FileFault) → IsTrue (is_one_of of_commands (refusal name fault).status)
+fault_status name faults.Unread = refl
+fault_status name (faults.Layout f) = refl
+fault_status name faults.NotSnapshot = refl
+fault_status name (faults.Chain why) = refl
+fault_status name (faults.BadCrl place fault) = refl
+fault_status name (faults.TooMany thing limit) = refl
+fault_status name (faults.Seeds issuer stage) = refl
+fault_status name faults.NoMemory = refl
+
+pub outcome_status : (o : Result Done NamedFault) → IsTrue (is_one_of of_commands (reply_of o).status)
+outcome_status (Ok d) = refl
+outcome_status (Err e) = fault_status e.name e.fault
+
+-- ---- steps
+
+-- a value that follows another
+pub after_ok : {A B : Type 0} (r : Result A NamedFault) (next : A → Result B NamedFault) (b : B) → Ok b ≡ (r >>= next) → (x : A) × (r ≡ Ok x) × (Ok b ≡ next x)
+after_ok (Ok x) next b h = (x, refl, h)
+after_ok {A} {B} (Err e) next b h = absurd (let g : ◌≡◌ {A = Result B NamedFault} (Ok b) (Err e) = h in cc)
+
+ok_same : {A E : Type 0} (x y : A) → ◌≡◌ {A = Result A E} (Ok x) (Ok y) → x ≡ y
+ok_same {A} {E} x y h = cc
+
+err_same : {A E : Type 0} (x y : E) → ◌≡◌ {A = Result A E} (Err x) (Err y) → x ≡ y
+err_same {A} {E} x y h = cc
+
+-- a fault is one of the first step, or of what follows it
+pub after_err : {A B : Type 0} (r : Result A NamedFault) (next : A → Result B NamedFault) (e : NamedFault) → Err e ≡ (r >>= next) → (r ≡ Err e) ⊎ ((x : A) × (r ≡ Ok x) × (Err e ≡ next x))
+after_err (Ok x) next e h = inr (x, refl, h)
+after_err {A} {B} (Err f) next e h = inl (ap (λ (g : NamedFault). Err g) (sym (err_same {A = B} e f h)))
+
+-- ---- outputs
+
+-- what is done by a command whose outputs are told
+module _ {A : Type 0} (names : List (List ℕ)) (f : A → Done) (are : (x : A) → names_of (f x).outputs ≡ names) where
+  pub names_after : (r : Result A NamedFault) (d : Done) → Ok d ≡ (r >>= (λ x. Ok (f x))) → names_of d.outputs ≡ names
+  names_after r d h =
+      let x = after_ok r (λ y. Ok (f y)) d h in
+      ap (λ (e : Done). names_of e.outputs) (ok_same {E = NamedFault} d (f x.0) x.2) ∙ are x.0
+
+published_names : (of part_name ledger_name : List ℕ) (r : Result Published PublishFault) (d : Done) → Ok d ≡ published_as of part_name ledger_name r → names_of d.outputs ≡ part_name ∷ ledger_name ∷ []
+published_names of part_name ledger_name (Ok p) d h = ap (λ (e : Done). names_of e.outputs) (ok_same {E = NamedFault} d (publication_done part_name ledger_name p) h)
+published_names of part_name ledger_name (Err fault) d h = absurd (let g : ◌≡◌ {A = Result Done NamedFault} (Ok d) (Err (record { name = of; fault = of_publishing fault })) = h in cc)
+
+not_err : {A E : Type 0} (x : A) (e : E) → ◌≡◌ {A = Result A E} (Ok x) (Err e) → ⊥
+not_err {A} {E} x e h = cc
+
+snapshot_names : (s : SnapshotFields) (r : Result JobFields NamedFault) (d : Done) → MakesSnapshot s r (Ok d) → names_of d.outputs ≡ outputs_of (commands.Snapshot s)
+snapshot_names s (Ok j) d m = published_names s.job s.part s.ledger m.result d m.is
+snapshot_names s (Err e) d m = absurd (not_err d e m)
+
+delta_names : (t : DeltaFields) (r : Result JobFields NamedFault) (l : Result LedgerFields NamedFault) (d : Done) → MakesDelta t r l (Ok d) → names_of d.outputs ≡ outputs_of (commands.Delta t)
+delta_names t (Ok j) (Ok l) d m = published_names t.job t.part t.new_ledger m.result d m.is
+delta_names t (Ok j) (Err e) d m = absurd (not_err d e m)
+delta_names t (Err e) l d m = absurd (not_err d e m)
+
+-- what follows an input
+abbrev pub start_after : StartFields → SealedFields × ℕ → Result Done NamedFault
+start_after t x = named t.part (begun x.0) >>= (λ parts. Ok (stored t.store parts))
+
+abbrev pub install_then : InstallFields → List SealedFields → SealedFields × ℕ → Result Done NamedFault
+install_then i parts x = named i.part (installed parts x.0) >>= (λ more. Ok (stored i.new_store more))
+
+abbrev pub install_after : InstallFields → Option (List ℕ) → List SealedFields → Result Done NamedFault
+install_after i p parts = input i.part part_in p >>= install_then i parts
+
+-- The outputs of a command that is done are those that it names.
+pub done_names : (c : Command) (inputs : List (Option (List ℕ))) (d : Done) → Makes c inputs (Ok d) → names_of d.outputs ≡ outputs_of c
+done_names commands.Usage inputs d m = absurd m
+done_names (commands.Query q) (s ∷ []) d m = names_after [] (query_done q) (λ x. refl) (input q.store store_in s) d m
+done_names (commands.Check name) (p ∷ []) d m = names_after [] check_done (λ x. refl) (input name part_in p) d m
+done_names (commands.Show name) (p ∷ []) d m = names_after [] show_done (λ x. refl) (input name part_in p) d m
+done_names (commands.Snapshot s) (j ∷ []) d m = snapshot_names s (input s.job job_in j) d m
+done_names (commands.Delta t) (j ∷ l ∷ []) d m = delta_names t (input t.job job_in j) (input t.ledger ledger_in l) d m
+done_names (commands.Start t) (p ∷ []) d m =
+    let x = after_ok (input t.part part_in p) (start_after t) d m in
+    names_after (t.store ∷ []) (stored t.store) (λ y. refl) (named t.part (begun x.0.0)) d x.2
+done_names (commands.Install i) (s ∷ p ∷ []) d m =
+    let x = after_ok (input i.store store_in s) (install_after i p) d m in
+    let y = after_ok (input i.part part_in p) (install_then i x.0) d x.2 in
+    names_after (i.new_store ∷ []) (stored i.new_store) (λ z. refl) (named i.part (installed x.0 y.0.0)) d y.2
+done_names (commands.Query q) [] d m = absurd m
+done_names (commands.Query q) (a ∷ b ∷ cs) d m = absurd m
+done_names (commands.Check name) [] d m = absurd m
+done_names (commands.Check name) (a ∷ b ∷ cs) d m = absurd m
+done_names (commands.Show name) [] d m = absurd m
+done_names (commands.Show name) (a ∷ b ∷ cs) d m = absurd m
+done_names (commands.Snapshot s) [] d m = absurd m
+done_names (commands.Snapshot s) (a ∷ b ∷ cs) d m = absurd m
+done_names (commands.Delta t) [] d m = absurd m
+done_names (commands.Delta t) (a ∷ []) d m = absurd m
+done_names (commands.Delta t) (a ∷ b ∷ e ∷ cs) d m = absurd m
+done_names (commands.Start t) [] d m = absurd m
+done_names (commands.Start t) (a ∷ b ∷ cs) d m = absurd m
+done_names (commands.Install i) [] d m = absurd m
+done_names (commands.Install i) (a ∷ []) d m = absurd m
+done_names (commands.Install i) (a ∷ b ∷ e ∷ cs) d m = absurd m
+
+-- ---- inputs that can't be read
+
+abbrev layout_then : {E A B : Type 0} → Layout E A → (A → Layout E B) → Layout E B
+layout_then first next bytes at = then_read (first bytes at) next bytes
+
+-- a fault of what was read isn't that it can't be
+abbrev IsRead_fault : FileFault → Type 0
+IsRead_fault fault = fault ≡ faults.Unread → ⊥
+
+job_fault_read : (f : JobFault) → IsRead_fault (of_job f)
+job_fault_read (of_job_faults.Layout f) = λ h. cc
+job_fault_read (of_job_faults.TooMany what limit) = λ h. cc
+job_fault_read of_job_faults.ReadFault = λ h. cc
+job_fault_read of_job_faults.NoMemory = λ h. cc
+
+ledger_fault_read : (f : LedgerFault) → IsRead_fault (of_ledger f)
+ledger_fault_read (of_ledger_faults.Layout f) = λ h. cc
+ledger_fault_read of_ledger_faults.NoMemory = λ h. cc
+
+part_fault_read : (f : PartFault) → IsRead_fault (of_part f)
+part_fault_read (of_part_faults.Layout f) = λ h. cc
+part_fault_read of_part_faults.NoMemory = λ h. cc
+
+store_fault_read : (f : StoreFault) → IsRead_fault (of_store f)
+store_fault_read (of_store_faults.Layout f) = λ h. cc
+store_fault_read of_store_faults.NotSnapshot = λ h. cc
+store_fault_read (of_store_faults.Refused why) = λ h. cc
+store_fault_read of_store_faults.NoMemory = λ h. cc
+
+admission_fault_read : (f : AdmitFault) → IsRead_fault (of_admission f)
+admission_fault_read (admit.BadCrl place fault) = λ h. cc
+admission_fault_read (admit.OldEpoch held given) = λ h. cc
+admission_fault_read (admit.CoverageShrinks log) = λ h. cc
+admission_fault_read admit.ChainFull = λ h. cc
+admission_fault_read (admit.TooMany what limit) = λ h. cc
+admission_fault_read admit.NoMemory = λ h. cc
+
+publish_fault_read : (f : PublishFault) → IsRead_fault (of_publishing f)
+publish_fault_read (publish.Admission fault) = admission_fault_read fault
+publish_fault_read (publish.SeedsExhausted issuer stage) = λ h. cc
+publish_fault_read publish.NoMemory = λ h. cc
+
+faulted_read : {A E : Type 0} (fault : E → FileFault) (r : Result A E) → ((e : E) → IsRead_fault (fault e)) → faulted fault r ≡ Err faults.Unread → ⊥
+faulted_read {A} fault (Ok x) read h = not_err x faults.Unread h
+faulted_read {A} fault (Err e) read h = read e (err_same {A = A} (fault e) faults.Unread h)
+
+end_read : (s : SealedFields) (bytes : List ℕ) (r : Result (Unit {0} × ℕ) LayoutFault) → then_read (with_fault faults.Layout r) (λ nothing. whole s) bytes ≡ Err faults.Unread → ⊥
+end_read s bytes (Ok x) h = not_err (s, x.1) faults.Unread h
+end_read s bytes (Err f) h = let g : faults.Layout f ≡ faults.Unread = err_same {A = SealedFields × ℕ} (faults.Layout f) faults.Unread h in cc
+
+alone_read : (bytes : List ℕ) (r : Result (SealedFields × ℕ) PartFault) → then_read (with_fault of_part r) (λ s. layout_then (mapped faults.Layout end) (λ nothing. whole s)) bytes ≡ Err faults.Unread → ⊥
+alone_read bytes (Ok x) h = end_read x.0 bytes (end bytes x.1) h
+alone_read bytes (Err f) h = part_fault_read f (err_same {A = SealedFields × ℕ} (of_part f) faults.Unread h)
+
+job_read : (bytes : List ℕ) → job_in bytes ≡ Err faults.Unread → ⊥
+job_read bytes h = faulted_read of_job (job_of PUBLISHED bytes) job_fault_read h
+
+ledger_read : (bytes : List ℕ) → ledger_in bytes ≡ Err faults.Unread → ⊥
+ledger_read bytes h = faulted_read of_ledger (ledger_of bytes) ledger_fault_read h
+
+part_read : (bytes : List ℕ) → part_in bytes ≡ Err faults.Unread → ⊥
+unfolding part_file
+part_read bytes h = alone_read bytes (part bytes 0) h
+
+store_read : (bytes : List ℕ) → store_in bytes ≡ Err faults.Unread → ⊥
+store_read bytes h = faulted_read of_store (value_of (store bytes 0)) store_fault_read h
+
+-- ---- which input it is
+
+named_err : {A : Type 0} (name : List ℕ) (r : Result A FileFault) (e : NamedFault) → named name r ≡ Err e → (r ≡ Err e.fault) × (name ≡ e.name)
+named_err name (Ok x) e h = absurd (not_err x e h)
+named_err {A} name (Err f) e h =
+    let g : record { name = name; fault = f } ≡ e = err_same {A = A} (record { name = name; fault = f }) e h in
+    (ap (λ (k : NamedFault). Err k.fault) g, ap (λ (k : NamedFault). k.name) g)
+
+input_unread : {A : Type 0} (name : List ℕ) (read : List ℕ → Result A FileFault) (given : Option (List ℕ)) (e : NamedFault) → ((bytes : List ℕ) → read bytes ≡ Err faults.Unread → ⊥)
+    → input name read given ≡ Err e → e.fault ≡ faults.Unread → (given ≡ None) × (name ≡ e.name)
+input_unread {A} name read None e refute h u = (refl, (named_err {A = A} name (Err faults.Unread) e h).1)
+input_unread name read (Some bytes) e refute h u = absurd (refute bytes ((named_err name (read bytes) e h).0 ∙ ap (λ (f : FileFault). Err f) u))
+
+not_ok : {A : Type 0} (e : NamedFault) (x : A) → ◌≡◌ {A = Result A NamedFault} (Err e) (Ok x) → ⊥
+not_ok {A} e x h = cc
+
+begun_read : (s : SealedFields) (kind : Kind) → begun_by s kind ≡ Err faults.Unread → ⊥
+begun_read s kinds.Snapshot h = not_err (s ∷ []) faults.Unread h
+begun_read s kinds.Delta h = let g : faults.NotSnapshot ≡ faults.Unread = err_same {A = List SealedFields} faults.NotSnapshot faults.Unread h in cc
+
+installed_read : (why : Option Refusal) (parts : List SealedFields) (s : SealedFields) → installed_by why parts s ≡ Err faults.Unread → ⊥
+installed_read None parts s h = not_err (parts ++ s ∷ []) faults.Unread h
+installed_read (Some why) parts s h = let g : faults.Chain why ≡ faults.Unread = err_same {A = List SealedFields} (faults.Chain why) faults.Unread h in cc
+
+published_read : (of part_name ledger_name : List ℕ) (r : Result Published PublishFault) (e : NamedFault) → Err e ≡ published_as of part_name ledger_name r → e.fault ≡ faults.Unread → ⊥
+published_read of part_name ledger_name (Ok p) e h u = not_ok e (publication_done part_name ledger_name p) h
+published_read of part_name ledger_name (Err fault) e h u =
+    publish_fault_read fault (sym (ap (λ (k : NamedFault). k.fault) (err_same {A = Done} e (record { name = of; fault = of_publishing fault }) h)) ∙ u)
+
+snapshot_unread : (s : SnapshotFields) (r : Result JobFields NamedFault) (e : NamedFault) → MakesSnapshot s r (Err e) → e.fault ≡ faults.Unread → r ≡ Err e
+snapshot_unread s (Ok j) e m u = absurd (published_read s.job s.part s.ledger m.result e m.is u)
+snapshot_unread s (Err f) e m u = ap (λ (k : NamedFault). Err k) (sym (err_same {A = Done} e f m))
+
+delta_unread : (t : DeltaFields) (r : Result JobFields NamedFault) (l : Result LedgerFields NamedFault) (e : NamedFault) → MakesDelta t r l (Err e) → e.fault ≡ faults.Unread
+    → (r ≡ Err e) ⊎ (l ≡ Err e)
+delta_unread t (Ok j) (Ok l) e m u = absurd (published_read t.job t.part t.new_ledger m.result e m.is u)
+delta_unread t (Ok j) (Err f) e m u = inr (ap (λ (k : NamedFault). Err k) (sym (err_same {A = Done} e f m)))
+delta_unread t (Err f) l e m u = inl (ap (λ (k : NamedFault). Err k) (sym (err_same {A = Done} e f m)))
+
+-- a fault of what is made of what was read
+made_read : {A : Type 0} (name : List ℕ) (r : Result A FileFault) (f : A → Done) (e : NamedFault) → (r ≡ Err faults.Unread → ⊥)
+    → (named name r ≡ Err e) ⊎ ((x : A) × (named name r ≡ Ok x) × (Err e ≡ Ok (f x))) → e.fault ≡ faults.Unread → ⊥
+made_read name r f e refute (inl h) u = refute ((named_err name r e h).0 ∙ ap (λ (k : FileFault). Err k) u)
+made_read name r f e refute (inr (x, is, h)) u = not_ok e (f x) h
+
+start_unread : (t : StartFields) (x : SealedFields × ℕ) (e : NamedFault) → Err e ≡ start_after t x → e.fault ≡ faults.Unread → ⊥
+start_unread t x e h u =
+    made_read t.part (begun x.0) (stored t.store) e (begun_read x.0 x.0.part.head.kind) (after_err (named t.part (begun x.0)) (λ parts. Ok (stored t.store parts)) e h) u
+
+install_unread : (i : InstallFields) (parts : List SealedFields) (x : SealedFields × ℕ) (e : NamedFault) → Err e ≡ install_then i parts x → e.fault ≡ faults.Unread → ⊥
+install_unread i parts x e h u =
+    made_read i.part (installed parts x.0) (stored i.new_store) e (installed_read (refusal_of parts x.0) parts x.0)
+    (after_err (named i.part (installed parts x.0)) (λ more. Ok (stored i.new_store more)) e h) u
+
+-- a fault of an input, where what follows it has none
+first_unread : {A : Type 0} (name : List ℕ) (read : List ℕ → Result A FileFault) (given : Option (List ℕ)) (next : A → Result Done NamedFault) (e : NamedFault)
+    → ((bytes : List ℕ) → read bytes ≡ Err faults.Unread → ⊥) → ((x : A) → Err e ≡ next x → ⊥)
+    → (input name read given ≡ Err e) ⊎ ((x : A) × (input name read given ≡ Ok x) × (Err e ≡ next x)) → e.fault ≡ faults.Unread → (given ≡ None) × (name ≡ e.name)
+first_unread name read given next e refute rest (inl h) u = input_unread name read given e refute h u
+first_unread name read given next e refute rest (inr (x, is, h)) u = absurd (rest x h)
+
+module _ (told : Option Files) (rose : Type 0) (e : NamedFault) (u : e.fault ≡ faults.Unread) where
+  abbrev Cause : List (List ℕ) → Type 0
+  Cause names = Among names e.name × (rose ⊎ IsMissing told e.name)
+
+  cause_of : (names : List (List ℕ)) (name : List ℕ) (given : Option (List ℕ)) → Among names name → IsRead told rose name given → (given ≡ None) × (name ≡ e.name) → Cause names
+  cause_of names name given among read (none, is) =
+      subst (λ (n : List ℕ). Among names n × (rose ⊎ IsMissing told n)) is (among, subst (λ (g : Option (List ℕ)). IsRead told rose name g) none read)
+
+  second_unread : (i : InstallFields) (s p : Option (List ℕ)) (parts : List SealedFields) → IsRead told rose i.part p → Err e ≡ install_after i p parts → Cause (i.store ∷ i.part ∷ [])
+  second_unread i s p parts read h =
+      cause_of (i.store ∷ i.part ∷ []) i.part p (inr (inl refl)) read
+      (first_unread i.part part_in p (install_then i parts) e part_read (λ x g. install_unread i parts x e g u) (after_err (input i.part part_in p) (install_then i parts) e h) u)
+
+  install_by : (i : InstallFields) (s p : Option (List ℕ)) → IsRead told rose i.store s → IsRead told rose i.part p
+      → (input i.store store_in s ≡ Err e) ⊎ ((parts : List SealedFields) × (input i.store store_in s ≡ Ok parts) × (Err e ≡ install_after i p parts)) → Cause (i.store ∷ i.part ∷ [])
+  install_by i s p first second (inl h) = cause_of (i.store ∷ i.part ∷ []) i.store s (inl refl) first (input_unread i.store store_in s e store_read h u)
+  install_by i s p first second (inr (parts, is, h)) = second_unread i s p parts second h
+
+  delta_by : (t : DeltaFields) (j l : Option (List ℕ)) → IsRead told rose t.job j → IsRead told rose t.ledger l → (input t.job job_in j ≡ Err e) ⊎ (input t.ledger ledger_in l ≡ Err e)
+      → Cause (t.job ∷ t.ledger ∷ [])
+  delta_by t j l first second (inl h) = cause_of (t.job ∷ t.ledger ∷ []) t.job j (inl refl) first (input_unread t.job job_in j e job_read h u)
+  delta_by t j l first second (inr h) = cause_of (t.job ∷ t.ledger ∷ []) t.ledger l (inr (inl refl)) second (input_unread t.ledger ledger_in l e ledger_read h u)
+
+  -- An input that can't be read has its cause.
+  pub unread_cause : (c : Command) (inputs : List (Option (List ℕ))) → AreRead told rose (inputs_of c) inputs → Makes c inputs (Err e) → Cause (inputs_of c)
+  unread_cause commands.Usage inputs read m = absurd m
+  unread_cause (commands.Query q) (s ∷ []) read m =
+      cause_of (q.store ∷ []) q.store s (inl refl) read.0
+      (first_unread q.store store_in s (λ parts. Ok (query_done q parts)) e store_read (λ x h. not_ok e (query_done q x) h) (after_err (input q.store store_in s) (λ parts. Ok (query_done q parts)) e m) u)
+  unread_cause (commands.Check name) (p ∷ []) read m =
+      cause_of (name ∷ []) name p (inl refl) read.0
+      (first_unread name part_in p (λ x. Ok (check_done x)) e part_read (λ x h. not_ok e (check_done x) h) (after_err (input name part_in p) (λ x. Ok (check_done x)) e m) u)
+  unread_cause (commands.Show name) (p ∷ []) read m =
+      cause_of (name ∷ []) name p (inl refl) read.0
+      (first_unread name part_in p (λ x. Ok (show_done x)) e part_read (λ x h. not_ok e (show_done x) h) (after_err (input name part_in p) (λ x. Ok (show_done x)) e m) u)
+  unread_cause (commands.Snapshot s) (j ∷ []) read m =
+      cause_of (s.job ∷ []) s.job j (inl refl) read.0 (input_unread s.job job_in j e job_read (snapshot_unread s (input s.job job_in j) e m u) u)
+  unread_cause (commands.Delta t) (j ∷ l ∷ []) read m = delta_by t j l read.0 read.1.0 (delta_unread t (input t.job job_in j) (input t.ledger ledger_in l) e m u)
+  unread_cause (commands.Start t) (p ∷ []) read m =
+      cause_of (t.part ∷ []) t.part p (inl refl) read.0
+      (first_unread t.part part_in p (start_after t) e part_read (λ x h. start_unread t x e h u) (after_err (input t.part part_in p) (start_after t) e m) u)
+  unread_cause (commands.Install i) (s ∷ p ∷ []) read m = install_by i s p read.0 read.1.0 (after_err (input i.store store_in s) (install_after i p) e m)
+  unread_cause (commands.Query q) [] read m = absurd m
+  unread_cause (commands.Query q) (a ∷ b ∷ cs) read m = absurd m
+  unread_cause (commands.Check name) [] read m = absurd m
+  unread_cause (commands.Check name) (a ∷ b ∷ cs) read m = absurd m
+  unread_cause (commands.Show name) [] read m = absurd m
+  unread_cause (commands.Show name) (a ∷ b ∷ cs) read m = absurd m
+  unread_cause (commands.Snapshot s) [] read m = absurd m
+  unread_cause (commands.Snapshot s) (a ∷ b ∷ cs) read m = absurd m
+  unread_cause (commands.Delta t) [] read m = absurd m
+  unread_cause (commands.Delta t) (a ∷ []) read m = absurd m
+  unread_cause (commands.Delta t) (a ∷ b ∷ k ∷ cs) read m = absurd m
+  unread_cause (commands.Start t) [] read m = absurd m
+  unread_cause (commands.Start t) (a ∷ b ∷ cs) read m = absurd m
+  unread_cause (commands.Install i) [] read m = absurd m
+  unread_cause (commands.Install i) (a ∷ []) read m = absurd m
+  unread_cause (commands.Install i) (a ∷ b ∷ k ∷ cs) read m = absurd m

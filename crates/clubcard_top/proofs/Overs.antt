@@ -1,0 +1,99 @@
+-- What comes of a command over what the files hold, from what was read of them.
+use Rattle.std.proofs.Common.{◌≡◌, ℕ, inl, inr, List, [], ◌∷◌, map, Option, Some, None, Result, Ok, Err, refl, sym, subst}
+use Rattle.std.specs.FinMap.{get}
+use Rattle.outside_core.specs.Files.{Files}
+use Rattle.job_core.specs.JobFields.{JobFields}
+use Rattle.ledger_core.specs.LedgerFields.{LedgerFields}
+use Rattle.part_codec.specs.SealedFields.{SealedFields}
+use Rattle.word_core.specs.declared.command.Command.{Command}
+use Rattle.word_core.specs.declared.command.Command.TheVariants as commands
+use Rattle.word_core.specs.CommandFields.{DeltaFields, InstallFields}
+use Rattle.word_core.specs.Names.{inputs_of}
+use Rattle.clubcard_top.specs.declared.fault.FileFault.TheVariants as faults
+use Rattle.clubcard_top.specs.ReplyFields.{Done, NamedFault}
+use Rattle.clubcard_top.specs.Readings.{job_in, ledger_in, store_in}
+use Rattle.clubcard_top.specs.Inputs.{IsRead, AreRead}
+use Rattle.clubcard_top.specs.Commands.{◌>>=◌, input, query_makes, check_makes, show_makes, start_makes, install_makes, MakesDelta, Makes}
+use Rattle.clubcard_top.specs.Replies.{held_by}
+use Rattle.clubcard_top.proofs.Makings.{install_after}
+
+some_is : (f g : Files) → ◌≡◌ {A = Option Files} (Some f) (Some g) → f ≡ g
+some_is f g e = cc
+
+-- ---- where no fault was counted, what was read is what the files hold
+
+held_one : (files : Files) (rose : Type 0) (name : List ℕ) (given : Option (List ℕ)) → (rose → ⊥) → IsRead (Some files) rose name given → given ≡ get files name
+held_one files rose name None quiet (inl why) = absurd (quiet why)
+held_one files rose name None quiet (inr (told, same, none)) = sym (subst (λ (f : Files). get f name ≡ None) (some_is told files (sym same)) none)
+held_one files rose name (Some bytes) quiet read = sym read
+
+pub held_all : (files : Files) (rose : Type 0) (names : List (List ℕ)) (inputs : List (Option (List ℕ))) → (rose → ⊥) → AreRead (Some files) rose names inputs → inputs ≡ map (get files) names
+held_all files rose [] [] quiet read = refl
+held_all files rose [] (g ∷ inputs) quiet read = absurd read
+held_all files rose (name ∷ names) [] quiet read = absurd read
+held_all files rose (name ∷ names) (g ∷ inputs) quiet read =
+    let one = held_one files rose name g quiet read.0 in
+    let rest = held_all files rose names inputs quiet read.1 in
+    λ i. one i ∷ rest i
+
+-- ---- where the answer isn't that an input can't be read
+
+-- an outcome that isn't that an input can't be read
+abbrev pub IsSeen : Result Done NamedFault → Type 0
+IsSeen o = (e : NamedFault) → o ≡ Err e → e.fault ≡ faults.Unread → ⊥
+
+abbrev unread : List ℕ → NamedFault
+unread name = record { name = name; fault = faults.Unread }
+
+delta_other : (t : DeltaFields) (r : Result JobFields NamedFault) (l : Result LedgerFields NamedFault) (o : Result Done NamedFault) → IsSeen o → MakesDelta t r (Err (unread t.ledger)) o → MakesDelta t r l o
+delta_other t (Ok j) l o seen m = absurd (seen (unread t.ledger) m refl)
+delta_other t (Err e) l o seen m = m
+
+install_other : (i : InstallFields) (r : Result (List SealedFields) NamedFault) (p : Option (List ℕ)) (o : Result Done NamedFault) → IsSeen o → o ≡ (r >>= install_after i None) → o ≡ (r >>= install_after i p)
+install_other i (Ok parts) p o seen m = absurd (seen (unread i.part) m refl)
+install_other i (Err e) p o seen m = m
+
+delta_over : (files : Files) (rose : Type 0) (t : DeltaFields) (j l : Option (List ℕ)) (o : Result Done NamedFault) → IsSeen o → IsRead (Some files) rose t.job j → IsRead (Some files) rose t.ledger l
+    → MakesDelta t (input t.job job_in j) (input t.ledger ledger_in l) o → MakesDelta t (input t.job job_in (get files t.job)) (input t.ledger ledger_in (get files t.ledger)) o
+delta_over files rose t None l o seen first second m = absurd (seen (unread t.job) m refl)
+delta_over files rose t (Some b) None o seen first second m =
+    rw first (delta_other t (input t.job job_in (Some b)) (input t.ledger ledger_in (get files t.ledger)) o seen m)
+delta_over files rose t (Some b) (Some c) o seen first second m = rw (first, second) m
+
+install_over : (files : Files) (rose : Type 0) (i : InstallFields) (s p : Option (List ℕ)) (o : Result Done NamedFault) → IsSeen o → IsRead (Some files) rose i.store s → IsRead (Some files) rose i.part p
+    → o ≡ install_makes i s p → o ≡ install_makes i (get files i.store) (get files i.part)
+install_over files rose i None p o seen first second m = absurd (seen (unread i.store) m refl)
+install_over files rose i (Some b) None o seen first second m = rw first (install_other i (input i.store store_in (Some b)) (get files i.part) o seen m)
+install_over files rose i (Some b) (Some c) o seen first second m = rw (first, second) m
+
+-- of one input
+one_over : (files : Files) (rose : Type 0) (name : List ℕ) (P : Option (List ℕ) → Type 0) (given : Option (List ℕ)) → (P None → ⊥) → IsRead (Some files) rose name given → P given → P (get files name)
+one_over files rose name P None refute read m = absurd (refute m)
+one_over files rose name P (Some bytes) refute read m = subst P (sym read) m
+
+pub over_files : (files : Files) (rose : Type 0) (c : Command) (inputs : List (Option (List ℕ))) (o : Result Done NamedFault) → IsSeen o → AreRead (Some files) rose (inputs_of c) inputs → Makes c inputs o
+    → Makes c (held_by c files) o
+over_files files rose commands.Usage inputs o seen read m = absurd m
+over_files files rose (commands.Query q) (s ∷ []) o seen read m = one_over files rose q.store (λ g. o ≡ query_makes q g) s (λ h. seen (unread q.store) h refl) read.0 m
+over_files files rose (commands.Check name) (p ∷ []) o seen read m = one_over files rose name (λ g. o ≡ check_makes name g) p (λ h. seen (unread name) h refl) read.0 m
+over_files files rose (commands.Show name) (p ∷ []) o seen read m = one_over files rose name (λ g. o ≡ show_makes name g) p (λ h. seen (unread name) h refl) read.0 m
+over_files files rose (commands.Snapshot s) (j ∷ []) o seen read m = one_over files rose s.job (λ g. Makes (commands.Snapshot s) (g ∷ []) o) j (λ h. seen (unread s.job) h refl) read.0 m
+over_files files rose (commands.Delta t) (j ∷ l ∷ []) o seen read m = delta_over files rose t j l o seen read.0 read.1.0 m
+over_files files rose (commands.Start t) (p ∷ []) o seen read m = one_over files rose t.part (λ g. o ≡ start_makes t g) p (λ h. seen (unread t.part) h refl) read.0 m
+over_files files rose (commands.Install i) (s ∷ p ∷ []) o seen read m = install_over files rose i s p o seen read.0 read.1.0 m
+over_files files rose (commands.Query q) [] o seen read m = absurd m
+over_files files rose (commands.Query q) (a ∷ b ∷ cs) o seen read m = absurd m
+over_files files rose (commands.Check name) [] o seen read m = absurd m
+over_files files rose (commands.Check name) (a ∷ b ∷ cs) o seen read m = absurd m
+over_files files rose (commands.Show name) [] o seen read m = absurd m
+over_files files rose (commands.Show name) (a ∷ b ∷ cs) o seen read m = absurd m
+over_files files rose (commands.Snapshot s) [] o seen read m = absurd m
+over_files files rose (commands.Snapshot s) (a ∷ b ∷ cs) o seen read m = absurd m
+over_files files rose (commands.Delta t) [] o seen read m = absurd m
+over_files files rose (commands.Delta t) (a ∷ []) o seen read m = absurd m
+over_files files rose (commands.Delta t) (a ∷ b ∷ k ∷ cs) o seen read m = absurd m
+over_files files rose (commands.Start t) [] o seen read m = absurd m
+over_files files rose (commands.Start t) (a ∷ b ∷ cs) o seen read m = absurd m
+over_files files rose (commands.Install i) [] o seen read m = absurd m
+over_files files rose (commands.Install i) (a ∷ []) o seen read m = absurd m
+over_files files rose (commands.Install i) (a ∷ b ∷ k ∷ cs) o seen read m = absurd m

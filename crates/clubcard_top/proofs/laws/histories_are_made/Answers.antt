@@ -1,0 +1,29 @@
+use Rattle.clubcard_top.proofs.Made.{Layers, published, admitted, stored_law, asked_law}
+use Rattle.clubcard_top.proofs.laws.histories_are_made.Goals as goal
+
+pub returns : goal.returns
+returns c =
+    let layers : Layers = record {
+      one = c.publications_are_unique.ensures.outcome;
+      none = c.histories_are_published.ensures.none;
+      admissible = c.histories_are_published.ensures.admissible;
+      next = c.histories_are_published.ensures.history;
+      ledger = c.histories_are_published.ensures.ledger;
+      numbers = c.histories_are_published.ensures.numbers;
+      place = c.histories_are_published.ensures.place;
+      complete = c.histories_are_published.ensures.complete;
+      ledger_read = c.ledgers_are_read_back.ensures.value;
+      chain = c.parts_are_chains.ensures.chain;
+      few = c.parts_are_chains.ensures.few;
+      texts = c.parts_are_chains.ensures.texts;
+      truths = c.verdicts_are_the_truth.ensures;
+      grown = c.chains_grow.ensures.only;
+      store_read = c.stores_are_read_back.ensures.parts;
+      part_read = c.a_text_is_read_back.ensures;
+    } in
+    record {
+      published = λ command files jobs parts job d is p m. published layers command files jobs parts job d is p m;
+      admitted = λ command files jobs parts job o is p a m. admitted layers command files jobs parts job o is p a m;
+      stored = λ command files jobs parts s o is p m. stored_law layers command files jobs parts s o is p m;
+      asked = λ command files q jobs parts o is p m. asked_law layers command files q jobs parts o is p m;
+    }

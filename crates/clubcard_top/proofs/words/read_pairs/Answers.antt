@@ -1,7 +1,0 @@
-use Rattle.std.proofs.Common.{sym, ap, ◌∙◌}
-use Rattle.std.specs.Prelude.{string_bytes}
-use Rattle.clubcard_top.proofs.Pairs.{pairs_of-odd, with_first}
-use Rattle.clubcard_top.proofs.words.read_pairs.Goals as goal
-
-pub returns-then-rest-ne0 : goal.returns-then-rest-ne0
-returns-then-rest-ne0 c = ap (with_first c.loop-rest.sightings.items) (sym (pairs_of-odd string_bytes c.loop-rest.rest.now c.in_default.len_below c.if-rest-ne0.true)) ∙ c.loop-rest.invariant

@@ -1,0 +1,166 @@
+-- What each command makes of its inputs.
+use Rattle.std.specs.Prelude.{◌≡◌, ℕ, List, [], ◌∷◌, ◌++◌, map, length, Option, Some, None, Result, Ok, Err, codes}
+use Rattle.ident_core.specs.declared.kind.Kind.{Kind}
+use Rattle.ident_core.specs.declared.kind.Kind.TheVariants as kinds
+use Rattle.part_codec.specs.SealedFields.{SealedFields}
+use Rattle.part_codec.specs.PartText.{spelling}
+use Rattle.job_core.specs.declared.bounds.TheConstants.Limits as limits
+use Rattle.job_core.specs.JobFields.{JobFields}
+use Rattle.job_core.specs.JobFacts.{FitsFields, IsWithinLimits}
+use Rattle.ledger_core.specs.LedgerFields.{LedgerFields}
+use Rattle.ledger_core.specs.LedgerText.{ledger_text}
+use Rattle.universe_core.specs.Ledgers.{no_ledger}
+use Rattle.store_core.specs.declared.chain.Refusal.{Refusal}
+use Rattle.store_core.specs.declared.verdict.Verdict.{Verdict}
+use Rattle.store_core.specs.declared.verdict.Verdict.TheVariants as verdicts
+use Rattle.store_core.specs.Chain.{newest_of, refusal_of}
+use Rattle.store_core.specs.StoreLayout.{store_text}
+use Rattle.store_core.specs.Verdict.{verdict}
+use Rattle.publication_core.specs.declared.fault.PublishFault.{PublishFault}
+use Rattle.publication_core.specs.Publishing.{Published, Publishes}
+use Rattle.word_core.specs.declared.command.Command.{Command}
+use Rattle.word_core.specs.declared.command.Command.TheVariants as commands
+use Rattle.word_core.specs.CommandFields.{QueryFields, SnapshotFields, DeltaFields, StartFields, InstallFields}
+use Rattle.line_core.specs.Lines.{line, check_line, show_text, store_line, report_line}
+use Rattle.clubcard_top.specs.declared.fault.FileFault.{FileFault}
+use Rattle.clubcard_top.specs.declared.fault.FileFault.TheVariants as faults
+use Rattle.clubcard_top.specs.Faults.{of_publishing}
+use Rattle.clubcard_top.specs.ReplyFields.{Done, NamedFault}
+use Rattle.clubcard_top.specs.Readings.{job_in, ledger_in, part_in, store_in, input_as}
+
+-- ---- steps
+
+infixl 10 ◌>>=◌
+abbrev pub ◌>>=◌ : {A B : Type 0} → Result A NamedFault → (A → Result B NamedFault) → Result B NamedFault
+(Ok x) >>= next = next x
+(Err e) >>= next = Err e
+
+-- a fault is that of the file of this name
+abbrev pub named : {A : Type 0} → List ℕ → Result A FileFault → Result A NamedFault
+named name (Ok x) = Ok x
+named name (Err fault) = Err (record { name = name; fault = fault })
+
+-- an input of this name, as it is read
+abbrev pub input : {A : Type 0} → List ℕ → (List ℕ → Result A FileFault) → Option (List ℕ) → Result A NamedFault
+input name read given = named name (input_as read given)
+
+-- lines alone
+abbrev pub only : List ℕ → Done
+only text = record { text = text; outputs = [] }
+
+-- ---- asking
+
+abbrev pub verdict_word : Verdict → List ℕ
+verdict_word verdicts.NotCovered = codes "not-covered"
+verdict_word verdicts.NotEnrolled = codes "not-enrolled"
+verdict_word verdicts.Good = codes "good"
+verdict_word verdicts.Revoked = codes "revoked"
+
+-- the verdict of the store's parts
+abbrev pub query_done : QueryFields → List SealedFields → Done
+query_done q parts = only (line (verdict_word (verdict (map (λ s. s.part) parts) q.id q.sightings)))
+
+abbrev pub query_makes : QueryFields → Option (List ℕ) → Result Done NamedFault
+query_makes q store = do
+  parts ← input q.store store_in store
+  Ok (query_done q parts)
+
+-- the part's head in short, and how many bytes it has
+abbrev pub check_done : SealedFields × ℕ → Done
+check_done x = only (check_line x.0 x.1)
+
+abbrev pub check_makes : List ℕ → Option (List ℕ) → Result Done NamedFault
+check_makes name part = do
+  x ← input name part_in part
+  Ok (check_done x)
+
+-- all that the part holds
+abbrev pub show_done : SealedFields × ℕ → Done
+show_done x = only (show_text x.0)
+
+abbrev pub show_makes : List ℕ → Option (List ℕ) → Result Done NamedFault
+show_makes name part = do
+  x ← input name part_in part
+  Ok (show_done x)
+
+-- ---- stores
+
+abbrev pub epoch_of : Option SealedFields → ℕ
+epoch_of None = 0
+epoch_of (Some s) = s.part.head.epoch
+
+-- the store of these parts, and how many they are with the newest one's epoch
+abbrev pub stored : List ℕ → List SealedFields → Done
+stored name parts = record { text = store_line (length parts) (epoch_of (newest_of parts)); outputs = record { name = name; bytes = store_text parts } ∷ [] }
+
+-- a snapshot begins a store
+abbrev pub begun_by : SealedFields → Kind → Result (List SealedFields) FileFault
+begun_by s kinds.Snapshot = Ok (s ∷ [])
+begun_by s kinds.Delta = Err faults.NotSnapshot
+
+abbrev pub begun : SealedFields → Result (List SealedFields) FileFault
+begun s = begun_by s s.part.head.kind
+
+abbrev pub start_makes : StartFields → Option (List ℕ) → Result Done NamedFault
+start_makes t part = do
+  x ← input t.part part_in part
+  parts ← named t.part (begun x.0)
+  Ok (stored t.store parts)
+
+-- a part that has no reason against it is added
+abbrev pub installed_by : Option Refusal → List SealedFields → SealedFields → Result (List SealedFields) FileFault
+installed_by None parts s = Ok (parts ++ s ∷ [])
+installed_by (Some why) parts s = Err (faults.Chain why)
+
+abbrev pub installed : List SealedFields → SealedFields → Result (List SealedFields) FileFault
+installed parts s = installed_by (refusal_of parts s) parts s
+
+abbrev pub install_makes : InstallFields → Option (List ℕ) → Option (List ℕ) → Result Done NamedFault
+install_makes i store part = do
+  parts ← input i.store store_in store
+  x ← input i.part part_in part
+  more ← named i.part (installed parts x.0)
+  Ok (stored i.new_store more)
+
+-- ---- publishing
+
+-- the part and the next ledger, and the report
+abbrev pub publication_done : List ℕ → List ℕ → Published → Done
+publication_done part ledger p = record {
+  text = report_line p.sealed.part.head.epoch p.place p.counts;
+  outputs = record { name = part; bytes = spelling p.sealed } ∷ record { name = ledger; bytes = ledger_text p.ledger } ∷ [];
+}
+
+abbrev pub published_as : List ℕ → List ℕ → List ℕ → Result Published PublishFault → Result Done NamedFault
+published_as job part ledger (Ok p) = Ok (publication_done part ledger p)
+published_as job part ledger (Err fault) = Err (record { name = job; fault = of_publishing fault })
+
+-- what is published of a job behind a ledger
+pub record MakesPart (job part ledger : List ℕ) (before : LedgerFields) (j : JobFields) (o : Result Done NamedFault) : Type 0 where
+  pub fits : FitsFields j
+  pub limits : IsWithinLimits limits.PUBLISHED j
+  pub result : Result Published PublishFault
+  pub publishes : Publishes before j result
+  pub is : o ≡ published_as job part ledger result
+
+abbrev pub MakesSnapshot : SnapshotFields → Result JobFields NamedFault → Result Done NamedFault → Type 0
+MakesSnapshot s (Ok j) o = MakesPart s.job s.part s.ledger no_ledger j o
+MakesSnapshot s (Err e) o = o ≡ Err e
+
+abbrev pub MakesDelta : DeltaFields → Result JobFields NamedFault → Result LedgerFields NamedFault → Result Done NamedFault → Type 0
+MakesDelta d (Ok j) (Ok l) o = MakesPart d.job d.part d.new_ledger l j o
+MakesDelta d (Ok j) (Err e) o = o ≡ Err e
+MakesDelta d (Err e) l o = o ≡ Err e
+
+-- ---- commands
+
+-- What comes of a command: what it writes, or what is wrong with which file. The inputs are in the order of reading.
+abbrev pub Makes : Command → List (Option (List ℕ)) → Result Done NamedFault → Type 0
+Makes (commands.Query q) (store ∷ []) o = o ≡ query_makes q store
+Makes (commands.Check name) (part ∷ []) o = o ≡ check_makes name part
+Makes (commands.Show name) (part ∷ []) o = o ≡ show_makes name part
+Makes (commands.Snapshot s) (job ∷ []) o = MakesSnapshot s (input s.job job_in job) o
+Makes (commands.Delta d) (job ∷ ledger ∷ []) o = MakesDelta d (input d.job job_in job) (input d.ledger ledger_in ledger) o
+Makes (commands.Start t) (part ∷ []) o = o ≡ start_makes t part
+Makes (commands.Install i) (store ∷ part ∷ []) o = o ≡ install_makes i store part
+Makes command inputs o = ⊥

@@ -1,0 +1,79 @@
+-- What a call does for the history of admitted jobs that its files are of.
+use Rattle.std.specs.Prelude.{◌≡◌, ℕ, ◌≤◌, List, [], ◌∷◌, ◌++◌, length, Some, Ok}
+use Rattle.std.specs.FinMap.{get}
+use Rattle.ident_core.specs.declared.range.Sighting.{Sighting}
+use Rattle.outside_core.specs.Files.{Files}
+use Rattle.part_codec.specs.SealedFields.{SealedFields}
+use Rattle.job_core.specs.declared.bounds.TheConstants.Limits as limits
+use Rattle.job_core.specs.JobFields.{JobFields}
+use Rattle.job_core.specs.JobLayout.{job_of}
+use Rattle.sets_core.specs.Among.{Among}
+use Rattle.universe_core.specs.Jobs.{told}
+use Rattle.universe_core.specs.History.{past_of, seen, sightings}
+use Rattle.universe_core.specs.Counting.{counts}
+use Rattle.publication_core.specs.Histories.{IsAdmissible, IsHistory, history, part_bytes, store_bytes, ledger_bytes}
+use Rattle.publication_core.specs.Truth.{truth}
+use Rattle.word_core.specs.declared.command.Command.{Command}
+use Rattle.word_core.specs.declared.command.Command.TheVariants as commands
+use Rattle.word_core.specs.CommandFields.{QueryFields}
+use Rattle.line_core.specs.Lines.{line, report_line, store_line}
+use Rattle.clubcard_top.specs.ReplyFields.{OutputFields, Done}
+use Rattle.clubcard_top.specs.Commands.{verdict_word, only}
+
+-- ---- publishing
+
+-- the file of this name holds the bytes of this job
+abbrev pub HoldsJob : Files → List ℕ → JobFields → Type 0
+HoldsJob files name job = (bytes : List ℕ) × (get files name ≡ Some bytes) × (job_of limits.PUBLISHED bytes ≡ Ok job)
+
+-- The command publishes a job behind a history: `snapshot` behind no job, and `delta` behind that whose ledger's bytes
+-- LEDGER holds.
+abbrev pub PublishesJob : Command → Files → List JobFields → List SealedFields → JobFields → Type 0
+PublishesJob (commands.Snapshot s) files jobs parts job = (jobs ≡ []) × (parts ≡ []) × HoldsJob files s.job job
+PublishesJob (commands.Delta d) files jobs parts job = (1 ≤ length jobs) × (get files d.ledger ≡ Some (ledger_bytes jobs parts)) × HoldsJob files d.job job
+PublishesJob command files jobs parts job = ⊥
+
+-- the files that the part and the ledger are written to
+abbrev pub publishes_to : Command → List ℕ → List ℕ → List OutputFields
+publishes_to (commands.Snapshot s) part ledger = record { name = s.part; bytes = part } ∷ record { name = s.ledger; bytes = ledger } ∷ []
+publishes_to (commands.Delta d) part ledger = record { name = d.part; bytes = part } ∷ record { name = d.new_ledger; bytes = ledger } ∷ []
+publishes_to command part ledger = []
+
+-- The job and the history are a history. The bytes of its part and of its ledger are written, and the line is its report.
+pub record IsPublished (asked : Command) (jobs : List JobFields) (parts : List SealedFields) (job : JobFields) (d : Done) : Type 0 where
+  pub sealed : SealedFields
+  pub admissible : IsAdmissible (history jobs parts) job
+  pub is_history : IsHistory (jobs ++ job ∷ []) (parts ++ sealed ∷ [])
+  pub outputs : d.outputs ≡ publishes_to asked (part_bytes sealed) (ledger_bytes (jobs ++ job ∷ []) (parts ++ sealed ∷ []))
+  pub report : d.text ≡ report_line job.epoch (length jobs) (counts (past_of (history jobs parts)) (told job))
+
+-- ---- stores
+
+-- The command adds a part to the parts of a store: `start` to none, and `install` to those whose store's bytes STORE holds.
+abbrev pub StoresPart : Command → Files → List SealedFields → SealedFields → Type 0
+StoresPart (commands.Start t) files parts s = (parts ≡ []) × (get files t.part ≡ Some (part_bytes s))
+StoresPart (commands.Install i) files parts s = (1 ≤ length parts) × (get files i.store ≡ Some (store_bytes parts)) × (get files i.part ≡ Some (part_bytes s))
+StoresPart command files parts s = ⊥
+
+-- the file that the store is written to
+abbrev pub stores_to : Command → List ℕ → List OutputFields
+stores_to (commands.Start t) store = record { name = t.store; bytes = store } ∷ []
+stores_to (commands.Install i) store = record { name = i.new_store; bytes = store } ∷ []
+stores_to command store = []
+
+-- The bytes of the store of the parts with this one are written, and the line says how many parts it has.
+pub record IsStored (asked : Command) (parts : List SealedFields) (s : SealedFields) (d : Done) : Type 0 where
+  pub outputs : d.outputs ≡ stores_to asked (store_bytes (parts ++ s ∷ []))
+  pub text : d.text ≡ store_line (length (parts ++ s ∷ [])) s.part.head.epoch
+
+-- ---- asking
+
+-- The command asks the store of a history about a certificate, with sightings of its accepted entries alone.
+abbrev pub AsksHistory : Command → Files → QueryFields → List JobFields → List SealedFields → Type 0
+AsksHistory asked files q jobs parts =
+    (asked ≡ commands.Query q) × (1 ≤ length jobs) × (get files q.store ≡ Some (store_bytes parts))
+    × (1 ≤ length q.sightings) × ((s : Sighting) → Among q.sightings s → Among (sightings q.id (seen (history jobs parts))) s)
+
+-- the truth of the history
+abbrev pub truth_done : List JobFields → List SealedFields → QueryFields → Done
+truth_done jobs parts q = only (line (verdict_word (truth (history jobs parts) q.id)))

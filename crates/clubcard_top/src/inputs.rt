@@ -1,0 +1,82 @@
+//! The files that commands read: a job, a ledger, a part and a store. The bytes are dropped once they are read.
+
+ghost use Rattle.std.specs.Prelude.{◌≡◌, ◌≤◌, IfOk};
+ghost use Rattle.octets_core.specs.Reading.{GivesUnless};
+ghost use Rattle.outside_core.specs.Files.{Rose};
+ghost use Rattle.job_core.specs.JobFields.{fields_of_job};
+ghost use Rattle.job_core.specs.JobFacts.{FitsFields, IsWithinLimits};
+ghost use Rattle.clubcard_top.specs.PartFile.{part_file};
+ghost use Rattle.clubcard_top.specs.Readings.{job_in as job_of, ledger_in as ledger_of, part_in as part_of, store_in as store_of};
+ghost use Rattle.clubcard_top.specs.Inputs.{IsInput};
+
+use crate::fault::FileFault;
+use crate::input::read_all;
+use job_core::{Job, Limits, read_job};
+use ledger_core::{Ledger, decode_ledger};
+use octets_core::{Field, LayoutFault, Why};
+use outside_core::Depot;
+use part_codec::{Sealed, decode_part};
+use std::alloc::Global;
+use store_core::{Store, decode_store};
+
+/// The job of the file of this name.
+pub fn job_in<D: Depot>(alloc: Global, depot: &mut D, name: &str) -> Result<Job, FileFault>
+    ensures input { IsInput (D.files depot.old) (Rose (D.read_faults depot.old) (D.read_faults depot.new)) name.now job_of fields_of_job result }
+    ensures fits { IfOk result (λ job. FitsFields (fields_of_job job)) }
+    ensures within { IfOk result (λ job. IsWithinLimits Limits.PUBLISHED (fields_of_job job)) }
+    ensures later { D.read_faults depot.old ≤ D.read_faults depot.new }
+    ensures same_files { D.files depot.new ≡ D.files depot.old }
+    ensures same_writes { D.write_faults depot.new ≡ D.write_faults depot.old }
+{
+    let bytes = read_all(alloc, depot, name)?;
+    Ok(read_job(alloc, &bytes, &Limits::PUBLISHED)?)
+}
+
+/// The ledger of the file of this name.
+pub fn ledger_in<D: Depot>(alloc: Global, depot: &mut D, name: &str) -> Result<Ledger, FileFault>
+    ensures input { IsInput (D.files depot.old) (Rose (D.read_faults depot.old) (D.read_faults depot.new)) name.now ledger_of (λ l. l) result }
+    ensures later { D.read_faults depot.old ≤ D.read_faults depot.new }
+    ensures same_files { D.files depot.new ≡ D.files depot.old }
+    ensures same_writes { D.write_faults depot.new ≡ D.write_faults depot.old }
+{
+    let bytes = read_all(alloc, depot, name)?;
+    Ok(decode_ledger(alloc, &bytes)?)
+}
+
+/// The part that a file's bytes are, and how many bytes it has.
+#[tactic(auto, unfolding(crate::specs::PartFile::part_file))]
+fn part_alone(alloc: Global, bytes: &[u8]) -> Result<(Sealed, usize), FileFault>
+    ensures { GivesUnless FileFault.NoMemory (λ x. x) result (part_file bytes.now 0) }
+{
+    let (sealed, end) = decode_part(alloc, bytes)?;
+    if end < bytes.len() {
+        return Err(LayoutFault::new(end, Field::End, Why::Value).into());
+    }
+    Ok((sealed, end))
+}
+
+/// The part of the file of this name, and how many bytes it has.
+pub fn part_in<D: Depot>(
+    alloc: Global,
+    depot: &mut D,
+    name: &str,
+) -> Result<(Sealed, usize), FileFault>
+    ensures input { IsInput (D.files depot.old) (Rose (D.read_faults depot.old) (D.read_faults depot.new)) name.now part_of (λ x. x) result }
+    ensures later { D.read_faults depot.old ≤ D.read_faults depot.new }
+    ensures same_files { D.files depot.new ≡ D.files depot.old }
+    ensures same_writes { D.write_faults depot.new ≡ D.write_faults depot.old }
+{
+    let bytes = read_all(alloc, depot, name)?;
+    part_alone(alloc, &bytes)
+}
+
+/// The store of the file of this name.
+pub fn store_in<D: Depot>(alloc: Global, depot: &mut D, name: &str) -> Result<Store, FileFault>
+    ensures input { IsInput (D.files depot.old) (Rose (D.read_faults depot.old) (D.read_faults depot.new)) name.now store_of (λ s. s) result }
+    ensures later { D.read_faults depot.old ≤ D.read_faults depot.new }
+    ensures same_files { D.files depot.new ≡ D.files depot.old }
+    ensures same_writes { D.write_faults depot.new ≡ D.write_faults depot.old }
+{
+    let bytes = read_all(alloc, depot, name)?;
+    Ok(decode_store(alloc, &bytes)?)
+}

@@ -1,0 +1,112 @@
+//! The client's commands that write a store: what each answers, from what its files hold.
+
+ghost use Rattle.std.specs.Prelude.{◌≡◌, ◌≤◌, IfOk};
+ghost use Rattle.octets_core.specs.Reading.{GivesUnless};
+ghost use Rattle.outside_core.specs.Files.{Rose};
+ghost use Rattle.store_core.specs.Chain.{newest_of};
+ghost use Rattle.word_core.specs.declared.command.Command.{Command};
+ghost use Rattle.clubcard_top.specs.Commands.{begun as begun_with, epoch_of, installed as installed_with, stored as stored_as};
+ghost use Rattle.clubcard_top.specs.Answering.{shown};
+ghost use Rattle.clubcard_top.specs.Replies.{done};
+ghost use Rattle.clubcard_top.specs.Runs.{IsReply};
+
+use crate::answer::Answer;
+use crate::commands::refused;
+use crate::fault::FileFault;
+use crate::inputs::{part_in, store_in};
+use crate::output::Output;
+use crate::reply::Reply;
+use line_core::stored as stored_line;
+use octets_core::NoMemory;
+use outside_core::Depot;
+use part_codec::Sealed;
+use std::alloc::Global;
+use store_core::{StartFault, Store, encode_store};
+use word_core::{Install, Start};
+
+/// The epoch of a store's newest part.
+fn newest_epoch(store: &Store) -> u64
+    ensures { result ≡ epoch_of (newest_of store.now) }
+{
+    let parts = store.parts();
+    parts[parts.len() - 1].part().head().epoch()
+}
+
+/// The answer where a store is written to the file of this name.
+fn stored(alloc: Global, name: &str, store: &Store) -> Result<Answer, NoMemory>
+    ensures { IfOk result (λ a. shown a ≡ done (stored_as name.now store.now)) }
+{
+    let text = encode_store(alloc, store)?;
+    let mut outputs = Vec::with_capacity(alloc, 1)?;
+    outputs.push(Output::new(alloc, name, text)?)?;
+    let line = stored_line(store.parts().len(), newest_epoch(store));
+    Ok(Answer::Files(outputs, Reply::done(alloc, &line)?))
+}
+
+/// The store that the part begins.
+fn begun(alloc: Global, part: Sealed) -> Result<Store, FileFault>
+    ensures { GivesUnless FileFault.NoMemory (λ s. s) result (begun_with part) }
+{
+    match Store::start(alloc, part) {
+        Ok(store) => Ok(store),
+        Err(StartFault::NotSnapshot(_)) => Err(FileFault::NotSnapshot),
+        Err(StartFault::NoMemory(_)) => Err(FileFault::NoMemory),
+    }
+}
+
+/// The store with the part.
+fn installed(store: Store, part: Sealed) -> Result<Store, FileFault>
+    ensures { GivesUnless FileFault.NoMemory (λ s. s) result (installed_with store part) }
+{
+    let mut store = store;
+    match store.install(part) {
+        Ok(()) => Ok(store),
+        Err(refused) => Err(FileFault::Chain(refused.why)),
+    }
+}
+
+/// The answer of `start`.
+pub fn answer_start<D: Depot>(
+    alloc: Global,
+    start: &Start,
+    depot: &mut D,
+) -> Result<Answer, NoMemory>
+    ensures reply { IfOk result (λ a. IsReply (Command.Start start.now) (D.files depot.old) (Rose (D.read_faults depot.old) (D.read_faults depot.new)) (shown a)) }
+    ensures later { D.read_faults depot.old ≤ D.read_faults depot.new }
+    ensures same_files { D.files depot.new ≡ D.files depot.old }
+    ensures same_writes { D.write_faults depot.new ≡ D.write_faults depot.old }
+{
+    let part = match part_in(alloc, depot, start.part()) {
+        Ok((part, _)) => part,
+        Err(fault) => return refused(alloc, start.part(), fault),
+    };
+    match begun(alloc, part) {
+        Ok(store) => stored(alloc, start.store(), &store),
+        Err(fault) => refused(alloc, start.part(), fault),
+    }
+}
+
+/// The answer of `install`.
+pub fn answer_install<D: Depot>(
+    alloc: Global,
+    install: &Install,
+    depot: &mut D,
+) -> Result<Answer, NoMemory>
+    ensures reply { IfOk result (λ a. IsReply (Command.Install install.now) (D.files depot.old) (Rose (D.read_faults depot.old) (D.read_faults depot.new)) (shown a)) }
+    ensures later { D.read_faults depot.old ≤ D.read_faults depot.new }
+    ensures same_files { D.files depot.new ≡ D.files depot.old }
+    ensures same_writes { D.write_faults depot.new ≡ D.write_faults depot.old }
+{
+    let store = match store_in(alloc, depot, install.store()) {
+        Ok(store) => store,
+        Err(fault) => return refused(alloc, install.store(), fault),
+    };
+    let part = match part_in(alloc, depot, install.part()) {
+        Ok((part, _)) => part,
+        Err(fault) => return refused(alloc, install.part(), fault),
+    };
+    match installed(store, part) {
+        Ok(store) => stored(alloc, install.new_store(), &store),
+        Err(fault) => refused(alloc, install.part(), fault),
+    }
+}
