@@ -2,7 +2,7 @@
 # Certificates, CRLs and keys made by openssl, through the program and back: what `clubcard query` says of each certificate
 # is compared with what `openssl verify -crl_check` says of it. It needs openssl (3.0 or later) and python3.
 #
-#     tools/openssl_example.sh [mixed]
+#     tools/openssl_example.sh
 #
 # It makes the authorities of the table below, packs their CRLs and certificates into a job (tools/pack_job.py), and runs
 #
@@ -10,25 +10,30 @@
 #     clubcard start PART STORE
 #     clubcard query STORE ISSUER SERIAL LOG TIME      for each certificate (ISSUER and SERIAL by tools/identity.py)
 #
-# It prints a line for each certificate, and ends with status 0 exactly where the two agree on all of them. With the word
-# `mixed` there is an authority besides that revoked some of its certificates and not the others; `snapshot` has no block
-# for it yet and answers `mixed job`, and the script ends with its status. All files lie in a new folder, which is removed.
+# Then each authority issues one more certificate, the first one revokes its first certificate, all make new CRLs, and a
+# second job holds these and the new certificates:
+#
+#     clubcard delta JOB LEDGER PART NEWLEDGER 1
+#     clubcard install STORE PART NEWSTORE
+#     clubcard query NEWSTORE ..                       for each certificate, old and new
+#
+# It prints a line for each certificate that is asked, and ends with status 0 exactly where the two agree on all of them.
+# All files lie in a new folder, which is removed.
 set -eu
 
 # The authorities: a name, and what becomes of each of its certificates.
 authorities() {
     echo "oak good good good"
     echo "elm revoked revoked"
-    [ "$kind" != mixed ] || echo "ash good revoked good"
+    echo "ash good revoked good"
 }
 
 # The log that saw them all, from this moment on, one millisecond after the other.
 log=aaaaaaaaaaaaaaaaaaaaaaaaaaaaaaaaaaaaaaaaaaaaaaaaaaaaaaaaaaaaaaaa
 moment=$(($(date +%s) * 1000))
 
-kind=${1-}
-if [ $# -gt 1 ] || { [ -n "$kind" ] && [ "$kind" != mixed ]; }; then
-    echo "usage: $0 [mixed]" >&2
+if [ $# -gt 0 ]; then
+    echo "usage: $0" >&2
     exit 2
 fi
 top=$(cd "$(dirname "$0")/.." && pwd)
@@ -82,8 +87,14 @@ request() {
     quiet req "$@" -newkey ec -pkeyopt ec_paramgen_curve:P-256 -nodes
 }
 
-# Makes an authority in a folder of its name: ca.pem, crl.pem and a certificate for each further word, N.pem. The first
-# serial is 80, whose INTEGER has two octets.
+# Issues a certificate, N.pem.
+issue() {
+    request -new -keyout leaf.key -out leaf.csr -subj "/CN=$1.$name.example"
+    quiet ca -batch -notext -in leaf.csr -out "$1.pem"
+}
+
+# Makes an authority in a folder of its name: ca.pem, crl.pem and a certificate for each further word. The first serial is
+# 80, whose INTEGER has two octets.
 make_authority() (
     name=$1
     shift
@@ -96,10 +107,17 @@ make_authority() (
     n=0
     for fate in "$@"; do
         n=$((n + 1))
-        request -new -keyout leaf.key -out leaf.csr -subj "/CN=$n.$name.example"
-        quiet ca -batch -notext -in leaf.csr -out "$n.pem"
+        issue "$n"
         [ "$fate" = good ] || quiet ca -revoke "$n.pem"
     done
+    quiet ca -gencrl -out crl.pem
+)
+
+# Issues one more certificate, which has the number, and makes a new CRL.
+go_on() (
+    name=$1
+    cd "$name"
+    issue "$2"
     quiet ca -gencrl -out crl.pem
 )
 
@@ -129,30 +147,50 @@ openssl_verdict() {
     fi
 }
 
+# Asks a store about the certificates that are listed, and compares.
+differing=0
+compare() {
+    while read -r name n time; do
+        identity=$(python3 "$top/tools/identity.py" "$name/$n.pem" "$name/ca.pem")
+        # shellcheck disable=SC2086 # two words
+        verdict=$("$top/clubcard" query "$1" $identity "$log" "$time") || true
+        wanted=$(openssl_verdict "$name" "$n")
+        echo "$name $n: clubcard $verdict, openssl $wanted"
+        [ "$verdict" = "$wanted" ] || differing=$((differing + 1))
+    done <certificates.txt
+}
+
 authorities >authorities.txt
+certificates >certificates.txt
+
 while read -r name fates; do
     # shellcheck disable=SC2086 # a word for each certificate
     make_authority "$name" $fates
-    echo "--crl $name/ca.pem $name/crl.pem" >>options
+    echo "--crl $name/ca.pem $name/crl.pem" >>crls
 done <authorities.txt
-certificates >certificates.txt
 while read -r name n time; do
-    echo "--certificate $name/$n.pem $name/ca.pem $log $time" >>options
+    echo "--certificate $name/$n.pem $name/ca.pem $log $time" >>first
 done <certificates.txt
+python3 "$top/tools/pack_job.py" --epoch 1 --moment "$moment" --range "$log" "$moment" "$((moment + 1000))" @crls @first job1
+"$top/clubcard" snapshot job1 part1 ledger1 1
+"$top/clubcard" start part1 store1
+compare store1
 
-python3 "$top/tools/pack_job.py" --epoch 1 --moment "$moment" --range "$log" "$moment" "$((moment + 1000))" @options job
-"$top/clubcard" snapshot job part ledger 1
-"$top/clubcard" start part store
+(cd oak && quiet ca -revoke 1.pem)
+time=$((moment + 1000))
+while read -r name fates; do
+    # shellcheck disable=SC2086 # a word for each certificate
+    set -- $fates
+    n=$(($# + 1))
+    go_on "$name" "$n"
+    time=$((time + 1))
+    echo "$name $n $time" >>certificates.txt
+    echo "--certificate $name/$n.pem $name/ca.pem $log $time" >>second
+done <authorities.txt
+python3 "$top/tools/pack_job.py" --epoch 2 --moment "$moment" --range "$log" "$moment" "$((moment + 2000))" @crls @second job2
+"$top/clubcard" delta job2 ledger1 part2 ledger2 1
+"$top/clubcard" install store1 part2 store2
+compare store2
 
-differing=0
-while read -r name n time; do
-    identity=$(python3 "$top/tools/identity.py" "$name/$n.pem" "$name/ca.pem")
-    # shellcheck disable=SC2086 # two words
-    verdict=$("$top/clubcard" query store $identity "$log" "$time") || true
-    wanted=$(openssl_verdict "$name" "$n")
-    echo "$name $n: clubcard $verdict, openssl $wanted"
-    [ "$verdict" = "$wanted" ] || differing=$((differing + 1))
-done <certificates.txt
-
-echo "$differing of $(wc -l <certificates.txt) certificates differ"
+echo "$differing certificates differ"
 [ "$differing" -eq 0 ]
