@@ -1,3 +1,4 @@
+pub mod Files
 pub mod Outputs
 pub mod Reading
 pub mod Makings

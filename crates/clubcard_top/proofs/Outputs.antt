@@ -4,8 +4,7 @@ use Rattle.std.specs.Prelude.{OnOk, OnErr}
 use Rattle.std.proofs.lemmas.List.{take-append-drop, take_more}
 use Rattle.outside_core.specs.Files.{Files, putting, extending, Torn}
 use Rattle.outside_core.specs.declared.depot.Failed.{Failed}
-use Rattle.outside_core.proofs.Appending.{extending-putting, Torn-putting}
-use Rattle.outside_core.proofs.Files.{get-other}
+use Rattle.clubcard_top.proofs.Files.{get-other, extending-putting, Torn-putting}
 use Rattle.clubcard_top.specs.ReplyFields.{OutputFields}
 use Rattle.clubcard_top.specs.Runs.{with_outputs, IsLeft, IsTorn, KeepsAllBut}
 

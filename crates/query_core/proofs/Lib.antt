@@ -1,0 +1,5 @@
+mod Steps
+pub mod QueryTexts
+pub mod QueryReads
+mod QueryBounds
+mod Decodes

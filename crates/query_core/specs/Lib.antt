@@ -1,0 +1,4 @@
+pub mod Queries
+pub mod QueryText
+pub mod QueryLayout
+pub mod QueryReading

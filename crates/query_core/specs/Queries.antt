@@ -1,0 +1,34 @@
+-- What a query file asks: certificates, each with the sightings that it was seen at; and the queries that have a text.
+use Rattle.std.specs.Prelude.{◌≡◌, ◌<◌, ◌≤◌, ◌^◌, List, length, All}
+use Rattle.ident_core.specs.declared.identity.Identity.{Identity}
+use Rattle.ident_core.specs.declared.range.Sighting.{Sighting}
+use Rattle.query_core.specs.declared.query.Asked.{Asked}
+
+pub record Query : Type 0 where
+  pub identity : Identity
+  pub sightings : List Sighting
+
+-- the same of the type of the code
+abbrev pub as_query : Asked → Query
+as_query a = record { identity = a.identity; sightings = a.sightings.items }
+
+pub record IdentityFits (id : Identity) : Type 0 where
+  pub issuer : length id.issuer ≡ 32
+  pub some_octets : 1 ≤ length id.serial
+  pub few_octets : length id.serial ≤ 32
+
+pub record SightingFits (s : Sighting) : Type 0 where
+  pub log : length s.log ≡ 32
+  pub time : s.time < 2 ^ 64
+
+-- a certificate with 1 to 64 sightings
+pub record QueryFits (q : Query) : Type 0 where
+  pub identity : IdentityFits q.identity
+  pub some_sightings : 1 ≤ length q.sightings
+  pub few_sightings : length q.sightings ≤ 64
+  pub sightings : All SightingFits q.sightings
+
+-- at most 65,536 of them
+pub record QueriesFit (qs : List Query) : Type 0 where
+  pub few : length qs ≤ 65536
+  pub each : All QueryFits qs
