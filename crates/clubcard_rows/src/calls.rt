@@ -1,0 +1,172 @@
+//! A call of the program over files in memory, and what a test looks at behind it.
+
+use clubcard_top::{Status, run};
+use outside_core::{MemoryDepot, MemorySink};
+use std::alloc::Global;
+use std::test::Fail;
+use std::thread::Threads;
+
+/// Runs the words. A test looks at what came of it and needs none of the clauses of `run`.
+fn ended_by<R: Threads + Sync>(
+    rt: &R,
+    alloc: Global,
+    words: &[String],
+    depot: &mut MemoryDepot,
+    out: &mut MemorySink,
+) -> Status {
+    run(rt, alloc, words, depot, out)
+}
+
+/// A command's words, each a word.
+fn words_of(alloc: Global, words: &[&str]) -> Result<Vec<String>, Fail> {
+    let mut list = Vec::new(alloc);
+    for word in words {
+        list.push(String::from_str(alloc, word)?)?;
+    }
+    Ok(list)
+}
+
+/// The bytes of pieces in hexadecimal.
+pub fn bytes_of(alloc: Global, pieces: &[&str]) -> Result<Vec<u8>, Fail> {
+    let mut bytes = Vec::new(alloc);
+    for piece in pieces {
+        bytes.extend_from_slice(&hex::decode(alloc, piece)?)?;
+    }
+    Ok(bytes)
+}
+
+/// Puts a file of these pieces.
+pub fn put(
+    alloc: Global,
+    depot: &mut MemoryDepot,
+    name: &str,
+    pieces: &[&str],
+) -> Result<(), Fail> {
+    let bytes = bytes_of(alloc, pieces)?;
+    depot.put(name, &bytes)?;
+    Ok(())
+}
+
+/// Puts a file of these pieces with the byte at a place set.
+pub fn put_with_byte(
+    alloc: Global,
+    depot: &mut MemoryDepot,
+    name: &str,
+    pieces: &[&str],
+    at: usize,
+    value: u8,
+) -> Result<(), Fail> {
+    let mut bytes = bytes_of(alloc, pieces)?;
+    if at < bytes.len() {
+        bytes[at] = value;
+    }
+    depot.put(name, &bytes)?;
+    Ok(())
+}
+
+/// Puts a file of the first bytes of these pieces, so many of them.
+pub fn put_cut(
+    alloc: Global,
+    depot: &mut MemoryDepot,
+    name: &str,
+    pieces: &[&str],
+    len: usize,
+) -> Result<(), Fail> {
+    let mut bytes = bytes_of(alloc, pieces)?;
+    bytes.truncate(len);
+    depot.put(name, &bytes)?;
+    Ok(())
+}
+
+/// Puts what a file holds under another name too.
+pub fn copy(alloc: Global, depot: &mut MemoryDepot, from: &str, to: &str) -> Result<(), Fail> {
+    let mut bytes = Vec::new(alloc);
+    if let Some(held) = depot.bytes_of(from) {
+        bytes.extend_from_slice(held)?;
+    }
+    depot.put(to, &bytes)?;
+    Ok(())
+}
+
+/// Whether the words end so, with these lines, over a sink whose write of this number fails.
+pub fn says_until<R: Threads + Sync>(
+    rt: &R,
+    alloc: Global,
+    depot: &mut MemoryDepot,
+    write: u64,
+    words: &[&str],
+    status: Status,
+    lines: &str,
+) -> Result<bool, Fail> {
+    let mut out = MemorySink::new(alloc);
+    out.fail_writes(&[write])?;
+    let words = words_of(alloc, words)?;
+    let ended = ended_by(rt, alloc, &words, depot, &mut out);
+    let same = out.bytes() == lines.as_bytes();
+    Ok(ended == status && same)
+}
+
+/// Whether the words end so, with these lines.
+pub fn says<R: Threads + Sync>(
+    rt: &R,
+    alloc: Global,
+    depot: &mut MemoryDepot,
+    words: &[&str],
+    status: Status,
+    lines: &str,
+) -> Result<bool, Fail> {
+    says_until(rt, alloc, depot, u64::MAX, words, status, lines)
+}
+
+/// Whether the words are done, with these lines.
+pub fn does<R: Threads + Sync>(
+    rt: &R,
+    alloc: Global,
+    depot: &mut MemoryDepot,
+    words: &[&str],
+    lines: &str,
+) -> Result<bool, Fail> {
+    says(rt, alloc, depot, words, Status::DONE, lines)
+}
+
+/// Whether the file of this name holds these bytes.
+pub fn holds(
+    alloc: Global,
+    depot: &MemoryDepot,
+    name: &str,
+    pieces: &[&str],
+) -> Result<bool, Fail> {
+    let bytes = bytes_of(alloc, pieces)?;
+    match depot.bytes_of(name) {
+        Some(held) => Ok(held == bytes.as_slice()),
+        None => Ok(false),
+    }
+}
+
+/// Whether two files hold the same bytes.
+pub fn holds_the_same(depot: &MemoryDepot, name: &str, other: &str) -> bool {
+    match (depot.bytes_of(name), depot.bytes_of(other)) {
+        (Some(bytes), Some(others)) => bytes == others,
+        _ => false,
+    }
+}
+
+/// Whether no file has this name.
+pub fn lacks(depot: &MemoryDepot, name: &str) -> bool {
+    depot.bytes_of(name).is_none()
+}
+
+/// Whether the store in the file `S` answers so, asked for a certificate with one sighting.
+pub fn answers<R: Threads + Sync>(
+    rt: &R,
+    alloc: Global,
+    depot: &mut MemoryDepot,
+    issuer: &str,
+    serial: &str,
+    log: &str,
+    time: &str,
+    verdict: &str,
+) -> Result<bool, Fail> {
+    let words: &[&str] = &["query", "S", issuer, serial, log, time];
+    does(rt, alloc, depot, words, verdict)
+}

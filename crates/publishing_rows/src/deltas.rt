@@ -1,0 +1,303 @@
+//! `delta`: jobs behind others, and jobs and ledgers that are refused.
+
+use clubcard_rows::calls::{does, holds, lacks, put, put_cut, put_with_byte, says};
+use clubcard_rows::files::{
+    CRL_CUT, CRL_NONE, K1, LA, LB, LEDGER_DROPPED, LEDGER_GOOD, LEDGER_LATE, PART_DROPPED,
+    PART_LATE,
+};
+use clubcard_rows::jobs::{JobText, dropped_serial, late_entry};
+use clubcard_top::Status;
+use outside_core::MemoryDepot;
+use std::alloc::Global;
+use std::test::Fail;
+use std::thread::Threads;
+
+const DELTA: &[&str] = &["delta", "J", "L", "P", "M", "1"];
+
+/// A depot whose file `J` holds this job, and `L` this ledger.
+fn depot_of(alloc: Global, job: &[u8], ledger: &str) -> Result<MemoryDepot, Fail> {
+    let mut depot = MemoryDepot::new(alloc);
+    depot.put("J", job)?;
+    put(alloc, &mut depot, "L", &[ledger])?;
+    Ok(depot)
+}
+
+/// Whether `delta` publishes the job behind the ledger so, and leaves the ledger as it is.
+fn publishes<R: Threads + Sync>(
+    rt: &R,
+    alloc: Global,
+    job: &[u8],
+    ledger: &str,
+    part: &str,
+    next: &str,
+    report: &str,
+) -> Result<bool, Fail> {
+    let mut depot = depot_of(alloc, job, ledger)?;
+    let done = does(rt, alloc, &mut depot, DELTA, report)?;
+    let part_is = holds(alloc, &depot, "P", &[part])?;
+    let next_is = holds(alloc, &depot, "M", &[next])?;
+    let ledger_is = holds(alloc, &depot, "L", &[ledger])?;
+    Ok(done && part_is && next_is && ledger_is)
+}
+
+/// Whether `delta` over these files is refused so, and writes no file.
+fn refused_over<R: Threads + Sync>(
+    rt: &R,
+    alloc: Global,
+    depot: MemoryDepot,
+    status: Status,
+    line: &str,
+) -> Result<bool, Fail> {
+    let mut depot = depot;
+    let said = says(rt, alloc, &mut depot, DELTA, status, line)?;
+    Ok(said && lacks(&depot, "P") && lacks(&depot, "M"))
+}
+
+/// Whether `delta` refuses the job behind the ledger so, and writes no file.
+fn refuses<R: Threads + Sync>(
+    rt: &R,
+    alloc: Global,
+    job: &[u8],
+    ledger: &str,
+    status: Status,
+    line: &str,
+) -> Result<bool, Fail> {
+    refused_over(rt, alloc, depot_of(alloc, job, ledger)?, status, line)
+}
+
+// 05 is listed now, 06 is new, and 07 is late: the first part covers it, and was built without it. In the ledger 05 has
+// birth 0 and last 1, and 06 birth 1 and no last part.
+#[test]
+fn late_entry_is_dropped(rt: HostRuntime) -> Result<(), Fail> {
+    let alloc = rt.alloc();
+    let report =
+        "epoch 2 part 1 issuers 1 universe 2 revoked 1 unread 0 uncovered 0 unenrolled 0 late 1 accepted 1\n";
+    let job = late_entry(alloc)?;
+    assert!(rt;
+        publishes(
+            &rt,
+            alloc,
+            &job,
+            LEDGER_GOOD,
+            PART_LATE,
+            LEDGER_LATE,
+            report
+        )?
+    );
+    Ok(())
+}
+
+// The CRL lists 05 no more, and it stays revoked; 08 was listed before its birth, and isn't.
+#[test]
+fn dropped_serial_stays_revoked(rt: HostRuntime) -> Result<(), Fail> {
+    let alloc = rt.alloc();
+    let report =
+        "epoch 3 part 2 issuers 1 universe 3 revoked 1 unread 0 uncovered 0 unenrolled 0 late 0 accepted 2\n";
+    let job = dropped_serial(alloc)?;
+    assert!(rt;
+        publishes(
+            &rt,
+            alloc,
+            &job,
+            LEDGER_LATE,
+            PART_DROPPED,
+            LEDGER_DROPPED,
+            report
+        )?
+    );
+    Ok(())
+}
+
+#[test]
+fn epoch_of_the_newest_part(rt: HostRuntime) -> Result<(), Fail> {
+    let alloc = rt.alloc();
+    let job = late_entry(alloc)?;
+    assert!(rt;
+        refuses(
+            &rt,
+            alloc,
+            &job,
+            LEDGER_LATE,
+            Status::CHAIN,
+            "chain epoch 2 2 J\n"
+        )?
+    );
+    Ok(())
+}
+
+/// A job of epoch 3 with one range of a log, up to T and 2000.
+fn with_range(alloc: Global, log: &str, from: u64) -> Result<Vec<u8>, Fail> {
+    let mut job = JobText::begin(alloc, 3)?;
+    job.range(log, from, 2000)?;
+    job.crl(K1, CRL_NONE)?;
+    job.end()
+}
+
+// The range of the newest part begins later, and is of another log.
+#[test]
+fn coverage_that_shrinks(rt: HostRuntime) -> Result<(), Fail> {
+    let alloc = rt.alloc();
+    assert!(rt; shrinks(&rt, alloc, &with_range(alloc, LA, 1)?)?);
+    assert!(rt; shrinks(&rt, alloc, &with_range(alloc, LB, 0)?)?);
+    Ok(())
+}
+
+const SHRINKS: &str =
+    "chain coverage aaaaaaaaaaaaaaaaaaaaaaaaaaaaaaaaaaaaaaaaaaaaaaaaaaaaaaaaaaaaaaaa J\n";
+
+/// Whether the job behind late_entry covers less.
+fn shrinks<R: Threads + Sync>(rt: &R, alloc: Global, job: &[u8]) -> Result<bool, Fail> {
+    refuses(rt, alloc, job, LEDGER_LATE, Status::CHAIN, SHRINKS)
+}
+
+/// A job behind one_good whose second CRL is cut.
+fn with_a_cut_crl(alloc: Global) -> Result<Vec<u8>, Fail> {
+    let mut job = JobText::begin(alloc, 2)?;
+    job.range(LA, 0, 2000)?;
+    job.crl(K1, CRL_NONE)?;
+    job.crl(K1, CRL_CUT)?;
+    job.end()
+}
+
+// A malformed CRL comes before an old epoch.
+#[test]
+fn malformed_crl_in_delta(rt: HostRuntime) -> Result<(), Fail> {
+    let alloc = rt.alloc();
+    let (line, status) = ("crl 1 malformed J\n", Status::BAD_CRL);
+    assert!(rt;
+        refuses(
+            &rt,
+            alloc,
+            &with_a_cut_crl(alloc)?,
+            LEDGER_GOOD,
+            status,
+            line
+        )?
+    );
+    assert!(rt;
+        refuses(
+            &rt,
+            alloc,
+            &with_a_cut_crl(alloc)?,
+            LEDGER_LATE,
+            status,
+            line
+        )?
+    );
+    Ok(())
+}
+
+/// A depot with the job of late_entry and the ledger of one_good, a byte of which is set.
+fn damaged_at(alloc: Global, at: usize, value: u8) -> Result<MemoryDepot, Fail> {
+    let mut depot = depot_of(alloc, &late_entry(alloc)?, LEDGER_GOOD)?;
+    put_with_byte(alloc, &mut depot, "L", &[LEDGER_GOOD], at, value)?;
+    Ok(depot)
+}
+
+/// A depot with the job of late_entry and so many bytes of the ledger of one_good.
+fn cut_at(alloc: Global, len: usize) -> Result<MemoryDepot, Fail> {
+    let mut depot = depot_of(alloc, &late_entry(alloc)?, LEDGER_GOOD)?;
+    put_cut(alloc, &mut depot, "L", &[LEDGER_GOOD], len)?;
+    Ok(depot)
+}
+
+/// Whether `delta` over these files finds a damaged ledger.
+fn breaks<R: Threads + Sync>(
+    rt: &R,
+    alloc: Global,
+    depot: MemoryDepot,
+    line: &str,
+) -> Result<bool, Fail> {
+    refused_over(rt, alloc, depot, Status::BAD_LAYOUT, line)
+}
+
+#[test]
+fn damaged_ledger(rt: HostRuntime) -> Result<(), Fail> {
+    let alloc = rt.alloc();
+    let birth = "layout 174 identity.birth value L\n";
+    let last = "layout 175 identity.last value L\n";
+    let digest = "layout 176 ledger.digest digest L\n";
+    assert!(rt;
+        breaks(
+            &rt,
+            alloc,
+            damaged_at(alloc, 0, 0)?,
+            "layout 0 ledger.magic value L\n"
+        )?
+    );
+    assert!(rt;
+        breaks(
+            &rt,
+            alloc,
+            damaged_at(alloc, 8, 2)?,
+            "layout 8 ledger.version value L\n"
+        )?
+    );
+    assert!(rt;
+        breaks(
+            &rt,
+            alloc,
+            damaged_at(alloc, 9, 0)?,
+            "layout 9 ledger.parts value L\n"
+        )?
+    );
+    assert!(rt; breaks(&rt, alloc, damaged_at(alloc, 174, 1)?, birth)?);
+    assert!(rt; breaks(&rt, alloc, damaged_at(alloc, 175, 1)?, last)?);
+    assert!(rt; breaks(&rt, alloc, damaged_at(alloc, 175, 0)?, digest)?);
+    Ok(())
+}
+
+/// A depot with the job of late_entry and the ledger of one_good with a byte behind it.
+fn longer(alloc: Global) -> Result<MemoryDepot, Fail> {
+    let mut depot = depot_of(alloc, &late_entry(alloc)?, LEDGER_GOOD)?;
+    put(alloc, &mut depot, "L", &[LEDGER_GOOD, "00"])?;
+    Ok(depot)
+}
+
+#[test]
+fn ledger_of_another_length(rt: HostRuntime) -> Result<(), Fail> {
+    let alloc = rt.alloc();
+    let (magic, digest) = (
+        "layout 0 ledger.magic short L\n",
+        "layout 176 ledger.digest short L\n",
+    );
+    assert!(rt; breaks(&rt, alloc, cut_at(alloc, 0)?, magic)?);
+    assert!(rt; breaks(&rt, alloc, cut_at(alloc, 207)?, digest)?);
+    assert!(rt; breaks(&rt, alloc, longer(alloc)?, "layout 208 end value L\n")?);
+    Ok(())
+}
+
+/// A depot with a job and a ledger of one byte.
+fn both_damaged(alloc: Global) -> Result<MemoryDepot, Fail> {
+    let mut depot = MemoryDepot::new(alloc);
+    put(alloc, &mut depot, "J", &["00"])?;
+    put(alloc, &mut depot, "L", &["00"])?;
+    Ok(depot)
+}
+
+// The job is read before the ledger.
+#[test]
+fn damaged_job_before_a_damaged_ledger(rt: HostRuntime) -> Result<(), Fail> {
+    let alloc = rt.alloc();
+    assert!(rt;
+        breaks(
+            &rt,
+            alloc,
+            both_damaged(alloc)?,
+            "layout 0 job.magic short J\n"
+        )?
+    );
+    Ok(())
+}
+
+// The names of inputs may be equal: a job is no ledger.
+#[test]
+fn job_in_place_of_the_ledger(rt: HostRuntime) -> Result<(), Fail> {
+    let alloc = rt.alloc();
+    let mut depot = depot_of(alloc, &late_entry(alloc)?, LEDGER_GOOD)?;
+    let words: &[&str] = &["delta", "J", "J", "P", "M", "1"];
+    let line = "layout 0 ledger.magic value J\n";
+    assert!(rt; says(&rt, alloc, &mut depot, words, Status::BAD_LAYOUT, line)?);
+    assert!(rt; lacks(&depot, "P") && lacks(&depot, "M"));
+    Ok(())
+}

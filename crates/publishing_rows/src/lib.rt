@@ -1,0 +1,7 @@
+//! Worked examples of `snapshot` and `delta`.
+#![tactic(auto)]
+
+#[cfg(test)]
+mod deltas;
+#[cfg(test)]
+mod publishing;
