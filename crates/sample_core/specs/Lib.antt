@@ -1,0 +1,4 @@
+pub mod Sample
+pub mod Writing
+pub mod Parts
+pub mod Drafts

@@ -1,0 +1,13 @@
+//! The generator of large jobs: a number and a count of entries stand for one job, which is written as it is made.
+#![tactic(auto)]
+
+mod buffer;
+mod crl;
+mod digests;
+mod entry;
+mod head;
+mod sample;
+#[cfg(test)]
+mod tests;
+
+pub use sample::{MAX_COUNT, Sample, SampleFault, write_sample};
