@@ -1,5 +1,5 @@
 -- The two faults are told apart.
-use Rattle.std.proofs.Common.{◌≡◌, ◌≢◌, Result, Ok, Err, refl, sym, ap, subst, ◌∙◌}
+use Rattle.std.proofs.Common.{◌≡◌, ◌≢◌, Result, Err, refl, sym, ap, subst, ◌∙◌}
 use Rattle.std.specs.Prelude.{IfErr}
 use Rattle.outside_core.specs.declared.depot.Failed.{Failed}
 use Rattle.sample_core.specs.declared.sample.Sample.{Sample}

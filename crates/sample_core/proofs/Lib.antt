@@ -1,3 +1,4 @@
 pub mod Texts
+pub mod Jobs
 pub mod Moving
 pub mod Faults

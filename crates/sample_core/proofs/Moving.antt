@@ -1,10 +1,10 @@
 -- What one move after another leaves.
-use Rattle.std.proofs.Common.{◌≡◌, ℕ, ◌+◌, ◌-◌, ◌<◌, ◌≤◌, inl, inr, ◌⊎◌, List, [], ◌∷◌, ◌++◌, take, drop, length, Option, Result, Ok, Err, refl, sym, ap, subst, ◌∙◌, append_assoc, append-nil, arith, length-append}
+use Rattle.std.proofs.Common.{◌≡◌, ℕ, ◌+◌, ◌-◌, ◌<◌, inl, inr, ◌⊎◌, List, [], ◌∷◌, ◌++◌, take, drop, length, Option, Result, Ok, Err, refl, sym, ap, subst, ◌∙◌, append_assoc, append-nil, arith, length-append}
 use Rattle.std.specs.Prelude.{OnOk, OnErr}
 use Rattle.std.proofs.lemmas.List.{take-append-le, take-append-drop}
 use Rattle.std.proofs.Math.Seq.{take-append_seam, take-append-add}
 use Rattle.outside_core.specs.Files.{Files, putting, extending, appending, Torn, KeepsOthers}
-use Rattle.outside_core.proofs.Appending.{extending-twice, appending-extending, extending-putting, Torn-putting, Torn-front, KeepsOthers-same, KeepsOthers-putting, KeepsOthers-extending, KeepsOthers-then}
+use Rattle.outside_core.proofs.Appending.{extending-twice, appending-extending, extending-putting, Torn-putting, Torn-front, KeepsOthers-same, KeepsOthers-putting, KeepsOthers-extending}
 use Rattle.job_core.specs.JobText.{entry_record}
 use Rattle.sample_core.specs.Sample.{entry, sample_text}
 use Rattle.sample_core.specs.Parts.{head_text, entries_text}

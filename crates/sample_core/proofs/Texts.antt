@@ -1,8 +1,8 @@
 -- The parts of the job's text, and what one entry more adds to each.
 use Rattle.std.proofs.Common.{◌≡◌, ℕ, zero, suc, ◌+◌, ◌-◌, ◌*◌, ◌%◌, ◌<◌, ◌≤◌, List, [], ◌∷◌, ◌++◌, map, length, Bool, true, false, cond, refl, sym, ap, ◌∙◌, append_assoc, append-nil, arith, length-append, add-zero, take, drop, length-take, length-drop}
 use Rattle.std.specs.Prelude.{codes, flat_map, filter, sum_by}
-use Rattle.std.specs.List.{range_with_len, count_by}
-use Rattle.std.specs.Int.{w8, w32, w64, to_be_bytes}
+use Rattle.std.specs.List.{range_with_len}
+use Rattle.std.specs.Int.{w32, w64, to_be_bytes}
 use Rattle.std.proofs.lemmas.List.{take-append-drop}
 use Rattle.std.proofs.Math.Seq.{take-length}
 use Rattle.std.proofs.lemmas.List.Sums.{sum_by-append}
@@ -12,7 +12,6 @@ use mir.Val.{bool_byte}
 use Rattle.sha2.specs.Sha256.{sha256}
 use Rattle.sha2.proofs.Facts256.{length-sha256}
 use Rattle.octets_core.specs.Numbers.{three_bytes}
-use Rattle.job_core.specs.JobLayout.{EntryText}
 use Rattle.job_core.specs.JobText.{range_record, crl_record, entry_record, spelling}
 use Rattle.sample_core.specs.Sample.{moment, log_of, issuer_of, entry_digest, serial_of, leaf_front, leaf_of, entry, is_listed, is_listed_by, sequence, sequence_of_some, date, revoked_entry, revoked_entries, range_of, crl, sample_contents, sample_text, sample_revoked}
 use Rattle.sample_core.specs.Parts.{head_front, head_text, entries_text}

@@ -1,5 +1,5 @@
 -- The text of the job in three parts: what stands before the entries, the entries, and the end.
-use Rattle.std.specs.Prelude.{ℕ, List, ◌∷◌, [], ◌++◌, codes, map, flat_map}
+use Rattle.std.specs.Prelude.{ℕ, List, ◌++◌, codes, flat_map}
 use Rattle.std.specs.List.{range_with_len}
 use Rattle.std.specs.Int.{w64, to_be_bytes}
 use Rattle.job_core.specs.JobText.{range_record, crl_record, entry_record}

@@ -1,5 +1,5 @@
 -- What a text that is written through a buffer leaves.
-use Rattle.std.specs.Prelude.{◌≡◌, ℕ, ◌≤◌, ◌⊎◌, List, [], ◌++◌, take, length, Option}
+use Rattle.std.specs.Prelude.{◌≡◌, ℕ, ◌≤◌, ◌⊎◌, List, ◌++◌, take, length, Option}
 use Rattle.outside_core.specs.Files.{Files, putting, extending}
 
 -- Bytes came behind those that a buffer held: some of them all stand in the file now, and the rest is held.

@@ -6,8 +6,10 @@ mod crl;
 mod digests;
 mod entry;
 mod head;
+mod laws;
 mod sample;
 #[cfg(test)]
 mod tests;
 
+pub use laws::samples_are_jobs;
 pub use sample::{MAX_COUNT, Sample, SampleFault, write_sample};

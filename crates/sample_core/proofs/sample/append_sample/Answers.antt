@@ -1,8 +1,8 @@
-use Rattle.std.proofs.Common.{List, ℕ, ◌∙◌, ap, subst, arith}
+use Rattle.std.proofs.Common.{List, ℕ, ◌∙◌, ap, subst}
 use Rattle.std.proofs.lemmas.Result.{err_from_is_err_and}
 use Rattle.outside_core.specs.Files.{extending, Torn}
-use Rattle.outside_core.proofs.Appending.{KeepsOthers-then, KeepsOthers-extending}
-use Rattle.sample_core.proofs.Moving.{front-torn, middle-torn, end-torn, rest-torn, whole-written, KeepsOthers-Moved, on-ok, on-err}
+use Rattle.outside_core.proofs.Appending.{KeepsOthers-then}
+use Rattle.sample_core.proofs.Moving.{front-torn, middle-torn, end-torn, rest-torn, whole-written, on-ok, on-err}
 use Rattle.sample_core.proofs.sample.append_sample.Goals as goal
 
 pub returns-in_err-append_all-clause-err : goal.returns-in_err-append_all-clause-err

@@ -1,7 +1,6 @@
 use Rattle.std.proofs.Common.{length, refl, ap, ◌∙◌, arith}
 use Rattle.std.proofs.lemmas.Result.{err_from_is_err_and}
-use Rattle.outside_core.proofs.Appending.{KeepsOthers-then, KeepsOthers-Torn}
-use Rattle.sample_core.specs.Parts.{entries_text}
+use Rattle.outside_core.proofs.Appending.{KeepsOthers-then}
 use Rattle.sample_core.proofs.Texts.{record-length}
 use Rattle.sample_core.proofs.Moving.{KeepsOthers-Moved, entries-unmoved, entries-moved, entries-torn}
 use Rattle.sample_core.proofs.sample.put_entries.Goals as goal

@@ -1,5 +1,4 @@
-use Rattle.std.proofs.Common.{inl, inr}
-use Rattle.outside_core.proofs.Appending.{KeepsOthers-then, KeepsOthers-putting, KeepsOthers-same}
+use Rattle.outside_core.proofs.Appending.{KeepsOthers-then, KeepsOthers-putting}
 use Rattle.sample_core.proofs.Moving.{begun-whole, begun-cut, begin-keeps, on-ok, on-err}
 use Rattle.sample_core.proofs.sample.write_draft.Goals as goal
 
