@@ -14,6 +14,10 @@ import subprocess
 import sys
 import tempfile
 
+sys.path.insert(0, os.path.join(os.path.dirname(os.path.abspath(__file__)), "../tools"))
+
+from reference import der  # noqa: E402
+
 PROGRAM = "crates/clubcard/out/clubcard"
 T = 1700000000000
 LOG = hashlib.sha256(b"bench log").digest()
@@ -22,20 +26,11 @@ ALGORITHM = bytes.fromhex("300a06082a8648ce3d040302")
 DATE = bytes.fromhex("170d3233313131343232313332305a")
 
 
-def element(tag, contents):
-    """A DER element with the shortest length."""
-    n = len(contents)
-    if n < 128:
-        return bytes([tag, n]) + contents
-    octets = n.to_bytes((n.bit_length() + 7) // 8, "big")
-    return bytes([tag, 0x80 + len(octets)]) + octets + contents
-
-
 def crl(serials):
     """A CRL that holds the serials (RFC 5280, 5.1), with no nextUpdate."""
-    listed = element(0x30, b"".join(element(0x30, element(2, s) + DATE) for s in serials)) if serials else b""
-    tbs = element(0x30, bytes.fromhex("020101") + ALGORITHM + element(0x30, b"") + DATE + listed)
-    return element(0x30, tbs + ALGORITHM + bytes.fromhex("030100"))
+    listed = der(0x30, b"".join(der(0x30, der(2, s) + DATE) for s in serials)) if serials else b""
+    tbs = der(0x30, bytes.fromhex("020101") + ALGORITHM + der(0x30, b"") + DATE + listed)
+    return der(0x30, tbs + ALGORITHM + bytes.fromhex("030100"))
 
 
 def serial(i):
@@ -59,7 +54,7 @@ def job(epoch, first, count, revoked):
         held = crl([serial(i) for i in range(j, count, 4) if revoked(i)])
         out.append(b"\x02" + issuer + len(held).to_bytes(4, "big") + held)
     for i in range(first, count):
-        tbs = element(0x30, element(2, serial(i)))
+        tbs = der(0x30, der(2, serial(i)))
         leaf = b"\0\0" + (T + i).to_bytes(8, "big") + b"\0\1" + ISSUERS[i % 4] + len(tbs).to_bytes(3, "big") + tbs + b"\0\0"
         out.append(b"\x03" + LOG + len(leaf).to_bytes(3, "big") + leaf + bytes(3))
     out.append(b"\0")

@@ -72,13 +72,18 @@ class Walk:
             self.take(what, tag)
 
 
+def signed_fields(der, what, signed):
+    """The fields of what is signed, in the one element that these bytes are."""
+    walk = Walk(der)
+    contents, _ = walk.take(what, SEQUENCE)
+    if walk.left:
+        raise Malformed(f"bytes stand behind the {what}")
+    return Walk(Walk(contents).take(signed, SEQUENCE)[0])
+
+
 def read_certificate(der):
     """The certificate (RFC 5280, 4.1) that these bytes are."""
-    walk = Walk(der)
-    contents, _ = walk.take("certificate", SEQUENCE)
-    if walk.left:
-        raise Malformed("bytes stand behind the certificate")
-    fields = Walk(Walk(contents).take("tbsCertificate", SEQUENCE)[0])
+    fields = signed_fields(der, "certificate", "tbsCertificate")
     fields.skip("version", VERSION)
     serial, _ = fields.take("serialNumber", INTEGER)
     if not 1 <= len(serial) <= 32:
@@ -93,11 +98,7 @@ def read_certificate(der):
 
 def read_crl(der):
     """The CRL (RFC 5280, 5.1) that these bytes are. What it lists isn't read."""
-    walk = Walk(der)
-    contents, _ = walk.take("CRL", SEQUENCE)
-    if walk.left:
-        raise Malformed("bytes stand behind the CRL")
-    fields = Walk(Walk(contents).take("tbsCertList", SEQUENCE)[0])
+    fields = signed_fields(der, "CRL", "tbsCertList")
     fields.skip("version", INTEGER)
     fields.take("signature", SEQUENCE)
     _, issuer = fields.take("issuer", SEQUENCE)
