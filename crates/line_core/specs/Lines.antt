@@ -98,6 +98,11 @@ report_line epoch place c =
     ++ codes " revoked " ++ decimal c.revoked ++ codes " unread " ++ decimal c.unread ++ codes " uncovered " ++ decimal c.uncovered
     ++ codes " unenrolled " ++ decimal c.unenrolled ++ codes " late " ++ decimal c.late ++ codes " accepted " ++ decimal c.accepted ++ 10 ∷ []
 
+-- sample NUMBER entries COUNT revoked R bytes B
+abbrev pub sample_line : (number count revoked bytes : ℕ) → List ℕ
+sample_line number count revoked bytes =
+    codes "sample " ++ decimal number ++ codes " entries " ++ decimal count ++ codes " revoked " ++ decimal revoked ++ codes " bytes " ++ decimal bytes ++ 10 ∷ []
+
 abbrev pub crl_word : CrlFault → List ℕ
 crl_word crl_faults.Malformed = codes "malformed"
 crl_word crl_faults.DeltaCrl = codes "delta"

@@ -3,7 +3,7 @@
 ghost use Rattle.std.specs.Prelude.{◌≡◌, ◌+◌, ◌*◌, ◌≤◌, [], ◌∷◌, ◌++◌, length, codes, decimal};
 ghost use Rattle.hex.specs.Hex.{encode_lower};
 ghost use Rattle.part_codec.specs.PartText.{width_of};
-ghost use Rattle.line_core.specs.Lines.{stage_words, approx_words, mixed_words, body_words, check_line, report_line, store_line, head_line, range_line, block_line, trailer_line, seeds_line};
+ghost use Rattle.line_core.specs.Lines.{stage_words, approx_words, mixed_words, body_words, check_line, report_line, store_line, sample_line, head_line, range_line, block_line, trailer_line, seeds_line};
 
 use crate::words::kind_text;
 use card_core::{Block, Body, Mixed, Stage};
@@ -188,6 +188,19 @@ pub fn stored(parts: usize, epoch: u64) -> Line
     let mut line = Line::new();
     line.push_count(b"store parts ", parts as u64);
     line.push_count(b" epoch ", epoch);
+    line.push(b"\n");
+    line
+}
+
+/// `sample NUMBER entries COUNT revoked R bytes B`
+pub fn sampled(number: u64, count: u32, revoked: u32, bytes: u64) -> Line
+    ensures { result ≡ sample_line number count revoked bytes }
+{
+    let mut line = Line::new();
+    line.push_count(b"sample ", number);
+    line.push_count(b" entries ", count as u64);
+    line.push_count(b" revoked ", revoked as u64);
+    line.push_count(b" bytes ", bytes);
     line.push(b"\n");
     line
 }

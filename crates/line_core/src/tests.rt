@@ -3,7 +3,7 @@
 
 use crate::{
     about_file, checked, coverage_line, crl_line, epoch_line, layout_line, limit_line, line_of,
-    parent_line, reported, seeds_line, stored, write_sealed,
+    parent_line, reported, sampled, seeds_line, stored, write_sealed,
 };
 use crl_core::CrlFault;
 use job_core::What;
@@ -158,6 +158,10 @@ fn lines_without_a_name(rt: HostRuntime) -> Result<(), Fail> {
             "epoch 18446744073709551615 part 63 issuers 1 universe 2 revoked 3 unread 4 uncovered 5 unenrolled 6 late 7 accepted 4294967295\n",
         ),
         (stored(64, 10), "store parts 64 epoch 10\n"),
+        (
+            sampled(7, 200_000, 2_000, 21_670_458),
+            "sample 7 entries 200000 revoked 2000 bytes 21670458\n",
+        ),
         (
             seeds_line(&Key32::new([0xef; 32]), 1),
             "seeds efefefefefefefefefefefefefefefefefefefefefefefefefefefefefefefef 1\n",
