@@ -61,4 +61,11 @@ impl Publication {
     {
         &self.counts
     }
+
+    /// The job's part, and the ledger after it.
+    pub fn into_sealed_and_ledger(self) -> (Sealed, Ledger)
+        ensures { result ≡ (self.sealed, self.ledger) }
+    {
+        (self.sealed, self.ledger)
+    }
 }
