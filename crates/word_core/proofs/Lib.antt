@@ -1,3 +1,4 @@
+pub mod OneByOne
 pub mod Pairs
 pub mod Numbers
 pub mod Apart

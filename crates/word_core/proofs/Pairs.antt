@@ -1,12 +1,6 @@
 -- Pairs that are read one after the other.
-use Rattle.std.proofs.Common.{◌≡◌, ℕ, ◌<◌, List, [], ◌∷◌, ◌++◌, length, map, Option, Some, None, refl, arith}
+use Rattle.std.proofs.Common.{◌≡◌, ℕ, ◌<◌, List, [], ◌∷◌, length, map, None, refl, arith}
 use Rattle.word_core.specs.Words.{pairs_of, query_of}
-use Rattle.ident_core.specs.declared.range.Sighting.{Sighting}
-
--- what was read before, and what is still read
-abbrev pub with_first : List Sighting → Option (List Sighting) → Option (List Sighting)
-with_first before (Some others) = Some (before ++ others)
-with_first before None = None
 
 pub pairs_of-odd : {A : Type 0} (f : A → List ℕ) (xs : List A) → length xs < 2 → (length xs ≡ 0 → ⊥) → pairs_of (map f xs) ≡ None
 pairs_of-odd f [] short some = absurd (some refl)

@@ -34,3 +34,15 @@ pub record InstallFields : Type 0 where
   pub store : List ℕ
   pub part : List ℕ
   pub new_store : List ℕ
+
+-- a history that is rehearsed, and the queries that are asked of it
+pub record RehearseFields : Type 0 where
+  pub queries : List ℕ
+  pub workers : ℕ
+  pub jobs : List (List ℕ)
+
+-- a job that is made from a number
+pub record SampleFields : Type 0 where
+  pub number : ℕ
+  pub count : ℕ
+  pub job : List ℕ

@@ -1,7 +1,7 @@
 -- The files that a command reads and writes.
 use Rattle.std.specs.Prelude.{ℕ, List, [], ◌∷◌}
 use Rattle.word_core.specs.declared.command.Command.{Command}
-use Rattle.word_core.specs.declared.command.Command.TheVariants.{Usage, Query, Check, Show, Snapshot, Delta, Start, Install}
+use Rattle.word_core.specs.declared.command.Command.TheVariants.{Usage, Query, Check, Show, Snapshot, Delta, Start, Install, Rehearse, Sample}
 
 -- the names of the files that a command reads, in the order of reading
 abbrev pub inputs_of : Command → List (List ℕ)
@@ -13,6 +13,8 @@ inputs_of (Snapshot snapshot) = snapshot.job ∷ []
 inputs_of (Delta delta) = delta.job ∷ delta.ledger ∷ []
 inputs_of (Start start) = start.part ∷ []
 inputs_of (Install install) = install.store ∷ install.part ∷ []
+inputs_of (Rehearse rehearse) = rehearse.queries ∷ rehearse.jobs
+inputs_of (Sample sample) = []
 
 -- the names of the files that a command writes, in the order of writing
 abbrev pub outputs_of : Command → List (List ℕ)
@@ -24,3 +26,5 @@ outputs_of (Snapshot snapshot) = snapshot.part ∷ snapshot.ledger ∷ []
 outputs_of (Delta delta) = delta.part ∷ delta.new_ledger ∷ []
 outputs_of (Start start) = start.store ∷ []
 outputs_of (Install install) = install.new_store ∷ []
+outputs_of (Rehearse rehearse) = []
+outputs_of (Sample sample) = sample.job ∷ []

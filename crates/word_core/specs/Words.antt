@@ -8,7 +8,7 @@ use Rattle.hex.specs.Hex.{decode_of, decode_sized}
 use Rattle.hex.specs.declared.error.FromHexError.{FromHexError}
 use Rattle.octets_core.specs.Layout.{within}
 use Rattle.ident_core.specs.declared.range.Sighting.{Sighting}
-use Rattle.word_core.specs.CommandFields.{QueryFields, SnapshotFields, DeltaFields, StartFields, InstallFields}
+use Rattle.word_core.specs.CommandFields.{QueryFields, SnapshotFields, DeltaFields, StartFields, InstallFields, RehearseFields, SampleFields}
 use Rattle.word_core.specs.declared.command.Command.{Command}
 use Rattle.word_core.specs.declared.command.Command.TheVariants as commands
 
@@ -133,6 +133,42 @@ install_of (store ∷ part ∷ new_store ∷ []) = do
   if are_apart (store ∷ part ∷ []) (new_store ∷ []) then Some (record { store = s; part = p; new_store = n }) else None
 install_of words = None
 
+-- a name for each word
+abbrev pub names_of : List (List ℕ) → Option (List (List ℕ))
+names_of [] = Some []
+names_of (word ∷ rest) = do
+  name ← name_of word
+  others ← names_of rest
+  Some (name ∷ others)
+
+-- 1 to 64 names
+abbrev pub jobs_of : List (List ℕ) → Option (List (List ℕ))
+jobs_of words = if within 1 64 (length words) then names_of words else None
+
+-- QUERIES WORKERS, and the jobs
+abbrev pub rehearse_of : List (List ℕ) → Option RehearseFields
+rehearse_of (queries ∷ workers ∷ jobs) = do
+  q ← name_of queries
+  n ← workers_of workers
+  names ← jobs_of jobs
+  Some (record { queries = q; workers = n; jobs = names })
+rehearse_of words = None
+
+-- 1 to 1000000
+abbrev pub count_of : List ℕ → Option ℕ
+count_of word = do
+  n ← number_of word
+  if within 1 1000000 n then Some n else None
+
+-- NUMBER COUNT JOB
+abbrev pub sample_of : List (List ℕ) → Option SampleFields
+sample_of (number ∷ count ∷ job ∷ []) = do
+  n ← number_of number
+  c ← count_of count
+  j ← name_of job
+  Some (record { number = n; count = c; job = j })
+sample_of words = None
+
 -- a command where its words are there, or none
 abbrev pub asks : {A : Type 0} → (A → Command) → Option A → Command
 asks command (Some x) = command x
@@ -149,4 +185,6 @@ command_of (command ∷ words) =
     else if bytes_eq command (codes "delta") then asks commands.Delta (delta_of words)
     else if bytes_eq command (codes "start") then asks commands.Start (start_of words)
     else if bytes_eq command (codes "install") then asks commands.Install (install_of words)
+    else if bytes_eq command (codes "rehearse") then asks commands.Rehearse (rehearse_of words)
+    else if bytes_eq command (codes "sample") then asks commands.Sample (sample_of words)
     else commands.Usage

@@ -2,9 +2,16 @@
 #![tactic(auto)]
 
 mod command;
+mod publishing;
+mod reading;
+mod storing;
 #[cfg(test)]
 mod tests;
+mod trying;
 mod words;
 
-pub use command::{Command, Delta, FileName, Install, Query, Snapshot, Start};
-pub use words::read_words;
+pub use command::{Command, FileName, Query};
+pub use publishing::{Delta, Snapshot};
+pub use reading::read_words;
+pub use storing::{Install, Start};
+pub use trying::{Rehearse, Sample};

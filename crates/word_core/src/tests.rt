@@ -33,12 +33,14 @@ fn name_of(alloc: Global, words: &[&str]) -> Result<&'static str, NoMemory> {
         Command::Delta(_) => Ok("delta"),
         Command::Start(_) => Ok("start"),
         Command::Install(_) => Ok("install"),
+        Command::Rehearse(_) => Ok("rehearse"),
+        Command::Sample(_) => Ok("sample"),
     }
 }
 
 #[test]
 fn reads_each_command(rt: HostRuntime) -> Result<(), Fail> {
-    let cases: [&[&str]; 12] = [
+    let cases: [&[&str]; 18] = [
         &["query", "S", KEY, "05", LOG, "00000000000000000001"],
         &[
             "query",
@@ -60,6 +62,12 @@ fn reads_each_command(rt: HostRuntime) -> Result<(), Fail> {
         &["start", "S", "s"],
         &["install", "S", "P", "N"],
         &["install", "S", "S", "N"],
+        &["rehearse", "Q", "1", "J"],
+        &["rehearse", "Q", "064", "J", "K", "J"],
+        &["rehearse", "-", "2", "-"],
+        &["sample", "0", "1", "J"],
+        &["sample", "18446744073709551615", "1000000", "J"],
+        &["sample", "00000000000000000001", "0001000000", "-"],
     ];
     for words in cases {
         assert_eq!(rt; name_of(rt.alloc(), words), Ok(words[0]));
@@ -69,7 +77,7 @@ fn reads_each_command(rt: HostRuntime) -> Result<(), Fail> {
 
 #[test]
 fn refuses_what_is_no_command(rt: HostRuntime) -> Result<(), Fail> {
-    let cases: [&[&str]; 33] = [
+    let cases: [&[&str]; 48] = [
         &[],
         &["--help"],
         &["Query", "S", KEY, "05", LOG, "1"],
@@ -103,9 +111,34 @@ fn refuses_what_is_no_command(rt: HostRuntime) -> Result<(), Fail> {
         &["install", "S", "P", "S"],
         &["install", "S", "P", "P"],
         &["install", "S", "P"],
+        &["rehearse", "Q", "0", "J"],
+        &["rehearse", "Q", "65", "J"],
+        &["rehearse", "Q", "", "J"],
+        &["rehearse", "", "1", "J"],
+        &["rehearse", "Q", "1", "J", ""],
+        &["rehearse", "Q", "1"],
+        &["rehearse"],
+        &["sample", "1", "0", "J"],
+        &["sample", "1", "1000001", "J"],
+        &["sample", "18446744073709551616", "1", "J"],
+        &["sample", "-1", "1", "J"],
+        &["sample", "1", "1", "J\t"],
+        &["sample", "1", "1"],
+        &["sample", "1", "1", "J", "K"],
+        &["Sample", "1", "1", "J"],
     ];
     for words in cases {
         assert_eq!(rt; name_of(rt.alloc(), words), Ok("usage"));
     }
+    Ok(())
+}
+
+#[test]
+fn rehearses_64_jobs_and_no_more(rt: HostRuntime) -> Result<(), Fail> {
+    let mut words = ["J"; 68];
+    words[0] = "rehearse";
+    words[2] = "64";
+    assert_eq!(rt; name_of(rt.alloc(), &words[..67]), Ok("rehearse"));
+    assert_eq!(rt; name_of(rt.alloc(), &words), Ok("usage"));
     Ok(())
 }

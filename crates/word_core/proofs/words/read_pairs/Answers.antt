@@ -1,6 +1,7 @@
 use Rattle.std.proofs.Common.{sym, ap, ◌∙◌}
 use Rattle.std.specs.Prelude.{string_bytes}
-use Rattle.word_core.proofs.Pairs.{pairs_of-odd, with_first}
+use Rattle.word_core.proofs.OneByOne.{with_first}
+use Rattle.word_core.proofs.Pairs.{pairs_of-odd}
 use Rattle.word_core.proofs.words.read_pairs.Goals as goal
 
 pub returns-then-rest-ne0 : goal.returns-then-rest-ne0

@@ -1,7 +1,7 @@
 use Rattle.std.proofs.Common.{◌≡◌, length, map}
 use Rattle.std.specs.Prelude.{string_bytes}
 use Rattle.word_core.specs.Words.{pairs_of}
-use Rattle.word_core.proofs.Pairs.{with_first}
+use Rattle.word_core.proofs.OneByOne.{with_first}
 use Rattle.word_core.proofs.words.read_pairs.Given as goal
 
 abbrev pub invariant-loop-rest : goal.invariant-loop-rest

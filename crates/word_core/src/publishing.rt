@@ -1,0 +1,152 @@
+//! The commands that publish a job.
+
+use crate::command::FileName;
+use std::marker::Model;
+
+/// A job to be published as the first of a chain.
+#[derive(Debug, Drop)]
+pub struct Snapshot {
+    job: FileName,
+    part: FileName,
+    ledger: FileName,
+    workers: u32,
+}
+
+impl Model for Snapshot {
+    ghost use Rattle.std.specs.Prelude.{◌≤◌};
+    ghost use Rattle.word_core.specs.CommandFields.{SnapshotFields};
+
+    ghost Value = { SnapshotFields };
+
+    ghost view = { λ s. record { job = s.job; part = s.part; ledger = s.ledger; workers = s.workers } };
+
+    ghost invariant = { λ s. (1 ≤ s.workers) × (s.workers ≤ 64) };
+}
+
+impl Snapshot {
+    ghost use Rattle.std.specs.Prelude.{◌≡◌, ◌≤◌};
+
+    /// The job in the file `job`, to be built by so many workers and written to the files `part` and `ledger`.
+    pub fn new(job: FileName, part: FileName, ledger: FileName, workers: u32) -> Snapshot
+        requires { (1 ≤ workers) × (workers ≤ 64) }
+        ensures { result ≡ record { job = job; part = part; ledger = ledger; workers = workers } }
+    {
+        Snapshot {
+            job,
+            part,
+            ledger,
+            workers,
+        }
+    }
+
+    /// The name of the file that holds the job.
+    pub fn job(&self) -> &str
+        ensures { result.now ≡ self.now.job }
+    {
+        self.job.as_str()
+    }
+
+    /// The name of the file that the part is written to.
+    pub fn part(&self) -> &str
+        ensures { result.now ≡ self.now.part }
+    {
+        self.part.as_str()
+    }
+
+    /// The name of the file that the ledger is written to.
+    pub fn ledger(&self) -> &str
+        ensures { result.now ≡ self.now.ledger }
+    {
+        self.ledger.as_str()
+    }
+
+    /// How many workers build the part.
+    pub fn workers(&self) -> u32
+        ensures value { result ≡ self.now.workers }
+        ensures bounds { (1 ≤ result) × (result ≤ 64) }
+    {
+        self.workers
+    }
+}
+
+/// A job to be published behind the part that a ledger names.
+#[derive(Debug, Drop)]
+pub struct Delta {
+    job: FileName,
+    ledger: FileName,
+    part: FileName,
+    new_ledger: FileName,
+    workers: u32,
+}
+
+impl Model for Delta {
+    ghost use Rattle.std.specs.Prelude.{◌≤◌};
+    ghost use Rattle.word_core.specs.CommandFields.{DeltaFields};
+
+    ghost Value = { DeltaFields };
+
+    ghost view = { λ d. record { job = d.job; ledger = d.ledger; part = d.part; new_ledger = d.new_ledger; workers = d.workers } };
+
+    ghost invariant = { λ d. (1 ≤ d.workers) × (d.workers ≤ 64) };
+}
+
+impl Delta {
+    ghost use Rattle.std.specs.Prelude.{◌≡◌, ◌≤◌};
+
+    /// The job in the file `job` behind the ledger in the file `ledger`, to be built by so many workers and written to
+    /// the files `part` and `new_ledger`.
+    pub fn new(
+        job: FileName,
+        ledger: FileName,
+        part: FileName,
+        new_ledger: FileName,
+        workers: u32,
+    ) -> Delta
+        requires { (1 ≤ workers) × (workers ≤ 64) }
+        ensures { result ≡ record { job = job; ledger = ledger; part = part; new_ledger = new_ledger; workers = workers } }
+    {
+        Delta {
+            job,
+            ledger,
+            part,
+            new_ledger,
+            workers,
+        }
+    }
+
+    /// The name of the file that holds the job.
+    pub fn job(&self) -> &str
+        ensures { result.now ≡ self.now.job }
+    {
+        self.job.as_str()
+    }
+
+    /// The name of the file that holds the ledger of the part before.
+    pub fn ledger(&self) -> &str
+        ensures { result.now ≡ self.now.ledger }
+    {
+        self.ledger.as_str()
+    }
+
+    /// The name of the file that the part is written to.
+    pub fn part(&self) -> &str
+        ensures { result.now ≡ self.now.part }
+    {
+        self.part.as_str()
+    }
+
+    /// The name of the file that the part's ledger is written to.
+    pub fn new_ledger(&self) -> &str
+        ensures { result.now ≡ self.now.new_ledger }
+    {
+        self.new_ledger.as_str()
+    }
+
+    /// How many workers build the part.
+    pub fn workers(&self) -> u32
+        ensures value { result ≡ self.now.workers }
+        ensures bounds { (1 ≤ result) × (result ≤ 64) }
+    {
+        self.workers
+    }
+}

@@ -1,0 +1,119 @@
+//! The commands for trials: a history is rehearsed, and a job is made from a number.
+
+use crate::command::FileName;
+use std::marker::Model;
+
+/// Jobs that are published one after the other, with no file written, and queries that are asked of the store they make.
+#[derive(Debug, Drop)]
+pub struct Rehearse {
+    queries: FileName,
+    workers: u32,
+    jobs: Vec<FileName>,
+}
+
+impl Model for Rehearse {
+    ghost use Rattle.std.specs.Prelude.{◌≤◌, length};
+    ghost use Rattle.word_core.specs.CommandFields.{RehearseFields};
+
+    ghost Value = { RehearseFields };
+
+    ghost view = { λ r. record { queries = r.queries; workers = r.workers; jobs = r.jobs.items } };
+
+    ghost invariant = { λ r. (1 ≤ r.workers) × (r.workers ≤ 64) × (1 ≤ length r.jobs.items) × (length r.jobs.items ≤ 64) };
+}
+
+impl Rehearse {
+    ghost use Rattle.std.specs.Prelude.{◌≡◌, ◌≤◌, length};
+
+    /// The jobs in the files `jobs`, in the order in which they are published, to be built by so many workers, and the
+    /// queries in the file `queries`. Names may be equal.
+    pub fn new(queries: FileName, workers: u32, jobs: Vec<FileName>) -> Rehearse
+        requires bounds { (1 ≤ workers) × (workers ≤ 64) }
+        requires some { 1 ≤ length jobs.items }
+        requires few { length jobs.items ≤ 64 }
+        ensures { result ≡ record { queries = queries; workers = workers; jobs = jobs.items } }
+    {
+        Rehearse {
+            queries,
+            workers,
+            jobs,
+        }
+    }
+
+    /// The name of the file that holds the queries.
+    pub fn queries(&self) -> &str
+        ensures { result.now ≡ self.now.queries }
+    {
+        self.queries.as_str()
+    }
+
+    /// How many workers build each part.
+    pub fn workers(&self) -> u32
+        ensures value { result ≡ self.now.workers }
+        ensures bounds { (1 ≤ result) × (result ≤ 64) }
+    {
+        self.workers
+    }
+
+    /// The names of the files that hold the jobs, in the order in which they are published.
+    pub fn jobs(&self) -> &[FileName]
+        ensures value { result.now ≡ self.now.jobs }
+        ensures some { 1 ≤ length result.now }
+        ensures few { length result.now ≤ 64 }
+    {
+        self.jobs.as_slice()
+    }
+}
+
+/// A job that is made from a number.
+#[derive(Debug, Drop)]
+pub struct Sample {
+    number: u64,
+    count: u32,
+    job: FileName,
+}
+
+impl Model for Sample {
+    ghost use Rattle.std.specs.Prelude.{◌≤◌};
+    ghost use Rattle.word_core.specs.CommandFields.{SampleFields};
+
+    ghost Value = { SampleFields };
+
+    ghost view = { λ s. record { number = s.number; count = s.count; job = s.job } };
+
+    ghost invariant = { λ s. (1 ≤ s.count) × (s.count ≤ 1000000) };
+}
+
+impl Sample {
+    ghost use Rattle.std.specs.Prelude.{◌≡◌, ◌≤◌};
+
+    /// The job of so many entries that `number` stands for, to be written to the file `job`.
+    pub fn new(number: u64, count: u32, job: FileName) -> Sample
+        requires { (1 ≤ count) × (count ≤ 1000000) }
+        ensures { result ≡ record { number = number; count = count; job = job } }
+    {
+        Sample { number, count, job }
+    }
+
+    /// The number that all keys and serials of the job are made from.
+    pub fn number(&self) -> u64
+        ensures { result ≡ self.now.number }
+    {
+        self.number
+    }
+
+    /// How many entries the job has.
+    pub fn count(&self) -> u32
+        ensures value { result ≡ self.now.count }
+        ensures bounds { (1 ≤ result) × (result ≤ 1000000) }
+    {
+        self.count
+    }
+
+    /// The name of the file that the job is written to.
+    pub fn job(&self) -> &str
+        ensures { result.now ≡ self.now.job }
+    {
+        self.job.as_str()
+    }
+}
