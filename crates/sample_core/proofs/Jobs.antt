@@ -14,7 +14,7 @@ use Rattle.sample_core.proofs.Texts.{log-length, issuer-length, leaf-length, rev
 
 -- ---- CRLs
 
-revoked-bound : (number count j : ℕ) → length (revoked_entries number count j) ≤ 35 * count
+pub revoked-bound : (number count j : ℕ) → length (revoked_entries number count j) ≤ 35 * count
 revoked-bound number zero j = omega arith
 revoked-bound number (suc count) j =
     let e : count + 1 ≡ suc count = omega arith in
@@ -36,11 +36,15 @@ some-bound : (contents : List ℕ) → length (sequence_of_some contents) ≤ le
 some-bound [] = omega arith
 some-bound (x ∷ contents) = sequence-bound (x ∷ contents)
 
-body-bound : (entries : List ℕ) → length (crl_body entries) ≤ length entries + 44
-body-bound entries =
+pub contents-bound : (entries : List ℕ) → length ((0x02 ∷ 0x01 ∷ 0x01 ∷ []) ++ algorithm ++ (0x30 ∷ 0x00 ∷ []) ++ date ++ sequence_of_some entries) ≤ length entries + 38
+contents-bound entries =
     let inner : List ℕ = (0x02 ∷ 0x01 ∷ 0x01 ∷ []) ++ algorithm ++ (0x30 ∷ 0x00 ∷ []) ++ date ++ sequence_of_some entries in
     let long : length inner ≡ 32 + length (sequence_of_some entries) = omega arith in
-    omega (arith, long, some-bound entries, sequence-bound inner)
+    omega (arith, long, some-bound entries)
+
+pub body-bound : (entries : List ℕ) → length (crl_body entries) ≤ length entries + 44
+body-bound entries =
+    omega (arith, contents-bound entries, sequence-bound ((0x02 ∷ 0x01 ∷ 0x01 ∷ []) ++ algorithm ++ (0x30 ∷ 0x00 ∷ []) ++ date ++ sequence_of_some entries))
 
 outer-bound : (body : List ℕ) → length (sequence (body ++ algorithm ++ (0x03 ∷ 0x01 ∷ 0x00 ∷ []))) ≤ length body + 21
 outer-bound body =

@@ -1,4 +1,6 @@
 pub mod Texts
 pub mod Jobs
 pub mod Moving
-pub mod Faults
+pub mod Spelled
+pub mod CrlForms
+pub mod Accepted

@@ -1,6 +1,6 @@
 -- The parts of the job's text, and what one entry more adds to each.
 use Rattle.std.proofs.Common.{◌≡◌, ℕ, zero, suc, ◌+◌, ◌-◌, ◌*◌, ◌%◌, ◌<◌, ◌≤◌, List, [], ◌∷◌, ◌++◌, map, length, Bool, true, false, cond, refl, sym, ap, ◌∙◌, append_assoc, append-nil, arith, length-append, add-zero, take, drop, length-take, length-drop}
-use Rattle.std.specs.Prelude.{codes, flat_map, filter, sum_by}
+use Rattle.std.specs.Prelude.{codes, flat_map, filter, sum_by, slice_index_or}
 use Rattle.std.specs.List.{range_with_len}
 use Rattle.std.specs.Int.{w32, w64, to_be_bytes}
 use Rattle.std.proofs.lemmas.List.{take-append-drop}
@@ -55,7 +55,7 @@ revoked-more number i j =
     ∙ flat_map-append text (filter test (range_with_len 0 i)) (filter test (i ∷ []))
     ∙ ap (λ (l : List ℕ). flat_map text (filter test (range_with_len 0 i)) ++ l) (listed-text text (test i) i)
 
-single : (f : ℕ → ℕ) (i : ℕ) → sum_by f (i ∷ []) ≡ f i
+pub single : (f : ℕ → ℕ) (i : ℕ) → sum_by f (i ∷ []) ≡ f i
 single f i = omega arith
 
 pub listed-more : (i : ℕ) → sample_revoked (i + 1) ≡ sample_revoked i + cond (is_listed i) 1 0
@@ -91,6 +91,16 @@ joined o p q r s a b c d e1 e2 e3 e4 =
     e4
     ∙ ap (λ (l : List ℕ). l ++ d) (e3 ∙ ap (λ (l : List ℕ). l ++ c) (e2 ∙ ap (λ (l : List ℕ). l ++ b) e1))
     ∙ four o a b c d
+
+-- ---- names
+
+pub issuer-at : (number j : ℕ) (other : List ℕ) → j < 4
+    → slice_index_or (issuer_of number 0 ∷ issuer_of number 1 ∷ issuer_of number 2 ∷ issuer_of number 3 ∷ []) j other ≡ issuer_of number j
+issuer-at number zero other within = refl
+issuer-at number (suc zero) other within = refl
+issuer-at number (suc (suc zero)) other within = refl
+issuer-at number (suc (suc (suc zero))) other within = refl
+issuer-at number (suc (suc (suc (suc j)))) other within = absurd (omega arith)
 
 -- ---- lengths
 

@@ -1,4 +1,6 @@
 pub mod Sample
+pub mod DraftFields
 pub mod Writing
 pub mod Parts
-pub mod Drafts
+pub mod Preparing
+pub mod Accepted

@@ -11,5 +11,5 @@ mod sample;
 #[cfg(test)]
 mod tests;
 
-pub use laws::samples_are_jobs;
-pub use sample::{MAX_COUNT, Sample, SampleFault, write_sample};
+pub use laws::{samples_are_accepted, samples_are_jobs};
+pub use sample::Draft;

@@ -1,4 +1,4 @@
-use crate::{SampleFault, write_sample};
+use crate::Draft;
 use outside_core::{Failed, MemoryDepot};
 use sha2::{Digest, Sha256};
 use std::test::Fail;
@@ -13,8 +13,9 @@ const DIGEST: [u8; 32] = [
 #[test]
 fn job_of_another_program(rt: HostRuntime) -> Result<(), Fail> {
     let mut depot = MemoryDepot::new(rt.alloc());
-    let sample = write_sample(rt.alloc(), &mut depot, "J", 7, 1000)?;
-    assert_eq!(rt; (sample.revoked, sample.bytes), (12, 108_862));
+    let draft = Draft::new(rt.alloc(), 7, 1000)?;
+    assert_eq!(rt; (draft.revoked(), draft.bytes()), (12, 108_862));
+    draft.write(&mut depot, "J")?;
     let held = depot.bytes_of("J").map(|bytes| Sha256::digest(bytes));
     assert_eq!(rt; held, Some(DIGEST));
     Ok(())
@@ -25,8 +26,8 @@ fn job_of_another_program(rt: HostRuntime) -> Result<(), Fail> {
 fn fifth_append_fails(rt: HostRuntime) -> Result<(), Fail> {
     let mut depot = MemoryDepot::new(rt.alloc());
     depot.fail_writes(&[5])?;
-    let result = write_sample(rt.alloc(), &mut depot, "J", 7, 1000);
-    assert_eq!(rt; result, Err(SampleFault::Failed(Failed)));
+    let draft = Draft::new(rt.alloc(), 7, 1000)?;
+    assert_eq!(rt; draft.write(&mut depot, "J"), Err(Failed));
     assert_eq!(rt; depot.bytes_of("J").map(|bytes| bytes.len()), Some(16_384));
     Ok(())
 }

@@ -1,6 +1,6 @@
 use Rattle.outside_core.proofs.Appending.{KeepsOthers-then, KeepsOthers-putting}
 use Rattle.sample_core.proofs.Moving.{begun-whole, begun-cut, begin-keeps, on-ok, on-err}
-use Rattle.sample_core.proofs.sample.write_draft.Goals as goal
+use Rattle.sample_core.proofs.sample.write_prepared.Goals as goal
 
 pub returns-in_err-begin-clause-others : goal.returns-in_err-begin-clause-others
 returns-in_err-begin-clause-others g c = begin-keeps (g.D.Depot.files c.args.depot.now) (g.D.Depot.files c.begin.new.self) c.args.name.now c.in_err-begin.ensures.err

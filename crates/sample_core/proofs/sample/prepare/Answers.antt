@@ -1,6 +1,6 @@
 use Rattle.std.proofs.Common.{List, ℕ, ◌-◌, ◌%◌, take, drop, length, ap, ◌∙◌, arith}
 use Rattle.sample_core.proofs.Texts.{cut-in-two, sample-length}
-use Rattle.sample_core.proofs.sample.new_draft.Goals as goal
+use Rattle.sample_core.proofs.sample.prepare.Goals as goal
 
 pub returns : goal.returns
 returns c = record {
@@ -9,5 +9,5 @@ returns c = record {
       (c.in_ok-buffer.ensures ∙ ap (λ (l : List ℕ). take (length l - (c.len-2.result - c.len-3.result % 4096)) (drop (c.len-2.result - c.len-3.result % 4096) l)) c.deref.ensures.value)
       ∙ c.in_ok-front.ensures;
   room = omega (arith, c.in_ok-room.ensures.exact);
-  bytes = omega (arith, sample-length c.args.number c.args.count, ap length c.in_ok-front.ensures, ap length c.deref.ensures.value, c.deref.ensures.len, c.len.ensures);
+  bytes = omega (arith, sample-length c.args.keys.now c.args.count, ap length c.in_ok-front.ensures, ap length c.deref.ensures.value, c.deref.ensures.len, c.len.ensures);
 }
