@@ -7,5 +7,7 @@ pub mod Endings
 pub mod Tellings
 pub mod Unique
 pub mod Made
+pub mod Rehearsed
+pub mod Rehearsal
 pub mod Replying
 pub mod Newest

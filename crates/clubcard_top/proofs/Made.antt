@@ -51,11 +51,11 @@ use Rattle.clubcard_top.specs.ReplyFields.{Done, NamedFault}
 use Rattle.clubcard_top.specs.Commands.{◌>>=◌, named, input, only, verdict_word, query_done, query_makes, epoch_of, stored, begun_by, installed_by, start_makes, install_makes, publication_done, published_as, MakesPart, MakesSnapshot, MakesDelta, Makes}
 use Rattle.clubcard_top.specs.Replies.{held_by}
 use Rattle.clubcard_top.specs.Headline.{HoldsJob, PublishesJob, publishes_to, IsPublished, StoresPart, stores_to, IsStored, AsksHistory, truth_done}
-use Rattle.clubcard_top.proofs.Unique.{OnePublication}
+use Rattle.clubcard_top.proofs.Unique.{Publishing}
 
 -- What the layers promise of histories.
 pub record Layers : Type 0 where
-  pub one : OnePublication
+  pub publishing : Publishing
   pub none : ledger_of (history [] []) ≡ no_ledger
   pub admissible : (jobs : List JobFields) (parts : List SealedFields) (job : JobFields) (p : Published) → IsHistory jobs parts → FitsFields job → IsWithinLimits PUBLISHED job
       → Publishes (ledger_of (history jobs parts)) job (Ok p) → IsAdmissible (history jobs parts) job
@@ -66,8 +66,6 @@ pub record Layers : Type 0 where
   pub numbers : (jobs : List JobFields) (parts : List SealedFields) (job : JobFields) (p : Published) → IsHistory jobs parts
       → Publishes (ledger_of (history jobs parts)) job (Ok p) → p.counts ≡ counts (past_of (history jobs parts)) (told job)
   pub place : (jobs : List JobFields) (parts : List SealedFields) (job : JobFields) (p : Published) → IsHistory jobs parts → Publishes (ledger_of (history jobs parts)) job (Ok p) → p.place ≡ length jobs
-  pub complete : (jobs : List JobFields) (parts : List SealedFields) (job : JobFields) → IsHistory jobs parts → IsAdmissible (history jobs parts) job
-      → (p : Published) × Publishes (ledger_of (history jobs parts)) job (Ok p)
   pub ledger_read : (jobs : List JobFields) (parts : List SealedFields) → IsHistory jobs parts → 1 ≤ length jobs → ledger_of_bytes (ledger_bytes jobs parts) ≡ Ok (ledger_of (history jobs parts))
   pub chain : (jobs : List JobFields) (parts : List SealedFields) → IsHistory jobs parts → IsChain parts
   pub few : (jobs : List JobFields) (parts : List SealedFields) → IsHistory jobs parts → length parts ≤ 64
@@ -86,7 +84,7 @@ ok_same {A} {E} x y h = cc
 read_job : (bytes : List ℕ) (job : JobFields) → job_of PUBLISHED bytes ≡ Ok job → job_in bytes ≡ Ok job
 read_job bytes job h = ap (faulted of_job) h
 
-job_input : (files : Files) (name : List ℕ) (job : JobFields) → HoldsJob files name job → input name job_in (get files name) ≡ Ok job
+pub job_input : (files : Files) (name : List ℕ) (job : JobFields) → HoldsJob files name job → input name job_in (get files name) ≡ Ok job
 job_input files name job h = rw h.1 (ap (named name) (read_job h.0 job h.2))
 
 module _ (layers : Layers) where
@@ -129,6 +127,8 @@ module _ (layers : Layers) where
   behind (commands.Query q) files jobs parts job o is p m = absurd p
   behind (commands.Check n) files jobs parts job o is p m = absurd p
   behind (commands.Show n) files jobs parts job o is p m = absurd p
+  behind (commands.Rehearse r) files jobs parts job o is p m = absurd p
+  behind (commands.Sample t) files jobs parts job o is p m = absurd p
   behind (commands.Start t) files jobs parts job o is p m = absurd p
   behind (commands.Install i) files jobs parts job o is p m = absurd p
   behind (commands.Snapshot s) files jobs parts job o is p m = record {
@@ -161,13 +161,13 @@ module _ (layers : Layers) where
       → Publishes before job r → o ≡ published_as name part ledger r → (d : Done) × (o ≡ Ok d)
   done_by name part ledger before job o p x (Ok q) y is = (publication_done part ledger q, is)
   done_by name part ledger before job o p x (Err fault) y is =
-      absurd (let h : ◌≡◌ {A = Result Published PublishFault} (Ok p) (Err fault) = layers.one before job (Ok p) (Err fault) x y in cc)
+      absurd (let h : ◌≡◌ {A = Result Published PublishFault} (Ok p) (Err fault) = layers.publishing.one before job (Ok p) (Err fault) x y in cc)
 
   pub admitted : (asked : Command) (files : Files) (jobs : List JobFields) (parts : List SealedFields) (job : JobFields) (o : Result Done NamedFault) → IsHistory jobs parts → PublishesJob asked files jobs parts job
       → IsAdmissible (history jobs parts) job → Makes asked (held_by asked files) o → (d : Done) × (o ≡ Ok d)
   admitted asked files jobs parts job o is p a m =
       let b = behind asked files jobs parts job o is p m in
-      let x = layers.complete jobs parts job is a in
+      let x = layers.publishing.complete jobs parts job is a in
       done_by b.name b.part_name b.ledger_name b.before job o x.0 (subst (λ (l : LedgerFields). Publishes l job (Ok x.0)) (sym b.is_before) x.1) b.makes.result b.makes.publishes b.makes.is
 
   -- ---- stores
@@ -244,6 +244,8 @@ module _ (layers : Layers) where
   stored_law (commands.Query q) files jobs parts s o is p m = absurd p
   stored_law (commands.Check n) files jobs parts s o is p m = absurd p
   stored_law (commands.Show n) files jobs parts s o is p m = absurd p
+  stored_law (commands.Rehearse r) files jobs parts s o is p m = absurd p
+  stored_law (commands.Sample t) files jobs parts s o is p m = absurd p
   stored_law (commands.Snapshot t) files jobs parts s o is p m = absurd p
   stored_law (commands.Delta d) files jobs parts s o is p m = absurd p
   stored_law (commands.Start t) files jobs [] s o is p m = stored_is (commands.Start t) t.store [] s o (λ b. refl) (start_stored t files jobs s o is p.1 m)

@@ -10,6 +10,10 @@ use Rattle.part_codec.specs.SealedFields.{SealedFields}
 use Rattle.part_codec.specs.PartLayout.{part}
 use Rattle.part_codec.specs.declared.fault.PartFault.{PartFault}
 use Rattle.part_codec.specs.declared.fault.PartFault.TheVariants as of_part_faults
+use Rattle.query_core.specs.Queries.{Query}
+use Rattle.query_core.specs.QueryReading.{queries_in as queries_of}
+use Rattle.query_core.specs.declared.fault.QueriesFault.{QueriesFault}
+use Rattle.query_core.specs.declared.fault.QueriesFault.TheVariants as of_query_faults
 use Rattle.ledger_core.specs.LedgerReading.{ledger_of}
 use Rattle.ledger_core.specs.LedgerFields.{LedgerFields}
 use Rattle.ledger_core.specs.declared.fault.LedgerFault.{LedgerFault}
@@ -33,16 +37,16 @@ use Rattle.publication_core.specs.declared.fault.PublishFault.TheVariants as pub
 use Rattle.publication_core.specs.Publishing.{Published}
 use Rattle.word_core.specs.declared.command.Command.{Command}
 use Rattle.word_core.specs.declared.command.Command.TheVariants as commands
-use Rattle.word_core.specs.CommandFields.{SnapshotFields, DeltaFields, StartFields, InstallFields}
+use Rattle.word_core.specs.CommandFields.{SnapshotFields, DeltaFields, StartFields, InstallFields, RehearseFields}
 use Rattle.word_core.specs.Names.{inputs_of, outputs_of}
 use Rattle.clubcard_top.specs.declared.fault.FileFault.{FileFault}
 use Rattle.clubcard_top.specs.declared.fault.FileFault.TheVariants as faults
-use Rattle.clubcard_top.specs.Faults.{of_job, of_ledger, of_part, of_store, of_admission, of_publishing}
+use Rattle.clubcard_top.specs.Faults.{of_queries, of_job, of_ledger, of_part, of_store, of_admission, of_publishing}
 use Rattle.clubcard_top.specs.PartFile.{part_file}
-use Rattle.clubcard_top.specs.Readings.{faulted, job_in, ledger_in, part_in, store_in}
+use Rattle.clubcard_top.specs.Readings.{faulted, queries_in, job_in, ledger_in, part_in, store_in}
 use Rattle.clubcard_top.specs.ReplyFields.{Done, NamedFault}
 use Rattle.clubcard_top.specs.Statuses.{is_one_of}
-use Rattle.clubcard_top.specs.Commands.{◌>>=◌, named, input, begun_by, begun, installed_by, installed, stored, query_done, check_done, show_done, publication_done, published_as, MakesSnapshot, MakesDelta, Makes}
+use Rattle.clubcard_top.specs.Commands.{◌>>=◌, named, input, begun_by, begun, installed_by, installed, stored, query_done, check_done, show_done, publication_done, published_as, MakesSnapshot, MakesDelta, rehearsed, IsRefused, Rehearses, MakesRehearsal, sample_done, Makes}
 use Rattle.clubcard_top.specs.Replies.{refusal, reply_of}
 use Rattle.clubcard_top.specs.Inputs.{IsRead, AreRead}
 use Rattle.clubcard_top.proofs.Outputs.{names_of}
@@ -120,6 +124,19 @@ delta_names t (Ok j) (Ok l) d m = published_names t.job t.part t.new_ledger m.re
 delta_names t (Ok j) (Err e) d m = absurd (not_err d e m)
 delta_names t (Err e) l d m = absurd (not_err d e m)
 
+-- a rehearsal writes no file
+rehearses_names : (queries : List Query) (jobs : List JobFields) (parts : List SealedFields) (names : List (List ℕ)) (inputs : List (Option (List ℕ))) (d : Done) → Rehearses queries jobs parts names inputs (Ok d)
+    → names_of d.outputs ≡ []
+rehearses_names queries jobs parts [] [] d m = ap (λ (e : Done). names_of e.outputs) (ok_same {E = NamedFault} d (rehearsed queries jobs parts) m)
+rehearses_names queries jobs parts [] (g ∷ inputs) d m = absurd m
+rehearses_names queries jobs parts (name ∷ names) [] d m = absurd m
+rehearses_names queries jobs parts (name ∷ names) (g ∷ inputs) d (inl (e, refused, is)) = absurd (not_err d e is)
+rehearses_names queries jobs parts (name ∷ names) (g ∷ inputs) d (inr (job, more, read, is, rest)) = rehearses_names queries (jobs ++ job ∷ []) more names inputs d rest
+
+rehearsal_names : (r : RehearseFields) (queries : Result (List Query) NamedFault) (inputs : List (Option (List ℕ))) (d : Done) → MakesRehearsal r queries inputs (Ok d) → names_of d.outputs ≡ []
+rehearsal_names r (Ok queries) inputs d m = rehearses_names queries [] [] r.jobs inputs d m
+rehearsal_names r (Err e) inputs d m = absurd (not_err d e m)
+
 -- what follows an input
 abbrev pub start_after : StartFields → SealedFields × ℕ → Result Done NamedFault
 start_after t x = named t.part (begun x.0) >>= (λ parts. Ok (stored t.store parts))
@@ -145,6 +162,10 @@ done_names (commands.Install i) (s ∷ p ∷ []) d m =
     let x = after_ok (input i.store store_in s) (install_after i p) d m in
     let y = after_ok (input i.part part_in p) (install_then i x.0) d x.2 in
     names_after (i.new_store ∷ []) (stored i.new_store) (λ z. refl) (named i.part (installed x.0 y.0.0)) d y.2
+done_names (commands.Rehearse r) (q ∷ inputs) d m = rehearsal_names r (input r.queries queries_in q) inputs d m
+done_names (commands.Sample s) [] d m = ap (λ (e : Done). names_of e.outputs) (ok_same {E = NamedFault} d (sample_done s) m)
+done_names (commands.Rehearse r) [] d m = absurd m
+done_names (commands.Sample s) (a ∷ cs) d m = absurd m
 done_names (commands.Query q) [] d m = absurd m
 done_names (commands.Query q) (a ∷ b ∷ cs) d m = absurd m
 done_names (commands.Check name) [] d m = absurd m
@@ -170,6 +191,10 @@ layout_then first next bytes at = then_read (first bytes at) next bytes
 -- a fault of what was read isn't that it can't be
 abbrev IsRead_fault : FileFault → Type 0
 IsRead_fault fault = fault ≡ faults.Unread → ⊥
+
+query_fault_read : (f : QueriesFault) → IsRead_fault (of_queries f)
+query_fault_read (of_query_faults.Layout f) = λ h. cc
+query_fault_read of_query_faults.NoMemory = λ h. cc
 
 job_fault_read : (f : JobFault) → IsRead_fault (of_job f)
 job_fault_read (of_job_faults.Layout f) = λ h. cc
@@ -215,6 +240,9 @@ end_read s bytes (Err f) h = let g : faults.Layout f ≡ faults.Unread = err_sam
 alone_read : (bytes : List ℕ) (r : Result (SealedFields × ℕ) PartFault) → then_read (with_fault of_part r) (λ s. layout_then (mapped faults.Layout end) (λ nothing. whole s)) bytes ≡ Err faults.Unread → ⊥
 alone_read bytes (Ok x) h = end_read x.0 bytes (end bytes x.1) h
 alone_read bytes (Err f) h = part_fault_read f (err_same {A = SealedFields × ℕ} (of_part f) faults.Unread h)
+
+queries_read : (bytes : List ℕ) → queries_in bytes ≡ Err faults.Unread → ⊥
+queries_read bytes h = faulted_read of_queries (queries_of bytes) query_fault_read h
 
 job_read : (bytes : List ℕ) → job_in bytes ≡ Err faults.Unread → ⊥
 job_read bytes h = faulted_read of_job (job_of PUBLISHED bytes) job_fault_read h
@@ -313,6 +341,28 @@ module _ (told : Option Files) (rose : Type 0) (e : NamedFault) (u : e.fault ≡
   delta_by t j l first second (inl h) = cause_of (t.job ∷ t.ledger ∷ []) t.job j (inl refl) first (input_unread t.job job_in j e job_read h u)
   delta_by t j l first second (inr h) = cause_of (t.job ∷ t.ledger ∷ []) t.ledger l (inr (inl refl)) second (input_unread t.ledger ledger_in l e ledger_read h u)
 
+  refused_by : (jobs : List JobFields) (parts : List SealedFields) (name : List ℕ) (given : Option (List ℕ)) (names : List (List ℕ)) → IsRead told rose name given → IsRefused jobs parts name given e → Cause (name ∷ names)
+  refused_by jobs parts name given names read (inl h) = cause_of (name ∷ names) name given (inl refl) read (input_unread name job_in given e job_read h u)
+  refused_by jobs parts name given names read (inr (job, fault, is, publishes, same)) = absurd (publish_fault_read fault (sym (ap (λ (k : NamedFault). k.fault) same) ∙ u))
+
+  rehearses_by : (queries : List Query) (jobs : List JobFields) (parts : List SealedFields) (names : List (List ℕ)) (inputs : List (Option (List ℕ))) → AreRead told rose names inputs
+      → Rehearses queries jobs parts names inputs (Err e) → Cause names
+  rehearses_by queries jobs parts [] [] read m = absurd (not_ok e (rehearsed queries jobs parts) m)
+  rehearses_by queries jobs parts [] (g ∷ inputs) read m = absurd m
+  rehearses_by queries jobs parts (name ∷ names) [] read m = absurd m
+  rehearses_by queries jobs parts (name ∷ names) (g ∷ inputs) read (inl (f, refused, is)) =
+      refused_by jobs parts name g names read.0 (subst (IsRefused jobs parts name g) (sym (err_same {A = Done} e f is)) refused)
+  rehearses_by queries jobs parts (name ∷ names) (g ∷ inputs) read (inr (job, more, is_read, is, rest)) =
+      let c = rehearses_by queries (jobs ++ job ∷ []) more names inputs read.1 rest in (inr c.0, c.1)
+
+  rehearsal_by : (r : RehearseFields) (given : Option (List ℕ)) (inputs : List (Option (List ℕ))) (queries : Result (List Query) NamedFault) → IsRead told rose r.queries given → AreRead told rose r.jobs inputs
+      → input r.queries queries_in given ≡ queries → MakesRehearsal r queries inputs (Err e) → Cause (r.queries ∷ r.jobs)
+  rehearsal_by r given inputs (Ok queries) first others is m =
+      let c = rehearses_by queries [] [] r.jobs inputs others m in (inr c.0, c.1)
+  rehearsal_by r given inputs (Err f) first others is m =
+      cause_of (r.queries ∷ r.jobs) r.queries given (inl refl) first
+      (input_unread r.queries queries_in given e queries_read (is ∙ ap (λ (k : NamedFault). Err k) (sym (err_same {A = Done} e f m))) u)
+
   -- An input that can't be read has its cause.
   pub unread_cause : (c : Command) (inputs : List (Option (List ℕ))) → AreRead told rose (inputs_of c) inputs → Makes c inputs (Err e) → Cause (inputs_of c)
   unread_cause commands.Usage inputs read m = absurd m
@@ -332,6 +382,10 @@ module _ (told : Option Files) (rose : Type 0) (e : NamedFault) (u : e.fault ≡
       cause_of (t.part ∷ []) t.part p (inl refl) read.0
       (first_unread t.part part_in p (start_after t) e part_read (λ x h. start_unread t x e h u) (after_err (input t.part part_in p) (start_after t) e m) u)
   unread_cause (commands.Install i) (s ∷ p ∷ []) read m = install_by i s p read.0 read.1.0 (after_err (input i.store store_in s) (install_after i p) e m)
+  unread_cause (commands.Rehearse r) (q ∷ inputs) read m = rehearsal_by r q inputs (input r.queries queries_in q) read.0 read.1 refl m
+  unread_cause (commands.Sample s) [] read m = absurd (not_ok e (sample_done s) m)
+  unread_cause (commands.Rehearse r) [] read m = absurd m
+  unread_cause (commands.Sample s) (a ∷ cs) read m = absurd m
   unread_cause (commands.Query q) [] read m = absurd m
   unread_cause (commands.Query q) (a ∷ b ∷ cs) read m = absurd m
   unread_cause (commands.Check name) [] read m = absurd m

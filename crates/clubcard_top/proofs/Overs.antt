@@ -1,19 +1,20 @@
 -- What comes of a command over what the files hold, from what was read of them.
-use Rattle.std.proofs.Common.{◌≡◌, ℕ, inl, inr, List, [], ◌∷◌, map, Option, Some, None, Result, Ok, Err, refl, sym, subst}
+use Rattle.std.proofs.Common.{◌≡◌, ℕ, inl, inr, List, [], ◌∷◌, ◌++◌, map, Option, Some, None, Result, Ok, Err, refl, sym, ap, subst}
 use Rattle.std.specs.FinMap.{get}
 use Rattle.outside_core.specs.Files.{Files}
+use Rattle.query_core.specs.Queries.{Query}
 use Rattle.job_core.specs.JobFields.{JobFields}
 use Rattle.ledger_core.specs.LedgerFields.{LedgerFields}
 use Rattle.part_codec.specs.SealedFields.{SealedFields}
 use Rattle.word_core.specs.declared.command.Command.{Command}
 use Rattle.word_core.specs.declared.command.Command.TheVariants as commands
-use Rattle.word_core.specs.CommandFields.{DeltaFields, InstallFields}
+use Rattle.word_core.specs.CommandFields.{DeltaFields, InstallFields, RehearseFields}
 use Rattle.word_core.specs.Names.{inputs_of}
 use Rattle.clubcard_top.specs.declared.fault.FileFault.TheVariants as faults
 use Rattle.clubcard_top.specs.ReplyFields.{Done, NamedFault}
-use Rattle.clubcard_top.specs.Readings.{job_in, ledger_in, store_in}
+use Rattle.clubcard_top.specs.Readings.{queries_in, job_in, ledger_in, store_in}
 use Rattle.clubcard_top.specs.Inputs.{IsRead, AreRead}
-use Rattle.clubcard_top.specs.Commands.{◌>>=◌, input, query_makes, check_makes, show_makes, start_makes, install_makes, MakesDelta, Makes}
+use Rattle.clubcard_top.specs.Commands.{◌>>=◌, input, query_makes, check_makes, show_makes, start_makes, install_makes, MakesDelta, IsRefused, Rehearses, MakesRehearsal, Makes}
 use Rattle.clubcard_top.specs.Replies.{held_by}
 use Rattle.clubcard_top.proofs.Makings.{install_after}
 
@@ -66,6 +67,42 @@ install_over files rose i None p o seen first second m = absurd (seen (unread i.
 install_over files rose i (Some b) None o seen first second m = rw first (install_other i (input i.store store_in (Some b)) (get files i.part) o seen m)
 install_over files rose i (Some b) (Some c) o seen first second m = rw (first, second) m
 
+-- what is wrong with a job that isn't given is that it can't be read
+unread_job : (jobs : List JobFields) (parts : List SealedFields) (name : List ℕ) (e : NamedFault) → IsRefused jobs parts name None e → e.fault ≡ faults.Unread
+unread_job jobs parts name e (inl h) =
+    let same : unread name ≡ e = let g : ◌≡◌ {A = Result JobFields NamedFault} (Err (unread name)) (Err e) = h in cc in
+    sym (ap (λ (k : NamedFault). k.fault) same)
+unread_job jobs parts name e (inr (job, fault, is, not, same)) = absurd (let g : ◌≡◌ {A = Result JobFields NamedFault} (Err (unread name)) (Ok job) = is in cc)
+
+rehearses_over : (files : Files) (rose : Type 0) (queries : List Query) (jobs : List JobFields) (parts : List SealedFields) (names : List (List ℕ)) (inputs : List (Option (List ℕ))) (o : Result Done NamedFault) → IsSeen o
+    → AreRead (Some files) rose names inputs → Rehearses queries jobs parts names inputs o → Rehearses queries jobs parts names (map (get files) names) o
+rehearses_over files rose queries jobs parts [] [] o seen read m = m
+rehearses_over files rose queries jobs parts [] (g ∷ inputs) o seen read m = absurd m
+rehearses_over files rose queries jobs parts (name ∷ names) [] o seen read m = absurd m
+rehearses_over files rose queries jobs parts (name ∷ names) (None ∷ inputs) o seen read (inl (e, refused, is)) = absurd (seen e is (unread_job jobs parts name e refused))
+rehearses_over files rose queries jobs parts (name ∷ names) (None ∷ inputs) o seen read (inr (job, more, is_job, is_more, rest)) =
+    absurd (let g : ◌≡◌ {A = Result JobFields NamedFault} (Err (unread name)) (Ok job) = is_job in cc)
+rehearses_over files rose queries jobs parts (name ∷ names) (Some b ∷ inputs) o seen read (inl (e, refused, is)) =
+    inl (e, subst (λ (g : Option (List ℕ)). IsRefused jobs parts name g e) (sym read.0) refused, is)
+rehearses_over files rose queries jobs parts (name ∷ names) (Some b ∷ inputs) o seen read (inr (job, more, is_job, is_more, rest)) =
+    inr (
+      job,
+      more,
+      subst (λ (g : Option (List ℕ)). input name job_in g ≡ Ok job) (sym read.0) is_job,
+      is_more,
+      rehearses_over files rose queries (jobs ++ job ∷ []) more names inputs o seen read.1 rest,
+    )
+
+rehearsal_by : (files : Files) (rose : Type 0) (r : RehearseFields) (queries : Result (List Query) NamedFault) (inputs : List (Option (List ℕ))) (o : Result Done NamedFault) → IsSeen o
+    → AreRead (Some files) rose r.jobs inputs → MakesRehearsal r queries inputs o → MakesRehearsal r queries (map (get files) r.jobs) o
+rehearsal_by files rose r (Ok queries) inputs o seen read m = rehearses_over files rose queries [] [] r.jobs inputs o seen read m
+rehearsal_by files rose r (Err e) inputs o seen read m = m
+
+rehearsal_over : (files : Files) (rose : Type 0) (r : RehearseFields) (q : Option (List ℕ)) (inputs : List (Option (List ℕ))) (o : Result Done NamedFault) → IsSeen o → IsRead (Some files) rose r.queries q
+    → AreRead (Some files) rose r.jobs inputs → MakesRehearsal r (input r.queries queries_in q) inputs o → MakesRehearsal r (input r.queries queries_in (get files r.queries)) (map (get files) r.jobs) o
+rehearsal_over files rose r None inputs o seen first others m = absurd (seen (unread r.queries) m refl)
+rehearsal_over files rose r (Some b) inputs o seen first others m = rw first (rehearsal_by files rose r (input r.queries queries_in (Some b)) inputs o seen others m)
+
 -- of one input
 one_over : (files : Files) (rose : Type 0) (name : List ℕ) (P : Option (List ℕ) → Type 0) (given : Option (List ℕ)) → (P None → ⊥) → IsRead (Some files) rose name given → P given → P (get files name)
 one_over files rose name P None refute read m = absurd (refute m)
@@ -81,6 +118,10 @@ over_files files rose (commands.Snapshot s) (j ∷ []) o seen read m = one_over 
 over_files files rose (commands.Delta t) (j ∷ l ∷ []) o seen read m = delta_over files rose t j l o seen read.0 read.1.0 m
 over_files files rose (commands.Start t) (p ∷ []) o seen read m = one_over files rose t.part (λ g. o ≡ start_makes t g) p (λ h. seen (unread t.part) h refl) read.0 m
 over_files files rose (commands.Install i) (s ∷ p ∷ []) o seen read m = install_over files rose i s p o seen read.0 read.1.0 m
+over_files files rose (commands.Rehearse r) (q ∷ inputs) o seen read m = rehearsal_over files rose r q inputs o seen read.0 read.1 m
+over_files files rose (commands.Sample s) [] o seen read m = m
+over_files files rose (commands.Rehearse r) [] o seen read m = absurd m
+over_files files rose (commands.Sample s) (a ∷ cs) o seen read m = absurd m
 over_files files rose (commands.Query q) [] o seen read m = absurd m
 over_files files rose (commands.Query q) (a ∷ b ∷ cs) o seen read m = absurd m
 over_files files rose (commands.Check name) [] o seen read m = absurd m

@@ -48,7 +48,7 @@ whole_read : (told : Option Files) (rose : Type 0) (name bytes : List ℕ) → I
 whole_read None rose name bytes held = tt
 whole_read (Some files) rose name bytes (file, there, same) = there ∙ ap (λ (b : List ℕ). Some b) (sym same)
 
-wider : (told : Option Files) (rose later : Type 0) (name : List ℕ) (given : Option (List ℕ)) → (rose → later) → IsRead told rose name given → IsRead told later name given
+pub wider : (told : Option Files) (rose later : Type 0) (name : List ℕ) (given : Option (List ℕ)) → (rose → later) → IsRead told rose name given → IsRead told later name given
 wider told rose later name None up (inl why) = inl (up why)
 wider told rose later name None up (inr missing) = inr missing
 wider told rose later name (Some bytes) up read = read
@@ -191,10 +191,10 @@ module _ (told : Option Files) (rose : Type 0) (r : Result Answer NoMemory) wher
 -- ---- commands of two inputs
 
 -- reads that were counted later in a call were counted in it
-rose_later : (first then last : ℕ) → then ≤ last → Rose first then → Rose first last
+pub rose_later : (first then last : ℕ) → then ≤ last → Rose first then → Rose first last
 rose_later first then last le rose = omega (arith, rose)
 
-rose_earlier : (first then last : ℕ) → first ≤ then → Rose then last → Rose first last
+pub rose_earlier : (first then last : ℕ) → first ≤ then → Rose then last → Rose first last
 rose_earlier first then last le rose = omega (arith, rose)
 
 module _ (told mid : Option Files) (first then last : ℕ) (same : mid ≡ told) (early : first ≤ then) (late : then ≤ last) (r : Result Answer NoMemory) where

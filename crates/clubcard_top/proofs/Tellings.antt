@@ -6,22 +6,23 @@ use Rattle.outside_core.specs.Written.{followed_by}
 use Rattle.octets_core.specs.declared.fault.LayoutFault.{LayoutFault}
 use Rattle.crl_core.specs.declared.crl.CrlFault.{CrlFault}
 use Rattle.job_core.specs.declared.bounds.What.{What}
+use Rattle.query_core.specs.Queries.{Query}
 use Rattle.job_core.specs.JobFields.{JobFields}
 use Rattle.part_codec.specs.SealedFields.{SealedFields}
 use Rattle.store_core.specs.declared.chain.Refusal.{Refusal}
 use Rattle.publication_core.specs.Histories.{IsAdmissible, IsHistory, history}
 use Rattle.word_core.specs.declared.command.Command.{Command}
 use Rattle.word_core.specs.declared.command.Command.TheVariants as commands
-use Rattle.word_core.specs.CommandFields.{QueryFields}
+use Rattle.word_core.specs.CommandFields.{QueryFields, RehearseFields}
 use Rattle.word_core.specs.Names.{inputs_of}
 use Rattle.clubcard_top.specs.declared.fault.FileFault.{FileFault}
 use Rattle.clubcard_top.specs.declared.fault.FileFault.TheVariants as faults
 use Rattle.clubcard_top.specs.ReplyFields.{ReplyFields, Done, NamedFault}
 use Rattle.clubcard_top.specs.Statuses.{is_one_of}
-use Rattle.clubcard_top.specs.Commands.{Makes}
+use Rattle.clubcard_top.specs.Commands.{rehearsed, Makes}
 use Rattle.clubcard_top.specs.Replies.{refusal, reply_of, IsReplyOver, IsReplyTo, held_by}
 use Rattle.clubcard_top.specs.Runs.{IsReply, Ends, Answers, Refuses, with_outputs}
-use Rattle.clubcard_top.specs.Headline.{AsksHistory, IsPublished, IsStored, PublishesJob, StoresPart, truth_done}
+use Rattle.clubcard_top.specs.Headline.{AsksHistory, IsPublished, IsRehearsed, IsStored, PublishesJob, RehearsesJobs, StoresPart, truth_done}
 use Rattle.clubcard_top.proofs.Endings.{IsSent, sent}
 use Rattle.clubcard_top.proofs.Overs.{IsSeen, over_files, held_all}
 
@@ -287,6 +288,10 @@ module _ (asked : Command) (rose : Type 0) (ended : ℕ) (old new : Option (List
         → Makes asked (held_by asked files) o → (d : Done) × (o ≡ Ok d) × IsStored asked parts s d
     pub asks : (files : Files) (q : QueryFields) (jobs : List JobFields) (parts : List SealedFields) (o : Result Done NamedFault) → IsHistory jobs parts → AsksHistory asked files q jobs parts
         → Makes asked (held_by asked files) o → o ≡ Ok (truth_done jobs parts q)
+    pub rehearses : (files : Files) (r : RehearseFields) (d : Done) → asked ≡ commands.Rehearse r → Makes asked (held_by asked files) (Ok d)
+        → (queries : List Query) × (jobs : List JobFields) × (parts : List SealedFields) × RehearsesJobs asked files queries jobs × IsRehearsed queries jobs parts × (d ≡ rehearsed queries jobs parts)
+    pub follows : (files : Files) (queries : List Query) (jobs : List JobFields) (parts : List SealedFields) (o : Result Done NamedFault) → IsHistory jobs parts → RehearsesJobs asked files queries jobs
+        → Makes asked (held_by asked files) o → o ≡ Ok (rehearsed queries jobs parts)
 
   ok_same : (x y : Done) → ◌≡◌ {A = Result Done NamedFault} (Ok x) (Ok y) → x ≡ y
   ok_same x y h = cc
@@ -294,6 +299,8 @@ module _ (asked : Command) (rose : Type 0) (ended : ℕ) (old new : Option (List
   publishes_some : (files : Files) (jobs : List JobFields) (parts : List SealedFields) (job : JobFields) → (c : Command) → PublishesJob c files jobs parts job → c ≡ commands.Usage → ⊥
   publishes_some files jobs parts job commands.Usage p is = p
   publishes_some files jobs parts job (commands.Query q) p is = p
+  publishes_some files jobs parts job (commands.Rehearse r) p is = p
+  publishes_some files jobs parts job (commands.Sample t) p is = p
   publishes_some files jobs parts job (commands.Check n) p is = p
   publishes_some files jobs parts job (commands.Show n) p is = p
   publishes_some files jobs parts job (commands.Snapshot s) p is = absurd cc
@@ -304,12 +311,26 @@ module _ (asked : Command) (rose : Type 0) (ended : ℕ) (old new : Option (List
   stores_some : (files : Files) (parts : List SealedFields) (s : SealedFields) → (c : Command) → StoresPart c files parts s → c ≡ commands.Usage → ⊥
   stores_some files parts s commands.Usage p is = p
   stores_some files parts s (commands.Query q) p is = p
+  stores_some files parts s (commands.Rehearse r) p is = p
+  stores_some files parts s (commands.Sample t) p is = p
   stores_some files parts s (commands.Check n) p is = p
   stores_some files parts s (commands.Show n) p is = p
   stores_some files parts s (commands.Snapshot t) p is = p
   stores_some files parts s (commands.Delta d) p is = p
   stores_some files parts s (commands.Start t) p is = absurd cc
   stores_some files parts s (commands.Install i) p is = absurd cc
+
+  rehearses_some : (files : Files) (queries : List Query) (jobs : List JobFields) → (c : Command) → RehearsesJobs c files queries jobs → c ≡ commands.Usage → ⊥
+  rehearses_some files queries jobs commands.Usage p is = p
+  rehearses_some files queries jobs (commands.Query q) p is = p
+  rehearses_some files queries jobs (commands.Check n) p is = p
+  rehearses_some files queries jobs (commands.Show n) p is = p
+  rehearses_some files queries jobs (commands.Snapshot s) p is = p
+  rehearses_some files queries jobs (commands.Delta d) p is = p
+  rehearses_some files queries jobs (commands.Start t) p is = p
+  rehearses_some files queries jobs (commands.Install i) p is = p
+  rehearses_some files queries jobs (commands.Rehearse r) p is = absurd cc
+  rehearses_some files queries jobs (commands.Sample t) p is = p
 
   query_some : (c : Command) (q : QueryFields) → c ≡ commands.Query q → c ≡ commands.Usage → ⊥
   query_some c q is refute = let h : commands.Query q ≡ commands.Usage = sym is ∙ refute in cc
@@ -360,3 +381,19 @@ module _ (asked : Command) (rose : Type 0) (ended : ℕ) (old new : Option (List
     answered_clause None ends = tt
     answered_clause (Some files) ends = λ q jobs parts h p quiet sane calm.
         ends_well files (query_some asked q p.0) (λ o m. (truth_done jobs parts q, laws.asks files q jobs parts o h p m)) ends quiet sane calm
+
+    pub rehearsed_clause : (told : Option Files) → Ends asked told rose ended old new failed after wrong
+        → IfSome told (λ files. (r : RehearseFields) → asked ≡ commands.Rehearse r → ended ≡ 0
+        → (queries : List Query) × (jobs : List JobFields) × (parts : List SealedFields) × RehearsesJobs asked files queries jobs × IsRehearsed queries jobs parts × (new ≡ followed_by old (rehearsed queries jobs parts).text))
+    rehearsed_clause None ends = tt
+    rehearsed_clause (Some files) ends = λ r is zero.
+        let a = done (Some files) ends zero in
+        let (queries, jobs, parts, held, history_is, same) = laws.rehearses files r a.done is a.makes in
+        (queries, jobs, parts, held, history_is, a.written ∙ ap (λ (d : Done). followed_by old d.text) same)
+
+    pub followed_clause : (told : Option Files) → Ends asked told rose ended old new failed after wrong
+        → IfSome told (λ files. (queries : List Query) (jobs : List JobFields) (parts : List SealedFields) → IsHistory jobs parts → RehearsesJobs asked files queries jobs
+        → (rose → ⊥) → (wrong → ⊥) → (failed → ⊥) → IsTrue (is_one_of (0 ∷ 70 ∷ []) ended))
+    followed_clause None ends = tt
+    followed_clause (Some files) ends = λ queries jobs parts h p quiet sane calm.
+        ends_well files (rehearses_some files queries jobs asked p) (λ o m. (rehearsed queries jobs parts, laws.follows files queries jobs parts o h p m)) ends quiet sane calm

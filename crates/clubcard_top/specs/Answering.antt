@@ -1,5 +1,5 @@
 -- What an answer says: how the call ends, the text, and the files before it.
-use Rattle.std.specs.Prelude.{List}
+use Rattle.std.specs.Prelude.{List, [], ◌∷◌}
 use Rattle.line_core.specs.Lines.{show_text}
 use Rattle.clubcard_top.specs.declared.answer.Answer.{Answer}
 use Rattle.clubcard_top.specs.declared.answer.Answer.TheVariants as answers
@@ -15,3 +15,4 @@ abbrev pub shown : Answer → ReplyFields
 shown (answers.Reply r) = r
 shown (answers.Part s) = done (only (show_text s))
 shown (answers.Files outputs r) = with_files outputs.items r
+shown (answers.Sample o r) = with_files (o ∷ []) r

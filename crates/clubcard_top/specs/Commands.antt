@@ -1,15 +1,20 @@
 -- What each command makes of its inputs.
-use Rattle.std.specs.Prelude.{◌≡◌, ℕ, List, [], ◌∷◌, ◌++◌, map, length, Option, Some, None, Result, Ok, Err, codes}
+use Rattle.std.specs.Prelude.{◌≡◌, ℕ, List, [], ◌∷◌, ◌++◌, ◌⊎◌, map, flat_map, length, Option, Some, None, Result, Ok, Err, codes}
 use Rattle.ident_core.specs.declared.kind.Kind.{Kind}
 use Rattle.ident_core.specs.declared.kind.Kind.TheVariants as kinds
 use Rattle.part_codec.specs.SealedFields.{SealedFields}
 use Rattle.part_codec.specs.PartText.{spelling}
+use Rattle.query_core.specs.Queries.{Query}
+use Rattle.sample_core.specs.Sample.{sample_text, sample_revoked}
 use Rattle.job_core.specs.declared.bounds.TheConstants.Limits as limits
 use Rattle.job_core.specs.JobFields.{JobFields}
 use Rattle.job_core.specs.JobFacts.{FitsFields, IsWithinLimits}
 use Rattle.ledger_core.specs.LedgerFields.{LedgerFields}
 use Rattle.ledger_core.specs.LedgerText.{ledger_text}
-use Rattle.universe_core.specs.Ledgers.{no_ledger}
+use Rattle.universe_core.specs.Jobs.{told}
+use Rattle.universe_core.specs.History.{past_of}
+use Rattle.universe_core.specs.Counting.{counts}
+use Rattle.universe_core.specs.Ledgers.{no_ledger, ledger_of}
 use Rattle.store_core.specs.declared.chain.Refusal.{Refusal}
 use Rattle.store_core.specs.declared.verdict.Verdict.{Verdict}
 use Rattle.store_core.specs.declared.verdict.Verdict.TheVariants as verdicts
@@ -18,15 +23,16 @@ use Rattle.store_core.specs.StoreLayout.{store_text}
 use Rattle.store_core.specs.Verdict.{verdict}
 use Rattle.publication_core.specs.declared.fault.PublishFault.{PublishFault}
 use Rattle.publication_core.specs.Publishing.{Published, Publishes}
+use Rattle.publication_core.specs.Histories.{IsHistory, history}
 use Rattle.word_core.specs.declared.command.Command.{Command}
 use Rattle.word_core.specs.declared.command.Command.TheVariants as commands
-use Rattle.word_core.specs.CommandFields.{QueryFields, SnapshotFields, DeltaFields, StartFields, InstallFields}
-use Rattle.line_core.specs.Lines.{line, check_line, show_text, store_line, report_line}
+use Rattle.word_core.specs.CommandFields.{QueryFields, SnapshotFields, DeltaFields, StartFields, InstallFields, RehearseFields, SampleFields}
+use Rattle.line_core.specs.Lines.{line, check_line, show_text, store_line, report_line, sample_line}
 use Rattle.clubcard_top.specs.declared.fault.FileFault.{FileFault}
 use Rattle.clubcard_top.specs.declared.fault.FileFault.TheVariants as faults
 use Rattle.clubcard_top.specs.Faults.{of_publishing}
 use Rattle.clubcard_top.specs.ReplyFields.{Done, NamedFault}
-use Rattle.clubcard_top.specs.Readings.{job_in, ledger_in, part_in, store_in, input_as}
+use Rattle.clubcard_top.specs.Readings.{queries_in, job_in, ledger_in, part_in, store_in, input_as}
 
 -- ---- steps
 
@@ -152,6 +158,56 @@ MakesDelta d (Ok j) (Ok l) o = MakesPart d.job d.part d.new_ledger l j o
 MakesDelta d (Ok j) (Err e) o = o ≡ Err e
 MakesDelta d (Err e) l o = o ≡ Err e
 
+-- ---- rehearsing
+
+-- the report of a job behind a history
+abbrev pub report_behind : List JobFields → List SealedFields → JobFields → List ℕ
+report_behind jobs parts job = report_line job.epoch (length jobs) (counts (past_of (history jobs parts)) (told job))
+
+-- the reports of the jobs with these parts, behind others with theirs
+abbrev pub reports : (before : List JobFields) (parts_before : List SealedFields) → List JobFields → List SealedFields → List ℕ
+reports before parts_before (job ∷ jobs) (s ∷ parts) =
+    report_behind before parts_before job ++ reports (before ++ job ∷ []) (parts_before ++ s ∷ []) jobs parts
+reports before parts_before jobs parts = []
+
+-- what the parts say of the certificate of a query
+abbrev pub verdict_line : List SealedFields → Query → List ℕ
+verdict_line parts q = line (verdict_word (verdict (map (λ s. s.part) parts) q.identity q.sightings))
+
+-- the report of each job of a history, and then the verdict of its parts on each query; no file is written
+abbrev pub rehearsed : List Query → List JobFields → List SealedFields → Done
+rehearsed queries jobs parts = only (reports [] [] jobs parts ++ flat_map (verdict_line parts) queries)
+
+-- what is wrong with the file of a job that doesn't follow a history: it isn't read as a job, or the job isn't published
+abbrev pub IsRefused : List JobFields → List SealedFields → List ℕ → Option (List ℕ) → NamedFault → Type 0
+IsRefused jobs parts name given e =
+    (input name job_in given ≡ Err e)
+    ⊎ ((job : JobFields) × (fault : PublishFault) × (input name job_in given ≡ Ok job)
+    × Publishes (ledger_of (history jobs parts)) job (Err fault) × (e ≡ record { name = name; fault = of_publishing fault }))
+
+-- What comes of files that hold jobs, behind a history: the first that doesn't follow those before it is refused; and where
+-- each follows, the parts of all of them are asked the queries.
+abbrev pub Rehearses : List Query → List JobFields → List SealedFields → List (List ℕ) → List (Option (List ℕ)) → Result Done NamedFault → Type 0
+Rehearses queries jobs parts [] [] o = o ≡ Ok (rehearsed queries jobs parts)
+Rehearses queries jobs parts (name ∷ names) (given ∷ inputs) o =
+    ((e : NamedFault) × IsRefused jobs parts name given e × (o ≡ Err e))
+    ⊎ ((job : JobFields) × (more : List SealedFields) × (input name job_in given ≡ Ok job) × IsHistory (jobs ++ job ∷ []) more
+    × Rehearses queries (jobs ++ job ∷ []) more names inputs o)
+Rehearses queries jobs parts names inputs o = ⊥
+
+abbrev pub MakesRehearsal : RehearseFields → Result (List Query) NamedFault → List (Option (List ℕ)) → Result Done NamedFault → Type 0
+MakesRehearsal r (Ok queries) inputs o = Rehearses queries [] [] r.jobs inputs o
+MakesRehearsal r (Err e) inputs o = o ≡ Err e
+
+-- ---- making jobs
+
+-- the job of the number, and how many entries, revoked certificates and bytes it has
+abbrev pub sample_done : SampleFields → Done
+sample_done s = record {
+  text = sample_line s.number s.count (sample_revoked s.count) (length (sample_text s.number s.count));
+  outputs = record { name = s.job; bytes = sample_text s.number s.count } ∷ [];
+}
+
 -- ---- commands
 
 -- What comes of a command: what it writes, or what is wrong with which file. The inputs are in the order of reading.
@@ -163,4 +219,6 @@ Makes (commands.Snapshot s) (job ∷ []) o = MakesSnapshot s (input s.job job_in
 Makes (commands.Delta d) (job ∷ ledger ∷ []) o = MakesDelta d (input d.job job_in job) (input d.ledger ledger_in ledger) o
 Makes (commands.Start t) (part ∷ []) o = o ≡ start_makes t part
 Makes (commands.Install i) (store ∷ part ∷ []) o = o ≡ install_makes i store part
+Makes (commands.Rehearse r) (queries ∷ jobs) o = MakesRehearsal r (input r.queries queries_in queries) jobs o
+Makes (commands.Sample s) [] o = o ≡ Ok (sample_done s)
 Makes command inputs o = ⊥

@@ -1,4 +1,6 @@
 -- What is wrong with a file, from what is wrong with what it holds.
+use Rattle.query_core.specs.declared.fault.QueriesFault.{QueriesFault}
+use Rattle.query_core.specs.declared.fault.QueriesFault.TheVariants as queries
 use Rattle.job_core.specs.declared.fault.JobFault.{JobFault}
 use Rattle.job_core.specs.declared.fault.JobFault.TheVariants as job
 use Rattle.ledger_core.specs.declared.fault.LedgerFault.{LedgerFault}
@@ -20,6 +22,10 @@ use Rattle.clubcard_top.specs.declared.input.InputFault.TheVariants as input
 abbrev pub of_input : InputFault → FileFault
 of_input input.Failed = faults.Unread
 of_input input.NoMemory = faults.NoMemory
+
+abbrev pub of_queries : QueriesFault → FileFault
+of_queries (queries.Layout f) = faults.Layout f
+of_queries queries.NoMemory = faults.NoMemory
 
 -- the bytes are there, so no read of them fails
 abbrev pub of_job : JobFault → FileFault

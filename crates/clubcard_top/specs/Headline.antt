@@ -1,15 +1,18 @@
 -- What a call does for the history of admitted jobs that its files are of.
 use Rattle.std.specs.Prelude.{◌≡◌, ℕ, ◌≤◌, List, [], ◌∷◌, ◌++◌, length, Some, Ok}
+use Rattle.std.specs.List.{AllZip}
 use Rattle.std.specs.FinMap.{get}
 use Rattle.ident_core.specs.declared.range.Sighting.{Sighting}
 use Rattle.outside_core.specs.Files.{Files}
+use Rattle.query_core.specs.Queries.{Query}
+use Rattle.query_core.specs.QueryReading.{queries_in}
 use Rattle.part_codec.specs.SealedFields.{SealedFields}
 use Rattle.job_core.specs.declared.bounds.TheConstants.Limits as limits
 use Rattle.job_core.specs.JobFields.{JobFields}
 use Rattle.job_core.specs.JobLayout.{job_of}
 use Rattle.sets_core.specs.Among.{Among}
 use Rattle.universe_core.specs.Jobs.{told}
-use Rattle.universe_core.specs.History.{past_of, seen, sightings}
+use Rattle.universe_core.specs.History.{Release, past_of, seen, sightings}
 use Rattle.universe_core.specs.Counting.{counts}
 use Rattle.publication_core.specs.Histories.{IsAdmissible, IsHistory, history, part_bytes, store_bytes, ledger_bytes}
 use Rattle.publication_core.specs.Truth.{truth}
@@ -18,7 +21,7 @@ use Rattle.word_core.specs.declared.command.Command.TheVariants as commands
 use Rattle.word_core.specs.CommandFields.{QueryFields}
 use Rattle.line_core.specs.Lines.{line, report_line, store_line}
 use Rattle.clubcard_top.specs.ReplyFields.{OutputFields, Done}
-use Rattle.clubcard_top.specs.Commands.{verdict_word, only}
+use Rattle.clubcard_top.specs.Commands.{verdict_word, only, verdict_line}
 
 -- ---- publishing
 
@@ -77,3 +80,24 @@ AsksHistory asked files q jobs parts =
 -- the truth of the history
 abbrev pub truth_done : List JobFields → List SealedFields → QueryFields → Done
 truth_done jobs parts q = only (line (verdict_word (truth (history jobs parts) q.id)))
+
+-- ---- rehearsing
+
+-- the file of this name holds these queries
+abbrev pub HoldsQueries : Files → List ℕ → List Query → Type 0
+HoldsQueries files name queries = (bytes : List ℕ) × (get files name ≡ Some bytes) × (queries_in bytes ≡ Ok queries)
+
+-- The command rehearses these jobs, which its files hold in their order, and asks these queries.
+abbrev pub RehearsesJobs : Command → Files → List Query → List JobFields → Type 0
+RehearsesJobs (commands.Rehearse r) files queries jobs = HoldsQueries files r.queries queries × AllZip (HoldsJob files) r.jobs jobs
+RehearsesJobs command files queries jobs = ⊥
+
+-- the query asks with one or more sightings, all of them of its certificate's accepted entries
+abbrev pub AsksAccepted : List Release → Query → Type 0
+AsksAccepted rs q = (1 ≤ length q.sightings) × ((s : Sighting) → Among q.sightings s → Among (sightings q.identity (seen rs)) s)
+
+-- The jobs are a history with these parts, and where a query asks with accepted sightings alone, its line is the truth of the
+-- history.
+pub record IsRehearsed (queries : List Query) (jobs : List JobFields) (parts : List SealedFields) : Type 0 where
+  pub is_history : IsHistory jobs parts
+  pub truths : (q : Query) → Among queries q → AsksAccepted (history jobs parts) q → verdict_line parts q ≡ line (verdict_word (truth (history jobs parts) q.identity))

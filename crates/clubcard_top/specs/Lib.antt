@@ -6,6 +6,7 @@ pub mod Readings
 pub mod Commands
 pub mod Replies
 pub mod Inputs
+pub mod Rehearsals
 pub mod Runs
 pub mod Headline
 pub mod Answering

@@ -1,6 +1,8 @@
 -- What the bytes of each kind of file are read as.
 use Rattle.std.specs.Prelude.{ℕ, List, Option, Some, None, Result, Ok, Err}
 use Rattle.octets_core.specs.Reading.{value_of}
+use Rattle.query_core.specs.Queries.{Query}
+use Rattle.query_core.specs.QueryReading.{queries_in as queries_of}
 use Rattle.job_core.specs.declared.bounds.TheConstants.Limits as limits
 use Rattle.job_core.specs.JobFields.{JobFields}
 use Rattle.job_core.specs.JobLayout.{job_of}
@@ -10,12 +12,15 @@ use Rattle.part_codec.specs.SealedFields.{SealedFields}
 use Rattle.store_core.specs.StoreLayout.{store}
 use Rattle.clubcard_top.specs.declared.fault.FileFault.{FileFault}
 use Rattle.clubcard_top.specs.declared.fault.FileFault.TheVariants as faults
-use Rattle.clubcard_top.specs.Faults.{of_job, of_ledger, of_store}
+use Rattle.clubcard_top.specs.Faults.{of_queries, of_job, of_ledger, of_store}
 use Rattle.clubcard_top.specs.PartFile.{part_file}
 
 abbrev pub faulted : {A E : Type 0} → (E → FileFault) → Result A E → Result A FileFault
 faulted fault (Ok x) = Ok x
 faulted fault (Err e) = Err (fault e)
+
+abbrev pub queries_in : List ℕ → Result (List Query) FileFault
+queries_in bytes = faulted of_queries (queries_of bytes)
 
 abbrev pub job_in : List ℕ → Result JobFields FileFault
 job_in bytes = faulted of_job (job_of limits.PUBLISHED bytes)

@@ -1,12 +1,12 @@
 //! Answers, which are sent when all has been read and made.
 
-ghost use Rattle.std.specs.Prelude.{◌≡◌, ◌≤◌, [], IsTrue};
+ghost use Rattle.std.specs.Prelude.{◌≡◌, ◌≤◌, [], ◌∷◌, IsTrue};
 ghost use Rattle.outside_core.specs.Files.{Rose};
 ghost use Rattle.clubcard_top.specs.Statuses as statuses;
 ghost use Rattle.clubcard_top.specs.Answering.{shown, with_files};
 ghost use Rattle.clubcard_top.specs.Runs.{SentSo, EndsSo};
 
-use crate::output::{Output, write_outputs};
+use crate::output::{Output, SampleOutput, write_outputs};
 use crate::reply::Reply;
 use crate::status::Status;
 use line_core::write_sealed;
@@ -22,6 +22,8 @@ pub enum Answer {
     Part(Sealed),
     /// Files that are written first, and one line once they are whole.
     Files(Vec<Output>, Reply),
+    /// A job that is written as it is made, and one line once it is whole.
+    Sample(SampleOutput, Reply),
 }
 
 /// Sends one text, behind which the call ends so.
@@ -79,19 +81,41 @@ fn send_files<D: Depot, K: Sink>(
     }
 }
 
-/// Sends an answer. No memory is taken.
-pub fn send<D: Depot, K: Sink>(answer: &Answer, depot: &mut D, out: &mut K) -> Status
-    ensures ends { EndsSo (shown answer.now) result.0 (K.written out.old) (K.written out.new) (Rose (K.faults out.old) (K.faults out.new))
+/// Writes a job as it is made, and then sends the reply, or the line that says that it can't be written.
+fn send_sample<D: Depot, K: Sink>(
+    output: SampleOutput,
+    reply: &Reply,
+    depot: &mut D,
+    out: &mut K,
+) -> Status
+    ensures ends { EndsSo (with_files (output ∷ []) reply.now) result.0 (K.written out.old) (K.written out.new) (Rose (K.faults out.old) (K.faults out.new))
         (D.files depot.old) (D.files depot.new) (Rose (D.write_faults depot.old) (D.write_faults depot.new)) }
-    ensures own { IsTrue (statuses.is_one_of statuses.of_replies (shown answer.now).status) }
-    ensures quiet { (shown answer.now).outputs ≡ [] → D.write_faults depot.new ≡ D.write_faults depot.old }
+    ensures own { IsTrue (statuses.is_one_of statuses.of_replies reply.now.status) }
+    ensures same_reads { D.read_faults depot.new ≡ D.read_faults depot.old }
+    ensures later { D.write_faults depot.old ≤ D.write_faults depot.new }
+    ensures later_out { K.faults out.old ≤ K.faults out.new }
+{
+    let status = reply.status();
+    match output.write(depot) {
+        None => send_text(reply.text(), status, out),
+        Some(fault) => send_text(fault.as_bytes(), Status::WRITE_FAULT, out),
+    }
+}
+
+/// Sends an answer. No memory is taken.
+pub fn send<D: Depot, K: Sink>(answer: Answer, depot: &mut D, out: &mut K) -> Status
+    ensures ends { EndsSo (shown answer) result.0 (K.written out.old) (K.written out.new) (Rose (K.faults out.old) (K.faults out.new))
+        (D.files depot.old) (D.files depot.new) (Rose (D.write_faults depot.old) (D.write_faults depot.new)) }
+    ensures own { IsTrue (statuses.is_one_of statuses.of_replies (shown answer).status) }
+    ensures quiet { (shown answer).outputs ≡ [] → D.write_faults depot.new ≡ D.write_faults depot.old }
     ensures same_reads { D.read_faults depot.new ≡ D.read_faults depot.old }
     ensures later { D.write_faults depot.old ≤ D.write_faults depot.new }
     ensures later_out { K.faults out.old ≤ K.faults out.new }
 {
     match answer {
-        Answer::Reply(reply) => send_reply(reply, out),
-        Answer::Part(sealed) => send_part(sealed, out),
-        Answer::Files(outputs, reply) => send_files(outputs, reply, depot, out),
+        Answer::Reply(reply) => send_reply(&reply, out),
+        Answer::Part(sealed) => send_part(&sealed, out),
+        Answer::Files(outputs, reply) => send_files(&outputs, &reply, depot, out),
+        Answer::Sample(output, reply) => send_sample(output, &reply, depot, out),
     }
 }

@@ -12,6 +12,7 @@ use crate::answer::Answer;
 use crate::fault::FileFault;
 use crate::inputs::{part_in, store_in};
 use crate::reply::Reply;
+use ident_core::{Identity, Sighting};
 use line_core::checked;
 use octets_core::{NoMemory, Steps};
 use outside_core::Depot;
@@ -32,7 +33,8 @@ pub(crate) fn refused(alloc: Global, name: &str, fault: FileFault) -> Result<Ans
 /// The verdict of a store, with counters of probes and of words that nothing reads.
 fn verdict_by<L: Ledger, M: Ledger>(
     store: &Store,
-    query: &Query,
+    id: &Identity,
+    sightings: &[Sighting],
     probes: Blank,
     words: Blank,
 ) -> Verdict
@@ -42,11 +44,18 @@ fn verdict_by<L: Ledger, M: Ledger>(
     requires words_name { words.name ≡ M.name }
     requires words_parts { words.parts ≡ M.parts }
     requires some_words { 0 < M.parts }
-    ensures { result ≡ verdict_of (map (λ s. s.part) store.now) query.now.id query.now.sightings }
+    ensures { result ≡ verdict_of (map (λ s. s.part) store.now) id.now sightings.now }
 {
     let mut probes: Steps<L> = Steps::new(probes);
     let mut words: Steps<M> = Steps::new(words);
-    store.verdict(query.id(), query.sightings(), &mut probes, &mut words)
+    store.verdict(id, sightings, &mut probes, &mut words)
+}
+
+/// The verdict of a store.
+pub fn verdict_on(store: &Store, id: &Identity, sightings: &[Sighting]) -> Verdict
+    ensures { result ≡ verdict_of (map (λ s. s.part) store.now) id.now sightings.now }
+{
+    verdict_by::<Brand, Brand>(store, id, sightings, Blank::new(1), Blank::new(1))
 }
 
 /// The answer to a query.
@@ -62,7 +71,7 @@ pub fn answer_query<D: Depot>(
 {
     match store_in(alloc, depot, query.store()) {
         Ok(store) => {
-            let verdict = verdict_by::<Brand, Brand>(&store, query, Blank::new(1), Blank::new(1));
+            let verdict = verdict_on(&store, query.id(), query.sightings());
             Ok(Answer::Reply(Reply::verdict(alloc, verdict)?))
         }
         Err(fault) => refused(alloc, query.store(), fault),

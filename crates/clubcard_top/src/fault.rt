@@ -6,6 +6,7 @@ use ledger_core::LedgerFault;
 use octets_core::{Key32, LayoutFault};
 use part_codec::PartFault;
 use publication_core::PublishFault;
+use query_core::QueriesFault;
 use store_core::{Refusal, StoreFault};
 use universe_core::AdmitFault;
 
@@ -37,6 +38,19 @@ impl From<LayoutFault> for FileFault {
 
     fn from(fault: LayoutFault) -> FileFault {
         FileFault::Layout(fault)
+    }
+}
+
+impl From<QueriesFault> for FileFault {
+    ghost use Rattle.clubcard_top.specs.Faults.{of_queries};
+
+    ghost from_gives = { λ f e. e ≡ of_queries f };
+
+    fn from(fault: QueriesFault) -> FileFault {
+        match fault {
+            QueriesFault::Layout(fault) => FileFault::Layout(fault),
+            QueriesFault::NoMemory => FileFault::NoMemory,
+        }
     }
 }
 

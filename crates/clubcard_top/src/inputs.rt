@@ -1,12 +1,13 @@
-//! The files that commands read: a job, a ledger, a part and a store. The bytes are dropped once they are read.
+//! The files that commands read: queries, a job, a ledger, a part and a store. The bytes are dropped once they are read.
 
-ghost use Rattle.std.specs.Prelude.{◌≡◌, ◌≤◌, IfOk};
+ghost use Rattle.std.specs.Prelude.{◌≡◌, ◌≤◌, map, IfOk};
 ghost use Rattle.octets_core.specs.Reading.{GivesUnless};
 ghost use Rattle.outside_core.specs.Files.{Rose};
+ghost use Rattle.query_core.specs.Queries.{as_query};
 ghost use Rattle.job_core.specs.JobFields.{fields_of_job};
 ghost use Rattle.job_core.specs.JobFacts.{FitsFields, IsWithinLimits};
 ghost use Rattle.clubcard_top.specs.PartFile.{part_file};
-ghost use Rattle.clubcard_top.specs.Readings.{job_in as job_of, ledger_in as ledger_of, part_in as part_of, store_in as store_of};
+ghost use Rattle.clubcard_top.specs.Readings.{queries_in as queries_of, job_in as job_of, ledger_in as ledger_of, part_in as part_of, store_in as store_of};
 ghost use Rattle.clubcard_top.specs.Inputs.{IsInput};
 
 use crate::fault::FileFault;
@@ -16,8 +17,24 @@ use ledger_core::{Ledger, decode_ledger};
 use octets_core::{Field, LayoutFault, Why};
 use outside_core::Depot;
 use part_codec::{Sealed, decode_part};
+use query_core::{Asked, read_queries};
 use std::alloc::Global;
 use store_core::{Store, decode_store};
+
+/// The queries of the file of this name.
+pub fn queries_in<D: Depot>(
+    alloc: Global,
+    depot: &mut D,
+    name: &str,
+) -> Result<Vec<Asked>, FileFault>
+    ensures input { IsInput (D.files depot.old) (Rose (D.read_faults depot.old) (D.read_faults depot.new)) name.now queries_of (λ v. map as_query v.items) result }
+    ensures later { D.read_faults depot.old ≤ D.read_faults depot.new }
+    ensures same_files { D.files depot.new ≡ D.files depot.old }
+    ensures same_writes { D.write_faults depot.new ≡ D.write_faults depot.old }
+{
+    let bytes = read_all(alloc, depot, name)?;
+    Ok(read_queries(alloc, &bytes)?)
+}
 
 /// The job of the file of this name.
 pub fn job_in<D: Depot>(alloc: Global, depot: &mut D, name: &str) -> Result<Job, FileFault>

@@ -2,15 +2,16 @@
 
 ghost use Rattle.std.specs.Prelude.{◌≡◌, ℕ, List, [], ◌∷◌, ◌++◌, Option, Result, Ok};
 ghost use Rattle.outside_core.specs.Files.{Files};
+ghost use Rattle.query_core.specs.Queries.{Query};
 ghost use Rattle.part_codec.specs.SealedFields.{SealedFields};
 ghost use Rattle.job_core.specs.JobFields.{JobFields};
 ghost use Rattle.publication_core.specs.Histories.{IsAdmissible, IsHistory, history};
 ghost use Rattle.word_core.specs.declared.command.Command.{Command};
-ghost use Rattle.word_core.specs.CommandFields.{QueryFields};
+ghost use Rattle.word_core.specs.CommandFields.{QueryFields, RehearseFields};
 ghost use Rattle.clubcard_top.specs.ReplyFields.{Done, NamedFault, ReplyFields};
-ghost use Rattle.clubcard_top.specs.Commands.{Makes};
+ghost use Rattle.clubcard_top.specs.Commands.{Makes, rehearsed};
 ghost use Rattle.clubcard_top.specs.Replies.{IsReplyTo, held_by};
-ghost use Rattle.clubcard_top.specs.Headline.{AsksHistory, IsPublished, IsStored, PublishesJob, StoresPart, truth_done};
+ghost use Rattle.clubcard_top.specs.Headline.{AsksHistory, IsPublished, IsRehearsed, IsStored, PublishesJob, RehearsesJobs, StoresPart, truth_done};
 
 use publication_core::{
     histories_are_published, ledgers_are_read_back, parts_are_chains, publications_are_unique,
@@ -24,11 +25,13 @@ pub fn replies_are_unique()
     ensures reply { (command : Command) (files : Files) (a b : ReplyFields) → IsReplyTo command files a → IsReplyTo command files b → a ≡ b }
 {
     publications_are_unique();
+    histories_are_published();
 }
 
 /// What comes of commands over the files of histories. A job that is published behind a history makes a history with it,
 /// whose part and ledger are written; each admissible job is published. A part of a history is added to the store of those
-/// before it. The store of a history, asked with accepted sightings, answers the truth.
+/// before it. The store of a history, asked with accepted sightings, answers the truth. Jobs that are rehearsed are a history,
+/// and each history is rehearsed.
 pub fn histories_are_made()
     ensures published { (command : Command) (files : Files) (jobs : List JobFields) (parts : List SealedFields) (job : JobFields) (d : Done) → IsHistory jobs parts → PublishesJob command files jobs parts job
         → Makes command (held_by command files) (Ok d) → IsPublished command jobs parts job d }
@@ -38,6 +41,10 @@ pub fn histories_are_made()
         → StoresPart command files parts s → Makes command (held_by command files) o → (d : Done) × (o ≡ Ok d) × IsStored command parts s d }
     ensures asked { (command : Command) (files : Files) (q : QueryFields) (jobs : List JobFields) (parts : List SealedFields) (o : Result Done NamedFault) → IsHistory jobs parts
         → AsksHistory command files q jobs parts → Makes command (held_by command files) o → o ≡ Ok (truth_done jobs parts q) }
+    ensures rehearsed { (command : Command) (files : Files) (r : RehearseFields) (d : Done) → command ≡ Command.Rehearse r → Makes command (held_by command files) (Ok d)
+        → (queries : List Query) × (jobs : List JobFields) × (parts : List SealedFields) × RehearsesJobs command files queries jobs × IsRehearsed queries jobs parts × (d ≡ rehearsed queries jobs parts) }
+    ensures followed { (command : Command) (files : Files) (queries : List Query) (jobs : List JobFields) (parts : List SealedFields) (o : Result Done NamedFault) → IsHistory jobs parts
+        → RehearsesJobs command files queries jobs → Makes command (held_by command files) o → o ≡ Ok (rehearsed queries jobs parts) }
 {
     publications_are_unique();
     histories_are_published();

@@ -37,7 +37,8 @@ impl Model for Reply {
     ghost invariant = { λ r. IsTrue (statuses.is_one_of statuses.of_replies r.status.0) };
 }
 
-fn verdict_text(verdict: Verdict) -> &'static str
+/// The word for a verdict.
+pub fn verdict_text(verdict: Verdict) -> &'static str
     ensures { result.now ≡ verdict_word verdict }
 {
     match verdict {
@@ -94,6 +95,16 @@ impl Reply {
         ensures { IfOk result (λ r. r ≡ done (only line.now)) }
     {
         Reply::of_line(alloc, Status::DONE, line)
+    }
+
+    /// The reply of a command that was done: these lines.
+    pub fn lines(text: Vec<u8>) -> Reply
+        ensures { result ≡ done (only text.items) }
+    {
+        Reply {
+            status: Status::DONE,
+            text,
+        }
     }
 
     /// The reply of a command that was done: the line of a verdict.

@@ -5,27 +5,31 @@ ghost use Rattle.outside_core.specs.Files.{Rose};
 ghost use Rattle.outside_core.specs.Written.{followed_by};
 ghost use Rattle.octets_core.specs.declared.fault.LayoutFault.{LayoutFault};
 ghost use Rattle.crl_core.specs.declared.crl.CrlFault.{CrlFault};
+ghost use Rattle.query_core.specs.Queries.{Query as AskedQuery};
 ghost use Rattle.part_codec.specs.SealedFields.{SealedFields};
 ghost use Rattle.job_core.specs.declared.bounds.What.{What};
 ghost use Rattle.job_core.specs.JobFields.{JobFields};
 ghost use Rattle.store_core.specs.declared.chain.Refusal.{Refusal};
 ghost use Rattle.publication_core.specs.Histories.{IsAdmissible, IsHistory, history};
-ghost use Rattle.word_core.specs.CommandFields.{QueryFields};
+ghost use Rattle.word_core.specs.CommandFields.{QueryFields, RehearseFields};
 ghost use Rattle.word_core.specs.Names.{outputs_of};
 ghost use Rattle.word_core.specs.Words.{command_of};
 ghost use Rattle.clubcard_top.specs.Statuses as statuses;
 ghost use Rattle.clubcard_top.specs.ReplyFields.{Done, ReplyFields};
+ghost use Rattle.clubcard_top.specs.Commands.{rehearsed as rehearsed_of};
 ghost use Rattle.clubcard_top.specs.Replies.{IsReplyTo, usage};
 ghost use Rattle.clubcard_top.specs.Answering.{shown};
 ghost use Rattle.clubcard_top.specs.Runs.{IsReply, Ends, IsWriteFault, IsUnread, KeepsAllBut, Answers, Refuses, with_outputs};
-ghost use Rattle.clubcard_top.specs.Headline.{AsksHistory, IsPublished, IsStored, PublishesJob, StoresPart, truth_done};
+ghost use Rattle.clubcard_top.specs.Headline.{AsksHistory, IsPublished, IsRehearsed, IsStored, PublishesJob, RehearsesJobs, StoresPart, truth_done};
 
 use crate::answer::{Answer, send};
 use crate::commands::{answer_check, answer_query, answer_show};
 use crate::fault::FileFault;
 use crate::laws::histories_are_made;
 use crate::publishing::{answer_delta, answer_snapshot};
+use crate::rehearsing::answer_rehearse;
 use crate::reply::Reply;
+use crate::sampling::answer_sample;
 use crate::status::Status;
 use crate::storing::{answer_install, answer_start};
 use octets_core::NoMemory;
@@ -55,6 +59,8 @@ fn answer_for<R: Threads + Sync, D: Depot>(
         Command::Delta(asked) => answer_delta(rt, alloc, asked, depot),
         Command::Start(asked) => answer_start(alloc, asked, depot),
         Command::Install(asked) => answer_install(alloc, asked, depot),
+        Command::Rehearse(asked) => answer_rehearse(rt, alloc, asked, depot),
+        Command::Sample(asked) => answer_sample(alloc, asked),
     }
 }
 
@@ -74,7 +80,7 @@ fn run_command<R: Threads + Sync, D: Depot, K: Sink>(
     ensures later_out { K.faults out.old ≤ K.faults out.new }
 {
     match answer_for(rt, alloc, command, depot) {
-        Ok(answer) => send(&answer, depot, out),
+        Ok(answer) => send(answer, depot, out),
         Err(NoMemory) => Status::NO_MEMORY,
     }
 }
@@ -155,6 +161,14 @@ pub fn run<R: Threads + Sync, D: Depot, K: Sink>(
     ensures truth { IfSome (D.files depot.old) (λ files. (q : QueryFields) (jobs : List JobFields) (parts : List SealedFields) → IsHistory jobs parts → AsksHistory (command_of (map string_bytes words.now)) files q jobs parts
         → result.0 ≡ statuses.done → K.written out.new ≡ followed_by (K.written out.old) (truth_done jobs parts q).text) }
     ensures answered { IfSome (D.files depot.old) (λ files. (q : QueryFields) (jobs : List JobFields) (parts : List SealedFields) → IsHistory jobs parts → AsksHistory (command_of (map string_bytes words.now)) files q jobs parts
+        → ((Rose (D.read_faults depot.old) (D.read_faults depot.new)) → ⊥) → ((Rose (D.write_faults depot.old) (D.write_faults depot.new)) → ⊥) → ((Rose (K.faults out.old) (K.faults out.new)) → ⊥) → IsTrue (statuses.is_one_of (statuses.done ∷ statuses.no_memory ∷ []) result.0)) }
+
+    // Jobs that are rehearsed are a history: a report is printed of each, and then the verdict of its parts on each query,
+    // which is the truth of the history where the query asks with accepted sightings alone. Each history is rehearsed.
+    ensures rehearsed { IfSome (D.files depot.old) (λ files. (r : RehearseFields) → command_of (map string_bytes words.now) ≡ Command.Rehearse r
+        → result.0 ≡ statuses.done
+        → (queries : List AskedQuery) × (jobs : List JobFields) × (parts : List SealedFields) × RehearsesJobs (command_of (map string_bytes words.now)) files queries jobs × IsRehearsed queries jobs parts × (K.written out.new ≡ followed_by (K.written out.old) (rehearsed_of queries jobs parts).text)) }
+    ensures followed { IfSome (D.files depot.old) (λ files. (queries : List AskedQuery) (jobs : List JobFields) (parts : List SealedFields) → IsHistory jobs parts → RehearsesJobs (command_of (map string_bytes words.now)) files queries jobs
         → ((Rose (D.read_faults depot.old) (D.read_faults depot.new)) → ⊥) → ((Rose (D.write_faults depot.old) (D.write_faults depot.new)) → ⊥) → ((Rose (K.faults out.old) (K.faults out.new)) → ⊥) → IsTrue (statuses.is_one_of (statuses.done ∷ statuses.no_memory ∷ []) result.0)) }
 
     // Which files change.

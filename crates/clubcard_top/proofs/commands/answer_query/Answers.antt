@@ -5,7 +5,7 @@ use Rattle.clubcard_top.proofs.commands.answer_query.Goals as goal
 
 pub returns-in_ok-verdict-in-Ok-clause-reply : goal.returns-in_ok-verdict-in-Ok-clause-reply
 returns-in_ok-verdict-in-Ok-clause-reply g c =
-    query_made (g.D.Depot.files c.args.depot.now) _ (Ok (answers.Reply c.in_ok-verdict-in-Ok.field-0)) c.args.query.now (λ s. s) c.in-Ok.store (rw c.store.ensures at c.in-Ok.ensures.input) (rw c.verdict_by-verdict.ensures at c.in_ok-verdict-in-Ok.ensures)
+    query_made (g.D.Depot.files c.args.depot.now) _ (Ok (answers.Reply c.in_ok-verdict-in-Ok.field-0)) c.args.query.now (λ s. s) c.in-Ok.store (rw c.store.ensures at c.in-Ok.ensures.input) (rw (c.verdict_on-verdict.ensures, c.id.ensures, c.sightings.ensures) at c.in_ok-verdict-in-Ok.ensures)
 
 pub returns-in-Err-clause-reply : goal.returns-in-Err-clause-reply
 returns-in-Err-clause-reply g c =

@@ -1,17 +1,22 @@
 use Rattle.clubcard_top.proofs.Made.{Layers, published, admitted, stored_law, asked_law}
+use Rattle.clubcard_top.proofs.Rehearsed.{rehearsed_law, done_law}
 use Rattle.clubcard_top.proofs.laws.histories_are_made.Goals as goal
 
 pub returns : goal.returns
 returns c =
     let layers : Layers = record {
-      one = c.publications_are_unique.ensures.outcome;
+      publishing = record {
+        one = c.publications_are_unique.ensures.outcome;
+        part = c.publications_are_unique.ensures.part;
+        parts = c.publications_are_unique.ensures.parts;
+        complete = c.histories_are_published.ensures.complete;
+      };
       none = c.histories_are_published.ensures.none;
       admissible = c.histories_are_published.ensures.admissible;
       next = c.histories_are_published.ensures.history;
       ledger = c.histories_are_published.ensures.ledger;
       numbers = c.histories_are_published.ensures.numbers;
       place = c.histories_are_published.ensures.place;
-      complete = c.histories_are_published.ensures.complete;
       ledger_read = c.ledgers_are_read_back.ensures.value;
       chain = c.parts_are_chains.ensures.chain;
       few = c.parts_are_chains.ensures.few;
@@ -26,4 +31,6 @@ returns c =
       admitted = λ command files jobs parts job o is p a m. admitted layers command files jobs parts job o is p a m;
       stored = λ command files jobs parts s o is p m. stored_law layers command files jobs parts s o is p m;
       asked = λ command files q jobs parts o is p m. asked_law layers command files q jobs parts o is p m;
+      rehearsed = λ command files r d is m. rehearsed_law layers files command r d is m;
+      followed = λ command files queries jobs parts o is p m. done_law layers files command queries jobs parts o is p m;
     }

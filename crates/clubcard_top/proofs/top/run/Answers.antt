@@ -60,6 +60,8 @@ returns-clause-published g c =
       admitted = c.histories_are_made.ensures.admitted _;
       stored = c.histories_are_made.ensures.stored _;
       asks = c.histories_are_made.ensures.asked _;
+      rehearses = c.histories_are_made.ensures.rehearsed _;
+      follows = c.histories_are_made.ensures.followed _;
     }) _ c.run_words.ensures.ends
 
 pub returns-clause-admitted : goal.returns-clause-admitted
@@ -69,6 +71,8 @@ returns-clause-admitted g c =
       admitted = c.histories_are_made.ensures.admitted _;
       stored = c.histories_are_made.ensures.stored _;
       asks = c.histories_are_made.ensures.asked _;
+      rehearses = c.histories_are_made.ensures.rehearsed _;
+      follows = c.histories_are_made.ensures.followed _;
     }) _ c.run_words.ensures.ends
 
 pub returns-clause-stored : goal.returns-clause-stored
@@ -78,6 +82,8 @@ returns-clause-stored g c =
       admitted = c.histories_are_made.ensures.admitted _;
       stored = c.histories_are_made.ensures.stored _;
       asks = c.histories_are_made.ensures.asked _;
+      rehearses = c.histories_are_made.ensures.rehearsed _;
+      follows = c.histories_are_made.ensures.followed _;
     }) _ c.run_words.ensures.ends
 
 pub returns-clause-taken : goal.returns-clause-taken
@@ -87,6 +93,8 @@ returns-clause-taken g c =
       admitted = c.histories_are_made.ensures.admitted _;
       stored = c.histories_are_made.ensures.stored _;
       asks = c.histories_are_made.ensures.asked _;
+      rehearses = c.histories_are_made.ensures.rehearsed _;
+      follows = c.histories_are_made.ensures.followed _;
     }) _ c.run_words.ensures.ends
 
 pub returns-clause-truth : goal.returns-clause-truth
@@ -96,6 +104,8 @@ returns-clause-truth g c =
       admitted = c.histories_are_made.ensures.admitted _;
       stored = c.histories_are_made.ensures.stored _;
       asks = c.histories_are_made.ensures.asked _;
+      rehearses = c.histories_are_made.ensures.rehearsed _;
+      follows = c.histories_are_made.ensures.followed _;
     }) _ c.run_words.ensures.ends
 
 pub returns-clause-answered : goal.returns-clause-answered
@@ -105,4 +115,28 @@ returns-clause-answered g c =
       admitted = c.histories_are_made.ensures.admitted _;
       stored = c.histories_are_made.ensures.stored _;
       asks = c.histories_are_made.ensures.asked _;
+      rehearses = c.histories_are_made.ensures.rehearsed _;
+      follows = c.histories_are_made.ensures.followed _;
+    }) _ c.run_words.ensures.ends
+
+pub returns-clause-rehearsed : goal.returns-clause-rehearsed
+returns-clause-rehearsed g c =
+    tellings.rehearsed_clause _ _ _ _ _ _ _ _ (record {
+      published = c.histories_are_made.ensures.published _;
+      admitted = c.histories_are_made.ensures.admitted _;
+      stored = c.histories_are_made.ensures.stored _;
+      asks = c.histories_are_made.ensures.asked _;
+      rehearses = c.histories_are_made.ensures.rehearsed _;
+      follows = c.histories_are_made.ensures.followed _;
+    }) _ c.run_words.ensures.ends
+
+pub returns-clause-followed : goal.returns-clause-followed
+returns-clause-followed g c =
+    tellings.followed_clause _ _ _ _ _ _ _ _ (record {
+      published = c.histories_are_made.ensures.published _;
+      admitted = c.histories_are_made.ensures.admitted _;
+      stored = c.histories_are_made.ensures.stored _;
+      asks = c.histories_are_made.ensures.asked _;
+      rehearses = c.histories_are_made.ensures.rehearsed _;
+      follows = c.histories_are_made.ensures.followed _;
     }) _ c.run_words.ensures.ends

@@ -1,0 +1,39 @@
+use Rattle.std.proofs.Common.{arith, refl, ap, ◌∙◌}
+use Rattle.outside_core.specs.Files.{Rose}
+use Rattle.rehearsal_core.specs.Rehearsing.{RehearsalFields}
+use Rattle.clubcard_top.proofs.Replying.{rose_later, rose_earlier}
+use Rattle.clubcard_top.proofs.Rehearsal.{none_gone, gone_more, gone_refused, gone_all}
+use Rattle.clubcard_top.proofs.rehearsing.with_files.Goals as goal
+
+pub loop-file-init : goal.loop-file-init
+loop-file-init g c = record {
+  gone = none_gone _ c.args.names.now _ c.new-rehearsal.result c.new-text.result.items (ap (λ (r : RehearsalFields). r.parts) c.new-rehearsal.ensures.value) c.new-rehearsal.ensures.is_of c.new-text.ensures.items;
+  later = omega arith;
+  same_files = refl;
+  same_writes = refl;
+}
+
+pub returns-in-Err-clause-refused : goal.returns-in-Err-clause-refused
+returns-in-Err-clause-refused g c = λ differ.
+    let f = rw c.as_str-name.ensures at (c.in-Err.ensures.refused differ) in
+    rw c.as_str-name.ensures
+    (gone_refused (g.D.Depot.files c.args.depot.now) c.args.names.now _ _ (Rose (g.D.Depot.read_faults c.args.depot.now) (g.D.Depot.read_faults c.with_file.new.depot))
+    (rose_later _ _ _ c.with_file.ensures.later) (rose_earlier _ _ _ c.loop-file.invariant.later) (g.D.Depot.files c.loop-file.depot) c.loop-file.invariant.same_files c.loop-file.file-index c.file-item.result
+    c.loop-file-test.true c.file-item.is c.loop-file.rehearsal c.loop-file.text.items c.loop-file.invariant.gone f.0 f.1 c.in-Err.fault f.2)
+
+pub loop-file-preserved : goal.loop-file-preserved
+loop-file-preserved g c =
+    let a = rw c.as_str-name.ensures at c.in-Ok.ensures.added in
+    record {
+      gone =
+          rw (c.in-Ok-put_bytes.ensures.ok, c.text.ensures)
+          (gone_more (g.D.Depot.files c.args.depot.now) c.args.names.now _ _ (Rose (g.D.Depot.read_faults c.args.depot.now) (g.D.Depot.read_faults c.with_file.new.depot))
+          (rose_later _ _ _ c.with_file.ensures.later) (rose_earlier _ _ _ c.loop-file.invariant.later) (g.D.Depot.files c.loop-file.depot) c.loop-file.invariant.same_files c.loop-file.file-index c.file-item.result
+          c.loop-file-test.true c.file-item.is c.loop-file.rehearsal c.loop-file.text.items c.loop-file.invariant.gone a.0 a.1 c.in-Ok.added.0 c.in-Ok.added.1 a.2);
+      later = omega arith;
+      same_files = c.with_file.ensures.same_files ∙ c.loop-file.invariant.same_files;
+      same_writes = c.with_file.ensures.same_writes ∙ c.loop-file.invariant.same_writes;
+    }
+
+pub returns-clause-rehearsed : goal.returns-clause-rehearsed
+returns-clause-rehearsed g c = gone_all (g.D.Depot.files c.args.depot.now) c.args.names.now _ c.loop-file.file-index c.loop-file.rehearsal c.loop-file.text.items (omega (arith, c.loop-file-test.false)) c.loop-file.invariant.gone

@@ -1,0 +1,146 @@
+//! Rehearsals: jobs that are published and installed as they are read, and then asked. No file is written.
+
+ghost use Rattle.std.specs.Prelude.{◌≡◌, ◌≢◌, ◌≤◌, ◌++◌, ℕ, List, map, flat_map, length, Option, IfOk, IfErr, OnOk};
+ghost use Rattle.outside_core.specs.Files.{Rose};
+ghost use Rattle.query_core.specs.Queries.{as_query};
+ghost use Rattle.job_core.specs.JobFields.{JobFields};
+ghost use Rattle.rehearsal_core.specs.Rehearsing.{IsOf};
+ghost use Rattle.word_core.specs.declared.command.Command.{Command};
+ghost use Rattle.clubcard_top.specs.Readings.{job_in as job_of};
+ghost use Rattle.clubcard_top.specs.Inputs.{IsRead};
+ghost use Rattle.clubcard_top.specs.Commands.{IsRefused, input, verdict_line};
+ghost use Rattle.clubcard_top.specs.Rehearsals.{AddsJob, IsRefusedFrom, IsRehearsedFrom};
+ghost use Rattle.clubcard_top.specs.Answering.{shown};
+ghost use Rattle.clubcard_top.specs.Runs.{IsReply};
+
+use crate::answer::Answer;
+use crate::commands::{refused, verdict_on};
+use crate::fault::FileFault;
+use crate::inputs::{job_in, queries_in};
+use crate::reply::{Reply, verdict_text};
+use line_core::{Line, reported};
+use octets_core::{NoMemory, put_bytes, put_u8};
+use outside_core::Depot;
+use query_core::Asked;
+use rehearsal_core::Rehearsal;
+use std::alloc::Global;
+use std::thread::Threads;
+use store_core::Verdict;
+use word_core::{FileName, Rehearse};
+
+/// A file, and what is wrong with it.
+#[derive(Drop)]
+struct BadFile<'a> {
+    name: &'a str,
+    fault: FileFault,
+}
+
+/// The rehearsal with the job of the file of this name, and the line of its report.
+fn with_file<R: Threads + Sync, D: Depot>(
+    rt: &R,
+    alloc: Global,
+    before: Rehearsal,
+    name: &str,
+    workers: u32,
+    depot: &mut D,
+) -> Result<(Rehearsal, Line), FileFault>
+    requires some_workers { 1 ≤ workers }
+    requires few_workers { workers ≤ 64 }
+    ensures added { IfOk result (λ x. (given : Option (List ℕ)) × IsRead (D.files depot.old) (Rose (D.read_faults depot.old) (D.read_faults depot.new)) name.now given
+        × ((jobs : List JobFields) → IsOf jobs before → AddsJob jobs before (input name.now job_of given) x.0 x.1)) }
+    ensures refused { IfErr result (λ e. e ≢ FileFault.NoMemory → (given : Option (List ℕ)) × IsRead (D.files depot.old) (Rose (D.read_faults depot.old) (D.read_faults depot.new)) name.now given
+        × ((jobs : List JobFields) → IsOf jobs before → IsRefused jobs before.parts name.now given (record { name = name.now; fault = e }))) }
+    ensures later { D.read_faults depot.old ≤ D.read_faults depot.new }
+    ensures same_files { D.files depot.new ≡ D.files depot.old }
+    ensures same_writes { D.write_faults depot.new ≡ D.write_faults depot.old }
+{
+    let job = job_in(alloc, depot, name)?;
+    let (after, report) = before.with_job(rt, alloc, job, workers)?;
+    let line = reported(report.epoch, report.place, &report.counts);
+    Ok((after, line))
+}
+
+/// The rehearsal of the jobs of the files of these names, in their order, and the lines of their reports.
+fn with_files<'a, R: Threads + Sync, D: Depot>(
+    rt: &R,
+    alloc: Global,
+    names: &'a [FileName],
+    workers: u32,
+    depot: &mut D,
+) -> Result<(Rehearsal, Vec<u8>), BadFile<'a>>
+    requires some_workers { 1 ≤ workers }
+    requires few_workers { workers ≤ 64 }
+    ensures rehearsed { IfOk result (λ x. IsRehearsedFrom (D.files depot.old) (Rose (D.read_faults depot.old) (D.read_faults depot.new)) names.now x.0 x.1.items) }
+    ensures refused { IfErr result (λ e. e.fault ≢ FileFault.NoMemory → IsRefusedFrom (D.files depot.old) (Rose (D.read_faults depot.old) (D.read_faults depot.new)) names.now (record { name = e.name.now; fault = e.fault })) }
+    ensures later { D.read_faults depot.old ≤ D.read_faults depot.new }
+    ensures same_files { D.files depot.new ≡ D.files depot.old }
+    ensures same_writes { D.write_faults depot.new ≡ D.write_faults depot.old }
+{
+    let mut rehearsal = Rehearsal::new();
+    let mut text = Vec::new(alloc);
+    for file in names {
+        let name = file.as_str();
+        let (next, line) = match with_file(rt, alloc, rehearsal, name, workers, depot) {
+            Ok(added) => added,
+            Err(fault) => return Err(BadFile { name, fault }),
+        };
+        let fault = FileFault::NoMemory;
+        match put_bytes(&mut text, line.text()) {
+            Ok(()) => rehearsal = next,
+            Err(NoMemory) => return Err(BadFile { name, fault }),
+        }
+    }
+    Ok((rehearsal, text))
+}
+
+/// Appends the line of the verdict on a query.
+fn put_verdict(text: &mut Vec<u8>, rehearsal: &Rehearsal, query: &Asked) -> Result<(), NoMemory>
+    ensures { OnOk result (text.new.items ≡ text.old.items ++ verdict_line rehearsal.now.parts (as_query query.now)) }
+{
+    let verdict = match rehearsal.store() {
+        None => Verdict::NotCovered,
+        Some(store) => verdict_on(store, &query.identity, &query.sightings),
+    };
+    put_bytes(text, verdict_text(verdict).as_bytes())?;
+    put_u8(text, b'\n')
+}
+
+/// Appends the lines of the verdicts on the queries, in their order.
+fn put_verdicts(
+    text: &mut Vec<u8>,
+    rehearsal: &Rehearsal,
+    queries: &[Asked],
+) -> Result<(), NoMemory>
+    ensures { OnOk result (text.new.items ≡ text.old.items ++ flat_map (verdict_line rehearsal.now.parts) (map as_query queries.now)) }
+{
+    for query in queries {
+        put_verdict(text, rehearsal, query)?;
+    }
+    Ok(())
+}
+
+/// The answer of `rehearse`.
+pub fn answer_rehearse<R: Threads + Sync, D: Depot>(
+    rt: &R,
+    alloc: Global,
+    rehearse: &Rehearse,
+    depot: &mut D,
+) -> Result<Answer, NoMemory>
+    ensures reply { IfOk result (λ a. IsReply (Command.Rehearse rehearse.now) (D.files depot.old) (Rose (D.read_faults depot.old) (D.read_faults depot.new)) (shown a)) }
+    ensures later { D.read_faults depot.old ≤ D.read_faults depot.new }
+    ensures same_files { D.files depot.new ≡ D.files depot.old }
+    ensures same_writes { D.write_faults depot.new ≡ D.write_faults depot.old }
+{
+    let queries = match queries_in(alloc, depot, rehearse.queries()) {
+        Ok(queries) => queries,
+        Err(fault) => return refused(alloc, rehearse.queries(), fault),
+    };
+    let names = rehearse.jobs();
+    match with_files(rt, alloc, names, rehearse.workers(), depot) {
+        Ok((rehearsal, mut text)) => {
+            put_verdicts(&mut text, &rehearsal, &queries)?;
+            Ok(Answer::Reply(Reply::lines(text)))
+        }
+        Err(file) => refused(alloc, file.name, file.fault),
+    }
+}

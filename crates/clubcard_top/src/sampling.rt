@@ -1,0 +1,31 @@
+//! The generator's command: what it answers. Its job is written when the answer is sent.
+
+ghost use Rattle.std.specs.Prelude.{◌≡◌, IfOk};
+ghost use Rattle.clubcard_top.specs.Commands.{sample_done};
+ghost use Rattle.clubcard_top.specs.Answering.{shown};
+ghost use Rattle.clubcard_top.specs.Replies.{done};
+
+use crate::answer::Answer;
+use crate::output::SampleOutput;
+use crate::reply::Reply;
+use line_core::sampled;
+use octets_core::NoMemory;
+use sample_core::Draft;
+use std::alloc::Global;
+use word_core::Sample;
+
+/// The answer of `sample`.
+pub fn answer_sample(alloc: Global, sample: &Sample) -> Result<Answer, NoMemory>
+    ensures { IfOk result (λ a. shown a ≡ done (sample_done sample.now)) }
+{
+    let draft = Draft::new(alloc, sample.number(), sample.count())?;
+    let line = sampled(
+        sample.number(),
+        sample.count(),
+        draft.revoked(),
+        draft.bytes(),
+    );
+    let reply = Reply::done(alloc, &line)?;
+    let output = SampleOutput::new(alloc, sample.job(), draft)?;
+    Ok(Answer::Sample(output, reply))
+}
