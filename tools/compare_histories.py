@@ -5,17 +5,33 @@
 
 For each history: the part, the ledger and the store of each job byte for byte, the lines of `snapshot`, `delta`, `start` and
 `install`, and `query` on accepted certificates (the answer must be the history's truth) and on others (it must be the
-verdict of the parts). It needs the program (`./clubcard query` or `rt ci` builds it), prints a line, and ends with status 0
-exactly where nothing differs; where something does, it says which history and what.
+verdict of the parts). Then all jobs in one `rehearse`, with queries of both kinds; in some histories with a job that is
+refused among them, or with a damaged query file, and then the line and the status of the refusal. And a job of `sample`. It
+needs the program (`./clubcard query` or `rt ci` builds it), prints a line, and ends with status 0 exactly where nothing
+differs; where something does, it says which history and what.
 """
 
+import functools
 import os
 import random
 import subprocess
 import sys
 import tempfile
 
-from reference import Crl, Entry, History, Job, T, be, store, verdict
+from reference import (
+    Crl,
+    Entry,
+    Job,
+    JobFile,
+    T,
+    be,
+    history_of,
+    queries_bytes,
+    rehearse,
+    sample,
+    store,
+    verdict,
+)
 
 PROGRAM = os.path.join(os.path.dirname(os.path.abspath(__file__)), "../crates/clubcard/out/clubcard")
 
@@ -92,11 +108,15 @@ def held(path):
         return file.read()
 
 
+def put(path, data):
+    with open(path, "wb") as file:
+        file.write(data)
+
+
 def compare_files(rng, history, parts, at):
     """Publishes each job and installs its part."""
     for i, job in enumerate(history.jobs):
-        with open(at("job"), "wb") as file:
-            file.write(job.bytes())
+        put(at("job"), job.bytes())
         workers = str(rng.choice([1, 2, 64]))
         if i == 0:
             told = run("snapshot", at("job"), at("part"), at("ledger0"), workers)
@@ -116,23 +136,102 @@ def ask(path, identity, sightings):
     return run("query", path, identity[0].hex(), identity[2].hex(), *words)
 
 
-def compare_answers(rng, history, parts, path):
-    """Asks about accepted certificates, and about others. Gives how many."""
+def random_queries(rng, history, parts, accepted, others):
+    """Accepted certificates, each with the history's truth, and others, each with the verdict of the parts."""
     last = len(history.jobs) - 1
     known = sorted(history.identities(last))
-    accepted = rng.sample(known, min(len(known), 6))
-    for x in accepted:
+    queries = []
+    for x in rng.sample(known, min(len(known), accepted)):
         sightings = history.sightings(x, last)
         some = rng.sample(sightings, rng.randint(1, min(3, len(sightings))))
-        truth = "revoked" if history.listed(x, last) else "good"
-        same(f"truth of {x} at {some}", ask(path, x, some), (0, truth + "\n"))
-    for _ in range(4):
+        queries.append((x, some, "revoked" if history.listed(x, last) else "good"))
+    for _ in range(others):
         issuer = rng.choice(known)[0] if known and rng.random() < 0.7 else random_octets(rng, 32)
         serial = random_octets(rng, rng.randint(1, 32))
         log, first, until = rng.choice(history.jobs[-1].ranges)
         x, some = (issuer, len(serial), serial), [(log, rng.randint(first - 30, until + 30))]
-        same(f"verdict on {x} at {some}", ask(path, x, some), (0, verdict(parts, x, some) + "\n"))
-    return len(accepted) + 4
+        queries.append((x, some, verdict(parts, x, some)))
+    return queries
+
+
+def compare_answers(rng, history, parts, path):
+    """Asks about accepted certificates, and about others. Gives how many."""
+    queries = random_queries(rng, history, parts, 6, 4)
+    for x, some, wanted in queries:
+        same(f"answer on {x} at {some}", ask(path, x, some), (0, wanted + "\n"))
+    return len(queries)
+
+
+def damaged(rng, data):
+    """Bytes that are cut, longer, or changed in one place."""
+    at = rng.randrange(len(data))
+    return rng.choice([data[:at], data + b"\0", data[:at] + random_octets(rng, 1) + data[at + 1 :]])
+
+
+def damaged_job(rng, job):
+    """The same, with no change but to what a job begins with and to the kinds of its records."""
+    records = job.records()
+    place = rng.randrange(len(records))
+    records[place] = rng.choice([b"\4", b"\xff"]) + records[place][1:]
+    data = job.bytes()
+    return rng.choice([data[: rng.randrange(len(data))], data + b"\0", b"".join(records)])
+
+
+def shrunk(rng, ranges):
+    """The ranges without one, or with one that begins later."""
+    place = rng.randrange(len(ranges))
+    log, first, last = ranges[place]
+    later = [(log, first + 1, last)] if first < last else []
+    return ranges[:place] + rng.choice([[], later]) + ranges[place + 1 :]
+
+
+def misfit(rng, jobs, place):
+    """A job that doesn't fit behind so many of the others, or before the next one, and what its file holds: mostly its
+    bytes."""
+    job = jobs[min(place, len(jobs) - 1)]
+    epoch, ranges, crls = job.epoch, job.ranges, list(job.crls)
+    reasons = rng.sample(["crl", "epoch", "coverage"], rng.randint(1, 2))
+    if "crl" in reasons:
+        crls.insert(rng.randint(0, len(crls)), (random_octets(rng, 32), Crl([b"\5"], cut=True)))
+    if "epoch" in reasons and place > 0:
+        epoch = rng.randint(0, jobs[place - 1].epoch)
+    if "coverage" in reasons and place > 0:
+        epoch, ranges = epoch + (place == len(jobs)), shrunk(rng, jobs[place - 1].ranges)
+    job = Job(epoch, T, ranges, crls, job.entries)
+    return job, rng.choice([None, damaged_job(rng, job)] + 4 * [job.bytes()])
+
+
+def compare_rehearsal(rng, history, parts, at):
+    """Rehearses all jobs in one call. Gives how many queries were answered: none where the rehearsal is refused."""
+    asked = random_queries(rng, history, parts, 30, 10)
+    rng.shuffle(asked)
+    queries = queries_bytes([(x, some) for x, some, _ in asked])
+    texts = [(job, job.bytes()) for job in history.jobs]
+    changed = rng.random() < 0.5
+    if changed and rng.random() < 0.3:
+        queries = damaged(rng, queries)
+    elif changed:
+        place = rng.randint(0, len(texts))
+        texts.insert(place, misfit(rng, history.jobs, place))
+    put(at("queries"), queries)
+    files = [JobFile(at(f"job{i}"), data, job) for i, (job, data) in enumerate(texts)]
+    for file in files:
+        if file.data is not None:
+            put(file.name, file.data)
+    told = run("rehearse", at("queries"), str(rng.choice([1, 2, 64])), *(file.name for file in files))
+    status, text = rehearse(at("queries"), queries, files)
+    same("rehearsal", told, (status, text))
+    if not changed:
+        same("answers of the rehearsal", text.splitlines()[len(files) :], [wanted for _, _, wanted in asked])
+    return len(asked) if status == 0 else 0
+
+
+def compare_sample(rng, at):
+    """Makes a job from a number."""
+    number, count = rng.randrange(2**64), rng.randint(1, 1000)
+    data, line = sample(number, count)
+    same("line of a sample", run("sample", str(number), str(count), at("sample")), (0, line))
+    same("sample", held(at("sample")), data)
 
 
 def main():
@@ -140,19 +239,24 @@ def main():
         sys.exit("build the program first: ./clubcard query")
     count = int(sys.argv[1]) if len(sys.argv) > 1 else 20
     seed = int(sys.argv[2]) if len(sys.argv) > 2 else 1
-    jobs, asked = 0, 0
+    jobs, asked, refused = 0, 0, 0
     for number in range(count):
         rng = random.Random(seed * 1_000_003 + number)
-        history = History(random_history(rng))
+        history = history_of(tuple(random_history(rng)))
         parts = history.parts()
         with tempfile.TemporaryDirectory() as folder:
+            at = functools.partial(os.path.join, folder)
             try:
-                compare_files(rng, history, parts, lambda name: os.path.join(folder, name))
-                asked += compare_answers(rng, history, parts, os.path.join(folder, f"store{len(parts) - 1}"))
+                compare_files(rng, history, parts, at)
+                asked += compare_answers(rng, history, parts, at(f"store{len(parts) - 1}"))
+                rehearsed = compare_rehearsal(rng, history, parts, at)
+                compare_sample(rng, at)
             except AssertionError as differs:
                 sys.exit(f"history {number} of seed {seed} differs: {differs}")
         jobs += len(parts)
-    print(f"{count} histories, {jobs} jobs, {asked} queries: nothing differs")
+        asked += rehearsed
+        refused += rehearsed == 0
+    print(f"{count} histories, {jobs} jobs, {asked} queries, {refused} refused rehearsals: nothing differs")
 
 
 if __name__ == "__main__":

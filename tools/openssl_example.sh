@@ -17,6 +17,10 @@
 #     clubcard install STORE PART NEWSTORE
 #     clubcard query NEWSTORE ..                       for each certificate, old and new
 #
+# Last, the two jobs and the same queries (tools/pack_queries.py) go through one call, whose verdicts must be those:
+#
+#     clubcard rehearse QUERIES 1 JOB JOB
+#
 # It prints a line for each certificate that is asked, and ends with status 0 exactly where the two agree on all of them.
 # All files lie in a new folder, which is removed.
 set -eu
@@ -150,10 +154,14 @@ openssl_verdict() {
 # Asks a store about the certificates that are listed, and compares.
 differing=0
 compare() {
+    : >queries.txt
+    : >verdicts.txt
     while read -r name n time; do
         identity=$(python3 "$top/tools/identity.py" "$name/$n.pem" "$name/ca.pem")
         # shellcheck disable=SC2086 # two words
         verdict=$("$top/clubcard" query "$1" $identity "$log" "$time") || true
+        echo "$identity $log $time" >>queries.txt
+        echo "$verdict" >>verdicts.txt
         wanted=$(openssl_verdict "$name" "$n")
         echo "$name $n: clubcard $verdict, openssl $wanted"
         [ "$verdict" = "$wanted" ] || differing=$((differing + 1))
@@ -191,6 +199,16 @@ python3 "$top/tools/pack_job.py" --epoch 2 --moment "$moment" --range "$log" "$m
 "$top/clubcard" delta job2 ledger1 part2 ledger2 1
 "$top/clubcard" install store1 part2 store2
 compare store2
+
+python3 "$top/tools/pack_queries.py" queries <queries.txt
+"$top/clubcard" rehearse queries 1 job1 job2 >rehearsed
+head -n 2 rehearsed
+if tail -n +3 rehearsed | cmp -s - verdicts.txt; then
+    echo "rehearse: the same verdicts"
+else
+    echo "rehearse: other verdicts"
+    differing=$((differing + 1))
+fi
 
 echo "$differing certificates differ"
 [ "$differing" -eq 0 ]

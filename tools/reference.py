@@ -1,5 +1,5 @@
 #!/usr/bin/env python3
-"""An independent reference of the rules: parts, ledgers, stores and verdicts from jobs.
+"""An independent reference of the rules: parts, ledgers, stores, verdicts and rehearsals from jobs, and generated jobs.
 
 Written from the rules and layouts (docs/ARCHITECTURE.md, docs/FORMATS.md) and not from the program. The sets of a history
 are worked out by their definitions over all its jobs (not from a birth and a last part), systems are solved by plain
@@ -9,6 +9,8 @@ column down, a column is zero where that leaves a solution. It is slow: for hist
 
 import functools
 import hashlib
+
+from sample_reference import sample as sample_text
 
 T = 1700000000000
 
@@ -255,6 +257,26 @@ class Part:
         self.trailer = sha(out)
         self.bytes = out + self.trailer
 
+    def shown(self):
+        """What `show` prints."""
+        kind = "delta" if self.kind else "snapshot"
+        lines = [f"part {kind} version 1 epoch {self.epoch} parent {self.parent.hex()}"]
+        lines += [f"range {log.hex()} {first} {last}" for log, first, last in self.ranges]
+        lines += [f"issuer {issuer.hex()} {shown_block(block)}" for issuer, block in self.blocks]
+        return text_of(lines + [f"trailer {self.trailer.hex()}"])
+
+
+def shown_block(block):
+    if block in ("none", "all"):
+        return block
+    stages = [("approx", block.approx)] if block.k else []
+    stages.append(("exact", block.exact))
+    return f"mixed k {block.k}" + "".join(f" {name} {stage[0]} {stage[1]}" for name, stage in stages)
+
+
+def text_of(lines):
+    return "".join(line + "\n" for line in lines)
+
 
 class History:
     """The sets of a history of jobs, by their definitions over all of its jobs."""
@@ -262,6 +284,7 @@ class History:
     def __init__(self, jobs):
         self.jobs = jobs
         self.accepted = []  # per job: list of (identity, (log, time))
+        self.named = []  # per job: the identities among them
         self.counts = []
         for i, job in enumerate(jobs):
             here, n = [], dict(unread=0, uncovered=0, unenrolled=0, late=0)
@@ -282,15 +305,16 @@ class History:
                 else:
                     here.append((e.id, (e.log, e.time)))
             self.accepted.append(here)
+            self.named.append({x for x, _ in here})
             n["accepted"] = len(here)
             self.counts.append(n)
 
     @functools.lru_cache(maxsize=None)
     def identities(self, j):
-        return {x for job in self.accepted[: j + 1] for x, _ in job}
+        return {x for named in self.named[: j + 1] for x in named}
 
     def birth(self, x):
-        return next(i for i, job in enumerate(self.accepted) if x in {y for y, _ in job})
+        return next(i for i, named in enumerate(self.named) if x in named)
 
     def sightings(self, x, i):
         return [s for job in self.accepted[: i + 1] for y, s in job if y == x]
@@ -370,3 +394,171 @@ def verdict(parts, identity, sightings):
 
 def ident(k, s):
     return (k, len(s), s)
+
+
+# ---------- files that are read ----------
+class Refused(Exception):
+    """Why a command isn't done: its status, and its line up to the name of the file."""
+
+    def __init__(self, status, why):
+        super().__init__(why)
+        self.status, self.why = status, why
+
+
+class Fields:
+    """The fields of a file, one behind the other."""
+
+    def __init__(self, data):
+        self.data, self.at = data, 0
+
+    def refuse(self, field, why):
+        raise Refused(3, f"layout {self.at} {field} {why}")
+
+    def take(self, field, width, passes=lambda octets: True):
+        octets = self.data[self.at : self.at + width]
+        if len(octets) < width:
+            self.refuse(field, "short")
+        if not passes(octets):
+            self.refuse(field, "value")
+        self.at += width
+        return octets
+
+    def magic(self, field, text):
+        self.take(field, len(text), lambda octets: octets == text)
+
+    def number(self, field, width, passes=lambda number: True):
+        octets = self.take(field, width, lambda octets: passes(int.from_bytes(octets, "big")))
+        return int.from_bytes(octets, "big")
+
+    def end(self):
+        if self.at < len(self.data):
+            self.refuse("end", "value")
+
+
+def queries_bytes(queries):
+    out = b"CLUBQRY1" + be(len(queries), 4)
+    for (issuer, length, serial), sightings in queries:
+        out += issuer + bytes([length]) + serial + bytes([len(sightings)])
+        out += b"".join(log + be(time, 8) for log, time in sightings)
+    return out
+
+
+def read_queries(data):
+    fields = Fields(data)
+    fields.magic("query.magic", b"CLUBQRY1")
+    queries = []
+    for _ in range(fields.number("query.count", 4, lambda count: count <= 65536)):
+        issuer = fields.take("query.issuer", 32)
+        length = fields.number("query.length", 1, lambda length: 1 <= length <= 32)
+        serial = fields.take("query.serial", length)
+        count = fields.number("query.sightings", 1, lambda count: 1 <= count <= 64)
+        sightings = [(fields.take("sighting.log", 32), fields.number("sighting.time", 8)) for _ in range(count)]
+        queries.append(((issuer, length, serial), sightings))
+    fields.end()
+    return queries
+
+
+def read_range(fields, log_before):
+    log = fields.take("range.log", 32, lambda log: log_before is None or log > log_before)
+    first = fields.number("range.from", 8)
+    fields.number("range.to", 8, lambda last: last >= first)
+    return log
+
+
+def read_job_fields(data):
+    """Reads the fields of a job, and not what they mean."""
+    fields = Fields(data)
+    fields.magic("job.magic", b"CLUBJOB1")
+    fields.number("job.epoch", 8)
+    fields.number("job.moment", 8)
+    before, log = 0, None
+    while True:
+        kind = fields.number("record.kind", 1, lambda kind: kind == 0 or before <= kind <= 3)
+        if kind == 0:
+            return fields.end()
+        before = kind
+        if kind == 1:
+            log = read_range(fields, log)
+        elif kind == 2:
+            fields.take("crl.issuer", 32)
+            fields.take("crl.bytes", fields.number("crl.length", 4, lambda length: length <= 67108864))
+        else:
+            fields.take("entry.log", 32)
+            fields.take("entry.leaf", fields.number("entry.leaf_length", 3))
+            fields.take("entry.extra", fields.number("entry.extra_length", 3))
+
+
+# ---------- rehearsals ----------
+def admit(job, before):
+    """Refuses a job that doesn't follow those before it. The limits are out of reach of short jobs."""
+    for place, (_, crl) in enumerate(job.crls):
+        if crl.cut:
+            raise Refused(4, f"crl {place} malformed")
+    if not before:
+        return
+    newest = before[-1]
+    if job.epoch <= newest.epoch:
+        raise Refused(5, f"chain epoch {newest.epoch} {job.epoch}")
+    for log, first, last in newest.ranges:
+        if not any(l == log and a <= first and last <= b for l, a, b in job.ranges):
+            raise Refused(5, f"chain coverage {log.hex()}")
+    if len(before) == 64:
+        raise Refused(5, "chain full")
+
+
+class JobFile:
+    """A file that is read as a job: its name, what it holds (None: it isn't held), and the job that this is unless it
+    breaks its layout."""
+
+    def __init__(self, name, data, job):
+        self.name, self.data, self.job = name, data, job
+
+    def admitted(self, before):
+        if self.data is None:
+            raise Refused(8, "read-fault")
+        read_job_fields(self.data)
+        assert self.data == self.job.bytes(), f"{self.name} holds another job"
+        admit(self.job, before)
+        return self.job
+
+
+@functools.lru_cache(maxsize=1)
+def history_of(jobs):
+    """The history of a tuple of jobs."""
+    return History(list(jobs))
+
+
+def rehearse(name, data, files):
+    """The status and the text of `rehearse`, of a query file's name and bytes and of the files of jobs."""
+    jobs = []
+    try:
+        queries = read_queries(data)
+        for file in files:
+            name = file.name
+            jobs.append(file.admitted(jobs))
+    except Refused as refused:
+        return refused.status, f"{refused.why} {name}\n"
+    history = history_of(tuple(jobs))
+    parts = history.parts()
+    reports = [history.report(i) for i in range(len(jobs))]
+    return 0, text_of(reports + [verdict(parts, identity, sightings) for identity, sightings in queries])
+
+
+# ---------- the generator ----------
+def sample_job(number, count):
+    """The job of `sample`, with what it means. Its bytes are those of tools/sample_reference.py."""
+    n = be(number, 8)
+    log = sha(b"CCLOG", n)
+    issuers = [sha(b"CCISSUER", n, bytes([j])) for j in range(4)]
+    serials = [b"\1" + sha(b"CCSAMPLE", n, be(i, 4))[:15] for i in range(count)]
+    crls = [(issuers[j], Crl([serials[i] for i in range(j, count, 4) if i // 4 % 100 == 0])) for j in range(4)]
+    entries = [Entry(issuers[i % 4], serials[i], log, T + i) for i in range(count)]
+    job = Job(1, T, [(log, T, T + count - 1)], crls, entries)
+    assert job.bytes() == sample_text(number, count)[0]
+    return job
+
+
+def sample(number, count):
+    """What `sample` writes, and its line."""
+    data, revoked = sample_text(number, count)
+    return data, f"sample {number} entries {count} revoked {revoked} bytes {len(data)}\n"

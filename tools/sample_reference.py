@@ -60,4 +60,5 @@ def main():
     print(f"bytes {len(job)} revoked {revoked} sha256 {hashlib.sha256(job).hexdigest()}")
 
 
-main()
+if __name__ == "__main__":
+    main()
