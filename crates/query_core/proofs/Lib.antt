@@ -3,3 +3,4 @@ pub mod QueryTexts
 pub mod QueryReads
 mod QueryBounds
 mod Decodes
+pub mod One

@@ -3,14 +3,21 @@ use Rattle.std.specs.Prelude.{◌≡◌, ◌<◌, ◌≤◌, ◌^◌, List, leng
 use Rattle.ident_core.specs.declared.identity.Identity.{Identity}
 use Rattle.ident_core.specs.declared.range.Sighting.{Sighting}
 use Rattle.query_core.specs.declared.query.Asked.{Asked}
+use Rattle.query_core.specs.declared.query.Sightings.{Sightings}
+use Rattle.query_core.specs.declared.query.Sightings.TheVariants as several
 
 pub record Query : Type 0 where
   pub identity : Identity
   pub sightings : List Sighting
 
+-- the sightings that the code holds in place or in a vector
+abbrev pub sightings_in : Sightings → List Sighting
+sightings_in (several.One s) = s
+sightings_in (several.Several v) = v.items
+
 -- the same of the type of the code
 abbrev pub as_query : Asked → Query
-as_query a = record { identity = a.identity; sightings = a.sightings.items }
+as_query a = record { identity = a.identity; sightings = sightings_in a.sightings }
 
 pub record IdentityFits (id : Identity) : Type 0 where
   pub issuer : length id.issuer ≡ 32

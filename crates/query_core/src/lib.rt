@@ -10,5 +10,5 @@ mod tests;
 
 pub use fault::QueriesFault;
 pub use laws::{a_text_is_read_back, only_a_text_is_read, queries_of_one_text_are_the_same};
-pub use query::Asked;
+pub use query::{Asked, Sightings};
 pub use reading::read_queries;

@@ -1,9 +1,31 @@
+ghost use Rattle.std.specs.Prelude.{◌≡◌};
+ghost use Rattle.query_core.specs.Queries.{sightings_in};
+
 use ident_core::{Identity, Sighting};
+
+/// The sightings of a query. Most certificates are asked with one, which stands in place.
+#[derive(Debug, Drop)]
+pub enum Sightings {
+    One([Sighting; 1]),
+    Several(Vec<Sighting>),
+}
+
+impl Sightings {
+    /// The sightings, in their order.
+    pub fn as_slice(&self) -> &[Sighting]
+        ensures { result.now ≡ sightings_in self.now }
+    {
+        match self {
+            Sightings::One(sighting) => sighting.as_slice(),
+            Sightings::Several(sightings) => sightings.as_slice(),
+        }
+    }
+}
 
 /// A certificate to ask a store about.
 #[derive(Debug, Drop)]
 pub struct Asked {
     pub identity: Identity,
     /// When logs saw it, in the order of the file.
-    pub sightings: Vec<Sighting>,
+    pub sightings: Sightings,
 }

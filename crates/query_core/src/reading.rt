@@ -2,13 +2,13 @@
 
 ghost use Rattle.std.specs.Prelude.{◌≡◌, ◌≤◌, ℕ, List, length, map, All, Ok, IfOk, IfErr};
 ghost use Rattle.octets_core.specs.Reading.{ReadsField, GivesUnless, octets};
-ghost use Rattle.query_core.specs.Queries.{Query, as_query, QueryFits, QueriesFit};
+ghost use Rattle.query_core.specs.Queries.{Query, as_query, sightings_in, QueryFits, QueriesFit};
 ghost use Rattle.query_core.specs.QueryLayout.{sighting, sightings as sightings_layout, identity, query, queries as queries_layout, body};
 ghost use Rattle.query_core.specs.QueryText.{queries_text};
 ghost use Rattle.query_core.specs.QueryReading.{Reads, queries_in, offset_in_queries};
 
 use crate::fault::QueriesFault;
-use crate::query::Asked;
+use crate::query::{Asked, Sightings};
 use ident_core::{Identity, Serial, Sighting};
 use octets_core::{
     Cursor, Field, LayoutFault, Why, read_end, read_key, read_magic, read_u8, read_u32, read_u64,
@@ -30,7 +30,7 @@ fn sighting_of(cursor: &mut Cursor<'_>) -> Result<Sighting, LayoutFault>
     Ok(Sighting { log, time })
 }
 
-fn sightings_of(
+fn several_of(
     alloc: Global,
     cursor: &mut Cursor<'_>,
     count: u8,
@@ -43,6 +43,21 @@ fn sightings_of(
         sightings.push(sighting)?;
     }
     Ok(sightings)
+}
+
+fn sightings_of(
+    alloc: Global,
+    cursor: &mut Cursor<'_>,
+    count: u8,
+) -> Result<Sightings, QueriesFault>
+    ensures { Reads sightings_in (sightings_layout count) cursor.old cursor.new result }
+{
+    if count == 1 {
+        let sighting = sighting_of(cursor)?;
+        return Ok(Sightings::One([sighting]));
+    }
+    let sightings = several_of(alloc, cursor, count)?;
+    Ok(Sightings::Several(sightings))
 }
 
 /// The serial of a certificate, of so many octets.

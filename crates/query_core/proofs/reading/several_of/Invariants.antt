@@ -1,7 +1,7 @@
 use Rattle.std.proofs.Common.{◌≡◌, ◌-◌}
 use Rattle.octets_core.proofs.Repeated.{with_front}
 use Rattle.query_core.specs.QueryLayout.{sighting, many, sightings}
-use Rattle.query_core.proofs.reading.sightings_of.Given as goal
+use Rattle.query_core.proofs.reading.several_of.Given as goal
 
 abbrev pub invariant-loop : goal.invariant-loop
 invariant-loop l = record {
