@@ -1,6 +1,6 @@
 //! Rehearsals: jobs that are published and installed as they are read, and then asked. No file is written.
 
-ghost use Rattle.std.specs.Prelude.{◌≡◌, ◌≢◌, ◌≤◌, ◌++◌, ℕ, List, map, flat_map, length, Option, IfOk, IfErr, OnOk};
+ghost use Rattle.std.specs.Prelude.{◌≡◌, ◌≢◌, ◌≤◌, ◌++◌, [], ℕ, List, map, flat_map, length, Option, IfOk, IfErr, OnOk};
 ghost use Rattle.outside_core.specs.Files.{Rose};
 ghost use Rattle.query_core.specs.Queries.{as_query};
 ghost use Rattle.job_core.specs.JobFields.{JobFields};
@@ -8,7 +8,7 @@ ghost use Rattle.rehearsal_core.specs.Rehearsing.{IsOf};
 ghost use Rattle.word_core.specs.declared.command.Command.{Command};
 ghost use Rattle.clubcard_top.specs.Readings.{job_in as job_of};
 ghost use Rattle.clubcard_top.specs.Inputs.{IsRead};
-ghost use Rattle.clubcard_top.specs.Commands.{IsRefused, input, verdict_line};
+ghost use Rattle.clubcard_top.specs.Commands.{IsRefused, input, verdict_line as line_of_verdict};
 ghost use Rattle.clubcard_top.specs.Rehearsals.{AddsJob, IsRefusedFrom, IsRehearsedFrom};
 ghost use Rattle.clubcard_top.specs.Answering.{shown};
 ghost use Rattle.clubcard_top.specs.Runs.{IsReply};
@@ -17,9 +17,9 @@ use crate::answer::Answer;
 use crate::commands::{refused, verdict_on};
 use crate::fault::FileFault;
 use crate::inputs::{job_in, queries_in};
-use crate::reply::{Reply, verdict_text};
+use crate::reply::{Reply, verdict_line};
 use line_core::{Line, reported};
-use octets_core::{NoMemory, put_bytes, put_u8};
+use octets_core::{NoMemory, put_bytes};
 use outside_core::Depot;
 use query_core::Asked;
 use rehearsal_core::Rehearsal;
@@ -27,6 +27,11 @@ use std::alloc::Global;
 use std::thread::Threads;
 use store_core::Verdict;
 use word_core::{FileName, Rehearse};
+
+/// The most bytes of the line of a report, and of that of a verdict.
+const REPORT: usize = 320;
+
+const VERDICT: usize = 13;
 
 /// A file, and what is wrong with it.
 #[derive(Drop)]
@@ -60,14 +65,17 @@ fn with_file<R: Threads + Sync, D: Depot>(
     Ok((after, line))
 }
 
-/// The rehearsal of the jobs of the files of these names, in their order, and the lines of their reports.
+/// The rehearsal of the jobs of the files of these names, in their order, and the lines of their reports, which are written
+/// into the text.
 fn with_files<'a, R: Threads + Sync, D: Depot>(
     rt: &R,
     alloc: Global,
     names: &'a [FileName],
     workers: u32,
+    text: Vec<u8>,
     depot: &mut D,
 ) -> Result<(Rehearsal, Vec<u8>), BadFile<'a>>
+    requires empty { text.items ≡ [] }
     requires some_workers { 1 ≤ workers }
     requires few_workers { workers ≤ 64 }
     ensures rehearsed { IfOk result (λ x. IsRehearsedFrom (D.files depot.old) (Rose (D.read_faults depot.old) (D.read_faults depot.new)) names.now x.0 x.1.items) }
@@ -77,7 +85,7 @@ fn with_files<'a, R: Threads + Sync, D: Depot>(
     ensures same_writes { D.write_faults depot.new ≡ D.write_faults depot.old }
 {
     let mut rehearsal = Rehearsal::new();
-    let mut text = Vec::new(alloc);
+    let mut text = text;
     for file in names {
         let name = file.as_str();
         let (next, line) = match with_file(rt, alloc, rehearsal, name, workers, depot) {
@@ -95,14 +103,13 @@ fn with_files<'a, R: Threads + Sync, D: Depot>(
 
 /// Appends the line of the verdict on a query.
 fn put_verdict(text: &mut Vec<u8>, rehearsal: &Rehearsal, query: &Asked) -> Result<(), NoMemory>
-    ensures { OnOk result (text.new.items ≡ text.old.items ++ verdict_line rehearsal.now.parts (as_query query.now)) }
+    ensures { OnOk result (text.new.items ≡ text.old.items ++ line_of_verdict rehearsal.now.parts (as_query query.now)) }
 {
     let verdict = match rehearsal.store() {
         None => Verdict::NotCovered,
-        Some(store) => verdict_on(store, &query.identity, &query.sightings),
+        Some(store) => verdict_on(store, &query.identity, query.sightings.as_slice()),
     };
-    put_bytes(text, verdict_text(verdict).as_bytes())?;
-    put_u8(text, b'\n')
+    put_bytes(text, verdict_line(verdict))
 }
 
 /// Appends the lines of the verdicts on the queries, in their order.
@@ -111,7 +118,7 @@ fn put_verdicts(
     rehearsal: &Rehearsal,
     queries: &[Asked],
 ) -> Result<(), NoMemory>
-    ensures { OnOk result (text.new.items ≡ text.old.items ++ flat_map (verdict_line rehearsal.now.parts) (map as_query queries.now)) }
+    ensures { OnOk result (text.new.items ≡ text.old.items ++ flat_map (line_of_verdict rehearsal.now.parts) (map as_query queries.now)) }
 {
     for query in queries {
         put_verdict(text, rehearsal, query)?;
@@ -136,7 +143,10 @@ pub fn answer_rehearse<R: Threads + Sync, D: Depot>(
         Err(fault) => return refused(alloc, rehearse.queries(), fault),
     };
     let names = rehearse.jobs();
-    match with_files(rt, alloc, names, rehearse.workers(), depot) {
+    let verdicts = queries.len().saturating_mul(VERDICT);
+    let room = verdicts.saturating_add(names.len() * REPORT);
+    let text = Vec::with_capacity(alloc, room)?;
+    match with_files(rt, alloc, names, rehearse.workers(), text, depot) {
         Ok((rehearsal, mut text)) => {
             put_verdicts(&mut text, &rehearsal, &queries)?;
             Ok(Answer::Reply(Reply::lines(text)))

@@ -37,15 +37,15 @@ impl Model for Reply {
     ghost invariant = { λ r. IsTrue (statuses.is_one_of statuses.of_replies r.status.0) };
 }
 
-/// The word for a verdict.
-pub fn verdict_text(verdict: Verdict) -> &'static str
-    ensures { result.now ≡ verdict_word verdict }
+/// The line of a verdict.
+pub fn verdict_line(verdict: Verdict) -> &'static [u8]
+    ensures { result.now ≡ line_of_words (verdict_word verdict) }
 {
     match verdict {
-        Verdict::NotCovered => "not-covered",
-        Verdict::NotEnrolled => "not-enrolled",
-        Verdict::Good => "good",
-        Verdict::Revoked => "revoked",
+        Verdict::NotCovered => b"not-covered\n",
+        Verdict::NotEnrolled => b"not-enrolled\n",
+        Verdict::Good => b"good\n",
+        Verdict::Revoked => b"revoked\n",
     }
 }
 
@@ -111,7 +111,7 @@ impl Reply {
     pub fn verdict(alloc: Global, verdict: Verdict) -> Result<Reply, NoMemory>
         ensures { IfOk result (λ r. r ≡ done (only (line_of_words (verdict_word verdict)))) }
     {
-        Ok(Reply::of_text(Status::DONE, line_of(alloc, verdict_text(verdict))?))
+        Ok(Reply::lines(verdict_line(verdict).to_vec(alloc)?))
     }
 
     /// The reply about what is wrong with the file of this name.

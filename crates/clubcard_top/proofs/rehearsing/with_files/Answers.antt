@@ -7,7 +7,7 @@ use Rattle.clubcard_top.proofs.rehearsing.with_files.Goals as goal
 
 pub loop-file-init : goal.loop-file-init
 loop-file-init g c = record {
-  gone = none_gone _ c.args.names.now _ c.new-rehearsal.result c.new-text.result.items (ap (λ (r : RehearsalFields). r.parts) c.new-rehearsal.ensures.value) c.new-rehearsal.ensures.is_of c.new-text.ensures.items;
+  gone = none_gone _ c.args.names.now _ c.new-rehearsal.result c.args.text.items (ap (λ (r : RehearsalFields). r.parts) c.new-rehearsal.ensures.value) c.new-rehearsal.ensures.is_of c.requires.empty;
   later = omega arith;
   same_files = refl;
   same_writes = refl;
