@@ -1,8 +1,13 @@
 //! Jobs, put together from records by the tables of docs/FORMATS.md. Times count from T, the 14th of November 2023 at
 //! 22:13:20 UTC.
 
+ghost use Rattle.std.specs.Prelude.{◌≡◌, IfOk, OnOk, OnErr, codes};
+ghost use Rattle.clubcard_rows.specs.Pieces.{joined, hex_bytes};
+ghost use Rattle.clubcard_rows.specs.Records.{number_bytes, beginning, range_record, crl_record, entry_record};
+
 use crate::files::{CRL_05, CRL_05_08, CRL_NONE, K1, LA, LB};
 use std::alloc::Global;
+use std::marker::Model;
 use std::test::Fail;
 
 const T: u64 = 1700000000000;
@@ -14,9 +19,19 @@ pub struct JobText {
     bytes: Vec<u8>,
 }
 
+impl Model for JobText {
+    ghost use Rattle.std.specs.Prelude.{List, ℕ};
+
+    ghost Value = { List ℕ };
+
+    ghost view = { λ job. job.bytes.items };
+}
+
 impl JobText {
     /// A job of this epoch and of the moment T.
-    pub fn begin(alloc: Global, epoch: u64) -> Result<JobText, Fail> {
+    pub fn begin(alloc: Global, epoch: u64) -> Result<JobText, Fail>
+        ensures { IfOk result (λ job. beginning epoch ≡ Some job) }
+    {
         let mut job = JobText {
             alloc,
             bytes: Vec::new(alloc),
@@ -27,20 +42,27 @@ impl JobText {
         Ok(job)
     }
 
-    fn number(&mut self, number: u64) -> Result<(), Fail> {
+    fn number(&mut self, number: u64) -> Result<(), Fail>
+        ensures { OnOk result (joined (Some self.old) (number_bytes number) ≡ Some self.new) }
+    {
         self.bytes.extend_from_slice(&number.to_be_bytes())?;
         Ok(())
     }
 
     /// Bytes as they stand.
-    pub fn record(&mut self, piece: &str) -> Result<(), Fail> {
+    pub fn record(&mut self, piece: &str) -> Result<(), Fail>
+        ensures ok { OnOk result (joined (Some self.old) (hex_bytes piece.now) ≡ Some self.new) }
+        ensures err { OnErr result (self.new ≡ self.old) }
+    {
         self.bytes
             .extend_from_slice(&hex::decode(self.alloc, piece)?)?;
         Ok(())
     }
 
     /// The coverage of a log from T and more to T and more.
-    pub fn range(&mut self, log: &str, from: u64, to: u64) -> Result<(), Fail> {
+    pub fn range(&mut self, log: &str, from: u64, to: u64) -> Result<(), Fail>
+        ensures { OnOk result (joined (Some self.old) (range_record log.now from to) ≡ Some self.new) }
+    {
         self.record("01")?;
         self.record(log)?;
         self.number(T.saturating_add(from))?;
@@ -48,14 +70,18 @@ impl JobText {
     }
 
     /// A CRL of an issuer, which stands with its length.
-    pub fn crl(&mut self, issuer: &str, crl: &str) -> Result<(), Fail> {
+    pub fn crl(&mut self, issuer: &str, crl: &str) -> Result<(), Fail>
+        ensures { OnOk result (joined (Some self.old) (crl_record issuer.now crl.now) ≡ Some self.new) }
+    {
         self.record("02")?;
         self.record(issuer)?;
         self.record(crl)
     }
 
     /// An entry of a precertificate whose serial has one octet.
-    pub fn entry(&mut self, issuer: &str, serial: &str, log: &str, time: u64) -> Result<(), Fail> {
+    pub fn entry(&mut self, issuer: &str, serial: &str, log: &str, time: u64) -> Result<(), Fail>
+        ensures { OnOk result (joined (Some self.old) (entry_record issuer.now serial.now log.now time) ≡ Some self.new) }
+    {
         self.record("03")?;
         self.record(log)?;
         self.record("0000360000")?;
@@ -68,7 +94,9 @@ impl JobText {
     }
 
     /// The whole job.
-    pub fn end(self) -> Result<Vec<u8>, Fail> {
+    pub fn end(self) -> Result<Vec<u8>, Fail>
+        ensures { IfOk result (λ bytes. joined (Some self) (hex_bytes (codes "00")) ≡ Some bytes.items) }
+    {
         let mut job = self;
         job.record("00")?;
         Ok(job.bytes)

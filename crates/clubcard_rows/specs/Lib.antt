@@ -1,0 +1,4 @@
+pub mod Pieces
+pub mod Depots
+pub mod Records
+pub mod Endings
