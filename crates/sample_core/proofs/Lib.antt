@@ -4,3 +4,4 @@ pub mod Moving
 pub mod Spelled
 pub mod CrlForms
 pub mod Accepted
+pub mod Record

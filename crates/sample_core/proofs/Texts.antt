@@ -81,17 +81,6 @@ pub listed-none : sample_revoked 0 ≡ 0
 unfolding sample_revoked
 listed-none = refl
 
--- ---- texts that are appended in turn
-
-four : (o a b c d : List ℕ) → o ++ a ++ b ++ c ++ d ≡ o ++ (a ++ b ++ c ++ d)
-four o a b c d = simp append_assoc refl
-
-pub joined : (o p q r s a b c d : List ℕ) → p ≡ o ++ a → q ≡ p ++ b → r ≡ q ++ c → s ≡ r ++ d → s ≡ o ++ (a ++ b ++ c ++ d)
-joined o p q r s a b c d e1 e2 e3 e4 =
-    e4
-    ∙ ap (λ (l : List ℕ). l ++ d) (e3 ∙ ap (λ (l : List ℕ). l ++ c) (e2 ∙ ap (λ (l : List ℕ). l ++ b) e1))
-    ∙ four o a b c d
-
 -- ---- names
 
 pub issuer-at : (number j : ℕ) (other : List ℕ) → j < 4
@@ -144,17 +133,6 @@ pub record-is : (number i : ℕ) → entry_record (entry number i) ≡ (3 ∷ []
 record-is number i =
     ap (λ (l : List ℕ). 3 ∷ l) (append-nil (log_of number ++ three_bytes (length (leaf_of number i)) ++ leaf_of number i ++ (0 ∷ 0 ∷ 0 ∷ [])))
     ∙ ap (λ (n : ℕ). 3 ∷ (log_of number ++ three_bytes n ++ leaf_of number i ++ (0 ∷ 0 ∷ 0 ∷ []))) (leaf-length number i)
-
-pub record-made : (number i : ℕ) (o p q r s t log : List ℕ) → o ≡ [] → p ≡ o ++ 3 ∷ [] → q ≡ p ++ log → log ≡ log_of number → r ≡ q ++ (0 ∷ 0 ∷ 69 ∷ [])
-    → s ≡ r ++ leaf_of number i → t ≡ s ++ (0 ∷ 0 ∷ 0 ∷ []) → t ≡ entry_record (entry number i)
-record-made number i o p q r s t log e1 e2 e3 e4 e5 e6 e7 =
-    e7
-    ∙ ap (λ (l : List ℕ). l ++ (0 ∷ 0 ∷ 0 ∷ [])) (e6
-    ∙ ap (λ (l : List ℕ). l ++ leaf_of number i) (e5
-    ∙ ap (λ (l : List ℕ). l ++ (0 ∷ 0 ∷ 69 ∷ [])) (e3
-    ∙ ap (λ (l : List ℕ). l ++ log) (e2 ∙ ap (λ (l : List ℕ). l ++ 3 ∷ []) e1)
-    ∙ ap (λ (l : List ℕ). (3 ∷ []) ++ l) e4)))
-    ∙ sym (record-is number i)
 
 pub record-length : (number i : ℕ) → length (entry_record (entry number i)) ≡ 108
 record-length number i =

@@ -30,7 +30,7 @@ impl Model for Buffer {
 }
 
 /// Appends the bytes, for which there is room.
-pub fn put_within(out: &mut Vec<u8>, bytes: &[u8])
+fn put_within(out: &mut Vec<u8>, bytes: &[u8])
     requires { vec_len out.old + length bytes.now ≤ vec_capacity out.old }
     ensures items { out.new.items ≡ out.old.items ++ bytes.now }
     ensures len { vec_len out.new ≡ vec_len out.old + length bytes.now }

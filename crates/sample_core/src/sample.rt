@@ -1,6 +1,6 @@
 //! The job as it is written.
 
-ghost use Rattle.std.specs.Prelude.{◌≡◌, ◌≤◌, ◌++◌, length, vec_capacity, IfOk, OnOk, OnErr};
+ghost use Rattle.std.specs.Prelude.{◌≡◌, ◌≤◌, ◌++◌, length, IfOk, OnOk, OnErr};
 ghost use Rattle.outside_core.specs.Files.{extending, Torn, KeepsOthers, Rose, putting};
 ghost use Rattle.sample_core.specs.Sample.{sample_text, sample_revoked};
 ghost use Rattle.sample_core.specs.Parts.{head_text, entries_text};
@@ -10,7 +10,7 @@ ghost use Rattle.sample_core.specs.Preparing.{IsPrepared};
 use crate::buffer::Buffer;
 use crate::crl::is_listed;
 use crate::digests::Keys;
-use crate::entry::{RECORD, make_record};
+use crate::entry::{RECORD, record_of};
 use crate::head::make_head;
 use octets_core::NoMemory;
 use outside_core::{Depot, Failed, append_all};
@@ -37,8 +37,6 @@ struct Prepared {
     front: Vec<u8>,
     /// These bytes.
     buffer: Buffer,
-    /// Room for the record of an entry.
-    room: Vec<u8>,
     /// The bytes of the whole job.
     bytes: u64,
 }
@@ -52,24 +50,20 @@ fn prepare(alloc: Global, keys: &Keys, count: u32) -> Result<Prepared, NoMemory>
     let whole = front.len() - front.len() % PIECE;
     let buffer = Buffer::new(alloc, &front[whole..])?;
     front.truncate(whole);
-    let room = Vec::with_capacity(alloc, RECORD)?;
     Ok(Prepared {
         front,
         buffer,
-        room,
         bytes,
     })
 }
 
 fn put_entries<D: Depot>(
     buffer: &mut Buffer,
-    room: &mut Vec<u8>,
     depot: &mut D,
     name: &str,
     keys: &Keys,
     count: u32,
 ) -> Result<(), Failed>
-    requires { 108 ≤ vec_capacity room.old }
     ensures ok { OnOk result (Moved (D.files depot.old) (D.files depot.new) name.now buffer.old (entries_text keys.now count) buffer.new) }
     ensures err { OnErr result (Torn (D.files depot.old) (D.files depot.new) name.now (buffer.old ++ entries_text keys.now count)) }
     ensures others { KeepsOthers (D.files depot.old) (D.files depot.new) name.now }
@@ -78,8 +72,7 @@ fn put_entries<D: Depot>(
     ensures same_reads { D.read_faults depot.new ≡ D.read_faults depot.old }
 {
     for i in 0..count {
-        make_record(room, keys, i);
-        buffer.put(depot, name, room.as_slice())?;
+        buffer.put(depot, name, &record_of(keys, i))?;
     }
     Ok(())
 }
@@ -101,14 +94,7 @@ fn append_sample<D: Depot>(
     ensures same_reads { D.read_faults depot.new ≡ D.read_faults depot.old }
 {
     append_all(depot, name, prepared.front.as_slice())?;
-    put_entries(
-        &mut prepared.buffer,
-        &mut prepared.room,
-        depot,
-        name,
-        keys,
-        count,
-    )?;
+    put_entries(&mut prepared.buffer, depot, name, keys, count)?;
     prepared.buffer.put(depot, name, &[0])?;
     prepared.buffer.write_rest(depot, name)
 }
@@ -155,7 +141,7 @@ impl Model for Draft {
 }
 
 impl Draft {
-    /// The job of the number with so many entries. Memory is taken for its CRLs, a buffer and one record.
+    /// The job of the number with so many entries. Memory is taken for its CRLs and a buffer.
     pub fn new(alloc: Global, number: u64, count: u32) -> Result<Draft, NoMemory>
         requires { (1 ≤ count) × (count ≤ 1000000) }
         ensures { IfOk result (λ d. d ≡ record { number = number; count = count }) }

@@ -8,6 +8,5 @@ returns c = record {
       cut-in-two (c.len-2.result - c.len-3.result % 4096) c.in_ok-front.front.items c.truncate.new.self.items c.in_ok-buffer.buffer c.truncate.ensures.items
       (c.in_ok-buffer.ensures ∙ ap (λ (l : List ℕ). take (length l - (c.len-2.result - c.len-3.result % 4096)) (drop (c.len-2.result - c.len-3.result % 4096) l)) c.deref.ensures.value)
       ∙ c.in_ok-front.ensures;
-  room = omega (arith, c.in_ok-room.ensures.exact);
   bytes = omega (arith, sample-length c.args.keys.now c.args.count, ap length c.in_ok-front.ensures, ap length c.deref.ensures.value, c.deref.ensures.len, c.len.ensures);
 }
