@@ -1,9 +1,31 @@
-ghost use Rattle.equation_core.specs.Rows.{sha256_row};
+ghost use Rattle.std.specs.Prelude.{◌≡◌, ◌+◌, length, take};
+ghost use Rattle.equation_core.specs.Rows.{row_text, sha256_row};
 ghost use Rattle.equation_core.specs.RowLaws.{sha256_row-is};
 
 use crate::hash::{EquationHash, Row};
 use ident_core::Identity;
 use sha2::{Digest, Sha256};
+
+/// The bytes of a row's message before the serial.
+const FRONT: usize = 41;
+
+/// The most bytes of a row's message.
+const MESSAGE: usize = FRONT + 32;
+
+/// The message of a row, and zeros behind it: one piece, since the hasher takes longer over several.
+fn message_of(stage: u8, seed: u8, id: &Identity) -> [u8; MESSAGE]
+    ensures { take (41 + length id.now.serial) result ≡ row_text stage seed id.now }
+{
+    let serial = id.serial.bytes();
+    let mut message = [0; MESSAGE];
+    message[..6].copy_from_slice(b"CCROW1");
+    message[6] = stage;
+    message[7] = seed;
+    message[8..40].copy_from_slice(id.issuer.bytes());
+    message[40] = serial.len() as u8;
+    message[FRONT..FRONT + serial.len()].copy_from_slice(serial);
+    message
+}
 
 /// Rows by SHA-256 (FIPS 180-4), cut from the digest of this project's own row message: the mark `CCROW1`, the stage,
 /// the seed, the issuer, the serial's length and the serial.
@@ -18,14 +40,9 @@ impl EquationHash for Sha256Rows {
     // Bytes 0 to 15 of the digest are the coefficient, whose bit 0 is set, bytes 16 to 23 give the start, and bytes 24
     // and 25 are the tag.
     fn row(&self, stage: u8, seed: u8, id: &Identity, starts: u32) -> Row {
-        let serial = id.serial.bytes();
-        let mut hasher = Sha256::new();
-        hasher.update(b"CCROW1");
-        hasher.update(&[stage, seed]);
-        hasher.update(id.issuer.bytes());
-        hasher.update(&[serial.len() as u8]);
-        hasher.update(serial);
-        let d = hasher.finalize();
+        let message = message_of(stage, seed, id);
+        let len = FRONT + id.serial.bytes().len();
+        let d = Sha256::digest(&message[..len]);
         let coeff = u128::from_be_bytes([
             d[0], d[1], d[2], d[3], d[4], d[5], d[6], d[7], d[8], d[9], d[10], d[11], d[12], d[13],
             d[14], d[15],
