@@ -1,6 +1,7 @@
 pub mod Files
 pub mod Outputs
 pub mod Reading
+pub mod Results
 pub mod Makings
 pub mod Overs
 pub mod Endings

@@ -1,9 +1,9 @@
 -- What comes of commands over the files of histories, from what the layers promise of histories.
-use Rattle.std.proofs.Common.{◌≡◌, ℕ, ◌+◌, ◌<◌, ◌≤◌, List, [], ◌∷◌, ◌++◌, map, length, Option, Some, None, Result, Ok, Err, refl, sym, ap, ◌∙◌, subst, arith}
+use Rattle.std.proofs.Common.{◌≡◌, ℕ, ◌<◌, ◌≤◌, List, [], ◌∷◌, ◌++◌, map, length, Option, Some, None, Result, Ok, Err, refl, sym, ap, ◌∙◌, subst, arith}
 use Rattle.std.specs.Prelude.{All}
 use Rattle.std.specs.FinMap.{get}
 use Rattle.std.proofs.lemmas.Bool.{le-ltb}
-use Rattle.std.proofs.lemmas.List.{append-nil}
+use Rattle.std.proofs.lemmas.List.{append-nil, length_push}
 use Rattle.std.proofs.lemmas.List.Elements.{All-nil, All-cons, All-head, All-tail}
 use Rattle.ident_core.specs.declared.identity.Identity.{Identity}
 use Rattle.ident_core.specs.declared.kind.Kind.{Kind}
@@ -51,6 +51,7 @@ use Rattle.clubcard_top.specs.ReplyFields.{Done, NamedFault}
 use Rattle.clubcard_top.specs.Commands.{◌>>=◌, named, input, only, verdict_word, query_done, query_makes, epoch_of, stored, begun_by, installed_by, start_makes, install_makes, publication_done, published_as, MakesPart, MakesSnapshot, MakesDelta, Makes}
 use Rattle.clubcard_top.specs.Replies.{held_by}
 use Rattle.clubcard_top.specs.Headline.{HoldsJob, PublishesJob, publishes_to, IsPublished, StoresPart, stores_to, IsStored, AsksHistory, truth_done}
+use Rattle.clubcard_top.proofs.Results.{ok_same}
 use Rattle.clubcard_top.proofs.Unique.{Publishing}
 
 -- What the layers promise of histories.
@@ -75,9 +76,6 @@ pub record Layers : Type 0 where
   pub grown : (parts : List SealedFields) (p : SealedFields) → IsChain (parts ++ p ∷ []) → 1 ≤ length parts → length parts < 64 → IsChain parts × (refusal_of parts p ≡ None)
   pub store_read : (parts : List SealedFields) → IsChain parts → 1 ≤ length parts → length parts ≤ 64 → All Fits parts → value_of (store (store_text parts) 0) ≡ Ok parts
   pub part_read : (s : SealedFields) (rest : List ℕ) → Fits s → part (spelling s ++ rest) 0 ≡ Ok (s, length (spelling s))
-
-ok_same : {A E : Type 0} (x y : A) → ◌≡◌ {A = Result A E} (Ok x) (Ok y) → x ≡ y
-ok_same {A} {E} x y h = cc
 
 -- ---- publishing
 
@@ -191,10 +189,6 @@ module _ (layers : Layers) where
   newest_push [] s = refl
   newest_push (p ∷ []) s = refl
   newest_push (p ∷ q ∷ parts) s = newest_push (q ∷ parts) s
-
-  length_push : (parts : List SealedFields) (s : SealedFields) → length (parts ++ s ∷ []) ≡ length parts + 1
-  length_push [] s = refl
-  length_push (p ∷ parts) s = let h = length_push parts s in omega arith
 
   -- all but the last, and the last
   front_fits : (parts : List SealedFields) (s : SealedFields) → All Fits (parts ++ s ∷ []) → All Fits parts

@@ -50,6 +50,7 @@ use Rattle.clubcard_top.specs.Commands.{◌>>=◌, named, input, begun_by, begun
 use Rattle.clubcard_top.specs.Replies.{refusal, reply_of}
 use Rattle.clubcard_top.specs.Inputs.{IsRead, AreRead}
 use Rattle.clubcard_top.proofs.Outputs.{names_of}
+use Rattle.clubcard_top.proofs.Results.{ok_same, not_ok}
 
 -- ---- replies of refusals
 
@@ -87,9 +88,6 @@ outcome_status (Err e) = fault_status e.name e.fault
 pub after_ok : {A B : Type 0} (r : Result A NamedFault) (next : A → Result B NamedFault) (b : B) → Ok b ≡ (r >>= next) → (x : A) × (r ≡ Ok x) × (Ok b ≡ next x)
 after_ok (Ok x) next b h = (x, refl, h)
 after_ok {A} {B} (Err e) next b h = absurd (let g : ◌≡◌ {A = Result B NamedFault} (Ok b) (Err e) = h in cc)
-
-ok_same : {A E : Type 0} (x y : A) → ◌≡◌ {A = Result A E} (Ok x) (Ok y) → x ≡ y
-ok_same {A} {E} x y h = cc
 
 err_same : {A E : Type 0} (x y : E) → ◌≡◌ {A = Result A E} (Err x) (Err y) → x ≡ y
 err_same {A} {E} x y h = cc
@@ -270,9 +268,6 @@ input_unread : {A : Type 0} (name : List ℕ) (read : List ℕ → Result A File
 input_unread {A} name read None e refute h u = (refl, (named_err {A = A} name (Err faults.Unread) e h).1)
 input_unread name read (Some bytes) e refute h u = absurd (refute bytes ((named_err name (read bytes) e h).0 ∙ ap (λ (f : FileFault). Err f) u))
 
-not_ok : {A : Type 0} (e : NamedFault) (x : A) → ◌≡◌ {A = Result A NamedFault} (Err e) (Ok x) → ⊥
-not_ok {A} e x h = cc
-
 begun_read : (s : SealedFields) (kind : Kind) → begun_by s kind ≡ Err faults.Unread → ⊥
 begun_read s kinds.Snapshot h = not_err (s ∷ []) faults.Unread h
 begun_read s kinds.Delta h = let g : faults.NotSnapshot ≡ faults.Unread = err_same {A = List SealedFields} faults.NotSnapshot faults.Unread h in cc
@@ -282,7 +277,7 @@ installed_read None parts s h = not_err (parts ++ s ∷ []) faults.Unread h
 installed_read (Some why) parts s h = let g : faults.Chain why ≡ faults.Unread = err_same {A = List SealedFields} (faults.Chain why) faults.Unread h in cc
 
 published_read : (of part_name ledger_name : List ℕ) (r : Result Published PublishFault) (e : NamedFault) → Err e ≡ published_as of part_name ledger_name r → e.fault ≡ faults.Unread → ⊥
-published_read of part_name ledger_name (Ok p) e h u = not_ok e (publication_done part_name ledger_name p) h
+published_read of part_name ledger_name (Ok p) e h u = not_ok (publication_done part_name ledger_name p) e h
 published_read of part_name ledger_name (Err fault) e h u =
     publish_fault_read fault (sym (ap (λ (k : NamedFault). k.fault) (err_same {A = Done} e (record { name = of; fault = of_publishing fault }) h)) ∙ u)
 
@@ -300,7 +295,7 @@ delta_unread t (Err f) l e m u = inl (ap (λ (k : NamedFault). Err k) (sym (err_
 made_read : {A : Type 0} (name : List ℕ) (r : Result A FileFault) (f : A → Done) (e : NamedFault) → (r ≡ Err faults.Unread → ⊥)
     → (named name r ≡ Err e) ⊎ ((x : A) × (named name r ≡ Ok x) × (Err e ≡ Ok (f x))) → e.fault ≡ faults.Unread → ⊥
 made_read name r f e refute (inl h) u = refute ((named_err name r e h).0 ∙ ap (λ (k : FileFault). Err k) u)
-made_read name r f e refute (inr (x, is, h)) u = not_ok e (f x) h
+made_read name r f e refute (inr (x, is, h)) u = not_ok (f x) e h
 
 start_unread : (t : StartFields) (x : SealedFields × ℕ) (e : NamedFault) → Err e ≡ start_after t x → e.fault ≡ faults.Unread → ⊥
 start_unread t x e h u =
@@ -347,7 +342,7 @@ module _ (told : Option Files) (rose : Type 0) (e : NamedFault) (u : e.fault ≡
 
   rehearses_by : (queries : List Query) (jobs : List JobFields) (parts : List SealedFields) (names : List (List ℕ)) (inputs : List (Option (List ℕ))) → AreRead told rose names inputs
       → Rehearses queries jobs parts names inputs (Err e) → Cause names
-  rehearses_by queries jobs parts [] [] read m = absurd (not_ok e (rehearsed queries jobs parts) m)
+  rehearses_by queries jobs parts [] [] read m = absurd (not_ok (rehearsed queries jobs parts) e m)
   rehearses_by queries jobs parts [] (g ∷ inputs) read m = absurd m
   rehearses_by queries jobs parts (name ∷ names) [] read m = absurd m
   rehearses_by queries jobs parts (name ∷ names) (g ∷ inputs) read (inl (f, refused, is)) =
@@ -368,13 +363,13 @@ module _ (told : Option Files) (rose : Type 0) (e : NamedFault) (u : e.fault ≡
   unread_cause commands.Usage inputs read m = absurd m
   unread_cause (commands.Query q) (s ∷ []) read m =
       cause_of (q.store ∷ []) q.store s (inl refl) read.0
-      (first_unread q.store store_in s (λ parts. Ok (query_done q parts)) e store_read (λ x h. not_ok e (query_done q x) h) (after_err (input q.store store_in s) (λ parts. Ok (query_done q parts)) e m) u)
+      (first_unread q.store store_in s (λ parts. Ok (query_done q parts)) e store_read (λ x h. not_ok (query_done q x) e h) (after_err (input q.store store_in s) (λ parts. Ok (query_done q parts)) e m) u)
   unread_cause (commands.Check name) (p ∷ []) read m =
       cause_of (name ∷ []) name p (inl refl) read.0
-      (first_unread name part_in p (λ x. Ok (check_done x)) e part_read (λ x h. not_ok e (check_done x) h) (after_err (input name part_in p) (λ x. Ok (check_done x)) e m) u)
+      (first_unread name part_in p (λ x. Ok (check_done x)) e part_read (λ x h. not_ok (check_done x) e h) (after_err (input name part_in p) (λ x. Ok (check_done x)) e m) u)
   unread_cause (commands.Show name) (p ∷ []) read m =
       cause_of (name ∷ []) name p (inl refl) read.0
-      (first_unread name part_in p (λ x. Ok (show_done x)) e part_read (λ x h. not_ok e (show_done x) h) (after_err (input name part_in p) (λ x. Ok (show_done x)) e m) u)
+      (first_unread name part_in p (λ x. Ok (show_done x)) e part_read (λ x h. not_ok (show_done x) e h) (after_err (input name part_in p) (λ x. Ok (show_done x)) e m) u)
   unread_cause (commands.Snapshot s) (j ∷ []) read m =
       cause_of (s.job ∷ []) s.job j (inl refl) read.0 (input_unread s.job job_in j e job_read (snapshot_unread s (input s.job job_in j) e m u) u)
   unread_cause (commands.Delta t) (j ∷ l ∷ []) read m = delta_by t j l read.0 read.1.0 (delta_unread t (input t.job job_in j) (input t.ledger ledger_in l) e m u)
@@ -383,7 +378,7 @@ module _ (told : Option Files) (rose : Type 0) (e : NamedFault) (u : e.fault ≡
       (first_unread t.part part_in p (start_after t) e part_read (λ x h. start_unread t x e h u) (after_err (input t.part part_in p) (start_after t) e m) u)
   unread_cause (commands.Install i) (s ∷ p ∷ []) read m = install_by i s p read.0 read.1.0 (after_err (input i.store store_in s) (install_after i p) e m)
   unread_cause (commands.Rehearse r) (q ∷ inputs) read m = rehearsal_by r q inputs (input r.queries queries_in q) read.0 read.1 refl m
-  unread_cause (commands.Sample s) [] read m = absurd (not_ok e (sample_done s) m)
+  unread_cause (commands.Sample s) [] read m = absurd (not_ok (sample_done s) e m)
   unread_cause (commands.Rehearse r) [] read m = absurd m
   unread_cause (commands.Sample s) (a ∷ cs) read m = absurd m
   unread_cause (commands.Query q) [] read m = absurd m

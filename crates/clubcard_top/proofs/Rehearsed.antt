@@ -25,14 +25,9 @@ use Rattle.clubcard_top.specs.ReplyFields.{Done, NamedFault}
 use Rattle.clubcard_top.specs.Commands.{named, input, verdict_word, rehearsed, Rehearses, MakesRehearsal, Makes}
 use Rattle.clubcard_top.specs.Replies.{held_by}
 use Rattle.clubcard_top.specs.Headline.{HoldsJob, HoldsQueries, RehearsesJobs, IsRehearsed}
+use Rattle.clubcard_top.proofs.Results.{ok_same, not_ok}
 use Rattle.clubcard_top.proofs.Unique.{job_same, refused_follows}
 use Rattle.clubcard_top.proofs.Made.{Layers, job_input}
-
-ok_same : {A E : Type 0} (x y : A) → ◌≡◌ {A = Result A E} (Ok x) (Ok y) → x ≡ y
-ok_same {A} {E} x y h = cc
-
-not_ok : {A E : Type 0} (x : A) (e : E) → ◌≡◌ {A = Result A E} (Err e) (Ok x) → ⊥
-not_ok {A} {E} x e h = cc
 
 -- ---- what is read
 

@@ -25,6 +25,7 @@ use Rattle.clubcard_top.specs.Runs.{IsReply, Ends, Answers, Refuses, with_output
 use Rattle.clubcard_top.specs.Headline.{AsksHistory, IsPublished, IsRehearsed, IsStored, PublishesJob, RehearsesJobs, StoresPart, truth_done}
 use Rattle.clubcard_top.proofs.Endings.{IsSent, sent}
 use Rattle.clubcard_top.proofs.Overs.{IsSeen, over_files, held_all}
+use Rattle.clubcard_top.proofs.Results.{ok_same}
 
 -- ---- the reply over these files
 
@@ -293,9 +294,6 @@ module _ (asked : Command) (rose : Type 0) (ended : ℕ) (old new : Option (List
     pub follows : (files : Files) (queries : List Query) (jobs : List JobFields) (parts : List SealedFields) (o : Result Done NamedFault) → IsHistory jobs parts → RehearsesJobs asked files queries jobs
         → Makes asked (held_by asked files) o → o ≡ Ok (rehearsed queries jobs parts)
 
-  ok_same : (x y : Done) → ◌≡◌ {A = Result Done NamedFault} (Ok x) (Ok y) → x ≡ y
-  ok_same x y h = cc
-
   publishes_some : (files : Files) (jobs : List JobFields) (parts : List SealedFields) (job : JobFields) → (c : Command) → PublishesJob c files jobs parts job → c ≡ commands.Usage → ⊥
   publishes_some files jobs parts job commands.Usage p is = p
   publishes_some files jobs parts job (commands.Query q) p is = p
@@ -352,7 +350,7 @@ module _ (asked : Command) (rose : Type 0) (ended : ℕ) (old new : Option (List
     stored_by : (files : Files) (jobs : List JobFields) (parts : List SealedFields) (s : SealedFields) → IsHistory jobs (parts ++ s ∷ []) → StoresPart asked files parts s → (d : Done)
         → Makes asked (held_by asked files) (Ok d) → IsStored asked parts s d
     stored_by files jobs parts s h p d m =
-        let l = laws.stored files jobs parts s (Ok d) h p m in subst (IsStored asked parts s) (sym (ok_same d l.0 l.1)) l.2
+        let l = laws.stored files jobs parts s (Ok d) h p m in subst (IsStored asked parts s) (sym (ok_same {E = NamedFault} d l.0 l.1)) l.2
 
     pub stored_clause : (told : Option Files) → Ends asked told rose ended old new failed after wrong
         → IfSome told (λ files. (jobs : List JobFields) (parts : List SealedFields) (s : SealedFields) → IsHistory jobs (parts ++ s ∷ []) → StoresPart asked files parts s → ended ≡ 0
@@ -373,7 +371,7 @@ module _ (asked : Command) (rose : Type 0) (ended : ℕ) (old new : Option (List
     truth_clause None ends = tt
     truth_clause (Some files) ends = λ q jobs parts h p is.
         let a = done (Some files) ends is in
-        a.written ∙ ap (λ (d : Done). followed_by old d.text) (ok_same a.done (truth_done jobs parts q) (laws.asks files q jobs parts (Ok a.done) h p a.makes))
+        a.written ∙ ap (λ (d : Done). followed_by old d.text) (ok_same {E = NamedFault} a.done (truth_done jobs parts q) (laws.asks files q jobs parts (Ok a.done) h p a.makes))
 
     pub answered_clause : (told : Option Files) → Ends asked told rose ended old new failed after wrong
         → IfSome told (λ files. (q : QueryFields) (jobs : List JobFields) (parts : List SealedFields) → IsHistory jobs parts → AsksHistory asked files q jobs parts

@@ -1,5 +1,6 @@
 -- What a job that is published adds to a rehearsal, from what the layers promise of histories.
 use Rattle.std.proofs.Common.{◌≡◌, ℕ, ◌+◌, ◌<◌, ◌≤◌, List, [], ◌∷◌, ◌++◌, length, Option, Some, None, Ok, refl, sym, ap, ◌∙◌, subst, arith}
+use Rattle.std.proofs.lemmas.List.{length_push}
 use Rattle.ident_core.specs.HeadFields.{HeadFields}
 use Rattle.ident_core.specs.declared.kind.Kind.TheVariants as kinds
 use Rattle.part_codec.specs.SealedFields.{SealedFields}
@@ -58,10 +59,6 @@ module _ (layers : Layers) where
 
     pub adds : Adds jobs before job (record { parts = before.parts ++ p.sealed ∷ []; ledger = p.ledger }) (record { epoch = p.sealed.part.head.epoch; place = p.place; counts = p.counts })
     adds = record { sealed = p.sealed; parts = refl; is_of = after_is; report = reported }
-
-    length_push : (parts : List SealedFields) (s : SealedFields) → length (parts ++ s ∷ []) ≡ length parts + 1
-    length_push [] s = refl
-    length_push (q ∷ parts) s = let h = length_push parts s in omega arith
 
     -- a client takes the part
     pub taken : 1 ≤ length before.parts → refusal_of before.parts p.sealed ≡ None
