@@ -1,6 +1,6 @@
 #!/usr/bin/env python3
 """Times `clubcard snapshot`, `delta`, `install` and `query` on generated jobs of four issuers: processor time, and the memory
-that each takes at most (by /usr/bin/time). Run it at the top of the repository once `./clubcard query` has built the program:
+that each takes at most (by /usr/bin/time). It prints which program it runs, the one that `./clubcard` runs:
 
     python3 bench/publishing.py [RUNS]
 
@@ -16,9 +16,10 @@ import tempfile
 
 sys.path.insert(0, os.path.join(os.path.dirname(os.path.abspath(__file__)), "../tools"))
 
+from program import path_of_program  # noqa: E402
 from reference import der  # noqa: E402
 
-PROGRAM = "crates/clubcard/out/clubcard"
+PROGRAM = path_of_program()
 T = 1700000000000
 LOG = hashlib.sha256(b"bench log").digest()
 ISSUERS = [hashlib.sha256(b"bench issuer %d" % j).digest() for j in range(4)]
@@ -157,8 +158,7 @@ def chains(at, runs):
 
 
 def main():
-    if not os.access(PROGRAM, os.X_OK):
-        sys.exit("build the program first: ./clubcard query")
+    print(f"program {PROGRAM}", flush=True)
     runs = int(sys.argv[1]) if len(sys.argv) > 1 else 3
     with tempfile.TemporaryDirectory() as folder:
         for part in (snapshots, deltas, chains):

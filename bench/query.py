@@ -1,8 +1,8 @@
 #!/usr/bin/env python3
 """Times `clubcard query` and `clubcard check`: a small store against a program that only prints a word, the longest
-store of one part, and the longest part against its SHA-256 by the same sha2, with the memory that a run takes at most (by
-/usr/bin/time). Run it at the top of the repository once `./clubcard query` and, in crates/digest_bench, `rt run` have built
-the programs:
+store of one part, and the longest part against its SHA-256 by the same sha2, with the memory that a run takes at most
+(by /usr/bin/time). It prints which program it runs, the one that `./clubcard` runs. Run it at the top of the repository
+once `rt run` in crates/digest_bench has built the program for the digests:
 
     python3 bench/query.py
 """
@@ -14,7 +14,11 @@ import sys
 import tempfile
 import time
 
-PROGRAM = "crates/clubcard/out/clubcard"
+sys.path.insert(0, os.path.join(os.path.dirname(os.path.abspath(__file__)), "../tools"))
+
+from program import path_of_program  # noqa: E402
+
+PROGRAM = path_of_program()
 DIGEST = "crates/digest_bench/out/digest_bench"
 T = 1700000000000
 LOG = bytes([0xAA] * 32)
@@ -54,8 +58,9 @@ def memory(command):
 
 
 def main():
-    if not os.access(PROGRAM, os.X_OK) or not os.access(DIGEST, os.X_OK):
-        sys.exit("build the programs first: ./clubcard query; (cd crates/digest_bench && rt run)")
+    if not os.access(DIGEST, os.X_OK):
+        sys.exit("build the program for the digests first: (cd crates/digest_bench && rt run)")
+    print(f"program {PROGRAM}", flush=True)
     with tempfile.TemporaryDirectory() as folder:
         print("run         bytes      time   memory  output")
         echo, _ = best(["/bin/echo", "revoked"], 200)

@@ -1,7 +1,7 @@
 #!/usr/bin/env python3
 """Times `clubcard sample` and `clubcard rehearse` beside an optimized Rust program of the same rules
 (bench/rehearsal_reference.rs, built here with rustc): processor time, and the memory that a run takes at most (by
-/usr/bin/time). Run it at the top of the repository once `./clubcard query` has built the program:
+/usr/bin/time). It prints which program it runs, the one that `./clubcard` runs. Run it at the top of the repository:
 
     python3 bench/rehearsal.py [RUNS]
 
@@ -117,8 +117,7 @@ def rehearsals(reference, at, runs, count):
 
 
 def main():
-    if not os.access(PROGRAM, os.X_OK):
-        sys.exit("build the program first: ./clubcard query")
+    print(f"program {PROGRAM}", flush=True)
     runs = int(sys.argv[1]) if len(sys.argv) > 1 else 9
     with tempfile.TemporaryDirectory() as folder:
         at = lambda name: os.path.join(folder, name)

@@ -7,8 +7,8 @@ For each history: the part, the ledger and the store of each job byte for byte, 
 `install`, and `query` on accepted certificates (the answer must be the history's truth) and on others (it must be the
 verdict of the parts). Then all jobs in one `rehearse`, with queries of both kinds; in some histories with a job that is
 refused among them, or with a damaged query file, and then the line and the status of the refusal. And a job of `sample`. It
-needs the program (`./clubcard query` or `rt ci` builds it), prints a line, and ends with status 0 exactly where nothing
-differs; where something does, it says which history and what.
+runs the program that `./clubcard` runs, prints a line, and ends with status 0 exactly where nothing differs; where
+something does, it says which history and what.
 """
 
 import functools
@@ -18,6 +18,7 @@ import subprocess
 import sys
 import tempfile
 
+from program import path_of_program
 from reference import (
     Crl,
     Entry,
@@ -33,7 +34,7 @@ from reference import (
     verdict,
 )
 
-PROGRAM = os.path.join(os.path.dirname(os.path.abspath(__file__)), "../crates/clubcard/out/clubcard")
+PROGRAM = path_of_program()
 
 
 def run(*words):
@@ -235,8 +236,6 @@ def compare_sample(rng, at):
 
 
 def main():
-    if not os.access(PROGRAM, os.X_OK):
-        sys.exit("build the program first: ./clubcard query")
     count = int(sys.argv[1]) if len(sys.argv) > 1 else 20
     seed = int(sys.argv[2]) if len(sys.argv) > 2 else 1
     jobs, asked, refused = 0, 0, 0

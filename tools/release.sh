@@ -1,0 +1,102 @@
+#!/bin/sh
+# The released program: makes it, and says whether it is of this tree (release/README.md says what stands in release/).
+#
+#     tools/release.sh             makes release/ of the program in crates/clubcard/out/ (built where it isn't newer
+#                                  than its sources)
+#     tools/release.sh --check     says in a line whether release/ is of this tree
+#     tools/release.sh --verify    builds the program in a new folder, from nothing, and compares it with the released
+#                                  one
+#     tools/release.sh --digest    prints the digest of the sources
+#
+# The status is 0 where release/ was made, is of this tree, or has the bytes that were built; else it is 1, and a line
+# says why. With other words it is 2.
+
+top=$(CDPATH='' cd -- "$(dirname -- "$0")/.." && pwd) || exit 1
+release="$top/release"
+name=clubcard-x86_64-linux
+
+# Lists the sources, each name ended by a zero byte: those that git tracks, else (in an unpacked archive) all that are
+# there. A commit's hook has variables by which git would look elsewhere.
+list_sources() {
+    [ -e .git ] && (
+        unset GIT_DIR GIT_WORK_TREE GIT_INDEX_FILE
+        git ls-files -z --error-unmatch -- crates.txt ':(glob)crates/*/src/**' 2>/dev/null
+    ) && return
+    find crates.txt crates/*/src -type f -print0
+}
+
+# The digest of the sources: the SHA-256 of the lines that sha256sum prints of them, in the order of their names' bytes.
+digest() (
+    cd "$top" || exit 1
+    list_sources | LC_ALL=C sort -z -u | xargs -0 sha256sum -- 2>/dev/null | sha256sum | cut -d ' ' -f 1
+)
+
+# The SHA-256 of a file.
+sum_of() {
+    sha256sum <"$1" | cut -d ' ' -f 1
+}
+
+# Says whether the released program is the one that is stated, and made from the sources of this tree.
+check() {
+    if [ ! -f "$release/$name" ]; then
+        why="it holds no program"
+    elif [ "$(sum_of "$release/$name")" != "$(cut -d ' ' -f 1 "$release/SHA256SUMS" 2>/dev/null)" ]; then
+        why="its program hasn't the SHA-256 that stands beside it"
+    elif [ "$(digest)" != "$(cat "$release/SOURCES" 2>/dev/null)" ]; then
+        why="it was made from other sources"
+    elif [ ! -x "$release/$name" ]; then
+        why="its program can't be executed"
+    else
+        echo "release/ is of this tree"
+        return 0
+    fi
+    echo "release/ isn't of this tree: $why"
+    return 1
+}
+
+# Makes release/. The program is put in its place last, so that an older one isn't taken for what the other files state.
+make() {
+    before=$(digest)
+    program=$(sh "$top/tools/program.sh" --built) || return 1
+    toolchain=$(rt version) || return 1
+    if [ "$(digest)" != "$before" ]; then
+        echo "release: the sources were changed while the program was built" >&2
+        return 1
+    fi
+    mkdir -p "$release" && cp "$program" "$release/$name.draft" && chmod 755 "$release/$name.draft" &&
+        echo "$(sum_of "$release/$name.draft")  $name" >"$release/SHA256SUMS" &&
+        echo "$toolchain" >"$release/TOOLCHAIN" &&
+        echo "$before" >"$release/SOURCES" &&
+        mv "$release/$name.draft" "$release/$name" && check
+}
+
+# Builds the tree's program in a new folder, where nothing of an earlier build lies, and compares it byte for byte.
+verify() {
+    work=$(mktemp -d) || return 1
+    trap 'rm -rf "$work"' EXIT
+    trap 'exit 1' HUP INT TERM
+    (cd "$top" && tar --exclude=out -cf - crates crates.txt HANDLES tools) | tar -xf - -C "$work" || return 1
+    started=$(date +%s)
+    program=$(sh "$work/tools/program.sh" --built) || {
+        tail -n 20 "$work/crates/clubcard/out/build.log" >&2
+        return 1
+    }
+    echo "built in $((($(date +%s) - started) / 60)) minutes by $(rt version); released: $(cat "$release/TOOLCHAIN")"
+    if cmp "$program" "$release/$name"; then
+        echo "release/ has the bytes of this build"
+    else
+        echo "release/ hasn't the bytes of this build"
+        return 1
+    fi
+}
+
+case "$#:$*" in
+0:) make ;;
+1:--check) check ;;
+1:--verify) verify ;;
+1:--digest) digest ;;
+*)
+    echo "usage: $0 [--check | --verify | --digest]" >&2
+    exit 2
+    ;;
+esac
