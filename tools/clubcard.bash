@@ -1,0 +1,27 @@
+# Completion in bash of clubcard's commands, and of names of files where a word is one (docs/FORMATS.md, "Words"). Numbers,
+# keys and serials aren't completed. To be read by a shell of one's own:
+#
+#     . tools/clubcard.bash
+#
+# shellcheck shell=bash
+
+_clubcard() {
+    local word=${COMP_WORDS[COMP_CWORD]}
+    COMPREPLY=()
+    if ((COMP_CWORD == 1)); then
+        mapfile -t COMPREPLY < <(compgen -W "snapshot delta start install query check show rehearse sample" -- "$word")
+        return
+    fi
+    # A command, and the places of the words behind it that name files.
+    case ${COMP_WORDS[1]}:$COMP_CWORD in
+    snapshot:[2-4] | delta:[2-5] | start:[23] | install:[2-4] | query:2 | check:2 | show:2 | sample:4) ;;
+    rehearse:2 | rehearse:[4-9] | rehearse:[1-5][0-9] | rehearse:6[0-7]) ;;
+    *) return ;;
+    esac
+    mapfile -t COMPREPLY < <(compgen -f -- "$word")
+    # Marks folders, and quotes spaces. It fails where the function is called by hand.
+    compopt -o filenames 2>/dev/null
+}
+
+# A word such as ./clubcard is looked up as it stands, then without its folders.
+complete -F _clubcard clubcard ./clubcard
