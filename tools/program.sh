@@ -1,7 +1,7 @@
 #!/bin/sh
 # Prints the path of the program that ./clubcard runs, the first of these that there is: the one in
 # crates/clubcard/out/, where it is newer than its sources; the released one, where it is of this tree (tools/release.sh
-# --check) and this is Linux on x86-64; the one that the toolchain builds, which proves it first.
+# --check) and runs on this machine (Linux on x86-64); the one that the toolchain builds, which proves it first.
 #
 #     tools/program.sh
 #     tools/program.sh --built     passes over the released one
@@ -10,6 +10,7 @@
 
 top=$(CDPATH='' cd -- "$(dirname -- "$0")/.." && pwd) || exit 1
 program="$top/crates/clubcard/out/clubcard"
+released="$top/release/clubcard-x86_64-linux"
 log="$top/crates/clubcard/out/build.log"
 
 # Whether a source, a definition, a proof or the list of crates is newer than the program.
@@ -19,15 +20,21 @@ is_stale() {
         -newer "$program" -print -quit 2>/dev/null)" ]
 }
 
-# Whether the released program is of this machine and of this tree. Else `why` begins the line that says why not.
+# Whether the released program is of this machine and of this tree. Else `why` begins the line that says why not. Without
+# words the program ends with status 2; where the machine has another C library it doesn't begin.
 is_released() {
     why="release/ is for Linux on x86-64; "
     [ "$(uname -sm)" = "Linux x86_64" ] || return 1
-    why="$(sh "$top/tools/release.sh" --check); "
+    why="$(sh "$top/tools/release.sh" --check); " || return 1
+    why="the released program doesn't run on this machine; "
+    "$released" >/dev/null 2>&1
+    [ $? -eq 2 ]
 }
 
-# Shows every five seconds the last line of the build, until this script ends.
+# Shows the build's last line every five seconds, until this script ends. It lets go of the standard output, which a
+# caller that wants the path reads up to its end.
 show_progress() {
+    exec >&2
     while sleep 5 && kill -0 "$$" 2>/dev/null; do
         tail -n 1 "$log" 2>/dev/null | cut -c 1-100 | sed 's/^/clubcard: /'
     done
@@ -41,7 +48,7 @@ build() {
     echo "clubcard: ${why}proving and building the program; this took 26 minutes on four processors of an Intel Xeon" \
         "at 2.50 GHz" >&2
     mkdir -p "$top/crates/clubcard/out" && : >"$log" || return 1
-    show_progress >&2 &
+    show_progress &
     showing=$!
     # rt run proves and builds the program, and runs it without words.
     (cd "$top/crates/clubcard" && rt run >"$log" 2>&1 </dev/null)
@@ -65,7 +72,7 @@ esac
 why=
 if is_stale; then
     if [ -n "$of_release" ] && is_released; then
-        program="$top/release/clubcard-x86_64-linux"
+        program="$released"
     else
         build || exit 1
     fi
