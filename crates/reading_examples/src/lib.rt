@@ -1,0 +1,17 @@
+//! Worked examples of the crates that read and write bytes and words.
+#![tactic(auto)]
+
+#[cfg(test)]
+mod ders;
+#[cfg(test)]
+mod jobs;
+#[cfg(test)]
+mod logs;
+#[cfg(test)]
+mod octets;
+#[cfg(test)]
+mod queries;
+#[cfg(test)]
+mod sets;
+#[cfg(test)]
+mod words;
