@@ -13,6 +13,3 @@ pub mod walk;
 pub use moment::time;
 pub use types::{BadTime, DerFault, Element, Elements};
 pub use values::{boolean, octets, oid, truth_of};
-
-#[cfg(test)]
-mod tests;

@@ -9,8 +9,6 @@ mod laws;
 mod meaning;
 mod raw;
 mod reading;
-#[cfg(test)]
-mod tests;
 mod writing;
 
 pub use bounds::{Limits, What};

@@ -12,6 +12,3 @@ pub use entry::read_entry;
 /// The entry, or the certificate, isn't one that this profile reads.
 #[derive(Clone, Copy, Debug, PartialEq, Eq)]
 pub struct Unread;
-
-#[cfg(test)]
-mod tests;

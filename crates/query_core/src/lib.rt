@@ -5,8 +5,6 @@ mod fault;
 mod laws;
 mod query;
 mod reading;
-#[cfg(test)]
-mod tests;
 
 pub use fault::QueriesFault;
 pub use laws::{a_text_is_read_back, only_a_text_is_read, queries_of_one_text_are_the_same};

@@ -4,8 +4,6 @@
 mod laws;
 mod searching;
 mod sorting;
-#[cfg(test)]
-mod tests;
 
 pub use laws::sets_are_canonical;
 pub use searching::{holds_key, place_of};

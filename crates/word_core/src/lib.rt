@@ -5,8 +5,6 @@ mod command;
 mod publishing;
 mod reading;
 mod storing;
-#[cfg(test)]
-mod tests;
 mod trying;
 mod words;
 
