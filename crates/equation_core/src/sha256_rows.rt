@@ -56,6 +56,3 @@ impl EquationHash for Sha256Rows {
         }
     }
 }
-
-#[cfg(test)]
-mod tests;

@@ -19,29 +19,3 @@ pub fn words_for(starts: u32) -> usize
 {
     (starts as usize + 127).div_ceil(64)
 }
-
-#[cfg(test)]
-mod tests {
-    use super::*;
-
-    #[test]
-    fn sizes(rt: HostRuntime) {
-        let starts = [
-            (0, 1),
-            (1, 2),
-            (2, 3),
-            (8, 10),
-            (500, 563),
-            (4194304, 4718593),
-        ];
-        for (keys, want) in starts {
-            assert!(rt; keys <= 4194304);
-            assert_eq!(rt; starts_for(keys), want, "for {keys} keys");
-        }
-        let words = [(1, 2), (2, 3), (3, 3), (563, 11), (4718593, 73730)];
-        for (starts, want) in words {
-            assert!(rt; 1 <= starts && starts <= 4718593);
-            assert_eq!(rt; words_for(starts), want, "for {starts} starts");
-        }
-    }
-}

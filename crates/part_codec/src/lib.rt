@@ -7,8 +7,6 @@ mod encode;
 mod fault;
 mod laws;
 mod sealed;
-#[cfg(test)]
-mod tests;
 
 pub use decode::decode_part;
 pub use encode::encode_part;

@@ -13,6 +13,3 @@ pub use elimination::Inconsistent;
 pub use laws::{below_at_the_highest, kept_are_the_added, least_is_unique, sum_is_over_columns};
 pub use planes::Planes;
 pub use system::System;
-
-#[cfg(test)]
-mod tests;

@@ -10,6 +10,3 @@ mod width;
 
 pub use fault::BlockFault;
 pub use leaf::build_block;
-
-#[cfg(test)]
-mod tests;

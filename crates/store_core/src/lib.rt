@@ -8,8 +8,6 @@ mod encode;
 mod fault;
 mod laws;
 mod store;
-#[cfg(test)]
-mod tests;
 mod verdict;
 
 pub use chain::{Refusal, Refused};

@@ -1,5 +1,5 @@
 use Rattle.std.proofs.Common.{◌≡◌}
-use Rattle.ribbon_core.proofs.tests.solved.Given as goal
+use Rattle.filter_examples.proofs.systems.solved.Given as goal
 
 abbrev pub invariant-loop-start : goal.invariant-loop-start
 invariant-loop-start g l = record {

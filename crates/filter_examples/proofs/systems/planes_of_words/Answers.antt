@@ -1,7 +1,7 @@
 use Rattle.std.proofs.Common.{ℕ, zero, suc, ◌+◌, ◌*◌, ◌<◌, ◌^◌, arith, List, [], ◌∷◌, get_or}
 use Rattle.ribbon_core.specs.PlaneWords.{word_of}
 use Rattle.ribbon_core.proofs.Words.{padded_from_last}
-use Rattle.ribbon_core.proofs.tests.planes_of_words.Goals as goal
+use Rattle.filter_examples.proofs.systems.planes_of_words.Goals as goal
 
 abbrev words : List ℕ
 words = 1 ∷ 9223372036854775808 ∷ 2 ∷ 3 ∷ []

@@ -1,9 +1,11 @@
-ghost use Rattle.std.specs.Prelude.{◌≡◌, ◌+◌, ◌<◌, length};
-ghost use Rattle.equation_core.specs.Sizes.{words_for as words_of};
+//! Systems of equations, and the words of their least solutions.
 
-use super::*;
-use equation_core::{Row, words_for};
+ghost use Rattle.std.specs.Prelude.{◌≡◌, ◌+◌, ◌<◌, length};
+
+use crate::words::compare_words;
+use equation_core::Row;
 use octets_core::Steps;
+use ribbon_core::{Planes, System};
 use std::alloc::Global;
 use std::marker::Brand;
 use std::process::Abort;
@@ -269,27 +271,10 @@ fn solved(rt: &impl Abort, alloc: Global, case: &Case) -> Result<Planes, Fail> {
     Ok(system.solve())
 }
 
-fn compare_words<L: Ledger>(rt: &impl Abort, planes: &Planes, want: &[u64], blank: Blank)
-    requires name { blank.name ≡ L.name }
-    requires parts { blank.parts ≡ L.parts }
-    requires some { 0 < L.parts }
-{
-    let mut steps: Steps<L> = Steps::new(blank);
-    let width = words_for(planes.starts());
-    assert_eq!(rt; want.len(), width * usize::from(planes.planes()));
-    for place in 0..want.len() {
-        let plane = place / width;
-        let i = place % width;
-        assert!(rt; plane < usize::from(planes.planes()));
-        let word = planes.word(plane as u8, i, &mut steps);
-        assert_eq!(rt; word, want[place], "at word {i} of plane {plane}");
-    }
-}
-
 fn compare_cases(rt: &impl Abort, alloc: Global, cases: &[Case]) -> Result<(), Fail> {
     for case in cases {
         let planes = solved(rt, alloc, case)?;
-        compare_words::<Brand>(rt, &planes, case.words, Blank::new(1));
+        compare_words(rt, &planes, case.words);
     }
     Ok(())
 }
@@ -359,6 +344,6 @@ fn words_read(rt: HostRuntime) -> Result<(), Fail> {
 fn planes_of_words(rt: HostRuntime) -> Result<(), Fail> {
     let words = [1, 0x8000_0000_0000_0000, 2, 3];
     let planes = Planes::of_words(rt.alloc(), 1, 2, &words)?;
-    compare_words::<Brand>(&rt, &planes, &words, Blank::new(1));
+    compare_words(&rt, &planes, &words);
     Ok(())
 }

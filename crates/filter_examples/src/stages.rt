@@ -1,39 +1,24 @@
+//! Blocks that are built: widths, seeds that are exhausted, and two blocks of SHA-256 rows.
+
 ghost use Rattle.std.specs.Prelude.{◌≡◌, ◌<◌, ◌≤◌};
 
-use crate::BlockFault;
-use crate::leaf::build_block;
-use crate::width::width_for;
+use crate::words::compare_words;
 use card_core::{Block, Body, Stage};
-use equation_core::{EquationHash, Row, Sha256Rows, words_for};
+use equation_core::{EquationHash, Row, Sha256Rows};
 use ident_core::{Identity, Serial};
 use octets_core::{Key32, Steps};
-use ribbon_core::Planes;
+use stage_core::{BlockFault, build_block};
 use std::alloc::Global;
 use std::marker::Brand;
 use std::process::Abort;
 use std::sync::ledger::{Blank, Ledger};
 use std::test::Fail;
 
-#[test]
-fn widths(rt: HostRuntime) {
-    let table = [
-        (5, 4, 0),
-        (5, 5, 0),
-        (5, 10, 1),
-        (500, 49500, 6),
-        (1, 65536, 16),
-        (1, 200000, 16),
-    ];
-    for (revoked, others, width) in table {
-        assert_eq!(rt; width_for(revoked, others), width, "{revoked} of {others}");
-    }
-}
-
 // Each row chooses the first column alone, and its tag is 1 where the serial's length is odd, else 0.
 struct RowsByLength;
 
 impl EquationHash for RowsByLength {
-    ghost use Rattle.stage_core.specs.TestRows.{row_by_length, row_by_length-is};
+    ghost use Rattle.filter_examples.specs.RowsByLength.{row_by_length, row_by_length-is};
 
     ghost row_of = { λ _ stage seed id starts. row_by_length stage seed id starts };
 
@@ -130,23 +115,9 @@ fn ask_each<L: Ledger>(rt: &impl Abort, block: &Block, of: &Universe, blank: Bla
     }
 }
 
-fn compare_stage<L: Ledger>(rt: &impl Abort, stage: &Stage, want: &[u64], blank: Blank)
-    requires name { blank.name ≡ L.name }
-    requires parts { blank.parts ≡ L.parts }
-    requires some { 0 < L.parts }
-{
-    let mut steps: Steps<L> = Steps::new(blank);
-    let planes = &stage.planes;
-    let width = words_for(planes.starts());
+fn compare_stage(rt: &impl Abort, stage: &Stage, want: &[u64]) {
     assert_eq!(rt; stage.seed, 0);
-    assert_eq!(rt; want.len(), width * usize::from(planes.planes()));
-    for place in 0..want.len() {
-        let plane = place / width;
-        let i = place % width;
-        assert!(rt; plane < usize::from(planes.planes()));
-        let word = planes.word(plane as u8, i, &mut steps);
-        assert_eq!(rt; word, want[place], "at word {i} of plane {plane}");
-    }
+    compare_words(rt, &stage.planes, want);
 }
 
 fn compare_stages(rt: &impl Abort, block: &Block, approx: Option<&[u64]>, exact: &[u64]) {
@@ -155,10 +126,10 @@ fn compare_stages(rt: &impl Abort, block: &Block, approx: Option<&[u64]>, exact:
     };
     match (mixed.approx(), approx) {
         (None, None) => {}
-        (Some(stage), Some(want)) => compare_stage::<Brand>(rt, stage, want, Blank::new(1)),
+        (Some(stage), Some(want)) => compare_stage(rt, stage, want),
         _ => panic!(rt; "another width"),
     }
-    compare_stage::<Brand>(rt, mixed.exact(), exact, Blank::new(1));
+    compare_stage(rt, mixed.exact(), exact);
 }
 
 // Seeds, widths and words are those that a Python program of its own found with hashlib: it solves each plane by
@@ -180,5 +151,48 @@ fn most_are_revoked(rt: HostRuntime) -> Result<(), Fail> {
     let block = block_of(&rt, rt.alloc(), &of)?;
     compare_stages(&rt, &block, None, &[0x846, 0, 0]);
     ask_each::<Brand>(&rt, &block, &of, Blank::new(1));
+    Ok(())
+}
+
+// Of so many identities the first are revoked. Their serials have four octets.
+fn first_of(alloc: Global, count: u32, revoked: u32) -> Result<Universe, Fail> {
+    let mut of = Universe {
+        ids: Vec::new(alloc),
+        revoked: Vec::new(alloc),
+    };
+    for number in 0..count {
+        of.ids.push(identity(&number.to_be_bytes())?)?;
+        of.revoked.push(number < revoked)?;
+    }
+    Ok(of)
+}
+
+// How many planes the approximate stage has, 0 where there is none.
+fn width_of(rt: &impl Abort, block: &Block) -> u8 {
+    let Body::Mixed(mixed) = &block.body else {
+        panic!(rt; "no mixed block");
+    };
+    match mixed.approx() {
+        None => 0,
+        Some(stage) => stage.planes.planes(),
+    }
+}
+
+#[test]
+fn widths(rt: HostRuntime) -> Result<(), Fail> {
+    let table = [
+        (5, 4, 0),
+        (5, 5, 0),
+        (5, 10, 1),
+        (500, 49500, 6),
+        (1, 65536, 16),
+        (1, 200000, 16),
+    ];
+    for (revoked, others, width) in table {
+        assert!(rt; revoked <= 500 && others <= 200000);
+        let of = first_of(rt.alloc(), revoked + others, revoked)?;
+        let block = block_of(&rt, rt.alloc(), &of)?;
+        assert_eq!(rt; width_of(&rt, &block), width, "{revoked} of {others}");
+    }
     Ok(())
 }

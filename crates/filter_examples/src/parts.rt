@@ -1,17 +1,12 @@
 //! Parts against bytes that another program wrote (Python, with its hashlib for the trailers) by the table of
 //! docs/FORMATS.md.
 
-ghost use Rattle.std.specs.Prelude.{◌≡◌, ◌<◌};
-
-use crate::{PartFault, decode_part, encode_part, seal};
-use card_core::{Block, Body, Part, Stage};
-use equation_core::words_for;
+use crate::words::compare_words;
+use card_core::{Block, Body, Part};
 use ident_core::{Head, Kind, Range};
-use octets_core::{Field, Key32, LayoutFault, Steps, Why};
+use octets_core::{Field, Key32, LayoutFault, Why};
+use part_codec::{PartFault, decode_part, encode_part, seal};
 use std::alloc::Global;
-use std::marker::Brand;
-use std::process::Abort;
-use std::sync::ledger::{Blank, Ledger};
 use std::test::Fail;
 
 // A snapshot of epoch 0 with neither ranges nor blocks.
@@ -82,24 +77,6 @@ fn reads_two_ranges_and_three_blocks(rt: HostRuntime) -> Result<(), Fail> {
     Ok(())
 }
 
-// The words of a stage, plane after plane.
-fn compare_words<L: Ledger>(rt: &impl Abort, stage: &Stage, want: &[u64], blank: Blank)
-    requires name { blank.name ≡ L.name }
-    requires parts { blank.parts ≡ L.parts }
-    requires some { 0 < L.parts }
-{
-    let planes = &stage.planes;
-    let mut steps: Steps<L> = Steps::new(blank);
-    let width = words_for(planes.starts());
-    assert_eq!(rt; want.len(), width * usize::from(planes.planes()));
-    for place in 0..want.len() {
-        let plane = place / width;
-        assert!(rt; plane < usize::from(planes.planes()));
-        let word = planes.word(plane as u8, place % width, &mut steps);
-        assert_eq!(rt; word, want[place], "at word {place}");
-    }
-}
-
 #[test]
 fn reads_a_mixed_block(rt: HostRuntime) -> Result<(), Fail> {
     let alloc = rt.alloc();
@@ -121,7 +98,7 @@ fn reads_a_mixed_block(rt: HostRuntime) -> Result<(), Fail> {
     let exact = mixed.exact();
     assert_eq!(rt; exact.seed, 0);
     assert_eq!(rt; exact.planes.starts(), 3);
-    compare_words::<Brand>(&rt, exact, &[2, 0, 0], Blank::new(1));
+    compare_words(&rt, &exact.planes, &[2, 0, 0]);
     assert_eq!(rt; encode_part(alloc, &sealed)?, text);
     Ok(())
 }
@@ -153,9 +130,9 @@ fn reads_two_stages(rt: HostRuntime) -> Result<(), Fail> {
         0x1122_3344_5566_7788,
         0x99aa_bbcc_ddee_ff00,
     ];
-    compare_words::<Brand>(&rt, approx, &words, Blank::new(1));
+    compare_words(&rt, &approx.planes, &words);
     assert_eq!(rt; mixed.exact().seed, 3);
-    compare_words::<Brand>(&rt, mixed.exact(), &[1, 2, 3, 1], Blank::new(1));
+    compare_words(&rt, &mixed.exact().planes, &[1, 2, 3, 1]);
     assert_eq!(rt; encode_part(alloc, &sealed)?, text);
     Ok(())
 }

@@ -1,5 +1,7 @@
-use super::*;
-use ident_core::Serial;
+//! Rows of SHA-256, and the sizes of systems.
+
+use equation_core::{EquationHash, Row, Sha256Rows, starts_for, words_for};
+use ident_core::{Identity, Serial};
 use octets_core::Key32;
 use std::test::Fail;
 
@@ -89,4 +91,25 @@ fn rows_by_another_tool(rt: HostRuntime) -> Result<(), Fail> {
         );
     }
     Ok(())
+}
+
+#[test]
+fn sizes(rt: HostRuntime) {
+    let starts = [
+        (0, 1),
+        (1, 2),
+        (2, 3),
+        (8, 10),
+        (500, 563),
+        (4194304, 4718593),
+    ];
+    for (keys, want) in starts {
+        assert!(rt; keys <= 4194304);
+        assert_eq!(rt; starts_for(keys), want, "for {keys} keys");
+    }
+    let words = [(1, 2), (2, 3), (3, 3), (563, 11), (4718593, 73730)];
+    for (starts, want) in words {
+        assert!(rt; 1 <= starts && starts <= 4718593);
+        assert_eq!(rt; words_for(starts), want, "for {starts} starts");
+    }
 }

@@ -1,4 +1,4 @@
-use Rattle.stage_core.proofs.tests.some_are_revoked.Given as goal
+use Rattle.filter_examples.proofs.stages.some_are_revoked.Given as goal
 
 abbrev pub ghosts-ask_each : goal.ghosts-ask_each
 ghosts-ask_each g a = record { name = a.blank.name; parts = a.blank.parts }

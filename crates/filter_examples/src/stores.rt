@@ -3,7 +3,6 @@
 
 ghost use Rattle.std.specs.Prelude.{◌≡◌, ◌<◌};
 
-use crate::{Refusal, StartFault, Store, StoreFault, Verdict, decode_store, encode_store};
 use card_core::Part;
 use ident_core::{Head, Identity, Kind, Serial, Sighting};
 use octets_core::{Field, Key32, LayoutFault, Steps, Why};
@@ -12,6 +11,7 @@ use std::alloc::Global;
 use std::marker::Brand;
 use std::sync::ledger::{Blank, Ledger};
 use std::test::Fail;
+use store_core::{Refusal, StartFault, Store, StoreFault, Verdict, decode_store, encode_store};
 
 // A snapshot of epoch 1 with one range and two blocks, of modes all and none.
 const SNAPSHOT: &str =

@@ -1,0 +1,15 @@
+//! Worked examples of the filter's layers: rows of equations, systems, blocks, parts and stores.
+#![tactic(auto)]
+
+#[cfg(test)]
+mod equations;
+#[cfg(test)]
+mod parts;
+#[cfg(test)]
+mod stages;
+#[cfg(test)]
+mod stores;
+#[cfg(test)]
+mod systems;
+#[cfg(test)]
+mod words;
