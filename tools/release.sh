@@ -72,13 +72,17 @@ make() {
 
 # Builds the tree's program in a new folder, where nothing of an earlier build lies, and compares it byte for byte.
 verify() {
+    if [ ! -f "$release/$name" ]; then
+        echo "release/ holds no program"
+        return 1
+    fi
     work=$(mktemp -d) || return 1
     trap 'rm -rf "$work"' EXIT
     trap 'exit 1' HUP INT TERM
     (cd "$top" && tar --exclude=out -cf - crates crates.txt HANDLES tools) | tar -xf - -C "$work" || return 1
     started=$(date +%s)
     program=$(sh "$work/tools/program.sh" --built) || {
-        tail -n 20 "$work/crates/clubcard/out/build.log" >&2
+        tail -n 20 "$work/crates/clubcard/out/build.log" 2>/dev/null | sed "s/^/clubcard: /" >&2
         return 1
     }
     echo "built in $((($(date +%s) - started) / 60)) minutes by $(rt version); released: $(cat "$release/TOOLCHAIN")"
