@@ -5,8 +5,6 @@ mod building;
 mod fault;
 mod gate;
 mod laws;
-#[cfg(test)]
-mod tests;
 
 pub use building::build_part;
 pub use fault::BuildFault;

@@ -8,8 +8,6 @@ mod fault;
 mod fields;
 mod laws;
 mod ledger;
-#[cfg(test)]
-mod tests;
 
 pub use decode::decode_ledger;
 pub use encode::encode_ledger;

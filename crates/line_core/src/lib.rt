@@ -4,8 +4,6 @@
 mod about;
 mod line;
 mod show;
-#[cfg(test)]
-mod tests;
 mod words;
 
 pub use about::{

@@ -8,8 +8,6 @@ mod entry;
 mod head;
 mod laws;
 mod sample;
-#[cfg(test)]
-mod tests;
 
 pub use laws::{samples_are_accepted, samples_are_jobs};
 pub use sample::Draft;

@@ -17,10 +17,6 @@ mod marking;
 mod member;
 mod merging;
 mod reading;
-#[cfg(test)]
-mod slow;
-#[cfg(test)]
-mod tests;
 
 pub use admission::{admit, first};
 pub use admitted::{Admitted, Group};

@@ -1,4 +1,4 @@
-use Rattle.builder_core.proofs.tests.says.Given as goal
+use Rattle.publisher_examples.proofs.builds.says.Given as goal
 
 abbrev pub ghosts-consulted-L-Ledger : goal.ghosts-consulted-L-Ledger
 ghosts-consulted-L-Ledger a = record { name = a.probes.name; parts = a.probes.parts }

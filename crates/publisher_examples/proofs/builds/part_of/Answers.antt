@@ -4,7 +4,7 @@ use Rattle.universe_core.specs.Groups.{group_fields}
 use Rattle.universe_core.specs.Jobs.{told}
 use Rattle.universe_core.specs.Ledgers.{no_ledger}
 use Rattle.builder_core.proofs.Admitted.{groups_ascend, identities_few}
-use Rattle.builder_core.proofs.tests.part_of.Goals as goal
+use Rattle.publisher_examples.proofs.builds.part_of.Goals as goal
 
 pub build_part-requires-clause-ascending : goal.build_part-requires-clause-ascending
 build_part-requires-clause-ascending g c κs within =

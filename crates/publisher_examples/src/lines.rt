@@ -1,12 +1,12 @@
-//! Lines against texts that were written by hand from docs/FORMATS.md, "Lines and statuses". The bytes of the parts were
-//! written by another program (Python, with its hashlib for the trailers).
+//! Lines against texts that were written by hand from docs/FORMATS.md, "Lines and statuses". The bytes of the parts
+//! were written by another program (Python, with its hashlib for the trailers).
 
-use crate::{
+use crl_core::CrlFault;
+use job_core::What;
+use line_core::{
     about_file, checked, coverage_line, crl_line, epoch_line, layout_line, limit_line, line_of,
     parent_line, reported, sampled, seeds_line, stored, write_sealed,
 };
-use crl_core::CrlFault;
-use job_core::What;
 use octets_core::{Field, Key32, LayoutFault, NoMemory, Why};
 use outside_core::MemorySink;
 use part_codec::decode_part;

@@ -1,6 +1,8 @@
+//! Building a part: what each member is answered, a refusal, and the gate.
+
 ghost use Rattle.std.specs.Prelude.{◌≡◌, ◌<◌};
 
-use crate::{BuildFault, Gate, Open, build_part};
+use builder_core::{BuildFault, Gate, Open, build_part};
 use card_core::Part;
 use crl_core::Crl;
 use equation_core::{EquationHash, Row, Sha256Rows};
@@ -204,7 +206,7 @@ fn each_member_of_many_is_consulted(rt: HostRuntime) -> Result<(), Fail> {
 struct RowsAlike;
 
 impl EquationHash for RowsAlike {
-    ghost use Rattle.builder_core.specs.TestRows.{row_alike, row_alike-is};
+    ghost use Rattle.publisher_examples.specs.TestRows.{row_alike, row_alike-is};
 
     ghost row_of = { λ _ stage seed id starts. row_alike stage seed id starts };
 

@@ -7,7 +7,7 @@ use Rattle.ident_core.specs.Coverage.{first_outside}
 use Rattle.ident_core.proofs.Within.{within-iff}
 use Rattle.ledger_core.specs.declared.fields.LedgerItem.{LedgerItem}
 use Rattle.ledger_core.specs.LedgerFields.{LedgerPartFields, part_fields, IsItemOf, IsLedger}
-use Rattle.ledger_core.proofs.tests.two_parts.Goals as goal
+use Rattle.publisher_examples.proofs.ledgers.two_parts.Goals as goal
 
 abbrev range_to : ℕ → Range
 range_to to = record { log = replicate 32 170; from = 1700000000000; to = to }

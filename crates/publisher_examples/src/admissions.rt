@@ -1,11 +1,15 @@
-use crate::{AdmitFault, Admitted, Class, admit, first, slow};
+//! Admission: small jobs by themselves, and jobs behind a ledger.
+
+use crate::ledgers::item;
+use crate::slow;
 use crl_core::{Crl, CrlFault};
 use ident_core::{Identity, Kind, Range, Serial, Sighting, ranges_fit};
 use job_core::{Job, JobCrl, Limits};
-use ledger_core::{Ledger, LedgerItem};
+use ledger_core::Ledger;
 use octets_core::Key32;
 use std::alloc::Global;
 use std::test::Fail;
+use universe_core::{AdmitFault, Admitted, Class, admit, first};
 
 const NOON: u64 = 1_700_000_000_000;
 
@@ -242,8 +246,8 @@ fn first_ledger(alloc: Global) -> Result<Ledger, Fail> {
     Ok(admitted.next.seal(Key32::new(TRAILERS[0])))
 }
 
-/// A job of epoch 2 that covers log `aa` for two seconds and lists serials 5 and 8. The first job covers when serial 7 was
-/// seen, and not when 6 was.
+/// A job of epoch 2 that covers log `aa` for two seconds and lists serials 5 and 8. The first job covers when serial 7
+/// was seen, and not when 6 was.
 fn second_job(alloc: Global) -> Result<Job, Fail> {
     let crls: [CrlRow<'_>; 1] = [(0x11, None, &[5, 8])];
     let mut second = job(alloc, &crls, &[(0x11, 6, 1500), (0x11, 7, 500)])?;
@@ -293,12 +297,6 @@ fn has_group(
                     && group.revoked.as_slice() == revoked
             }),
     )
-}
-
-/// The item of a serial of issuer `11`.
-fn item(octet: u8, birth: u8, last: Option<u8>) -> Result<LedgerItem, Fail> {
-    let id = identity(0x11, octet)?;
-    Ok(LedgerItem { id, birth, last })
 }
 
 #[test]

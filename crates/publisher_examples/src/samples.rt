@@ -1,5 +1,7 @@
-use crate::Draft;
+//! A made job against that of another program, and where a write fails.
+
 use outside_core::{Failed, MemoryDepot};
+use sample_core::Draft;
 use sha2::{Digest, Sha256};
 use std::test::Fail;
 

@@ -3,7 +3,7 @@ use Rattle.std.specs.List.Sorted.{IsStrictlySortedBy}
 use Rattle.ledger_core.specs.declared.fields.LedgerPart.{LedgerPart}
 use Rattle.ledger_core.specs.declared.fields.LedgerItem.{LedgerItem}
 use Rattle.ledger_core.specs.LedgerFields.{ledger_fields, IsLedger}
-use Rattle.ledger_core.proofs.tests.empty_snapshot.Goals as goal
+use Rattle.publisher_examples.proofs.ledgers.empty_snapshot.Goals as goal
 
 one-part : (none parts : List LedgerPart) (items : List LedgerItem) (p : LedgerPart) → none ≡ [] → parts ≡ none ++ p ∷ [] → items ≡ [] → p.ranges.items ≡ [] → p.issuers.items ≡ [] → IsLedger (ledger_fields parts items)
 unfolding IsStrictlySortedBy

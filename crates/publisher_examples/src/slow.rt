@@ -1,11 +1,11 @@
 //! What a first job gives, by the words of the definitions and step by step.
 
-use crate::class::Class;
 use ident_core::{Identity, Sighting};
 use job_core::{Job, JobCrl};
 use octets_core::Key32;
 use std::alloc::Global;
 use std::test::Fail;
+use universe_core::Class;
 
 fn is_stale(job: &Job, crl: &JobCrl) -> bool {
     match &crl.outcome {

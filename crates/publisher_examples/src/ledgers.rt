@@ -4,8 +4,8 @@
 ghost use Rattle.std.specs.Prelude.{◌≡◌, replicate, IfOk, [], ◌∷◌};
 ghost use Rattle.ledger_core.specs.LedgerFields.{part_fields};
 
-use crate::{Draft, LedgerFault, LedgerItem, LedgerPart, decode_ledger, encode_ledger};
 use ident_core::{Identity, Range, Serial};
+use ledger_core::{Draft, LedgerFault, LedgerItem, LedgerPart, decode_ledger, encode_ledger};
 use octets_core::{Field, Key32, LayoutFault, Why};
 use std::alloc::Global;
 use std::test::Fail;
@@ -64,7 +64,8 @@ fn part(alloc: Global, epoch: u64, trailer: [u8; 32], to: u64) -> Result<LedgerP
     })
 }
 
-fn item(octet: u8, birth: u8, last: Option<u8>) -> Result<LedgerItem, Fail>
+/// The item of a serial of issuer `11`.
+pub(crate) fn item(octet: u8, birth: u8, last: Option<u8>) -> Result<LedgerItem, Fail>
     ensures { IfOk result (λ x. x ≡ record {
       id = record { issuer = replicate 32 17; serial = octet ∷ [] };
       birth = birth;

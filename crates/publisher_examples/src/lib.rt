@@ -1,0 +1,15 @@
+//! Worked examples of the layers of the publisher: ledgers, admission, building a part, made jobs, and printed lines.
+#![tactic(auto)]
+
+#[cfg(test)]
+mod admissions;
+#[cfg(test)]
+mod builds;
+#[cfg(test)]
+mod ledgers;
+#[cfg(test)]
+mod lines;
+#[cfg(test)]
+mod samples;
+#[cfg(test)]
+mod slow;
