@@ -57,6 +57,3 @@ mod entry;
 mod list;
 
 pub use list::read_crl;
-
-#[cfg(test)]
-mod tests;

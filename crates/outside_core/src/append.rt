@@ -20,6 +20,3 @@ pub fn append_all<D: Depot>(depot: &mut D, name: &str, bytes: &[u8]) -> Result<(
     }
     Ok(())
 }
-
-#[cfg(test)]
-mod tests;

@@ -97,6 +97,3 @@ impl<'a, D: Depot> Feed<'a, D> {
         self.at
     }
 }
-
-#[cfg(test)]
-mod tests;

@@ -6,6 +6,3 @@ mod sink;
 
 pub use depot::MemoryDepot;
 pub use sink::MemorySink;
-
-#[cfg(test)]
-mod tests;

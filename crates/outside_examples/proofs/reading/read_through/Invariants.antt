@@ -2,7 +2,7 @@ use Rattle.std.proofs.Common.{◌≡◌, ◌-◌, ℕ, List, take, Some}
 use Rattle.std.specs.FinMap.{get}
 use Rattle.outside_core.specs.Files.{Files}
 use Rattle.outside_core.specs.Feeding.{InOrder}
-use Rattle.outside_core.proofs.feed.tests.read_through.Given as goal
+use Rattle.outside_examples.proofs.reading.read_through.Given as goal
 
 abbrev pub invariant-pieces : goal.invariant-pieces
 invariant-pieces g l = record {

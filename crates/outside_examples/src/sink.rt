@@ -1,7 +1,8 @@
+//! `write_all`: what it offers at each call.
+
 ghost use Rattle.std.specs.Prelude.{None};
 
-use super::*;
-use std::alloc::Global;
+use outside_core::{Failed, Sink, write_all};
 use std::test::Fail;
 
 // A sink that takes at most so many bytes a call, and notes how many each call offered.

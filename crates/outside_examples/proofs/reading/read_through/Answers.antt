@@ -4,7 +4,7 @@ use Rattle.std.proofs.lemmas.Grind.{common_steps}
 use Rattle.std.proofs.lemmas.List.{nil_from_length}
 use Rattle.outside_core.specs.Feeding.{InOrder}
 use Rattle.outside_core.proofs.Feeding.{taken-more, taken-all}
-use Rattle.outside_core.proofs.feed.tests.read_through.Goals as goal
+use Rattle.outside_examples.proofs.reading.read_through.Goals as goal
 
 pub returns-then-is_empty : goal.returns-then-is_empty
 returns-then-is_empty g c = λ files told.

@@ -1,4 +1,6 @@
-use super::*;
+//! CRLs: the forms, extensions, lengths of serials, and some that other programs made.
+
+use crl_core::{CrlFault, read_crl};
 use ident_core::Serial;
 
 fn same_serials(kept: &[Serial], want: &[&[u8]]) -> bool {

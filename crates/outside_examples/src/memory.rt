@@ -1,6 +1,6 @@
-use super::*;
-use crate::depot::{Depot, Failed};
-use crate::sink::Sink;
+//! Files and a sink in memory: reads, and calls that fail by their numbers.
+
+use outside_core::{Depot, Failed, MemoryDepot, MemorySink, Sink};
 use std::test::Fail;
 
 // The calls of begin and append are numbered together, from 0; `put` has no number. Behind each call of `write` the

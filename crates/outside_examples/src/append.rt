@@ -1,8 +1,8 @@
+//! `append_all`: what it offers at each call, and what stands behind one that fails.
+
 ghost use Rattle.std.specs.Prelude.{None};
 
-use super::*;
-use crate::memory::MemoryDepot;
-use std::alloc::Global;
+use outside_core::{Depot, Failed, MemoryDepot, append_all};
 use std::test::Fail;
 
 // A depot that takes at most so many bytes a call, and notes how many each call offered.

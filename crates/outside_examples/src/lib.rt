@@ -1,0 +1,18 @@
+//! Worked examples of files and sinks, in memory too, of files that are read in order, and of CRLs; and what a caller of
+//! a feed can conclude.
+#![tactic(auto)]
+
+mod reading;
+
+pub use reading::read_through;
+
+#[cfg(test)]
+mod append;
+#[cfg(test)]
+mod crls;
+#[cfg(test)]
+mod feed;
+#[cfg(test)]
+mod memory;
+#[cfg(test)]
+mod sink;
