@@ -1,10 +1,11 @@
 #!/bin/sh
-# Certificates, CRLs and keys made by openssl, through the program and back: what `clubcard query` says of each certificate
-# is compared with what `openssl verify -crl_check` says of it. It needs openssl (3.0 or later) and python3.
+# Certificates, CRLs and keys made by openssl, through the program and back: what `clubcard query` says of each
+# certificate is compared with what `openssl verify -crl_check` says of it. It needs openssl (3.0 or later) and python3.
 #
 #     tools/openssl_example.sh
 #
-# It makes the authorities of the table below, packs their CRLs and certificates into a job (tools/pack_job.py), and runs
+# It makes the authorities of the table below, packs their CRLs and certificates into a job (tools/pack_job.py), and
+# runs
 #
 #     clubcard snapshot JOB PART LEDGER 1
 #     clubcard start PART STORE
@@ -21,8 +22,8 @@
 #
 #     clubcard rehearse QUERIES 1 JOB JOB
 #
-# It prints a line for each certificate that is asked, and ends with status 0 exactly where the two agree on all of them.
-# All files lie in a new folder, which is removed.
+# It prints a line for each certificate that is asked, and ends with status 0 exactly where the two agree on all of
+# them. All files lie in a new folder, which is removed.
 set -eu
 
 # The authorities: a name, and what becomes of each of its certificates.
@@ -97,8 +98,8 @@ issue() {
     quiet ca -batch -notext -in leaf.csr -out "$1.pem"
 }
 
-# Makes an authority in a folder of its name: ca.pem, crl.pem and a certificate for each further word. The first serial is
-# 80, whose INTEGER has two octets.
+# Makes an authority in a folder of its name: ca.pem, crl.pem and a certificate for each further word. The first serial
+# is 80, whose INTEGER has two octets.
 make_authority() (
     name=$1
     shift

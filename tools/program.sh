@@ -20,8 +20,8 @@ is_stale() {
         -newer "$program" -print -quit 2>/dev/null)" ]
 }
 
-# Whether the released program is of this machine and of this tree. Else `why` begins the line that says why not. Without
-# words the program ends with status 2; where the machine has another C library it doesn't begin.
+# Whether the released program is of this machine and of this tree. Else `why` begins the line that says why not.
+# Without words the program ends with status 2; where the machine has another C library it doesn't begin.
 is_released() {
     why="release/ is for Linux on x86-64; "
     [ "$(uname -sm)" = "Linux x86_64" ] || return 1

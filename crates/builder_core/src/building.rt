@@ -36,8 +36,8 @@ fn build_blocks<H: EquationHash, G: Gate>(
     Ok(blocks)
 }
 
-/// The part of this head with the block of each group, or the first refusal. The groups are built one after the other on
-/// the caller's thread, whatever `workers` says, and the gate is entered before each.
+/// The part of this head with the block of each group, or the first refusal. The groups are built one after the other
+/// on the caller's thread, whatever `workers` says, and the gate is entered before each.
 pub fn build_part<R: Threads + Sync, H: EquationHash + Sync, G: Gate + Sync>(
     rt: &R,
     alloc: Global,

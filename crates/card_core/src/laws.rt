@@ -23,8 +23,8 @@ pub fn one_stage_is_refused()
     ensures { OneStageIsRefused }
 {}
 
-/// For a member of the universe, the block of the universe and its revoked part says yes exactly if it is in the revoked
-/// part.
+/// For a member of the universe, the block of the universe and its revoked part says yes exactly if it is in the
+/// revoked part.
 pub fn block_is_exact()
     ensures { BlockIsExact }
 {}

@@ -8,7 +8,8 @@ use edge::{FileDepot, Terminal};
 use std::process::ExitCode;
 use std::{env, io};
 
-/// The words after the program's name. A word that isn't UTF-8 makes it end as words that are no command do, with no line.
+/// The words after the program's name. A word that isn't UTF-8 makes it end as words that are no command do, with no
+/// line.
 fn words(rt: &HostRuntime) -> Result<Vec<String>, Status> {
     let args = match env::args(rt) {
         Ok(args) => args,

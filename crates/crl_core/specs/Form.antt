@@ -89,7 +89,8 @@ tbs = do
   end ← ends
   whole (record { this_update = d.this_update; next_update = d.next_update; entries = entries; extensions = extensions })
 
---   CertificateList ::= SEQUENCE { tbsCertList TBSCertList, signatureAlgorithm AlgorithmIdentifier, signatureValue BIT STRING }
+--   CertificateList ::= SEQUENCE {
+--     tbsCertList TBSCertList, signatureAlgorithm AlgorithmIdentifier, signatureValue BIT STRING }
 unfoldable pub certificate_list : Walk (List ℕ)
 certificate_list = do
   contents ← field 0x30

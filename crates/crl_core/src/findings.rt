@@ -1,4 +1,5 @@
-/// What extensions say of a CRL: whether it is a delta or an indirect one, and whether one of them is critical and unknown.
+/// What extensions say of a CRL: whether it is a delta or an indirect one, and whether one of them is critical and
+/// unknown.
 #[derive(Clone, Copy, Debug)]
 pub(crate) struct Findings {
     pub(crate) delta: bool,

@@ -1,5 +1,5 @@
-//! Reads, writes and the sink that fail, each call in turn. Every file here fits one read and one write; a read of it is
-//! followed by one that finds its end.
+//! Reads, writes and the sink that fail, each call in turn. Every file here fits one read and one write; a read of it
+//! is followed by one that finds its end.
 
 use clubcard_rows::calls::{does, holds, lacks, put, says, says_until};
 use clubcard_rows::files::{

@@ -21,7 +21,8 @@ covers_some ss part = list_any (covers part.ranges) ss
 unfoldable pub answers_of : Identity → List Sighting → List PartView → List Bool
 answers_of x ss parts = filter_map (λ part. part.consulted x) (filter (covers_some ss) parts)
 
--- A part shows its release: its block of an enrolled issuer is exact on the accepted identities, and there is none of another issuer.
+-- A part shows its release: its block of an enrolled issuer is exact on the accepted identities, and there is none of
+-- another issuer.
 pub record Shows (p : PartView) (r : Release) : Type 0 where
   pub ranges : p.ranges ≡ r.ranges
   pub other : (x : Identity) → has_key r.issuers x.issuer ≡ false → p.consulted x ≡ None

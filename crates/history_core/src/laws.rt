@@ -20,8 +20,8 @@ ghost use Rattle.history_core.specs.Publishing.{IsExact, part_of};
 ghost use Rattle.history_core.specs.Beginnings.{sees};
 ghost use Rattle.history_core.specs.Example.{certificate, second_job, after_first};
 
-/// The facts hold of no release; a job whose coverage holds that of the newest release keeps them; so they hold after each
-/// job of a history; and a job that isn't refused has such a coverage.
+/// The facts hold of no release; a job whose coverage holds that of the newest release keeps them; so they hold after
+/// each job of a history; and a job that isn't refused has such a coverage.
 pub fn facts_hold()
     ensures nothing { IsSound [] }
     ensures kept { (rs : List Release) (job : Job) (trailer : List ℕ) → IsSound rs → Follows rs job → IsSound (rs ++ released (past_of rs) job trailer ∷ []) }
@@ -29,8 +29,8 @@ pub fn facts_hold()
     ensures admitted { (limits : Limits) (rs : List Release) (job : JobFields) → refusal limits (ledger_of rs) job ≡ None → Follows rs (told job) }
 {}
 
-/// The ledger of a history tells a job what the history tells it, so that the groups and the counts are the history's, and
-/// the next ledger is that of the history with the job.
+/// The ledger of a history tells a job what the history tells it, so that the groups and the counts are the history's,
+/// and the next ledger is that of the history with the job.
 pub fn ledger_step_is_the_historys()
     ensures told { (rs : List Release) → IsSound rs → past_in (ledger_of rs) ≡ past_of rs }
     ensures next { (rs : List Release) → IsSound rs → (job : Job) (trailer : List ℕ) → next_ledger (ledger_of rs) job trailer ≡ ledger_of (rs ++ released (past_of rs) job trailer ∷ []) }
@@ -38,10 +38,10 @@ pub fn ledger_step_is_the_historys()
     ensures counts { (rs : List Release) → IsSound rs → (job : Job) → counts_after (ledger_of rs) job ≡ counts (past_of rs) job }
 {}
 
-/// Asked with accepted sightings of a certificate, the parts of a history answer the truth: some part answers, and one of
-/// the answers is positive exactly if the certificate is listed. So it is of any parts that show the releases, and of the
-/// parts that a test gives which is exact on the universe of each group; a test that says of each group's universe what the
-/// flags beside it say is exact.
+/// Asked with accepted sightings of a certificate, the parts of a history answer the truth: some part answers, and one
+/// of the answers is positive exactly if the certificate is listed. So it is of any parts that show the releases, and
+/// of the parts that a test gives which is exact on the universe of each group; a test that says of each group's
+/// universe what the flags beside it say is exact.
 pub fn answers_are_the_truth()
     ensures shown { (parts : List PartView) (rs : List Release) (x : Identity) (s : Sighting) (ss : List Sighting) → IsSound rs → AllZip Shows parts rs
         → ((t : Sighting) → Among (s ∷ ss) t → Among (sightings x (seen rs)) t)
@@ -61,8 +61,8 @@ pub fn last_part_covers()
 
 /// The definitions in other words. The revoked set: of the universe, what is listed up to now, without what an earlier
 /// part revokes while it covers all its sightings. Listed: some job since the identity's birth enrolls its issuer and
-/// lists it; of any releases that leave what their jobs say, and so of those of a history. The five classes add up to the
-/// entries.
+/// lists it; of any releases that leave what their jobs say, and so of those of a history. The five classes add up to
+/// the entries.
 pub fn words_hold()
     ensures revoked_set { (rs : List Release) (job : Job) (trailer : List ℕ) (x : Identity) → has (revoked (past_of rs) job) x
         ≡ ((is_listed (rs ++ released (past_of rs) job trailer ∷ []) x && not (is_settled_by rs x (sightings x (seen (rs ++ released (past_of rs) job trailer ∷ []))))) && has (universe (past_of rs) job) x) }
@@ -74,8 +74,9 @@ pub fn words_hold()
     ensures classes { (past : Past) (job : Job) → count Unread past job + count Uncovered past job + count Unenrolled past job + count Late past job + count Accepted past job ≡ length job.entries }
 {}
 
-/// A history of one job: the facts hold after it, with nothing asked of the job. The empty ledger tells it what no history
-/// tells, so that its groups and the ledger after it are those of its release, whatever the trailer of its part.
+/// A history of one job: the facts hold after it, with nothing asked of the job. The empty ledger tells it what no
+/// history tells, so that its groups and the ledger after it are those of its release, whatever the trailer of its
+/// part.
 pub fn first_job_is_sound()
     ensures told { past_in no_ledger ≡ past_of [] }
     ensures sound { (trailer : List Release → Job → List ℕ) (job : Job) → IsSound (releases trailer [] (job ∷ [])) }
@@ -83,8 +84,8 @@ pub fn first_job_is_sound()
     ensures next { (job : Job) (trailer : List ℕ) → next_ledger no_ledger job trailer ≡ ledger_of (released (past_of []) job trailer ∷ []) }
 {}
 
-/// In a history of one job a certificate is listed exactly if the job lists it, enrolls its issuer and covers an entry of
-/// it; and the job revokes what it lists.
+/// In a history of one job a certificate is listed exactly if the job lists it, enrolls its issuer and covers an entry
+/// of it; and the job revokes what it lists.
 pub fn first_job_in_words()
     ensures listed { (trailer : List Release → Job → List ℕ) (job : Job) (x : Identity) → is_listed (releases trailer [] (job ∷ [])) x ≡ (lists job x && (has_key (enrolled job) x.issuer && sees job x)) }
     ensures revoked { (trailer : List Release → Job → List ℕ) (job : Job) (x : Identity) → has (revoked (past_of []) job) x ≡ is_listed (releases trailer [] (job ∷ [])) x }

@@ -77,7 +77,8 @@ fn are_ranges(ranges: &[Range]) -> bool
     true
 }
 
-/// Whether the head of a part may hold the ranges: at most 1,024, logs strictly ascending, none that ends before it begins.
+/// Whether the head of a part may hold the ranges: at most 1,024, logs strictly ascending, none that ends before it
+/// begins.
 pub fn ranges_fit(ranges: &[Range]) -> bool
     ensures { IsTrue result ↔ RangesFit ranges.now }
 {

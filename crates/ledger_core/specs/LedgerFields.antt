@@ -28,7 +28,8 @@ part_fields p = record { epoch = p.epoch; trailer = p.trailer; ranges = p.ranges
 abbrev pub ledger_fields : List LedgerPart → List LedgerItem → LedgerFields
 ledger_fields parts items = record { parts = map part_fields parts; items = items }
 
--- The first part of a chain follows none. A later one has a greater epoch than the part before it, and covers what that one covers.
+-- The first part of a chain follows none. A later one has a greater epoch than the part before it, and covers what that
+-- one covers.
 abbrev pub Follows : Option LedgerPartFields → LedgerPartFields → Type 0
 Follows None p = Unit {0}
 Follows (Some previous) p = (previous.epoch < p.epoch) × LiesWithin previous.ranges p.ranges

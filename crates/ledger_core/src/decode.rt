@@ -266,8 +266,8 @@ fn ledger_in(alloc: Global, bytes: &[u8]) -> Result<Ledger, LedgerFault>
     Ok(Ledger::new(parts, items))
 }
 
-/// The ledger of the bytes, all of them. An `Err` is the first field that is short or fails its test, with its offset; a
-/// byte behind the digest is a fault of `end`. However great a count is, no more memory is asked for than the bytes
+/// The ledger of the bytes, all of them. An `Err` is the first field that is short or fails its test, with its offset;
+/// a byte behind the digest is a fault of `end`. However great a count is, no more memory is asked for than the bytes
 /// behind it could fill.
 pub fn decode_ledger(alloc: Global, bytes: &[u8]) -> Result<Ledger, LedgerFault>
     // Which ledger or fault it is.

@@ -171,8 +171,8 @@ fn put_body(out: &mut Vec<u8>, ledger: &Ledger) -> Result<(), NoMemory>
     Ok(())
 }
 
-/// The text of the ledger, of which the last 32 bytes are the SHA-256 (FIPS 180-4) of those before them. Memory is asked
-/// for once, for the whole text.
+/// The text of the ledger, of which the last 32 bytes are the SHA-256 (FIPS 180-4) of those before them. Memory is
+/// asked for once, for the whole text.
 #[tactic(auto, unfolding(crate::specs::LedgerText::ledger_text))]
 pub fn encode_ledger(alloc: Global, ledger: &Ledger) -> Result<Vec<u8>, NoMemory>
     ensures text { IfOk result (λ text. text.items ≡ ledger_text ledger.now) }

@@ -1,4 +1,5 @@
--- The lines that the program prints (docs/FORMATS.md, "Lines and statuses"). Numbers are decimal, keys lower hexadecimal.
+-- The lines that the program prints (docs/FORMATS.md, "Lines and statuses"). Numbers are decimal, keys lower
+-- hexadecimal.
 use Rattle.std.specs.Prelude.{ℕ, List, [], ◌∷◌, ◌++◌, length, codes, decimal, flat_map, Option, Some, None}
 use Rattle.hex.specs.Hex.{encode_lower}
 use Rattle.octets_core.specs.FieldNames.{name_of}

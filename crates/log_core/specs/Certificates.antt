@@ -1,6 +1,7 @@
 -- Certificates (RFC 5280, 4.1), as far as they are read.
 --   Certificate ::= SEQUENCE { tbsCertificate TBSCertificate, .. }
---   TBSCertificate ::= SEQUENCE { version [0] OPTIONAL, serialNumber INTEGER, signature, issuer, validity, subject, subjectPublicKeyInfo SEQUENCE, .. }
+--   TBSCertificate ::= SEQUENCE { version [0] OPTIONAL, serialNumber INTEGER, signature, issuer, validity, subject,
+--   subjectPublicKeyInfo SEQUENCE, .. }
 use Rattle.std.specs.Prelude.{ℕ, List, length, ◌&&◌, nat_le, if◌then◌else◌, Option, Some, None}
 use Rattle.octets_core.specs.Walk.{Walk, ◌>>=◌, whole, given, value_of, within}
 use Rattle.der_core.specs.Walk.{any, field, whole_field, optional, element_where, alone}

@@ -1,4 +1,5 @@
--- Laws of any layout, on values and their texts: what is spelled so is read, whatever follows, and what is read is spelled so.
+-- Laws of any layout, on values and their texts: what is spelled so is read, whatever follows, and what is read is
+-- spelled so.
 use Rattle.std.proofs.Common.{eq-eqb, ◌≡◌, ℕ, zero, suc, ◌+◌, ◌^◌, ◌≤◌, ◌<◌, Bool, true, false, ltb, List, [], ◌∷◌, ◌++◌, length, get_or, take, drop, Result, Ok, refl, sym, ap, subst, ◌∙◌, append_assoc, length-append, arith, inl, inr}
 use Rattle.std.specs.Prelude.{flat_map}
 use Rattle.std.specs.Int.{Width, w8, w16, w32, w64, byte_len, from_be_bytes, to_be_bytes}

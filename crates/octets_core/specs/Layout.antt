@@ -1,5 +1,5 @@
--- Layouts of bytes: fields one after the other. Each has a width and a test, which depend on the fields before it alone.
--- Reading goes from left to right, up to the first field that is short or fails its test.
+-- Layouts of bytes: fields one after the other. Each has a width and a test, which depend on the fields before it
+-- alone. Reading goes from left to right, up to the first field that is short or fails its test.
 use Rattle.std.specs.Prelude.{ℕ, zero, suc, ◌+◌, List, [], ◌∷◌, length, take, drop, Bool, ◌&&◌, nat_lt, nat_le, if◌then◌else◌, Result, Ok, Err}
 use Rattle.std.specs.Int.{Width, byte_len, from_be_bytes}
 use Rattle.std.specs.Str.{bytes_eq}
@@ -30,7 +30,8 @@ refused e bytes at = Err e
 abbrev pub within : ℕ → ℕ → ℕ → Bool
 within low high n = nat_le low n && nat_le n high
 
--- A field of so many bytes. What it is where there are fewer, and where its test fails, is a fault for the offset of its first byte.
+-- A field of so many bytes. What it is where there are fewer, and where its test fails, is a fault for the offset of
+-- its first byte.
 unfoldable pub bytes_field : {E : Type 0} → (ℕ → E) → (ℕ → E) → ℕ → (List ℕ → Bool) → Layout E (List ℕ)
 bytes_field short wrong width test bytes at =
     if nat_lt (length bytes) (at + width) then Err (short at) else if test (piece width bytes at) then Ok (piece width bytes at, at + width) else Err (wrong at)

@@ -21,7 +21,8 @@ abbrev pub ReadsUnless : {E X A : Type 0} → E → (X → A) → Layout E A →
 ReadsUnless none view layout old new (Ok x) = (layout old.bytes old.at ≡ Ok (view x, new.at)) × (new.bytes ≡ old.bytes)
 ReadsUnless none view layout old new (Err e) = (e ≡ none → ⊥) → layout old.bytes old.at ≡ Err e
 
--- What a function that reads bytes from their beginning did: it gave the value, or the fault; want of memory says nothing of the bytes.
+-- What a function that reads bytes from their beginning did: it gave the value, or the fault; want of memory says
+-- nothing of the bytes.
 abbrev pub GivesUnless : {E X A : Type 0} → E → (X → A) → Result X E → Result A E → Type 0
 GivesUnless none view (Ok x) read = read ≡ Ok (view x)
 GivesUnless none view (Err e) read = (e ≡ none → ⊥) → read ≡ Err e

@@ -20,6 +20,7 @@ InOrder told name at window = (files : Files) → told ≡ Some files → 0 < at
 abbrev pub IsTaken : List ℕ → ℕ → Type 0
 IsTaken bytes at = (length bytes ≤ at) ⊎ (at ≡ 2 ^ 64 - 1)
 
--- Where files are told, the name is held and the window is the file's bytes from this place on; it is empty exactly where all are taken.
+-- Where files are told, the name is held and the window is the file's bytes from this place on; it is empty exactly
+-- where all are taken.
 abbrev pub Offers : Option Files → List ℕ → ℕ → List ℕ → Type 0
 Offers told name at window = (files : Files) → told ≡ Some files → (bytes : List ℕ) × (get files name ≡ Some bytes) × IsWindow bytes at window × (window ≡ [] ↔ IsTaken bytes at)

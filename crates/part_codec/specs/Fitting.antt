@@ -1,4 +1,5 @@
--- The parts that have a text: numbers and keys fit their fields, the facts of a part hold, and the trailer is the digest.
+-- The parts that have a text: numbers and keys fit their fields, the facts of a part hold, and the trailer is the
+-- digest.
 use Rattle.std.specs.Prelude.{◌≡◌, ℕ, ◌<◌, ◌≤◌, ◌^◌, List, length, Option, Some, None, true, All}
 use Rattle.sha2.specs.Sha256.{sha256}
 use Rattle.octets_core.specs.Linked.{Linked, is_after}

@@ -1,4 +1,5 @@
--- The columns of a plane as bytes: words of 64 columns, the lowest columns first, and of each word the greatest byte first.
+-- The columns of a plane as bytes: words of 64 columns, the lowest columns first, and of each word the greatest byte
+-- first.
 use Rattle.std.specs.Prelude.{ℕ, zero, suc, ◌+◌, ◌*◌, ◌/◌, ◌%◌, ◌^◌, List, [], ◌++◌, take, drop, Bool, nat_lt}
 use Rattle.std.specs.Int.{w64, from_be_bytes, to_be_bytes}
 use Rattle.equation_core.specs.Sizes.{columns_for, words_for}

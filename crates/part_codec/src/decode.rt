@@ -97,8 +97,8 @@ fn is_above(issuer: &Key32, previous: &Option<Key32>) -> bool
     }
 }
 
-/// The issuer of a block, which is above that of the block before. A call of its own, since most of a part is issuers, and
-/// the loop over blocks is much faster where this is compiled into it.
+/// The issuer of a block, which is above that of the block before. A call of its own, since most of a part is issuers,
+/// and the loop over blocks is much faster where this is compiled into it.
 #[tactic(auto, unfolding(octets_core::specs::Layout::bytes_field))]
 fn issuer_of(cursor: &mut Cursor<'_>, previous: Option<Key32>) -> Result<Key32, LayoutFault>
     ensures { ReadsField (λ x. x) (key Field.BlockIssuer (is_after previous)) cursor.old cursor.new result }
@@ -299,8 +299,8 @@ fn sealed_of(alloc: Global, bytes: &[u8]) -> Result<(Sealed, usize), PartFault>
     Ok((Sealed::new(part, trailer), cursor.at()))
 }
 
-/// The part that the bytes begin with, and how many bytes it has; what follows is left. An `Err` is the first field that
-/// is short or fails its test, with its offset.
+/// The part that the bytes begin with, and how many bytes it has; what follows is left. An `Err` is the first field
+/// that is short or fails its test, with its offset.
 pub fn decode_part(alloc: Global, bytes: &[u8]) -> Result<(Sealed, usize), PartFault>
     // What is read is spelled so, each byte of it.
     ensures found { IfOk result (λ x. (take x.1 bytes.now ≡ spelling x.0) × Fits x.0) }

@@ -24,7 +24,8 @@ use Rattle.store_core.specs.StoreLayout.{store_text}
 abbrev pub groups_of : List Release → Job → List GroupFields
 groups_of rs job = groups (released (past_of rs) job [])
 
--- The part of a job behind these releases: its head, the block of each enrolled issuer by rows of SHA-256, and the digest.
+-- The part of a job behind these releases: its head, the block of each enrolled issuer by rows of SHA-256, and the
+-- digest.
 pub record IsPartOf (rs : List Release) (job : Job) (s : SealedFields) : Type 0 where
   pub head : s.part.head ≡ head_after (map part_from rs) job
   pub blocks : AreGroupBlocks sha256_row (groups_of rs job) s.part.blocks

@@ -21,8 +21,9 @@ pub fn publications_are_unique()
     ensures outcome { (ledger : LedgerFields) (job : JobFields) (a b : Result Published PublishFault) → Publishes ledger job a → Publishes ledger job b → a ≡ b }
 {}
 
-/// What is published of a job behind the ledger of a history is that of the history with the job: its part, its ledger and
-/// its counts, at its place; and each admissible job is published. The ledger before a first job is that of no history.
+/// What is published of a job behind the ledger of a history is that of the history with the job: its part, its ledger
+/// and its counts, at its place; and each admissible job is published. The ledger before a first job is that of no
+/// history.
 pub fn histories_are_published()
     ensures none { ledger_of (history [] []) ≡ no_ledger }
     ensures admissible { (jobs : List JobFields) (parts : List SealedFields) (job : JobFields) (p : Published) → IsHistory jobs parts → FitsFields job → IsWithinLimits PUBLISHED job

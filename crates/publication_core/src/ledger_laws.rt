@@ -9,8 +9,8 @@ ghost use Rattle.ledger_core.specs.LedgerReading.{ledger_of as ledger_of_bytes};
 ghost use Rattle.universe_core.specs.Ledgers.{ledger_of};
 ghost use Rattle.publication_core.specs.Histories.{IsHistory, history, ledger_bytes};
 
-/// The ledger of a history of one or more jobs keeps the facts of ledgers, its numbers and keys fit their fields, and its
-/// bytes are read as it, to the last one.
+/// The ledger of a history of one or more jobs keeps the facts of ledgers, its numbers and keys fit their fields, and
+/// its bytes are read as it, to the last one.
 pub fn ledgers_are_read_back()
     ensures fits { (jobs : List JobFields) (parts : List SealedFields) → IsHistory jobs parts → 1 ≤ length jobs → Fits (ledger_of (history jobs parts)) }
     ensures read { (jobs : List JobFields) (parts : List SealedFields) → IsHistory jobs parts → 1 ≤ length jobs

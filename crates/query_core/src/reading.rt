@@ -135,8 +135,8 @@ fn file_of(alloc: Global, bytes: &[u8]) -> Result<Vec<Asked>, QueriesFault>
 }
 
 /// The queries of the bytes, all of them, in their order. An `Err` is the first field that is short or fails its test,
-/// with its offset; a byte behind the last query is a fault of `end`. However great a count is, room is asked for no more
-/// queries, and no more sightings, than the bytes behind it could hold.
+/// with its offset; a byte behind the last query is a fault of `end`. However great a count is, room is asked for no
+/// more queries, and no more sightings, than the bytes behind it could hold.
 pub fn read_queries(alloc: Global, bytes: &[u8]) -> Result<Vec<Asked>, QueriesFault>
     // Which queries or fault it is.
     ensures exact { GivesUnless QueriesFault.NoMemory (λ v. map as_query v.items) result (queries_in bytes.now) }

@@ -164,8 +164,8 @@ fn keeps_each_limit(rt: HostRuntime) -> Result<(), Fail> {
 const NO_RECORDS: &[u8] =
     b"\x43\x4c\x55\x42\x4a\x4f\x42\x31\x00\x00\x00\x00\x00\x00\x00\x00\x00\x00\x00\x00\x00\x00\x00\x00";
 
-// Pieces of a job, each by the same table: its head of epoch 1, a range, a CRL without serials and one with two, an entry
-// of the serial 05, three entries that aren't read, an entry of the serial 06, and the end.
+// Pieces of a job, each by the same table: its head of epoch 1, a range, a CRL without serials and one with two, an
+// entry of the serial 05, three entries that aren't read, an entry of the serial 06, and the end.
 const HEAD: &[u8] =
     b"\x43\x4c\x55\x42\x4a\x4f\x42\x31\x00\x00\x00\x00\x00\x00\x00\x01\x00\x00\x01\x8b\xcf\xe5\x68\x00";
 

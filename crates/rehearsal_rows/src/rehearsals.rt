@@ -1,5 +1,5 @@
-//! `rehearse`: jobs that are published, installed and asked in one call, and what stops it. Every file here fits one read,
-//! which is followed by one that finds its end.
+//! `rehearse`: jobs that are published, installed and asked in one call, and what stops it. Every file here fits one
+//! read, which is followed by one that finds its end.
 
 use clubcard_rows::calls::{does, put, says, says_until};
 use clubcard_rows::files::{CRL_CUT, CRL_NONE, K1, K2, LA, LB};

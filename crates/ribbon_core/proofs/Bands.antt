@@ -1,4 +1,5 @@
--- A band system of one plane, as functions of the column: coefficient f p, with bit 0 at column p, and target g p. Column 0 of Z is its bit 0.
+-- A band system of one plane, as functions of the column: coefficient f p, with bit 0 at column p, and target g p.
+-- Column 0 of Z is its bit 0.
 use Rattle.std.proofs.Common.{◌≡◌, ℕ, zero, suc, ◌+◌, ◌*◌, ◌/◌, ◌%◌, ◌^◌, ◌<◌, ◌≤◌, ◌⊎◌, inl, inr, refl, sym, ◌∙◌, arith}
 use Rattle.std.specs.Prelude.{bit_and}
 use Rattle.std.proofs.lemmas.Nat.{shr-shr}

@@ -12,9 +12,9 @@ pub const MOMENT: u64 = 1_700_000_000_000;
 /// How many bytes the record of an entry has.
 pub const RECORD: usize = 108;
 
-/// The record of an entry: its kind, the log, the length of the leaf and the leaf, and that there is no extra data. Of the
-/// leaf: its version and type, the time, the type of a precertificate, the issuer, the length of the TBS, the TBS with the
-/// serial alone, and that there are no extensions. It is written as one array, since each piece costs a call.
+/// The record of an entry: its kind, the log, the length of the leaf and the leaf, and that there is no extra data. Of
+/// the leaf: its version and type, the time, the type of a precertificate, the issuer, the length of the TBS, the TBS
+/// with the serial alone, and that there are no extensions. It is written as one array, since each piece costs a call.
 pub fn record_of(keys: &Keys, index: u32) -> [u8; RECORD]
     ensures { result ≡ entry_record (entry keys.now index) }
 {

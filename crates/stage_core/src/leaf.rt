@@ -167,8 +167,8 @@ fn leaf_of<H: EquationHash>(
     mixed_of(alloc, hash, universe, revoked)
 }
 
-/// The block of an issuer: the filter of its universe, and of the identities among these whose flag is set, the revoked.
-/// It takes a byte for each identity, and the systems of one seed at a time.
+/// The block of an issuer: the filter of its universe, and of the identities among these whose flag is set, the
+/// revoked. It takes a byte for each identity, and the systems of one seed at a time.
 pub fn build_block<H: EquationHash>(
     alloc: Global,
     hash: &H,

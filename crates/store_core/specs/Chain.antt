@@ -19,7 +19,8 @@ pub record Follows (held given : SealedFields) : Type 0 where
   pub epoch : held.part.head.epoch < given.part.head.epoch
   pub coverage : LiesWithin held.part.head.ranges given.part.head.ranges
 
--- The first is a snapshot, and each later one follows the one before it. A store has one part or more; no part at all is a chain too.
+-- The first is a snapshot, and each later one follows the one before it. A store has one part or more; no part at all
+-- is a chain too.
 abbrev pub IsChain : List SealedFields → Type 0
 IsChain [] = Unit {0}
 IsChain (first ∷ others) = (first.part.head.kind ≡ kinds.Snapshot) × Linked Follows (λ held given. given) first others

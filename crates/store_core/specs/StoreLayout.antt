@@ -1,5 +1,5 @@
--- The layout of a store, line by line as in docs/FORMATS.md: so many parts, one after the other, each of them tested for its
--- place in the chain before the next one is read.
+-- The layout of a store, line by line as in docs/FORMATS.md: so many parts, one after the other, each of them tested
+-- for its place in the chain before the next one is read.
 use Rattle.std.specs.Prelude.{ℕ, zero, suc, ◌+◌, ◌-◌, List, [], ◌∷◌, ◌++◌, length, Option, Some, None, codes, flat_map}
 use Rattle.std.specs.Int.{w8, to_be_bytes}
 use Rattle.octets_core.specs.Layout.{Layout, ◌>>=◌, whole, refused, embedded, mapped}

@@ -30,7 +30,8 @@ by_covering x (part ∷ parts) = by_answers (answers x (part ∷ parts))
 abbrev pub verdict : List PartFields → Identity → List Sighting → Verdict
 verdict parts x sightings = by_covering x (covering sightings parts)
 
--- What two lists of parts say together: Revoked goes before Good, Good before NotEnrolled, and NotEnrolled before NotCovered.
+-- What two lists of parts say together: Revoked goes before Good, Good before NotEnrolled, and NotEnrolled before
+-- NotCovered.
 abbrev pub joined : Verdict → Verdict → Verdict
 joined Revoked other = Revoked
 joined one Revoked = Revoked

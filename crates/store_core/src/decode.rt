@@ -97,8 +97,8 @@ fn whole_store(alloc: Global, bytes: &[u8]) -> Result<Store, StoreFault>
     Ok(store)
 }
 
-/// The store that the bytes are. An `Err` is the first fault: a field, with its offset, or a part that the parts before it
-/// don't take.
+/// The store that the bytes are. An `Err` is the first fault: a field, with its offset, or a part that the parts before
+/// it don't take.
 pub fn decode_store(alloc: Global, bytes: &[u8]) -> Result<Store, StoreFault>
     // Which store it is, or which fault.
     ensures exact { GivesUnless StoreFault.NoMemory (λ store. store) result (value_of (store_layout bytes.now 0)) }

@@ -1,5 +1,5 @@
-//! A client's store: a chain of 1 to 64 parts, the rules by which it takes a further part, what its parts say together of a
-//! certificate, and the bytes that it is written as.
+//! A client's store: a chain of 1 to 64 parts, the rules by which it takes a further part, what its parts say together
+//! of a certificate, and the bytes that it is written as.
 #![tactic(auto)]
 
 mod chain;

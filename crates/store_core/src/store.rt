@@ -13,8 +13,8 @@ use std::marker::Model;
 /// The most parts of a store.
 const MAX_PARTS: usize = 64;
 
-/// A chain of 1 to 64 parts with their trailers, oldest first: the first is a snapshot, and each later one is a delta that
-/// follows the part before it. It has room for 64.
+/// A chain of 1 to 64 parts with their trailers, oldest first: the first is a snapshot, and each later one is a delta
+/// that follows the part before it. It has room for 64.
 #[derive(Drop)]
 pub struct Store {
     parts: Vec<Sealed>,

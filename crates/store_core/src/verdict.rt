@@ -60,8 +60,9 @@ fn verdict_of_part<L: Ledger, M: Ledger>(
 }
 
 impl Store {
-    /// What the parts together say of the certificate, by rows of SHA-256. Only parts that cover one of the sightings are
-    /// asked. Each comparison of issuers is one probe, and each word that is read takes a step of `words`. No memory is taken.
+    /// What the parts together say of the certificate, by rows of SHA-256. Only parts that cover one of the sightings
+    /// are asked. Each comparison of issuers is one probe, and each word that is read takes a step of `words`. No
+    /// memory is taken.
     pub fn verdict<L: Ledger, M: Ledger>(
         &self,
         id: &Identity,

@@ -1,5 +1,5 @@
-//! A history of five jobs, with three issuers and two logs. What each job is to say, and what the store of all five parts is
-//! to answer, was worked out by hand.
+//! A history of five jobs, with three issuers and two logs. What each job is to say, and what the store of all five
+//! parts is to answer, was worked out by hand.
 
 use clubcard_rows::calls::{answers, copy, does, holds, put};
 use clubcard_rows::files::{
@@ -24,8 +24,8 @@ fn first(alloc: Global) -> Result<Vec<u8>, Fail> {
     job.end()
 }
 
-/// The CRL of K1, which lists 06, is out of date: K1 isn't enrolled, and 06 isn't listed. K2 lists 05, and 08, which isn't
-/// born. 07 of K2 is late. 05 of K3 is accepted, since no earlier part has a block of K3.
+/// The CRL of K1, which lists 06, is out of date: K1 isn't enrolled, and 06 isn't listed. K2 lists 05, and 08, which
+/// isn't born. 07 of K2 is late. 05 of K3 is accepted, since no earlier part has a block of K3.
 fn second(alloc: Global) -> Result<Vec<u8>, Fail> {
     let mut job = JobText::begin(alloc, 2)?;
     job.range(LA, 0, 2000)?;
@@ -55,8 +55,8 @@ fn third(alloc: Global) -> Result<Vec<u8>, Fail> {
     job.end()
 }
 
-/// 08 of K2 is born behind its listing. 05 of K2 is seen where no part has revoked it. 09 of K3 is late. What the third part
-/// revokes and covers isn't revoked again.
+/// 08 of K2 is born behind its listing. 05 of K2 is seen where no part has revoked it. 09 of K3 is late. What the third
+/// part revokes and covers isn't revoked again.
 fn fourth(alloc: Global) -> Result<Vec<u8>, Fail> {
     let mut job = JobText::begin(alloc, 4)?;
     job.range(LA, 0, 3000)?;
@@ -70,8 +70,8 @@ fn fourth(alloc: Global) -> Result<Vec<u8>, Fail> {
     job.end()
 }
 
-/// 08 of K1 is born and listed. 08 of K3 is listed long after its birth. An entry of type 2 is unread, and one of 09 isn't
-/// covered.
+/// 08 of K1 is born and listed. 08 of K3 is listed long after its birth. An entry of type 2 is unread, and one of 09
+/// isn't covered.
 fn fifth(alloc: Global) -> Result<Vec<u8>, Fail> {
     let mut job = JobText::begin(alloc, 5)?;
     job.range(LA, 0, 3000)?;

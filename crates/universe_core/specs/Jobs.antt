@@ -1,4 +1,5 @@
--- What a job says by itself: its CRLs and entries, its coverage, which issuers it enrolls and which identities it lists.
+-- What a job says by itself: its CRLs and entries, its coverage, which issuers it enrolls and which identities it
+-- lists.
 use Rattle.std.specs.Prelude.{ℕ, ℤ, pos, ◌*ℤ◌, int_lt, List, map, filter, filter_map, Bool, false, not, Option, Some, None, Result, Ok, Err}
 use Rattle.std.specs.List.{list_any, list_all}
 use Rattle.std.specs.Option.{option_map}

@@ -1,4 +1,5 @@
--- The ledger: two numbers an identity in place of the history. What it tells a job, the next one, and that of a history.
+-- The ledger: two numbers an identity in place of the history. What it tells a job, the next one, and that of a
+-- history.
 use Rattle.std.specs.Prelude.{ℕ, suc, List, [], ◌∷◌, ◌++◌, map, find, take, length, Bool, true, false, ◌&&◌, if◌then◌else◌, Option, Some, None}
 use Rattle.std.specs.List.{list_any, slice_get}
 use Rattle.ident_core.specs.declared.identity.Identity.{Identity}

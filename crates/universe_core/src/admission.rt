@@ -43,7 +43,8 @@ struct Acceptance {
     accepted: u32,
 }
 
-/// What accepted identities make: the groups, the items of the next ledger, and how many are of the universe and revoked.
+/// What accepted identities make: the groups, the items of the next ledger, and how many are of the universe and
+/// revoked.
 #[derive(Drop)]
 struct Built {
     groups: Vec<Group>,
@@ -85,8 +86,8 @@ fn accept(
     })
 }
 
-/// Makes the next items and the groups of accepted identities, for a part at this place. The members are let go before the
-/// groups are made.
+/// Makes the next items and the groups of accepted identities, for a part at this place. The members are let go before
+/// the groups are made.
 fn build(
     alloc: Global,
     job: &Job,
@@ -177,8 +178,8 @@ fn step(
     })
 }
 
-/// Admits a job as the first of a chain. Its ranges fit, and its numbers of ranges, CRLs and entries keep the limits. The
-/// answer is never `OldEpoch`, `CoverageShrinks` or `ChainFull`.
+/// Admits a job as the first of a chain. Its ranges fit, and its numbers of ranges, CRLs and entries keep the limits.
+/// The answer is never `OldEpoch`, `CoverageShrinks` or `ChainFull`.
 pub fn first(alloc: Global, job: &Job, limits: &Limits) -> Result<Admitted, AdmitFault>
     requires published { AreWithin limits.now Limits.PUBLISHED }
     requires ranges { RangesFit job.now.ranges.items }
@@ -195,8 +196,8 @@ pub fn first(alloc: Global, job: &Job, limits: &Limits) -> Result<Admitted, Admi
     step(alloc, &[], &[], job, limits)
 }
 
-/// Admits a job behind a ledger. Its ranges fit, and its numbers of ranges, CRLs and entries keep the limits. The ledger
-/// stays as it is.
+/// Admits a job behind a ledger. Its ranges fit, and its numbers of ranges, CRLs and entries keep the limits. The
+/// ledger stays as it is.
 pub fn admit(
     alloc: Global,
     ledger: &Ledger,

@@ -3,8 +3,8 @@ use ident_core::{Head, Identity};
 use ledger_core::Draft;
 use octets_core::Key32;
 
-/// What a filter's block is built from: an enrolled issuer, its universe, ascending, and beside each of it whether it is
-/// revoked.
+/// What a filter's block is built from: an enrolled issuer, its universe, ascending, and beside each of it whether it
+/// is revoked.
 #[derive(Debug, Drop)]
 pub struct Group {
     pub issuer: Key32,

@@ -1,4 +1,5 @@
-/// How many a job has of each: enrolled issuers, members of its universe and of its revoked set, and entries of each class.
+/// How many a job has of each: enrolled issuers, members of its universe and of its revoked set, and entries of each
+/// class.
 #[derive(Clone, Copy, Debug, PartialEq, Eq)]
 pub struct Counts {
     pub issuers: u32,

@@ -131,8 +131,8 @@ fn merge(
     Ok(out)
 }
 
-/// The identities accepted so far, ascending, where these entries are those that a job's ranges cover and whose issuers it
-/// enrolls. The entries are left sorted.
+/// The identities accepted so far, ascending, where these entries are those that a job's ranges cover and whose issuers
+/// it enrolls. The entries are left sorted.
 pub(crate) fn members(
     alloc: Global,
     parts: &[LedgerPart],

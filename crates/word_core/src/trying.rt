@@ -3,7 +3,8 @@
 use crate::command::FileName;
 use std::marker::Model;
 
-/// Jobs that are published one after the other, with no file written, and queries that are asked of the store they make.
+/// Jobs that are published one after the other, with no file written, and queries that are asked of the store they
+/// make.
 #[derive(Debug, Drop)]
 pub struct Rehearse {
     queries: FileName,
