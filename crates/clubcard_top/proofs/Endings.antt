@@ -10,11 +10,12 @@ use Rattle.word_core.specs.Names.{inputs_of, outputs_of}
 use Rattle.clubcard_top.specs.declared.fault.FileFault.{FileFault}
 use Rattle.clubcard_top.specs.declared.fault.FileFault.TheVariants as faults
 use Rattle.clubcard_top.specs.ReplyFields.{OutputFields, ReplyFields, Done, NamedFault}
-use Rattle.clubcard_top.specs.Statuses.{is_one_of, of_replies, all}
+use Rattle.clubcard_top.specs.Statuses.{is_one_of, all}
 use Rattle.clubcard_top.specs.Inputs.{AreRead}
 use Rattle.clubcard_top.specs.Commands.{Makes}
 use Rattle.clubcard_top.specs.Replies.{usage, refusal, reply_of, IsReplyOver}
-use Rattle.clubcard_top.specs.Runs.{IsReply, Ends, IsUnread, IsWriteFault, IsTorn, KeepsAllBut, with_outputs}
+use Rattle.clubcard_top.specs.Runs.{IsReply, IsTorn, KeepsAllBut, with_outputs}
+use Rattle.clubcard_top.proofs.Ways.{Ends, IsUnread}
 use Rattle.clubcard_top.proofs.Outputs.{names_of, keeps-same, keeps-written, keeps-torn, none-torn, none-written}
 use Rattle.clubcard_top.proofs.Makings.{refusal_quiet, outcome_status, of_commands, done_names, unread_cause}
 
@@ -105,20 +106,6 @@ module _ (asked : Command) (told : Option Files) (rose : Type 0) (ended : ℕ) (
   statuses (inr (reply, is, own, inr (amiss, (name, torn, inl (status, text))))) = rw status refl
   statuses (inr (reply, is, own, inr (amiss, (name, torn, inr (status, cut, why))))) = rw status refl
 
-  pub no_memory : Ends asked told rose ended old new failed after wrong → ended ≡ 70 → (new ≡ old) × (after ≡ told)
-  no_memory (inl (is, same, files)) want = (same, files)
-  no_memory (inr (reply, is, own, inl (files, inl (status, text)))) want = absurd (not_among of_replies reply.status 70 own (sym status ∙ want) refl)
-  no_memory (inr (reply, is, own, inl (files, inr (status, cut, why)))) want = absurd (omega arith)
-  no_memory (inr (reply, is, own, inr (amiss, (name, torn, inl (status, text))))) want = absurd (omega arith)
-  no_memory (inr (reply, is, own, inr (amiss, (name, torn, inr (status, cut, why))))) want = absurd (omega arith)
-
-  pub write_fault : Ends asked told rose ended old new failed after wrong → ended ≡ 9 → IsWriteFault asked told rose old new failed after wrong
-  write_fault (inl (is, same, files)) fault = absurd (omega arith)
-  write_fault (inr (reply, is, own, inl (files, inl (status, text)))) fault = absurd (not_among of_replies reply.status 9 own (sym status ∙ fault) refl)
-  write_fault (inr (reply, is, own, inl (files, inr (status, cut, why)))) fault = (reply, is, inl (why, files, cut))
-  write_fault (inr (reply, is, own, inr (amiss, (name, torn, inl (status, text))))) fault = (reply, is, inr (amiss, (name, torn, inl text)))
-  write_fault (inr (reply, is, own, inr (amiss, (name, torn, inr (status, cut, why))))) fault = (reply, is, inr (amiss, (name, torn, inr (why, cut))))
-
   -- ---- files
 
   pub unchanged : Ends asked told rose ended old new failed after wrong → (ended ≡ 0 → ⊥) → (ended ≡ 9 → ⊥) → after ≡ told
@@ -182,15 +169,3 @@ module _ (asked : Command) (told : Option Files) (rose : Type 0) (ended : ℕ) (
 
   pub read_fault_line : Ends asked told rose ended old new failed after wrong → ended ≡ 8 → IsUnread asked told rose old new
   read_fault_line ends eight = unread_sent (sent ends (λ e. omega arith) (λ e. omega arith)) eight
-
-module _ (told : Option Files) (rose : Type 0) (ended : ℕ) (old new : Option (List ℕ)) (failed : Type 0) (after : Option Files) (wrong : Type 0) where
-  usage_ends : Ends commands.Usage told rose ended old new failed after wrong → IsTrue (is_one_of (2 ∷ 9 ∷ 70 ∷ []) ended)
-  usage_ends (inl (is, same, files)) = rw is refl
-  usage_ends (inr (reply, (inputs, read, inl (refute, is)), own, inl (files, inl (status, text)))) = rw (status, is) refl
-  usage_ends (inr (reply, (inputs, read, inr (o, m, is)), own, inl (files, inl (status, text)))) = absurd m
-  usage_ends (inr (reply, is, own, inl (files, inr (status, cut, why)))) = rw status refl
-  usage_ends (inr (reply, is, own, inr (amiss, (name, torn, inl (status, text))))) = rw status refl
-  usage_ends (inr (reply, is, own, inr (amiss, (name, torn, inr (status, cut, why))))) = rw status refl
-
-  pub no_command : (asked : Command) → Ends asked told rose ended old new failed after wrong → asked ≡ commands.Usage → IsTrue (is_one_of (2 ∷ 9 ∷ 70 ∷ []) ended)
-  no_command asked ends is = usage_ends (subst (λ (a : Command). Ends a told rose ended old new failed after wrong) is ends)

@@ -4,6 +4,7 @@ pub mod Reading
 pub mod Results
 pub mod Makings
 pub mod Overs
+pub mod Ways
 pub mod Endings
 pub mod Tellings
 pub mod Unique
@@ -12,3 +13,8 @@ pub mod Rehearsed
 pub mod Rehearsal
 pub mod Replying
 pub mod Newest
+pub mod Promised
+pub mod WordsApart
+pub mod Succeeded
+pub mod Workers
+pub mod Prefixes

@@ -46,11 +46,13 @@ use Rattle.clubcard_top.specs.PartFile.{part_file}
 use Rattle.clubcard_top.specs.Readings.{faulted, queries_in, job_in, ledger_in, part_in, store_in}
 use Rattle.clubcard_top.specs.ReplyFields.{Done, NamedFault}
 use Rattle.clubcard_top.specs.Statuses.{is_one_of}
-use Rattle.clubcard_top.specs.Commands.{◌>>=◌, named, input, begun_by, begun, installed_by, installed, stored, query_done, check_done, show_done, publication_done, published_as, MakesSnapshot, MakesDelta, rehearsed, IsRefused, Rehearses, MakesRehearsal, sample_done, Makes}
+use Rattle.clubcard_top.specs.Commands.{◌>>=◌, named, input, begun_by, begun, installed_by, installed, stored, query_done, check_done, show_done, publication_done, published_as, MakesSnapshot, MakesDelta, rehearsed, IsRefused, MakesRehearsal, sample_done, Makes}
+use Rattle.clubcard_top.specs.Steps.{RehearsesOn}
 use Rattle.clubcard_top.specs.Replies.{refusal, reply_of}
 use Rattle.clubcard_top.specs.Inputs.{IsRead, AreRead}
 use Rattle.clubcard_top.proofs.Outputs.{names_of}
 use Rattle.clubcard_top.proofs.Results.{ok_same, not_ok}
+use Rattle.clubcard_top.proofs.Prefixes.{from_first}
 
 -- ---- replies of refusals
 
@@ -123,7 +125,7 @@ delta_names t (Ok j) (Err e) d m = absurd (not_err d e m)
 delta_names t (Err e) l d m = absurd (not_err d e m)
 
 -- a rehearsal writes no file
-rehearses_names : (queries : List Query) (jobs : List JobFields) (parts : List SealedFields) (names : List (List ℕ)) (inputs : List (Option (List ℕ))) (d : Done) → Rehearses queries jobs parts names inputs (Ok d)
+rehearses_names : (queries : List Query) (jobs : List JobFields) (parts : List SealedFields) (names : List (List ℕ)) (inputs : List (Option (List ℕ))) (d : Done) → RehearsesOn queries jobs parts names inputs (Ok d)
     → names_of d.outputs ≡ []
 rehearses_names queries jobs parts [] [] d m = ap (λ (e : Done). names_of e.outputs) (ok_same {E = NamedFault} d (rehearsed queries jobs parts) m)
 rehearses_names queries jobs parts [] (g ∷ inputs) d m = absurd m
@@ -132,7 +134,7 @@ rehearses_names queries jobs parts (name ∷ names) (g ∷ inputs) d (inl (e, re
 rehearses_names queries jobs parts (name ∷ names) (g ∷ inputs) d (inr (job, more, read, is, rest)) = rehearses_names queries (jobs ++ job ∷ []) more names inputs d rest
 
 rehearsal_names : (r : RehearseFields) (queries : Result (List Query) NamedFault) (inputs : List (Option (List ℕ))) (d : Done) → MakesRehearsal r queries inputs (Ok d) → names_of d.outputs ≡ []
-rehearsal_names r (Ok queries) inputs d m = rehearses_names queries [] [] r.jobs inputs d m
+rehearsal_names r (Ok queries) inputs d m = rehearses_names queries [] [] r.jobs inputs d (from_first queries r.jobs inputs (Ok d) m)
 rehearsal_names r (Err e) inputs d m = absurd (not_err d e m)
 
 -- what follows an input
@@ -341,7 +343,7 @@ module _ (told : Option Files) (rose : Type 0) (e : NamedFault) (u : e.fault ≡
   refused_by jobs parts name given names read (inr (job, fault, is, publishes, same)) = absurd (publish_fault_read fault (sym (ap (λ (k : NamedFault). k.fault) same) ∙ u))
 
   rehearses_by : (queries : List Query) (jobs : List JobFields) (parts : List SealedFields) (names : List (List ℕ)) (inputs : List (Option (List ℕ))) → AreRead told rose names inputs
-      → Rehearses queries jobs parts names inputs (Err e) → Cause names
+      → RehearsesOn queries jobs parts names inputs (Err e) → Cause names
   rehearses_by queries jobs parts [] [] read m = absurd (not_ok (rehearsed queries jobs parts) e m)
   rehearses_by queries jobs parts [] (g ∷ inputs) read m = absurd m
   rehearses_by queries jobs parts (name ∷ names) [] read m = absurd m
@@ -353,7 +355,7 @@ module _ (told : Option Files) (rose : Type 0) (e : NamedFault) (u : e.fault ≡
   rehearsal_by : (r : RehearseFields) (given : Option (List ℕ)) (inputs : List (Option (List ℕ))) (queries : Result (List Query) NamedFault) → IsRead told rose r.queries given → AreRead told rose r.jobs inputs
       → input r.queries queries_in given ≡ queries → MakesRehearsal r queries inputs (Err e) → Cause (r.queries ∷ r.jobs)
   rehearsal_by r given inputs (Ok queries) first others is m =
-      let c = rehearses_by queries [] [] r.jobs inputs others m in (inr c.0, c.1)
+      let c = rehearses_by queries [] [] r.jobs inputs others (from_first queries r.jobs inputs (Err e) m) in (inr c.0, c.1)
   rehearsal_by r given inputs (Err f) first others is m =
       cause_of (r.queries ∷ r.jobs) r.queries given (inl refl) first
       (input_unread r.queries queries_in given e queries_read (is ∙ ap (λ (k : NamedFault). Err k) (sym (err_same {A = Done} e f m))) u)

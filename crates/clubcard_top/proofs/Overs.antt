@@ -14,11 +14,13 @@ use Rattle.clubcard_top.specs.declared.fault.FileFault.TheVariants as faults
 use Rattle.clubcard_top.specs.ReplyFields.{Done, NamedFault}
 use Rattle.clubcard_top.specs.Readings.{queries_in, job_in, ledger_in, store_in}
 use Rattle.clubcard_top.specs.Inputs.{IsRead, AreRead}
-use Rattle.clubcard_top.specs.Commands.{◌>>=◌, input, query_makes, check_makes, show_makes, start_makes, install_makes, MakesDelta, IsRefused, Rehearses, MakesRehearsal, Makes}
+use Rattle.clubcard_top.specs.Commands.{◌>>=◌, input, query_makes, check_makes, show_makes, start_makes, install_makes, MakesDelta, IsRefused, MakesRehearsal, Makes}
+use Rattle.clubcard_top.specs.Steps.{RehearsesOn}
 use Rattle.clubcard_top.specs.Replies.{held_by}
 use Rattle.clubcard_top.proofs.Makings.{install_after}
+use Rattle.clubcard_top.proofs.Prefixes.{first_of, from_first}
 
-some_is : (f g : Files) → ◌≡◌ {A = Option Files} (Some f) (Some g) → f ≡ g
+pub some_is : (f g : Files) → ◌≡◌ {A = Option Files} (Some f) (Some g) → f ≡ g
 some_is f g e = cc
 
 -- ---- where no fault was counted, what was read is what the files hold
@@ -75,7 +77,7 @@ unread_job jobs parts name e (inl h) =
 unread_job jobs parts name e (inr (job, fault, is, not, same)) = absurd (let g : ◌≡◌ {A = Result JobFields NamedFault} (Err (unread name)) (Ok job) = is in cc)
 
 rehearses_over : (files : Files) (rose : Type 0) (queries : List Query) (jobs : List JobFields) (parts : List SealedFields) (names : List (List ℕ)) (inputs : List (Option (List ℕ))) (o : Result Done NamedFault) → IsSeen o
-    → AreRead (Some files) rose names inputs → Rehearses queries jobs parts names inputs o → Rehearses queries jobs parts names (map (get files) names) o
+    → AreRead (Some files) rose names inputs → RehearsesOn queries jobs parts names inputs o → RehearsesOn queries jobs parts names (map (get files) names) o
 rehearses_over files rose queries jobs parts [] [] o seen read m = m
 rehearses_over files rose queries jobs parts [] (g ∷ inputs) o seen read m = absurd m
 rehearses_over files rose queries jobs parts (name ∷ names) [] o seen read m = absurd m
@@ -95,7 +97,8 @@ rehearses_over files rose queries jobs parts (name ∷ names) (Some b ∷ inputs
 
 rehearsal_by : (files : Files) (rose : Type 0) (r : RehearseFields) (queries : Result (List Query) NamedFault) (inputs : List (Option (List ℕ))) (o : Result Done NamedFault) → IsSeen o
     → AreRead (Some files) rose r.jobs inputs → MakesRehearsal r queries inputs o → MakesRehearsal r queries (map (get files) r.jobs) o
-rehearsal_by files rose r (Ok queries) inputs o seen read m = rehearses_over files rose queries [] [] r.jobs inputs o seen read m
+rehearsal_by files rose r (Ok queries) inputs o seen read m =
+    first_of queries r.jobs (map (get files) r.jobs) o (rehearses_over files rose queries [] [] r.jobs inputs o seen read (from_first queries r.jobs inputs o m))
 rehearsal_by files rose r (Err e) inputs o seen read m = m
 
 rehearsal_over : (files : Files) (rose : Type 0) (r : RehearseFields) (q : Option (List ℕ)) (inputs : List (Option (List ℕ))) (o : Result Done NamedFault) → IsSeen o → IsRead (Some files) rose r.queries q

@@ -18,13 +18,15 @@ use Rattle.clubcard_top.specs.declared.fault.FileFault.{FileFault}
 use Rattle.clubcard_top.specs.declared.fault.FileFault.TheVariants as faults
 use Rattle.clubcard_top.specs.ReplyFields.{Done, NamedFault}
 use Rattle.clubcard_top.specs.Readings.{queries_in, job_in, input_as}
-use Rattle.clubcard_top.specs.Commands.{named, input, report_behind, reports, rehearsed, verdict_line, IsRefused, Rehearses, MakesRehearsal}
+use Rattle.clubcard_top.specs.Commands.{named, input, report_behind, reports, rehearsed, verdict_line, IsRefused, MakesRehearsal}
+use Rattle.clubcard_top.specs.Steps.{RehearsesOn}
 use Rattle.clubcard_top.specs.Inputs.{IsRead, AreRead, IsInput}
 use Rattle.clubcard_top.specs.Rehearsals.{AddsJob, IsRehearsedFrom, IsRefusedFrom}
 use Rattle.clubcard_top.specs.Replies.{done, refusal}
 use Rattle.clubcard_top.specs.Answering.{shown}
 use Rattle.clubcard_top.specs.Runs.{IsReply}
 use Rattle.clubcard_top.proofs.Replying.{some_read, wider, rose_later, rose_earlier, made, made_unless}
+use Rattle.clubcard_top.proofs.Prefixes.{first_of}
 
 -- ---- files that were read
 
@@ -79,7 +81,7 @@ pub record Gone (told : Option Files) (rose : Type 0) (names : List (List ℕ)) 
   pub jobs : List JobFields
   pub is_of : IsOf jobs r
   pub lines : text ≡ reports [] [] jobs r.parts
-  pub next : (queries : List Query) (rest : List (Option (List ℕ))) (o : Result Done NamedFault) → Rehearses queries jobs r.parts (drop i names) rest o → Rehearses queries [] [] names (inputs ++ rest) o
+  pub next : (queries : List Query) (rest : List (Option (List ℕ))) (o : Result Done NamedFault) → RehearsesOn queries jobs r.parts (drop i names) rest o → RehearsesOn queries [] [] names (inputs ++ rest) o
 
 module _ (told : Option Files) (names : List (List ℕ)) where
   pub none_gone : (rose : Type 0) (r : RehearsalFields) (text : List ℕ) → r.parts ≡ [] → IsOf [] r → text ≡ [] → Gone told rose names 0 r text
@@ -89,7 +91,7 @@ module _ (told : Option Files) (names : List (List ℕ)) where
     jobs = [];
     is_of = is_of;
     lines = empty ∙ ap (reports [] [] []) (sym none);
-    next = λ queries rest o m. subst (λ (ps : List SealedFields). Rehearses queries [] ps names rest o) none m;
+    next = λ queries rest o m. subst (λ (ps : List SealedFields). RehearsesOn queries [] ps names rest o) none m;
   }
 
   -- the file at a place, behind the first ones
@@ -107,8 +109,8 @@ module _ (told : Option Files) (names : List (List ℕ)) where
     from_place : drop i names ≡ name ∷ drop (i + 1) names
     from_place = drop_more names i name lt ∙ ap (λ (n : List ℕ). n ∷ drop (i + 1) names) (sym is)
 
-    next_of : (queries : List Query) (rest : List (Option (List ℕ))) (o : Result Done NamedFault) → Rehearses queries gone.jobs r.parts (name ∷ drop (i + 1) names) rest o → Rehearses queries [] [] names (gone.inputs ++ rest) o
-    next_of queries rest o m = gone.next queries rest o (subst (λ (ns : List (List ℕ)). Rehearses queries gone.jobs r.parts ns rest o) (sym from_place) m)
+    next_of : (queries : List Query) (rest : List (Option (List ℕ))) (o : Result Done NamedFault) → RehearsesOn queries gone.jobs r.parts (name ∷ drop (i + 1) names) rest o → RehearsesOn queries [] [] names (gone.inputs ++ rest) o
+    next_of queries rest o m = gone.next queries rest o (subst (λ (ns : List (List ℕ)). RehearsesOn queries gone.jobs r.parts ns rest o) (sym from_place) m)
 
     more_by : (after : RehearsalFields) (line : List ℕ) → AddsJob gone.jobs r (input name job_in g) after line → Gone told later names (i + 1) after (text ++ line)
     more_by after line a = record {
@@ -119,7 +121,7 @@ module _ (told : Option Files) (names : List (List ℕ)) where
       lines = ap (λ (t : List ℕ). t ++ line) gone.lines ∙ ap (λ (l : List ℕ). reports [] [] gone.jobs r.parts ++ l) a.report
           ∙ sym (reports_more [] [] gone.jobs r.parts a.job a.sealed (lengths [] gone.jobs r.parts gone.is_of.is_history)) ∙ ap (reports [] [] (gone.jobs ++ a.job ∷ [])) (sym a.parts);
       next = λ queries rest o m.
-          subst (λ (gs : List (Option (List ℕ))). Rehearses queries [] [] names gs o) (sym (append_assoc gone.inputs (g ∷ []) rest))
+          subst (λ (gs : List (Option (List ℕ))). RehearsesOn queries [] [] names gs o) (sym (append_assoc gone.inputs (g ∷ []) rest))
           (next_of queries (g ∷ rest) o (inr (a.job, after.parts, a.is_read, a.is_of.is_history, m)));
     }
 
@@ -146,9 +148,9 @@ module _ (told : Option Files) (names : List (List ℕ)) where
     jobs = gone.jobs;
     lines = gone.lines;
     makes = λ queries.
-        subst (λ (gs : List (Option (List ℕ))). Rehearses queries [] [] names gs (Ok (rehearsed queries gone.jobs r.parts))) (append-nil gone.inputs)
+        subst (λ (gs : List (Option (List ℕ))). RehearsesOn queries [] [] names gs (Ok (rehearsed queries gone.jobs r.parts))) (append-nil gone.inputs)
         (gone.next queries [] (Ok (rehearsed queries gone.jobs r.parts))
-        (subst (λ (ns : List (List ℕ)). Rehearses queries gone.jobs r.parts ns [] (Ok (rehearsed queries gone.jobs r.parts))) (sym (drop_all i names le)) refl));
+        (subst (λ (ns : List (List ℕ)). RehearsesOn queries gone.jobs r.parts ns [] (Ok (rehearsed queries gone.jobs r.parts))) (sym (drop_all i names le)) refl));
   }
 
 -- ---- the reply
@@ -169,9 +171,9 @@ module _ (told mid : Option Files) (first then last : ℕ) (same : mid ≡ told)
   jobs_read inputs read =
       wider_all told (Rose then last) (Rose first last) r.jobs inputs (rose_earlier first then last early) (subst (λ (f : Option Files). AreRead f (Rose then last) r.jobs inputs) same read)
 
-  step : (queries : List Query) (g : Option (List ℕ)) (inputs : List (Option (List ℕ))) (o : Result Done NamedFault) → input_as queries_in g ≡ Ok queries → Rehearses queries [] [] r.jobs inputs o
+  step : (queries : List Query) (g : Option (List ℕ)) (inputs : List (Option (List ℕ))) (o : Result Done NamedFault) → input_as queries_in g ≡ Ok queries → RehearsesOn queries [] [] r.jobs inputs o
       → MakesRehearsal r (input r.queries queries_in g) inputs o
-  step queries g inputs o gives m = subst (λ (x : Result (List Query) FileFault). MakesRehearsal r (named r.queries x) inputs o) (sym gives) m
+  step queries g inputs o gives m = subst (λ (x : Result (List Query) FileFault). MakesRehearsal r (named r.queries x) inputs o) (sym gives) (first_of queries r.jobs inputs o m)
 
   -- a job is at fault
   pub rehearse_not : {B : Type 0} (view : B → List Query) (x : B) (name : List ℕ) (fault : FileFault) → IsInput told (Rose first then) r.queries queries_in view (Ok x)

@@ -1,31 +1,23 @@
 -- What the status of a call tells of the files, where they are told.
-use Rattle.std.proofs.Common.{◌≡◌, ℕ, ◌⊎◌, inl, inr, List, [], ◌∷◌, ◌++◌, Option, Some, None, Result, Ok, Err, refl, sym, ap, subst, ◌∙◌, arith}
-use Rattle.std.specs.Prelude.{◌≢◌, IfSome, IsTrue}
+use Rattle.std.proofs.Common.{◌≡◌, ℕ, ◌⊎◌, inl, inr, List, Option, Some, None, Result, Ok, Err, refl, sym, ap, subst, ◌∙◌, arith}
+use Rattle.std.specs.Prelude.{◌≢◌, IfSome}
 use Rattle.outside_core.specs.Files.{Files}
 use Rattle.outside_core.specs.Written.{followed_by}
 use Rattle.octets_core.specs.declared.fault.LayoutFault.{LayoutFault}
 use Rattle.crl_core.specs.declared.crl.CrlFault.{CrlFault}
 use Rattle.job_core.specs.declared.bounds.What.{What}
-use Rattle.query_core.specs.Queries.{Query}
-use Rattle.job_core.specs.JobFields.{JobFields}
-use Rattle.part_codec.specs.SealedFields.{SealedFields}
 use Rattle.store_core.specs.declared.chain.Refusal.{Refusal}
-use Rattle.publication_core.specs.Histories.{IsAdmissible, IsHistory, history}
 use Rattle.word_core.specs.declared.command.Command.{Command}
-use Rattle.word_core.specs.declared.command.Command.TheVariants as commands
-use Rattle.word_core.specs.CommandFields.{QueryFields, RehearseFields}
 use Rattle.word_core.specs.Names.{inputs_of}
 use Rattle.clubcard_top.specs.declared.fault.FileFault.{FileFault}
 use Rattle.clubcard_top.specs.declared.fault.FileFault.TheVariants as faults
 use Rattle.clubcard_top.specs.ReplyFields.{ReplyFields, Done, NamedFault}
-use Rattle.clubcard_top.specs.Statuses.{is_one_of}
-use Rattle.clubcard_top.specs.Commands.{rehearsed, Makes}
+use Rattle.clubcard_top.specs.Commands.{Makes}
 use Rattle.clubcard_top.specs.Replies.{refusal, reply_of, IsReplyOver, IsReplyTo, held_by}
-use Rattle.clubcard_top.specs.Runs.{IsReply, Ends, Answers, Refuses, with_outputs}
-use Rattle.clubcard_top.specs.Headline.{AsksHistory, IsPublished, IsRehearsed, IsStored, PublishesJob, RehearsesJobs, StoresPart, truth_done}
+use Rattle.clubcard_top.specs.Runs.{IsReply, with_outputs}
+use Rattle.clubcard_top.proofs.Ways.{Ends, Answers, Refuses}
 use Rattle.clubcard_top.proofs.Endings.{IsSent, sent}
 use Rattle.clubcard_top.proofs.Overs.{IsSeen, over_files, held_all}
-use Rattle.clubcard_top.proofs.Results.{ok_same}
 
 -- ---- the reply over these files
 
@@ -211,7 +203,7 @@ module _ (asked : Command) (files : Files) (ended : ℕ) (old new : Option (List
   pub seeds_case : Came → ended ≡ 7 → (issuer : List ℕ) × (stage : ℕ) × Refuses asked files (faults.Seeds issuer stage) old new after
   seeds_case c is = let x = fails_case c (λ z. omega (arith, z, is)) in let f = seeds_of x.name x.fault (x.status ∙ is) in (f.0, f.1, refuses_as x (faults.Seeds f.0 f.1) f.2)
 
--- ---- the clauses
+-- ---- a call by its status
 
 module _ (asked : Command) (rose : Type 0) (ended : ℕ) (old new : Option (List ℕ)) (failed : Type 0) (after : Option Files) (wrong : Type 0) where
   pub answer : (told : Option Files) → Ends asked told rose ended old new failed after wrong → IfSome told (λ files. ended ≢ 8 → ended ≢ 9 → ended ≢ 70
@@ -253,145 +245,3 @@ module _ (asked : Command) (rose : Type 0) (ended : ℕ) (old new : Option (List
   pub seeds : (told : Option Files) → Ends asked told rose ended old new failed after wrong → IfSome told (λ files. ended ≡ 7 → (issuer : List ℕ) × (stage : ℕ) × Refuses asked files (faults.Seeds issuer stage) old new after)
   seeds None ends = tt
   seeds (Some files) ends = λ is. seeds_case asked files ended old new after (came_told files 7 ends is (λ z. omega arith) (λ z. omega arith) (λ z. omega arith) (λ z. omega arith)) is
-
-  -- ---- histories
-
-  -- what a law says of what comes of a command, where the call was done
-  told_done : (files : Files) (P : Done → Type 0) → ((d : Done) → Makes asked (held_by asked files) (Ok d) → P d) → Ends asked (Some files) rose ended old new failed after wrong → ended ≡ 0
-      → (d : Done) × P d × (new ≡ followed_by old d.text) × (after ≡ with_outputs (Some files) d.outputs)
-  told_done files P law ends is =
-      let a = done (Some files) ends is in
-      (a.done, law a.done a.makes, a.written, a.files_are)
-
-  well_by : (files : Files) → (asked ≡ commands.Usage → ⊥) → ((o : Result Done NamedFault) → Makes asked (held_by asked files) o → (d : Done) × (o ≡ Ok d)) → (reply : ReplyFields)
-      → IsReplyTo asked files reply → ended ≡ reply.status → IsTrue (is_one_of (0 ∷ 70 ∷ []) ended)
-  well_by files some law reply (inl (none, is)) status = absurd (some none)
-  well_by files some law reply (inr (o, m, is)) status =
-      let d = law o m in
-      let zero : ended ≡ 0 = status ∙ ap (λ (r : ReplyFields). r.status) is ∙ ap (λ (r : Result Done NamedFault). (reply_of r).status) d.1 in
-      rw zero refl
-
-  -- and where no fault was counted, and the command is one whose outcome is done
-  ends_well : (files : Files) → (asked ≡ commands.Usage → ⊥) → ((o : Result Done NamedFault) → Makes asked (held_by asked files) o → (d : Done) × (o ≡ Ok d)) → Ends asked (Some files) rose ended old new failed after wrong
-      → (rose → ⊥) → (wrong → ⊥) → (failed → ⊥) → IsTrue (is_one_of (0 ∷ 70 ∷ []) ended)
-  ends_well files some law (inl (is, same, kept)) quiet sane calm = rw is refl
-  ends_well files some law (inr (reply, is, own, inl (done, inl (status, text)))) quiet sane calm = well_by files some law reply (over_quiet asked files rose ended old new failed after wrong (record { reply = reply; is = is; status = status; text = text; files = done }) quiet is) status
-  ends_well files some law (inr (reply, is, own, inl (done, inr (status, cut, why)))) quiet sane calm = absurd (calm why)
-  ends_well files some law (inr (reply, is, own, inr (amiss, rest))) quiet sane calm = absurd (sane amiss)
-
-  -- the laws of histories that the clauses stand on
-  pub record Laws : Type 0 where
-    pub published : (files : Files) (jobs : List JobFields) (parts : List SealedFields) (job : JobFields) (d : Done) → IsHistory jobs parts → PublishesJob asked files jobs parts job
-        → Makes asked (held_by asked files) (Ok d) → IsPublished asked jobs parts job d
-    pub admitted : (files : Files) (jobs : List JobFields) (parts : List SealedFields) (job : JobFields) (o : Result Done NamedFault) → IsHistory jobs parts → PublishesJob asked files jobs parts job
-        → IsAdmissible (history jobs parts) job → Makes asked (held_by asked files) o → (d : Done) × (o ≡ Ok d)
-    pub stored : (files : Files) (jobs : List JobFields) (parts : List SealedFields) (s : SealedFields) (o : Result Done NamedFault) → IsHistory jobs (parts ++ s ∷ []) → StoresPart asked files parts s
-        → Makes asked (held_by asked files) o → (d : Done) × (o ≡ Ok d) × IsStored asked parts s d
-    pub asks : (files : Files) (q : QueryFields) (jobs : List JobFields) (parts : List SealedFields) (o : Result Done NamedFault) → IsHistory jobs parts → AsksHistory asked files q jobs parts
-        → Makes asked (held_by asked files) o → o ≡ Ok (truth_done jobs parts q)
-    pub rehearses : (files : Files) (r : RehearseFields) (d : Done) → asked ≡ commands.Rehearse r → Makes asked (held_by asked files) (Ok d)
-        → (queries : List Query) × (jobs : List JobFields) × (parts : List SealedFields) × RehearsesJobs asked files queries jobs × IsRehearsed queries jobs parts × (d ≡ rehearsed queries jobs parts)
-    pub follows : (files : Files) (queries : List Query) (jobs : List JobFields) (parts : List SealedFields) (o : Result Done NamedFault) → IsHistory jobs parts → RehearsesJobs asked files queries jobs
-        → Makes asked (held_by asked files) o → o ≡ Ok (rehearsed queries jobs parts)
-
-  publishes_some : (files : Files) (jobs : List JobFields) (parts : List SealedFields) (job : JobFields) → (c : Command) → PublishesJob c files jobs parts job → c ≡ commands.Usage → ⊥
-  publishes_some files jobs parts job commands.Usage p is = p
-  publishes_some files jobs parts job (commands.Query q) p is = p
-  publishes_some files jobs parts job (commands.Rehearse r) p is = p
-  publishes_some files jobs parts job (commands.Sample t) p is = p
-  publishes_some files jobs parts job (commands.Check n) p is = p
-  publishes_some files jobs parts job (commands.Show n) p is = p
-  publishes_some files jobs parts job (commands.Snapshot s) p is = absurd cc
-  publishes_some files jobs parts job (commands.Delta d) p is = absurd cc
-  publishes_some files jobs parts job (commands.Start t) p is = p
-  publishes_some files jobs parts job (commands.Install i) p is = p
-
-  stores_some : (files : Files) (parts : List SealedFields) (s : SealedFields) → (c : Command) → StoresPart c files parts s → c ≡ commands.Usage → ⊥
-  stores_some files parts s commands.Usage p is = p
-  stores_some files parts s (commands.Query q) p is = p
-  stores_some files parts s (commands.Rehearse r) p is = p
-  stores_some files parts s (commands.Sample t) p is = p
-  stores_some files parts s (commands.Check n) p is = p
-  stores_some files parts s (commands.Show n) p is = p
-  stores_some files parts s (commands.Snapshot t) p is = p
-  stores_some files parts s (commands.Delta d) p is = p
-  stores_some files parts s (commands.Start t) p is = absurd cc
-  stores_some files parts s (commands.Install i) p is = absurd cc
-
-  rehearses_some : (files : Files) (queries : List Query) (jobs : List JobFields) → (c : Command) → RehearsesJobs c files queries jobs → c ≡ commands.Usage → ⊥
-  rehearses_some files queries jobs commands.Usage p is = p
-  rehearses_some files queries jobs (commands.Query q) p is = p
-  rehearses_some files queries jobs (commands.Check n) p is = p
-  rehearses_some files queries jobs (commands.Show n) p is = p
-  rehearses_some files queries jobs (commands.Snapshot s) p is = p
-  rehearses_some files queries jobs (commands.Delta d) p is = p
-  rehearses_some files queries jobs (commands.Start t) p is = p
-  rehearses_some files queries jobs (commands.Install i) p is = p
-  rehearses_some files queries jobs (commands.Rehearse r) p is = absurd cc
-  rehearses_some files queries jobs (commands.Sample t) p is = p
-
-  query_some : (c : Command) (q : QueryFields) → c ≡ commands.Query q → c ≡ commands.Usage → ⊥
-  query_some c q is refute = let h : commands.Query q ≡ commands.Usage = sym is ∙ refute in cc
-
-  module _ (laws : Laws) where
-    pub published_clause : (told : Option Files) → Ends asked told rose ended old new failed after wrong
-        → IfSome told (λ files. (jobs : List JobFields) (parts : List SealedFields) (job : JobFields) → IsHistory jobs parts → PublishesJob asked files jobs parts job → ended ≡ 0
-        → (d : Done) × IsPublished asked jobs parts job d × (new ≡ followed_by old d.text) × (after ≡ with_outputs told d.outputs))
-    published_clause None ends = tt
-    published_clause (Some files) ends = λ jobs parts job h p is. told_done files (IsPublished asked jobs parts job) (λ d m. laws.published files jobs parts job d h p m) ends is
-
-    pub admitted_clause : (told : Option Files) → Ends asked told rose ended old new failed after wrong
-        → IfSome told (λ files. (jobs : List JobFields) (parts : List SealedFields) (job : JobFields) → IsHistory jobs parts → PublishesJob asked files jobs parts job → IsAdmissible (history jobs parts) job
-        → (rose → ⊥) → (wrong → ⊥) → (failed → ⊥) → IsTrue (is_one_of (0 ∷ 70 ∷ []) ended))
-    admitted_clause None ends = tt
-    admitted_clause (Some files) ends = λ jobs parts job h p a quiet sane calm.
-        ends_well files (publishes_some files jobs parts job asked p) (λ o m. laws.admitted files jobs parts job o h p a m) ends quiet sane calm
-
-    stored_by : (files : Files) (jobs : List JobFields) (parts : List SealedFields) (s : SealedFields) → IsHistory jobs (parts ++ s ∷ []) → StoresPart asked files parts s → (d : Done)
-        → Makes asked (held_by asked files) (Ok d) → IsStored asked parts s d
-    stored_by files jobs parts s h p d m =
-        let l = laws.stored files jobs parts s (Ok d) h p m in subst (IsStored asked parts s) (sym (ok_same {E = NamedFault} d l.0 l.1)) l.2
-
-    pub stored_clause : (told : Option Files) → Ends asked told rose ended old new failed after wrong
-        → IfSome told (λ files. (jobs : List JobFields) (parts : List SealedFields) (s : SealedFields) → IsHistory jobs (parts ++ s ∷ []) → StoresPart asked files parts s → ended ≡ 0
-        → (d : Done) × IsStored asked parts s d × (new ≡ followed_by old d.text) × (after ≡ with_outputs told d.outputs))
-    stored_clause None ends = tt
-    stored_clause (Some files) ends = λ jobs parts s h p is. told_done files (IsStored asked parts s) (stored_by files jobs parts s h p) ends is
-
-    pub taken_clause : (told : Option Files) → Ends asked told rose ended old new failed after wrong
-        → IfSome told (λ files. (jobs : List JobFields) (parts : List SealedFields) (s : SealedFields) → IsHistory jobs (parts ++ s ∷ []) → StoresPart asked files parts s
-        → (rose → ⊥) → (wrong → ⊥) → (failed → ⊥) → IsTrue (is_one_of (0 ∷ 70 ∷ []) ended))
-    taken_clause None ends = tt
-    taken_clause (Some files) ends = λ jobs parts s h p quiet sane calm.
-        ends_well files (stores_some files parts s asked p) (λ o m. let l = laws.stored files jobs parts s o h p m in (l.0, l.1)) ends quiet sane calm
-
-    pub truth_clause : (told : Option Files) → Ends asked told rose ended old new failed after wrong
-        → IfSome told (λ files. (q : QueryFields) (jobs : List JobFields) (parts : List SealedFields) → IsHistory jobs parts → AsksHistory asked files q jobs parts → ended ≡ 0
-        → new ≡ followed_by old (truth_done jobs parts q).text)
-    truth_clause None ends = tt
-    truth_clause (Some files) ends = λ q jobs parts h p is.
-        let a = done (Some files) ends is in
-        a.written ∙ ap (λ (d : Done). followed_by old d.text) (ok_same {E = NamedFault} a.done (truth_done jobs parts q) (laws.asks files q jobs parts (Ok a.done) h p a.makes))
-
-    pub answered_clause : (told : Option Files) → Ends asked told rose ended old new failed after wrong
-        → IfSome told (λ files. (q : QueryFields) (jobs : List JobFields) (parts : List SealedFields) → IsHistory jobs parts → AsksHistory asked files q jobs parts
-        → (rose → ⊥) → (wrong → ⊥) → (failed → ⊥) → IsTrue (is_one_of (0 ∷ 70 ∷ []) ended))
-    answered_clause None ends = tt
-    answered_clause (Some files) ends = λ q jobs parts h p quiet sane calm.
-        ends_well files (query_some asked q p.0) (λ o m. (truth_done jobs parts q, laws.asks files q jobs parts o h p m)) ends quiet sane calm
-
-    pub rehearsed_clause : (told : Option Files) → Ends asked told rose ended old new failed after wrong
-        → IfSome told (λ files. (r : RehearseFields) → asked ≡ commands.Rehearse r → ended ≡ 0
-        → (queries : List Query) × (jobs : List JobFields) × (parts : List SealedFields) × RehearsesJobs asked files queries jobs × IsRehearsed queries jobs parts × (new ≡ followed_by old (rehearsed queries jobs parts).text))
-    rehearsed_clause None ends = tt
-    rehearsed_clause (Some files) ends = λ r is zero.
-        let a = done (Some files) ends zero in
-        let (queries, jobs, parts, held, history_is, same) = laws.rehearses files r a.done is a.makes in
-        (queries, jobs, parts, held, history_is, a.written ∙ ap (λ (d : Done). followed_by old d.text) same)
-
-    pub followed_clause : (told : Option Files) → Ends asked told rose ended old new failed after wrong
-        → IfSome told (λ files. (queries : List Query) (jobs : List JobFields) (parts : List SealedFields) → IsHistory jobs parts → RehearsesJobs asked files queries jobs
-        → (rose → ⊥) → (wrong → ⊥) → (failed → ⊥) → IsTrue (is_one_of (0 ∷ 70 ∷ []) ended))
-    followed_clause None ends = tt
-    followed_clause (Some files) ends = λ queries jobs parts h p quiet sane calm.
-        ends_well files (rehearses_some files queries jobs asked p) (λ o m. (rehearsed queries jobs parts, laws.follows files queries jobs parts o h p m)) ends quiet sane calm

@@ -16,9 +16,11 @@ use Rattle.word_core.specs.declared.command.Command.TheVariants as commands
 use Rattle.word_core.specs.CommandFields.{SnapshotFields, DeltaFields, RehearseFields}
 use Rattle.clubcard_top.specs.ReplyFields.{Done, NamedFault, ReplyFields}
 use Rattle.clubcard_top.specs.Readings.{queries_in, job_in, ledger_in}
-use Rattle.clubcard_top.specs.Commands.{input, published_as, MakesPart, MakesSnapshot, MakesDelta, IsRefused, Rehearses, MakesRehearsal, Makes}
+use Rattle.clubcard_top.specs.Commands.{input, published_as, MakesPart, MakesSnapshot, MakesDelta, IsRefused, MakesRehearsal, Makes}
+use Rattle.clubcard_top.specs.Steps.{RehearsesOn}
 use Rattle.clubcard_top.specs.Faults.{of_publishing}
 use Rattle.clubcard_top.specs.Replies.{reply_of, IsReplyOver, IsReplyTo, held_by}
+use Rattle.clubcard_top.proofs.Prefixes.{from_first}
 
 -- One thing is published of a job behind a ledger.
 abbrev pub OnePublication : Type 0
@@ -99,7 +101,7 @@ module _ (publishing : Publishing) where
       (subst (λ (k : JobFields). Publishes (ledger_of (history jobs parts)) k (Err fault)) (job_same other job (input name job_in given) is_other is_job) not)
 
   rehearses_unique : (queries : List Query) (jobs : List JobFields) (parts : List SealedFields) (names : List (List ℕ)) (inputs : List (Option (List ℕ))) (a b : Result Done NamedFault) → IsHistory jobs parts
-      → Rehearses queries jobs parts names inputs a → Rehearses queries jobs parts names inputs b → a ≡ b
+      → RehearsesOn queries jobs parts names inputs a → RehearsesOn queries jobs parts names inputs b → a ≡ b
   rehearses_unique queries jobs parts [] [] a b is x y = x ∙ sym y
   rehearses_unique queries jobs parts [] (g ∷ inputs) a b is x y = absurd x
   rehearses_unique queries jobs parts (name ∷ names) [] a b is x y = absurd x
@@ -113,12 +115,12 @@ module _ (publishing : Publishing) where
       let j : other ≡ job = job_same other job (input name job_in g) is_other is_job in
       let m : more_other ≡ more = publishing.parts (jobs ++ job ∷ []) more_other more (subst (λ (k : JobFields). IsHistory (jobs ++ k ∷ []) more_other) j is_more_other) is_more in
       rehearses_unique queries (jobs ++ job ∷ []) more names inputs a b is_more rest
-      (subst (λ (ps : List SealedFields). Rehearses queries (jobs ++ job ∷ []) ps names inputs b) m
-      (subst (λ (k : JobFields). Rehearses queries (jobs ++ k ∷ []) more_other names inputs b) j rest_other))
+      (subst (λ (ps : List SealedFields). RehearsesOn queries (jobs ++ job ∷ []) ps names inputs b) m
+      (subst (λ (k : JobFields). RehearsesOn queries (jobs ++ k ∷ []) more_other names inputs b) j rest_other))
 
   rehearsal_unique : (r : RehearseFields) (queries : Result (List Query) NamedFault) (inputs : List (Option (List ℕ))) (a b : Result Done NamedFault) → MakesRehearsal r queries inputs a → MakesRehearsal r queries inputs b
       → a ≡ b
-  rehearsal_unique r (Ok queries) inputs a b x y = rehearses_unique queries [] [] r.jobs inputs a b tt x y
+  rehearsal_unique r (Ok queries) inputs a b x y = rehearses_unique queries [] [] r.jobs inputs a b tt (from_first queries r.jobs inputs a x) (from_first queries r.jobs inputs b y)
   rehearsal_unique r (Err e) inputs a b x y = x ∙ sym y
 
   -- ---- commands

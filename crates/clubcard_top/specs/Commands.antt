@@ -1,5 +1,6 @@
 -- What each command makes of its inputs.
-use Rattle.std.specs.Prelude.{◌≡◌, ℕ, List, [], ◌∷◌, ◌++◌, ◌⊎◌, map, flat_map, length, Option, Some, None, Result, Ok, Err, codes}
+use Rattle.std.specs.Prelude.{◌≡◌, ℕ, List, [], ◌∷◌, ◌++◌, ◌⊎◌, map, flat_map, length, take, slice_get}
+use Rattle.std.specs.Prelude.{Option, Some, None, Result, Ok, Err, codes}
 use Rattle.ident_core.specs.declared.kind.Kind.{Kind}
 use Rattle.ident_core.specs.declared.kind.Kind.TheVariants as kinds
 use Rattle.part_codec.specs.SealedFields.{SealedFields}
@@ -26,7 +27,8 @@ use Rattle.publication_core.specs.Publishing.{Published, Publishes}
 use Rattle.publication_core.specs.Histories.{IsHistory, history}
 use Rattle.word_core.specs.declared.command.Command.{Command}
 use Rattle.word_core.specs.declared.command.Command.TheVariants as commands
-use Rattle.word_core.specs.CommandFields.{QueryFields, SnapshotFields, DeltaFields, StartFields, InstallFields, RehearseFields, SampleFields}
+use Rattle.word_core.specs.CommandFields.{QueryFields, SnapshotFields, DeltaFields, StartFields, InstallFields}
+use Rattle.word_core.specs.CommandFields.{RehearseFields, SampleFields}
 use Rattle.line_core.specs.Lines.{line, check_line, show_text, store_line, report_line, sample_line}
 use Rattle.clubcard_top.specs.declared.fault.FileFault.{FileFault}
 use Rattle.clubcard_top.specs.declared.fault.FileFault.TheVariants as faults
@@ -97,7 +99,10 @@ epoch_of (Some s) = s.part.head.epoch
 
 -- the store of these parts, and how many they are with the newest one's epoch
 abbrev pub stored : List ℕ → List SealedFields → Done
-stored name parts = record { text = store_line (length parts) (epoch_of (newest_of parts)); outputs = record { name = name; bytes = store_text parts } ∷ [] }
+stored name parts = record {
+  text = store_line (length parts) (epoch_of (newest_of parts));
+  outputs = record { name = name; bytes = store_text parts } ∷ [];
+}
 
 -- a snapshot begins a store
 abbrev pub begun_by : SealedFields → Kind → Result (List SealedFields) FileFault
@@ -134,7 +139,8 @@ install_makes i store part = do
 abbrev pub publication_done : List ℕ → List ℕ → Published → Done
 publication_done part ledger p = record {
   text = report_line p.sealed.part.head.epoch p.place p.counts;
-  outputs = record { name = part; bytes = spelling p.sealed } ∷ record { name = ledger; bytes = ledger_text p.ledger } ∷ [];
+  outputs = record { name = part; bytes = spelling p.sealed }
+      ∷ record { name = ledger; bytes = ledger_text p.ledger } ∷ [];
 }
 
 abbrev pub published_as : List ℕ → List ℕ → List ℕ → Result Published PublishFault → Result Done NamedFault
@@ -142,7 +148,9 @@ published_as job part ledger (Ok p) = Ok (publication_done part ledger p)
 published_as job part ledger (Err fault) = Err (record { name = job; fault = of_publishing fault })
 
 -- what is published of a job behind a ledger
-pub record MakesPart (job part ledger : List ℕ) (before : LedgerFields) (j : JobFields) (o : Result Done NamedFault) : Type 0 where
+pub record MakesPart
+    (job part ledger : List ℕ) (before : LedgerFields) (j : JobFields) (o : Result Done NamedFault)
+    : Type 0 where
   pub fits : FitsFields j
   pub limits : IsWithinLimits limits.PUBLISHED j
   pub result : Result Published PublishFault
@@ -153,7 +161,8 @@ abbrev pub MakesSnapshot : SnapshotFields → Result JobFields NamedFault → Re
 MakesSnapshot s (Ok j) o = MakesPart s.job s.part s.ledger no_ledger j o
 MakesSnapshot s (Err e) o = o ≡ Err e
 
-abbrev pub MakesDelta : DeltaFields → Result JobFields NamedFault → Result LedgerFields NamedFault → Result Done NamedFault → Type 0
+abbrev pub MakesDelta : DeltaFields → Result JobFields NamedFault → Result LedgerFields NamedFault
+    → Result Done NamedFault → Type 0
 MakesDelta d (Ok j) (Ok l) o = MakesPart d.job d.part d.new_ledger l j o
 MakesDelta d (Ok j) (Err e) o = o ≡ Err e
 MakesDelta d (Err e) l o = o ≡ Err e
@@ -165,7 +174,8 @@ abbrev pub report_behind : List JobFields → List SealedFields → JobFields �
 report_behind jobs parts job = report_line job.epoch (length jobs) (counts (past_of (history jobs parts)) (told job))
 
 -- the reports of the jobs with these parts, behind others with theirs
-abbrev pub reports : (before : List JobFields) (parts_before : List SealedFields) → List JobFields → List SealedFields → List ℕ
+abbrev pub reports : (before : List JobFields) (parts_before : List SealedFields)
+    → List JobFields → List SealedFields → List ℕ
 reports before parts_before (job ∷ jobs) (s ∷ parts) =
     report_behind before parts_before job ++ reports (before ++ job ∷ []) (parts_before ++ s ∷ []) jobs parts
 reports before parts_before jobs parts = []
@@ -178,25 +188,39 @@ verdict_line parts q = line (verdict_word (verdict (map (λ s. s.part) parts) q.
 abbrev pub rehearsed : List Query → List JobFields → List SealedFields → Done
 rehearsed queries jobs parts = only (reports [] [] jobs parts ++ flat_map (verdict_line parts) queries)
 
--- what is wrong with the file of a job that doesn't follow a history: it isn't read as a job, or the job isn't published
+-- what is wrong with the file of a job that doesn't follow a history: it isn't read as a job, or the job isn't
+-- published
 abbrev pub IsRefused : List JobFields → List SealedFields → List ℕ → Option (List ℕ) → NamedFault → Type 0
 IsRefused jobs parts name given e =
     (input name job_in given ≡ Err e)
     ⊎ ((job : JobFields) × (fault : PublishFault) × (input name job_in given ≡ Ok job)
-    × Publishes (ledger_of (history jobs parts)) job (Err fault) × (e ≡ record { name = name; fault = of_publishing fault }))
+    × Publishes (ledger_of (history jobs parts)) job (Err fault)
+    × (e ≡ record { name = name; fault = of_publishing fault }))
 
--- What comes of files that hold jobs, behind a history: the first that doesn't follow those before it is refused; and where
--- each follows, the parts of all of them are asked the queries.
-abbrev pub Rehearses : List Query → List JobFields → List SealedFields → List (List ℕ) → List (Option (List ℕ)) → Result Done NamedFault → Type 0
-Rehearses queries jobs parts [] [] o = o ≡ Ok (rehearsed queries jobs parts)
-Rehearses queries jobs parts (name ∷ names) (given ∷ inputs) o =
-    ((e : NamedFault) × IsRefused jobs parts name given e × (o ≡ Err e))
-    ⊎ ((job : JobFields) × (more : List SealedFields) × (input name job_in given ≡ Ok job) × IsHistory (jobs ++ job ∷ []) more
-    × Rehearses queries (jobs ++ job ∷ []) more names inputs o)
-Rehearses queries jobs parts names inputs o = ⊥
+-- the inputs of these names were read as these jobs
+abbrev pub AreJobs : List (List ℕ) → List (Option (List ℕ)) → List JobFields → Type 0
+AreJobs [] [] [] = Unit {0}
+AreJobs (name ∷ names) (given ∷ inputs) (job ∷ jobs) = (input name job_in given ≡ Ok job) × AreJobs names inputs jobs
+AreJobs names inputs jobs = ⊥
 
-abbrev pub MakesRehearsal : RehearseFields → Result (List Query) NamedFault → List (Option (List ℕ)) → Result Done NamedFault → Type 0
-MakesRehearsal r (Ok queries) inputs o = Rehearses queries [] [] r.jobs inputs o
+-- What comes of files that are rehearsed. The first n of them hold the jobs of a history. Either these are all, and the
+-- parts of the history are asked the queries; or the next file doesn't follow it, and that is what is wrong.
+pub record Rehearses
+    (queries : List Query) (names : List (List ℕ)) (inputs : List (Option (List ℕ))) (o : Result Done NamedFault)
+    : Type 0 where
+  pub n : ℕ
+  pub jobs : List JobFields
+  pub parts : List SealedFields
+  pub hold : AreJobs (take n names) (take n inputs) jobs
+  pub is_history : IsHistory jobs parts
+  pub then : ((n ≡ length names) × (n ≡ length inputs) × (o ≡ Ok (rehearsed queries jobs parts)))
+      ⊎ ((name : List ℕ) × (given : Option (List ℕ)) × (e : NamedFault)
+      × (slice_get names n ≡ Some name) × (slice_get inputs n ≡ Some given)
+      × IsRefused jobs parts name given e × (o ≡ Err e))
+
+abbrev pub MakesRehearsal : RehearseFields → Result (List Query) NamedFault → List (Option (List ℕ))
+    → Result Done NamedFault → Type 0
+MakesRehearsal r (Ok queries) inputs o = Rehearses queries r.jobs inputs o
 MakesRehearsal r (Err e) inputs o = o ≡ Err e
 
 -- ---- making jobs
@@ -216,7 +240,8 @@ Makes (commands.Query q) (store ∷ []) o = o ≡ query_makes q store
 Makes (commands.Check name) (part ∷ []) o = o ≡ check_makes name part
 Makes (commands.Show name) (part ∷ []) o = o ≡ show_makes name part
 Makes (commands.Snapshot s) (job ∷ []) o = MakesSnapshot s (input s.job job_in job) o
-Makes (commands.Delta d) (job ∷ ledger ∷ []) o = MakesDelta d (input d.job job_in job) (input d.ledger ledger_in ledger) o
+Makes (commands.Delta d) (job ∷ ledger ∷ []) o =
+    MakesDelta d (input d.job job_in job) (input d.ledger ledger_in ledger) o
 Makes (commands.Start t) (part ∷ []) o = o ≡ start_makes t part
 Makes (commands.Install i) (store ∷ part ∷ []) o = o ≡ install_makes i store part
 Makes (commands.Rehearse r) (queries ∷ jobs) o = MakesRehearsal r (input r.queries queries_in queries) jobs o

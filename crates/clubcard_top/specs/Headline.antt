@@ -1,4 +1,4 @@
--- What a call does for the history of admitted jobs that its files are of.
+-- What a call asks for, and what comes of it, where its files are those of a history of admitted jobs.
 use Rattle.std.specs.Prelude.{◌≡◌, ℕ, ◌≤◌, List, [], ◌∷◌, ◌++◌, length, Some, Ok}
 use Rattle.std.specs.List.{AllZip}
 use Rattle.std.specs.FinMap.{get}
@@ -21,7 +21,8 @@ use Rattle.word_core.specs.declared.command.Command.TheVariants as commands
 use Rattle.word_core.specs.CommandFields.{QueryFields}
 use Rattle.line_core.specs.Lines.{line, report_line, store_line}
 use Rattle.clubcard_top.specs.ReplyFields.{OutputFields, Done}
-use Rattle.clubcard_top.specs.Commands.{verdict_word, only, verdict_line}
+use Rattle.clubcard_top.specs.Commands.{verdict_word, only, report_behind, verdict_line}
+use Rattle.clubcard_top.specs.Calls.{Call, Found, Holds, Prints, Writes}
 
 -- ---- publishing
 
@@ -33,38 +34,93 @@ HoldsJob files name job = (bytes : List ℕ) × (get files name ≡ Some bytes) 
 -- LEDGER holds.
 abbrev pub PublishesJob : Command → Files → List JobFields → List SealedFields → JobFields → Type 0
 PublishesJob (commands.Snapshot s) files jobs parts job = (jobs ≡ []) × (parts ≡ []) × HoldsJob files s.job job
-PublishesJob (commands.Delta d) files jobs parts job = (1 ≤ length jobs) × (get files d.ledger ≡ Some (ledger_bytes jobs parts)) × HoldsJob files d.job job
+PublishesJob (commands.Delta d) files jobs parts job =
+    (1 ≤ length jobs) × (get files d.ledger ≡ Some (ledger_bytes jobs parts)) × HoldsJob files d.job job
 PublishesJob command files jobs parts job = ⊥
 
--- the files that the part and the ledger are written to
+-- the call asks to publish this job behind these, which have these parts
+abbrev pub AsksToPublish : Call → List JobFields → List SealedFields → JobFields → Type 0
+AsksToPublish call jobs parts job = Found call (λ files. PublishesJob call.asked files jobs parts job)
+
+-- PART
+abbrev pub part_name : Command → List ℕ
+part_name (commands.Snapshot s) = s.part
+part_name (commands.Delta d) = d.part
+part_name command = []
+
+-- LEDGER of `snapshot`, NEWLEDGER of `delta`
+abbrev pub ledger_name : Command → List ℕ
+ledger_name (commands.Snapshot s) = s.ledger
+ledger_name (commands.Delta d) = d.new_ledger
+ledger_name command = []
+
+-- the outputs: a part and a ledger, in the order of writing
 abbrev pub publishes_to : Command → List ℕ → List ℕ → List OutputFields
-publishes_to (commands.Snapshot s) part ledger = record { name = s.part; bytes = part } ∷ record { name = s.ledger; bytes = ledger } ∷ []
-publishes_to (commands.Delta d) part ledger = record { name = d.part; bytes = part } ∷ record { name = d.new_ledger; bytes = ledger } ∷ []
+publishes_to (commands.Snapshot s) part ledger =
+    record { name = s.part; bytes = part } ∷ record { name = s.ledger; bytes = ledger } ∷ []
+publishes_to (commands.Delta d) part ledger =
+    record { name = d.part; bytes = part } ∷ record { name = d.new_ledger; bytes = ledger } ∷ []
 publishes_to command part ledger = []
 
--- The job and the history are a history. The bytes of its part and of its ledger are written, and the line is its report.
-pub record IsPublished (asked : Command) (jobs : List JobFields) (parts : List SealedFields) (job : JobFields) (d : Done) : Type 0 where
+-- The job may follow the history, and makes a history with it. Its report was printed, PART holds the bytes of its
+-- part, and LEDGER those of the ledger of them all.
+pub record Published (call : Call) (jobs : List JobFields) (parts : List SealedFields) (job : JobFields) : Type 0 where
   pub sealed : SealedFields
   pub admissible : IsAdmissible (history jobs parts) job
   pub is_history : IsHistory (jobs ++ job ∷ []) (parts ++ sealed ∷ [])
-  pub outputs : d.outputs ≡ publishes_to asked (part_bytes sealed) (ledger_bytes (jobs ++ job ∷ []) (parts ++ sealed ∷ []))
+  pub prints : Prints call (report_behind jobs parts job)
+  -- the two files in their order, and no other
+  pub writes : Writes call
+      (publishes_to call.asked (part_bytes sealed) (ledger_bytes (jobs ++ job ∷ []) (parts ++ sealed ∷ [])))
+  pub part_holds : Holds call (part_name call.asked) (part_bytes sealed)
+  pub ledger_holds : Holds call (ledger_name call.asked) (ledger_bytes (jobs ++ job ∷ []) (parts ++ sealed ∷ []))
+
+-- The same of what the command makes, with no call.
+pub record IsPublished
+    (asked : Command) (jobs : List JobFields) (parts : List SealedFields) (job : JobFields) (d : Done)
+    : Type 0 where
+  pub sealed : SealedFields
+  pub admissible : IsAdmissible (history jobs parts) job
+  pub is_history : IsHistory (jobs ++ job ∷ []) (parts ++ sealed ∷ [])
+  pub outputs : d.outputs
+      ≡ publishes_to asked (part_bytes sealed) (ledger_bytes (jobs ++ job ∷ []) (parts ++ sealed ∷ []))
   pub report : d.text ≡ report_line job.epoch (length jobs) (counts (past_of (history jobs parts)) (told job))
 
 -- ---- stores
 
--- The command adds a part to the parts of a store: `start` to none, and `install` to those whose store's bytes STORE holds.
+-- The command adds a part to the parts of a store: `start` to none, and `install` to those whose store's bytes STORE
+-- holds.
 abbrev pub StoresPart : Command → Files → List SealedFields → SealedFields → Type 0
 StoresPart (commands.Start t) files parts s = (parts ≡ []) × (get files t.part ≡ Some (part_bytes s))
-StoresPart (commands.Install i) files parts s = (1 ≤ length parts) × (get files i.store ≡ Some (store_bytes parts)) × (get files i.part ≡ Some (part_bytes s))
+StoresPart (commands.Install i) files parts s =
+    (1 ≤ length parts) × (get files i.store ≡ Some (store_bytes parts)) × (get files i.part ≡ Some (part_bytes s))
 StoresPart command files parts s = ⊥
 
--- the file that the store is written to
+-- the call asks to add this part to the store of these
+abbrev pub AsksToStore : Call → List SealedFields → SealedFields → Type 0
+AsksToStore call parts s = Found call (λ files. StoresPart call.asked files parts s)
+
+-- STORE of `start`, NEWSTORE of `install`
+abbrev pub store_name : Command → List ℕ
+store_name (commands.Start t) = t.store
+store_name (commands.Install i) = i.new_store
+store_name command = []
+
+-- the output: a store
 abbrev pub stores_to : Command → List ℕ → List OutputFields
 stores_to (commands.Start t) store = record { name = t.store; bytes = store } ∷ []
 stores_to (commands.Install i) store = record { name = i.new_store; bytes = store } ∷ []
 stores_to command store = []
 
--- The bytes of the store of the parts with this one are written, and the line says how many parts it has.
+-- The number of parts and the newest one's epoch were printed, and STORE holds the bytes of the store of the parts with
+-- this one.
+pub record Stored (call : Call) (parts : List SealedFields) (s : SealedFields) : Type 0 where
+  pub prints : Prints call (store_line (length (parts ++ s ∷ [])) s.part.head.epoch)
+  -- that file, and no other
+  pub writes : Writes call (stores_to call.asked (store_bytes (parts ++ s ∷ [])))
+  pub store_holds : Holds call (store_name call.asked) (store_bytes (parts ++ s ∷ []))
+
+-- The same of what the command makes, with no call.
 pub record IsStored (asked : Command) (parts : List SealedFields) (s : SealedFields) (d : Done) : Type 0 where
   pub outputs : d.outputs ≡ stores_to asked (store_bytes (parts ++ s ∷ []))
   pub text : d.text ≡ store_line (length (parts ++ s ∷ [])) s.part.head.epoch
@@ -75,11 +131,20 @@ pub record IsStored (asked : Command) (parts : List SealedFields) (s : SealedFie
 abbrev pub AsksHistory : Command → Files → QueryFields → List JobFields → List SealedFields → Type 0
 AsksHistory asked files q jobs parts =
     (asked ≡ commands.Query q) × (1 ≤ length jobs) × (get files q.store ≡ Some (store_bytes parts))
-    × (1 ≤ length q.sightings) × ((s : Sighting) → Among q.sightings s → Among (sightings q.id (seen (history jobs parts))) s)
+    × (1 ≤ length q.sightings)
+    × ((s : Sighting) → Among q.sightings s → Among (sightings q.id (seen (history jobs parts))) s)
 
--- the truth of the history
+-- the call asks the store of this history so
+abbrev pub AsksTruth : Call → QueryFields → List JobFields → List SealedFields → Type 0
+AsksTruth call q jobs parts = Found call (λ files. AsksHistory call.asked files q jobs parts)
+
+-- the line of what the history tells of the certificate, which is the truth
+abbrev pub truth_line : List JobFields → List SealedFields → QueryFields → List ℕ
+truth_line jobs parts q = line (verdict_word (truth (history jobs parts) q.id))
+
+-- that line alone
 abbrev pub truth_done : List JobFields → List SealedFields → QueryFields → Done
-truth_done jobs parts q = only (line (verdict_word (truth (history jobs parts) q.id)))
+truth_done jobs parts q = only (truth_line jobs parts q)
 
 -- ---- rehearsing
 
@@ -89,15 +154,22 @@ HoldsQueries files name queries = (bytes : List ℕ) × (get files name ≡ Some
 
 -- The command rehearses these jobs, which its files hold in their order, and asks these queries.
 abbrev pub RehearsesJobs : Command → Files → List Query → List JobFields → Type 0
-RehearsesJobs (commands.Rehearse r) files queries jobs = HoldsQueries files r.queries queries × AllZip (HoldsJob files) r.jobs jobs
+RehearsesJobs (commands.Rehearse r) files queries jobs =
+    HoldsQueries files r.queries queries × AllZip (HoldsJob files) r.jobs jobs
 RehearsesJobs command files queries jobs = ⊥
+
+-- the call asks to rehearse these jobs, and then these queries
+abbrev pub AsksToRehearse : Call → List Query → List JobFields → Type 0
+AsksToRehearse call queries jobs = Found call (λ files. RehearsesJobs call.asked files queries jobs)
 
 -- the query asks with one or more sightings, all of them of its certificate's accepted entries
 abbrev pub AsksAccepted : List Release → Query → Type 0
-AsksAccepted rs q = (1 ≤ length q.sightings) × ((s : Sighting) → Among q.sightings s → Among (sightings q.identity (seen rs)) s)
+AsksAccepted rs q =
+    (1 ≤ length q.sightings) × ((s : Sighting) → Among q.sightings s → Among (sightings q.identity (seen rs)) s)
 
--- The jobs are a history with these parts, and where a query asks with accepted sightings alone, its line is the truth of the
--- history.
+-- The jobs are a history with these parts, and where a query asks with accepted sightings alone, its line is the truth
+-- of the history.
 pub record IsRehearsed (queries : List Query) (jobs : List JobFields) (parts : List SealedFields) : Type 0 where
   pub is_history : IsHistory jobs parts
-  pub truths : (q : Query) → Among queries q → AsksAccepted (history jobs parts) q → verdict_line parts q ≡ line (verdict_word (truth (history jobs parts) q.identity))
+  pub truths : (q : Query) → Among queries q → AsksAccepted (history jobs parts) q
+      → verdict_line parts q ≡ line (verdict_word (truth (history jobs parts) q.identity))

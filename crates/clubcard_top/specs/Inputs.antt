@@ -26,5 +26,8 @@ abbrev pub AreRead : Option Files → Type 0 → List (List ℕ) → List (Optio
 AreRead told rose names inputs = AllZip (IsRead told rose) names inputs
 
 -- what came of a file that was read so, unless memory was wanted
-abbrev pub IsInput : {A B : Type 0} → Option Files → Type 0 → List ℕ → (List ℕ → Result A FileFault) → (B → A) → Result B FileFault → Type 0
-IsInput told rose name read view result = (given : Option (List ℕ)) × IsRead told rose name given × GivesUnless faults.NoMemory view result (input_as read given)
+abbrev pub IsInput : {A B : Type 0} → Option Files → Type 0 → List ℕ → (List ℕ → Result A FileFault)
+    → (B → A) → Result B FileFault → Type 0
+IsInput told rose name read view result =
+    (given : Option (List ℕ)) × IsRead told rose name given
+    × GivesUnless faults.NoMemory view result (input_as read given)

@@ -6,7 +6,16 @@ pub mod Readings
 pub mod Commands
 pub mod Replies
 pub mod Inputs
-pub mod Rehearsals
 pub mod Runs
+pub mod Calls
+pub mod Endings
+pub mod Successes
 pub mod Headline
+pub mod Refusals
+pub mod Promises
+pub mod Workers
+pub mod Steps
+pub mod Rehearsals
 pub mod Answering
+pub mod Sending
+pub mod Using

@@ -6,11 +6,15 @@ use Rattle.part_codec.specs.SealedFields.{SealedFields}
 use Rattle.job_core.specs.JobFields.{JobFields}
 use Rattle.rehearsal_core.specs.Rehearsing.{RehearsalFields, IsOf}
 use Rattle.clubcard_top.specs.ReplyFields.{NamedFault}
-use Rattle.clubcard_top.specs.Commands.{report_behind, reports, rehearsed, Rehearses}
+use Rattle.clubcard_top.specs.Commands.{report_behind, reports, rehearsed}
+use Rattle.clubcard_top.specs.Steps.{RehearsesOn}
 use Rattle.clubcard_top.specs.Inputs.{AreRead}
 
 -- A job was read, and goes on with these jobs: the rehearsal holds one part more, and this is the line of its report.
-pub record AddsJob (jobs : List JobFields) (before : RehearsalFields) (read : Result JobFields NamedFault) (after : RehearsalFields) (text : List ℕ) : Type 0 where
+pub record AddsJob
+    (jobs : List JobFields) (before : RehearsalFields) (read : Result JobFields NamedFault) (after : RehearsalFields)
+    (text : List ℕ)
+    : Type 0 where
   pub job : JobFields
   pub is_read : read ≡ Ok job
   pub sealed : SealedFields
@@ -19,15 +23,17 @@ pub record AddsJob (jobs : List JobFields) (before : RehearsalFields) (read : Re
   pub report : text ≡ report_behind jobs before.parts job
 
 -- The files of these names were read as jobs of a history, of which this is the rehearsal, and these are the reports.
-pub record IsRehearsedFrom (told : Option Files) (rose : Type 0) (names : List (List ℕ)) (r : RehearsalFields) (text : List ℕ) : Type 0 where
+pub record IsRehearsedFrom
+    (told : Option Files) (rose : Type 0) (names : List (List ℕ)) (r : RehearsalFields) (text : List ℕ)
+    : Type 0 where
   pub inputs : List (Option (List ℕ))
   pub read : AreRead told rose names inputs
   pub jobs : List JobFields
   pub lines : text ≡ reports [] [] jobs r.parts
-  pub makes : (queries : List Query) → Rehearses queries [] [] names inputs (Ok (rehearsed queries jobs r.parts))
+  pub makes : (queries : List Query) → RehearsesOn queries [] [] names inputs (Ok (rehearsed queries jobs r.parts))
 
 -- This is wrong with one of the files, and those before it were read as jobs of a history.
 pub record IsRefusedFrom (told : Option Files) (rose : Type 0) (names : List (List ℕ)) (e : NamedFault) : Type 0 where
   pub inputs : List (Option (List ℕ))
   pub read : AreRead told rose names inputs
-  pub makes : (queries : List Query) → Rehearses queries [] [] names inputs (Err e)
+  pub makes : (queries : List Query) → RehearsesOn queries [] [] names inputs (Err e)

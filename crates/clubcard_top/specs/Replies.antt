@@ -7,7 +7,8 @@ use Rattle.store_core.specs.declared.chain.Refusal.TheVariants as refusals
 use Rattle.word_core.specs.declared.command.Command.{Command}
 use Rattle.word_core.specs.declared.command.Command.TheVariants as commands
 use Rattle.word_core.specs.Names.{inputs_of}
-use Rattle.line_core.specs.Lines.{line, line_about, layout_line, crl_line, limit_line, parent_line, epoch_line, coverage_line, seeds_line}
+use Rattle.line_core.specs.Lines.{line, line_about, layout_line, crl_line, limit_line}
+use Rattle.line_core.specs.Lines.{parent_line, epoch_line, coverage_line, seeds_line}
 use Rattle.clubcard_top.specs.declared.fault.FileFault.{FileFault}
 use Rattle.clubcard_top.specs.declared.fault.FileFault.TheVariants as faults
 use Rattle.clubcard_top.specs.ReplyFields.{ReplyFields, Done, NamedFault}
@@ -61,7 +62,9 @@ reply_of (Err e) = refusal e.name e.fault
 
 -- The reply to a command whose inputs are these, in the order of reading; none is one that can't be read.
 abbrev pub IsReplyOver : Command → List (Option (List ℕ)) → ReplyFields → Type 0
-IsReplyOver command inputs reply = ((command ≡ commands.Usage) × (reply ≡ usage)) ⊎ ((o : Result Done NamedFault) × Makes command inputs o × (reply ≡ reply_of o))
+IsReplyOver command inputs reply =
+    ((command ≡ commands.Usage) × (reply ≡ usage))
+    ⊎ ((o : Result Done NamedFault) × Makes command inputs o × (reply ≡ reply_of o))
 
 -- what the files hold under a command's inputs
 abbrev pub held_by : Command → Files → List (Option (List ℕ))

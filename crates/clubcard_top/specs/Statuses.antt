@@ -2,33 +2,43 @@
 use Rattle.std.specs.Prelude.{ℕ, List, [], ◌∷◌, Bool, nat_eq}
 use Rattle.std.specs.List.{list_any}
 
+-- the command did what it is for
 abbrev pub done : ℕ
 done = 0
 
+-- the words are no command
 abbrev pub usage : ℕ
 usage = 2
 
+-- a file breaks its layout
 abbrev pub bad_layout : ℕ
 bad_layout = 3
 
+-- a CRL of a job isn't accepted
 abbrev pub bad_crl : ℕ
 bad_crl = 4
 
+-- a part or a job breaks its chain
 abbrev pub chain : ℕ
 chain = 5
 
+-- a job, or the ledger behind it, is past a limit
 abbrev pub too_many : ℕ
 too_many = 6
 
+-- an issuer has no block: its equations are unsolvable at each of the 256 seeds
 abbrev pub seeds : ℕ
 seeds = 7
 
+-- a file can't be read
 abbrev pub read_fault : ℕ
 read_fault = 8
 
+-- a file can't be written, or printing failed
 abbrev pub write_fault : ℕ
 write_fault = 9
 
+-- memory was wanted
 abbrev pub no_memory : ℕ
 no_memory = 70
 

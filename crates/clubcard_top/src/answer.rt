@@ -4,7 +4,8 @@ ghost use Rattle.std.specs.Prelude.{◌≡◌, ◌≤◌, [], ◌∷◌, IsTrue}
 ghost use Rattle.outside_core.specs.Files.{Rose};
 ghost use Rattle.clubcard_top.specs.Statuses as statuses;
 ghost use Rattle.clubcard_top.specs.Answering.{shown, with_files};
-ghost use Rattle.clubcard_top.specs.Runs.{SentSo, EndsSo};
+ghost use Rattle.clubcard_top.specs.Sending.{SentSo, EndsSo};
+ghost use Rattle.clubcard_top.specs.Using.{OnlyWrites};
 
 use crate::output::{Output, SampleOutput, write_outputs};
 use crate::reply::Reply;
@@ -70,8 +71,7 @@ fn send_files<D: Depot, K: Sink>(
         (D.files depot.old) (D.files depot.new) (Rose (D.write_faults depot.old) (D.write_faults depot.new)) }
     ensures own { IsTrue (statuses.is_one_of statuses.of_replies reply.now.status) }
     ensures quiet { outputs.now ≡ [] → D.write_faults depot.new ≡ D.write_faults depot.old }
-    ensures same_reads { D.read_faults depot.new ≡ D.read_faults depot.old }
-    ensures later { D.write_faults depot.old ≤ D.write_faults depot.new }
+    ensures only_writes { OnlyWrites D.Depot depot.old depot.new }
     ensures later_out { K.faults out.old ≤ K.faults out.new }
 {
     let status = reply.status();
@@ -91,8 +91,7 @@ fn send_sample<D: Depot, K: Sink>(
     ensures ends { EndsSo (with_files (output ∷ []) reply.now) result.0 (K.written out.old) (K.written out.new) (Rose (K.faults out.old) (K.faults out.new))
         (D.files depot.old) (D.files depot.new) (Rose (D.write_faults depot.old) (D.write_faults depot.new)) }
     ensures own { IsTrue (statuses.is_one_of statuses.of_replies reply.now.status) }
-    ensures same_reads { D.read_faults depot.new ≡ D.read_faults depot.old }
-    ensures later { D.write_faults depot.old ≤ D.write_faults depot.new }
+    ensures only_writes { OnlyWrites D.Depot depot.old depot.new }
     ensures later_out { K.faults out.old ≤ K.faults out.new }
 {
     let status = reply.status();
@@ -108,8 +107,7 @@ pub fn send<D: Depot, K: Sink>(answer: Answer, depot: &mut D, out: &mut K) -> St
         (D.files depot.old) (D.files depot.new) (Rose (D.write_faults depot.old) (D.write_faults depot.new)) }
     ensures own { IsTrue (statuses.is_one_of statuses.of_replies (shown answer).status) }
     ensures quiet { (shown answer).outputs ≡ [] → D.write_faults depot.new ≡ D.write_faults depot.old }
-    ensures same_reads { D.read_faults depot.new ≡ D.read_faults depot.old }
-    ensures later { D.write_faults depot.old ≤ D.write_faults depot.new }
+    ensures only_writes { OnlyWrites D.Depot depot.old depot.new }
     ensures later_out { K.faults out.old ≤ K.faults out.new }
 {
     match answer {

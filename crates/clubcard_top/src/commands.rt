@@ -1,12 +1,13 @@
 //! The commands that ask: what each answers, from what its file holds.
 
-ghost use Rattle.std.specs.Prelude.{◌≡◌, ◌<◌, ◌≤◌, IfOk, IsErr, map};
+ghost use Rattle.std.specs.Prelude.{◌≡◌, ◌<◌, IfOk, IsErr, map};
 ghost use Rattle.outside_core.specs.Files.{Rose};
 ghost use Rattle.store_core.specs.Verdict.{verdict as verdict_of};
 ghost use Rattle.word_core.specs.declared.command.Command.{Command};
 ghost use Rattle.clubcard_top.specs.Answering.{shown};
 ghost use Rattle.clubcard_top.specs.Replies.{refusal};
 ghost use Rattle.clubcard_top.specs.Runs.{IsReply};
+ghost use Rattle.clubcard_top.specs.Using.{OnlyReads};
 
 use crate::answer::Answer;
 use crate::fault::FileFault;
@@ -65,9 +66,7 @@ pub fn answer_query<D: Depot>(
     depot: &mut D,
 ) -> Result<Answer, NoMemory>
     ensures reply { IfOk result (λ a. IsReply (Command.Query query.now) (D.files depot.old) (Rose (D.read_faults depot.old) (D.read_faults depot.new)) (shown a)) }
-    ensures later { D.read_faults depot.old ≤ D.read_faults depot.new }
-    ensures same_files { D.files depot.new ≡ D.files depot.old }
-    ensures same_writes { D.write_faults depot.new ≡ D.write_faults depot.old }
+    ensures only_reads { OnlyReads D.Depot depot.old depot.new }
 {
     match store_in(alloc, depot, query.store()) {
         Ok(store) => {
@@ -85,9 +84,7 @@ pub fn answer_check<D: Depot>(
     depot: &mut D,
 ) -> Result<Answer, NoMemory>
     ensures reply { IfOk result (λ a. IsReply (Command.Check name.now) (D.files depot.old) (Rose (D.read_faults depot.old) (D.read_faults depot.new)) (shown a)) }
-    ensures later { D.read_faults depot.old ≤ D.read_faults depot.new }
-    ensures same_files { D.files depot.new ≡ D.files depot.old }
-    ensures same_writes { D.write_faults depot.new ≡ D.write_faults depot.old }
+    ensures only_reads { OnlyReads D.Depot depot.old depot.new }
 {
     match part_in(alloc, depot, name.as_str()) {
         Ok((sealed, size)) => Ok(Answer::Reply(Reply::done(alloc, &checked(&sealed, size))?)),
@@ -102,9 +99,7 @@ pub fn answer_show<D: Depot>(
     depot: &mut D,
 ) -> Result<Answer, NoMemory>
     ensures reply { IfOk result (λ a. IsReply (Command.Show name.now) (D.files depot.old) (Rose (D.read_faults depot.old) (D.read_faults depot.new)) (shown a)) }
-    ensures later { D.read_faults depot.old ≤ D.read_faults depot.new }
-    ensures same_files { D.files depot.new ≡ D.files depot.old }
-    ensures same_writes { D.write_faults depot.new ≡ D.write_faults depot.old }
+    ensures only_reads { OnlyReads D.Depot depot.old depot.new }
 {
     match part_in(alloc, depot, name.as_str()) {
         Ok((sealed, _)) => Ok(Answer::Part(sealed)),

@@ -3,6 +3,7 @@
 ghost use Rattle.std.specs.Prelude.{◌≡◌, ◌≤◌, ◌+◌, ◌++◌, length, take, drop, IfOk, OnOk, IsErrOf, vec_len};
 ghost use Rattle.outside_core.specs.Files.{Rose, IsMissing, ReadFailed};
 ghost use Rattle.clubcard_top.specs.Inputs.{WhereHeld, IsHeld};
+ghost use Rattle.clubcard_top.specs.Using.{OnlyReads};
 
 use crate::fault::FileFault;
 use outside_core::{Depot, Failed};
@@ -42,9 +43,7 @@ fn read_piece<D: Depot>(depot: &mut D, name: &str, bytes: &mut Vec<u8>) -> Resul
         (bytes.new.items ≡ bytes.old.items ++ take n (drop (vec_len bytes.old) file))
         × (n ≡ 0 → length file ≤ vec_len bytes.old))) }
     ensures failed { IsErrOf result InputFault.Failed → ReadFailed (D.files depot.old) name.now (D.read_faults depot.old) (D.read_faults depot.new) }
-    ensures later { D.read_faults depot.old ≤ D.read_faults depot.new }
-    ensures same_files { D.files depot.new ≡ D.files depot.old }
-    ensures same_writes { D.write_faults depot.new ≡ D.write_faults depot.old }
+    ensures only_reads { OnlyReads D.Depot depot.old depot.new }
 {
     let mut buffer = [0u8; PIECE];
     let n = match depot.read_at(name, bytes.len() as u64, &mut buffer) {
@@ -62,9 +61,7 @@ fn read_on<D: Depot>(depot: &mut D, name: &str, taken: Vec<u8>) -> Result<Vec<u8
     requires { vec_len taken ≡ 0 }
     ensures bytes { IfOk result (λ bytes. IsHeld (D.files depot.old) name.now (λ file. bytes.items ≡ file)) }
     ensures failed { IsErrOf result InputFault.Failed → ReadFailed (D.files depot.old) name.now (D.read_faults depot.old) (D.read_faults depot.new) }
-    ensures later { D.read_faults depot.old ≤ D.read_faults depot.new }
-    ensures same_files { D.files depot.new ≡ D.files depot.old }
-    ensures same_writes { D.write_faults depot.new ≡ D.write_faults depot.old }
+    ensures only_reads { OnlyReads D.Depot depot.old depot.new }
 {
     let mut bytes = taken;
     loop {
@@ -80,9 +77,7 @@ fn read_on<D: Depot>(depot: &mut D, name: &str, taken: Vec<u8>) -> Result<Vec<u8
 pub fn read_all<D: Depot>(alloc: Global, depot: &mut D, name: &str) -> Result<Vec<u8>, InputFault>
     ensures bytes { IfOk result (λ bytes. IsHeld (D.files depot.old) name.now (λ file. bytes.items ≡ file)) }
     ensures failed { IsErrOf result InputFault.Failed → ReadFailed (D.files depot.old) name.now (D.read_faults depot.old) (D.read_faults depot.new) }
-    ensures later { D.read_faults depot.old ≤ D.read_faults depot.new }
-    ensures same_files { D.files depot.new ≡ D.files depot.old }
-    ensures same_writes { D.write_faults depot.new ≡ D.write_faults depot.old }
+    ensures only_reads { OnlyReads D.Depot depot.old depot.new }
 {
     read_on(depot, name, Vec::new(alloc))
 }

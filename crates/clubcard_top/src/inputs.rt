@@ -1,6 +1,6 @@
 //! The files that commands read: queries, a job, a ledger, a part and a store. The bytes are dropped once they are read.
 
-ghost use Rattle.std.specs.Prelude.{◌≡◌, ◌≤◌, map, IfOk};
+ghost use Rattle.std.specs.Prelude.{map, IfOk};
 ghost use Rattle.octets_core.specs.Reading.{GivesUnless};
 ghost use Rattle.outside_core.specs.Files.{Rose};
 ghost use Rattle.query_core.specs.Queries.{as_query};
@@ -9,6 +9,7 @@ ghost use Rattle.job_core.specs.JobFacts.{FitsFields, IsWithinLimits};
 ghost use Rattle.clubcard_top.specs.PartFile.{part_file};
 ghost use Rattle.clubcard_top.specs.Readings.{queries_in as queries_of, job_in as job_of, ledger_in as ledger_of, part_in as part_of, store_in as store_of};
 ghost use Rattle.clubcard_top.specs.Inputs.{IsInput};
+ghost use Rattle.clubcard_top.specs.Using.{OnlyReads};
 
 use crate::fault::FileFault;
 use crate::input::read_all;
@@ -28,9 +29,7 @@ pub fn queries_in<D: Depot>(
     name: &str,
 ) -> Result<Vec<Asked>, FileFault>
     ensures input { IsInput (D.files depot.old) (Rose (D.read_faults depot.old) (D.read_faults depot.new)) name.now queries_of (λ v. map as_query v.items) result }
-    ensures later { D.read_faults depot.old ≤ D.read_faults depot.new }
-    ensures same_files { D.files depot.new ≡ D.files depot.old }
-    ensures same_writes { D.write_faults depot.new ≡ D.write_faults depot.old }
+    ensures only_reads { OnlyReads D.Depot depot.old depot.new }
 {
     let bytes = read_all(alloc, depot, name)?;
     Ok(read_queries(alloc, &bytes)?)
@@ -41,9 +40,7 @@ pub fn job_in<D: Depot>(alloc: Global, depot: &mut D, name: &str) -> Result<Job,
     ensures input { IsInput (D.files depot.old) (Rose (D.read_faults depot.old) (D.read_faults depot.new)) name.now job_of fields_of_job result }
     ensures fits { IfOk result (λ job. FitsFields (fields_of_job job)) }
     ensures within { IfOk result (λ job. IsWithinLimits Limits.PUBLISHED (fields_of_job job)) }
-    ensures later { D.read_faults depot.old ≤ D.read_faults depot.new }
-    ensures same_files { D.files depot.new ≡ D.files depot.old }
-    ensures same_writes { D.write_faults depot.new ≡ D.write_faults depot.old }
+    ensures only_reads { OnlyReads D.Depot depot.old depot.new }
 {
     let bytes = read_all(alloc, depot, name)?;
     Ok(read_job(alloc, &bytes, &Limits::PUBLISHED)?)
@@ -52,9 +49,7 @@ pub fn job_in<D: Depot>(alloc: Global, depot: &mut D, name: &str) -> Result<Job,
 /// The ledger of the file of this name.
 pub fn ledger_in<D: Depot>(alloc: Global, depot: &mut D, name: &str) -> Result<Ledger, FileFault>
     ensures input { IsInput (D.files depot.old) (Rose (D.read_faults depot.old) (D.read_faults depot.new)) name.now ledger_of (λ l. l) result }
-    ensures later { D.read_faults depot.old ≤ D.read_faults depot.new }
-    ensures same_files { D.files depot.new ≡ D.files depot.old }
-    ensures same_writes { D.write_faults depot.new ≡ D.write_faults depot.old }
+    ensures only_reads { OnlyReads D.Depot depot.old depot.new }
 {
     let bytes = read_all(alloc, depot, name)?;
     Ok(decode_ledger(alloc, &bytes)?)
@@ -79,9 +74,7 @@ pub fn part_in<D: Depot>(
     name: &str,
 ) -> Result<(Sealed, usize), FileFault>
     ensures input { IsInput (D.files depot.old) (Rose (D.read_faults depot.old) (D.read_faults depot.new)) name.now part_of (λ x. x) result }
-    ensures later { D.read_faults depot.old ≤ D.read_faults depot.new }
-    ensures same_files { D.files depot.new ≡ D.files depot.old }
-    ensures same_writes { D.write_faults depot.new ≡ D.write_faults depot.old }
+    ensures only_reads { OnlyReads D.Depot depot.old depot.new }
 {
     let bytes = read_all(alloc, depot, name)?;
     part_alone(alloc, &bytes)
@@ -90,9 +83,7 @@ pub fn part_in<D: Depot>(
 /// The store of the file of this name.
 pub fn store_in<D: Depot>(alloc: Global, depot: &mut D, name: &str) -> Result<Store, FileFault>
     ensures input { IsInput (D.files depot.old) (Rose (D.read_faults depot.old) (D.read_faults depot.new)) name.now store_of (λ s. s) result }
-    ensures later { D.read_faults depot.old ≤ D.read_faults depot.new }
-    ensures same_files { D.files depot.new ≡ D.files depot.old }
-    ensures same_writes { D.write_faults depot.new ≡ D.write_faults depot.old }
+    ensures only_reads { OnlyReads D.Depot depot.old depot.new }
 {
     let bytes = read_all(alloc, depot, name)?;
     Ok(decode_store(alloc, &bytes)?)

@@ -1,6 +1,6 @@
 //! What follows for every command and every history, with no call.
 
-ghost use Rattle.std.specs.Prelude.{◌≡◌, ℕ, List, [], ◌∷◌, ◌++◌, Option, Result, Ok};
+ghost use Rattle.std.specs.Prelude.{◌≡◌, ◌↔◌, ℕ, List, [], ◌∷◌, ◌++◌, Option, Result, Ok};
 ghost use Rattle.outside_core.specs.Files.{Files};
 ghost use Rattle.query_core.specs.Queries.{Query};
 ghost use Rattle.part_codec.specs.SealedFields.{SealedFields};
@@ -8,10 +8,14 @@ ghost use Rattle.job_core.specs.JobFields.{JobFields};
 ghost use Rattle.publication_core.specs.Histories.{IsAdmissible, IsHistory, history};
 ghost use Rattle.word_core.specs.declared.command.Command.{Command};
 ghost use Rattle.word_core.specs.CommandFields.{QueryFields, RehearseFields};
+ghost use Rattle.word_core.specs.Names.{inputs_of, outputs_of};
 ghost use Rattle.clubcard_top.specs.ReplyFields.{Done, NamedFault, ReplyFields};
-ghost use Rattle.clubcard_top.specs.Commands.{Makes, rehearsed};
+ghost use Rattle.clubcard_top.specs.Commands.{Makes, Rehearses, rehearsed};
+ghost use Rattle.clubcard_top.specs.Workers.{with_workers};
+ghost use Rattle.clubcard_top.specs.Steps.{RehearsesOn};
 ghost use Rattle.clubcard_top.specs.Replies.{IsReplyTo, held_by};
-ghost use Rattle.clubcard_top.specs.Headline.{AsksHistory, IsPublished, IsRehearsed, IsStored, PublishesJob, RehearsesJobs, StoresPart, truth_done};
+ghost use Rattle.clubcard_top.specs.Headline.{PublishesJob, IsPublished, StoresPart, IsStored, AsksHistory, truth_done};
+ghost use Rattle.clubcard_top.specs.Headline.{RehearsesJobs, IsRehearsed};
 
 use publication_core::{
     histories_are_published, ledgers_are_read_back, parts_are_chains, publications_are_unique,
@@ -21,30 +25,45 @@ use store_core::{chains_grow, stores_are_read_back};
 
 /// One thing comes of a command and its inputs, and there is one reply to a command over files.
 pub fn replies_are_unique()
-    ensures outcome { (command : Command) (inputs : List (Option (List ℕ))) (a b : Result Done NamedFault) → Makes command inputs a → Makes command inputs b → a ≡ b }
-    ensures reply { (command : Command) (files : Files) (a b : ReplyFields) → IsReplyTo command files a → IsReplyTo command files b → a ≡ b }
+    ensures outcome { (command : Command) (inputs : List (Option (List ℕ))) (a b : Result Done NamedFault)
+        → Makes command inputs a → Makes command inputs b → a ≡ b }
+    ensures reply { (command : Command) (files : Files) (a b : ReplyFields)
+        → IsReplyTo command files a → IsReplyTo command files b → a ≡ b }
 {
     publications_are_unique();
     histories_are_published();
 }
 
-/// What comes of commands over the files of histories. A job that is published behind a history makes a history with it,
-/// whose part and ledger are written; each admissible job is published. A part of a history is added to the store of those
-/// before it. The store of a history, asked with accepted sightings, answers the truth. Jobs that are rehearsed are a history,
-/// and each history is rehearsed.
+/// What comes of commands over the files of histories. A job that is published behind a history makes a history with
+/// it, whose part and ledger are written; each admissible job is published. A part of a history is added to the store
+/// of those before it. The store of a history, asked with accepted sightings, answers the truth. Jobs that are
+/// rehearsed are a history, and each history is rehearsed.
 pub fn histories_are_made()
-    ensures published { (command : Command) (files : Files) (jobs : List JobFields) (parts : List SealedFields) (job : JobFields) (d : Done) → IsHistory jobs parts → PublishesJob command files jobs parts job
+    ensures published { (command : Command) (files : Files)
+        (jobs : List JobFields) (parts : List SealedFields) (job : JobFields) (d : Done)
+        → IsHistory jobs parts → PublishesJob command files jobs parts job
         → Makes command (held_by command files) (Ok d) → IsPublished command jobs parts job d }
-    ensures admitted { (command : Command) (files : Files) (jobs : List JobFields) (parts : List SealedFields) (job : JobFields) (o : Result Done NamedFault) → IsHistory jobs parts
-        → PublishesJob command files jobs parts job → IsAdmissible (history jobs parts) job → Makes command (held_by command files) o → (d : Done) × (o ≡ Ok d) }
-    ensures stored { (command : Command) (files : Files) (jobs : List JobFields) (parts : List SealedFields) (s : SealedFields) (o : Result Done NamedFault) → IsHistory jobs (parts ++ s ∷ [])
-        → StoresPart command files parts s → Makes command (held_by command files) o → (d : Done) × (o ≡ Ok d) × IsStored command parts s d }
-    ensures asked { (command : Command) (files : Files) (q : QueryFields) (jobs : List JobFields) (parts : List SealedFields) (o : Result Done NamedFault) → IsHistory jobs parts
-        → AsksHistory command files q jobs parts → Makes command (held_by command files) o → o ≡ Ok (truth_done jobs parts q) }
-    ensures rehearsed { (command : Command) (files : Files) (r : RehearseFields) (d : Done) → command ≡ Command.Rehearse r → Makes command (held_by command files) (Ok d)
-        → (queries : List Query) × (jobs : List JobFields) × (parts : List SealedFields) × RehearsesJobs command files queries jobs × IsRehearsed queries jobs parts × (d ≡ rehearsed queries jobs parts) }
-    ensures followed { (command : Command) (files : Files) (queries : List Query) (jobs : List JobFields) (parts : List SealedFields) (o : Result Done NamedFault) → IsHistory jobs parts
-        → RehearsesJobs command files queries jobs → Makes command (held_by command files) o → o ≡ Ok (rehearsed queries jobs parts) }
+    ensures admitted { (command : Command) (files : Files)
+        (jobs : List JobFields) (parts : List SealedFields) (job : JobFields) (o : Result Done NamedFault)
+        → IsHistory jobs parts → PublishesJob command files jobs parts job → IsAdmissible (history jobs parts) job
+        → Makes command (held_by command files) o → (d : Done) × (o ≡ Ok d) }
+    ensures stored { (command : Command) (files : Files)
+        (jobs : List JobFields) (parts : List SealedFields) (s : SealedFields) (o : Result Done NamedFault)
+        → IsHistory jobs (parts ++ s ∷ []) → StoresPart command files parts s
+        → Makes command (held_by command files) o → (d : Done) × (o ≡ Ok d) × IsStored command parts s d }
+    ensures asked { (command : Command) (files : Files) (q : QueryFields)
+        (jobs : List JobFields) (parts : List SealedFields) (o : Result Done NamedFault)
+        → IsHistory jobs parts → AsksHistory command files q jobs parts
+        → Makes command (held_by command files) o → o ≡ Ok (truth_done jobs parts q) }
+    ensures rehearsed { (command : Command) (files : Files) (r : RehearseFields) (d : Done)
+        → command ≡ Command.Rehearse r → Makes command (held_by command files) (Ok d)
+        → (queries : List Query) × (jobs : List JobFields) × (parts : List SealedFields)
+        × RehearsesJobs command files queries jobs × IsRehearsed queries jobs parts
+        × (d ≡ rehearsed queries jobs parts) }
+    ensures followed { (command : Command) (files : Files) (queries : List Query)
+        (jobs : List JobFields) (parts : List SealedFields) (o : Result Done NamedFault)
+        → IsHistory jobs parts → RehearsesJobs command files queries jobs
+        → Makes command (held_by command files) o → o ≡ Ok (rehearsed queries jobs parts) }
 {
     publications_are_unique();
     histories_are_published();
@@ -55,3 +74,21 @@ pub fn histories_are_made()
     stores_are_read_back();
     part_codec::a_text_is_read_back();
 }
+
+/// Commands that differ in WORKERS alone make the same of the same inputs, are answered alike over the same files, and
+/// read and write files of the same names. So no byte that is published depends on how many workers there are.
+pub fn workers_are_free()
+    ensures same { (n : ℕ) (command : Command) (inputs : List (Option (List ℕ))) (o : Result Done NamedFault)
+        → Makes command inputs o ↔ Makes (with_workers n command) inputs o }
+    ensures reply { (n : ℕ) (command : Command) (files : Files) (reply : ReplyFields)
+        → IsReplyTo command files reply ↔ IsReplyTo (with_workers n command) files reply }
+    ensures reads { (n : ℕ) (command : Command) → inputs_of (with_workers n command) ≡ inputs_of command }
+    ensures writes { (n : ℕ) (command : Command) → outputs_of (with_workers n command) ≡ outputs_of command }
+{}
+
+/// What comes of files that are rehearsed, stated of them all, is what comes of them stated file by file.
+pub fn rehearsals_go_file_by_file()
+    ensures { (queries : List Query) (names : List (List ℕ)) (inputs : List (Option (List ℕ)))
+        (o : Result Done NamedFault)
+        → Rehearses queries names inputs o ↔ RehearsesOn queries [] [] names inputs o }
+{}

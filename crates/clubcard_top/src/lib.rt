@@ -17,7 +17,9 @@ mod status;
 mod storing;
 mod top;
 
-pub use laws::{histories_are_made, replies_are_unique};
+pub use laws::{
+    histories_are_made, rehearsals_go_file_by_file, replies_are_unique, workers_are_free,
+};
 pub use status::Status;
 pub use store_core::{Refusal, Refused, StartFault, Store, Verdict};
 pub use top::run;

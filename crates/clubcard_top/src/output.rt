@@ -5,6 +5,7 @@ ghost use Rattle.outside_core.specs.Files.{Rose, putting};
 ghost use Rattle.sample_core.specs.Sample.{sample_text};
 ghost use Rattle.clubcard_top.specs.Replies.{write_fault};
 ghost use Rattle.clubcard_top.specs.Runs.{with_outputs, IsLeft, IsTorn};
+ghost use Rattle.clubcard_top.specs.Using.{OnlyWrites};
 
 use line_core::about_file;
 use octets_core::NoMemory;
@@ -75,8 +76,7 @@ fn write_output<D: Depot>(output: &Output, depot: &mut D) -> Result<(), Failed>
     ensures ok { OnOk result (D.files depot.new ≡ putting (D.files depot.old) output.now.name output.now.bytes) }
     ensures err { OnErr result (IsLeft (D.files depot.old) (D.files depot.new) output.now) }
     ensures cause { OnErr result (Rose (D.write_faults depot.old) (D.write_faults depot.new)) }
-    ensures later { D.write_faults depot.old ≤ D.write_faults depot.new }
-    ensures same_reads { D.read_faults depot.new ≡ D.read_faults depot.old }
+    ensures only_writes { OnlyWrites D.Depot depot.old depot.new }
 {
     depot.begin(output.name())?;
     append_all(depot, output.name(), output.bytes())
@@ -88,8 +88,7 @@ pub fn write_outputs<'a, D: Depot>(outputs: &'a [Output], depot: &mut D) -> Opti
     ensures torn { IfSome result (λ o. IsTorn (D.files depot.old) (D.files depot.new) outputs.now o.now.name) }
     ensures cause { IfSome result (λ o. Rose (D.write_faults depot.old) (D.write_faults depot.new)) }
     ensures quiet { outputs.now ≡ [] → D.write_faults depot.new ≡ D.write_faults depot.old }
-    ensures later { D.write_faults depot.old ≤ D.write_faults depot.new }
-    ensures same_reads { D.read_faults depot.new ≡ D.read_faults depot.old }
+    ensures only_writes { OnlyWrites D.Depot depot.old depot.new }
 {
     for output in outputs {
         match write_output(output, depot) {

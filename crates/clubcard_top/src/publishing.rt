@@ -1,12 +1,13 @@
 //! The publisher's commands: what each answers, from what its files hold.
 
-ghost use Rattle.std.specs.Prelude.{◌≡◌, ◌≤◌, IfOk};
+ghost use Rattle.std.specs.Prelude.{◌≡◌, IfOk};
 ghost use Rattle.outside_core.specs.Files.{Rose};
 ghost use Rattle.word_core.specs.declared.command.Command.{Command};
 ghost use Rattle.clubcard_top.specs.Commands.{publication_done};
 ghost use Rattle.clubcard_top.specs.Answering.{shown};
 ghost use Rattle.clubcard_top.specs.Replies.{done};
 ghost use Rattle.clubcard_top.specs.Runs.{IsReply};
+ghost use Rattle.clubcard_top.specs.Using.{OnlyReads};
 
 use crate::answer::Answer;
 use crate::commands::refused;
@@ -51,9 +52,7 @@ pub fn answer_snapshot<R: Threads + Sync, D: Depot>(
     depot: &mut D,
 ) -> Result<Answer, NoMemory>
     ensures reply { IfOk result (λ a. IsReply (Command.Snapshot snapshot.now) (D.files depot.old) (Rose (D.read_faults depot.old) (D.read_faults depot.new)) (shown a)) }
-    ensures later { D.read_faults depot.old ≤ D.read_faults depot.new }
-    ensures same_files { D.files depot.new ≡ D.files depot.old }
-    ensures same_writes { D.write_faults depot.new ≡ D.write_faults depot.old }
+    ensures only_reads { OnlyReads D.Depot depot.old depot.new }
 {
     let job = match job_in(alloc, depot, snapshot.job()) {
         Ok(job) => job,
@@ -73,9 +72,7 @@ pub fn answer_delta<R: Threads + Sync, D: Depot>(
     depot: &mut D,
 ) -> Result<Answer, NoMemory>
     ensures reply { IfOk result (λ a. IsReply (Command.Delta delta.now) (D.files depot.old) (Rose (D.read_faults depot.old) (D.read_faults depot.new)) (shown a)) }
-    ensures later { D.read_faults depot.old ≤ D.read_faults depot.new }
-    ensures same_files { D.files depot.new ≡ D.files depot.old }
-    ensures same_writes { D.write_faults depot.new ≡ D.write_faults depot.old }
+    ensures only_reads { OnlyReads D.Depot depot.old depot.new }
 {
     let job = match job_in(alloc, depot, delta.job()) {
         Ok(job) => job,

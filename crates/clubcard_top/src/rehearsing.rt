@@ -12,6 +12,7 @@ ghost use Rattle.clubcard_top.specs.Commands.{IsRefused, input, verdict_line as 
 ghost use Rattle.clubcard_top.specs.Rehearsals.{AddsJob, IsRefusedFrom, IsRehearsedFrom};
 ghost use Rattle.clubcard_top.specs.Answering.{shown};
 ghost use Rattle.clubcard_top.specs.Runs.{IsReply};
+ghost use Rattle.clubcard_top.specs.Using.{OnlyReads};
 
 use crate::answer::Answer;
 use crate::commands::{refused, verdict_on};
@@ -55,9 +56,7 @@ fn with_file<R: Threads + Sync, D: Depot>(
         × ((jobs : List JobFields) → IsOf jobs before → AddsJob jobs before (input name.now job_of given) x.0 x.1)) }
     ensures refused { IfErr result (λ e. e ≢ FileFault.NoMemory → (given : Option (List ℕ)) × IsRead (D.files depot.old) (Rose (D.read_faults depot.old) (D.read_faults depot.new)) name.now given
         × ((jobs : List JobFields) → IsOf jobs before → IsRefused jobs before.parts name.now given (record { name = name.now; fault = e }))) }
-    ensures later { D.read_faults depot.old ≤ D.read_faults depot.new }
-    ensures same_files { D.files depot.new ≡ D.files depot.old }
-    ensures same_writes { D.write_faults depot.new ≡ D.write_faults depot.old }
+    ensures only_reads { OnlyReads D.Depot depot.old depot.new }
 {
     let job = job_in(alloc, depot, name)?;
     let (after, report) = before.with_job(rt, alloc, job, workers)?;
@@ -80,9 +79,7 @@ fn with_files<'a, R: Threads + Sync, D: Depot>(
     requires few_workers { workers ≤ 64 }
     ensures rehearsed { IfOk result (λ x. IsRehearsedFrom (D.files depot.old) (Rose (D.read_faults depot.old) (D.read_faults depot.new)) names.now x.0 x.1.items) }
     ensures refused { IfErr result (λ e. e.fault ≢ FileFault.NoMemory → IsRefusedFrom (D.files depot.old) (Rose (D.read_faults depot.old) (D.read_faults depot.new)) names.now (record { name = e.name.now; fault = e.fault })) }
-    ensures later { D.read_faults depot.old ≤ D.read_faults depot.new }
-    ensures same_files { D.files depot.new ≡ D.files depot.old }
-    ensures same_writes { D.write_faults depot.new ≡ D.write_faults depot.old }
+    ensures only_reads { OnlyReads D.Depot depot.old depot.new }
 {
     let mut rehearsal = Rehearsal::new();
     let mut text = text;
@@ -134,9 +131,7 @@ pub fn answer_rehearse<R: Threads + Sync, D: Depot>(
     depot: &mut D,
 ) -> Result<Answer, NoMemory>
     ensures reply { IfOk result (λ a. IsReply (Command.Rehearse rehearse.now) (D.files depot.old) (Rose (D.read_faults depot.old) (D.read_faults depot.new)) (shown a)) }
-    ensures later { D.read_faults depot.old ≤ D.read_faults depot.new }
-    ensures same_files { D.files depot.new ≡ D.files depot.old }
-    ensures same_writes { D.write_faults depot.new ≡ D.write_faults depot.old }
+    ensures only_reads { OnlyReads D.Depot depot.old depot.new }
 {
     let queries = match queries_in(alloc, depot, rehearse.queries()) {
         Ok(queries) => queries,

@@ -1,6 +1,6 @@
 //! The client's commands that write a store: what each answers, from what its files hold.
 
-ghost use Rattle.std.specs.Prelude.{◌≡◌, ◌≤◌, IfOk};
+ghost use Rattle.std.specs.Prelude.{◌≡◌, IfOk};
 ghost use Rattle.octets_core.specs.Reading.{GivesUnless};
 ghost use Rattle.outside_core.specs.Files.{Rose};
 ghost use Rattle.store_core.specs.Chain.{newest_of};
@@ -9,6 +9,7 @@ ghost use Rattle.clubcard_top.specs.Commands.{begun as begun_with, epoch_of, ins
 ghost use Rattle.clubcard_top.specs.Answering.{shown};
 ghost use Rattle.clubcard_top.specs.Replies.{done};
 ghost use Rattle.clubcard_top.specs.Runs.{IsReply};
+ghost use Rattle.clubcard_top.specs.Using.{OnlyReads};
 
 use crate::answer::Answer;
 use crate::commands::refused;
@@ -72,9 +73,7 @@ pub fn answer_start<D: Depot>(
     depot: &mut D,
 ) -> Result<Answer, NoMemory>
     ensures reply { IfOk result (λ a. IsReply (Command.Start start.now) (D.files depot.old) (Rose (D.read_faults depot.old) (D.read_faults depot.new)) (shown a)) }
-    ensures later { D.read_faults depot.old ≤ D.read_faults depot.new }
-    ensures same_files { D.files depot.new ≡ D.files depot.old }
-    ensures same_writes { D.write_faults depot.new ≡ D.write_faults depot.old }
+    ensures only_reads { OnlyReads D.Depot depot.old depot.new }
 {
     let part = match part_in(alloc, depot, start.part()) {
         Ok((part, _)) => part,
@@ -93,9 +92,7 @@ pub fn answer_install<D: Depot>(
     depot: &mut D,
 ) -> Result<Answer, NoMemory>
     ensures reply { IfOk result (λ a. IsReply (Command.Install install.now) (D.files depot.old) (Rose (D.read_faults depot.old) (D.read_faults depot.new)) (shown a)) }
-    ensures later { D.read_faults depot.old ≤ D.read_faults depot.new }
-    ensures same_files { D.files depot.new ≡ D.files depot.old }
-    ensures same_writes { D.write_faults depot.new ≡ D.write_faults depot.old }
+    ensures only_reads { OnlyReads D.Depot depot.old depot.new }
 {
     let store = match store_in(alloc, depot, install.store()) {
         Ok(store) => store,

@@ -12,12 +12,12 @@ returns-in-Err-clause-reply g c =
 
 pub returns-in-Ok-with_files-clause-reply : goal.returns-in-Ok-with_files-clause-reply
 returns-in-Ok-with_files-clause-reply g c =
-    rehearse_made (g.D.Depot.files c.args.depot.now) _ _ _ _ c.in-Ok.ensures.same_files c.in-Ok.ensures.later c.with_files.ensures.later c.args.rehearse.now (Ok (answers.Reply c.lines.result))
+    rehearse_made (g.D.Depot.files c.args.depot.now) _ _ _ _ c.in-Ok.ensures.only_reads.same_files c.in-Ok.ensures.only_reads.later c.with_files.ensures.only_reads.later c.args.rehearse.now (Ok (answers.Reply c.lines.result))
     (λ (v : Vec Asked Global). map as_query v.items) c.in-Ok.queries c.in-Ok-with_files.rehearsal c.in-Ok-with_files.text.items c.put_verdicts.new.text.items (rw c.queries.ensures at c.in-Ok.ensures.input)
     (rw c.jobs-names.ensures.value at c.in-Ok-with_files.ensures.rehearsed) (rw c.deref.ensures.value at c.in_ok-put_verdicts-in-Ok-with_files.ensures) c.lines.ensures
 
 pub returns-clause-reply : goal.returns-clause-reply
 returns-clause-reply g c =
-    rehearse_not (g.D.Depot.files c.args.depot.now) _ _ _ _ c.in-Ok.ensures.same_files c.in-Ok.ensures.later c.with_files.ensures.later c.args.rehearse.now (λ (v : Vec Asked Global). map as_query v.items) c.in-Ok.queries
+    rehearse_not (g.D.Depot.files c.args.depot.now) _ _ _ _ c.in-Ok.ensures.only_reads.same_files c.in-Ok.ensures.only_reads.later c.with_files.ensures.only_reads.later c.args.rehearse.now (λ (v : Vec Asked Global). map as_query v.items) c.in-Ok.queries
     c.in-Err-with_files.file.name.now c.in-Err-with_files.file.fault (rw c.queries.ensures at c.in-Ok.ensures.input) (rw c.jobs-names.ensures.value at c.in-Err-with_files.ensures.refused)
     c.refused-in-Err-with_files.result c.refused-in-Err-with_files.ensures.memory c.refused-in-Err-with_files.ensures.ok

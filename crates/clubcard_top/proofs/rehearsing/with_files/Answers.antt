@@ -18,7 +18,7 @@ returns-in-Err-clause-refused g c = λ differ.
     let f = rw c.as_str-name.ensures at (c.in-Err.ensures.refused differ) in
     rw c.as_str-name.ensures
     (gone_refused (g.D.Depot.files c.args.depot.now) c.args.names.now _ _ (Rose (g.D.Depot.read_faults c.args.depot.now) (g.D.Depot.read_faults c.with_file.new.depot))
-    (rose_later _ _ _ c.with_file.ensures.later) (rose_earlier _ _ _ c.loop-file.invariant.later) (g.D.Depot.files c.loop-file.depot) c.loop-file.invariant.same_files c.loop-file.file-index c.file-item.result
+    (rose_later _ _ _ c.with_file.ensures.only_reads.later) (rose_earlier _ _ _ c.loop-file.invariant.later) (g.D.Depot.files c.loop-file.depot) c.loop-file.invariant.same_files c.loop-file.file-index c.file-item.result
     c.loop-file-test.true c.file-item.is c.loop-file.rehearsal c.loop-file.text.items c.loop-file.invariant.gone f.0 f.1 c.in-Err.fault f.2)
 
 pub loop-file-preserved : goal.loop-file-preserved
@@ -28,11 +28,11 @@ loop-file-preserved g c =
       gone =
           rw (c.in-Ok-put_bytes.ensures.ok, c.text.ensures)
           (gone_more (g.D.Depot.files c.args.depot.now) c.args.names.now _ _ (Rose (g.D.Depot.read_faults c.args.depot.now) (g.D.Depot.read_faults c.with_file.new.depot))
-          (rose_later _ _ _ c.with_file.ensures.later) (rose_earlier _ _ _ c.loop-file.invariant.later) (g.D.Depot.files c.loop-file.depot) c.loop-file.invariant.same_files c.loop-file.file-index c.file-item.result
+          (rose_later _ _ _ c.with_file.ensures.only_reads.later) (rose_earlier _ _ _ c.loop-file.invariant.later) (g.D.Depot.files c.loop-file.depot) c.loop-file.invariant.same_files c.loop-file.file-index c.file-item.result
           c.loop-file-test.true c.file-item.is c.loop-file.rehearsal c.loop-file.text.items c.loop-file.invariant.gone a.0 a.1 c.in-Ok.added.0 c.in-Ok.added.1 a.2);
       later = omega arith;
-      same_files = c.with_file.ensures.same_files ∙ c.loop-file.invariant.same_files;
-      same_writes = c.with_file.ensures.same_writes ∙ c.loop-file.invariant.same_writes;
+      same_files = c.with_file.ensures.only_reads.same_files ∙ c.loop-file.invariant.same_files;
+      same_writes = c.with_file.ensures.only_reads.same_writes ∙ c.loop-file.invariant.same_writes;
     }
 
 pub returns-clause-rehearsed : goal.returns-clause-rehearsed

@@ -1,0 +1,494 @@
+-- What a call that succeeds found, left and said; and what it does for a history.
+use Rattle.std.proofs.Common.{◌≡◌, ◌≢◌, ℕ, cond, ◌⊎◌, List, [], ◌∷◌, ◌++◌, length, Option, Some, None, Result, Ok, Err, refl, sym, ap, subst, ◌∙◌}
+use Rattle.std.specs.Cmp.Lexicographic.{nat_list_cmp_total}
+use Rattle.std.specs.FinMap.{get, insert, get-insert}
+use Rattle.std.proofs.lemmas.Map.Text.{is_eq-slice_cmp}
+use Rattle.std.proofs.lemmas.Slice.Eq.{bytes_eq-Decides}
+use Rattle.outside_core.specs.Files.{Files}
+use Rattle.outside_core.specs.Written.{followed_by}
+use Rattle.ident_core.specs.declared.kind.Kind.{Kind}
+use Rattle.ident_core.specs.declared.kind.Kind.TheVariants as kinds
+use Rattle.query_core.specs.Queries.{Query}
+use Rattle.sample_core.specs.Sample.{sample_text}
+use Rattle.job_core.specs.JobFields.{JobFields}
+use Rattle.ledger_core.specs.LedgerFields.{LedgerFields}
+use Rattle.ledger_core.specs.LedgerText.{ledger_text}
+use Rattle.part_codec.specs.SealedFields.{SealedFields}
+use Rattle.part_codec.specs.PartText.{spelling}
+use Rattle.universe_core.specs.Ledgers.{no_ledger}
+use Rattle.store_core.specs.declared.chain.Refusal.{Refusal}
+use Rattle.store_core.specs.Chain.{newest_of, refusal_of}
+use Rattle.store_core.specs.StoreLayout.{store_text}
+use Rattle.publication_core.specs.declared.fault.PublishFault.{PublishFault}
+use Rattle.publication_core.specs.Publishing.{Published as Publication, Publishes}
+use Rattle.publication_core.specs.Histories.{IsAdmissible, IsHistory, history, part_bytes, store_bytes, ledger_bytes}
+use Rattle.word_core.specs.declared.command.Command.{Command}
+use Rattle.word_core.specs.declared.command.Command.TheVariants as commands
+use Rattle.word_core.specs.CommandFields.{QueryFields, SnapshotFields, DeltaFields, StartFields, InstallFields, RehearseFields, SampleFields}
+use Rattle.line_core.specs.Lines.{store_line}
+use Rattle.clubcard_top.specs.declared.fault.FileFault.{FileFault}
+use Rattle.clubcard_top.specs.declared.fault.FileFault.TheVariants as faults
+use Rattle.clubcard_top.specs.Faults.{of_publishing}
+use Rattle.clubcard_top.specs.ReplyFields.{OutputFields, Done, NamedFault}
+use Rattle.clubcard_top.specs.Readings.{job_in, ledger_in, part_in, store_in}
+use Rattle.clubcard_top.specs.Commands.{◌>>=◌, named, input, query_done, check_done, show_done, epoch_of, stored, begun_by, begun, installed_by, installed, publication_done, published_as, MakesPart, MakesSnapshot, MakesDelta, sample_done, rehearsed, Makes}
+use Rattle.clubcard_top.specs.Replies.{held_by}
+use Rattle.clubcard_top.specs.Runs.{with_outputs}
+use Rattle.clubcard_top.specs.Calls.{Call, Reads, Holds, Writes, ChangesNoFile, Prints, NoFault}
+use Rattle.clubcard_top.specs.Endings.{Succeeds, Did, WantedMemory}
+use Rattle.clubcard_top.specs.Successes.{PublishesFile}
+use Rattle.clubcard_top.specs.Headline.{AsksHistory, IsPublished, IsRehearsed, IsStored, PublishesJob, RehearsesJobs}
+use Rattle.clubcard_top.specs.Headline.{StoresPart, publishes_to, stores_to, truth_line, truth_done, Published, Stored}
+use Rattle.clubcard_top.specs.Headline.{AsksToPublish, AsksToStore, AsksTruth, AsksToRehearse}
+use Rattle.clubcard_top.specs.Headline.{part_name, ledger_name, store_name}
+use Rattle.clubcard_top.specs.Promises.{Successes, Histories}
+use Rattle.clubcard_top.proofs.Files.{get-other}
+use Rattle.clubcard_top.proofs.Results.{ok_same}
+use Rattle.clubcard_top.proofs.Promised.{EndsOld, answers, sure}
+use Rattle.clubcard_top.proofs.WordsApart.{IsApart}
+
+-- ---- files after a write
+
+-- this holds the bytes under the name
+abbrev HoldsIn : Option Files → List ℕ → List ℕ → Type 0
+HoldsIn told name bytes = (files : Files) × (told ≡ Some files) × (get files name ≡ Some bytes)
+
+get-same : (files : Files) (name bytes : List ℕ) → get (insert files name bytes) name ≡ Some bytes
+get-same files name bytes =
+    get-insert nat_list_cmp_total files name bytes name
+    ∙ ap (λ t. cond t (Some bytes) (get files name)) (is_eq-slice_cmp name name ∙ (bytes_eq-Decides name name).1 refl)
+
+one_held : (files : Files) (name bytes : List ℕ) (after : Option Files) → after ≡ Some (insert files name bytes)
+    → HoldsIn after name bytes
+one_held files name bytes after is = (insert files name bytes, is, get-same files name bytes)
+
+two_held : (files : Files) (a b x y : List ℕ) (after : Option Files) → a ≢ b
+    → after ≡ Some (insert (insert files a x) b y) → HoldsIn after a x × HoldsIn after b y
+two_held files a b x y after apart is =
+    let both = insert (insert files a x) b y in
+    ((both, is, get-other (insert files a x) b y a apart ∙ get-same files a x), (both, is, get-same (insert files a x) b y))
+
+-- ---- steps that went well
+
+not_fault : {A : Type 0} (x : A) (e : NamedFault) → ◌≡◌ {A = Result A NamedFault} (Err e) (Ok x) → ⊥
+not_fault x e h = cc
+
+named_ok : {A : Type 0} (name : List ℕ) (r : Result A FileFault) (x : A) → named name r ≡ Ok x → r ≡ Ok x
+named_ok {A} name (Ok y) x h = let g : ◌≡◌ {A = Result A NamedFault} (Ok y) (Ok x) = h in ap Ok (ok_same {E = NamedFault} y x g)
+named_ok name (Err fault) x h = absurd (not_fault x (record { name = name; fault = fault }) h)
+
+input_ok : {A : Type 0} (name : List ℕ) (read : List ℕ → Result A FileFault) (given : Option (List ℕ)) (x : A)
+    → input name read given ≡ Ok x
+    → (bytes : List ℕ) × (given ≡ Some bytes) × (read bytes ≡ Ok x)
+input_ok name read None x h = absurd (not_fault x (record { name = name; fault = faults.Unread }) h)
+input_ok name read (Some bytes) x h = (bytes, refl, named_ok name (read bytes) x h)
+
+step_ok : {A B : Type 0} (r : Result A NamedFault) (f : A → Result B NamedFault) (d : B) → Ok d ≡ (r >>= f) → (x : A)
+    × (r ≡ Ok x) × (f x ≡ Ok d)
+step_ok (Ok x) f d h = (x, refl, sym h)
+step_ok (Err e) f d h = absurd (not_fault d e (sym h))
+
+-- ---- parts of stores
+
+newest_last : (parts : List SealedFields) (s : SealedFields) → newest_of (parts ++ s ∷ []) ≡ Some s
+newest_last [] s = refl
+newest_last (p ∷ []) s = refl
+newest_last (p ∷ q ∷ parts) s = newest_last (q ∷ parts) s
+
+begun_ok : (s : SealedFields) (k : Kind) (parts : List SealedFields) → begun_by s k ≡ Ok parts → (k ≡ kinds.Snapshot)
+    × (parts ≡ s ∷ [])
+begun_ok s kinds.Snapshot parts h = (refl, sym (ok_same {E = FileFault} (s ∷ []) parts h))
+begun_ok s kinds.Delta parts h =
+    absurd (let g : ◌≡◌ {A = Result (List SealedFields) FileFault} (Err faults.NotSnapshot) (Ok parts) = h in cc)
+
+installed_ok : (why : Option Refusal) (parts : List SealedFields) (s : SealedFields) (more : List SealedFields)
+    → installed_by why parts s ≡ Ok more → (why ≡ None) × (more ≡ parts ++ s ∷ [])
+installed_ok None parts s more h = (refl, sym (ok_same {E = FileFault} (parts ++ s ∷ []) more h))
+installed_ok (Some why) parts s more h =
+    absurd (let g : ◌≡◌ {A = Result (List SealedFields) FileFault} (Err (faults.Chain why)) (Ok more) = h in cc)
+
+-- ---- publications
+
+published_ok : (job part ledger : List ℕ) (before : LedgerFields) (j : JobFields) (r : Result Publication PublishFault)
+    (d : Done) → Publishes before j r → Ok d ≡ published_as job part ledger r
+    → (p : Publication) × Publishes before j (Ok p) × (d ≡ publication_done part ledger p)
+published_ok job part ledger before j (Ok p) d is h =
+    (p, is, ok_same {E = NamedFault} d (publication_done part ledger p) h)
+published_ok job part ledger before j (Err fault) d is h =
+    absurd (not_fault d (record { name = job; fault = of_publishing fault }) (sym h))
+
+snapshot_ok : (s : SnapshotFields) (r : Result JobFields NamedFault) (d : Done) → MakesSnapshot s r (Ok d)
+    → (j : JobFields) × (r ≡ Ok j) × MakesPart s.job s.part s.ledger no_ledger j (Ok d)
+snapshot_ok s (Ok j) d m = (j, refl, m)
+snapshot_ok s (Err e) d m = absurd (not_fault d e (sym m))
+
+delta_ok : (t : DeltaFields) (r : Result JobFields NamedFault) (l : Result LedgerFields NamedFault) (d : Done)
+    → MakesDelta t r l (Ok d)
+    → (j : JobFields) × (before : LedgerFields) × (r ≡ Ok j) × (l ≡ Ok before)
+    × MakesPart t.job t.part t.new_ledger before j (Ok d)
+delta_ok t (Ok j) (Ok before) d m = (j, before, refl, refl, m)
+delta_ok t (Ok j) (Err e) d m = absurd (not_fault d e (sym m))
+delta_ok t (Err e) l d m = absurd (not_fault d e (sym m))
+
+-- ---- each command
+
+module _ (call : Call) where
+  -- what came of the command
+  record Came (command : Command) (files : Files) : Type 0 where
+    pub d : Done
+    pub makes : Makes command (held_by command files) (Ok d)
+    pub text : Prints call d.text
+    pub files_are : call.files_after ≡ with_outputs (Some files) d.outputs
+
+  came : EndsOld call → (command : Command) (did : Did call command) → Came command did.files
+  came ends command did =
+      let a = answers call ends did.files did.told did.succeeds in
+      record {
+        d = a.done;
+        makes = subst (λ (c : Command). Makes c (held_by c did.files) (Ok a.done)) did.asked a.makes;
+        text = a.written;
+        files_are = a.files_are;
+      }
+
+  reads : {A : Type 0} (files : Files) → call.files_before ≡ Some files
+      → (name : List ℕ) (read : List ℕ → Result A FileFault) (x : A) → input name read (get files name) ≡ Ok x
+      → Reads call name read x
+  reads files told name read x h = let i = input_ok name read (get files name) x h in (i.0, (files, told, i.1), i.2)
+
+  prints : (d e : Done) → d ≡ e → Prints call d.text → Prints call e.text
+  prints d e same h = subst (λ (k : Done). Prints call k.text) same h
+
+  left : (files : Files) (d e : Done) → d ≡ e → call.files_after ≡ with_outputs (Some files) d.outputs
+      → call.files_after ≡ with_outputs (Some files) e.outputs
+  left files d e same h = subst (λ (k : Done). call.files_after ≡ with_outputs (Some files) k.outputs) same h
+
+  query : EndsOld call → (q : QueryFields) → (did : Did call (commands.Query q)) → (parts : List SealedFields)
+      × Reads call q.store store_in parts × Prints call (query_done q parts).text × ChangesNoFile call
+  query ends q did =
+      let c = came ends (commands.Query q) did in
+      let s = step_ok (input q.store store_in (get did.files q.store)) (λ parts. Ok (query_done q parts)) c.d c.makes in
+      let same = ok_same {E = NamedFault} (query_done q s.0) c.d s.2 in (
+        s.0,
+        reads did.files did.told q.store store_in s.0 s.1,
+        prints c.d (query_done q s.0) (sym same) c.text,
+        left did.files c.d (query_done q s.0) (sym same) c.files_are ∙ sym did.told,
+      )
+
+  check : EndsOld call → (name : List ℕ) → (did : Did call (commands.Check name)) → (x : SealedFields × ℕ)
+      × Reads call name part_in x × Prints call (check_done x).text × ChangesNoFile call
+  check ends name did =
+      let c = came ends (commands.Check name) did in
+      let s = step_ok (input name part_in (get did.files name)) (λ x. Ok (check_done x)) c.d c.makes in
+      let same = ok_same {E = NamedFault} (check_done s.0) c.d s.2 in (
+        s.0,
+        reads did.files did.told name part_in s.0 s.1,
+        prints c.d (check_done s.0) (sym same) c.text,
+        left did.files c.d (check_done s.0) (sym same) c.files_are ∙ sym did.told,
+      )
+
+  show : EndsOld call → (name : List ℕ) → (did : Did call (commands.Show name)) → (x : SealedFields × ℕ)
+      × Reads call name part_in x × Prints call (show_done x).text × ChangesNoFile call
+  show ends name did =
+      let c = came ends (commands.Show name) did in
+      let s = step_ok (input name part_in (get did.files name)) (λ x. Ok (show_done x)) c.d c.makes in
+      let same = ok_same {E = NamedFault} (show_done s.0) c.d s.2 in (
+        s.0,
+        reads did.files did.told name part_in s.0 s.1,
+        prints c.d (show_done s.0) (sym same) c.text,
+        left did.files c.d (show_done s.0) (sym same) c.files_are ∙ sym did.told,
+      )
+
+  -- the two files of a publication
+  publication : (files : Files) (part ledger : List ℕ) (p : Publication) (d : Done) → part ≢ ledger
+      → d ≡ publication_done part ledger p → Prints call d.text → call.files_after ≡ with_outputs (Some files) d.outputs
+      → Holds call part (spelling p.sealed) × Holds call ledger (ledger_text p.ledger)
+      × Prints call (publication_done part ledger p).text
+  publication files part ledger p d apart same text files_are =
+      let kept = left files d (publication_done part ledger p) same files_are in
+      let two = two_held files part ledger (spelling p.sealed) (ledger_text p.ledger) call.files_after apart kept in
+      (two.0, two.1, prints d (publication_done part ledger p) same text)
+
+  apart_at : IsApart call.asked → (c : Command) → call.asked ≡ c → IsApart c
+  apart_at apart c is = subst IsApart is apart
+
+  module _ (apart : IsApart call.asked) where
+    snapshot : EndsOld call → (s : SnapshotFields) → (did : Did call (commands.Snapshot s))
+        → PublishesFile call no_ledger s.job s.part s.ledger
+    snapshot ends s did =
+        let c = came ends (commands.Snapshot s) did in
+        let k = snapshot_ok s (input s.job job_in (get did.files s.job)) c.d c.makes in
+        let m = k.2 in
+        let p = published_ok s.job s.part s.ledger no_ledger k.0 m.result c.d m.publishes m.is in
+        let all = publication did.files s.part s.ledger p.0 c.d (apart_at apart (commands.Snapshot s) did.asked) p.2 c.text c.files_are in
+        record {
+          read = k.0;
+          made = p.0;
+          reads = reads did.files did.told s.job job_in k.0 k.1;
+          publishes = p.1;
+          prints = all.2;
+          part_holds = all.0;
+          ledger_holds = all.1;
+        }
+
+    delta : EndsOld call → (t : DeltaFields) → (did : Did call (commands.Delta t)) → (before : LedgerFields)
+        × Reads call t.ledger ledger_in before × PublishesFile call before t.job t.part t.new_ledger
+    delta ends t did =
+        let c = came ends (commands.Delta t) did in
+        let k = delta_ok t (input t.job job_in (get did.files t.job)) (input t.ledger ledger_in (get did.files t.ledger)) c.d c.makes in
+        let m = k.4 in
+        let p = published_ok t.job t.part t.new_ledger k.1 k.0 m.result c.d m.publishes m.is in
+        let all = publication did.files t.part t.new_ledger p.0 c.d (apart_at apart (commands.Delta t) did.asked) p.2 c.text c.files_are in (
+          k.1,
+          reads did.files did.told t.ledger ledger_in k.1 k.3,
+          record {
+            read = k.0;
+            made = p.0;
+            reads = reads did.files did.told t.job job_in k.0 k.2;
+            publishes = p.1;
+            prints = all.2;
+            part_holds = all.0;
+            ledger_holds = all.1;
+          },
+        )
+
+  -- the file of a store
+  store : (files : Files) (name : List ℕ) (parts : List SealedFields) (d : Done) → d ≡ stored name parts
+      → Prints call d.text → call.files_after ≡ with_outputs (Some files) d.outputs
+      → Holds call name (store_text parts) × Prints call (stored name parts).text
+  store files name parts d same text files_are =
+      (one_held files name (store_text parts) call.files_after (left files d (stored name parts) same files_are), prints d (stored name parts) same text)
+
+  start : EndsOld call → (t : StartFields) → (did : Did call (commands.Start t)) → (x : SealedFields × ℕ)
+      × Reads call t.part part_in x × (x.0.part.head.kind ≡ kinds.Snapshot)
+      × Holds call t.store (store_text (x.0 ∷ [])) × Prints call (stored t.store (x.0 ∷ [])).text
+  start ends t did =
+      let c = came ends (commands.Start t) did in
+      let one = step_ok (input t.part part_in (get did.files t.part)) (λ x. named t.part (begun x.0) >>= λ parts. Ok (stored t.store parts)) c.d c.makes in
+      let x = one.0 in
+      let two = step_ok (named t.part (begun x.0)) (λ parts. Ok (stored t.store parts)) c.d (sym one.2) in
+      let b = begun_ok x.0 x.0.part.head.kind two.0 (named_ok t.part (begun x.0) two.0 two.1) in
+      let same : c.d ≡ stored t.store (x.0 ∷ []) = sym (ok_same {E = NamedFault} (stored t.store two.0) c.d two.2) ∙ ap (stored t.store) b.1 in
+      let all = store did.files t.store (x.0 ∷ []) c.d same c.text c.files_are in
+      (x, reads did.files did.told t.part part_in x one.1, b.0, all.0, all.1)
+
+  install : EndsOld call → (i : InstallFields) → (did : Did call (commands.Install i)) → (parts : List SealedFields)
+      × (x : SealedFields × ℕ) × Reads call i.store store_in parts × Reads call i.part part_in x
+      × (refusal_of parts x.0 ≡ None) × Holds call i.new_store (store_text (parts ++ x.0 ∷ []))
+      × Prints call (stored i.new_store (parts ++ x.0 ∷ [])).text
+  install ends i did =
+      let c = came ends (commands.Install i) did in
+      let one =
+      step_ok (input i.store store_in (get did.files i.store))
+      (λ parts. input i.part part_in (get did.files i.part) >>= λ x.
+      named i.part (installed parts x.0) >>= λ more. Ok (stored i.new_store more))
+      c.d c.makes in
+      let parts = one.0 in
+      let two =
+      step_ok (input i.part part_in (get did.files i.part))
+      (λ x. named i.part (installed parts x.0) >>= λ more. Ok (stored i.new_store more))
+      c.d (sym one.2) in
+      let x = two.0 in
+      let three = step_ok (named i.part (installed parts x.0)) (λ more. Ok (stored i.new_store more)) c.d (sym two.2) in
+      let b = installed_ok (refusal_of parts x.0) parts x.0 three.0 (named_ok i.part (installed parts x.0) three.0 three.1) in
+      let same : c.d ≡ stored i.new_store (parts ++ x.0 ∷ []) =
+      sym (ok_same {E = NamedFault} (stored i.new_store three.0) c.d three.2) ∙ ap (stored i.new_store) b.1 in
+      let all = store did.files i.new_store (parts ++ x.0 ∷ []) c.d same c.text c.files_are in (
+        parts,
+        x,
+        reads did.files did.told i.store store_in parts one.1,
+        reads did.files did.told i.part part_in x two.1,
+        b.0,
+        all.0,
+        all.1,
+      )
+
+  sample : EndsOld call → (s : SampleFields) → (did : Did call (commands.Sample s)) → Prints call (sample_done s).text
+      × Holds call s.job (sample_text s.number s.count)
+  sample ends s did =
+      let c = came ends (commands.Sample s) did in
+      let same = ok_same {E = NamedFault} c.d (sample_done s) c.makes in
+      let kept = left did.files c.d (sample_done s) same c.files_are in (
+        prints c.d (sample_done s) same c.text,
+        one_held did.files s.job (sample_text s.number s.count) call.files_after kept,
+      )
+
+  -- ---- histories
+
+  -- the laws of what comes of a command over files, as `histories_are_made` says them
+  pub record Laws : Type 0 where
+    pub published : (files : Files) (jobs : List JobFields) (parts : List SealedFields) (job : JobFields) (d : Done)
+        → IsHistory jobs parts → PublishesJob call.asked files jobs parts job
+        → Makes call.asked (held_by call.asked files) (Ok d) → IsPublished call.asked jobs parts job d
+    pub admitted : (files : Files) (jobs : List JobFields) (parts : List SealedFields) (job : JobFields)
+        (o : Result Done NamedFault) → IsHistory jobs parts → PublishesJob call.asked files jobs parts job
+        → IsAdmissible (history jobs parts) job → Makes call.asked (held_by call.asked files) o → (d : Done)
+        × (o ≡ Ok d)
+    pub stored : (files : Files) (jobs : List JobFields) (parts : List SealedFields) (s : SealedFields)
+        (o : Result Done NamedFault) → IsHistory jobs (parts ++ s ∷ []) → StoresPart call.asked files parts s
+        → Makes call.asked (held_by call.asked files) o → (d : Done) × (o ≡ Ok d) × IsStored call.asked parts s d
+    pub asks : (files : Files) (q : QueryFields) (jobs : List JobFields) (parts : List SealedFields)
+        (o : Result Done NamedFault) → IsHistory jobs parts → AsksHistory call.asked files q jobs parts
+        → Makes call.asked (held_by call.asked files) o → o ≡ Ok (truth_done jobs parts q)
+    pub rehearses : (files : Files) (r : RehearseFields) (d : Done) → call.asked ≡ commands.Rehearse r
+        → Makes call.asked (held_by call.asked files) (Ok d)
+        → (queries : List Query) × (jobs : List JobFields) × (parts : List SealedFields)
+        × RehearsesJobs call.asked files queries jobs × IsRehearsed queries jobs parts
+        × (d ≡ rehearsed queries jobs parts)
+    pub follows : (files : Files) (queries : List Query) (jobs : List JobFields) (parts : List SealedFields)
+        (o : Result Done NamedFault) → IsHistory jobs parts → RehearsesJobs call.asked files queries jobs
+        → Makes call.asked (held_by call.asked files) o → o ≡ Ok (rehearsed queries jobs parts)
+
+  -- both files of a publication, whichever command publishes it
+  both_held : (c : Command) (files : Files) (jobs : List JobFields) (parts : List SealedFields) (job : JobFields)
+      (x y : List ℕ) → PublishesJob c files jobs parts job → IsApart c
+      → call.files_after ≡ with_outputs (Some files) (publishes_to c x y) → Holds call (part_name c) x
+      × Holds call (ledger_name c) y
+  both_held (commands.Snapshot s) files jobs parts job x y p apart is =
+      two_held files s.part s.ledger x y call.files_after apart is
+  both_held (commands.Delta t) files jobs parts job x y p apart is =
+      two_held files t.part t.new_ledger x y call.files_after apart is
+  both_held commands.Usage files jobs parts job x y p apart is = absurd p
+  both_held (commands.Query q) files jobs parts job x y p apart is = absurd p
+  both_held (commands.Check n) files jobs parts job x y p apart is = absurd p
+  both_held (commands.Show n) files jobs parts job x y p apart is = absurd p
+  both_held (commands.Start t) files jobs parts job x y p apart is = absurd p
+  both_held (commands.Install i) files jobs parts job x y p apart is = absurd p
+  both_held (commands.Rehearse r) files jobs parts job x y p apart is = absurd p
+  both_held (commands.Sample s) files jobs parts job x y p apart is = absurd p
+
+  store_held : (c : Command) (files : Files) (parts : List SealedFields) (s : SealedFields) (x : List ℕ)
+      → StoresPart c files parts s
+      → call.files_after ≡ with_outputs (Some files) (stores_to c x) → Holds call (store_name c) x
+  store_held (commands.Start t) files parts s x p is = one_held files t.store x call.files_after is
+  store_held (commands.Install i) files parts s x p is = one_held files i.new_store x call.files_after is
+  store_held commands.Usage files parts s x p is = absurd p
+  store_held (commands.Query q) files parts s x p is = absurd p
+  store_held (commands.Check n) files parts s x p is = absurd p
+  store_held (commands.Show n) files parts s x p is = absurd p
+  store_held (commands.Snapshot t) files parts s x p is = absurd p
+  store_held (commands.Delta t) files parts s x p is = absurd p
+  store_held (commands.Rehearse r) files parts s x p is = absurd p
+  store_held (commands.Sample t) files parts s x p is = absurd p
+
+  -- what was written, over the files as they are told
+  writes_as : (files : Files) → call.files_before ≡ Some files → (outputs others : List OutputFields) → outputs ≡ others
+      → call.files_after ≡ with_outputs (Some files) outputs → Writes call others
+  writes_as files told outputs others same is =
+      is ∙ ap (with_outputs (Some files)) same ∙ ap (λ (t : Option Files). with_outputs t others) (sym told)
+
+  module _ (laws : Laws) (ends : EndsOld call) where
+    published : IsApart call.asked → (jobs : List JobFields) (parts : List SealedFields) (job : JobFields)
+        → IsHistory jobs parts → AsksToPublish call jobs parts job → Succeeds call → Published call jobs parts job
+    published apart jobs parts job h (files, told, p) zero =
+        let a = answers call ends files told zero in
+        let l = laws.published files jobs parts job a.done h p a.makes in
+        let part = part_bytes l.sealed in
+        let ledger = ledger_bytes (jobs ++ job ∷ []) (parts ++ l.sealed ∷ []) in
+        let kept = a.files_are ∙ ap (with_outputs (Some files)) l.outputs in
+        let two = both_held call.asked files jobs parts job part ledger p apart kept in
+        record {
+          sealed = l.sealed;
+          admissible = l.admissible;
+          is_history = l.is_history;
+          prints = a.written ∙ ap (followed_by call.text_before) l.report;
+          writes = writes_as files told a.done.outputs _ l.outputs a.files_are;
+          part_holds = two.0;
+          ledger_holds = two.1;
+        }
+
+    admitted : (jobs : List JobFields) (parts : List SealedFields) (job : JobFields) → IsHistory jobs parts
+        → AsksToPublish call jobs parts job → IsAdmissible (history jobs parts) job → NoFault call
+        → Succeeds call ⊎ WantedMemory call
+    admitted jobs parts job h (files, told, p) may quiet =
+        sure call ends files told (λ none. subst (λ (c : Command). PublishesJob c files jobs parts job) none p)
+        (λ o m. laws.admitted files jobs parts job o h p may m) quiet
+
+    stored_clause : (jobs : List JobFields) (parts : List SealedFields) (s : SealedFields)
+        → IsHistory jobs (parts ++ s ∷ []) → AsksToStore call parts s → Succeeds call → Stored call parts s
+    stored_clause jobs parts s h (files, told, p) zero =
+        let a = answers call ends files told zero in
+        let l = laws.stored files jobs parts s (Ok a.done) h p a.makes in
+        let is : IsStored call.asked parts s a.done = subst (IsStored call.asked parts s) (sym (ok_same {E = NamedFault} a.done l.0 l.1)) l.2 in
+        record {
+          prints = a.written ∙ ap (followed_by call.text_before) is.text;
+          writes = writes_as files told a.done.outputs _ is.outputs a.files_are;
+          store_holds = store_held call.asked files parts s (store_bytes (parts ++ s ∷ [])) p (a.files_are ∙ ap (with_outputs (Some files)) is.outputs);
+        }
+
+    taken : (jobs : List JobFields) (parts : List SealedFields) (s : SealedFields) → IsHistory jobs (parts ++ s ∷ [])
+        → AsksToStore call parts s → NoFault call → Succeeds call ⊎ WantedMemory call
+    taken jobs parts s h (files, told, p) quiet =
+        sure call ends files told (λ none. subst (λ (c : Command). StoresPart c files parts s) none p)
+        (λ o m. let l = laws.stored files jobs parts s o h p m in (l.0, l.1)) quiet
+
+    truth_clause : (q : QueryFields) (jobs : List JobFields) (parts : List SealedFields) → IsHistory jobs parts
+        → AsksTruth call q jobs parts → Succeeds call → Prints call (truth_line jobs parts q)
+    truth_clause q jobs parts h (files, told, p) zero =
+        let a = answers call ends files told zero in
+        prints a.done (truth_done jobs parts q)
+        (ok_same {E = NamedFault} a.done (truth_done jobs parts q) (laws.asks files q jobs parts (Ok a.done) h p a.makes)) a.written
+
+    answered : (q : QueryFields) (jobs : List JobFields) (parts : List SealedFields) → IsHistory jobs parts
+        → AsksTruth call q jobs parts → NoFault call → Succeeds call ⊎ WantedMemory call
+    answered q jobs parts h (files, told, p) quiet =
+        sure call ends files told (λ none. let g : commands.Query q ≡ commands.Usage = sym p.0 ∙ none in cc)
+        (λ o m. (truth_done jobs parts q, laws.asks files q jobs parts o h p m)) quiet
+
+    followed : (queries : List Query) (jobs : List JobFields) (parts : List SealedFields) → IsHistory jobs parts
+        → AsksToRehearse call queries jobs → NoFault call → Succeeds call ⊎ WantedMemory call
+    followed queries jobs parts h (files, told, p) quiet =
+        sure call ends files told (λ none. subst (λ (c : Command). RehearsesJobs c files queries jobs) none p)
+        (λ o m. (rehearsed queries jobs parts, laws.follows files queries jobs parts o h p m)) quiet
+
+    pub histories : IsApart call.asked → Histories call
+    histories apart = record {
+      published = published apart;
+      admitted = admitted;
+      stored = stored_clause;
+      taken = taken;
+      truth = truth_clause;
+      answered = answered;
+      followed = followed;
+    }
+
+    rehearse : (r : RehearseFields) → (did : Did call (commands.Rehearse r)) → (queries : List Query)
+        × (jobs : List JobFields) × (parts : List SealedFields) × AsksToRehearse call queries jobs
+        × IsRehearsed queries jobs parts × Prints call (rehearsed queries jobs parts).text × ChangesNoFile call
+    rehearse r did =
+        let a = answers call ends did.files did.told did.succeeds in
+        let l = laws.rehearses did.files r a.done did.asked a.makes in (
+          l.0,
+          l.1,
+          l.2,
+          (did.files, did.told, l.3),
+          l.4,
+          prints a.done (rehearsed l.0 l.1 l.2) l.5 a.written,
+          left did.files a.done (rehearsed l.0 l.1 l.2) l.5 a.files_are ∙ sym did.told,
+        )
+
+    pub successes : IsApart call.asked → Successes call
+    successes apart = record {
+      query = query ends;
+      check = λ name did. let c = check ends name did in (c.0.0, c.0.1, c.1, c.2, c.3);
+      show = λ name did. let c = show ends name did in (c.0.0, (c.0.1, c.1), c.2, c.3);
+      snapshot = snapshot apart ends;
+      delta = delta apart ends;
+      start = λ t did. let c = start ends t did in (c.0.0, (c.0.1, c.1), c.2, record { holds = c.3; prints = c.4 });
+      install = λ i did.
+          let c = install ends i did in (
+            c.0,
+            c.1.0,
+            c.2,
+            (c.1.1, c.3),
+            c.4,
+            record {
+              holds = c.5;
+              prints = c.6
+                  ∙ ap (λ (n : Option SealedFields).
+                  followed_by call.text_before (store_line (length (c.0 ++ c.1.0 ∷ [])) (epoch_of n)))
+                  (newest_last c.0 c.1.0);
+            },
+          );
+      rehearse = rehearse;
+      sample = sample ends;
+    }

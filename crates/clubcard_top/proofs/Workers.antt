@@ -1,0 +1,127 @@
+-- What comes of a command, and what it is answered, doesn't depend on its number of workers.
+use Rattle.std.proofs.Common.{◌≡◌, ℕ, inl, inr, List, [], ◌∷◌, Option, Result, Ok, Err, refl}
+use Rattle.std.specs.Prelude.{◌↔◌}
+use Rattle.outside_core.specs.Files.{Files}
+use Rattle.query_core.specs.Queries.{Query}
+use Rattle.job_core.specs.JobFields.{JobFields}
+use Rattle.ledger_core.specs.LedgerFields.{LedgerFields}
+use Rattle.word_core.specs.declared.command.Command.{Command}
+use Rattle.word_core.specs.declared.command.Command.TheVariants as commands
+use Rattle.word_core.specs.CommandFields.{SnapshotFields, DeltaFields, RehearseFields}
+use Rattle.word_core.specs.Names.{inputs_of, outputs_of}
+use Rattle.clubcard_top.specs.ReplyFields.{ReplyFields, Done, NamedFault}
+use Rattle.clubcard_top.specs.Readings.{queries_in, job_in, ledger_in}
+use Rattle.clubcard_top.specs.Commands.{input, MakesSnapshot, MakesDelta, MakesRehearsal, Makes}
+use Rattle.clubcard_top.specs.Replies.{IsReplyOver, IsReplyTo, held_by}
+use Rattle.clubcard_top.specs.Workers.{with_workers}
+
+both : (P : Type 0) → P ↔ P
+both P = (λ p. p, λ p. p)
+
+snapshot_same : (n : ℕ) (s : SnapshotFields) (r : Result JobFields NamedFault) (o : Result Done NamedFault)
+    → MakesSnapshot s r o ↔ MakesSnapshot (record s { workers = n }) r o
+snapshot_same n s (Ok j) o = both (MakesSnapshot s (Ok j) o)
+snapshot_same n s (Err e) o = both (MakesSnapshot s (Err e) o)
+
+delta_same : (n : ℕ) (d : DeltaFields) (r : Result JobFields NamedFault) (l : Result LedgerFields NamedFault)
+    (o : Result Done NamedFault) → MakesDelta d r l o ↔ MakesDelta (record d { workers = n }) r l o
+delta_same n d (Ok j) (Ok l) o = both (MakesDelta d (Ok j) (Ok l) o)
+delta_same n d (Ok j) (Err e) o = both (MakesDelta d (Ok j) (Err e) o)
+delta_same n d (Err e) l o = both (MakesDelta d (Err e) l o)
+
+rehearse_same : (n : ℕ) (r : RehearseFields) (q : Result (List Query) NamedFault) (inputs : List (Option (List ℕ)))
+    (o : Result Done NamedFault) → MakesRehearsal r q inputs o ↔ MakesRehearsal (record r { workers = n }) q inputs o
+rehearse_same n r (Ok queries) inputs o = both (MakesRehearsal r (Ok queries) inputs o)
+rehearse_same n r (Err e) inputs o = both (MakesRehearsal r (Err e) inputs o)
+
+pub makes_same : (n : ℕ) (c : Command) (inputs : List (Option (List ℕ))) (o : Result Done NamedFault)
+    → Makes c inputs o ↔ Makes (with_workers n c) inputs o
+makes_same n (commands.Snapshot s) [] o = both ⊥
+makes_same n (commands.Snapshot s) (j ∷ []) o = snapshot_same n s (input s.job job_in j) o
+makes_same n (commands.Snapshot s) (j ∷ k ∷ ks) o = both ⊥
+makes_same n (commands.Delta d) [] o = both ⊥
+makes_same n (commands.Delta d) (j ∷ []) o = both ⊥
+makes_same n (commands.Delta d) (j ∷ l ∷ []) o = delta_same n d (input d.job job_in j) (input d.ledger ledger_in l) o
+makes_same n (commands.Delta d) (j ∷ l ∷ k ∷ ks) o = both ⊥
+makes_same n (commands.Rehearse r) [] o = both ⊥
+makes_same n (commands.Rehearse r) (q ∷ inputs) o = rehearse_same n r (input r.queries queries_in q) inputs o
+makes_same n commands.Usage inputs o = both (Makes commands.Usage inputs o)
+makes_same n (commands.Query q) inputs o = both (Makes (commands.Query q) inputs o)
+makes_same n (commands.Check name) inputs o = both (Makes (commands.Check name) inputs o)
+makes_same n (commands.Show name) inputs o = both (Makes (commands.Show name) inputs o)
+makes_same n (commands.Start t) inputs o = both (Makes (commands.Start t) inputs o)
+makes_same n (commands.Install i) inputs o = both (Makes (commands.Install i) inputs o)
+makes_same n (commands.Sample s) inputs o = both (Makes (commands.Sample s) inputs o)
+
+pub inputs_same : (n : ℕ) (c : Command) → inputs_of (with_workers n c) ≡ inputs_of c
+inputs_same n (commands.Snapshot s) = refl
+inputs_same n (commands.Delta d) = refl
+inputs_same n (commands.Rehearse r) = refl
+inputs_same n commands.Usage = refl
+inputs_same n (commands.Query q) = refl
+inputs_same n (commands.Check name) = refl
+inputs_same n (commands.Show name) = refl
+inputs_same n (commands.Start t) = refl
+inputs_same n (commands.Install i) = refl
+inputs_same n (commands.Sample s) = refl
+
+pub outputs_same : (n : ℕ) (c : Command) → outputs_of (with_workers n c) ≡ outputs_of c
+outputs_same n (commands.Snapshot s) = refl
+outputs_same n (commands.Delta d) = refl
+outputs_same n (commands.Rehearse r) = refl
+outputs_same n commands.Usage = refl
+outputs_same n (commands.Query q) = refl
+outputs_same n (commands.Check name) = refl
+outputs_same n (commands.Show name) = refl
+outputs_same n (commands.Start t) = refl
+outputs_same n (commands.Install i) = refl
+outputs_same n (commands.Sample s) = refl
+
+-- ---- replies
+
+snapshot_some : (s : SnapshotFields) → commands.Snapshot s ≡ commands.Usage → ⊥
+snapshot_some s e = cc
+
+delta_some : (d : DeltaFields) → commands.Delta d ≡ commands.Usage → ⊥
+delta_some d e = cc
+
+rehearse_some : (r : RehearseFields) → commands.Rehearse r ≡ commands.Usage → ⊥
+rehearse_some r e = cc
+
+-- where the same comes of both, and the first is a command
+over_same : (a b : Command) (inputs : List (Option (List ℕ))) (reply : ReplyFields) → (a ≡ commands.Usage → ⊥)
+    → ((o : Result Done NamedFault) → Makes a inputs o → Makes b inputs o)
+    → IsReplyOver a inputs reply → IsReplyOver b inputs reply
+over_same a b inputs reply some f (inl (none, same)) = absurd (some none)
+over_same a b inputs reply some f (inr (o, m, same)) = inr (o, f o m, same)
+
+pub replies_same : (n : ℕ) (c : Command) (files : Files) (reply : ReplyFields)
+    → IsReplyTo c files reply ↔ IsReplyTo (with_workers n c) files reply
+replies_same n (commands.Snapshot s) files reply =
+    let c : Command = commands.Snapshot s in
+    let w : Command = commands.Snapshot (record s { workers = n }) in
+    let inputs = held_by c files in (
+      over_same c w inputs reply (snapshot_some s) (λ o m. (makes_same n c inputs o).0 m),
+      over_same w c inputs reply (snapshot_some (record s { workers = n })) (λ o m. (makes_same n c inputs o).1 m),
+    )
+replies_same n (commands.Delta d) files reply =
+    let c : Command = commands.Delta d in
+    let w : Command = commands.Delta (record d { workers = n }) in
+    let inputs = held_by c files in (
+      over_same c w inputs reply (delta_some d) (λ o m. (makes_same n c inputs o).0 m),
+      over_same w c inputs reply (delta_some (record d { workers = n })) (λ o m. (makes_same n c inputs o).1 m),
+    )
+replies_same n (commands.Rehearse r) files reply =
+    let c : Command = commands.Rehearse r in
+    let w : Command = commands.Rehearse (record r { workers = n }) in
+    let inputs = held_by c files in (
+      over_same c w inputs reply (rehearse_some r) (λ o m. (makes_same n c inputs o).0 m),
+      over_same w c inputs reply (rehearse_some (record r { workers = n })) (λ o m. (makes_same n c inputs o).1 m),
+    )
+replies_same n commands.Usage files reply = both (IsReplyTo commands.Usage files reply)
+replies_same n (commands.Query q) files reply = both (IsReplyTo (commands.Query q) files reply)
+replies_same n (commands.Check name) files reply = both (IsReplyTo (commands.Check name) files reply)
+replies_same n (commands.Show name) files reply = both (IsReplyTo (commands.Show name) files reply)
+replies_same n (commands.Start t) files reply = both (IsReplyTo (commands.Start t) files reply)
+replies_same n (commands.Install i) files reply = both (IsReplyTo (commands.Install i) files reply)
+replies_same n (commands.Sample s) files reply = both (IsReplyTo (commands.Sample s) files reply)

@@ -1,0 +1,144 @@
+-- What the program promises of a call: the contract of `run`.
+use Rattle.std.specs.Prelude.{◌≡◌, ◌≢◌, ℕ, ◌≤◌, ◌⊎◌, List, [], ◌∷◌, ◌++◌, map, length, None, Err, IsTrue}
+use Rattle.octets_core.specs.declared.fault.LayoutFault.{LayoutFault}
+use Rattle.ident_core.specs.declared.kind.Kind.TheVariants as kinds
+use Rattle.outside_core.specs.Files.{IsMissing}
+use Rattle.crl_core.specs.declared.crl.CrlFault.{CrlFault}
+use Rattle.query_core.specs.Queries.{Query}
+use Rattle.part_codec.specs.SealedFields.{SealedFields}
+use Rattle.job_core.specs.declared.bounds.What.{What}
+use Rattle.job_core.specs.JobFields.{JobFields}
+use Rattle.sample_core.specs.Sample.{sample_text, sample_revoked}
+use Rattle.ledger_core.specs.LedgerFields.{LedgerFields}
+use Rattle.universe_core.specs.Ledgers.{no_ledger}
+use Rattle.sets_core.specs.Among.{Among}
+use Rattle.store_core.specs.declared.chain.Refusal.{Refusal}
+use Rattle.store_core.specs.Chain.{refusal_of}
+use Rattle.store_core.specs.Verdict.{verdict}
+use Rattle.publication_core.specs.Histories.{IsAdmissible, IsHistory, history}
+use Rattle.word_core.specs.declared.command.Command.TheVariants as commands
+use Rattle.word_core.specs.CommandFields.{QueryFields, SnapshotFields, DeltaFields, StartFields, InstallFields}
+use Rattle.word_core.specs.CommandFields.{RehearseFields, SampleFields}
+use Rattle.word_core.specs.Names.{inputs_of, outputs_of}
+use Rattle.line_core.specs.Lines.{line, check_line, show_text, sample_line}
+use Rattle.clubcard_top.specs.declared.fault.FileFault.TheVariants as faults
+use Rattle.clubcard_top.specs.ReplyFields.{ReplyFields, NamedFault}
+use Rattle.clubcard_top.specs.Statuses as status
+use Rattle.clubcard_top.specs.Readings.{ledger_in, part_in, store_in}
+use Rattle.clubcard_top.specs.Commands.{verdict_word, rehearsed}
+use Rattle.clubcard_top.specs.Replies.{usage, read_fault, refusal}
+use Rattle.clubcard_top.specs.Runs.{KeepsAllBut}
+use Rattle.clubcard_top.specs.Calls.{Call, FilesAreTold, Reads, Holds, Writes, ChangesNoFile, Prints, HasRisen, NoFault}
+use Rattle.clubcard_top.specs.Endings.{Succeeds, Did, GivesTheReply, WantedMemory, SinkFailed, Torn, IsAnswer, Ends}
+use Rattle.clubcard_top.specs.Endings.{MustSucceed, MustGive}
+use Rattle.clubcard_top.specs.Successes.{ReadsPart, PublishesFile, NewStore}
+use Rattle.clubcard_top.specs.Headline.{AsksToPublish, AsksToStore, AsksTruth, AsksToRehearse, truth_line}
+use Rattle.clubcard_top.specs.Headline.{Published, Stored, IsRehearsed}
+use Rattle.clubcard_top.specs.Refusals.{Comes, Refused}
+
+-- Each command that succeeds: what the files held that it read, what it printed, and what those hold that it wrote.
+pub record Successes (call : Call) : Type 0 where
+  -- what the parts of STORE say of the certificate
+  pub query : (q : QueryFields) → Did call (commands.Query q)
+      → (parts : List SealedFields) × Reads call q.store store_in parts
+      × Prints call (line (verdict_word (verdict (map (λ s. s.part) parts) q.id q.sightings))) × ChangesNoFile call
+  -- PART is one part: its head in short, and how many bytes it has
+  pub check : (part : List ℕ) → Did call (commands.Check part)
+      → (s : SealedFields) × (size : ℕ) × Reads call part part_in (s, size)
+      × Prints call (check_line s size) × ChangesNoFile call
+  -- all that PART holds
+  pub show : (part : List ℕ) → Did call (commands.Show part)
+      → (s : SealedFields) × ReadsPart call part s × Prints call (show_text s) × ChangesNoFile call
+  -- the job of JOB, published as the first of a chain
+  pub snapshot : (s : SnapshotFields) → Did call (commands.Snapshot s)
+      → PublishesFile call no_ledger s.job s.part s.ledger
+  -- the job of JOB, published behind the ledger of LEDGER
+  pub delta : (d : DeltaFields) → Did call (commands.Delta d) → (before : LedgerFields)
+      × Reads call d.ledger ledger_in before × PublishesFile call before d.job d.part d.new_ledger
+  -- the part of PART, which is a snapshot, begins a store
+  pub start : (t : StartFields) → Did call (commands.Start t)
+      → (s : SealedFields) × ReadsPart call t.part s × (s.part.head.kind ≡ kinds.Snapshot) × NewStore call t.store [] s
+  -- the part of PART, which has nothing against it, is added to the parts of STORE
+  pub install : (i : InstallFields) → Did call (commands.Install i) → (parts : List SealedFields) × (s : SealedFields)
+      × Reads call i.store store_in parts × ReadsPart call i.part s
+      × (refusal_of parts s ≡ None) × NewStore call i.new_store parts s
+  -- the jobs are a history, and their reports and the verdicts of its parts are printed
+  pub rehearse : (r : RehearseFields) → Did call (commands.Rehearse r)
+      → (queries : List Query) × (jobs : List JobFields) × (parts : List SealedFields)
+      × AsksToRehearse call queries jobs × IsRehearsed queries jobs parts
+      × Prints call (rehearsed queries jobs parts).text × ChangesNoFile call
+  -- the job that is made from NUMBER with COUNT entries
+  pub sample : (s : SampleFields) → Did call (commands.Sample s)
+      → Prints call (sample_line s.number s.count (sample_revoked s.count) (length (sample_text s.number s.count)))
+      × Holds call s.job (sample_text s.number s.count)
+
+-- What a call does for a history of admitted jobs, in pairs: what its success is, and when it must succeed. What the
+-- success of `rehearse` is stands above.
+pub record Histories (call : Call) : Type 0 where
+  -- `snapshot` and `delta`
+  pub published : (jobs : List JobFields) (parts : List SealedFields) (job : JobFields) → IsHistory jobs parts
+      → AsksToPublish call jobs parts job → Succeeds call → Published call jobs parts job
+  pub admitted : (jobs : List JobFields) (parts : List SealedFields) (job : JobFields) → IsHistory jobs parts
+      → AsksToPublish call jobs parts job → IsAdmissible (history jobs parts) job → MustSucceed call
+  -- `start` and `install`
+  pub stored : (jobs : List JobFields) (parts : List SealedFields) (s : SealedFields) → IsHistory jobs (parts ++ s ∷ [])
+      → AsksToStore call parts s → Succeeds call → Stored call parts s
+  pub taken : (jobs : List JobFields) (parts : List SealedFields) (s : SealedFields) → IsHistory jobs (parts ++ s ∷ [])
+      → AsksToStore call parts s → MustSucceed call
+  -- `query`
+  pub truth : (q : QueryFields) (jobs : List JobFields) (parts : List SealedFields) → IsHistory jobs parts
+      → AsksTruth call q jobs parts → Succeeds call → Prints call (truth_line jobs parts q)
+  pub answered : (q : QueryFields) (jobs : List JobFields) (parts : List SealedFields) → IsHistory jobs parts
+      → AsksTruth call q jobs parts → MustSucceed call
+  -- `rehearse`
+  pub followed : (queries : List Query) (jobs : List JobFields) (parts : List SealedFields) → IsHistory jobs parts
+      → AsksToRehearse call queries jobs → MustSucceed call
+
+-- What each refusal says of the files, where they are told; and that what is wrong with them must be said.
+pub record Refusals (call : Call) : Type 0 where
+  pub bad_layout : call.status ≡ status.bad_layout → FilesAreTold call
+      → (name : List ℕ) × (fault : LayoutFault) × Refused call name (faults.Layout fault)
+  pub bad_crl : call.status ≡ status.bad_crl → FilesAreTold call
+      → (name : List ℕ) × (place : ℕ) × (fault : CrlFault) × Refused call name (faults.BadCrl place fault)
+  -- a part or a job that a chain doesn't take
+  pub chain : call.status ≡ status.chain → FilesAreTold call
+      → (name : List ℕ)
+      × (Refused call name faults.NotSnapshot ⊎ ((why : Refusal) × Refused call name (faults.Chain why)))
+  pub too_many : call.status ≡ status.too_many → FilesAreTold call
+      → (name : List ℕ) × (what : What) × (limit : ℕ) × Refused call name (faults.TooMany what limit)
+  -- an issuer of the job has no block
+  pub seeds : call.status ≡ status.seeds → FilesAreTold call
+      → (name : List ℕ) × (issuer : List ℕ) × (stage : ℕ) × Refused call name (faults.Seeds issuer stage)
+  -- what is wrong with a file, also that it can't be read, must be said
+  pub refused : (e : NamedFault) → Comes call (Err e) → MustGive call (refusal e.name e.fault)
+  -- words that are no command
+  pub bad_words : call.status ≡ status.usage → (call.asked ≡ commands.Usage) × Prints call usage.text
+  pub no_command : call.asked ≡ commands.Usage → MustGive call usage
+
+-- What a fault of the outside leaves: an input that wasn't read; an answer or an output that is cut short; or nothing.
+pub record Outside (call : Call) : Type 0 where
+  pub read_fault : call.status ≡ status.read_fault → (name : List ℕ) × Among (inputs_of call.asked) name
+      × (HasRisen call.read_faults ⊎ IsMissing call.files_before name) × Prints call (read_fault name).text
+  pub write_fault : call.status ≡ status.write_fault → (reply : ReplyFields) × IsAnswer call reply
+      × ((Writes call reply.outputs × SinkFailed call reply.text) ⊎ ((name : List ℕ) × Torn call reply name))
+  pub no_memory : call.status ≡ status.no_memory → WantedMemory call
+
+-- What never changes, and which counts never fall.
+pub record Frame (call : Call) : Type 0 where
+  pub unchanged : call.status ≢ status.done → call.status ≢ status.write_fault → ChangesNoFile call
+  pub other_files : KeepsAllBut (outputs_of call.asked) call.files_before call.files_after
+  pub reading : outputs_of call.asked ≡ []
+      → ChangesNoFile call × (call.write_faults.after ≡ call.write_faults.before)
+  pub later_reads : call.read_faults.before ≤ call.read_faults.after
+  pub later_writes : call.write_faults.before ≤ call.write_faults.after
+  pub later_sink : call.sink_faults.before ≤ call.sink_faults.after
+
+-- How each call ends, whatever is told. The promises above follow from `ends` and the laws of this crate, but for those
+-- of `Frame` on the counts.
+pub record Ending (call : Call) : Type 0 where
+  pub ends : Ends call
+  pub statuses : IsTrue (status.is_one_of status.all call.status)
+  -- over files that are told: the command's one reply, unless a fault or want of memory is answered
+  pub answer : FilesAreTold call → call.status ≢ status.read_fault → call.status ≢ status.write_fault
+      → call.status ≢ status.no_memory → GivesTheReply call
+  pub complete : FilesAreTold call → NoFault call → call.status ≢ status.no_memory → GivesTheReply call

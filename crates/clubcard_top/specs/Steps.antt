@@ -1,0 +1,21 @@
+-- What comes of files that are rehearsed, stated file by file: the words of private functions and of proofs.
+use Rattle.std.specs.Prelude.{◌≡◌, ◌⊎◌, ℕ, List, [], ◌∷◌, ◌++◌, Option, Result, Ok, Err}
+use Rattle.query_core.specs.Queries.{Query}
+use Rattle.part_codec.specs.SealedFields.{SealedFields}
+use Rattle.job_core.specs.JobFields.{JobFields}
+use Rattle.publication_core.specs.Histories.{IsHistory}
+use Rattle.clubcard_top.specs.ReplyFields.{Done, NamedFault}
+use Rattle.clubcard_top.specs.Readings.{job_in}
+use Rattle.clubcard_top.specs.Commands.{input, rehearsed, IsRefused}
+
+-- What comes of files that hold jobs, behind a history: the first that doesn't follow those before it is refused; and
+-- where each follows, the parts of all of them are asked the queries.
+abbrev pub RehearsesOn : List Query → List JobFields → List SealedFields
+    → List (List ℕ) → List (Option (List ℕ)) → Result Done NamedFault → Type 0
+RehearsesOn queries jobs parts [] [] o = o ≡ Ok (rehearsed queries jobs parts)
+RehearsesOn queries jobs parts (name ∷ names) (given ∷ inputs) o =
+    ((e : NamedFault) × IsRefused jobs parts name given e × (o ≡ Err e))
+    ⊎ ((job : JobFields) × (more : List SealedFields)
+    × (input name job_in given ≡ Ok job) × IsHistory (jobs ++ job ∷ []) more
+    × RehearsesOn queries (jobs ++ job ∷ []) more names inputs o)
+RehearsesOn queries jobs parts names inputs o = ⊥
