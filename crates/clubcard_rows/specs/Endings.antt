@@ -1,16 +1,24 @@
 -- What a call came to.
 use Rattle.std.specs.Prelude.{ℕ, List, [], ◌∷◌, Some}
-use Rattle.outside_core.specs.Files.{Rose}
 use Rattle.outside_core.specs.Calls.{CallsView, no_calls, with_failing}
 use Rattle.outside_core.specs.View.{DepotView, SinkView}
-use Rattle.clubcard_top.specs.Runs.{Ends}
+use Rattle.clubcard_top.specs.Endings.{Ends}
 
--- Some command ended with this status, as the clause `ends` of `run` says, over a depot and a sink in memory.
+-- Some command ended with this status, as `ending.ends` of `run` says, over a depot and a sink in memory.
 unfoldable pub Ended : DepotView → DepotView → ℕ → SinkView → SinkView → Type 0
 Ended depot later status sink written =
     (asked : _)
-    × Ends asked (Some depot.files) (Rose depot.reads.faults later.reads.faults) status (Some sink.bytes) (Some written.bytes)
-    (Rose sink.writes.faults written.writes.faults) (Some later.files) (Rose depot.writes.faults later.writes.faults)
+    × Ends (record {
+      asked = asked;
+      files_before = Some depot.files;
+      files_after = Some later.files;
+      text_before = Some sink.bytes;
+      text_after = Some written.bytes;
+      status = status;
+      read_faults = record { before = depot.reads.faults; after = later.reads.faults };
+      write_faults = record { before = depot.writes.faults; after = later.writes.faults };
+      sink_faults = record { before = sink.writes.faults; after = written.writes.faults };
+    })
 
 -- a sink that holds nothing, whose write of this number is to fail
 abbrev pub failing_sink : ℕ → SinkView

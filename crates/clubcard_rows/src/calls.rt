@@ -14,7 +14,7 @@ use std::alloc::Global;
 use std::test::Fail;
 use std::thread::Threads;
 
-/// Runs the words. Of the clauses of `run` this keeps one, under a name, so that no proof of a test begins with them.
+/// Runs the words. Of the promises of `run` this keeps one, under a name, so that no proof of a test begins with them.
 fn ended_by<R: Threads + Sync>(
     rt: &R,
     alloc: Global,
