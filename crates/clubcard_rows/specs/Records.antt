@@ -7,7 +7,8 @@ use Rattle.clubcard_rows.specs.Pieces.{hex_bytes, all_joined}
 abbrev pub number_bytes : ℕ → Option (List ℕ)
 number_bytes n = Some (to_be_bytes w64 n)
 
--- the moment that is so many milliseconds behind the 14th of November 2023 at 22:13:20 UTC, or the last that has a number
+-- the moment that is so many milliseconds behind the 14th of November 2023 at 22:13:20 UTC, or the last that has a
+-- number
 abbrev pub moment_bytes : ℕ → Option (List ℕ)
 moment_bytes n = number_bytes (min (1700000000000 + n) (2 ^ 64 - 1))
 

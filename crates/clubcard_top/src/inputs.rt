@@ -1,4 +1,5 @@
-//! The files that commands read: queries, a job, a ledger, a part and a store. The bytes are dropped once they are read.
+//! The files that commands read: queries, a job, a ledger, a part and a store. The bytes are dropped once they are
+//! read.
 
 ghost use Rattle.std.specs.Prelude.{map, IfOk};
 ghost use Rattle.octets_core.specs.Reading.{GivesUnless};

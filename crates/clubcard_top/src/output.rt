@@ -82,7 +82,8 @@ fn write_output<D: Depot>(output: &Output, depot: &mut D) -> Result<(), Failed>
     append_all(depot, output.name(), output.bytes())
 }
 
-/// Writes the outputs in their order, each once the one before it is whole, and answers the first that can't be written.
+/// Writes the outputs in their order, each once the one before it is whole, and answers the first that can't be
+/// written.
 pub fn write_outputs<'a, D: Depot>(outputs: &'a [Output], depot: &mut D) -> Option<&'a Output>
     ensures all { IsNone result → D.files depot.new ≡ with_outputs (D.files depot.old) outputs.now }
     ensures torn { IfSome result (λ o. IsTorn (D.files depot.old) (D.files depot.new) outputs.now o.now.name) }

@@ -64,8 +64,8 @@ fn with_file<R: Threads + Sync, D: Depot>(
     Ok((after, line))
 }
 
-/// The rehearsal of the jobs of the files of these names, in their order, and the lines of their reports, which are written
-/// into the text.
+/// The rehearsal of the jobs of the files of these names, in their order, and the lines of their reports, which are
+/// written into the text.
 fn with_files<'a, R: Threads + Sync, D: Depot>(
     rt: &R,
     alloc: Global,
