@@ -36,7 +36,7 @@ use Rattle.clubcard_top.specs.Replies.{held_by}
 use Rattle.clubcard_top.specs.Runs.{with_outputs}
 use Rattle.clubcard_top.specs.Calls.{Call, Reads, Holds, Writes, ChangesNoFile, Prints, NoFault}
 use Rattle.clubcard_top.specs.Endings.{Succeeds, Did, WantedMemory}
-use Rattle.clubcard_top.specs.Successes.{PublishesFile}
+use Rattle.clubcard_top.specs.Successes.{PublishesFile, CanBePublished}
 use Rattle.clubcard_top.specs.Headline.{AsksHistory, IsPublished, IsRehearsed, IsStored, PublishesJob, RehearsesJobs}
 use Rattle.clubcard_top.specs.Headline.{StoresPart, publishes_to, stores_to, truth_line, truth_done, Published, Stored}
 use Rattle.clubcard_top.specs.Headline.{AsksToPublish, AsksToStore, AsksTruth, AsksToRehearse}
@@ -67,6 +67,9 @@ two_held : (files : Files) (a b x y : List ℕ) (after : Option Files) → a ≢
 two_held files a b x y after apart is =
     let both = insert (insert files a x) b y in
     ((both, is, get-other (insert files a x) b y a apart ∙ get-same files a x), (both, is, get-same (insert files a x) b y))
+
+some_same : (a b : Files) → ◌≡◌ {A = Option Files} (Some a) (Some b) → a ≡ b
+some_same a b h = cc
 
 -- ---- steps that went well
 
@@ -129,6 +132,36 @@ delta_ok : (t : DeltaFields) (r : Result JobFields NamedFault) (l : Result Ledge
 delta_ok t (Ok j) (Ok before) d m = (j, before, refl, refl, m)
 delta_ok t (Ok j) (Err e) d m = absurd (not_fault d e (sym m))
 delta_ok t (Err e) l d m = absurd (not_fault d e (sym m))
+
+-- what is made of a job and a ledger, where this is published
+makes_this : (job part ledger : List ℕ) (before : LedgerFields) (j : JobFields) (o : Result Done NamedFault)
+    (p : Publication) → Publishes before j (Ok p) → MakesPart job part ledger before j o
+    → MakesPart job part ledger before j (Ok (publication_done part ledger p))
+makes_this job part ledger before j o p x m =
+    record { fits = m.fits; limits = m.limits; result = Ok p; publishes = x; is = refl }
+
+-- `delta` over inputs that were read
+both_read : (t : DeltaFields) (files : Files) (job : JobFields) (before : LedgerFields) (o : Result Done NamedFault)
+    → input t.job job_in (get files t.job) ≡ Ok job → input t.ledger ledger_in (get files t.ledger) ≡ Ok before
+    → Makes (commands.Delta t) (held_by (commands.Delta t) files) o
+    → MakesPart t.job t.part t.new_ledger before job o
+both_read t files job before o job_is ledger_is m =
+    subst (λ (l : Result LedgerFields NamedFault). MakesDelta t (Ok job) l o) ledger_is
+    (subst (λ (r : Result JobFields NamedFault). MakesDelta t r (input t.ledger ledger_in (get files t.ledger)) o) job_is m)
+
+both_back : (t : DeltaFields) (files : Files) (job : JobFields) (before : LedgerFields) (o : Result Done NamedFault)
+    → input t.job job_in (get files t.job) ≡ Ok job → input t.ledger ledger_in (get files t.ledger) ≡ Ok before
+    → MakesPart t.job t.part t.new_ledger before job o
+    → Makes (commands.Delta t) (held_by (commands.Delta t) files) o
+both_back t files job before o job_is ledger_is m =
+    subst (λ (r : Result JobFields NamedFault). MakesDelta t r (input t.ledger ledger_in (get files t.ledger)) o) (sym job_is)
+    (subst (λ (l : Result LedgerFields NamedFault). MakesDelta t (Ok job) l o) (sym ledger_is) m)
+
+-- one thing comes of a command and its inputs
+abbrev pub OneOutcome : Type 0
+OneOutcome =
+    (command : Command) (inputs : List (Option (List ℕ))) (a b : Result Done NamedFault) → Makes command inputs a
+    → Makes command inputs b → a ≡ b
 
 -- ---- each command
 
@@ -312,6 +345,53 @@ module _ (call : Call) where
         one_held did.files s.job (sample_text s.number s.count) call.files_after kept,
       )
 
+  -- ---- what can be published
+
+  read_in : {A : Type 0} (files : Files) → call.files_before ≡ Some files
+      → (name : List ℕ) (read : List ℕ → Result A FileFault) (x : A) → Reads call name read x
+      → input name read (get files name) ≡ Ok x
+  read_in files told name read x (bytes, (others, told_so, held), is) =
+      let same : others ≡ files = some_same others files (sym told_so ∙ told) in
+      ap (input name read) (ap (λ (f : Files). get f name) (sym same) ∙ held) ∙ ap (named name) is
+
+  module _ (one : OneOutcome) (ends : EndsOld call) where
+    -- what is sure to come of the command that was asked
+    sure_of : (command : Command) (files : Files) (d : Done) → call.files_before ≡ Some files → call.asked ≡ command
+        → (command ≡ commands.Usage → ⊥)
+        → ((o : Result Done NamedFault) → Makes command (held_by command files) o
+        → Makes command (held_by command files) (Ok d)) → NoFault call → Succeeds call ⊎ WantedMemory call
+    sure_of command files d told asked some law quiet =
+        sure call ends files told (λ none. some (sym asked ∙ none))
+        (λ o m.
+        let x = subst (λ (c : Command). Makes c (held_by c files) o) asked m in
+        (d, one command (held_by command files) o (Ok d) x (law o x)))
+        quiet
+
+    pub snapshot_complete : (s : SnapshotFields) (job : JobFields) → call.asked ≡ commands.Snapshot s
+        → Reads call s.job job_in job → CanBePublished no_ledger job → NoFault call → Succeeds call ⊎ WantedMemory call
+    snapshot_complete s job asked (bytes, (files, told, held), is) (made, x) quiet =
+        let job_is = read_in files told s.job job_in job (bytes, (files, told, held), is) in
+        let d = publication_done s.part s.ledger made in
+        sure_of (commands.Snapshot s) files d told asked
+        (λ none. cc)
+        (λ o m. subst (λ (r : Result JobFields NamedFault). MakesSnapshot s r (Ok d)) (sym job_is)
+        (makes_this s.job s.part s.ledger no_ledger job o made x
+        (subst (λ (r : Result JobFields NamedFault). MakesSnapshot s r o) job_is m)))
+        quiet
+
+    pub delta_complete : (t : DeltaFields) (before : LedgerFields) (job : JobFields) → call.asked ≡ commands.Delta t
+        → Reads call t.ledger ledger_in before → Reads call t.job job_in job → CanBePublished before job → NoFault call
+        → Succeeds call ⊎ WantedMemory call
+    delta_complete t before job asked ledger_reads (bytes, (files, told, held), is) (made, x) quiet =
+        let job_is = read_in files told t.job job_in job (bytes, (files, told, held), is) in
+        let ledger_is = read_in files told t.ledger ledger_in before ledger_reads in
+        let d = publication_done t.part t.new_ledger made in
+        sure_of (commands.Delta t) files d told asked
+        (λ none. cc)
+        (λ o m. both_back t files job before (Ok d) job_is ledger_is
+        (makes_this t.job t.part t.new_ledger before job o made x (both_read t files job before o job_is ledger_is m)))
+        quiet
+
   -- ---- histories
 
   -- the laws of what comes of a command over files, as `histories_are_made` says them
@@ -466,13 +546,15 @@ module _ (call : Call) where
           left did.files a.done (rehearsed l.0 l.1 l.2) l.5 a.files_are ∙ sym did.told,
         )
 
-    pub successes : IsApart call.asked → Successes call
-    successes apart = record {
+    pub successes : OneOutcome → IsApart call.asked → Successes call
+    successes one apart = record {
       query = query ends;
       check = λ name did. let c = check ends name did in (c.0.0, c.0.1, c.1, c.2, c.3);
       show = λ name did. let c = show ends name did in (c.0.0, (c.0.1, c.1), c.2, c.3);
       snapshot = snapshot apart ends;
+      snapshot_complete = snapshot_complete one ends;
       delta = delta apart ends;
+      delta_complete = delta_complete one ends;
       start = λ t did. let c = start ends t did in (c.0.0, (c.0.1, c.1), c.2, record { holds = c.3; prints = c.4 });
       install = λ i did.
           let c = install ends i did in (

@@ -24,19 +24,20 @@ use Rattle.line_core.specs.Lines.{line, check_line, show_text, sample_line}
 use Rattle.clubcard_top.specs.declared.fault.FileFault.TheVariants as faults
 use Rattle.clubcard_top.specs.ReplyFields.{ReplyFields, NamedFault}
 use Rattle.clubcard_top.specs.Statuses as status
-use Rattle.clubcard_top.specs.Readings.{ledger_in, part_in, store_in}
+use Rattle.clubcard_top.specs.Readings.{job_in, ledger_in, part_in, store_in}
 use Rattle.clubcard_top.specs.Commands.{verdict_word, rehearsed}
 use Rattle.clubcard_top.specs.Replies.{usage, read_fault, refusal}
 use Rattle.clubcard_top.specs.Runs.{KeepsAllBut}
 use Rattle.clubcard_top.specs.Calls.{Call, FilesAreTold, Reads, Holds, Writes, ChangesNoFile, Prints, HasRisen, NoFault}
 use Rattle.clubcard_top.specs.Endings.{Succeeds, Did, GivesTheReply, WantedMemory, SinkFailed, Torn, IsAnswer, Ends}
 use Rattle.clubcard_top.specs.Endings.{MustSucceed, MustGive}
-use Rattle.clubcard_top.specs.Successes.{ReadsPart, PublishesFile, NewStore}
+use Rattle.clubcard_top.specs.Successes.{ReadsPart, PublishesFile, CanBePublished, NewStore}
 use Rattle.clubcard_top.specs.Headline.{AsksToPublish, AsksToStore, AsksTruth, AsksToRehearse, truth_line}
 use Rattle.clubcard_top.specs.Headline.{Published, Stored, IsRehearsed}
 use Rattle.clubcard_top.specs.Refusals.{Comes, Refused}
 
--- Each command that succeeds: what the files held that it read, what it printed, and what those hold that it wrote.
+-- Each command that succeeds: what the files held that it read, what it printed, and what those hold that it wrote. And
+-- when `snapshot` and `delta` must succeed, behind any ledger.
 pub record Successes (call : Call) : Type 0 where
   -- what the parts of STORE say of the certificate
   pub query : (q : QueryFields) → Did call (commands.Query q)
@@ -49,12 +50,17 @@ pub record Successes (call : Call) : Type 0 where
   -- all that PART holds
   pub show : (part : List ℕ) → Did call (commands.Show part)
       → (s : SealedFields) × ReadsPart call part s × Prints call (show_text s) × ChangesNoFile call
-  -- the job of JOB, published as the first of a chain
+  -- the job of JOB, published as the first of a chain; and where it can be published, the call must succeed
   pub snapshot : (s : SnapshotFields) → Did call (commands.Snapshot s)
       → PublishesFile call no_ledger s.job s.part s.ledger
-  -- the job of JOB, published behind the ledger of LEDGER
+  pub snapshot_complete : (s : SnapshotFields) (job : JobFields) → call.asked ≡ commands.Snapshot s
+      → Reads call s.job job_in job → CanBePublished no_ledger job → MustSucceed call
+  -- the job of JOB, published behind the ledger of LEDGER; and where it can be published, the call must succeed
   pub delta : (d : DeltaFields) → Did call (commands.Delta d) → (before : LedgerFields)
       × Reads call d.ledger ledger_in before × PublishesFile call before d.job d.part d.new_ledger
+  pub delta_complete : (d : DeltaFields) (before : LedgerFields) (job : JobFields) → call.asked ≡ commands.Delta d
+      → Reads call d.ledger ledger_in before → Reads call d.job job_in job → CanBePublished before job
+      → MustSucceed call
   -- the part of PART, which is a snapshot, begins a store
   pub start : (t : StartFields) → Did call (commands.Start t)
       → (s : SealedFields) × ReadsPart call t.part s × (s.part.head.kind ≡ kinds.Snapshot) × NewStore call t.store [] s

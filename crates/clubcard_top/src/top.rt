@@ -106,6 +106,7 @@ pub fn run<R: Threads + Sync, D: Depot, K: Sink>(
     out: &mut K,
 ) -> Status
     // Each command that succeeds: what the files held that it read, what it printed, and what those hold that it wrote.
+    // And when `snapshot` and `delta` must succeed, behind any ledger.
     ensures successes { Successes (call D.Depot K.Sink words.now depot.old depot.new out.old out.new result.0) }
     // Over the files of a history of admitted jobs: what a success is, and when there must be one.
     ensures histories { Histories (call D.Depot K.Sink words.now depot.old depot.new out.old out.new result.0) }

@@ -36,7 +36,8 @@ returns-clause-successes g c =
       rehearses = c.histories_are_made.ensures.rehearsed _;
       follows = c.histories_are_made.ensures.followed _;
     })
-    (promised.parts _ c.run_words.ensures.ends) (apart.words_apart (map string_bytes c.args.words.now))
+    (promised.parts _ c.run_words.ensures.ends) (λ command inputs a b x y. c.replies_are_unique.ensures.outcome command inputs a b x y)
+    (apart.words_apart (map string_bytes c.args.words.now))
 
 pub returns-clause-histories : goal.returns-clause-histories
 returns-clause-histories g c =
