@@ -2,7 +2,6 @@
 """What each crate costs the gate: its proof, its tests, its must-fail edits and its programs, in minutes of a processor.
 
     bench/gate.py run LOG      runs .ci/run, and notes in LOG what each of its processes took; ends with its status
-    bench/gate.py watch LOG    notes the same of a gate that is running, until it is interrupted
     bench/gate.py table LOG    prints the table of a log, the dearest crate first, and the ten dearest edits
 
 The times are those that the system counts (/proc), looked at four times a second: a process that lives for less is
@@ -56,10 +55,10 @@ def purpose(number):
 
 
 class Watch:
-    """What the processes of a gate took so far."""
+    """What the processes of a gate, those below its first one, took so far."""
 
-    def __init__(self):
-        self.began, self.seen = time.time(), {}
+    def __init__(self, gate):
+        self.gate, self.began, self.seen = gate, time.time(), {}
 
     def look(self):
         found = {int(name): process(name) for name in os.listdir("/proc") if name.isdigit()}
@@ -71,8 +70,12 @@ class Watch:
         def whole(number):
             return found[number][2] + sum(map(whole, children.get(number, [])))
 
+        def below(number):
+            return [number] + [it for child in children.get(number, []) for it in below(child)]
+
         now = time.time()
-        for number, it in found.items():
+        for number in below(self.gate)[1:]:
+            it = found[number]
             key = f"{number}.{it[3]}"
             if key not in self.seen:
                 at = purpose(number)
@@ -90,25 +93,17 @@ class Watch:
         os.replace(f"{file}.new", file)
 
 
-def watch(file, running):
-    """Looks until the gate has ended."""
-    it, turn = Watch(), 0
-    try:
-        while running():
-            it.look()
-            turn += 1
-            if turn % 80 == 0:
-                it.keep(file)
-            time.sleep(0.25)
-    except KeyboardInterrupt:
-        pass
-    it.keep(file, time.time() - it.began)
-
-
 def run(file):
     with subprocess.Popen([os.path.join(TOP, ".ci/run")]) as gate:
-        watch(file, lambda: gate.poll() is None)
-        return gate.wait()
+        watch, turn = Watch(gate.pid), 0
+        while gate.poll() is None:
+            watch.look()
+            turn += 1
+            if turn % 80 == 0:
+                watch.keep(file)
+            time.sleep(0.25)
+        watch.keep(file, time.time() - watch.began)
+        return gate.returncode
 
 
 def edits_of(crate):
@@ -144,7 +139,7 @@ def table(file):
 
 
 def main():
-    calls = {"run": run, "watch": lambda file: watch(file, lambda: True), "table": table}
+    calls = {"run": run, "table": table}
     if len(sys.argv) != 3 or sys.argv[1] not in calls:
         sys.exit(__doc__)
     sys.exit(calls[sys.argv[1]](sys.argv[2]))
