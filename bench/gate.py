@@ -1,13 +1,14 @@
 #!/usr/bin/env python3
-"""What each crate costs the gate: its proof, its tests, its must-fail edits and its programs, in minutes of a processor.
+"""What each crate costs the gate: its proof, its tests, its must-fail edits and its programs, in minutes of a
+processor.
 
     bench/gate.py run LOG      runs .ci/run, and notes in LOG what each of its processes took; ends with its status
     bench/gate.py table LOG    prints the table of a log, the dearest crate first, and the ten dearest edits
 
 The times are those that the system counts (/proc), looked at four times a second: a process that lives for less is
 missed. An edit's name is told by its place, since the gate tries a crate's edits in the order of their names; a first
-edit proves most of the crate, and after the last one the crate itself is checked over what the edits kept. A log that is
-whole tells how long the run took by the clock. For figures from nothing run it in a fresh clone on a quiet machine.
+edit proves most of the crate, and after the last one the crate itself is checked over what the edits kept. A log that
+is whole tells how long the run took by the clock. For figures from nothing run it in a fresh clone on a quiet machine.
 """
 
 import json

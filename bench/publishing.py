@@ -1,6 +1,6 @@
 #!/usr/bin/env python3
-"""Times `clubcard snapshot`, `delta`, `install` and `query` on generated jobs of four issuers: processor time, and the memory
-that each takes at most (by /usr/bin/time). It prints which program it runs, the one that `./clubcard` runs:
+"""Times `clubcard snapshot`, `delta`, `install` and `query` on generated jobs of four issuers: processor time, and the
+memory that each takes at most (by /usr/bin/time). It prints which program it runs, the one that `./clubcard` runs:
 
     python3 bench/publishing.py [RUNS]
 
@@ -47,8 +47,8 @@ def of_two_issuers(i):
 
 
 def job(epoch, first, count, revoked):
-    """A job of precertificate entries: the entries `first` up to `count`, entry i of issuer i mod 4. The log is covered up to
-    `count`, and the CRLs hold each serial below `count` that is revoked."""
+    """A job of precertificate entries: the entries `first` up to `count`, entry i of issuer i mod 4. The log is covered
+    up to `count`, and the CRLs hold each serial below `count` that is revoked."""
     out = [b"CLUBJOB1", epoch.to_bytes(8, "big"), T.to_bytes(8, "big")]
     out.append(b"\x01" + LOG + T.to_bytes(8, "big") + (T + count - 1).to_bytes(8, "big"))
     for j, issuer in enumerate(ISSUERS):

@@ -1,6 +1,6 @@
 #!/usr/bin/env python3
-"""Times the solver beside the same loops in plain Rust: `ribbon_bench` (build it with `rt run` in crates/ribbon_bench) and
-bench/ribbon_reference.rs (built here with rustc). Run it at the top of the repository:
+"""Times the solver beside the same loops in plain Rust: `ribbon_bench` (build it with `rt run` in crates/ribbon_bench)
+and bench/ribbon_reference.rs (built here with rustc). Run it at the top of the repository:
 
     python3 bench/ribbon.py
 """

@@ -1,5 +1,5 @@
-# Completion in bash of clubcard's commands, and of names of files where a word is one (docs/FORMATS.md, "Words"). Numbers,
-# keys and serials aren't completed. To be read by a shell of one's own:
+# Completion in bash of clubcard's commands, and of names of files where a word is one (docs/FORMATS.md, "Words").
+# Numbers, keys and serials aren't completed. To be read by a shell of one's own:
 #
 #     . tools/clubcard.bash
 #

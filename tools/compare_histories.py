@@ -3,12 +3,12 @@
 
     tools/compare_histories.py [COUNT [SEED]]
 
-For each history: the part, the ledger and the store of each job byte for byte, the lines of `snapshot`, `delta`, `start` and
-`install`, and `query` on accepted certificates (the answer must be the history's truth) and on others (it must be the
-verdict of the parts). Then all jobs in one `rehearse`, with queries of both kinds; in some histories with a job that is
-refused among them, or with a damaged query file, and then the line and the status of the refusal. And a job of `sample`. It
-runs the program that `./clubcard` runs, prints a line, and ends with status 0 exactly where nothing differs; where
-something does, it says which history and what.
+For each history: the part, the ledger and the store of each job byte for byte, the lines of `snapshot`, `delta`,
+`start` and `install`, and `query` on accepted certificates (the answer must be the history's truth) and on others (it
+must be the verdict of the parts). Then all jobs in one `rehearse`, with queries of both kinds; in some histories with a
+job that is refused among them, or with a damaged query file, and then the line and the status of the refusal. And a job
+of `sample`. It runs the program that `./clubcard` runs, prints a line, and ends with status 0 exactly where nothing
+differs; where something does, it says which history and what.
 """
 
 import functools

@@ -22,8 +22,8 @@ Ranges are written in the order of their logs; CRLs, then certificates, then ent
 name of a certificate's or a CRL's issuer must be the subject of ISSUERCERT, byte for byte. No signature is checked,
 and whether a CRL is one that the publisher accepts is found by the publisher.
 
-Prints one line on what was written. With status 2 a word or a file is wrong, a message says which, and JOB is as before;
-until the job is whole it stands in JOB.draft.
+Prints one line on what was written. With status 2 a word or a file is wrong, a message says which, and JOB is as
+before; until the job is whole it stands in JOB.draft.
 """
 
 import argparse

@@ -3,9 +3,9 @@
 
     tools/pack_queries.py QUERIES < LINES
 
-Each line of the standard input is one query in the words of `clubcard query`: ISSUER SERIAL, then 1 to 64 pairs LOG TIME;
-ISSUER and SERIAL are as tools/identity.py prints them. Empty lines are passed over. Where a line is no query, or there are
-more than 65,536, the status is 2 and no file is written.
+Each line of the standard input is one query in the words of `clubcard query`: ISSUER SERIAL, then 1 to 64 pairs LOG
+TIME; ISSUER and SERIAL are as tools/identity.py prints them. Empty lines are passed over. Where a line is no query, or
+there are more than 65,536, the status is 2 and no file is written.
 """
 
 import argparse

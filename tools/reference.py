@@ -1,10 +1,10 @@
 #!/usr/bin/env python3
 """An independent reference of the rules: parts, ledgers, stores, verdicts and rehearsals from jobs, and generated jobs.
 
-Written from the rules and layouts (docs/ARCHITECTURE.md, docs/FORMATS.md) and not from the program. The sets of a history
-are worked out by their definitions over all its jobs (not from a birth and a last part), systems are solved by plain
-elimination over GF(2) with whole numbers as rows, and the least solution is found by its definition: from the highest
-column down, a column is zero where that leaves a solution. It is slow: for histories of some hundred entries.
+Written from the rules and layouts (docs/ARCHITECTURE.md, docs/FORMATS.md) and not from the program. The sets of a
+history are worked out by their definitions over all its jobs (not from a birth and a last part), systems are solved by
+plain elimination over GF(2) with whole numbers as rows, and the least solution is found by its definition: from the
+highest column down, a column is zero where that leaves a solution. It is slow: for histories of some hundred entries.
 """
 
 import functools
