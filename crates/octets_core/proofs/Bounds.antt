@@ -5,7 +5,7 @@ use Rattle.std.specs.Str.{bytes_eq}
 use Rattle.std.specs.Prelude.{take}
 use Rattle.std.proofs.lemmas.Bool.{ltb-false}
 use Rattle.octets_core.specs.Position.{piece}
-use Rattle.octets_core.specs.Layout.{Layout, then_read, ◌>>=◌, whole, within, bytes_field, number_field, sum_field, repeated, refused, with_fault, mapped}
+use Rattle.octets_core.specs.Layout.{Layout, then_read, ◌>>=◌, whole, within, bytes_field, number_field, sum_field, repeated, with_fault, mapped}
 
 -- the place behind a value, or a fault's offset
 abbrev pub IsWithin : {E A : Type 0} → (E → ℕ) → List ℕ → Result (A × ℕ) E → Type 0
@@ -26,7 +26,8 @@ pub bytes_field-bounded : {E : Type 0} (offset : E → ℕ) (short wrong : ℕ �
 unfolding bytes_field
 bytes_field-bounded offset short wrong width test s w = record {
   each = λ bytes at le.
-      tests_within offset bytes at (at + width) (ltb (length bytes) (at + width)) (test (piece width bytes at)) (short at) (wrong at) (piece width bytes at) le (s at) (w at) (ltb-false (length bytes) (at + width));
+      tests_within offset bytes at (at + width) (ltb (length bytes) (at + width)) (test (piece width bytes at)) (short at) (wrong at) (piece width bytes at) le
+      (s at) (w at) (ltb-false (length bytes) (at + width));
 }
 
 pub number_field-bounded : {E : Type 0} (offset : E → ℕ) (short wrong : ℕ → E) (w : Width) (low high : ℕ) → ((at : ℕ) → offset (short at) ≡ at) → ((at : ℕ) → offset (wrong at) ≡ at)
@@ -49,7 +50,8 @@ sum_field-bounded offset short wrong width sum s w = record {
 pub whole-bounded : {E A : Type 0} (offset : E → ℕ) (x : A) → IsBounded offset (whole x)
 whole-bounded offset x = record { each = λ bytes at le. le }
 
-then_read-within : {E A B : Type 0} (offset : E → ℕ) (bytes : List ℕ) (r : Result (A × ℕ) E) (next : A → Layout E B) → IsWithin offset bytes r → ((x : A) → IsBounded offset (next x)) → IsWithin offset bytes (then_read r next bytes)
+then_read-within : {E A B : Type 0} (offset : E → ℕ) (bytes : List ℕ) (r : Result (A × ℕ) E) (next : A → Layout E B) → IsWithin offset bytes r
+    → ((x : A) → IsBounded offset (next x)) → IsWithin offset bytes (then_read r next bytes)
 then_read-within offset bytes (Ok x) next first rest = (rest x.0).each bytes x.1 first
 then_read-within offset bytes (Err e) next first rest = first
 
@@ -57,7 +59,8 @@ infixl 10 ◌>>>◌
 pub ◌>>>◌ : {E A B : Type 0} {offset : E → ℕ} {first : Layout E A} {next : A → Layout E B} → IsBounded offset first → ((x : A) → IsBounded offset (next x)) → IsBounded offset (first >>= next)
 ◌>>>◌ {E} {A} {B} {offset} {first} {next} one rest = record { each = λ bytes at le. then_read-within offset bytes (first bytes at) next (one.each bytes at le) rest }
 
-pub repeated-bounded : {E S X : Type 0} (offset : E → ℕ) (item : S → Layout E X) (next : S → X → S) → ((s : S) → IsBounded offset (item s)) → (n : ℕ) (s : S) → IsBounded offset (repeated item next n s)
+pub repeated-bounded : {E S X : Type 0} (offset : E → ℕ) (item : S → Layout E X) (next : S → X → S) → ((s : S) → IsBounded offset (item s)) → (n : ℕ) (s : S)
+    → IsBounded offset (repeated item next n s)
 unfolding repeated
 repeated-bounded offset item next each zero s = record { each = λ bytes at le. le }
 repeated-bounded offset item next each (suc n) s = record {
@@ -76,7 +79,3 @@ pub mapped-bounded : {E F A : Type 0} (offset : E → ℕ) (outer : F → ℕ) (
 mapped-bounded offset outer wrap layout same b = record {
   each = λ bytes at le. with_fault-within offset outer wrap bytes (layout bytes at) same (b.each bytes at le);
 }
-
--- a fault with no place of its own
-pub refused-bounded : {E A : Type 0} (offset : E → ℕ) (e : E) → offset e ≡ 0 → IsBounded {A = A} offset (refused e)
-refused-bounded offset e none = record { each = λ bytes at le. rw none (omega arith) }

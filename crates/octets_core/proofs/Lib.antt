@@ -1,7 +1,6 @@
 pub mod Repeated
 pub mod Fields
 pub mod Bounds
-pub mod Spans
 pub mod Filling
 pub mod Powers
 pub mod Texts

@@ -21,7 +21,9 @@ pub goes_on : {E S X : Type 0} (item : S → Layout E X) (next : S → X → S) 
 unfolding repeated
 goes_on item next front count i s bytes p x q total lt h so_far =
     let k : count - i ≡ suc (count - (i + 1)) = omega arith in
-    let one : with_front front (repeated item next (count - i) s bytes p) ≡ with_front (front ++ x ∷ []) (repeated item next (count - (i + 1)) (next s x) bytes q) = rw (k, h) (regroup front x bytes (repeated item next (count - (i + 1)) (next s x) bytes q)) in
+    let one : with_front front (repeated item next (count - i) s bytes p)
+    ≡ with_front (front ++ x ∷ []) (repeated item next (count - (i + 1)) (next s x) bytes q) = rw (k, h)
+    (regroup front x bytes (repeated item next (count - (i + 1)) (next s x) bytes q)) in
     sym one ∙ so_far
 
 pub ends : {E S X : Type 0} (item : S → Layout E X) (next : S → X → S) (front : List X) (count i : ℕ) (s : S) (bytes : List ℕ) (p : ℕ) (e : E) (total : Result (List X × ℕ) E)

@@ -1,6 +1,7 @@
 -- Laws of any layout, on values and their texts: what is spelled so is read, whatever follows, and what is read is
 -- spelled so.
-use Rattle.std.proofs.Common.{eq-eqb, ◌≡◌, ℕ, zero, suc, ◌+◌, ◌^◌, ◌≤◌, ◌<◌, Bool, true, false, ltb, List, [], ◌∷◌, ◌++◌, length, get_or, take, drop, Result, Ok, refl, sym, ap, subst, ◌∙◌, append_assoc, length-append, arith, inl, inr}
+use Rattle.std.proofs.Common.{eq-eqb, ◌≡◌, ℕ, zero, suc, ◌+◌, ◌^◌, ◌≤◌, ◌<◌, Bool, true, false, ltb, List, [], ◌∷◌, ◌++◌, length, get_or, take, drop, Result}
+use Rattle.std.proofs.Common.{Ok, refl, sym, ap, subst, ◌∙◌, append_assoc, length-append, arith, inl, inr}
 use Rattle.std.specs.Prelude.{flat_map}
 use Rattle.std.specs.Int.{Width, w8, w16, w32, w64, byte_len, from_be_bytes, to_be_bytes}
 use Rattle.std.specs.Str.{bytes_eq}
@@ -81,7 +82,13 @@ pub number_field-read : {E : Type 0} (short wrong : ℕ → E) (w : Width) (limi
     → IsRead (number_field short wrong w low high) before n (to_be_bytes w n)
 unfolding number_field
 number_field-read short wrong w limit low high wide before n from_low to_high fits = record {
-  each = λ rest. rw (room-text (byte_len w) before (to_be_bytes w n) rest (wide.len n), piece-text (byte_len w) before (to_be_bytes w n) rest (wide.len n), wide.again n fits, within-true low high n from_low to_high, wide.len n) refl;
+  each = λ rest. rw (
+    room-text (byte_len w) before (to_be_bytes w n) rest (wide.len n),
+    piece-text (byte_len w) before (to_be_bytes w n) rest (wide.len n),
+    wide.again n fits,
+    within-true low high n from_low to_high,
+    wide.len n,
+  ) refl;
 }
 
 pub whole-read : {E A : Type 0} (before : List ℕ) (x : A) → IsRead {E = E} (whole x) before x []
@@ -152,7 +159,8 @@ sum_field-read {E} short wrong width sum len before = record {
 pub embedded-read : {E F A : Type 0} (moved : ℕ → E → F) (inner : Layout E A) (before : List ℕ) (x : A) (text : List ℕ) → IsRead inner [] x text → IsRead (embedded moved inner) before x text
 embedded-read {E} {F} {A} moved inner before x text h = record {
   each = λ rest.
-      ap (λ (b : List ℕ). from_there moved (length before) (inner b 0)) (drop_at before (text ++ rest) (length before) refl) ∙ ap (from_there moved (length before)) (h.each rest) ∙ ap (λ (n : ℕ). Ok (x, n)) (omega arith);
+      ap (λ (b : List ℕ). from_there moved (length before) (inner b 0)) (drop_at before (text ++ rest) (length before) refl) ∙ ap
+      (from_there moved (length before)) (h.each rest) ∙ ap (λ (n : ℕ). Ok (x, n)) (omega arith);
 }
 
 -- under another type of faults
@@ -196,7 +204,8 @@ pub record TakesBytes (width : ℕ) (test : List ℕ → Bool) (bytes : List ℕ
   pub passed : test x ≡ true
   pub len : length x ≡ width
 
-pub bytes_field-leaves : {E : Type 0} (short wrong : ℕ → E) (width : ℕ) (test : List ℕ → Bool) (bytes : List ℕ) (at : ℕ) → Leaves (bytes_field short wrong width test) bytes at (TakesBytes width test bytes at)
+pub bytes_field-leaves : {E : Type 0} (short wrong : ℕ → E) (width : ℕ) (test : List ℕ → Bool) (bytes : List ℕ) (at : ℕ)
+    → Leaves (bytes_field short wrong width test) bytes at (TakesBytes width test bytes at)
 bytes_field-leaves short wrong width test bytes at = record {
   each = λ x h.
       let f = bytes_field-ok short wrong width test bytes at x h in
@@ -219,7 +228,8 @@ number_field-leaves short wrong w limit low high wide bytes fits at = record {
       record { takes = rw (text, ← f.next) (Takes-piece bytes at (byte_len w) f.room); from_low = f.from_low; to_high = f.to_high };
 }
 
-pub sum_field-leaves : {E : Type 0} (short wrong : ℕ → E) (width : ℕ) (sum : List ℕ → List ℕ) (bytes : List ℕ) (at : ℕ) → Leaves (sum_field short wrong width sum) bytes at (TakesBytes width (bytes_eq (sum (take at bytes))) bytes at)
+pub sum_field-leaves : {E : Type 0} (short wrong : ℕ → E) (width : ℕ) (sum : List ℕ → List ℕ) (bytes : List ℕ) (at : ℕ)
+    → Leaves (sum_field short wrong width sum) bytes at (TakesBytes width (bytes_eq (sum (take at bytes))) bytes at)
 unfolding sum_field
 sum_field-leaves short wrong width sum bytes at = record { each = (bytes_field-leaves short wrong width (bytes_eq (sum (take at bytes))) bytes at).each }
 

@@ -39,7 +39,9 @@ bytes_field short wrong width test bytes at =
 -- A field that is a number from low to high, greatest byte first.
 unfoldable pub number_field : {E : Type 0} → (ℕ → E) → (ℕ → E) → Width → ℕ → ℕ → Layout E ℕ
 number_field short wrong w low high bytes at =
-    if nat_lt (length bytes) (at + byte_len w) then Err (short at) else if within low high (from_be_bytes w (piece (byte_len w) bytes at)) then Ok (from_be_bytes w (piece (byte_len w) bytes at), at + byte_len w) else Err (wrong at)
+    if nat_lt (length bytes) (at + byte_len w) then Err (short at) else if within low high
+    (from_be_bytes w (piece (byte_len w) bytes at)) then Ok
+    (from_be_bytes w (piece (byte_len w) bytes at), at + byte_len w) else Err (wrong at)
 
 -- A field of so many bytes that is a function of all bytes before it, as a digest is.
 unfoldable pub sum_field : {E : Type 0} → (ℕ → E) → (ℕ → E) → ℕ → (List ℕ → List ℕ) → Layout E (List ℕ)

@@ -11,13 +11,15 @@ use Rattle.octets_core.specs.declared.fault.Why.{Why}
 use Rattle.octets_core.specs.declared.fault.Why.TheVariants as why
 use Rattle.octets_core.specs.declared.fault.LayoutFault.{LayoutFault}
 
--- It gave the value and stands behind it, or it gave the fault.
-abbrev pub ReadsField : {X A : Type 0} → (X → A) → Layout LayoutFault A → Position → Position → Result X LayoutFault → Type 0
+-- It gave the value and stands behind it, or it gave the fault. The bytes are the same either way.
+abbrev pub ReadsField : {X A : Type 0} → (X → A) → Layout LayoutFault A → Position → Position
+    → Result X LayoutFault → Type 0
 ReadsField view layout old new (Ok x) = (layout old.bytes old.at ≡ Ok (view x, new.at)) × (new.bytes ≡ old.bytes)
-ReadsField view layout old new (Err e) = layout old.bytes old.at ≡ Err e
+ReadsField view layout old new (Err e) = (layout old.bytes old.at ≡ Err e) × (new.bytes ≡ old.bytes)
 
 -- The same under a type of faults of which one, want of memory, says nothing of the bytes.
-abbrev pub ReadsUnless : {E X A : Type 0} → E → (X → A) → Layout E A → Position → Position → Result X E → Type 0
+abbrev pub ReadsUnless : {E X A : Type 0} → E → (X → A) → Layout E A → Position → Position
+    → Result X E → Type 0
 ReadsUnless none view layout old new (Ok x) = (layout old.bytes old.at ≡ Ok (view x, new.at)) × (new.bytes ≡ old.bytes)
 ReadsUnless none view layout old new (Err e) = (e ≡ none → ⊥) → layout old.bytes old.at ≡ Err e
 

@@ -18,7 +18,9 @@ pub enum Why {
 pub struct LayoutFault {
     /// The offset of the field's first byte, from the beginning of the file or slice.
     pub at: u64,
+    /// The field.
     pub field: Field,
+    /// What is wrong with it.
     pub why: Why,
 }
 

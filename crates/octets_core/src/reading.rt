@@ -1,15 +1,17 @@
-//! The fields that this project's layouts share, read off a cursor. An `Err` is the layout's fault:
-//! the field that is short or fails its test, with the offset of its first byte.
+//! The fields that this project's layouts share, read off a cursor. An `Err` is the layout's fault: the field that is
+//! short or fails its test, with the offset of its first byte. After it the cursor still holds the same bytes, so that
+//! `passed`, `left` and further reads are about the same file; where in them it stands is not said.
 
-ghost use Rattle.std.specs.Prelude.{◌≡◌, ◌≤◌, length, take, IfOk};
+ghost use Rattle.std.specs.Prelude.{◌≤◌, IfOk};
 ghost use Rattle.std.specs.Int.{w8, w16, w32, w64};
-ghost use Rattle.octets_core.specs.Linked.{is_after};
-ghost use Rattle.octets_core.specs.Reading.{ReadsField, number, octets, length_of_three, key, any_key, magic, digest, end as end_of};
+ghost use Rattle.octets_core.specs.Linked.{is_after as is_key_after};
+ghost use Rattle.octets_core.specs.Reading.{ReadsField, number, octets, length_of_three, key, any_key, magic};
+ghost use Rattle.octets_core.specs.Reading.{digest, end as end_of};
 
 use crate::cursor::{Cursor, Short};
 use crate::fault::{LayoutFault, Why};
 use crate::field::Field;
-use crate::key::Key32;
+use crate::key::{Key32, is_after, key_of};
 use sha2::{Digest, Sha256};
 
 /// A number of one byte, from `low` to `high`.
@@ -111,15 +113,6 @@ pub fn read_octets<'a>(
     }
 }
 
-fn key_of(taken: &[u8]) -> Key32
-    requires { length taken.now ≡ 32 }
-    ensures { result ≡ taken.now }
-{
-    let mut bytes = [0u8; 32];
-    bytes.copy_from_slice(taken);
-    Key32::new(bytes)
-}
-
 /// A key of 32 bytes.
 #[tactic(auto, unfolding(crate::specs::Layout::bytes_field))]
 pub fn read_key(cursor: &mut Cursor<'_>, field: Field) -> Result<Key32, LayoutFault>
@@ -132,15 +125,6 @@ pub fn read_key(cursor: &mut Cursor<'_>, field: Field) -> Result<Key32, LayoutFa
     }
 }
 
-fn is_above(key: Key32, previous: Option<Key32>) -> bool
-    ensures { result ≡ is_after previous key }
-{
-    match previous {
-        None => true,
-        Some(previous) => previous.cmp(&key).is_lt(),
-    }
-}
-
 /// A key above the one before it, if there is one.
 #[tactic(auto, unfolding(crate::specs::Layout::bytes_field))]
 pub fn read_key_after(
@@ -148,11 +132,11 @@ pub fn read_key_after(
     field: Field,
     previous: Option<Key32>,
 ) -> Result<Key32, LayoutFault>
-    ensures { ReadsField (λ x. x) (key field (is_after previous)) cursor.old cursor.new result }
+    ensures { ReadsField (λ x. x) (key field (is_key_after previous)) cursor.old cursor.new result }
 {
     let at = cursor.at();
     let key = read_key(cursor, field)?;
-    if !is_above(key, previous) {
+    if !is_after(previous, &key) {
         return Err(LayoutFault::new(at, field, Why::Value));
     }
     Ok(key)

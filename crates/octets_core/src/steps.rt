@@ -30,6 +30,7 @@ impl<L: Ledger> Steps<L> {
         Steps { book, share }
     }
 
+    /// Counts one step more.
     pub fn tick(&mut self)
         ensures { self.new ≡ self.old + 1 }
     {

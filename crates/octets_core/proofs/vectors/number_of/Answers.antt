@@ -13,4 +13,8 @@ pub loop-b-preserved : goal.loop-b-preserved
 loop-b-preserved c = record { value = grind (arith, common_steps); bound = below_step _ _ _ c.loop-b.invariant.bound (omega arith) }
 
 pub returns : goal.returns
-returns c = record { value = grind (arith, common_steps); bound = let t : c.loop-b.n < 256 ^ length c.args.bytes.now = below_top c.loop-b.n c.loop-b.b-index (length c.args.bytes.now) c.loop-b.invariant.bound (omega arith) in omega arith }
+returns c = record {
+  value = grind (arith, common_steps);
+  bound = let t : c.loop-b.n
+      < 256 ^ length c.args.bytes.now = below_top c.loop-b.n c.loop-b.b-index (length c.args.bytes.now) c.loop-b.invariant.bound (omega arith) in omega arith;
+}
