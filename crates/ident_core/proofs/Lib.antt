@@ -1,3 +1,4 @@
 pub mod Serials
 pub mod Within
 pub mod RangeTexts
+pub mod RangeFacts

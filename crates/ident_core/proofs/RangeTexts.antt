@@ -4,7 +4,8 @@ use Rattle.std.specs.Prelude.{All, flat_map}
 use Rattle.std.specs.Int.{w64}
 use Rattle.octets_core.specs.Linked.{Linked, is_after}
 use Rattle.octets_core.proofs.Loops.{Linked-with}
-use Rattle.octets_core.proofs.Texts.{IsBytes, IsRead, reads, done, from_front, bytes_field-read, number_field-read, repeated-read, Leaves, Takes, ◌>>>◌, ◌>>-◌, whole-leaves, bytes_field-leaves, number_field-leaves, repeated-leaves, wide64, Linked-weaken}
+use Rattle.octets_core.proofs.Texts.{IsBytes, IsRead, reads, done, from_front, bytes_field-read, number_field-read, repeated-read, Leaves, Takes, ◌>>>◌, ◌>>-◌}
+use Rattle.octets_core.proofs.Texts.{whole-leaves, bytes_field-leaves, number_field-leaves, repeated-leaves, wide64, Linked-weaken}
 use Rattle.ident_core.specs.declared.range.Range.{Range}
 use Rattle.ident_core.specs.Coverage.{IsRangeAfter, AreRanges}
 use Rattle.ident_core.specs.RangeLayout.{range, ranges}

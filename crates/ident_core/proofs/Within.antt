@@ -25,7 +25,8 @@ some-lies new r h = let (k, x, lt, is, p) = Any-from_list_any (lies_in r) new h 
 some-test : (new : List Range) (r : Range) → Any (LiesIn r) new → lies_in_some new r ≡ true
 some-test new r (k, x, lt, is, p) = list_any-from_Any (lies_in r) new (k, x, lt, is, lies-test r x p)
 
-one-outside : (new : List Range) (r : Range) (rs : List Range) (b : Bool) → lies_in_some new r ≡ b → IsNone (option_map (λ (x : Range). x.log) (cond (not b) (Some r) (find (λ (x : Range). not (lies_in_some new x)) rs)))
+one-outside : (new : List Range) (r : Range) (rs : List Range) (b : Bool) → lies_in_some new r ≡ b
+    → IsNone (option_map (λ (x : Range). x.log) (cond (not b) (Some r) (find (λ (x : Range). not (lies_in_some new x)) rs)))
     → (b ≡ true) × IsNone (first_outside rs new)
 one-outside new r rs true is none = (refl, none)
 one-outside new r rs false is none = absurd cc

@@ -4,6 +4,7 @@ use Rattle.std.specs.Option.{option_map}
 use Rattle.std.specs.List.{list_any}
 use Rattle.std.specs.Str.{bytes_eq}
 use Rattle.octets_core.specs.Linked.{Linked, is_after}
+use Rattle.ident_core.specs.declared.bounds.TheConstants.{MAX_RANGES}
 use Rattle.ident_core.specs.declared.range.Range.{Range}
 use Rattle.ident_core.specs.declared.range.Sighting.{Sighting}
 
@@ -55,5 +56,5 @@ AreRanges ranges = Linked IsRangeAfter (λ previous r. Some r.log) None ranges
 
 -- what the head of a part may hold
 pub record RangesFit (ranges : List Range) : Type 0 where
-  pub few : length ranges ≤ 1024
+  pub few : length ranges ≤ MAX_RANGES
   pub ascending : AreRanges ranges

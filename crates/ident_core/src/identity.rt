@@ -1,19 +1,18 @@
 ghost use Rattle.std.specs.Prelude.{◌≡◌, ◌≤◌, ◌↔◌, length, IsOk, IfOk};
+ghost use Rattle.ident_core.specs.declared.bounds.TheConstants.{MAX_SERIAL};
 ghost use Rattle.ident_core.specs.Order.{identity_cmp, is_same as same};
 
+use crate::bounds::MAX_SERIAL;
 use octets_core::Key32;
 use std::cmp::Ordering;
 use std::marker::Model;
-
-/// The most octets of a serial that is in the profile. RFC 5280 (4.1.2.2) asks for 20; this project takes more.
-pub const MAX_SERIAL: usize = 32;
 
 /// The contents octets of a certificate's serialNumber (RFC 5280, 4.1.2.2) as they stand, 1 to 32 of them: zero,
 /// negative and non-minimal numbers too. Ordered by length, then by octets.
 #[derive(Clone, Copy, Debug, PartialEq, Eq, PartialOrd, Ord, Hash)]
 pub struct Serial {
     len: u8,
-    octets: [u8; 32],
+    octets: [u8; MAX_SERIAL],
 }
 
 impl Model for Serial {
@@ -39,14 +38,14 @@ pub struct BadSerial;
 impl Serial {
     /// The serial of these octets.
     pub fn new(octets: &[u8]) -> Result<Serial, BadSerial>
-        ensures fits { IsOk result ↔ ((1 ≤ length octets.now) × (length octets.now ≤ 32)) }
+        ensures fits { IsOk result ↔ ((1 ≤ length octets.now) × (length octets.now ≤ MAX_SERIAL)) }
         ensures value { IfOk result (λ serial. serial ≡ octets.now) }
     {
         let len = octets.len();
         if len == 0 || len > MAX_SERIAL {
             return Err(BadSerial);
         }
-        let mut padded = [0u8; 32];
+        let mut padded = [0u8; MAX_SERIAL];
         padded[..len].copy_from_slice(octets);
         Ok(Serial {
             len: len as u8,
@@ -58,7 +57,7 @@ impl Serial {
     pub fn bytes(&self) -> &[u8]
         ensures value { result.now ≡ self.now }
         ensures some { 1 ≤ length self.now }
-        ensures few { length self.now ≤ 32 }
+        ensures few { length self.now ≤ MAX_SERIAL }
     {
         &self.octets[..self.len as usize]
     }

@@ -1,13 +1,9 @@
 ghost use Rattle.std.specs.Prelude.{◌≡◌, ◌↔◌, IsTrue, IsNone};
-ghost use Rattle.octets_core.specs.Linked.{is_after};
-ghost use Rattle.octets_core.specs.Reading.{ReadsField};
-ghost use Rattle.ident_core.specs.Coverage.{Covers, covers as covers_of, LiesWithin, lies_in_some, first_outside, AreRanges, RangesFit};
-ghost use Rattle.ident_core.specs.RangeLayout.{range};
+ghost use Rattle.ident_core.specs.Coverage.{Covers, covers as covers_of, LiesWithin, lies_in_some, first_outside};
+ghost use Rattle.ident_core.specs.Coverage.{AreRanges, RangesFit};
 
-use octets_core::{Cursor, Field, Key32, LayoutFault, read_key_after, read_u64};
-
-/// The most ranges that the head of a part holds.
-pub const MAX_RANGES: usize = 1024;
+use crate::bounds::MAX_RANGES;
+use octets_core::{Key32, is_after};
 
 /// When a log saw a certificate.
 #[derive(Clone, Copy, Debug, PartialEq, Eq)]
@@ -55,21 +51,12 @@ pub fn shrinks(old: &[Range], new: &[Range]) -> Option<Key32>
     first_log_outside(old, new)
 }
 
-fn follows(previous: Option<Key32>, log: &Key32) -> bool
-    ensures { result ≡ is_after previous log.now }
-{
-    match previous {
-        None => true,
-        Some(previous) => previous.cmp(log).is_lt(),
-    }
-}
-
 fn are_ranges(ranges: &[Range]) -> bool
     ensures { IsTrue result ↔ AreRanges ranges.now }
 {
     let mut previous = None;
     for r in ranges {
-        if !follows(previous, &r.log) || r.to < r.from {
+        if !is_after(previous, &r.log) || r.to < r.from {
             return false;
         }
         previous = Some(r.log);
@@ -83,15 +70,4 @@ pub fn ranges_fit(ranges: &[Range]) -> bool
     ensures { IsTrue result ↔ RangesFit ranges.now }
 {
     ranges.len() <= MAX_RANGES && are_ranges(ranges)
-}
-
-/// Reads a range off a layout, behind the range of the previous log.
-#[tactic(auto, unfolding(crate::specs::RangeLayout::range))]
-pub fn read_range(cursor: &mut Cursor<'_>, previous: Option<Key32>) -> Result<Range, LayoutFault>
-    ensures { ReadsField (λ x. x) (range previous) cursor.old cursor.new result }
-{
-    let log = read_key_after(cursor, Field::RangeLog, previous)?;
-    let from = read_u64(cursor, Field::RangeFrom, 0, u64::MAX)?;
-    let to = read_u64(cursor, Field::RangeTo, from, u64::MAX)?;
-    Ok(Range { log, from, to })
 }
