@@ -8,6 +8,8 @@ use Rattle.octets_core.specs.declared.field.Field.{Field}
 use Rattle.octets_core.specs.declared.field.Field.TheVariants as fields
 use Rattle.octets_core.specs.declared.fault.Why.TheVariants as why
 use Rattle.octets_core.specs.declared.fault.LayoutFault.{LayoutFault}
+use Rattle.ident_core.specs.declared.bounds.TheConstants.{MAX_SERIAL}
+use Rattle.query_core.specs.declared.query.TheConstants.{MAX_QUERIES, MAX_SIGHTINGS}
 use Rattle.query_core.specs.declared.fault.QueriesFault.{QueriesFault}
 use Rattle.query_core.specs.declared.fault.QueriesFault.TheVariants as faults
 use Rattle.query_core.specs.Queries.{Query}
@@ -37,7 +39,7 @@ identity-bounded : IsBounded offset identity
 unfolding identity
 identity-bounded =
     bytes-bounded fields.QueryIssuer 32 _ >>> λ issuer.
-    number-bounded fields.QueryLength w8 1 32 >>> λ width.
+    number-bounded fields.QueryLength w8 1 MAX_SERIAL >>> λ width.
     bytes-bounded fields.QuerySerial width _ >>> λ serial.
     whole-bounded offset _
 
@@ -45,7 +47,7 @@ query-bounded : IsBounded offset query
 unfolding query
 query-bounded =
     identity-bounded >>> λ id.
-    number-bounded fields.QuerySightings w8 1 64 >>> λ count.
+    number-bounded fields.QuerySightings w8 1 MAX_SIGHTINGS >>> λ count.
     many-bounded sighting sighting-bounded count >>> λ list.
     whole-bounded offset _
 
@@ -53,7 +55,7 @@ body-bounded : IsBounded offset body
 unfolding body
 body-bounded =
     bytes-bounded fields.QueryMagic 8 _ >>> λ begin.
-    number-bounded fields.QueryCount w32 0 65536 >>> λ count.
+    number-bounded fields.QueryCount w32 0 MAX_QUERIES >>> λ count.
     many-bounded query query-bounded count
 
 end-within : (b : Bool) (bytes : List ℕ) (at : ℕ) → at ≤ length bytes → IsWithin {A = Unit {0}} offset bytes (cond b (Err (fault_at why.Value fields.End at)) (Ok (tt, at)))
@@ -79,6 +81,7 @@ fault-within faults.NoMemory bytes h = omega arith
 fault-within (faults.Layout f) bytes h = within-err bytes f (fielded query_file bytes 0) (file-bounded.each bytes 0 (omega arith)) (h (λ e. cc))
 
 -- a fault lies within the bytes
-pub at-of : {X : Type 0} (view : X → List Query) (bytes : List ℕ) (r : Result X QueriesFault) → GivesUnless faults.NoMemory view r (queries_in bytes) → IfErr r (λ e. offset_in_queries e ≤ length bytes)
+pub at-of : {X : Type 0} (view : X → List Query) (bytes : List ℕ) (r : Result X QueriesFault) → GivesUnless faults.NoMemory view r (queries_in bytes)
+    → IfErr r (λ e. offset_in_queries e ≤ length bytes)
 at-of view bytes (Ok x) h = tt
 at-of view bytes (Err e) h = fault-within e bytes h

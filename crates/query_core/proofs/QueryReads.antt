@@ -12,6 +12,8 @@ use Rattle.octets_core.specs.Reading.{any_key, end}
 use Rattle.octets_core.specs.declared.fault.LayoutFault.{LayoutFault}
 use Rattle.octets_core.proofs.Fields.{then_read-ok, ok_is}
 use Rattle.octets_core.proofs.Texts.{IsBytes, Takes, Takes-as, ◌>>>◌, Leaves, ◌>>-◌, whole-leaves, bytes_field-leaves, number_field-leaves, repeated-leaves, wide8, wide32, wide64}
+use Rattle.ident_core.specs.declared.bounds.TheConstants.{MAX_SERIAL}
+use Rattle.query_core.specs.declared.query.TheConstants.{MAX_QUERIES, MAX_SIGHTINGS}
 use Rattle.query_core.specs.Queries.{Query, IdentityFits, SightingFits, QueryFits, QueriesFit}
 use Rattle.query_core.specs.QueryText.{sighting_text, identity_text, query_text, queries_text}
 use Rattle.query_core.specs.QueryLayout.{sighting, identity, query, many, body, query_file}
@@ -45,7 +47,7 @@ identity-leaves : (bytes : List ℕ) → IsBytes bytes → (at : ℕ) → Leaves
 unfolding identity identity_text
 identity-leaves bytes fits at =
     bytes_field-leaves _ _ 32 any_key bytes at >>- λ issuer p a.
-    number_field-leaves _ _ w8 (2 ^ 8) 1 32 wide8 bytes fits p >>- λ width q b.
+    number_field-leaves _ _ w8 (2 ^ 8) 1 MAX_SERIAL wide8 bytes fits p >>- λ width q b.
     bytes_field-leaves _ _ width (λ b. true) bytes q >>- λ serial end c.
     whole-leaves _ bytes end _ (
       a.takes >>> Takes-as (to_be_bytes w8 width) (to_be_bytes w8 (length serial)) (ap (to_be_bytes w8) (sym c.len)) b.takes >>> c.takes,
@@ -56,7 +58,7 @@ query-leaves : (bytes : List ℕ) → IsBytes bytes → (at : ℕ) → Leaves qu
 unfolding query query_text
 query-leaves bytes fits at =
     identity-leaves bytes fits at >>- λ id p a.
-    number_field-leaves _ _ w8 (2 ^ 8) 1 64 wide8 bytes fits p >>- λ count q b.
+    number_field-leaves _ _ w8 (2 ^ 8) 1 MAX_SIGHTINGS wide8 bytes fits p >>- λ count q b.
     many-leaves sighting SightingFits sighting_text bytes (sighting-leaves bytes fits) count q b.takes.room >>- λ list end c.
     whole-leaves _ bytes end _ (
       a.0 >>> Takes-as (to_be_bytes w8 count) (to_be_bytes w8 (length list)) (ap (to_be_bytes w8) (sym c.2)) b.takes >>> c.0,
@@ -69,7 +71,7 @@ body-leaves : (bytes : List ℕ) → IsBytes bytes → Leaves body bytes 0 (λ q
 unfolding body queries_text
 body-leaves bytes fits =
     bytes_field-leaves _ _ 8 (bytes_eq (codes "CLUBQRY1")) bytes 0 >>- λ begin p a.
-    number_field-leaves _ _ w32 (2 ^ 32) 0 65536 wide32 bytes fits p >>- λ count q b.
+    number_field-leaves _ _ w32 (2 ^ 32) 0 MAX_QUERIES wide32 bytes fits p >>- λ count q b.
     record {
       each = λ x h.
           let c = (many-leaves query QueryFits query_text bytes (query-leaves bytes fits) count q b.takes.room).each x h in (

@@ -14,6 +14,8 @@ use Rattle.octets_core.proofs.Texts.{IsRead, Continues, reads, done, from_front,
 use Rattle.ident_core.specs.declared.identity.Identity.{Identity}
 use Rattle.ident_core.specs.declared.range.Sighting.{Sighting}
 use Rattle.ident_core.proofs.RangeTexts.{below_limit}
+use Rattle.ident_core.specs.declared.bounds.TheConstants.{MAX_SERIAL}
+use Rattle.query_core.specs.declared.query.TheConstants.{MAX_QUERIES, MAX_SIGHTINGS}
 use Rattle.query_core.specs.Queries.{Query, IdentityFits, SightingFits, QueryFits, QueriesFit}
 use Rattle.query_core.specs.QueryText.{sighting_text, identity_text, query_text, queries_text}
 use Rattle.query_core.specs.QueryLayout.{sighting, identity, query, many, body, query_file}
@@ -45,7 +47,7 @@ identity-read : (before : List ℕ) (id : Identity) → IdentityFits id → IsRe
 unfolding identity identity_text
 identity-read before id fits = from_front
     (reads _ (bytes_field-read _ _ 32 any_key _ id.issuer fits.issuer refl)
-    (reads _ (number_field-read _ _ w8 (2 ^ 8) 1 32 wide8 _ (length id.serial) fits.some_octets fits.few_octets (omega (arith, fits.few_octets)))
+    (reads _ (number_field-read _ _ w8 (2 ^ 8) 1 MAX_SERIAL wide8 _ (length id.serial) fits.some_octets fits.few_octets (omega (arith, fits.few_octets)))
     (reads _ (bytes_field-read _ _ (length id.serial) (λ b. _) _ id.serial refl refl)
     (done id))))
 
@@ -53,7 +55,7 @@ query-read : (before : List ℕ) (q : Query) → QueryFits q → IsRead query be
 unfolding query query_text
 query-read before q fits = from_front
     (reads _ (identity-read _ q.identity fits.identity)
-    (reads _ (number_field-read _ _ w8 (2 ^ 8) 1 64 wide8 _ (length q.sightings) fits.some_sightings fits.few_sightings (omega (arith, fits.few_sightings)))
+    (reads _ (number_field-read _ _ w8 (2 ^ 8) 1 MAX_SIGHTINGS wide8 _ (length q.sightings) fits.some_sightings fits.few_sightings (omega (arith, fits.few_sightings)))
     (reads _ (many-read sighting SightingFits sighting_text sighting-read _ q.sightings fits.sightings)
     (done q))))
 
@@ -63,7 +65,7 @@ body-read : (qs : List Query) → QueriesFit qs → IsRead body [] qs (queries_t
 unfolding body queries_text
 body-read qs fits = from_front
     (reads _ (bytes_field-read _ _ 8 (bytes_eq (codes "CLUBQRY1")) _ (codes "CLUBQRY1") refl refl)
-    (reads _ (number_field-read _ _ w32 (2 ^ 32) 0 65536 wide32 _ (length qs) (omega arith) fits.few (omega (arith, fits.few)))
+    (reads _ (number_field-read _ _ w32 (2 ^ 32) 0 MAX_QUERIES wide32 _ (length qs) (omega arith) fits.few (omega (arith, fits.few)))
     (last-read (many-read query QueryFits query_text query-read _ qs fits.each))))
 
 at-end : (bytes : List ℕ) → end bytes (length bytes) ≡ Ok (tt, length bytes)

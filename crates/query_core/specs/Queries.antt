@@ -1,7 +1,9 @@
 -- What a query file asks: certificates, each with the sightings that it was seen at; and the queries that have a text.
 use Rattle.std.specs.Prelude.{◌≡◌, ◌<◌, ◌≤◌, ◌^◌, List, length, All}
+use Rattle.ident_core.specs.declared.bounds.TheConstants.{MAX_SERIAL}
 use Rattle.ident_core.specs.declared.identity.Identity.{Identity}
 use Rattle.ident_core.specs.declared.range.Sighting.{Sighting}
+use Rattle.query_core.specs.declared.query.TheConstants.{MAX_QUERIES, MAX_SIGHTINGS}
 use Rattle.query_core.specs.declared.query.Asked.{Asked}
 use Rattle.query_core.specs.declared.query.Sightings.{Sightings}
 use Rattle.query_core.specs.declared.query.Sightings.TheVariants as several
@@ -22,7 +24,7 @@ as_query a = record { identity = a.identity; sightings = sightings_in a.sighting
 pub record IdentityFits (id : Identity) : Type 0 where
   pub issuer : length id.issuer ≡ 32
   pub some_octets : 1 ≤ length id.serial
-  pub few_octets : length id.serial ≤ 32
+  pub few_octets : length id.serial ≤ MAX_SERIAL
 
 pub record SightingFits (s : Sighting) : Type 0 where
   pub log : length s.log ≡ 32
@@ -32,10 +34,10 @@ pub record SightingFits (s : Sighting) : Type 0 where
 pub record QueryFits (q : Query) : Type 0 where
   pub identity : IdentityFits q.identity
   pub some_sightings : 1 ≤ length q.sightings
-  pub few_sightings : length q.sightings ≤ 64
+  pub few_sightings : length q.sightings ≤ MAX_SIGHTINGS
   pub sightings : All SightingFits q.sightings
 
 -- at most 65,536 of them
 pub record QueriesFit (qs : List Query) : Type 0 where
-  pub few : length qs ≤ 65536
+  pub few : length qs ≤ MAX_QUERIES
   pub each : All QueryFits qs

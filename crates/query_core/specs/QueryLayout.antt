@@ -5,8 +5,10 @@ use Rattle.octets_core.specs.Layout.{Layout, ◌>>=◌, whole, repeated}
 use Rattle.octets_core.specs.Reading.{number, octets, key, any_key, magic, end}
 use Rattle.octets_core.specs.declared.field.Field.TheVariants as fields
 use Rattle.octets_core.specs.declared.fault.LayoutFault.{LayoutFault}
+use Rattle.ident_core.specs.declared.bounds.TheConstants.{MAX_SERIAL}
 use Rattle.ident_core.specs.declared.identity.Identity.{Identity}
 use Rattle.ident_core.specs.declared.range.Sighting.{Sighting}
+use Rattle.query_core.specs.declared.query.TheConstants.{MAX_QUERIES, MAX_SIGHTINGS}
 use Rattle.query_core.specs.Queries.{Query}
 
 unfoldable pub sighting : Layout LayoutFault Sighting
@@ -25,14 +27,14 @@ sightings count = many sighting count
 unfoldable pub identity : Layout LayoutFault Identity
 identity = do
   issuer ← key fields.QueryIssuer any_key
-  width ← number fields.QueryLength w8 1 32
+  width ← number fields.QueryLength w8 1 MAX_SERIAL
   serial ← octets fields.QuerySerial width
   whole (record { issuer = issuer; serial = serial })
 
 unfoldable pub query : Layout LayoutFault Query
 query = do
   id ← identity
-  count ← number fields.QuerySightings w8 1 64
+  count ← number fields.QuerySightings w8 1 MAX_SIGHTINGS
   list ← sightings count
   whole (record { identity = id; sightings = list })
 
@@ -43,7 +45,7 @@ queries count = many query count
 unfoldable pub body : Layout LayoutFault (List Query)
 body = do
   begin ← magic fields.QueryMagic (codes "CLUBQRY1")
-  count ← number fields.QueryCount w32 0 65536
+  count ← number fields.QueryCount w32 0 MAX_QUERIES
   queries count
 
 -- a whole file

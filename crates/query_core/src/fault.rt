@@ -2,13 +2,16 @@ ghost use Rattle.std.specs.Prelude.{◌≡◌};
 
 use octets_core::LayoutFault;
 use std::alloc::{AllocError, AllocFailed};
+use thiserror::Error;
 
 /// Why bytes give no queries.
-#[derive(Clone, Copy, Debug, PartialEq, Eq)]
+#[derive(Clone, Copy, Debug, PartialEq, Eq, Error)]
 pub enum QueriesFault {
     /// A field is short or fails its test.
+    #[error("a field is short or has a value that it may not have")]
     Layout(LayoutFault),
     /// Want of memory.
+    #[error("want of memory")]
     NoMemory,
 }
 

@@ -12,7 +12,8 @@ pub fn a_text_is_read_back()
 
 /// What is read as queries is the text of queries that fit, from the first byte to the last.
 pub fn only_a_text_is_read()
-    ensures { (bytes : List ℕ) (qs : List Query) (n : ℕ) → ((i : ℕ) → get_or bytes i 0 < 256) → query_file bytes 0 ≡ Ok (qs, n) → (bytes ≡ queries_text qs) × QueriesFit qs }
+    ensures { (bytes : List ℕ) (qs : List Query) (n : ℕ) → ((i : ℕ) → get_or bytes i 0 < 256)
+        → query_file bytes 0 ≡ Ok (qs, n) → (bytes ≡ queries_text qs) × QueriesFit qs }
 {}
 
 /// Queries that have one text are the same.

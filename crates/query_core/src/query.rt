@@ -3,10 +3,18 @@ ghost use Rattle.query_core.specs.Queries.{sightings_in};
 
 use ident_core::{Identity, Sighting};
 
+/// The most queries of a file.
+pub const MAX_QUERIES: u32 = 65_536;
+
+/// The most sightings of a query.
+pub const MAX_SIGHTINGS: u8 = 64;
+
 /// The sightings of a query. Most certificates are asked with one, which stands in place.
 #[derive(Debug, Drop)]
 pub enum Sightings {
+    /// One, in place.
     One([Sighting; 1]),
+    /// Any others.
     Several(Vec<Sighting>),
 }
 
@@ -25,6 +33,7 @@ impl Sightings {
 /// A certificate to ask a store about.
 #[derive(Debug, Drop)]
 pub struct Asked {
+    /// Its issuer and serial.
     pub identity: Identity,
     /// When logs saw it, in the order of the file.
     pub sightings: Sightings,

@@ -2,14 +2,16 @@
 
 ghost use Rattle.std.specs.Prelude.{◌≡◌, ◌≤◌, ℕ, List, length, map, All, Ok, IfOk, IfErr};
 ghost use Rattle.octets_core.specs.Reading.{ReadsField, GivesUnless, octets};
+ghost use Rattle.ident_core.specs.declared.bounds.TheConstants.{MAX_SERIAL};
 ghost use Rattle.query_core.specs.Queries.{Query, as_query, sightings_in, QueryFits, QueriesFit};
-ghost use Rattle.query_core.specs.QueryLayout.{sighting, sightings as sightings_layout, identity, query, queries as queries_layout, body};
+ghost use Rattle.query_core.specs.QueryLayout.{sighting, sightings as sightings_layout, identity, query};
+ghost use Rattle.query_core.specs.QueryLayout.{queries as queries_layout, body};
 ghost use Rattle.query_core.specs.QueryText.{queries_text};
 ghost use Rattle.query_core.specs.QueryReading.{Reads, queries_in, offset_in_queries};
 
 use crate::fault::QueriesFault;
-use crate::query::{Asked, Sightings};
-use ident_core::{Identity, Serial, Sighting};
+use crate::query::{Asked, MAX_QUERIES, MAX_SIGHTINGS, Sightings};
+use ident_core::{Identity, MAX_SERIAL, Serial, Sighting};
 use octets_core::{
     Cursor, Field, LayoutFault, Why, read_end, read_key, read_magic, read_u8, read_u32, read_u64,
 };
@@ -64,7 +66,7 @@ fn sightings_of(
 #[tactic(auto, unfolding(octets_core::specs::Layout::bytes_field))]
 fn serial_of(cursor: &mut Cursor<'_>, width: u8) -> Result<Serial, LayoutFault>
     requires some { 1 ≤ width }
-    requires few { width ≤ 32 }
+    requires few { width ≤ MAX_SERIAL }
     ensures { ReadsField (λ x. x) (octets Field.QuerySerial width) cursor.old cursor.new result }
 {
     let at = cursor.at();
@@ -82,7 +84,7 @@ fn identity_of(cursor: &mut Cursor<'_>) -> Result<Identity, LayoutFault>
     ensures { ReadsField (λ x. x) identity cursor.old cursor.new result }
 {
     let issuer = read_key(cursor, Field::QueryIssuer)?;
-    let width = read_u8(cursor, Field::QueryLength, 1, 32)?;
+    let width = read_u8(cursor, Field::QueryLength, 1, MAX_SERIAL as u8)?;
     let serial = serial_of(cursor, width)?;
     Ok(Identity { issuer, serial })
 }
@@ -92,7 +94,7 @@ fn query_of(alloc: Global, cursor: &mut Cursor<'_>) -> Result<Asked, QueriesFaul
     ensures { Reads as_query query cursor.old cursor.new result }
 {
     let identity = identity_of(cursor)?;
-    let count = read_u8(cursor, Field::QuerySightings, 1, 64)?;
+    let count = read_u8(cursor, Field::QuerySightings, 1, MAX_SIGHTINGS)?;
     let sightings = sightings_of(alloc, cursor, count)?;
     Ok(Asked {
         identity,
@@ -120,7 +122,7 @@ fn body_of(alloc: Global, cursor: &mut Cursor<'_>) -> Result<Vec<Asked>, Queries
     ensures { Reads (λ v. map as_query v.items) body cursor.old cursor.new result }
 {
     read_magic(cursor, Field::QueryMagic, b"CLUBQRY1")?;
-    let count = read_u32(cursor, Field::QueryCount, 0, 65_536)?;
+    let count = read_u32(cursor, Field::QueryCount, 0, MAX_QUERIES)?;
     queries_of(alloc, cursor, count)
 }
 
@@ -146,7 +148,8 @@ pub fn read_queries(alloc: Global, bytes: &[u8]) -> Result<Vec<Asked>, QueriesFa
     // Each has 1 to 64 sightings, and a serial, keys and times that fit their fields.
     ensures each { IfOk result (λ v. All (λ a. QueryFits (as_query a)) v.items) }
     // The text of queries is read as them, unless memory is wanted.
-    ensures only { (qs : List Query) → QueriesFit qs → bytes.now ≡ queries_text qs → GivesUnless QueriesFault.NoMemory (λ v. map as_query v.items) result (Ok qs) }
+    ensures only { (qs : List Query) → QueriesFit qs → bytes.now ≡ queries_text qs
+        → GivesUnless QueriesFault.NoMemory (λ v. map as_query v.items) result (Ok qs) }
     ensures at { IfErr result (λ e. offset_in_queries e ≤ length bytes.now) }
 {
     file_of(alloc, bytes)

@@ -21,13 +21,15 @@ wrapped read = with_fault faults.Layout read
 pub returns-in_err-sighting : goal.returns-in_err-sighting
 returns-in_err-sighting c =
     let p = err_from_is_err_and c.from_residual-in_err-sighting.result c.from_residual-in_err-sighting.ensures.1 in
-    rw (p.1, p.2) (λ wants. ap wrapped (ends each same c.loop.sightings.items c.args.count c.loop.counter tt c.loop.cursor.bytes c.loop.cursor.at c.in_err-sighting.field-0.0 _ c.loop-test.true c.in_err-sighting.ensures c.loop.invariant.read))
+    rw (p.1, p.2) (λ wants. ap wrapped (ends each same c.loop.sightings.items c.args.count c.loop.counter tt c.loop.cursor.bytes c.loop.cursor.at
+    c.in_err-sighting.field-0.0 _ c.loop-test.true c.in_err-sighting.ensures.0 c.loop.invariant.read))
 
 pub loop-preserved : goal.loop-preserved
 loop-preserved c =
     let read = c.in_ok-sighting.ensures in
     record {
-      read = rw (c.in_ok-push.ensures.items, read.1) (goes_on each same c.loop.sightings.items c.args.count c.loop.counter tt c.loop.cursor.bytes c.loop.cursor.at c.in_ok-sighting.sighting c.sighting_of.new.cursor.at _ c.loop-test.true read.0 c.loop.invariant.read);
+      read = rw (c.in_ok-push.ensures.items, read.1) (goes_on each same c.loop.sightings.items c.args.count c.loop.counter tt c.loop.cursor.bytes
+          c.loop.cursor.at c.in_ok-sighting.sighting c.sighting_of.new.cursor.at _ c.loop-test.true read.0 c.loop.invariant.read);
       same = read.1 ∙ c.loop.invariant.same;
     }
 
