@@ -1,5 +1,6 @@
 -- What one piece after another leaves in a file, and what is left of the others.
-use Rattle.std.proofs.Common.{◌≡◌, ℕ, zero, suc, ◌+◌, ◌≤◌, inl, inr, List, [], ◌∷◌, ◌++◌, take, drop, length, Option, None, Some, refl, sym, ap, ◌∙◌, append_assoc, append-nil, arith, length-take, length-drop}
+use Rattle.std.proofs.Common.{◌≡◌, ℕ, zero, suc, ◌+◌, ◌≤◌, inl, inr, List, [], ◌∷◌, ◌++◌, take, drop, length, Option, None, Some, refl, sym, ap, ◌∙◌}
+use Rattle.std.proofs.Common.{append_assoc, append-nil, arith, length-take, length-drop}
 use Rattle.std.specs.Option.{option_map}
 use Rattle.std.specs.FinMap.{insert}
 use Rattle.outside_core.specs.Files.{Files, held, putting, appending, extending, Torn, KeepsOthers}

@@ -1,5 +1,6 @@
 -- What a change of the entries is as a change of the files.
-use Rattle.std.proofs.Common.{◌≡◌, ℕ, zero, suc, ◌<◌, Bool, List, [], ◌∷◌, ◌++◌, true, false, cond, map, length, Option, Some, None, refl, sym, ap, ◌∙◌, arith, nat_lt, is_some, not, ◌≤◌, unwrap_or, Vec, Global}
+use Rattle.std.proofs.Common.{◌≡◌, ℕ, zero, suc, ◌<◌, Bool, List, [], ◌∷◌, ◌++◌, true, false, cond, map, length, Option, Some, None, refl, sym, ap, ◌∙◌, arith}
+use Rattle.std.proofs.Common.{nat_lt, is_some, not, ◌≤◌, unwrap_or, Vec, Global}
 use Rattle.std.proofs.Math.ListN.{set, get_or}
 use Rattle.std.specs.List.{position_or_len}
 use Rattle.std.proofs.lemmas.List.Sums.{prefix_len_passes}
@@ -116,7 +117,8 @@ place_of-None name es d is k lt =
     not-false false h = refl
 
 -- the files after an entry was replaced
-pub files_of-set : (es : List Entry) (name : List ℕ) (i : ℕ) (d new : Entry) → string_bytes new.name ≡ name → place_of es name ≡ Some i → files_of (set es i new) ≡ insert (files_of es) name new.bytes.items
+pub files_of-set : (es : List Entry) (name : List ℕ) (i : ℕ) (d new : Entry) → string_bytes new.name ≡ name → place_of es name ≡ Some i
+    → files_of (set es i new) ≡ insert (files_of es) name new.bytes.items
 files_of-set es name i d new e is =
     let at = position-Some (is_at name) es i d is in
     files_of-insert es (set es i new) name new.bytes.items (look-set name new e es i d at.0 at.1 at.2)

@@ -38,9 +38,15 @@ Rose before now = min (before + 1) (2 ^ 64 - 1) ≤ now
 abbrev pub IsMissing : Option Files → List ℕ → Type 0
 IsMissing told name = (files : Files) × (told ≡ Some files) × (get files name ≡ None)
 
--- a read failed: a read fault was counted, or the name isn't held
-abbrev pub ReadFailed : Option Files → List ℕ → ℕ → ℕ → Type 0
-ReadFailed told name before now = Rose before now ⊎ IsMissing told name
+-- the names of the failed reads with this one behind them; nothing where they aren't told
+abbrev pub blaming : Option (List (List ℕ)) → List ℕ → Option (List (List ℕ))
+blaming told name = option_map (λ names. names ++ name ∷ []) told
+
+-- What a read of this name that failed leaves of the count of read faults and of the names of the failed reads: a fault
+-- was counted, and the name came behind the others; or the name isn't held, and no name came behind them.
+abbrev pub FailedRead : Option Files → List ℕ → ℕ → ℕ → Option (List (List ℕ)) → Option (List (List ℕ)) → Type 0
+FailedRead told name faults faults_now failed failed_now =
+    (Rose faults faults_now × (failed_now ≡ blaming failed name)) ⊎ (IsMissing told name × (failed_now ≡ failed))
 
 -- the first n bytes of the buffer are the file's from this place
 pub record IsPiece (bytes : List ℕ) (at : ℕ) (buf : List ℕ) (n : ℕ) : Type 0 where
@@ -50,7 +56,8 @@ pub record IsPiece (bytes : List ℕ) (at : ℕ) (buf : List ℕ) (n : ℕ) : Ty
 
 -- where files are told, what a read that went well gives
 abbrev pub Gives : Option Files → List ℕ → ℕ → List ℕ → ℕ → Type 0
-Gives told name at buf n = (files : Files) → told ≡ Some files → (bytes : List ℕ) × (get files name ≡ Some bytes) × IsPiece bytes at buf n
+Gives told name at buf n =
+    (files : Files) → told ≡ Some files → (bytes : List ℕ) × (get files name ≡ Some bytes) × IsPiece bytes at buf n
 
 -- what an append that answers n leaves
 pub record Appended (old new : Option Files) (name piece : List ℕ) (n : ℕ) : Type 0 where
@@ -64,4 +71,6 @@ Torn old new name piece = (new ≡ old) ⊎ ((k : ℕ) × (k ≤ length piece) �
 
 -- each other name holds what it held
 abbrev pub KeepsOthers : Option Files → Option Files → List ℕ → Type 0
-KeepsOthers old new name = (files : Files) → old ≡ Some files → (later : Files) × (new ≡ Some later) × ((other : List ℕ) → other ≢ name → get later other ≡ get files other)
+KeepsOthers old new name =
+    (files : Files) → old ≡ Some files
+    → (later : Files) × (new ≡ Some later) × ((other : List ℕ) → other ≢ name → get later other ≡ get files other)

@@ -1,4 +1,5 @@
 pub mod Files
+pub mod Effects
 pub mod Written
 pub mod Calls
 pub mod Entries

@@ -1,5 +1,6 @@
-ghost use Rattle.std.specs.Prelude.{◌≡◌, ◌≤◌, OnOk, OnErr};
+ghost use Rattle.std.specs.Prelude.{◌≡◌, OnOk, OnErr};
 ghost use Rattle.outside_core.specs.Files.{extending, Torn, KeepsOthers, Rose};
+ghost use Rattle.outside_core.specs.Effects.{OnlyWrites};
 
 use crate::depot::{Depot, Failed};
 use crate::piece::next_piece;
@@ -11,8 +12,7 @@ pub fn append_all<D: Depot>(depot: &mut D, name: &str, bytes: &[u8]) -> Result<(
     ensures err { OnErr result (Torn (D.files depot.old) (D.files depot.new) name.now bytes.now) }
     ensures others { KeepsOthers (D.files depot.old) (D.files depot.new) name.now }
     ensures cause { OnErr result (Rose (D.write_faults depot.old) (D.write_faults depot.new)) }
-    ensures later { D.write_faults depot.old ≤ D.write_faults depot.new }
-    ensures same_reads { D.read_faults depot.new ≡ D.read_faults depot.old }
+    ensures only_writes { OnlyWrites D.Depot depot.old depot.new }
 {
     let mut done = 0;
     while done < bytes.len() {

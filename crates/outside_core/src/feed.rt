@@ -1,6 +1,6 @@
 ghost use Rattle.std.specs.Prelude.{◌≡◌, ◌≤◌, ◌<◌, ◌+◌, ◌-◌, ◌^◌, ◌⊎◌, [], length, drop, IsOk, IfOk, OnOk, OnErr};
-ghost use Rattle.outside_core.specs.Files.{ReadFailed};
-ghost use Rattle.outside_core.specs.Feeding.{InOrder, Offers};
+ghost use Rattle.outside_core.specs.Effects.{ReadFailed, OnlyReads};
+ghost use Rattle.outside_core.specs.Feeding.{most_at_once};
 
 use crate::depot::{Depot, Failed};
 use crate::window::Window;
@@ -20,7 +20,7 @@ impl<'a, D: Depot> Feed<'a, D> {
     ghost use mir.Syntax.{named};
     ghost use Rattle.std.specs.Io.BufRead.{Rests};
     ghost use Rattle.outside_core.specs.contracts.feed.Feed.{the_row as feed_row};
-    ghost use Rattle.outside_core.specs.Filling.{Filled};
+    ghost use Rattle.outside_core.specs.Filling.{IsInOrder, OffersNext, Filled};
 
     /// A feed that stands at the file's first byte. Nothing is read yet.
     pub fn new(depot: &'a mut D, name: &'a str) -> Feed<'a, D>
@@ -29,7 +29,7 @@ impl<'a, D: Depot> Feed<'a, D> {
         ensures name { result.name.now ≡ name.now }
         ensures at { result.at ≡ 0 }
         ensures window { result.window ≡ [] }
-        ensures in_order { InOrder (D.files result.depot.now) result.name.now result.at result.window }
+        ensures in_order { IsInOrder D.Depot result }
     {
         Feed {
             depot,
@@ -44,14 +44,14 @@ impl<'a, D: Depot> Feed<'a, D> {
         ensures same_reference { self.new.depot.ghost_name ≡ self.old.depot.ghost_name }
         ensures name { self.new.name.now ≡ self.old.name.now }
         ensures at { self.new.at ≡ self.old.at }
-        ensures in_order { InOrder (D.files self.old.depot.now) self.old.name.now self.old.at self.old.window → InOrder (D.files self.new.depot.now) self.new.name.now self.new.at self.new.window }
-        ensures ok { OnOk result (InOrder (D.files self.old.depot.now) self.old.name.now self.old.at self.old.window → Offers (D.files self.old.depot.now) self.old.name.now self.old.at self.new.window) }
+        ensures in_order { IsInOrder D.Depot self.old → IsInOrder D.Depot self.new }
+        ensures ok { OnOk result (IsInOrder D.Depot self.old → OffersNext D.Depot self.old self.new.window) }
         ensures err { OnErr result (self.new.window ≡ self.old.window) }
-        ensures kept { (0 < length self.old.window) ⊎ (self.old.at ≡ 2 ^ 64 - 1) → IsOk result × (self.new.window ≡ self.old.window) × (self.new.depot.now ≡ self.old.depot.now) }
-        ensures cause { OnErr result (ReadFailed (D.files self.old.depot.now) self.old.name.now (D.read_faults self.old.depot.now) (D.read_faults self.new.depot.now)) }
-        ensures later { D.read_faults self.old.depot.now ≤ D.read_faults self.new.depot.now }
-        ensures same_files { D.files self.new.depot.now ≡ D.files self.old.depot.now }
-        ensures same_writes { D.write_faults self.new.depot.now ≡ D.write_faults self.old.depot.now }
+        ensures kept { (0 < length self.old.window) ⊎ (self.old.at ≡ 2 ^ 64 - 1)
+            → IsOk result × (self.new.window ≡ self.old.window) × (self.new.depot.now ≡ self.old.depot.now) }
+        ensures cause { OnErr result (ReadFailed D.Depot self.old.name.now self.old.depot.now self.new.depot.now) }
+        ensures unblamed { OnOk result (D.failed_reads self.new.depot.now ≡ D.failed_reads self.old.depot.now) }
+        ensures only_reads { OnlyReads D.Depot self.old.depot.now self.new.depot.now }
     {
         self.window.fill_from(self.depot, self.name, self.at)
     }
@@ -59,7 +59,7 @@ impl<'a, D: Depot> Feed<'a, D> {
     /// The bytes that are buffered and aren't taken.
     pub fn buffered(&self) -> &[u8]
         ensures value { result.now ≡ self.now.window }
-        ensures bound { length result.now ≤ 4096 }
+        ensures bound { length result.now ≤ most_at_once }
     {
         self.window.as_slice()
     }
@@ -67,10 +67,10 @@ impl<'a, D: Depot> Feed<'a, D> {
     /// The bytes that are buffered and aren't taken; where there are none, the next piece is read first. No bytes are
     /// the end of the file. After `Failed` the feed is as it was.
     pub fn fill(&mut self) -> Result<&[u8], Failed>
-        ensures ok { IfOk result (λ bytes. InOrder (D.files self.old.depot.now) self.old.name.now self.old.at self.old.window → Offers (D.files self.old.depot.now) self.old.name.now self.old.at bytes.now) }
+        ensures ok { IfOk result (λ bytes. IsInOrder D.Depot self.old → OffersNext D.Depot self.old bytes.now) }
         ensures kept { (0 < length self.old.window) ⊎ (self.old.at ≡ 2 ^ 64 - 1) → IsOk result × IfOk result (λ bytes. bytes.now ≡ self.old.window) }
-        ensures bound { IfOk result (λ bytes. length bytes.now ≤ 4096) }
-        ensures* after_borrow { sem 𝓛 (Rests (feed_row (record { mir = named 1; lft = [] }) D.row) self.entry (λ new. Filled D.files D.read_faults D.write_faults self.old new result)) }
+        ensures bound { IfOk result (λ bytes. length bytes.now ≤ most_at_once) }
+        ensures* after_borrow { sem 𝓛 (Rests (feed_row (record { mir = named 1; lft = [] }) D.row) self.entry (λ new. Filled D.Depot self.old new result)) }
     {
         self.refill()?;
         Ok(self.buffered())
@@ -84,7 +84,7 @@ impl<'a, D: Depot> Feed<'a, D> {
         ensures name { self.new.name.now ≡ self.old.name.now }
         ensures at { self.new.at ≡ self.old.at + n }
         ensures window { self.new.window ≡ drop n self.old.window }
-        ensures in_order { InOrder (D.files self.old.depot.now) self.old.name.now self.old.at self.old.window → InOrder (D.files self.new.depot.now) self.new.name.now self.new.at self.new.window }
+        ensures in_order { IsInOrder D.Depot self.old → IsInOrder D.Depot self.new }
     {
         self.window.consume(n);
         self.at += n as u64;

@@ -1,4 +1,4 @@
-ghost use Rattle.std.specs.Prelude.{◌≡◌, ℕ, ◌≤◌, Option, List, OnOk, IfOk, OnErr};
+ghost use Rattle.std.specs.Prelude.{◌≡◌, ℕ, ◌≤◌, Option, List, [], Ok, OnOk, IfOk, OnErr};
 ghost use Rattle.outside_core.specs.Files.{Rose};
 ghost use Rattle.outside_core.specs.Written.{followed_by, Took, CutShort};
 
@@ -12,12 +12,14 @@ pub trait Sink {
     /// How many writes have failed.
     ghost faults: { Self → ℕ };
 
-    /// Writes a front of the bytes, and answers how many it took: of bytes that are there at least one. After
-    /// `Failed` some front was written.
+    /// Writes a front of the bytes, and answers how many it took: of bytes that are there at least one. An empty piece
+    /// is answered by `Ok(0)`, and changes nothing. After `Failed` some front was written.
     fn write(&mut self, bytes: &[u8]) -> Result<usize, Failed>
         ensures ok { IfOk result (Took (written self.old) (written self.new) bytes.now) }
         ensures err { OnErr result (CutShort (written self.old) (written self.new) bytes.now) }
         ensures cause { OnErr result (Rose (faults self.old) (faults self.new)) }
+        ensures empty { bytes.now ≡ []
+            → (result ≡ Ok 0) × (written self.new ≡ written self.old) × (faults self.new ≡ faults self.old) }
         ensures later { faults self.old ≤ faults self.new };
 }
 

@@ -1,6 +1,6 @@
 ghost use Rattle.std.specs.Prelude.{◌≡◌, ◌≤◌, ◌<◌, ◌+◌, ◌-◌, ◌^◌, ◌⊎◌, [], length, drop, IsOk, OnOk, OnErr};
-ghost use Rattle.outside_core.specs.Files.{ReadFailed};
-ghost use Rattle.outside_core.specs.Feeding.{InOrder, Offers};
+ghost use Rattle.outside_core.specs.Effects.{ReadFailed, OnlyReads};
+ghost use Rattle.outside_core.specs.Feeding.{InOrder, Offers, most_at_once};
 
 use crate::depot::{Depot, Failed};
 use std::marker::Model;
@@ -18,13 +18,13 @@ pub struct Window {
 
 impl Model for Window {
     ghost use Rattle.std.specs.Prelude.{List, ℕ, ◌≤◌};
-    ghost use Rattle.outside_core.specs.Feeding.{untaken};
+    ghost use Rattle.outside_core.specs.Feeding.{untaken, most_at_once};
 
     ghost Value = { List ℕ };
 
     ghost view = { λ w. untaken w.buffer w.start w.end };
 
-    ghost invariant = { λ w. (w.start ≤ w.end) × (w.end ≤ 4096) };
+    ghost invariant = { λ w. (w.start ≤ w.end) × (w.end ≤ most_at_once) };
 }
 
 impl Window {
@@ -40,7 +40,7 @@ impl Window {
 
     pub fn as_slice(&self) -> &[u8]
         ensures value { result.now ≡ self.now }
-        ensures bound { length result.now ≤ 4096 }
+        ensures bound { length result.now ≤ most_at_once }
     {
         &self.buffer[self.start..self.end]
     }
@@ -60,10 +60,9 @@ impl Window {
         ensures ok { OnOk result (InOrder (D.files depot.old) name.now at self.old → Offers (D.files depot.old) name.now at self.new) }
         ensures err { OnErr result (self.new ≡ self.old) }
         ensures kept { (0 < length self.old) ⊎ (at ≡ 2 ^ 64 - 1) → IsOk result × (self.new ≡ self.old) × (depot.new ≡ depot.old) }
-        ensures cause { OnErr result (ReadFailed (D.files depot.old) name.now (D.read_faults depot.old) (D.read_faults depot.new)) }
-        ensures later { D.read_faults depot.old ≤ D.read_faults depot.new }
-        ensures same_files { D.files depot.new ≡ D.files depot.old }
-        ensures same_writes { D.write_faults depot.new ≡ D.write_faults depot.old }
+        ensures cause { OnErr result (ReadFailed D.Depot name.now depot.old depot.new) }
+        ensures unblamed { OnOk result (D.failed_reads depot.new ≡ D.failed_reads depot.old) }
+        ensures only_reads { OnlyReads D.Depot depot.old depot.new }
     {
         if self.start < self.end || at == u64::MAX {
             return Ok(());

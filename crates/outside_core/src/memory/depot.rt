@@ -1,8 +1,9 @@
-ghost use Rattle.std.specs.Prelude.{◌≡◌, ◌≤◌, List, ℕ, [], length, OnOk, OnErr, Some, IsTrue, IsErr, IfOk, ◌⊎◌};
+ghost use Rattle.std.specs.Prelude.{◌≡◌, ◌≤◌, ◌<◌, ◌⊎◌, List, ℕ, [], length, Some, IsSome, Ok, IsOk, IsErr, IfOk, OnOk, OnErr, IsTrue};
+ghost use Rattle.std.specs.Bool.{OnFalse};
 ghost use Rattle.std.specs.Option.{option_copied};
 ghost use Rattle.std.specs.Result.{result_ok, is_err};
 ghost use Rattle.std.specs.FinMap.{get, insert, empty};
-ghost use Rattle.outside_core.specs.Files.{Rose, IsMissing, ReadFailed, Gives, Appended, Torn, putting, extending};
+ghost use Rattle.outside_core.specs.Files.{Rose, IsMissing, FailedRead, Gives, Appended, Torn, putting, extending};
 ghost use Rattle.outside_core.specs.Calls.{no_calls, is_failing, with_failing, after_call};
 ghost use Rattle.outside_core.specs.View.{read_count, read_fails};
 
@@ -84,9 +85,13 @@ impl MemoryDepot {
 }
 
 impl Depot for MemoryDepot {
+    ghost use Rattle.std.specs.Prelude.{None};
+
     ghost files = { λ d. Some d.files };
 
     ghost read_faults = { λ d. d.reads.faults };
+
+    ghost failed_reads = { λ _. None };
 
     ghost write_faults = { λ d. d.writes.faults };
 
@@ -96,7 +101,7 @@ impl Depot for MemoryDepot {
         // The trait's clauses.
         ensures count { IfOk result (λ n. n ≤ length buf.old) }
         ensures bytes { IfOk result (λ n. Gives (Some self.old.files) name.now at buf.new n) }
-        ensures cause { OnErr result (ReadFailed (Some self.old.files) name.now self.old.reads.faults self.new.reads.faults) }
+        ensures cause { OnErr result (FailedRead (Some self.old.files) name.now self.old.reads.faults self.new.reads.faults None None) }
         ensures missing { IsMissing (Some self.old.files) name.now → self.new.reads.faults ≡ self.old.reads.faults }
         ensures later { self.old.reads.faults ≤ self.new.reads.faults }
         ensures same_files { Some self.new.files ≡ Some self.old.files }
@@ -115,8 +120,8 @@ impl Depot for MemoryDepot {
         Ok(copy_from(&self.entries[i].bytes, at, buf))
     }
 
-    /// Fails where the number of this call is one that fails, and where the memory for the name is refused; both
-    /// count a fault and leave the files as they were.
+    /// Fails where the number of this call is one that fails, and where the memory for a name that isn't held is
+    /// refused; both count a fault and leave the files as they were.
     fn begin(&mut self, name: &str) -> Result<(), Failed>
         // The trait's clauses.
         ensures ok { OnOk result (Some self.new.files ≡ putting (Some self.old.files) name.now []) }
@@ -126,6 +131,7 @@ impl Depot for MemoryDepot {
         ensures same_reads { self.new.reads.faults ≡ self.old.reads.faults }
         // This depot's own.
         ensures fails { IsTrue (is_failing self.old.writes) → IsErr result }
+        ensures held { OnFalse (is_failing self.old.writes) (IsSome (get self.old.files name.now) → IsOk result) }
         ensures unchanged { OnErr result (self.new.files ≡ self.old.files) }
         ensures reads { self.new.reads ≡ self.old.reads }
         ensures writes { self.new.writes ≡ after_call (is_err result) self.old.writes }
@@ -140,27 +146,31 @@ impl Depot for MemoryDepot {
         }
     }
 
-    /// Takes the whole piece. Fails where the number of this call is one that fails, and where the memory for the
-    /// piece is refused; both count a fault and leave the files as they were.
+    /// Takes the whole piece. A piece with bytes fails where the number of this call is one that fails, and where the
+    /// memory for it is refused; both count a fault and leave the files as they were. An empty piece has its number and
+    /// never fails.
     fn append(&mut self, name: &str, bytes: &[u8]) -> Result<usize, Failed>
         // The trait's clauses.
         ensures ok { IfOk result (Appended (Some self.old.files) (Some self.new.files) name.now bytes.now) }
         ensures err { OnErr result (Torn (Some self.old.files) (Some self.new.files) name.now bytes.now) }
         ensures cause { OnErr result (Rose self.old.writes.faults self.new.writes.faults) }
+        ensures empty { bytes.now ≡ []
+            → (result ≡ Ok 0) × (Some self.new.files ≡ Some self.old.files) × (self.new.writes.faults ≡ self.old.writes.faults) }
         ensures later { self.old.writes.faults ≤ self.new.writes.faults }
         ensures same_reads { self.new.reads.faults ≡ self.old.reads.faults }
         // This depot's own.
-        ensures fails { IsTrue (is_failing self.old.writes) → IsErr result }
+        ensures fails { IsTrue (is_failing self.old.writes) → 0 < length bytes.now → IsErr result }
         ensures whole { IfOk result (λ n. n ≡ length bytes.now) }
         ensures unchanged { OnErr result (self.new.files ≡ self.old.files) }
         ensures reads { self.new.reads ≡ self.old.reads }
         ensures writes { self.new.writes ≡ after_call (is_err result) self.old.writes }
     {
-        if self.writes.next_fails() {
-            return Err(self.writes.fault());
-        }
+        let fails = self.writes.next_fails();
         if bytes.is_empty() {
             return Ok(0);
+        }
+        if fails {
+            return Err(self.writes.fault());
         }
         match add(self.alloc, &mut self.entries, name, bytes) {
             Ok(()) => Ok(bytes.len()),

@@ -1,5 +1,5 @@
-ghost use Rattle.std.specs.Prelude.{◌≡◌, ◌++◌, ◌-◌, List, ℕ, length, min, OnOk, OnErr};
-ghost use Rattle.std.specs.FinMap.{insert};
+ghost use Rattle.std.specs.Prelude.{◌≡◌, ◌++◌, ◌-◌, List, ℕ, length, min, IsSome, IsOk, OnOk, OnErr};
+ghost use Rattle.std.specs.FinMap.{get, insert};
 ghost use Rattle.outside_core.specs.Files.{held, IsPiece};
 ghost use Rattle.outside_core.specs.Entries.{place_of, files_of};
 
@@ -20,7 +20,7 @@ pub fn place(entries: &[Entry], name: &str) -> Option<usize>
     entries.iter().position(|e| e.name.as_str() == name)
 }
 
-/// Makes the name hold the bytes. After want of memory it holds what it held.
+/// Makes the name hold the bytes. After want of memory, which only a name that isn't held can meet, all is as before.
 pub fn put(
     alloc: Global,
     entries: &mut Vec<Entry>,
@@ -29,6 +29,7 @@ pub fn put(
 ) -> Result<(), NoMemory>
     ensures ok { OnOk result (files_of entries.new.items ≡ insert (files_of entries.old.items) name.now bytes.items) }
     ensures err { OnErr result (entries.new.items ≡ entries.old.items) }
+    ensures held { IsSome (get (files_of entries.old.items) name.now) → IsOk result }
 {
     match place(entries, name) {
         Some(i) => {
@@ -50,7 +51,8 @@ pub fn add(
     name: &str,
     bytes: &[u8],
 ) -> Result<(), NoMemory>
-    ensures ok { OnOk result (files_of entries.new.items ≡ insert (files_of entries.old.items) name.now (held (files_of entries.old.items) name.now ++ bytes.now)) }
+    ensures ok { OnOk result (files_of entries.new.items
+        ≡ insert (files_of entries.old.items) name.now (held (files_of entries.old.items) name.now ++ bytes.now)) }
     ensures err { OnErr result (files_of entries.new.items ≡ files_of entries.old.items) }
 {
     match place(entries, name) {

@@ -1,4 +1,4 @@
-ghost use Rattle.std.specs.Prelude.{◌≡◌, ◌≤◌, [], length, OnOk, OnErr, Some, IsTrue, IsErr, IfOk};
+ghost use Rattle.std.specs.Prelude.{◌≡◌, ◌≤◌, ◌<◌, [], length, Ok, OnOk, OnErr, Some, IsTrue, IsErr, IfOk};
 ghost use Rattle.std.specs.Result.{is_err};
 ghost use Rattle.outside_core.specs.Files.{Rose};
 ghost use Rattle.outside_core.specs.Written.{Took, CutShort};
@@ -60,21 +60,27 @@ impl Sink for MemorySink {
 
     ghost faults = { λ s. s.writes.faults };
 
-    /// Takes the whole piece. Fails where the number of this call is one that fails, and where the memory for the
-    /// piece is refused; both count a fault and write nothing.
+    /// Takes the whole piece. A piece with bytes fails where the number of this call is one that fails, and where the
+    /// memory for it is refused; both count a fault and write nothing. An empty piece has its number and never fails.
     fn write(&mut self, bytes: &[u8]) -> Result<usize, Failed>
         // The trait's clauses.
         ensures ok { IfOk result (Took (Some self.old.bytes) (Some self.new.bytes) bytes.now) }
         ensures err { OnErr result (CutShort (Some self.old.bytes) (Some self.new.bytes) bytes.now) }
         ensures cause { OnErr result (Rose self.old.writes.faults self.new.writes.faults) }
+        ensures empty { bytes.now ≡ []
+            → (result ≡ Ok 0) × (Some self.new.bytes ≡ Some self.old.bytes) × (self.new.writes.faults ≡ self.old.writes.faults) }
         ensures later { self.old.writes.faults ≤ self.new.writes.faults }
         // This sink's own.
-        ensures fails { IsTrue (is_failing self.old.writes) → IsErr result }
+        ensures fails { IsTrue (is_failing self.old.writes) → 0 < length bytes.now → IsErr result }
         ensures whole { IfOk result (λ n. n ≡ length bytes.now) }
         ensures unchanged { OnErr result (self.new.bytes ≡ self.old.bytes) }
         ensures writes { self.new.writes ≡ after_call (is_err result) self.old.writes }
     {
-        if self.writes.next_fails() {
+        let fails = self.writes.next_fails();
+        if bytes.is_empty() {
+            return Ok(0);
+        }
+        if fails {
             return Err(self.writes.fault());
         }
         match self.bytes.extend_from_slice(bytes) {

@@ -1,4 +1,4 @@
-use Rattle.std.proofs.Common.{drop, length, ap, ◌∙◌, arith, length-take, length-drop}
+use Rattle.std.proofs.Common.{drop, length, ap, arith, rules, length-take, length-drop}
 use Rattle.std.proofs.lemmas.Result.{err_from_is_err_and}
 use Rattle.outside_core.proofs.Files.{rest_from}
 use Rattle.outside_core.proofs.Appending.{extending-next, Torn-next, KeepsOthers-extending, KeepsOthers-Torn, KeepsOthers-then}
@@ -21,9 +21,9 @@ loop-done-preserved g c =
     let offered = rw (rest_from c.args.bytes.now c.loop-done.done) at c.next_piece.ensures in
     record {
       within = omega (arith, length-take 4096 (drop c.loop-done.done c.args.bytes.now), length-drop c.loop-done.done c.args.bytes.now, ap length offered, c.in_ok-done.ensures.ok.within);
-      files = extending-next (g.D.Depot.files c.args.depot.now) _ _ c.args.name.now c.args.bytes.now _ c.loop-done.done 4096 c.in_ok-done.field-0 offered c.in_ok-done.ensures.ok.within c.loop-done.invariant.files c.in_ok-done.ensures.ok.bytes;
-      later = omega arith;
-      same_reads = c.in_ok-done.ensures.same_reads ∙ c.loop-done.invariant.same_reads;
+      files = extending-next (g.D.Depot.files c.args.depot.now) _ _ c.args.name.now c.args.bytes.now _ c.loop-done.done 4096 c.in_ok-done.field-0 offered
+          c.in_ok-done.ensures.ok.within c.loop-done.invariant.files c.in_ok-done.ensures.ok.bytes;
+      only_writes = search rules;
     }
 
 pub returns-clause-others : goal.returns-clause-others

@@ -1,4 +1,5 @@
 use Rattle.std.proofs.Common.{length, ◌-◌, ◌≡◌, ◌≤◌, take}
+use Rattle.outside_core.specs.Effects.{OnlyWrites}
 use Rattle.outside_core.specs.Files.{extending}
 use Rattle.outside_core.proofs.append.append_all.Given as goal
 
@@ -6,8 +7,7 @@ abbrev pub invariant-loop-done : goal.invariant-loop-done
 invariant-loop-done g l = record {
   within : l.done ≤ length l.bytes;
   files : g.D.Depot.files l.depot ≡ extending (g.D.Depot.files l.fn.depot) l.name (take l.done l.bytes);
-  later : g.D.Depot.write_faults l.fn.depot ≤ g.D.Depot.write_faults l.depot;
-  same_reads : g.D.Depot.read_faults l.depot ≡ g.D.Depot.read_faults l.fn.depot;
+  only_writes : OnlyWrites g.D.Depot l.fn.depot l.depot;
 }
 
 abbrev pub decreases-loop-done : goal.decreases-loop-done

@@ -15,6 +15,7 @@ loop-done-preserved g c =
     let offered = rw (rest_from c.args.bytes.now c.loop-done.done) at c.next_piece.ensures in
     record {
       within = omega (arith, length-take 4096 (drop c.loop-done.done c.args.bytes.now), length-drop c.loop-done.done c.args.bytes.now, ap length offered, c.in_ok-done.ensures.ok.within);
-      written = followed_by-next (g.K.Sink.written c.args.sink.now) _ _ c.args.bytes.now _ c.loop-done.done 4096 c.in_ok-done.field-0 offered c.in_ok-done.ensures.ok.within c.loop-done.invariant.written c.in_ok-done.ensures.ok.bytes;
+      written = followed_by-next (g.K.Sink.written c.args.sink.now) _ _ c.args.bytes.now _ c.loop-done.done 4096 c.in_ok-done.field-0 offered
+          c.in_ok-done.ensures.ok.within c.loop-done.invariant.written c.in_ok-done.ensures.ok.bytes;
       later = omega arith;
     }
