@@ -1,10 +1,8 @@
 //! The program: runs its words over the real files and the terminal, and ends with the status of `run`.
 #![tactic(auto)]
 
-mod edge;
-
 use clubcard_top::{Status, run};
-use edge::{FileDepot, Terminal};
+use real_edge::{FileDepot, Terminal};
 use std::process::ExitCode;
 use std::{env, io};
 

@@ -18,6 +18,8 @@ impl Depot for Noting {
 
     ghost read_faults = { λ _. 0 };
 
+    ghost failed_reads = { λ _. None };
+
     ghost write_faults = { λ d. d.faults };
 
     fn read_at(&mut self, _name: &str, _at: u64, _buf: &mut [u8]) -> Result<usize, Failed> {
@@ -29,10 +31,14 @@ impl Depot for Noting {
     }
 
     fn append(&mut self, _name: &str, bytes: &[u8]) -> Result<usize, Failed> {
-        let Ok(()) = self.offered.push(bytes.len()) else {
+        let noted = self.offered.push(bytes.len());
+        if bytes.is_empty() {
+            return Ok(0);
+        }
+        if noted.is_err() {
             self.faults = self.faults.saturating_add(1);
             return Err(Failed);
-        };
+        }
         Ok(bytes.len().min(self.most.max(1)))
     }
 }

@@ -1,5 +1,5 @@
-//! Worked examples of files and sinks, in memory too, of files that are read in order, and of CRLs; and what a caller
-//! of a feed can conclude.
+//! Worked examples of files and sinks, in memory and real ones, of files that are read in order, and of CRLs; and what
+//! a caller of a feed can conclude.
 #![tactic(auto)]
 
 mod reading;
@@ -12,6 +12,8 @@ mod append;
 mod crls;
 #[cfg(test)]
 mod feed;
+#[cfg(test)]
+mod files;
 #[cfg(test)]
 mod memory;
 #[cfg(test)]

@@ -3,8 +3,9 @@
 use outside_core::{Depot, Failed, MemoryDepot, MemorySink, Sink};
 use std::test::Fail;
 
-// The calls of begin and append are numbered together, from 0; `put` has no number. Behind each call of `write` the
-// one with that number fails, what stands under A and C is compared, and B keeps its bytes.
+// The calls of begin and append are numbered together, from 0; `put` has no number, and the append of no bytes, which
+// has the number 2, never fails. Where the call with the number `failing` fails, what stands under A and C is compared,
+// and B keeps its bytes.
 #[test]
 fn writes_failing_in_turn(rt: HostRuntime) -> Result<(), Fail> {
     let rows = [
@@ -22,7 +23,7 @@ fn writes_failing_in_turn(rt: HostRuntime) -> Result<(), Fail> {
         assert_eq!(rt; depot.begin("A").is_ok(), failing != 0);
         depot.put("B", b"other")?;
         assert_eq!(rt; depot.append("A", b"xy").is_ok(), failing != 1);
-        assert_eq!(rt; depot.append("A", b"").is_ok(), failing != 2);
+        assert_eq!(rt; depot.append("A", b""), Ok(0));
         assert_eq!(rt; depot.append("C", b"z").is_ok(), failing != 3);
         assert_eq!(rt;
             depot.bytes_of("A"),
@@ -61,13 +62,15 @@ fn reads(rt: HostRuntime) -> Result<(), Fail> {
     Ok(())
 }
 
-// A failing write keeps nothing of its piece, and those behind it go on.
+// A failing write keeps nothing of its piece, and those behind it go on. A write of no bytes has its number, and never
+// fails.
 #[test]
 fn sink_writes_failing(rt: HostRuntime) -> Result<(), Fail> {
     let mut sink = MemorySink::new(rt.alloc());
-    sink.fail_writes(&[1])?;
+    sink.fail_writes(&[1, 2])?;
     assert_eq!(rt; sink.write(b"one"), Ok(3));
     assert_eq!(rt; sink.write(b"two"), Err(Failed));
+    assert_eq!(rt; sink.write(b""), Ok(0));
     assert_eq!(rt; sink.write(b"three"), Ok(5));
     assert_eq!(rt; sink.bytes(), b"onethree".as_slice());
     Ok(())

@@ -19,10 +19,14 @@ impl Sink for Noting {
     ghost faults = { λ s. s.faults };
 
     fn write(&mut self, bytes: &[u8]) -> Result<usize, Failed> {
-        let Ok(()) = self.offered.push(bytes.len()) else {
+        let noted = self.offered.push(bytes.len());
+        if bytes.is_empty() {
+            return Ok(0);
+        }
+        if noted.is_err() {
             self.faults = self.faults.saturating_add(1);
             return Err(Failed);
-        };
+        }
         Ok(bytes.len().min(self.most.max(1)))
     }
 }

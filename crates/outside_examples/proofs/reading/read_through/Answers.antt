@@ -2,13 +2,13 @@ use Rattle.std.proofs.Common.{◌≡◌, ◌≤◌, ◌<◌, ◌^◌, ◌+◌, �
 use Rattle.std.specs.FinMap.{get}
 use Rattle.std.proofs.lemmas.Grind.{common_steps}
 use Rattle.std.proofs.lemmas.List.{nil_from_length}
-use Rattle.outside_core.specs.Feeding.{InOrder}
+use Rattle.outside_core.specs.Filling.{IsInOrder}
 use Rattle.outside_core.proofs.Feeding.{taken-more, taken-all}
 use Rattle.outside_examples.proofs.reading.read_through.Goals as goal
 
 pub returns-then-is_empty : goal.returns-then-is_empty
 returns-then-is_empty g c = λ files told.
-    let before : InOrder (g.D.Depot.files c.pieces.feed.depot.now) c.pieces.feed.name.now c.pieces.feed.at c.pieces.feed.window = rw (c.pieces.invariant.files, c.pieces.invariant.name) c.pieces.invariant.in_order in
+    let before : IsInOrder g.D.Depot c.pieces.feed = rw (c.pieces.invariant.files, c.pieces.invariant.name) c.pieces.invariant.in_order in
     let offered = c.in-Ok.ensures.ok before files (c.pieces.invariant.files ∙ told) in
     let held : get files c.args.name.now ≡ Some offered.0 = ap (get files) (sym c.pieces.invariant.name) ∙ offered.1 in
     let none : length c.in-Ok.bytes.now ≡ 0 = grind (arith, common_steps, c.is_empty.ensures) in
@@ -18,9 +18,10 @@ returns-then-is_empty g c = λ files told.
 pub pieces-preserved : goal.pieces-preserved
 pieces-preserved g c =
     let filled = c.fill.follows.holds-at-none in
-    let before : InOrder (g.D.Depot.files c.pieces.feed.depot.now) c.pieces.feed.name.now c.pieces.feed.at c.pieces.feed.window = rw (c.pieces.invariant.files, c.pieces.invariant.name) c.pieces.invariant.in_order in
+    let before : IsInOrder g.D.Depot c.pieces.feed = rw (c.pieces.invariant.files, c.pieces.invariant.name) c.pieces.invariant.in_order in
     let name : c.take.new.self.name.now ≡ c.args.name.now = c.take.ensures.name ∙ filled.name ∙ c.pieces.invariant.name in
-    let files : g.D.Depot.files c.take.new.self.depot.now ≡ g.D.Depot.files c.args.depot.now = ap g.D.Depot.files c.take.ensures.depot ∙ filled.same_files ∙ c.pieces.invariant.files in
+    let files : g.D.Depot.files c.take.new.self.depot.now ≡ g.D.Depot.files c.args.depot.now =
+    ap g.D.Depot.files c.take.ensures.depot ∙ filled.only_reads.same_files ∙ c.pieces.invariant.files in
     let at : c.take.new.self.at ≡ c.pieces.feed.at + c.min-count.result = c.take.ensures.at ∙ ap (λ (n : ℕ). n + c.min-count.result) filled.at in
     let le : c.min-count.result ≤ length c.in-Ok.bytes.now = omega (arith, c.min-count.ensures) in
     record {

@@ -1,8 +1,7 @@
-//! Real files and the terminal. They tell contracts no contents, and count each error.
-
 ghost use Rattle.std.specs.Prelude.{◌≡◌, ◌≤◌, length, IfOk};
 
-use outside_core::{Depot, Failed, Sink};
+use outside_core::{Depot, Failed};
+use std::fs;
 use std::fs::OpenOptions;
 use std::io::{Read, Seek, SeekFrom, Write};
 use std::rt::Files;
@@ -48,27 +47,10 @@ pub struct FileDepot<'a, R: Files> {
     write_faults: u64,
 }
 
-impl<'a, R: Files> FileDepot<'a, R> {
-    /// No error has been counted.
-    pub fn new(rt: &'a R) -> FileDepot<'a, R>
-        ensures reads { result.read_faults ≡ 0 }
-        ensures writes { result.write_faults ≡ 0 }
-    {
-        FileDepot {
-            rt,
-            begun: None,
-            read_faults: 0,
-            write_faults: 0,
-        }
-    }
-}
-
 fn read_from<R: Files>(rt: &R, name: &str, at: u64, buf: &mut [u8]) -> Result<usize, Failed>
     ensures { IfOk result (λ n. n ≤ length buf.old) }
 {
-    let mut how = OpenOptions::new();
-    how.read(true);
-    let Ok(mut file) = how.open(rt, name) else {
+    let Ok(mut file) = fs::open(rt, name) else {
         return Err(Failed);
     };
     let Ok(_) = file.seek(SeekFrom::Start(at)) else {
@@ -76,17 +58,6 @@ fn read_from<R: Files>(rt: &R, name: &str, at: u64, buf: &mut [u8]) -> Result<us
     };
     match file.read(buf) {
         Ok(n) => Ok(n),
-        Err(_) => Err(Failed),
-    }
-}
-
-fn make_empty<R: Files>(rt: &R, name: &str) -> Result<R::File, Failed> {
-    let mut how = OpenOptions::new();
-    how.write(true);
-    how.create(true);
-    how.truncate(true);
-    match how.open(rt, name) {
-        Ok(file) => Ok(file),
         Err(_) => Err(Failed),
     }
 }
@@ -100,6 +71,7 @@ fn write_to<F: Write>(file: &mut F, bytes: &[u8]) -> Result<usize, Failed>
     }
 }
 
+/// Writes behind what the name holds.
 fn add<R: Files>(rt: &R, name: &str, bytes: &[u8]) -> Result<usize, Failed>
     ensures { IfOk result (λ n. n ≤ length bytes.now) }
 {
@@ -113,6 +85,19 @@ fn add<R: Files>(rt: &R, name: &str, bytes: &[u8]) -> Result<usize, Failed>
 }
 
 impl<'a, R: Files> FileDepot<'a, R> {
+    /// No error has been counted.
+    pub fn new(rt: &'a R) -> FileDepot<'a, R>
+        ensures reads { result.read_faults ≡ 0 }
+        ensures writes { result.write_faults ≡ 0 }
+    {
+        FileDepot {
+            rt,
+            begun: None,
+            read_faults: 0,
+            write_faults: 0,
+        }
+    }
+
     /// Writes to the file that is open, or else behind what the name holds.
     fn write(&mut self, name: &str, bytes: &[u8]) -> Result<usize, Failed>
         ensures added { IfOk result (λ n. n ≤ length bytes.now) }
@@ -135,6 +120,8 @@ impl<'a, R: Files> Depot for FileDepot<'a, R> {
 
     ghost read_faults = { λ d. d.read_faults };
 
+    ghost failed_reads = { λ _. None };
+
     ghost write_faults = { λ d. d.write_faults };
 
     fn read_at(&mut self, name: &str, at: u64, buf: &mut [u8]) -> Result<usize, Failed> {
@@ -147,12 +134,12 @@ impl<'a, R: Files> Depot for FileDepot<'a, R> {
 
     fn begin(&mut self, name: &str) -> Result<(), Failed> {
         self.begun = None;
-        match make_empty(self.rt, name) {
+        match fs::create(self.rt, name) {
             Ok(file) => {
                 self.begun = Begun::new(name, file);
                 Ok(())
             }
-            Err(Failed) => {
+            Err(_) => {
                 self.write_faults = self.write_faults.saturating_add(1);
                 Err(Failed)
             }
@@ -167,43 +154,6 @@ impl<'a, R: Files> Depot for FileDepot<'a, R> {
             Ok(n) if n > 0 => Ok(n),
             _ => {
                 self.write_faults = self.write_faults.saturating_add(1);
-                Err(Failed)
-            }
-        }
-    }
-}
-
-/// Standard output.
-#[derive(Drop)]
-pub struct Terminal<'a, R> {
-    rt: &'a R,
-    faults: u64,
-}
-
-impl<'a, R: Print> Terminal<'a, R> {
-    /// No error has been counted.
-    pub fn new(rt: &'a R) -> Terminal<'a, R>
-        ensures { result.faults ≡ 0 }
-    {
-        Terminal { rt, faults: 0 }
-    }
-}
-
-impl<'a, R: Print> Sink for Terminal<'a, R> {
-    ghost use Rattle.std.specs.Prelude.{None};
-
-    ghost written = { λ _. None };
-
-    ghost faults = { λ t. t.faults };
-
-    fn write(&mut self, bytes: &[u8]) -> Result<usize, Failed> {
-        if bytes.is_empty() {
-            return Ok(0);
-        }
-        match std::io::writer(self.rt).write(bytes) {
-            Ok(n) if n > 0 => Ok(n),
-            _ => {
-                self.faults = self.faults.saturating_add(1);
                 Err(Failed)
             }
         }

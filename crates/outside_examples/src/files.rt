@@ -1,0 +1,56 @@
+//! Real files, in a folder that the test makes and removes.
+
+use outside_core::{Depot, Failed, append_all};
+use real_edge::FileDepot;
+use std::fs;
+use std::process::Abort;
+use std::rt::Files;
+use std::test::Fail;
+
+const FOLDER: &str = "real_files";
+
+const A: &str = "real_files/A";
+
+const B: &str = "real_files/B";
+
+fn compare<R: Files + AllocGlobal + Abort>(
+    rt: &R,
+    depot: &mut FileDepot<R>,
+    a: &[u8],
+    b: &[u8],
+) -> Result<(), Fail> {
+    for (name, want) in [(A, a), (B, b)] {
+        assert_eq!(rt; fs::read(rt, name)?.as_slice(), want, "{name}");
+        let mut buf = [b'-'; 32];
+        let count = depot.read_at(name, 2, &mut buf)?;
+        assert_eq!(rt; buf.get(..count), want.get(2..), "{name} from 2");
+    }
+    Ok(())
+}
+
+// Pieces of two files by turns: each stands behind those of its own file, and only `begin` drops what a file holds.
+#[test]
+fn pieces_of_two_files(rt: HostRuntime) -> Result<(), Fail> {
+    if fs::exists(&rt, FOLDER)? {
+        fs::remove_dir_all(&rt, FOLDER)?;
+    }
+    fs::create_dir(&rt, FOLDER)?;
+    let mut depot = FileDepot::new(&rt);
+    depot.begin(A)?;
+    append_all(&mut depot, A, b"one ")?;
+    append_all(&mut depot, A, b"two")?;
+    depot.begin(B)?;
+    append_all(&mut depot, B, b"other")?;
+    append_all(&mut depot, A, b" three")?;
+    assert_eq!(rt; depot.append(A, b""), Ok(0));
+    compare(&rt, &mut depot, b"one two three", b"other")?;
+    depot.begin(A)?;
+    append_all(&mut depot, B, b"s")?;
+    append_all(&mut depot, A, b"anew")?;
+    compare(&rt, &mut depot, b"anew", b"others")?;
+    fs::remove_dir_all(&rt, FOLDER)?;
+    assert_eq!(rt; depot.read_at(A, 0, &mut [0; 4]), Err(Failed));
+    assert_eq!(rt; depot.begin(A), Err(Failed));
+    assert_eq!(rt; depot.append(B, b"piece"), Err(Failed));
+    Ok(())
+}
