@@ -24,7 +24,8 @@ Among-cases (z ∷ xs) ys x (inr h) = ⊎_elim (λ a. inl (inr a)) (λ b. inr b)
 pub Among-push_cases : {A : Type 0} (xs : List A) (y x : A) → Among (xs ++ y ∷ []) x → Among xs x ⊎ (y ≡ x)
 Among-push_cases xs y x h = ⊎_elim (λ a. inl a) (λ b. ⊎_elim (λ e. inr e) (λ n. absurd n) b) (Among-cases xs (y ∷ []) x h)
 
-among_step : {A : Type 0} (p : A → Bool) (y : A) (xs : List A) (x : A) (b : Bool) → p y ≡ b → (Among (filter p xs) x → Among xs x × (p x ≡ true)) → Among (cond b (y ∷ filter p xs) (filter p xs)) x → Among (y ∷ xs) x × (p x ≡ true)
+among_step : {A : Type 0} (p : A → Bool) (y : A) (xs : List A) (x : A) (b : Bool) → p y ≡ b → (Among (filter p xs) x → Among xs x × (p x ≡ true))
+    → Among (cond b (y ∷ filter p xs) (filter p xs)) x → Among (y ∷ xs) x × (p x ≡ true)
 among_step p y xs x true e next (inl i) = (inl i, subst (λ z. p z ≡ true) i e)
 among_step p y xs x true e next (inr h) = let n = next h in (inr n.0, n.1)
 among_step p y xs x false e next h = let n = next h in (inr n.0, n.1)
@@ -86,7 +87,8 @@ Among-filter_map h (x ∷ xs) y a = cons_cases h x xs y (h x) refl (Among-filter
 pub Among-in_filter_map : {A B : Type 0} (h : A → Option B) (xs : List A) (x : A) (y : B) → Among xs x → h x ≡ Some y → Among (filter_map h xs) y
 Among-in_filter_map h [] x y a e = absurd a
 Among-in_filter_map h (z ∷ xs) x y (inl i) e = rw (i, e) (inl refl)
-Among-in_filter_map h (z ∷ xs) x y (inr a) e = elim (h z) as (λ o. Among (cons_option o (filter_map h xs)) y) [ None ↦ Among-in_filter_map h xs x y a e | Some w ↦ inr (Among-in_filter_map h xs x y a e) ]
+Among-in_filter_map h (z ∷ xs) x y (inr a) e = elim (h z) as (λ o. Among (cons_option o (filter_map h xs)) y)
+    [ None ↦ Among-in_filter_map h xs x y a e | Some w ↦ inr (Among-in_filter_map h xs x y a e) ]
 
 pub zip_left : {A B : Type 0} (R : A → B → Type 0) (xs : List A) (ys : List B) (x : A) → AllZip R xs ys → Among xs x → (y : B) × Among ys y × R x y
 zip_left R [] ys x z a = absurd a

@@ -43,7 +43,8 @@ front_by k x xs Less e g s next =
     rw b (filter_none (λ (y : Identity). bytes_eq k y.issuer) xs
     (λ z a. other_issuer k z.issuer (through_key k x.issuer z.issuer (octets_cmp x.issuer z.issuer) e refl (not_below x xs z s a))))
 
-pub front_is : (k : List ℕ) (xs : List Identity) → IsStrictlySortedBy identity_cmp xs → ((z : Identity) → Among xs z → is_gt (octets_cmp k z.issuer) ≡ false) → filter (λ y. bytes_eq k y.issuer) xs ≡ front k xs
+pub front_is : (k : List ℕ) (xs : List Identity) → IsStrictlySortedBy identity_cmp xs → ((z : Identity) → Among xs z → is_gt (octets_cmp k z.issuer) ≡ false)
+    → filter (λ y. bytes_eq k y.issuer) xs ≡ front k xs
 front_is k [] s f = refl
 front_is k (x ∷ xs) s f = front_by k x xs (octets_cmp k x.issuer) refl (f x (inl refl)) s (λ i. front_is k xs (sorted_tail identity_cmp x xs s) (λ z a. f z (inr a)))
 

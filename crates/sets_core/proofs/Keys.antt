@@ -1,6 +1,7 @@
 -- The order of keys and identities, as the code has it.
-use Rattle.std.specs.Prelude.{IsSorted}
+use Rattle.std.specs.Prelude.{IsSorted, IsNone, IfSome}
 use Rattle.std.specs.List.{list_any, slice_get}
+use Rattle.std.specs.Result.{result_ok}
 use Rattle.std.specs.Str.{bytes_eq}
 use Rattle.std.specs.declared.cmp.Ordering.{Ordering}
 use Rattle.std.specs.declared.cmp.Ordering.TheVariants.{Less, Equal, Greater}
@@ -8,7 +9,8 @@ use Rattle.std.specs.Ordering.{nat_cmp, ordering_then, is_lt, ordering_reverse}
 use Rattle.std.specs.List.Sorted.{IsBinarySearchResult, IsSearchInRange, IsStrictlySortedBy}
 use Rattle.std.specs.Cmp.{IsTotalOrder}
 use Rattle.std.specs.Cmp.Lexicographic.{slice_cmp}
-use Rattle.std.proofs.Common.{◌≡◌, ℕ, ◌<◌, ◌+◌, ◌-◌, ◌||◌, zero, suc, List, [], ◌∷◌, ◌++◌, length, get_or, take, replicate, map, Bool, true, false, Result, Ok, Err, Some, is_ok, refl, sym, ap, ◌∙◌, subst, arith, inl, inr}
+use Rattle.std.proofs.Common.{◌≡◌, ℕ, ◌<◌, ◌+◌, ◌-◌, ◌||◌, zero, suc, List, [], ◌∷◌, ◌++◌, length, get_or, take, replicate, map, Bool, true, false, Result, Ok}
+use Rattle.std.proofs.Common.{Err, Some, is_ok, refl, sym, ap, ◌∙◌, subst, arith, inl, inr}
 use Rattle.std.proofs.lemmas.Cmp.{tied_itself}
 use Rattle.std.proofs.lemmas.List.Sorted.{searchable_from_sorted}
 use Rattle.std.proofs.lemmas.List.{take_more}
@@ -18,7 +20,7 @@ use Rattle.ident_core.specs.Order.{is_same, identity_cmp}
 use Rattle.ident_core.proofs.Serials.{serial_cmp}
 use Rattle.sets_core.specs.Among.{Among}
 use Rattle.sets_core.specs.Sets.{has, has_key}
-use Rattle.sets_core.proofs.Sets.{same_is, identity_exact, identity_total, Among-from_has, has-from_Among, Among-from_has_key}
+use Rattle.sets_core.proofs.Sets.{same_is, identity_exact, identity_total, Among-from_has, has-from_Among}
 use Rattle.sets_core.proofs.Order.{sorted_head, sorted_tail, not_below_itself}
 use Rattle.sets_core.proofs.Canonical.{Contains-from_Among, Among-from_at}
 
@@ -85,6 +87,16 @@ module _ {K : Type 0} (cmp : K → K → Ordering) (total : IsTotalOrder cmp) (e
         | inr above ↦ not_greater _ tie (p.1 k.0 x above k.1)
       ]
 
+  pub searched_some : (xs : List K) (x : K) (r : Result ℕ ℕ) → IsSearchInRange r (length xs) → IsBinarySearchResult (λ y. cmp y x) xs r
+      → IfSome (result_ok r) (λ i. slice_get xs i ≡ Some x)
+  searched_some xs x (Ok i) w h = searched_ok xs x i w (h x)
+  searched_some xs x (Err i) w h = tt
+
+  pub searched_none : (xs : List K) (x : K) (r : Result ℕ ℕ) → IsStrictlySortedBy cmp xs → IsBinarySearchResult (λ y. cmp y x) xs r
+      → IsNone (result_ok r) → Among xs x → ⊥
+  searched_none xs x (Ok i) s h none = absurd cc
+  searched_none xs x (Err i) s h none = searched_err xs x i s h
+
   pub searched_is : (xs : List K) (x : K) (r : Result ℕ ℕ) (b : Bool) → IsStrictlySortedBy cmp xs → IsSearchInRange r (length xs) → IsBinarySearchResult (λ y. cmp y x) xs r
       → (b ≡ true → Among xs x) → (Among xs x → b ≡ true) → is_ok r ≡ b
   searched_is xs x (Ok i) b s w h f g = sym (g (Among-from_at xs x i w (exact (get_or xs i x) x (h x))))
@@ -120,9 +132,6 @@ not_has xs y h x a = same_other x y (λ e. absurd (true≢false (sym (has-from_A
 
 pub has_none : (xs : List Identity) (y : Identity) → (Among xs y → ⊥) → has xs y ≡ false
 has_none xs y f = false_from_ne_true (has xs y) (λ h. f (Among-from_has xs y h))
-
-pub has_key_none : (ks : List (List ℕ)) (k : List ℕ) → (Among ks k → ⊥) → has_key ks k ≡ false
-has_key_none ks k f = false_from_ne_true (has_key ks k) (λ h. f (Among-from_has_key ks k h))
 
 pub map_same : {A B : Type 0} (f g : A → B) (xs : List A) → ((x : A) → f x ≡ g x) → map f xs ≡ map g xs
 map_same f g xs h = ap (λ t. map t xs) (λ i. λ x. h x i)

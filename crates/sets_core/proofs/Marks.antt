@@ -2,7 +2,8 @@
 use Rattle.std.specs.List.{list_any, slice_get}
 use Rattle.std.specs.Str.{bytes_eq}
 use Rattle.std.specs.List.Sorted.{IsStrictlySortedBy}
-use Rattle.std.proofs.Common.{◌≡◌, ℕ, ◌<◌, ◌+◌, ◌||◌, ◌&&◌, zero, suc, List, [], ◌∷◌, ◌++◌, length, get_or, set, take, drop, replicate, map, Bool, true, false, Some, refl, sym, ap, ◌∙◌, subst, arith, inl, inr}
+use Rattle.std.proofs.Common.{◌≡◌, ℕ, ◌<◌, ◌+◌, ◌||◌, ◌&&◌, zero, suc, List, [], ◌∷◌, ◌++◌, length, get_or, set, take, drop, replicate, map, Bool, true, false}
+use Rattle.std.proofs.Common.{Some, refl, sym, ap, ◌∙◌, subst, arith, inl, inr}
 use Rattle.std.proofs.lemmas.List.{drop_all, take_all, append-nil}
 use Rattle.ident_core.specs.declared.identity.Identity.{Identity}
 use Rattle.ident_core.specs.Order.{is_same, identity_cmp}
@@ -46,9 +47,11 @@ marked q (x ∷ xs) (suc i) y s h =
 
 -- with one more serial of an issuer
 pub marks_step : (p : Identity → Bool) (k : List ℕ) (ss : List (List ℕ)) (i : ℕ) (s : List ℕ) (xs : List Identity) → i < length ss → s ≡ get_or ss i s
-    → map (λ x. (p x || (bytes_eq x.issuer k && has_key (take i ss) x.serial)) || is_same x (record { issuer = k; serial = s })) xs ≡ map (λ x. p x || (bytes_eq x.issuer k && has_key (take (i + 1) ss) x.serial)) xs
+    → map (λ x. (p x || (bytes_eq x.issuer k && has_key (take i ss) x.serial)) || is_same x (record { issuer = k; serial = s })) xs
+    ≡ map (λ x. p x || (bytes_eq x.issuer k && has_key (take (i + 1) ss) x.serial)) xs
 marks_step p k ss i s xs h e =
-    map_same (λ (x : Identity). (p x || (bytes_eq x.issuer k && has_key (take i ss) x.serial)) || is_same x (record { issuer = k; serial = s })) (λ (x : Identity). p x || (bytes_eq x.issuer k && has_key (take (i + 1) ss) x.serial)) xs
+    map_same (λ (x : Identity). (p x || (bytes_eq x.issuer k && has_key (take i ss) x.serial)) || is_same x (record { issuer = k; serial = s }))
+    (λ (x : Identity). p x || (bytes_eq x.issuer k && has_key (take (i + 1) ss) x.serial)) xs
     (λ x. mark_more (p x) (bytes_eq x.issuer k) (has_key (take i ss) x.serial) (bytes_eq x.serial s)
     ∙ ap (λ b. p x || (bytes_eq x.issuer k && b)) (sym (has_key_push (take i ss) s x.serial) ∙ ap (λ z. has_key z x.serial) (sym (take_is ss i s h e))))
 
@@ -59,21 +62,6 @@ all_step p t ts i a xs h e =
     map_same (λ (x : Identity). (p x || list_any (t x) (take i ts)) || t x a) (λ (x : Identity). p x || list_any (t x) (take (i + 1) ts)) xs
     (λ x. sym (or_assoc (p x) (list_any (t x) (take i ts)) (t x a)) ∙ ap (λ b. p x || b) (sym (list_any_push (t x) (take i ts) a) ∙ ap (list_any (t x)) (sym (take_is ts i a h e))))
 
-or_false : (b : Bool) → b ≡ (b || false)
-or_false true = refl
-or_false false = refl
-
-pub marks_start : {A : Type 0} (p : Identity → Bool) (t : Identity → A → Bool) (xs : List Identity) → map p xs ≡ map (λ x. p x || list_any (t x) []) xs
-marks_start p t xs = map_same p (λ (x : Identity). p x || list_any (t x) []) xs (λ x. or_false (p x))
-
-and_false : (a b : Bool) → a ≡ (a || (b && false))
-and_false true b = refl
-and_false false true = refl
-and_false false false = refl
-
-pub serials_start : (p : Identity → Bool) (k : List ℕ) (xs : List Identity) → map p xs ≡ map (λ x. p x || (bytes_eq x.issuer k && has_key [] x.serial)) xs
-serials_start p k xs = map_same p (λ (x : Identity). p x || (bytes_eq x.issuer k && has_key [] x.serial)) xs (λ x. and_false (p x) (bytes_eq x.issuer k))
-
 pub no_flags : (xs : List Identity) → replicate (length xs) false ≡ map (λ x. false) xs
 no_flags [] = refl
 no_flags (x ∷ xs) = ap (λ (z : List Bool). false ∷ z) (no_flags xs)
@@ -81,6 +69,3 @@ no_flags (x ∷ xs) = ap (λ (z : List Bool). false ∷ z) (no_flags xs)
 -- what a slice of the whole vector leaves in it
 pub written_back : {A : Type 0} (n : ℕ) (a b : List A) → length a ≡ length b → n ≡ length b → take n (a ++ drop (length a) b) ≡ a
 written_back n a b h e = ap (λ z. take n (a ++ z)) (drop_all (length a) b (omega arith)) ∙ ap (take n) (append-nil a) ∙ take_all n a (omega arith)
-
-pub flags_from : (t : Identity → Bool) (xs : List Identity) (a : List Bool) → a ≡ map (λ x. false || t x) xs → a ≡ map t xs
-flags_from t xs a h = h

@@ -29,7 +29,8 @@ unfolding IsStrictlySortedBy
 sorted_head cmp y ys z h a = all_among (λ w. cmp y w ≡ Less) ys z h.0 a
 
 module _ {K : Type 0} (cmp : K → K → Ordering) (total : IsTotalOrder cmp) where
-  all_placed : (o : Ordering) (P : K → Type 0) (x y : K) (ys more : List K) → AllByRecursion P (y ∷ ys) → P x → AllByRecursion P more → AllByRecursion P (match_ordering o (x ∷ y ∷ ys) (y ∷ ys) (y ∷ more))
+  all_placed : (o : Ordering) (P : K → Type 0) (x y : K) (ys more : List K) → AllByRecursion P (y ∷ ys) → P x → AllByRecursion P more
+      → AllByRecursion P (match_ordering o (x ∷ y ∷ ys) (y ∷ ys) (y ∷ more))
   all_placed Less P x y ys more h p m = (p, h)
   all_placed Equal P x y ys more h p m = h
   all_placed Greater P x y ys more h p m = (h.0, m)

@@ -49,7 +49,8 @@ no_more h y ys s l =
 -- ---- a look-up in a list whose identities ascend
 
 -- the identity at a place is found there
-pub find_at : {A : Type 0} (id : A → Identity) (xs : List A) (k : ℕ) (i : A) → IsStrictlySortedBy identity_cmp (map id xs) → slice_get xs k ≡ Some i → find (λ (j : A). is_same (id i) (id j)) xs ≡ Some i
+pub find_at : {A : Type 0} (id : A → Identity) (xs : List A) (k : ℕ) (i : A) → IsStrictlySortedBy identity_cmp (map id xs) → slice_get xs k ≡ Some i
+    → find (λ (j : A). is_same (id i) (id j)) xs ≡ Some i
 find_at id [] k i s h = absurd cc
 find_at {A} id (x ∷ xs) zero i s h =
     ap (λ b. cond b (Some x) (find (λ (j : A). is_same (id i) (id j)) xs)) (ap (λ (j : A). is_same (id i) (id j)) (some_item x i h) ∙ same_refl (id i)) ∙ h

@@ -1,3 +1,5 @@
+//! What follows for every set, with no call.
+
 ghost use Rattle.std.specs.Prelude.{◌≡◌, ℕ, List};
 ghost use Rattle.std.specs.List.Sorted.{IsStrictlySortedBy};
 ghost use Rattle.ident_core.specs.declared.identity.Identity.{Identity};

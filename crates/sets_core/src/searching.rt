@@ -20,8 +20,5 @@ pub fn place_of(ids: &[Identity], id: &Identity) -> Option<usize>
     ensures some { IfSome result (λ i. slice_get ids.now i ≡ Some id.now) }
     ensures none { IsNone result → has ids.now id.now ≡ false }
 {
-    match ids.binary_search(id) {
-        Ok(place) => Some(place),
-        Err(_) => None,
-    }
+    ids.binary_search(id).ok()
 }

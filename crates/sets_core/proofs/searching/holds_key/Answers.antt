@@ -10,5 +10,6 @@ use Rattle.sets_core.proofs.searching.holds_key.Goals as goal
 pub returns : goal.returns
 returns c =
     c.is_ok.ensures.value
-    ∙ searched_is octets_cmp nat_list_cmp_total exact_bytes c.args.keys.now c.args.key.now c.binary_search.result (has_key c.args.keys.now c.args.key.now) c.requires.sorted c.binary_search.ensures.bound c.binary_search.ensures.position
+    ∙ searched_is octets_cmp nat_list_cmp_total exact_bytes c.args.keys.now c.args.key.now c.binary_search.result (has_key c.args.keys.now c.args.key.now)
+    c.requires.sorted c.binary_search.ensures.bound c.binary_search.ensures.position
     (Among-from_has_key c.args.keys.now c.args.key.now) (has_key-from_Among c.args.keys.now c.args.key.now)
