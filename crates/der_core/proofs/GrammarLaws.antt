@@ -1,5 +1,6 @@
 -- What is read is in the grammar, and what is in the grammar is read.
-use Rattle.std.proofs.Common.{◌≡◌, ◌≢◌, ℕ, zero, suc, ◌+◌, ◌-◌, ◌<◌, ◌≤◌, ◌⊎◌, inl, inr, List, [], ◌∷◌, ◌++◌, length, take, drop, map, Bool, true, false, ◌||◌, cond, nat_lt, nat_eq, Ok, Err, refl, sym, ap, subst, ◌∙◌, arith, length-append, length-drop, append_assoc}
+use Rattle.std.proofs.Common.{◌≡◌, ◌≢◌, ℕ, zero, suc, ◌+◌, ◌-◌, ◌<◌, ◌≤◌, ◌⊎◌, inl, inr, List, [], ◌∷◌, ◌++◌, length, take, drop, map, Bool, true, false, ◌||◌}
+use Rattle.std.proofs.Common.{cond, nat_lt, nat_eq, Ok, Err, refl, sym, ap, subst, ◌∙◌, arith, length-append, length-drop, append_assoc}
 use Rattle.std.specs.Prelude.{bit_and}
 use Rattle.std.proofs.lemmas.Bool.{le-ltb, ltb-false}
 use Rattle.std.proofs.lemmas.Bool.Decides.{nat_tests}
@@ -185,5 +186,10 @@ items-taken [] [] h = refl
 items-taken [] (b ∷ bytes) h = absurd (no_item (b ∷ bytes) (element_at (b ∷ bytes)) (omega arith) refl h)
 items-taken (e ∷ es) [] h = let none = items-none [] refl in absurd (let no : [] ≡ Ok e ∷ map (λ e. Ok e) es = sym none ∙ h in cc)
 items-taken (e ∷ es) (b ∷ bytes) h =
-    let first = first_item (b ∷ bytes) (element_at (b ∷ bytes)) e (map (λ e. Ok e) es) (omega arith) refl h in
-    (take first.n (b ∷ bytes), drop first.n (b ∷ bytes), element-taken (b ∷ bytes) (e, first.n) first.read, sym (take-append-drop first.n (b ∷ bytes)), items-taken es (drop first.n (b ∷ bytes)) first.rest)
+    let first = first_item (b ∷ bytes) (element_at (b ∷ bytes)) e (map (λ e. Ok e) es) (omega arith) refl h in (
+      take first.n (b ∷ bytes),
+      drop first.n (b ∷ bytes),
+      element-taken (b ∷ bytes) (e, first.n) first.read,
+      sym (take-append-drop first.n (b ∷ bytes)),
+      items-taken es (drop first.n (b ∷ bytes)) first.rest,
+    )

@@ -6,3 +6,7 @@ pub mod WalkLaws
 pub mod OrderLaws
 pub mod EachLaws
 pub mod TimeLaws
+pub mod CalendarLaws
+pub mod Steps
+pub mod TimeDigits
+pub mod TimeGrammarLaws

@@ -75,7 +75,8 @@ stands-before : (tag : ℕ) (o : Option (List ℕ)) (bytes rest : List ℕ) (es 
 stands-before tag None bytes rest es h more = let P : List ℕ → Type 0 = λ bs. AreElements es bs in subst P h more
 stands-before tag (Some contents) bytes rest es h more = (h.0, rest, h.1, h.2, more)
 
-pub optional-before : (tag : ℕ) (bytes : List ℕ) (x : Option (List ℕ) × List ℕ) (es : List Der) → optional tag bytes ≡ Some x → AreElements es x.1 → AreElements (one_of (element_if tag x.0) ++ es) bytes
+pub optional-before : (tag : ℕ) (bytes : List ℕ) (x : Option (List ℕ) × List ℕ) (es : List Der) → optional tag bytes ≡ Some x → AreElements es x.1
+    → AreElements (one_of (element_if tag x.0) ++ es) bytes
 optional-before tag bytes x es h more = stands-before tag x.0 bytes x.1 es (optional-taken tag bytes x h) more
 
 pub element-before : (test : Der → Bool) (bytes : List ℕ) (x : Der × List ℕ) (es : List Der) → element_where test bytes ≡ Some x → AreElements es x.1 → (test x.0 ≡ true) × AreElements (x.0 ∷ es) bytes

@@ -15,7 +15,7 @@ use Rattle.der_core.proofs.GrammarLaws.{element-taken, element-read}
 eq_self : (a : ℕ) → nat_eq a a ≡ true
 eq_self a = grind (arith, nat_tests)
 
-chosen_some : {A : Type 0} (b : Bool) (y x : A) → cond b (Some y) None ≡ Some x → (b ≡ true) × (y ≡ x)
+pub chosen_some : {A : Type 0} (b : Bool) (y x : A) → cond b (Some y) None ≡ Some x → (b ≡ true) × (y ≡ x)
 chosen_some true y x h = (refl, cc)
 chosen_some false y x h = cc
 
@@ -65,7 +65,8 @@ by_test tag bytes y x true t read h =
     let is : IsElement y.0 (take y.1 bytes) = element-taken bytes y read in
     subst Q same (subst P (same_number y.0.tag tag t) (take y.1 bytes, is, sym (take-append-drop y.1 bytes)))
 
-taken_or_not : (tag : ℕ) (bytes : List ℕ) (r : Read Der) (x : Option (List ℕ) × List ℕ) → element_at bytes ≡ r → contents_in (passing_or_not (has_tag tag) bytes r) ≡ Some x → StandsOrNot tag x.0 bytes x.1
+taken_or_not : (tag : ℕ) (bytes : List ℕ) (r : Read Der) (x : Option (List ℕ) × List ℕ) → element_at bytes ≡ r
+    → contents_in (passing_or_not (has_tag tag) bytes r) ≡ Some x → StandsOrNot tag x.0 bytes x.1
 taken_or_not tag bytes (Err f) x read h =
     let pair : Option (List ℕ) × List ℕ = (None, bytes) in
     let same : pair ≡ x = cc in

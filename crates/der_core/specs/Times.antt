@@ -1,5 +1,5 @@
--- Times of DER, in seconds since 1970-01-01 00:00:00 UTC. UTCTime is YYMMDDHHMMSSZ and GeneralizedTime is
--- YYYYMMDDHHMMSSZ (RFC 5280, 4.1.2.5.1 and 4.1.2.5.2; X.690, 11.7 and 11.8), with no fraction and no offset.
+-- How a time of DER is read, in seconds since 1970-01-01 00:00:00 UTC: UTCTime is YYMMDDHHMMSSZ and GeneralizedTime is
+-- YYYYMMDDHHMMSSZ, with no fraction and no offset. TimeGrammar says what a time is.
 use Rattle.std.specs.Prelude.{ℕ, ℤ, pos, ◌+ℤ◌, ◌*ℤ◌, ◌+◌, ◌-◌, ◌*◌, [], ◌∷◌, Bool, ◌&&◌, nat_lt, nat_le, nat_eq, if◌then◌else◌, Option, Some, None}
 use Rattle.jiff_core.specs.Calendar.{days_from_civil, days_in_month}
 use Rattle.octets_core.specs.Walk.{Walk, ◌>>=◌, whole, given, ends, value_of}

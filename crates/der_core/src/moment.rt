@@ -1,7 +1,8 @@
-ghost use Rattle.std.specs.Prelude.{◌≡◌, ◌+◌, ◌-◌, ◌*◌, ◌<◌, ◌≤◌, ℕ, pos, [], List, IfSome, MatchResult, Some, None, if◌then◌else◌};
+ghost use Rattle.std.specs.Prelude.{◌≡◌, ◌+◌, ◌-◌, ◌*◌, ◌<◌, ◌≤◌, ℕ, ℤ, pos, [], List, IfSome, IfOk, MatchResult, Ok, Some, None, if◌then◌else◌};
 ghost use Rattle.std.specs.Option.{option_map};
 ghost use Rattle.octets_core.specs.Walk.{ends, value_of};
 ghost use Rattle.der_core.specs.Elements.{der_of};
+ghost use Rattle.der_core.specs.TimeGrammar.{IsTime};
 ghost use Rattle.der_core.specs.Times.{two_digits, zulu, day_number, clock_seconds, moment_of, moment, utc_time, generalized_time, time_of};
 
 use crate::types::{BadTime, Element};
@@ -111,19 +112,26 @@ fn generalized(text: &[u8]) -> Option<i64>
     rest_of(100 * century + year, text)
 }
 
-/// The moment that a UTCTime or a GeneralizedTime names, in seconds since 1970-01-01 00:00:00 UTC
-/// (RFC 5280, 4.1.2.5). The day is one of the Gregorian calendar, which is taken back to the year 0000.
 #[tactic(auto, unfolding(crate::specs::Times::time_of))]
-pub fn time(e: &Element<'_>) -> Result<i64, BadTime>
-    ensures { MatchResult result (λ n. time_of (der_of e.now) ≡ Some n) (λ _. time_of (der_of e.now) ≡ None) }
+fn seconds_in(e: &Element<'_>) -> Option<i64>
+    ensures { result ≡ time_of (der_of e.now) }
 {
-    let found = match e.tag {
+    match e.tag {
         0x17 => utc(e.contents),
         0x18 => generalized(e.contents),
         _ => None,
-    };
-    match found {
-        Some(n) => Ok(n),
-        None => Err(BadTime),
     }
+}
+
+/// The moment that a UTCTime or a GeneralizedTime names, in seconds since 1970-01-01 00:00:00 UTC
+/// (RFC 5280, 4.1.2.5). The day is one of the Gregorian calendar, which is taken back to the year 0000.
+pub fn time(e: &Element<'_>) -> Result<i64, BadTime>
+    // What is read is the time that the element is.
+    ensures found { IfOk result (λ t. IsTime t (der_of e.now)) }
+    // What is a time is read.
+    ensures only { (t : ℤ) → IsTime t (der_of e.now) → result ≡ Ok t }
+    // The same, computed.
+    ensures exact { MatchResult result (λ t. time_of (der_of e.now) ≡ Some t) (λ _. time_of (der_of e.now) ≡ None) }
+{
+    seconds_in(e).ok_or(BadTime)
 }

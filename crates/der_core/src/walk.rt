@@ -13,7 +13,9 @@ use crate::types::{DerFault, Element, Elements};
 
 /// The first element, its bytes, and the bytes behind it.
 fn parts(bytes: &[u8]) -> Result<(Element<'_>, &[u8], &[u8]), DerFault>
-    ensures { MatchResult result (λ x. (n : ℕ) × (element_at bytes.now ≡ Ok (der_of x.0, n)) × (x.1.now ≡ take n bytes.now) × (x.2.now ≡ drop n bytes.now)) (λ f. element_at bytes.now ≡ Err f) }
+    ensures { MatchResult result
+        (λ x. (n : ℕ) × (element_at bytes.now ≡ Ok (der_of x.0, n)) × (x.1.now ≡ take n bytes.now) × (x.2.now ≡ drop n bytes.now))
+        (λ f. element_at bytes.now ≡ Err f) }
 {
     let (e, n) = element(bytes)?;
     let (front, rest) = bytes.split_at(n);
