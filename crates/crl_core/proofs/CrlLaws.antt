@@ -12,7 +12,7 @@ use Rattle.crl_core.specs.declared.crl.CrlFault.TheVariants as fault
 use Rattle.crl_core.specs.Form.{CrlForm, tbs, certificate_list, crl_form}
 use Rattle.crl_core.specs.Grammar.{tagged, IsCrl}
 use Rattle.crl_core.specs.Outcome.{CrlFields, is_delta, is_indirect, has_unknown, accepted, outcome_of, outcome_if, outcome, ComesTo, GivesOutcome, crl_of}
-use Rattle.crl_core.proofs.Steps.{then, value-then, whole-is}
+use Rattle.der_core.proofs.Steps.{then, value-then, whole-is}
 use Rattle.crl_core.proofs.TbsLaws.{tbs-gives, tbs-only}
 
 -- a CRL is read
@@ -26,7 +26,8 @@ crl-gives form bytes h =
     let said = tbs-gives form h.contents h.is_contents in
     rw (one, contents.is, algorithm.is, signature.is, signature.more, ends-read, said.1) refl
 
-crl-made : (form : CrlForm) (bytes list contents : List ℕ) → value_of (alone 0x30 bytes) ≡ Some list → value_of (certificate_list list) ≡ Some contents → value_of (tbs contents) ≡ Some form → IsCrl form bytes
+crl-made : (form : CrlForm) (bytes list contents : List ℕ) → value_of (alone 0x30 bytes) ≡ Some list → value_of (certificate_list list) ≡ Some contents
+    → value_of (tbs contents) ≡ Some form → IsCrl form bytes
 unfolding certificate_list
 crl-made form bytes list contents at_list at_contents at_form =
     value-then (IsCrl form bytes) (certificate_list list) contents at_contents (λ rest all.
@@ -51,7 +52,8 @@ crl-made form bytes list contents at_list at_contents at_form =
       elements = subst P same e3;
     })))))
 
-crl-by-contents : (form : CrlForm) (bytes list : List ℕ) (r : Option (List ℕ)) → value_of (alone 0x30 bytes) ≡ Some list → value_of (certificate_list list) ≡ r → within tbs r ≡ Some form → IsCrl form bytes
+crl-by-contents : (form : CrlForm) (bytes list : List ℕ) (r : Option (List ℕ)) → value_of (alone 0x30 bytes) ≡ Some list → value_of (certificate_list list) ≡ r
+    → within tbs r ≡ Some form → IsCrl form bytes
 crl-by-contents form bytes list None at_list at h = cc
 crl-by-contents form bytes list (Some contents) at_list at h = crl-made form bytes list contents at_list at h
 

@@ -12,7 +12,7 @@ use Rattle.der_core.proofs.EachLaws.{Reads, each-read, each-taken}
 use Rattle.crl_core.specs.Extensions.{extension}
 use Rattle.crl_core.specs.Form.{Entry, listed, some_octets, entry_fields, entry}
 use Rattle.crl_core.specs.Grammar.{tagged, IsExtension, HoldsEach, IsEntry}
-use Rattle.crl_core.proofs.Steps.{then, given-then, value-then, whole-is}
+use Rattle.der_core.proofs.Steps.{then, given-then, value-then, whole-is}
 use Rattle.crl_core.proofs.ExtensionLaws.{held, extension-reads}
 
 -- a list that there may be is read,

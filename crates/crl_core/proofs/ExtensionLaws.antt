@@ -11,7 +11,7 @@ use Rattle.der_core.proofs.ItemLaws.{same_number, other_number}
 use Rattle.der_core.proofs.WalkLaws.{ends-step, ends-read, alone-read, alone-taken}
 use Rattle.der_core.proofs.OrderLaws.{field-first, optional-first, field-before, optional-before, element_if}
 use Rattle.der_core.proofs.EachLaws.{Reads, each-read, each-taken, from_map}
-use Rattle.crl_core.proofs.Steps.{then, given-then, value-then, whole-is}
+use Rattle.der_core.proofs.Steps.{then, given-then, value-then, whole-is}
 use Rattle.crl_core.specs.Extensions.{Ext, CrlExt, critical_of, extension_fields, extension, point_flag, point_in, point, point_of, some_true, with_point, crl_extension, is_id_ce}
 use Rattle.crl_core.specs.Grammar.{tagged, IsFlag, IsExtension, IsPointFlag, IsPoint, IsCrlExtension}
 

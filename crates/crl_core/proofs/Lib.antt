@@ -1,7 +1,7 @@
 pub mod FindingLaws
 pub mod SummaryLaws
-pub mod Steps
 pub mod ExtensionLaws
 pub mod EntryLaws
 pub mod TbsLaws
 pub mod CrlLaws
+pub mod FitLaws

@@ -10,12 +10,13 @@ use Rattle.der_core.specs.Grammar.{AreElements, one_of}
 use Rattle.der_core.specs.Walk.{field, optional, element_where, optional_where, has_tag, is_time_tag, contents_if, alone}
 use Rattle.der_core.specs.Times.{utc_time, generalized_time, time_of}
 use Rattle.der_core.proofs.WalkLaws.{ends-step, ends-read, alone-read, alone-taken}
-use Rattle.der_core.proofs.OrderLaws.{Takes, first_passes, element_if, field-first, element-first, optional-first, optional_where-first, field-before, element-before, optional-before, optional_where-passes}
+use Rattle.der_core.proofs.OrderLaws.{Takes, first_passes, element_if, field-first, element-first, optional-first, optional_where-first, field-before}
+use Rattle.der_core.proofs.OrderLaws.{element-before, optional-before, optional_where-passes}
 use Rattle.der_core.proofs.EachLaws.{each-read, each-taken, from_map}
 use Rattle.crl_core.specs.Extensions.{CrlExt, crl_extension}
 use Rattle.crl_core.specs.Form.{Dates, Entry, CrlForm, known_version, time_if, dates, listed, entry, wrapped, crl_extensions, tbs}
 use Rattle.crl_core.specs.Grammar.{tagged, HoldsEach, HoldsExtensions, IsTimeIf, IsEntry, IsCrlExtension, IsTbsCertList}
-use Rattle.crl_core.proofs.Steps.{then, given-then, value-then, whole-is, rest-is}
+use Rattle.der_core.proofs.Steps.{then, given-then, value-then, whole-is, rest-is}
 use Rattle.crl_core.proofs.ExtensionLaws.{crl_extension-reads}
 use Rattle.crl_core.proofs.EntryLaws.{listed-tag, listed-read, listed-taken, entry-reads}
 
@@ -75,7 +76,8 @@ record DatesBefore (d : Dates) (es : List Der) (bytes : List ℕ) : Type 0 where
 dates-first : (d : Dates) (es : List Der) (bytes : List ℕ) → DatesBefore d es bytes → first_passes is_time_tag es ≡ false → Takes (dates bytes) d es
 unfolding dates
 dates-first d es bytes h other =
-    let version = optional-first 0x02 h.version (h.signature ∷ (h.issuer ∷ (h.this ∷ (one_of h.next ++ es)))) bytes h.elements (version-tag h.version h.is_version) (ap (λ (t : ℕ). nat_eq t 0x02) h.is_signature) in
+    let version = optional-first 0x02 h.version (h.signature ∷ (h.issuer ∷ (h.this ∷ (one_of h.next ++ es)))) bytes h.elements
+    (version-tag h.version h.is_version) (ap (λ (t : ℕ). nat_eq t 0x02) h.is_signature) in
     let signature = field-first 0x30 h.signature (h.issuer ∷ (h.this ∷ (one_of h.next ++ es))) version.rest version.more h.is_signature in
     let issuer = field-first 0x30 h.issuer (h.this ∷ (one_of h.next ++ es)) signature.rest signature.more h.is_issuer in
     let this = element-first is_time_tag h.this (one_of h.next ++ es) issuer.rest issuer.more (time-tag h.this d.this_update h.is_this) in
@@ -178,8 +180,8 @@ tbs-gives form contents h =
 
 tbs-made : (form : CrlForm) (d : Dates) (revoked last : Option (List ℕ)) (entries : List Entry) (extensions : List CrlExt) (contents : List ℕ)
     → record { this_update = d.this_update; next_update = d.next_update; entries = entries; extensions = extensions } ≡ form
-    → DatesBefore d (one_of (element_if 0x30 revoked) ++ one_of (element_if 0xa0 last)) contents → HoldsEach IsEntry entries (element_if 0x30 revoked) → HoldsExtensions extensions (element_if 0xa0 last)
-    → IsTbsCertList form contents
+    → DatesBefore d (one_of (element_if 0x30 revoked) ++ one_of (element_if 0xa0 last)) contents
+    → HoldsEach IsEntry entries (element_if 0x30 revoked) → HoldsExtensions extensions (element_if 0xa0 last) → IsTbsCertList form contents
 tbs-made form d revoked last entries extensions contents same h is_revoked is_last =
     let P : CrlForm → Type 0 = λ y. IsTbsCertList y contents in
     subst P same (record {

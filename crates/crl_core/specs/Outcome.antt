@@ -1,6 +1,9 @@
 -- What a CRL comes to.
-use Rattle.std.specs.Prelude.{◌≡◌, ◌≢◌, ℕ, ℤ, List, [], ◌∷◌, length, Bool, ◌||◌, nat_le, if◌then◌else◌, Option, Some, None, Result, Ok, Err}
+use Rattle.std.specs.Prelude.{◌≡◌, ◌≢◌, ℕ, ◌≤◌, FitsSigned, ℤ, List, [], ◌∷◌, length, All, IfSome, Bool, ◌||◌, nat_le}
+use Rattle.std.specs.Prelude.{if◌then◌else◌, Option, Some, None, Result, Ok, Err}
 use Rattle.std.specs.List.{list_any, flat_map}
+use Rattle.std.specs.Int.{w64}
+use Rattle.ident_core.specs.declared.bounds.TheConstants.{MAX_SERIAL}
 use Rattle.crl_core.specs.declared.findings.Findings.{Findings}
 use Rattle.crl_core.specs.declared.crl.Crl.{Crl}
 use Rattle.crl_core.specs.declared.crl.Entries.{Entries}
@@ -9,7 +12,8 @@ use Rattle.crl_core.specs.declared.crl.CrlFault.{CrlFault}
 use Rattle.crl_core.specs.declared.crl.CrlFault.TheVariants as fault
 use Rattle.crl_core.specs.Form.{Entry, CrlForm, crl_form}
 use Rattle.crl_core.specs.Grammar.{IsCrl}
-use Rattle.crl_core.specs.Findings.{has, is_delta_indicator, is_certificate_issuer, is_unknown_in_entry, is_unknown_in_crl, both, found_in_entry, found_in_entries, found_in_crl}
+use Rattle.crl_core.specs.Findings.{has, is_delta_indicator, is_certificate_issuer, is_unknown_in_entry}
+use Rattle.crl_core.specs.Findings.{is_unknown_in_crl, both, found_in_entry, found_in_entries, found_in_crl}
 
 -- serials of at most 32 octets are kept
 abbrev pub kept_octets : List ℕ → List (List ℕ)
@@ -35,6 +39,12 @@ pub record CrlFields : Type 0 where
   pub this_update : ℤ
   pub next_update : Option ℤ
   pub serials : List (List ℕ)
+
+-- dates of 64 bits, and serials of 1 to 32 octets
+pub record CrlFieldsFit (c : CrlFields) : Type 0 where
+  pub this_update : FitsSigned w64 c.this_update
+  pub next_update : IfSome c.next_update (λ n. FitsSigned w64 n)
+  pub serials : All (λ s. (1 ≤ length s) × (length s ≤ MAX_SERIAL)) c.serials
 
 abbrev pub accepted : CrlForm → CrlFields
 accepted form = record { this_update = form.this_update; next_update = form.next_update; serials = kept_serials form.entries }

@@ -7,7 +7,7 @@ ghost use Rattle.der_core.specs.Walk.{alone};
 ghost use Rattle.crl_core.specs.Findings.{found_in_crl};
 ghost use Rattle.crl_core.specs.Form.{known_version, time_if, dates, crl_extensions, tbs, certificate_list, crl_form, listed, entry, CrlForm};
 ghost use Rattle.crl_core.specs.Grammar.{IsCrl};
-ghost use Rattle.crl_core.specs.Outcome.{summary, entries_view, outcome_of, outcome, ComesTo, Finds, GivesOutcome, fields_of, crl_of, tbs_view};
+ghost use Rattle.crl_core.specs.Outcome.{summary, entries_view, outcome_of, outcome, CrlFieldsFit, ComesTo, Finds, GivesOutcome, fields_of, crl_of, tbs_view};
 
 use crate::crl::entry::entries_of;
 use crate::crl::{Crl, CrlFault, Entries, TbsList};
@@ -29,10 +29,7 @@ fn is_known_version(contents: Option<&[u8]>) -> bool
 fn time_in(e: &Element<'_>) -> Option<i64>
     ensures { result ≡ time_of (der_of e.now) }
 {
-    match time(e) {
-        Ok(n) => Some(n),
-        Err(_) => None,
-    }
+    time(e).ok()
 }
 
 fn time_in_if(e: Option<Element<'_>>) -> Option<Option<i64>>
@@ -175,7 +172,9 @@ pub fn read_crl(alloc: Global, bytes: &[u8]) -> Result<Crl, CrlFault>
     ensures only { (form : CrlForm) → IsCrl form bytes.now → GivesOutcome crl_of (outcome_of form) result }
     // Bytes are one CRL at most.
     ensures one_reading { (x y : CrlForm) → IsCrl x bytes.now → IsCrl y bytes.now → x ≡ y }
-    // The same, computed.
+    // Dates and serials fit their fields.
+    ensures fits { IfOk result (λ x. CrlFieldsFit (crl_of x)) }
+    // What the bytes come to, computed.
     ensures exact { GivesOutcome crl_of (outcome bytes.now) result }
 {
     outcome_in(alloc, bytes)
