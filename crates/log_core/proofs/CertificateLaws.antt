@@ -6,7 +6,8 @@ use Rattle.octets_core.specs.Walk.{Walk, value_of, within}
 use Rattle.der_core.specs.Elements.{Der}
 use Rattle.der_core.specs.Grammar.{IsElement, AreElements, StandsBefore, StandsOrNot}
 use Rattle.der_core.specs.Walk.{any, field, optional, element_where}
-use Rattle.der_core.proofs.WalkLaws.{step, given-step, value-step, alone-read, alone-taken, field-read, field-taken, optional-read, optional-other, optional-taken, element_where-read, element_where-taken, whole_field-read, whole_field-taken}
+use Rattle.der_core.proofs.WalkLaws.{step, given-step, value-step, alone-read, alone-taken, field-read, field-taken, optional-read, optional-other}
+use Rattle.der_core.proofs.WalkLaws.{optional-taken, element_where-read, element_where-taken, whole_field-read, whole_field-taken}
 use Rattle.log_core.specs.Certificates.{if_short, serial, signature_and_issuer, public_key, tbs_contents, certificate_contents, tbs_serial, certificate_serial, certificate_key}
 use Rattle.log_core.specs.CertificateGrammar.{BeginsWithSerial, IsTbs, HasTbs, IsCertificate, StandsBehindFour, HasKey}
 use Rattle.log_core.proofs.VectorLaws.{join}
@@ -36,7 +37,8 @@ short-by octets x false b some few h = cc
 short-taken : (octets x : List ℕ) → if_short octets ≡ Some x → Short octets x
 short-taken octets x h = short-by octets x (nat_le 1 (length octets)) (nat_le (length octets) 32) refl refl h
 
-version-read : (version : Option (List ℕ)) (contents behind octets rest : List ℕ) → StandsOrNot 0xa0 version contents behind → StandsBefore 0x02 octets behind rest → optional 0xa0 contents ≡ Some (version, behind)
+version-read : (version : Option (List ℕ)) (contents behind octets rest : List ℕ) → StandsOrNot 0xa0 version contents behind
+    → StandsBefore 0x02 octets behind rest → optional 0xa0 contents ≡ Some (version, behind)
 version-read (Some v) contents behind octets rest h s = optional-read 0xa0 v contents behind h
 version-read None contents behind octets rest h s =
     let P : List ℕ → Type 0 = λ bs. optional 0xa0 bs ≡ Some (None, behind) in
@@ -89,7 +91,8 @@ key-read key octets contents behind begins h =
 grow : (bytes front rest middle tail : List ℕ) → bytes ≡ front ++ rest → rest ≡ middle ++ tail → bytes ≡ (front ++ middle) ++ tail
 grow bytes front rest middle tail h k = join bytes front rest (middle ++ tail) h k ∙ sym (append_assoc front middle tail)
 
-four-are : (a b c d : Der) (one two three four : List ℕ) → IsElement a one → IsElement b two → IsElement c three → IsElement d four → AreElements (a ∷ b ∷ c ∷ d ∷ []) (one ++ (two ++ (three ++ (four ++ []))))
+four-are : (a b c d : Der) (one two three four : List ℕ) → IsElement a one → IsElement b two → IsElement c three → IsElement d four
+    → AreElements (a ∷ b ∷ c ∷ d ∷ []) (one ++ (two ++ (three ++ (four ++ []))))
 four-are a b c d one two three four h i j k = (one, two ++ (three ++ (four ++ [])), h, refl, (two, three ++ (four ++ []), i, refl, (three, four ++ [], j, refl, (four, [], k, refl, refl))))
 
 -- Two elements stand before the rest.

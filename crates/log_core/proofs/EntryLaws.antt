@@ -85,7 +85,8 @@ key-taken kind bytes x one h =
     let Q : ℕ → List ℕ → Type 0 = λ n entry. IsNumber 2 n entry in
     subst P same (record { hash = f.front; is = λ entry is. (subst (λ n. Q n entry) one is, f.is.0, long); same = f.same })
 
-issuer-by : (kind : ℕ) (bytes : List ℕ) (x : Option (List ℕ) × List ℕ) (a b : Bool) → nat_eq kind 0 ≡ a → nat_eq kind 1 ≡ b → cond a (whole None) (cond b key (given None)) bytes ≡ Some x → TakesIssuer kind x.0 bytes x.1
+issuer-by : (kind : ℕ) (bytes : List ℕ) (x : Option (List ℕ) × List ℕ) (a b : Bool) → nat_eq kind 0 ≡ a → nat_eq kind 1 ≡ b
+    → cond a (whole None) (cond b key (given None)) bytes ≡ Some x → TakesIssuer kind x.0 bytes x.1
 issuer-by kind bytes x true b e f h =
     let zero : kind ≡ 0 = same_number kind 0 e in
     let made : Option (List ℕ) × List ℕ = (None, bytes) in
@@ -222,7 +223,8 @@ leaf-taken bytes x h =
     let c = number-taken 8 zeros.0.1 time.0 time.1 in
     let V : ℕ → Type 0 = λ n. IsNumber 1 n a.front in
     let K : ℕ → Type 0 = λ n. IsNumber 1 n b.front in
-    leaf-of x.0 bytes a.front b.front c.front version.0.1 time.0.1 time.0.0 (subst V z.0 a.is) (subst K z.1 b.is) c.is a.same (join version.0.1 b.front kind.0.1 (c.front ++ time.0.1) b.same (g.1 ∙ c.same)) (from_entry-taken time.0.0 time.0.1 x time.2)
+    leaf-of x.0 bytes a.front b.front c.front version.0.1 time.0.1 time.0.0 (subst V z.0 a.is) (subst K z.1 b.is) c.is a.same
+    (join version.0.1 b.front kind.0.1 (c.front ++ time.0.1) b.same (g.1 ∙ c.same)) (from_entry-taken time.0.0 time.0.1 x time.2)
 
 chain-read : (first bytes : List ℕ) → IsChain first bytes → value_of (chain bytes) ≡ Some first
 unfolding chain
@@ -341,7 +343,8 @@ pub entry-found : (log bytes extra : List ℕ) (r : Result (Identity × Sighting
 entry-found log bytes extra (Ok x) h = entry-taken log bytes extra (fields_of x) h
 entry-found log bytes extra (Err e) h = tt
 
-pub entry-only : (log bytes extra : List ℕ) (r : Result (Identity × Sighting) Unread) → GivesEntry (entry_of log bytes extra) r → (x : EntryFields) → ReadsEntry log bytes extra x → GivesEntry (Some x) r
+pub entry-only : (log bytes extra : List ℕ) (r : Result (Identity × Sighting) Unread) → GivesEntry (entry_of log bytes extra) r → (x : EntryFields)
+    → ReadsEntry log bytes extra x → GivesEntry (Some x) r
 entry-only log bytes extra r h x reads =
     let P : Option EntryFields → Type 0 = λ entry. GivesEntry entry r in
     subst P (entry-read log bytes extra x reads) h

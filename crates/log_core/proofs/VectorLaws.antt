@@ -133,7 +133,8 @@ more-taken x None y ys h = cc
 more-taken x (Some xs) y ys h = let same : (x ∷ xs) ≡ (y ∷ ys) = cc in (cc, cc)
 
 -- a walk that fills some bytes takes the first of them
-first-taken : {A : Type 0} (walk : Walk A) (bytes : List ℕ) (r : Option (A × List ℕ)) (x : A) (xs : List A) → walk bytes ≡ r → all_of walk bytes ≡ Some (x ∷ xs) → (y : A × List ℕ) × (walk bytes ≡ Some y)
+first-taken : {A : Type 0} (walk : Walk A) (bytes : List ℕ) (r : Option (A × List ℕ)) (x : A) (xs : List A) → walk bytes ≡ r → all_of walk bytes ≡ Some (x ∷ xs)
+    → (y : A × List ℕ) × (walk bytes ≡ Some y)
 unfolding all_of
 first-taken walk [] r x xs e h = cc
 first-taken walk (b ∷ bytes) None x xs e h = let none = all_of-none walk (b ∷ bytes) (omega arith) e in cc

@@ -4,7 +4,8 @@ ghost use Rattle.sha2.specs.Sha256.{sha256};
 ghost use Rattle.octets_core.specs.Walk.{Walks};
 ghost use Rattle.log_core.specs.CertificateGrammar.{HasKey};
 ghost use Rattle.log_core.specs.Leaves.{GivesHash};
-ghost use Rattle.log_core.specs.Certificates.{if_short, serial, signature_and_issuer, public_key, certificate_contents, tbs_serial, certificate_serial, certificate_key};
+ghost use Rattle.log_core.specs.Certificates.{if_short, serial, signature_and_issuer, public_key, certificate_contents};
+ghost use Rattle.log_core.specs.Certificates.{tbs_serial, certificate_serial, certificate_key};
 
 use crate::Unread;
 use der_core::Elements;
@@ -17,10 +18,7 @@ use sha2::{Digest, Sha256};
 fn serial_from(octets: &[u8]) -> Option<Serial>
     ensures { result ≡ if_short octets.now }
 {
-    match Serial::new(octets) {
-        Ok(serial) => Some(serial),
-        Err(_) => None,
-    }
+    Serial::new(octets).ok()
 }
 
 /// The serial, behind the version, if that is there.
@@ -89,10 +87,8 @@ fn certificate_key_of(bytes: &[u8]) -> Option<&[u8]>
 fn key_hash(cert: &[u8]) -> Result<Key32, Unread>
     ensures { GivesHash (certificate_key cert.now) result }
 {
-    match certificate_key_of(cert) {
-        Some(key) => Ok(Key32::new(Sha256::digest(key))),
-        None => Err(Unread),
-    }
+    let key = certificate_key_of(cert).ok_or(Unread)?;
+    Ok(Key32::new(Sha256::digest(key)))
 }
 
 /// The SHA-256 of a certificate's DER SubjectPublicKeyInfo, with its tag and length (RFC 5280, 4.1).

@@ -11,24 +11,15 @@ use crate::Unread;
 use crate::certificate::{certificate_serial_of, issuer_hash, tbs_serial_of};
 use crate::leaf::Leaf;
 use ident_core::{Identity, Sighting};
-use octets_core::Key32;
 use octets_core::vectors::{split_bytes, split_number, split_some_vector, split_vector};
-
-fn key_from(hash: &[u8]) -> Key32
-    requires { length hash.now ≡ 32 }
-    ensures { result ≡ hash.now }
-{
-    let mut bytes = [0u8; 32];
-    bytes.copy_from_slice(hash);
-    Key32::new(bytes)
-}
+use octets_core::{Key32, key_of};
 
 #[tactic(auto, unfolding(crate::specs::Entries::key))]
 fn split_key(bytes: &[u8]) -> Option<(Option<Key32>, &[u8])>
     ensures { option_map {U = Option (List ℕ) × List ℕ} (λ x. (x.0, x.1.now)) result ≡ key bytes.now }
 {
     let (hash, rest) = split_bytes(bytes, 32)?;
-    Some((Some(key_from(hash)), rest))
+    Some((Some(key_of(hash)), rest))
 }
 
 /// The key hash of the issuer, which only a precertificate's entry has.
@@ -115,10 +106,7 @@ fn first_in_chain(extra: &[u8]) -> Option<&[u8]>
 fn chain_hash_of(extra: &[u8]) -> Option<Key32>
     ensures { result ≡ chain_hash extra.now }
 {
-    match issuer_hash(first_in_chain(extra)?) {
-        Ok(hash) => Some(hash),
-        Err(_) => None,
-    }
+    issuer_hash(first_in_chain(extra)?).ok()
 }
 
 fn precertificate_of(issuer: Key32, tbs: &[u8]) -> Option<Identity>
