@@ -18,7 +18,8 @@ use Rattle.job_core.specs.declared.bounds.What.TheVariants as what
 use Rattle.job_core.specs.declared.fault.JobFault.{JobFault}
 use Rattle.job_core.specs.declared.fault.JobFault.TheVariants as faults
 use Rattle.job_core.specs.JobFields.{JobFields}
-use Rattle.job_core.specs.JobLayout.{fielded, record_kind, crl, entry, SoFar, nothing_yet, Item, at_most, kept, range_item, crl_item, entry_item, item_of, next_item, with_item, with_others, records_within, records, job, job_of}
+use Rattle.job_core.specs.JobLayout.{fielded, record_kind, crl, entry, SoFar, nothing_yet, Item, at_most, kept, range_item, crl_item, entry_item, item_of}
+use Rattle.job_core.specs.JobLayout.{next_item, with_item, with_others, records_within, records, job, job_of}
 use Rattle.job_core.specs.Offsets.{offset_in_job}
 
 abbrev offset : LayoutFault → ℕ
@@ -166,11 +167,13 @@ never-read_fault limits bytes e h is =
     omega (arith, far)
 
 -- a fault lies within the bytes
-pub at-of : {X : Type 0} (view : X → JobFields) (limits : Limits) (bytes : List ℕ) (r : Result X JobFault) → GivesUnless faults.NoMemory view r (job_of limits bytes) → IfErr r (λ e. offset_in_job e ≤ length bytes)
+pub at-of : {X : Type 0} (view : X → JobFields) (limits : Limits) (bytes : List ℕ) (r : Result X JobFault)
+    → GivesUnless faults.NoMemory view r (job_of limits bytes) → IfErr r (λ e. offset_in_job e ≤ length bytes)
 at-of view limits bytes (Ok x) h = tt
 at-of view limits bytes (Err e) h = offset-of limits bytes e h
 
 -- no fault is that of a read
-pub never-of : {X : Type 0} (view : X → JobFields) (limits : Limits) (bytes : List ℕ) (r : Result X JobFault) → GivesUnless faults.NoMemory view r (job_of limits bytes) → IfErr r (λ e. e ≡ faults.ReadFault → ⊥)
+pub never-of : {X : Type 0} (view : X → JobFields) (limits : Limits) (bytes : List ℕ) (r : Result X JobFault)
+    → GivesUnless faults.NoMemory view r (job_of limits bytes) → IfErr r (λ e. e ≡ faults.ReadFault → ⊥)
 never-of view limits bytes (Ok x) h = tt
 never-of view limits bytes (Err e) h = never-read_fault limits bytes e h

@@ -15,7 +15,8 @@ use Rattle.job_core.specs.JobFields.{CrlMeaning, JobFields}
 use Rattle.job_core.specs.JobLayout.{job_of}
 use Rattle.job_core.specs.JobText.{JobContents, FitsJob}
 use Rattle.job_core.specs.JobMeaning.{crl_meaning, entry_meaning, meaning_of, kept_in}
-use Rattle.job_core.specs.JobFacts.{EntryFieldsFit, FitsFields, IsWithinLimits}
+use Rattle.crl_core.specs.Outcome.{CrlFieldsFit}
+use Rattle.job_core.specs.JobFacts.{EntryFieldsFit, FitsPublishing, FitsFields, IsWithinLimits}
 use Rattle.job_core.proofs.JobSpelled.{read-spelled}
 
 read-by : (b : Bool) (e : JobFault) (m f : JobFields) → (if b then Ok m else Err e) ≡ Ok f → (b ≡ true) × (m ≡ f)
@@ -41,7 +42,8 @@ within-meaning limits j fits few = record {
   entries = omega (arith, fits.few_entries, length-map j.entries entry_meaning);
 }
 
-fits-meaning : (limits : Limits) (j : JobContents) → FitsJob limits j → limits.ranges ≤ 1024 → All (λ e. IfSome e EntryFieldsFit) (meaning_of j).entries → FitsFields (meaning_of j)
+fits-meaning : (limits : Limits) (j : JobContents) → FitsJob limits j → limits.ranges ≤ 1024
+    → All (λ e. IfSome e EntryFieldsFit) (meaning_of j).entries → FitsPublishing (meaning_of j)
 fits-meaning limits j fits published entries = record {
   epoch = fits.epoch;
   moment = fits.moment;
@@ -57,17 +59,23 @@ within-read limits bytes f fits h =
     let (j, fitting, few, is) = said limits bytes f fits h in
     subst (λ (g : JobFields). IsWithinLimits limits g) is (within-meaning limits j fitting few)
 
-fits-read : (limits : Limits) (bytes : List ℕ) (f : JobFields) → IsBytes bytes → limits.ranges ≤ 1024 → All (λ e. IfSome e EntryFieldsFit) f.entries → job_of limits bytes ≡ Ok f → FitsFields f
+fits-read : (limits : Limits) (bytes : List ℕ) (f : JobFields) → IsBytes bytes → limits.ranges ≤ 1024
+    → All (λ c. IfOk c.outcome CrlFieldsFit) f.crls → All (λ e. IfSome e EntryFieldsFit) f.entries → job_of limits bytes ≡ Ok f → FitsFields f
 unfolding Said
-fits-read limits bytes f fits published entries h =
+fits-read limits bytes f fits published crls entries h =
     let (j, fitting, few, is) = said limits bytes f fits h in
-    subst (λ (g : JobFields). All (λ e. IfSome e EntryFieldsFit) g.entries → FitsFields g) is (λ all. fits-meaning limits j fitting published all) entries
+    record {
+      publishing = subst (λ (g : JobFields). All (λ e. IfSome e EntryFieldsFit) g.entries → FitsPublishing g) is (λ all. fits-meaning limits j fitting published all) entries;
+      accepted = crls;
+    }
 
-pub within-of : {X : Type 0} (view : X → JobFields) (limits : Limits) (bytes : List ℕ) (r : Result X JobFault) → IsBytes bytes → GivesUnless faults.NoMemory view r (job_of limits bytes) → IfOk r (λ x. IsWithinLimits limits (view x))
+pub within-of : {X : Type 0} (view : X → JobFields) (limits : Limits) (bytes : List ℕ) (r : Result X JobFault) → IsBytes bytes
+    → GivesUnless faults.NoMemory view r (job_of limits bytes) → IfOk r (λ x. IsWithinLimits limits (view x))
 within-of view limits bytes (Ok x) fits h = within-read limits bytes (view x) fits h
 within-of view limits bytes (Err e) fits h = tt
 
-pub fits-of : {X : Type 0} (view : X → JobFields) (limits : Limits) (bytes : List ℕ) (r : Result X JobFault) → IsBytes bytes → limits.ranges ≤ 1024 → IfOk r (λ x. All (λ e. IfSome e EntryFieldsFit) (view x).entries)
+pub fits-of : {X : Type 0} (view : X → JobFields) (limits : Limits) (bytes : List ℕ) (r : Result X JobFault) → IsBytes bytes → limits.ranges ≤ 1024
+    → IfOk r (λ x. All (λ c. IfOk c.outcome CrlFieldsFit) (view x).crls) → IfOk r (λ x. All (λ e. IfSome e EntryFieldsFit) (view x).entries)
     → GivesUnless faults.NoMemory view r (job_of limits bytes) → IfOk r (λ x. FitsFields (view x))
-fits-of view limits bytes (Ok x) fits published entries h = fits-read limits bytes (view x) fits published entries h
-fits-of view limits bytes (Err e) fits published entries h = tt
+fits-of view limits bytes (Ok x) fits published crls entries h = fits-read limits bytes (view x) fits published crls entries h
+fits-of view limits bytes (Err e) fits published crls entries h = tt

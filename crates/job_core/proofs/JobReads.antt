@@ -1,5 +1,6 @@
 -- The text of what a job holds is read as its meaning, or its serials are too many.
-use Rattle.std.proofs.Common.{◌≡◌, ℕ, suc, ◌+◌, ◌-◌, ◌≤◌, ◌<◌, ◌^◌, false, List, [], ◌∷◌, ◌++◌, length, Some, None, Result, Ok, Err, refl, sym, ap, subst, ◌∙◌, append_assoc, length-append, arith, inl, inr, IfOk, OnOk}
+use Rattle.std.proofs.Common.{◌≡◌, ℕ, suc, ◌+◌, ◌-◌, ◌≤◌, ◌<◌, ◌^◌, false, List, [], ◌∷◌, ◌++◌, length, Some, None, Result, Ok, Err, refl, sym, ap, subst, ◌∙◌}
+use Rattle.std.proofs.Common.{append_assoc, length-append, arith, inl, inr, IfOk, OnOk}
 use Rattle.std.specs.Prelude.{All, map, flat_map, codes, nat_lt}
 use Rattle.std.specs.Int.{w8, w64, to_be_bytes}
 use Rattle.std.specs.Str.{bytes_eq}
@@ -34,7 +35,8 @@ more limits n s before x r t u rest one others = then-gives (next_item limits s)
 ends : (limits : Limits) (n : ℕ) (s : SoFar) (before rest : List ℕ) → Gives (records_within (suc n) limits s) before (Ok s) (to_be_bytes w8 0) rest
 unfolding records_within
 ends limits n s before rest =
-    then-gives (next_item limits s) (with_others (records_within n limits) s) before None (Ok s) (to_be_bytes w8 0) [] rest (given (next-none limits s before) rest) (record { is = ap (λ (k : ℕ). Ok (s, k)) (omega arith) })
+    then-gives (next_item limits s) (with_others (records_within n limits) s) before None (Ok s) (to_be_bytes w8 0) [] rest
+    (given (next-none limits s before) rest) (record { is = ap (λ (k : ℕ). Ok (s, k)) (omega arith) })
 
 -- n steps more than there are elements
 abbrev steps_over : {X : Type 0} → List X → ℕ → ℕ
@@ -91,7 +93,8 @@ crls-give limits n (c ∷ cs) s before r u rest low few under fits others =
     regroup (records_within (steps_over (c ∷ cs) n) limits s) before r (crl_record c) (flat_map crl_record cs) u rest
     (more limits (steps_over cs n) s before (OneCrl (crl_meaning c) (total s c)) r (crl_record c) (flat_map crl_record cs ++ u) rest
     (next-crl limits s before c low (omega (arith, few)) (omega (arith, under, sum)) (first_of FitsCrl c cs fits))
-    (crls-give limits n cs (with_item s (OneCrl (crl_meaning c) (total s c))) (before ++ crl_record c) r u rest (omega arith) (omega (arith, few, length-append s.crls (crl_meaning c ∷ []))) (omega (arith, under, sum)) (others_of FitsCrl c cs fits)
+    (crls-give limits n cs (with_item s (OneCrl (crl_meaning c) (total s c))) (before ++ crl_record c) r u rest (omega arith)
+    (omega (arith, few, length-append s.crls (crl_meaning c ∷ []))) (omega (arith, under, sum)) (others_of FitsCrl c cs fits)
     (moved (records_within n limits (after_crls s (c ∷ cs))) before r (crl_record c) (flat_map crl_record cs) u rest others)))
 
 -- the first CRL that brings the serials past their limit
@@ -111,7 +114,8 @@ crls-refused limits n (c ∷ cs) s before u rest low few under over fits =
       | inr le ↦
           more limits (steps_over cs n) s before (OneCrl (crl_meaning c) (total s c)) (Err (too_many limits)) (crl_record c) (flat_map crl_record cs ++ u) rest
           (next-crl limits s before c low (omega (arith, few)) le (first_of FitsCrl c cs fits))
-          (crls-refused limits n cs (with_item s (OneCrl (crl_meaning c) (total s c))) (before ++ crl_record c) u rest (omega arith) (omega (arith, few, length-append s.crls (crl_meaning c ∷ []))) le (omega (arith, over, sum)) (others_of FitsCrl c cs fits))
+          (crls-refused limits n cs (with_item s (OneCrl (crl_meaning c) (total s c))) (before ++ crl_record c) u rest (omega arith)
+          (omega (arith, few, length-append s.crls (crl_meaning c ∷ []))) le (omega (arith, over, sum)) (others_of FitsCrl c cs fits))
     ])
 
 -- ---- entries
@@ -129,7 +133,8 @@ entries-give limits n (e ∷ es) s before r u rest low few fits others =
     regroup (records_within (steps_over (e ∷ es) n) limits s) before r (entry_record e) (flat_map entry_record es) u rest
     (more limits (steps_over es n) s before (OneEntry (entry_meaning e)) r (entry_record e) (flat_map entry_record es ++ u) rest
     (next-entry limits s before e low (omega (arith, few)) (first_of FitsEntry e es fits))
-    (entries-give limits n es (with_item s (OneEntry (entry_meaning e))) (before ++ entry_record e) r u rest (omega arith) (omega (arith, few, length-append s.entries (entry_meaning e ∷ []))) (others_of FitsEntry e es fits)
+    (entries-give limits n es (with_item s (OneEntry (entry_meaning e))) (before ++ entry_record e) r u rest (omega arith)
+    (omega (arith, few, length-append s.entries (entry_meaning e ∷ []))) (others_of FitsEntry e es fits)
     (moved (records_within n limits (after_entries s (e ∷ es))) before r (entry_record e) (flat_map entry_record es) u rest others)))
 
 -- ---- what the records come to
@@ -211,16 +216,35 @@ enough j =
     let R : List ℕ = flat_map range_record j.ranges in
     let C : List ℕ = flat_map crl_record j.crls in
     let E : List ℕ = flat_map entry_record j.entries in
-    omega (arith, few-texts range_record (λ r. omega arith) j.ranges, few-texts crl_record (λ c. omega arith) j.crls, few-texts entry_record (λ e. omega arith) j.entries, length-append R (C ++ (E ++ to_be_bytes w8 0)), length-append C (E ++ to_be_bytes w8 0), length-append E (to_be_bytes w8 0))
+    omega (
+      arith,
+      few-texts range_record (λ r. omega arith) j.ranges,
+      few-texts crl_record (λ c. omega arith) j.crls,
+      few-texts entry_record (λ e. omega arith) j.entries,
+      length-append R (C ++ (E ++ to_be_bytes w8 0)),
+      length-append C (E ++ to_be_bytes w8 0),
+      length-append E (to_be_bytes w8 0),
+    )
 
 -- as many steps as bytes are left
-within-all : (limits : Limits) (j : JobContents) (before : List ℕ) (r : Result SoFar JobFault) → ((n : ℕ) → Gives (records_within (count j n) limits nothing_yet) before r (texts j) []) → Gives (records limits nothing_yet) before r (texts j) []
+within-all : (limits : Limits) (j : JobContents) (before : List ℕ) (r : Result SoFar JobFault)
+    → ((n : ℕ) → Gives (records_within (count j n) limits nothing_yet) before r (texts j) []) → Gives (records limits nothing_yet) before r (texts j) []
 within-all limits j before r each =
     let n : ℕ = length (texts j) - (length j.ranges + (length j.crls + (length j.entries + 1))) in
-    let steps : length (before ++ (texts j ++ [])) - length before ≡ count j n = omega (arith, length-append before (texts j ++ []), length-append (texts j) [], enough j, steps-are j.ranges (steps_over j.crls (steps_over j.entries (suc n))), steps-are j.crls (steps_over j.entries (suc n)), steps-are j.entries (suc n)) in
+    let steps : length (before ++ (texts j ++ [])) - length before
+    ≡ count j n = omega (
+      arith,
+      length-append before (texts j ++ []),
+      length-append (texts j) [],
+      enough j,
+      steps-are j.ranges (steps_over j.crls (steps_over j.entries (suc n))),
+      steps-are j.crls (steps_over j.entries (suc n)),
+      steps-are j.entries (suc n),
+    ) in
     record { is = ap (λ (k : ℕ). records_within k limits nothing_yet (before ++ (texts j ++ [])) (length before)) steps ∙ (each n).is }
 
-records-give : (limits : Limits) (j : JobContents) → FitsJob limits j → kept_in (meaning_of j).crls ≤ limits.serials → (before : List ℕ) → Gives (records limits nothing_yet) before (Ok (all_behind j)) (texts j) []
+records-give : (limits : Limits) (j : JobContents) → FitsJob limits j → kept_in (meaning_of j).crls ≤ limits.serials → (before : List ℕ)
+    → Gives (records limits nothing_yet) before (Ok (all_behind j)) (texts j) []
 records-give limits j fits under before =
     let a = ranges-taken nothing_yet j.ranges in
     let b = crls-taken (ranged j) j.crls in
@@ -228,19 +252,25 @@ records-give limits j fits under before =
     let E : List ℕ = flat_map entry_record j.entries in
     let end : List ℕ = to_be_bytes w8 0 in
     within-all limits j before (Ok (all_behind j)) (λ n.
-    ranges-give limits (steps_over j.crls (steps_over j.entries (suc n))) j.ranges nothing_yet before (Ok (all_behind j)) (C ++ (E ++ end)) [] (omega arith) (omega (arith, fits.few_ranges)) fits.ranges
-    (crls-give limits (steps_over j.entries (suc n)) j.crls (ranged j) _ (Ok (all_behind j)) (E ++ end) [] (omega (arith, a.kind (omega arith))) (omega (arith, ap length a.crls, fits.few_crls)) (omega (arith, a.serials, under)) fits.crls
-    (entries-give limits (suc n) j.entries (crls_behind j) _ (Ok (all_behind j)) end [] (omega (arith, b.kind (omega (arith, a.kind (omega arith))))) (omega (arith, ap length b.entries, ap length a.entries, fits.few_entries)) fits.entries
+    ranges-give limits (steps_over j.crls (steps_over j.entries (suc n))) j.ranges nothing_yet before (Ok (all_behind j)) (C ++ (E ++ end)) [] (omega arith)
+    (omega (arith, fits.few_ranges)) fits.ranges
+    (crls-give limits (steps_over j.entries (suc n)) j.crls (ranged j) _ (Ok (all_behind j)) (E ++ end) [] (omega (arith, a.kind (omega arith)))
+    (omega (arith, ap length a.crls, fits.few_crls)) (omega (arith, a.serials, under)) fits.crls
+    (entries-give limits (suc n) j.entries (crls_behind j) _ (Ok (all_behind j)) end [] (omega (arith, b.kind (omega (arith, a.kind (omega arith)))))
+    (omega (arith, ap length b.entries, ap length a.entries, fits.few_entries)) fits.entries
     (ends limits n (all_behind j) _ []))))
 
-records-refused : (limits : Limits) (j : JobContents) → FitsJob limits j → limits.serials < kept_in (meaning_of j).crls → (before : List ℕ) → Gives (records limits nothing_yet) before (Err (too_many limits)) (texts j) []
+records-refused : (limits : Limits) (j : JobContents) → FitsJob limits j → limits.serials < kept_in (meaning_of j).crls → (before : List ℕ)
+    → Gives (records limits nothing_yet) before (Err (too_many limits)) (texts j) []
 records-refused limits j fits over before =
     let a = ranges-taken nothing_yet j.ranges in
     let E : List ℕ = flat_map entry_record j.entries in
     let end : List ℕ = to_be_bytes w8 0 in
     within-all limits j before (Err (too_many limits)) (λ n.
-    ranges-give limits (steps_over j.crls (steps_over j.entries (suc n))) j.ranges nothing_yet before (Err (too_many limits)) (flat_map crl_record j.crls ++ (E ++ end)) [] (omega arith) (omega (arith, fits.few_ranges)) fits.ranges
-    (crls-refused limits (steps_over j.entries (suc n)) j.crls (ranged j) _ (E ++ end) [] (omega (arith, a.kind (omega arith))) (omega (arith, ap length a.crls, fits.few_crls)) (omega (arith, a.serials)) (omega (arith, a.serials, over)) fits.crls))
+    ranges-give limits (steps_over j.crls (steps_over j.entries (suc n))) j.ranges nothing_yet before (Err (too_many limits))
+    (flat_map crl_record j.crls ++ (E ++ end)) [] (omega arith) (omega (arith, fits.few_ranges)) fits.ranges
+    (crls-refused limits (steps_over j.entries (suc n)) j.crls (ranged j) _ (E ++ end) [] (omega (arith, a.kind (omega arith)))
+    (omega (arith, ap length a.crls, fits.few_crls)) (omega (arith, a.serials)) (omega (arith, a.serials, over)) fits.crls))
 
 -- ---- the job
 
@@ -262,7 +292,8 @@ unfolding job spelling
 job-gives limits j r fits each =
     let e : List ℕ = to_be_bytes w64 j.epoch in
     let m : List ℕ = to_be_bytes w64 j.moment in
-    subst (λ (l : List ℕ). Gives (job limits) [] r l []) (sym (right_of (codes "CLUBJOB1") e m (flat_map range_record j.ranges) (flat_map crl_record j.crls) (flat_map entry_record j.entries) (to_be_bytes w8 0)))
+    subst (λ (l : List ℕ). Gives (job limits) [] r l []) (sym
+    (right_of (codes "CLUBJOB1") e m (flat_map range_record j.ranges) (flat_map crl_record j.crls) (flat_map entry_record j.entries) (to_be_bytes w8 0)))
     (then-gives _ _ [] (codes "CLUBJOB1") r (codes "CLUBJOB1") (e ++ (m ++ texts j)) []
     (given (mapped-read faults.Layout _ _ _ _ (bytes_field-read _ _ 8 (bytes_eq (codes "CLUBJOB1")) _ (codes "CLUBJOB1") refl refl)) _)
     (then-gives _ _ _ j.epoch r e (m ++ texts j) []
@@ -289,8 +320,10 @@ spelled-read limits j fits =
       | inr under ↦
           rw (le-leb (kept_in (meaning_of j).crls) limits.serials under)
           (job-answers limits (spelling j) (Ok (meaning_of j)) (job-gives limits j (Ok (meaning_of j)) fits (λ before.
-          then-last (records limits nothing_yet) (λ s. fielded end >>= λ over. whole (said j.epoch j.moment s)) before (all_behind j) (Ok (meaning_of j)) (texts j) [] (records-give limits j fits under before)
-          (subst (λ (f : JobFields). Gives (fielded end >>= λ over. whole (said j.epoch j.moment (all_behind j))) (before ++ texts j) (Ok f) [] []) (all-said j) (ends-job (said j.epoch j.moment (all_behind j)) (before ++ texts j))))))
+          then-last (records limits nothing_yet) (λ s. fielded end >>= λ over. whole (said j.epoch j.moment s)) before (all_behind j) (Ok (meaning_of j))
+          (texts j) [] (records-give limits j fits under before)
+          (subst (λ (f : JobFields). Gives (fielded end >>= λ over. whole (said j.epoch j.moment (all_behind j))) (before ++ texts j) (Ok f) [] []) (all-said j)
+          (ends-job (said j.epoch j.moment (all_behind j)) (before ++ texts j))))))
     ]
 
 pub read_back-of : {X : Type 0} (items : X → List ℕ) (limits : Limits) (j : JobContents) {E : Type 0} (r : Result X E) → IfOk r (λ out. items out ≡ spelling j) → OnOk r (FitsJob limits j)

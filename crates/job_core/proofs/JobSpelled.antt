@@ -1,5 +1,6 @@
 -- A job: what is read is the text of what its records hold, and the value is their meaning.
-use Rattle.std.proofs.Common.{◌≡◌, ℕ, zero, suc, ◌+◌, ◌-◌, ◌≤◌, ◌<◌, ◌^◌, Bool, true, false, List, [], ◌∷◌, ◌++◌, length, Option, Some, None, Result, Ok, Err, refl, sym, ap, subst, ◌∙◌, append_assoc, length-append, arith, IfOk}
+use Rattle.std.proofs.Common.{◌≡◌, ℕ, zero, suc, ◌+◌, ◌-◌, ◌≤◌, ◌<◌, ◌^◌, Bool, true, false, List, [], ◌∷◌, ◌++◌, length, Option, Some, None, Result, Ok, Err}
+use Rattle.std.proofs.Common.{refl, sym, ap, subst, ◌∙◌, append_assoc, length-append, arith, IfOk}
 use Rattle.std.specs.Prelude.{All, map, flat_map, codes, nat_lt, if◌then◌else◌}
 use Rattle.std.specs.Int.{w8, w64, to_be_bytes}
 use Rattle.std.specs.Str.{bytes_eq}
@@ -82,13 +83,16 @@ none-held limits s bytes at q one = (
 )
 
 -- a range before them
-range-held : (limits : Limits) (s : SoFar) (bytes : List ℕ) (at p q : ℕ) (r : Range) (t : SoFar) → SaysOne limits s bytes at (OneRange r) p → HeldBy limits (with_item s (OneRange r)) bytes p t q → HeldBy limits s bytes at t q
+range-held : (limits : Limits) (s : SoFar) (bytes : List ℕ) (at p q : ℕ) (r : Range) (t : SoFar) → SaysOne limits s bytes at (OneRange r) p
+    → HeldBy limits (with_item s (OneRange r)) bytes p t q → HeldBy limits s bytes at t q
 range-held limits s bytes at p q r t said (rs, cs, es, h) = (
   r ∷ rs,
   cs,
   es,
   record {
-    takes = Takes-as (range_record r ++ texts rs cs es) (texts (r ∷ rs) cs es) (sym (append_assoc (range_record r) (flat_map range_record rs) (flat_map crl_record cs ++ (flat_map entry_record es ++ to_be_bytes w8 0)))) (said.0 >>> h.takes);
+    takes = Takes-as (range_record r ++ texts rs cs es) (texts (r ∷ rs) cs es)
+        (sym (append_assoc (range_record r) (flat_map range_record rs) (flat_map crl_record cs ++ (flat_map entry_record es ++ to_be_bytes w8 0))))
+        (said.0 >>> h.takes);
     ranges = h.ranges ∙ append_assoc s.ranges (r ∷ []) rs;
     crls = h.crls;
     entries = h.entries;
@@ -115,7 +119,8 @@ crl-held limits s bytes at p q n m t c [] cs es one fits means sum low few under
   c ∷ cs,
   es,
   record {
-    takes = Takes-as (crl_record c ++ texts [] cs es) (texts [] (c ∷ cs) es) (sym (append_assoc (crl_record c) (flat_map crl_record cs) (flat_map entry_record es ++ to_be_bytes w8 0))) (one >>> h.takes);
+    takes = Takes-as (crl_record c ++ texts [] cs es) (texts [] (c ∷ cs) es)
+        (sym (append_assoc (crl_record c) (flat_map crl_record cs) (flat_map entry_record es ++ to_be_bytes w8 0))) (one >>> h.takes);
     ranges = h.ranges;
     crls = h.crls ∙ append_assoc s.crls (m ∷ []) (map crl_meaning cs) ∙ ap (λ (k : CrlMeaning). s.crls ++ k ∷ map crl_meaning cs) means;
     entries = h.entries;
@@ -160,7 +165,8 @@ entry-held limits s bytes at p q m t e [] [] es one fits means few no_ranges no_
   },
 )
 
-item-held : (limits : Limits) (s : SoFar) (bytes : List ℕ) (at p q : ℕ) (x : Item) (t : SoFar) → SaysOne limits s bytes at x p → HeldBy limits (with_item s x) bytes p t q → HeldBy limits s bytes at t q
+item-held : (limits : Limits) (s : SoFar) (bytes : List ℕ) (at p q : ℕ) (x : Item) (t : SoFar) → SaysOne limits s bytes at x p
+    → HeldBy limits (with_item s x) bytes p t q → HeldBy limits s bytes at t q
 item-held limits s bytes at p q (OneRange r) t said held = range-held limits s bytes at p q r t said held
 item-held limits s bytes at p q (OneCrl m n) t (c, one, fits, means, sum, low, few, under) (rs, cs, es, h) =
     crl-held limits s bytes at p q n m t c rs cs es one fits means sum low few under (h.no_ranges (omega arith)) h
@@ -213,8 +219,10 @@ unfolding spelling
 job-held limits bytes epoch moment r u v s few_epoch few_moment front (rs, cs, es, h) same ends = (
   record { epoch = epoch; moment = moment; ranges = rs; crls = cs; entries = es },
   record {
-    takes = subst (λ (n : ℕ). Takes bytes 0 (codes "CLUBJOB1" ++ to_be_bytes w64 epoch ++ to_be_bytes w64 moment ++ flat_map range_record rs ++ flat_map crl_record cs ++ flat_map entry_record es ++ to_be_bytes w8 0) n) (sym same)
-        (Takes-as _ _ (regrouped (codes "CLUBJOB1" ++ to_be_bytes w64 epoch ++ to_be_bytes w64 moment) (flat_map range_record rs) (flat_map crl_record cs) (flat_map entry_record es) (to_be_bytes w8 0)) (front >>> h.takes));
+    takes = subst (λ (n : ℕ). Takes bytes 0 (codes "CLUBJOB1" ++ to_be_bytes w64 epoch ++ to_be_bytes w64 moment ++ flat_map range_record rs
+        ++ flat_map crl_record cs ++ flat_map entry_record es ++ to_be_bytes w8 0) n) (sym same)
+        (Takes-as _ _ (regrouped (codes "CLUBJOB1" ++ to_be_bytes w64 epoch ++ to_be_bytes w64 moment) (flat_map range_record rs) (flat_map crl_record cs)
+        (flat_map entry_record es) (to_be_bytes w8 0)) (front >>> h.takes));
     fits = record {
       epoch = few_epoch;
       moment = few_moment;
@@ -251,7 +259,8 @@ whole_of : (bytes text : List ℕ) (q : ℕ) → length bytes ≤ q → Takes by
 whole_of bytes text q le takes = sym (take_all q bytes le) ∙ takes.parts
 
 -- what is read is the text of what the job holds, and says its meaning
-pub read-spelled : (limits : Limits) (bytes : List ℕ) (f : JobFields) → IsBytes bytes → job_of limits bytes ≡ Ok f → (j : JobContents) × (bytes ≡ spelling j) × FitsJob limits j × (reading_of limits j ≡ Ok f)
+pub read-spelled : (limits : Limits) (bytes : List ℕ) (f : JobFields) → IsBytes bytes → job_of limits bytes ≡ Ok f
+    → (j : JobContents) × (bytes ≡ spelling j) × FitsJob limits j × (reading_of limits j ≡ Ok f)
 read-spelled limits bytes f fits h =
     let v = value-ok (job limits bytes 0) f h in
     let (j, is) = (job-leaves limits bytes fits).each (f, v.0) v.1 in

@@ -19,7 +19,8 @@ use Rattle.job_core.specs.declared.bounds.What.{What}
 use Rattle.job_core.specs.declared.bounds.What.TheVariants as what
 use Rattle.job_core.specs.declared.fault.JobFault.{JobFault}
 use Rattle.job_core.specs.declared.fault.JobFault.TheVariants as faults
-use Rattle.job_core.specs.JobLayout.{fielded, is_kind, record_kind, CrlText, crl, EntryText, entry, SoFar, Item, OneRange, OneCrl, OneEntry, at_most, kept, range_item, crl_item, entry_item, item_of, some_of, next_item}
+use Rattle.job_core.specs.JobLayout.{fielded, is_kind, record_kind, CrlText, crl, EntryText, entry, SoFar, Item, OneRange, OneCrl, OneEntry, at_most, kept}
+use Rattle.job_core.specs.JobLayout.{range_item, crl_item, entry_item, item_of, some_of, next_item}
 use Rattle.job_core.specs.JobText.{range_record, crl_record, entry_record, FitsCrl, FitsEntry}
 use Rattle.job_core.proofs.Giving.{Gives, given, then-gives, then-last, stops}
 use Rattle.job_core.specs.JobMeaning.{crl_meaning, entry_meaning}
@@ -56,7 +57,8 @@ entry-read before e fits = from_front
 at_most-read : (thing : What) (limit count : ℕ) → count ≤ limit → (before : List ℕ) → IsRead (at_most thing limit count) before tt []
 at_most-read thing limit count le before = rw (le-leb count limit le) (whole-read before tt)
 
-range_item-read : (limits : Limits) (s : SoFar) (before : List ℕ) (r : Range) → length s.ranges + 1 ≤ limits.ranges → FitsRange s.log r → IsRead (range_item limits s) before (OneRange r) (range_text r)
+range_item-read : (limits : Limits) (s : SoFar) (before : List ℕ) (r : Range) → length s.ranges + 1 ≤ limits.ranges → FitsRange s.log r
+    → IsRead (range_item limits s) before (OneRange r) (range_text r)
 unfolding range_item
 range_item-read limits s before r room fits = from_front
     (reads _ (at_most-read what.Ranges limits.ranges (length s.ranges + 1) room _)
@@ -76,7 +78,8 @@ crl_item-read limits s before c room few fits = from_front
     (reads _ (at_most-read what.Crls limits.crls (length s.crls + 1) room _)
     (reads _ (mapped-read faults.Layout _ _ _ _ (crl-read _ c fits))
     (reads _ (at_most-read what.Serials limits.serials (total s c) few _)
-    (subst (λ (l : List ℕ). Continues {E = JobFault} (whole (OneCrl (crl_meaning c) (total s c))) before l (OneCrl (crl_meaning c) (total s c)) (crl_body c)) (sym (append-nil (crl_body c))) (done (OneCrl (crl_meaning c) (total s c)))))))
+    (subst (λ (l : List ℕ). Continues {E = JobFault} (whole (OneCrl (crl_meaning c) (total s c))) before l (OneCrl (crl_meaning c) (total s c)) (crl_body c))
+    (sym (append-nil (crl_body c))) (done (OneCrl (crl_meaning c) (total s c)))))))
 
 at_most-refused : (thing : What) (limit count : ℕ) → limit < count → (before text rest : List ℕ) → Gives (at_most thing limit count) before (Err (faults.TooMany thing limit)) text rest
 at_most-refused thing limit count lt before text rest = rw (lt-leb count limit lt) (record { is = refl })
@@ -123,7 +126,8 @@ kind-read previous kind low high before = mapped-read faults.Layout _ _ _ _ (rec
 next-read : (limits : Limits) (s : SoFar) (before : List ℕ) (kind : ℕ) (x : Item) (t : List ℕ) → s.kind ≤ kind → kind ≤ 3
     → IsRead (behind_kind limits s kind) (before ++ to_be_bytes w8 kind) (Some x) t → IsRead (next_item limits s) before (Some x) (to_be_bytes w8 kind ++ t)
 unfolding next_item
-next-read limits s before kind x t low high one = then-read (fielded (record_kind s.kind)) (behind_kind limits s) before kind (Some x) (to_be_bytes w8 kind) t (kind-read s.kind kind low high before) one
+next-read limits s before kind x t low high one = then-read (fielded (record_kind s.kind)) (behind_kind limits s) before kind (Some x) (to_be_bytes w8 kind) t
+    (kind-read s.kind kind low high before) one
 
 some-read : (layout : Layout JobFault Item) (before : List ℕ) (x : Item) (t : List ℕ) → IsRead layout before x t → IsRead (some_of layout) before (Some x) t
 some-read layout before x t one = ends-read (λ (y : Item). Some y) one
@@ -143,7 +147,8 @@ pub next-crl-refused : (limits : Limits) (s : SoFar) (before : List ℕ) (c : Cr
     → (rest : List ℕ) → Gives (next_item limits s) before (Err (too_many limits)) (crl_record c) rest
 unfolding next_item
 next-crl-refused limits s before c low room past fits rest =
-    then-gives (fielded (record_kind s.kind)) (behind_kind limits s) before 2 (Err (too_many limits)) (to_be_bytes w8 2) (crl_body c) rest (given (kind-read s.kind 2 low (omega arith) before) (crl_body c ++ rest))
+    then-gives (fielded (record_kind s.kind)) (behind_kind limits s) before 2 (Err (too_many limits)) (to_be_bytes w8 2) (crl_body c) rest
+    (given (kind-read s.kind 2 low (omega arith) before) (crl_body c ++ rest))
     (stops _ _ _ (too_many limits) (crl_body c) rest (crl_item-refused limits s _ c room past fits rest))
 
 pub next-entry : (limits : Limits) (s : SoFar) (before : List ℕ) (e : EntryText) → s.kind ≤ 3 → length s.entries + 1 ≤ limits.entries → FitsEntry e

@@ -95,29 +95,34 @@ at_most-leaves thing limit count bytes at =
 from_kind : (bytes : List ℕ) (at p q r : ℕ) (k t : List ℕ) → Takes bytes at k p → q ≡ p → Takes bytes q t r → Takes bytes at (k ++ t) r
 from_kind bytes at p q r k t one same two = one >>> subst (λ (n : ℕ). Takes bytes n t r) same two
 
-range_item-leaves : (limits : Limits) (s : SoFar) (bytes : List ℕ) → IsBytes bytes → (at p : ℕ) → Takes bytes at (to_be_bytes w8 1) p → s.kind ≤ 1 → Leaves (range_item limits s) bytes p (SaysOne limits s bytes at)
+range_item-leaves : (limits : Limits) (s : SoFar) (bytes : List ℕ) → IsBytes bytes → (at p : ℕ) → Takes bytes at (to_be_bytes w8 1) p → s.kind ≤ 1
+    → Leaves (range_item limits s) bytes p (SaysOne limits s bytes at)
 unfolding range_item
 range_item-leaves limits s bytes fits at p one low =
     at_most-leaves what.Ranges limits.ranges (length s.ranges + 1) bytes p >>- λ room q a.
     mapped-leaves faults.Layout (range s.log) bytes q _ (range-leaves bytes fits s.log q) >>- λ r end b.
     whole-leaves (OneRange r) bytes end _ (from_kind bytes at p q end _ _ one a.0 b.0, b.1, low, a.1)
 
-crl_item-leaves : (limits : Limits) (s : SoFar) (bytes : List ℕ) → IsBytes bytes → (at p : ℕ) → Takes bytes at (to_be_bytes w8 2) p → s.kind ≤ 2 → Leaves (crl_item limits s) bytes p (SaysOne limits s bytes at)
+crl_item-leaves : (limits : Limits) (s : SoFar) (bytes : List ℕ) → IsBytes bytes → (at p : ℕ) → Takes bytes at (to_be_bytes w8 2) p → s.kind ≤ 2
+    → Leaves (crl_item limits s) bytes p (SaysOne limits s bytes at)
 unfolding crl_item
 crl_item-leaves limits s bytes fits at p one low =
     at_most-leaves what.Crls limits.crls (length s.crls + 1) bytes p >>- λ room q a.
     mapped-leaves faults.Layout crl bytes q _ (crl-leaves bytes fits q) >>- λ c r b.
     at_most-leaves what.Serials limits.serials (total s c) bytes r >>- λ few end d.
-    whole-leaves (OneCrl (crl_meaning c) (total s c)) bytes end _ (c, from_kind bytes at p q end _ _ one a.0 (subst (λ (n : ℕ). Takes bytes q (crl_body c) n) (sym d.0) b.0), b.1, refl, refl, low, a.1, d.1)
+    whole-leaves (OneCrl (crl_meaning c) (total s c)) bytes end _
+    (c, from_kind bytes at p q end _ _ one a.0 (subst (λ (n : ℕ). Takes bytes q (crl_body c) n) (sym d.0) b.0), b.1, refl, refl, low, a.1, d.1)
 
-entry_item-leaves : (limits : Limits) (s : SoFar) (bytes : List ℕ) → IsBytes bytes → (at p : ℕ) → Takes bytes at (to_be_bytes w8 3) p → s.kind ≤ 3 → Leaves (entry_item limits s) bytes p (SaysOne limits s bytes at)
+entry_item-leaves : (limits : Limits) (s : SoFar) (bytes : List ℕ) → IsBytes bytes → (at p : ℕ) → Takes bytes at (to_be_bytes w8 3) p → s.kind ≤ 3
+    → Leaves (entry_item limits s) bytes p (SaysOne limits s bytes at)
 unfolding entry_item
 entry_item-leaves limits s bytes fits at p one low =
     at_most-leaves what.Entries limits.entries (length s.entries + 1) bytes p >>- λ room q a.
     mapped-leaves faults.Layout entry bytes q _ (entry-leaves bytes fits q) >>- λ e end b.
     whole-leaves (OneEntry (entry_meaning e)) bytes end _ (e, from_kind bytes at p q end _ _ one a.0 b.0, b.1, refl, low, a.1)
 
-some-leaves : (limits : Limits) (s : SoFar) (layout : Layout JobFault Item) (bytes : List ℕ) (at p : ℕ) → Leaves layout bytes p (SaysOne limits s bytes at) → Leaves (some_of layout) bytes p (Says limits s bytes at)
+some-leaves : (limits : Limits) (s : SoFar) (layout : Layout JobFault Item) (bytes : List ℕ) (at p : ℕ) → Leaves layout bytes p (SaysOne limits s bytes at)
+    → Leaves (some_of layout) bytes p (Says limits s bytes at)
 some-leaves limits s layout bytes at p one = one >>- λ x q h. whole-leaves (Some x) bytes q _ h
 
 -- ---- kinds

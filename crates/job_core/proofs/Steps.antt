@@ -50,7 +50,8 @@ same_others limits n m s bytes fits at a b each (Some x) q h =
     let on = record-further limits s bytes at q x ((next-leaves limits s bytes fits at).each (Some x, q) h) in
     each (with_item s x) q (omega (arith, a, on)) (omega (arith, b, on))
 
-enough : (limits : Limits) (n m : ℕ) (s : SoFar) (bytes : List ℕ) → IsBytes bytes → (at : ℕ) → length bytes ≤ at + n → length bytes ≤ at + m → records_within n limits s bytes at ≡ records_within m limits s bytes at
+enough : (limits : Limits) (n m : ℕ) (s : SoFar) (bytes : List ℕ) → IsBytes bytes → (at : ℕ) → length bytes ≤ at + n → length bytes ≤ at + m
+    → records_within n limits s bytes at ≡ records_within m limits s bytes at
 unfolding records_within
 enough limits zero zero s bytes fits at a b = refl
 enough limits zero (suc m) s bytes fits at a b = sym (ap (λ r. then_read r (with_others (records_within m limits) s) bytes) (next-short limits s bytes at (omega (arith, a))))

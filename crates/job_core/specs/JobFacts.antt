@@ -1,29 +1,41 @@
 -- What holds of each job that was read.
-use Rattle.std.specs.Prelude.{◌≡◌, ◌<◌, ◌≤◌, ◌^◌, length, Some, None, All, IfSome}
+use Rattle.std.specs.Prelude.{◌≡◌, ◌<◌, ◌≤◌, ◌^◌, ℕ, List, length, Some, None, All, IfSome, IfOk}
 use Rattle.octets_core.specs.Linked.{Linked}
+use Rattle.ident_core.specs.declared.bounds.TheConstants.{MAX_SERIAL}
 use Rattle.ident_core.specs.Coverage.{RangesFit}
 use Rattle.ident_core.specs.RangeText.{FitsRange}
+use Rattle.crl_core.specs.Outcome.{CrlFieldsFit}
 use Rattle.log_core.specs.Entries.{EntryFields}
 use Rattle.job_core.specs.declared.bounds.Limits.{Limits}
 use Rattle.job_core.specs.JobFields.{JobFields}
 use Rattle.job_core.specs.JobMeaning.{kept_in}
 
--- keys of 32 bytes, a serial of 1 to 32, and a time of 64 bits
+-- keys of 32 bytes, a serial of 1 to the most octets, and a time of 64 bits
 pub record EntryFieldsFit (e : EntryFields) : Type 0 where
   pub issuer : length e.issuer ≡ 32
   pub some_serial : 1 ≤ length e.serial
-  pub short_serial : length e.serial ≤ 32
+  pub short_serial : length e.serial ≤ MAX_SERIAL
   pub log : length e.log ≡ 32
   pub time : e.time < 2 ^ 64
 
--- numbers, keys and serials fit their fields, and the ranges are as the head of a part holds them
-pub record FitsFields (job : JobFields) : Type 0 where
+-- one octet or more, and the most or fewer
+abbrev pub SerialFits : List ℕ → Type 0
+SerialFits s = (1 ≤ length s) × (length s ≤ MAX_SERIAL)
+
+-- What publishing needs of a job: numbers, keys and the serials of entries fit their fields, and the ranges are as the
+-- head of a part holds them.
+pub record FitsPublishing (job : JobFields) : Type 0 where
   pub epoch : job.epoch < 2 ^ 64
   pub moment : job.moment < 2 ^ 64
   pub ranges_fit : RangesFit job.ranges
   pub ranges : Linked FitsRange (λ previous r. Some r.log) None job.ranges
   pub crls : All (λ c. length c.issuer ≡ 32) job.crls
   pub entries : All (λ e. IfSome e EntryFieldsFit) job.entries
+
+-- that, and what its CRLs come to fits too
+pub record FitsFields (job : JobFields) : Type 0 where
+  pub publishing : FitsPublishing job
+  pub accepted : All (λ c. IfOk c.outcome CrlFieldsFit) job.crls
 
 -- no more of each than the limit
 pub record IsWithinLimits (limits : Limits) (job : JobFields) : Type 0 where

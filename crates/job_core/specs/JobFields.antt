@@ -39,7 +39,13 @@ abbrev pub entry_view : Option (Identity × Sighting) → Option EntryFields
 entry_view e = option_map fields_of e
 
 abbrev pub fields_of_job : Job → JobFields
-fields_of_job j = record { epoch = j.epoch; moment = j.moment; ranges = j.ranges.items; crls = map crl_view j.crls.items; entries = map entry_view j.entries.items }
+fields_of_job j = record {
+  epoch = j.epoch;
+  moment = j.moment;
+  ranges = j.ranges.items;
+  crls = map crl_view j.crls.items;
+  entries = map entry_view j.entries.items;
+}
 
 -- no limit is above the published one
 pub record AreWithin (limits published : Limits) : Type 0 where

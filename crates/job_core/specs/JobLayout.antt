@@ -1,5 +1,6 @@
 -- The layout of a job, line by line as in docs/FORMATS.md.
-use Rattle.std.specs.Prelude.{ℕ, zero, suc, ◌+◌, ◌-◌, ◌^◌, List, [], ◌∷◌, ◌++◌, length, Bool, ◌||◌, ◌==◌, nat_le, if◌then◌else◌, Result, Ok, Err, Option, Some, None, codes}
+use Rattle.std.specs.Prelude.{ℕ, zero, suc, ◌+◌, ◌-◌, ◌^◌, List, [], ◌∷◌, ◌++◌, length, Bool, ◌||◌, ◌==◌, nat_le}
+use Rattle.std.specs.Prelude.{if◌then◌else◌, Result, Ok, Err, Option, Some, None, codes}
 use Rattle.std.specs.Int.{w8, w32, w64, from_be_bytes}
 use Rattle.octets_core.specs.Position.{Position}
 use Rattle.octets_core.specs.Layout.{Layout, ◌>>=◌, whole, refused, mapped, within, bytes_field}
@@ -15,6 +16,7 @@ use Rattle.log_core.specs.Entries.{EntryFields, entry_of}
 use Rattle.job_core.specs.declared.bounds.Limits.{Limits}
 use Rattle.job_core.specs.declared.bounds.What.{What}
 use Rattle.job_core.specs.declared.bounds.What.TheVariants as what
+use Rattle.job_core.specs.declared.fields.TheConstants.{MAX_CRL}
 use Rattle.job_core.specs.declared.fault.JobFault.{JobFault}
 use Rattle.job_core.specs.declared.fault.JobFault.TheVariants as faults
 use Rattle.job_core.specs.JobFields.{CrlMeaning, JobFields}
@@ -45,7 +47,7 @@ pub record CrlText : Type 0 where
 unfoldable pub crl : Layout LayoutFault CrlText
 crl = do
   issuer ← key fields.CrlIssuer any_key
-  width ← number fields.CrlLength w32 0 67108864
+  width ← number fields.CrlLength w32 0 MAX_CRL
   bytes ← octets fields.CrlBytes width
   whole (record { issuer = issuer; bytes = bytes })
 

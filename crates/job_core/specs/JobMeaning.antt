@@ -17,7 +17,13 @@ abbrev pub entry_meaning : EntryText → Option EntryFields
 entry_meaning e = entry_of e.log e.leaf e.extra
 
 abbrev pub meaning_of : JobContents → JobFields
-meaning_of j = record { epoch = j.epoch; moment = j.moment; ranges = j.ranges; crls = map crl_meaning j.crls; entries = map entry_meaning j.entries }
+meaning_of j = record {
+  epoch = j.epoch;
+  moment = j.moment;
+  ranges = j.ranges;
+  crls = map crl_meaning j.crls;
+  entries = map entry_meaning j.entries;
+}
 
 -- how many serials the CRLs bring, all of them together
 abbrev pub kept_in : List CrlMeaning → ℕ

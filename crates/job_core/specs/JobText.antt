@@ -7,6 +7,8 @@ use Rattle.ident_core.specs.declared.range.Range.{Range}
 use Rattle.ident_core.specs.Coverage.{RangesFit}
 use Rattle.ident_core.specs.RangeText.{range_text, FitsRange}
 use Rattle.job_core.specs.declared.bounds.Limits.{Limits}
+use Rattle.job_core.specs.declared.bounds.TheConstants.Limits as limits
+use Rattle.job_core.specs.declared.fields.TheConstants.{MAX_CRL}
 use Rattle.job_core.specs.declared.raw.RawCrl.{RawCrl}
 use Rattle.job_core.specs.declared.raw.RawEntry.{RawEntry}
 use Rattle.job_core.specs.declared.raw.RawJob.{RawJob}
@@ -40,7 +42,7 @@ spelling j =
 
 -- the issuer is a key, and the bytes are the most of a CRL or fewer
 abbrev pub FitsCrl : CrlText → Type 0
-FitsCrl c = (length c.issuer ≡ 32) × (length c.bytes ≤ 67108864)
+FitsCrl c = (length c.issuer ≡ 32) × (length c.bytes ≤ MAX_CRL)
 
 -- the log is a key, and the lengths have three bytes
 abbrev pub FitsEntry : EntryText → Type 0
@@ -66,11 +68,17 @@ abbrev pub entry_held : RawEntry → EntryText
 entry_held e = record { log = e.log; leaf = e.leaf.items; extra = e.extra.items }
 
 abbrev pub contents_of : RawJob → JobContents
-contents_of j = record { epoch = j.epoch; moment = j.moment; ranges = j.ranges.items; crls = map crl_held j.crls.items; entries = map entry_held j.entries.items }
+contents_of j = record {
+  epoch = j.epoch;
+  moment = j.moment;
+  ranges = j.ranges.items;
+  crls = map crl_held j.crls.items;
+  entries = map entry_held j.entries.items;
+}
 
 -- a CRL of the longest length or less
 abbrev pub CrlFits : RawCrl → Type 0
-CrlFits c = length c.bytes.items ≤ 67108864
+CrlFits c = length c.bytes.items ≤ MAX_CRL
 
 -- lengths of three bytes
 abbrev pub EntryFits : RawEntry → Type 0
@@ -79,7 +87,7 @@ EntryFits e = (length e.leaf.items < 2 ^ 24) × (length e.extra.items < 2 ^ 24)
 -- the published limits, ranges as a part holds them, and lengths that fit their fields
 pub record JobFits (j : RawJob) : Type 0 where
   pub ranges : RangesFit j.ranges.items
-  pub few_crls : length j.crls.items ≤ 65535
+  pub few_crls : length j.crls.items ≤ limits.PUBLISHED.crls
   pub crls : All CrlFits j.crls.items
-  pub few_entries : length j.entries.items ≤ 4194304
+  pub few_entries : length j.entries.items ≤ limits.PUBLISHED.entries
   pub entries : All EntryFits j.entries.items

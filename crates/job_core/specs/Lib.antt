@@ -1,6 +1,6 @@
 pub mod JobFields
 pub mod JobLayout
-pub mod Drafts
+pub mod Partial
 pub mod Offsets
 pub mod JobText
 pub mod JobMeaning

@@ -3,7 +3,7 @@
 ghost use Rattle.std.specs.Prelude.{◌≡◌, ◌≤◌, IfOk};
 ghost use Rattle.octets_core.specs.Reading.{ReadsField};
 ghost use Rattle.job_core.specs.JobLayout.{is_kind, record_kind, crl, entry};
-ghost use Rattle.job_core.specs.Drafts.{crl_text, entry_text};
+ghost use Rattle.job_core.specs.Partial.{crl_text, entry_text};
 
 use octets_core::{
     Cursor, Field, Key32, LayoutFault, Short, Why, read_key, read_octets, read_u24, read_u32,

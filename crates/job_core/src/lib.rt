@@ -2,11 +2,11 @@
 #![tactic(auto)]
 
 mod bounds;
-mod draft;
 mod fault;
 mod fields;
 mod laws;
 mod meaning;
+mod partial;
 mod raw;
 mod reading;
 mod writing;

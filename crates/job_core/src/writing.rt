@@ -3,13 +3,14 @@
 ghost use Rattle.std.specs.Prelude.{◌≡◌, ◌++◌, ◌↔◌, IsTrue, IfOk, OnOk, flat_map, All};
 ghost use Rattle.ident_core.specs.RangeText.{RangeFits};
 ghost use Rattle.job_core.specs.JobLayout.{job_of};
-ghost use Rattle.job_core.specs.JobText.{range_record, crl_record, entry_record, spelling, crl_held, entry_held, contents_of, FitsCrl, FitsEntry, FitsJob, CrlFits, EntryFits, JobFits};
+ghost use Rattle.job_core.specs.JobText.{range_record, crl_record, entry_record, spelling, crl_held, entry_held};
+ghost use Rattle.job_core.specs.JobText.{contents_of, FitsCrl, FitsEntry, FitsJob, CrlFits, EntryFits, JobFits};
 ghost use Rattle.job_core.specs.JobMeaning.{reading_of};
 
 use crate::bounds::Limits;
 use crate::fields::MAX_CRL;
 use crate::raw::{RawCrl, RawEntry, RawJob};
-use ident_core::{Range, ranges_fit};
+use ident_core::{Range, put_range, ranges_fit};
 use octets_core::{NoMemory, put_bytes, put_u8, put_u24, put_u32, put_u64};
 use std::alloc::Global;
 
@@ -31,11 +32,12 @@ fn entries_fit(entries: &[RawEntry]) -> bool
 }
 
 /// Whether the job can be written: its ranges fit a part, CRLs and entries keep the published limits, and each length
-/// fits its field.
+/// fits its field. For the commands that make jobs from the files of CRLs and from the pages of logs.
 pub fn job_fits(job: &RawJob) -> bool
     ensures { IsTrue result ↔ JobFits job.now }
 {
-    if job.crls.len() > 65_535 || job.entries.len() > 4_194_304 {
+    let limits = Limits::PUBLISHED;
+    if job.crls.len() > limits.crls as usize || job.entries.len() > limits.entries as usize {
         return false;
     }
     if !ranges_fit(job.ranges.as_slice()) {
@@ -47,14 +49,12 @@ pub fn job_fits(job: &RawJob) -> bool
     entries_fit(job.entries.as_slice())
 }
 
-fn put_range(out: &mut Vec<u8>, range: &Range) -> Result<(), NoMemory>
+fn put_range_record(out: &mut Vec<u8>, range: &Range) -> Result<(), NoMemory>
     ensures text { OnOk result (out.new.items ≡ out.old.items ++ range_record range.now) }
     ensures fits { OnOk result (RangeFits range.now) }
 {
     put_u8(out, 1)?;
-    put_bytes(out, range.log.bytes())?;
-    put_u64(out, range.from)?;
-    put_u64(out, range.to)?;
+    put_range(out, range)?;
     Ok(())
 }
 
@@ -63,7 +63,7 @@ fn put_ranges(out: &mut Vec<u8>, ranges: &[Range]) -> Result<(), NoMemory>
     ensures fits { OnOk result (All RangeFits ranges.now) }
 {
     for range in ranges {
-        put_range(out, range)?;
+        put_range_record(out, range)?;
     }
     Ok(())
 }
@@ -133,7 +133,8 @@ fn bytes_of(alloc: Global, job: &RawJob) -> Result<Vec<u8>, NoMemory>
     Ok(out)
 }
 
-/// The bytes of the job, whose records are the raw job's in their order.
+/// The bytes of the job, whose records are the raw job's in their order. For the commands that make jobs from the files
+/// of CRLs and from the pages of logs.
 pub fn write_job(alloc: Global, job: &RawJob) -> Result<Vec<u8>, NoMemory>
     requires { JobFits job.now }
     ensures text { IfOk result (λ out. out.items ≡ spelling (contents_of job.now)) }

@@ -11,9 +11,11 @@ use Rattle.job_core.proofs.reading.entries_facts.Goals as goal
 
 pub loop-entry-preserved : goal.loop-entry-preserved
 loop-entry-preserved c = record {
-  facts = all-more (λ e. IfSome (entry_view e) EntryFieldsFit) c.args.entries.now c.loop-entry.entry-index c.entry-item.result c.loop-entry-test.true c.entry-item.is c.loop-entry.invariant.facts c.entry_facts.ensures;
+  facts = all-more (λ e. IfSome (entry_view e) EntryFieldsFit) c.args.entries.now c.loop-entry.entry-index c.entry-item.result c.loop-entry-test.true
+      c.entry-item.is c.loop-entry.invariant.facts c.entry_facts.ensures;
 }
 
 pub returns : goal.returns
 returns c = All-map (λ e. IfSome e EntryFieldsFit) entry_view c.args.entries.now
-    (subst (λ (l : List (Option (Identity × Sighting))). All (λ e. IfSome (entry_view e) EntryFieldsFit) l) (take_all c.loop-entry.entry-index c.args.entries.now c.loop-entry-test.false) c.loop-entry.invariant.facts)
+    (subst (λ (l : List (Option (Identity × Sighting))). All (λ e. IfSome (entry_view e) EntryFieldsFit) l)
+    (take_all c.loop-entry.entry-index c.args.entries.now c.loop-entry-test.false) c.loop-entry.invariant.facts)

@@ -9,7 +9,8 @@ pub returns-clause-found : goal.returns-clause-found
 returns-clause-found c = found-of fields_of_job c.args.limits.now c.args.bytes.now c.job_in.result (λ i. omega (arith, c.type_inv.bytes i)) c.job_in.ensures.exact
 
 pub returns-clause-fits : goal.returns-clause-fits
-returns-clause-fits c = fits-of fields_of_job c.args.limits.now c.args.bytes.now c.job_in.result (λ i. omega (arith, c.type_inv.bytes i)) (omega (arith, c.requires.ranges)) c.job_in.ensures.entries c.job_in.ensures.exact
+returns-clause-fits c = fits-of fields_of_job c.args.limits.now c.args.bytes.now c.job_in.result (λ i. omega (arith, c.type_inv.bytes i))
+    (omega (arith, c.requires.ranges)) c.job_in.ensures.crls c.job_in.ensures.entries c.job_in.ensures.exact
 
 pub returns-clause-within : goal.returns-clause-within
 returns-clause-within c = within-of fields_of_job c.args.limits.now c.args.bytes.now c.job_in.result (λ i. omega (arith, c.type_inv.bytes i)) c.job_in.ensures.exact

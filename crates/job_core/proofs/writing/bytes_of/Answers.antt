@@ -15,7 +15,8 @@ pub returns-clause-text : goal.returns-clause-text
 returns-clause-text c =
     let j = c.args.job.now in
     written j.epoch j.moment j.ranges.items j.crls.items j.entries.items
-    c.new-out.result.items c.put_bytes.new.out.items c.put_u64.new.out.items c.put_u64-2.new.out.items c.put_ranges.new.out.items c.put_crls.new.out.items c.put_entries.new.out.items c.put_u8.new.out.items
+    c.new-out.result.items c.put_bytes.new.out.items c.put_u64.new.out.items c.put_u64-2.new.out.items c.put_ranges.new.out.items c.put_crls.new.out.items
+    c.put_entries.new.out.items c.put_u8.new.out.items
     c.new-out.ensures.items
     c.in_ok-put_bytes.ensures.ok
     c.in_ok-put_u64.ensures.ok
@@ -34,5 +35,6 @@ returns-clause-fits c = record {
   few_crls = omega (arith, length-map c.args.job.now.crls.items crl_held, c.requires.few_crls);
   crls = All-map FitsCrl crl_held c.args.job.now.crls.items (subst (λ (l : List RawCrl). All (λ x. FitsCrl (crl_held x)) l) c.as_slice-2.ensures.value c.in_ok-put_crls.ensures.fits);
   few_entries = omega (arith, length-map c.args.job.now.entries.items entry_held, c.requires.few_entries);
-  entries = All-map FitsEntry entry_held c.args.job.now.entries.items (subst (λ (l : List RawEntry). All (λ x. FitsEntry (entry_held x)) l) c.as_slice-3.ensures.value c.in_ok-put_entries.ensures.fits);
+  entries = All-map FitsEntry entry_held c.args.job.now.entries.items
+      (subst (λ (l : List RawEntry). All (λ x. FitsEntry (entry_held x)) l) c.as_slice-3.ensures.value c.in_ok-put_entries.ensures.fits);
 }

@@ -4,8 +4,9 @@ ghost use Rattle.std.specs.Prelude.{◌≡◌, ◌≢◌, ◌+◌, nat_le, Err, 
 ghost use Rattle.crl_core.specs.Outcome.{outcome};
 ghost use Rattle.log_core.specs.Entries.{entry_of};
 ghost use Rattle.job_core.specs.JobFields.{outcome_view, crl_view, entry_view};
-ghost use Rattle.job_core.specs.JobLayout.{Reads, nothing_yet, kept, range_item, crl_item, entry_item, item_of, next_item, with_item, OneRange, OneCrl, OneEntry};
-ghost use Rattle.job_core.specs.Drafts.{so_far, item_in, some_item};
+ghost use Rattle.job_core.specs.JobLayout.{Reads, nothing_yet, kept, range_item, crl_item, entry_item, item_of};
+ghost use Rattle.job_core.specs.JobLayout.{next_item, with_item, OneRange, OneCrl, OneEntry};
+ghost use Rattle.job_core.specs.Partial.{so_far, item_in, some_item};
 
 use crate::bounds::{Limits, What};
 use crate::fault::JobFault;
@@ -17,9 +18,9 @@ use log_core::read_entry;
 use octets_core::{Cursor, Key32};
 use std::alloc::Global;
 
-/// What the records so far say.
+/// A job of which some records are read: what they say.
 #[derive(Debug, Drop)]
-pub struct Draft {
+pub struct PartialJob {
     /// Of the last record.
     pub kind: u8,
     /// Of the last range.
@@ -42,10 +43,10 @@ pub enum Record {
 }
 
 /// Before the first record.
-pub fn new_draft(alloc: Global) -> Draft
+pub fn no_records(alloc: Global) -> PartialJob
     ensures { so_far result ≡ nothing_yet }
 {
-    Draft {
+    PartialJob {
         kind: 0,
         log: None,
         ranges: Vec::new(alloc),
@@ -62,16 +63,20 @@ fn is_few(limit: u32, count: usize) -> bool
 }
 
 #[tactic(auto, unfolding(crate::specs::JobLayout::range_item))]
-fn range_in(draft: &Draft, cursor: &mut Cursor<'_>, limits: &Limits) -> Result<Record, JobFault>
-    ensures { Reads item_in (range_item limits.now (so_far draft.now)) cursor.old cursor.new result }
+fn range_in(
+    partial: &PartialJob,
+    cursor: &mut Cursor<'_>,
+    limits: &Limits,
+) -> Result<Record, JobFault>
+    ensures { Reads item_in (range_item limits.now (so_far partial.now)) cursor.old cursor.new result }
 {
-    if !is_few(limits.ranges, draft.ranges.len() + 1) {
+    if !is_few(limits.ranges, partial.ranges.len() + 1) {
         return Err(JobFault::TooMany {
             what: What::Ranges,
             limit: limits.ranges,
         });
     }
-    let range = read_range(cursor, draft.log)?;
+    let range = read_range(cursor, partial.log)?;
     Ok(Record::Range(range))
 }
 
@@ -99,13 +104,13 @@ fn total_with(serials: u32, outcome: &Result<Crl, CrlFault>) -> usize
 #[tactic(auto, unfolding(crate::specs::JobLayout::crl_item))]
 fn crl_in(
     alloc: Global,
-    draft: &Draft,
+    partial: &PartialJob,
     cursor: &mut Cursor<'_>,
     limits: &Limits,
 ) -> Result<Record, JobFault>
-    ensures { Reads item_in (crl_item limits.now (so_far draft.now)) cursor.old cursor.new result }
+    ensures { Reads item_in (crl_item limits.now (so_far partial.now)) cursor.old cursor.new result }
 {
-    if !is_few(limits.crls, draft.crls.len() + 1) {
+    if !is_few(limits.crls, partial.crls.len() + 1) {
         return Err(JobFault::TooMany {
             what: What::Crls,
             limit: limits.crls,
@@ -116,7 +121,7 @@ fn crl_in(
         Err(fault) => return Err(JobFault::Layout(fault)),
     };
     let outcome = outcome_in(alloc, text.bytes)?;
-    let total = total_with(draft.serials, &outcome);
+    let total = total_with(partial.serials, &outcome);
     if !is_few(limits.serials, total) {
         return Err(JobFault::TooMany {
             what: What::Serials,
@@ -137,10 +142,14 @@ fn entry_from(log: Key32, leaf: &[u8], extra: &[u8]) -> Option<(Identity, Sighti
 }
 
 #[tactic(auto, unfolding(crate::specs::JobLayout::entry_item))]
-fn entry_in(draft: &Draft, cursor: &mut Cursor<'_>, limits: &Limits) -> Result<Record, JobFault>
-    ensures { Reads item_in (entry_item limits.now (so_far draft.now)) cursor.old cursor.new result }
+fn entry_in(
+    partial: &PartialJob,
+    cursor: &mut Cursor<'_>,
+    limits: &Limits,
+) -> Result<Record, JobFault>
+    ensures { Reads item_in (entry_item limits.now (so_far partial.now)) cursor.old cursor.new result }
 {
-    if !is_few(limits.entries, draft.entries.len() + 1) {
+    if !is_few(limits.entries, partial.entries.len() + 1) {
         return Err(JobFault::TooMany {
             what: What::Entries,
             limit: limits.entries,
@@ -155,17 +164,17 @@ fn entry_in(draft: &Draft, cursor: &mut Cursor<'_>, limits: &Limits) -> Result<R
 
 fn record_of(
     alloc: Global,
-    draft: &Draft,
+    partial: &PartialJob,
     cursor: &mut Cursor<'_>,
     limits: &Limits,
     kind: u8,
 ) -> Result<Record, JobFault>
-    ensures { Reads item_in (item_of kind limits.now (so_far draft.now)) cursor.old cursor.new result }
+    ensures { Reads item_in (item_of kind limits.now (so_far partial.now)) cursor.old cursor.new result }
 {
     match kind {
-        1 => range_in(draft, cursor, limits),
-        2 => crl_in(alloc, draft, cursor, limits),
-        _ => entry_in(draft, cursor, limits),
+        1 => range_in(partial, cursor, limits),
+        2 => crl_in(alloc, partial, cursor, limits),
+        _ => entry_in(partial, cursor, limits),
     }
 }
 
@@ -173,58 +182,58 @@ fn record_of(
 #[tactic(auto, unfolding(crate::specs::JobLayout::next_item))]
 pub fn next_record(
     alloc: Global,
-    draft: &Draft,
+    partial: &PartialJob,
     cursor: &mut Cursor<'_>,
     limits: &Limits,
 ) -> Result<Option<Record>, JobFault>
-    ensures { Reads some_item (next_item limits.now (so_far draft.now)) cursor.old cursor.new result }
+    ensures { Reads some_item (next_item limits.now (so_far partial.now)) cursor.old cursor.new result }
 {
-    let kind = read_kind(cursor, draft.kind)?;
+    let kind = read_kind(cursor, partial.kind)?;
     if kind == 0 {
         return Ok(None);
     }
-    let record = record_of(alloc, draft, cursor, limits, kind)?;
+    let record = record_of(alloc, partial, cursor, limits, kind)?;
     Ok(Some(record))
 }
 
-fn put_range(draft: &mut Draft, range: Range) -> Result<(), JobFault>
-    ensures ok { OnOk result (so_far draft.new ≡ with_item (so_far draft.old) (OneRange range)) }
+fn put_range(partial: &mut PartialJob, range: Range) -> Result<(), JobFault>
+    ensures ok { OnOk result (so_far partial.new ≡ with_item (so_far partial.old) (OneRange range)) }
     ensures wanted { IfErr result (λ e. e ≡ JobFault.NoMemory) }
 {
     let log = range.log;
-    draft.ranges.push(range)?;
-    draft.kind = 1;
-    draft.log = Some(log);
+    partial.ranges.push(range)?;
+    partial.kind = 1;
+    partial.log = Some(log);
     Ok(())
 }
 
-fn put_crl(draft: &mut Draft, crl: JobCrl, total: u32) -> Result<(), JobFault>
-    ensures ok { OnOk result (so_far draft.new ≡ with_item (so_far draft.old) (OneCrl (crl_view crl) total)) }
+fn put_crl(partial: &mut PartialJob, crl: JobCrl, total: u32) -> Result<(), JobFault>
+    ensures ok { OnOk result (so_far partial.new ≡ with_item (so_far partial.old) (OneCrl (crl_view crl) total)) }
     ensures wanted { IfErr result (λ e. e ≡ JobFault.NoMemory) }
 {
-    draft.crls.push(crl)?;
-    draft.kind = 2;
-    draft.serials = total;
+    partial.crls.push(crl)?;
+    partial.kind = 2;
+    partial.serials = total;
     Ok(())
 }
 
-fn put_entry(draft: &mut Draft, entry: Option<(Identity, Sighting)>) -> Result<(), JobFault>
-    ensures ok { OnOk result (so_far draft.new ≡ with_item (so_far draft.old) (OneEntry (entry_view entry))) }
+fn put_entry(partial: &mut PartialJob, entry: Option<(Identity, Sighting)>) -> Result<(), JobFault>
+    ensures ok { OnOk result (so_far partial.new ≡ with_item (so_far partial.old) (OneEntry (entry_view entry))) }
     ensures wanted { IfErr result (λ e. e ≡ JobFault.NoMemory) }
 {
-    draft.entries.push(entry)?;
-    draft.kind = 3;
+    partial.entries.push(entry)?;
+    partial.kind = 3;
     Ok(())
 }
 
 /// Takes one record more.
-pub fn put_record(draft: &mut Draft, taken: Record) -> Result<(), JobFault>
-    ensures ok { OnOk result (so_far draft.new ≡ with_item (so_far draft.old) (item_in taken)) }
+pub fn put_record(partial: &mut PartialJob, taken: Record) -> Result<(), JobFault>
+    ensures ok { OnOk result (so_far partial.new ≡ with_item (so_far partial.old) (item_in taken)) }
     ensures wanted { IfErr result (λ e. e ≡ JobFault.NoMemory) }
 {
     match taken {
-        Record::Range(range) => put_range(draft, range),
-        Record::Crl(crl, total) => put_crl(draft, crl, total),
-        Record::Entry(entry) => put_entry(draft, entry),
+        Record::Range(range) => put_range(partial, range),
+        Record::Crl(crl, total) => put_crl(partial, crl, total),
+        Record::Entry(entry) => put_entry(partial, entry),
     }
 }
