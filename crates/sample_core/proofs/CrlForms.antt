@@ -122,7 +122,8 @@ body-spelled es rest more =
     (element-and (tagged 0x30 []) (date_said ∷ es) (0x30 ∷ 0x00 ∷ []) (date ++ rest) _ name-spelled refl
     (element-and date_said es date rest _ date-spelled refl more)))
 
-body-is : (number : ℕ) (numbers : List ℕ) → length (flat_map (revoked_entry number) numbers) < 4294967296 → IsTbsCertList (form_of number numbers) (body_contents (flat_map (revoked_entry number) numbers))
+body-is : (number : ℕ) (numbers : List ℕ) → length (flat_map (revoked_entry number) numbers) < 4294967296
+    → IsTbsCertList (form_of number numbers) (body_contents (flat_map (revoked_entry number) numbers))
 body-is number numbers fits = record {
   version = Some (tagged 0x02 (0x01 ∷ []));
   signature = algorithm_said;
@@ -138,7 +139,8 @@ body-is number numbers fits = record {
   is_next = refl;
   is_revoked = revoked-holds number numbers;
   is_last = refl;
-  elements = body-spelled (one_of (revoked_der (flat_map (revoked_entry number) numbers)) ++ []) (sequence_of_some (flat_map (revoked_entry number) numbers)) (revoked-spelled (flat_map (revoked_entry number) numbers) fits);
+  elements = body-spelled (one_of (revoked_der (flat_map (revoked_entry number) numbers)) ++ []) (sequence_of_some (flat_map (revoked_entry number) numbers))
+      (revoked-spelled (flat_map (revoked_entry number) numbers) fits);
 }
 
 crl-is : (number : ℕ) (numbers : List ℕ) → length (flat_map (revoked_entry number) numbers) ≤ 35000000 → IsCrl (form_of number numbers) (crl_with (flat_map (revoked_entry number) numbers))
@@ -147,7 +149,8 @@ crl-is number numbers few =
     let end : List ℕ = 0x03 ∷ 0x01 ∷ 0x00 ∷ [] in
     record {
       list = crl_body entries ++ algorithm ++ end;
-      is_list = sequence-spelled (crl_body entries ++ algorithm ++ end) (omega (arith, body-bound entries, length-append (crl_body entries ++ algorithm) end, length-append (crl_body entries) algorithm));
+      is_list = sequence-spelled (crl_body entries ++ algorithm ++ end)
+          (omega (arith, body-bound entries, length-append (crl_body entries ++ algorithm) end, length-append (crl_body entries) algorithm));
       contents = body_contents entries;
       algorithm = algorithm_said;
       signature = tagged 0x03 (0x00 ∷ []);

@@ -43,7 +43,8 @@ record-with : (number i : ℕ) (leaf : List ℕ) → leaf ≡ leaf_of number i �
 record-with number i leaf is = ap (λ (l : List ℕ). (3 ∷ []) ++ log_of number ++ (0 ∷ 0 ∷ 69 ∷ []) ++ l ++ (0 ∷ 0 ∷ 0 ∷ [])) is ∙ sym (record-is number i)
 
 pub record-spelled : (number i : ℕ) (log time issuer digest : List ℕ) → log ≡ log_of number → time ≡ to_be_bytes w64 (moment + i)
-    → issuer ≡ issuer_of number (i % 4) → digest ≡ entry_digest number i → record_with (elements log 0 32) (elements time 0 8) (elements issuer 0 32) (elements digest 0 15) ≡ entry_record (entry number i)
+    → issuer ≡ issuer_of number (i % 4) → digest ≡ entry_digest number i
+    → record_with (elements log 0 32) (elements time 0 8) (elements issuer 0 32) (elements digest 0 15) ≡ entry_record (entry number i)
 record-spelled number i log time issuer digest is1 is2 is3 is4 =
     let len1 : length log ≡ 32 = ap length is1 ∙ log-length number in
     let len2 : length time ≡ 8 = ap length is2 ∙ time-length (moment + i) in

@@ -1,5 +1,6 @@
 -- The parts of the job's text, and what one entry more adds to each.
-use Rattle.std.proofs.Common.{◌≡◌, ℕ, zero, suc, ◌+◌, ◌-◌, ◌*◌, ◌%◌, ◌<◌, ◌≤◌, List, [], ◌∷◌, ◌++◌, map, length, Bool, true, false, cond, refl, sym, ap, ◌∙◌, append_assoc, append-nil, arith, length-append, add-zero, take, drop, length-take, length-drop}
+use Rattle.std.proofs.Common.{◌≡◌, ℕ, zero, suc, ◌+◌, ◌-◌, ◌*◌, ◌%◌, ◌<◌, ◌≤◌, List, [], ◌∷◌, ◌++◌, map, length, Bool, true, false, cond, refl, sym, ap, ◌∙◌}
+use Rattle.std.proofs.Common.{append_assoc, append-nil, arith, length-append, add-zero, take, drop, length-take, length-drop}
 use Rattle.std.specs.Prelude.{codes, flat_map, filter, sum_by, slice_index_or}
 use Rattle.std.specs.List.{range_with_len}
 use Rattle.std.specs.Int.{w32, w64, to_be_bytes}
@@ -13,7 +14,8 @@ use Rattle.sha2.specs.Sha256.{sha256}
 use Rattle.sha2.proofs.Facts256.{length-sha256}
 use Rattle.octets_core.specs.Numbers.{three_bytes}
 use Rattle.job_core.specs.JobText.{range_record, crl_record, entry_record, spelling}
-use Rattle.sample_core.specs.Sample.{moment, log_of, issuer_of, entry_digest, serial_of, leaf_front, leaf_of, entry, is_listed, is_listed_by, sequence, sequence_of_some, date, revoked_entry, revoked_entries, range_of, crl, sample_contents, sample_text, sample_revoked}
+use Rattle.sample_core.specs.Sample.{moment, log_of, issuer_of, entry_digest, serial_of, leaf_front, leaf_of, entry, is_listed, is_listed_by, sequence}
+use Rattle.sample_core.specs.Sample.{sequence_of_some, date, revoked_entry, revoked_entries, range_of, crl, sample_contents, sample_text, sample_revoked}
 use Rattle.sample_core.specs.Parts.{head_front, head_text, entries_text}
 
 -- ---- counting

@@ -1,5 +1,5 @@
 pub mod Sample
-pub mod DraftFields
+pub mod SampleFields
 pub mod Writing
 pub mod Parts
 pub mod Preparing

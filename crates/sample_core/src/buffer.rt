@@ -2,6 +2,7 @@
 
 ghost use Rattle.std.specs.Prelude.{◌≡◌, ◌+◌, ◌≤◌, ◌<◌, ◌++◌, [], length, vec_len, vec_capacity, IfOk, OnOk, OnErr};
 ghost use Rattle.outside_core.specs.Files.{extending, Torn, KeepsOthers, Rose};
+ghost use Rattle.outside_core.specs.Effects.{OnlyWrites};
 ghost use Rattle.sample_core.specs.Writing.{Moved};
 
 use octets_core::NoMemory;
@@ -57,8 +58,7 @@ impl Buffer {
         ensures err { OnErr result (Torn (D.files depot.old) (D.files depot.new) name.now (self.old ++ bytes.now)) }
         ensures others { KeepsOthers (D.files depot.old) (D.files depot.new) name.now }
         ensures cause { OnErr result (Rose (D.write_faults depot.old) (D.write_faults depot.new)) }
-        ensures later { D.write_faults depot.old ≤ D.write_faults depot.new }
-        ensures same_reads { D.read_faults depot.new ≡ D.read_faults depot.old }
+        ensures only_writes { OnlyWrites D.Depot depot.old depot.new }
     {
         let room = ROOM - self.held.len();
         if bytes.len() < room {
@@ -78,8 +78,7 @@ impl Buffer {
         ensures err { OnErr result (Torn (D.files depot.old) (D.files depot.new) name.now self.now) }
         ensures others { KeepsOthers (D.files depot.old) (D.files depot.new) name.now }
         ensures cause { OnErr result (Rose (D.write_faults depot.old) (D.write_faults depot.new)) }
-        ensures later { D.write_faults depot.old ≤ D.write_faults depot.new }
-        ensures same_reads { D.read_faults depot.new ≡ D.read_faults depot.old }
+        ensures only_writes { OnlyWrites D.Depot depot.old depot.new }
     {
         append_all(depot, name, self.held.as_slice())
     }

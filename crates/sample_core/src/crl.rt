@@ -1,7 +1,9 @@
 //! CRLs.
 
 ghost use Rattle.std.specs.Prelude.{◌≡◌, ◌+◌, ◌*◌, ◌≤◌, ◌<◌, ◌^◌, ◌++◌, [], if◌then◌else◌, length, IfOk, OnOk};
-ghost use Rattle.sample_core.specs.Sample.{is_listed as is_listed_of, is_listed_by as is_listed_by_issuer, der_length, sequence, sequence_of_some, date, algorithm, revoked_entry, revoked_entries, crl_body, crl_with};
+ghost use Rattle.sample_core.specs.Sample.{is_listed as is_listed_of, is_listed_by as is_listed_by_issuer, der_length};
+ghost use Rattle.sample_core.specs.Sample.{sequence, sequence_of_some, date, algorithm, revoked_entry, revoked_entries};
+ghost use Rattle.sample_core.specs.Sample.{crl_body, crl_with};
 
 use crate::digests::digest_of_entry;
 use octets_core::{NoMemory, put_bytes, put_u8, put_u16, put_u24, put_u32};

@@ -43,7 +43,8 @@ impl Model for Keys {
 
     ghost view = { λ k. k.number };
 
-    ghost invariant = { λ k. (k.log ≡ log_of k.number) × (k.issuers ≡ issuer_of k.number 0 ∷ issuer_of k.number 1 ∷ issuer_of k.number 2 ∷ issuer_of k.number 3 ∷ []) };
+    ghost invariant = { λ k. (k.log ≡ log_of k.number)
+        × (k.issuers ≡ issuer_of k.number 0 ∷ issuer_of k.number 1 ∷ issuer_of k.number 2 ∷ issuer_of k.number 3 ∷ []) };
 }
 
 impl Keys {

@@ -15,7 +15,9 @@ use job_core::{Limits, a_job_is_its_text};
 /// it holds means.
 pub fn samples_are_jobs()
     ensures fits { (number count : ℕ) → 1 ≤ count → count ≤ 1000000 → FitsJob Limits.PUBLISHED (sample_contents number count) }
-    ensures read { (number count : ℕ) → 1 ≤ count → count ≤ 1000000 → job_of Limits.PUBLISHED (sample_text number count) ≡ reading_of Limits.PUBLISHED (sample_contents number count) }
+    ensures read { (number count : ℕ) → 1 ≤ count → count ≤ 1000000
+        → job_of Limits.PUBLISHED (sample_text number count)
+        ≡ reading_of Limits.PUBLISHED (sample_contents number count) }
 {
     a_job_is_its_text();
 }
@@ -25,9 +27,10 @@ pub fn samples_are_jobs()
 pub fn samples_are_accepted()
     // Each CRL comes to its date, no next one, and the serials of the entries that it lists, in their order.
     ensures crls { (number count j : ℕ) → count ≤ 1000000 → outcome (crl number count j).bytes ≡ Ok (crl_fields number count j) }
-    // All together they bring as many serials as `Draft::revoked` answers.
+    // All together they bring as many serials as `SampleJob::revoked` answers.
     ensures serials { (number count : ℕ) → count ≤ 1000000 → kept_in (meaning_of (sample_contents number count)).crls ≡ sample_revoked count }
-    ensures read { (number count : ℕ) → 1 ≤ count → count ≤ 1000000 → job_of Limits.PUBLISHED (sample_text number count) ≡ Ok (meaning_of (sample_contents number count)) }
+    ensures read { (number count : ℕ) → 1 ≤ count → count ≤ 1000000
+        → job_of Limits.PUBLISHED (sample_text number count) ≡ Ok (meaning_of (sample_contents number count)) }
     ensures accepted { (number count : ℕ) → count ≤ 1000000 → All (λ c. IsOk c.outcome) (meaning_of (sample_contents number count)).crls }
     ensures within { (number count : ℕ) → count ≤ 1000000 → IsWithinLimits Limits.PUBLISHED (meaning_of (sample_contents number count)) }
 {

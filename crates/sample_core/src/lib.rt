@@ -10,4 +10,4 @@ mod laws;
 mod sample;
 
 pub use laws::{samples_are_accepted, samples_are_jobs};
-pub use sample::Draft;
+pub use sample::SampleJob;

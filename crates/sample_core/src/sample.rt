@@ -2,6 +2,7 @@
 
 ghost use Rattle.std.specs.Prelude.{◌≡◌, ◌≤◌, ◌++◌, length, IfOk, OnOk, OnErr};
 ghost use Rattle.outside_core.specs.Files.{extending, Torn, KeepsOthers, Rose, putting};
+ghost use Rattle.outside_core.specs.Effects.{OnlyWrites};
 ghost use Rattle.sample_core.specs.Sample.{sample_text, sample_revoked};
 ghost use Rattle.sample_core.specs.Parts.{head_text, entries_text};
 ghost use Rattle.sample_core.specs.Writing.{Moved, IsCut};
@@ -68,8 +69,7 @@ fn put_entries<D: Depot>(
     ensures err { OnErr result (Torn (D.files depot.old) (D.files depot.new) name.now (buffer.old ++ entries_text keys.now count)) }
     ensures others { KeepsOthers (D.files depot.old) (D.files depot.new) name.now }
     ensures cause { OnErr result (Rose (D.write_faults depot.old) (D.write_faults depot.new)) }
-    ensures later { D.write_faults depot.old ≤ D.write_faults depot.new }
-    ensures same_reads { D.read_faults depot.new ≡ D.read_faults depot.old }
+    ensures only_writes { OnlyWrites D.Depot depot.old depot.new }
 {
     for i in 0..count {
         buffer.put(depot, name, &record_of(keys, i))?;
@@ -90,8 +90,7 @@ fn append_sample<D: Depot>(
     ensures err { OnErr result (Torn (D.files depot.old) (D.files depot.new) name.now (sample_text keys.now count)) }
     ensures others { KeepsOthers (D.files depot.old) (D.files depot.new) name.now }
     ensures cause { OnErr result (Rose (D.write_faults depot.old) (D.write_faults depot.new)) }
-    ensures later { D.write_faults depot.old ≤ D.write_faults depot.new }
-    ensures same_reads { D.read_faults depot.new ≡ D.read_faults depot.old }
+    ensures only_writes { OnlyWrites D.Depot depot.old depot.new }
 {
     append_all(depot, name, prepared.front.as_slice())?;
     put_entries(&mut prepared.buffer, depot, name, keys, count)?;
@@ -111,8 +110,7 @@ fn write_prepared<D: Depot>(
     ensures err { OnErr result (IsCut (D.files depot.old) (D.files depot.new) name.now (sample_text keys.now count)) }
     ensures others { KeepsOthers (D.files depot.old) (D.files depot.new) name.now }
     ensures cause { OnErr result (Rose (D.write_faults depot.old) (D.write_faults depot.new)) }
-    ensures later { D.write_faults depot.old ≤ D.write_faults depot.new }
-    ensures same_reads { D.read_faults depot.new ≡ D.read_faults depot.old }
+    ensures only_writes { OnlyWrites D.Depot depot.old depot.new }
 {
     depot.begin(name)?;
     append_sample(prepared, depot, name, keys, count)
@@ -120,35 +118,35 @@ fn write_prepared<D: Depot>(
 
 /// A job that is ready to be written: all memory that the writing needs is taken.
 #[derive(Drop)]
-pub struct Draft {
+pub struct SampleJob {
     keys: Keys,
     count: u32,
     revoked: u32,
     prepared: Prepared,
 }
 
-impl Model for Draft {
+impl Model for SampleJob {
     ghost use Rattle.std.specs.Prelude.{◌≡◌, ◌≤◌};
-    ghost use Rattle.sample_core.specs.DraftFields.{DraftFields};
+    ghost use Rattle.sample_core.specs.SampleFields.{SampleFields};
     ghost use Rattle.sample_core.specs.Sample.{sample_revoked};
     ghost use Rattle.sample_core.specs.Preparing.{IsPrepared};
 
-    ghost Value = { DraftFields };
+    ghost Value = { SampleFields };
 
-    ghost view = { λ d. record { number = d.keys; count = d.count } };
+    ghost view = { λ j. record { number = j.keys; count = j.count } };
 
-    ghost invariant = { λ d. (d.revoked ≡ sample_revoked d.count) × IsPrepared d.keys d.count d.prepared };
+    ghost invariant = { λ j. (j.revoked ≡ sample_revoked j.count) × IsPrepared j.keys j.count j.prepared };
 }
 
-impl Draft {
+impl SampleJob {
     /// The job of the number with so many entries. Memory is taken for its CRLs and a buffer.
-    pub fn new(alloc: Global, number: u64, count: u32) -> Result<Draft, NoMemory>
+    pub fn new(alloc: Global, number: u64, count: u32) -> Result<SampleJob, NoMemory>
         requires { (1 ≤ count) × (count ≤ 1000000) }
-        ensures { IfOk result (λ d. d ≡ record { number = number; count = count }) }
+        ensures { IfOk result (λ j. j ≡ record { number = number; count = count }) }
     {
         let keys = Keys::new(number);
         let prepared = prepare(alloc, &keys, count)?;
-        Ok(Draft {
+        Ok(SampleJob {
             keys,
             count,
             revoked: count_listed(count),
@@ -176,10 +174,9 @@ impl Draft {
         ensures cut { OnErr result (IsCut (D.files depot.old) (D.files depot.new) name.now (sample_text self.number self.count)) }
         ensures cause { OnErr result (Rose (D.write_faults depot.old) (D.write_faults depot.new)) }
         ensures others { KeepsOthers (D.files depot.old) (D.files depot.new) name.now }
-        ensures later { D.write_faults depot.old ≤ D.write_faults depot.new }
-        ensures same_reads { D.read_faults depot.new ≡ D.read_faults depot.old }
+        ensures only_writes { OnlyWrites D.Depot depot.old depot.new }
     {
-        let Draft {
+        let SampleJob {
             keys,
             count,
             prepared,

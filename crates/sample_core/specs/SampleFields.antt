@@ -1,6 +1,6 @@
 -- Which job is to be written.
 use Rattle.std.specs.Prelude.{ℕ}
 
-pub record DraftFields : Type 0 where
+pub record SampleFields : Type 0 where
   pub number : ℕ
   pub count : ℕ
