@@ -31,7 +31,8 @@ found bytes l fits h =
     let a = of-value l (fielded ledger bytes 0) h in
     ledger-found bytes l a.0 fits (mapped-ok faults.Layout ledger bytes 0 (l, a.0) a.1)
 
-pub spelled-of : (bytes : List ℕ) (r : Result LedgerFields LedgerFault) → IsBytes bytes → GivesUnless faults.NoMemory (λ (l : LedgerFields). l) r (ledger_of bytes) → IfOk r (λ l. bytes ≡ ledger_text l)
+pub spelled-of : (bytes : List ℕ) (r : Result LedgerFields LedgerFault) → IsBytes bytes
+    → GivesUnless faults.NoMemory (λ (l : LedgerFields). l) r (ledger_of bytes) → IfOk r (λ l. bytes ≡ ledger_text l)
 spelled-of bytes (Ok l) fits h = (found bytes l fits h).0
 spelled-of bytes (Err e) fits h = tt
 

@@ -9,6 +9,7 @@ use Rattle.octets_core.specs.declared.field.Field.{Field}
 use Rattle.octets_core.specs.declared.field.Field.TheVariants as fields
 use Rattle.octets_core.specs.declared.fault.Why.TheVariants as why
 use Rattle.octets_core.specs.declared.fault.LayoutFault.{LayoutFault}
+use Rattle.ident_core.specs.declared.bounds.TheConstants.{MAX_SERIAL, MAX_RANGES, MAX_ISSUERS, MAX_IDENTITIES, MAX_PARTS}
 use Rattle.ident_core.specs.declared.identity.Identity.{Identity}
 use Rattle.ident_core.specs.RangeLayout.{range}
 use Rattle.ledger_core.specs.declared.fault.LedgerFault.{LedgerFault}
@@ -39,10 +40,10 @@ unfolding ledger_part
 part-bounded previous =
     number-bounded fields.LedgerEpoch w64 _ (2 ^ 64 - 1) >>> λ epoch.
     bytes-bounded fields.LedgerPartTrailer 32 _ >>> λ trailer.
-    number-bounded fields.LedgerRanges w16 0 1024 >>> λ count.
+    number-bounded fields.LedgerRanges w16 0 MAX_RANGES >>> λ count.
     repeated-bounded offset range _ range-bounded count None >>> λ list.
     bytes-bounded fields.LedgerCoverage 0 _ >>> λ covered.
-    number-bounded fields.LedgerIssuers w32 0 65535 >>> λ enrolled.
+    number-bounded fields.LedgerIssuers w32 0 MAX_ISSUERS >>> λ enrolled.
     repeated-bounded offset _ _ (λ previous. bytes-bounded fields.LedgerIssuer 32 (is_after previous)) enrolled None >>> λ keys.
     whole-bounded offset _
 
@@ -56,7 +57,7 @@ item-bounded : (parts : ℕ) (previous : Option Identity) → IsBounded offset (
 unfolding item
 item-bounded parts previous =
     bytes-bounded fields.IdentityIssuer 32 _ >>> λ issuer.
-    number-bounded fields.IdentityLength w8 1 32 >>> λ width.
+    number-bounded fields.IdentityLength w8 1 MAX_SERIAL >>> λ width.
     bytes-bounded fields.IdentitySerial width _ >>> λ serial.
     number-bounded fields.IdentityBirth w8 0 (parts - 1) >>> λ birth.
     last-bounded parts birth >>> λ last.
@@ -67,9 +68,9 @@ unfolding body
 body-bounded =
     bytes-bounded fields.LedgerMagic 8 _ >>> λ begin.
     number-bounded fields.LedgerVersion w8 1 1 >>> λ version.
-    number-bounded fields.LedgerParts w8 1 64 >>> λ count.
+    number-bounded fields.LedgerParts w8 1 MAX_PARTS >>> λ count.
     repeated-bounded offset ledger_part _ part-bounded count None >>> λ parts.
-    number-bounded fields.LedgerIdentities w32 0 4194304 >>> λ accepted.
+    number-bounded fields.LedgerIdentities w32 0 MAX_IDENTITIES >>> λ accepted.
     repeated-bounded offset (item count) _ (item-bounded count) accepted None >>> λ identities.
     whole-bounded offset _
 

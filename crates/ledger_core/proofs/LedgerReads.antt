@@ -1,5 +1,6 @@
 -- What is read as a ledger is spelled so.
-use Rattle.std.proofs.Common.{◌≡◌, ℕ, zero, suc, ◌+◌, ◌-◌, ◌<◌, ◌≤◌, ◌^◌, Bool, true, false, ◌&&◌, cond, eqb, ltb, leb, List, [], ◌∷◌, ◌++◌, length, map, take, Option, Some, None, Result, Ok, Err, get_or, drop, refl, sym, ap, ◌∙◌, subst, arith}
+use Rattle.std.proofs.Common.{◌≡◌, ℕ, zero, suc, ◌+◌, ◌-◌, ◌<◌, ◌≤◌, ◌^◌, Bool, true, false, ◌&&◌, cond, eqb, ltb, leb, List, [], ◌∷◌, ◌++◌, length, map, take}
+use Rattle.std.proofs.Common.{Option, Some, None, Result, Ok, Err, get_or, drop, refl, sym, ap, ◌∙◌, subst, arith}
 use Rattle.std.specs.Prelude.{All, codes, is_none, IsNone, IfSome, flat_map}
 use Rattle.std.specs.Int.{w8, w16, w32, w64, to_be_bytes, from_be_bytes}
 use Rattle.std.specs.Str.{bytes_eq}
@@ -19,7 +20,9 @@ use Rattle.octets_core.specs.Reading.{key, any_key, end}
 use Rattle.octets_core.specs.declared.field.Field.TheVariants as fields
 use Rattle.octets_core.specs.declared.fault.LayoutFault.{LayoutFault}
 use Rattle.octets_core.proofs.Fields.{then_read-ok, ok_is}
-use Rattle.octets_core.proofs.Texts.{IsBytes, IsBytes-piece, Takes, Takes-as, ◌>>>◌, Leaves, ◌>>-◌, whole-leaves, bytes_field-leaves, number_field-leaves, sum_field-leaves, repeated-leaves, wide8, wide16, wide32, wide64, Linked-weaken}
+use Rattle.octets_core.proofs.Texts.{IsBytes, IsBytes-piece, Takes, Takes-as, ◌>>>◌, Leaves, ◌>>-◌, whole-leaves, bytes_field-leaves, number_field-leaves}
+use Rattle.octets_core.proofs.Texts.{sum_field-leaves, repeated-leaves, wide8, wide16, wide32, wide64, Linked-weaken}
+use Rattle.ident_core.specs.declared.bounds.TheConstants.{MAX_SERIAL, MAX_RANGES, MAX_ISSUERS, MAX_IDENTITIES, MAX_PARTS}
 use Rattle.ident_core.specs.declared.identity.Identity.{Identity}
 use Rattle.ident_core.specs.Coverage.{first_outside}
 use Rattle.ident_core.specs.Order.{octets_cmp, identity_cmp}
@@ -27,7 +30,7 @@ use Rattle.ident_core.specs.RangeText.{range_text, RangeFits, FitsRange}
 use Rattle.ident_core.proofs.RangeTexts.{ranges-leaves, ranges-ascend}
 use Rattle.ident_core.proofs.Within.{within-iff}
 use Rattle.ledger_core.specs.declared.fields.LedgerItem.{LedgerItem}
-use Rattle.ledger_core.specs.LedgerFields.{LedgerPartFields, LedgerFields, Follows, IsPartAfter, IsItemOf, ids}
+use Rattle.ledger_core.specs.LedgerFields.{LedgerPartFields, LedgerFields, Continues, IsPartAfter, IsItemOf, ids}
 use Rattle.ledger_core.specs.LedgerText.{part_text, last_number, item_text, body_text, ledger_text}
 use Rattle.ledger_core.specs.LedgerLayout.{least_epoch, coverage_before, ledger_part, is_from, is_behind, tested, is_last, last_of, last_place, item, body, digested, ledger}
 use Rattle.ledger_core.specs.Fitting.{IsKey, PartFits, ItemFits, Fits}
@@ -55,7 +58,8 @@ linked-sorted key cmp total after tells previous (x ∷ xs) linked =
     (all-behind key cmp total after tells (key x) xs linked.1, linked-sorted key cmp total after tells (Some (key x)) xs linked.1)
 
 identity_cmp-total : IsTotalOrder identity_cmp
-identity_cmp-total = then_total (on_total (λ (x : Identity). x.issuer) nat_list_cmp_total) (on_total (λ (x : Identity). x.serial) (then_total (on_total (λ (s : List ℕ). length s) nat_cmp_total) nat_list_cmp_total))
+identity_cmp-total = then_total (on_total (λ (x : Identity). x.issuer) nat_list_cmp_total)
+    (on_total (λ (x : Identity). x.serial) (then_total (on_total (λ (s : List ℕ). length s) nat_cmp_total) nat_list_cmp_total))
 
 keys-sorted : (ks : List (List ℕ)) → Linked (λ previous k. is_after previous k ≡ true) (λ previous k. Some k) None ks → IsStrictlySortedBy octets_cmp ks
 keys-sorted ks linked =
@@ -86,27 +90,29 @@ none-fact : {T : Type 0} (o : Option T) → is_none o ≡ true → IsNone o
 none-fact None h = refl
 none-fact (Some x) h = absurd cc
 
-follows : (previous : Option LedgerPartFields) (p : LedgerPartFields) → least_epoch previous ≤ p.epoch → is_none (first_outside (coverage_before previous) p.ranges) ≡ true → Follows previous p
-follows None p low h = tt
-follows (Some q) p low h = (omega (arith, low), (within-iff q.ranges p.ranges (first_outside q.ranges p.ranges) refl).0 (none-fact (first_outside q.ranges p.ranges) h))
+continues : (previous : Option LedgerPartFields) (p : LedgerPartFields) → least_epoch previous ≤ p.epoch → is_none (first_outside (coverage_before previous) p.ranges) ≡ true → Continues previous p
+continues None p low h = tt
+continues (Some q) p low h = (omega (arith, low), (within-iff q.ranges p.ranges (first_outside q.ranges p.ranges) refl).0 (none-fact (first_outside q.ranges p.ranges) h))
 
-part-leaves : (bytes : List ℕ) → IsBytes bytes → (previous : Option LedgerPartFields) (at : ℕ) → Leaves (ledger_part previous) bytes at (λ p end. Takes bytes at (part_text p) end × FitsPart previous p)
+part-leaves : (bytes : List ℕ) → IsBytes bytes → (previous : Option LedgerPartFields) (at : ℕ)
+    → Leaves (ledger_part previous) bytes at (λ p end. Takes bytes at (part_text p) end × FitsPart previous p)
 unfolding ledger_part part_text
 part-leaves bytes fits previous at =
     number_field-leaves _ _ w64 (2 ^ 64) (least_epoch previous) (2 ^ 64 - 1) wide64 bytes fits at >>- λ epoch p a.
     bytes_field-leaves _ _ 32 any_key bytes p >>- λ trailer q b.
-    number_field-leaves _ _ w16 (2 ^ 16) 0 1024 wide16 bytes fits q >>- λ count r c.
+    number_field-leaves _ _ w16 (2 ^ 16) 0 MAX_RANGES wide16 bytes fits q >>- λ count r c.
     ranges-leaves bytes fits count r c.takes.room >>- λ list s d.
     bytes_field-leaves _ _ 0 (λ none. is_none (first_outside (coverage_before previous) list)) bytes s >>- λ none t e.
-    number_field-leaves _ _ w32 (2 ^ 32) 0 65535 wide32 bytes fits t >>- λ enrolled u f.
-    repeated-leaves (λ previous. key fields.LedgerIssuer (is_after previous)) (λ previous issuer. Some issuer) FitsIssuer (λ issuer. issuer) bytes (issuer-leaves bytes) enrolled None u f.takes.room >>- λ keys end g.
+    number_field-leaves _ _ w32 (2 ^ 32) 0 MAX_ISSUERS wide32 bytes fits t >>- λ enrolled u f.
+    repeated-leaves (λ previous. key fields.LedgerIssuer (is_after previous)) (λ previous issuer. Some issuer) FitsIssuer (λ issuer. issuer) bytes
+    (issuer-leaves bytes) enrolled None u f.takes.room >>- λ keys end g.
     whole-leaves _ bytes end _ (
       Takes-nothing (to_be_bytes w64 epoch ++ trailer ++ to_be_bytes w16 (length list) ++ flat_map range_text list) none (no-bytes none e.len)
           (a.takes >>> b.takes >>> Takes-as (to_be_bytes w16 count) (to_be_bytes w16 (length list)) (ap (to_be_bytes w16) (sym d.2)) c.takes >>> d.0 >>> e.takes)
           >>> Takes-as (to_be_bytes w32 enrolled) (to_be_bytes w32 (length keys)) (ap (to_be_bytes w32) (sym g.2)) f.takes >>> g.0,
       (
         record {
-          follows = follows previous (record { epoch = epoch; trailer = trailer; ranges = list; issuers = keys }) a.from_low e.passed;
+          continues = continues previous (record { epoch = epoch; trailer = trailer; ranges = list; issuers = keys }) a.from_low e.passed;
           ranges = record { few = omega (arith, d.2, c.to_high); ascending = ranges-ascend list d.1 };
           few_issuers = omega (arith, g.2, f.to_high);
           issuers_ascend = keys-sorted keys (Linked-weaken FitsIssuer (λ previous k. is_after previous k ≡ true) (λ previous k. Some k) (λ s x h. h.0) None keys g.1);
@@ -160,11 +166,12 @@ last-leaves parts birth some bytes fits at =
     let facts = last-facts parts birth n some a.1.1 in
     whole-leaves _ bytes end _ (Takes-as byte (to_be_bytes w8 (last_number (last_of n))) (sym (a.1.0) ∙ ap (to_be_bytes w8) (sym facts.0)) a.0, facts.1)
 
-item-leaves : (parts : ℕ) → 1 ≤ parts → (bytes : List ℕ) → IsBytes bytes → (previous : Option Identity) (at : ℕ) → Leaves (item parts previous) bytes at (λ x end. Takes bytes at (item_text x) end × FitsItem parts previous x)
+item-leaves : (parts : ℕ) → 1 ≤ parts → (bytes : List ℕ) → IsBytes bytes → (previous : Option Identity) (at : ℕ)
+    → Leaves (item parts previous) bytes at (λ x end. Takes bytes at (item_text x) end × FitsItem parts previous x)
 unfolding item item_text
 item-leaves parts some bytes fits previous at =
     bytes_field-leaves _ _ 32 (is_from previous) bytes at >>- λ issuer p a.
-    number_field-leaves _ _ w8 (2 ^ 8) 1 32 wide8 bytes fits p >>- λ width q b.
+    number_field-leaves _ _ w8 (2 ^ 8) 1 MAX_SERIAL wide8 bytes fits p >>- λ width q b.
     bytes_field-leaves _ _ width (λ serial. is_behind previous (record { issuer = issuer; serial = serial })) bytes q >>- λ serial r c.
     number_field-leaves _ _ w8 (2 ^ 8) 0 (parts - 1) wide8 bytes fits r >>- λ birth s d.
     last-leaves parts birth some bytes fits s >>- λ last end e.
@@ -189,9 +196,9 @@ unfolding body body_text
 body-leaves bytes fits =
     bytes_field-leaves _ _ 8 (bytes_eq (codes "CLUBLEDG")) bytes 0 >>- λ begin p a.
     number_field-leaves _ _ w8 (2 ^ 8) 1 1 wide8 bytes fits p >>- λ version q b.
-    number_field-leaves _ _ w8 (2 ^ 8) 1 64 wide8 bytes fits q >>- λ count r c.
+    number_field-leaves _ _ w8 (2 ^ 8) 1 MAX_PARTS wide8 bytes fits q >>- λ count r c.
     repeated-leaves ledger_part (λ previous p. Some p) FitsPart part_text bytes (part-leaves bytes fits) count None r c.takes.room >>- λ parts s d.
-    number_field-leaves _ _ w32 (2 ^ 32) 0 4194304 wide32 bytes fits s >>- λ accepted t e.
+    number_field-leaves _ _ w32 (2 ^ 32) 0 MAX_IDENTITIES wide32 bytes fits s >>- λ accepted t e.
     repeated-leaves (item count) (λ previous x. Some x.id) (FitsItem count) item_text bytes (item-leaves count c.from_low bytes fits) accepted None t e.takes.room >>- λ identities end f.
     whole-leaves _ bytes end _ (
       Takes-as begin (codes "CLUBLEDG") (sym ((bytes_eq-Decides (codes "CLUBLEDG") begin).0 a.passed)) a.takes

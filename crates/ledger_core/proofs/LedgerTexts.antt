@@ -13,13 +13,15 @@ use Rattle.octets_core.specs.Reading.{key, any_key, end}
 use Rattle.octets_core.specs.declared.field.Field.TheVariants as fields
 use Rattle.octets_core.specs.declared.fault.LayoutFault.{LayoutFault}
 use Rattle.octets_core.proofs.Loops.{Linked-with}
-use Rattle.octets_core.proofs.Texts.{IsRead, Continues, reads, done, from_front, ends-read, bytes_field-read, number_field-read, sum_field-read, repeated-read, wide8, wide16, wide32, wide64}
+use Rattle.octets_core.proofs.Texts.{IsRead, Continues as ReadsOn, reads, done, from_front, ends-read, bytes_field-read, number_field-read, sum_field-read}
+use Rattle.octets_core.proofs.Texts.{repeated-read, wide8, wide16, wide32, wide64}
+use Rattle.ident_core.specs.declared.bounds.TheConstants.{MAX_SERIAL, MAX_RANGES, MAX_ISSUERS, MAX_IDENTITIES, MAX_PARTS}
 use Rattle.ident_core.specs.declared.identity.Identity.{Identity}
 use Rattle.ident_core.specs.Coverage.{first_outside}
 use Rattle.ident_core.proofs.RangeTexts.{below_limit, ranges-read, ranges-fit}
 use Rattle.ident_core.proofs.Within.{within-iff}
 use Rattle.ledger_core.specs.declared.fields.LedgerItem.{LedgerItem}
-use Rattle.ledger_core.specs.LedgerFields.{LedgerPartFields, LedgerFields, Follows, IsPartAfter, IsItemOf}
+use Rattle.ledger_core.specs.LedgerFields.{LedgerPartFields, LedgerFields, Continues, IsPartAfter, IsItemOf}
 use Rattle.ledger_core.specs.LedgerText.{part_text, last_number, item_text, body_text, ledger_text}
 use Rattle.ledger_core.specs.LedgerLayout.{least_epoch, coverage_before, issuers, ledger_part, is_from, is_behind, is_last, last_of, last_place, item, body, digested, ledger}
 use Rattle.ledger_core.specs.Fitting.{IsKey, PartFits, ItemFits, Fits}
@@ -27,9 +29,9 @@ use Rattle.ledger_core.proofs.Orders.{keys-linked, ids-linked, behind-from}
 
 -- a field without bytes
 reads-nothing : {E A B : Type 0} {first : Layout E A} (next : A → Layout E B) {before sofar : List ℕ} {x : A} {y : B} {text : List ℕ}
-    → IsRead first (before ++ sofar) x [] → Continues (next x) before sofar y text → Continues (first >>= next) before sofar y text
+    → IsRead first (before ++ sofar) x [] → ReadsOn (next x) before sofar y text → ReadsOn (first >>= next) before sofar y text
 reads-nothing {E} {A} {B} {first} next {before} {sofar} {x} {y} {text} one rest =
-    reads next one (subst (λ (l : List ℕ). Continues (next x) before l y text) (sym (append-nil sofar)) rest)
+    reads next one (subst (λ (l : List ℕ). ReadsOn (next x) before l y text) (sym (append-nil sofar)) rest)
 
 -- ---- parts
 
@@ -39,19 +41,20 @@ FitsIssuer previous k = (is_after previous k ≡ true) × IsKey k
 issuer-read : (previous : Option (List ℕ)) (before k : List ℕ) → FitsIssuer previous k → IsRead (key fields.LedgerIssuer (is_after previous)) before k k
 issuer-read previous before k fits = bytes_field-read _ _ 32 (is_after previous) before k fits.1 fits.0
 
-issuers-read : (p : LedgerPartFields) (previous : Option LedgerPartFields) (before : List ℕ) → IsPartAfter previous p → PartFits p → IsRead (issuers (length p.issuers)) before p.issuers (flat_map (λ issuer. issuer) p.issuers)
+issuers-read : (p : LedgerPartFields) (previous : Option LedgerPartFields) (before : List ℕ) → IsPartAfter previous p → PartFits p
+    → IsRead (issuers (length p.issuers)) before p.issuers (flat_map (λ issuer. issuer) p.issuers)
 issuers-read p previous before facts fits =
     repeated-read (λ previous. key fields.LedgerIssuer (is_after previous)) (λ previous issuer. Some issuer) FitsIssuer (λ issuer. issuer) issuer-read None before p.issuers
     (Linked-with (λ previous k. is_after previous k ≡ true) IsKey (λ previous issuer. Some issuer) None p.issuers (keys-linked p.issuers facts.issuers_ascend) fits.issuers)
 
-epoch-low : (previous : Option LedgerPartFields) (p : LedgerPartFields) → Follows previous p → least_epoch previous ≤ p.epoch
+epoch-low : (previous : Option LedgerPartFields) (p : LedgerPartFields) → Continues previous p → least_epoch previous ≤ p.epoch
 epoch-low None p h = omega arith
 epoch-low (Some q) p h = omega (arith, h.0)
 
 none-test : {T : Type 0} (o : Option T) → IsNone o → is_none o ≡ true
 none-test o h = ap not h
 
-covered : (previous : Option LedgerPartFields) (p : LedgerPartFields) → Follows previous p → is_none (first_outside (coverage_before previous) p.ranges) ≡ true
+covered : (previous : Option LedgerPartFields) (p : LedgerPartFields) → Continues previous p → is_none (first_outside (coverage_before previous) p.ranges) ≡ true
 covered None p h = refl
 covered (Some q) p h = none-test (first_outside q.ranges p.ranges) ((within-iff q.ranges p.ranges (first_outside q.ranges p.ranges) refl).1 h.1)
 
@@ -61,30 +64,30 @@ FitsPart previous p = IsPartAfter previous p × PartFits p
 part-read : (previous : Option LedgerPartFields) (before : List ℕ) (p : LedgerPartFields) → FitsPart previous p → IsRead (ledger_part previous) before p (part_text p)
 unfolding ledger_part part_text
 part-read previous before p (facts, fits) = from_front
-    (reads _ (number_field-read _ _ w64 (2 ^ 64) (least_epoch previous) (2 ^ 64 - 1) wide64 _ p.epoch (epoch-low previous p facts.follows) (below_limit _ fits.epoch) fits.epoch)
+    (reads _ (number_field-read _ _ w64 (2 ^ 64) (least_epoch previous) (2 ^ 64 - 1) wide64 _ p.epoch (epoch-low previous p facts.continues) (below_limit _ fits.epoch) fits.epoch)
     (reads _ (bytes_field-read _ _ 32 any_key _ p.trailer fits.trailer refl)
-    (reads _ (number_field-read _ _ w16 (2 ^ 16) 0 1024 wide16 _ (length p.ranges) (omega arith) facts.ranges.few (omega (arith, facts.ranges.few)))
+    (reads _ (number_field-read _ _ w16 (2 ^ 16) 0 MAX_RANGES wide16 _ (length p.ranges) (omega arith) facts.ranges.few (omega (arith, facts.ranges.few)))
     (reads _ (ranges-read _ p.ranges (ranges-fit p.ranges facts.ranges.ascending fits.ranges))
-    (reads-nothing _ (bytes_field-read _ _ 0 (λ none. is_none (first_outside (coverage_before previous) p.ranges)) _ [] refl (covered previous p facts.follows))
-    (reads _ (number_field-read _ _ w32 (2 ^ 32) 0 65535 wide32 _ (length p.issuers) (omega arith) facts.few_issuers (omega (arith, facts.few_issuers)))
+    (reads-nothing _ (bytes_field-read _ _ 0 (λ none. is_none (first_outside (coverage_before previous) p.ranges)) _ [] refl (covered previous p facts.continues))
+    (reads _ (number_field-read _ _ w32 (2 ^ 32) 0 MAX_ISSUERS wide32 _ (length p.issuers) (omega arith) facts.few_issuers (omega (arith, facts.few_issuers)))
     (reads _ (issuers-read p previous _ facts fits)
     (done p))))))))
 
 -- ---- identities
 
-last-back : (parts birth : ℕ) (last : Option ℕ) → parts ≤ 64 → IfSome last (λ r. (birth ≤ r) × (r < parts)) → last_of (last_number last) ≡ last
+last-back : (parts birth : ℕ) (last : Option ℕ) → parts ≤ MAX_PARTS → IfSome last (λ r. (birth ≤ r) × (r < parts)) → last_of (last_number last) ≡ last
 last-back parts birth None few h = refl
 last-back parts birth (Some r) few h = rw (ne_eqb r 255 (λ e. omega (arith, h.1))) refl
 
-last-passes : (parts birth : ℕ) (last : Option ℕ) → parts ≤ 64 → IfSome last (λ r. (birth ≤ r) × (r < parts)) → is_last parts birth (last_number last) ≡ true
+last-passes : (parts birth : ℕ) (last : Option ℕ) → parts ≤ MAX_PARTS → IfSome last (λ r. (birth ≤ r) × (r < parts)) → is_last parts birth (last_number last) ≡ true
 last-passes parts birth None few h = refl
 last-passes parts birth (Some r) few h = rw (ne_eqb r 255 (λ e. omega (arith, h.1)), le-leb birth r h.0, le-leb r (parts - 1) (omega (arith, h.1))) refl
 
-last-fits : (parts birth : ℕ) (last : Option ℕ) → parts ≤ 64 → IfSome last (λ r. (birth ≤ r) × (r < parts)) → last_number last < 2 ^ 8
+last-fits : (parts birth : ℕ) (last : Option ℕ) → parts ≤ MAX_PARTS → IfSome last (λ r. (birth ≤ r) × (r < parts)) → last_number last < 2 ^ 8
 last-fits parts birth None few h = omega arith
 last-fits parts birth (Some r) few h = omega (arith, h.1)
 
-last-read : (parts birth : ℕ) (before : List ℕ) (last : Option ℕ) → parts ≤ 64 → IfSome last (λ r. (birth ≤ r) × (r < parts))
+last-read : (parts birth : ℕ) (before : List ℕ) (last : Option ℕ) → parts ≤ MAX_PARTS → IfSome last (λ r. (birth ≤ r) × (r < parts))
     → IsRead (last_place parts birth) before last (to_be_bytes w8 (last_number last))
 unfolding last_place
 last-read parts birth before last few h =
@@ -97,11 +100,11 @@ last-read parts birth before last few h =
 abbrev pub FitsItem : ℕ → Option Identity → LedgerItem → Type 0
 FitsItem parts previous x = (is_behind previous x.id ≡ true) × (ItemFits x × IsItemOf parts x)
 
-item-read : (parts : ℕ) → parts ≤ 64 → (previous : Option Identity) (before : List ℕ) (x : LedgerItem) → FitsItem parts previous x → IsRead (item parts previous) before x (item_text x)
+item-read : (parts : ℕ) → parts ≤ MAX_PARTS → (previous : Option Identity) (before : List ℕ) (x : LedgerItem) → FitsItem parts previous x → IsRead (item parts previous) before x (item_text x)
 unfolding item item_text
 item-read parts few previous before x (behind, (fits, facts)) = from_front
     (reads _ (bytes_field-read _ _ 32 (is_from previous) _ x.id.issuer fits.issuer (behind-from previous x.id behind))
-    (reads _ (number_field-read _ _ w8 (2 ^ 8) 1 32 wide8 _ (length x.id.serial) fits.some_octets fits.few_octets (omega (arith, fits.few_octets)))
+    (reads _ (number_field-read _ _ w8 (2 ^ 8) 1 MAX_SERIAL wide8 _ (length x.id.serial) fits.some_octets fits.few_octets (omega (arith, fits.few_octets)))
     (reads _ (bytes_field-read _ _ (length x.id.serial) (λ serial. is_behind previous (record { issuer = x.id.issuer; serial = serial })) _ x.id.serial refl behind)
     (reads _ (number_field-read _ _ w8 (2 ^ 8) 0 (parts - 1) wide8 _ x.birth (omega arith) (omega (arith, facts.birth)) (omega (arith, facts.birth, few)))
     (reads _ (last-read parts x.birth _ x.last few facts.last)
@@ -122,10 +125,11 @@ unfolding body body_text
 body-read l fits = from_front
     (reads _ (bytes_field-read _ _ 8 (bytes_eq (codes "CLUBLEDG")) _ (codes "CLUBLEDG") refl refl)
     (reads _ (number_field-read _ _ w8 (2 ^ 8) 1 1 wide8 _ 1 (omega arith) (omega arith) (omega arith))
-    (reads _ (number_field-read _ _ w8 (2 ^ 8) 1 64 wide8 _ (length l.parts) fits.facts.some_parts fits.facts.few_parts (omega (arith, fits.facts.few_parts)))
+    (reads _ (number_field-read _ _ w8 (2 ^ 8) 1 MAX_PARTS wide8 _ (length l.parts) fits.facts.some_parts fits.facts.few_parts (omega (arith, fits.facts.few_parts)))
     (reads _ (repeated-read ledger_part (λ previous p. Some p) FitsPart part_text part-read None _ l.parts (parts-linked l fits))
-    (reads _ (number_field-read _ _ w32 (2 ^ 32) 0 4194304 wide32 _ (length l.items) (omega arith) fits.facts.few_items (omega (arith, fits.facts.few_items)))
-    (reads _ (repeated-read (item (length l.parts)) (λ previous x. Some x.id) (FitsItem (length l.parts)) item_text (item-read (length l.parts) fits.facts.few_parts) None _ l.items (items-linked l fits))
+    (reads _ (number_field-read _ _ w32 (2 ^ 32) 0 MAX_IDENTITIES wide32 _ (length l.items) (omega arith) fits.facts.few_items (omega (arith, fits.facts.few_items)))
+    (reads _ (repeated-read (item (length l.parts)) (λ previous x. Some x.id) (FitsItem (length l.parts)) item_text
+    (item-read (length l.parts) fits.facts.few_parts) None _ l.items (items-linked l fits))
     (done l)))))))
 
 digested-read : (l : LedgerFields) → Fits l → IsRead digested [] l (ledger_text l)

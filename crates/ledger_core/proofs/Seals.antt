@@ -3,7 +3,7 @@ use Rattle.std.proofs.Common.{◌≡◌, ℕ, zero, suc, ◌-◌, List, [], ◌�
 use Rattle.octets_core.specs.Linked.{Linked}
 use Rattle.ledger_core.specs.declared.fields.LedgerPart.{LedgerPart}
 use Rattle.ledger_core.specs.declared.fields.LedgerItem.{LedgerItem}
-use Rattle.ledger_core.specs.LedgerFields.{LedgerPartFields, LedgerFields, part_fields, ledger_fields, Follows, IsPartAfter, IsLedger, with_trailer, sealed_parts, sealed_with}
+use Rattle.ledger_core.specs.LedgerFields.{LedgerPartFields, LedgerFields, part_fields, ledger_fields, Continues, IsPartAfter, IsLedger, with_trailer, sealed_parts, sealed_with}
 
 abbrev with_code_trailer : LedgerPart → List ℕ → LedgerPart
 with_code_trailer p trailer = record p { trailer = trailer }
@@ -19,12 +19,12 @@ length-sealed [] trailer = refl
 length-sealed (p ∷ []) trailer = refl
 length-sealed (p ∷ q ∷ ps) trailer = ap suc (length-sealed (q ∷ ps) trailer)
 
-Follows-sealed : (previous : Option LedgerPartFields) (p : LedgerPartFields) (trailer : List ℕ) → Follows previous p → Follows previous (with_trailer p trailer)
-Follows-sealed None p trailer h = tt
-Follows-sealed (Some previous) p trailer h = h
+Continues-sealed : (previous : Option LedgerPartFields) (p : LedgerPartFields) (trailer : List ℕ) → Continues previous p → Continues previous (with_trailer p trailer)
+Continues-sealed None p trailer h = tt
+Continues-sealed (Some previous) p trailer h = h
 
 IsPartAfter-sealed : (previous : Option LedgerPartFields) (p : LedgerPartFields) (trailer : List ℕ) → IsPartAfter previous p → IsPartAfter previous (with_trailer p trailer)
-IsPartAfter-sealed previous p trailer h = record { follows = Follows-sealed previous p trailer h.follows; ranges = h.ranges; few_issuers = h.few_issuers; issuers_ascend = h.issuers_ascend }
+IsPartAfter-sealed previous p trailer h = record { continues = Continues-sealed previous p trailer h.continues; ranges = h.ranges; few_issuers = h.few_issuers; issuers_ascend = h.issuers_ascend }
 
 parts-sealed : (previous : Option LedgerPartFields) (ps : List LedgerPartFields) (trailer : List ℕ) → Linked IsPartAfter (λ previous p. Some p) previous ps
     → Linked IsPartAfter (λ previous p. Some p) previous (sealed_parts ps trailer)

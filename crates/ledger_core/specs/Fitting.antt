@@ -1,12 +1,13 @@
 -- The ledgers that have a text: their facts hold, and numbers and keys fit their fields.
 use Rattle.std.specs.Prelude.{◌≡◌, ℕ, ◌<◌, ◌≤◌, ◌^◌, List, length, All}
+use Rattle.ident_core.specs.declared.bounds.TheConstants.{MAX_RANGES, MAX_ISSUERS, MAX_SERIAL}
 use Rattle.ident_core.specs.RangeText.{RangeFits}
 use Rattle.ledger_core.specs.declared.fields.LedgerItem.{LedgerItem}
 use Rattle.ledger_core.specs.LedgerFields.{LedgerPartFields, LedgerFields, IsLedger}
 
 -- its counts fit their fields
 abbrev pub IsSmall : LedgerPartFields → Type 0
-IsSmall p = (length p.ranges ≤ 1024) × (length p.issuers ≤ 65535)
+IsSmall p = (length p.ranges ≤ MAX_RANGES) × (length p.issuers ≤ MAX_ISSUERS)
 
 abbrev pub IsKey : List ℕ → Type 0
 IsKey k = length k ≡ 32
@@ -20,7 +21,7 @@ pub record PartFits (p : LedgerPartFields) : Type 0 where
 pub record ItemFits (x : LedgerItem) : Type 0 where
   pub issuer : IsKey x.id.issuer
   pub some_octets : 1 ≤ length x.id.serial
-  pub few_octets : length x.id.serial ≤ 32
+  pub few_octets : length x.id.serial ≤ MAX_SERIAL
 
 pub record Fits (l : LedgerFields) : Type 0 where
   pub facts : IsLedger l

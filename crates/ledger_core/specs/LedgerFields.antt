@@ -2,6 +2,7 @@
 use Rattle.std.specs.Prelude.{ℕ, ◌<◌, ◌≤◌, List, [], ◌∷◌, length, map, All, Option, Some, None, IfSome}
 use Rattle.std.specs.List.Sorted.{IsStrictlySortedBy}
 use Rattle.octets_core.specs.Linked.{Linked}
+use Rattle.ident_core.specs.declared.bounds.TheConstants.{MAX_ISSUERS, MAX_PARTS, MAX_IDENTITIES}
 use Rattle.ident_core.specs.declared.range.Range.{Range}
 use Rattle.ident_core.specs.declared.identity.Identity.{Identity}
 use Rattle.ident_core.specs.Order.{octets_cmp, identity_cmp}
@@ -28,17 +29,23 @@ part_fields p = record { epoch = p.epoch; trailer = p.trailer; ranges = p.ranges
 abbrev pub ledger_fields : List LedgerPart → List LedgerItem → LedgerFields
 ledger_fields parts items = record { parts = map part_fields parts; items = items }
 
--- The first part of a chain follows none. A later one has a greater epoch than the part before it, and covers what that
--- one covers.
-abbrev pub Follows : Option LedgerPartFields → LedgerPartFields → Type 0
-Follows None p = Unit {0}
-Follows (Some previous) p = (previous.epoch < p.epoch) × LiesWithin previous.ranges p.ranges
+-- the last of some parts, if there is one
+abbrev pub newest : List LedgerPartFields → Option LedgerPartFields
+newest [] = None
+newest (p ∷ []) = Some p
+newest (p ∷ q ∷ parts) = newest (q ∷ parts)
+
+-- The first part of a chain continues none. A later one has a greater epoch than the part before it, and covers what
+-- that one covers.
+abbrev pub Continues : Option LedgerPartFields → LedgerPartFields → Type 0
+Continues None p = Unit {0}
+Continues (Some previous) p = (previous.epoch < p.epoch) × LiesWithin previous.ranges p.ranges
 
 -- what each part keeps, behind the part before it, if there is one
 pub record IsPartAfter (previous : Option LedgerPartFields) (p : LedgerPartFields) : Type 0 where
-  pub follows : Follows previous p
+  pub continues : Continues previous p
   pub ranges : RangesFit p.ranges
-  pub few_issuers : length p.issuers ≤ 65535
+  pub few_issuers : length p.issuers ≤ MAX_ISSUERS
   pub issuers_ascend : IsStrictlySortedBy octets_cmp p.issuers
 
 abbrev pub AreParts : List LedgerPartFields → Type 0
@@ -55,9 +62,9 @@ ids items = map (λ x. x.id) items
 -- The facts that each ledger keeps. None is asked of trailers.
 pub record IsLedger (l : LedgerFields) : Type 0 where
   pub some_parts : 1 ≤ length l.parts
-  pub few_parts : length l.parts ≤ 64
+  pub few_parts : length l.parts ≤ MAX_PARTS
   pub parts : AreParts l.parts
-  pub few_items : length l.items ≤ 4194304
+  pub few_items : length l.items ≤ MAX_IDENTITIES
   pub items_ascend : IsStrictlySortedBy identity_cmp (ids l.items)
   pub items : All (IsItemOf (length l.parts)) l.items
 

@@ -9,6 +9,8 @@ use Rattle.octets_core.specs.declared.field.Field.{Field}
 use Rattle.octets_core.specs.declared.field.Field.TheVariants as fields
 use Rattle.octets_core.specs.declared.fault.Why.TheVariants as why
 use Rattle.octets_core.specs.declared.fault.LayoutFault.{LayoutFault}
+use Rattle.ident_core.specs.declared.bounds.TheConstants.{MAX_SERIAL, MAX_RANGES, MAX_ISSUERS}
+use Rattle.ident_core.specs.declared.bounds.TheConstants.{MAX_IDENTITIES, MAX_PARTS}
 use Rattle.ident_core.specs.declared.range.Range.{Range}
 use Rattle.ident_core.specs.declared.identity.Identity.{Identity}
 use Rattle.ident_core.specs.Order.{octets_cmp, identity_cmp}
@@ -44,10 +46,10 @@ unfoldable pub ledger_part : Option LedgerPartFields → Layout LayoutFault Ledg
 ledger_part previous = do
   epoch ← number fields.LedgerEpoch w64 (least_epoch previous) (2 ^ 64 - 1)
   trailer ← key fields.LedgerPartTrailer any_key
-  count ← number fields.LedgerRanges w16 0 1024
+  count ← number fields.LedgerRanges w16 0 MAX_RANGES
   list ← ranges count
   covered ← coverage (coverage_before previous) list
-  enrolled ← number fields.LedgerIssuers w32 0 65535
+  enrolled ← number fields.LedgerIssuers w32 0 MAX_ISSUERS
   keys ← issuers enrolled
   whole (record { epoch = epoch; trailer = trailer; ranges = list; issuers = keys })
 
@@ -81,7 +83,7 @@ last_place parts birth = do
 unfoldable pub item : ℕ → Option Identity → Layout LayoutFault LedgerItem
 item parts previous = do
   issuer ← key fields.IdentityIssuer (is_from previous)
-  width ← number fields.IdentityLength w8 1 32
+  width ← number fields.IdentityLength w8 1 MAX_SERIAL
   serial ← tested fields.IdentitySerial width (λ serial. is_behind previous (record { issuer = issuer; serial = serial }))
   birth ← number fields.IdentityBirth w8 0 (parts - 1)
   last ← last_place parts birth
@@ -96,9 +98,9 @@ unfoldable pub body : Layout LayoutFault LedgerFields
 body = do
   begin ← magic fields.LedgerMagic (codes "CLUBLEDG")
   version ← number fields.LedgerVersion w8 1 1
-  count ← number fields.LedgerParts w8 1 64
+  count ← number fields.LedgerParts w8 1 MAX_PARTS
   list ← ledger_parts count
-  accepted ← number fields.LedgerIdentities w32 0 4194304
+  accepted ← number fields.LedgerIdentities w32 0 MAX_IDENTITIES
   identities ← items count accepted
   whole (record { parts = list; items = identities })
 

@@ -5,11 +5,18 @@ use Rattle.octets_core.specs.Position.{Position}
 use Rattle.octets_core.specs.Layout.{Layout, mapped}
 use Rattle.octets_core.specs.Reading.{ReadsUnless, value_of}
 use Rattle.octets_core.specs.declared.fault.LayoutFault.{LayoutFault}
+use Rattle.ident_core.specs.declared.fault.RangesFault.{RangesFault}
+use Rattle.ident_core.specs.declared.fault.RangesFault.TheVariants as ranges
 use Rattle.ledger_core.specs.declared.fault.LedgerFault.{LedgerFault}
 use Rattle.ledger_core.specs.declared.fault.LedgerFault.TheVariants as faults
 use Rattle.ledger_core.specs.declared.fields.LedgerPart.{LedgerPart}
 use Rattle.ledger_core.specs.LedgerFields.{LedgerPartFields, LedgerFields, part_fields}
 use Rattle.ledger_core.specs.LedgerLayout.{ledger}
+
+-- a fault of ranges, as one of a ledger
+abbrev pub of_ranges : RangesFault → LedgerFault
+of_ranges (ranges.Layout f) = faults.Layout f
+of_ranges ranges.NoMemory = faults.NoMemory
 
 -- a layout whose faults are those of its fields
 abbrev pub fielded : {A : Type 0} → Layout LayoutFault A → Layout LedgerFault A

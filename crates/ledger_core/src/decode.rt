@@ -5,36 +5,28 @@ ghost use Rattle.std.specs.Int.{w64};
 ghost use Rattle.octets_core.specs.Layout.{within};
 ghost use Rattle.octets_core.specs.Reading.{ReadsField, GivesUnless, number, key};
 ghost use Rattle.ident_core.specs.Coverage.{first_outside};
-ghost use Rattle.ident_core.specs.RangeLayout.{ranges as ranges_layout};
+ghost use Rattle.ident_core.specs.declared.bounds.TheConstants.{MAX_SERIAL};
 ghost use Rattle.ledger_core.specs.LedgerFields.{LedgerFields, part_fields, ledger_fields};
 ghost use Rattle.ledger_core.specs.LedgerText.{ledger_text};
-ghost use Rattle.ledger_core.specs.LedgerLayout.{tested, least_epoch, coverage_before, coverage, issuers as issuers_layout, ledger_part, ledger_parts, is_from, is_behind, last_place, item, items as items_layout, body};
+ghost use Rattle.ledger_core.specs.LedgerLayout.{tested, least_epoch, coverage_before, coverage, ledger_part};
+ghost use Rattle.ledger_core.specs.LedgerLayout.{issuers as issuers_layout, ledger_parts, is_from, is_behind};
+ghost use Rattle.ledger_core.specs.LedgerLayout.{last_place, item, items as items_layout, body};
 ghost use Rattle.ledger_core.specs.LedgerReading.{Reads, before, ledger_of, offset_in_ledger};
 ghost use Rattle.ledger_core.specs.Fitting.{Fits};
 
-use crate::encode::{ISSUER, ITEM, NONE, RANGE};
+use crate::encode::{ISSUER, ITEM, NONE};
 use crate::fault::LedgerFault;
 use crate::fields::{LedgerItem, LedgerPart};
 use crate::ledger::Ledger;
-use ident_core::{Identity, Range, Serial, compare, read_range, shrinks};
+use ident_core::{
+    Identity, MAX_IDENTITIES, MAX_ISSUERS, MAX_PARTS, MAX_RANGES, MAX_SERIAL, Range, Serial,
+    compare, read_ranges, shrinks,
+};
 use octets_core::{
     Cursor, Field, Key32, LayoutFault, Short, Why, read_digest, read_end, read_key, read_key_after,
     read_magic, read_u8, read_u16, read_u32,
 };
 use std::alloc::Global;
-
-fn ranges_of(alloc: Global, cursor: &mut Cursor<'_>, count: u16) -> Result<Vec<Range>, LedgerFault>
-    ensures { Reads (λ v. v.items) (ranges_layout count) cursor.old cursor.new result }
-{
-    let mut ranges = Vec::with_capacity(alloc, (count as usize).min(cursor.left() / RANGE))?;
-    let mut previous = None;
-    for _ in 0..count {
-        let range = read_range(cursor, previous)?;
-        previous = Some(range.log);
-        ranges.push(range)?;
-    }
-    Ok(ranges)
-}
 
 fn issuers_of(alloc: Global, cursor: &mut Cursor<'_>, count: u32) -> Result<Vec<Key32>, LedgerFault>
     ensures { Reads (λ v. v.items) (issuers_layout count) cursor.old cursor.new result }
@@ -106,10 +98,10 @@ fn part_of(
 {
     let epoch = epoch_of(cursor, previous)?;
     let trailer = read_key(cursor, Field::LedgerPartTrailer)?;
-    let count = read_u16(cursor, Field::LedgerRanges, 0, 1024)?;
-    let ranges = ranges_of(alloc, cursor, count)?;
+    let count = read_u16(cursor, Field::LedgerRanges, 0, MAX_RANGES as u16)?;
+    let ranges = read_ranges(alloc, cursor, count)?;
     read_coverage(cursor, previous, &ranges)?;
-    let enrolled = read_u32(cursor, Field::LedgerIssuers, 0, 65_535)?;
+    let enrolled = read_u32(cursor, Field::LedgerIssuers, 0, MAX_ISSUERS as u32)?;
     let issuers = issuers_of(alloc, cursor, enrolled)?;
     Ok(LedgerPart {
         epoch,
@@ -174,8 +166,9 @@ fn serial_of(
     width: u8,
 ) -> Result<Serial, LayoutFault>
     requires some { 1 ≤ width }
-    requires few { width ≤ 32 }
-    ensures { ReadsField (λ x. x) (tested Field.IdentitySerial width (λ serial. is_behind previous.now (record { issuer = issuer; serial = serial }))) cursor.old cursor.new result }
+    requires few { width ≤ MAX_SERIAL }
+    ensures { ReadsField (λ x. x) (tested Field.IdentitySerial width
+        (λ serial. is_behind previous.now (record { issuer = issuer; serial = serial }))) cursor.old cursor.new result }
 {
     let at = cursor.at();
     let Ok(taken) = cursor.take(width as usize) else {
@@ -212,7 +205,7 @@ fn item_of(
     ensures { ReadsField (λ x. x) (item parts previous.now) cursor.old cursor.new result }
 {
     let issuer = issuer_of(cursor, previous)?;
-    let width = read_u8(cursor, Field::IdentityLength, 1, 32)?;
+    let width = read_u8(cursor, Field::IdentityLength, 1, MAX_SERIAL as u8)?;
     let serial = serial_of(cursor, previous, issuer, width)?;
     let birth = read_u8(cursor, Field::IdentityBirth, 0, parts - 1)?;
     let last = last_of(cursor, parts, birth)?;
@@ -248,9 +241,9 @@ fn body_of(
 {
     read_magic(cursor, Field::LedgerMagic, b"CLUBLEDG")?;
     read_u8(cursor, Field::LedgerVersion, 1, 1)?;
-    let count = read_u8(cursor, Field::LedgerParts, 1, 64)?;
+    let count = read_u8(cursor, Field::LedgerParts, 1, MAX_PARTS as u8)?;
     let parts = parts_of(alloc, cursor, count)?;
-    let accepted = read_u32(cursor, Field::LedgerIdentities, 0, 4_194_304)?;
+    let accepted = read_u32(cursor, Field::LedgerIdentities, 0, MAX_IDENTITIES as u32)?;
     let items = items_of(alloc, cursor, count, accepted)?;
     Ok((parts, items))
 }

@@ -1,7 +1,10 @@
 //! Ledgers as bytes.
 
-ghost use Rattle.std.specs.Prelude.{◌≡◌, ◌≤◌, ◌*◌, ◌++◌, ℕ, length, map, flat_map, All, Ok, OnOk, IfOk};
-ghost use Rattle.ident_core.specs.RangeText.{range_text, RangeFits};
+ghost use Rattle.std.specs.Prelude.{◌≡◌, ◌≤◌, ◌+◌, ◌*◌, ◌++◌, length, map, flat_map, All, Ok, OnOk, IfOk};
+ghost use Rattle.ident_core.specs.declared.bounds.TheConstants.{MAX_RANGES, MAX_ISSUERS, MAX_SERIAL};
+ghost use Rattle.ident_core.specs.declared.bounds.TheConstants.{MAX_PARTS, MAX_IDENTITIES};
+ghost use Rattle.ident_core.specs.declared.layout.TheConstants.{RANGE_BYTES};
+ghost use Rattle.ledger_core.specs.declared.encode.TheConstants.{PART, ISSUER, ITEM};
 ghost use Rattle.ledger_core.specs.LedgerFields.{part_fields};
 ghost use Rattle.ledger_core.specs.LedgerText.{last_number, part_text, item_text, body_text, ledger_text};
 ghost use Rattle.ledger_core.specs.LedgerLayout.{ledger as layout};
@@ -9,7 +12,7 @@ ghost use Rattle.ledger_core.specs.Fitting.{IsKey, IsSmall, PartFits, ItemFits, 
 
 use crate::fields::{LedgerItem, LedgerPart};
 use crate::ledger::Ledger;
-use ident_core::Range;
+use ident_core::{RANGE_BYTES, put_ranges};
 use octets_core::{Key32, NoMemory, put_bytes, put_u8, put_u16, put_u32, put_u64};
 use sha2::{Digest, Sha256};
 use std::alloc::Global;
@@ -19,9 +22,6 @@ const FRAME: usize = 46;
 
 /// The bytes of a part with neither ranges nor issuers.
 const PART: usize = 46;
-
-/// The bytes of a range.
-pub(crate) const RANGE: usize = 48;
 
 /// The bytes of an issuer.
 pub(crate) const ISSUER: usize = 32;
@@ -34,15 +34,15 @@ pub(crate) const NONE: u8 = 255;
 
 fn part_len(part: &LedgerPart) -> usize
     requires { IsSmall (part_fields part.now) }
-    ensures { result ≤ 2146318 }
+    ensures { result ≤ PART + RANGE_BYTES * MAX_RANGES + ISSUER * MAX_ISSUERS }
 {
-    PART + RANGE * part.ranges.len() + ISSUER * part.issuers.len()
+    PART + RANGE_BYTES * part.ranges.len() + ISSUER * part.issuers.len()
 }
 
 fn parts_len(parts: &[LedgerPart]) -> usize
-    requires few { length parts.now ≤ 64 }
+    requires few { length parts.now ≤ MAX_PARTS }
     requires small { All (λ p. IsSmall (part_fields p)) parts.now }
-    ensures { result ≤ length parts.now * 2146318 }
+    ensures { result ≤ length parts.now * (PART + RANGE_BYTES * MAX_RANGES + ISSUER * MAX_ISSUERS) }
 {
     let mut total = 0;
     for part in parts {
@@ -52,34 +52,14 @@ fn parts_len(parts: &[LedgerPart]) -> usize
 }
 
 fn items_len(items: &[LedgerItem]) -> usize
-    requires { length items.now ≤ 4194304 }
-    ensures { result ≤ length items.now * 67 }
+    requires { length items.now ≤ MAX_IDENTITIES }
+    ensures { result ≤ length items.now * (ITEM + MAX_SERIAL) }
 {
     let mut total = 0;
     for item in items {
         total += ITEM + item.id.serial.bytes().len();
     }
     total
-}
-
-fn put_range(out: &mut Vec<u8>, range: &Range) -> Result<(), NoMemory>
-    ensures text { OnOk result (out.new.items ≡ out.old.items ++ range_text range.now) }
-    ensures fits { OnOk result (RangeFits range.now) }
-{
-    put_bytes(out, range.log.bytes())?;
-    put_u64(out, range.from)?;
-    put_u64(out, range.to)?;
-    Ok(())
-}
-
-fn put_ranges(out: &mut Vec<u8>, ranges: &[Range]) -> Result<(), NoMemory>
-    ensures text { OnOk result (out.new.items ≡ out.old.items ++ flat_map range_text ranges.now) }
-    ensures fits { OnOk result (All RangeFits ranges.now) }
-{
-    for range in ranges {
-        put_range(out, range)?;
-    }
-    Ok(())
 }
 
 fn put_issuer(out: &mut Vec<u8>, issuer: &Key32) -> Result<(), NoMemory>

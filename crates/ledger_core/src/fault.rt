@@ -1,14 +1,19 @@
 ghost use Rattle.std.specs.Prelude.{◌≡◌};
+ghost use Rattle.ledger_core.specs.LedgerReading.{of_ranges};
 
+use ident_core::RangesFault;
 use octets_core::LayoutFault;
 use std::alloc::{AllocError, AllocFailed};
+use thiserror::Error;
 
 /// Why bytes give no ledger.
-#[derive(Clone, Copy, Debug, PartialEq, Eq)]
+#[derive(Clone, Copy, Debug, PartialEq, Eq, Error)]
 pub enum LedgerFault {
     /// A field is short or fails its test.
+    #[error("a field is short or has a value that it may not have")]
     Layout(LayoutFault),
     /// Want of memory.
+    #[error("want of memory")]
     NoMemory,
 }
 
@@ -39,5 +44,16 @@ impl<T: Drop> From<AllocFailed<T>> for LedgerFault {
 
     fn from(_: AllocFailed<T>) -> LedgerFault {
         LedgerFault::NoMemory
+    }
+}
+
+impl From<RangesFault> for LedgerFault {
+    ghost from_gives = { λ f e. e ≡ of_ranges f };
+
+    fn from(fault: RangesFault) -> LedgerFault {
+        match fault {
+            RangesFault::Layout(fault) => LedgerFault::Layout(fault),
+            RangesFault::NoMemory => LedgerFault::NoMemory,
+        }
     }
 }

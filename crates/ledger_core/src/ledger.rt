@@ -5,12 +5,6 @@ use crate::fields::{LedgerItem, LedgerPart};
 use octets_core::Key32;
 use std::marker::Model;
 
-/// The most parts of a chain.
-pub const MAX_PARTS: usize = 64;
-
-/// The most identities of a ledger.
-pub const MAX_ITEMS: usize = 4_194_304;
-
 /// A publisher's memory of a chain: its parts, oldest first, and the accepted identities. Each ledger keeps 1 to 64
 /// parts with ascending epochs, each of which covers what the part before it covers, and at most 4,194,304 identities
 /// in strictly ascending order, whose births and lasts are places of these parts.

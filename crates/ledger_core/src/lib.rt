@@ -14,4 +14,4 @@ pub use encode::encode_ledger;
 pub use fault::LedgerFault;
 pub use fields::{LedgerItem, LedgerPart};
 pub use laws::{a_text_is_read_back, only_a_text_is_read};
-pub use ledger::{Draft, Ledger, MAX_ITEMS, MAX_PARTS};
+pub use ledger::{Draft, Ledger};

@@ -22,13 +22,15 @@ wrapped read = with_fault faults.Layout read
 pub returns-in_err-issuer : goal.returns-in_err-issuer
 returns-in_err-issuer c =
     let p = err_from_is_err_and c.from_residual-in_err-issuer.result c.from_residual-in_err-issuer.ensures.1 in
-    rw (p.1, p.2) (λ wants. ap wrapped (ends issuer_after next c.loop.issuers.items c.args.count c.loop.counter c.loop.previous c.loop.cursor.bytes c.loop.cursor.at c.in_err-issuer.field-0.0 _ c.loop-test.true c.in_err-issuer.ensures c.loop.invariant.read))
+    rw (p.1, p.2) (λ wants. ap wrapped (ends issuer_after next c.loop.issuers.items c.args.count c.loop.counter c.loop.previous c.loop.cursor.bytes
+    c.loop.cursor.at c.in_err-issuer.field-0.0 _ c.loop-test.true c.in_err-issuer.ensures.0 c.loop.invariant.read))
 
 pub loop-preserved : goal.loop-preserved
 loop-preserved c =
     let read = c.in_ok-issuer.ensures in
     record {
-      read = rw (c.in_ok-push.ensures.items, read.1) (goes_on issuer_after next c.loop.issuers.items c.args.count c.loop.counter c.loop.previous c.loop.cursor.bytes c.loop.cursor.at c.in_ok-issuer.issuer c.read_key_after.new.cursor.at _ c.loop-test.true read.0 c.loop.invariant.read);
+      read = rw (c.in_ok-push.ensures.items, read.1) (goes_on issuer_after next c.loop.issuers.items c.args.count c.loop.counter c.loop.previous
+          c.loop.cursor.bytes c.loop.cursor.at c.in_ok-issuer.issuer c.read_key_after.new.cursor.at _ c.loop-test.true read.0 c.loop.invariant.read);
       same = read.1 ∙ c.loop.invariant.same;
     }
 

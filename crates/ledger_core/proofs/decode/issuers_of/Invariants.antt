@@ -9,6 +9,7 @@ use Rattle.ledger_core.proofs.decode.issuers_of.Given as goal
 
 abbrev pub invariant-loop : goal.invariant-loop
 invariant-loop l = record {
-  read : with_front l.issuers.items (repeated (λ previous. key fields.LedgerIssuer (is_after previous)) (λ previous issuer. Some issuer) (l.count - l.counter) l.previous l.cursor.bytes l.cursor.at) ≡ issuers l.count l.fn.cursor.bytes l.fn.cursor.at;
+  read : with_front l.issuers.items (repeated (λ previous. key fields.LedgerIssuer (is_after previous)) (λ previous issuer. Some issuer) (l.count - l.counter)
+      l.previous l.cursor.bytes l.cursor.at) ≡ issuers l.count l.fn.cursor.bytes l.fn.cursor.at;
   same : l.cursor.bytes ≡ l.fn.cursor.bytes;
 }

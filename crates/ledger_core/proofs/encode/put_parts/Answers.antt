@@ -13,8 +13,10 @@ use Rattle.ledger_core.proofs.encode.put_parts.Goals as goal
 
 pub loop-part-preserved : goal.loop-part-preserved
 loop-part-preserved c = record {
-  text = appended-more (λ p. part_text (part_fields p)) c.args.parts.now c.loop-part.part-index c.part-item.result c.args.out.now.items c.loop-part.out.items c.put_part.new.out.items c.loop-part-test.true c.part-item.is c.loop-part.invariant.text c.in_ok-put_part.ensures.text;
-  fits = all-more (λ p. PartFits (part_fields p)) c.args.parts.now c.loop-part.part-index c.part-item.result c.loop-part-test.true c.part-item.is c.loop-part.invariant.fits c.in_ok-put_part.ensures.fits;
+  text = appended-more (λ p. part_text (part_fields p)) c.args.parts.now c.loop-part.part-index c.part-item.result c.args.out.now.items c.loop-part.out.items
+      c.put_part.new.out.items c.loop-part-test.true c.part-item.is c.loop-part.invariant.text c.in_ok-put_part.ensures.text;
+  fits = all-more (λ p. PartFits (part_fields p)) c.args.parts.now c.loop-part.part-index c.part-item.result c.loop-part-test.true c.part-item.is
+      c.loop-part.invariant.fits c.in_ok-put_part.ensures.fits;
 }
 
 pub put_part-requires : goal.put_part-requires
