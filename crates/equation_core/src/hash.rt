@@ -5,6 +5,9 @@ ghost use Rattle.equation_core.specs.Rows.{IsRow};
 
 use ident_core::Identity;
 
+/// The most planes of a filter's stage: a tag has a bit for each.
+pub const MAX_PLANES: u8 = 16;
+
 /// What an identity gives to a ribbon filter (Dillinger and Walzer, "Ribbon filter: practically smaller than Bloom
 /// and Xor", 2021): the columns that its equation adds up, and what the sum is to be in each plane.
 #[derive(Clone, Copy, Debug, PartialEq, Eq)]
@@ -22,11 +25,14 @@ pub trait EquationHash {
     /// The row is a function of the hash's value and the four arguments.
     ghost row_of: { Self → ℕ → ℕ → Identity → ℕ → Row };
 
+    /// The identity's row, for a stage and a seed of a filter of so many starts.
     fn row(&self, stage: u8, seed: u8, id: &Identity, starts: u32) -> Row
         requires { 1 ≤ starts }
         ensures value { result ≡ row_of self.now stage seed id.now starts }
         ensures formed { IsRow starts result };
 
     /// Each row begins at one of the starts with an odd coefficient, and fits its fields.
-    ghost formed: { (hash : Self) (stage seed : ℕ) (id : Identity) (starts : ℕ) → stage < 2 ^ 8 → seed < 2 ^ 8 → 1 ≤ starts → starts < 2 ^ 32 → IsRow starts (row_of hash stage seed id starts) };
+    ghost formed: { (hash : Self) (stage seed : ℕ) (id : Identity) (starts : ℕ)
+        → stage < 2 ^ 8 → seed < 2 ^ 8 → 1 ≤ starts → starts < 2 ^ 32
+        → IsRow starts (row_of hash stage seed id starts) };
 }

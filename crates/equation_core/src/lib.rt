@@ -6,6 +6,6 @@ mod hash;
 mod sha256_rows;
 mod sizes;
 
-pub use hash::{EquationHash, Row};
+pub use hash::{EquationHash, MAX_PLANES, Row};
 pub use sha256_rows::Sha256Rows;
-pub use sizes::{starts_for, words_for};
+pub use sizes::{MAX_STARTS, starts_for, words_for};

@@ -1,20 +1,21 @@
 ghost use Rattle.std.specs.Prelude.{◌≡◌, ◌+◌, length, take};
+ghost use Rattle.equation_core.specs.declared.sha256_rows.TheConstants.{FRONT};
 ghost use Rattle.equation_core.specs.Rows.{row_text, sha256_row};
 ghost use Rattle.equation_core.specs.RowLaws.{sha256_row-is};
 
 use crate::hash::{EquationHash, Row};
-use ident_core::Identity;
+use ident_core::{Identity, MAX_SERIAL};
 use sha2::{Digest, Sha256};
 
 /// The bytes of a row's message before the serial.
 const FRONT: usize = 41;
 
 /// The most bytes of a row's message.
-const MESSAGE: usize = FRONT + 32;
+const MESSAGE: usize = FRONT + MAX_SERIAL;
 
 /// The message of a row, and zeros behind it: one piece, since the hasher takes longer over several.
 fn message_of(stage: u8, seed: u8, id: &Identity) -> [u8; MESSAGE]
-    ensures { take (41 + length id.now.serial) result ≡ row_text stage seed id.now }
+    ensures { take (FRONT + length id.now.serial) result ≡ row_text stage seed id.now }
 {
     let serial = id.serial.bytes();
     let mut message = [0; MESSAGE];

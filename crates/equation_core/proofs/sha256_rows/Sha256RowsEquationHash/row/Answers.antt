@@ -21,6 +21,7 @@ returns-clause-value c =
     let is : d ≡ sha256 (row_text c.args.stage c.args.seed c.args.id.now) =
     c.digest-d.ensures ∙ ap sha256 (ap (λ (l : List ℕ). take (41 + length l) c.message_of-message.result) c.bytes.ensures.value ∙ c.message_of-message.ensures) in
     let coeff : c.from_be_bytes-coeff.result ≡ from_be_bytes w128 (take 16 d) = c.from_be_bytes-coeff.ensures ∙ ap (from_be_bytes w128) (elements-are d 0 16 (omega (arith, c.digest-d.type_inv))) in
-    let start : c.from_be_bytes-start.result ≡ from_be_bytes w64 (take 8 (drop 16 d)) = c.from_be_bytes-start.ensures ∙ ap (from_be_bytes w64) (elements-are d 16 8 (omega (arith, c.digest-d.type_inv))) in
+    let start : c.from_be_bytes-start.result ≡ from_be_bytes w64 (take 8 (drop 16 d)) = c.from_be_bytes-start.ensures ∙ ap (from_be_bytes w64)
+    (elements-are d 16 8 (omega (arith, c.digest-d.type_inv))) in
     let tag : c.from_be_bytes-tag.result ≡ from_be_bytes w16 (take 2 (drop 24 d)) = c.from_be_bytes-tag.ensures ∙ ap (from_be_bytes w16) (elements-are d 24 2 (omega (arith, c.digest-d.type_inv))) in
     rw (coeff, start, tag) (ap (λ (l : List ℕ). row_of_digest l c.args.starts) is)
