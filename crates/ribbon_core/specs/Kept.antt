@@ -1,6 +1,8 @@
 -- What a system keeps.
 use Rattle.std.specs.Prelude.{◌≡◌, ℕ, ◌+◌, ◌*◌, ◌≤◌, List, [], ◌∷◌, length, get_or, drop, if◌then◌else◌, ◌==◌}
 use Rattle.equation_core.specs.Sizes.{words_for}
+use Rattle.equation_core.specs.declared.hash.TheConstants.{MAX_PLANES}
+use Rattle.equation_core.specs.declared.sizes.TheConstants.{MAX_STARTS}
 use Rattle.ribbon_core.specs.Equations.{Equation}
 use Rattle.ribbon_core.specs.Bands.{AreBanded}
 
@@ -20,9 +22,9 @@ kept_from at (c ∷ coeffs) targets =
 -- the fields of a system
 pub record IsSystem (starts planes : ℕ) (coeffs targets words : List ℕ) : Type 0 where
   pub some_starts : 1 ≤ starts
-  pub few_starts : starts ≤ 4718593
+  pub few_starts : starts ≤ MAX_STARTS
   pub some_planes : 1 ≤ planes
-  pub few_planes : planes ≤ 16
+  pub few_planes : planes ≤ MAX_PLANES
   pub columns : length coeffs ≡ starts + 127
   pub bands : AreBanded coeffs targets planes
   pub room : length words ≡ planes * words_for starts

@@ -2,6 +2,8 @@
 use Rattle.std.specs.Prelude.{◌≡◌, ℕ, zero, suc, ◌+◌, ◌*◌, ◌^◌, ◌<◌, ◌≤◌, List, length, get_or, map}
 use Rattle.std.specs.List.{range_with_len}
 use Rattle.equation_core.specs.Sizes.{words_for}
+use Rattle.equation_core.specs.declared.hash.TheConstants.{MAX_PLANES}
+use Rattle.equation_core.specs.declared.sizes.TheConstants.{MAX_STARTS}
 
 -- what a public contract sees of planes: of each the columns
 pub record PlaneColumns : Type 0 where
@@ -28,8 +30,8 @@ columns_of starts planes words = map (plane_of_words words (words_for starts)) (
 -- the fields of planes
 pub record ArePlanes (starts planes : ℕ) (words : List ℕ) : Type 0 where
   pub some_starts : 1 ≤ starts
-  pub few_starts : starts ≤ 4718593
+  pub few_starts : starts ≤ MAX_STARTS
   pub some_planes : 1 ≤ planes
-  pub few_planes : planes ≤ 16
+  pub few_planes : planes ≤ MAX_PLANES
   pub room : length words ≡ planes * words_for starts
   pub padding : (plane : ℕ) → plane < planes → plane_of_words words (words_for starts) plane < 2 ^ (starts + 127)

@@ -22,8 +22,11 @@ pub fn reduce(
     requires within { coeff < 2 ^ (length coeffs.old - start) }
     requires few_planes { target < 2 ^ planes }
     ensures bands { AreBanded coeffs.new targets.new planes }
-    ensures ok { OnOk result ((plane Z : ℕ) → SolvesBands plane coeffs.new targets.new Z ↔ (SolvesBands plane coeffs.old targets.old Z × (parity (bit_and coeff (Z / 2 ^ start)) ≡ bit_at target plane))) }
-    ensures err { OnErr result ((plane : ℕ) × (plane < planes) × ((Z : ℕ) → SolvesBands plane coeffs.old targets.old Z → parity (bit_and coeff (Z / 2 ^ start)) ≡ bit_at target plane → ⊥)) }
+    ensures ok { OnOk result ((plane Z : ℕ) → SolvesBands plane coeffs.new targets.new Z
+        ↔ (SolvesBands plane coeffs.old targets.old Z × (parity (bit_and coeff (Z / 2 ^ start)) ≡ bit_at target plane))) }
+    ensures err { OnErr result ((plane : ℕ) × (plane < planes)
+        × ((Z : ℕ) → SolvesBands plane coeffs.old targets.old Z
+        → parity (bit_and coeff (Z / 2 ^ start)) ≡ bit_at target plane → ⊥)) }
     ensures coeffs_kept { OnErr result (coeffs.new ≡ coeffs.old) }
     ensures targets_kept { OnErr result (targets.new ≡ targets.old) }
 {

@@ -7,7 +7,8 @@ ghost use Rattle.ribbon_core.specs.Equations.{Equation, AreAdded, IsBelow, IsCon
 
 /// An equation's sum is the textbook's: column by column, the coefficient's bit times the column, added up modulo 2.
 pub fn sum_is_over_columns()
-    ensures { (width : ℕ) (e : Equation) (Z : ℕ) → e.coeff < 2 ^ width → sum_of e Z ≡ sum_by (λ j. bit_at e.coeff j * bit_at Z (e.start + j)) (range_with_len 0 width) % 2 }
+    ensures { (width : ℕ) (e : Equation) (Z : ℕ) → e.coeff < 2 ^ width
+        → sum_of e Z ≡ sum_by (λ j. bit_at e.coeff j * bit_at Z (e.start + j)) (range_with_len 0 width) % 2 }
 {}
 
 /// Of two vectors, the one below has a zero at the highest column where they differ. As a number it is the lesser one.
@@ -26,5 +27,6 @@ pub fn least_is_unique()
 pub fn kept_are_the_added()
     ensures solutions { (es kept : List Equation) → AreAdded [] es kept → (plane Z : ℕ) → SolvesAll plane kept Z ↔ SolvesAll plane es Z }
     ensures least { (es fs kept : List Equation) → AreAdded [] es kept → IsPermutation es fs → (plane Z : ℕ) → Least plane kept Z ↔ Least plane fs Z }
-    ensures refused { (planes : ℕ) (es kept : List Equation) (e : Equation) → AreAdded [] es kept → IsContradicted planes kept e ↔ ((plane : ℕ) × (plane < planes) × (IsSolvable plane (es ++ e ∷ []) → ⊥)) }
+    ensures refused { (planes : ℕ) (es kept : List Equation) (e : Equation) → AreAdded [] es kept
+        → IsContradicted planes kept e ↔ ((plane : ℕ) × (plane < planes) × (IsSolvable plane (es ++ e ∷ []) → ⊥)) }
 {}

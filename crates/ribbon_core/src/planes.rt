@@ -2,6 +2,8 @@ ghost use Rattle.std.specs.Prelude.{◌≡◌, ℕ, ◌+◌, ◌*◌, ◌/◌, �
 ghost use Rattle.std.specs.Int.{bit_at};
 ghost use Rattle.std.specs.List.{All};
 ghost use Rattle.equation_core.specs.Sizes.{words_for as words_of};
+ghost use Rattle.equation_core.specs.declared.hash.TheConstants.{MAX_PLANES};
+ghost use Rattle.equation_core.specs.declared.sizes.TheConstants.{MAX_STARTS};
 ghost use Rattle.ribbon_core.specs.Equations.{sum_of};
 ghost use Rattle.ribbon_core.specs.PlaneWords.{ArePlanes, columns_of, plane_of_words};
 ghost use Rattle.ribbon_core.specs.Rows.{equation_of};
@@ -40,9 +42,9 @@ impl Planes {
         words: &[u64],
     ) -> Result<Planes, NoMemory>
         requires some_starts { 1 ≤ starts }
-        requires few_starts { starts ≤ 4718593 }
+        requires few_starts { starts ≤ MAX_STARTS }
         requires some_planes { 1 ≤ planes }
-        requires few_planes { planes ≤ 16 }
+        requires few_planes { planes ≤ MAX_PLANES }
         requires room { length words.now ≡ planes * words_of starts }
         requires padding { (plane : ℕ) → plane < planes → plane_of_words words.now (words_of starts) plane < 2 ^ (starts + 127) }
         ensures { IfOk result (λ p. p ≡ record { starts = starts; columns = columns_of starts planes words.now }) }
@@ -67,7 +69,7 @@ impl Planes {
     pub fn starts(&self) -> u32
         ensures value { result ≡ self.now.starts }
         ensures some { 1 ≤ result }
-        ensures few { result ≤ 4718593 }
+        ensures few { result ≤ MAX_STARTS }
     {
         self.starts
     }
@@ -76,7 +78,7 @@ impl Planes {
     pub fn planes(&self) -> u8
         ensures count { result ≡ length self.now.columns }
         ensures some { 1 ≤ result }
-        ensures few { result ≤ 16 }
+        ensures few { result ≤ MAX_PLANES }
         ensures padding { All (λ Z. Z < 2 ^ (self.now.starts + 127)) self.now.columns }
     {
         self.planes

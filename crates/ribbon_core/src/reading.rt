@@ -1,5 +1,6 @@
 ghost use Rattle.std.specs.Prelude.{◌≡◌, ℕ, ◌+◌, ◌*◌, ◌/◌, ◌%◌, ◌^◌, ◌<◌, ◌≤◌, length, if◌then◌else◌, ◌==◌, bit_and};
 ghost use Rattle.std.specs.Int.{bit_at};
+ghost use Rattle.equation_core.specs.declared.hash.TheConstants.{MAX_PLANES};
 ghost use Rattle.ribbon_core.specs.Equations.{parity};
 ghost use Rattle.ribbon_core.specs.PlaneWords.{plane_of_words};
 
@@ -15,7 +16,7 @@ pub fn sums_of<L: Ledger>(
     coeff: u128,
     steps: &mut Steps<L>,
 ) -> u16
-    requires planes { planes ≤ 16 }
+    requires planes { planes ≤ MAX_PLANES }
     requires room { length words.now ≡ planes * width }
     requires start { start + 127 < 64 * width }
     ensures sums { (plane : ℕ) → plane < planes → bit_at result plane ≡ parity (bit_and coeff (plane_of_words words.now width plane / 2 ^ start)) }

@@ -1,11 +1,12 @@
 ghost use Rattle.std.specs.Prelude.{◌≡◌, ℕ, ◌+◌, ◌*◌, ◌/◌, ◌%◌, ◌^◌, ◌<◌, ◌≤◌, ◌≢◌, length, slice_index};
 ghost use Rattle.std.specs.Int.{bit_at};
+ghost use Rattle.equation_core.specs.declared.hash.TheConstants.{MAX_PLANES};
 ghost use Rattle.ribbon_core.specs.Bands.{AreBanded, IsPivot, column_before, columns_from, solution_from};
 ghost use Rattle.ribbon_core.specs.PlaneWords.{plane_of_words};
 
 // Writes the least solution of each plane, word by word from the last: all planes in one pass over the coefficients.
 pub fn solve_planes(coeffs: &[u128], targets: &[u16], planes: u8, width: usize, words: &mut [u64])
-    requires planes { planes ≤ 16 }
+    requires planes { planes ≤ MAX_PLANES }
     requires bands { AreBanded coeffs.now targets.now planes }
     requires width { width ≡ (length coeffs.now + 63) / 64 }
     requires room { length words.old ≡ planes * width }
@@ -29,7 +30,7 @@ fn columns_down(
     to: usize,
     windows: &mut [u128],
 )
-    requires planes { planes ≤ 16 }
+    requires planes { planes ≤ MAX_PLANES }
     requires room { planes ≤ length windows.old }
     requires bands { AreBanded coeffs.now targets.now planes }
     requires order { from ≤ to }
@@ -44,10 +45,11 @@ fn columns_down(
 
 // Of each plane the 128 columns from one on, given those from the next on.
 fn column_down(coeff: u128, target: u16, planes: u8, windows: &mut [u128])
-    requires planes { planes ≤ 16 }
+    requires planes { planes ≤ MAX_PLANES }
     requires room { planes ≤ length windows.old }
     requires pivot { IsPivot coeff target }
-    ensures { (plane : ℕ) → plane < planes → (h : ℕ) → slice_index windows.old plane ≡ h % 2 ^ 128 → slice_index windows.new plane ≡ column_before coeff (bit_at target plane) h % 2 ^ 128 }
+    ensures { (plane : ℕ) → plane < planes → (h : ℕ) → slice_index windows.old plane ≡ h % 2 ^ 128
+        → slice_index windows.new plane ≡ column_before coeff (bit_at target plane) h % 2 ^ 128 }
 {
     for plane in 0..planes {
         let place = plane as usize;
@@ -56,7 +58,7 @@ fn column_down(coeff: u128, target: u16, planes: u8, windows: &mut [u128])
 }
 
 fn column(coeff: u128, target: u16, plane: u8, window: u128) -> u128
-    requires plane { plane < 16 }
+    requires plane { plane < MAX_PLANES }
     requires pivot { IsPivot coeff target }
     ensures { (h : ℕ) → window ≡ h % 2 ^ 128 → result ≡ column_before coeff (bit_at target plane) h % 2 ^ 128 }
 {

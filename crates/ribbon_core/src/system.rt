@@ -1,5 +1,7 @@
 ghost use Rattle.std.specs.Prelude.{◌≡◌, ℕ, ◌+◌, ◌%◌, ◌^◌, ◌<◌, ◌≤◌, ◌↔◌, List, [], length, slice_index, OnOk, OnErr, IfOk, IsErr};
 ghost use Rattle.std.specs.List.{All};
+ghost use Rattle.equation_core.specs.declared.hash.TheConstants.{MAX_PLANES};
+ghost use Rattle.equation_core.specs.declared.sizes.TheConstants.{MAX_STARTS};
 ghost use Rattle.ribbon_core.specs.Equations.{IsAdded, IsContradicted, IsEquation, Least};
 ghost use Rattle.ribbon_core.specs.Rows.{equation_with};
 
@@ -39,9 +41,9 @@ impl System {
     /// need: 18 bytes a column and the words of the planes.
     pub fn new(alloc: Global, starts: u32, planes: u8) -> Result<System, NoMemory>
         requires some_starts { 1 ≤ starts }
-        requires few_starts { starts ≤ 4718593 }
+        requires few_starts { starts ≤ MAX_STARTS }
         requires some_planes { 1 ≤ planes }
-        requires few_planes { planes ≤ 16 }
+        requires few_planes { planes ≤ MAX_PLANES }
         ensures { IfOk result (λ s. s ≡ record { starts = starts; planes = planes; equations = [] }) }
     {
         let columns = starts as usize + 127;

@@ -7,7 +7,8 @@ use Rattle.ribbon_core.proofs.elimination.reduce.Goals.{In-loop-coeff}
 -- where the row comes to rest
 at_rest : (c : In-loop-coeff) → Reducing c.args.coeffs.now c.args.targets.now c.loop-coeff.coeffs c.loop-coeff.targets c.args.start c.args.coeff c.args.target c.args.planes
     (c.loop-coeff.at + trailing_zeros w128 c.loop-coeff.coeff) (c.loop-coeff.coeff / 2 ^ trailing_zeros w128 c.loop-coeff.coeff) c.loop-coeff.target
-at_rest c = skipped c.args.coeffs.now c.args.targets.now c.loop-coeff.coeffs c.loop-coeff.targets c.args.start c.args.coeff c.args.target c.args.planes c.loop-coeff.at c.loop-coeff.coeff c.loop-coeff.target
+at_rest c = skipped c.args.coeffs.now c.args.targets.now c.loop-coeff.coeffs c.loop-coeff.targets c.args.start c.args.coeff c.args.target c.args.planes
+    c.loop-coeff.at c.loop-coeff.coeff c.loop-coeff.target
     c.requires.bands c.loop-coeff.invariant c.loop-coeff-test.true (search rules)
 
 odd_there : (c : In-loop-coeff) → c.loop-coeff.coeff / 2 ^ trailing_zeros w128 c.loop-coeff.coeff % 2 ≡ 1
@@ -49,7 +50,8 @@ loop-coeff-preserved c =
 
 pub returns-then-target-eq0-clause-ok : goal.returns-then-target-eq0-clause-ok
 returns-then-target-eq0-clause-ok c = followed c.args.coeffs.now c.args.targets.now c.args.start c.args.coeff c.args.target c.args.planes c.requires.bands
-    c.loop-coeff.coeffs c.loop-coeff.targets c.loop-coeff.at c.loop-coeff.coeff c.loop-coeff.target c.loop-coeff.invariant.coeffs_kept c.loop-coeff.invariant.targets_kept (search rules) (search rules) c.loop-coeff.invariant.same
+    c.loop-coeff.coeffs c.loop-coeff.targets c.loop-coeff.at c.loop-coeff.coeff c.loop-coeff.target c.loop-coeff.invariant.coeffs_kept
+    c.loop-coeff.invariant.targets_kept (search rules) (search rules) c.loop-coeff.invariant.same
 
 pub returns-else-target-eq0-clause-err : goal.returns-else-target-eq0-clause-err
 returns-else-target-eq0-clause-err c = refused c.args.coeffs.now c.args.targets.now c.args.start c.args.coeff c.args.target c.args.planes c.requires.bands

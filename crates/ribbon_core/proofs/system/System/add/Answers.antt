@@ -13,7 +13,8 @@ reduce-requires-clause-within c =
 pub returns-clause-inconsistent : goal.returns-clause-inconsistent
 returns-clause-inconsistent c = rw (← c.self.view_is)
     (exactly c.self.inside.planes c.deref_mut.result.now c.deref_mut-2.result.now c.reduce.new.coeffs c.reduce.new.targets c.args.row.now.start c.args.row.now.coeff c.args.target
-    (kept_from 0 c.self.inside.coeffs.items c.self.inside.targets.items) (rw (c.deref_mut.ensures.value, c.deref_mut-2.ensures.value) refl) (rw (c.deref_mut.ensures.value, c.deref_mut-2.ensures.value) c.self.invariant.bands) c.reduce.ensures.bands
+    (kept_from 0 c.self.inside.coeffs.items c.self.inside.targets.items) (rw (c.deref_mut.ensures.value, c.deref_mut-2.ensures.value) refl)
+    (rw (c.deref_mut.ensures.value, c.deref_mut-2.ensures.value) c.self.invariant.bands) c.reduce.ensures.bands
     c.reduce.result c.reduce.ensures.ok c.reduce.ensures.err)
 
 pub returns-clause-ok : goal.returns-clause-ok
