@@ -21,7 +21,8 @@ less_from Less e = refl
 less_from Equal e = cc
 less_from Greater e = cc
 
-all_above : (p q : List ℕ) (bs : List Block) → slice_cmp nat_cmp p q ≡ Less → AllByRecursion (λ b. slice_cmp nat_cmp q b.issuer ≡ Less) bs → AllByRecursion (λ b. slice_cmp nat_cmp p b.issuer ≡ Less) bs
+all_above : (p q : List ℕ) (bs : List Block) → slice_cmp nat_cmp p q ≡ Less → AllByRecursion (λ b. slice_cmp nat_cmp q b.issuer ≡ Less) bs
+    → AllByRecursion (λ b. slice_cmp nat_cmp p b.issuer ≡ Less) bs
 all_above p q [] e h = h
 all_above p q (b ∷ bs) e h = (nat_list_cmp_total.trans p q b.issuer e h.0, all_above p q bs e h.1)
 

@@ -1,5 +1,6 @@
 -- A filter is exact on its universe, and the only one.
-use Rattle.std.proofs.Common.{◌≡◌, ◌<◌, ◌≤◌, ◌+◌, ◌&&◌, ℕ, zero, suc, Bool, true, false, nat_eq, not, cond, List, [], ◌∷◌, ◌++◌, length, map, get_or, Option, Some, None, refl, sym, ap, ◌∙◌, subst, arith, inl, inr, eq-eqb, add-one}
+use Rattle.std.proofs.Common.{◌≡◌, ◌<◌, ◌≤◌, ◌+◌, ◌&&◌, ℕ, zero, suc, Bool, true, false, nat_eq, not, cond, List, [], ◌∷◌, ◌++◌, length, map, get_or, Option}
+use Rattle.std.proofs.Common.{Some, None, refl, sym, ap, ◌∙◌, subst, arith, inl, inr, eq-eqb, add-one}
 use Rattle.std.specs.List.{list_all, range_with_len, filter, Contains}
 use Rattle.std.proofs.lemmas.List.{get_or-map, length-map, get_or_default, same_lists}
 use Rattle.std.proofs.lemmas.List.Elements.{All-contains, Contains-append_left, Contains-append_right}

@@ -75,14 +75,16 @@ pub record Missed (blocks : List Block) (issuer : List ℕ) (low high : ℕ) : T
 pub missed_begun : (blocks : List Block) (issuer : List ℕ) → Missed blocks issuer 0 (length blocks)
 missed_begun blocks issuer = record { below = λ k d lt. absurd (omega arith); above = λ k d le lt. absurd (omega arith) }
 
-module _ (blocks : List Block) (issuer : List ℕ) (sorted : IsStrictlySortedBy block_cmp blocks) (low high middle : ℕ) (b : Block) (within : middle < length blocks) (is : b ≡ get_or blocks middle b) (m : Missed blocks issuer low high) where
+module _ (blocks : List Block) (issuer : List ℕ) (sorted : IsStrictlySortedBy block_cmp blocks) (low high middle : ℕ) (b : Block)
+    (within : middle < length blocks) (is : b ≡ get_or blocks middle b) (m : Missed blocks issuer low high) where
   at : (d : Block) → get_or blocks middle d ≡ b
   at d = get_or_default blocks middle d b within ∙ sym is
 
   pub missed_less : slice_cmp nat_cmp b.issuer issuer ≡ Less → Missed blocks issuer (middle + 1) high
   missed_less e = record {
     below = λ k d lt. unequal_less (get_or blocks k d).issuer issuer (elim (cases_lt k middle) [
-      | inl less ↦ nat_list_cmp_total.trans (get_or blocks k d).issuer (get_or blocks middle d).issuer issuer (Less-from_sorted block_cmp blocks k middle d sorted less within) (ap (λ (x : Block). slice_cmp nat_cmp x.issuer issuer) (at d) ∙ e)
+      | inl less ↦ nat_list_cmp_total.trans (get_or blocks k d).issuer (get_or blocks middle d).issuer issuer
+          (Less-from_sorted block_cmp blocks k middle d sorted less within) (ap (λ (x : Block). slice_cmp nat_cmp x.issuer issuer) (at d) ∙ e)
       | inr ge ↦ (let same : k ≡ middle = omega arith in ap (λ (j : ℕ). slice_cmp nat_cmp (get_or blocks j d).issuer issuer) same ∙ ap (λ (x : Block). slice_cmp nat_cmp x.issuer issuer) (at d) ∙ e)
     ]);
     above = m.above;
@@ -94,7 +96,8 @@ module _ (blocks : List Block) (issuer : List ℕ) (sorted : IsStrictlySortedBy 
     above = λ k d le lt. unequal_greater (get_or blocks k d).issuer issuer (elim (cases_lt middle k) [
       | inl more ↦ (
           let back : slice_cmp nat_cmp issuer b.issuer ≡ Less = nat_list_cmp_total.antisymm issuer b.issuer ∙ ap ordering_reverse e in
-          let on : slice_cmp nat_cmp b.issuer (get_or blocks k d).issuer ≡ Less = ap (λ (x : Block). slice_cmp nat_cmp x.issuer (get_or blocks k d).issuer) (sym (at d)) ∙ Less-from_sorted block_cmp blocks middle k d sorted more lt in
+          let on : slice_cmp nat_cmp b.issuer (get_or blocks k d).issuer ≡ Less
+          = ap (λ (x : Block). slice_cmp nat_cmp x.issuer (get_or blocks k d).issuer) (sym (at d)) ∙ Less-from_sorted block_cmp blocks middle k d sorted more lt in
           nat_list_cmp_total.antisymm (get_or blocks k d).issuer issuer ∙ ap ordering_reverse (nat_list_cmp_total.trans issuer b.issuer (get_or blocks k d).issuer back on))
       | inr ge ↦ (let same : k ≡ middle = omega arith in ap (λ (j : ℕ). slice_cmp nat_cmp (get_or blocks j d).issuer issuer) same ∙ ap (λ (x : Block). slice_cmp nat_cmp x.issuer issuer) (at d) ∙ e)
     ]);

@@ -20,14 +20,17 @@ LeafIsUnique = (rows : Rows) (revoked others : List Identity) (a b : Body) → I
 
 -- where a stage is refused there is no filter
 abbrev pub RefusedHasNoLeaf : Type 0
-RefusedHasNoLeaf = (rows : Rows) (revoked others : List Identity) (stage : ℕ) (body : Body) → IsRefused rows revoked others stage → IsLeaf rows revoked others body → ⊥
+RefusedHasNoLeaf = (rows : Rows) (revoked others : List Identity) (stage : ℕ) (body : Body)
+    → IsRefused rows revoked others stage → IsLeaf rows revoked others body → ⊥
 
 -- only one stage is refused
 abbrev pub OneStageIsRefused : Type 0
-OneStageIsRefused = (rows : Rows) (revoked others : List Identity) (stage other : ℕ) → IsRefused rows revoked others stage → IsRefused rows revoked others other → stage ≡ other
+OneStageIsRefused = (rows : Rows) (revoked others : List Identity) (stage other : ℕ)
+    → IsRefused rows revoked others stage → IsRefused rows revoked others other → stage ≡ other
 
 -- the test of each identity of the universe is its flag
 abbrev pub BlockIsExact : Type 0
 BlockIsExact =
-    (rows : Rows) (issuer : List ℕ) (universe : List Identity) (flags : List Bool) (block : Block) → length flags ≡ length universe → IsBlock rows issuer universe flags block
+    (rows : Rows) (issuer : List ℕ) (universe : List Identity) (flags : List Bool) (block : Block)
+    → length flags ≡ length universe → IsBlock rows issuer universe flags block
     → (i : ℕ) (x : Identity) → i < length universe → is_positive rows (slice_index_or universe i x) block.body ≡ slice_index_or flags i false

@@ -1,10 +1,12 @@
 -- The filter of a universe: which stages it has, and for whom it tests positive.
-use Rattle.std.specs.Prelude.{◌≡◌, ◌<◌, ◌≤◌, ◌+◌, ◌*◌, ◌^◌, ◌⊎◌, ◌==◌, ◌&&◌, ℕ, Bool, true, false, not, List, [], ◌∷◌, ◌++◌, length, map, filter, slice_index, Option, Some, None, cond}
+use Rattle.std.specs.Prelude.{◌≡◌, ◌<◌, ◌≤◌, ◌+◌, ◌*◌, ◌^◌, ◌⊎◌, ◌==◌, ◌&&◌, ℕ, Bool, true, false, not, List, [], ◌∷◌}
+use Rattle.std.specs.Prelude.{◌++◌, length, map, filter, slice_index, Option, Some, None, cond}
 use Rattle.std.specs.List.{list_all, range_with_len}
 use Rattle.std.specs.Int.{bit_at}
 use Rattle.ident_core.specs.declared.identity.Identity.{Identity}
 use Rattle.equation_core.specs.Rows.{Rows}
 use Rattle.equation_core.specs.Sizes.{starts_for}
+use Rattle.equation_core.specs.declared.hash.TheConstants.{MAX_PLANES}
 use Rattle.ribbon_core.specs.Equations.{Equation, sum_of, IsSolvable, Least}
 use Rattle.ribbon_core.specs.Rows.{equation_of, equation_with}
 use Rattle.card_core.specs.declared.stage.Stage.{Stage}
@@ -19,11 +21,12 @@ flagged [] flags = []
 flagged (x ∷ xs) [] = []
 flagged (x ∷ xs) (f ∷ flags) = cond f (x ∷ flagged xs flags) (flagged xs flags)
 
--- k is 0 where the revoked are more than the others, else the greatest number up to 16 with revoked * 2 ^ k ≤ others
+-- k is 0 where the revoked are more than the others, else the greatest number up to MAX_PLANES with
+-- revoked * 2 ^ k ≤ others
 pub record IsWidth (revoked others k : ℕ) : Type 0 where
-  pub most : k ≤ 16
+  pub most : k ≤ MAX_PLANES
   pub fits : revoked ≤ others → revoked * 2 ^ k ≤ others
-  pub greatest : (j : ℕ) → j ≤ 16 → revoked * 2 ^ j ≤ others → j ≤ k
+  pub greatest : (j : ℕ) → j ≤ MAX_PLANES → revoked * 2 ^ j ≤ others → j ≤ k
   pub none : others < revoked → k ≡ 0
 
 -- in each plane the equations have a common solution
@@ -105,7 +108,8 @@ abbrev pub IsRefused : Rows → List Identity → List Identity → ℕ → Type
 IsRefused rows revoked others stage =
     (1 ≤ length revoked) × (1 ≤ length others)
     × (((stage ≡ 1) × ((k : ℕ) × (1 ≤ k) × IsWidth (length revoked) (length others) k × IsExhausted (approx_equations rows revoked) k))
-    ⊎ ((stage ≡ 2) × ((approx : Option Stage) × IsApprox rows revoked others approx × IsExhausted (exact_equations rows revoked (false_positives rows approx others)) 1)))
+    ⊎ ((stage ≡ 2) × ((approx : Option Stage) × IsApprox rows revoked others approx
+    × IsExhausted (exact_equations rows revoked (false_positives rows approx others)) 1)))
 
 -- the block of an issuer whose identities have these flags
 abbrev pub IsBlock : Rows → List ℕ → List Identity → List Bool → Block → Type 0

@@ -1,4 +1,5 @@
 ghost use Rattle.std.specs.Prelude.{◌≡◌, ◌≤◌, ◌+◌, ◌*◌, length};
+ghost use Rattle.equation_core.specs.declared.hash.TheConstants.{MAX_PLANES};
 ghost use Rattle.card_core.specs.Leaf.{accepts as is_accepted, exact_sum};
 
 use equation_core::EquationHash;
@@ -23,7 +24,7 @@ pub fn accepts<H: EquationHash, M: Ledger>(
     words: &mut Steps<M>,
 ) -> bool
     ensures value { result ≡ is_accepted (H.row_of hash.now) stage.now id.now }
-    ensures few { length stage.now.planes.columns ≤ 16 }
+    ensures few { length stage.now.planes.columns ≤ MAX_PLANES }
     ensures more { words.old ≤ words.new }
     ensures steps { words.new ≤ words.old + 3 * length stage.now.planes.columns }
 {
