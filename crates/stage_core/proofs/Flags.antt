@@ -55,7 +55,8 @@ module _ (xs : List Identity) (fs : List Bool) (i : ℕ) (x : Identity) (few : l
       flagged_around xs fs i x (omega (arith, few, lt)) lt e
       ∙ ap (λ (y : Identity). (flagged (take i xs) (take i fs) ++ (y ∷ [])) ++ flagged (drop (i + 1) xs) (drop (i + 1) fs)) (sym is)
 
-pub left_at : (xs : List Identity) (fs : List Bool) (i : ℕ) → length fs ≤ length xs → i < length fs → get_or fs i false ≡ false → flagged (take i xs) (take i fs) ≡ flagged (take (i + 1) xs) (take (i + 1) fs)
+pub left_at : (xs : List Identity) (fs : List Bool) (i : ℕ) → length fs ≤ length xs → i < length fs → get_or fs i false ≡ false
+    → flagged (take i xs) (take i fs) ≡ flagged (take (i + 1) xs) (take (i + 1) fs)
 left_at [] fs i few lt e = absurd (omega (arith, few, lt))
 left_at (x ∷ xs) fs i few lt e = flagged_left (x ∷ xs) fs i x (omega (arith, few, lt)) lt e
 

@@ -13,7 +13,7 @@ use Rattle.ribbon_core.proofs.LeastLaws.{least_same}
 use Rattle.card_core.specs.declared.stage.Stage.{Stage}
 use Rattle.card_core.specs.Leaf.{Solvable, IsStage, IsExhausted, IsWidth, IsApprox, IsExact, IsMixed, approx_equations, exact_equations, false_positives}
 use Rattle.stage_core.specs.Keys.{stage_equations, key_equation}
-use Rattle.stage_core.specs.declared.keys.Asked.TheVariants.{Tag}
+use Rattle.stage_core.specs.declared.keys.KeyTarget.TheVariants.{Tag}
 use Rattle.stage_core.specs.declared.fault.BlockFault.{BlockFault}
 use Rattle.stage_core.specs.declared.fault.BlockFault.TheVariants.{SeedsExhausted, NoMemory}
 use Rattle.stage_core.specs.Built.{BuildsExact, BuildsLeaf}
@@ -60,7 +60,8 @@ module _ (rows : Rows) (revoked : List Identity) (k : ℕ) where
       let f : Identity → Equation = key_equation rows Tag 1 k starts seed in
       let h : Identity → Equation = λ x. equation_of (rows 1 seed x starts) in (
         λ s. all_remapped (λ e. Solves p e Z) f h (λ x q. q ∙ low_bits k (rows 1 seed x starts).tag p lt) revoked (solved_front p Z (map f revoked) [] s),
-        λ s. All-append (λ e. Solves p e Z) (map f revoked) [] (all_remapped (λ e. Solves p e Z) h f (λ x q. q ∙ sym (low_bits k (rows 1 seed x starts).tag p lt)) revoked s) (All-nil (λ e. Solves p e Z)),
+        λ s. All-append (λ e. Solves p e Z) (map f revoked) []
+            (all_remapped (λ e. Solves p e Z) h f (λ x q. q ∙ sym (low_bits k (rows 1 seed x starts).tag p lt)) revoked s) (All-nil (λ e. Solves p e Z)),
       )
 
   module _ (starts : ℕ) (zeros : List Identity) (size : starts ≡ starts_for (length revoked)) (none : zeros ≡ []) where
@@ -75,7 +76,8 @@ module _ (rows : Rows) (revoked : List Identity) (k : ℕ) where
         (subst (λ (l : List Identity). IsExhausted (stage_equations rows Tag 1 k starts revoked l) k) none h))
 
 module _ (rows : Rows) (revoked others : List Identity) where
-  pub approx_found : (k : ℕ) (s : Stage) → (k ≡ 0 → ⊥) → IsWidth (length revoked) (length others) k → IsStage (approx_equations rows revoked) (starts_for (length revoked)) k s → IsApprox rows revoked others (Some s)
+  pub approx_found : (k : ℕ) (s : Stage) → (k ≡ 0 → ⊥) → IsWidth (length revoked) (length others) k
+      → IsStage (approx_equations rows revoked) (starts_for (length revoked)) k s → IsApprox rows revoked others (Some s)
   approx_found k s some w h =
       let e : k ≡ length s.planes.columns = sym h.count in (
         omega (arith, e, some),

@@ -1,10 +1,11 @@
 ghost use Rattle.std.specs.Prelude.{◌≡◌, ◌≤◌, ◌<◌, ◌+◌, ◌&&◌, length, map, filter, not, IfOk, IfErr};
+ghost use Rattle.ident_core.specs.declared.bounds.TheConstants.{MAX_IDENTITIES};
 ghost use Rattle.card_core.specs.Leaf.{flagged, passes as is_passed, false_positives};
 ghost use Rattle.stage_core.specs.Built.{BuildsBlock, BuildsLeaf, BuildsApprox, BuildsExact};
 ghost use Rattle.stage_core.specs.declared.fault.BlockFault.TheVariants.{NoMemory};
 
 use crate::fault::BlockFault;
-use crate::keys::{Asked, Shape};
+use crate::keys::{KeyTarget, Shape};
 use crate::seeds::first_stage;
 use crate::width::width_for;
 use card_core::{Block, Body, Mixed, Stage, accepts};
@@ -82,7 +83,7 @@ fn approx_of<H: EquationHash>(
     revoked: &[bool],
 ) -> Result<Option<Stage>, BlockFault>
     requires flags { length revoked.now ≡ length universe.now }
-    requires few { length universe.now ≤ 4194304 }
+    requires few { length universe.now ≤ MAX_IDENTITIES }
     ensures { BuildsApprox (H.row_of hash.now) (flagged universe.now revoked.now) (flagged universe.now (map not revoked.now)) result }
 {
     let keys = count(revoked);
@@ -92,7 +93,7 @@ fn approx_of<H: EquationHash>(
     }
     let shape = Shape {
         stage: 1,
-        asked: Asked::Tag,
+        target: KeyTarget::Tag,
         planes,
         starts: starts_for(keys as u32),
     };
@@ -111,13 +112,13 @@ fn exact_of<H: EquationHash>(
 ) -> Result<Stage, BlockFault>
     requires revoked { length revoked.now ≡ length universe.now }
     requires passed { length passed.now ≡ length universe.now }
-    requires few { length (flagged universe.now revoked.now) + length (flagged universe.now passed.now) ≤ 4194304 }
+    requires few { length (flagged universe.now revoked.now) + length (flagged universe.now passed.now) ≤ MAX_IDENTITIES }
     ensures { BuildsExact (H.row_of hash.now) (flagged universe.now revoked.now) (flagged universe.now passed.now) result }
 {
     let keys = count(revoked) + count(passed);
     let shape = Shape {
         stage: 2,
-        asked: Asked::One,
+        target: KeyTarget::One,
         planes: 1,
         starts: starts_for(keys as u32),
     };
@@ -135,7 +136,7 @@ fn mixed_of<H: EquationHash>(
     revoked: &[bool],
 ) -> Result<Body, BlockFault>
     requires flags { length revoked.now ≡ length universe.now }
-    requires few { length universe.now ≤ 4194304 }
+    requires few { length universe.now ≤ MAX_IDENTITIES }
     requires some_revoked { 1 ≤ length (flagged universe.now revoked.now) }
     requires some_others { 1 ≤ length (flagged universe.now (map not revoked.now)) }
     ensures { BuildsLeaf (H.row_of hash.now) (flagged universe.now revoked.now) (flagged universe.now (map not revoked.now)) result }
@@ -154,7 +155,7 @@ fn leaf_of<H: EquationHash>(
     revoked: &[bool],
 ) -> Result<Body, BlockFault>
     requires flags { length revoked.now ≡ length universe.now }
-    requires few { length universe.now ≤ 4194304 }
+    requires few { length universe.now ≤ MAX_IDENTITIES }
     ensures { BuildsLeaf (H.row_of hash.now) (flagged universe.now revoked.now) (flagged universe.now (map not revoked.now)) result }
 {
     let keys = count(revoked);
@@ -177,7 +178,7 @@ pub fn build_block<H: EquationHash>(
     revoked: &[bool],
 ) -> Result<Block, BlockFault>
     requires flags { length revoked.now ≡ length universe.now }
-    requires few { length universe.now ≤ 4194304 }
+    requires few { length universe.now ≤ MAX_IDENTITIES }
     ensures { BuildsBlock (H.row_of hash.now) issuer universe.now revoked.now result }
 {
     match leaf_of(alloc, hash, universe, revoked) {

@@ -1,11 +1,12 @@
 ghost use Rattle.std.specs.Prelude.{◌≡◌, ◌≤◌, length, IfOk, IfErr};
-ghost use Rattle.card_core.specs.Leaf.{flagged};
-ghost use Rattle.stage_core.specs.Keys.{stage_equations};
+ghost use Rattle.equation_core.specs.declared.hash.TheConstants.{MAX_PLANES};
+ghost use Rattle.equation_core.specs.declared.sizes.TheConstants.{MAX_STARTS};
+ghost use Rattle.stage_core.specs.Keys.{shape_equations};
 ghost use Rattle.stage_core.specs.Built.{IsSolved, IsFirstStage};
 ghost use Rattle.stage_core.specs.declared.fault.BlockFault.TheVariants.{NoMemory};
 
 use crate::fault::BlockFault;
-use crate::keys::{Asked, Shape, add_keys};
+use crate::keys::{KeyTarget, Shape, add_keys};
 use card_core::Stage;
 use equation_core::EquationHash;
 use ident_core::Identity;
@@ -23,12 +24,15 @@ fn solve_at<H: EquationHash>(
     passed: &[bool],
 ) -> Result<Option<Planes>, BlockFault>
     requires some_starts { 1 ≤ shape.starts }
-    requires few_starts { shape.starts ≤ 4718593 }
+    requires few_starts { shape.starts ≤ MAX_STARTS }
     requires some { 1 ≤ shape.planes }
-    requires few { shape.planes ≤ 16 }
+    requires few { shape.planes ≤ MAX_PLANES }
     requires revoked { length revoked.now ≤ length universe.now }
     requires passed { length passed.now ≤ length universe.now }
-    ensures ok { IfOk result (IsSolved (stage_equations (H.row_of hash.now) shape.asked shape.stage shape.planes shape.starts (flagged universe.now revoked.now) (flagged universe.now passed.now) seed) shape.starts shape.planes) }
+    ensures ok { IfOk result (IsSolved
+        (shape_equations (H.row_of hash.now) shape universe.now revoked.now passed.now seed)
+        shape.starts
+        shape.planes) }
     ensures err { IfErr result (λ e. e ≡ NoMemory) }
 {
     let mut system = System::new(alloc, shape.starts, shape.planes)?;
@@ -37,7 +41,7 @@ fn solve_at<H: EquationHash>(
         hash,
         shape,
         seed,
-        shape.asked,
+        shape.target,
         universe,
         revoked,
     ) else {
@@ -48,7 +52,7 @@ fn solve_at<H: EquationHash>(
         hash,
         shape,
         seed,
-        Asked::Zero,
+        KeyTarget::Zero,
         universe,
         passed,
     ) else {
@@ -58,7 +62,7 @@ fn solve_at<H: EquationHash>(
 }
 
 /// The stage of the least seed at which the equations are solvable, if there is one: those of the revoked, and those of
-/// the passed, of whose sums zero is asked.
+/// the passed, whose targets are zero.
 pub fn first_stage<H: EquationHash>(
     alloc: Global,
     hash: &H,
@@ -68,12 +72,15 @@ pub fn first_stage<H: EquationHash>(
     passed: &[bool],
 ) -> Result<Option<Stage>, BlockFault>
     requires some_starts { 1 ≤ shape.starts }
-    requires few_starts { shape.starts ≤ 4718593 }
+    requires few_starts { shape.starts ≤ MAX_STARTS }
     requires some { 1 ≤ shape.planes }
-    requires few { shape.planes ≤ 16 }
+    requires few { shape.planes ≤ MAX_PLANES }
     requires revoked { length revoked.now ≤ length universe.now }
     requires passed { length passed.now ≤ length universe.now }
-    ensures ok { IfOk result (IsFirstStage (stage_equations (H.row_of hash.now) shape.asked shape.stage shape.planes shape.starts (flagged universe.now revoked.now) (flagged universe.now passed.now)) shape.starts shape.planes) }
+    ensures ok { IfOk result (IsFirstStage
+        (shape_equations (H.row_of hash.now) shape universe.now revoked.now passed.now)
+        shape.starts
+        shape.planes) }
     ensures err { IfErr result (λ e. e ≡ NoMemory) }
 {
     for number in 0..256u16 {

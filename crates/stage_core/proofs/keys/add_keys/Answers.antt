@@ -3,7 +3,7 @@ use Rattle.std.proofs.lemmas.Result.{err_from_is_err_and}
 use Rattle.ribbon_core.specs.Equations.{Equation, SolvesAll}
 use Rattle.ident_core.specs.declared.identity.Identity.{Identity}
 use Rattle.card_core.specs.Leaf.{flagged}
-use Rattle.stage_core.specs.Keys.{key_equation, key_equations, HasNoSolution}
+use Rattle.stage_core.specs.Keys.{key_equation, flagged_equations, HasNoSolution}
 use Rattle.stage_core.proofs.Flags.{taken_at, left_at, around_at, flagged_all}
 use Rattle.stage_core.proofs.Runs.{keys_more, keys_same, keys_refused}
 use Rattle.stage_core.proofs.keys.add_keys.Goals as goal
@@ -11,12 +11,13 @@ use Rattle.stage_core.proofs.keys.add_keys.Goals.{then-flag+in_ok-add_key, else-
 
 pub returns-in_err-add_key-clause-err : goal.returns-in_err-add_key-clause-err
 returns-in_err-add_key-clause-err g c =
-    let f : Identity → Equation = key_equation (g.H.EquationHash.row_of c.args.hash.now) c.args.asked c.args.shape.stage c.args.shape.planes c.args.shape.starts c.args.seed in
+    let f : Identity → Equation = key_equation (g.H.EquationHash.row_of c.args.hash.now) c.args.target c.args.shape.stage c.args.shape.planes c.args.shape.starts c.args.seed in
     let xs : List Identity = c.args.universe.now in
     let fs : List Bool = c.args.flags.now in
     let i : ℕ = c.loop-i.i in
     let p = c.in_err-add_key.ensures.err in
-    let none : HasNoSolution c.args.shape.planes c.args.system.now.equations (key_equations (g.H.EquationHash.row_of c.args.hash.now) c.args.asked c.args.shape.stage c.args.shape.planes c.args.shape.starts (flagged xs fs) c.args.seed) = (
+    let none : HasNoSolution c.args.shape.planes c.args.system.now.equations
+    (flagged_equations (g.H.EquationHash.row_of c.args.hash.now) c.args.target c.args.shape c.args.seed xs fs) = (
       p.0,
       p.1,
       λ Z b s. keys_refused p.0 Z f (SolvesAll p.0 c.args.system.now.equations Z) (SolvesAll p.0 c.loop-i.system.equations Z) (flagged (take i xs) (take i fs)) (flagged xs fs)
@@ -28,7 +29,7 @@ returns-in_err-add_key-clause-err g c =
 
 pub loop-i-preserved : goal.loop-i-preserved
 loop-i-preserved g c =
-    let f : Identity → Equation = key_equation (g.H.EquationHash.row_of c.args.hash.now) c.args.asked c.args.shape.stage c.args.shape.planes c.args.shape.starts c.args.seed in
+    let f : Identity → Equation = key_equation (g.H.EquationHash.row_of c.args.hash.now) c.args.target c.args.shape.stage c.args.shape.planes c.args.shape.starts c.args.seed in
     let xs : List Identity = c.args.universe.now in
     let fs : List Bool = c.args.flags.now in
     let i : ℕ = c.loop-i.i in
@@ -51,7 +52,7 @@ loop-i-preserved g c =
 
 pub returns-clause-ok : goal.returns-clause-ok
 returns-clause-ok g c plane Z =
-    let f : Identity → Equation = key_equation (g.H.EquationHash.row_of c.args.hash.now) c.args.asked c.args.shape.stage c.args.shape.planes c.args.shape.starts c.args.seed in
+    let f : Identity → Equation = key_equation (g.H.EquationHash.row_of c.args.hash.now) c.args.target c.args.shape.stage c.args.shape.planes c.args.shape.starts c.args.seed in
     let xs : List Identity = c.args.universe.now in
     let fs : List Bool = c.args.flags.now in
     keys_same plane Z f (SolvesAll plane c.args.system.now.equations Z) (SolvesAll plane c.loop-i.system.equations Z) (flagged (take c.loop-i.i xs) (take c.loop-i.i fs)) (flagged xs fs)

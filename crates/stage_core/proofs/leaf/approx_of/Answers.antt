@@ -19,7 +19,8 @@ returns-in-Some g c =
     let xs : List Identity = c.args.universe.now in
     let fs : List Bool = c.args.revoked.now in
     let w = width_of xs fs c.count-keys.result c.width_for-planes.result c.requires.flags c.count-keys.ensures.value c.width_for-planes.ensures in
-    let size : c.starts_for.result ≡ starts_for (length (flagged xs fs)) = c.starts_for.ensures.value ∙ ap starts_for (c.count-keys.ensures.value ∙ sym (flagged_count xs fs (omega (arith, c.requires.flags)))) in
+    let size : c.starts_for.result ≡ starts_for (length (flagged xs fs))
+    = c.starts_for.ensures.value ∙ ap starts_for (c.count-keys.ensures.value ∙ sym (flagged_count xs fs (omega (arith, c.requires.flags)))) in
     let h = rw c.in-Some.is at c.in_ok-stage.ensures.ok in
     approx_found (g.H.EquationHash.row_of c.args.hash.now) (flagged xs fs) (flagged xs (map not fs)) c.width_for-planes.result c.in-Some.stage c.if-planes-eq0.false w
     (approx_stage (g.H.EquationHash.row_of c.args.hash.now) (flagged xs fs) c.width_for-planes.result c.starts_for.result (flagged xs []) size (flagged_nil xs) c.in-Some.stage h)
@@ -29,7 +30,8 @@ returns-in-None g c =
     let xs : List Identity = c.args.universe.now in
     let fs : List Bool = c.args.revoked.now in
     let w = width_of xs fs c.count-keys.result c.width_for-planes.result c.requires.flags c.count-keys.ensures.value c.width_for-planes.ensures in
-    let size : c.starts_for.result ≡ starts_for (length (flagged xs fs)) = c.starts_for.ensures.value ∙ ap starts_for (c.count-keys.ensures.value ∙ sym (flagged_count xs fs (omega (arith, c.requires.flags)))) in
+    let size : c.starts_for.result ≡ starts_for (length (flagged xs fs))
+    = c.starts_for.ensures.value ∙ ap starts_for (c.count-keys.ensures.value ∙ sym (flagged_count xs fs (omega (arith, c.requires.flags)))) in
     let h = rw c.in-None.is at c.in_ok-stage.ensures.ok in
     let some : 1 ≤ c.width_for-planes.result = omega (arith, c.if-planes-eq0.false) in (
       refl,

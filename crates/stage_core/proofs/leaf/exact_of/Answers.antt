@@ -2,7 +2,7 @@ use Rattle.std.proofs.Common.{◌∙◌, ap, refl, arith, ℕ, subst}
 use Rattle.equation_core.specs.Sizes.{starts_for}
 use Rattle.card_core.specs.Leaf.{flagged, IsStage, IsExhausted}
 use Rattle.stage_core.specs.Keys.{stage_equations}
-use Rattle.stage_core.specs.declared.keys.Asked.TheVariants.{One}
+use Rattle.stage_core.specs.declared.keys.KeyTarget.TheVariants.{One}
 use Rattle.stage_core.proofs.Flags.{counted}
 use Rattle.stage_core.proofs.leaf.exact_of.Goals as goal
 
@@ -20,7 +20,8 @@ pub returns-in-Some : goal.returns-in-Some
 returns-in-Some g c =
     let e = counted c.args.universe.now c.args.revoked.now c.args.passed.now c.count.result c.count-2.result c.requires.revoked c.requires.passed c.count.ensures.value c.count-2.ensures.value in
     let h = rw c.in-Some.is at c.in_ok-stage.ensures.ok in
-    subst (λ (n : ℕ). IsStage (stage_equations (g.H.EquationHash.row_of c.args.hash.now) One 2 1 n (flagged c.args.universe.now c.args.revoked.now) (flagged c.args.universe.now c.args.passed.now)) n 1 c.in-Some.stage)
+    subst (λ (n : ℕ). IsStage (stage_equations (g.H.EquationHash.row_of c.args.hash.now) One 2 1 n (flagged c.args.universe.now c.args.revoked.now)
+    (flagged c.args.universe.now c.args.passed.now)) n 1 c.in-Some.stage)
     (c.starts_for.ensures.value ∙ ap starts_for e) h
 
 pub returns-in-None : goal.returns-in-None
@@ -28,6 +29,7 @@ returns-in-None g c =
     let e = counted c.args.universe.now c.args.revoked.now c.args.passed.now c.count.result c.count-2.result c.requires.revoked c.requires.passed c.count.ensures.value c.count-2.ensures.value in
     let h = rw c.in-None.is at c.in_ok-stage.ensures.ok in (
       refl,
-      subst (λ (n : ℕ). IsExhausted (stage_equations (g.H.EquationHash.row_of c.args.hash.now) One 2 1 n (flagged c.args.universe.now c.args.revoked.now) (flagged c.args.universe.now c.args.passed.now)) 1)
+      subst (λ (n : ℕ). IsExhausted (stage_equations (g.H.EquationHash.row_of c.args.hash.now) One 2 1 n (flagged c.args.universe.now c.args.revoked.now)
+          (flagged c.args.universe.now c.args.passed.now)) 1)
           (c.starts_for.ensures.value ∙ ap starts_for e) h,
     )

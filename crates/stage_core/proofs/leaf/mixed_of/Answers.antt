@@ -20,6 +20,7 @@ returns-in_err-exact g c =
 
 pub returns : goal.returns
 returns g c =
-    rw c.new.ensures (mixed_found (g.H.EquationHash.row_of c.args.hash.now) (flagged c.args.universe.now c.args.revoked.now) (flagged c.args.universe.now (map not c.args.revoked.now)) c.in_ok-approx.approx
+    rw c.new.ensures (mixed_found (g.H.EquationHash.row_of c.args.hash.now) (flagged c.args.universe.now c.args.revoked.now)
+    (flagged c.args.universe.now (map not c.args.revoked.now)) c.in_ok-approx.approx
     c.in_ok-exact.exact (flagged c.args.universe.now c.deref.result.now)
     c.requires.some_revoked c.requires.some_others c.in_ok-approx.ensures (ap (flagged c.args.universe.now) c.deref.ensures.value ∙ c.in_ok-passed.ensures.ok) c.in_ok-exact.ensures)

@@ -5,7 +5,7 @@ use Rattle.ribbon_core.specs.Kept.{Kept}
 use Rattle.ribbon_core.proofs.LeastLaws.{least_same}
 use Rattle.equation_core.specs.Rows.{Rows}
 use Rattle.stage_core.specs.Keys.{key_equations}
-use Rattle.stage_core.specs.declared.keys.Asked.TheVariants.{Zero}
+use Rattle.stage_core.specs.declared.keys.KeyTarget.TheVariants.{Zero}
 use Rattle.card_core.specs.Leaf.{flagged}
 use Rattle.stage_core.proofs.Runs.{solved_front, solved_back}
 use Rattle.stage_core.proofs.Stages.{two_lists}
@@ -18,7 +18,7 @@ asks_nothing s starts planes p Z e = rw e (All-nil (λ e. Solves p e Z))
 pub returns-in_default-clause-ok : goal.returns-in_default-clause-ok
 returns-in_default-clause-ok g c =
     let rows : Rows = g.H.EquationHash.row_of c.args.hash.now in
-    let xs : List Equation = key_equations rows c.args.shape.asked c.args.shape.stage c.args.shape.planes c.args.shape.starts (flagged c.args.universe.now c.args.revoked.now) c.args.seed in
+    let xs : List Equation = key_equations rows c.args.shape.target c.args.shape.stage c.args.shape.planes c.args.shape.starts (flagged c.args.universe.now c.args.revoked.now) c.args.seed in
     let ys : List Equation = key_equations rows Zero c.args.shape.stage c.args.shape.planes c.args.shape.starts (flagged c.args.universe.now c.args.passed.now) c.args.seed in
     let h = c.in_default.ensures.err in
     (h.0, h.1, λ Z s. h.2 Z (asks_nothing c.in_ok-system.system c.args.shape.starts c.args.shape.planes h.0 Z c.in_ok-system.ensures) (solved_front h.0 Z xs ys s))
@@ -26,16 +26,22 @@ returns-in_default-clause-ok g c =
 pub returns-in_default-add_keys-clause-ok : goal.returns-in_default-add_keys-clause-ok
 returns-in_default-add_keys-clause-ok g c =
     let rows : Rows = g.H.EquationHash.row_of c.args.hash.now in
-    let xs : List Equation = key_equations rows c.args.shape.asked c.args.shape.stage c.args.shape.planes c.args.shape.starts (flagged c.args.universe.now c.args.revoked.now) c.args.seed in
+    let xs : List Equation = key_equations rows c.args.shape.target c.args.shape.stage c.args.shape.planes c.args.shape.starts (flagged c.args.universe.now c.args.revoked.now) c.args.seed in
     let ys : List Equation = key_equations rows Zero c.args.shape.stage c.args.shape.planes c.args.shape.starts (flagged c.args.universe.now c.args.passed.now) c.args.seed in
     let h = c.in_default-add_keys.ensures.err in
-    let k = c.in-Ok.ensures.ok in
-    (h.0, h.1, λ Z s. h.2 Z ((k h.0 Z).1 (asks_nothing c.in_ok-system.system c.args.shape.starts c.args.shape.planes h.0 Z c.in_ok-system.ensures, solved_front h.0 Z xs ys s)) (solved_back h.0 Z xs ys s))
+    let k = c.in-Ok.ensures.ok in (
+      h.0,
+      h.1,
+      λ Z s. h.2 Z ((k h.0 Z).1 (
+        asks_nothing c.in_ok-system.system c.args.shape.starts c.args.shape.planes h.0 Z c.in_ok-system.ensures,
+        solved_front h.0 Z xs ys s,
+      )) (solved_back h.0 Z xs ys s),
+    )
 
 pub returns-clause-ok : goal.returns-clause-ok
 returns-clause-ok g c =
     let rows : Rows = g.H.EquationHash.row_of c.args.hash.now in
-    let xs : List Equation = key_equations rows c.args.shape.asked c.args.shape.stage c.args.shape.planes c.args.shape.starts (flagged c.args.universe.now c.args.revoked.now) c.args.seed in
+    let xs : List Equation = key_equations rows c.args.shape.target c.args.shape.stage c.args.shape.planes c.args.shape.starts (flagged c.args.universe.now c.args.revoked.now) c.args.seed in
     let ys : List Equation = key_equations rows Zero c.args.shape.stage c.args.shape.planes c.args.shape.starts (flagged c.args.universe.now c.args.passed.now) c.args.seed in
     let starts : c.add_keys-2.new.system.starts ≡ c.args.shape.starts = c.in-Ok-add_keys.ensures.starts ∙ c.in-Ok.ensures.starts ∙ ap (λ (s : Kept). s.starts) c.in_ok-system.ensures in
     let planes : c.add_keys-2.new.system.planes ≡ c.args.shape.planes = c.in-Ok-add_keys.ensures.planes ∙ c.in-Ok.ensures.planes ∙ ap (λ (s : Kept). s.planes) c.in_ok-system.ensures in (
