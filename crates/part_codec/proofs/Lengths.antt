@@ -21,7 +21,12 @@ pub length_stage : (s : Stage) → length (stage_text s) ≡ 5 + length s.planes
 unfolding stage_text planes_text
 length_stage s =
     let planes : List ℕ = flat_map (bytes_of_columns (words_for s.planes.starts)) s.planes.columns in
-    omega (arith, length-append (to_be_bytes w8 s.seed) (to_be_bytes w32 s.planes.starts ++ planes), length-append (to_be_bytes w32 s.planes.starts) planes, length-planes (words_for s.planes.starts) s.planes.columns)
+    omega (
+      arith,
+      length-append (to_be_bytes w8 s.seed) (to_be_bytes w32 s.planes.starts ++ planes),
+      length-append (to_be_bytes w32 s.planes.starts) planes,
+      length-planes (words_for s.planes.starts) s.planes.columns,
+    )
 
 pub length_mixed : (m : MixedFields) → length (mixed_text m) ≡ 1 + length (approx_text m.approx) + length (stage_text m.exact)
 unfolding mixed_text

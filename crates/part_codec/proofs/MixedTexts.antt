@@ -11,13 +11,17 @@ use Rattle.octets_core.specs.declared.field.Field.{Field}
 use Rattle.octets_core.specs.declared.field.Field.TheVariants as fields
 use Rattle.octets_core.specs.declared.fault.Why.TheVariants as why
 use Rattle.octets_core.proofs.Fields.{bytes_field-ok}
-use Rattle.octets_core.proofs.Texts.{IsBytes, IsBytes-piece, Takes-as, repeated-read, repeated-leaves, whole-read, ends-read, IsRead, reads, done, from_front, bytes_field-read, number_field-read, Leaves, Takes, ◌>>>◌, ◌>>-◌, whole-leaves, bytes_field-leaves, number_field-leaves, wide8, wide32}
+use Rattle.octets_core.proofs.Texts.{IsBytes, IsBytes-piece, Takes-as, repeated-read, repeated-leaves, whole-read, ends-read, IsRead, reads, done, from_front}
+use Rattle.octets_core.proofs.Texts.{bytes_field-read, number_field-read, Leaves, Takes, ◌>>>◌, ◌>>-◌, whole-leaves, bytes_field-leaves, number_field-leaves}
+use Rattle.octets_core.proofs.Texts.{wide8, wide32}
 use Rattle.equation_core.specs.Sizes.{columns_for, words_for}
 use Rattle.ribbon_core.specs.PlaneWords.{PlaneColumns}
 use Rattle.card_core.specs.declared.block.Body.{Body}
 use Rattle.card_core.specs.declared.block.Body.TheVariants as bodies
 use Rattle.card_core.specs.declared.stage.Stage.{Stage}
 use Rattle.card_core.specs.MixedFields.{MixedFields}
+use Rattle.equation_core.specs.declared.hash.TheConstants.{MAX_PLANES}
+use Rattle.equation_core.specs.declared.sizes.TheConstants.{MAX_STARTS}
 use Rattle.part_codec.specs.PlaneBytes.{columns_of_bytes, bytes_of_columns, is_padded}
 use Rattle.part_codec.specs.PartLayout.{plane_bytes, plane, planes, approx_stage, approx, exact, mixed, body_of}
 use Rattle.part_codec.specs.PartText.{mode_of, planes_text, stage_text, width_of, approx_text, mixed_text, body_text}
@@ -42,7 +46,8 @@ plane-read name starts before Z lt =
     let again : columns_of_bytes (words_for starts) (bytes_of_columns (words_for starts) Z) ≡ Z = columns-again (words_for starts) Z (columns-in_words starts Z lt) in
     let passed : is_padded starts (bytes_of_columns (words_for starts) Z) ≡ true = rw again (lt-ltb Z (2 ^ columns_for starts) lt) in
     subst (λ (x : ℕ). IsRead (plane name starts) before x (bytes_of_columns (words_for starts) Z)) again
-    (ends-read (columns_of_bytes (words_for starts)) (bytes_field-read (fault_at why.Short name) (fault_at why.Value name) (8 * words_for starts) (is_padded starts) before (bytes_of_columns (words_for starts) Z) (length-bytes (words_for starts) Z) passed))
+    (ends-read (columns_of_bytes (words_for starts)) (bytes_field-read (fault_at why.Short name) (fault_at why.Value name) (8 * words_for starts)
+    (is_padded starts) before (bytes_of_columns (words_for starts) Z) (length-bytes (words_for starts) Z) passed))
 
 record TakesPlane (starts : ℕ) (bytes : List ℕ) (at : ℕ) (x : List ℕ) (end : ℕ) : Type 0 where
   takes : Takes bytes at x end
@@ -58,7 +63,8 @@ plane_bytes-leave name starts bytes fits at = record {
       record { takes = f.takes; passed = f.passed; len = f.len; each = subst IsBytes is.value (IsBytes-piece (8 * words_for starts) bytes at fits) };
 }
 
-plane-leaves : (name : Field) (starts : ℕ) (bytes : List ℕ) → IsBytes bytes → (at : ℕ) → Leaves (plane name starts) bytes at (λ Z end. Takes bytes at (bytes_of_columns (words_for starts) Z) end × Padded starts Z)
+plane-leaves : (name : Field) (starts : ℕ) (bytes : List ℕ) → IsBytes bytes → (at : ℕ)
+    → Leaves (plane name starts) bytes at (λ Z end. Takes bytes at (bytes_of_columns (words_for starts) Z) end × Padded starts Z)
 unfolding plane
 plane-leaves name starts bytes fits at =
     plane_bytes-leave name starts bytes fits at >>- λ x end a.
@@ -82,16 +88,18 @@ all-from_linked P (x ∷ xs) linked (suc k) d lt = all-from_linked P xs linked.1
 planes-read : (starts_name plane_name : Field) (before : List ℕ) (p : PlaneColumns) → PlanesFit p → IsRead (planes starts_name plane_name (length p.columns)) before p (planes_text p)
 unfolding planes planes_text
 planes-read starts_name plane_name before p fits = from_front
-    (reads _ (number_field-read _ _ w32 (2 ^ 32) 1 4718593 wide32 _ p.starts fits.some_starts fits.few_starts (omega (arith, fits.few_starts)))
-    (reads _ (repeated-read (λ (s : Unit {0}). plane plane_name p.starts) step (λ s. Padded p.starts) (bytes_of_columns (words_for p.starts)) (λ s. plane-read plane_name p.starts) tt _ p.columns (linked-from_all (Padded p.starts) p.columns fits.padding))
+    (reads _ (number_field-read _ _ w32 (2 ^ 32) 1 MAX_STARTS wide32 _ p.starts fits.some_starts fits.few_starts (omega (arith, fits.few_starts)))
+    (reads _ (repeated-read (λ (s : Unit {0}). plane plane_name p.starts) step (λ s. Padded p.starts) (bytes_of_columns (words_for p.starts))
+    (λ s. plane-read plane_name p.starts) tt _ p.columns (linked-from_all (Padded p.starts) p.columns fits.padding))
     (done p)))
 
 planes-leaves : (starts_name plane_name : Field) (bytes : List ℕ) → IsBytes bytes → (count at : ℕ)
     → Leaves (planes starts_name plane_name count) bytes at (λ p end. Takes bytes at (planes_text p) end × PlanesFit p × (length p.columns ≡ count))
 unfolding planes planes_text
 planes-leaves starts_name plane_name bytes fits count at =
-    number_field-leaves _ _ w32 (2 ^ 32) 1 4718593 wide32 bytes fits at >>- λ starts q a.
-    repeated-leaves (λ (s : Unit {0}). plane plane_name starts) step (λ s. Padded starts) (bytes_of_columns (words_for starts)) bytes (λ s. plane-leaves plane_name starts bytes fits) count tt q a.takes.room >>- λ list end b.
+    number_field-leaves _ _ w32 (2 ^ 32) 1 MAX_STARTS wide32 bytes fits at >>- λ starts q a.
+    repeated-leaves (λ (s : Unit {0}). plane plane_name starts) step (λ s. Padded starts) (bytes_of_columns (words_for starts)) bytes
+    (λ s. plane-leaves plane_name starts bytes fits) count tt q a.takes.room >>- λ list end b.
     whole-leaves _ bytes end _ (a.takes >>> b.0, record { some_starts = a.from_low; few_starts = a.to_high; padding = all-from_linked (Padded starts) list b.1 }, b.2)
 
 -- ---- stages
@@ -106,7 +114,8 @@ approx_stage-read before s fits = from_front
     (reads _ (planes-read fields.ApproxStarts fields.ApproxPlane _ s.planes fits.planes)
     (done (Some s))))
 
-approx_stage-leaves : (bytes : List ℕ) → IsBytes bytes → (k at : ℕ) → 1 ≤ k → k ≤ 16 → Leaves (approx_stage k) bytes at (λ a end. Takes bytes at (approx_text a) end × FirstFits a × (width_of a ≡ k))
+approx_stage-leaves : (bytes : List ℕ) → IsBytes bytes → (k at : ℕ) → 1 ≤ k → k ≤ MAX_PLANES
+    → Leaves (approx_stage k) bytes at (λ a end. Takes bytes at (approx_text a) end × FirstFits a × (width_of a ≡ k))
 unfolding approx_stage stage_text
 approx_stage-leaves bytes fits k at some few =
     number_field-leaves _ _ w8 (2 ^ 8) 0 255 wide8 bytes fits at >>- λ seed q a.
@@ -132,7 +141,8 @@ approx-read before (Some s) fits = rw (some_approx (length s.planes.columns) fit
 takes-nothing : (bytes : List ℕ) (at : ℕ) → at ≤ length bytes → Takes bytes at [] at
 takes-nothing bytes at le = record { parts = sym (append-nil (take at bytes)); room = le }
 
-approx-leaves : (bytes : List ℕ) → IsBytes bytes → (k at : ℕ) → k ≤ 16 → at ≤ length bytes → Leaves (approx k) bytes at (λ a end. Takes bytes at (approx_text a) end × FirstFits a × (width_of a ≡ k))
+approx-leaves : (bytes : List ℕ) → IsBytes bytes → (k at : ℕ) → k ≤ MAX_PLANES → at ≤ length bytes
+    → Leaves (approx k) bytes at (λ a end. Takes bytes at (approx_text a) end × FirstFits a × (width_of a ≡ k))
 approx-leaves bytes fits zero at few le = whole-leaves None bytes at _ (takes-nothing bytes at le, tt, refl)
 approx-leaves bytes fits (suc n) at few le = approx_stage-leaves bytes fits (suc n) at (omega arith) few
 
@@ -155,14 +165,14 @@ exact-leaves bytes fits at =
 
 -- ---- bodies
 
-width-few : (a : Option Stage) → FirstFits a → width_of a ≤ 16
+width-few : (a : Option Stage) → FirstFits a → width_of a ≤ MAX_PLANES
 width-few None fits = omega arith
 width-few (Some s) fits = fits.few
 
 mixed-read : (before : List ℕ) (m : MixedFields) → MixedFits m → IsRead mixed before m (mixed_text m)
 unfolding mixed mixed_text
 mixed-read before m fits = from_front
-    (reads _ (number_field-read _ _ w8 (2 ^ 8) 0 16 wide8 _ (width_of m.approx) (omega arith) (width-few m.approx fits.approx) (omega (arith, width-few m.approx fits.approx)))
+    (reads _ (number_field-read _ _ w8 (2 ^ 8) 0 MAX_PLANES wide8 _ (width_of m.approx) (omega arith) (width-few m.approx fits.approx) (omega (arith, width-few m.approx fits.approx)))
     (reads _ (approx-read _ m.approx fits.approx)
     (reads _ (exact-read _ m.exact fits.exact fits.one)
     (done m))))
@@ -170,7 +180,7 @@ mixed-read before m fits = from_front
 mixed-leaves : (bytes : List ℕ) → IsBytes bytes → (at : ℕ) → Leaves mixed bytes at (λ m end. Takes bytes at (mixed_text m) end × MixedFits m)
 unfolding mixed mixed_text
 mixed-leaves bytes fits at =
-    number_field-leaves _ _ w8 (2 ^ 8) 0 16 wide8 bytes fits at >>- λ k q a.
+    number_field-leaves _ _ w8 (2 ^ 8) 0 MAX_PLANES wide8 bytes fits at >>- λ k q a.
     approx-leaves bytes fits k q a.to_high a.takes.room >>- λ first r b.
     exact-leaves bytes fits r >>- λ second end c.
     whole-leaves _ bytes end _ (
@@ -183,7 +193,8 @@ body-read before bodies.Clean fits = whole-read before bodies.Clean
 body-read before bodies.Every fits = whole-read before bodies.Every
 body-read before (bodies.Mixed m) fits = ends-read (λ (x : MixedFields). bodies.Mixed x) (mixed-read before m fits)
 
-pub body-leaves : (n : ℕ) (bytes : List ℕ) → IsBytes bytes → (at : ℕ) → n ≤ 2 → at ≤ length bytes → Leaves (body_of n) bytes at (λ b end. Takes bytes at (body_text b) end × BodyFits b × (mode_of b ≡ n))
+pub body-leaves : (n : ℕ) (bytes : List ℕ) → IsBytes bytes → (at : ℕ) → n ≤ 2 → at ≤ length bytes
+    → Leaves (body_of n) bytes at (λ b end. Takes bytes at (body_text b) end × BodyFits b × (mode_of b ≡ n))
 body-leaves zero bytes fits at few le = whole-leaves bodies.Clean bytes at _ (takes-nothing bytes at le, tt, refl)
 body-leaves (suc zero) bytes fits at few le = whole-leaves bodies.Every bytes at _ (takes-nothing bytes at le, tt, refl)
 body-leaves (suc (suc n)) bytes fits at few le =

@@ -10,6 +10,10 @@ use Rattle.octets_core.specs.declared.field.Field.TheVariants as fields
 use Rattle.octets_core.specs.declared.fault.Why.TheVariants as why
 use Rattle.octets_core.specs.declared.fault.LayoutFault.{LayoutFault}
 use Rattle.ident_core.specs.RangeLayout.{range}
+use Rattle.equation_core.specs.declared.hash.TheConstants.{MAX_PLANES}
+use Rattle.equation_core.specs.declared.sizes.TheConstants.{MAX_STARTS}
+use Rattle.ident_core.specs.declared.bounds.TheConstants.{MAX_RANGES}
+use Rattle.card_core.specs.declared.part.TheConstants.{MAX_BLOCKS}
 use Rattle.part_codec.specs.SealedFields.{SealedFields}
 use Rattle.octets_core.specs.Reading.{GivesUnless}
 use Rattle.part_codec.specs.declared.fault.PartFault.{PartFault}
@@ -47,7 +51,7 @@ head-bounded =
     number-bounded fields.PartKind w8 0 1 >>> λ kind.
     number-bounded fields.PartEpoch w64 0 (2 ^ 64 - 1) >>> λ epoch.
     bytes-bounded fields.PartParent 32 _ >>> λ parent.
-    number-bounded fields.PartRanges w16 0 1024 >>> λ count.
+    number-bounded fields.PartRanges w16 0 MAX_RANGES >>> λ count.
     repeated-bounded offset range _ range-bounded count None >>> λ list.
     whole-bounded offset _
 
@@ -60,7 +64,7 @@ plane-bounded name starts =
 planes-bounded : (starts_name plane_name : Field) (count : ℕ) → IsBounded offset (planes starts_name plane_name count)
 unfolding planes
 planes-bounded starts_name plane_name count =
-    number-bounded starts_name w32 1 4718593 >>> λ starts.
+    number-bounded starts_name w32 1 MAX_STARTS >>> λ starts.
     repeated-bounded offset (λ (s : Unit {0}). plane plane_name starts) _ (λ s. plane-bounded plane_name starts) count tt >>> λ list.
     whole-bounded offset _
 
@@ -85,7 +89,7 @@ exact-bounded =
 mixed-bounded : IsBounded offset mixed
 unfolding mixed
 mixed-bounded =
-    number-bounded fields.BlockK w8 0 16 >>> λ k.
+    number-bounded fields.BlockK w8 0 MAX_PLANES >>> λ k.
     approx-bounded k >>> λ first.
     exact-bounded >>> λ second.
     whole-bounded offset _
@@ -107,7 +111,7 @@ unsealed-bounded : IsBounded offset_in_part unsealed
 unfolding unsealed
 unsealed-bounded =
     fielded-bounded head head-bounded >>> λ h.
-    fielded-bounded _ (number-bounded fields.PartIssuers w32 0 65535) >>> λ count.
+    fielded-bounded _ (number-bounded fields.PartIssuers w32 0 MAX_BLOCKS) >>> λ count.
     repeated-bounded offset_in_part block _ block-bounded count None >>> λ list.
     whole-bounded offset_in_part _
 

@@ -19,6 +19,8 @@ use Rattle.card_core.specs.declared.block.Block.{Block}
 use Rattle.card_core.specs.declared.block.Body.{Body}
 use Rattle.card_core.specs.declared.block.Body.TheVariants as bodies
 use Rattle.card_core.specs.PartFields.{PartFields}
+use Rattle.ident_core.specs.declared.bounds.TheConstants.{MAX_RANGES}
+use Rattle.card_core.specs.declared.part.TheConstants.{MAX_BLOCKS}
 use Rattle.part_codec.specs.declared.fault.PartFault.{PartFault}
 use Rattle.part_codec.specs.declared.fault.PartFault.TheVariants as faults
 use Rattle.octets_core.specs.Reading.{GivesUnless}
@@ -27,7 +29,9 @@ use Rattle.part_codec.specs.PartLayout.{kind_of, is_parent, body_of, head, block
 use Rattle.part_codec.specs.PartText.{kind_number, head_text, mode_of, block_text, unsealed_text, spelling}
 use Rattle.part_codec.proofs.MixedTexts.{body-read, body-leaves}
 use Rattle.part_codec.specs.Fitting.{FitsBlock, FitsHead, FitsPart, Fits}
-use Rattle.octets_core.proofs.Texts.{bytes_eq-refl, Takes-as, repeated-read, repeated-leaves, sum_field-read, sum_field-leaves, mapped-read, mapped-leaves, IsBytes, IsRead, reads, done, from_front, bytes_field-read, number_field-read, Leaves, Takes, ◌>>>◌, ◌>>-◌, whole-leaves, bytes_field-leaves, number_field-leaves, wide8, wide16, wide32, wide64, Linked-weaken}
+use Rattle.octets_core.proofs.Texts.{bytes_eq-refl, Takes-as, repeated-read, repeated-leaves, sum_field-read, sum_field-leaves, mapped-read, mapped-leaves}
+use Rattle.octets_core.proofs.Texts.{IsBytes, IsRead, reads, done, from_front, bytes_field-read, number_field-read, Leaves, Takes, ◌>>>◌, ◌>>-◌, whole-leaves}
+use Rattle.octets_core.proofs.Texts.{bytes_field-leaves, number_field-leaves, wide8, wide16, wide32, wide64, Linked-weaken}
 
 -- ---- head
 
@@ -64,7 +68,7 @@ head-read before h fits =
     (reads _ (number_field-read _ _ w8 (2 ^ 8) 0 1 wide8 _ (kind_number h.kind) (omega arith) (kind_few h.kind) (omega (arith, kind_few h.kind)))
     (reads _ (number_field-read _ _ w64 (2 ^ 64) 0 (2 ^ 64 - 1) wide64 _ h.epoch (omega arith) (below_limit _ fits.epoch) fits.epoch)
     (reads _ (bytes_field-read _ _ 32 (is_parent (kind_number h.kind)) _ h.parent fits.parent (parent_passes h.kind h.parent fits.facts.snapshot))
-    (reads _ (number_field-read _ _ w16 (2 ^ 16) 0 1024 wide16 _ (length h.ranges) (omega arith) fits.facts.ranges.few (omega (arith, fits.facts.ranges.few)))
+    (reads _ (number_field-read _ _ w16 (2 ^ 16) 0 MAX_RANGES wide16 _ (length h.ranges) (omega arith) fits.facts.ranges.few (omega (arith, fits.facts.ranges.few)))
     (reads _ (ranges-read _ h.ranges fits.ranges)
     (done _)))))))))
 
@@ -76,7 +80,7 @@ head-leaves bytes fits at =
     number_field-leaves _ _ w8 (2 ^ 8) 0 1 wide8 bytes fits q >>- λ kind r c.
     number_field-leaves _ _ w64 (2 ^ 64) 0 (2 ^ 64 - 1) wide64 bytes fits r >>- λ epoch s d.
     bytes_field-leaves _ _ 32 (is_parent kind) bytes s >>- λ parent t e.
-    number_field-leaves _ _ w16 (2 ^ 16) 0 1024 wide16 bytes fits t >>- λ count u f.
+    number_field-leaves _ _ w16 (2 ^ 16) 0 MAX_RANGES wide16 bytes fits t >>- λ count u f.
     ranges-leaves bytes fits count u f.takes.room >>- λ list end g.
     whole-leaves _ bytes end _ (
       Takes-as begin (codes "CLUBCARD") (sym ((bytes_eq-Decides (codes "CLUBCARD") begin).0 a.passed)) a.takes
@@ -134,7 +138,7 @@ pub unsealed-read : (p : PartFields) → FitsPart p → IsRead unsealed [] p (un
 unfolding unsealed unsealed_text
 unsealed-read p fits = from_front
     (reads _ (mapped-read faults.Layout head _ _ _ (head-read _ p.head fits.head))
-    (reads _ (mapped-read faults.Layout _ _ _ _ (number_field-read _ _ w32 (2 ^ 32) 0 65535 wide32 _ (length p.blocks) (omega arith) fits.facts.few (omega (arith, fits.facts.few))))
+    (reads _ (mapped-read faults.Layout _ _ _ _ (number_field-read _ _ w32 (2 ^ 32) 0 MAX_BLOCKS wide32 _ (length p.blocks) (omega arith) fits.facts.few (omega (arith, fits.facts.few))))
     (reads _ (repeated-read block (λ previous b. Some b.issuer) FitsBlock block_text block-read None _ p.blocks fits.blocks)
     (done p))))
 
@@ -142,7 +146,7 @@ pub unsealed-leaves : (bytes : List ℕ) → IsBytes bytes → Leaves unsealed b
 unfolding unsealed unsealed_text
 unsealed-leaves bytes fits =
     mapped-leaves faults.Layout head bytes 0 _ (head-leaves bytes fits 0) >>- λ h p a.
-    mapped-leaves faults.Layout (number fields.PartIssuers w32 0 65535) bytes p _ (number_field-leaves _ _ w32 (2 ^ 32) 0 65535 wide32 bytes fits p) >>- λ count q b.
+    mapped-leaves faults.Layout (number fields.PartIssuers w32 0 MAX_BLOCKS) bytes p _ (number_field-leaves _ _ w32 (2 ^ 32) 0 MAX_BLOCKS wide32 bytes fits p) >>- λ count q b.
     repeated-leaves block (λ previous b. Some b.issuer) FitsBlock block_text bytes (block-leaves bytes fits) count None q b.takes.room >>- λ list end c.
     whole-leaves _ bytes end _ (
       a.0 >>> Takes-as (to_be_bytes w32 count) (to_be_bytes w32 (length list)) (ap (to_be_bytes w32) (sym c.2)) b.takes >>> c.0,

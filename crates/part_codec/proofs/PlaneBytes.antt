@@ -29,8 +29,10 @@ pub columns-again : (n Z : ℕ) → Z < 2 ^ (64 * n) → columns_of_bytes n (byt
 unfolding columns_of_bytes bytes_of_columns
 columns-again zero Z lt = omega arith
 columns-again (suc n) Z lt =
-    let first : take 8 (to_be_bytes w64 (Z % 2 ^ 64) ++ bytes_of_columns n (Z / 2 ^ 64)) ≡ to_be_bytes w64 (Z % 2 ^ 64) = take_at (to_be_bytes w64 (Z % 2 ^ 64)) (bytes_of_columns n (Z / 2 ^ 64)) 8 refl in
-    let others : drop 8 (to_be_bytes w64 (Z % 2 ^ 64) ++ bytes_of_columns n (Z / 2 ^ 64)) ≡ bytes_of_columns n (Z / 2 ^ 64) = drop_at (to_be_bytes w64 (Z % 2 ^ 64)) (bytes_of_columns n (Z / 2 ^ 64)) 8 refl in
+    let first : take 8 (to_be_bytes w64 (Z % 2 ^ 64) ++ bytes_of_columns n (Z / 2 ^ 64))
+    ≡ to_be_bytes w64 (Z % 2 ^ 64) = take_at (to_be_bytes w64 (Z % 2 ^ 64)) (bytes_of_columns n (Z / 2 ^ 64)) 8 refl in
+    let others : drop 8 (to_be_bytes w64 (Z % 2 ^ 64) ++ bytes_of_columns n (Z / 2 ^ 64))
+    ≡ bytes_of_columns n (Z / 2 ^ 64) = drop_at (to_be_bytes w64 (Z % 2 ^ 64)) (bytes_of_columns n (Z / 2 ^ 64)) 8 refl in
     ap (λ (l : List ℕ). from_be_bytes w64 l + 2 ^ 64 * columns_of_bytes n (drop 8 (to_be_bytes w64 (Z % 2 ^ 64) ++ bytes_of_columns n (Z / 2 ^ 64)))) first
     ∙ ap (λ (l : List ℕ). from_be_bytes w64 (to_be_bytes w64 (Z % 2 ^ 64)) + 2 ^ 64 * columns_of_bytes n l) others
     ∙ ap (λ (x : ℕ). x + 2 ^ 64 * columns_of_bytes n (bytes_of_columns n (Z / 2 ^ 64))) (word_again Z)
@@ -122,7 +124,8 @@ padded-by_last starts n columns last plane fits words all is =
           let low : from_be_bytes w64 (get_or (first_chunks 8 (suc n) plane) n []) < 2 ^ columns = omega (arith, lt, is) in
           subst (λ (k : ℕ). columns_of_bytes k plane < 2 ^ columns_for starts) words (subst (λ (k : ℕ). columns_of_bytes (suc n) plane < 2 ^ k) all (p.1 low)),
       λ h.
-          let few : columns_of_bytes (suc n) plane < 2 ^ (64 * n + columns) = subst (λ (k : ℕ). columns_of_bytes (suc n) plane < 2 ^ k) (sym all) (subst (λ (k : ℕ). columns_of_bytes k plane < 2 ^ columns_for starts) (sym words) h) in
+          let few : columns_of_bytes (suc n) plane < 2 ^ (64 * n + columns) = subst (λ (k : ℕ). columns_of_bytes (suc n) plane < 2 ^ k) (sym all)
+          (subst (λ (k : ℕ). columns_of_bytes k plane < 2 ^ columns_for starts) (sym words) h) in
           let low = p.0 few in
           let lt : last < 1 * 2 ^ columns = omega (arith, low, is) in
           let less : last / 2 ^ columns < 1 = at.1 lt in

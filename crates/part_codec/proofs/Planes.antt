@@ -1,5 +1,6 @@
 -- Planes that are read one after the other into one list of words.
-use Rattle.std.proofs.Common.{◌≡◌, ℕ, zero, suc, ◌+◌, ◌-◌, ◌*◌, ◌/◌, ◌^◌, ◌<◌, ◌≤◌, Result, Ok, Err, List, [], ◌∷◌, ◌++◌, length, get_or, drop, true, refl, sym, ap, ◌∙◌, subst, length-append, below_more, arith}
+use Rattle.std.proofs.Common.{◌≡◌, ℕ, zero, suc, ◌+◌, ◌-◌, ◌*◌, ◌/◌, ◌^◌, ◌<◌, ◌≤◌, Result, Ok, Err, List, [], ◌∷◌, ◌++◌, length, get_or, drop, true, refl, sym}
+use Rattle.std.proofs.Common.{ap, ◌∙◌, subst, length-append, below_more, arith}
 use Rattle.std.specs.Prelude.{map}
 use Rattle.std.specs.List.{range_with_len}
 use Rattle.std.specs.Int.{w64, from_be_bytes}
@@ -82,7 +83,8 @@ none_read starts words is = record {
 
 -- ---- the loop that reads them
 
-plane-of_bytes : (name : Field) (starts : ℕ) (bytes : List ℕ) (p : ℕ) (x : List ℕ) (q : ℕ) → plane_bytes name starts bytes p ≡ Ok (x, q) → plane name starts bytes p ≡ Ok (columns_of_bytes (words_for starts) x, q)
+plane-of_bytes : (name : Field) (starts : ℕ) (bytes : List ℕ) (p : ℕ) (x : List ℕ) (q : ℕ) → plane_bytes name starts bytes p ≡ Ok (x, q)
+    → plane name starts bytes p ≡ Ok (columns_of_bytes (words_for starts) x, q)
 unfolding plane
 plane-of_bytes name starts bytes p x q h = ap (λ (r : Result (List ℕ × ℕ) LayoutFault). then_read r (λ b. whole (columns_of_bytes (words_for starts) b)) bytes) h
 
@@ -106,9 +108,11 @@ module _ (name : Field) (starts count i : ℕ) (words : List ℕ) (bytes : List 
 
     pub one_more : plane_bytes name starts bytes p ≡ Ok (x, q) → with_front (columns_of starts (i + 1) more) (left name starts (count - (i + 1)) bytes q) ≡ total
     one_more h =
-        let front : columns_of starts (i + 1) more ≡ columns_of starts i words ++ columns_of_bytes (words_for starts) x ∷ [] = ap (columns_of starts (i + 1)) longer_is ∙ columns-more starts i words x are in
+        let front : columns_of starts (i + 1) more ≡ columns_of starts i words
+        ++ columns_of_bytes (words_for starts) x ∷ [] = ap (columns_of starts (i + 1)) longer_is ∙ columns-more starts i words x are in
         ap (λ (l : List ℕ). with_front l (left name starts (count - (i + 1)) bytes q)) front
-        ∙ goes_on (λ (s : Unit {0}). plane name starts) (λ s Z. s) (columns_of starts i words) count i tt bytes p (columns_of_bytes (words_for starts) x) q total lt (plane-of_bytes name starts bytes p x q h) so_far
+        ∙ goes_on (λ (s : Unit {0}). plane name starts) (λ s Z. s) (columns_of starts i words) count i tt bytes p (columns_of_bytes (words_for starts) x) q
+        total lt (plane-of_bytes name starts bytes p x q h) so_far
 
     pub one_more_padded : is_padded starts x ≡ true → AreRead starts (i + 1) more
     one_more_padded padded = subst (AreRead starts (i + 1)) (sym longer_is) (are_read-more starts i words x are padded)

@@ -3,6 +3,8 @@
 use Rattle.std.specs.Prelude.{◌≡◌, ℕ, ◌<◌, ◌≤◌, ◌^◌, List, length, Option, Some, None, true, All}
 use Rattle.sha2.specs.Sha256.{sha256}
 use Rattle.octets_core.specs.Linked.{Linked, is_after}
+use Rattle.equation_core.specs.declared.hash.TheConstants.{MAX_PLANES}
+use Rattle.equation_core.specs.declared.sizes.TheConstants.{MAX_STARTS}
 use Rattle.equation_core.specs.Sizes.{columns_for}
 use Rattle.ribbon_core.specs.PlaneWords.{PlaneColumns}
 use Rattle.ident_core.specs.HeadFields.{HeadFields, IsHead}
@@ -19,7 +21,7 @@ use Rattle.part_codec.specs.PartText.{unsealed_text}
 -- no column stands behind the last one
 pub record PlanesFit (p : PlaneColumns) : Type 0 where
   pub some_starts : 1 ≤ p.starts
-  pub few_starts : p.starts ≤ 4718593
+  pub few_starts : p.starts ≤ MAX_STARTS
   pub padding : All (λ Z. Z < 2 ^ columns_for p.starts) p.columns
 
 pub record StageFits (s : Stage) : Type 0 where
@@ -30,7 +32,7 @@ pub record StageFits (s : Stage) : Type 0 where
 pub record ApproxFits (s : Stage) : Type 0 where
   pub stage : StageFits s
   pub some : 1 ≤ length s.planes.columns
-  pub few : length s.planes.columns ≤ 16
+  pub few : length s.planes.columns ≤ MAX_PLANES
 
 abbrev pub FirstFits : Option Stage → Type 0
 FirstFits None = Unit {0}

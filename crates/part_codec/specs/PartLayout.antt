@@ -10,8 +10,13 @@ use Rattle.octets_core.specs.declared.field.Field.{Field}
 use Rattle.octets_core.specs.declared.field.Field.TheVariants as fields
 use Rattle.octets_core.specs.declared.fault.LayoutFault.{LayoutFault}
 use Rattle.octets_core.specs.declared.fault.Why.TheVariants as why
+use Rattle.equation_core.specs.declared.hash.TheConstants.{MAX_PLANES}
+use Rattle.equation_core.specs.declared.sizes.TheConstants.{MAX_STARTS}
 use Rattle.equation_core.specs.Sizes.{words_for}
 use Rattle.ribbon_core.specs.PlaneWords.{PlaneColumns}
+use Rattle.ident_core.specs.declared.bounds.TheConstants.{MAX_RANGES}
+use Rattle.ident_core.specs.declared.fault.RangesFault.{RangesFault}
+use Rattle.ident_core.specs.declared.fault.RangesFault.TheVariants as range_faults
 use Rattle.ident_core.specs.declared.kind.Kind.{Kind}
 use Rattle.ident_core.specs.declared.kind.Kind.TheVariants as kinds
 use Rattle.ident_core.specs.HeadFields.{HeadFields, zero_key}
@@ -19,6 +24,7 @@ use Rattle.ident_core.specs.RangeLayout.{ranges}
 use Rattle.card_core.specs.declared.block.Block.{Block}
 use Rattle.card_core.specs.declared.block.Body.{Body}
 use Rattle.card_core.specs.declared.block.Body.TheVariants as bodies
+use Rattle.card_core.specs.declared.part.TheConstants.{MAX_BLOCKS}
 use Rattle.card_core.specs.declared.stage.Stage.{Stage}
 use Rattle.card_core.specs.MixedFields.{MixedFields}
 use Rattle.card_core.specs.PartFields.{PartFields}
@@ -30,6 +36,11 @@ use Rattle.part_codec.specs.declared.fault.PartFault.TheVariants as faults
 -- what a function that reads off a cursor did, unless memory was wanted
 abbrev pub Reads : {X A : Type 0} → (X → A) → Layout PartFault A → Position → Position → Result X PartFault → Type 0
 Reads view layout old new result = ReadsUnless faults.NoMemory view layout old new result
+
+-- a fault of ranges, as one of a part
+abbrev pub of_ranges : RangesFault → PartFault
+of_ranges (range_faults.Layout f) = faults.Layout f
+of_ranges range_faults.NoMemory = faults.NoMemory
 
 -- a layout whose faults are those of its fields
 abbrev pub fielded : {A : Type 0} → Layout LayoutFault A → Layout PartFault A
@@ -50,7 +61,7 @@ head = do
   kind ← number fields.PartKind w8 0 1
   epoch ← number fields.PartEpoch w64 0 (2 ^ 64 - 1)
   parent ← key fields.PartParent (is_parent kind)
-  count ← number fields.PartRanges w16 0 1024
+  count ← number fields.PartRanges w16 0 MAX_RANGES
   list ← ranges count
   whole (record { kind = kind_of kind; epoch = epoch; parent = parent; ranges = list })
 
@@ -70,7 +81,7 @@ columns name starts count = repeated (λ (s : Unit {0}). plane name starts) (λ 
 -- so many planes, and their starts before them
 unfoldable pub planes : Field → Field → ℕ → Layout LayoutFault PlaneColumns
 planes starts_name plane_name count = do
-  starts ← number starts_name w32 1 4718593
+  starts ← number starts_name w32 1 MAX_STARTS
   list ← columns plane_name starts count
   whole (record { starts = starts; columns = list })
 
@@ -93,7 +104,7 @@ exact = do
 
 unfoldable pub mixed : Layout LayoutFault MixedFields
 mixed = do
-  k ← number fields.BlockK w8 0 16
+  k ← number fields.BlockK w8 0 MAX_PLANES
   first ← approx k
   second ← exact
   whole (record { approx = first; exact = second })
@@ -122,7 +133,7 @@ blocks count = repeated block (λ previous b. Some b.issuer) count None
 unfoldable pub unsealed : Layout PartFault PartFields
 unsealed = do
   h ← fielded head
-  count ← fielded (number fields.PartIssuers w32 0 65535)
+  count ← fielded (number fields.PartIssuers w32 0 MAX_BLOCKS)
   list ← blocks count
   whole (record { head = h; blocks = list })
 

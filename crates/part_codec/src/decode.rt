@@ -3,14 +3,17 @@
 ghost use Rattle.std.specs.Prelude.{◌≡◌, ◌++◌, ◌≤◌, ◌*◌, ◌/◌, ℕ, List, length, map, take, Ok, IfOk, OnOk, IfErr, true};
 ghost use Rattle.std.specs.Int.{w64, from_be_bytes};
 ghost use Rattle.std.specs.Simd.{first_chunks};
-ghost use Rattle.octets_core.specs.Linked.{is_after};
+ghost use Rattle.octets_core.specs.Linked.{is_after as is_key_after};
 ghost use Rattle.octets_core.specs.Reading.{ReadsField, GivesUnless, key};
+ghost use Rattle.equation_core.specs.declared.hash.TheConstants.{MAX_PLANES};
+ghost use Rattle.equation_core.specs.declared.sizes.TheConstants.{MAX_STARTS};
 ghost use Rattle.equation_core.specs.Sizes.{words_for as words_of};
-ghost use Rattle.ident_core.specs.Coverage.{AreRanges};
-ghost use Rattle.ident_core.specs.RangeLayout.{ranges as ranges_layout};
 ghost use Rattle.card_core.specs.PartFields.{AreBlocks};
 ghost use Rattle.part_codec.specs.SealedFields.{SealedFields};
-ghost use Rattle.part_codec.specs.PartLayout.{Reads, fielded, head, plane_bytes as plane_layout, columns as columns_layout, planes as planes_layout, approx as approx_layout, exact as exact_layout, mixed as mixed_layout, body_of as body_layout, block, blocks as blocks_layout, unsealed, part, kind_of, is_parent};
+ghost use Rattle.part_codec.specs.PartLayout.{Reads, fielded, head, kind_of, is_parent, plane_bytes as plane_layout};
+ghost use Rattle.part_codec.specs.PartLayout.{columns as columns_layout, planes as planes_layout};
+ghost use Rattle.part_codec.specs.PartLayout.{approx as approx_layout, exact as exact_layout, mixed as mixed_layout};
+ghost use Rattle.part_codec.specs.PartLayout.{body_of as body_layout, block, blocks as blocks_layout, unsealed, part};
 ghost use Rattle.part_codec.specs.PlaneBytes.{is_padded as are_padded};
 ghost use Rattle.part_codec.specs.PartText.{spelling};
 ghost use Rattle.part_codec.specs.Fitting.{Fits};
@@ -19,31 +22,14 @@ ghost use Rattle.part_codec.specs.Offsets.{offset_in_part};
 use crate::fault::PartFault;
 use crate::sealed::Sealed;
 use card_core::{Block, Body, MAX_BLOCKS, Mixed, Part, Stage};
-use equation_core::words_for;
-use ident_core::{Head, Kind, Range, read_range};
+use equation_core::{MAX_PLANES, MAX_STARTS, words_for};
+use ident_core::{Head, Kind, MAX_RANGES, read_ranges};
 use octets_core::{
-    Cursor, Field, Key32, LayoutFault, NoMemory, Why, read_digest, read_key, read_magic, read_u8,
-    read_u16, read_u32, read_u64,
+    Cursor, Field, Key32, LayoutFault, NoMemory, Why, is_after, read_digest, read_key, read_magic,
+    read_u8, read_u16, read_u32, read_u64,
 };
 use ribbon_core::Planes;
 use std::alloc::Global;
-
-/// The most starts of a stage.
-const MAX_STARTS: u32 = 4_718_593;
-
-fn ranges_of(alloc: Global, cursor: &mut Cursor<'_>, count: u16) -> Result<Vec<Range>, PartFault>
-    ensures exact { Reads (λ v. v.items) (fielded (ranges_layout count)) cursor.old cursor.new result }
-    ensures facts { IfOk result (λ v. AreRanges v.items × (length v.items ≡ count)) }
-{
-    let mut ranges = Vec::with_capacity(alloc, count as usize)?;
-    let mut previous = None;
-    for _ in 0..count {
-        let range = read_range(cursor, previous)?;
-        previous = Some(range.log);
-        ranges.push(range)?;
-    }
-    Ok(ranges)
-}
 
 fn kind(number: u8) -> Kind
     ensures { result ≡ kind_of number }
@@ -83,29 +69,20 @@ fn head_of(alloc: Global, cursor: &mut Cursor<'_>) -> Result<Head, PartFault>
     let number = read_u8(cursor, Field::PartKind, 0, 1)?;
     let epoch = read_u64(cursor, Field::PartEpoch, 0, u64::MAX)?;
     let parent = parent_of(cursor, number)?;
-    let count = read_u16(cursor, Field::PartRanges, 0, 1024)?;
-    let ranges = ranges_of(alloc, cursor, count)?;
+    let count = read_u16(cursor, Field::PartRanges, 0, MAX_RANGES as u16)?;
+    let ranges = read_ranges(alloc, cursor, count)?;
     Ok(Head::new(kind(number), epoch, parent, ranges))
-}
-
-fn is_above(issuer: &Key32, previous: &Option<Key32>) -> bool
-    ensures { result ≡ is_after previous.now issuer.now }
-{
-    match previous {
-        None => true,
-        Some(previous) => previous.cmp(issuer).is_lt(),
-    }
 }
 
 /// The issuer of a block, which is above that of the block before. A call of its own, since most of a part is issuers,
 /// and the loop over blocks is much faster where this is compiled into it.
 #[tactic(auto, unfolding(octets_core::specs::Layout::bytes_field))]
 fn issuer_of(cursor: &mut Cursor<'_>, previous: Option<Key32>) -> Result<Key32, LayoutFault>
-    ensures { ReadsField (λ x. x) (key Field.BlockIssuer (is_after previous)) cursor.old cursor.new result }
+    ensures { ReadsField (λ x. x) (key Field.BlockIssuer (is_key_after previous)) cursor.old cursor.new result }
 {
     let at = cursor.at();
     let issuer = read_key(cursor, Field::BlockIssuer)?;
-    if !is_above(&issuer, &previous) {
+    if !is_after(previous, &issuer) {
         return Err(LayoutFault::new(at, Field::BlockIssuer, Why::Value));
     }
     Ok(issuer)
@@ -114,7 +91,7 @@ fn issuer_of(cursor: &mut Cursor<'_>, previous: Option<Key32>) -> Result<Key32, 
 /// Whether the bits of a plane behind its last column are zero.
 fn is_padded(starts: u32, plane: &[u8]) -> bool
     requires some { 1 ≤ starts }
-    requires few { starts ≤ 4718593 }
+    requires few { starts ≤ MAX_STARTS }
     requires len { length plane.now ≡ 8 * words_of starts }
     ensures { result ≡ are_padded starts plane.now }
 {
@@ -133,7 +110,7 @@ fn plane_bytes<'a>(
     starts: u32,
 ) -> Result<&'a [u8], LayoutFault>
     requires some { 1 ≤ starts }
-    requires few { starts ≤ 4718593 }
+    requires few { starts ≤ MAX_STARTS }
     ensures exact { ReadsField (λ bytes. bytes.now) (plane_layout field starts) cursor.old cursor.new result }
     ensures len { IfOk result (λ bytes. length bytes.now ≡ 8 * words_of starts) }
     ensures padded { IfOk result (λ bytes. are_padded starts bytes.now ≡ true) }
@@ -168,9 +145,9 @@ fn columns_of(
     count: u8,
 ) -> Result<Planes, PartFault>
     requires some_starts { 1 ≤ starts }
-    requires few_starts { starts ≤ 4718593 }
+    requires few_starts { starts ≤ MAX_STARTS }
     requires some_planes { 1 ≤ count }
-    requires few_planes { count ≤ 16 }
+    requires few_planes { count ≤ MAX_PLANES }
     ensures exact { Reads (λ p. p.columns) (fielded (columns_layout field starts count)) cursor.old cursor.new result }
     ensures starts { IfOk result (λ p. p.starts ≡ starts) }
     ensures count { IfOk result (λ p. length p.columns ≡ count) }
@@ -193,7 +170,7 @@ fn planes_of(
     count: u8,
 ) -> Result<Planes, PartFault>
     requires some { 1 ≤ count }
-    requires few { count ≤ 16 }
+    requires few { count ≤ MAX_PLANES }
     ensures exact { Reads (λ p. p) (fielded (planes_layout starts plane count)) cursor.old cursor.new result }
     ensures count { IfOk result (λ p. length p.columns ≡ count) }
 {
@@ -204,7 +181,7 @@ fn planes_of(
 /// The approximate stage, if it has planes.
 #[tactic(auto, unfolding(crate::specs::PartLayout::approx_stage))]
 fn approx_of(alloc: Global, cursor: &mut Cursor<'_>, count: u8) -> Result<Option<Stage>, PartFault>
-    requires { count ≤ 16 }
+    requires { count ≤ MAX_PLANES }
     ensures { Reads (λ stage. stage) (fielded (approx_layout count)) cursor.old cursor.new result }
 {
     if count == 0 {
@@ -235,7 +212,7 @@ fn exact_of(alloc: Global, cursor: &mut Cursor<'_>) -> Result<Stage, PartFault>
 fn mixed_of(alloc: Global, cursor: &mut Cursor<'_>) -> Result<Mixed, PartFault>
     ensures { Reads (λ mixed. mixed) (fielded mixed_layout) cursor.old cursor.new result }
 {
-    let count = read_u8(cursor, Field::BlockK, 0, 16)?;
+    let count = read_u8(cursor, Field::BlockK, 0, MAX_PLANES)?;
     let approx = approx_of(alloc, cursor, count)?;
     let exact = exact_of(alloc, cursor)?;
     Ok(Mixed::new(approx, exact))
@@ -307,7 +284,8 @@ pub fn decode_part(alloc: Global, bytes: &[u8]) -> Result<(Sealed, usize), PartF
     // It ends where its text does.
     ensures takes { IfOk result (λ x. x.1 ≡ length (spelling x.0)) }
     // What is spelled so is read, whatever follows, unless memory is wanted.
-    ensures only { (s : SealedFields) (rest : List ℕ) → Fits s → bytes.now ≡ spelling s ++ rest → GivesUnless PartFault.NoMemory (λ x. x) result (Ok (s, length (spelling s))) }
+    ensures only { (s : SealedFields) (rest : List ℕ) → Fits s → bytes.now ≡ spelling s ++ rest
+        → GivesUnless PartFault.NoMemory (λ x. x) result (Ok (s, length (spelling s))) }
     // Which fault it is.
     ensures exact { GivesUnless PartFault.NoMemory (λ x. x) result (part bytes.now 0) }
     ensures len { IfOk result (λ x. x.1 ≤ length bytes.now) }

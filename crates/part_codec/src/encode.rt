@@ -1,17 +1,19 @@
 //! Parts as bytes.
 
-ghost use Rattle.std.specs.Prelude.{◌≡◌, ◌++◌, ◌≤◌, ◌<◌, ◌*◌, length, slice_index, OnOk, IfOk, flat_map, All};
+ghost use Rattle.std.specs.Prelude.{◌≡◌, ◌++◌, ◌≤◌, ◌<◌, ◌+◌, ◌*◌, length, slice_index, OnOk, IfOk, flat_map, All};
 ghost use Rattle.std.specs.Int.{w8, to_be_bytes};
 ghost use Rattle.equation_core.specs.Sizes.{words_for as words_of};
-ghost use Rattle.ident_core.specs.RangeText.{range_text, RangeFits};
-ghost use Rattle.part_codec.specs.PartText.{head_text, planes_text, stage_text, width_of, approx_text, mixed_text, body_text, block_text, unsealed_text, spelling};
+ghost use Rattle.card_core.specs.declared.part.TheConstants.{MAX_BLOCKS};
+ghost use Rattle.part_codec.specs.declared.encode.TheConstants.{MAX_STAGE, MAX_BLOCK};
+ghost use Rattle.part_codec.specs.PartText.{head_text, planes_text, stage_text, width_of, approx_text, mixed_text};
+ghost use Rattle.part_codec.specs.PartText.{body_text, block_text, unsealed_text, spelling};
 ghost use Rattle.part_codec.specs.PlaneBytes.{bytes_of_columns};
 ghost use Rattle.part_codec.specs.Fitting.{PlanesFit, StageFits, FirstFits, MixedFits, BodyFits, BlockFits, FitsHead, FitsPart, Fits};
 
 use crate::sealed::{Sealed, kind_byte, mode_byte};
 use card_core::{Block, Body, Mixed, Part, Stage};
 use equation_core::words_for;
-use ident_core::{Head, Range};
+use ident_core::{Head, RANGE_BYTES, put_ranges};
 use octets_core::{NoMemory, Steps, put_bytes, put_u8, put_u16, put_u32, put_u64};
 use ribbon_core::Planes;
 use std::alloc::Global;
@@ -21,31 +23,14 @@ use std::sync::ledger::{Blank, Ledger};
 /// The bytes of a part with neither ranges nor blocks.
 const FRAME: usize = 88;
 
-/// The bytes of a range.
-const RANGE: usize = 48;
-
 /// The bytes of a stage without its planes.
 const STAGE: usize = 5;
 
-fn put_range(out: &mut Vec<u8>, range: &Range) -> Result<(), NoMemory>
-    ensures text { OnOk result (out.new.items ≡ out.old.items ++ range_text range.now) }
-    ensures fits { OnOk result (RangeFits range.now) }
-{
-    put_bytes(out, range.log.bytes())?;
-    put_u64(out, range.from)?;
-    put_u64(out, range.to)?;
-    Ok(())
-}
+/// No stage has more bytes.
+const MAX_STAGE: usize = 10_000_000;
 
-fn put_ranges(out: &mut Vec<u8>, ranges: &[Range]) -> Result<(), NoMemory>
-    ensures text { OnOk result (out.new.items ≡ out.old.items ++ flat_map range_text ranges.now) }
-    ensures fits { OnOk result (All RangeFits ranges.now) }
-{
-    for range in ranges {
-        put_range(out, range)?;
-    }
-    Ok(())
-}
+/// No block has more bytes: its issuer, its mode, a count of planes and two stages.
+const MAX_BLOCK: usize = 34 + 2 * MAX_STAGE;
 
 #[tactic(auto, unfolding(crate::specs::PartText::head_text))]
 fn put_head(out: &mut Vec<u8>, head: &Head) -> Result<(), NoMemory>
@@ -175,7 +160,7 @@ fn put_unsealed(out: &mut Vec<u8>, part: &Part) -> Result<(), NoMemory>
 #[tactic(auto, using(crate::proofs::Lengths::length_stage))]
 fn stage_len(stage: &Stage) -> usize
     ensures value { result ≡ length (stage_text stage.now) }
-    ensures few { result ≤ 10000000 }
+    ensures few { result ≤ MAX_STAGE }
 {
     let planes = &stage.planes;
     STAGE + planes.planes() as usize * (8 * words_for(planes.starts()))
@@ -183,7 +168,7 @@ fn stage_len(stage: &Stage) -> usize
 
 fn approx_len(mixed: &Mixed) -> usize
     ensures value { result ≡ length (approx_text mixed.now.approx) }
-    ensures few { result ≤ 10000000 }
+    ensures few { result ≤ MAX_STAGE }
 {
     match mixed.approx() {
         None => 0,
@@ -194,7 +179,7 @@ fn approx_len(mixed: &Mixed) -> usize
 #[tactic(auto, using(crate::proofs::Lengths::length_mixed))]
 fn body_len(body: &Body) -> usize
     ensures value { result ≡ length (body_text body.now) }
-    ensures few { result ≤ 20000001 }
+    ensures few { result ≤ 1 + 2 * MAX_STAGE }
 {
     match body {
         Body::Clean | Body::Every => 0,
@@ -204,16 +189,16 @@ fn body_len(body: &Body) -> usize
 
 fn block_len(block: &Block) -> usize
     ensures value { result ≡ length (block_text block.now) }
-    ensures few { result ≤ 20000034 }
+    ensures few { result ≤ MAX_BLOCK }
 {
     block.issuer.bytes().len() + 1 + body_len(&block.body)
 }
 
 // The bytes of all blocks.
 fn blocks_len(blocks: &[Block]) -> usize
-    requires { length blocks.now ≤ 65535 }
+    requires { length blocks.now ≤ MAX_BLOCKS }
     ensures value { result ≡ length (flat_map block_text blocks.now) }
-    ensures few { result ≤ 65535 * 20000034 }
+    ensures few { result ≤ MAX_BLOCKS * MAX_BLOCK }
 {
     let mut len = 0;
     for block in blocks {
@@ -232,7 +217,10 @@ pub fn encode_part(alloc: Global, sealed: &Sealed) -> Result<Vec<u8>, NoMemory>
     let part = sealed.part();
     let ranges = part.head().ranges();
     let blocks = part.blocks();
-    let mut out = Vec::with_capacity(alloc, FRAME + RANGE * ranges.len() + blocks_len(blocks))?;
+    let mut out = Vec::with_capacity(
+        alloc,
+        FRAME + RANGE_BYTES * ranges.len() + blocks_len(blocks),
+    )?;
     put_unsealed(&mut out, part)?;
     put_bytes(&mut out, sealed.trailer().bytes())?;
     Ok(out)

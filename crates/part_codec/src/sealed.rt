@@ -6,7 +6,8 @@ ghost use Rattle.sha2.specs.Sha256.{sha256};
 ghost use Rattle.equation_core.specs.Sizes.{words_for as words_of};
 ghost use Rattle.ident_core.specs.RangeText.{range_text};
 ghost use Rattle.part_codec.specs.PlaneBytes.{bytes_of_columns};
-ghost use Rattle.part_codec.specs.PartText.{kind_number, head_text, mode_of, planes_text, stage_text, width_of, approx_text, mixed_text, body_text, block_text, unsealed_text};
+ghost use Rattle.part_codec.specs.PartText.{kind_number, head_text, mode_of, planes_text, stage_text, width_of};
+ghost use Rattle.part_codec.specs.PartText.{approx_text, mixed_text, body_text, block_text, unsealed_text};
 ghost use Rattle.part_codec.specs.Hashing.{Hashed};
 
 use card_core::{Block, Body, Mixed, Part, Stage};

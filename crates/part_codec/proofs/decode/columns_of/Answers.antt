@@ -19,15 +19,20 @@ pub loop-preserved : goal.loop-preserved
 loop-preserved c =
     let read = c.in_ok-bytes.ensures.exact in
     record {
-      read = rw read.1 (one_more c.args.field c.args.starts c.args.count c.loop.counter c.loop.words.items c.loop.cursor.bytes c.loop.cursor.at _ c.loop-test.true c.loop.invariant.read c.push_words.new.words.items c.in_ok-bytes.bytes.now c.plane_bytes.new.cursor.at c.loop.invariant.words c.in_ok-bytes.ensures.len c.in_ok-push_words.ensures read.0);
+      read = rw read.1 (one_more c.args.field c.args.starts c.args.count c.loop.counter c.loop.words.items c.loop.cursor.bytes c.loop.cursor.at _
+          c.loop-test.true c.loop.invariant.read c.push_words.new.words.items c.in_ok-bytes.bytes.now c.plane_bytes.new.cursor.at c.loop.invariant.words
+          c.in_ok-bytes.ensures.len c.in_ok-push_words.ensures read.0);
       same = read.1 ∙ c.loop.invariant.same;
-      words = one_more_padded c.args.field c.args.starts c.args.count c.loop.counter c.loop.words.items c.loop.cursor.bytes c.loop.cursor.at _ c.loop-test.true c.loop.invariant.read c.push_words.new.words.items c.in_ok-bytes.bytes.now c.plane_bytes.new.cursor.at c.loop.invariant.words c.in_ok-bytes.ensures.len c.in_ok-push_words.ensures c.in_ok-bytes.ensures.padded;
+      words = one_more_padded c.args.field c.args.starts c.args.count c.loop.counter c.loop.words.items c.loop.cursor.bytes c.loop.cursor.at _ c.loop-test.true
+          c.loop.invariant.read c.push_words.new.words.items c.in_ok-bytes.bytes.now c.plane_bytes.new.cursor.at c.loop.invariant.words
+          c.in_ok-bytes.ensures.len c.in_ok-push_words.ensures c.in_ok-bytes.ensures.padded;
     }
 
 pub returns-in_err-bytes-clause-exact : goal.returns-in_err-bytes-clause-exact
 returns-in_err-bytes-clause-exact c =
     let p = err_from_is_err_and c.from_residual-in_err-bytes.result c.from_residual-in_err-bytes.ensures.1 in
-    rw (p.1, p.2) (λ wants. ap wrapped (one_fails c.args.field c.args.starts c.args.count c.loop.counter c.loop.words.items c.loop.cursor.bytes c.loop.cursor.at _ c.loop-test.true c.loop.invariant.read c.in_err-bytes.field-0.0 c.in_err-bytes.ensures.exact))
+    rw (p.1, p.2) (λ wants. ap wrapped (one_fails c.args.field c.args.starts c.args.count c.loop.counter c.loop.words.items c.loop.cursor.bytes c.loop.cursor.at
+    _ c.loop-test.true c.loop.invariant.read c.in_err-bytes.field-0.0 c.in_err-bytes.ensures.exact.0))
 
 pub returns-clause-exact : goal.returns-clause-exact
 returns-clause-exact c =

@@ -4,6 +4,7 @@ use Rattle.part_codec.proofs.encode.blocks_len.Goals as goal
 
 pub loop-block-preserved : goal.loop-block-preserved
 loop-block-preserved c = record {
-  value = longer c.args.blocks.now c.loop-block.block-index c.block-item.result c.loop-block.len c.block_len-len.result c.loop-block-test.true c.block-item.is c.loop-block.invariant.value c.block_len-len.ensures.value;
+  value = longer c.args.blocks.now c.loop-block.block-index c.block-item.result c.loop-block.len c.block_len-len.result c.loop-block-test.true c.block-item.is
+      c.loop-block.invariant.value c.block_len-len.ensures.value;
   few = omega (arith, c.loop-block.invariant.few, c.block_len-len.ensures.few);
 }
