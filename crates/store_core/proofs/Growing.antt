@@ -1,8 +1,9 @@
 -- A chain takes a part exactly where the parts together are a chain.
-use Rattle.std.proofs.Common.{◌≡◌, ℕ, suc, ◌<◌, ◌≤◌, Bool, true, false, cond, get_or, ◌-◌, List, [], ◌∷◌, ◌++◌, length, Option, Some, None, refl, sym, ap, ◌∙◌, length-append, arith}
+use Rattle.std.proofs.Common.{◌≡◌, ℕ, suc, ◌<◌, ◌≤◌, Bool, true, false, not, get_or, ◌-◌, List, [], ◌∷◌, ◌++◌, length, Option, Some, None, refl, sym, ap, ◌∙◌, length-append, arith}
 use Rattle.std.specs.Prelude.{IsNone}
-use Rattle.std.specs.Option.{option_map, is_some}
-use Rattle.std.proofs.lemmas.Bool.{leb-false, lt-leb, le-leb}
+use Rattle.std.specs.Bool.{then_some}
+use Rattle.std.specs.Option.{option_map, option_or}
+use Rattle.std.proofs.lemmas.Bool.{leb-false, lt-leb}
 use Rattle.std.proofs.lemmas.Slice.Eq.{bytes_eq-Decides}
 use Rattle.octets_core.specs.Linked.{Linked}
 use Rattle.ident_core.specs.declared.kind.Kind.{Kind}
@@ -12,28 +13,28 @@ use Rattle.ident_core.proofs.Within.{within-iff}
 use Rattle.part_codec.specs.SealedFields.{SealedFields}
 use Rattle.store_core.specs.declared.chain.Refusal.{Refusal}
 use Rattle.store_core.specs.declared.chain.Refusal.TheVariants as refusals
-use Rattle.store_core.specs.Chain.{Follows, IsChain, IsStore, newest_of, first_or, not_delta, wrong_parent, old_epoch, broken, broken_behind, full, refusal_of}
+use Rattle.store_core.specs.Chain.{Follows, IsChain, IsStore, newest_of, not_delta, wrong_parent, old_epoch, broken, broken_behind, full, refusal_of}
 
 -- ---- two parts
 
-none_both : (a b : Option Refusal) → first_or a b ≡ None → (a ≡ None) × (b ≡ None)
+none_both : (a b : Option Refusal) → option_or a b ≡ None → (a ≡ None) × (b ≡ None)
 none_both None b h = (refl, h)
 none_both (Some why) b h = absurd cc
 
-both_none : (a b : Option Refusal) → a ≡ None → b ≡ None → first_or a b ≡ None
+both_none : (a b : Option Refusal) → a ≡ None → b ≡ None → option_or a b ≡ None
 both_none a b h k = rw h k
 
 is_delta : (k : Kind) → not_delta k ≡ None → k ≡ kinds.Delta
 is_delta kinds.Snapshot h = absurd cc
 is_delta kinds.Delta h = refl
 
-not_refused : (b : Bool) (why : Refusal) → cond b (Some why) None ≡ None → b ≡ false
+not_refused : (b : Bool) (why : Refusal) → then_some b why ≡ None → b ≡ false
 not_refused true why h = absurd cc
 not_refused false why h = refl
 
-is_passed : (b : Bool) (why : Refusal) → cond b None (Some why) ≡ None → b ≡ true
-is_passed true why h = refl
-is_passed false why h = absurd cc
+is_same : (b : Bool) → not b ≡ false → b ≡ true
+is_same true h = refl
+is_same false h = absurd cc
 
 none_outside : (o : Option (List ℕ)) → option_map refusals.CoverageShrinks o ≡ None → o ≡ None
 none_outside None h = refl
@@ -54,7 +55,7 @@ unbroken-Follows held given h =
     let c = none_both _ _ b.1 in
     record {
       kind = is_delta given.part.head.kind a.0;
-      parent = sym ((bytes_eq-Decides held.trailer given.part.head.parent).0 (is_passed _ _ b.0));
+      parent = sym ((bytes_eq-Decides held.trailer given.part.head.parent).0 (is_same _ (not_refused _ _ b.0)));
       epoch = leb-false given.part.head.epoch held.part.head.epoch (not_refused _ _ c.0);
       coverage = (within-iff held.part.head.ranges given.part.head.ranges (first_outside held.part.head.ranges given.part.head.ranges) refl).0 (is-none _ (none_outside _ c.1));
     }
@@ -89,9 +90,9 @@ newest-at (first ∷ x ∷ others) d some =
 pub newest-found : (parts : List SealedFields) (i : ℕ) (s : SealedFields) → 1 ≤ length parts → i ≡ length parts - 1 → s ≡ get_or parts i s → newest_of parts ≡ Some s
 newest-found parts i s some at is = newest-at parts s some ∙ ap (λ (k : ℕ). Some (get_or parts k s)) (sym at) ∙ ap (λ (t : SealedFields). Some t) (sym is)
 
-pub refusal-is : (parts : List SealedFields) (held given : SealedFields) → newest_of parts ≡ Some held → refusal_of parts given ≡ first_or (broken held given) (full (length parts))
+pub refusal-is : (parts : List SealedFields) (held given : SealedFields) → newest_of parts ≡ Some held → refusal_of parts given ≡ option_or (broken held given) (full (length parts))
 unfolding refusal_of
-refusal-is parts held given is = ap (λ (o : Option SealedFields). first_or (broken_behind o given) (full (length parts))) is
+refusal-is parts held given is = ap (λ (o : Option SealedFields). option_or (broken_behind o given) (full (length parts))) is
 
 abbrev Links : SealedFields → List SealedFields → Type 0
 Links first others = Linked Follows (λ held given. given) first others
@@ -121,7 +122,7 @@ taken-room parts p h = leb-false 64 (length parts) (not_refused _ _ (none_both (
 pub taken-chain : (parts : List SealedFields) (p : SealedFields) → IsChain parts → 1 ≤ length parts → refusal_of parts p ≡ None → IsChain (parts ++ p ∷ [])
 taken-chain [] p chain some h = absurd (omega arith)
 taken-chain (first ∷ others) p chain some h =
-    let none : first_or (broken (last_of first others) p) (full (length (first ∷ others))) ≡ None = sym (refusal-is (first ∷ others) (last_of first others) p (newest-last first others)) ∙ h in
+    let none : option_or (broken (last_of first others) p) (full (length (first ∷ others))) ≡ None = sym (refusal-is (first ∷ others) (last_of first others) p (newest-last first others)) ∙ h in
     (chain.0, links-longer first others p chain.1 (unbroken-Follows (last_of first others) p (none_both _ _ none).0))
 
 pub chain-taken : (parts : List SealedFields) (p : SealedFields) → IsChain (parts ++ p ∷ []) → 1 ≤ length parts → length parts < 64 → refusal_of parts p ≡ None
@@ -139,34 +140,3 @@ taken-store parts p store h =
       some = omega (arith, length-append parts (p ∷ []), store.some);
       few = omega (arith, length-append parts (p ∷ []), room);
     }
-
--- ---- the reason of a refusal
-
-pub not-some : (o : Option Refusal) → is_some o ≡ false → o ≡ None
-not-some None h = refl
-not-some (Some why) h = absurd cc
-
-pub not-none : (o : Option Refusal) → is_some o ≡ true → o ≡ None → ⊥
-not-none None h none = absurd cc
-not-none (Some why) h none = absurd cc
-
-none_first : (a b : Option Refusal) → a ≡ None → first_or a b ≡ b
-none_first a b h = rw h refl
-
-some_first : (a b : Option Refusal) → (a ≡ None → ⊥) → first_or a b ≡ a
-some_first None b h = absurd (h refl)
-some_first (Some why) b h = refl
-
-pub refusal-broken : (parts : List SealedFields) (held given : SealedFields) (o : Option Refusal) → newest_of parts ≡ Some held → o ≡ broken held given → (o ≡ None → ⊥) → o ≡ refusal_of parts given
-refusal-broken parts held given o newest is some =
-    is ∙ sym (some_first (broken held given) (full (length parts)) (λ h. some (is ∙ h))) ∙ sym (refusal-is parts held given newest)
-
-pub refusal-full : (parts : List SealedFields) (held given : SealedFields) (o : Option Refusal) → newest_of parts ≡ Some held → o ≡ broken held given → o ≡ None → 64 ≤ length parts → Some refusals.Full ≡ refusal_of parts given
-refusal-full parts held given o newest is none many =
-    let all : full (length parts) ≡ Some refusals.Full = rw (le-leb 64 (length parts) many) refl in
-    sym (refusal-is parts held given newest ∙ none_first (broken held given) (full (length parts)) (sym is ∙ none) ∙ all)
-
-pub refusal-open : (parts : List SealedFields) (held given : SealedFields) (o : Option Refusal) → newest_of parts ≡ Some held → o ≡ broken held given → o ≡ None → length parts < 64 → o ≡ refusal_of parts given
-refusal-open parts held given o newest is none few =
-    let room : full (length parts) ≡ None = rw (lt-leb 64 (length parts) few) refl in
-    none ∙ sym (refusal-is parts held given newest ∙ none_first (broken held given) (full (length parts)) (sym is ∙ none) ∙ room)

@@ -1,4 +1,5 @@
 pub mod Growing
+pub mod Causes
 pub mod Embedded
 pub mod Reading
 pub mod StoreTexts

@@ -1,5 +1,6 @@
 -- What is read as a chain is spelled as its text, and each of its parts fits.
-use Rattle.std.proofs.Common.{◌≡◌, ℕ, zero, suc, ◌+◌, ◌-◌, ◌≤◌, ◌^◌, Bool, true, false, cond, List, [], ◌∷◌, ◌++◌, length, take, drop, Option, Some, None, Result, Ok, Err, IfOk, refl, sym, ap, ◌∙◌, subst, append_assoc, arith}
+use Rattle.std.proofs.Common.{◌≡◌, ℕ, zero, suc, ◌+◌, ◌-◌, ◌≤◌, ◌^◌, Bool, true, false, cond, List, [], ◌∷◌, ◌++◌, length, take, drop, Option, Some, None}
+use Rattle.std.proofs.Common.{Result, Ok, Err, IfOk, refl, sym, ap, ◌∙◌, subst, append_assoc, arith}
 use Rattle.std.specs.Prelude.{All, codes, flat_map}
 use Rattle.std.specs.Int.{w8, to_be_bytes}
 use Rattle.std.specs.Str.{bytes_eq}
@@ -68,9 +69,10 @@ all-then s more one all (suc k) d lt = all k d (omega arith)
 none-read : (bytes : List ℕ) (at : ℕ) (parts : List SealedFields) → at ≤ length bytes → AreRead bytes at parts 0 parts at
 none-read bytes at parts le = ([], sym (append-nil parts), record { parts = sym (append-nil (take at bytes)); room = le }, λ k d lt. absurd (omega arith), refl)
 
-one-read : (bytes : List ℕ) (at p q : ℕ) (parts : List SealedFields) (s : SealedFields) (n : ℕ) (list : List SealedFields) (end : ℕ) → IsPlaced bytes at s p → q ≡ p → AreRead bytes q (parts ++ s ∷ []) n list end
+one-read : (bytes : List ℕ) (at p q : ℕ) (parts : List SealedFields) (s : SealedFields) (n : ℕ) (list : List SealedFields) (end : ℕ) → IsPlaced bytes at s p
+    → q ≡ p → AreRead bytes q (parts ++ s ∷ []) n list end
     → AreRead bytes at parts (suc n) list end
-one-read bytes at p q parts s n list end one same (more, is, rest, all, count) =
+one-read bytes at p q parts s n list stop one same (more, is, rest, all, count) =
     (s ∷ more, is ∙ append_assoc parts (s ∷ []) more, subst (Takes bytes at (spelling s)) (sym same) one.0 >>> rest, all-then s more one.1 all, ap suc count)
 
 chain-leaves : (n : ℕ) (parts : List SealedFields) (bytes : List ℕ) → IsBytes bytes → (at : ℕ) → at ≤ length bytes → Leaves (chain n parts) bytes at (AreRead bytes at parts n)
@@ -140,7 +142,8 @@ store-spelled bytes fits x h =
     let text : bytes ≡ store_text a.0.0 = sym (take_all a.0.1 bytes over) ∙ l.0.parts in
     subst (λ (z : List SealedFields × ℕ). (bytes ≡ store_text z.0) × All Fits z.0) is (text, l.1)
 
-pub found : (bytes : List ℕ) (parts : List SealedFields) (r : Result (List SealedFields × ℕ) StoreFault) → IsBytes bytes → store bytes 0 ≡ r → value_of r ≡ Ok parts → (bytes ≡ store_text parts) × All Fits parts
+pub found : (bytes : List ℕ) (parts : List SealedFields) (r : Result (List SealedFields × ℕ) StoreFault) → IsBytes bytes → store bytes 0 ≡ r
+    → value_of r ≡ Ok parts → (bytes ≡ store_text parts) × All Fits parts
 found bytes parts (Err e) fits read h = absurd cc
 found bytes parts (Ok x) fits read h =
     subst (λ (l : List SealedFields). (bytes ≡ store_text l) × All Fits l) (ok_is {E = StoreFault} x.0 parts h) (store-spelled bytes fits x read)

@@ -52,7 +52,8 @@ chain-read parts (s ∷ others) is some few fits before =
     let none : refusal_of parts s ≡ None = chain-taken parts s (chain-front (parts ++ s ∷ []) others longer) some (omega arith) in
     let len = length-append parts (s ∷ []) in
     subst (λ (list : List SealedFields). IsRead (chain (suc (length others)) parts) before list (spelling s ++ flat_map spelling others)) (sym again)
-    (then-read (embedded moved part) (λ x. takes (refusal_of parts x) >>= λ taken. chain (length others) (parts ++ x ∷ [])) before s ((parts ++ s ∷ []) ++ others) (spelling s) (flat_map spelling others)
+    (then-read (embedded moved part) (λ x. takes (refusal_of parts x) >>= λ taken. chain (length others) (parts ++ x ∷ [])) before s
+    ((parts ++ s ∷ []) ++ others) (spelling s) (flat_map spelling others)
     (placed-read before s (fits 0 s (omega arith)))
     (then-read (takes (refusal_of parts s)) (λ taken. chain (length others) (parts ++ s ∷ [])) (before ++ spelling s) tt ((parts ++ s ∷ []) ++ others) [] (flat_map spelling others)
     (takes-read (before ++ spelling s) (refusal_of parts s) none)
@@ -65,14 +66,21 @@ store_parts-read : (first : SealedFields) (others : List SealedFields) → IsCha
     → IsRead store_parts [] (first ∷ others) (store_text (first ∷ others))
 unfolding store_parts store_text
 store_parts-read first others is few fits =
-    let rest : IsRead (chain (length (first ∷ others) - 1) (first ∷ [])) ((((([] ++ codes "CLUBSTOR") ++ to_be_bytes w8 1) ++ to_be_bytes w8 (length (first ∷ others))) ++ spelling first)) (first ∷ others) (flat_map spelling others)
+    let rest : IsRead (chain (length (first ∷ others) - 1) (first ∷ []))
+    ((((([] ++ codes "CLUBSTOR") ++ to_be_bytes w8 1) ++ to_be_bytes w8 (length (first ∷ others))) ++ spelling first)) (first ∷ others)
+    (flat_map spelling others)
     = rw (less_one (length others)) (chain-read (first ∷ []) others is (omega arith) (omega arith) (all_later first others fits) _) in
     from_front
     (reads _ (mapped-read faults.Layout _ _ _ _ (bytes_field-read _ _ 8 (bytes_eq (codes "CLUBSTOR")) _ (codes "CLUBSTOR") refl refl))
     (reads _ (mapped-read faults.Layout _ _ _ _ (number_field-read _ _ w8 (2 ^ 8) 1 1 wide8 _ 1 (omega arith) (omega arith) (omega arith)))
     (reads _ (mapped-read faults.Layout _ _ _ _ (number_field-read _ _ w8 (2 ^ 8) 1 64 wide8 _ (length (first ∷ others)) (omega arith) few (omega arith)))
     (reads _ (first_part-read _ first (fits 0 first (omega arith)) is.0)
-    (record { more = flat_map spelling others; is = sym (append_assoc (((codes "CLUBSTOR") ++ to_be_bytes w8 1) ++ to_be_bytes w8 (length (first ∷ others))) (spelling first) (flat_map spelling others)); read = rest })))))
+    (record {
+      more = flat_map spelling others;
+      is = sym (append_assoc (((codes "CLUBSTOR") ++ to_be_bytes w8 1) ++ to_be_bytes w8 (length (first ∷ others)))
+          (spelling first) (flat_map spelling others));
+      read = rest;
+    })))))
 
 nothing_left : (bytes : List ℕ) (at : ℕ) → at ≡ length bytes → fielded end bytes at ≡ Ok (tt {0}, at)
 nothing_left bytes at is = rw (le-ltb at (length bytes) (omega arith)) refl

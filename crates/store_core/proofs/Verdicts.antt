@@ -1,5 +1,6 @@
 -- What parts say together, from what each of them says, and what asking them costs.
-use Rattle.std.proofs.Common.{◌≡◌, ℕ, ◌+◌, ◌-◌, ◌*◌, ◌<◌, ◌≤◌, Bool, true, false, cond, List, [], ◌∷◌, ◌++◌, map, length, take, get_or, Option, Some, None, refl, sym, ap, ◌∙◌, subst, length-append, arith}
+use Rattle.std.proofs.Common.{◌≡◌, ℕ, ◌+◌, ◌-◌, ◌*◌, ◌<◌, ◌≤◌, Bool, true, false, cond, List, [], ◌∷◌, ◌++◌, map, length, take, get_or, Option, Some, None}
+use Rattle.std.proofs.Common.{refl, sym, ap, ◌∙◌, subst, length-append, arith}
 use Rattle.std.specs.List.{list_any, cons_option}
 use Rattle.std.proofs.lemmas.List.{map_more, take_all}
 use Rattle.std.proofs.lemmas.List.Elements.{filter-append}
@@ -97,7 +98,8 @@ pub asked-append : (id : Identity) (ss : List Sighting) (xs ys : List PartFields
 asked-append id ss xs ys v w p0 p1 p2 w0 w1 w2 a b =
     let covers = filter-append (covers_some ss) xs ys in
     let sum : (p1 - p0) + (p2 - p1) ≡ p2 - p0 = omega (arith, a.more_probes, b.more_probes) in
-    let both : AreProbes (covering ss xs ++ covering ss ys) (p2 - p0) = subst (AreProbes (covering ss xs ++ covering ss ys)) sum (probes-append (covering ss xs) (covering ss ys) (p1 - p0) (p2 - p1) a.few_probes b.few_probes) in
+    let both : AreProbes (covering ss xs ++ covering ss ys) (p2 - p0) = subst (AreProbes (covering ss xs ++ covering ss ys)) sum
+    (probes-append (covering ss xs) (covering ss ys) (p1 - p0) (p2 - p1) a.few_probes b.few_probes) in
     record {
       value = ap (λ u. joined u w) a.value ∙ ap (joined (verdict xs id ss)) b.value ∙ sym (verdict-append xs ys id ss);
       more_probes = omega (arith, a.more_probes, b.more_probes);

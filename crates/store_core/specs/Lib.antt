@@ -1,4 +1,5 @@
 pub mod Chain
+pub mod Refusals
 pub mod Starting
 pub mod StoreLayout
 pub mod Verdict

@@ -6,6 +6,7 @@ use Rattle.octets_core.specs.Layout.{Layout, ◌>>=◌, whole, refused, embedded
 use Rattle.octets_core.specs.Reading.{number, magic, end}
 use Rattle.octets_core.specs.declared.field.Field.TheVariants as fields
 use Rattle.octets_core.specs.declared.fault.LayoutFault.{LayoutFault}
+use Rattle.ident_core.specs.declared.bounds.TheConstants.{MAX_PARTS}
 use Rattle.ident_core.specs.declared.kind.Kind.{Kind}
 use Rattle.ident_core.specs.declared.kind.Kind.TheVariants as kinds
 use Rattle.part_codec.specs.SealedFields.{SealedFields}
@@ -56,7 +57,7 @@ unfoldable pub store_parts : Layout StoreFault (List SealedFields)
 store_parts = do
   begin ← fielded (magic fields.StoreMagic (codes "CLUBSTOR"))
   version ← fielded (number fields.StoreVersion w8 1 1)
-  count ← fielded (number fields.StoreCount w8 1 64)
+  count ← fielded (number fields.StoreCount w8 1 MAX_PARTS)
   first ← first_part
   chain (count - 1) first
 

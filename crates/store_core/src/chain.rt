@@ -18,7 +18,7 @@ pub enum Refusal {
     OldEpoch { held: u64, given: u64 },
     /// A range of the newest part, of this log, lies in none of the part's.
     CoverageShrinks { log: Key32 },
-    /// The chain has 64 parts already.
+    /// The chain has `MAX_PARTS` parts already.
     Full,
 }
 
@@ -49,8 +49,5 @@ pub(crate) fn broken_by(held: &Sealed, given: &Sealed) -> Option<Refusal>
             given: new.epoch(),
         });
     }
-    match shrinks(old.ranges(), new.ranges()) {
-        Some(log) => Some(Refusal::CoverageShrinks { log }),
-        None => None,
-    }
+    shrinks(old.ranges(), new.ranges()).map(|log| Refusal::CoverageShrinks { log })
 }

@@ -10,6 +10,7 @@ ghost use Rattle.store_core.specs.StoreLayout.{store as store_layout, store_part
 
 use crate::fault::StoreFault;
 use crate::store::Store;
+use ident_core::MAX_PARTS;
 use octets_core::{Cursor, Field, LayoutFault, Why, read_magic, read_u8};
 use part_codec::{PartFault, Sealed, decode_part};
 use std::alloc::Global;
@@ -81,7 +82,7 @@ fn parts_of(alloc: Global, bytes: &[u8]) -> Result<(Store, usize), StoreFault>
     let mut cursor = Cursor::new(bytes);
     read_magic(&mut cursor, Field::StoreMagic, b"CLUBSTOR")?;
     read_u8(&mut cursor, Field::StoreVersion, 1, 1)?;
-    let count = read_u8(&mut cursor, Field::StoreCount, 1, 64)?;
+    let count = read_u8(&mut cursor, Field::StoreCount, 1, MAX_PARTS as u8)?;
     let (store, at) = begun(alloc, bytes, cursor.at())?;
     continued(alloc, bytes, at, store, count - 1)
 }

@@ -1,20 +1,18 @@
 //! Stores: how one begins, and how it takes a further part.
 
 ghost use Rattle.std.specs.Prelude.{◌≡◌, ◌++◌, ◌≤◌, [], ◌∷◌, length, Some, None, IfOk, IfErr, OnOk, OnErr};
+ghost use Rattle.ident_core.specs.declared.bounds.TheConstants.{MAX_PARTS};
 ghost use Rattle.store_core.specs.Chain.{newest_of, refusal_of, IsChain};
 ghost use Rattle.store_core.specs.Starting.{IsNotBegun};
 
 use crate::chain::{Refusal, Refused, broken_by};
-use ident_core::Kind;
+use ident_core::{Kind, MAX_PARTS};
 use part_codec::Sealed;
 use std::alloc::Global;
 use std::marker::Model;
 
-/// The most parts of a store.
-const MAX_PARTS: usize = 64;
-
-/// A chain of 1 to 64 parts with their trailers, oldest first: the first is a snapshot, and each later one is a delta
-/// that follows the part before it. It has room for 64.
+/// A chain of 1 to `MAX_PARTS` parts with their trailers, oldest first: the first is a snapshot, and each later one is
+/// a delta that follows the part before it. It has room for `MAX_PARTS`.
 #[derive(Drop)]
 pub struct Store {
     parts: Vec<Sealed>,
@@ -22,6 +20,7 @@ pub struct Store {
 
 impl Model for Store {
     ghost use Rattle.std.specs.Prelude.{List, ◌≤◌, vec_capacity};
+    ghost use Rattle.ident_core.specs.declared.bounds.TheConstants.{MAX_PARTS};
     ghost use Rattle.part_codec.specs.SealedFields.{SealedFields};
     ghost use Rattle.store_core.specs.Chain.{IsStore};
 
@@ -29,7 +28,7 @@ impl Model for Store {
 
     ghost view = { λ s. s.parts.items };
 
-    ghost invariant = { λ s. IsStore s.parts.items × (64 ≤ vec_capacity s.parts) };
+    ghost invariant = { λ s. IsStore s.parts.items × (MAX_PARTS ≤ vec_capacity s.parts) };
 }
 
 /// Why a part begins no store. The part is given back.
@@ -42,7 +41,7 @@ pub enum StartFault {
 }
 
 impl Store {
-    /// The store of this part alone, which is a snapshot. Room for 64 parts is taken.
+    /// The store of this part alone, which is a snapshot. Room for `MAX_PARTS` parts is taken.
     pub fn start(alloc: Global, part: Sealed) -> Result<Store, StartFault>
         ensures store { IfOk result (λ store. store ≡ part ∷ []) }
         ensures snapshot { OnOk result (part.part.head.kind ≡ Kind.Snapshot) }
@@ -68,11 +67,8 @@ impl Store {
     fn refusal(&self, part: &Sealed) -> Option<Refusal>
         ensures { result ≡ refusal_of self.now part.now }
     {
-        let why = broken_by(self.newest(), part);
-        if why.is_none() && self.parts.len() >= MAX_PARTS {
-            return Some(Refusal::Full);
-        }
-        why
+        let full = (self.parts.len() >= MAX_PARTS).then_some(Refusal::Full);
+        broken_by(self.newest(), part).or(full)
     }
 
     /// Takes the part behind the others. A part that is refused is given back. No memory is taken.
@@ -94,7 +90,7 @@ impl Store {
         ensures value { result.now ≡ self.now }
         ensures chain { IsChain self.now }
         ensures some { 1 ≤ length self.now }
-        ensures few { length self.now ≤ 64 }
+        ensures few { length self.now ≤ MAX_PARTS }
     {
         self.parts.as_slice()
     }

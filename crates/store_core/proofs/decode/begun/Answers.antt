@@ -13,4 +13,5 @@ returns-in_err-start-clause-exact c =
     rw (p.1, p.2) (not-begun c.args.bytes.now c.args.at c.in_ok-part.part c.in_ok-part.end c.in_err-start.field-0.0 c.in_ok-part.ensures.exact c.in_err-start.ensures.refused)
 
 pub returns-clause-exact : goal.returns-clause-exact
-returns-clause-exact c = is-begun c.args.bytes.now c.args.at c.in_ok-part.part c.in_ok-part.end c.in_ok-start.field-0 c.in_ok-part.ensures.exact c.in_ok-start.ensures.snapshot c.in_ok-start.ensures.store
+returns-clause-exact c = is-begun c.args.bytes.now c.args.at c.in_ok-part.part c.in_ok-part.end c.in_ok-start.field-0 c.in_ok-part.ensures.exact
+    c.in_ok-start.ensures.snapshot c.in_ok-start.ensures.store

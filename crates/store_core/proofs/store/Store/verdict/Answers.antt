@@ -8,14 +8,17 @@ loop-sealed-init g c = asked-none c.args.id.now c.args.sightings.now c.args.prob
 pub loop-sealed-preserved : goal.loop-sealed-preserved
 loop-sealed-preserved g c =
     let e = c.verdict_of_part-said.ensures in
-    let one : IsAsked c.args.id.now c.args.sightings.now (c.part.result.now ∷ []) c.verdict_of_part-said.result c.loop-sealed.probes c.verdict_of_part-said.new.probes c.loop-sealed.words c.verdict_of_part-said.new.words
+    let one : IsAsked c.args.id.now c.args.sightings.now (c.part.result.now ∷ []) c.verdict_of_part-said.result c.loop-sealed.probes
+    c.verdict_of_part-said.new.probes c.loop-sealed.words c.verdict_of_part-said.new.words
     = record { value = e.value; more_probes = e.more_probes; few_probes = e.few_probes; more_words = e.more_words; few_words = e.few_words } in
     rw c.joined-verdict.ensures
-    (asked-more c.args.id.now c.args.sightings.now c.args.self.now c.loop-sealed.sealed-index c.sealed-item.result c.loop-sealed.verdict c.verdict_of_part-said.result c.args.probes.now c.loop-sealed.probes
+    (asked-more c.args.id.now c.args.sightings.now c.args.self.now c.loop-sealed.sealed-index c.sealed-item.result c.loop-sealed.verdict
+    c.verdict_of_part-said.result c.args.probes.now c.loop-sealed.probes
     c.verdict_of_part-said.new.probes c.args.words.now c.loop-sealed.words c.verdict_of_part-said.new.words
     (let t = c.loop-sealed-test.true in omega (arith, ap length c.parts-sealed-items.ensures.value))
     (subst (λ l. c.sealed-item.result ≡ get_or l c.loop-sealed.sealed-index c.sealed-item.result) c.parts-sealed-items.ensures.value c.sealed-item.is)
-    c.loop-sealed.invariant (subst (λ p. IsAsked c.args.id.now c.args.sightings.now (p ∷ []) c.verdict_of_part-said.result c.loop-sealed.probes c.verdict_of_part-said.new.probes c.loop-sealed.words c.verdict_of_part-said.new.words) c.part.ensures one))
+    c.loop-sealed.invariant (subst (λ p. IsAsked c.args.id.now c.args.sightings.now (p ∷ []) c.verdict_of_part-said.result c.loop-sealed.probes
+    c.verdict_of_part-said.new.probes c.loop-sealed.words c.verdict_of_part-said.new.words) c.part.ensures one))
 
 pub returns : goal.returns
 returns g c =
