@@ -27,7 +27,7 @@ use Rattle.sets_core.proofs.Canonical.{all_from}
 use Rattle.sets_core.proofs.Elements.{map_back, Among-filter}
 use Rattle.sets_core.proofs.Order.{sorted_none}
 use Rattle.sets_core.proofs.Sets.{identity_total, with_all_ascends, bytes_same}
-use Rattle.universe_core.specs.Jobs.{Crl, Job, accepted_crl, told, enrolled}
+use Rattle.universe_core.specs.Jobs.{Crl, Job, facts_of_job, accepted_crl, facts_of, enrolled}
 use Rattle.universe_core.specs.History.{Past, Release, shown, accepted_with, universe, revoked, released}
 use Rattle.universe_core.specs.Ledgers.{no_ledger, past_in, item_of, next_item, next_ledger}
 use Rattle.universe_core.specs.Groups.{GroupFields, IsGroup, group_of, groups, members_of}
@@ -47,22 +47,24 @@ pub refusal_bad : (limits : Limits) (job : JobFields) (e : AdmitFault) → bad_c
 unfolding refusal
 refusal_bad limits job e h = rw h refl
 
-pub refusal_many : (limits : Limits) (job : JobFields) → bad_crl_from 0 job.crls ≡ None → refusal limits no_ledger job ≡ too_many limits no_ledger (told job)
+pub refusal_many : (limits : Limits) (job : JobFields) → bad_crl_from 0 job.crls ≡ None → refusal limits no_ledger job ≡ too_many limits no_ledger (facts_of job)
 unfolding refusal
 refusal_many limits job h = rw h refl
 
-pub many_by : (limits : Limits) (n : ℕ) → limits.identities < n → cond (nat_lt limits.identities n) (Some (faults.TooMany what.Identities limits.identities)) None ≡ Some (faults.TooMany what.Identities limits.identities)
+pub many_by : (limits : Limits) (n : ℕ) → limits.identities < n
+    → cond (nat_lt limits.identities n) (Some (faults.TooMany what.Identities limits.identities)) None ≡ Some (faults.TooMany what.Identities limits.identities)
 many_by limits n h = let b : nat_lt limits.identities n ≡ true = lt-ltb limits.identities n h in rw b refl
 
 pub few_by : (limits : Limits) (n : ℕ) → n ≤ limits.identities → cond (nat_lt limits.identities n) (Some (faults.TooMany what.Identities limits.identities)) None ≡ None
 few_by limits n h = let b : nat_lt limits.identities n ≡ false = le-ltb limits.identities n h in rw b refl
 
-pub refused : (limits : Limits) (job : JobFields) → bad_crl_from 0 job.crls ≡ None → limits.identities < length (accepted_with (past_in no_ledger) (told job))
+pub refused : (limits : Limits) (job : JobFields) → bad_crl_from 0 job.crls ≡ None → limits.identities < length (accepted_with (past_in no_ledger) (facts_of job))
     → refusal limits no_ledger job ≡ Some (faults.TooMany what.Identities limits.identities)
-refused limits job b h = refusal_many limits job b ∙ many_by limits (length (accepted_with (past_in no_ledger) (told job))) h
+refused limits job b h = refusal_many limits job b ∙ many_by limits (length (accepted_with (past_in no_ledger) (facts_of job))) h
 
-pub admitted : (limits : Limits) (job : JobFields) → bad_crl_from 0 job.crls ≡ None → length (accepted_with (past_in no_ledger) (told job)) ≤ limits.identities → refusal limits no_ledger job ≡ None
-admitted limits job b h = refusal_many limits job b ∙ few_by limits (length (accepted_with (past_in no_ledger) (told job))) h
+pub admitted : (limits : Limits) (job : JobFields) → bad_crl_from 0 job.crls ≡ None
+    → length (accepted_with (past_in no_ledger) (facts_of job)) ≤ limits.identities → refusal limits no_ledger job ≡ None
+admitted limits job b h = refusal_many limits job b ∙ few_by limits (length (accepted_with (past_in no_ledger) (facts_of job))) h
 
 -- ---- how many issuers are enrolled
 
@@ -90,10 +92,10 @@ accepted_few (c ∷ cs) =
     let n = accepted_few cs in
     elim (accepted_crl c) as (λ (o : Option Crl). length (cons_option o (filter_map accepted_crl cs)) ≤ length (c ∷ cs)) [ None ↦ omega arith | Some d ↦ omega arith ]
 
-pub issuers_few : (job : JobFields) → length (enrolled (told job)) ≤ length job.crls
-issuers_few job = let a = enrolled_few (told job) in let b = accepted_few job.crls in omega arith
+pub issuers_few : (job : JobFields) → length (enrolled (facts_of job)) ≤ length job.crls
+issuers_few job = let a = enrolled_few (facts_of job) in let b = accepted_few job.crls in omega arith
 
-pub job_issuers_few : (job : CodeJob) → length job.crls.items ≤ 65535 → length (enrolled (told (fields_of_job job))) ≤ 65535
+pub job_issuers_few : (job : CodeJob) → length job.crls.items ≤ 65535 → length (enrolled (facts_of_job job)) ≤ 65535
 job_issuers_few job h = let a = issuers_few (fields_of_job job) in let b = length-map job.crls.items crl_view in omega arith
 
 -- ---- the first ledger
@@ -118,29 +120,44 @@ pub every : {A : Type 0} (P : A → Type 0) (xs : List A) → ((x : A) → P x) 
 every P xs f = λ k d h. f _
 
 pub first_items : (job : Job) → All (IsItemOf 1) (map (next_item (past_in no_ledger) no_ledger job) (accepted_with (past_in no_ledger) job))
-first_items job = All-map (IsItemOf 1) (next_item (past_in no_ledger) no_ledger job) (accepted_with (past_in no_ledger) job) (every (λ x. IsItemOf 1 (next_item (past_in no_ledger) no_ledger job x)) (accepted_with (past_in no_ledger) job) (item_is job))
+first_items job = All-map (IsItemOf 1) (next_item (past_in no_ledger) no_ledger job) (accepted_with (past_in no_ledger) job)
+    (every (λ x. IsItemOf 1 (next_item (past_in no_ledger) no_ledger job x)) (accepted_with (past_in no_ledger) job) (item_is job))
 
-pub is_ledger : (job : Job) (issuers : List (List ℕ)) (items : List LedgerItem) → RangesFit job.ranges → issuers ≡ enrolled job → items ≡ map (next_item (past_in no_ledger) no_ledger job) (accepted_with (past_in no_ledger) job)
+pub is_ledger : (job : Job) (issuers : List (List ℕ)) (items : List LedgerItem) → RangesFit job.ranges → issuers ≡ enrolled job
+    → items ≡ map (next_item (past_in no_ledger) no_ledger job) (accepted_with (past_in no_ledger) job)
     → length (enrolled job) ≤ 65535 → length (accepted_with (past_in no_ledger) job) ≤ 4194304
     → IsLedger (record { parts = first_part job.epoch job.ranges issuers ∷ []; items = items })
 is_ledger job issuers items r k i few some =
     let n : length items ≡ length (accepted_with (past_in no_ledger) job) = ap length i ∙ length-map (accepted_with (past_in no_ledger) job) (next_item (past_in no_ledger) no_ledger job) in record {
       some_parts = omega arith;
       few_parts = omega arith;
-      parts = (record { follows = tt; ranges = r; few_issuers = subst (λ z. length z ≤ 65535) (sym k) few; issuers_ascend = subst (λ z. IsStrictlySortedBy octets_cmp z) (sym k) (enrolled_ascend job) }, tt);
+      parts = (
+        record {
+          continues = tt;
+          ranges = r;
+          few_issuers = subst (λ z. length z ≤ 65535) (sym k) few;
+          issuers_ascend = subst
+              (λ z. IsStrictlySortedBy octets_cmp z) (sym k) (enrolled_ascend job);
+        },
+        tt,
+      );
       few_items = omega arith;
-      items_ascend = subst (λ z. IsStrictlySortedBy identity_cmp z) (sym (ap (map (λ (x : LedgerItem). x.id)) i ∙ ids_are (past_in no_ledger) no_ledger job (accepted_with (past_in no_ledger) job))) (accepted_ascend job);
+      items_ascend = subst (λ z. IsStrictlySortedBy identity_cmp z)
+          (sym (ap (map (λ (x : LedgerItem). x.id)) i ∙ ids_are (past_in no_ledger) no_ledger job (accepted_with (past_in no_ledger) job)))
+          (accepted_ascend job);
       items = subst (λ z. All (IsItemOf 1) z) (sym i) (first_items job);
     }
 
 -- ---- what a first job makes
 
-pub next_is : (job : Job) (issuers : List (List ℕ)) (items : List LedgerItem) (trailer : List ℕ) → issuers ≡ enrolled job → items ≡ map (next_item (past_in no_ledger) no_ledger job) (accepted_with (past_in no_ledger) job)
+pub next_is : (job : Job) (issuers : List (List ℕ)) (items : List LedgerItem) (trailer : List ℕ) → issuers ≡ enrolled job
+    → items ≡ map (next_item (past_in no_ledger) no_ledger job) (accepted_with (past_in no_ledger) job)
     → sealed_with (record { parts = first_part job.epoch job.ranges issuers ∷ []; items = items }) trailer ≡ next_ledger no_ledger job trailer
 next_is job issuers items trailer k i = λ j. record { parts = record { epoch = job.epoch; trailer = trailer; ranges = job.ranges; issuers = k j } ∷ []; items = i j }
 
 own : (k : List ℕ) (xs : List Identity) → AllByRecursion (λ (x : Identity). x.issuer ≡ k) (filter (λ (x : Identity). bytes_eq k x.issuer) xs)
-own k xs = all_from (λ (x : Identity). x.issuer ≡ k) (filter (λ (x : Identity). bytes_eq k x.issuer) xs) (λ x a. sym (bytes_same k x.issuer (Among-filter (λ (x : Identity). bytes_eq k x.issuer) xs x a).1))
+own k xs = all_from (λ (x : Identity). x.issuer ≡ k) (filter (λ (x : Identity). bytes_eq k x.issuer) xs)
+    (λ x a. sym (bytes_same k x.issuer (Among-filter (λ (x : Identity). bytes_eq k x.issuer) xs x a).1))
 
 pub group_facts : (r : Release) (k : List ℕ) → IsStrictlySortedBy identity_cmp r.accepted → IsGroup (group_of r k)
 group_facts r k s = record {
@@ -163,9 +180,12 @@ counts_are job n a b c d e f g h = λ j. record { issuers = a j; universe = b j;
 
 -- ---- how many members there are
 
-pub members_many : (job : Job) (members : List Member) → members ≡ map (member_in no_ledger job) (accepted_with (past_in no_ledger) job) → length members ≡ length (accepted_with (past_in no_ledger) job)
+pub members_many : (job : Job) (members : List Member) → members ≡ map (member_in no_ledger job) (accepted_with (past_in no_ledger) job)
+    → length members ≡ length (accepted_with (past_in no_ledger) job)
 members_many job members m = ap length m ∙ length-map (accepted_with (past_in no_ledger) job) (member_in no_ledger job)
 
-pub ids_ascend : (job : Job) (members : List Member) → members ≡ map (member_in no_ledger job) (accepted_with (past_in no_ledger) job) → IsStrictlySortedBy identity_cmp (map (λ (m : Member). m.id) members)
+pub ids_ascend : (job : Job) (members : List Member) → members ≡ map (member_in no_ledger job) (accepted_with (past_in no_ledger) job)
+    → IsStrictlySortedBy identity_cmp (map (λ (m : Member). m.id) members)
 ids_ascend job members m =
-    subst (λ z. IsStrictlySortedBy identity_cmp z) (sym (ap (map (λ (d : Member). d.id)) m ∙ map_back (member_in no_ledger job) (λ (d : Member). d.id) (accepted_with (past_in no_ledger) job) (λ x. refl))) (accepted_ascend job)
+    subst (λ z. IsStrictlySortedBy identity_cmp z) (sym (ap (map (λ (d : Member). d.id)) m ∙ map_back (member_in no_ledger job) (λ (d : Member). d.id)
+    (accepted_with (past_in no_ledger) job) (λ x. refl))) (accepted_ascend job)

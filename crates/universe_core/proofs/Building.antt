@@ -31,8 +31,10 @@ module _ (ledger : LedgerFields) (job : Job) (members : List Member) (m : member
       ∙ ap (λ z. map (group_with (has (revoked (past_in ledger) job)) z) issuers) x ∙ ap (map (group_with (has (revoked (past_in ledger) job)) (accepted_with (past_in ledger) job))) k
 
   pub items_in : (flags : List Bool) (place : ℕ) (out : List LedgerItem) → flags ≡ map (has (revoked (past_in ledger) job)) (accepted_with (past_in ledger) job) → place ≡ length ledger.parts
-      → ((h : Identity → Bool) → flags ≡ map (λ d. h d.id) members → out ≡ map (λ d. next_of place (h d.id) d) members) → out ≡ map (next_item (past_in ledger) ledger job) (accepted_with (past_in ledger) job)
+      → ((h : Identity → Bool) → flags ≡ map (λ d. h d.id) members → out ≡ map (λ d. next_of place (h d.id) d) members)
+      → out ≡ map (next_item (past_in ledger) ledger job) (accepted_with (past_in ledger) job)
   items_in flags place out f p g =
-      g (has (revoked (past_in ledger) job)) (f ∙ sym (map_map (member_in ledger job) (λ (d : Member). has (revoked (past_in ledger) job) d.id) (accepted_with (past_in ledger) job)) ∙ ap (map (λ (d : Member). has (revoked (past_in ledger) job) d.id)) (sym m))
+      g (has (revoked (past_in ledger) job)) (f ∙ sym (map_map (member_in ledger job) (λ (d : Member). has (revoked (past_in ledger) job) d.id)
+      (accepted_with (past_in ledger) job)) ∙ ap (map (λ (d : Member). has (revoked (past_in ledger) job) d.id)) (sym m))
       ∙ ap (λ z. map (λ d. next_of z (has (revoked (past_in ledger) job) d.id) d) members) p
       ∙ ap (map (λ d. next_of (length ledger.parts) (has (revoked (past_in ledger) job) d.id) d)) m ∙ items_are ledger job

@@ -14,7 +14,7 @@ use Rattle.sets_core.proofs.Keys.{take_is}
 use Rattle.universe_core.specs.Jobs.{Entry, entry_of}
 use Rattle.universe_core.specs.History.{class_by, if_accepted}
 use Rattle.universe_core.specs.Ledgers.{no_ledger, past_in, parts_before, item_of}
-use Rattle.universe_core.specs.Reading.{told_entry, if_read, class_alone, one_if}
+use Rattle.universe_core.specs.Reading.{facts_of_entry, if_read, class_alone, one_if}
 use Rattle.universe_core.specs.declared.class.Class.TheVariants.{Unread, Uncovered, Unenrolled, Late, Accepted}
 
 -- without parts nothing is late
@@ -52,9 +52,10 @@ module _ (ranges : List Range) (issuers : List (List ℕ)) where
   taken_is (Some e) = taken_by (covers ranges e.sighting) (has_key issuers e.id.issuer) ((past_in no_ledger).lacked e.id e.sighting) e (none_late e.id e.sighting)
 
   -- of the entries as the job of some bytes tells them
-  pub read_told : (es : List (Option (Identity × Sighting))) → filter_map (λ e. if_read ranges issuers (told_entry e)) es ≡ filter_map (if_read ranges issuers) (map (option_map entry_of) (map entry_view es))
+  pub read_told : (es : List (Option (Identity × Sighting)))
+      → filter_map (λ e. if_read ranges issuers (facts_of_entry e)) es ≡ filter_map (if_read ranges issuers) (map (option_map entry_of) (map entry_view es))
   read_told [] = refl
-  read_told (e ∷ es) = ap (λ z. cons_option (if_read ranges issuers (told_entry e)) z) (read_told es)
+  read_told (e ∷ es) = ap (λ z. cons_option (if_read ranges issuers (facts_of_entry e)) z) (read_told es)
 
 -- ---- one more
 

@@ -2,7 +2,7 @@
 use Rattle.std.specs.Prelude.{IfSome, IsNone, nat_le}
 use Rattle.std.specs.List.{find, slice_get}
 use Rattle.std.specs.List.Sorted.{IsStrictlySortedBy}
-use Rattle.std.specs.Option.{option_map}
+use Rattle.std.specs.Option.{option_map, option_or}
 use Rattle.std.proofs.Common.{◌≡◌, ℕ, suc, ◌+◌, ◌-◌, ◌<◌, ◌≤◌, inl, inr, List, [], ◌∷◌, ◌++◌, map, length, All, Bool, true, false, cond, Option, Some, None, refl, sym, ap, ◌∙◌, subst, arith}
 use Rattle.std.proofs.lemmas.Bool.{leb-false}
 use Rattle.std.proofs.lemmas.List.{length-map}
@@ -20,7 +20,7 @@ use Rattle.job_core.specs.declared.meaning.Job.{Job as CodeJob}
 use Rattle.job_core.specs.JobFields.{JobFields, crl_view}
 use Rattle.ledger_core.specs.declared.fields.LedgerItem.{LedgerItem}
 use Rattle.ledger_core.specs.declared.fields.LedgerPart.{LedgerPart}
-use Rattle.ledger_core.specs.LedgerFields.{LedgerPartFields, LedgerFields, Follows, IsLedger, IsItemOf, ids, part_fields, ledger_fields, sealed_with}
+use Rattle.ledger_core.specs.LedgerFields.{LedgerPartFields, LedgerFields, Continues, IsLedger, IsItemOf, ids, part_fields, ledger_fields, sealed_with, newest}
 use Rattle.ledger_core.proofs.Chains.{newest_after, parts-append, IsItemOf-more}
 use Rattle.ledger_core.proofs.Seals.{sealed-append}
 use Rattle.sets_core.specs.Among.{Among}
@@ -29,14 +29,14 @@ use Rattle.sets_core.proofs.Canonical.{Contains-from_Among}
 use Rattle.sets_core.proofs.Elements.{map_back}
 use Rattle.sets_core.proofs.Order.{sorted_none}
 use Rattle.sets_core.proofs.Sets.{identity_total, with_all_ascends}
-use Rattle.universe_core.specs.Jobs.{Job, told, enrolled}
+use Rattle.universe_core.specs.Jobs.{Job, facts_of, enrolled}
 use Rattle.universe_core.specs.History.{shown, accepted_with, universe, revoked, released}
 use Rattle.universe_core.specs.Ledgers.{no_ledger, past_in, item_of, birth_or, last_or_none, next_item, next_ledger}
 use Rattle.universe_core.specs.Groups.{GroupFields, IsGroup, group_of, groups}
 use Rattle.universe_core.specs.Counting.{count, counts}
 use Rattle.universe_core.specs.Members.{ids_of, first_part, member_in}
 use Rattle.universe_core.specs.Following.{IsBefore, early}
-use Rattle.universe_core.specs.Step.{first_or, bad_crl_from, newest, old_epoch, shrunk, chain_full, too_many, refusal, kind_by, parent_by, head_after, groups_after, counts_after}
+use Rattle.universe_core.specs.Step.{bad_crl_from, old_epoch, shrunk, chain_full, too_many, refusal, kind_by, parent_by, head_after, groups_after, counts_after}
 use Rattle.universe_core.specs.declared.class.Class.TheVariants.{Unread, Uncovered, Unenrolled, Late, Accepted}
 use Rattle.universe_core.specs.declared.counts.Counts.{Counts}
 use Rattle.universe_core.specs.declared.member.Member.{Member}
@@ -53,26 +53,29 @@ before_ledger l h = record { few_parts = h.few_parts; parts = h.parts; items_asc
 
 -- ---- why a job isn't admitted
 
-first_last : (a b c d e : Option AdmitFault) → first_or a (first_or b (first_or c (first_or d e))) ≡ first_or (first_or a (first_or b (first_or c d))) e
+first_last : (a b c d e : Option AdmitFault) → option_or a (option_or b (option_or c (option_or d e))) ≡ option_or (option_or a (option_or b (option_or c d))) e
 first_last (Some x) b c d e = refl
 first_last None (Some x) c d e = refl
 first_last None None (Some x) d e = refl
 first_last None None None d e = refl
 
-refusal_is : (limits : Limits) (ledger : LedgerFields) (job : JobFields) → refusal limits ledger job ≡ first_or (early ledger.parts job) (too_many limits ledger (told job))
+refusal_is : (limits : Limits) (ledger : LedgerFields) (job : JobFields) → refusal limits ledger job ≡ option_or (early ledger.parts job) (too_many limits ledger (facts_of job))
 unfolding refusal
 refusal_is limits ledger job =
-    first_last (bad_crl_from 0 job.crls) (old_epoch (newest ledger.parts) job.epoch) (shrunk (newest ledger.parts) (told job)) (chain_full ledger.parts) (too_many limits ledger (told job))
+    first_last (bad_crl_from 0 job.crls) (old_epoch (newest ledger.parts) job.epoch) (shrunk (newest ledger.parts) (facts_of job)) (chain_full ledger.parts) (too_many limits ledger (facts_of job))
 
 pub refusal_early : (limits : Limits) (ledger : LedgerFields) (job : JobFields) (e : AdmitFault) → early ledger.parts job ≡ Some e → refusal limits ledger job ≡ Some e
-refusal_early limits ledger job e h = refusal_is limits ledger job ∙ ap (λ o. first_or o (too_many limits ledger (told job))) h
+refusal_early limits ledger job e h = refusal_is limits ledger job ∙ ap (λ o. option_or o (too_many limits ledger (facts_of job))) h
 
-pub refusal_many : (limits : Limits) (ledger : LedgerFields) (job : JobFields) → early ledger.parts job ≡ None → limits.identities < length (accepted_with (past_in ledger) (told job))
+pub refusal_many : (limits : Limits) (ledger : LedgerFields) (job : JobFields) → early ledger.parts job ≡ None → limits.identities < length (accepted_with (past_in ledger) (facts_of job))
     → refusal limits ledger job ≡ Some (faults.TooMany what.Identities limits.identities)
-refusal_many limits ledger job n h = refusal_is limits ledger job ∙ ap (λ o. first_or o (too_many limits ledger (told job))) n ∙ many_by limits (length (accepted_with (past_in ledger) (told job))) h
+refusal_many limits ledger job n h = refusal_is limits ledger job ∙ ap (λ o. option_or o (too_many limits ledger (facts_of job))) n ∙ many_by limits
+    (length (accepted_with (past_in ledger) (facts_of job))) h
 
-pub refusal_none : (limits : Limits) (ledger : LedgerFields) (job : JobFields) → early ledger.parts job ≡ None → length (accepted_with (past_in ledger) (told job)) ≤ limits.identities → refusal limits ledger job ≡ None
-refusal_none limits ledger job n h = refusal_is limits ledger job ∙ ap (λ o. first_or o (too_many limits ledger (told job))) n ∙ few_by limits (length (accepted_with (past_in ledger) (told job))) h
+pub refusal_none : (limits : Limits) (ledger : LedgerFields) (job : JobFields) → early ledger.parts job ≡ None
+    → length (accepted_with (past_in ledger) (facts_of job)) ≤ limits.identities → refusal limits ledger job ≡ None
+refusal_none limits ledger job n h = refusal_is limits ledger job ∙ ap (λ o. option_or o (too_many limits ledger (facts_of job))) n ∙ few_by limits
+    (length (accepted_with (past_in ledger) (facts_of job))) h
 
 -- ---- the newest part
 
@@ -102,7 +105,7 @@ head_some ps p job ranges h r =
 
 -- ---- the next ledger
 
-none_each : (a b c d : Option AdmitFault) → first_or a (first_or b (first_or c d)) ≡ None → (b ≡ None) × (c ≡ None) × (d ≡ None)
+none_each : (a b c d : Option AdmitFault) → option_or a (option_or b (option_or c d)) ≡ None → (b ≡ None) × (c ≡ None) × (d ≡ None)
 none_each (Some x) b c d h = absurd cc
 none_each None (Some x) c d h = absurd cc
 none_each None None (Some x) d h = absurd cc
@@ -116,7 +119,7 @@ none_of : (o : Option (List ℕ)) → option_map faults.CoverageShrinks o ≡ No
 none_of None h = refl
 none_of (Some x) h = absurd cc
 
-follows : (o : Option LedgerPartFields) (job : Job) (issuers : List (List ℕ)) → old_epoch o job.epoch ≡ None → shrunk o job ≡ None → Follows o (first_part job.epoch job.ranges issuers)
+follows : (o : Option LedgerPartFields) (job : Job) (issuers : List (List ℕ)) → old_epoch o job.epoch ≡ None → shrunk o job ≡ None → Continues o (first_part job.epoch job.ranges issuers)
 follows None job issuers a b = tt
 follows (Some q) job issuers a b = (
   leb-false job.epoch q.epoch (not_so (nat_le job.epoch q.epoch) (faults.OldEpoch q.epoch job.epoch) a),
@@ -168,40 +171,49 @@ module _ (ledger : LedgerFields) (job : Job) (before : IsBefore ledger) where
 
   pub ids_ascend : (members : List Member) → members ≡ map (member_in ledger job) (accepted_with (past_in ledger) job) → IsStrictlySortedBy identity_cmp (ids_of members)
   ids_ascend members m =
-      subst (λ z. IsStrictlySortedBy identity_cmp z) (sym (ap (map (λ (d : Member). d.id)) m ∙ map_back (member_in ledger job) (λ (d : Member). d.id) (accepted_with (past_in ledger) job) (λ x. refl))) accepted_ascends
+      subst (λ z. IsStrictlySortedBy identity_cmp z) (sym (ap (map (λ (d : Member). d.id)) m ∙ map_back (member_in ledger job) (λ (d : Member). d.id)
+      (accepted_with (past_in ledger) job) (λ x. refl))) accepted_ascends
 
-pub members_many : (ledger : LedgerFields) (job : Job) (members : List Member) → members ≡ map (member_in ledger job) (accepted_with (past_in ledger) job) → length members ≡ length (accepted_with (past_in ledger) job)
+pub members_many : (ledger : LedgerFields) (job : Job) (members : List Member) → members ≡ map (member_in ledger job) (accepted_with (past_in ledger) job)
+    → length members ≡ length (accepted_with (past_in ledger) job)
 members_many ledger job members m = ap length m ∙ length-map (accepted_with (past_in ledger) job) (member_in ledger job)
 
-pub is_next : (ledger : LedgerFields) (job : JobFields) (issuers : List (List ℕ)) (items : List LedgerItem) → IsBefore ledger → early ledger.parts job ≡ None → RangesFit job.ranges → issuers ≡ enrolled (told job)
-    → items ≡ map (next_item (past_in ledger) ledger (told job)) (accepted_with (past_in ledger) (told job)) → length (enrolled (told job)) ≤ 65535 → length (accepted_with (past_in ledger) (told job)) ≤ 4194304
+pub is_next : (ledger : LedgerFields) (job : JobFields) (issuers : List (List ℕ)) (items : List LedgerItem) → IsBefore ledger → early ledger.parts job ≡ None
+    → RangesFit job.ranges → issuers ≡ enrolled (facts_of job)
+    → items ≡ map (next_item (past_in ledger) ledger (facts_of job)) (accepted_with (past_in ledger) (facts_of job)) → length (enrolled (facts_of job)) ≤ 65535
+    → length (accepted_with (past_in ledger) (facts_of job)) ≤ 4194304
     → IsLedger (record { parts = ledger.parts ++ first_part job.epoch job.ranges issuers ∷ []; items = items })
 is_next ledger job issuers items before none r k i few some =
     let p : LedgerPartFields = first_part job.epoch job.ranges issuers in
-    let each = none_each (bad_crl_from 0 job.crls) (old_epoch (newest ledger.parts) job.epoch) (shrunk (newest ledger.parts) (told job)) (chain_full ledger.parts) none in
+    let each = none_each (bad_crl_from 0 job.crls) (old_epoch (newest ledger.parts) job.epoch) (shrunk (newest ledger.parts) (facts_of job)) (chain_full ledger.parts) none in
     let room : length ledger.parts < 64 = leb-false 64 (length ledger.parts) (not_so (nat_le 64 (length ledger.parts)) faults.ChainFull each.2) in
     let len : length (ledger.parts ++ p ∷ []) ≡ length ledger.parts + 1 = length_more ledger.parts p in
-    let n : length items ≡ length (accepted_with (past_in ledger) (told job)) = ap length i ∙ length-map (accepted_with (past_in ledger) (told job)) (next_item (past_in ledger) ledger (told job)) in record {
+    let n : length items ≡ length (accepted_with (past_in ledger) (facts_of job)) = ap length i ∙ length-map (accepted_with (past_in ledger) (facts_of job))
+    (next_item (past_in ledger) ledger (facts_of job)) in record {
       some_parts = omega arith;
       few_parts = omega arith;
       parts = parts-append None ledger.parts p before.parts (record {
-        follows = subst (λ o. Follows o p) (newest_is ledger.parts) (follows (newest ledger.parts) (told job) issuers each.0 each.1);
+        continues = subst (λ o. Continues o p) (newest_is ledger.parts) (follows (newest ledger.parts) (facts_of job) issuers each.0 each.1);
         ranges = r;
         few_issuers = subst (λ z. length z ≤ 65535) (sym k) few;
-        issuers_ascend = subst (λ z. IsStrictlySortedBy octets_cmp z) (sym k) (enrolled_ascend (told job));
+        issuers_ascend = subst (λ z. IsStrictlySortedBy octets_cmp z) (sym k) (enrolled_ascend (facts_of job));
       });
       few_items = omega arith;
-      items_ascend = subst (λ z. IsStrictlySortedBy identity_cmp z) (sym (ap (map (λ (x : LedgerItem). x.id)) i ∙ ids_are (past_in ledger) ledger (told job) (accepted_with (past_in ledger) (told job)))) (accepted_ascends ledger (told job) before);
-      items = subst (λ m. All (IsItemOf m) items) (sym len) (subst (λ z. All (IsItemOf (length ledger.parts + 1)) z) (sym i) (next_items ledger (told job) before));
+      items_ascend = subst (λ z. IsStrictlySortedBy identity_cmp z)
+          (sym (ap (map (λ (x : LedgerItem). x.id)) i ∙ ids_are (past_in ledger) ledger (facts_of job) (accepted_with (past_in ledger) (facts_of job))))
+          (accepted_ascends ledger (facts_of job) before);
+      items = subst (λ m. All (IsItemOf m) items) (sym len) (subst (λ z. All (IsItemOf (length ledger.parts + 1)) z) (sym i) (next_items ledger (facts_of job) before));
     }
 
-pub next_is : (ledger : LedgerFields) (job : Job) (issuers : List (List ℕ)) (items : List LedgerItem) (trailer : List ℕ) → issuers ≡ enrolled job → items ≡ map (next_item (past_in ledger) ledger job) (accepted_with (past_in ledger) job)
+pub next_is : (ledger : LedgerFields) (job : Job) (issuers : List (List ℕ)) (items : List LedgerItem) (trailer : List ℕ) → issuers ≡ enrolled job
+    → items ≡ map (next_item (past_in ledger) ledger job) (accepted_with (past_in ledger) job)
     → sealed_with (record { parts = ledger.parts ++ first_part job.epoch job.ranges issuers ∷ []; items = items }) trailer ≡ next_ledger ledger job trailer
 next_is ledger job issuers items trailer k i =
     let s = sealed-append ledger.parts (first_part job.epoch job.ranges issuers) trailer in
     (λ j. record { parts = s j; items = items }) ∙ (λ j. record { parts = ledger.parts ++ record { epoch = job.epoch; trailer = trailer; ranges = job.ranges; issuers = k j } ∷ []; items = i j })
 
-pub counts_are : (ledger : LedgerFields) (job : Job) (n : Counts) → n.issuers ≡ length (enrolled job) → n.universe ≡ length (universe (past_in ledger) job) → n.revoked ≡ length (revoked (past_in ledger) job)
+pub counts_are : (ledger : LedgerFields) (job : Job) (n : Counts) → n.issuers ≡ length (enrolled job) → n.universe ≡ length (universe (past_in ledger) job)
+    → n.revoked ≡ length (revoked (past_in ledger) job)
     → n.unread ≡ count Unread (past_in ledger) job → n.uncovered ≡ count Uncovered (past_in ledger) job → n.unenrolled ≡ count Unenrolled (past_in ledger) job
     → n.late ≡ count Late (past_in ledger) job → n.accepted ≡ count Accepted (past_in ledger) job → n ≡ counts_after ledger job
 unfolding counts

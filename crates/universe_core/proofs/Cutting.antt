@@ -4,7 +4,8 @@ use Rattle.std.specs.Str.{bytes_eq}
 use Rattle.std.specs.List.Sorted.{IsStrictlySortedBy, IsPartitionedBy, IsPartitionPoint}
 use Rattle.std.specs.declared.cmp.Ordering.TheVariants.{Less, Equal}
 use Rattle.std.specs.Ordering.{nat_cmp, is_lt, ordering_then}
-use Rattle.std.proofs.Common.{◌≡◌, ℕ, zero, suc, ◌+◌, ◌-◌, ◌≤◌, ◌<◌, ◌⊎◌, inl, inr, ⊎_elim, List, [], ◌∷◌, ◌++◌, map, length, get_or, take, drop, Bool, true, false, cond, refl, sym, ap, ◌∙◌, subst, arith}
+use Rattle.std.proofs.Common.{◌≡◌, ℕ, zero, suc, ◌+◌, ◌-◌, ◌≤◌, ◌<◌, ◌⊎◌, inl, inr, ⊎_elim, List, [], ◌∷◌, ◌++◌, map, length, get_or, take, drop, Bool, true}
+use Rattle.std.proofs.Common.{false, cond, refl, sym, ap, ◌∙◌, subst, arith}
 use Rattle.std.proofs.lemmas.Cmp.{nat_list_cmp_total}
 use Rattle.std.proofs.lemmas.List.{take-map, drop-map, take_all, length-drop, length-map, map-append}
 use Rattle.std.proofs.lemmas.List.Sums.{take_while-cons}
@@ -50,7 +51,8 @@ items_partitioned k xs s i j d le lt h =
     subst (λ y. is_below k y ≡ true) (get_map (λ (x : LedgerItem). x.id) xs i d)
     (partitioned k (ids xs) s i j d.id le (omega arith) (subst (λ y. is_below k y ≡ true) (sym (get_map (λ (x : LedgerItem). x.id) xs j d)) h))
 
-pub dropped : (k : List ℕ) (xs : List LedgerItem) (n : ℕ) → n ≤ length xs → IsPartitionPoint (λ (x : LedgerItem). is_lt (octets_cmp x.id.issuer k) ≡ true) (λ (x : LedgerItem). is_lt (octets_cmp x.id.issuer k) ≡ false) xs n
+pub dropped : (k : List ℕ) (xs : List LedgerItem) (n : ℕ) → n ≤ length xs
+    → IsPartitionPoint (λ (x : LedgerItem). is_lt (octets_cmp x.id.issuer k) ≡ true) (λ (x : LedgerItem). is_lt (octets_cmp x.id.issuer k) ≡ false) xs n
     → drop n (ids xs) ≡ behind k (ids xs)
 dropped k [] zero le p = refl
 dropped k [] (suc n) le p = absurd (omega arith)
@@ -67,14 +69,16 @@ own_counted : (k : List ℕ) (xs : List LedgerItem) → length (take_while (λ (
 own_counted k [] = refl
 own_counted k (x ∷ xs) =
     ap length (take_while-cons (λ (y : LedgerItem). bytes_eq k y.id.issuer) x xs)
-    ∙ (elim (bytes_eq k x.id.issuer) as (λ b. length (cond b (x ∷ take_while (λ (y : LedgerItem). bytes_eq k y.id.issuer) xs) []) ≡ length (cond b (x.id ∷ front k (ids xs)) [])) [ true ↦ ap suc (own_counted k xs) | false ↦ refl ])
+    ∙ (elim (bytes_eq k x.id.issuer) as (λ b. length (cond b (x ∷ take_while (λ (y : LedgerItem). bytes_eq k y.id.issuer) xs) [])
+    ≡ length (cond b (x.id ∷ front k (ids xs)) [])) [ true ↦ ap suc (own_counted k xs) | false ↦ refl ])
 
 pub own_is : (n : ℕ) (k : List ℕ) (xs : List LedgerItem) → n ≡ length (take_while (λ (x : LedgerItem). bytes_eq k x.id.issuer) xs) → n ≡ length (front k (ids xs))
 own_is n k xs h = h ∙ own_counted k xs
 
 take_front : (k : List ℕ) (xs : List Identity) → take (length (front k xs)) xs ≡ front k xs
 take_front k [] = refl
-take_front k (x ∷ xs) = elim (bytes_eq k x.issuer) as (λ b. take (length (cond b (x ∷ front k xs) [])) (x ∷ xs) ≡ cond b (x ∷ front k xs) []) [ true ↦ ap (λ (z : List Identity). x ∷ z) (take_front k xs) | false ↦ refl ]
+take_front k (x ∷ xs) = elim (bytes_eq k x.issuer) as (λ b. take (length (cond b (x ∷ front k xs) [])) (x ∷ xs) ≡ cond b (x ∷ front k xs) [])
+    [ true ↦ ap (λ (z : List Identity). x ∷ z) (take_front k xs) | false ↦ refl ]
 
 -- ---- the group
 
@@ -83,7 +87,8 @@ pub cut_is : (k : List ℕ) (xs left : List Identity) (n : ℕ) → IsStrictlySo
 cut_is k xs left n s l c = ap (λ m. take m left) c ∙ take_front k left ∙ ap (front k) l ∙ sym (group_is k xs s)
 
 -- and so their flags
-pub flags_cut : (h : Identity → Bool) (k : List ℕ) (xs left : List Identity) (flags : List Bool) (start n : ℕ) → IsStrictlySortedBy identity_cmp xs → left ≡ drop start xs → left ≡ behind k xs → n ≡ length (front k left)
+pub flags_cut : (h : Identity → Bool) (k : List ℕ) (xs left : List Identity) (flags : List Bool) (start n : ℕ) → IsStrictlySortedBy identity_cmp xs
+    → left ≡ drop start xs → left ≡ behind k xs → n ≡ length (front k left)
     → flags ≡ map h xs → take n (drop start flags) ≡ map h (members_of k xs)
 flags_cut h k xs left flags start n s d l c f =
     ap (λ z. take n (drop start z)) f ∙ ap (take n) (drop-map h start xs) ∙ take-map h n (drop start xs) ∙ ap (λ z. map h (take n z)) (sym d) ∙ ap (map h) (cut_is k xs left n s l c)

@@ -11,7 +11,7 @@ use Rattle.sets_core.specs.Sets.{has_key, key_set}
 use Rattle.sets_core.proofs.Elements.{bool_same}
 use Rattle.sets_core.proofs.Sets.{Among-from_has_key, has_key-from_Among, Among-key_set, Among-from_key_set, key_set_ascends}
 use Rattle.universe_core.specs.Jobs.{Crl, Job, accepted_crl, is_stale, crls_of, enrolled}
-use Rattle.universe_core.specs.Enrolling.{told_crl, issuer_if, stale_issuer_if}
+use Rattle.universe_core.specs.Enrolling.{facts_of_crl, issuer_if, stale_issuer_if}
 
 pub enrolled_ascend : (job : Job) → IsStrictlySortedBy octets_cmp (enrolled job)
 unfolding enrolled
@@ -53,30 +53,32 @@ filter_agree p q xs h = ap (λ f. filter f xs) (λ i. λ x. h x i)
 enrolled_is : (job : Job) → filter (λ k. not (has_key (key_set (issuers_in (stale_in job.moment job.crls))) k)) (key_set (issuers_in job.crls)) ≡ enrolled job
 unfolding enrolled
 enrolled_is job =
-    filter_agree (λ k. not (has_key (key_set (issuers_in (stale_in job.moment job.crls))) k)) (λ k. list_all (λ (c : Crl). not (is_stale job.moment c.next_update)) (crls_of k job)) (key_set (issuers_in job.crls))
+    filter_agree (λ k. not (has_key (key_set (issuers_in (stale_in job.moment job.crls))) k))
+    (λ k. list_all (λ (c : Crl). not (is_stale job.moment c.next_update)) (crls_of k job)) (key_set (issuers_in job.crls))
     (λ k. ap not (has_key_set (issuers_in (stale_in job.moment job.crls)) k) ∙ fresh_is job.moment k job.crls)
 
 -- ---- of the CRLs as the job of some bytes tells them
 
-issuers_told : (cs : List JobCrl) → filter_map (λ c. issuer_if (told_crl c)) cs ≡ issuers_in (filter_map accepted_crl (map crl_view cs))
+issuers_told : (cs : List JobCrl) → filter_map (λ c. issuer_if (facts_of_crl c)) cs ≡ issuers_in (filter_map accepted_crl (map crl_view cs))
 issuers_told [] = refl
 issuers_told (c ∷ cs) =
-    (elim (told_crl c) as (λ (o : Option Crl). cons_option (issuer_if o) (filter_map (λ d. issuer_if (told_crl d)) cs) ≡ issuers_in (cons_option o (filter_map accepted_crl (map crl_view cs))))
+    (elim (facts_of_crl c) as (λ (o : Option Crl). cons_option (issuer_if o) (filter_map (λ d. issuer_if (facts_of_crl d)) cs) ≡ issuers_in (cons_option o (filter_map accepted_crl (map crl_view cs))))
     [ None ↦ issuers_told cs | Some d ↦ ap (λ (z : List (List ℕ)). d.issuer ∷ z) (issuers_told cs) ])
 
 stale_step : (moment : ℕ) (d : Crl) (xs : List (List ℕ)) (ds : List Crl) (b : Bool) → xs ≡ issuers_in ds → cons_option (cond b (Some d.issuer) None) xs ≡ issuers_in (cond b (d ∷ ds) ds)
 stale_step moment d xs ds true h = ap (λ (z : List (List ℕ)). d.issuer ∷ z) h
 stale_step moment d xs ds false h = h
 
-stale_told : (moment : ℕ) (cs : List JobCrl) → filter_map (λ c. stale_issuer_if moment (told_crl c)) cs ≡ issuers_in (stale_in moment (filter_map accepted_crl (map crl_view cs)))
+stale_told : (moment : ℕ) (cs : List JobCrl) → filter_map (λ c. stale_issuer_if moment (facts_of_crl c)) cs ≡ issuers_in (stale_in moment (filter_map accepted_crl (map crl_view cs)))
 stale_told moment [] = refl
 stale_told moment (c ∷ cs) =
-    (elim (told_crl c) as (λ (o : Option Crl). cons_option (stale_issuer_if moment o) (filter_map (λ d. stale_issuer_if moment (told_crl d)) cs) ≡ issuers_in (stale_in moment (cons_option o (filter_map accepted_crl (map crl_view cs)))))
+    (elim (facts_of_crl c) as (λ (o : Option Crl). cons_option (stale_issuer_if moment o) (filter_map (λ d. stale_issuer_if moment (facts_of_crl d)) cs)
+    ≡ issuers_in (stale_in moment (cons_option o (filter_map accepted_crl (map crl_view cs)))))
     [ None ↦ stale_told moment cs | Some d ↦ stale_step moment d _ (stale_in moment (filter_map accepted_crl (map crl_view cs))) (is_stale moment d.next_update) (stale_told moment cs) ])
 
 pub enrolled_from : (job : Job) (crls : List JobCrl) (keys others left : List (List ℕ)) → job.crls ≡ filter_map accepted_crl (map crl_view crls)
-    → keys ≡ key_set (filter_map (λ c. issuer_if (told_crl c)) crls)
-    → others ≡ key_set (filter_map (λ c. stale_issuer_if job.moment (told_crl c)) crls)
+    → keys ≡ key_set (filter_map (λ c. issuer_if (facts_of_crl c)) crls)
+    → others ≡ key_set (filter_map (λ c. stale_issuer_if job.moment (facts_of_crl c)) crls)
     → left ≡ filter (λ k. not (has_key others k)) keys → left ≡ enrolled job
 enrolled_from job crls keys others left t a b c =
     c ∙ ap (λ ks. filter (λ k. not (has_key others k)) ks) (a ∙ ap key_set (issuers_told crls ∙ ap issuers_in (sym t)))

@@ -11,8 +11,8 @@ use Rattle.ident_core.specs.Coverage.{covers}
 use Rattle.ledger_core.specs.LedgerFields.{LedgerFields}
 use Rattle.sets_core.specs.Sets.{has_key}
 use Rattle.job_core.specs.declared.meaning.Job.{Job as CodeJob}
-use Rattle.job_core.specs.JobFields.{entry_view, fields_of_job}
-use Rattle.universe_core.specs.Jobs.{Entry, Job, entry_of, told, enrolled}
+use Rattle.job_core.specs.JobFields.{entry_view}
+use Rattle.universe_core.specs.Jobs.{Entry, Job, facts_of_job, entry_of, enrolled}
 use Rattle.universe_core.specs.History.{Past, class_by, class_of}
 use Rattle.universe_core.specs.Ledgers.{no_ledger, past_in}
 use Rattle.universe_core.specs.Counting.{is_class, count}
@@ -31,7 +31,9 @@ late_step true false l e o rest others t h r = r
 late_step false n l e o rest others t h r = r
 
 -- the late entries are those of the read ones that are lacked
-late_read : (past : Past) (job : Job) (es : List (Option Entry)) → length (filter (λ (e : Entry). past.lacked e.id e.sighting) (filter_map (if_read job.ranges (enrolled job)) es)) ≡ length (filter (λ o. is_class Late (class_of past job o)) es)
+late_read : (past : Past) (job : Job) (es : List (Option Entry))
+    → length (filter (λ (e : Entry). past.lacked e.id e.sighting) (filter_map (if_read job.ranges (enrolled job)) es))
+    ≡ length (filter (λ o. is_class Late (class_of past job o)) es)
 unfolding class_by
 late_read past job [] = refl
 late_read past job (None ∷ es) = late_read past job es
@@ -39,7 +41,8 @@ late_read past job (Some e ∷ es) =
     late_step (covers job.ranges e.sighting) (has_key (enrolled job) e.id.issuer) (past.lacked e.id e.sighting) e (Some e) (filter_map (if_read job.ranges (enrolled job)) es)
     (filter (λ o. is_class Late (class_of past job o)) es) (λ (d : Entry). past.lacked d.id d.sighting) refl (late_read past job es)
 
-pub late_is : (ledger : LedgerFields) (job : Job) (left sorted shown : List ReadEntry) (n : ℕ) → map entry_fields left ≡ filter_map (if_read job.ranges (enrolled job)) job.entries → IsPermutation left sorted → shown ≡ sorted
+pub late_is : (ledger : LedgerFields) (job : Job) (left sorted shown : List ReadEntry) (n : ℕ)
+    → map entry_fields left ≡ filter_map (if_read job.ranges (enrolled job)) job.entries → IsPermutation left sorted → shown ≡ sorted
     → n ≡ count_by (is_lacked ledger) shown → n ≡ count Late (past_in ledger) job
 late_is ledger job left sorted shown n l p s h =
     h ∙ ap (count_by (is_lacked ledger)) s ∙ sum_by-IsPermutation (λ (e : ReadEntry). cond (is_lacked ledger e) 1 0) left sorted p
@@ -54,7 +57,8 @@ count_few k past job = count_by-le-length (λ o. is_class k (class_of past job o
 
 both_step : (c n l m : Bool) (o : Option Entry) (xs ls ts : List (Option Entry)) → m ≡ false → length xs ≡ length ls + length ts
     → length (cond (is_class Accepted (cond (not c) Uncovered (cond (not n) Unenrolled (cond m Late Accepted)))) (o ∷ xs) xs)
-    ≡ length (cond (is_class Late (cond (not c) Uncovered (cond (not n) Unenrolled (cond l Late Accepted)))) (o ∷ ls) ls) + length (cond (is_class Accepted (cond (not c) Uncovered (cond (not n) Unenrolled (cond l Late Accepted)))) (o ∷ ts) ts)
+    ≡ length (cond (is_class Late (cond (not c) Uncovered (cond (not n) Unenrolled (cond l Late Accepted)))) (o ∷ ls) ls) + length
+    (cond (is_class Accepted (cond (not c) Uncovered (cond (not n) Unenrolled (cond l Late Accepted)))) (o ∷ ts) ts)
 both_step true true true true o xs ls ts e h = absurd (true≢false e)
 both_step true true false true o xs ls ts e h = absurd (true≢false e)
 both_step true true true false o xs ls ts e h = omega arith
@@ -63,12 +67,14 @@ both_step true false l m o xs ls ts e h = h
 both_step false n l m o xs ls ts e h = h
 
 both : (past : Past) (job : Job) (es : List (Option Entry))
-    → length (filter (λ o. is_class Accepted (class_of (past_in no_ledger) job o)) es) ≡ length (filter (λ o. is_class Late (class_of past job o)) es) + length (filter (λ o. is_class Accepted (class_of past job o)) es)
+    → length (filter (λ o. is_class Accepted (class_of (past_in no_ledger) job o)) es)
+    ≡ length (filter (λ o. is_class Late (class_of past job o)) es) + length (filter (λ o. is_class Accepted (class_of past job o)) es)
 unfolding class_by
 both past job [] = refl
 both past job (None ∷ es) = both past job es
 both past job (Some e ∷ es) =
-    both_step (covers job.ranges e.sighting) (has_key (enrolled job) e.id.issuer) (past.lacked e.id e.sighting) ((past_in no_ledger).lacked e.id e.sighting) (Some e) (filter (λ o. is_class Accepted (class_of (past_in no_ledger) job o)) es)
+    both_step (covers job.ranges e.sighting) (has_key (enrolled job) e.id.issuer) (past.lacked e.id e.sighting) ((past_in no_ledger).lacked e.id e.sighting)
+    (Some e) (filter (λ o. is_class Accepted (class_of (past_in no_ledger) job o)) es)
     (filter (λ o. is_class Late (class_of past job o)) es) (filter (λ o. is_class Accepted (class_of past job o)) es) (none_late e.id e.sighting) (both past job es)
 
 pub read_is_both : (past : Past) (job : Job) → count Accepted (past_in no_ledger) job ≡ count Late past job + count Accepted past job
@@ -100,9 +106,9 @@ count_alone k h p q job = ap (λ f. count_by f job.entries) (λ i. λ o. class_a
 
 -- ---- of a job, as the code counts it
 
-pub late_fits : (ledger : LedgerFields) (job : CodeJob) (n : ℕ) → n ≡ count Late (past_in ledger) (told (fields_of_job job)) → length job.entries.items ≤ 4294967295 → n ≤ 4294967295
+pub late_fits : (ledger : LedgerFields) (job : CodeJob) (n : ℕ) → n ≡ count Late (past_in ledger) (facts_of_job job) → length job.entries.items ≤ 4294967295 → n ≤ 4294967295
 late_fits ledger job n h few =
-    let a = count_few Late (past_in ledger) (told (fields_of_job job)) in
+    let a = count_few Late (past_in ledger) (facts_of_job job) in
     let b = length-map (map entry_view job.entries.items) (option_map entry_of) in
     let c = length-map job.entries.items entry_view in
     omega arith

@@ -1,5 +1,7 @@
 -- What the merge gives is what the definitions say.
-use Rattle.std.proofs.Common.{◌≡◌, ℕ, zero, suc, ◌⊎◌, inl, inr, ⊎_elim, List, [], ◌∷◌, map, filter, find, length, Bool, true, false, cond, not, Option, Some, None, refl, sym, ap, ◌∙◌, subst, ◌&&◌, ◌||◌, take}
+use Rattle.std.proofs.Common.{◌≡◌, ℕ, zero, suc, ◌⊎◌, inl, inr, ⊎_elim, List, [], ◌∷◌, map, filter, find, length, Bool, true, false, cond, not, Option, Some}
+use Rattle.std.proofs.Common.{None, refl, sym, ap, ◌∙◌, subst, ◌&&◌, ◌||◌, take}
+use Rattle.std.specs.Prelude.{is_some}
 use Rattle.std.specs.List.{list_any, filter_map, cons_option, slice_get}
 use Rattle.std.specs.Option.{option_map}
 use Rattle.std.specs.List.Sorted.{IsStrictlySortedBy}
@@ -26,7 +28,7 @@ use Rattle.universe_core.specs.declared.member.ReadEntry.{ReadEntry}
 use Rattle.universe_core.specs.declared.member.Member.{Member}
 use Rattle.universe_core.specs.Reading.{entry_fields}
 use Rattle.universe_core.specs.Merging.{all_ids, merged}
-use Rattle.universe_core.specs.Judging.{is_some_item, lacked_in, settled_in, part_covers_all, timely, is_member_of, member_of, judge_of}
+use Rattle.universe_core.specs.Judging.{lacked_in, settled_in, part_covers_all, timely, is_member_of, member_of, judge_of}
 use Rattle.universe_core.proofs.Merge.{item_ids}
 
 -- ---- lists
@@ -98,7 +100,8 @@ Among-sightings x entries s a =
 
 Among-in_sightings : (entries : List Entry) (e : Entry) → Among entries e → Among (sightings e.id entries) e.sighting
 unfolding sightings
-Among-in_sightings entries e a = Among-in_map (λ (d : Entry). d.sighting) (filter (λ (d : Entry). is_same e.id d.id) entries) e (Among-in_filter (λ (d : Entry). is_same e.id d.id) entries e a (same_refl e.id))
+Among-in_sightings entries e a = Among-in_map (λ (d : Entry). d.sighting) (filter (λ (d : Entry). is_same e.id d.id) entries) e
+    (Among-in_filter (λ (d : Entry). is_same e.id d.id) entries e a (same_refl e.id))
 
 not_yes : (b : Bool) → not b ≡ true → b ≡ false
 not_yes false h = refl
@@ -109,7 +112,8 @@ not_no false h = refl
 not_no true h = absurd (true≢false h)
 
 any_parts : (x : Identity) (s : Sighting) (n : ℕ) (parts : List LedgerPart)
-    → list_any (λ (p : LedgerPartFields). covers p.ranges s && has_key p.issuers x.issuer) (take n (map part_fields parts)) ≡ list_any (λ (p : LedgerPart). covers p.ranges.items s && has_key p.issuers.items x.issuer) (take n parts)
+    → list_any (λ (p : LedgerPartFields). covers p.ranges s && has_key p.issuers x.issuer) (take n (map part_fields parts))
+    ≡ list_any (λ (p : LedgerPart). covers p.ranges.items s && has_key p.issuers.items x.issuer) (take n parts)
 any_parts x s zero parts = refl
 any_parts x s (suc n) [] = refl
 any_parts x s (suc n) (p ∷ parts) = ap (λ (b : Bool). (covers p.ranges.items s && has_key p.issuers.items x.issuer) || b) (any_parts x s n parts)
@@ -119,24 +123,25 @@ pub lacked_is : (parts : List LedgerPart) (items : List LedgerItem) (x : Identit
 unfolding past_in parts_before item_of
 lacked_is parts items x s =
     any_parts x s (birth_or (length (map part_fields parts)) (find (λ (i : LedgerItem). is_same x i.id) items)) parts
-    ∙ ap (λ n. list_any (λ (p : LedgerPart). covers p.ranges.items s && has_key p.issuers.items x.issuer) (take (birth_or n (find (λ (i : LedgerItem). is_same x i.id) items)) parts)) (length-map parts part_fields)
+    ∙ ap (λ n. list_any (λ (p : LedgerPart). covers p.ranges.items s && has_key p.issuers.items x.issuer)
+    (take (birth_or n (find (λ (i : LedgerItem). is_same x i.id) items)) parts)) (length-map parts part_fields)
 
-item_step : (x : Identity) (i : LedgerItem) (is : List LedgerItem) (b : Bool) → is_same x i.id ≡ b → (Among (item_ids is) x → is_some_item (find (λ (j : LedgerItem). is_same x j.id) is) ≡ true)
-    → Among (item_ids (i ∷ is)) x → is_some_item (cond b (Some i) (find (λ (j : LedgerItem). is_same x j.id) is)) ≡ true
+item_step : (x : Identity) (i : LedgerItem) (is : List LedgerItem) (b : Bool) → is_same x i.id ≡ b → (Among (item_ids is) x → is_some (find (λ (j : LedgerItem). is_same x j.id) is) ≡ true)
+    → Among (item_ids (i ∷ is)) x → is_some (cond b (Some i) (find (λ (j : LedgerItem). is_same x j.id) is)) ≡ true
 item_step x i is true e next a = refl
 item_step x i is false e next (inl h) = absurd (true≢false (sym (subst (λ y. is_same y i.id ≡ true) h (same_refl i.id)) ∙ e))
 item_step x i is false e next (inr a) = next a
 
-some_item : (x : Identity) (is : List LedgerItem) → Among (item_ids is) x → is_some_item (find (λ (j : LedgerItem). is_same x j.id) is) ≡ true
+some_item : (x : Identity) (is : List LedgerItem) → Among (item_ids is) x → is_some (find (λ (j : LedgerItem). is_same x j.id) is) ≡ true
 some_item x [] a = absurd a
 some_item x (i ∷ is) a = item_step x i is (is_same x i.id) refl (some_item x is) a
 
-back_step : (x : Identity) (i : LedgerItem) (is : List LedgerItem) (b : Bool) → is_same x i.id ≡ b → (is_some_item (find (λ (j : LedgerItem). is_same x j.id) is) ≡ true → Among (item_ids is) x)
-    → is_some_item (cond b (Some i) (find (λ (j : LedgerItem). is_same x j.id) is)) ≡ true → Among (item_ids (i ∷ is)) x
+back_step : (x : Identity) (i : LedgerItem) (is : List LedgerItem) (b : Bool) → is_same x i.id ≡ b → (is_some (find (λ (j : LedgerItem). is_same x j.id) is) ≡ true → Among (item_ids is) x)
+    → is_some (cond b (Some i) (find (λ (j : LedgerItem). is_same x j.id) is)) ≡ true → Among (item_ids (i ∷ is)) x
 back_step x i is true e next h = inl (sym (same_is x i.id e))
 back_step x i is false e next h = inr (next h)
 
-item_some : (x : Identity) (is : List LedgerItem) → is_some_item (find (λ (j : LedgerItem). is_same x j.id) is) ≡ true → Among (item_ids is) x
+item_some : (x : Identity) (is : List LedgerItem) → is_some (find (λ (j : LedgerItem). is_same x j.id) is) ≡ true → Among (item_ids is) x
 item_some x [] h = absurd (true≢false (sym h))
 item_some x (i ∷ is) h = back_step x i is (is_same x i.id) refl (item_some x is) h
 
@@ -179,7 +184,8 @@ module _ (parts : List LedgerPart) (items : List LedgerItem) (job : Job) (sorted
       let m = Among-sightings x (shown (past_in ledger) job) s a in
       let d = shown_from (past_in ledger) job sorted reads m.0 m.1 in
       let i : x ≡ d.0.id = m.2 ∙ ap (λ (e : Entry). e.id) (sym d.2) in
-      let c : covers p.ranges.items d.0.sighting.now ≡ true = all_at (λ (e : ReadEntry). covers p.ranges.items e.sighting.now) (timely parts (item_at x) (run_at x)) d.0 h (timely_from x d.0 d.1 i d.3) in
+      let c : covers p.ranges.items d.0.sighting.now ≡ true = all_at (λ (e : ReadEntry). covers p.ranges.items e.sighting.now)
+      (timely parts (item_at x) (run_at x)) d.0 h (timely_from x d.0 d.1 i d.3) in
       subst (λ t. covers p.ranges.items t ≡ true) (ap (λ (e : Entry). e.sighting) d.2 ∙ m.3) c))
       (λ h. all_from (λ (e : ReadEntry). covers p.ranges.items e.sighting.now) (timely parts (item_at x) (run_at x)) (λ e a.
       let t = timely_to x e a in
@@ -209,7 +215,8 @@ module _ (parts : List LedgerPart) (items : List LedgerItem) (job : Job) (sorted
   unfolding item_of past_in
   member_is x =
       let b : birth_or (length parts) (item_at x) ≡ birth_or (length (map part_fields parts)) (item_at x) = ap (λ n. birth_or n (item_at x)) (sym (length-map parts part_fields)) in
-      let s : settled_in parts (last_or_none (item_at x)) (timely parts (item_at x) (run_at x)) ≡ last_covers (map part_fields parts) (last_or_none (item_at x)) (sightings x (shown (past_in ledger) job)) =
+      let s : settled_in parts (last_or_none (item_at x)) (timely parts (item_at x) (run_at x))
+      ≡ last_covers (map part_fields parts) (last_or_none (item_at x)) (sightings x (shown (past_in ledger) job)) =
       settled_last (last_or_none (item_at x)) x in
       λ k. record { id = x; birth = b k; last = last_or_none (item_at x); settled = s k }
 
@@ -254,7 +261,7 @@ module _ (parts : List LedgerPart) (items : List LedgerItem) (job : Job) (sorted
       let e = found (late_test z) (run_at z) h in
       let t = timely_to z e.0 (Among-in_filter (late_test z) (run_at z) e.0 e.1 e.2) in
       in_accepted z (inl (shown_id z e.0 t.0 t.1 t.2)))
-      (or_cases (is_some_item (item_at z)) (list_any (late_test z) (run_at z)) f.1)
+      (or_cases (is_some (item_at z)) (list_any (late_test z) (run_at z)) f.1)
 
   from_shown : (z : Identity) → Among (map (λ (e : Entry). e.id) (shown (past_in ledger) job)) z → Among (filter test (all_ids items sorted)) z
   from_shown z a =
@@ -262,14 +269,15 @@ module _ (parts : List LedgerPart) (items : List LedgerItem) (job : Job) (sorted
       let d = shown_from (past_in ledger) job sorted reads m.0 m.1 in
       let i : z ≡ d.0.id = sym m.2 ∙ ap (λ (e : Entry). e.id) (sym d.2) in
       let u : Among (all_ids items sorted) z =
-      Among-in_with_all (map (λ (e : ReadEntry). e.id) sorted) (item_ids items) z (inl (subst (λ y. Among (map (λ (e : ReadEntry). e.id) sorted) y) (sym i) (Among-in_map (λ (e : ReadEntry). e.id) sorted d.0 d.1))) in
+      Among-in_with_all (map (λ (e : ReadEntry). e.id) sorted) (item_ids items) z
+      (inl (subst (λ y. Among (map (λ (e : ReadEntry). e.id) sorted) y) (sym i) (Among-in_map (λ (e : ReadEntry). e.id) sorted d.0 d.1))) in
       Among-in_filter test (all_ids items sorted) z u
-      (or_right (is_some_item (item_at z)) (list_any (late_test z) (run_at z)) (any_at (late_test z) (run_at z) d.0 (run_from z d.0 d.1 i) (timely_at z d.0 i d.3)))
+      (or_right (is_some (item_at z)) (list_any (late_test z) (run_at z)) (any_at (late_test z) (run_at z) d.0 (run_from z d.0 d.1 i) (timely_at z d.0 i d.3)))
 
   from_item : (z : Identity) → Among (item_ids items) z → Among (filter test (all_ids items sorted)) z
   from_item z a =
       Among-in_filter test (all_ids items sorted) z (Among-in_with_all (map (λ (e : ReadEntry). e.id) sorted) (item_ids items) z (inr a))
-      (or_left (is_some_item (item_at z)) (list_any (late_test z) (run_at z)) (some_item z items a))
+      (or_left (is_some (item_at z)) (list_any (late_test z) (run_at z)) (some_item z items a))
 
   kept_is : IsStrictlySortedBy identity_cmp (item_ids items) → filter test (all_ids items sorted) ≡ accepted
   kept_is s =

@@ -1,5 +1,6 @@
 -- One step of the merge.
-use Rattle.std.proofs.Common.{◌≡◌, ℕ, suc, ◌+◌, ◌<◌, ◌≤◌, ◌⊎◌, inl, inr, ⊎_elim, List, [], ◌∷◌, ◌++◌, map, length, take, drop, Bool, true, false, cond, Option, Some, None, refl, sym, ap, ◌∙◌, subst, arith, append_assoc}
+use Rattle.std.proofs.Common.{◌≡◌, ℕ, suc, ◌+◌, ◌<◌, ◌≤◌, ◌⊎◌, inl, inr, ⊎_elim, List, [], ◌∷◌, ◌++◌, map, length, take, drop, Bool, true, false, cond, Option}
+use Rattle.std.proofs.Common.{Some, None, refl, sym, ap, ◌∙◌, subst, arith, append_assoc}
 use Rattle.std.specs.List.{AllByRecursion, take_while, filter, filter_map, find, cons_option}
 use Rattle.std.specs.List.Sorted.{IsStrictlySortedBy}
 use Rattle.std.specs.declared.cmp.Ordering.{Ordering}
@@ -32,7 +33,8 @@ pub union_step : (x : Identity) (a a' b b' : List Identity) → IsStrictlySorted
 union_step x a a' b b' s s' fa fb ga gb has la lb =
     sorted_unique identity_cmp identity_total (with_all a b) (x ∷ with_all a' b') (sorted_all_inserted identity_cmp identity_total a b s)
     (sorted_cons identity_cmp x (with_all a' b') (λ z m. ⊎_elim (λ p. la z p) (λ q. lb z q) (Among-with_all a' b' z m)) (sorted_all_inserted identity_cmp identity_total a' b' s'))
-    (λ z m. ⊎_elim (λ p. ⊎_elim (λ e. inl e) (λ r. inr (Among-in_with_all a' b' z (inl r))) (fa z p)) (λ q. ⊎_elim (λ e. inl e) (λ r. inr (Among-in_with_all a' b' z (inr r))) (fb z q)) (Among-with_all a b z m))
+    (λ z m. ⊎_elim (λ p. ⊎_elim (λ e. inl e) (λ r. inr (Among-in_with_all a' b' z (inl r))) (fa z p))
+    (λ q. ⊎_elim (λ e. inl e) (λ r. inr (Among-in_with_all a' b' z (inr r))) (fb z q)) (Among-with_all a b z m))
     (λ z m. Among-in_with_all a b z (⊎_elim (λ (e : x ≡ z). subst (λ w. Among a w ⊎ Among b w) e has) (λ r. ⊎_elim (λ p. inl (ga z p)) (λ q. inr (gb z q)) (Among-with_all a' b' z r)) m))
 
 -- ---- orders
@@ -62,7 +64,8 @@ NotAbove x es = AllByRecursion (λ (d : ReadEntry). is_gt (identity_cmp x d.id) 
 abbrev After : Identity → List ReadEntry → Type 0
 After x es = AllByRecursion (λ (d : ReadEntry). identity_cmp x d.id ≡ Less) es
 
-after_step : (x : Identity) (e : ReadEntry) (es : List ReadEntry) (b : Bool) → is_same x e.id ≡ b → NotAbove x (e ∷ es) → IsRising (e ∷ es) → After x (after_run x es) → After x (cond b (after_run x es) (e ∷ es))
+after_step : (x : Identity) (e : ReadEntry) (es : List ReadEntry) (b : Bool) → is_same x e.id ≡ b → NotAbove x (e ∷ es) → IsRising (e ∷ es)
+    → After x (after_run x es) → After x (cond b (after_run x es) (e ∷ es))
 after_step x e es true i n r next = next
 after_step x e es false i n r next =
     let l : identity_cmp x e.id ≡ Less = is_less (identity_cmp x e.id) n.0 (not_equal x e.id i) in
@@ -75,9 +78,11 @@ after_is x (e ∷ es) n r = after_step x e es (is_same x e.id) refl n r (after_i
 -- an identity below all of them is none of theirs
 none_same : (x : Identity) (es : List ReadEntry) → After x es → filter (λ (e : ReadEntry). is_same x e.id) es ≡ []
 none_same x [] h = refl
-none_same x (e ∷ es) h = ap (λ b. cond b (e ∷ filter (λ (d : ReadEntry). is_same x d.id) es) (filter (λ (d : ReadEntry). is_same x d.id) es)) (same_other x e.id (less_other x e.id h.0)) ∙ none_same x es h.1
+none_same x (e ∷ es) h = ap (λ b. cond b (e ∷ filter (λ (d : ReadEntry). is_same x d.id) es) (filter (λ (d : ReadEntry). is_same x d.id) es))
+    (same_other x e.id (less_other x e.id h.0)) ∙ none_same x es h.1
 
-run_step : (x : Identity) (e : ReadEntry) (es : List ReadEntry) (b : Bool) → is_same x e.id ≡ b → After x (cond b (after_run x es) (e ∷ es)) → (After x (after_run x es) → filter (λ (d : ReadEntry). is_same x d.id) es ≡ run_of x es)
+run_step : (x : Identity) (e : ReadEntry) (es : List ReadEntry) (b : Bool) → is_same x e.id ≡ b → After x (cond b (after_run x es) (e ∷ es))
+    → (After x (after_run x es) → filter (λ (d : ReadEntry). is_same x d.id) es ≡ run_of x es)
     → cond b (e ∷ filter (λ (d : ReadEntry). is_same x d.id) es) (filter (λ (d : ReadEntry). is_same x d.id) es) ≡ cond b (e ∷ run_of x es) []
 run_step x e es true i h next = ap (λ (z : List ReadEntry). e ∷ z) (next h)
 run_step x e es false i h next = none_same x es h.1
@@ -103,7 +108,8 @@ pub rising_after : (x : Identity) (es : List ReadEntry) → IsRising es → IsRi
 rising_after x [] r = tt
 rising_after x (e ∷ es) r = elim (is_same x e.id) as (λ b. IsRising (cond b (after_run x es) (e ∷ es))) [ true ↦ rising_after x es r.1 | false ↦ r ]
 
-cases_step : (x : Identity) (e : ReadEntry) (es : List ReadEntry) (z : Identity) (b : Bool) → is_same x e.id ≡ b → (Among (map (λ (d : ReadEntry). d.id) es) z → (x ≡ z) ⊎ Among (map (λ (d : ReadEntry). d.id) (after_run x es)) z)
+cases_step : (x : Identity) (e : ReadEntry) (es : List ReadEntry) (z : Identity) (b : Bool) → is_same x e.id ≡ b
+    → (Among (map (λ (d : ReadEntry). d.id) es) z → (x ≡ z) ⊎ Among (map (λ (d : ReadEntry). d.id) (after_run x es)) z)
     → Among (map (λ (d : ReadEntry). d.id) (e ∷ es)) z → (x ≡ z) ⊎ Among (map (λ (d : ReadEntry). d.id) (cond b (after_run x es) (e ∷ es))) z
 cases_step x e es z false i next m = inr m
 cases_step x e es z true i next (inl h) = inl (same_is x e.id i ∙ h)
@@ -141,7 +147,8 @@ first_step x i is true e g s z a = subst (λ w. identity_cmp w z ≡ Less) (sym 
 first_step x i is false e g s z (inl h) = subst (λ w. identity_cmp x w ≡ Less) h (is_less (identity_cmp x i.id) g (not_equal x i.id e))
 first_step x i is false e g s z (inr a) = identity_total.trans x i.id z (is_less (identity_cmp x i.id) g (not_equal x i.id e)) (sorted_head identity_cmp i.id (item_ids is) z s a)
 
-first_less : (x : Identity) (is : List LedgerItem) → NoneBelow x (item_ids is) → IsStrictlySortedBy identity_cmp (item_ids is) → (z : Identity) → Among (item_ids (after_first x is)) z → identity_cmp x z ≡ Less
+first_less : (x : Identity) (is : List LedgerItem) → NoneBelow x (item_ids is) → IsStrictlySortedBy identity_cmp (item_ids is) → (z : Identity)
+    → Among (item_ids (after_first x is)) z → identity_cmp x z ≡ Less
 first_less x [] n s z a = absurd a
 first_less x (i ∷ is) n s z a = first_step x i is (is_same x i.id) refl n.0 s z a
 
@@ -180,7 +187,8 @@ first_found : (x : Identity) (is : List LedgerItem) → ((z : Identity) → Amon
 first_found x [] f = refl
 first_found x (i ∷ is) f = found_step x i is (is_same x i.id) f
 
-pass_step : (x y : Identity) (i : LedgerItem) (is : List LedgerItem) (b : Bool) → is_same x i.id ≡ b → (x ≡ y → ⊥) → find (λ (j : LedgerItem). is_same y j.id) (i ∷ is) ≡ find (λ (j : LedgerItem). is_same y j.id) (cond b is (i ∷ is))
+pass_step : (x y : Identity) (i : LedgerItem) (is : List LedgerItem) (b : Bool) → is_same x i.id ≡ b → (x ≡ y → ⊥)
+    → find (λ (j : LedgerItem). is_same y j.id) (i ∷ is) ≡ find (λ (j : LedgerItem). is_same y j.id) (cond b is (i ∷ is))
 pass_step x y i is false e n = refl
 pass_step x y i is true e n = ap (λ b. cond b (Some i) (find (λ (j : LedgerItem). is_same y j.id) is)) (same_other y i.id (λ q. n (same_is x i.id e ∙ sym q)))
 
@@ -201,7 +209,8 @@ self x = ap is_gt (tied_itself identity_total x)
 less_gt : (x : Identity) (ids : List Identity) → ((z : Identity) → Among ids z → identity_cmp x z ≡ Less) → NoneBelow x ids
 less_gt x ids f = all_from (λ (z : Identity). is_gt (identity_cmp x z) ≡ false) ids (λ z a. ap is_gt (f z a))
 
-least_both : (o : Ordering) (i : LedgerItem) (is : List LedgerItem) (e : ReadEntry) (es : List ReadEntry) → identity_cmp i.id e.id ≡ o → IsStrictlySortedBy identity_cmp (i.id ∷ item_ids is) → IsRising (e ∷ es)
+least_both : (o : Ordering) (i : LedgerItem) (is : List LedgerItem) (e : ReadEntry) (es : List ReadEntry) → identity_cmp i.id e.id ≡ o
+    → IsStrictlySortedBy identity_cmp (i.id ∷ item_ids is) → IsRising (e ∷ es)
     → IsLeast (cond (is_lt o) i.id e.id) (i ∷ is) (e ∷ es)
 least_both Less i is e es h s r = record {
   entries_not_below = (
@@ -215,7 +224,10 @@ least_both Less i is e es h s r = record {
 least_both Equal i is e es h s r =
     let q : i.id ≡ e.id = identity_exact i.id e.id h in record {
       entries_not_below = (self e.id, r.0);
-      items_not_below = (subst (λ w. is_gt (identity_cmp w i.id) ≡ false) q (self i.id), less_gt e.id (item_ids is) (λ z a. subst (λ w. identity_cmp w z ≡ Less) q (sorted_head identity_cmp i.id (item_ids is) z s a)));
+      items_not_below = (
+        subst (λ w. is_gt (identity_cmp w i.id) ≡ false) q (self i.id),
+        less_gt e.id (item_ids is) (λ z a. subst (λ w. identity_cmp w z ≡ Less) q (sorted_head identity_cmp i.id (item_ids is) z s a)),
+      );
       among = inl (inl refl);
     }
 least_both Greater i is e es h s r =
@@ -228,7 +240,8 @@ least_both Greater i is e es h s r =
 some_same : (x y : Identity) → ◌≡◌ {A = Option Identity} (Some x) (Some y) → x ≡ y
 some_same x y h = cc
 
-least_is : (x : Identity) (items : List LedgerItem) (entries : List ReadEntry) → IsStrictlySortedBy identity_cmp (item_ids items) → IsRising entries → least_of items entries ≡ Some x → IsLeast x items entries
+least_is : (x : Identity) (items : List LedgerItem) (entries : List ReadEntry) → IsStrictlySortedBy identity_cmp (item_ids items) → IsRising entries
+    → least_of items entries ≡ Some x → IsLeast x items entries
 least_is x [] [] s r h = absurd cc
 least_is x (i ∷ is) [] s r h = subst (λ w. IsLeast w (i ∷ is) []) (some_same i.id x h) (record {
   entries_not_below = tt;
@@ -262,8 +275,10 @@ merged_step {M} judge x items entries s r h =
     ap (λ o. judge x o (filter (λ (e : ReadEntry). is_same x e.id) entries)) (first_found x items above) ∙ ap (judge x (first_of x items)) (run_is x entries behind) in
     let there : filter_map f rest ≡ filter_map g rest =
     agree f g rest (λ y a.
-    let n : (x ≡ y) → ⊥ = less_other x y (⊎_elim (λ p. after_ids x (after_run x entries) y behind p) (λ q. above y q) (Among-with_all (map (λ (e : ReadEntry). e.id) (after_run x entries)) (item_ids (after_first x items)) y a)) in
-    ap (λ o. judge y o (filter (λ (e : ReadEntry). is_same y e.id) entries)) (first_passed x y items n) ∙ ap (judge y (find (λ (i : LedgerItem). is_same y i.id) (after_first x items))) (others_behind x y entries n)) in
+    let n : (x ≡ y) → ⊥ = less_other x y (⊎_elim (λ p. after_ids x (after_run x entries) y behind p) (λ q. above y q)
+    (Among-with_all (map (λ (e : ReadEntry). e.id) (after_run x entries)) (item_ids (after_first x items)) y a)) in
+    ap (λ o. judge y o (filter (λ (e : ReadEntry). is_same y e.id) entries)) (first_passed x y items n) ∙ ap
+    (judge y (find (λ (i : LedgerItem). is_same y i.id) (after_first x items))) (others_behind x y entries n)) in
     ap (filter_map f) ids ∙ ap (λ o. cons_option o (filter_map f rest)) here ∙ ap (cons_option (judge x (first_of x items) (run_of x entries))) there
 
 -- ---- what the loop keeps
@@ -272,7 +287,8 @@ cons_more : {M : Type 0} (out rest : List M) (m : Option M) → (out ++ cons_opt
 cons_more out rest None = ap (λ z. z ++ rest) (append-nil out)
 cons_more out rest (Some m) = rw append_assoc refl
 
-pub step_done : {M : Type 0} (judge : Identity → Option LedgerItem → List ReadEntry → Option M) (x : Identity) (items left : List LedgerItem) (entries after : List ReadEntry) (m : Option M) (out more whole : List M)
+pub step_done : {M : Type 0} (judge : Identity → Option LedgerItem → List ReadEntry → Option M) (x : Identity) (items left : List LedgerItem)
+    (entries after : List ReadEntry) (m : Option M) (out more whole : List M)
     → IsStrictlySortedBy identity_cmp (item_ids items) → IsRising entries → least_of items entries ≡ Some x
     → left ≡ after_first x items → after ≡ after_run x entries → m ≡ judge x (first_of x items) (run_of x entries) → more ≡ out ++ cons_option m []
     → out ++ merged judge items entries ≡ whole → more ++ merged judge left after ≡ whole
@@ -283,7 +299,8 @@ step_done judge x items left entries after m out more whole s r h l a j o w =
     ∙ ap (λ z. out ++ cons_option (judge x (first_of x items) (run_of x entries)) (merged judge (after_first x items) z)) a
     ∙ ap (λ z. out ++ z) (sym (merged_step judge x items entries s r h)) ∙ w
 
-merged_none : {M : Type 0} (judge : Identity → Option LedgerItem → List ReadEntry → Option M) (items : List LedgerItem) (entries : List ReadEntry) → least_of items entries ≡ None → merged judge items entries ≡ []
+merged_none : {M : Type 0} (judge : Identity → Option LedgerItem → List ReadEntry → Option M) (items : List LedgerItem) (entries : List ReadEntry)
+    → least_of items entries ≡ None → merged judge items entries ≡ []
 unfolding merged all_inserted
 merged_none judge [] [] h = refl
 merged_none judge (i ∷ is) [] h = absurd cc
@@ -296,7 +313,8 @@ all_done judge items entries out whole h w = sym (append-nil out) ∙ ap (λ z. 
 
 take_run : (x : Identity) (es : List ReadEntry) → take (length (run_of x es)) es ≡ run_of x es
 take_run x [] = refl
-take_run x (e ∷ es) = elim (is_same x e.id) as (λ b. take (length (cond b (e ∷ run_of x es) [])) (e ∷ es) ≡ cond b (e ∷ run_of x es) []) [ true ↦ ap (λ (z : List ReadEntry). e ∷ z) (take_run x es) | false ↦ refl ]
+take_run x (e ∷ es) = elim (is_same x e.id) as (λ b. take (length (cond b (e ∷ run_of x es) [])) (e ∷ es) ≡ cond b (e ∷ run_of x es) [])
+    [ true ↦ ap (λ (z : List ReadEntry). e ∷ z) (take_run x es) | false ↦ refl ]
 
 drop_run : (x : Identity) (es : List ReadEntry) → drop (length (run_of x es)) es ≡ after_run x es
 drop_run x [] = refl
@@ -346,7 +364,8 @@ smaller x [] [] h = absurd cc
 smaller x (i ∷ is) [] h = let l = item_gone x i is (some_same i.id x h) in omega arith
 smaller x [] (e ∷ es) h = let l = entry_gone x e es (some_same e.id x h) in omega arith
 smaller x (i ∷ is) (e ∷ es) h =
-    ⊎_elim (λ (q : i.id ≡ x). let l = item_gone x i is q in let k = after_short x (e ∷ es) in omega arith) (λ (q : e.id ≡ x). let l = entry_gone x e es q in let k = first_short x (i ∷ is) in omega arith)
+    ⊎_elim (λ (q : i.id ≡ x). let l = item_gone x i is q in let k = after_short x (e ∷ es) in omega arith)
+    (λ (q : e.id ≡ x). let l = entry_gone x e es q in let k = first_short x (i ∷ is) in omega arith)
     (lower_cases (is_lt (identity_cmp i.id e.id)) i.id e.id x (some_same (lower i.id e.id) x h))
 
 pub lower_yes : (x y : Identity) (b : Bool) → b ≡ true → b ≡ is_lt (identity_cmp x y) → x ≡ lower x y
@@ -359,7 +378,8 @@ counted : (x : Identity) (es : List ReadEntry) → length (take_while (λ (e : R
 counted x [] = refl
 counted x (e ∷ es) =
     ap length (take_while-cons (λ (d : ReadEntry). is_same x d.id) e es)
-    ∙ (elim (is_same x e.id) as (λ b. length (cond b (e ∷ take_while (λ (d : ReadEntry). is_same x d.id) es) []) ≡ length (cond b (e ∷ run_of x es) [])) [ true ↦ ap suc (counted x es) | false ↦ refl ])
+    ∙ (elim (is_same x e.id) as (λ b. length (cond b (e ∷ take_while (λ (d : ReadEntry). is_same x d.id) es) []) ≡ length (cond b (e ∷ run_of x es) []))
+    [ true ↦ ap suc (counted x es) | false ↦ refl ])
 
 pub run_counted : (n : ℕ) (x : Identity) (es : List ReadEntry) → n ≡ length (take_while (λ (e : ReadEntry). is_same x e.id) es) → n ≡ length (run_of x es)
 run_counted n x es h = h ∙ counted x es

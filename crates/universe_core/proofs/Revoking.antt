@@ -1,5 +1,6 @@
 -- Which members are revoked.
 use Rattle.std.specs.List.{list_any, filter_map, cons_option}
+use Rattle.std.specs.Prelude.{is_some}
 use Rattle.std.specs.Str.{bytes_eq}
 use Rattle.std.proofs.Common.{◌≡◌, ℕ, List, [], ◌∷◌, map, filter, length, Bool, true, false, cond, not, ◌&&◌, ◌||◌, Option, Some, None, refl, sym, ap, ◌∙◌}
 use Rattle.std.proofs.lemmas.Bool.{false_from_ne_true, true≢false}
@@ -12,9 +13,9 @@ use Rattle.sets_core.specs.Sets.{has, has_key}
 use Rattle.sets_core.proofs.Elements.{Among-filter, Among-in_filter, bool_same, map_agree}
 use Rattle.sets_core.proofs.Sets.{Among-from_has, has-from_Among}
 use Rattle.universe_core.specs.Jobs.{Crl, Job, accepted_crl, enrolled, lists}
-use Rattle.universe_core.specs.Enrolling.{told_crl, holds}
+use Rattle.universe_core.specs.Enrolling.{facts_of_crl, holds}
 use Rattle.universe_core.specs.History.{Past, shown, sightings, accepted_with, universe, listed_now, is_revoked, revoked}
-use Rattle.universe_core.specs.Ledgers.{past_in, item_of, last_or_none, some_last, next_item}
+use Rattle.universe_core.specs.Ledgers.{past_in, item_of, last_or_none, next_item}
 use Rattle.universe_core.specs.Members.{member_in, next_of}
 use Rattle.universe_core.specs.declared.member.Member.{Member}
 
@@ -74,16 +75,18 @@ lists_step : (x : Identity) (o : Option Crl) (cs : List Crl) (r : Bool) → list
 lists_step x None cs r e = e
 lists_step x (Some c) cs r e = by (bytes_eq x.issuer c.issuer)
   where
-    by : (b : Bool) → list_any (λ (d : Crl). has_key d.serials x.serial) (cond b (c ∷ filter (λ (d : Crl). bytes_eq x.issuer d.issuer) cs) (filter (λ (d : Crl). bytes_eq x.issuer d.issuer) cs)) ≡ ((b && has_key c.serials x.serial) || r)
+    by : (b : Bool) → list_any (λ (d : Crl). has_key d.serials x.serial)
+        (cond b (c ∷ filter (λ (d : Crl). bytes_eq x.issuer d.issuer) cs) (filter (λ (d : Crl). bytes_eq x.issuer d.issuer) cs))
+        ≡ ((b && has_key c.serials x.serial) || r)
     by true = ap (λ z. has_key c.serials x.serial || z) e
     by false = e
 
 lists_all : (x : Identity) (cs : List JobCrl) → list_any (λ (d : Crl). has_key d.serials x.serial) (filter (λ (d : Crl). bytes_eq x.issuer d.issuer) (filter_map accepted_crl (map crl_view cs)))
-    ≡ list_any (λ c. holds (told_crl c) x) cs
+    ≡ list_any (λ c. holds (facts_of_crl c) x) cs
 lists_all x [] = refl
-lists_all x (c ∷ cs) = lists_step x (told_crl c) (filter_map accepted_crl (map crl_view cs)) (list_any (λ d. holds (told_crl d) x) cs) (lists_all x cs)
+lists_all x (c ∷ cs) = lists_step x (facts_of_crl c) (filter_map accepted_crl (map crl_view cs)) (list_any (λ d. holds (facts_of_crl d) x) cs) (lists_all x cs)
 
-pub lists_is : (job : Job) (crls : List JobCrl) (x : Identity) → job.crls ≡ filter_map accepted_crl (map crl_view crls) → lists job x ≡ list_any (λ c. holds (told_crl c) x) crls
+pub lists_is : (job : Job) (crls : List JobCrl) (x : Identity) → job.crls ≡ filter_map accepted_crl (map crl_view crls) → lists job x ≡ list_any (λ c. holds (facts_of_crl c) x) crls
 unfolding lists
 lists_is job crls x t = ap (λ cs. list_any (λ (d : Crl). has_key d.serials x.serial) (filter (λ (d : Crl). bytes_eq x.issuer d.issuer) cs)) t ∙ lists_all x crls
 
@@ -97,44 +100,52 @@ module _ (ledger : LedgerFields) (job : Job) where
   abbrev past : Past
   past = past_in ledger
 
-  was_is : (x : Identity) → some_last (last_or_none (item_of ledger x)) ≡ past.was_listed x
+  was_is : (x : Identity) → is_some (last_or_none (item_of ledger x)) ≡ past.was_listed x
   unfolding past_in
   was_is x = refl
 
   -- the flags of the members are those of the revoked set
-  pub flags_are : map (λ m. has_key (enrolled job) m.id.issuer && ((some_last m.last || lists job m.id) && not m.settled)) (map (member_in ledger job) (accepted_with past job)) ≡ map (has (revoked past job)) (accepted_with past job)
+  pub flags_are : map (λ m. has_key (enrolled job) m.id.issuer && ((is_some m.last || lists job m.id) && not m.settled))
+      (map (member_in ledger job) (accepted_with past job)) ≡ map (has (revoked past job)) (accepted_with past job)
   flags_are =
-      map_map (member_in ledger job) (λ m. has_key (enrolled job) m.id.issuer && ((some_last m.last || lists job m.id) && not m.settled)) (accepted_with past job)
-      ∙ map_agree (λ x. has_key (enrolled job) x.issuer && ((some_last (last_or_none (item_of ledger x)) || lists job x) && not (past.is_settled x (sightings x (shown past job))))) (has (revoked past job)) (accepted_with past job)
-      (λ x a. ap (λ b. has_key (enrolled job) x.issuer && ((b || lists job x) && not (past.is_settled x (sightings x (shown past job))))) (was_is x) ∙ sym (flag_is past job x (has-from_Among (accepted_with past job) x a)))
+      map_map (member_in ledger job) (λ m. has_key (enrolled job) m.id.issuer && ((is_some m.last || lists job m.id) && not m.settled)) (accepted_with past job)
+      ∙ map_agree (λ x. has_key (enrolled job) x.issuer && ((is_some (last_or_none (item_of ledger x)) || lists job x) && not
+      (past.is_settled x (sightings x (shown past job))))) (has (revoked past job)) (accepted_with past job)
+      (λ x a. ap (λ b. has_key (enrolled job) x.issuer && ((b || lists job x) && not (past.is_settled x (sightings x (shown past job))))) (was_is x) ∙ sym
+      (flag_is past job x (has-from_Among (accepted_with past job) x a)))
 
   -- the items are those of the next ledger
-  pub items_are : map (λ m. next_of (length ledger.parts) (has (revoked past job) m.id) m) (map (member_in ledger job) (accepted_with past job)) ≡ map (next_item past ledger job) (accepted_with past job)
+  pub items_are : map (λ m. next_of (length ledger.parts) (has (revoked past job) m.id) m) (map (member_in ledger job) (accepted_with past job))
+      ≡ map (next_item past ledger job) (accepted_with past job)
   items_are = map_map (member_in ledger job) (λ m. next_of (length ledger.parts) (has (revoked past job) m.id) m) (accepted_with past job)
 
 -- ---- from the marks to the revoked set
 
-pub told_flags : (ledger : LedgerFields) (job : Job) (crls : List JobCrl) (issuers : List (List ℕ)) (ids : List Identity) (members : List Member) (listed flags : List Bool) → job.crls ≡ filter_map accepted_crl (map crl_view crls)
+pub told_flags : (ledger : LedgerFields) (job : Job) (crls : List JobCrl) (issuers : List (List ℕ)) (ids : List Identity) (members : List Member)
+    (listed flags : List Bool) → job.crls ≡ filter_map accepted_crl (map crl_view crls)
     → issuers ≡ enrolled job → ids ≡ map (λ m. m.id) members → members ≡ map (member_in ledger job) (accepted_with (past_in ledger) job)
-    → listed ≡ map (λ x. list_any (λ c. holds (told_crl c) x) crls) ids
-    → ((g : Identity → Bool) → listed ≡ map (λ m. g m.id) members → flags ≡ map (λ m. has_key issuers m.id.issuer && ((some_last m.last || g m.id) && not m.settled)) members)
+    → listed ≡ map (λ x. list_any (λ c. holds (facts_of_crl c) x) crls) ids
+    → ((g : Identity → Bool) → listed ≡ map (λ m. g m.id) members → flags ≡ map (λ m. has_key issuers m.id.issuer && ((is_some m.last || g m.id) && not m.settled)) members)
     → flags ≡ map (has (revoked (past_in ledger) job)) (accepted_with (past_in ledger) job)
 told_flags ledger job crls issuers ids members listed flags t k i m l f =
-    f (lists job) (l ∙ ap (map (λ x. list_any (λ c. holds (told_crl c) x) crls)) i ∙ map_map (λ (d : Member). d.id) (λ x. list_any (λ c. holds (told_crl c) x) crls) members
-    ∙ map_agree (λ (d : Member). list_any (λ c. holds (told_crl c) d.id) crls) (λ (d : Member). lists job d.id) members (λ d a. sym (lists_is job crls d.id t)))
-    ∙ ap (λ ks. map (λ d. has_key ks d.id.issuer && ((some_last d.last || lists job d.id) && not d.settled)) members) k
-    ∙ ap (map (λ d. has_key (enrolled job) d.id.issuer && ((some_last d.last || lists job d.id) && not d.settled))) m
+    f (lists job) (l ∙ ap (map (λ x. list_any (λ c. holds (facts_of_crl c) x) crls)) i ∙ map_map (λ (d : Member). d.id) (λ x. list_any (λ c. holds (facts_of_crl c) x) crls) members
+    ∙ map_agree (λ (d : Member). list_any (λ c. holds (facts_of_crl c) d.id) crls) (λ (d : Member). lists job d.id) members (λ d a. sym (lists_is job crls d.id t)))
+    ∙ ap (λ ks. map (λ d. has_key ks d.id.issuer && ((is_some d.last || lists job d.id) && not d.settled)) members) k
+    ∙ ap (map (λ d. has_key (enrolled job) d.id.issuer && ((is_some d.last || lists job d.id) && not d.settled))) m
     ∙ flags_are ledger job
 
 -- a mark and a flag beside each member
 
-pub beside_marks : (crls : List JobCrl) (ids : List Identity) (members : List Member) (listed : List Bool) → ids ≡ map (λ m. m.id) members → listed ≡ map (λ x. list_any (λ c. holds (told_crl c) x) crls) ids → length listed ≡ length members
-beside_marks crls ids members listed i l = ap length l ∙ length-map ids (λ x. list_any (λ c. holds (told_crl c) x) crls) ∙ ap length i ∙ length-map members (λ (d : Member). d.id)
+pub beside_marks : (crls : List JobCrl) (ids : List Identity) (members : List Member) (listed : List Bool) → ids ≡ map (λ m. m.id) members
+    → listed ≡ map (λ x. list_any (λ c. holds (facts_of_crl c) x) crls) ids → length listed ≡ length members
+beside_marks crls ids members listed i l = ap length l ∙ length-map ids (λ x. list_any (λ c. holds (facts_of_crl c) x) crls) ∙ ap length i ∙ length-map members (λ (d : Member). d.id)
 
 pub beside_flags : (crls : List JobCrl) (issuers : List (List ℕ)) (ids : List Identity) (members : List Member) (listed flags : List Bool) → ids ≡ map (λ m. m.id) members
-    → listed ≡ map (λ x. list_any (λ c. holds (told_crl c) x) crls) ids
-    → ((g : Identity → Bool) → listed ≡ map (λ m. g m.id) members → flags ≡ map (λ m. has_key issuers m.id.issuer && ((some_last m.last || g m.id) && not m.settled)) members)
+    → listed ≡ map (λ x. list_any (λ c. holds (facts_of_crl c) x) crls) ids
+    → ((g : Identity → Bool) → listed ≡ map (λ m. g m.id) members → flags ≡ map (λ m. has_key issuers m.id.issuer && ((is_some m.last || g m.id) && not m.settled)) members)
     → length flags ≡ length members
 beside_flags crls issuers ids members listed flags i l f =
-    ap length (f (λ x. list_any (λ c. holds (told_crl c) x) crls) (l ∙ ap (map (λ x. list_any (λ c. holds (told_crl c) x) crls)) i ∙ map_map (λ (d : Member). d.id) (λ x. list_any (λ c. holds (told_crl c) x) crls) members))
-    ∙ length-map members (λ (d : Member). has_key issuers d.id.issuer && ((some_last d.last || list_any (λ c. holds (told_crl c) d.id) crls) && not d.settled))
+    ap length (f (λ x. list_any (λ c. holds (facts_of_crl c) x) crls)
+    (l ∙ ap (map (λ x. list_any (λ c. holds (facts_of_crl c) x) crls)) i ∙ map_map (λ (d : Member). d.id)
+    (λ x. list_any (λ c. holds (facts_of_crl c) x) crls) members))
+    ∙ length-map members (λ (d : Member). has_key issuers d.id.issuer && ((is_some d.last || list_any (λ c. holds (facts_of_crl c) d.id) crls) && not d.settled))

@@ -51,7 +51,8 @@ some_left : (b : Bool) (d e : Entry) → ◌≡◌ {A = Option Entry} (cond b (S
 some_left true d e h = (let q : d ≡ e = cc in q, refl)
 some_left false d e h = absurd cc
 
-read_is : (ranges : List Range) (issuers : List (List ℕ)) (q : Option Entry) (e : Entry) → if_read ranges issuers q ≡ Some e → (q ≡ Some e) × (covers ranges e.sighting && has_key issuers e.id.issuer ≡ true)
+read_is : (ranges : List Range) (issuers : List (List ℕ)) (q : Option Entry) (e : Entry) → if_read ranges issuers q ≡ Some e
+    → (q ≡ Some e) × (covers ranges e.sighting && has_key issuers e.id.issuer ≡ true)
 read_is ranges issuers None e h = absurd cc
 read_is ranges issuers (Some d) e h =
     let p = some_left (covers ranges d.sighting && has_key issuers d.id.issuer) d e h in

@@ -7,8 +7,8 @@ use Rattle.job_core.specs.JobFields.{crl_view}
 use Rattle.sets_core.specs.Sets.{has_key}
 use Rattle.universe_core.specs.Jobs.{Crl, accepted_crl, is_stale}
 
-abbrev pub told_crl : JobCrl → Option Crl
-told_crl c = accepted_crl (crl_view c)
+abbrev pub facts_of_crl : JobCrl → Option Crl
+facts_of_crl c = accepted_crl (crl_view c)
 
 abbrev pub issuer_if : Option Crl → Option (List ℕ)
 issuer_if None = None

@@ -10,7 +10,8 @@ use Rattle.ident_core.specs.declared.range.Range.{Range}
 use Rattle.crl_core.specs.declared.crl.CrlFault.{CrlFault}
 use Rattle.crl_core.specs.Outcome.{CrlFields}
 use Rattle.log_core.specs.Entries.{EntryFields}
-use Rattle.job_core.specs.JobFields.{CrlMeaning, JobFields}
+use Rattle.job_core.specs.declared.meaning.Job.{Job as JobInCode}
+use Rattle.job_core.specs.JobFields.{CrlMeaning, JobFields, fields_of_job}
 use Rattle.sets_core.specs.Sets.{has_key, key_set}
 
 -- an issuer's CRL: when it goes out of date, in seconds since 1970, and the serials that it holds
@@ -32,7 +33,7 @@ pub record Job : Type 0 where
   pub crls : List Crl
   pub entries : List (Option Entry)
 
--- ---- what the job of some bytes tells
+-- ---- what a job says, by its fields
 
 abbrev pub crl_by : List ℕ → Result CrlFields CrlFault → Option Crl
 crl_by issuer (Ok c) = Some (record { issuer = issuer; next_update = c.next_update; serials = c.serials })
@@ -45,8 +46,19 @@ accepted_crl c = crl_by c.issuer c.outcome
 abbrev pub entry_of : EntryFields → Entry
 entry_of e = record { id = record { issuer = e.issuer; serial = e.serial }; sighting = record { log = e.log; time = e.time } }
 
-abbrev pub told : JobFields → Job
-told j = record { epoch = j.epoch; moment = j.moment; ranges = j.ranges; crls = filter_map accepted_crl j.crls; entries = map (option_map entry_of) j.entries }
+-- the epoch, the moment, the coverage, the CRLs that are accepted, and the entries
+abbrev pub facts_of : JobFields → Job
+facts_of j = record {
+  epoch = j.epoch;
+  moment = j.moment;
+  ranges = j.ranges;
+  crls = filter_map accepted_crl j.crls;
+  entries = map (option_map entry_of) j.entries;
+}
+
+-- the same of a job as the code has it
+abbrev pub facts_of_job : JobInCode → Job
+facts_of_job j = facts_of (fields_of_job j)
 
 -- ---- enrolment and listing
 

@@ -1,5 +1,5 @@
 -- What becomes of an identity: its item and its entries.
-use Rattle.std.specs.Prelude.{ℕ, List, filter, take, length, Bool, true, false, cond, not, ◌&&◌, ◌||◌, Option, Some, None, slice_get}
+use Rattle.std.specs.Prelude.{ℕ, List, filter, take, length, Bool, true, false, cond, not, ◌&&◌, ◌||◌, Option, Some, None, is_some, slice_get}
 use Rattle.std.specs.List.{list_any, list_all}
 use Rattle.ident_core.specs.declared.identity.Identity.{Identity}
 use Rattle.sets_core.specs.Sets.{has_key}
@@ -9,10 +9,6 @@ use Rattle.ledger_core.specs.declared.fields.LedgerItem.{LedgerItem}
 use Rattle.universe_core.specs.Ledgers.{birth_or, last_or_none}
 use Rattle.universe_core.specs.declared.member.ReadEntry.{ReadEntry}
 use Rattle.universe_core.specs.declared.member.Member.{Member}
-
-abbrev pub is_some_item : Option LedgerItem → Bool
-is_some_item None = false
-is_some_item (Some i) = true
 
 -- whether a part before the birth covers the sighting and enrolls the issuer
 abbrev pub lacked_in : List LedgerPart → ℕ → ReadEntry → Bool
@@ -33,10 +29,15 @@ timely parts old run = filter (λ e. not (lacked_in parts (birth_or (length part
 
 -- whether it has an item, or an entry that isn't late
 abbrev pub is_member_of : List LedgerPart → Option LedgerItem → List ReadEntry → Bool
-is_member_of parts old run = is_some_item old || list_any (λ e. not (lacked_in parts (birth_or (length parts) old) e)) run
+is_member_of parts old run = is_some old || list_any (λ e. not (lacked_in parts (birth_or (length parts) old) e)) run
 
 abbrev pub member_of : List LedgerPart → Identity → Option LedgerItem → List ReadEntry → Member
-member_of parts x old run = record { id = x; birth = birth_or (length parts) old; last = last_or_none old; settled = settled_in parts (last_or_none old) (timely parts old run) }
+member_of parts x old run = record {
+  id = x;
+  birth = birth_or (length parts) old;
+  last = last_or_none old;
+  settled = settled_in parts (last_or_none old) (timely parts old run);
+}
 
 abbrev pub judge_of : List LedgerPart → Identity → Option LedgerItem → List ReadEntry → Option Member
 judge_of parts x old run = cond (is_member_of parts old run) (Some (member_of parts x old run)) None

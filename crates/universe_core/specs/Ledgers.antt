@@ -1,13 +1,14 @@
 -- The ledger: two numbers an identity in place of the history. What it tells a job, the next one, and that of a
 -- history.
-use Rattle.std.specs.Prelude.{ℕ, suc, List, [], ◌∷◌, ◌++◌, map, find, take, length, Bool, true, false, ◌&&◌, if◌then◌else◌, Option, Some, None}
+use Rattle.std.specs.Prelude.{ℕ, suc, List, [], ◌∷◌, ◌++◌, map, find, take, length, Bool, true, false, ◌&&◌, if◌then◌else◌, Option, Some, None, is_some}
 use Rattle.std.specs.List.{list_any, slice_get}
 use Rattle.ident_core.specs.declared.identity.Identity.{Identity}
 use Rattle.ident_core.specs.declared.range.Sighting.{Sighting}
 use Rattle.ident_core.specs.Order.{is_same}
 use Rattle.ident_core.specs.Coverage.{covers}
 use Rattle.ledger_core.specs.declared.fields.LedgerItem.{LedgerItem}
-use Rattle.ledger_core.specs.LedgerFields.{LedgerPartFields, LedgerFields}
+use Rattle.ledger_core.specs.declared.fields.LedgerPart.{LedgerPart}
+use Rattle.ledger_core.specs.LedgerFields.{LedgerPartFields, LedgerFields, ledger_fields}
 use Rattle.sets_core.specs.Sets.{has, has_key}
 use Rattle.universe_core.specs.Jobs.{Job, enrolled}
 use Rattle.universe_core.specs.History.{Release, Past, covers_all, accepted_with, revoked, birth, accepted_by}
@@ -29,10 +30,6 @@ abbrev pub last_or_none : Option LedgerItem → Option ℕ
 last_or_none None = None
 last_or_none (Some i) = i.last
 
-abbrev pub some_last : Option ℕ → Bool
-some_last None = false
-some_last (Some r) = true
-
 -- the parts before the identity's birth; all of them if it has no item
 unfoldable pub parts_before : LedgerFields → Identity → List LedgerPartFields
 parts_before ledger x = take (birth_or (length ledger.parts) (item_of ledger x)) ledger.parts
@@ -50,9 +47,13 @@ unfoldable pub past_in : LedgerFields → Past
 past_in ledger = record {
   accepted = map (λ i. i.id) ledger.items;
   lacked = λ x s. list_any (λ p. covers p.ranges s && has_key p.issuers x.issuer) (parts_before ledger x);
-  was_listed = λ x. some_last (last_or_none (item_of ledger x));
+  was_listed = λ x. is_some (last_or_none (item_of ledger x));
   is_settled = λ x now. last_covers ledger.parts (last_or_none (item_of ledger x)) now;
 }
+
+-- the same of a ledger as the code has it
+abbrev pub past_by : List LedgerPart → List LedgerItem → Past
+past_by parts items = past_in (ledger_fields parts items)
 
 -- ---- the next ledger
 

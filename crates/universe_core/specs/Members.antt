@@ -1,12 +1,13 @@
 -- What is said of an identity that is accepted.
-use Rattle.std.specs.Prelude.{ℕ, List, map, length, Bool, cond, Some}
+use Rattle.std.specs.Prelude.{ℕ, List, [], ◌∷◌, ◌++◌, map, length, Bool, cond, Some}
 use Rattle.ident_core.specs.declared.identity.Identity.{Identity}
 use Rattle.ident_core.specs.declared.range.Range.{Range}
 use Rattle.ident_core.specs.HeadFields.{zero_key}
 use Rattle.ledger_core.specs.declared.fields.LedgerItem.{LedgerItem}
-use Rattle.ledger_core.specs.LedgerFields.{LedgerFields, LedgerPartFields}
+use Rattle.ledger_core.specs.declared.fields.LedgerPart.{LedgerPart}
+use Rattle.ledger_core.specs.LedgerFields.{LedgerFields, LedgerPartFields, part_fields}
 use Rattle.universe_core.specs.Jobs.{Job}
-use Rattle.universe_core.specs.History.{shown, sightings}
+use Rattle.universe_core.specs.History.{shown, sightings, accepted_with}
 use Rattle.universe_core.specs.Ledgers.{past_in, item_of, birth_or, last_or_none}
 use Rattle.universe_core.specs.Groups.{GroupFields, members_of}
 use Rattle.universe_core.specs.declared.member.Member.{Member}
@@ -22,6 +23,10 @@ member_in ledger job x = record {
   settled = (past_in ledger).is_settled x (sightings x (shown (past_in ledger) job));
 }
 
+-- the identities accepted so far, each with what is said of it
+abbrev pub members_in : LedgerFields → Job → List Member
+members_in ledger job = map (member_in ledger job) (accepted_with (past_in ledger) job)
+
 abbrev pub next_of : ℕ → Bool → Member → LedgerItem
 next_of place revoked m = record { id = m.id; birth = m.birth; last = cond revoked (Some place) m.last }
 
@@ -32,3 +37,10 @@ group_with revoked xs issuer = record { issuer = issuer; universe = members_of i
 -- the part of the first job, whose trailer isn't known yet
 abbrev pub first_part : ℕ → List Range → List (List ℕ) → LedgerPartFields
 first_part epoch ranges issuers = record { epoch = epoch; trailer = zero_key; ranges = ranges; issuers = issuers }
+
+-- the next ledger, but for its newest part's trailer
+abbrev pub unsealed : List LedgerPart → Job → List (List ℕ) → List LedgerItem → LedgerFields
+unsealed parts job issuers items = record {
+  parts = map part_fields parts ++ first_part job.epoch job.ranges issuers ∷ [];
+  items = items;
+}

@@ -47,4 +47,7 @@ all_ids items entries = with_all (map (λ (e : ReadEntry). e.id) entries) (map (
 
 -- what a judge makes of the identities of both, each from its item and its entries
 unfoldable pub merged : {M : Type 0} → (Identity → Option LedgerItem → List ReadEntry → Option M) → List LedgerItem → List ReadEntry → List M
-merged judge items entries = filter_map (λ x. judge x (find (λ (i : LedgerItem). is_same x i.id) items) (filter (λ (e : ReadEntry). is_same x e.id) entries)) (all_ids items entries)
+merged judge items entries =
+    filter_map
+    (λ x. judge x (find (λ (i : LedgerItem). is_same x i.id) items) (filter (λ (e : ReadEntry). is_same x e.id) entries))
+    (all_ids items entries)

@@ -20,8 +20,8 @@ use Rattle.universe_core.specs.declared.reading.Tally.{Tally}
 abbrev pub entry_fields : ReadEntry → Entry
 entry_fields e = record { id = e.id; sighting = e.sighting.now }
 
-abbrev pub told_entry : Option (Identity × Sighting) → Option Entry
-told_entry e = option_map entry_of (entry_view e)
+abbrev pub facts_of_entry : Option (Identity × Sighting) → Option Entry
+facts_of_entry e = option_map entry_of (entry_view e)
 
 -- the entry, if the ranges cover it and its issuer is enrolled
 abbrev pub if_read : List Range → List (List ℕ) → Option Entry → Option Entry

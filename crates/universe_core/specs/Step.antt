@@ -1,6 +1,6 @@
 -- The step from a ledger and a job to the next part and ledger: what is admitted, and why a job isn't.
 use Rattle.std.specs.Prelude.{ℕ, suc, ◌≤◌, List, [], ◌∷◌, length, nat_le, nat_lt, if◌then◌else◌, Option, Some, None, Result, Ok, Err}
-use Rattle.std.specs.Option.{option_map}
+use Rattle.std.specs.Option.{option_map, option_or}
 use Rattle.ident_core.specs.declared.kind.Kind.{Kind}
 use Rattle.ident_core.specs.declared.kind.Kind.TheVariants as kinds
 use Rattle.ident_core.specs.Coverage.{first_outside}
@@ -10,8 +10,9 @@ use Rattle.crl_core.specs.Outcome.{CrlFields}
 use Rattle.job_core.specs.declared.bounds.Limits.{Limits}
 use Rattle.job_core.specs.declared.bounds.What.TheVariants as what
 use Rattle.job_core.specs.JobFields.{CrlMeaning, JobFields}
-use Rattle.ledger_core.specs.LedgerFields.{LedgerPartFields, LedgerFields}
-use Rattle.universe_core.specs.Jobs.{Job, told}
+use Rattle.ident_core.specs.declared.bounds.TheConstants.{MAX_PARTS}
+use Rattle.ledger_core.specs.LedgerFields.{LedgerPartFields, LedgerFields, newest}
+use Rattle.universe_core.specs.Jobs.{Job, facts_of}
 use Rattle.universe_core.specs.History.{accepted_with, released}
 use Rattle.universe_core.specs.Ledgers.{past_in}
 use Rattle.universe_core.specs.Groups.{GroupFields, groups}
@@ -28,10 +29,6 @@ pub record KeepsLimits (limits : Limits) (job : JobFields) : Type 0 where
 
 -- ---- why a job isn't admitted: the first of these that holds
 
-abbrev pub first_or : Option AdmitFault → Option AdmitFault → Option AdmitFault
-first_or None other = other
-first_or (Some fault) other = Some fault
-
 -- the first CRL that isn't accepted, with its place from this one on
 abbrev pub bad_crl_at : ℕ → Result CrlFields CrlFault → Option AdmitFault
 bad_crl_at place (Ok c) = None
@@ -39,13 +36,7 @@ bad_crl_at place (Err fault) = Some (faults.BadCrl place fault)
 
 abbrev pub bad_crl_from : ℕ → List CrlMeaning → Option AdmitFault
 bad_crl_from place [] = None
-bad_crl_from place (c ∷ crls) = first_or (bad_crl_at place c.outcome) (bad_crl_from (suc place) crls)
-
--- the newest part
-abbrev pub newest : List LedgerPartFields → Option LedgerPartFields
-newest [] = None
-newest (p ∷ []) = Some p
-newest (p ∷ q ∷ ps) = newest (q ∷ ps)
+bad_crl_from place (c ∷ crls) = option_or (bad_crl_at place c.outcome) (bad_crl_from (suc place) crls)
 
 -- the epoch isn't above the newest part's
 abbrev pub old_epoch : Option LedgerPartFields → ℕ → Option AdmitFault
@@ -57,20 +48,22 @@ abbrev pub shrunk : Option LedgerPartFields → Job → Option AdmitFault
 shrunk None job = None
 shrunk (Some p) job = option_map faults.CoverageShrinks (first_outside p.ranges job.ranges)
 
--- the chain has 64 parts already
+-- the chain has as many parts as it may
 abbrev pub chain_full : List LedgerPartFields → Option AdmitFault
-chain_full parts = if nat_le 64 (length parts) then Some faults.ChainFull else None
+chain_full parts = if nat_le MAX_PARTS (length parts) then Some faults.ChainFull else None
 
 -- there are more accepted identities than the limit
 abbrev pub too_many : Limits → LedgerFields → Job → Option AdmitFault
-too_many limits ledger job = if nat_lt limits.identities (length (accepted_with (past_in ledger) job)) then Some (faults.TooMany what.Identities limits.identities) else None
+too_many limits ledger job =
+    if nat_lt limits.identities (length (accepted_with (past_in ledger) job)) then Some (faults.TooMany what.Identities limits.identities)
+    else None
 
 unfoldable pub refusal : Limits → LedgerFields → JobFields → Option AdmitFault
 refusal limits ledger job =
-    first_or (bad_crl_from 0 job.crls)
-    (first_or (old_epoch (newest ledger.parts) job.epoch)
-    (first_or (shrunk (newest ledger.parts) (told job))
-    (first_or (chain_full ledger.parts) (too_many limits ledger (told job)))))
+    option_or (bad_crl_from 0 job.crls)
+    (option_or (old_epoch (newest ledger.parts) job.epoch)
+    (option_or (shrunk (newest ledger.parts) (facts_of job))
+    (option_or (chain_full ledger.parts) (too_many limits ledger (facts_of job)))))
 
 -- ---- what is admitted
 

@@ -5,13 +5,14 @@ ghost use Rattle.std.specs.List.Sorted.{IsStrictlySortedBy};
 ghost use Rattle.ident_core.specs.Order.{identity_cmp};
 ghost use Rattle.ident_core.specs.Coverage.{RangesFit};
 ghost use Rattle.job_core.specs.JobFields.{AreWithin, fields_of_job};
+ghost use Rattle.ident_core.specs.declared.bounds.TheConstants.{MAX_PARTS};
 ghost use Rattle.ledger_core.specs.LedgerFields.{LedgerFields, ledger_fields, sealed_with};
-ghost use Rattle.universe_core.specs.Jobs.{told, enrolled as enrolled_of};
+ghost use Rattle.universe_core.specs.Jobs.{facts_of_job, enrolled as enrolled_of};
 ghost use Rattle.universe_core.specs.History.{accepted_with, universe, revoked};
 ghost use Rattle.universe_core.specs.Counting.{count};
 ghost use Rattle.universe_core.specs.Groups.{group_fields, IsGroup};
-ghost use Rattle.universe_core.specs.Ledgers.{no_ledger, past_in, next_item, next_ledger};
-ghost use Rattle.universe_core.specs.Members.{ids_of, member_in};
+ghost use Rattle.universe_core.specs.Ledgers.{no_ledger, past_in, past_by, next_item, next_ledger};
+ghost use Rattle.universe_core.specs.Members.{ids_of, members_in};
 ghost use Rattle.universe_core.specs.Following.{IsBefore};
 ghost use Rattle.universe_core.specs.Step.{KeepsLimits, refusal, head_after, groups_after, counts_after};
 ghost use Rattle.universe_core.specs.declared.class.Class.TheVariants as class;
@@ -63,13 +64,13 @@ fn accept(
     requires few_parts { length parts.now < 256 }
     requires ascend { IsStrictlySortedBy identity_cmp (map (λ i. i.id) items.now) }
     requires few_entries { length job.now.entries.items ≤ 4294967295 }
-    ensures issuers { IfOk result (λ a. a.issuers.items ≡ enrolled_of (told (fields_of_job job.now))) }
-    ensures members { IfOk result (λ a. a.members.items ≡ map (member_in (ledger_fields parts.now items.now) (told (fields_of_job job.now))) (accepted_with (past_in (ledger_fields parts.now items.now)) (told (fields_of_job job.now)))) }
-    ensures unread { IfOk result (λ a. a.tally.unread ≡ count class.Unread (past_in (ledger_fields parts.now items.now)) (told (fields_of_job job.now))) }
-    ensures uncovered { IfOk result (λ a. a.tally.uncovered ≡ count class.Uncovered (past_in (ledger_fields parts.now items.now)) (told (fields_of_job job.now))) }
-    ensures unenrolled { IfOk result (λ a. a.tally.unenrolled ≡ count class.Unenrolled (past_in (ledger_fields parts.now items.now)) (told (fields_of_job job.now))) }
-    ensures late { IfOk result (λ a. a.late ≡ count class.Late (past_in (ledger_fields parts.now items.now)) (told (fields_of_job job.now))) }
-    ensures accepted { IfOk result (λ a. a.accepted ≡ count class.Accepted (past_in (ledger_fields parts.now items.now)) (told (fields_of_job job.now))) }
+    ensures issuers { IfOk result (λ a. a.issuers.items ≡ enrolled_of (facts_of_job job.now)) }
+    ensures members { IfOk result (λ a. a.members.items ≡ members_in (ledger_fields parts.now items.now) (facts_of_job job.now)) }
+    ensures unread { IfOk result (λ a. a.tally.unread ≡ count class.Unread (past_by parts.now items.now) (facts_of_job job.now)) }
+    ensures uncovered { IfOk result (λ a. a.tally.uncovered ≡ count class.Uncovered (past_by parts.now items.now) (facts_of_job job.now)) }
+    ensures unenrolled { IfOk result (λ a. a.tally.unenrolled ≡ count class.Unenrolled (past_by parts.now items.now) (facts_of_job job.now)) }
+    ensures late { IfOk result (λ a. a.late ≡ count class.Late (past_by parts.now items.now) (facts_of_job job.now)) }
+    ensures accepted { IfOk result (λ a. a.accepted ≡ count class.Accepted (past_by parts.now items.now) (facts_of_job job.now)) }
 {
     let issuers = enrolled(alloc, job)?;
     let reading = read(alloc, &job.ranges, &issuers, &job.entries)?;
@@ -95,17 +96,18 @@ fn build(
     members: Vec<Member>,
     place: u8,
 ) -> Result<Built, AllocError>
-    requires issuers { issuers.now ≡ enrolled_of (told (fields_of_job job.now)) }
+    requires issuers { issuers.now ≡ enrolled_of (facts_of_job job.now) }
     requires ascend { IsStrictlySortedBy identity_cmp (ids_of members.items) }
     requires few { length members.items ≤ 4294967295 }
-    ensures groups { (ledger : LedgerFields) → members.items ≡ map (member_in ledger (told (fields_of_job job.now))) (accepted_with (past_in ledger) (told (fields_of_job job.now)))
-        → IfOk result (λ b. map group_fields b.groups.items ≡ groups_after ledger (told (fields_of_job job.now))) }
-    ensures items { (ledger : LedgerFields) → members.items ≡ map (member_in ledger (told (fields_of_job job.now))) (accepted_with (past_in ledger) (told (fields_of_job job.now))) → place ≡ length ledger.parts
-        → IfOk result (λ b. b.items.items ≡ map (next_item (past_in ledger) ledger (told (fields_of_job job.now))) (accepted_with (past_in ledger) (told (fields_of_job job.now)))) }
-    ensures universe { (ledger : LedgerFields) → members.items ≡ map (member_in ledger (told (fields_of_job job.now))) (accepted_with (past_in ledger) (told (fields_of_job job.now)))
-        → IfOk result (λ b. b.universe ≡ length (universe (past_in ledger) (told (fields_of_job job.now)))) }
-    ensures revoked { (ledger : LedgerFields) → members.items ≡ map (member_in ledger (told (fields_of_job job.now))) (accepted_with (past_in ledger) (told (fields_of_job job.now)))
-        → IfOk result (λ b. b.revoked ≡ length (revoked (past_in ledger) (told (fields_of_job job.now)))) }
+    ensures groups { (ledger : LedgerFields) → members.items ≡ members_in ledger (facts_of_job job.now)
+        → IfOk result (λ b. map group_fields b.groups.items ≡ groups_after ledger (facts_of_job job.now)) }
+    ensures items { (ledger : LedgerFields) → members.items ≡ members_in ledger (facts_of_job job.now) → place ≡ length ledger.parts
+        → IfOk result (λ b. b.items.items ≡ map (next_item (past_in ledger) ledger (facts_of_job job.now))
+        (accepted_with (past_in ledger) (facts_of_job job.now))) }
+    ensures universe { (ledger : LedgerFields) → members.items ≡ members_in ledger (facts_of_job job.now)
+        → IfOk result (λ b. b.universe ≡ length (universe (past_in ledger) (facts_of_job job.now))) }
+    ensures revoked { (ledger : LedgerFields) → members.items ≡ members_in ledger (facts_of_job job.now)
+        → IfOk result (λ b. b.revoked ≡ length (revoked (past_in ledger) (facts_of_job job.now))) }
 {
     let flags = revoked_now(alloc, job, issuers, &members)?;
     let items = next_items(alloc, &members, &flags.revoked, place)?;
@@ -131,15 +133,16 @@ fn step(
     requires published { AreWithin limits.now Limits.PUBLISHED }
     requires ranges { RangesFit job.now.ranges.items }
     requires few { KeepsLimits limits.now (fields_of_job job.now) }
-    requires few_parts { length parts.now ≤ 64 }
+    requires few_parts { length parts.now ≤ MAX_PARTS }
     requires before { IsBefore (ledger_fields parts.now items.now) }
     ensures admitted { OnOk result (refusal limits.now (ledger_fields parts.now items.now) (fields_of_job job.now) ≡ None) }
     ensures refused { IfErr result (λ e. e ≢ AdmitFault.NoMemory → refusal limits.now (ledger_fields parts.now items.now) (fields_of_job job.now) ≡ Some e) }
-    ensures head { IfOk result (λ a. a.head ≡ head_after (ledger_fields parts.now items.now).parts (told (fields_of_job job.now))) }
-    ensures groups { IfOk result (λ a. map group_fields a.groups.items ≡ groups_after (ledger_fields parts.now items.now) (told (fields_of_job job.now))) }
+    ensures head { IfOk result (λ a. a.head ≡ head_after (ledger_fields parts.now items.now).parts (facts_of_job job.now)) }
+    ensures groups { IfOk result (λ a. map group_fields a.groups.items ≡ groups_after (ledger_fields parts.now items.now) (facts_of_job job.now)) }
     ensures facts { IfOk result (λ a. All IsGroup (map group_fields a.groups.items)) }
-    ensures counts { IfOk result (λ a. a.counts ≡ counts_after (ledger_fields parts.now items.now) (told (fields_of_job job.now))) }
-    ensures next { IfOk result (λ a. (trailer : List ℕ) → sealed_with a.next trailer ≡ next_ledger (ledger_fields parts.now items.now) (told (fields_of_job job.now)) trailer) }
+    ensures counts { IfOk result (λ a. a.counts ≡ counts_after (ledger_fields parts.now items.now) (facts_of_job job.now)) }
+    ensures next { IfOk result (λ a. (trailer : List ℕ)
+        → sealed_with a.next trailer ≡ next_ledger (ledger_fields parts.now items.now) (facts_of_job job.now) trailer) }
 {
     if let Some(fault) = early_fault(parts, job) {
         return Err(fault);
@@ -186,12 +189,12 @@ pub fn first(alloc: Global, job: &Job, limits: &Limits) -> Result<Admitted, Admi
     requires few { KeepsLimits limits.now (fields_of_job job.now) }
     ensures admitted { OnOk result (refusal limits.now no_ledger (fields_of_job job.now) ≡ None) }
     ensures refused { IfErr result (λ e. e ≢ AdmitFault.NoMemory → refusal limits.now no_ledger (fields_of_job job.now) ≡ Some e) }
-    ensures head { IfOk result (λ a. a.head ≡ head_after no_ledger.parts (told (fields_of_job job.now))) }
-    ensures groups { IfOk result (λ a. map group_fields a.groups.items ≡ groups_after no_ledger (told (fields_of_job job.now))) }
+    ensures head { IfOk result (λ a. a.head ≡ head_after no_ledger.parts (facts_of_job job.now)) }
+    ensures groups { IfOk result (λ a. map group_fields a.groups.items ≡ groups_after no_ledger (facts_of_job job.now)) }
     ensures facts { IfOk result (λ a. All IsGroup (map group_fields a.groups.items)) }
-    ensures counts { IfOk result (λ a. a.counts ≡ counts_after no_ledger (told (fields_of_job job.now))) }
+    ensures counts { IfOk result (λ a. a.counts ≡ counts_after no_ledger (facts_of_job job.now)) }
     // For every trailer that the next part may have.
-    ensures next { IfOk result (λ a. (trailer : List ℕ) → sealed_with a.next trailer ≡ next_ledger no_ledger (told (fields_of_job job.now)) trailer) }
+    ensures next { IfOk result (λ a. (trailer : List ℕ) → sealed_with a.next trailer ≡ next_ledger no_ledger (facts_of_job job.now) trailer) }
 {
     step(alloc, &[], &[], job, limits)
 }
@@ -209,12 +212,12 @@ pub fn admit(
     requires few { KeepsLimits limits.now (fields_of_job job.now) }
     ensures admitted { OnOk result (refusal limits.now ledger.now (fields_of_job job.now) ≡ None) }
     ensures refused { IfErr result (λ e. e ≢ AdmitFault.NoMemory → refusal limits.now ledger.now (fields_of_job job.now) ≡ Some e) }
-    ensures head { IfOk result (λ a. a.head ≡ head_after ledger.now.parts (told (fields_of_job job.now))) }
-    ensures groups { IfOk result (λ a. map group_fields a.groups.items ≡ groups_after ledger.now (told (fields_of_job job.now))) }
+    ensures head { IfOk result (λ a. a.head ≡ head_after ledger.now.parts (facts_of_job job.now)) }
+    ensures groups { IfOk result (λ a. map group_fields a.groups.items ≡ groups_after ledger.now (facts_of_job job.now)) }
     ensures facts { IfOk result (λ a. All IsGroup (map group_fields a.groups.items)) }
-    ensures counts { IfOk result (λ a. a.counts ≡ counts_after ledger.now (told (fields_of_job job.now))) }
+    ensures counts { IfOk result (λ a. a.counts ≡ counts_after ledger.now (facts_of_job job.now)) }
     // For every trailer that the next part may have.
-    ensures next { IfOk result (λ a. (trailer : List ℕ) → sealed_with a.next trailer ≡ next_ledger ledger.now (told (fields_of_job job.now)) trailer) }
+    ensures next { IfOk result (λ a. (trailer : List ℕ) → sealed_with a.next trailer ≡ next_ledger ledger.now (facts_of_job job.now) trailer) }
 {
     step(alloc, ledger.parts(), ledger.items(), job, limits)
 }

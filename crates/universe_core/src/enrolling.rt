@@ -1,10 +1,9 @@
 ghost use Rattle.std.specs.Prelude.{◌≡◌, IfOk, filter, filter_map, not};
 ghost use Rattle.std.specs.List.Sorted.{IsStrictlySortedBy};
 ghost use Rattle.ident_core.specs.Order.{octets_cmp};
-ghost use Rattle.job_core.specs.JobFields.{fields_of_job};
 ghost use Rattle.sets_core.specs.Sets.{has_key};
-ghost use Rattle.universe_core.specs.Jobs.{told, is_stale, enrolled as enrolled_of};
-ghost use Rattle.universe_core.specs.Enrolling.{told_crl, issuer_if, stale_issuer_if};
+ghost use Rattle.universe_core.specs.Jobs.{facts_of_job, is_stale, enrolled as enrolled_of};
+ghost use Rattle.universe_core.specs.Enrolling.{facts_of_crl, issuer_if, stale_issuer_if};
 
 use job_core::{Job, JobCrl};
 use octets_core::Key32;
@@ -22,7 +21,7 @@ fn is_out_of_date(moment: u64, next_update: Option<i64>) -> bool
 }
 
 fn issuer_of(crl: &JobCrl) -> Option<Key32>
-    ensures { result ≡ issuer_if (told_crl crl.now) }
+    ensures { result ≡ issuer_if (facts_of_crl crl.now) }
 {
     match &crl.outcome {
         Ok(_) => Some(crl.issuer),
@@ -32,7 +31,7 @@ fn issuer_of(crl: &JobCrl) -> Option<Key32>
 
 /// The issuer of a CRL that is accepted and out of date.
 fn stale_issuer_of(crl: &JobCrl, moment: u64) -> Option<Key32>
-    ensures { result ≡ stale_issuer_if moment (told_crl crl.now) }
+    ensures { result ≡ stale_issuer_if moment (facts_of_crl crl.now) }
 {
     match &crl.outcome {
         Ok(list) => {
@@ -47,13 +46,13 @@ fn stale_issuer_of(crl: &JobCrl, moment: u64) -> Option<Key32>
 }
 
 fn issuers_of(alloc: Global, crls: &[JobCrl]) -> Result<Vec<Key32>, AllocError>
-    ensures { IfOk result (λ keys. keys.items ≡ filter_map (λ c. issuer_if (told_crl c)) crls.now) }
+    ensures { IfOk result (λ keys. keys.items ≡ filter_map (λ c. issuer_if (facts_of_crl c)) crls.now) }
 {
     crls.iter().filter_map(|c| issuer_of(c)).collect(alloc)
 }
 
 fn stale_issuers_of(alloc: Global, crls: &[JobCrl], moment: u64) -> Result<Vec<Key32>, AllocError>
-    ensures { IfOk result (λ keys. keys.items ≡ filter_map (λ c. stale_issuer_if moment (told_crl c)) crls.now) }
+    ensures { IfOk result (λ keys. keys.items ≡ filter_map (λ c. stale_issuer_if moment (facts_of_crl c)) crls.now) }
 {
     crls.iter()
         .filter_map(|c| stale_issuer_of(c, moment))
@@ -76,7 +75,7 @@ fn without(alloc: Global, keys: &[Key32], others: &[Key32]) -> Result<Vec<Key32>
 
 /// The issuers with a CRL, none of whose CRLs is out of date, ascending.
 pub(crate) fn enrolled(alloc: Global, job: &Job) -> Result<Vec<Key32>, AllocError>
-    ensures { IfOk result (λ keys. keys.items ≡ enrolled_of (told (fields_of_job job.now))) }
+    ensures { IfOk result (λ keys. keys.items ≡ enrolled_of (facts_of_job job.now)) }
 {
     let mut stale = stale_issuers_of(alloc, &job.crls, job.moment)?;
     sort_keys_once(&mut stale);

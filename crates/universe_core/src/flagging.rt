@@ -1,20 +1,15 @@
-ghost use Rattle.std.specs.Prelude.{◌≡◌, ◌≤◌, ◌&&◌, ◌||◌, IfOk, map, not, Bool, length};
+ghost use Rattle.std.specs.Prelude.{◌≡◌, ◌≤◌, ◌&&◌, ◌||◌, IfOk, map, not, Bool, length, is_some};
 ghost use Rattle.std.specs.List.{count_by};
 ghost use Rattle.std.specs.List.Sorted.{IsStrictlySortedBy};
-ghost use Rattle.ident_core.specs.Order.{octets_cmp};
+ghost use Rattle.ident_core.specs.Order.{octets_cmp, identity_cmp};
 ghost use Rattle.ident_core.specs.declared.identity.Identity.{Identity as IdentityFields};
-ghost use Rattle.sets_core.specs.Sets.{has_key};
-ghost use Rattle.universe_core.specs.Ledgers.{some_last};
-ghost use Rattle.universe_core.specs.Members.{ids_of, next_of};
-ghost use Rattle.universe_core.specs.Reading.{one_if};
-ghost use Rattle.ident_core.specs.Order.{identity_cmp};
-ghost use Rattle.job_core.specs.JobFields.{fields_of_job};
 ghost use Rattle.ledger_core.specs.LedgerFields.{LedgerFields, ids};
-ghost use Rattle.sets_core.specs.Sets.{has};
-ghost use Rattle.universe_core.specs.Jobs.{told, enrolled};
+ghost use Rattle.sets_core.specs.Sets.{has, has_key};
+ghost use Rattle.universe_core.specs.Jobs.{facts_of_job, enrolled};
 ghost use Rattle.universe_core.specs.History.{accepted_with, revoked as revoked_of};
 ghost use Rattle.universe_core.specs.Ledgers.{past_in};
-ghost use Rattle.universe_core.specs.Members.{member_in};
+ghost use Rattle.universe_core.specs.Members.{ids_of, members_in, next_of};
+ghost use Rattle.universe_core.specs.Reading.{one_if};
 
 use crate::marking::listed_now;
 use crate::member::Member;
@@ -31,19 +26,10 @@ pub(crate) struct Flags {
     pub(crate) universe: u32,
 }
 
-fn has_last(last: Option<u8>) -> bool
-    ensures { result ≡ some_last last }
-{
-    match last {
-        Some(_) => true,
-        None => false,
-    }
-}
-
 fn is_flagged(member: &Member, listed: bool) -> bool
-    ensures { result ≡ ((some_last member.now.last || listed) && not member.now.settled) }
+    ensures { result ≡ ((is_some member.now.last || listed) && not member.now.settled) }
 {
-    let was = has_last(member.last);
+    let was = member.last.is_some();
     (was || listed) && !member.settled
 }
 
@@ -77,7 +63,7 @@ fn flag(
     requires ascend { IsStrictlySortedBy octets_cmp issuers.now }
     requires few { length members.now ≤ 4294967295 }
     ensures revoked { (g : IdentityFields → Bool) → listed.now ≡ map (λ m. g m.id) members.now
-        → IfOk result (λ f. f.revoked.items ≡ map (λ m. has_key issuers.now m.id.issuer && ((some_last m.last || g m.id) && not m.settled)) members.now) }
+        → IfOk result (λ f. f.revoked.items ≡ map (λ m. has_key issuers.now m.id.issuer && ((is_some m.last || g m.id) && not m.settled)) members.now) }
     ensures universe { IfOk result (λ f. f.universe ≡ count_by (λ m. has_key issuers.now m.id.issuer) members.now) }
 {
     let mut revoked = Vec::with_capacity(alloc, members.len())?;
@@ -98,11 +84,12 @@ pub(crate) fn revoked_now(
     issuers: &[Key32],
     members: &[Member],
 ) -> Result<Flags, AllocError>
-    requires issuers { issuers.now ≡ enrolled (told (fields_of_job job.now)) }
+    requires issuers { issuers.now ≡ enrolled (facts_of_job job.now) }
     requires ascend { IsStrictlySortedBy identity_cmp (ids_of members.now) }
     requires few { length members.now ≤ 4294967295 }
-    ensures revoked { (ledger : LedgerFields) → members.now ≡ map (member_in ledger (told (fields_of_job job.now))) (accepted_with (past_in ledger) (told (fields_of_job job.now)))
-        → IfOk result (λ f. f.revoked.items ≡ map (has (revoked_of (past_in ledger) (told (fields_of_job job.now)))) (accepted_with (past_in ledger) (told (fields_of_job job.now)))) }
+    ensures revoked { (ledger : LedgerFields) → members.now ≡ members_in ledger (facts_of_job job.now)
+        → IfOk result (λ f. f.revoked.items ≡ map (has (revoked_of (past_in ledger) (facts_of_job job.now)))
+        (accepted_with (past_in ledger) (facts_of_job job.now))) }
     ensures beside { IfOk result (λ f. length f.revoked.items ≡ length members.now) }
     ensures universe { IfOk result (λ f. f.universe ≡ count_by (λ m. has_key issuers.now m.id.issuer) members.now) }
 {

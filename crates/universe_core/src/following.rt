@@ -3,18 +3,19 @@
 ghost use Rattle.std.specs.Prelude.{◌≡◌, ◌≤◌, ◌++◌, ◌∷◌, [], length, map, slice_get, IfOk, Some};
 ghost use Rattle.std.specs.Option.{option_copied, option_map};
 ghost use Rattle.ident_core.specs.Coverage.{RangesFit, first_outside};
+ghost use Rattle.job_core.specs.declared.bounds.TheConstants.Limits.{PUBLISHED};
 ghost use Rattle.job_core.specs.JobFields.{fields_of_job, crl_view};
-ghost use Rattle.ledger_core.specs.LedgerFields.{IsLedger, part_fields};
-ghost use Rattle.universe_core.specs.Jobs.{told};
-ghost use Rattle.universe_core.specs.Members.{first_part};
-ghost use Rattle.universe_core.specs.Step.{first_or, bad_crl_at, bad_crl_from, newest, old_epoch, shrunk, chain_full, head_after};
+ghost use Rattle.ledger_core.specs.LedgerFields.{IsLedger, part_fields, newest};
+ghost use Rattle.universe_core.specs.Jobs.{facts_of_job};
+ghost use Rattle.universe_core.specs.Members.{first_part, unsealed};
+ghost use Rattle.universe_core.specs.Step.{bad_crl_at, bad_crl_from, old_epoch, shrunk, chain_full, head_after};
 ghost use Rattle.universe_core.specs.Following.{early};
 ghost use Rattle.universe_core.specs.declared.fault.AdmitFault.TheVariants as faults;
 
 use crate::fault::AdmitFault;
-use ident_core::{Head, Kind, Range, shrinks};
+use ident_core::{Head, Kind, MAX_PARTS, Range, shrinks};
 use job_core::{Job, JobCrl};
-use ledger_core::{Draft, LedgerItem, LedgerPart, MAX_PARTS};
+use ledger_core::{Draft, LedgerItem, LedgerPart};
 use octets_core::Key32;
 use std::alloc::{AllocError, Global};
 
@@ -32,7 +33,7 @@ fn fault_at(place: u32, crl: &JobCrl) -> Option<AdmitFault>
 
 /// The first CRL that isn't accepted.
 fn bad_crl(crls: &[JobCrl]) -> Option<AdmitFault>
-    requires { length crls.now ≤ 65535 }
+    requires { length crls.now ≤ PUBLISHED.crls }
     ensures { result ≡ bad_crl_from 0 (map crl_view crls.now) }
 {
     let mut place = 0;
@@ -79,7 +80,7 @@ fn shrunk_of(part: &LedgerPart, ranges: &[Range]) -> Option<AdmitFault>
 
 /// Whether a range of the newest part lies in none of the job's.
 fn shrunk_in(parts: &[LedgerPart], job: &Job) -> Option<AdmitFault>
-    ensures { result ≡ shrunk (newest (map part_fields parts.now)) (told (fields_of_job job.now)) }
+    ensures { result ≡ shrunk (newest (map part_fields parts.now)) (facts_of_job job.now) }
 {
     match parts.last() {
         Some(part) => shrunk_of(part, &job.ranges),
@@ -96,27 +97,16 @@ fn full_chain(parts: &[LedgerPart]) -> Option<AdmitFault>
     None
 }
 
-fn first_fault(one: Option<AdmitFault>, other: Option<AdmitFault>) -> Option<AdmitFault>
-    ensures { result ≡ first_or one other }
-{
-    match one {
-        None => other,
-        Some(_) => one,
-    }
-}
-
 /// Why a job can't follow these parts, but for the number of its identities.
 pub(crate) fn early_fault(parts: &[LedgerPart], job: &Job) -> Option<AdmitFault>
-    requires { length job.now.crls.items ≤ 65535 }
+    requires { length job.now.crls.items ≤ PUBLISHED.crls }
     ensures { result ≡ early (map part_fields parts.now) (fields_of_job job.now) }
 {
     let bad = bad_crl(&job.crls);
     let old = old_epoch_in(parts, job.epoch);
     let shrunk = shrunk_in(parts, job);
     let full = full_chain(parts);
-    let later = first_fault(shrunk, full);
-    let rest = first_fault(old, later);
-    first_fault(bad, rest)
+    bad.or(old.or(shrunk.or(full)))
 }
 
 fn copied(alloc: Global, ranges: &[Range]) -> Result<Vec<Range>, AllocError>
@@ -134,7 +124,7 @@ fn copied_keys(alloc: Global, keys: &[Key32]) -> Result<Vec<Key32>, AllocError>
 /// The head of the part that follows these.
 pub(crate) fn next_head(alloc: Global, parts: &[LedgerPart], job: &Job) -> Result<Head, AllocError>
     requires { RangesFit job.now.ranges.items }
-    ensures { IfOk result (λ h. h ≡ head_after (map part_fields parts.now) (told (fields_of_job job.now))) }
+    ensures { IfOk result (λ h. h ≡ head_after (map part_fields parts.now) (facts_of_job job.now)) }
 {
     let ranges = copied(alloc, &job.ranges)?;
     match parts.last() {
@@ -189,8 +179,8 @@ pub(crate) fn next_draft(
     issuers: Vec<Key32>,
     items: Vec<LedgerItem>,
 ) -> Result<Draft, AllocError>
-    requires { IsLedger (record { parts = map part_fields parts.now ++ first_part job.now.epoch job.now.ranges.items issuers.items ∷ []; items = items.items }) }
-    ensures { IfOk result (λ d. d ≡ record { parts = map part_fields parts.now ++ first_part job.now.epoch job.now.ranges.items issuers.items ∷ []; items = items.items }) }
+    requires { IsLedger (unsealed parts.now (facts_of_job job.now) issuers.items items.items) }
+    ensures { IfOk result (λ d. d ≡ unsealed parts.now (facts_of_job job.now) issuers.items items.items) }
 {
     let part = new_part(alloc, job, issuers)?;
     let mut all = copied_parts(alloc, parts)?;

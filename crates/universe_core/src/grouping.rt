@@ -82,7 +82,8 @@ pub(crate) fn groups(
 ) -> Result<Vec<Group>, AllocError>
     requires ascend { IsStrictlySortedBy identity_cmp (ids items.now) }
     requires beside { length revoked.now ≡ length items.now }
-    ensures { (h : IdentityFields → Bool) → revoked.now ≡ map h (ids items.now) → IfOk result (λ gs. map group_fields gs.items ≡ map (group_with h (ids items.now)) issuers.now) }
+    ensures { (h : IdentityFields → Bool) → revoked.now ≡ map h (ids items.now)
+        → IfOk result (λ gs. map group_fields gs.items ≡ map (group_with h (ids items.now)) issuers.now) }
 {
     let mut out = Vec::with_capacity(alloc, issuers.len())?;
     for issuer in issuers {

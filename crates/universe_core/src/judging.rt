@@ -1,9 +1,9 @@
 ghost use Rattle.std.specs.List.{list_any};
-ghost use Rattle.std.specs.Prelude.{◌≡◌, ◌&&◌, filter, length, ◌<◌, Some, not};
+ghost use Rattle.std.specs.Prelude.{◌≡◌, ◌&&◌, filter, length, ◌<◌, Some, not, is_some};
 ghost use Rattle.ident_core.specs.Coverage.{covers as covers_of};
 ghost use Rattle.sets_core.specs.Sets.{has_key};
 ghost use Rattle.universe_core.specs.Ledgers.{birth_or, last_or_none};
-ghost use Rattle.universe_core.specs.Judging.{judge_of, lacked_in, settled_in, is_some_item, is_member_of, part_covers_all};
+ghost use Rattle.universe_core.specs.Judging.{judge_of, lacked_in, settled_in, is_member_of, part_covers_all};
 
 use crate::member::{Member, ReadEntry};
 use ident_core::{Identity, covers};
@@ -81,15 +81,6 @@ fn is_settled(parts: &[LedgerPart], last: Option<u8>, birth: usize, run: &[ReadE
     }
 }
 
-fn has_item(old: &Option<LedgerItem>) -> bool
-    ensures { result ≡ is_some_item old.now }
-{
-    match old {
-        Some(_) => true,
-        None => false,
-    }
-}
-
 /// Whether it has an item, or an entry that isn't late.
 fn is_member(
     parts: &[LedgerPart],
@@ -100,7 +91,7 @@ fn is_member(
     requires { birth ≡ birth_or (length parts.now) old.now }
     ensures { result ≡ is_member_of parts.now old.now run.now }
 {
-    has_item(old) || any_timely(parts, birth as usize, run)
+    old.is_some() || any_timely(parts, birth as usize, run)
 }
 
 /// What becomes of an identity.

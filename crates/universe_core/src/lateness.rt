@@ -20,10 +20,7 @@ fn order(item: &LedgerItem, id: &Identity) -> Ordering
 fn item_at(items: &[LedgerItem], place: usize) -> Option<LedgerItem>
     ensures { result ≡ slice_get items.now place }
 {
-    match items.get(place) {
-        Some(item) => Some(*item),
-        None => None,
-    }
+    items.get(place).copied()
 }
 
 /// The item of an identity. A binary search.

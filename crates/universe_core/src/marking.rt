@@ -5,7 +5,7 @@ ghost use Rattle.std.specs.Prelude.{◌≡◌, ◌<◌, ◌||◌, ◌&&◌, leng
 ghost use Rattle.ident_core.specs.Order.{identity_cmp, is_same as same};
 ghost use Rattle.ident_core.specs.declared.identity.Identity.{Identity as IdentityFields};
 ghost use Rattle.sets_core.specs.Sets.{has, has_key};
-ghost use Rattle.universe_core.specs.Enrolling.{told_crl, holds};
+ghost use Rattle.universe_core.specs.Enrolling.{facts_of_crl, holds};
 ghost use Rattle.universe_core.specs.Members.{ids_of};
 
 use crate::member::Member;
@@ -50,7 +50,9 @@ fn mark_identity(flags: &mut [bool], members: &[Member], id: &Identity)
 fn mark_serials(flags: &mut [bool], members: &[Member], issuer: &Key32, serials: &[Serial])
     requires sorted { IsStrictlySortedBy identity_cmp (ids_of members.now) }
     requires beside { length flags.old ≡ length members.now }
-    ensures { (p : IdentityFields → Bool) → flags.old ≡ map p (ids_of members.now) → flags.new ≡ map (λ x. p x || (bytes_eq x.issuer issuer.now && has_key serials.now x.serial)) (ids_of members.now) }
+    ensures { (p : IdentityFields → Bool) → flags.old ≡ map p (ids_of members.now)
+        → flags.new
+        ≡ map (λ x. p x || (bytes_eq x.issuer issuer.now && has_key serials.now x.serial)) (ids_of members.now) }
 {
     for serial in serials {
         let id = Identity {
@@ -65,7 +67,8 @@ fn mark_serials(flags: &mut [bool], members: &[Member], issuer: &Key32, serials:
 fn mark_crl(flags: &mut [bool], members: &[Member], crl: &JobCrl)
     requires sorted { IsStrictlySortedBy identity_cmp (ids_of members.now) }
     requires beside { length flags.old ≡ length members.now }
-    ensures { (p : IdentityFields → Bool) → flags.old ≡ map p (ids_of members.now) → flags.new ≡ map (λ x. p x || holds (told_crl crl.now) x) (ids_of members.now) }
+    ensures { (p : IdentityFields → Bool) → flags.old ≡ map p (ids_of members.now)
+        → flags.new ≡ map (λ x. p x || holds (facts_of_crl crl.now) x) (ids_of members.now) }
 {
     match &crl.outcome {
         Ok(list) => mark_serials(flags, members, &crl.issuer, &list.serials),
@@ -77,7 +80,8 @@ fn mark_crl(flags: &mut [bool], members: &[Member], crl: &JobCrl)
 fn mark_all(flags: &mut [bool], members: &[Member], crls: &[JobCrl])
     requires sorted { IsStrictlySortedBy identity_cmp (ids_of members.now) }
     requires beside { length flags.old ≡ length members.now }
-    ensures { (p : IdentityFields → Bool) → flags.old ≡ map p (ids_of members.now) → flags.new ≡ map (λ x. p x || list_any (λ c. holds (told_crl c) x) crls.now) (ids_of members.now) }
+    ensures { (p : IdentityFields → Bool) → flags.old ≡ map p (ids_of members.now)
+        → flags.new ≡ map (λ x. p x || list_any (λ c. holds (facts_of_crl c) x) crls.now) (ids_of members.now) }
 {
     for crl in crls {
         mark_crl(flags, members, crl);
@@ -97,7 +101,7 @@ pub(crate) fn listed_now(
     crls: &[JobCrl],
 ) -> Result<Vec<bool>, AllocError>
     requires sorted { IsStrictlySortedBy identity_cmp (ids_of members.now) }
-    ensures { IfOk result (λ flags. flags.items ≡ map (λ x. list_any (λ c. holds (told_crl c) x) crls.now) (ids_of members.now)) }
+    ensures { IfOk result (λ flags. flags.items ≡ map (λ x. list_any (λ c. holds (facts_of_crl c) x) crls.now) (ids_of members.now)) }
 {
     let mut flags = unmarked(alloc, members)?;
     mark_all(&mut flags, members, crls);

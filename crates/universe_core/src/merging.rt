@@ -6,10 +6,8 @@ ghost use Rattle.universe_core.specs.Merging.{IsRising, least_of, run_of, after_
 ghost use Rattle.universe_core.specs.Judging.{judge_of};
 ghost use Rattle.ledger_core.specs.LedgerFields.{ledger_fields};
 ghost use Rattle.universe_core.specs.Jobs.{Job as JobMeaning, enrolled};
-ghost use Rattle.universe_core.specs.History.{accepted_with};
-ghost use Rattle.universe_core.specs.Ledgers.{past_in};
 ghost use Rattle.universe_core.specs.Reading.{if_read, entry_fields};
-ghost use Rattle.universe_core.specs.Members.{member_in};
+ghost use Rattle.universe_core.specs.Members.{members_in};
 
 use crate::judging::judge;
 use crate::member::{Member, ReadEntry};
@@ -143,7 +141,7 @@ pub(crate) fn members(
     requires ascend { IsStrictlySortedBy identity_cmp (map (λ i. i.id) items.now) }
     ensures same { IsPermutation entries.old.items entries.new.items }
     ensures members { (job : JobMeaning) → map entry_fields entries.old.items ≡ filter_map (if_read job.ranges (enrolled job)) job.entries
-        → IfOk result (λ members. members.items ≡ map (member_in (ledger_fields parts.now items.now) job) (accepted_with (past_in (ledger_fields parts.now items.now)) job)) }
+        → IfOk result (λ members. members.items ≡ members_in (ledger_fields parts.now items.now) job) }
 {
     sort_entries(entries);
     let members = merge(alloc, parts, items, entries)?;

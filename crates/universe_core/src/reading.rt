@@ -2,7 +2,7 @@ ghost use Rattle.std.specs.List.Sorted.{IsStrictlySortedBy};
 ghost use Rattle.std.specs.List.{filter_map, cons_option, count_by};
 ghost use Rattle.std.specs.Prelude.{◌≡◌, ◌≤◌, ◌<◌, IfOk, OnOk, [], ◌++◌, ◌&&◌, IsPermutation, length, map};
 ghost use Rattle.ident_core.specs.Order.{octets_cmp};
-ghost use Rattle.universe_core.specs.Reading.{if_read, told_entry, entry_fields, class_alone, with_class};
+ghost use Rattle.universe_core.specs.Reading.{if_read, facts_of_entry, entry_fields, class_alone, with_class};
 ghost use Rattle.universe_core.specs.History.{if_accepted};
 ghost use Rattle.universe_core.specs.Counting.{is_class};
 ghost use Rattle.universe_core.specs.Merging.{IsRising};
@@ -35,7 +35,7 @@ pub(crate) struct Reading<'a> {
 #[tactic(auto, using(crate::proofs::Classes::class_unread))]
 fn classify(ranges: &[Range], issuers: &[Key32], entry: &Option<(Identity, Sighting)>) -> Class
     requires { IsStrictlySortedBy octets_cmp issuers.now }
-    ensures { result ≡ class_alone ranges.now issuers.now (told_entry entry.now) }
+    ensures { result ≡ class_alone ranges.now issuers.now (facts_of_entry entry.now) }
 {
     let Some((id, sighting)) = entry else {
         return Class::Unread;
@@ -55,7 +55,7 @@ fn keep_entry<'a>(
     class: Class,
     entry: &'a Option<(Identity, Sighting)>,
 ) -> Result<(), AllocError>
-    ensures { OnOk result (map entry_fields out.new.items ≡ map entry_fields out.old.items ++ cons_option (if_accepted class (told_entry entry.now)) []) }
+    ensures { OnOk result (map entry_fields out.new.items ≡ map entry_fields out.old.items ++ cons_option (if_accepted class (facts_of_entry entry.now)) []) }
 {
     match class {
         Class::Accepted => match entry {
@@ -99,11 +99,15 @@ pub(crate) fn read<'a>(
 ) -> Result<Reading<'a>, AllocError>
     requires sorted { IsStrictlySortedBy octets_cmp issuers.now }
     requires few { length entries.now ≤ 4294967295 }
-    ensures entries { IfOk result (λ r. map entry_fields r.entries.items ≡ filter_map (λ e. if_read ranges.now issuers.now (told_entry e)) entries.now) }
-    ensures unread { IfOk result (λ r. r.tally.unread ≡ count_by (λ e. is_class class.Unread (class_alone ranges.now issuers.now (told_entry e))) entries.now) }
-    ensures uncovered { IfOk result (λ r. r.tally.uncovered ≡ count_by (λ e. is_class class.Uncovered (class_alone ranges.now issuers.now (told_entry e))) entries.now) }
-    ensures read { IfOk result (λ r. r.tally.read ≡ count_by (λ e. is_class class.Accepted (class_alone ranges.now issuers.now (told_entry e))) entries.now) }
-    ensures unenrolled { IfOk result (λ r. r.tally.unenrolled ≡ count_by (λ e. is_class class.Unenrolled (class_alone ranges.now issuers.now (told_entry e))) entries.now) }
+    ensures entries { IfOk result (λ r. map entry_fields r.entries.items ≡ filter_map (λ e. if_read ranges.now issuers.now (facts_of_entry e)) entries.now) }
+    ensures unread { IfOk result (λ r. r.tally.unread
+        ≡ count_by (λ e. is_class class.Unread (class_alone ranges.now issuers.now (facts_of_entry e))) entries.now) }
+    ensures uncovered { IfOk result (λ r. r.tally.uncovered
+        ≡ count_by (λ e. is_class class.Uncovered (class_alone ranges.now issuers.now (facts_of_entry e))) entries.now) }
+    ensures read { IfOk result (λ r. r.tally.read
+        ≡ count_by (λ e. is_class class.Accepted (class_alone ranges.now issuers.now (facts_of_entry e))) entries.now) }
+    ensures unenrolled { IfOk result (λ r. r.tally.unenrolled
+        ≡ count_by (λ e. is_class class.Unenrolled (class_alone ranges.now issuers.now (facts_of_entry e))) entries.now) }
 {
     let mut left = Vec::with_capacity(alloc, entries.len())?;
     let mut tally = Tally {

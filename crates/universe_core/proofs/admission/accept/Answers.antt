@@ -1,9 +1,8 @@
 use Rattle.std.proofs.Common.{◌∙◌, refl, sym, subst, map, arith}
 use Rattle.std.specs.List.Sorted.{IsStrictlySortedBy}
 use Rattle.ident_core.specs.Order.{octets_cmp}
-use Rattle.job_core.specs.JobFields.{fields_of_job}
 use Rattle.ledger_core.specs.LedgerFields.{ledger_fields}
-use Rattle.universe_core.specs.Jobs.{told}
+use Rattle.universe_core.specs.Jobs.{facts_of_job}
 use Rattle.universe_core.specs.Ledgers.{no_ledger, past_in}
 use Rattle.universe_core.specs.Reading.{entry_fields}
 use Rattle.universe_core.specs.declared.class.Class.TheVariants.{Unread, Uncovered, Unenrolled, Accepted}
@@ -13,54 +12,68 @@ use Rattle.universe_core.proofs.Late.{count_alone, late_is, late_fits, late_with
 use Rattle.universe_core.proofs.admission.accept.Goals as goal
 
 pub read-requires-clause-sorted : goal.read-requires-clause-sorted
-read-requires-clause-sorted c = subst (λ ks. IsStrictlySortedBy octets_cmp ks) (sym (c.deref-2.ensures.value ∙ c.in_ok-issuers.ensures)) (enrolled_ascend (told (fields_of_job c.args.job.now)))
+read-requires-clause-sorted c = subst (λ ks. IsStrictlySortedBy octets_cmp ks) (sym (c.deref-2.ensures.value ∙ c.in_ok-issuers.ensures)) (enrolled_ascend (facts_of_job c.args.job.now))
 
 pub returns-clause-members : goal.returns-clause-members
 returns-clause-members c =
-    c.in_ok-members.ensures.members (told (fields_of_job c.args.job.now))
-    (read_job c.args.job.now c.deref.result.now c.deref-2.result.now c.deref-3.result.now (map entry_fields c.in_ok-reading.reading.entries.items) c.deref.ensures.value (c.deref-2.ensures.value ∙ c.in_ok-issuers.ensures) c.deref-3.ensures.value c.in_ok-reading.ensures.entries)
+    c.in_ok-members.ensures.members (facts_of_job c.args.job.now)
+    (read_job c.args.job.now c.deref.result.now c.deref-2.result.now c.deref-3.result.now (map entry_fields c.in_ok-reading.reading.entries.items)
+    c.deref.ensures.value (c.deref-2.ensures.value ∙ c.in_ok-issuers.ensures) c.deref-3.ensures.value c.in_ok-reading.ensures.entries)
 
 pub returns-clause-unread : goal.returns-clause-unread
 returns-clause-unread c =
-    count_job Unread c.args.job.now c.deref.result.now c.deref-2.result.now c.deref-3.result.now c.in_ok-reading.reading.tally.unread c.deref.ensures.value (c.deref-2.ensures.value ∙ c.in_ok-issuers.ensures) c.deref-3.ensures.value c.in_ok-reading.ensures.unread
-    ∙ count_alone Unread refl (past_in no_ledger) (past_in (ledger_fields c.args.parts.now c.args.items.now)) (told (fields_of_job c.args.job.now))
+    count_job Unread c.args.job.now c.deref.result.now c.deref-2.result.now c.deref-3.result.now c.in_ok-reading.reading.tally.unread c.deref.ensures.value
+    (c.deref-2.ensures.value ∙ c.in_ok-issuers.ensures) c.deref-3.ensures.value c.in_ok-reading.ensures.unread
+    ∙ count_alone Unread refl (past_in no_ledger) (past_in (ledger_fields c.args.parts.now c.args.items.now)) (facts_of_job c.args.job.now)
 
 pub returns-clause-uncovered : goal.returns-clause-uncovered
 returns-clause-uncovered c =
-    count_job Uncovered c.args.job.now c.deref.result.now c.deref-2.result.now c.deref-3.result.now c.in_ok-reading.reading.tally.uncovered c.deref.ensures.value (c.deref-2.ensures.value ∙ c.in_ok-issuers.ensures) c.deref-3.ensures.value c.in_ok-reading.ensures.uncovered
-    ∙ count_alone Uncovered refl (past_in no_ledger) (past_in (ledger_fields c.args.parts.now c.args.items.now)) (told (fields_of_job c.args.job.now))
+    count_job Uncovered c.args.job.now c.deref.result.now c.deref-2.result.now c.deref-3.result.now c.in_ok-reading.reading.tally.uncovered
+    c.deref.ensures.value (c.deref-2.ensures.value ∙ c.in_ok-issuers.ensures) c.deref-3.ensures.value c.in_ok-reading.ensures.uncovered
+    ∙ count_alone Uncovered refl (past_in no_ledger) (past_in (ledger_fields c.args.parts.now c.args.items.now)) (facts_of_job c.args.job.now)
 
 pub returns-clause-unenrolled : goal.returns-clause-unenrolled
 returns-clause-unenrolled c =
-    count_job Unenrolled c.args.job.now c.deref.result.now c.deref-2.result.now c.deref-3.result.now c.in_ok-reading.reading.tally.unenrolled c.deref.ensures.value (c.deref-2.ensures.value ∙ c.in_ok-issuers.ensures) c.deref-3.ensures.value c.in_ok-reading.ensures.unenrolled
-    ∙ count_alone Unenrolled refl (past_in no_ledger) (past_in (ledger_fields c.args.parts.now c.args.items.now)) (told (fields_of_job c.args.job.now))
+    count_job Unenrolled c.args.job.now c.deref.result.now c.deref-2.result.now c.deref-3.result.now c.in_ok-reading.reading.tally.unenrolled
+    c.deref.ensures.value (c.deref-2.ensures.value ∙ c.in_ok-issuers.ensures) c.deref-3.ensures.value c.in_ok-reading.ensures.unenrolled
+    ∙ count_alone Unenrolled refl (past_in no_ledger) (past_in (ledger_fields c.args.parts.now c.args.items.now)) (facts_of_job c.args.job.now)
 
 pub overflow_cast-late : goal.overflow_cast-late
 overflow_cast-late c =
     let n = late_fits (ledger_fields c.args.parts.now c.args.items.now) c.args.job.now c.late_entries-late.result
-    (late_is (ledger_fields c.args.parts.now c.args.items.now) (told (fields_of_job c.args.job.now)) c.in_ok-reading.reading.entries.items c.members.new.entries.items c.deref-4.result.now c.late_entries-late.result
-    (read_job c.args.job.now c.deref.result.now c.deref-2.result.now c.deref-3.result.now (map entry_fields c.in_ok-reading.reading.entries.items) c.deref.ensures.value (c.deref-2.ensures.value ∙ c.in_ok-issuers.ensures) c.deref-3.ensures.value c.in_ok-reading.ensures.entries)
+    (late_is (ledger_fields c.args.parts.now c.args.items.now) (facts_of_job c.args.job.now) c.in_ok-reading.reading.entries.items c.members.new.entries.items
+    c.deref-4.result.now c.late_entries-late.result
+    (read_job c.args.job.now c.deref.result.now c.deref-2.result.now c.deref-3.result.now (map entry_fields c.in_ok-reading.reading.entries.items)
+    c.deref.ensures.value (c.deref-2.ensures.value ∙ c.in_ok-issuers.ensures) c.deref-3.ensures.value c.in_ok-reading.ensures.entries)
     c.in_ok-members.ensures.same c.deref-4.ensures.value c.late_entries-late.ensures) c.requires.few_entries in
     omega arith
 
 pub overflow_sub-result : goal.overflow_sub-result
 overflow_sub-result c =
-    late_within (past_in (ledger_fields c.args.parts.now c.args.items.now)) (told (fields_of_job c.args.job.now)) c.in_ok-reading.reading.tally.read c.late_entries-late.result
-    (count_job Accepted c.args.job.now c.deref.result.now c.deref-2.result.now c.deref-3.result.now c.in_ok-reading.reading.tally.read c.deref.ensures.value (c.deref-2.ensures.value ∙ c.in_ok-issuers.ensures) c.deref-3.ensures.value c.in_ok-reading.ensures.read)
-    (late_is (ledger_fields c.args.parts.now c.args.items.now) (told (fields_of_job c.args.job.now)) c.in_ok-reading.reading.entries.items c.members.new.entries.items c.deref-4.result.now c.late_entries-late.result
-    (read_job c.args.job.now c.deref.result.now c.deref-2.result.now c.deref-3.result.now (map entry_fields c.in_ok-reading.reading.entries.items) c.deref.ensures.value (c.deref-2.ensures.value ∙ c.in_ok-issuers.ensures) c.deref-3.ensures.value c.in_ok-reading.ensures.entries)
+    late_within (past_in (ledger_fields c.args.parts.now c.args.items.now)) (facts_of_job c.args.job.now) c.in_ok-reading.reading.tally.read c.late_entries-late.result
+    (count_job Accepted c.args.job.now c.deref.result.now c.deref-2.result.now c.deref-3.result.now c.in_ok-reading.reading.tally.read c.deref.ensures.value
+    (c.deref-2.ensures.value ∙ c.in_ok-issuers.ensures) c.deref-3.ensures.value c.in_ok-reading.ensures.read)
+    (late_is (ledger_fields c.args.parts.now c.args.items.now) (facts_of_job c.args.job.now) c.in_ok-reading.reading.entries.items c.members.new.entries.items
+    c.deref-4.result.now c.late_entries-late.result
+    (read_job c.args.job.now c.deref.result.now c.deref-2.result.now c.deref-3.result.now (map entry_fields c.in_ok-reading.reading.entries.items)
+    c.deref.ensures.value (c.deref-2.ensures.value ∙ c.in_ok-issuers.ensures) c.deref-3.ensures.value c.in_ok-reading.ensures.entries)
     c.in_ok-members.ensures.same c.deref-4.ensures.value c.late_entries-late.ensures)
 
 pub returns-clause-late : goal.returns-clause-late
 returns-clause-late c =
-    (late_is (ledger_fields c.args.parts.now c.args.items.now) (told (fields_of_job c.args.job.now)) c.in_ok-reading.reading.entries.items c.members.new.entries.items c.deref-4.result.now c.late_entries-late.result
-    (read_job c.args.job.now c.deref.result.now c.deref-2.result.now c.deref-3.result.now (map entry_fields c.in_ok-reading.reading.entries.items) c.deref.ensures.value (c.deref-2.ensures.value ∙ c.in_ok-issuers.ensures) c.deref-3.ensures.value c.in_ok-reading.ensures.entries)
+    (late_is (ledger_fields c.args.parts.now c.args.items.now) (facts_of_job c.args.job.now) c.in_ok-reading.reading.entries.items c.members.new.entries.items
+    c.deref-4.result.now c.late_entries-late.result
+    (read_job c.args.job.now c.deref.result.now c.deref-2.result.now c.deref-3.result.now (map entry_fields c.in_ok-reading.reading.entries.items)
+    c.deref.ensures.value (c.deref-2.ensures.value ∙ c.in_ok-issuers.ensures) c.deref-3.ensures.value c.in_ok-reading.ensures.entries)
     c.in_ok-members.ensures.same c.deref-4.ensures.value c.late_entries-late.ensures)
 
 pub returns-clause-accepted : goal.returns-clause-accepted
 returns-clause-accepted c =
-    accepted_rest (past_in (ledger_fields c.args.parts.now c.args.items.now)) (told (fields_of_job c.args.job.now)) c.in_ok-reading.reading.tally.read c.late_entries-late.result
-    (count_job Accepted c.args.job.now c.deref.result.now c.deref-2.result.now c.deref-3.result.now c.in_ok-reading.reading.tally.read c.deref.ensures.value (c.deref-2.ensures.value ∙ c.in_ok-issuers.ensures) c.deref-3.ensures.value c.in_ok-reading.ensures.read)
-    (late_is (ledger_fields c.args.parts.now c.args.items.now) (told (fields_of_job c.args.job.now)) c.in_ok-reading.reading.entries.items c.members.new.entries.items c.deref-4.result.now c.late_entries-late.result
-    (read_job c.args.job.now c.deref.result.now c.deref-2.result.now c.deref-3.result.now (map entry_fields c.in_ok-reading.reading.entries.items) c.deref.ensures.value (c.deref-2.ensures.value ∙ c.in_ok-issuers.ensures) c.deref-3.ensures.value c.in_ok-reading.ensures.entries)
+    accepted_rest (past_in (ledger_fields c.args.parts.now c.args.items.now)) (facts_of_job c.args.job.now) c.in_ok-reading.reading.tally.read c.late_entries-late.result
+    (count_job Accepted c.args.job.now c.deref.result.now c.deref-2.result.now c.deref-3.result.now c.in_ok-reading.reading.tally.read c.deref.ensures.value
+    (c.deref-2.ensures.value ∙ c.in_ok-issuers.ensures) c.deref-3.ensures.value c.in_ok-reading.ensures.read)
+    (late_is (ledger_fields c.args.parts.now c.args.items.now) (facts_of_job c.args.job.now) c.in_ok-reading.reading.entries.items c.members.new.entries.items
+    c.deref-4.result.now c.late_entries-late.result
+    (read_job c.args.job.now c.deref.result.now c.deref-2.result.now c.deref-3.result.now (map entry_fields c.in_ok-reading.reading.entries.items)
+    c.deref.ensures.value (c.deref-2.ensures.value ∙ c.in_ok-issuers.ensures) c.deref-3.ensures.value c.in_ok-reading.ensures.entries)
     c.in_ok-members.ensures.same c.deref-4.ensures.value c.late_entries-late.ensures)

@@ -1,15 +1,14 @@
 use Rattle.std.specs.List.{filter_map}
 use Rattle.std.proofs.Common.{◌∙◌, ap, refl}
-use Rattle.job_core.specs.JobFields.{fields_of_job}
 use Rattle.sets_core.specs.Sets.{key_set}
-use Rattle.universe_core.specs.Jobs.{told}
-use Rattle.universe_core.specs.Enrolling.{told_crl, issuer_if, stale_issuer_if}
+use Rattle.universe_core.specs.Jobs.{facts_of_job}
+use Rattle.universe_core.specs.Enrolling.{facts_of_crl, issuer_if, stale_issuer_if}
 use Rattle.universe_core.proofs.Issuers.{enrolled_from}
 use Rattle.universe_core.proofs.enrolling.enrolled.Goals as goal
 
 pub returns : goal.returns
 returns c =
-    enrolled_from (told (fields_of_job c.args.job.now)) c.args.job.now.crls.items c.deref-3.result.now c.deref-4.result.now c.in_ok-left.left.items refl
-    (c.deref-3.ensures.value ∙ c.sort_keys_once-2.ensures.set ∙ ap key_set (c.in_ok-keys.ensures ∙ ap (filter_map (λ d. issuer_if (told_crl d))) c.deref-2.ensures.value))
-    (c.deref-4.ensures.value ∙ c.sort_keys_once.ensures.set ∙ ap key_set (c.in_ok-stale.ensures ∙ ap (filter_map (λ d. stale_issuer_if c.args.job.now.moment (told_crl d))) c.deref.ensures.value))
+    enrolled_from (facts_of_job c.args.job.now) c.args.job.now.crls.items c.deref-3.result.now c.deref-4.result.now c.in_ok-left.left.items refl
+    (c.deref-3.ensures.value ∙ c.sort_keys_once-2.ensures.set ∙ ap key_set (c.in_ok-keys.ensures ∙ ap (filter_map (λ d. issuer_if (facts_of_crl d))) c.deref-2.ensures.value))
+    (c.deref-4.ensures.value ∙ c.sort_keys_once.ensures.set ∙ ap key_set (c.in_ok-stale.ensures ∙ ap (filter_map (λ d. stale_issuer_if c.args.job.now.moment (facts_of_crl d))) c.deref.ensures.value))
     c.in_ok-left.ensures

@@ -10,4 +10,5 @@ pub returns-clause-value : goal.returns-clause-value
 returns-clause-value c =
     let k = c.args.issuer.now in
     dropped k c.args.items.now c.partition_point.result c.partition_point.ensures.bound
-    (c.partition_point.ensures.partitioned (λ (x : LedgerItem). is_lt (octets_cmp x.id.issuer k)) (always_returns_same _ _ _ (λ a r f k. search (rules, of_calls))) (items_partitioned k c.args.items.now c.requires))
+    (c.partition_point.ensures.partitioned (λ (x : LedgerItem). is_lt (octets_cmp x.id.issuer k))
+    (always_returns_same _ _ _ (λ a r f k. search (rules, of_calls))) (items_partitioned k c.args.items.now c.requires))

@@ -9,7 +9,8 @@ loop-id-preserved c = record {
   ascend = rw c.after_item-items_left.ensures (first_sorted c.in-Some.id c.loop-id.items_left.now c.loop-id.invariant.ascend);
   rise = rw c.after_entries-entries_left.ensures (rising_after c.in-Some.id c.loop-id.entries_left.now c.loop-id.invariant.rise);
   done =
-      step_done (judge_of c.args.parts.now) c.in-Some.id c.loop-id.items_left.now c.after_item-items_left.result.now c.loop-id.entries_left.now c.after_entries-entries_left.result.now c.judge-member.result c.loop-id.out.items c.keep.new.out.items _
+      step_done (judge_of c.args.parts.now) c.in-Some.id c.loop-id.items_left.now c.after_item-items_left.result.now c.loop-id.entries_left.now
+      c.after_entries-entries_left.result.now c.judge-member.result c.loop-id.out.items c.keep.new.out.items _
       c.loop-id.invariant.ascend c.loop-id.invariant.rise (sym c.least.ensures ∙ c.in-Some.is) c.after_item-items_left.ensures c.after_entries-entries_left.ensures
       (c.judge-member.ensures ∙ ap (λ o. judge_of c.args.parts.now c.in-Some.id o c.run.result.now) c.first_item-old.ensures
       ∙ ap (λ r. judge_of c.args.parts.now c.in-Some.id (first_of c.in-Some.id c.loop-id.items_left.now) r) c.run.ensures)

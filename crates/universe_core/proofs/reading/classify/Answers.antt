@@ -8,8 +8,10 @@ returns-then-not-covers c =
 
 pub returns-then-not-holds_key : goal.returns-then-not-holds_key
 returns-then-not-holds_key c =
-    rw c.in-Some.is (class_unenrolled c.args.ranges.now c.args.issuers.now (record { id = c.in-Some.id; sighting = c.in-Some.sighting }) (sym c.covers.ensures.value ∙ c.if-not-covers.false) (sym c.holds_key.ensures ∙ c.if-not-holds_key.true))
+    rw c.in-Some.is (class_unenrolled c.args.ranges.now c.args.issuers.now (record { id = c.in-Some.id; sighting = c.in-Some.sighting })
+    (sym c.covers.ensures.value ∙ c.if-not-covers.false) (sym c.holds_key.ensures ∙ c.if-not-holds_key.true))
 
 pub returns : goal.returns
 returns c =
-    rw c.in-Some.is (class_accepted c.args.ranges.now c.args.issuers.now (record { id = c.in-Some.id; sighting = c.in-Some.sighting }) (sym c.covers.ensures.value ∙ c.if-not-covers.false) (sym c.holds_key.ensures ∙ c.if-not-holds_key.false))
+    rw c.in-Some.is (class_accepted c.args.ranges.now c.args.issuers.now (record { id = c.in-Some.id; sighting = c.in-Some.sighting })
+    (sym c.covers.ensures.value ∙ c.if-not-covers.false) (sym c.holds_key.ensures ∙ c.if-not-holds_key.false))

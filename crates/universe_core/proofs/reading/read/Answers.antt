@@ -1,7 +1,7 @@
 use Rattle.std.proofs.Common.{◌∙◌, ap, map}
 use Rattle.universe_core.specs.Counting.{is_class}
 use Rattle.universe_core.specs.History.{if_accepted}
-use Rattle.universe_core.specs.Reading.{if_read, entry_fields, told_entry, class_alone}
+use Rattle.universe_core.specs.Reading.{if_read, entry_fields, facts_of_entry, class_alone}
 use Rattle.universe_core.specs.declared.class.Class.TheVariants.{Unread, Uncovered, Unenrolled, Accepted}
 use Rattle.universe_core.specs.declared.reading.Tally.{Tally}
 use Rattle.universe_core.proofs.Classes.{read_more, count_more, taken_is}
@@ -15,14 +15,20 @@ loop-entry-preserved c =
     let i = c.loop-entry.entry-index in
     let e = c.entry-item.result in
     record {
-      entries = read_more (λ d. if_read R I (told_entry d)) es i e (map entry_fields c.loop-entry.left.items) (map entry_fields c.keep_entry.new.out.items) (if_accepted c.classify-class.result (told_entry e)) c.loop-entry-test.true c.entry-item.is
-          c.loop-entry.invariant.entries (ap (λ k. if_accepted k (told_entry e)) c.classify-class.ensures ∙ taken_is R I (told_entry e)) c.in_ok-keep_entry.ensures;
-      unread = count_more (λ d. is_class Unread (class_alone R I (told_entry d))) es i e c.loop-entry.tally.unread c.counted-tally.result.unread (is_class Unread c.classify-class.result) c.loop-entry-test.true c.entry-item.is c.loop-entry.invariant.unread
+      entries = read_more (λ d. if_read R I (facts_of_entry d)) es i e (map entry_fields c.loop-entry.left.items) (map entry_fields c.keep_entry.new.out.items)
+          (if_accepted c.classify-class.result (facts_of_entry e)) c.loop-entry-test.true c.entry-item.is
+          c.loop-entry.invariant.entries (ap (λ k. if_accepted k (facts_of_entry e)) c.classify-class.ensures ∙ taken_is R I (facts_of_entry e)) c.in_ok-keep_entry.ensures;
+      unread = count_more (λ d. is_class Unread (class_alone R I (facts_of_entry d))) es i e c.loop-entry.tally.unread c.counted-tally.result.unread
+          (is_class Unread c.classify-class.result) c.loop-entry-test.true c.entry-item.is c.loop-entry.invariant.unread
           (ap (is_class Unread) c.classify-class.ensures) (ap (λ (t : Tally). t.unread) c.counted-tally.ensures);
-      uncovered = count_more (λ d. is_class Uncovered (class_alone R I (told_entry d))) es i e c.loop-entry.tally.uncovered c.counted-tally.result.uncovered (is_class Uncovered c.classify-class.result) c.loop-entry-test.true c.entry-item.is c.loop-entry.invariant.uncovered
+      uncovered = count_more (λ d. is_class Uncovered (class_alone R I (facts_of_entry d))) es i e c.loop-entry.tally.uncovered c.counted-tally.result.uncovered
+          (is_class Uncovered c.classify-class.result) c.loop-entry-test.true c.entry-item.is c.loop-entry.invariant.uncovered
           (ap (is_class Uncovered) c.classify-class.ensures) (ap (λ (t : Tally). t.uncovered) c.counted-tally.ensures);
-      unenrolled = count_more (λ d. is_class Unenrolled (class_alone R I (told_entry d))) es i e c.loop-entry.tally.unenrolled c.counted-tally.result.unenrolled (is_class Unenrolled c.classify-class.result) c.loop-entry-test.true c.entry-item.is c.loop-entry.invariant.unenrolled
+      unenrolled = count_more (λ d. is_class Unenrolled (class_alone R I (facts_of_entry d))) es i e c.loop-entry.tally.unenrolled
+          c.counted-tally.result.unenrolled (is_class Unenrolled c.classify-class.result) c.loop-entry-test.true c.entry-item.is
+          c.loop-entry.invariant.unenrolled
           (ap (is_class Unenrolled) c.classify-class.ensures) (ap (λ (t : Tally). t.unenrolled) c.counted-tally.ensures);
-      read = count_more (λ d. is_class Accepted (class_alone R I (told_entry d))) es i e c.loop-entry.tally.read c.counted-tally.result.read (is_class Accepted c.classify-class.result) c.loop-entry-test.true c.entry-item.is c.loop-entry.invariant.read
+      read = count_more (λ d. is_class Accepted (class_alone R I (facts_of_entry d))) es i e c.loop-entry.tally.read c.counted-tally.result.read
+          (is_class Accepted c.classify-class.result) c.loop-entry-test.true c.entry-item.is c.loop-entry.invariant.read
           (ap (is_class Accepted) c.classify-class.ensures) (ap (λ (t : Tally). t.read) c.counted-tally.ensures);
     }
