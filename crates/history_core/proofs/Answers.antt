@@ -16,7 +16,8 @@ use Rattle.history_core.proofs.Releases.{settled_parts}
 
 -- ---- parts of another type, seen as views
 
-through_step : {A : Type 0} (view : A → PartView) (x : Identity) (p : A) (b : Bool) (viewed : List PartView) (parts : List A) → filter_map (λ q. q.consulted x) viewed ≡ filter_map (λ a. (view a).consulted x) parts
+through_step : {A : Type 0} (view : A → PartView) (x : Identity) (p : A) (b : Bool) (viewed : List PartView) (parts : List A)
+    → filter_map (λ q. q.consulted x) viewed ≡ filter_map (λ a. (view a).consulted x) parts
     → filter_map (λ q. q.consulted x) (cond b (view p ∷ viewed) viewed) ≡ filter_map (λ a. (view a).consulted x) (cond b (p ∷ parts) parts)
 through_step view x p true viewed parts h = ap (cons_option ((view p).consulted x)) h
 through_step view x p false viewed parts h = h
@@ -47,7 +48,8 @@ module _ (parts : List PartView) (rs : List Release) (x : Identity) (s : Sightin
   answers = filter_map (λ p. p.consulted x) (filter (covers_some (s ∷ ss)) parts)
 
   -- what a part that covers a sighting answers, where its release enrolls the issuer
-  answer_of : (t : Sighting) → Among (s ∷ ss) t → (p : PartView) (r : Release) → Shows p r → Among rs r → covers p.ranges t ≡ true → has_key r.issuers x.issuer ≡ true → p.consulted x ≡ Some (has r.revoked x)
+  answer_of : (t : Sighting) → Among (s ∷ ss) t → (p : PartView) (r : Release) → Shows p r → Among rs r → covers p.ranges t ≡ true
+      → has_key r.issuers x.issuer ≡ true → p.consulted x ≡ Some (has r.revoked x)
   answer_of t a p r sh i c k =
       let m = Among-sightings x (seen rs) t (asked t a) in
       let here : covers r.ranges m.0.sighting ≡ true = ap (λ cs. covers cs m.0.sighting) (sym sh.ranges) ∙ ap (covers p.ranges) m.3 ∙ c in

@@ -1,5 +1,6 @@
 -- The ledger's step is the history's.
 use Rattle.std.specs.List.{list_any, find}
+use Rattle.std.specs.Prelude.{is_some}
 use Rattle.std.specs.Option.{option_map}
 use Rattle.std.proofs.Common.{◌≡◌, ℕ, ⊎_elim, List, [], ◌∷◌, ◌++◌, map, take, length, Bool, true, false, cond, if◌then◌else◌, ◌&&◌, ◌||◌, Option, Some, None, refl, sym, ap, ◌∙◌}
 use Rattle.std.proofs.lemmas.Bool.{true≢false, false_from_ne_true}
@@ -17,7 +18,7 @@ use Rattle.sets_core.proofs.Elements.{Among-cases, Among-right, all_at, all_from
 use Rattle.sets_core.proofs.Sets.{same_is, has-from_Among}
 use Rattle.universe_core.specs.Jobs.{Job}
 use Rattle.universe_core.specs.History.{Release, past_of, released, revoked, accepted_with, accepted_by, seen, sightings, is_listed, is_settled_by, birth, covers_all}
-use Rattle.universe_core.specs.Ledgers.{item_of, birth_or, last_or_none, some_last, parts_before, part_covers, last_covers, past_in, next_item, next_with, next_ledger, last, item_from, part_from, ledger_of}
+use Rattle.universe_core.specs.Ledgers.{item_of, birth_or, last_or_none, parts_before, part_covers, last_covers, past_in, next_item, next_with, next_ledger, last, item_from, part_from, ledger_of}
 use Rattle.universe_core.specs.Groups.{groups}
 use Rattle.universe_core.specs.Counting.{counts}
 use Rattle.universe_core.specs.Step.{groups_after, counts_after}
@@ -81,7 +82,7 @@ module _ (rs : List Release) (sound : IsSound rs) where
       ∙ ap (λ ps. list_any (λ (p : LedgerPartFields). covers p.ranges s && has_key p.issuers x.issuer) (take (birth x rs) ps)) (parts_are rs)
       ∙ lacked_before_birth x s rs sound.widens
 
-  pub listed_case : (x : Identity) (o : Option ℕ) → IsLast x rs o → some_last o ≡ is_listed rs x
+  pub listed_case : (x : Identity) (o : Option ℕ) → IsLast x rs o → is_some o ≡ is_listed rs x
   listed_case x None l =
       sym (false_from_ne_true (is_listed rs x) (λ h.
       let st = settled_parts rs x (sightings x (seen rs)) (sound.settled x h) in
@@ -90,7 +91,7 @@ module _ (rs : List Release) (sound : IsSound rs) where
 
   listed_in : (x : Identity) → (past_in (ledger_of rs)).was_listed x ≡ (past_of rs).was_listed x
   unfolding past_in past_of
-  listed_in x = ap some_last (last_in x) ∙ listed_case x (last x rs) (last_is x rs sound.widens)
+  listed_in x = ap is_some (last_in x) ∙ listed_case x (last x rs) (last_is x rs sound.widens)
 
   covers_case : (x : Identity) (now : List Sighting) (r : Release) → Among rs r → has r.revoked x ≡ true
       → ((q : Release) → Among rs q → has q.revoked x ≡ true → (s : Sighting) → covers q.ranges s ≡ true → covers r.ranges s ≡ true)

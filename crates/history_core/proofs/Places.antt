@@ -68,7 +68,8 @@ lacked_step x s r rs true e w next =
     (λ i. and_not (covers q.ranges s) (has_key q.issuers x.issuer) (has q.accepted x) ((w q i).accepted x e)) a))
 lacked_step x s r rs false e w next =
     ap (λ (n : ℕ). list_any (part_lacks x s) (take n (map part_from (r ∷ rs)))) (one-add (position_or_len (λ (q : Release). has q.accepted x) rs))
-    ∙ ap (λ (b : Bool). b || list_any (part_lacks x s) (take (position_or_len (λ q. has q.accepted x) rs) (map part_from rs))) (and_yes (covers r.ranges s) (has_key r.issuers x.issuer) (has r.accepted x) e)
+    ∙ ap (λ (b : Bool). b || list_any (part_lacks x s) (take (position_or_len (λ q. has q.accepted x) rs) (map part_from rs)))
+    (and_yes (covers r.ranges s) (has_key r.issuers x.issuer) (has r.accepted x) e)
     ∙ ap (λ (b : Bool). lacks x s r || b) next
 
 lacked_all : (x : Identity) (s : Sighting) (rs : List Release) → Widens rs → lacked_to x s rs (position_or_len (λ q. has q.accepted x) rs)
@@ -105,7 +106,8 @@ IsLast x rs None = (r : Release) → Among rs r → has r.revoked x ≡ false
 IsLast x rs (Some k) = (r : Release) × Among rs r × (slice_get rs k ≡ Some r) × (has r.revoked x ≡ true)
     × ((q : Release) → Among rs q → has q.revoked x ≡ true → (s : Sighting) → covers q.ranges s ≡ true → covers r.ranges s ≡ true)
 
-last_step : (x : Identity) (r : Release) (rs : List Release) (o : Option ℕ) (b : Bool) → has r.revoked x ≡ b → ((q : Release) → Among rs q → IsWider r q) → IsLast x rs o → IsLast x (r ∷ rs) (later o b)
+last_step : (x : Identity) (r : Release) (rs : List Release) (o : Option ℕ) (b : Bool) → has r.revoked x ≡ b → ((q : Release) → Among rs q → IsWider r q)
+    → IsLast x rs o → IsLast x (r ∷ rs) (later o b)
 last_step x r rs (Some k) b e w l =
     (l.0, inr l.1, l.2, l.3, λ q a v s c. ⊎_elim (λ (i : r ≡ q). (w l.0 l.1).covered s (ap (λ (z : Release). covers z.ranges s) i ∙ c)) (λ i. l.4 q i v s c) a)
 last_step x r rs None true e w l =

@@ -30,7 +30,8 @@ find_group r k (h ∷ hs) =
     ap (λ b. cond b (Some (group_of r h)) (find (λ (g : GroupFields). bytes_eq g.issuer k) (map (group_of r) hs))) (bytes_swap h k)
     ∙ group_found r k h hs (bytes_eq k h) refl (find_group r k hs)
 
-consulted_is : (positive : GroupFields → Identity → Bool) (r : Release) (x : Identity) → (part_of positive r).consulted x ≡ option_map (λ g. positive g x) (cond (has_key r.issuers x.issuer) (Some (group_of r x.issuer)) None)
+consulted_is : (positive : GroupFields → Identity → Bool) (r : Release) (x : Identity)
+    → (part_of positive r).consulted x ≡ option_map (λ g. positive g x) (cond (has_key r.issuers x.issuer) (Some (group_of r x.issuer)) None)
 unfolding groups
 consulted_is positive r x = ap (option_map (λ g. positive g x)) (find_group r x.issuer r.issuers)
 
@@ -72,7 +73,8 @@ module _ {B : Type 0} (block : GroupFields → B) (issuer : B → List ℕ) (tes
   found_through true g o q h = refl
   found_through false g o q h = h
 
-  pub consulted_through : (gs : List GroupFields) → option_map (λ b. test b x) (find (λ b. bytes_eq (issuer b) x.issuer) (map block gs)) ≡ option_map (λ g. test (block g) x) (find (λ g. bytes_eq g.issuer x.issuer) gs)
+  pub consulted_through : (gs : List GroupFields) → option_map (λ b. test b x) (find (λ b. bytes_eq (issuer b) x.issuer) (map block gs))
+      ≡ option_map (λ g. test (block g) x) (find (λ g. bytes_eq g.issuer x.issuer) gs)
   consulted_through [] = refl
   consulted_through (g ∷ gs) =
       ap (λ k. option_map (λ b. test b x) (cond (bytes_eq k x.issuer) (Some (block g)) (find (λ b. bytes_eq (issuer b) x.issuer) (map block gs)))) (kept g)

@@ -89,14 +89,16 @@ lacked_bool false b c h i j = absurd (false≢true i)
 none_at : {A : Type 0} (p : A → Bool) (xs : List A) (x : A) → list_any p xs ≡ false → Among xs x → p x ≡ false
 none_at p xs x h a = elim (p x) as (λ b. p x ≡ b → p x ≡ false) [ true ↦ λ e. absurd (true≢false (sym (any_at p xs x a e) ∙ h)) | false ↦ λ e. e ] refl
 
-pub not_lacked : (rs : List Release) (x : Identity) (s : Sighting) (r : Release) → is_lacked_by rs x s ≡ false → Among rs r → covers r.ranges s ≡ true → has_key r.issuers x.issuer ≡ true → has r.accepted x ≡ true
+pub not_lacked : (rs : List Release) (x : Identity) (s : Sighting) (r : Release) → is_lacked_by rs x s ≡ false → Among rs r → covers r.ranges s ≡ true
+    → has_key r.issuers x.issuer ≡ true → has r.accepted x ≡ true
 unfolding is_lacked_by
 not_lacked rs x s r h a c k =
     lacked_bool (covers r.ranges s) (has_key r.issuers x.issuer) (has r.accepted x) (none_at (λ q. covers q.ranges s && has_key q.issuers x.issuer && not (has q.accepted x)) rs r h a) c k
 
 -- ---- ascending
 
-pub accepted_by-ascend : (before : List Identity) (rs : List Release) → IsStrictlySortedBy identity_cmp before → ((r : Release) → Among rs r → IsStrictlySortedBy identity_cmp r.accepted) → IsStrictlySortedBy identity_cmp (accepted_by before rs)
+pub accepted_by-ascend : (before : List Identity) (rs : List Release) → IsStrictlySortedBy identity_cmp before
+    → ((r : Release) → Among rs r → IsStrictlySortedBy identity_cmp r.accepted) → IsStrictlySortedBy identity_cmp (accepted_by before rs)
 unfolding accepted_by
 accepted_by-ascend before [] h f = h
 accepted_by-ascend before (r ∷ rs) h f = accepted_by-ascend r.accepted rs (f r (inl refl)) (λ q a. f q (inr a))

@@ -13,7 +13,7 @@ use Rattle.sets_core.proofs.Sets.{identity_total}
 use Rattle.sets_core.proofs.Order.{sorted_none}
 use Rattle.universe_core.specs.Jobs.{Entry, Job, enrolled}
 use Rattle.universe_core.specs.History.{Release, past_of, released, sightings, accepted_by, seen, is_listed, is_settled_by, shown, accepted_with, universe, listed_now, revoked}
-use Rattle.history_core.specs.Facts.{Widens, IsFormed, IsSound, Follows}
+use Rattle.history_core.specs.Facts.{Widens, IsFormed, IsSound, KeepsCoverage}
 use Rattle.history_core.proofs.Sightings.{Among-sightings}
 use Rattle.history_core.proofs.Coverage.{covers_next}
 use Rattle.history_core.proofs.Accepting.{shown_is, accepted_old, accepted_new, universe_is, universe_has, listed_is, revoked_is, revoked_listed, not_revoked, enrolled_ascend, accepted_ascend}
@@ -36,7 +36,8 @@ past_accepted : (rs : List Release) (x : Identity) → has (accepted_by [] rs) x
 unfolding past_of
 past_accepted rs x h = h
 
-past_timely : (rs : List Release) (x : Identity) (s : Sighting) (r : Release) → (past_of rs).lacked x s ≡ false → Among rs r → covers r.ranges s ≡ true → has_key r.issuers x.issuer ≡ true → has r.accepted x ≡ true
+past_timely : (rs : List Release) (x : Identity) (s : Sighting) (r : Release) → (past_of rs).lacked x s ≡ false → Among rs r → covers r.ranges s ≡ true
+    → has_key r.issuers x.issuer ≡ true → has r.accepted x ≡ true
 unfolding past_of
 past_timely rs x s r h = not_lacked rs x s r h
 
@@ -52,7 +53,7 @@ past_ascends : (rs : List Release) → IsSound rs → IsStrictlySortedBy identit
 unfolding past_of
 past_ascends rs sound = accepted_by-ascend [] rs (sorted_none identity_cmp identity_total) (λ r a. (sound.formed r a).accepted_ascend)
 
-module _ (rs : List Release) (job : Job) (trailer : List ℕ) (sound : IsSound rs) (follows : Follows rs job) where
+module _ (rs : List Release) (job : Job) (trailer : List ℕ) (sound : IsSound rs) (follows : KeepsCoverage rs job) where
   abbrev after : List Release
   after = rs ++ released (past_of rs) job trailer ∷ []
 
@@ -105,7 +106,8 @@ module _ (rs : List Release) (job : Job) (trailer : List ℕ) (sound : IsSound r
 
   timely : (e : Entry) → Among (seen after) e → (r : Release) → Among after r → covers r.ranges e.sighting ≡ true → has_key r.issuers e.id.issuer ≡ true → has r.accepted e.id ≡ true
   timely e a r i c k =
-      ⊎_elim (λ old. timely_before e a r old c k) (λ (q : released (past_of rs) job trailer ≡ r). ap (λ (z : Release). has z.accepted e.id) (sym q) ∙ timely_now e a) (Among-push_cases rs (released (past_of rs) job trailer) r i)
+      ⊎_elim (λ old. timely_before e a r old c k) (λ (q : released (past_of rs) job trailer ≡ r). ap (λ (z : Release). has z.accepted e.id) (sym q) ∙ timely_now
+      e a) (Among-push_cases rs (released (past_of rs) job trailer) r i)
 
   -- listed before or now is listed
   listed_before : (x : Identity) → is_listed rs x ≡ true → is_listed after x ≡ true
@@ -122,7 +124,8 @@ module _ (rs : List Release) (job : Job) (trailer : List ℕ) (sound : IsSound r
 
   revoked_now : (x : Identity) → has (revoked (past_of rs) job) x ≡ true → is_listed after x ≡ true
   revoked_now x h =
-      ⊎_elim (λ l. listed_before x (sym (past_listed rs x) ∙ l)) (λ l. listed_with x l) (or_cases ((past_of rs).was_listed x) (has (listed_now (past_of rs) job) x) (revoked_listed (past_of rs) job x h))
+      ⊎_elim (λ l. listed_before x (sym (past_listed rs x) ∙ l)) (λ l. listed_with x l)
+      (or_cases ((past_of rs).was_listed x) (has (listed_now (past_of rs) job) x) (revoked_listed (past_of rs) job x h))
 
   revoked_listed_after : (x : Identity) (r : Release) → Among after r → has r.revoked x ≡ true → is_listed after x ≡ true
   revoked_listed_after x r a h =
@@ -180,7 +183,8 @@ module _ (rs : List Release) (job : Job) (trailer : List ℕ) (sound : IsSound r
             (Among-cases (sightings x (seen rs)) (sightings x (shown (past_of rs) job)) s a);
       })
 
-  settled_unrevoked : (x : Identity) → has (revoked (past_of rs) job) x ≡ false → (is_listed rs x ≡ true) ⊎ (has (listed_now (past_of rs) job) x ≡ true) → is_settled_by after x (sightings x (seen after)) ≡ true
+  settled_unrevoked : (x : Identity) → has (revoked (past_of rs) job) x ≡ false → (is_listed rs x ≡ true) ⊎ (has (listed_now (past_of rs) job) x ≡ true)
+      → is_settled_by after x (sightings x (seen after)) ≡ true
   settled_unrevoked x n (inl l) =
       ⊎_elim
       (λ e. settled_in_universe x (universe_has (past_of rs) job x (listed_accepted x l) e) (or_left (is_listed rs x) (has (listed_now (past_of rs) job) x) l) n)

@@ -1,6 +1,8 @@
 -- The definitions in other words.
 use Rattle.std.specs.List.{list_any, filter, AllZip, position_or_len, count_by, slice_get}
-use Rattle.std.proofs.Common.{◌≡◌, ℕ, suc, ◌+◌, inl, inr, ⊎_elim, List, [], ◌∷◌, ◌++◌, drop, length, Bool, true, false, cond, not, ◌&&◌, ◌||◌, Option, Some, None, refl, sym, ap, ◌∙◌, subst, arith, append_assoc}
+use Rattle.std.specs.Prelude.{is_some}
+use Rattle.std.proofs.Common.{◌≡◌, ℕ, suc, ◌+◌, inl, inr, ⊎_elim, List, [], ◌∷◌, ◌++◌, drop, length, Bool, true, false, cond, not, ◌&&◌, ◌||◌, Option, Some}
+use Rattle.std.proofs.Common.{None, refl, sym, ap, ◌∙◌, subst, arith, append_assoc}
 use Rattle.std.proofs.lemmas.List.Folds.{list_any-append}
 use Rattle.std.proofs.lemmas.Map.Views.{any-filter_same}
 use Rattle.std.proofs.lemmas.List.Sums.{sum_by-cons}
@@ -15,11 +17,12 @@ use Rattle.sets_core.specs.Sets.{has, has_key}
 use Rattle.sets_core.proofs.Sets.{same_is}
 use Rattle.universe_core.specs.Jobs.{Entry, Job, enrolled, lists}
 use Rattle.universe_core.specs.Counting.{is_class, count}
-use Rattle.universe_core.specs.History.{class_of, Release, Past, past_of, released, releases, shown, revoked, is_revoked, universe, listed_now, accepted_with, sightings, seen, birth, is_listed, is_settled_by}
+use Rattle.universe_core.specs.History.{class_of, Release, Past, past_of, released, releases, shown, revoked, is_revoked, universe, listed_now, accepted_with}
+use Rattle.universe_core.specs.History.{sightings, seen, birth, is_listed, is_settled_by}
 use Rattle.universe_core.specs.declared.class.Class.{Class}
 use Rattle.universe_core.specs.declared.class.Class.TheVariants.{Unread, Uncovered, Unenrolled, Late, Accepted}
-use Rattle.universe_core.specs.Ledgers.{last, some_last}
-use Rattle.history_core.specs.Facts.{IsSound, Widens, IsWider, AllFollow, Leaves}
+use Rattle.universe_core.specs.Ledgers.{last}
+use Rattle.history_core.specs.Facts.{IsSound, Widens, IsWider, AllKeepCoverage, Leaves}
 use Rattle.history_core.proofs.Releases.{seen-push, sightings-append, settled_parts}
 use Rattle.history_core.proofs.Places.{IsLast, last_is}
 use Rattle.history_core.proofs.Ledger.{listed_case}
@@ -42,7 +45,7 @@ pub last_covers_sightings : (rs : List Release) (x : Identity) (k : ℕ) → IsS
     → (r : Release) × (slice_get rs k ≡ Some r) × ((s : Sighting) → Among (sightings x (seen rs)) s → covers r.ranges s ≡ true)
 last_covers_sightings rs x k sound e = last_case rs x k (last x rs) sound (last_is x rs sound.widens) e
 
-pub last_for_listed : (rs : List Release) (x : Identity) → IsSound rs → some_last (last x rs) ≡ is_listed rs x
+pub last_for_listed : (rs : List Release) (x : Identity) → IsSound rs → is_some (last x rs) ≡ is_listed rs x
 last_for_listed rs x sound = listed_case rs sound x (last x rs) (last_is x rs sound.widens)
 
 -- ---- a filter's elements
@@ -65,7 +68,8 @@ sightings-push rs r x = ap (sightings x) (seen-push rs r) ∙ sightings-append x
 
 -- of the universe, listed up to now, without those that an earlier release revokes while it covers all their sightings
 pub revoked_in_words : (rs : List Release) (job : Job) (trailer : List ℕ) (x : Identity) → has (revoked (past_of rs) job) x
-    ≡ ((is_listed (rs ++ released (past_of rs) job trailer ∷ []) x && not (is_settled_by rs x (sightings x (seen (rs ++ released (past_of rs) job trailer ∷ []))))) && has (universe (past_of rs) job) x)
+    ≡ ((is_listed (rs ++ released (past_of rs) job trailer ∷ []) x && not
+    (is_settled_by rs x (sightings x (seen (rs ++ released (past_of rs) job trailer ∷ []))))) && has (universe (past_of rs) job) x)
 unfolding revoked is_revoked past_of
 revoked_in_words rs job trailer x =
     has-filter (is_revoked (past_of rs) job) (universe (past_of rs) job) x
@@ -101,10 +105,12 @@ listed_of_known x (job ∷ jobs) (r ∷ rs) z h =
     ap (λ b. b || list_any (λ (q : Release). has q.listed x) rs) (listed_at x job r true z.0 (h r (inl refl)) ∙ and-true (lists job x) (has_key (enrolled job) x.issuer))
     ∙ ap (λ b. enrolls_and_lists x job || b) (listed_of_known x jobs rs z.1 (λ q a. h q (inr a)))
 
-listed_step : (x : Identity) (job : Job) (jobs : List Job) (r : Release) (rs : List Release) (b : Bool) → has r.accepted x ≡ b → AllZip Leaves (job ∷ jobs) (r ∷ rs) → ((q : Release) → Among rs q → IsWider r q)
+listed_step : (x : Identity) (job : Job) (jobs : List Job) (r : Release) (rs : List Release) (b : Bool) → has r.accepted x ≡ b
+    → AllZip Leaves (job ∷ jobs) (r ∷ rs) → ((q : Release) → Among rs q → IsWider r q)
     → list_any (λ (q : Release). has q.listed x) rs ≡ list_any (enrolls_and_lists x) (drop (position_or_len (λ (q : Release). has q.accepted x) rs) jobs)
     → list_any (λ (q : Release). has q.listed x) (r ∷ rs) ≡ list_any (enrolls_and_lists x) (drop (cond (not b) (1 + position_or_len (λ (q : Release). has q.accepted x) rs) 0) (job ∷ jobs))
-listed_step x job jobs r rs true e z w next = listed_of_known x (job ∷ jobs) (r ∷ rs) z (λ q a. ⊎_elim (λ (i : r ≡ q). ap (λ (p : Release). has p.accepted x) (sym i) ∙ e) (λ i. (w q i).accepted x e) a)
+listed_step x job jobs r rs true e z w next = listed_of_known x (job ∷ jobs) (r ∷ rs) z
+    (λ q a. ⊎_elim (λ (i : r ≡ q). ap (λ (p : Release). has p.accepted x) (sym i) ∙ e) (λ i. (w q i).accepted x e) a)
 listed_step x job jobs r rs false e z w next =
     ap (λ b. b || list_any (λ (q : Release). has q.listed x) rs) (listed_at x job r false z.0 e ∙ and-false (lists job x) (has_key (enrolled job) x.issuer)) ∙ next
     ∙ ap (λ (n : ℕ). list_any (enrolls_and_lists x) (drop n (job ∷ jobs))) (sym (one-add (position_or_len (λ (q : Release). has q.accepted x) rs)))
@@ -136,7 +142,8 @@ zip_push R [] (w ∷ ys) x y z r = absurd z
 zip_push R (v ∷ xs) [] x y z r = absurd z
 zip_push R (v ∷ xs) (w ∷ ys) x y z r = (z.0, zip_push R xs ys x y z.1 r)
 
-pub releases_leave : (trailer : List Release → Job → List ℕ) (jobs : List Job) (before : List Job) (rs : List Release) → AllZip Leaves before rs → AllZip Leaves (before ++ jobs) (releases trailer rs jobs)
+pub releases_leave : (trailer : List Release → Job → List ℕ) (jobs : List Job) (before : List Job) (rs : List Release) → AllZip Leaves before rs
+    → AllZip Leaves (before ++ jobs) (releases trailer rs jobs)
 unfolding releases
 releases_leave trailer [] before rs z = rw append-nil z
 releases_leave trailer (job ∷ jobs) before rs z =
@@ -145,14 +152,15 @@ releases_leave trailer (job ∷ jobs) before rs z =
     (zip_push Leaves before rs job (released (past_of rs) job (trailer rs job)) z (leaves (past_of rs) job (trailer rs job))))
 
 -- listed by the jobs of a history
-pub listed_of_jobs : (trailer : List Release → Job → List ℕ) (jobs : List Job) (x : Identity) → AllFollow trailer [] jobs
+pub listed_of_jobs : (trailer : List Release → Job → List ℕ) (jobs : List Job) (x : Identity) → AllKeepCoverage trailer [] jobs
     → is_listed (releases trailer [] jobs) x ≡ list_any (λ job. lists job x && has_key (enrolled job) x.issuer) (drop (birth x (releases trailer [] jobs)) jobs)
 listed_of_jobs trailer jobs x f = listed_in_words x jobs (releases trailer [] jobs) (releases_leave trailer jobs [] [] tt) (releases_sound trailer [] jobs nothing_sound f).widens
 
 -- ---- the classes add up
 
 add_up : (c : Class) (a b d e f n : ℕ) → a + b + d + e + f ≡ n
-    → (cond (is_class Unread c) 1 0 + a) + (cond (is_class Uncovered c) 1 0 + b) + (cond (is_class Unenrolled c) 1 0 + d) + (cond (is_class Late c) 1 0 + e) + (cond (is_class Accepted c) 1 0 + f) ≡ suc n
+    → (cond (is_class Unread c) 1 0 + a) + (cond (is_class Uncovered c) 1 0 + b) + (cond (is_class Unenrolled c) 1 0 + d) + (cond (is_class Late c) 1 0 + e) +
+    (cond (is_class Accepted c) 1 0 + f) ≡ suc n
 add_up Unread a b d e f n h = omega arith
 add_up Uncovered a b d e f n h = omega arith
 add_up Unenrolled a b d e f n h = omega arith
@@ -167,7 +175,13 @@ counted : (past : Past) (job : Job) (es : List (Option Entry)) →
     count_by (λ e. is_class Unread (class_of past job e)) es + count_by (λ e. is_class Uncovered (class_of past job e)) es + count_by (λ e. is_class Unenrolled (class_of past job e)) es
     + count_by (λ e. is_class Late (class_of past job e)) es + count_by (λ e. is_class Accepted (class_of past job e)) es ≡ length es
 counted past job [] = omega arith
-counted past job (e ∷ es) = rw (counted_cons Unread past job e es, counted_cons Uncovered past job e es, counted_cons Unenrolled past job e es, counted_cons Late past job e es, counted_cons Accepted past job e es) (
+counted past job (e ∷ es) = rw (
+  counted_cons Unread past job e es,
+  counted_cons Uncovered past job e es,
+  counted_cons Unenrolled past job e es,
+  counted_cons Late past job e es,
+  counted_cons Accepted past job e es,
+) (
     add_up (class_of past job e) (count_by (λ e. is_class Unread (class_of past job e)) es) (count_by (λ e. is_class Uncovered (class_of past job e)) es)
     (count_by (λ e. is_class Unenrolled (class_of past job e)) es) (count_by (λ e. is_class Late (class_of past job e)) es) (count_by (λ e. is_class Accepted (class_of past job e)) es) (length es)
     (counted past job es))

@@ -36,22 +36,23 @@ pub record IsSound (rs : List Release) : Type 0 where
   -- each accepted sighting is covered by some release that enrolls the issuer
   pub covered : (e : Entry) → Among (seen rs) e → (r : Release) × Among rs r × (covers r.ranges e.sighting ≡ true) × (has_key r.issuers e.id.issuer ≡ true)
   -- and each such release has accepted the identity
-  pub timely : (e : Entry) → Among (seen rs) e → (r : Release) → Among rs r → covers r.ranges e.sighting ≡ true → has_key r.issuers e.id.issuer ≡ true → has r.accepted e.id ≡ true
+  pub timely : (e : Entry) → Among (seen rs) e → (r : Release) → Among rs r → covers r.ranges e.sighting ≡ true
+      → has_key r.issuers e.id.issuer ≡ true → has r.accepted e.id ≡ true
   -- what is revoked is listed
   pub revoked : (x : Identity) (r : Release) → Among rs r → has r.revoked x ≡ true → is_listed rs x ≡ true
   -- what is listed is revoked by some release that covers all its sightings
   pub settled : (x : Identity) → is_listed rs x ≡ true → is_settled_by rs x (sightings x (seen rs)) ≡ true
 
 -- each of the newest release's ranges lies in one of the job's
-abbrev pub Follows : List Release → Job → Type 0
-Follows [] job = Unit {0}
-Follows (r ∷ []) job = lie_within r.ranges job.ranges ≡ true
-Follows (r ∷ q ∷ rs) job = Follows (q ∷ rs) job
+abbrev pub KeepsCoverage : List Release → Job → Type 0
+KeepsCoverage [] job = Unit {0}
+KeepsCoverage (r ∷ []) job = lie_within r.ranges job.ranges ≡ true
+KeepsCoverage (r ∷ q ∷ rs) job = KeepsCoverage (q ∷ rs) job
 
--- each job follows those before it
-abbrev pub AllFollow : (List Release → Job → List ℕ) → List Release → List Job → Type 0
-AllFollow trailer rs [] = Unit {0}
-AllFollow trailer rs (job ∷ jobs) = Follows rs job × AllFollow trailer (rs ++ released (past_of rs) job (trailer rs job) ∷ []) jobs
+-- each job keeps the coverage of those before it
+abbrev pub AllKeepCoverage : (List Release → Job → List ℕ) → List Release → List Job → Type 0
+AllKeepCoverage trailer rs [] = Unit {0}
+AllKeepCoverage trailer rs (job ∷ jobs) = KeepsCoverage rs job × AllKeepCoverage trailer (rs ++ released (past_of rs) job (trailer rs job) ∷ []) jobs
 
 -- what a release has of its job
 pub record Leaves (job : Job) (r : Release) : Type 0 where

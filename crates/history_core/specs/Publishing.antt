@@ -10,7 +10,8 @@ use Rattle.history_core.specs.Showing.{PartView}
 
 -- the test answers for the universe of each group of the release what the release says
 pub record IsExact (positive : GroupFields → Identity → Bool) (r : Release) : Type 0 where
-  pub at : (issuer : List ℕ) → has_key r.issuers issuer ≡ true → (x : Identity) → has (group_of r issuer).universe x ≡ true → positive (group_of r issuer) x ≡ has r.revoked x
+  pub at : (issuer : List ℕ) → has_key r.issuers issuer ≡ true → (x : Identity)
+      → has (group_of r issuer).universe x ≡ true → positive (group_of r issuer) x ≡ has r.revoked x
 
 -- the part of a release: it covers what the release does, and has a block for each group, which says what the test does
 abbrev pub part_of : (GroupFields → Identity → Bool) → Release → PartView

@@ -1,4 +1,4 @@
-ghost use Rattle.std.specs.Prelude.{◌≡◌, ℕ, List, [], ◌∷◌, ◌++◌, ◌+◌, ◌&&◌, not, Bool, true, map, drop, length, Some, None};
+ghost use Rattle.std.specs.Prelude.{◌≡◌, ℕ, List, [], ◌∷◌, ◌++◌, ◌+◌, ◌&&◌, not, Bool, true, map, drop, length, Some, None, is_some};
 ghost use Rattle.std.specs.List.{AllZip, list_any, slice_get};
 ghost use Rattle.ident_core.specs.declared.identity.Identity.{Identity};
 ghost use Rattle.ident_core.specs.declared.range.Sighting.{Sighting};
@@ -7,14 +7,14 @@ ghost use Rattle.job_core.specs.declared.bounds.Limits.{Limits};
 ghost use Rattle.job_core.specs.JobFields.{JobFields};
 ghost use Rattle.sets_core.specs.Among.{Among};
 ghost use Rattle.sets_core.specs.Sets.{has, has_key};
-ghost use Rattle.universe_core.specs.Jobs.{Job, told, enrolled, lists};
+ghost use Rattle.universe_core.specs.Jobs.{Job, facts_of, enrolled, lists};
 ghost use Rattle.universe_core.specs.History.{Release, Past, past_of, released, releases, seen, sightings, birth, is_listed, is_settled_by, revoked, universe};
 ghost use Rattle.universe_core.specs.Groups.{GroupFields, groups};
 ghost use Rattle.universe_core.specs.Counting.{count, counts};
 ghost use Rattle.universe_core.specs.declared.class.Class.TheVariants.{Unread, Uncovered, Unenrolled, Late, Accepted};
-ghost use Rattle.universe_core.specs.Ledgers.{no_ledger, past_in, next_ledger, ledger_of, last, some_last};
+ghost use Rattle.universe_core.specs.Ledgers.{no_ledger, past_in, next_ledger, ledger_of, last};
 ghost use Rattle.universe_core.specs.Step.{refusal, groups_after, counts_after};
-ghost use Rattle.history_core.specs.Facts.{IsSound, Follows, AllFollow, Leaves, Widens};
+ghost use Rattle.history_core.specs.Facts.{IsSound, KeepsCoverage, AllKeepCoverage, Leaves, Widens};
 ghost use Rattle.history_core.specs.Showing.{PartView, Shows, answers_of};
 ghost use Rattle.history_core.specs.Publishing.{IsExact, part_of};
 ghost use Rattle.history_core.specs.Beginnings.{sees};
@@ -24,17 +24,21 @@ ghost use Rattle.history_core.specs.Example.{certificate, second_job, after_firs
 /// each job of a history; and a job that isn't refused has such a coverage.
 pub fn facts_hold()
     ensures nothing { IsSound [] }
-    ensures kept { (rs : List Release) (job : Job) (trailer : List ℕ) → IsSound rs → Follows rs job → IsSound (rs ++ released (past_of rs) job trailer ∷ []) }
-    ensures history { (trailer : List Release → Job → List ℕ) (rs : List Release) (jobs : List Job) → IsSound rs → AllFollow trailer rs jobs → IsSound (releases trailer rs jobs) }
-    ensures admitted { (limits : Limits) (rs : List Release) (job : JobFields) → refusal limits (ledger_of rs) job ≡ None → Follows rs (told job) }
+    ensures kept { (rs : List Release) (job : Job) (trailer : List ℕ) → IsSound rs → KeepsCoverage rs job
+        → IsSound (rs ++ released (past_of rs) job trailer ∷ []) }
+    ensures history { (trailer : List Release → Job → List ℕ) (rs : List Release) (jobs : List Job) → IsSound rs
+        → AllKeepCoverage trailer rs jobs → IsSound (releases trailer rs jobs) }
+    ensures admitted { (limits : Limits) (rs : List Release) (job : JobFields) → refusal limits (ledger_of rs) job ≡ None → KeepsCoverage rs (facts_of job) }
 {}
 
 /// The ledger of a history tells a job what the history tells it, so that the groups and the counts are the history's,
 /// and the next ledger is that of the history with the job.
 pub fn ledger_step_is_the_historys()
     ensures told { (rs : List Release) → IsSound rs → past_in (ledger_of rs) ≡ past_of rs }
-    ensures next { (rs : List Release) → IsSound rs → (job : Job) (trailer : List ℕ) → next_ledger (ledger_of rs) job trailer ≡ ledger_of (rs ++ released (past_of rs) job trailer ∷ []) }
-    ensures groups { (rs : List Release) → IsSound rs → (job : Job) (trailer : List ℕ) → groups_after (ledger_of rs) job ≡ groups (released (past_of rs) job trailer) }
+    ensures next { (rs : List Release) → IsSound rs → (job : Job) (trailer : List ℕ)
+        → next_ledger (ledger_of rs) job trailer ≡ ledger_of (rs ++ released (past_of rs) job trailer ∷ []) }
+    ensures groups { (rs : List Release) → IsSound rs → (job : Job) (trailer : List ℕ)
+        → groups_after (ledger_of rs) job ≡ groups (released (past_of rs) job trailer) }
     ensures counts { (rs : List Release) → IsSound rs → (job : Job) → counts_after (ledger_of rs) job ≡ counts (past_of rs) job }
 {}
 
@@ -46,17 +50,21 @@ pub fn answers_are_the_truth()
     ensures shown { (parts : List PartView) (rs : List Release) (x : Identity) (s : Sighting) (ss : List Sighting) → IsSound rs → AllZip Shows parts rs
         → ((t : Sighting) → Among (s ∷ ss) t → Among (sightings x (seen rs)) t)
         → (a : Bool) × (others : List Bool) × (answers_of x (s ∷ ss) parts ≡ a ∷ others) × (list_any (λ b. b) (a ∷ others) ≡ is_listed rs x) }
-    ensures published { (positive : GroupFields → Identity → Bool) (rs : List Release) (x : Identity) (s : Sighting) (ss : List Sighting) → IsSound rs → ((r : Release) → Among rs r → IsExact positive r)
+    ensures published { (positive : GroupFields → Identity → Bool) (rs : List Release) (x : Identity) (s : Sighting)
+        (ss : List Sighting) → IsSound rs → ((r : Release) → Among rs r → IsExact positive r)
         → ((t : Sighting) → Among (s ∷ ss) t → Among (sightings x (seen rs)) t)
-        → (a : Bool) × (others : List Bool) × (answers_of x (s ∷ ss) (map (part_of positive) rs) ≡ a ∷ others) × (list_any (λ b. b) (a ∷ others) ≡ is_listed rs x) }
-    ensures flags { (positive : GroupFields → Identity → Bool) (r : Release) → ((g : GroupFields) → Among (groups r) g → AllZip (λ x b. positive g x ≡ b) g.universe g.revoked) → IsExact positive r }
+        → (a : Bool) × (others : List Bool) × (answers_of x (s ∷ ss) (map (part_of positive) rs) ≡ a ∷ others)
+        × (list_any (λ b. b) (a ∷ others) ≡ is_listed rs x) }
+    ensures flags { (positive : GroupFields → Identity → Bool) (r : Release)
+        → ((g : GroupFields) → Among (groups r) g → AllZip (λ x b. positive g x ≡ b) g.universe g.revoked)
+        → IsExact positive r }
 {}
 
 /// The last part of an identity covers all its accepted sightings, and it has one exactly if it is listed.
 pub fn last_part_covers()
     ensures covers { (rs : List Release) (x : Identity) (k : ℕ) → IsSound rs → last x rs ≡ Some k
         → (r : Release) × (slice_get rs k ≡ Some r) × ((s : Sighting) → Among (sightings x (seen rs)) s → covers r.ranges s ≡ true) }
-    ensures listed { (rs : List Release) (x : Identity) → IsSound rs → some_last (last x rs) ≡ is_listed rs x }
+    ensures listed { (rs : List Release) (x : Identity) → IsSound rs → is_some (last x rs) ≡ is_listed rs x }
 {}
 
 /// The definitions in other words. The revoked set: of the universe, what is listed up to now, without what an earlier
@@ -64,14 +72,22 @@ pub fn last_part_covers()
 /// lists it; of any releases that leave what their jobs say, and so of those of a history. The five classes add up to
 /// the entries.
 pub fn words_hold()
-    ensures revoked_set { (rs : List Release) (job : Job) (trailer : List ℕ) (x : Identity) → has (revoked (past_of rs) job) x
-        ≡ ((is_listed (rs ++ released (past_of rs) job trailer ∷ []) x && not (is_settled_by rs x (sightings x (seen (rs ++ released (past_of rs) job trailer ∷ []))))) && has (universe (past_of rs) job) x) }
+    ensures revoked_set { (rs : List Release) (job : Job) (trailer : List ℕ) (x : Identity)
+        → has (revoked (past_of rs) job) x
+        ≡ ((is_listed (rs ++ released (past_of rs) job trailer ∷ []) x
+        && not (is_settled_by rs x (sightings x (seen (rs ++ released (past_of rs) job trailer ∷ [])))))
+        && has (universe (past_of rs) job) x) }
     ensures listed { (x : Identity) (jobs : List Job) (rs : List Release) → AllZip Leaves jobs rs → Widens rs
         → is_listed rs x ≡ list_any (λ job. lists job x && has_key (enrolled job) x.issuer) (drop (birth x rs) jobs) }
-    ensures listed_by_jobs { (trailer : List Release → Job → List ℕ) (jobs : List Job) (x : Identity) → AllFollow trailer [] jobs
-        → is_listed (releases trailer [] jobs) x ≡ list_any (λ job. lists job x && has_key (enrolled job) x.issuer) (drop (birth x (releases trailer [] jobs)) jobs) }
-    ensures leaves { (trailer : List Release → Job → List ℕ) (jobs before : List Job) (rs : List Release) → AllZip Leaves before rs → AllZip Leaves (before ++ jobs) (releases trailer rs jobs) }
-    ensures classes { (past : Past) (job : Job) → count Unread past job + count Uncovered past job + count Unenrolled past job + count Late past job + count Accepted past job ≡ length job.entries }
+    ensures listed_by_jobs { (trailer : List Release → Job → List ℕ) (jobs : List Job) (x : Identity) → AllKeepCoverage trailer [] jobs
+        → is_listed (releases trailer [] jobs) x
+        ≡ list_any (λ job. lists job x && has_key (enrolled job) x.issuer)
+        (drop (birth x (releases trailer [] jobs)) jobs) }
+    ensures leaves { (trailer : List Release → Job → List ℕ) (jobs before : List Job) (rs : List Release)
+        → AllZip Leaves before rs → AllZip Leaves (before ++ jobs) (releases trailer rs jobs) }
+    ensures classes { (past : Past) (job : Job)
+        → count Unread past job + count Uncovered past job + count Unenrolled past job + count Late past job
+        + count Accepted past job ≡ length job.entries }
 {}
 
 /// A history of one job: the facts hold after it, with nothing asked of the job. The empty ledger tells it what no
@@ -87,13 +103,29 @@ pub fn first_job_is_sound()
 /// In a history of one job a certificate is listed exactly if the job lists it, enrolls its issuer and covers an entry
 /// of it; and the job revokes what it lists.
 pub fn first_job_in_words()
-    ensures listed { (trailer : List Release → Job → List ℕ) (job : Job) (x : Identity) → is_listed (releases trailer [] (job ∷ [])) x ≡ (lists job x && (has_key (enrolled job) x.issuer && sees job x)) }
-    ensures revoked { (trailer : List Release → Job → List ℕ) (job : Job) (x : Identity) → has (revoked (past_of []) job) x ≡ is_listed (releases trailer [] (job ∷ [])) x }
+    ensures listed { (trailer : List Release → Job → List ℕ) (job : Job) (x : Identity)
+        → is_listed (releases trailer [] (job ∷ [])) x
+        ≡ (lists job x && (has_key (enrolled job) x.issuer && sees job x)) }
+    ensures revoked { (trailer : List Release → Job → List ℕ) (job : Job) (x : Identity)
+        → has (revoked (past_of []) job) x ≡ is_listed (releases trailer [] (job ∷ [])) x }
 {}
 
 /// By example: of five entries of a second job one is late, and a serial that its CRL drops stays revoked.
 pub fn two_jobs_computed()
-    ensures counts { counts (past_of after_first) second_job ≡ record { issuers = 1; universe = 3; revoked = 1; unread = 1; uncovered = 1; unenrolled = 0; late = 1; accepted = 2 } }
+    ensures counts { counts (past_of after_first) second_job
+        ≡ record {
+          issuers = 1;
+          universe = 3;
+          revoked = 1;
+          unread = 1;
+          uncovered = 1;
+          unenrolled = 0;
+          late = 1;
+          accepted = 2;
+        } }
     ensures items { (next_ledger (ledger_of after_first) second_job []).items
-        ≡ record { id = certificate 5; birth = 0; last = Some 1 } ∷ record { id = certificate 6; birth = 0; last = None } ∷ record { id = certificate 8; birth = 1; last = None } ∷ [] }
+        ≡ record { id = certificate 5; birth = 0; last = Some 1 }
+        ∷ record { id = certificate 6; birth = 0; last = None }
+        ∷ record { id = certificate 8; birth = 1; last = None }
+        ∷ [] }
 {}
