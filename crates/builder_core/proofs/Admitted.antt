@@ -1,6 +1,7 @@
 -- What admission gives of its groups: their issuers ascend, and groups and identities are no more than the limits.
 use Rattle.std.specs.List.{AllByRecursion}
 use Rattle.std.specs.List.Sorted.{IsStrictlySortedBy}
+use Rattle.std.specs.Option.{option_or}
 use Rattle.std.specs.Str.{bytes_eq}
 use Rattle.std.specs.declared.cmp.Ordering.TheVariants.{Less}
 use Rattle.std.proofs.Common.{◌≡◌, ◌≤◌, ◌+◌, ℕ, suc, List, [], ◌∷◌, length, map, filter, Bool, true, false, not, cond, nat_lt, Option, Some, None, refl, sym, ap, ◌∙◌, subst, arith}
@@ -12,16 +13,16 @@ use Rattle.ident_core.specs.Order.{octets_cmp}
 use Rattle.job_core.specs.declared.bounds.Limits.{Limits}
 use Rattle.job_core.specs.declared.bounds.What.TheVariants as what
 use Rattle.job_core.specs.JobFields.{JobFields}
-use Rattle.ledger_core.specs.LedgerFields.{LedgerFields}
+use Rattle.ledger_core.specs.LedgerFields.{LedgerFields, newest}
 use Rattle.sets_core.proofs.Runs.{other_issuer}
 use Rattle.sets_core.proofs.Sets.{bytes_same, bytes_refl}
 use Rattle.universe_core.specs.declared.fault.AdmitFault.{AdmitFault}
 use Rattle.universe_core.specs.declared.fault.AdmitFault.TheVariants as faults
-use Rattle.universe_core.specs.Jobs.{Job, told, enrolled}
+use Rattle.universe_core.specs.Jobs.{Job, facts_of, enrolled}
 use Rattle.universe_core.specs.History.{Release, released, accepted_with}
 use Rattle.universe_core.specs.Ledgers.{past_in}
 use Rattle.universe_core.specs.Groups.{GroupFields, members_of, group_of, groups}
-use Rattle.universe_core.specs.Step.{first_or, bad_crl_from, newest, old_epoch, shrunk, chain_full, too_many, refusal, groups_after}
+use Rattle.universe_core.specs.Step.{bad_crl_from, old_epoch, shrunk, chain_full, too_many, refusal, groups_after}
 use Rattle.universe_core.proofs.Beginning.{issuers_few}
 use Rattle.universe_core.proofs.Issuers.{enrolled_ascend}
 use Rattle.builder_core.specs.Building.{issuers_of, identities_in}
@@ -42,10 +43,10 @@ groups_ascend ledger job gs is =
     subst (IsStrictlySortedBy octets_cmp) (sym e) (enrolled_ascend job)
 
 -- there are no more groups than CRLs
-pub groups_few : (ledger : LedgerFields) (job : JobFields) (gs : List GroupFields) → gs ≡ groups_after ledger (told job) → length gs ≤ length job.crls
+pub groups_few : (ledger : LedgerFields) (job : JobFields) (gs : List GroupFields) → gs ≡ groups_after ledger (facts_of job) → length gs ≤ length job.crls
 unfolding groups
 groups_few ledger job gs is =
-    let e : length gs ≡ length (enrolled (told job)) = ap length is ∙ length-map (enrolled (told job)) (group_of (released (past_in ledger) (told job) [])) in
+    let e : length gs ≡ length (enrolled (facts_of job)) = ap length is ∙ length-map (enrolled (facts_of job)) (group_of (released (past_in ledger) (facts_of job) [])) in
     omega (arith, e, issuers_few job)
 
 -- ---- identities
@@ -60,7 +61,8 @@ module _ {A : Type 0} where
   split p [] = refl
   split p (x ∷ xs) = split_step x (filter p xs) (filter (λ y. not (p y)) xs) (length xs) (p x) (split p xs)
 
-  skip_step : (q : A → Bool) (x : A) (ys zs : List A) (b : Bool) → (b ≡ true → q x ≡ false) → filter q ys ≡ filter q zs → filter q (cond (not b) (x ∷ ys) ys) ≡ cond (q x) (x ∷ filter q zs) (filter q zs)
+  skip_step : (q : A → Bool) (x : A) (ys zs : List A) (b : Bool) → (b ≡ true → q x ≡ false) → filter q ys ≡ filter q zs
+      → filter q (cond (not b) (x ∷ ys) ys) ≡ cond (q x) (x ∷ filter q zs) (filter q zs)
   skip_step q x ys zs true h e = rw (h refl) e
   skip_step q x ys zs false h e = ap (λ ws. cond (q x) (x ∷ ws) ws) e
 
@@ -104,7 +106,7 @@ identities_from r [] = refl
 identities_from r (k ∷ ks) =
     sum_by-cons (λ (g : GroupFields). length g.universe) (group_of r k) (map (group_of r) ks) ∙ ap (λ (n : ℕ). length (members_of k r.accepted) + n) (identities_from r ks)
 
-none_of : (a b : Option AdmitFault) → first_or a b ≡ None → b ≡ None
+none_of : (a b : Option AdmitFault) → option_or a b ≡ None → b ≡ None
 none_of None b h = h
 none_of (Some fault) b h = absurd cc
 
@@ -112,22 +114,23 @@ few_by : (limits : Limits) (n : ℕ) (b : Bool) → nat_lt limits.identities n �
 few_by limits n true e h = absurd cc
 few_by limits n false e h = ltb-false limits.identities n e
 
-accepted_few : (limits : Limits) (ledger : LedgerFields) (job : JobFields) → refusal limits ledger job ≡ None → length (accepted_with (past_in ledger) (told job)) ≤ limits.identities
+accepted_few : (limits : Limits) (ledger : LedgerFields) (job : JobFields) → refusal limits ledger job ≡ None → length (accepted_with (past_in ledger) (facts_of job)) ≤ limits.identities
 unfolding refusal
 accepted_few limits ledger job h =
-    let many = too_many limits ledger (told job) in
-    let full = first_or (chain_full ledger.parts) many in
-    let shrinks = first_or (shrunk (newest ledger.parts) (told job)) full in
-    let old = first_or (old_epoch (newest ledger.parts) job.epoch) shrinks in
+    let many = too_many limits ledger (facts_of job) in
+    let full = option_or (chain_full ledger.parts) many in
+    let shrinks = option_or (shrunk (newest ledger.parts) (facts_of job)) full in
+    let old = option_or (old_epoch (newest ledger.parts) job.epoch) shrinks in
     let none : many ≡ None =
     none_of (chain_full ledger.parts) many
-    (none_of (shrunk (newest ledger.parts) (told job)) full (none_of (old_epoch (newest ledger.parts) job.epoch) shrinks (none_of (bad_crl_from 0 job.crls) old h))) in
-    let n = length (accepted_with (past_in ledger) (told job)) in few_by limits n (nat_lt limits.identities n) refl none
+    (none_of (shrunk (newest ledger.parts) (facts_of job)) full (none_of (old_epoch (newest ledger.parts) job.epoch) shrinks (none_of (bad_crl_from 0 job.crls) old h))) in
+    let n = length (accepted_with (past_in ledger) (facts_of job)) in few_by limits n (nat_lt limits.identities n) refl none
 
 -- the groups of an admitted job have no more identities than the limit
-pub identities_few : (limits : Limits) (ledger : LedgerFields) (job : JobFields) (gs : List GroupFields) → gs ≡ groups_after ledger (told job) → refusal limits ledger job ≡ None → identities_in gs ≤ limits.identities
+pub identities_few : (limits : Limits) (ledger : LedgerFields) (job : JobFields) (gs : List GroupFields) → gs ≡ groups_after ledger (facts_of job)
+    → refusal limits ledger job ≡ None → identities_in gs ≤ limits.identities
 unfolding groups
 identities_few limits ledger job gs is none =
-    let r = released (past_in ledger) (told job) [] in
-    let e : identities_in gs ≡ total (enrolled (told job)) (accepted_with (past_in ledger) (told job)) = ap identities_in is ∙ identities_from r (enrolled (told job)) in
-    omega (arith, e, total_few (enrolled (told job)) (accepted_with (past_in ledger) (told job)) (enrolled_ascend (told job)), accepted_few limits ledger job none)
+    let r = released (past_in ledger) (facts_of job) [] in
+    let e : identities_in gs ≡ total (enrolled (facts_of job)) (accepted_with (past_in ledger) (facts_of job)) = ap identities_in is ∙ identities_from r (enrolled (facts_of job)) in
+    omega (arith, e, total_few (enrolled (facts_of job)) (accepted_with (past_in ledger) (facts_of job)) (enrolled_ascend (facts_of job)), accepted_few limits ledger job none)

@@ -77,7 +77,8 @@ part_ready rows head groups blocks h few up = record {
   ascending = blocks_ascend rows (map group_fields groups) blocks h up;
 }
 
-module _ (groups : List Group) (i : ℕ) (g : Group) (lt : i < length groups) (is : g ≡ get_or groups i g) (u : List Identity) (f : List Bool) (u-is : u ≡ g.universe.items) (f-is : f ≡ g.revoked.items) where
+module _ (groups : List Group) (i : ℕ) (g : Group) (lt : i < length groups) (is : g ≡ get_or groups i g) (u : List Identity) (f : List Bool)
+    (u-is : u ≡ g.universe.items) (f-is : f ≡ g.revoked.items) where
   abbrev fields : List GroupFields
   fields = map group_fields groups
 

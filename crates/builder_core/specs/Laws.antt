@@ -11,10 +11,12 @@ GroupBlocksAreUnique = (rows : Rows) (groups : List GroupFields) (a b : List Blo
 -- where a group is refused there are no blocks of all groups
 abbrev pub RefusedHasNoBlocks : Type 0
 RefusedHasNoBlocks =
-    (rows : Rows) (groups : List GroupFields) (issuer : List ℕ) (stage : ℕ) (blocks : List Block) → IsFirstRefused rows groups issuer stage → AreGroupBlocks rows groups blocks → ⊥
+    (rows : Rows) (groups : List GroupFields) (issuer : List ℕ) (stage : ℕ) (blocks : List Block)
+    → IsFirstRefused rows groups issuer stage → AreGroupBlocks rows groups blocks → ⊥
 
 -- only one issuer is the first that is refused, at one stage
 abbrev pub OneIsFirstRefused : Type 0
 OneIsFirstRefused =
-    (rows : Rows) (groups : List GroupFields) (issuer other_issuer : List ℕ) (stage other_stage : ℕ) → IsFirstRefused rows groups issuer stage → IsFirstRefused rows groups other_issuer other_stage
+    (rows : Rows) (groups : List GroupFields) (issuer other_issuer : List ℕ) (stage other_stage : ℕ)
+    → IsFirstRefused rows groups issuer stage → IsFirstRefused rows groups other_issuer other_stage
     → (issuer ≡ other_issuer) × (stage ≡ other_stage)

@@ -1,5 +1,6 @@
 ghost use Rattle.std.specs.Prelude.{◌≤◌, All, length, map};
 ghost use Rattle.std.specs.List.Sorted.{IsStrictlySortedBy};
+ghost use Rattle.ident_core.specs.declared.bounds.TheConstants.{MAX_IDENTITIES, MAX_ISSUERS};
 ghost use Rattle.ident_core.specs.Order.{octets_cmp};
 ghost use Rattle.universe_core.specs.Groups.{group_fields, IsGroup};
 ghost use Rattle.builder_core.specs.Building.{BuildsBlocks, BuildsPart, identities_in, issuers_of};
@@ -21,8 +22,8 @@ fn build_blocks<H: EquationHash, G: Gate>(
     groups: &[Group],
 ) -> Result<Vec<Block>, BuildFault>
     requires facts { All IsGroup (map group_fields groups.now) }
-    requires few { length groups.now ≤ 65535 }
-    requires identities { identities_in (map group_fields groups.now) ≤ 4194304 }
+    requires few { length groups.now ≤ MAX_ISSUERS }
+    requires identities { identities_in (map group_fields groups.now) ≤ MAX_IDENTITIES }
     ensures { BuildsBlocks (H.row_of hash.now) (map group_fields groups.now) result }
 {
     let mut blocks = Vec::with_capacity(alloc, groups.len())?;
@@ -49,8 +50,8 @@ pub fn build_part<R: Threads + Sync, H: EquationHash + Sync, G: Gate + Sync>(
 ) -> Result<Part, BuildFault>
     requires facts { All IsGroup (map group_fields groups.now) }
     requires ascending { IsStrictlySortedBy octets_cmp (issuers_of (map group_fields groups.now)) }
-    requires few { length groups.now ≤ 65535 }
-    requires identities { identities_in (map group_fields groups.now) ≤ 4194304 }
+    requires few { length groups.now ≤ MAX_ISSUERS }
+    requires identities { identities_in (map group_fields groups.now) ≤ MAX_IDENTITIES }
     requires some_workers { 1 ≤ workers }
     requires few_workers { workers ≤ 64 }
     ensures { BuildsPart (H.row_of hash.now) head (map group_fields groups.now) result }

@@ -234,14 +234,16 @@ fn the_first_refusal_is_answered(rt: HostRuntime) -> Result<(), Fail> {
     Ok(())
 }
 
-// Counts the groups that enter in order.
+// Counts the groups that enter, and those of them that enter in order.
 #[derive(Drop)]
 struct InOrder {
+    calls: AtomicU32,
     entered: AtomicU32,
 }
 
 impl Gate for InOrder {
     fn enter(&self, place: u32) {
+        self.calls.fetch_add(1, Ordering::SeqCst);
         let _ = self.entered.compare_exchange(
             place,
             place.saturating_add(1),
@@ -251,13 +253,46 @@ impl Gate for InOrder {
     }
 }
 
+// The rows of SHA-256, with a count of those that are asked for while another group than the member's entered last. The
+// issuer of the group at place 0 is 0x22, that at place 1 is 0x33, and so on.
+#[derive(Drop)]
+struct Watching<'a> {
+    gate: &'a InOrder,
+    strange: AtomicU32,
+}
+
+impl<'a> EquationHash for Watching<'a> {
+    ghost use Rattle.equation_core.specs.Rows.{sha256_row};
+    ghost use Rattle.equation_core.specs.RowLaws.{sha256_row-is};
+
+    ghost row_of = { λ _ stage seed id starts. sha256_row stage seed id starts };
+
+    ghost formed = { λ _ stage seed id starts _ _ some _. sha256_row-is stage seed id starts some };
+
+    fn row(&self, stage: u8, seed: u8, id: &Identity, starts: u32) -> Row {
+        let last = self.gate.entered.load(Ordering::SeqCst);
+        if id.issuer.bytes()[0] as u32 != last.saturating_add(1).saturating_mul(0x11) {
+            self.strange.fetch_add(1, Ordering::SeqCst);
+        }
+        Sha256Rows.row(stage, seed, id, starts)
+    }
+}
+
+// Each group enters once, in order, before its first member is hashed and behind the last one of the group before it.
 #[test]
 fn each_group_enters(rt: HostRuntime) -> Result<(), Fail> {
     let gate = InOrder {
+        calls: AtomicU32::new(0),
         entered: AtomicU32::new(0),
     };
-    let job = job_of(rt.alloc(), &[SOME, EVERY, NONE])?;
-    let _ = part_of(&rt, rt.alloc(), &Sha256Rows, &gate, &job)??;
+    let hash = Watching {
+        gate: &gate,
+        strange: AtomicU32::new(0),
+    };
+    let job = job_of(rt.alloc(), &[TWO, SOME, MANY])?;
+    let _ = part_of(&rt, rt.alloc(), &hash, &gate, &job)??;
+    assert_eq!(&rt; gate.calls.load(Ordering::SeqCst), 3);
     assert_eq!(&rt; gate.entered.load(Ordering::SeqCst), 3);
+    assert_eq!(&rt; hash.strange.load(Ordering::SeqCst), 0);
     Ok(())
 }

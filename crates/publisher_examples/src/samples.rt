@@ -1,7 +1,7 @@
 //! A made job against that of another program, and where a write fails.
 
 use outside_core::{Failed, MemoryDepot};
-use sample_core::Draft;
+use sample_core::SampleJob;
 use sha2::{Digest, Sha256};
 use std::test::Fail;
 
@@ -15,9 +15,9 @@ const DIGEST: [u8; 32] = [
 #[test]
 fn job_of_another_program(rt: HostRuntime) -> Result<(), Fail> {
     let mut depot = MemoryDepot::new(rt.alloc());
-    let draft = Draft::new(rt.alloc(), 7, 1000)?;
-    assert_eq!(rt; (draft.revoked(), draft.bytes()), (12, 108_862));
-    draft.write(&mut depot, "J")?;
+    let job = SampleJob::new(rt.alloc(), 7, 1000)?;
+    assert_eq!(rt; (job.revoked(), job.bytes()), (12, 108_862));
+    job.write(&mut depot, "J")?;
     let held = depot.bytes_of("J").map(|bytes| Sha256::digest(bytes));
     assert_eq!(rt; held, Some(DIGEST));
     Ok(())
@@ -28,8 +28,8 @@ fn job_of_another_program(rt: HostRuntime) -> Result<(), Fail> {
 fn fifth_append_fails(rt: HostRuntime) -> Result<(), Fail> {
     let mut depot = MemoryDepot::new(rt.alloc());
     depot.fail_writes(&[5])?;
-    let draft = Draft::new(rt.alloc(), 7, 1000)?;
-    assert_eq!(rt; draft.write(&mut depot, "J"), Err(Failed));
+    let job = SampleJob::new(rt.alloc(), 7, 1000)?;
+    assert_eq!(rt; job.write(&mut depot, "J"), Err(Failed));
     assert_eq!(rt; depot.bytes_of("J").map(|bytes| bytes.len()), Some(16_384));
     Ok(())
 }

@@ -27,4 +27,6 @@ loop-place-preserved g c =
     let h = group_built c.args.groups.now c.loop-place.place c.index-groups-place.result c.loop-place-test.true c.index-groups-place.is
     c.deref.result.now c.deref-in-loop-place.result.now c.deref.ensures.value c.deref-in-loop-place.ensures.value
     (g.H.EquationHash.row_of c.args.hash.now) c.loop-place.blocks.items c.loop-place.invariant c.in-Ok.block c.in-Ok.ensures in
-    subst (λ (bs : List Block). AreGroupBlocks (g.H.EquationHash.row_of c.args.hash.now) (map group_fields (take (c.loop-place.place + 1) c.args.groups.now)) bs) (sym c.in_ok-push-in-Ok.ensures.items) h
+    subst
+    (λ (bs : List Block). AreGroupBlocks (g.H.EquationHash.row_of c.args.hash.now) (map group_fields (take (c.loop-place.place + 1) c.args.groups.now)) bs)
+    (sym c.in_ok-push-in-Ok.ensures.items) h

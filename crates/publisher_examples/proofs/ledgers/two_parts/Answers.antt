@@ -32,9 +32,14 @@ is-ledger trailer =
       some_parts = omega arith;
       few_parts = omega arith;
       parts = (
-        record { follows = tt; ranges = record { few = omega arith; ascending = ((refl, omega arith), tt) }; few_issuers = omega arith; issuers_ascend = (tt, tt) },
+        record { continues = tt; ranges = record { few = omega arith; ascending = ((refl, omega arith), tt) }; few_issuers = omega arith; issuers_ascend = (tt, tt) },
         (
-          record { follows = (omega arith, (within-iff old new (first_outside old new) refl).0 refl); ranges = record { few = omega arith; ascending = ((refl, omega arith), tt) }; few_issuers = omega arith; issuers_ascend = (tt, tt) },
+          record {
+            continues = (omega arith, (within-iff old new (first_outside old new) refl).0 refl);
+            ranges = record { few = omega arith; ascending = ((refl, omega arith), tt) };
+            few_issuers = omega arith;
+            issuers_ascend = (tt, tt);
+          },
           tt,
         ),
       );
