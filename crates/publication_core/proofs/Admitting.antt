@@ -1,7 +1,7 @@
 -- A job is admitted behind the ledger of a history exactly if it is admissible behind the history.
 use Rattle.std.proofs.Common.{◌≡◌, ℕ, suc, ◌<◌, ◌≤◌, List, [], ◌∷◌, map, length, Bool, true, false, cond, ltb, Option, Some, None, Result, Ok, Err, refl, sym, ap, ◌∙◌, subst, arith}
 use Rattle.std.specs.Prelude.{All, IsOk, IsNone, IfSome, nat_le}
-use Rattle.std.specs.Option.{option_map}
+use Rattle.std.specs.Option.{option_map, option_or}
 use Rattle.std.proofs.lemmas.Bool.{ltb-false, leb-false, lt-leb}
 use Rattle.std.proofs.lemmas.List.{length-map}
 use Rattle.std.proofs.lemmas.List.Elements.{All-nil, All-cons, All-head, All-tail}
@@ -11,10 +11,11 @@ use Rattle.crl_core.specs.declared.crl.CrlFault.{CrlFault}
 use Rattle.crl_core.specs.Outcome.{CrlFields}
 use Rattle.job_core.specs.declared.bounds.TheConstants.Limits.{PUBLISHED}
 use Rattle.job_core.specs.JobFields.{CrlMeaning, JobFields}
-use Rattle.universe_core.specs.Jobs.{told}
+use Rattle.ledger_core.specs.LedgerFields.{newest}
+use Rattle.universe_core.specs.Jobs.{facts_of}
 use Rattle.universe_core.specs.History.{Release, Past, past_of, accepted_with}
 use Rattle.universe_core.specs.Ledgers.{past_in, part_from, ledger_of}
-use Rattle.universe_core.specs.Step.{first_or, bad_crl_at, bad_crl_from, newest, old_epoch, shrunk, chain_full, too_many, refusal}
+use Rattle.universe_core.specs.Step.{bad_crl_at, bad_crl_from, old_epoch, shrunk, chain_full, too_many, refusal}
 use Rattle.universe_core.specs.declared.fault.AdmitFault.{AdmitFault}
 use Rattle.universe_core.specs.declared.fault.AdmitFault.TheVariants as faults
 use Rattle.universe_core.proofs.Beginning.{few_by}
@@ -24,11 +25,11 @@ use Rattle.publication_core.specs.Histories.{newest_of, GoesOn}
 
 -- ---- no fault
 
-none_of : (a b : Option AdmitFault) → first_or a b ≡ None → (a ≡ None) × (b ≡ None)
+none_of : (a b : Option AdmitFault) → option_or a b ≡ None → (a ≡ None) × (b ≡ None)
 none_of None b h = (refl, h)
 none_of (Some fault) b h = absurd cc
 
-none_both : (a b : Option AdmitFault) → a ≡ None → b ≡ None → first_or a b ≡ None
+none_both : (a b : Option AdmitFault) → a ≡ None → b ≡ None → option_or a b ≡ None
 none_both None b h k = k
 none_both (Some fault) b h k = absurd cc
 
@@ -59,7 +60,7 @@ ok_crl place (Err fault) h = absurd cc
 ok_crls : (place : ℕ) (crls : List CrlMeaning) → All (λ c. IsOk c.outcome) crls → bad_crl_from place crls ≡ None
 ok_crls place [] h = refl
 ok_crls place (c ∷ crls) h =
-    ap (λ o. first_or o (bad_crl_from (suc place) crls)) (ok_crl place c.outcome (All-head (λ (d : CrlMeaning). IsOk d.outcome) c crls h))
+    ap (λ o. option_or o (bad_crl_from (suc place) crls)) (ok_crl place c.outcome (All-head (λ (d : CrlMeaning). IsOk d.outcome) c crls h))
     ∙ ok_crls (suc place) crls (All-tail (λ (d : CrlMeaning). IsOk d.outcome) c crls h)
 
 -- ---- the newest part
@@ -77,7 +78,7 @@ shrunk_none : (o : Option (List ℕ)) → IsNone o → option_map faults.Coverag
 shrunk_none None h = refl
 shrunk_none (Some x) h = absurd cc
 
-goes_on : (o : Option Release) (job : JobFields) → old_epoch (option_map part_from o) job.epoch ≡ None → shrunk (option_map part_from o) (told job) ≡ None → IfSome o (GoesOn job)
+goes_on : (o : Option Release) (job : JobFields) → old_epoch (option_map part_from o) job.epoch ≡ None → shrunk (option_map part_from o) (facts_of job) ≡ None → IfSome o (GoesOn job)
 goes_on None job a b = tt
 goes_on (Some r) job a b = record {
   epoch = leb-false job.epoch r.epoch (no_fault (nat_le job.epoch r.epoch) (faults.OldEpoch r.epoch job.epoch) a);
@@ -88,7 +89,7 @@ not_old : (o : Option Release) (job : JobFields) → IfSome o (GoesOn job) → o
 not_old None job g = refl
 not_old (Some r) job g = none_by (nat_le job.epoch r.epoch) (faults.OldEpoch r.epoch job.epoch) (lt-leb job.epoch r.epoch g.epoch)
 
-not_shrunk : (o : Option Release) (job : JobFields) → IfSome o (GoesOn job) → shrunk (option_map part_from o) (told job) ≡ None
+not_shrunk : (o : Option Release) (job : JobFields) → IfSome o (GoesOn job) → shrunk (option_map part_from o) (facts_of job) ≡ None
 not_shrunk None job g = refl
 not_shrunk (Some r) job g =
     shrunk_none (first_outside r.ranges job.ranges) ((within-iff r.ranges job.ranges (first_outside r.ranges job.ranges) refl).1 g.coverage)
@@ -100,11 +101,11 @@ pub record IsAdmitted (rs : List Release) (job : JobFields) : Type 0 where
   pub crls : All (λ c. IsOk c.outcome) job.crls
   pub goes_on : IfSome (newest_of rs) (GoesOn job)
   pub few_parts : length rs < 64
-  pub few_identities : length (accepted_with (past_of rs) (told job)) ≤ 4194304
+  pub few_identities : length (accepted_with (past_of rs) (facts_of job)) ≤ 4194304
 
 module _ (rs : List Release) (job : JobFields) (sound : IsSound rs) where
-  identities_same : length (accepted_with (past_in (ledger_of rs)) (told job)) ≡ length (accepted_with (past_of rs) (told job))
-  identities_same = ap (λ (past : Past). length (accepted_with past (told job))) (past_in_ledger rs sound)
+  identities_same : length (accepted_with (past_in (ledger_of rs)) (facts_of job)) ≡ length (accepted_with (past_of rs) (facts_of job))
+  identities_same = ap (λ (past : Past). length (accepted_with past (facts_of job))) (past_in_ledger rs sound)
 
   newest_is : newest (ledger_of rs).parts ≡ option_map part_from (newest_of rs)
   unfolding ledger_of
@@ -119,14 +120,14 @@ module _ (rs : List Release) (job : JobFields) (sound : IsSound rs) where
   admitted h =
       let a = none_of (bad_crl_from 0 job.crls) _ h in
       let b = none_of (old_epoch (newest (ledger_of rs).parts) job.epoch) _ a.1 in
-      let c = none_of (shrunk (newest (ledger_of rs).parts) (told job)) _ b.1 in
-      let d = none_of (chain_full (ledger_of rs).parts) (too_many PUBLISHED (ledger_of rs) (told job)) c.1 in
+      let c = none_of (shrunk (newest (ledger_of rs).parts) (facts_of job)) _ b.1 in
+      let d = none_of (chain_full (ledger_of rs).parts) (too_many PUBLISHED (ledger_of rs) (facts_of job)) c.1 in
       let room : length (ledger_of rs).parts < 64 = leb-false 64 (length (ledger_of rs).parts) (no_fault (nat_le 64 (length (ledger_of rs).parts)) faults.ChainFull d.0) in
-      let few : length (accepted_with (past_in (ledger_of rs)) (told job)) ≤ 4194304
-      = ltb-false 4194304 (length (accepted_with (past_in (ledger_of rs)) (told job))) (no_fault (ltb 4194304 (length (accepted_with (past_in (ledger_of rs)) (told job)))) _ d.1) in
+      let few : length (accepted_with (past_in (ledger_of rs)) (facts_of job)) ≤ 4194304
+      = ltb-false 4194304 (length (accepted_with (past_in (ledger_of rs)) (facts_of job))) (no_fault (ltb 4194304 (length (accepted_with (past_in (ledger_of rs)) (facts_of job)))) _ d.1) in
       record {
         crls = crls_ok 0 job.crls a.0;
-        goes_on = goes_on (newest_of rs) job (subst (λ o. old_epoch o job.epoch ≡ None) newest_is b.0) (subst (λ o. shrunk o (told job) ≡ None) newest_is c.0);
+        goes_on = goes_on (newest_of rs) job (subst (λ o. old_epoch o job.epoch ≡ None) newest_is b.0) (subst (λ o. shrunk o (facts_of job) ≡ None) newest_is c.0);
         few_parts = omega (arith, room, parts_many);
         few_identities = omega (arith, few, identities_same);
       }
@@ -136,7 +137,7 @@ module _ (rs : List Release) (job : JobFields) (sound : IsSound rs) where
   not_refused a =
       none_both (bad_crl_from 0 job.crls) _ (ok_crls 0 job.crls a.crls)
       (none_both (old_epoch (newest (ledger_of rs).parts) job.epoch) _ (subst (λ o. old_epoch o job.epoch ≡ None) (sym newest_is) (not_old (newest_of rs) job a.goes_on))
-      (none_both (shrunk (newest (ledger_of rs).parts) (told job)) _ (subst (λ o. shrunk o (told job) ≡ None) (sym newest_is) (not_shrunk (newest_of rs) job a.goes_on))
-      (none_both (chain_full (ledger_of rs).parts) (too_many PUBLISHED (ledger_of rs) (told job))
+      (none_both (shrunk (newest (ledger_of rs).parts) (facts_of job)) _ (subst (λ o. shrunk o (facts_of job) ≡ None) (sym newest_is) (not_shrunk (newest_of rs) job a.goes_on))
+      (none_both (chain_full (ledger_of rs).parts) (too_many PUBLISHED (ledger_of rs) (facts_of job))
       (none_by (nat_le 64 (length (ledger_of rs).parts)) faults.ChainFull (lt-leb 64 (length (ledger_of rs).parts) (omega (arith, a.few_parts, parts_many))))
-      (few_by PUBLISHED (length (accepted_with (past_in (ledger_of rs)) (told job))) (omega (arith, identities_same, a.few_identities))))))
+      (few_by PUBLISHED (length (accepted_with (past_in (ledger_of rs)) (facts_of job))) (omega (arith, identities_same, a.few_identities))))))

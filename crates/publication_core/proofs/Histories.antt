@@ -9,27 +9,27 @@ use Rattle.ident_core.specs.Coverage.{lies_in_some, first_outside}
 use Rattle.ident_core.proofs.Within.{within-iff}
 use Rattle.part_codec.specs.SealedFields.{SealedFields}
 use Rattle.job_core.specs.JobFields.{JobFields}
-use Rattle.universe_core.specs.Jobs.{told}
+use Rattle.universe_core.specs.Jobs.{facts_of}
 use Rattle.universe_core.specs.History.{Release, lie_within}
-use Rattle.history_core.specs.Facts.{Follows, IsSound}
+use Rattle.history_core.specs.Facts.{KeepsCoverage, IsSound}
 use Rattle.history_core.proofs.Sound.{nothing_sound, keeps_sound}
 use Rattle.publication_core.specs.Histories.{newest_of, GoesOn, IsAdmissible, IsPartOf, release_of, history_after, AreAdmissible, IsHistory, history}
 
 -- ---- one job more
 
 pub history_push : (rs : List Release) (jobs : List JobFields) (parts : List SealedFields) (job : JobFields) (s : SealedFields) → AreAdmissible rs jobs parts
-    → history_after rs (jobs ++ job ∷ []) (parts ++ s ∷ []) ≡ history_after rs jobs parts ++ release_of (history_after rs jobs parts) (told job) s ∷ []
+    → history_after rs (jobs ++ job ∷ []) (parts ++ s ∷ []) ≡ history_after rs jobs parts ++ release_of (history_after rs jobs parts) (facts_of job) s ∷ []
 history_push rs [] [] job s h = refl
 history_push rs [] (p ∷ parts) job s h = absurd h
 history_push rs (j ∷ jobs) [] job s h = absurd h
-history_push rs (j ∷ jobs) (p ∷ parts) job s h = history_push (rs ++ release_of rs (told j) p ∷ []) jobs parts job s h.2
+history_push rs (j ∷ jobs) (p ∷ parts) job s h = history_push (rs ++ release_of rs (facts_of j) p ∷ []) jobs parts job s h.2
 
 pub admissible_push : (rs : List Release) (jobs : List JobFields) (parts : List SealedFields) (job : JobFields) (s : SealedFields) → AreAdmissible rs jobs parts
-    → IsAdmissible (history_after rs jobs parts) job → IsPartOf (history_after rs jobs parts) (told job) s → AreAdmissible rs (jobs ++ job ∷ []) (parts ++ s ∷ [])
+    → IsAdmissible (history_after rs jobs parts) job → IsPartOf (history_after rs jobs parts) (facts_of job) s → AreAdmissible rs (jobs ++ job ∷ []) (parts ++ s ∷ [])
 admissible_push rs [] [] job s h a p = (a, p, tt)
 admissible_push rs [] (q ∷ parts) job s h a p = absurd h
 admissible_push rs (j ∷ jobs) [] job s h a p = absurd h
-admissible_push rs (j ∷ jobs) (q ∷ parts) job s h a p = (h.0, h.1, admissible_push (rs ++ release_of rs (told j) q ∷ []) jobs parts job s h.2 a p)
+admissible_push rs (j ∷ jobs) (q ∷ parts) job s h a p = (h.0, h.1, admissible_push (rs ++ release_of rs (facts_of j) q ∷ []) jobs parts job s h.2 a p)
 
 length_more : {A : Type 0} (xs : List A) (x : A) → length (xs ++ x ∷ []) ≡ suc (length xs)
 length_more [] x = refl
@@ -40,14 +40,14 @@ history_length rs [] [] h = omega arith
 history_length rs [] (p ∷ parts) h = absurd h
 history_length rs (j ∷ jobs) [] h = absurd h
 history_length rs (j ∷ jobs) (p ∷ parts) h =
-    let more = length_more rs (release_of rs (told j) p) in
-    omega (arith, more, history_length (rs ++ release_of rs (told j) p ∷ []) jobs parts h.2)
+    let more = length_more rs (release_of rs (facts_of j) p) in
+    omega (arith, more, history_length (rs ++ release_of rs (facts_of j) p ∷ []) jobs parts h.2)
 
 pub parts_length : (rs : List Release) (jobs : List JobFields) (parts : List SealedFields) → AreAdmissible rs jobs parts → length parts ≡ length jobs
 parts_length rs [] [] h = refl
 parts_length rs [] (p ∷ parts) h = absurd h
 parts_length rs (j ∷ jobs) [] h = absurd h
-parts_length rs (j ∷ jobs) (p ∷ parts) h = ap suc (parts_length (rs ++ release_of rs (told j) p ∷ []) jobs parts h.2)
+parts_length rs (j ∷ jobs) (p ∷ parts) h = ap suc (parts_length (rs ++ release_of rs (facts_of j) p ∷ []) jobs parts h.2)
 
 -- ---- each job goes on from those before it
 
@@ -61,7 +61,7 @@ all_lie new (r ∷ old) h =
     let n = none_outside (lies_in_some new r) r (find (λ (x : Range). not (lies_in_some new x)) old) h in
     and_from (lies_in_some new r) (lie_within old new) n.0 (all_lie new old n.1)
 
-pub follows : (rs : List Release) (job : JobFields) → IfSome (newest_of rs) (GoesOn job) → Follows rs (told job)
+pub follows : (rs : List Release) (job : JobFields) → IfSome (newest_of rs) (GoesOn job) → KeepsCoverage rs (facts_of job)
 follows [] job h = tt
 follows (r ∷ []) job h = all_lie job.ranges r.ranges ((within-iff r.ranges job.ranges (first_outside r.ranges job.ranges) refl).1 h.coverage)
 follows (r ∷ q ∷ rs) job h = follows (q ∷ rs) job h
@@ -71,7 +71,7 @@ after_sound rs [] [] sound h = sound
 after_sound rs [] (p ∷ parts) sound h = absurd h
 after_sound rs (j ∷ jobs) [] sound h = absurd h
 after_sound rs (j ∷ jobs) (p ∷ parts) sound h =
-    after_sound (rs ++ release_of rs (told j) p ∷ []) jobs parts (keeps_sound rs (told j) p.trailer sound (follows rs j h.0.goes_on)) h.2
+    after_sound (rs ++ release_of rs (facts_of j) p ∷ []) jobs parts (keeps_sound rs (facts_of j) p.trailer sound (follows rs j h.0.goes_on)) h.2
 
 pub history_sound : (jobs : List JobFields) (parts : List SealedFields) → IsHistory jobs parts → IsSound (history jobs parts)
 history_sound jobs parts h = after_sound [] jobs parts nothing_sound h

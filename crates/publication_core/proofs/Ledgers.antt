@@ -2,7 +2,7 @@
 use Rattle.std.proofs.Common.{◌≡◌, ℕ, ◌≤◌, ⊎_elim, List, [], ◌∷◌, ◌++◌, map, length, true, Option, Some, None, Result, Ok, Err, refl, sym, ap, ◌∙◌, subst, arith}
 use Rattle.std.specs.Prelude.{All, IfSome, not}
 use Rattle.std.specs.List.{list_all}
-use Rattle.std.specs.Option.{option_map}
+use Rattle.std.specs.Option.{option_map, option_or}
 use Rattle.std.proofs.lemmas.List.{length-map}
 use Rattle.std.proofs.lemmas.List.Elements.{All-nil, All-cons, All-append, All-map, All-contains, All-from_recursion}
 use Rattle.sha2.proofs.Facts256.{length-sha256}
@@ -19,10 +19,10 @@ use Rattle.part_codec.specs.SealedFields.{SealedFields}
 use Rattle.part_codec.specs.PartText.{unsealed_text}
 use Rattle.job_core.specs.declared.bounds.TheConstants.Limits.{PUBLISHED}
 use Rattle.job_core.specs.JobFields.{CrlMeaning, JobFields}
-use Rattle.job_core.specs.JobFacts.{EntryFieldsFit, FitsFields}
+use Rattle.job_core.specs.JobFacts.{EntryFieldsFit, FitsPublishing}
 use Rattle.ledger_core.specs.declared.fault.LedgerFault.TheVariants as ledger_faults
 use Rattle.ledger_core.specs.declared.fields.LedgerItem.{LedgerItem}
-use Rattle.ledger_core.specs.LedgerFields.{LedgerFields, IsLedger, ids}
+use Rattle.ledger_core.specs.LedgerFields.{LedgerFields, IsLedger, ids, newest}
 use Rattle.ledger_core.specs.Fitting.{IsKey, PartFits, ItemFits, Fits}
 use Rattle.ledger_core.specs.LedgerLayout.{ledger}
 use Rattle.ledger_core.specs.LedgerReading.{ledger_of as read_ledger}
@@ -33,11 +33,11 @@ use Rattle.sets_core.specs.Sets.{has, key_set}
 use Rattle.sets_core.proofs.Elements.{Among-filter, Among-map, Among-filter_map, some_item}
 use Rattle.sets_core.proofs.Sets.{Among-from_has, has-from_Among, Among-from_key_set}
 use Rattle.sets_core.proofs.Canonical.{Contains-from_Among, all_from}
-use Rattle.universe_core.specs.Jobs.{Crl, Entry, crl_by, accepted_crl, entry_of, told, is_stale, crls_of, enrolled}
+use Rattle.universe_core.specs.Jobs.{Crl, Entry, crl_by, accepted_crl, entry_of, facts_of, is_stale, crls_of, enrolled}
 use Rattle.universe_core.specs.History.{Release, past_of, accepted_with}
 use Rattle.universe_core.specs.Ledgers.{no_ledger, past_in, next_item, part_after, next_ledger, part_from, ledger_of}
 use Rattle.universe_core.specs.Members.{first_part}
-use Rattle.universe_core.specs.Step.{first_or, bad_crl_from, newest, old_epoch, shrunk, chain_full, too_many, refusal}
+use Rattle.universe_core.specs.Step.{bad_crl_from, old_epoch, shrunk, chain_full, too_many, refusal}
 use Rattle.universe_core.specs.Following.{IsBefore, early}
 use Rattle.universe_core.specs.declared.fault.AdmitFault.{AdmitFault}
 use Rattle.universe_core.proofs.Beginning.{issuers_few}
@@ -65,20 +65,20 @@ crl_issuer issuer (Ok f) c h = sym (ap (λ (d : Crl). d.issuer) (some_item (reco
 crl_issuer issuer (Err e) c h = absurd cc
 
 -- each enrolled issuer is that of a CRL
-enrolled_key : (job : JobFields) → All (λ c. length c.issuer ≡ 32) job.crls → (k : List ℕ) → Among (enrolled (told job)) k → IsKey k
+enrolled_key : (job : JobFields) → All (λ c. length c.issuer ≡ 32) job.crls → (k : List ℕ) → Among (enrolled (facts_of job)) k → IsKey k
 unfolding enrolled
 enrolled_key job wide k a =
-    let f = Among-filter (λ issuer. list_all (λ c. not (is_stale job.moment c.next_update)) (crls_of issuer (told job))) (key_set (map (λ c. c.issuer) (told job).crls)) k a in
-    let m = Among-map (λ (c : Crl). c.issuer) (told job).crls k (Among-from_key_set (map (λ (c : Crl). c.issuer) (told job).crls) k f.0) in
+    let f = Among-filter (λ issuer. list_all (λ c. not (is_stale job.moment c.next_update)) (crls_of issuer (facts_of job))) (key_set (map (λ c. c.issuer) (facts_of job).crls)) k a in
+    let m = Among-map (λ (c : Crl). c.issuer) (facts_of job).crls k (Among-from_key_set (map (λ (c : Crl). c.issuer) (facts_of job).crls) k f.0) in
     let c = Among-filter_map accepted_crl job.crls m.0 m.1 in
     ap length (sym m.2 ∙ crl_issuer c.0.issuer c.0.outcome m.0 c.2) ∙ all_among (λ (d : CrlMeaning). length d.issuer ≡ 32) job.crls c.0 wide c.1
 
-part_fits : (job : JobFields) (trailer : List ℕ) → FitsFields job → IsKey trailer → PartFits (part_after (told job) trailer)
+part_fits : (job : JobFields) (trailer : List ℕ) → FitsPublishing job → IsKey trailer → PartFits (part_after (facts_of job) trailer)
 part_fits job trailer fits key = record {
   epoch = fits.epoch;
   trailer = key;
   ranges = ranges_fit None job.ranges fits.ranges;
-  issuers = All-from_recursion IsKey (enrolled (told job)) (all_from IsKey (enrolled (told job)) (enrolled_key job fits.crls));
+  issuers = All-from_recursion IsKey (enrolled (facts_of job)) (all_from IsKey (enrolled (facts_of job)) (enrolled_key job fits.crls));
 }
 
 -- the key and the serial of an identity fit
@@ -92,7 +92,7 @@ entry_fits None e fits h = absurd cc
 entry_fits (Some f) e fits h =
     subst (λ (d : Entry). IdentityFits d.id) (some_item (entry_of f) e h) (record { issuer = fits.issuer; some_octets = fits.some_serial; few_octets = fits.short_serial })
 
-entries_fit : (job : JobFields) (e : Entry) → All (λ o. IfSome o EntryFieldsFit) job.entries → Among (told job).entries (Some e) → IdentityFits e.id
+entries_fit : (job : JobFields) (e : Entry) → All (λ o. IfSome o EntryFieldsFit) job.entries → Among (facts_of job).entries (Some e) → IdentityFits e.id
 entries_fit job e fits a =
     let o = Among-map (option_map entry_of) job.entries (Some e) a in
     entry_fits o.0 e (all_among (λ (p : Option EntryFields). IfSome p EntryFieldsFit) job.entries o.0 fits o.1) o.2
@@ -112,7 +112,7 @@ none_fits = record { before = before_none; few_items = omega arith; parts = All-
 fits_before : (l : LedgerFields) → Fits l → FitsBefore l
 fits_before l fits = record { before = before_ledger l fits.facts; few_items = fits.facts.few_items; parts = fits.parts; items = fits.items }
 
-early_none : (a b c d e : Option AdmitFault) → first_or a (first_or b (first_or c (first_or d e))) ≡ None → first_or a (first_or b (first_or c d)) ≡ None
+early_none : (a b c d e : Option AdmitFault) → option_or a (option_or b (option_or c (option_or d e))) ≡ None → option_or a (option_or b (option_or c d)) ≡ None
 early_none (Some x) b c d e h = absurd cc
 early_none None (Some x) c d e h = absurd cc
 early_none None None (Some x) d e h = absurd cc
@@ -122,9 +122,9 @@ early_none None None None None e h = refl
 not_early : (l : LedgerFields) (job : JobFields) → refusal PUBLISHED l job ≡ None → early l.parts job ≡ None
 unfolding refusal
 not_early l job h =
-    early_none (bad_crl_from 0 job.crls) (old_epoch (newest l.parts) job.epoch) (shrunk (newest l.parts) (told job)) (chain_full l.parts) (too_many PUBLISHED l (told job)) h
+    early_none (bad_crl_from 0 job.crls) (old_epoch (newest l.parts) job.epoch) (shrunk (newest l.parts) (facts_of job)) (chain_full l.parts) (too_many PUBLISHED l (facts_of job)) h
 
-module _ (l : LedgerFields) (job : JobFields) (kept : FitsBefore l) (fits : FitsFields job) where
+module _ (l : LedgerFields) (job : JobFields) (kept : FitsBefore l) (fits : FitsPublishing job) where
   -- an identity of the ledger fits
   old_fits : (x : Identity) → has (past_in l).accepted x ≡ true → IdentityFits x
   unfolding past_in
@@ -133,50 +133,50 @@ module _ (l : LedgerFields) (job : JobFields) (kept : FitsBefore l) (fits : Fits
       let f = all_among ItemFits l.items i.0 kept.items i.1 in
       subst IdentityFits i.2 (record { issuer = f.issuer; some_octets = f.some_octets; few_octets = f.few_octets })
 
-  accepted_fits : (x : Identity) → Among (accepted_with (past_in l) (told job)) x → IdentityFits x
+  accepted_fits : (x : Identity) → Among (accepted_with (past_in l) (facts_of job)) x → IdentityFits x
   accepted_fits x a =
-      ⊎_elim (λ old. old_fits x old) (λ new. subst IdentityFits new.2 (entries_fit job new.0 fits.entries (shown_entry (past_in l) (told job) new.0 new.1)))
-      (accepted_cases (past_in l) (told job) x (has-from_Among (accepted_with (past_in l) (told job)) x a))
+      ⊎_elim (λ old. old_fits x old) (λ new. subst IdentityFits new.2 (entries_fit job new.0 fits.entries (shown_entry (past_in l) (facts_of job) new.0 new.1)))
+      (accepted_cases (past_in l) (facts_of job) x (has-from_Among (accepted_with (past_in l) (facts_of job)) x a))
 
-  item_fits : (x : Identity) → Among (accepted_with (past_in l) (told job)) x → ItemFits (next_item (past_in l) l (told job) x)
+  item_fits : (x : Identity) → Among (accepted_with (past_in l) (facts_of job)) x → ItemFits (next_item (past_in l) l (facts_of job) x)
   item_fits x a = let f = accepted_fits x a in record { issuer = f.issuer; some_octets = f.some_octets; few_octets = f.few_octets }
 
-  items_fit : All ItemFits (map (next_item (past_in l) l (told job)) (accepted_with (past_in l) (told job)))
+  items_fit : All ItemFits (map (next_item (past_in l) l (facts_of job)) (accepted_with (past_in l) (facts_of job)))
   items_fit =
-      let item : Identity → LedgerItem = next_item (past_in l) l (told job) in
-      let xs : List Identity = accepted_with (past_in l) (told job) in
+      let item : Identity → LedgerItem = next_item (past_in l) l (facts_of job) in
+      let xs : List Identity = accepted_with (past_in l) (facts_of job) in
       All-map ItemFits item xs (All-from_recursion (λ x. ItemFits (item x)) xs (all_from (λ x. ItemFits (item x)) xs item_fits))
 
-  next_ledger_is : (trailer : List ℕ) → early l.parts job ≡ None → length job.crls ≤ 65535 → length (accepted_with (past_in l) (told job)) ≤ 4194304
-      → IsLedger (next_ledger l (told job) trailer)
+  next_ledger_is : (trailer : List ℕ) → early l.parts job ≡ None → length job.crls ≤ 65535 → length (accepted_with (past_in l) (facts_of job)) ≤ 4194304
+      → IsLedger (next_ledger l (facts_of job) trailer)
   next_ledger_is trailer none crls few =
-      let items : List LedgerItem = map (next_item (past_in l) l (told job)) (accepted_with (past_in l) (told job)) in
-      let drafted : LedgerFields = record { parts = l.parts ++ first_part job.epoch job.ranges (enrolled (told job)) ∷ []; items = items } in
-      subst IsLedger (next_is l (told job) (enrolled (told job)) items trailer refl refl)
-      (IsLedger-sealed drafted trailer (is_next l job (enrolled (told job)) items kept.before none fits.ranges_fit refl refl (omega (arith, issuers_few job, crls)) few))
+      let items : List LedgerItem = map (next_item (past_in l) l (facts_of job)) (accepted_with (past_in l) (facts_of job)) in
+      let drafted : LedgerFields = record { parts = l.parts ++ first_part job.epoch job.ranges (enrolled (facts_of job)) ∷ []; items = items } in
+      subst IsLedger (next_is l (facts_of job) (enrolled (facts_of job)) items trailer refl refl)
+      (IsLedger-sealed drafted trailer (is_next l job (enrolled (facts_of job)) items kept.before none fits.ranges_fit refl refl (omega (arith, issuers_few job, crls)) few))
 
-  next_fits : (trailer : List ℕ) → IsKey trailer → early l.parts job ≡ None → length job.crls ≤ 65535 → length (accepted_with (past_in l) (told job)) ≤ 4194304
-      → Fits (next_ledger l (told job) trailer)
+  next_fits : (trailer : List ℕ) → IsKey trailer → early l.parts job ≡ None → length job.crls ≤ 65535 → length (accepted_with (past_in l) (facts_of job)) ≤ 4194304
+      → Fits (next_ledger l (facts_of job) trailer)
   next_fits trailer key none crls few = record {
     facts = next_ledger_is trailer none crls few;
-    parts = All-append PartFits l.parts (part_after (told job) trailer ∷ []) kept.parts
-        (All-cons PartFits (part_after (told job) trailer) [] (part_fits job trailer fits key) (All-nil PartFits));
+    parts = All-append PartFits l.parts (part_after (facts_of job) trailer ∷ []) kept.parts
+        (All-cons PartFits (part_after (facts_of job) trailer) [] (part_fits job trailer fits key) (All-nil PartFits));
     items = items_fit;
   }
 
 -- ---- a history's ledger
 
 -- the ledger of releases and of one job more
-step_fits : (rs : List Release) (job : JobFields) (s : SealedFields) → IsSound rs → FitsBefore (ledger_of rs) → IsAdmissible rs job → IsPartOf rs (told job) s
-    → FitsBefore (ledger_of (rs ++ release_of rs (told job) s ∷ []))
+step_fits : (rs : List Release) (job : JobFields) (s : SealedFields) → IsSound rs → FitsBefore (ledger_of rs) → IsAdmissible rs job → IsPartOf rs (facts_of job) s
+    → FitsBefore (ledger_of (rs ++ release_of rs (facts_of job) s ∷ []))
 step_fits rs job s sound kept a part =
     let none = not_early (ledger_of rs) job (not_refused rs job sound (record { crls = a.crls; goes_on = a.goes_on; few_parts = a.few_parts; few_identities = a.few_identities })) in
-    let same : length (accepted_with (past_in (ledger_of rs)) (told job)) ≡ length (accepted_with (past_of rs) (told job))
-    = ap (λ past. length (accepted_with past (told job))) (histories.past_in_ledger rs sound) in
-    let few : length (accepted_with (past_in (ledger_of rs)) (told job)) ≤ 4194304 = omega (arith, same, a.few_identities) in
+    let same : length (accepted_with (past_in (ledger_of rs)) (facts_of job)) ≡ length (accepted_with (past_of rs) (facts_of job))
+    = ap (λ past. length (accepted_with past (facts_of job))) (histories.past_in_ledger rs sound) in
+    let few : length (accepted_with (past_in (ledger_of rs)) (facts_of job)) ≤ 4194304 = omega (arith, same, a.few_identities) in
     let key : IsKey s.trailer = ap length part.trailer ∙ length-sha256 (unsealed_text s.part) in
-    subst FitsBefore (histories.next_is rs sound (told job) s.trailer)
-    (fits_before (next_ledger (ledger_of rs) (told job) s.trailer) (next_fits (ledger_of rs) job kept a.fits s.trailer key none a.limits.crls few))
+    subst FitsBefore (histories.next_is rs sound (facts_of job) s.trailer)
+    (fits_before (next_ledger (ledger_of rs) (facts_of job) s.trailer) (next_fits (ledger_of rs) job kept a.fits s.trailer key none a.limits.crls few))
 
 after_fits : (rs : List Release) (jobs : List JobFields) (parts : List SealedFields) → IsSound rs → FitsBefore (ledger_of rs) → AreAdmissible rs jobs parts
     → FitsBefore (ledger_of (history_after rs jobs parts))
@@ -184,7 +184,7 @@ after_fits rs [] [] sound kept h = kept
 after_fits rs [] (s ∷ parts) sound kept h = absurd h
 after_fits rs (job ∷ jobs) [] sound kept h = absurd h
 after_fits rs (job ∷ jobs) (s ∷ parts) sound kept h =
-    after_fits (rs ++ release_of rs (told job) s ∷ []) jobs parts (keeps_sound rs (told job) s.trailer sound (follows rs job h.0.goes_on)) (step_fits rs job s sound kept h.0 h.1) h.2
+    after_fits (rs ++ release_of rs (facts_of job) s ∷ []) jobs parts (keeps_sound rs (facts_of job) s.trailer sound (follows rs job h.0.goes_on)) (step_fits rs job s sound kept h.0 h.1) h.2
 
 parts_many : (rs : List Release) → length (ledger_of rs).parts ≡ length rs
 unfolding ledger_of

@@ -19,19 +19,19 @@ use Rattle.card_core.specs.declared.block.Block.{Block}
 use Rattle.part_codec.specs.SealedFields.{SealedFields}
 use Rattle.part_codec.specs.Fitting.{FitsBlock, FitsHead, Fits}
 use Rattle.job_core.specs.JobFields.{CrlMeaning, JobFields}
-use Rattle.job_core.specs.JobFacts.{FitsFields}
-use Rattle.ledger_core.specs.LedgerFields.{LedgerPartFields}
+use Rattle.job_core.specs.JobFacts.{FitsPublishing}
+use Rattle.ledger_core.specs.LedgerFields.{LedgerPartFields, newest}
 use Rattle.ledger_core.proofs.Orders.{keys-linked}
 use Rattle.sets_core.specs.Among.{Among}
 use Rattle.sets_core.specs.Sets.{has, key_set}
 use Rattle.sets_core.proofs.Elements.{Among-filter, Among-map, Among-filter_map, some_item}
 use Rattle.sets_core.proofs.Sets.{Among-from_key_set}
 use Rattle.sets_core.proofs.Canonical.{Contains-from_Among}
-use Rattle.universe_core.specs.Jobs.{Crl, accepted_crl, crl_by, crls_of, enrolled, is_stale, told}
+use Rattle.universe_core.specs.Jobs.{Crl, accepted_crl, crl_by, crls_of, enrolled, is_stale, facts_of}
 use Rattle.universe_core.specs.History.{Release, past_of, released}
 use Rattle.universe_core.specs.Groups.{members_of, group_of, groups}
 use Rattle.universe_core.specs.Ledgers.{part_from}
-use Rattle.universe_core.specs.Step.{newest, kind_by, parent_by, head_after}
+use Rattle.universe_core.specs.Step.{kind_by, parent_by, head_after}
 use Rattle.universe_core.proofs.Beginning.{issuers_few}
 use Rattle.universe_core.proofs.Issuers.{enrolled_ascend}
 use Rattle.builder_core.specs.Building.{AreGroupBlocks}
@@ -55,7 +55,7 @@ no_parent : (rs : List Release) → kind_by (map part_from rs) ≡ kinds.Snapsho
 no_parent [] h = refl
 no_parent (r ∷ rs) h = absurd cc
 
-head_fits : (rs : List Release) (job : JobFields) → FitsFields job → IfSome (newest_of rs) (λ r. length r.trailer ≡ 32) → FitsHead (head_after (map part_from rs) (told job))
+head_fits : (rs : List Release) (job : JobFields) → FitsPublishing job → IfSome (newest_of rs) (λ r. length r.trailer ≡ 32) → FitsHead (head_after (map part_from rs) (facts_of job))
 head_fits rs job fits digest = record {
   facts = record { ranges = fits.ranges_fit; snapshot = no_parent rs };
   epoch = fits.epoch;
@@ -69,11 +69,11 @@ crl_issuer : (issuer : List ℕ) (r : Result CrlFields CrlFault) (c : Crl) → c
 crl_issuer issuer (Ok f) c h = sym (ap (λ (d : Crl). d.issuer) (some_item (record { issuer = issuer; next_update = f.next_update; serials = f.serials }) c h))
 crl_issuer issuer (Err e) c h = absurd cc
 
-enrolled_keys : (job : JobFields) → All (λ c. length c.issuer ≡ 32) job.crls → (k : List ℕ) → Among (enrolled (told job)) k → length k ≡ 32
+enrolled_keys : (job : JobFields) → All (λ c. length c.issuer ≡ 32) job.crls → (k : List ℕ) → Among (enrolled (facts_of job)) k → length k ≡ 32
 unfolding enrolled
 enrolled_keys job wide k a =
-    let f = Among-filter (λ issuer. list_all (λ c. not (is_stale job.moment c.next_update)) (crls_of issuer (told job))) (key_set (map (λ c. c.issuer) (told job).crls)) k a in
-    let m = Among-map (λ (c : Crl). c.issuer) (told job).crls k (Among-from_key_set (map (λ (c : Crl). c.issuer) (told job).crls) k f.0) in
+    let f = Among-filter (λ issuer. list_all (λ c. not (is_stale job.moment c.next_update)) (crls_of issuer (facts_of job))) (key_set (map (λ c. c.issuer) (facts_of job).crls)) k a in
+    let m = Among-map (λ (c : Crl). c.issuer) (facts_of job).crls k (Among-from_key_set (map (λ (c : Crl). c.issuer) (facts_of job).crls) k f.0) in
     let c = Among-filter_map accepted_crl job.crls m.0 m.1 in
     let is : k ≡ c.0.issuer = sym m.2 ∙ crl_issuer c.0.issuer c.0.outcome m.0 c.2 in
     ap length is ∙ All-contains (λ (c : CrlMeaning). length c.issuer ≡ 32) job.crls c.0 wide (Contains-from_Among job.crls c.0 c.1)
@@ -104,25 +104,25 @@ blocks_fit r previous (k ∷ ks) (b ∷ blocks) few linked wide are =
 block_after : (previous : Option (List ℕ)) (b : Block) → FitsBlock previous b → is_after previous b.issuer ≡ true
 block_after previous b fits = fits.0
 
-module _ (rs : List Release) (job : JobFields) (s : SealedFields) (admissible : IsAdmissible rs job) (is : IsPartOf rs (told job) s) where
+module _ (rs : List Release) (job : JobFields) (s : SealedFields) (admissible : IsAdmissible rs job) (is : IsPartOf rs (facts_of job) s) where
   abbrev made : Release
-  made = released (past_of rs) (told job) []
+  made = released (past_of rs) (facts_of job) []
 
-  blocks_are : AreGroupBlocks sha256_row (map (group_of made) (enrolled (told job))) s.part.blocks
+  blocks_are : AreGroupBlocks sha256_row (map (group_of made) (enrolled (facts_of job))) s.part.blocks
   unfolding groups
   blocks_are = is.blocks
 
   blocks_linked : Linked FitsBlock (λ previous b. Some b.issuer) None s.part.blocks
   blocks_linked =
-      blocks_fit made None (enrolled (told job)) s.part.blocks admissible.few_identities (keys-linked (enrolled (told job)) (enrolled_ascend (told job)))
+      blocks_fit made None (enrolled (facts_of job)) s.part.blocks admissible.few_identities (keys-linked (enrolled (facts_of job)) (enrolled_ascend (facts_of job)))
       (enrolled_keys job admissible.fits.crls) blocks_are
 
   blocks_few : length s.part.blocks ≤ 65535
   blocks_few =
       omega (
         arith,
-        blocks_length sha256_row (map (group_of made) (enrolled (told job))) s.part.blocks blocks_are,
-        length-map (enrolled (told job)) (group_of made),
+        blocks_length sha256_row (map (group_of made) (enrolled (facts_of job))) s.part.blocks blocks_are,
+        length-map (enrolled (facts_of job)) (group_of made),
         issuers_few job,
         admissible.limits.crls,
       )

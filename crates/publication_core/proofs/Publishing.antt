@@ -16,7 +16,7 @@ use Rattle.universe_core.specs.declared.admitted.Group.{Group}
 use Rattle.universe_core.specs.declared.counts.Counts.{Counts}
 use Rattle.universe_core.specs.declared.fault.AdmitFault.{AdmitFault}
 use Rattle.universe_core.specs.declared.fault.AdmitFault.TheVariants as admit
-use Rattle.universe_core.specs.Jobs.{told}
+use Rattle.universe_core.specs.Jobs.{facts_of}
 use Rattle.universe_core.specs.Groups.{GroupFields, group_fields}
 use Rattle.universe_core.specs.Ledgers.{next_ledger}
 use Rattle.universe_core.specs.Step.{refusal, head_after, groups_after, counts_after}
@@ -29,7 +29,8 @@ use Rattle.publication_core.specs.Building.{IsBuilt, Builds}
 use Rattle.publication_core.specs.Publishing.{Published, IsPublication, PublishesUnless}
 
 pub built_is : (place : ℕ) (head : HeadFields) (groups : List GroupFields) (next ledger : LedgerFields) (counts : Counts) (made : PartFields) (sealed : SealedFields) (trailer : List ℕ) (p : Published)
-    → made.head ≡ head → AreGroupBlocks sha256_row groups made.blocks → sealed ≡ record { part = made; trailer = sha256 (unsealed_text made) } → trailer ≡ sealed.trailer → ledger ≡ sealed_with next trailer
+    → made.head ≡ head → AreGroupBlocks sha256_row groups made.blocks → sealed ≡ record { part = made; trailer = sha256 (unsealed_text made) }
+    → trailer ≡ sealed.trailer → ledger ≡ sealed_with next trailer
     → p ≡ record { place = place; sealed = sealed; ledger = ledger; counts = counts } → IsBuilt place head groups next counts p
 built_is place head groups next ledger counts made sealed trailer p head_is blocks sealed_is trailer_is ledger_is is =
     let sealed_of : p.sealed ≡ record { part = made; trailer = sha256 (unsealed_text made) } = ap (λ (q : Published). q.sealed) is ∙ sealed_is in
@@ -44,10 +45,10 @@ built_is place head groups next ledger counts made sealed trailer p head_is bloc
 
 -- for every trailer that the part may have
 abbrev pub Seals : LedgerFields → JobFields → LedgerFields → Type 0
-Seals ledger job next = (trailer : List ℕ) → sealed_with next trailer ≡ next_ledger ledger (told job) trailer
+Seals ledger job next = (trailer : List ℕ) → sealed_with next trailer ≡ next_ledger ledger (facts_of job) trailer
 
 publication_is : (ledger : LedgerFields) (job : JobFields) (place : ℕ) (head : HeadFields) (groups : List GroupFields) (next : LedgerFields) (counts : Counts) (p : Published)
-    → place ≡ length ledger.parts → head ≡ head_after ledger.parts (told job) → groups ≡ groups_after ledger (told job) → counts ≡ counts_after ledger (told job) → Seals ledger job next
+    → place ≡ length ledger.parts → head ≡ head_after ledger.parts (facts_of job) → groups ≡ groups_after ledger (facts_of job) → counts ≡ counts_after ledger (facts_of job) → Seals ledger job next
     → IsBuilt place head groups next counts p → IsPublication ledger job p
 publication_is ledger job place head groups next counts p pl hd gs ns seals b = record {
   place = b.place_is ∙ pl;
@@ -60,15 +61,18 @@ publication_is ledger job place head groups next counts p pl hd gs ns seals b = 
 
 -- What is built of what is admitted.
 pub publishes : (ledger : LedgerFields) (job : JobFields) (place : ℕ) (head : HeadFields) (groups : List GroupFields) (next : LedgerFields) (counts : Counts) (r : Result Published PublishFault)
-    → refusal PUBLISHED ledger job ≡ None → place ≡ length ledger.parts → head ≡ head_after ledger.parts (told job) → groups ≡ groups_after ledger (told job) → counts ≡ counts_after ledger (told job)
+    → refusal PUBLISHED ledger job ≡ None → place ≡ length ledger.parts → head ≡ head_after ledger.parts (facts_of job)
+    → groups ≡ groups_after ledger (facts_of job) → counts ≡ counts_after ledger (facts_of job)
     → Seals ledger job next → Builds place head groups next counts r → PublishesUnless ledger job r
 publishes ledger job place head groups next counts (Ok p) none pl hd gs ns seals b = (none, publication_is ledger job place head groups next counts p pl hd gs ns seals b)
 publishes ledger job place head groups next counts (Err (Admission fault)) none pl hd gs ns seals b = absurd b
-publishes ledger job place head groups next counts (Err (SeedsExhausted issuer stage)) none pl hd gs ns seals b = (none, subst (λ (z : List GroupFields). IsFirstRefused sha256_row z issuer stage) gs b)
+publishes ledger job place head groups next counts (Err (SeedsExhausted issuer stage)) none pl hd gs ns seals b =
+    (none, subst (λ (z : List GroupFields). IsFirstRefused sha256_row z issuer stage) gs b)
 publishes ledger job place head groups next counts (Err NoMemory) none pl hd gs ns seals b = tt
 
 -- What isn't admitted.
-pub refuses : (ledger : LedgerFields) (job : JobFields) (fault : AdmitFault) → (fault ≢ admit.NoMemory → refusal PUBLISHED ledger job ≡ Some fault) → PublishesUnless ledger job (Err (of_admission fault))
+pub refuses : (ledger : LedgerFields) (job : JobFields) (fault : AdmitFault) → (fault ≢ admit.NoMemory → refusal PUBLISHED ledger job ≡ Some fault)
+    → PublishesUnless ledger job (Err (of_admission fault))
 refuses ledger job admit.NoMemory h = tt
 refuses ledger job (admit.BadCrl place fault) h = h (λ e. cc)
 refuses ledger job (admit.OldEpoch held given) h = h (λ e. cc)
@@ -78,8 +82,8 @@ refuses ledger job (admit.TooMany what limit) h = h (λ e. cc)
 
 -- ---- what building asks
 
-pub few_groups : (ledger : LedgerFields) (job : JobFields) (gs : List Group) → map group_fields gs ≡ groups_after ledger (told job) → IsWithinLimits PUBLISHED job → length gs ≤ 65535
+pub few_groups : (ledger : LedgerFields) (job : JobFields) (gs : List Group) → map group_fields gs ≡ groups_after ledger (facts_of job) → IsWithinLimits PUBLISHED job → length gs ≤ 65535
 few_groups ledger job gs is within = omega (arith, sym (length-map gs group_fields), groups_few ledger job (map group_fields gs) is, within.crls)
 
-pub few_identities : (ledger : LedgerFields) (job : JobFields) (gs : List GroupFields) → gs ≡ groups_after ledger (told job) → refusal PUBLISHED ledger job ≡ None → identities_in gs ≤ 4194304
+pub few_identities : (ledger : LedgerFields) (job : JobFields) (gs : List GroupFields) → gs ≡ groups_after ledger (facts_of job) → refusal PUBLISHED ledger job ≡ None → identities_in gs ≤ 4194304
 few_identities ledger job gs is none = identities_few PUBLISHED ledger job gs is none

@@ -58,7 +58,8 @@ find_block r k (h ∷ hs) (b ∷ blocks) are =
 -- ---- the block of a group
 
 -- a block answers for each member of its universe with the flag beside it
-member_exact : (k : List ℕ) (universe : List Identity) (flag : Identity → Bool) (b : Block) (x : Identity) → IsGroupBlock sha256_row (record { issuer = k; universe = universe; revoked = map flag universe }) b
+member_exact : (k : List ℕ) (universe : List Identity) (flag : Identity → Bool) (b : Block) (x : Identity)
+    → IsGroupBlock sha256_row (record { issuer = k; universe = universe; revoked = map flag universe }) b
     → Contains universe x → is_positive sha256_row x b.body ≡ flag x
 member_exact k universe flag b x is at =
     let same : get_or universe at.0 x ≡ x = at.2 in

@@ -10,7 +10,7 @@ use Rattle.job_core.specs.declared.bounds.TheConstants.Limits.{PUBLISHED}
 use Rattle.job_core.specs.JobFields.{JobFields}
 use Rattle.ledger_core.specs.LedgerFields.{LedgerFields}
 use Rattle.universe_core.specs.declared.fault.AdmitFault.{AdmitFault}
-use Rattle.universe_core.specs.Jobs.{Job, told}
+use Rattle.universe_core.specs.Jobs.{Job, facts_of}
 use Rattle.universe_core.specs.History.{Release}
 use Rattle.universe_core.specs.Groups.{GroupFields}
 use Rattle.universe_core.specs.Ledgers.{next_ledger}
@@ -41,8 +41,8 @@ after_unique rs [] (s ∷ a) b x y = absurd x
 after_unique rs (j ∷ jobs) [] b x y = absurd x
 after_unique rs (j ∷ jobs) (s ∷ a) [] x y = absurd y
 after_unique rs (j ∷ jobs) (s ∷ a) (t ∷ b) x y =
-    let same : s ≡ t = part_unique rs (told j) s t x.1 y.1 in
-    let rest : a ≡ b = after_unique (rs ++ release_of rs (told j) s ∷ []) jobs a b x.2 (subst (λ z. AreAdmissible (rs ++ release_of rs (told j) z ∷ []) jobs b) (sym same) y.2) in
+    let same : s ≡ t = part_unique rs (facts_of j) s t x.1 y.1 in
+    let rest : a ≡ b = after_unique (rs ++ release_of rs (facts_of j) s ∷ []) jobs a b x.2 (subst (λ z. AreAdmissible (rs ++ release_of rs (facts_of j) z ∷ []) jobs b) (sym same) y.2) in
     λ i. same i ∷ rest i
 
 pub history_unique : (jobs : List JobFields) (a b : List SealedFields) → IsHistory jobs a → IsHistory jobs b → a ≡ b
@@ -52,11 +52,11 @@ history_unique jobs a b x y = after_unique [] jobs a b x y
 
 publication_unique : (ledger : LedgerFields) (job : JobFields) (p q : Published) → IsPublication ledger job p → IsPublication ledger job q → p ≡ q
 publication_unique ledger job p q x y =
-    let sealed : p.sealed ≡ q.sealed = sealed_same _ (groups_after ledger (told job)) p.sealed q.sealed x.head y.head x.blocks y.blocks x.trailer y.trailer in
+    let sealed : p.sealed ≡ q.sealed = sealed_same _ (groups_after ledger (facts_of job)) p.sealed q.sealed x.head y.head x.blocks y.blocks x.trailer y.trailer in
     λ i. record {
       place = (x.place ∙ sym y.place) i;
       sealed = sealed i;
-      ledger = (x.next ∙ ap (λ (s : SealedFields). next_ledger ledger (told job) s.trailer) sealed ∙ sym y.next) i;
+      ledger = (x.next ∙ ap (λ (s : SealedFields). next_ledger ledger (facts_of job) s.trailer) sealed ∙ sym y.next) i;
       counts = (x.counts ∙ sym y.counts) i;
     }
 
@@ -70,7 +70,7 @@ pub outcome_unique : (ledger : LedgerFields) (job : JobFields) (a b : Result Pub
 outcome_unique ledger job (Ok p) (Ok q) x y = ap (λ (r : Published). Ok r) (publication_unique ledger job p q x.1 y.1)
 outcome_unique ledger job (Ok p) (Err (Admission fault)) x y = not_both (refusal PUBLISHED ledger job) fault x.0 y
 outcome_unique ledger job (Ok p) (Err (SeedsExhausted issuer stage)) x y =
-    absurd (refused_no_blocks sha256_row (groups_after ledger (told job)) issuer stage p.sealed.part.blocks y.1 x.1.blocks)
+    absurd (refused_no_blocks sha256_row (groups_after ledger (facts_of job)) issuer stage p.sealed.part.blocks y.1 x.1.blocks)
 outcome_unique ledger job (Ok p) (Err NoMemory) x y = absurd y
 outcome_unique ledger job (Err NoMemory) b x y = absurd x
 outcome_unique ledger job (Err (Admission fault)) (Ok q) x y = not_both (refusal PUBLISHED ledger job) fault y.0 x
@@ -78,9 +78,9 @@ outcome_unique ledger job (Err (Admission fault)) (Err (Admission other)) x y = 
 outcome_unique ledger job (Err (Admission fault)) (Err (SeedsExhausted issuer stage)) x y = not_both (refusal PUBLISHED ledger job) fault y.0 x
 outcome_unique ledger job (Err (Admission fault)) (Err NoMemory) x y = absurd y
 outcome_unique ledger job (Err (SeedsExhausted issuer stage)) (Ok q) x y =
-    absurd (refused_no_blocks sha256_row (groups_after ledger (told job)) issuer stage q.sealed.part.blocks x.1 y.1.blocks)
+    absurd (refused_no_blocks sha256_row (groups_after ledger (facts_of job)) issuer stage q.sealed.part.blocks x.1 y.1.blocks)
 outcome_unique ledger job (Err (SeedsExhausted issuer stage)) (Err (Admission fault)) x y = not_both (refusal PUBLISHED ledger job) fault x.0 y
 outcome_unique ledger job (Err (SeedsExhausted issuer stage)) (Err (SeedsExhausted other at)) x y =
-    let same = first_refused_once sha256_row (groups_after ledger (told job)) issuer other stage at x.1 y.1 in
+    let same = first_refused_once sha256_row (groups_after ledger (facts_of job)) issuer other stage at x.1 y.1 in
     λ i. Err (SeedsExhausted (same.0 i) (same.1 i))
 outcome_unique ledger job (Err (SeedsExhausted issuer stage)) (Err NoMemory) x y = absurd y

@@ -11,7 +11,7 @@ use Rattle.card_core.specs.Consulting.{consulted, covers_some}
 use Rattle.part_codec.specs.SealedFields.{SealedFields}
 use Rattle.job_core.specs.JobFields.{JobFields}
 use Rattle.sets_core.specs.Among.{Among}
-use Rattle.universe_core.specs.Jobs.{told}
+use Rattle.universe_core.specs.Jobs.{facts_of}
 use Rattle.universe_core.specs.History.{Release, seen, sightings}
 use Rattle.history_core.specs.Facts.{IsSound}
 use Rattle.history_core.specs.Showing.{PartView, Shows, answers_of}
@@ -62,8 +62,8 @@ after_shown views rs [] [] z h = rw append-nil z
 after_shown views rs [] (s ∷ parts) z h = absurd h
 after_shown views rs (job ∷ jobs) [] z h = absurd h
 after_shown views rs (job ∷ jobs) (s ∷ parts) z h =
-    let after : List Release = rs ++ release_of rs (told job) s ∷ [] in
-    let pushed : AllZip Shows (views ++ shown_by s.part ∷ []) after = shows_push views rs (shown_by s.part) (release_of rs (told job) s) z (part_shows rs (told job) s h.1) in
+    let after : List Release = rs ++ release_of rs (facts_of job) s ∷ [] in
+    let pushed : AllZip Shows (views ++ shown_by s.part ∷ []) after = shows_push views rs (shown_by s.part) (release_of rs (facts_of job) s) z (part_shows rs (facts_of job) s h.1) in
     subst (λ (vs : List PartView). AllZip Shows vs (history_after after jobs parts)) (append_assoc views (shown_by s.part ∷ []) (map shown_by (map (λ t. t.part) parts)))
     (after_shown (views ++ shown_by s.part ∷ []) after jobs parts pushed h.2)
 

@@ -6,11 +6,12 @@ use Rattle.equation_core.specs.Rows.{sha256_row}
 use Rattle.card_core.specs.declared.block.Block.{Block}
 use Rattle.part_codec.specs.SealedFields.{SealedFields}
 use Rattle.part_codec.specs.PartText.{unsealed_text, spelling}
-use Rattle.job_core.specs.declared.bounds.TheConstants.Limits as limits
+use Rattle.job_core.specs.declared.bounds.TheConstants.Limits.{PUBLISHED}
 use Rattle.job_core.specs.JobFields.{JobFields}
-use Rattle.job_core.specs.JobFacts.{FitsFields, IsWithinLimits}
+use Rattle.job_core.specs.JobFacts.{FitsPublishing, IsWithinLimits}
+use Rattle.ident_core.specs.declared.bounds.TheConstants.{MAX_PARTS}
 use Rattle.ledger_core.specs.LedgerText.{ledger_text}
-use Rattle.universe_core.specs.Jobs.{Job, told}
+use Rattle.universe_core.specs.Jobs.{Job, facts_of}
 use Rattle.universe_core.specs.History.{Release, past_of, released, accepted_with}
 use Rattle.universe_core.specs.Groups.{GroupFields, groups}
 use Rattle.universe_core.specs.Ledgers.{part_from, ledger_of}
@@ -44,14 +45,14 @@ pub record GoesOn (job : JobFields) (r : Release) : Type 0 where
 
 -- The job may follow these releases.
 pub record IsAdmissible (rs : List Release) (job : JobFields) : Type 0 where
-  pub fits : FitsFields job
-  pub limits : IsWithinLimits limits.PUBLISHED job
+  pub fits : FitsPublishing job
+  pub limits : IsWithinLimits PUBLISHED job
   pub crls : All (λ c. IsOk c.outcome) job.crls
   pub goes_on : IfSome (newest_of rs) (GoesOn job)
-  pub few_parts : length rs < 64
-  pub few_identities : length (accepted_with (past_of rs) (told job)) ≤ 4194304
+  pub few_parts : length rs < MAX_PARTS
+  pub few_identities : length (accepted_with (past_of rs) (facts_of job)) ≤ PUBLISHED.identities
   -- each enrolled issuer has a block
-  pub blocks : (blocks : List Block) × AreGroupBlocks sha256_row (groups_of rs (told job)) blocks
+  pub blocks : (blocks : List Block) × AreGroupBlocks sha256_row (groups_of rs (facts_of job)) blocks
 
 -- ---- histories
 
@@ -63,14 +64,15 @@ release_of rs job s = released (past_of rs) job s.trailer
 abbrev pub history_after : List Release → List JobFields → List SealedFields → List Release
 history_after rs [] parts = rs
 history_after rs (job ∷ jobs) [] = rs
-history_after rs (job ∷ jobs) (s ∷ parts) = history_after (rs ++ release_of rs (told job) s ∷ []) jobs parts
+history_after rs (job ∷ jobs) (s ∷ parts) = history_after (rs ++ release_of rs (facts_of job) s ∷ []) jobs parts
 
 -- each of the jobs may follow those before it, and these are their parts
 abbrev pub AreAdmissible : List Release → List JobFields → List SealedFields → Type 0
 AreAdmissible rs [] [] = Unit {0}
 AreAdmissible rs [] (s ∷ parts) = ⊥
 AreAdmissible rs (job ∷ jobs) [] = ⊥
-AreAdmissible rs (job ∷ jobs) (s ∷ parts) = IsAdmissible rs job × IsPartOf rs (told job) s × AreAdmissible (rs ++ release_of rs (told job) s ∷ []) jobs parts
+AreAdmissible rs (job ∷ jobs) (s ∷ parts) = IsAdmissible rs job × IsPartOf rs (facts_of job) s
+    × AreAdmissible (rs ++ release_of rs (facts_of job) s ∷ []) jobs parts
 
 -- a history of admitted jobs, and the parts that it publishes
 abbrev pub IsHistory : List JobFields → List SealedFields → Type 0

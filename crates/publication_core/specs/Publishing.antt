@@ -8,7 +8,7 @@ use Rattle.job_core.specs.declared.bounds.TheConstants.Limits as limits
 use Rattle.job_core.specs.JobFields.{JobFields}
 use Rattle.ledger_core.specs.LedgerFields.{LedgerFields}
 use Rattle.universe_core.specs.declared.counts.Counts.{Counts}
-use Rattle.universe_core.specs.Jobs.{told}
+use Rattle.universe_core.specs.Jobs.{facts_of}
 use Rattle.universe_core.specs.Ledgers.{next_ledger}
 use Rattle.universe_core.specs.Step.{refusal, head_after, groups_after, counts_after}
 use Rattle.builder_core.specs.Building.{AreGroupBlocks, IsFirstRefused}
@@ -25,18 +25,18 @@ pub record Published : Type 0 where
 -- what the ledger and the job make
 pub record IsPublication (ledger : LedgerFields) (job : JobFields) (p : Published) : Type 0 where
   pub place : p.place ≡ length ledger.parts
-  pub head : p.sealed.part.head ≡ head_after ledger.parts (told job)
-  pub blocks : AreGroupBlocks sha256_row (groups_after ledger (told job)) p.sealed.part.blocks
+  pub head : p.sealed.part.head ≡ head_after ledger.parts (facts_of job)
+  pub blocks : AreGroupBlocks sha256_row (groups_after ledger (facts_of job)) p.sealed.part.blocks
   pub trailer : p.sealed.trailer ≡ sha256 (unsealed_text p.sealed.part)
-  pub next : p.ledger ≡ next_ledger ledger (told job) p.sealed.trailer
-  pub counts : p.counts ≡ counts_after ledger (told job)
+  pub next : p.ledger ≡ next_ledger ledger (facts_of job) p.sealed.trailer
+  pub counts : p.counts ≡ counts_after ledger (facts_of job)
 
 -- The job is admitted, and its publication is that; or it is refused; or it is admitted, and an issuer has no block.
 abbrev pub Publishes : LedgerFields → JobFields → Result Published PublishFault → Type 0
 Publishes ledger job (Ok p) = (refusal limits.PUBLISHED ledger job ≡ None) × IsPublication ledger job p
 Publishes ledger job (Err (Admission fault)) = refusal limits.PUBLISHED ledger job ≡ Some fault
 Publishes ledger job (Err (SeedsExhausted issuer stage)) =
-    (refusal limits.PUBLISHED ledger job ≡ None) × IsFirstRefused sha256_row (groups_after ledger (told job)) issuer stage
+    (refusal limits.PUBLISHED ledger job ≡ None) × IsFirstRefused sha256_row (groups_after ledger (facts_of job)) issuer stage
 Publishes ledger job (Err NoMemory) = ⊥
 
 -- the same, or want of memory

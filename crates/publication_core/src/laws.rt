@@ -4,9 +4,9 @@ ghost use Rattle.std.specs.Prelude.{◌≡◌, ◌++◌, ◌∷◌, [], ℕ, Lis
 ghost use Rattle.part_codec.specs.SealedFields.{SealedFields};
 ghost use Rattle.job_core.specs.declared.bounds.TheConstants.Limits.{PUBLISHED};
 ghost use Rattle.job_core.specs.JobFields.{JobFields};
-ghost use Rattle.job_core.specs.JobFacts.{FitsFields, IsWithinLimits};
+ghost use Rattle.job_core.specs.JobFacts.{FitsPublishing, IsWithinLimits};
 ghost use Rattle.ledger_core.specs.LedgerFields.{LedgerFields};
-ghost use Rattle.universe_core.specs.Jobs.{Job, told};
+ghost use Rattle.universe_core.specs.Jobs.{Job, facts_of};
 ghost use Rattle.universe_core.specs.History.{Release, past_of};
 ghost use Rattle.universe_core.specs.Ledgers.{no_ledger, ledger_of};
 ghost use Rattle.universe_core.specs.Counting.{counts};
@@ -18,7 +18,8 @@ ghost use Rattle.publication_core.specs.Publishing.{Published, Publishes};
 pub fn publications_are_unique()
     ensures part { (rs : List Release) (job : Job) (a b : SealedFields) → IsPartOf rs job a → IsPartOf rs job b → a ≡ b }
     ensures parts { (jobs : List JobFields) (a b : List SealedFields) → IsHistory jobs a → IsHistory jobs b → a ≡ b }
-    ensures outcome { (ledger : LedgerFields) (job : JobFields) (a b : Result Published PublishFault) → Publishes ledger job a → Publishes ledger job b → a ≡ b }
+    ensures outcome { (ledger : LedgerFields) (job : JobFields) (a b : Result Published PublishFault)
+        → Publishes ledger job a → Publishes ledger job b → a ≡ b }
 {}
 
 /// What is published of a job behind the ledger of a history is that of the history with the job: its part, its ledger
@@ -26,14 +27,16 @@ pub fn publications_are_unique()
 /// history.
 pub fn histories_are_published()
     ensures none { ledger_of (history [] []) ≡ no_ledger }
-    ensures admissible { (jobs : List JobFields) (parts : List SealedFields) (job : JobFields) (p : Published) → IsHistory jobs parts → FitsFields job → IsWithinLimits PUBLISHED job
+    ensures admissible { (jobs : List JobFields) (parts : List SealedFields) (job : JobFields) (p : Published)
+        → IsHistory jobs parts → FitsPublishing job → IsWithinLimits PUBLISHED job
         → Publishes (ledger_of (history jobs parts)) job (Ok p) → IsAdmissible (history jobs parts) job }
-    ensures history { (jobs : List JobFields) (parts : List SealedFields) (job : JobFields) (p : Published) → IsHistory jobs parts → FitsFields job → IsWithinLimits PUBLISHED job
+    ensures history { (jobs : List JobFields) (parts : List SealedFields) (job : JobFields) (p : Published)
+        → IsHistory jobs parts → FitsPublishing job → IsWithinLimits PUBLISHED job
         → Publishes (ledger_of (history jobs parts)) job (Ok p) → IsHistory (jobs ++ job ∷ []) (parts ++ p.sealed ∷ []) }
     ensures ledger { (jobs : List JobFields) (parts : List SealedFields) (job : JobFields) (p : Published) → IsHistory jobs parts
         → Publishes (ledger_of (history jobs parts)) job (Ok p) → p.ledger ≡ ledger_of (history (jobs ++ job ∷ []) (parts ++ p.sealed ∷ [])) }
     ensures numbers { (jobs : List JobFields) (parts : List SealedFields) (job : JobFields) (p : Published) → IsHistory jobs parts
-        → Publishes (ledger_of (history jobs parts)) job (Ok p) → p.counts ≡ counts (past_of (history jobs parts)) (told job) }
+        → Publishes (ledger_of (history jobs parts)) job (Ok p) → p.counts ≡ counts (past_of (history jobs parts)) (facts_of job) }
     ensures place { (jobs : List JobFields) (parts : List SealedFields) (job : JobFields) (p : Published) → IsHistory jobs parts
         → Publishes (ledger_of (history jobs parts)) job (Ok p) → p.place ≡ length jobs }
     ensures complete { (jobs : List JobFields) (parts : List SealedFields) (job : JobFields) → IsHistory jobs parts → IsAdmissible (history jobs parts) job

@@ -4,7 +4,7 @@ ghost use Rattle.std.specs.Prelude.{◌≡◌, ◌≤◌, All, length, map};
 ghost use Rattle.std.specs.List.Sorted.{IsStrictlySortedBy};
 ghost use Rattle.ident_core.specs.Order.{octets_cmp};
 ghost use Rattle.job_core.specs.JobFields.{fields_of_job};
-ghost use Rattle.job_core.specs.JobFacts.{FitsFields, IsWithinLimits};
+ghost use Rattle.job_core.specs.JobFacts.{FitsPublishing, IsWithinLimits};
 ghost use Rattle.universe_core.specs.Groups.{group_fields, IsGroup};
 ghost use Rattle.universe_core.specs.Ledgers.{no_ledger};
 ghost use Rattle.builder_core.specs.Building.{identities_in, issuers_of};
@@ -32,8 +32,8 @@ fn built<R: Threads + Sync>(
 ) -> Result<Publication, PublishFault>
     requires facts { All IsGroup (map group_fields admitted.groups.items) }
     requires ascending { IsStrictlySortedBy octets_cmp (issuers_of (map group_fields admitted.groups.items)) }
-    requires few { length admitted.groups.items ≤ 65535 }
-    requires identities { identities_in (map group_fields admitted.groups.items) ≤ 4194304 }
+    requires few { length admitted.groups.items ≤ Limits.PUBLISHED.crls }
+    requires identities { identities_in (map group_fields admitted.groups.items) ≤ Limits.PUBLISHED.identities }
     requires some_workers { 1 ≤ workers }
     requires few_workers { workers ≤ 64 }
     ensures { Builds place admitted.head (map group_fields admitted.groups.items) admitted.next admitted.counts result }
@@ -60,7 +60,7 @@ pub fn publish_first<R: Threads + Sync>(
     job: Job,
     workers: u32,
 ) -> Result<Publication, PublishFault>
-    requires fits { FitsFields (fields_of_job job) }
+    requires fits { FitsPublishing (fields_of_job job) }
     requires within { IsWithinLimits Limits.PUBLISHED (fields_of_job job) }
     requires some_workers { 1 ≤ workers }
     requires few_workers { workers ≤ 64 }
@@ -83,7 +83,7 @@ pub fn publish_after<R: Threads + Sync>(
     job: Job,
     workers: u32,
 ) -> Result<Publication, PublishFault>
-    requires fits { FitsFields (fields_of_job job) }
+    requires fits { FitsPublishing (fields_of_job job) }
     requires within { IsWithinLimits Limits.PUBLISHED (fields_of_job job) }
     requires some_workers { 1 ≤ workers }
     requires few_workers { workers ≤ 64 }
