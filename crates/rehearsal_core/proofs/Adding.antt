@@ -6,10 +6,10 @@ use Rattle.ident_core.specs.declared.kind.Kind.TheVariants as kinds
 use Rattle.part_codec.specs.SealedFields.{SealedFields}
 use Rattle.job_core.specs.declared.bounds.TheConstants.Limits.{PUBLISHED}
 use Rattle.job_core.specs.JobFields.{JobFields}
-use Rattle.job_core.specs.JobFacts.{FitsFields, IsWithinLimits}
+use Rattle.job_core.specs.JobFacts.{FitsPublishing, IsWithinLimits}
 use Rattle.ledger_core.specs.LedgerFields.{LedgerFields}
 use Rattle.universe_core.specs.declared.counts.Counts.{Counts}
-use Rattle.universe_core.specs.Jobs.{told}
+use Rattle.universe_core.specs.Jobs.{facts_of}
 use Rattle.universe_core.specs.History.{past_of}
 use Rattle.universe_core.specs.Counting.{counts}
 use Rattle.universe_core.specs.Ledgers.{no_ledger, ledger_of}
@@ -17,30 +17,28 @@ use Rattle.store_core.specs.declared.chain.Refusal.{Refusal}
 use Rattle.store_core.specs.Chain.{refusal_of, IsChain}
 use Rattle.publication_core.specs.Histories.{IsHistory, history}
 use Rattle.publication_core.specs.Publishing.{Published, Publishes}
-use Rattle.rehearsal_core.specs.Rehearsing.{RehearsalFields, IsOf, Adds, report_of}
+use Rattle.rehearsal_core.specs.Rehearsing.{RehearsalFields, of_none, IsOf, Adds, report_of}
 
 -- What the layers promise of histories.
 pub record Layers : Type 0 where
   pub none : ledger_of (history [] []) ≡ no_ledger
-  pub next : (jobs : List JobFields) (parts : List SealedFields) (job : JobFields) (p : Published) → IsHistory jobs parts → FitsFields job → IsWithinLimits PUBLISHED job
+  pub next : (jobs : List JobFields) (parts : List SealedFields) (job : JobFields) (p : Published) → IsHistory jobs parts → FitsPublishing job → IsWithinLimits PUBLISHED job
       → Publishes (ledger_of (history jobs parts)) job (Ok p) → IsHistory (jobs ++ job ∷ []) (parts ++ p.sealed ∷ [])
   pub ledger : (jobs : List JobFields) (parts : List SealedFields) (job : JobFields) (p : Published) → IsHistory jobs parts
       → Publishes (ledger_of (history jobs parts)) job (Ok p) → p.ledger ≡ ledger_of (history (jobs ++ job ∷ []) (parts ++ p.sealed ∷ []))
   pub numbers : (jobs : List JobFields) (parts : List SealedFields) (job : JobFields) (p : Published) → IsHistory jobs parts
-      → Publishes (ledger_of (history jobs parts)) job (Ok p) → p.counts ≡ counts (past_of (history jobs parts)) (told job)
-  pub place : (jobs : List JobFields) (parts : List SealedFields) (job : JobFields) (p : Published) → IsHistory jobs parts → Publishes (ledger_of (history jobs parts)) job (Ok p) → p.place ≡ length jobs
+      → Publishes (ledger_of (history jobs parts)) job (Ok p) → p.counts ≡ counts (past_of (history jobs parts)) (facts_of job)
+  pub place : (jobs : List JobFields) (parts : List SealedFields) (job : JobFields) (p : Published) → IsHistory jobs parts
+      → Publishes (ledger_of (history jobs parts)) job (Ok p) → p.place ≡ length jobs
   pub chain : (jobs : List JobFields) (parts : List SealedFields) → IsHistory jobs parts → IsChain parts
   pub few : (jobs : List JobFields) (parts : List SealedFields) → IsHistory jobs parts → length parts ≤ 64
   pub grown : (parts : List SealedFields) (p : SealedFields) → IsChain (parts ++ p ∷ []) → 1 ≤ length parts → length parts < 64 → IsChain parts × (refusal_of parts p ≡ None)
-
-abbrev pub of_none : RehearsalFields
-of_none = record { parts = []; ledger = no_ledger }
 
 module _ (layers : Layers) where
   pub none_is : IsOf [] of_none
   none_is = record { is_history = tt; ledger = sym layers.none }
 
-  module _ (jobs : List JobFields) (before : RehearsalFields) (job : JobFields) (p : Published) (of : IsOf jobs before) (fits : FitsFields job) (limits : IsWithinLimits PUBLISHED job)
+  module _ (jobs : List JobFields) (before : RehearsalFields) (job : JobFields) (p : Published) (of : IsOf jobs before) (fits : FitsPublishing job) (limits : IsWithinLimits PUBLISHED job)
       (published : Publishes before.ledger job (Ok p)) where
     behind : Publishes (ledger_of (history jobs before.parts)) job (Ok p)
     behind = subst (λ (l : LedgerFields). Publishes l job (Ok p)) of.ledger published

@@ -2,11 +2,11 @@
 
 ghost use Rattle.std.specs.Prelude.{◌≡◌, ◌≢◌, ◌≤◌, List, [], Err, IfOk, IfErr, IfSome, IsNone};
 ghost use Rattle.job_core.specs.JobFields.{JobFields, fields_of_job};
-ghost use Rattle.job_core.specs.JobFacts.{FitsFields, IsWithinLimits};
+ghost use Rattle.job_core.specs.JobFacts.{FitsPublishing, IsWithinLimits};
 ghost use Rattle.universe_core.specs.Ledgers.{no_ledger, ledger_of};
 ghost use Rattle.publication_core.specs.Histories.{history};
 ghost use Rattle.publication_core.specs.Publishing.{Publishes};
-ghost use Rattle.rehearsal_core.specs.Rehearsing.{Adds, IsOf};
+ghost use Rattle.rehearsal_core.specs.Rehearsing.{of_none, Adds, IsOf};
 
 use job_core::{Job, Limits};
 use ledger_core::Ledger;
@@ -60,7 +60,7 @@ fn report_on(publication: &Publication) -> Report
 impl Rehearsal {
     /// The rehearsal of no job.
     pub fn new() -> Rehearsal
-        ensures value { result ≡ record { parts = []; ledger = no_ledger } }
+        ensures value { result ≡ of_none }
         ensures is_of { IsOf [] result }
     {
         histories_are_published();
@@ -74,11 +74,11 @@ impl Rehearsal {
         job: Job,
         workers: u32,
     ) -> Result<(Rehearsal, Report), PublishFault>
-        requires fits { FitsFields (fields_of_job job) }
+        requires fits { FitsPublishing (fields_of_job job) }
         requires within { IsWithinLimits Limits.PUBLISHED (fields_of_job job) }
         requires some_workers { 1 ≤ workers }
         requires few_workers { workers ≤ 64 }
-        ensures added { IfOk result (λ x. (jobs : List JobFields) → IsOf jobs (record { parts = []; ledger = no_ledger }) → Adds jobs (record { parts = []; ledger = no_ledger }) (fields_of_job job) x.0 x.1) }
+        ensures added { IfOk result (λ x. (jobs : List JobFields) → IsOf jobs of_none → Adds jobs of_none (fields_of_job job) x.0 x.1) }
         ensures refused { IfErr result (λ e. e ≢ PublishFault.NoMemory → Publishes no_ledger (fields_of_job job) (Err e)) }
     {
         histories_are_published();
@@ -109,11 +109,13 @@ impl Rehearsal {
         workers: u32,
     ) -> Result<(Rehearsal, Report), PublishFault>
         requires held { (jobs : List JobFields) × IsOf jobs (record { parts = store; ledger = ledger }) }
-        requires fits { FitsFields (fields_of_job job) }
+        requires fits { FitsPublishing (fields_of_job job) }
         requires within { IsWithinLimits Limits.PUBLISHED (fields_of_job job) }
         requires some_workers { 1 ≤ workers }
         requires few_workers { workers ≤ 64 }
-        ensures added { IfOk result (λ x. (jobs : List JobFields) → IsOf jobs (record { parts = store; ledger = ledger }) → Adds jobs (record { parts = store; ledger = ledger }) (fields_of_job job) x.0 x.1) }
+        ensures added { IfOk result (λ x. (jobs : List JobFields)
+            → IsOf jobs (record { parts = store; ledger = ledger })
+            → Adds jobs (record { parts = store; ledger = ledger }) (fields_of_job job) x.0 x.1) }
         ensures refused { IfErr result (λ e. e ≢ PublishFault.NoMemory → Publishes ledger (fields_of_job job) (Err e)) }
     {
         histories_are_published();
@@ -143,12 +145,13 @@ impl Rehearsal {
         job: Job,
         workers: u32,
     ) -> Result<(Rehearsal, Report), PublishFault>
-        requires fits { FitsFields (fields_of_job job) }
+        requires fits { FitsPublishing (fields_of_job job) }
         requires within { IsWithinLimits Limits.PUBLISHED (fields_of_job job) }
         requires some_workers { 1 ≤ workers }
         requires few_workers { workers ≤ 64 }
         ensures added { IfOk result (λ x. (jobs : List JobFields) → IsOf jobs self → Adds jobs self (fields_of_job job) x.0 x.1) }
-        ensures refused { IfErr result (λ e. (jobs : List JobFields) → IsOf jobs self → e ≢ PublishFault.NoMemory → Publishes (ledger_of (history jobs self.parts)) (fields_of_job job) (Err e)) }
+        ensures refused { IfErr result (λ e. (jobs : List JobFields) → IsOf jobs self → e ≢ PublishFault.NoMemory
+            → Publishes (ledger_of (history jobs self.parts)) (fields_of_job job) (Err e)) }
     {
         match self.published {
             None => Rehearsal::begun(rt, alloc, job, workers),

@@ -1,6 +1,7 @@
 use Rattle.std.proofs.Common.{◌∷◌, []}
 use Rattle.job_core.specs.JobFields.{fields_of_job}
-use Rattle.rehearsal_core.proofs.Adding.{Layers, of_none, none_is, after_is, adds}
+use Rattle.rehearsal_core.specs.Rehearsing.{of_none}
+use Rattle.rehearsal_core.proofs.Adding.{Layers, none_is, after_is, adds}
 use Rattle.rehearsal_core.proofs.rehearsal.Rehearsal.begun.Goals as goal
 
 pub invariant_of-result : goal.invariant_of-result

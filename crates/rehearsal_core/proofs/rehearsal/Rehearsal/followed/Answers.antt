@@ -17,7 +17,8 @@ invariant_of-result g c =
     } in
     rw (c.in-Ok.ensures.added, c.into_sealed_and_ledger-sealed.ensures) (
       c.requires.held.0 ++ fields_of_job c.args.job ∷ [],
-      after_is layers c.requires.held.0 (record { parts = c.args.store; ledger = c.args.ledger }) (fields_of_job c.args.job) c.in_ok-publication.publication c.requires.held.1 c.requires.fits c.requires.within c.in_ok-publication.ensures,
+      after_is layers c.requires.held.0 (record { parts = c.args.store; ledger = c.args.ledger }) (fields_of_job c.args.job) c.in_ok-publication.publication
+          c.requires.held.1 c.requires.fits c.requires.within c.in_ok-publication.ensures,
     )
 
 pub unreachable-requires : goal.unreachable-requires
@@ -32,7 +33,8 @@ unreachable-requires g c =
       few = c.parts_are_chains.ensures.few;
       grown = c.chains_grow.ensures.only;
     } in
-    not_refused _ _ (taken layers c.requires.held.0 (record { parts = c.args.store; ledger = c.args.ledger }) (fields_of_job c.args.job) c.in_ok-publication.publication c.requires.held.1 c.requires.fits c.requires.within
+    not_refused _ _ (taken layers c.requires.held.0 (record { parts = c.args.store; ledger = c.args.ledger }) (fields_of_job c.args.job)
+    c.in_ok-publication.publication c.requires.held.1 c.requires.fits c.requires.within
     c.in_ok-publication.ensures (rw c.store.view_is at c.store.invariant.0.some)) (rw c.into_sealed_and_ledger-sealed.ensures at c.in-Err.ensures.refused.1)
 
 pub returns-clause-added : goal.returns-clause-added
@@ -49,4 +51,5 @@ returns-clause-added g c =
     } in
     λ jobs of.
     rw (c.in-Ok.ensures.added, c.into_sealed_and_ledger-sealed.ensures, c.report_on-report.ensures)
-    (adds layers jobs (record { parts = c.args.store; ledger = c.args.ledger }) (fields_of_job c.args.job) c.in_ok-publication.publication of c.requires.fits c.requires.within c.in_ok-publication.ensures)
+    (adds layers jobs (record { parts = c.args.store; ledger = c.args.ledger }) (fields_of_job c.args.job) c.in_ok-publication.publication of c.requires.fits
+    c.requires.within c.in_ok-publication.ensures)
