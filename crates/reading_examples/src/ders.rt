@@ -67,7 +67,7 @@ fn element_lists(rt: HostRuntime) {
 
 #[test]
 fn der_times(rt: HostRuntime) {
-    // The moments of the years 0000 and 2024 are those that GNU `date -u -d .. +%s` prints.
+    // The moments of the years 0000, 2000 and 2024 are those that GNU `date -u -d .. +%s` prints.
     let rows = [
         (0x17, b"500101000000Z".as_slice(), Ok(-631152000)),
         (0x17, b"491231235959Z".as_slice(), Ok(2524607999)),
@@ -76,6 +76,8 @@ fn der_times(rt: HostRuntime) {
         (0x18, b"99991231235959Z".as_slice(), Ok(253402300799)),
         (0x18, b"00000101000000Z".as_slice(), Ok(-62167219200)),
         (0x18, b"00000229000000Z".as_slice(), Ok(-62162121600)),
+        (0x18, b"19000229000000Z".as_slice(), Err(BadTime)),
+        (0x18, b"20000229000000Z".as_slice(), Ok(951782400)),
         (0x18, b"20240229123456Z".as_slice(), Ok(1709210096)),
         (0x18, b"20240229123460Z".as_slice(), Err(BadTime)),
         (0x17, b"20240229123456Z".as_slice(), Err(BadTime)),

@@ -9,7 +9,9 @@ const KEY: &str = "1111111111111111111111111111111111111111111111111111111111111
 
 const LOG: &str = "aAaAaAaAaAaAaAaAaAaAaAaAaAaAaAaAaAaAaAaAaAaAaAaAaAaAaAaAaAaAaAaA";
 
-const LONG: &str = "050505050505050505050505050505050505050505050505050505050505050505";
+const LONG: &str = "\
+    0505050505050505050505050505050505050505050505050505050505050505\
+    05";
 
 fn texts(alloc: Global, words: &[&str]) -> Result<Vec<String>, AllocError> {
     let mut texts = Vec::new(alloc);

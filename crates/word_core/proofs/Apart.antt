@@ -13,7 +13,8 @@ but_first : {A : Type 0} (x : A) (xs : List A) → take (length (x ∷ xs) - 1) 
 but_first x xs = grind (arith, common_steps)
 
 -- the first output is taken: by an input, or by another output
-pub apart-input : {A : Type 0} (f : A → List ℕ) (inputs rest : List A) (output : A) (name : List ℕ) → 1 ≤ length rest → output ≡ get_or rest 0 output → name ≡ f output → list_any (λ other. bytes_eq (f other) name) inputs ≡ true → false ≡ are_apart (map f inputs) (map f rest)
+pub apart-input : {A : Type 0} (f : A → List ℕ) (inputs rest : List A) (output : A) (name : List ℕ) → 1 ≤ length rest → output ≡ get_or rest 0 output
+    → name ≡ f output → list_any (λ other. bytes_eq (f other) name) inputs ≡ true → false ≡ are_apart (map f inputs) (map f rest)
 apart-input f inputs [] output name some at is taken = absurd (omega arith)
 apart-input f inputs (x ∷ xs) output name some at is taken =
     let e : name ≡ f x = is ∙ ap f at in
@@ -21,7 +22,9 @@ apart-input f inputs (x ∷ xs) output name some at is taken =
     let t : is_among (f x) (map f inputs) ≡ true = subst P e (sym (among_texts f name inputs) ∙ taken) in
     rw t refl
 
-pub apart-output : {A : Type 0} (f : A → List ℕ) (inputs rest : List A) (output : A) (name : List ℕ) → 1 ≤ length rest → output ≡ get_or rest 0 output → name ≡ f output → list_any (λ other. bytes_eq (f other) name) inputs ≡ false → list_any (λ other. bytes_eq (f other) name) (take (length rest - 1) (drop 1 rest)) ≡ true → false ≡ are_apart (map f inputs) (map f rest)
+pub apart-output : {A : Type 0} (f : A → List ℕ) (inputs rest : List A) (output : A) (name : List ℕ) → 1 ≤ length rest → output ≡ get_or rest 0 output
+    → name ≡ f output → list_any (λ other. bytes_eq (f other) name) inputs ≡ false
+    → list_any (λ other. bytes_eq (f other) name) (take (length rest - 1) (drop 1 rest)) ≡ true → false ≡ are_apart (map f inputs) (map f rest)
 apart-output f inputs [] output name some at is free taken = absurd (omega arith)
 apart-output f inputs (x ∷ xs) output name some at is free taken =
     let e : name ≡ f x = is ∙ ap f at in
@@ -33,7 +36,10 @@ apart-output f inputs (x ∷ xs) output name some at is free taken =
     rw (a, b) refl
 
 -- the first output is free
-pub apart-free : {A : Type 0} (f : A → List ℕ) (inputs rest : List A) (output : A) (name : List ℕ) → 1 ≤ length rest → output ≡ get_or rest 0 output → name ≡ f output → list_any (λ other. bytes_eq (f other) name) inputs ≡ false → list_any (λ other. bytes_eq (f other) name) (take (length rest - 1) (drop 1 rest)) ≡ false → are_apart (map f inputs) (map f (take (length rest - 1) (drop 1 rest))) ≡ are_apart (map f inputs) (map f rest)
+pub apart-free : {A : Type 0} (f : A → List ℕ) (inputs rest : List A) (output : A) (name : List ℕ) → 1 ≤ length rest → output ≡ get_or rest 0 output
+    → name ≡ f output → list_any (λ other. bytes_eq (f other) name) inputs ≡ false
+    → list_any (λ other. bytes_eq (f other) name) (take (length rest - 1) (drop 1 rest)) ≡ false
+    → are_apart (map f inputs) (map f (take (length rest - 1) (drop 1 rest))) ≡ are_apart (map f inputs) (map f rest)
 apart-free f inputs [] output name some at is free others = absurd (omega arith)
 apart-free f inputs (x ∷ xs) output name some at is free others =
     let e : name ≡ f x = is ∙ ap f at in

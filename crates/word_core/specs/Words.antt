@@ -1,5 +1,6 @@
 -- What the words of a call spell (docs/FORMATS.md, "Words").
-use Rattle.std.specs.Prelude.{ℕ, ◌^◌, List, [], ◌∷◌, length, Bool, true, ◌&&◌, not, ◌==◌, nat_le, nat_lt, if◌then◌else◌, Option, Some, None, Result, Ok, Err, codes}
+use Rattle.std.specs.Prelude.{ℕ, ◌^◌, List, [], ◌∷◌, length, Bool, true, ◌&&◌, not, ◌==◌, nat_le, nat_lt, if◌then◌else◌}
+use Rattle.std.specs.Prelude.{Option, Some, None, Result, Ok, Err, codes}
 use Rattle.std.specs.Char.{is_ascii_digit}
 use Rattle.std.specs.List.{list_all, list_any}
 use Rattle.std.specs.Str.{bytes_eq}
@@ -30,8 +31,8 @@ abbrev pub is_name : List ℕ → Bool
 is_name word = within 1 4096 (length word) && list_all is_plain word
 
 -- 64 hexadecimal digits
-abbrev pub key_of : List ℕ → Option (List ℕ)
-key_of word = ok_of (decode_sized word 32)
+abbrev pub key_word : List ℕ → Option (List ℕ)
+key_word word = ok_of (decode_sized word 32)
 
 -- an even number of hexadecimal digits, 2 to 64
 abbrev pub serial_of : List ℕ → Option (List ℕ)
@@ -39,14 +40,15 @@ serial_of word = if within 2 64 (length word) then ok_of (decode_of word) else N
 
 -- 1 to 20 decimal digits, of a value below 2 ^ 64
 abbrev pub number_of : List ℕ → Option ℕ
-number_of word = if within 1 20 (length word) && list_all is_ascii_digit word && nat_lt (digits_value 10 word) (2 ^ 64) then Some (digits_value 10 word) else None
+number_of word = if within 1 20 (length word) && list_all is_ascii_digit word && nat_lt (digits_value 10 word) (2 ^ 64)
+    then Some (digits_value 10 word) else None
 
 -- pairs of a log and a time
 abbrev pub pairs_of : List (List ℕ) → Option (List Sighting)
 pairs_of [] = Some []
 pairs_of (log ∷ []) = None
 pairs_of (log ∷ time ∷ rest) = do
-  l ← key_of log
+  l ← key_word log
   t ← number_of time
   others ← pairs_of rest
   Some (record { log = l; time = t } ∷ others)
@@ -62,7 +64,7 @@ sightings_of words = if within 2 128 (length words) then pairs_of words else Non
 abbrev pub query_of : List (List ℕ) → Option QueryFields
 query_of (store ∷ issuer ∷ serial ∷ pairs) = do
   name ← name_of store
-  i ← key_of issuer
+  i ← key_word issuer
   s ← serial_of serial
   sightings ← sightings_of pairs
   Some (record { store = name; id = record { issuer = i; serial = s }; sightings = sightings })

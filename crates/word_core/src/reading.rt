@@ -1,6 +1,6 @@
 //! The commands that words spell together (docs/FORMATS.md, "Words").
 
-ghost use Rattle.std.specs.Prelude.{◌≡◌, ◌≤◌, IfOk, map, string_bytes};
+ghost use Rattle.std.specs.Prelude.{◌≡◌, ◌≤◌, ◌∷◌, IfOk, map, string_bytes};
 ghost use Rattle.word_core.specs.Words.{command_of, query_of, name_alone, snapshot_of, named_delta, delta_of, start_of, install_of, rehearse_of, sample_of};
 
 use crate::command::{Command, FileName, Query};
@@ -160,14 +160,16 @@ fn read_install(alloc: Global, words: &[String]) -> Result<Option<Install>, NoMe
     Ok(Some(Install::new(store, part, new_store)))
 }
 
-/// The rehearsal that words spell, if they spell one.
-fn read_rehearse(alloc: Global, words: &[String]) -> Result<Option<Rehearse>, NoMemory>
-    ensures { IfOk result (λ r. r ≡ rehearse_of (map string_bytes words.now)) }
+/// The rehearsal with these names of files that words spell, if they spell one.
+fn rehearse_named(
+    alloc: Global,
+    queries: &str,
+    workers: &str,
+    jobs: &[String],
+) -> Result<Option<Rehearse>, NoMemory>
+    ensures { IfOk result (λ r. r ≡ rehearse_of (queries.now ∷ workers.now ∷ map string_bytes jobs.now)) }
 {
-    let [queries, workers, jobs @ ..] = words else {
-        return Ok(None);
-    };
-    let Some(workers) = workers_word(workers.as_str()) else {
+    let Some(workers) = workers_word(workers) else {
         return Ok(None);
     };
     if jobs.is_empty() || jobs.len() > 64 {
@@ -176,10 +178,25 @@ fn read_rehearse(alloc: Global, words: &[String]) -> Result<Option<Rehearse>, No
     let Some(jobs) = read_names(alloc, jobs)? else {
         return Ok(None);
     };
-    let Some(queries) = read_name(alloc, queries.as_str())? else {
+    let Some(queries) = read_name(alloc, queries)? else {
         return Ok(None);
     };
     Ok(Some(Rehearse::new(queries, workers, jobs)))
+}
+
+/// The rehearsal that words spell, if they spell one.
+fn read_rehearse(alloc: Global, words: &[String]) -> Result<Option<Rehearse>, NoMemory>
+    ensures { IfOk result (λ r. r ≡ rehearse_of (map string_bytes words.now)) }
+{
+    match words {
+        [queries, workers, jobs @ ..] => rehearse_named(
+            alloc,
+            queries.as_str(),
+            workers.as_str(),
+            jobs,
+        ),
+        _ => Ok(None),
+    }
 }
 
 /// The job made from a number that words spell, if they spell one.
@@ -201,14 +218,11 @@ fn read_sample(alloc: Global, words: &[String]) -> Result<Option<Sample>, NoMemo
     Ok(Some(Sample::new(number, count, job)))
 }
 
-/// What words ask for.
-pub fn read_words(alloc: Global, words: &[String]) -> Result<Command, NoMemory>
-    ensures { IfOk result (λ c. c ≡ command_of (map string_bytes words.now)) }
+/// What a word and those behind it ask for.
+fn read_command(alloc: Global, command: &str, rest: &[String]) -> Result<Command, NoMemory>
+    ensures { IfOk result (λ c. c ≡ command_of (command.now ∷ map string_bytes rest.now)) }
 {
-    let [command, rest @ ..] = words else {
-        return Ok(Command::Usage);
-    };
-    match command.as_str() {
+    match command {
         "query" => Ok(read_query(alloc, rest)?.map_or(Command::Usage, Command::Query)),
         "check" => Ok(read_name_alone(alloc, rest)?.map_or(Command::Usage, Command::Check)),
         "show" => Ok(read_name_alone(alloc, rest)?.map_or(Command::Usage, Command::Show)),
@@ -219,5 +233,15 @@ pub fn read_words(alloc: Global, words: &[String]) -> Result<Command, NoMemory>
         "rehearse" => Ok(read_rehearse(alloc, rest)?.map_or(Command::Usage, Command::Rehearse)),
         "sample" => Ok(read_sample(alloc, rest)?.map_or(Command::Usage, Command::Sample)),
         _ => Ok(Command::Usage),
+    }
+}
+
+/// What words ask for.
+pub fn read_words(alloc: Global, words: &[String]) -> Result<Command, NoMemory>
+    ensures { IfOk result (λ c. c ≡ command_of (map string_bytes words.now)) }
+{
+    match words {
+        [command, rest @ ..] => read_command(alloc, command.as_str(), rest),
+        [] => Ok(Command::Usage),
     }
 }

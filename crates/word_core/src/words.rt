@@ -5,7 +5,8 @@ ghost use Rattle.std.specs.List.{list_all, list_any};
 ghost use Rattle.std.specs.Str.{bytes_eq};
 ghost use Rattle.std.specs.Char.{is_ascii_digit};
 ghost use Rattle.std.specs.Option.{option_map};
-ghost use Rattle.word_core.specs.Words.{name_of, names_of, two_names_of, pairs_of, key_of, serial_of, number_of, workers_of, count_of, are_apart, is_name, is_plain};
+ghost use Rattle.word_core.specs.Words.{name_of, names_of, two_names_of, pairs_of, key_word, serial_of, number_of};
+ghost use Rattle.word_core.specs.Words.{workers_of, count_of, are_apart, is_name, is_plain};
 
 use crate::command::FileName;
 use hex::FromHex;
@@ -30,12 +31,10 @@ fn is_file_name(word: &str) -> bool
 }
 
 pub(crate) fn key_word(word: &str) -> Option<Key32>
-    ensures { result ≡ key_of word.now }
+    ensures { result ≡ key_word word.now }
 {
-    match <[u8; 32] as FromHex>::from_hex(word) {
-        Ok(bytes) => Some(Key32::new(bytes)),
-        Err(_) => None,
-    }
+    let bytes = <[u8; 32] as FromHex>::from_hex(word).ok()?;
+    Some(Key32::new(bytes))
 }
 
 pub(crate) fn serial_word(word: &str) -> Option<Serial>
