@@ -19,8 +19,12 @@ CutShort-front told new a b (k, le, is) =
 
 -- the first text, and a front of the second
 CutShort-behind : (told mid new : Option (List ℕ)) (a b : List ℕ) → mid ≡ followed_by told a → CutShort mid new b → CutShort told new (a ++ b)
-CutShort-behind told mid new a b before (k, le, is) =
-    (length a + k, omega (arith, length-append a b), is ∙ ap (λ (t : Option (List ℕ)). followed_by t (take k b)) before ∙ followed_by-twice told a (take k b) ∙ ap (followed_by told) (sym (take-append-add a b k)))
+CutShort-behind told mid new a b before (k, le, is) = (
+  length a + k,
+  omega (arith, length-append a b),
+  is ∙ ap (λ (t : Option (List ℕ)). followed_by t (take k b)) before ∙ followed_by-twice told a (take k b) ∙
+      ap (followed_by told) (sym (take-append-add a b k)),
+)
 
 -- the sink failed at the first of two texts
 pub Sends-front : (told new : Option (List ℕ)) (before now : ℕ) (e : Failed) (a b : List ℕ) → Sends told new before now (Err e) a → Sends told new before now (Err e) (a ++ b)

@@ -38,7 +38,8 @@ why_word why.Digest = codes "digest"
 
 -- layout AT FIELD WHY NAME
 abbrev pub layout_line : LayoutFault → List ℕ → List ℕ
-layout_line f name = codes "layout " ++ decimal f.at ++ 32 ∷ name_of f.field ++ 32 ∷ why_word f.why ++ 32 ∷ name ++ 10 ∷ []
+layout_line f name =
+    codes "layout " ++ decimal f.at ++ 32 ∷ name_of f.field ++ 32 ∷ why_word f.why ++ 32 ∷ name ++ 10 ∷ []
 
 abbrev pub kind_word : Kind → List ℕ
 kind_word kinds.Snapshot = codes "snapshot"
@@ -47,12 +48,15 @@ kind_word kinds.Delta = codes "delta"
 -- part KIND epoch E ranges N issuers M bytes B
 abbrev pub check_line : SealedFields → ℕ → List ℕ
 check_line s size =
-    codes "part " ++ kind_word s.part.head.kind ++ codes " epoch " ++ decimal s.part.head.epoch ++ codes " ranges " ++ decimal (length s.part.head.ranges)
+    codes "part " ++ kind_word s.part.head.kind ++ codes " epoch " ++ decimal s.part.head.epoch
+    ++ codes " ranges " ++ decimal (length s.part.head.ranges)
     ++ codes " issuers " ++ decimal (length s.part.blocks) ++ codes " bytes " ++ decimal size ++ 10 ∷ []
 
 -- part KIND version 1 epoch E parent KEY
 abbrev pub head_line : HeadFields → List ℕ
-head_line h = codes "part " ++ kind_word h.kind ++ codes " version 1 epoch " ++ decimal h.epoch ++ codes " parent " ++ encode_lower h.parent ++ 10 ∷ []
+head_line h =
+    codes "part " ++ kind_word h.kind ++ codes " version 1 epoch " ++ decimal h.epoch
+    ++ codes " parent " ++ encode_lower h.parent ++ 10 ∷ []
 
 -- range LOG FROM TO
 abbrev pub range_line : Range → List ℕ
@@ -69,7 +73,8 @@ approx_words (Some s) = codes " approx " ++ stage_words s
 
 -- mixed k K approx SEED STARTS exact SEED STARTS
 abbrev pub mixed_words : MixedFields → List ℕ
-mixed_words m = codes "mixed k " ++ decimal (width_of m.approx) ++ approx_words m.approx ++ codes " exact " ++ stage_words m.exact
+mixed_words m =
+    codes "mixed k " ++ decimal (width_of m.approx) ++ approx_words m.approx ++ codes " exact " ++ stage_words m.exact
 
 abbrev pub body_words : Body → List ℕ
 body_words bodies.Clean = codes "none"
@@ -86,7 +91,9 @@ trailer_line trailer = codes "trailer " ++ encode_lower trailer ++ 10 ∷ []
 
 -- the head, the ranges, the blocks and the trailer, a line each
 abbrev pub show_text : SealedFields → List ℕ
-show_text s = head_line s.part.head ++ flat_map range_line s.part.head.ranges ++ flat_map block_line s.part.blocks ++ trailer_line s.trailer
+show_text s =
+    head_line s.part.head ++ flat_map range_line s.part.head.ranges
+    ++ flat_map block_line s.part.blocks ++ trailer_line s.trailer
 
 -- store parts N epoch E
 abbrev pub store_line : ℕ → ℕ → List ℕ
@@ -95,14 +102,17 @@ store_line parts epoch = codes "store parts " ++ decimal parts ++ codes " epoch 
 -- epoch E part P issuers I universe U revoked R unread A uncovered B unenrolled C late D accepted F
 abbrev pub report_line : ℕ → ℕ → Counts → List ℕ
 report_line epoch place c =
-    codes "epoch " ++ decimal epoch ++ codes " part " ++ decimal place ++ codes " issuers " ++ decimal c.issuers ++ codes " universe " ++ decimal c.universe
-    ++ codes " revoked " ++ decimal c.revoked ++ codes " unread " ++ decimal c.unread ++ codes " uncovered " ++ decimal c.uncovered
-    ++ codes " unenrolled " ++ decimal c.unenrolled ++ codes " late " ++ decimal c.late ++ codes " accepted " ++ decimal c.accepted ++ 10 ∷ []
+    codes "epoch " ++ decimal epoch ++ codes " part " ++ decimal place ++ codes " issuers " ++ decimal c.issuers
+    ++ codes " universe " ++ decimal c.universe ++ codes " revoked " ++ decimal c.revoked
+    ++ codes " unread " ++ decimal c.unread ++ codes " uncovered " ++ decimal c.uncovered
+    ++ codes " unenrolled " ++ decimal c.unenrolled ++ codes " late " ++ decimal c.late
+    ++ codes " accepted " ++ decimal c.accepted ++ 10 ∷ []
 
 -- sample NUMBER entries COUNT revoked R bytes B
 abbrev pub sample_line : (number count revoked bytes : ℕ) → List ℕ
 sample_line number count revoked bytes =
-    codes "sample " ++ decimal number ++ codes " entries " ++ decimal count ++ codes " revoked " ++ decimal revoked ++ codes " bytes " ++ decimal bytes ++ 10 ∷ []
+    codes "sample " ++ decimal number ++ codes " entries " ++ decimal count
+    ++ codes " revoked " ++ decimal revoked ++ codes " bytes " ++ decimal bytes ++ 10 ∷ []
 
 abbrev pub crl_word : CrlFault → List ℕ
 crl_word crl_faults.Malformed = codes "malformed"
@@ -128,7 +138,8 @@ limit_line thing limit name = codes "limit " ++ what_word thing ++ 32 ∷ decima
 
 -- chain parent HELD GIVEN NAME
 abbrev pub parent_line : List ℕ → List ℕ → List ℕ → List ℕ
-parent_line held given name = codes "chain parent " ++ encode_lower held ++ 32 ∷ encode_lower given ++ 32 ∷ name ++ 10 ∷ []
+parent_line held given name =
+    codes "chain parent " ++ encode_lower held ++ 32 ∷ encode_lower given ++ 32 ∷ name ++ 10 ∷ []
 
 -- chain epoch HELD GIVEN NAME
 abbrev pub epoch_line : ℕ → ℕ → List ℕ → List ℕ

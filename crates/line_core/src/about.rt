@@ -2,7 +2,8 @@
 
 ghost use Rattle.std.specs.Prelude.{◌≡◌, IfOk, string_bytes};
 ghost use Rattle.hex.specs.Hex.{encode_lower};
-ghost use Rattle.line_core.specs.Lines.{line, line_about, layout_line, crl_line, limit_line, parent_line, epoch_line, coverage_line};
+ghost use Rattle.line_core.specs.Lines.{line, line_about, layout_line, crl_line, limit_line, parent_line, epoch_line};
+ghost use Rattle.line_core.specs.Lines.{coverage_line};
 
 use crate::words::{crl_text, what_text, why_text};
 use crl_core::CrlFault;

@@ -3,7 +3,9 @@
 ghost use Rattle.std.specs.Prelude.{◌≡◌, ◌+◌, ◌*◌, ◌≤◌, [], ◌∷◌, ◌++◌, length, codes, decimal};
 ghost use Rattle.hex.specs.Hex.{encode_lower};
 ghost use Rattle.part_codec.specs.PartText.{width_of};
-ghost use Rattle.line_core.specs.Lines.{stage_words, approx_words, mixed_words, body_words, check_line, report_line, store_line, sample_line, head_line, range_line, block_line, trailer_line, seeds_line};
+ghost use Rattle.line_core.specs.Lines.{stage_words, approx_words, mixed_words, body_words, check_line, report_line};
+ghost use Rattle.line_core.specs.Lines.{store_line, sample_line, head_line, range_line, block_line, trailer_line};
+ghost use Rattle.line_core.specs.Lines.{seeds_line};
 
 use crate::words::kind_text;
 use card_core::{Block, Body, Mixed, Stage};

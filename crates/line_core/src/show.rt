@@ -17,7 +17,8 @@ fn write_line<K: Sink>(line: &Line, out: &mut K) -> Result<(), Failed>
 }
 
 fn write_ranges<K: Sink>(ranges: &[Range], out: &mut K) -> Result<(), Failed>
-    ensures { Sends (K.written out.old) (K.written out.new) (K.faults out.old) (K.faults out.new) result (flat_map range_line ranges.now) }
+    ensures { Sends (K.written out.old) (K.written out.new) (K.faults out.old) (K.faults out.new) result
+        (flat_map range_line ranges.now) }
 {
     for range in ranges {
         write_line(&range_shown(range), out)?;
@@ -26,7 +27,8 @@ fn write_ranges<K: Sink>(ranges: &[Range], out: &mut K) -> Result<(), Failed>
 }
 
 fn write_blocks<K: Sink>(blocks: &[Block], out: &mut K) -> Result<(), Failed>
-    ensures { Sends (K.written out.old) (K.written out.new) (K.faults out.old) (K.faults out.new) result (flat_map block_line blocks.now) }
+    ensures { Sends (K.written out.old) (K.written out.new) (K.faults out.old) (K.faults out.new) result
+        (flat_map block_line blocks.now) }
 {
     for block in blocks {
         write_line(&block_shown(block), out)?;
@@ -35,7 +37,8 @@ fn write_blocks<K: Sink>(blocks: &[Block], out: &mut K) -> Result<(), Failed>
 }
 
 fn write_head<K: Sink>(head: &Head, out: &mut K) -> Result<(), Failed>
-    ensures { Sends (K.written out.old) (K.written out.new) (K.faults out.old) (K.faults out.new) result (head_line head.now ++ flat_map range_line head.now.ranges) }
+    ensures { Sends (K.written out.old) (K.written out.new) (K.faults out.old) (K.faults out.new) result
+        (head_line head.now ++ flat_map range_line head.now.ranges) }
 {
     write_line(&head_shown(head), out)?;
     write_ranges(head.ranges(), out)
@@ -51,7 +54,8 @@ fn write_part<K: Sink>(part: &Part, out: &mut K) -> Result<(), Failed>
 
 /// Writes all that a part holds.
 pub fn write_sealed<K: Sink>(sealed: &Sealed, out: &mut K) -> Result<(), Failed>
-    ensures { Sends (K.written out.old) (K.written out.new) (K.faults out.old) (K.faults out.new) result (show_text sealed.now) }
+    ensures { Sends (K.written out.old) (K.written out.new) (K.faults out.old) (K.faults out.new) result
+        (show_text sealed.now) }
 {
     write_part(sealed.part(), out)?;
     write_line(&trailer_shown(&sealed.trailer()), out)

@@ -8,7 +8,8 @@ pub returns-in_err-write_line : goal.returns-in_err-write_line
 returns-in_err-write_line g c =
     let p = err_from_is_err_and c.from_residual.result c.from_residual.ensures.1 in
     let failed = rw c.block_shown.ensures at c.in_err-write_line.ensures in
-    rw (p.1, p.2) (Sends-list block_line c.args.blocks.now c.loop-block.block-index c.block-item.result _ _ _ _ _ _ _ c.loop-block-test.true c.block-item.is c.loop-block.invariant.written c.loop-block.invariant.later failed)
+    rw (p.1, p.2) (Sends-list block_line c.args.blocks.now c.loop-block.block-index c.block-item.result _ _ _ _ _ _ _ c.loop-block-test.true c.block-item.is
+    c.loop-block.invariant.written c.loop-block.invariant.later failed)
 
 pub loop-block-preserved : goal.loop-block-preserved
 loop-block-preserved g c =
