@@ -10,25 +10,53 @@ use std::alloc::Global;
 use std::test::Fail;
 
 // A snapshot of epoch 0 with neither ranges nor blocks.
-const EMPTY: &str =
-    "434c554243415244010000000000000000000000000000000000000000000000000000000000000000000000000000000000000000000000c87b6b851f263e96d0216bf664b616f5b5c7bcbccd3e790569665c1e83f55a8f";
+const EMPTY: &str = "\
+    434c554243415244010000000000000000000000000000000000000000000000\
+    000000000000000000000000000000000000000000000000c87b6b851f263e96\
+    d0216bf664b616f5b5c7bcbccd3e790569665c1e83f55a8f";
 
 // A snapshot of epoch 1 with one range and one block, of mode all.
-const ONE_REVOKED: &str =
-    "434c5542434152440100000000000000000100000000000000000000000000000000000000000000000000000000000000000001aaaaaaaaaaaaaaaaaaaaaaaaaaaaaaaaaaaaaaaaaaaaaaaaaaaaaaaaaaaaaaaa0000018bcfe568000000018bcfe56be800000001111111111111111111111111111111111111111111111111111111111111111101da82b3b0690711ee120227b798fe5a2a7fdf4b98418e78bf300309aa3f49d202";
+const ONE_REVOKED: &str = "\
+    434c554243415244010000000000000000010000000000000000000000000000\
+    0000000000000000000000000000000000000001aaaaaaaaaaaaaaaaaaaaaaaa\
+    aaaaaaaaaaaaaaaaaaaaaaaaaaaaaaaaaaaaaaaa0000018bcfe568000000018b\
+    cfe56be800000001111111111111111111111111111111111111111111111111\
+    111111111111111101da82b3b0690711ee120227b798fe5a2a7fdf4b98418e78\
+    bf300309aa3f49d202";
 
 // A delta with two ranges and three blocks, of modes none, all and none.
-const TWO_RANGES: &str =
-    "434c5542434152440101010203040506070844444444444444444444444444444444444444444444444444444444444444440002aaaaaaaaaaaaaaaaaaaaaaaaaaaaaaaaaaaaaaaaaaaaaaaaaaaaaaaaaaaaaaaa0000018bcfe568000000018bcfe56be8bbbbbbbbbbbbbbbbbbbbbbbbbbbbbbbbbbbbbbbbbbbbbbbbbbbbbbbbbbbbbbbb0000000000000000ffffffffffffffff000000031111111111111111111111111111111111111111111111111111111111111111002222222222222222222222222222222222222222222222222222222222222222013333333333333333333333333333333333333333333333333333333333333333006ba23b0a3f623cf69ae259128b03b6f0ceff3f86309b565f0315f3c10268f1dc";
+const TWO_RANGES: &str = "\
+    434c554243415244010101020304050607084444444444444444444444444444\
+    4444444444444444444444444444444444440002aaaaaaaaaaaaaaaaaaaaaaaa\
+    aaaaaaaaaaaaaaaaaaaaaaaaaaaaaaaaaaaaaaaa0000018bcfe568000000018b\
+    cfe56be8bbbbbbbbbbbbbbbbbbbbbbbbbbbbbbbbbbbbbbbbbbbbbbbbbbbbbbbb\
+    bbbbbbbb0000000000000000ffffffffffffffff000000031111111111111111\
+    1111111111111111111111111111111111111111111111110022222222222222\
+    2222222222222222222222222222222222222222222222222201333333333333\
+    3333333333333333333333333333333333333333333333333333006ba23b0a3f\
+    623cf69ae259128b03b6f0ceff3f86309b565f0315f3c10268f1dc";
 
 // A delta with one range and one mixed block, with no approximate stage. Of its issuer's certificates the serial 05 is
 // revoked and 06 is not, and the program solved the exact stage of these two.
-const MIXED: &str =
-    "434c554243415244010100000000000000023c5297690856618bbb3bc14ceaf19ce2d0f4c977bf05c935e445542588879af30001aaaaaaaaaaaaaaaaaaaaaaaaaaaaaaaaaaaaaaaaaaaaaaaaaaaaaaaaaaaaaaaa0000018bcfe568000000018bcfe56fd000000001111111111111111111111111111111111111111111111111111111111111111102000000000003000000000000000200000000000000000000000000000000d720f255b1870ad1dd8b011598e3d444bd97fc8550a021a271b7d0ce89fddd26";
+const MIXED: &str = "\
+    434c554243415244010100000000000000023c5297690856618bbb3bc14ceaf1\
+    9ce2d0f4c977bf05c935e445542588879af30001aaaaaaaaaaaaaaaaaaaaaaaa\
+    aaaaaaaaaaaaaaaaaaaaaaaaaaaaaaaaaaaaaaaa0000018bcfe568000000018b\
+    cfe56fd000000001111111111111111111111111111111111111111111111111\
+    1111111111111111020000000000030000000000000002000000000000000000\
+    00000000000000d720f255b1870ad1dd8b011598e3d444bd97fc8550a021a271\
+    b7d0ce89fddd26";
 
 // A snapshot of epoch 7 with two blocks: a mixed one with two planes in its approximate stage, and one of mode all.
-const TWO_STAGES: &str =
-    "434c55424341524401000000000000000007000000000000000000000000000000000000000000000000000000000000000000000000000211111111111111111111111111111111111111111111111111111111111111110202c8000000010123456789abcdeffedcba9876543210112233445566778899aabbccddeeff0003000000420000000000000001000000000000000200000000000000030000000000000001222222222222222222222222222222222222222222222222222222222222222201ac9860f02a76857bbb43bb353209ed0eff12cf3009f3cd172c2f5553e2d5d0e1";
+const TWO_STAGES: &str = "\
+    434c554243415244010000000000000000070000000000000000000000000000\
+    0000000000000000000000000000000000000000000000021111111111111111\
+    1111111111111111111111111111111111111111111111110202c80000000101\
+    23456789abcdeffedcba9876543210112233445566778899aabbccddeeff0003\
+    0000004200000000000000010000000000000002000000000000000300000000\
+    0000000122222222222222222222222222222222222222222222222222222222\
+    2222222201ac9860f02a76857bbb43bb353209ed0eff12cf3009f3cd172c2f55\
+    53e2d5d0e1";
 
 #[test]
 fn seals_and_writes_an_empty_part(rt: HostRuntime) -> Result<(), Fail> {
@@ -98,7 +126,7 @@ fn reads_a_mixed_block(rt: HostRuntime) -> Result<(), Fail> {
     let exact = mixed.exact();
     assert_eq!(rt; exact.seed, 0);
     assert_eq!(rt; exact.planes.starts(), 3);
-    compare_words(&rt, &exact.planes, &[2, 0, 0]);
+    compare_words(&rt, &exact.planes, &[&[2, 0, 0]]);
     assert_eq!(rt; encode_part(alloc, &sealed)?, text);
     Ok(())
 }
@@ -124,21 +152,13 @@ fn reads_two_stages(rt: HostRuntime) -> Result<(), Fail> {
         return Err(Fail::new("no approximate stage"));
     };
     assert_eq!(rt; approx.seed, 200);
-    let words = [
-        0x0123_4567_89ab_cdef,
-        0xfedc_ba98_7654_3210,
-        0x1122_3344_5566_7788,
-        0x99aa_bbcc_ddee_ff00,
-    ];
-    compare_words(&rt, &approx.planes, &words);
+    let first = [0x0123_4567_89ab_cdef, 0xfedc_ba98_7654_3210];
+    let second = [0x1122_3344_5566_7788, 0x99aa_bbcc_ddee_ff00];
+    compare_words(&rt, &approx.planes, &[&first, &second]);
     assert_eq!(rt; mixed.exact().seed, 3);
-    compare_words(&rt, &mixed.exact().planes, &[1, 2, 3, 1]);
+    compare_words(&rt, &mixed.exact().planes, &[&[1, 2, 3, 1]]);
     assert_eq!(rt; encode_part(alloc, &sealed)?, text);
     Ok(())
-}
-
-fn fault_at(at: u64, field: Field, why: Why) -> PartFault {
-    PartFault::Layout(LayoutFault { at, field, why })
 }
 
 // The text cut to a length, with one byte set.
@@ -157,147 +177,60 @@ fn changed(
     Ok(bytes)
 }
 
+// A text cut to a length, with one byte set, and the field that then fails, with its offset.
+const DAMAGED: [(&str, usize, usize, u8, u64, Field, Why); 20] = [
+    (
+        ONE_REVOKED,
+        100,
+        0,
+        0x43,
+        100,
+        Field::PartIssuers,
+        Why::Short,
+    ),
+    (
+        ONE_REVOKED,
+        168,
+        0,
+        0x43,
+        137,
+        Field::PartTrailer,
+        Why::Short,
+    ),
+    (ONE_REVOKED, 169, 0, 0x63, 0, Field::PartMagic, Why::Value),
+    (ONE_REVOKED, 169, 8, 2, 8, Field::PartVersion, Why::Value),
+    (ONE_REVOKED, 169, 9, 2, 9, Field::PartKind, Why::Value),
+    (
+        ONE_REVOKED,
+        169,
+        10,
+        1,
+        137,
+        Field::PartTrailer,
+        Why::Digest,
+    ),
+    (ONE_REVOKED, 169, 18, 1, 18, Field::PartParent, Why::Value),
+    (ONE_REVOKED, 169, 84, 1, 92, Field::RangeTo, Why::Value),
+    (ONE_REVOKED, 169, 136, 2, 137, Field::BlockK, Why::Value),
+    (ONE_REVOKED, 169, 136, 3, 136, Field::BlockMode, Why::Value),
+    (TWO_RANGES, 283, 100, 1, 100, Field::RangeLog, Why::Value),
+    (TWO_RANGES, 283, 185, 1, 185, Field::BlockIssuer, Why::Value),
+    (MIXED, 100, 0, 0x43, 100, Field::PartIssuers, Why::Short),
+    (MIXED, 150, 0, 0x43, 143, Field::ExactPlane, Why::Short),
+    (MIXED, 199, 9, 2, 9, Field::PartKind, Why::Value),
+    (MIXED, 199, 159, 0x80, 143, Field::ExactPlane, Why::Value),
+    (MIXED, 199, 143, 1, 167, Field::PartTrailer, Why::Digest),
+    (MIXED, 199, 137, 17, 137, Field::BlockK, Why::Value),
+    (MIXED, 199, 142, 0, 139, Field::ExactStarts, Why::Value),
+    (MIXED, 199, 140, 0x40, 143, Field::ExactPlane, Why::Short),
+];
+
 #[test]
 fn names_the_first_field_that_fails(rt: HostRuntime) -> Result<(), Fail> {
-    let rows = [
-        (
-            ONE_REVOKED,
-            100,
-            0,
-            0x43,
-            fault_at(100, Field::PartIssuers, Why::Short),
-        ),
-        (
-            ONE_REVOKED,
-            168,
-            0,
-            0x43,
-            fault_at(137, Field::PartTrailer, Why::Short),
-        ),
-        (
-            ONE_REVOKED,
-            169,
-            0,
-            0x63,
-            fault_at(0, Field::PartMagic, Why::Value),
-        ),
-        (
-            ONE_REVOKED,
-            169,
-            8,
-            2,
-            fault_at(8, Field::PartVersion, Why::Value),
-        ),
-        (
-            ONE_REVOKED,
-            169,
-            9,
-            2,
-            fault_at(9, Field::PartKind, Why::Value),
-        ),
-        (
-            ONE_REVOKED,
-            169,
-            10,
-            1,
-            fault_at(137, Field::PartTrailer, Why::Digest),
-        ),
-        (
-            ONE_REVOKED,
-            169,
-            18,
-            1,
-            fault_at(18, Field::PartParent, Why::Value),
-        ),
-        (
-            ONE_REVOKED,
-            169,
-            84,
-            1,
-            fault_at(92, Field::RangeTo, Why::Value),
-        ),
-        (
-            ONE_REVOKED,
-            169,
-            136,
-            2,
-            fault_at(137, Field::BlockK, Why::Value),
-        ),
-        (
-            ONE_REVOKED,
-            169,
-            136,
-            3,
-            fault_at(136, Field::BlockMode, Why::Value),
-        ),
-        (
-            TWO_RANGES,
-            283,
-            100,
-            1,
-            fault_at(100, Field::RangeLog, Why::Value),
-        ),
-        (
-            TWO_RANGES,
-            283,
-            185,
-            1,
-            fault_at(185, Field::BlockIssuer, Why::Value),
-        ),
-        (
-            MIXED,
-            100,
-            0,
-            0x43,
-            fault_at(100, Field::PartIssuers, Why::Short),
-        ),
-        (
-            MIXED,
-            150,
-            0,
-            0x43,
-            fault_at(143, Field::ExactPlane, Why::Short),
-        ),
-        (MIXED, 199, 9, 2, fault_at(9, Field::PartKind, Why::Value)),
-        (
-            MIXED,
-            199,
-            159,
-            0x80,
-            fault_at(143, Field::ExactPlane, Why::Value),
-        ),
-        (
-            MIXED,
-            199,
-            143,
-            1,
-            fault_at(167, Field::PartTrailer, Why::Digest),
-        ),
-        (
-            MIXED,
-            199,
-            137,
-            17,
-            fault_at(137, Field::BlockK, Why::Value),
-        ),
-        (
-            MIXED,
-            199,
-            142,
-            0,
-            fault_at(139, Field::ExactStarts, Why::Value),
-        ),
-        (
-            MIXED,
-            199,
-            140,
-            0x40,
-            fault_at(143, Field::ExactPlane, Why::Short),
-        ),
-    ];
-    for (text, len, place, value, fault) in rows {
+    for (text, len, place, value, at, field, why) in DAMAGED {
         let bytes = changed(rt.alloc(), text, len, place, value)?;
         let read = decode_part(rt.alloc(), &bytes);
+        let fault = PartFault::Layout(LayoutFault { at, field, why });
         assert_eq!(rt; read.err(), Some(fault), "byte {place}");
     }
     Ok(())

@@ -115,12 +115,12 @@ fn ask_each<L: Ledger>(rt: &impl Abort, block: &Block, of: &Universe, blank: Bla
     }
 }
 
-fn compare_stage(rt: &impl Abort, stage: &Stage, want: &[u64]) {
+fn compare_stage(rt: &impl Abort, stage: &Stage, want: &[&[u64]]) {
     assert_eq!(rt; stage.seed, 0);
     compare_words(rt, &stage.planes, want);
 }
 
-fn compare_stages(rt: &impl Abort, block: &Block, approx: Option<&[u64]>, exact: &[u64]) {
+fn compare_stages(rt: &impl Abort, block: &Block, approx: Option<&[&[u64]]>, exact: &[u64]) {
     let Body::Mixed(mixed) = &block.body else {
         panic!(rt; "no mixed block");
     };
@@ -129,7 +129,7 @@ fn compare_stages(rt: &impl Abort, block: &Block, approx: Option<&[u64]>, exact:
         (Some(stage), Some(want)) => compare_stage(rt, stage, want),
         _ => panic!(rt; "another width"),
     }
-    compare_stage(rt, mixed.exact(), exact);
+    compare_stage(rt, mixed.exact(), &[exact]);
 }
 
 // Seeds, widths and words are those that a Python program of its own found with hashlib: it solves each plane by
@@ -138,7 +138,13 @@ fn compare_stages(rt: &impl Abort, block: &Block, approx: Option<&[u64]>, exact:
 fn some_are_revoked(rt: HostRuntime) -> Result<(), Fail> {
     let of = universe_of(rt.alloc(), 300, 50, 300)?;
     let block = block_of(&rt, rt.alloc(), &of)?;
-    let approx = [0x20, 0, 0, 0xb4, 0, 0, 0x1, 0, 0, 0x31, 0, 0, 0xc0, 0, 0];
+    let approx: [&[u64]; 5] = [
+        &[0x20, 0, 0],
+        &[0xb4, 0, 0],
+        &[0x1, 0, 0],
+        &[0x31, 0, 0],
+        &[0xc0, 0, 0],
+    ];
     compare_stages(&rt, &block, Some(&approx), &[0x88032, 0, 0]);
     ask_each::<Brand>(&rt, &block, &of, Blank::new(1));
     Ok(())

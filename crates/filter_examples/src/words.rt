@@ -9,24 +9,36 @@ use std::marker::Brand;
 use std::process::Abort;
 use std::sync::ledger::{Blank, Ledger};
 
-fn compare_read<L: Ledger>(rt: &impl Abort, planes: &Planes, want: &[u64], blank: Blank)
+// The word, where the planes have one there.
+fn word_of<L: Ledger>(
+    planes: &Planes,
+    plane: usize,
+    i: usize,
+    steps: &mut Steps<L>,
+) -> Option<u64> {
+    if plane < usize::from(planes.planes()) && i < words_for(planes.starts()) {
+        return Some(planes.word(plane as u8, i, steps));
+    }
+    None
+}
+
+fn compare_read<L: Ledger>(rt: &impl Abort, planes: &Planes, want: &[&[u64]], blank: Blank)
     requires name { blank.name ≡ L.name }
     requires parts { blank.parts ≡ L.parts }
     requires some { 0 < L.parts }
 {
     let mut steps: Steps<L> = Steps::new(blank);
-    let width = words_for(planes.starts());
-    assert_eq!(rt; want.len(), width * usize::from(planes.planes()));
-    for place in 0..want.len() {
-        let plane = place / width;
-        let i = place % width;
-        assert!(rt; plane < usize::from(planes.planes()));
-        let word = planes.word(plane as u8, i, &mut steps);
-        assert_eq!(rt; word, want[place], "at word {i} of plane {plane}");
+    assert_eq!(rt; want.len(), usize::from(planes.planes()));
+    for (plane, words) in want.iter().enumerate() {
+        assert_eq!(rt; words.len(), words_for(planes.starts()));
+        for (i, word) in words.iter().enumerate() {
+            let read = word_of(planes, plane, i, &mut steps);
+            assert_eq!(rt; read, Some(*word), "at word {i} of plane {plane}");
+        }
     }
 }
 
-/// Compares all words, plane after plane.
-pub fn compare_words(rt: &impl Abort, planes: &Planes, want: &[u64]) {
+/// Compares all words of each plane.
+pub fn compare_words(rt: &impl Abort, planes: &Planes, want: &[&[u64]]) {
     compare_read::<Brand>(rt, planes, want, Blank::new(1));
 }
