@@ -32,7 +32,8 @@ all_joined-push [] one = joined-nothing one ∙ sym (nothing-joined one)
 all_joined-push (bytes ∷ rest) one = ap (joined bytes) (all_joined-push rest one) ∙ sym (joined-assoc bytes (all_joined rest) one)
 
 -- the first of them joined behind what stands, and then the others
-pub joined-next : (xs ys zs : List ℕ) (one : Option (List ℕ)) (rest : List (Option (List ℕ))) → joined (Some xs) one ≡ Some ys → joined (Some ys) (all_joined rest) ≡ Some zs → joined (Some xs) (all_joined (one ∷ rest)) ≡ Some zs
+pub joined-next : (xs ys zs : List ℕ) (one : Option (List ℕ)) (rest : List (Option (List ℕ))) → joined (Some xs) one ≡ Some ys
+    → joined (Some ys) (all_joined rest) ≡ Some zs → joined (Some xs) (all_joined (one ∷ rest)) ≡ Some zs
 unfolding all_joined
 joined-next xs ys zs one rest e h = sym (joined-assoc (Some xs) one (all_joined rest)) ∙ ap (λ a. joined a (all_joined rest)) e ∙ h
 

@@ -1,5 +1,5 @@
 -- What a call came to.
-use Rattle.std.specs.Prelude.{ℕ, List, [], ◌∷◌, Some}
+use Rattle.std.specs.Prelude.{ℕ, List, [], ◌∷◌, Some, None}
 use Rattle.outside_core.specs.Calls.{CallsView, no_calls, with_failing}
 use Rattle.outside_core.specs.View.{DepotView, SinkView}
 use Rattle.clubcard_top.specs.Endings.{Ends}
@@ -18,6 +18,7 @@ Ended depot later status sink written =
       read_faults = record { before = depot.reads.faults; after = later.reads.faults };
       write_faults = record { before = depot.writes.faults; after = later.writes.faults };
       sink_faults = record { before = sink.writes.faults; after = written.writes.faults };
+      failed_reads = record { before = None; after = None };
     })
 
 -- a sink that holds nothing, whose write of this number is to fail

@@ -18,7 +18,8 @@ beginning epoch = all_joined (hex_bytes (codes "434c55424a4f4231") ∷ number_by
 
 -- the coverage of a log from a moment to another
 abbrev pub range_record : List ℕ → ℕ → ℕ → Option (List ℕ)
-range_record log from to = all_joined (hex_bytes (codes "01") ∷ hex_bytes log ∷ moment_bytes from ∷ moment_bytes to ∷ [])
+range_record log from to =
+    all_joined (hex_bytes (codes "01") ∷ hex_bytes log ∷ moment_bytes from ∷ moment_bytes to ∷ [])
 
 -- a CRL of an issuer
 abbrev pub crl_record : List ℕ → List ℕ → Option (List ℕ)
@@ -28,6 +29,7 @@ crl_record issuer crl = all_joined (hex_bytes (codes "02") ∷ hex_bytes issuer 
 abbrev pub entry_record : List ℕ → List ℕ → List ℕ → ℕ → Option (List ℕ)
 entry_record issuer serial log time =
     all_joined (
-    hex_bytes (codes "03") ∷ hex_bytes log ∷ hex_bytes (codes "0000360000") ∷ moment_bytes time ∷ hex_bytes (codes "0001") ∷ hex_bytes issuer
+    hex_bytes (codes "03") ∷ hex_bytes log ∷ hex_bytes (codes "0000360000") ∷ moment_bytes time
+    ∷ hex_bytes (codes "0001") ∷ hex_bytes issuer
     ∷ hex_bytes (codes "00000530030201") ∷ hex_bytes serial ∷ hex_bytes (codes "0000000000") ∷ []
     )

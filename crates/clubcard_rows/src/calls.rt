@@ -49,7 +49,8 @@ pub fn bytes_of(alloc: Global, pieces: &[&str]) -> Result<Vec<u8>, Fail>
 
 /// Puts a file of these pieces.
 pub fn put(alloc: Global, depot: &mut MemoryDepot, name: &str, pieces: &[&str]) -> Result<(), Fail>
-    ensures ok { OnOk result (option_map (λ bytes. with_file depot.old name.now bytes) (spelled pieces.now) ≡ Some depot.new) }
+    ensures ok { OnOk result (option_map (λ bytes. with_file depot.old name.now bytes) (spelled pieces.now)
+        ≡ Some depot.new) }
     ensures err { OnErr result (depot.new ≡ depot.old) }
 {
     let bytes = bytes_of(alloc, pieces)?;
@@ -66,7 +67,8 @@ pub fn put_with_byte(
     at: usize,
     value: u8,
 ) -> Result<(), Fail>
-    ensures ok { OnOk result (option_map (λ bytes. with_file depot.old name.now (slice_set bytes at value)) (spelled pieces.now) ≡ Some depot.new) }
+    ensures ok { OnOk result (option_map (λ bytes. with_file depot.old name.now (slice_set bytes at value))
+        (spelled pieces.now) ≡ Some depot.new) }
     ensures err { OnErr result (depot.new ≡ depot.old) }
 {
     let mut bytes = bytes_of(alloc, pieces)?;
@@ -85,7 +87,8 @@ pub fn put_cut(
     pieces: &[&str],
     len: usize,
 ) -> Result<(), Fail>
-    ensures ok { OnOk result (option_map (λ bytes. with_file depot.old name.now (take len bytes)) (spelled pieces.now) ≡ Some depot.new) }
+    ensures ok { OnOk result (option_map (λ bytes. with_file depot.old name.now (take len bytes)) (spelled pieces.now)
+        ≡ Some depot.new) }
     ensures err { OnErr result (depot.new ≡ depot.old) }
 {
     let mut bytes = bytes_of(alloc, pieces)?;
@@ -171,7 +174,8 @@ pub fn holds(alloc: Global, depot: &MemoryDepot, name: &str, pieces: &[&str]) ->
 
 /// Whether two files hold the same bytes.
 pub fn holds_the_same(depot: &MemoryDepot, name: &str, other: &str) -> bool
-    ensures { IsTrue result ↔ (IsSome (get depot.now.files name.now) × (get depot.now.files name.now ≡ get depot.now.files other.now)) }
+    ensures { IsTrue result ↔ (IsSome (get depot.now.files name.now)
+        × (get depot.now.files name.now ≡ get depot.now.files other.now)) }
 {
     match (depot.bytes_of(name), depot.bytes_of(other)) {
         (Some(bytes), Some(others)) => bytes == others,
@@ -185,6 +189,18 @@ pub fn lacks(depot: &MemoryDepot, name: &str) -> bool
 {
     depot.bytes_of(name).is_none()
 }
+
+/// The line of a verdict: no part covers a sighting.
+pub const NOT_COVERED: &str = "not-covered\n";
+
+/// The line of a verdict: no part that covers a sighting has the issuer.
+pub const NOT_ENROLLED: &str = "not-enrolled\n";
+
+/// The line of a verdict: no part that covers a sighting holds the certificate as revoked.
+pub const GOOD: &str = "good\n";
+
+/// The line of a verdict: a part that covers a sighting holds the certificate as revoked.
+pub const REVOKED: &str = "revoked\n";
 
 /// Whether the store in the file `S` answers so, asked for a certificate with one sighting.
 pub fn answers<R: Threads + Sync>(

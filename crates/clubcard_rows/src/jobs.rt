@@ -80,7 +80,8 @@ impl JobText {
 
     /// An entry of a precertificate whose serial has one octet.
     pub fn entry(&mut self, issuer: &str, serial: &str, log: &str, time: u64) -> Result<(), Fail>
-        ensures { OnOk result (joined (Some self.old) (entry_record issuer.now serial.now log.now time) ≡ Some self.new) }
+        ensures { OnOk result (joined (Some self.old) (entry_record issuer.now serial.now log.now time)
+            ≡ Some self.new) }
     {
         self.record("03")?;
         self.record(log)?;

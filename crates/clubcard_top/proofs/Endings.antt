@@ -1,8 +1,8 @@
 -- What follows from how a call ends, whatever the depot tells.
-use Rattle.std.proofs.Common.{◌≡◌, ℕ, Bool, true, false, ◌||◌, ◌⊎◌, inl, inr, List, [], ◌∷◌, Option, Result, Ok, Err, refl, sym, ap, subst, ◌∙◌, arith}
+use Rattle.std.proofs.Common.{◌≡◌, ℕ, Bool, true, false, ◌||◌, ◌⊎◌, inl, inr, List, [], ◌∷◌, Option, Some, None, Result, Ok, Err, refl, sym, ap, subst, ◌∙◌, arith}
 use Rattle.std.specs.Prelude.{IsTrue}
 use Rattle.std.proofs.lemmas.Bool.{false≢true}
-use Rattle.outside_core.specs.Files.{Files}
+use Rattle.outside_core.specs.Files.{Files, IsMissing}
 use Rattle.outside_core.specs.Written.{followed_by}
 use Rattle.word_core.specs.declared.command.Command.{Command}
 use Rattle.word_core.specs.declared.command.Command.TheVariants as commands
@@ -14,7 +14,7 @@ use Rattle.clubcard_top.specs.Statuses.{is_one_of, all}
 use Rattle.clubcard_top.specs.Inputs.{AreRead}
 use Rattle.clubcard_top.specs.Commands.{Makes}
 use Rattle.clubcard_top.specs.Replies.{usage, refusal, reply_of, IsReplyOver}
-use Rattle.clubcard_top.specs.Runs.{IsReply, IsTorn, KeepsAllBut, with_outputs}
+use Rattle.clubcard_top.specs.Runs.{SaysWhich, IsReply, IsTorn, KeepsAllBut, with_outputs}
 use Rattle.clubcard_top.proofs.Ways.{Ends, IsUnread}
 use Rattle.clubcard_top.proofs.Outputs.{names_of, keeps-same, keeps-written, keeps-torn, none-torn, none-written}
 use Rattle.clubcard_top.proofs.Makings.{refusal_quiet, outcome_status, of_commands, done_names, unread_cause}
@@ -26,6 +26,17 @@ not_among ns n m among is not = false≢true (sym not ∙ subst (λ (k : ℕ). i
 or_right : (a b : Bool) → b ≡ true → (a || b) ≡ true
 or_right true b h = refl
 or_right false b h = h
+
+-- the status of a file that can't be read is that of no other fault
+refusal_unread : (name : List ℕ) (fault : FileFault) → (refusal name fault).status ≡ 8 → fault ≡ faults.Unread
+refusal_unread name faults.Unread eight = refl
+refusal_unread name (faults.Layout f) eight = absurd (omega (arith, eight))
+refusal_unread name faults.NotSnapshot eight = absurd (omega (arith, eight))
+refusal_unread name (faults.Chain why) eight = absurd (omega (arith, eight))
+refusal_unread name (faults.BadCrl place fault) eight = absurd (omega (arith, eight))
+refusal_unread name (faults.TooMany thing limit) eight = absurd (omega (arith, eight))
+refusal_unread name (faults.Seeds issuer stage) eight = absurd (omega (arith, eight))
+refusal_unread name faults.NoMemory eight = absurd (omega (arith, eight))
 
 -- ---- outputs of a reply
 
@@ -54,12 +65,12 @@ module _ (c : Command) (inputs : List (Option (List ℕ))) (reply : ReplyFields)
   named_over (inl (refute, is)) = inr (outputs_as reply usage is)
   named_over (inr (o, m, is)) = named_by o m is
 
-module _ (c : Command) (told : Option Files) (rose : Type 0) (reply : ReplyFields) where
-  pub quiet : IsReply c told rose reply → (reply.status ≡ 0 → ⊥) → reply.outputs ≡ []
-  quiet (inputs, read, over) not = quiet_over c inputs reply over not
+module _ (c : Command) (told : Option Files) (failed : Option (List ℕ) → Type 0) (reply : ReplyFields) where
+  pub quiet : IsReply c told failed reply → (reply.status ≡ 0 → ⊥) → reply.outputs ≡ []
+  quiet (inputs, read, over, says) not = quiet_over c inputs reply over not
 
-  pub named : IsReply c told rose reply → AreOf (outputs_of c) reply.outputs
-  named (inputs, read, over) = named_over c inputs reply over
+  pub named : IsReply c told failed reply → AreOf (outputs_of c) reply.outputs
+  named (inputs, read, over, says) = named_over c inputs reply over
 
 no_names : (outputs : List OutputFields) → names_of outputs ≡ [] → outputs ≡ []
 no_names [] is = refl
@@ -71,16 +82,17 @@ unwritten names outputs (inl are) none = no_names outputs (are ∙ none)
 unwritten names outputs (inr are) none = are
 
 -- a reply that was sent behind its outputs
-pub record IsSent (asked : Command) (told : Option Files) (rose : Type 0) (ended : ℕ) (old new : Option (List ℕ)) (after : Option Files) : Type 0 where
+pub record IsSent (asked : Command) (told : Option Files) (failed : Option (List ℕ) → Type 0) (ended : ℕ) (old new : Option (List ℕ)) (after : Option Files) : Type 0 where
   pub reply : ReplyFields
-  pub is : IsReply asked told rose reply
+  pub is : IsReply asked told failed reply
   pub status : ended ≡ reply.status
   pub text : new ≡ followed_by old reply.text
   pub files : after ≡ with_outputs told reply.outputs
 
 -- ---- files
 
-keeps-of : (names : List (List ℕ)) (told after : Option Files) (outputs : List OutputFields) → (names_of outputs ≡ names) ⊎ (outputs ≡ []) → after ≡ with_outputs told outputs → KeepsAllBut names told after
+keeps-of : (names : List (List ℕ)) (told after : Option Files) (outputs : List OutputFields) → (names_of outputs ≡ names) ⊎ (outputs ≡ [])
+    → after ≡ with_outputs told outputs → KeepsAllBut names told after
 keeps-of names told after outputs (inl are) is = subst (λ (ns : List (List ℕ)). KeepsAllBut ns told after) are (rw is (keeps-written told outputs))
 keeps-of names told after outputs (inr none) is = rw (is ∙ none-written told outputs none) (keeps-same names told)
 
@@ -91,15 +103,15 @@ keeps-of_torn names told after outputs name (inr none) torn = absurd (none-torn 
 
 -- ---- statuses
 
-module _ (asked : Command) (told : Option Files) (rose : Type 0) (ended : ℕ) (old new : Option (List ℕ)) (failed : Type 0) (after : Option Files) (wrong : Type 0) where
-  pub sent : Ends asked told rose ended old new failed after wrong → (ended ≡ 9 → ⊥) → (ended ≡ 70 → ⊥) → IsSent asked told rose ended old new after
+module _ (asked : Command) (told : Option Files) (failed : Option (List ℕ) → Type 0) (ended : ℕ) (old new : Option (List ℕ)) (unsent : Type 0) (after : Option Files) (wrong : Type 0) where
+  pub sent : Ends asked told failed ended old new unsent after wrong → (ended ≡ 9 → ⊥) → (ended ≡ 70 → ⊥) → IsSent asked told failed ended old new after
   sent (inl (is, same, files)) no_fault no_want = absurd (no_want is)
   sent (inr (reply, is, own, inl (files, inl (status, text)))) no_fault no_want = record { reply = reply; is = is; status = status; text = text; files = files }
   sent (inr (reply, is, own, inl (files, inr (status, cut, why)))) no_fault no_want = absurd (no_fault status)
   sent (inr (reply, is, own, inr (amiss, (name, torn, inl (status, text))))) no_fault no_want = absurd (no_fault status)
   sent (inr (reply, is, own, inr (amiss, (name, torn, inr (status, cut, why))))) no_fault no_want = absurd (no_fault status)
 
-  pub statuses : Ends asked told rose ended old new failed after wrong → IsTrue (is_one_of all ended)
+  pub statuses : Ends asked told failed ended old new unsent after wrong → IsTrue (is_one_of all ended)
   statuses (inl (is, same, files)) = rw is refl
   statuses (inr (reply, is, own, inl (files, inl (status, text)))) = rw status (or_right _ _ (or_right _ _ own))
   statuses (inr (reply, is, own, inl (files, inr (status, cut, why)))) = rw status refl
@@ -108,64 +120,86 @@ module _ (asked : Command) (told : Option Files) (rose : Type 0) (ended : ℕ) (
 
   -- ---- files
 
-  pub unchanged : Ends asked told rose ended old new failed after wrong → (ended ≡ 0 → ⊥) → (ended ≡ 9 → ⊥) → after ≡ told
+  pub unchanged : Ends asked told failed ended old new unsent after wrong → (ended ≡ 0 → ⊥) → (ended ≡ 9 → ⊥) → after ≡ told
   unchanged (inl (is, same, files)) not_done no_fault = files
   unchanged (inr (reply, is, own, inl (files, inl (status, text)))) not_done no_fault =
-      files ∙ none-written told reply.outputs (quiet asked told rose reply is (λ e. not_done (status ∙ e)))
+      files ∙ none-written told reply.outputs (quiet asked told failed reply is (λ e. not_done (status ∙ e)))
   unchanged (inr (reply, is, own, inl (files, inr (status, cut, why)))) not_done no_fault = absurd (no_fault status)
   unchanged (inr (reply, is, own, inr (amiss, (name, torn, inl (status, text))))) not_done no_fault = absurd (no_fault status)
   unchanged (inr (reply, is, own, inr (amiss, (name, torn, inr (status, cut, why))))) not_done no_fault = absurd (no_fault status)
 
-  pub other_files : Ends asked told rose ended old new failed after wrong → KeepsAllBut (outputs_of asked) told after
+  pub other_files : Ends asked told failed ended old new unsent after wrong → KeepsAllBut (outputs_of asked) told after
   other_files (inl (is, same, files)) = rw files (keeps-same (outputs_of asked) told)
-  other_files (inr (reply, is, own, inl (files, how))) = keeps-of (outputs_of asked) told after reply.outputs (named asked told rose reply is) files
-  other_files (inr (reply, is, own, inr (amiss, (name, torn, how)))) = keeps-of_torn (outputs_of asked) told after reply.outputs name (named asked told rose reply is) torn
+  other_files (inr (reply, is, own, inl (files, how))) = keeps-of (outputs_of asked) told after reply.outputs (named asked told failed reply is) files
+  other_files (inr (reply, is, own, inr (amiss, (name, torn, how)))) = keeps-of_torn (outputs_of asked) told after reply.outputs name (named asked told failed reply is) torn
 
-  pub reading : Ends asked told rose ended old new failed after wrong → outputs_of asked ≡ [] → after ≡ told
+  pub reading : Ends asked told failed ended old new unsent after wrong → outputs_of asked ≡ [] → after ≡ told
   reading (inl (is, same, files)) none = files
   reading (inr (reply, is, own, inl (files, how))) none =
-      files ∙ none-written told reply.outputs (unwritten (outputs_of asked) reply.outputs (named asked told rose reply is) none)
+      files ∙ none-written told reply.outputs (unwritten (outputs_of asked) reply.outputs (named asked told failed reply is) none)
   reading (inr (reply, is, own, inr (amiss, (name, torn, how)))) none =
-      absurd (none-torn told after reply.outputs name (unwritten (outputs_of asked) reply.outputs (named asked told rose reply is) none) torn)
+      absurd (none-torn told after reply.outputs name (unwritten (outputs_of asked) reply.outputs (named asked told failed reply is) none) torn)
 
   -- ---- lines
 
-  usage_by : (s : IsSent asked told rose ended old new after) → ended ≡ 2 → (inputs : List (Option (List ℕ))) → IsReplyOver asked inputs s.reply → (asked ≡ commands.Usage) × (new ≡ followed_by old usage.text)
+  usage_by : (s : IsSent asked told failed ended old new after) → ended ≡ 2 → (inputs : List (Option (List ℕ))) → IsReplyOver asked inputs s.reply
+      → (asked ≡ commands.Usage) × (new ≡ followed_by old usage.text)
   usage_by s two inputs (inl (refute, is)) = (refute, s.text ∙ ap (λ (r : ReplyFields). followed_by old r.text) is)
   usage_by s two inputs (inr (o, m, is)) =
       absurd (not_among of_commands (reply_of o).status 2 (outcome_status o) (sym (ap (λ (r : ReplyFields). r.status) is) ∙ sym s.status ∙ two) refl)
 
-  usage_sent : IsSent asked told rose ended old new after → ended ≡ 2 → (asked ≡ commands.Usage) × (new ≡ followed_by old usage.text)
+  usage_sent : IsSent asked told failed ended old new after → ended ≡ 2 → (asked ≡ commands.Usage) × (new ≡ followed_by old usage.text)
   usage_sent s two = usage_by s two s.is.0 s.is.2
 
-  pub usage_line : Ends asked told rose ended old new failed after wrong → ended ≡ 2 → (asked ≡ commands.Usage) × (new ≡ followed_by old usage.text)
+  pub usage_line : Ends asked told failed ended old new unsent after wrong → ended ≡ 2 → (asked ≡ commands.Usage) × (new ≡ followed_by old usage.text)
   usage_line ends two = usage_sent (sent ends (λ e. omega arith) (λ e. omega arith)) two
 
-  unread_by : (s : IsSent asked told rose ended old new after) (name : List ℕ) (fault : FileFault) (inputs : List (Option (List ℕ))) → AreRead told rose (inputs_of asked) inputs
-      → Makes asked inputs (Err (record { name = name; fault = fault })) → s.reply ≡ refusal name fault → ended ≡ 8 → IsUnread asked told rose old new
-  unread_by s name faults.Unread inputs read m is eight =
-      let cause = unread_cause told rose (record { name = name; fault = faults.Unread }) refl asked inputs read m in
-      record { name = name; is_input = cause.0; cause = cause.1; written = s.text ∙ ap (λ (r : ReplyFields). followed_by old r.text) is }
-  unread_by s name (faults.Layout f) inputs read m is eight = let status = s.status ∙ ap (λ (r : ReplyFields). r.status) is in absurd (omega (arith, status))
-  unread_by s name faults.NotSnapshot inputs read m is eight = let status = s.status ∙ ap (λ (r : ReplyFields). r.status) is in absurd (omega (arith, status))
-  unread_by s name (faults.Chain why) inputs read m is eight = let status = s.status ∙ ap (λ (r : ReplyFields). r.status) is in absurd (omega (arith, status))
-  unread_by s name (faults.BadCrl place fault) inputs read m is eight = let status = s.status ∙ ap (λ (r : ReplyFields). r.status) is in absurd (omega (arith, status))
-  unread_by s name (faults.TooMany thing limit) inputs read m is eight = let status = s.status ∙ ap (λ (r : ReplyFields). r.status) is in absurd (omega (arith, status))
-  unread_by s name (faults.Seeds issuer stage) inputs read m is eight = let status = s.status ∙ ap (λ (r : ReplyFields). r.status) is in absurd (omega (arith, status))
-  unread_by s name faults.NoMemory inputs read m is eight = let status = s.status ∙ ap (λ (r : ReplyFields). r.status) is in absurd (omega (arith, status))
+  -- no other reply has this status
+  other_reply : {A : Type 0} (s : IsSent asked told failed ended old new after) (reply : ReplyFields) → s.reply ≡ reply → ended ≡ 8
+      → (reply.status ≡ 8 → ⊥) → A
+  other_reply s reply is eight differs = absurd (differs (sym (s.status ∙ ap (λ (r : ReplyFields). r.status) is) ∙ eight))
 
-  unread_of : (s : IsSent asked told rose ended old new after) (o : Result Done NamedFault) (inputs : List (Option (List ℕ))) → AreRead told rose (inputs_of asked) inputs
-      → Makes asked inputs o → s.reply ≡ reply_of o → ended ≡ 8 → IsUnread asked told rose old new
-  unread_of s (Ok d) inputs read m is eight = let status = s.status ∙ ap (λ (r : ReplyFields). r.status) is in absurd (omega (arith, status))
-  unread_of s (Err e) inputs read m is eight = unread_by s e.name e.fault inputs read m is eight
+  unread_cause_of : (name : List ℕ) → failed None → failed (Some name) ⊎ IsMissing told name → failed (Some name) ⊎ (IsMissing told name × failed None)
+  unread_cause_of name none (inl why) = inl why
+  unread_cause_of name none (inr missing) = inr (missing, none)
 
-  unread_over : (s : IsSent asked told rose ended old new after) → ended ≡ 8 → (inputs : List (Option (List ℕ))) → AreRead told rose (inputs_of asked) inputs → IsReplyOver asked inputs s.reply
-      → IsUnread asked told rose old new
-  unread_over s eight inputs read (inl (refute, is)) = let status = s.status ∙ ap (λ (r : ReplyFields). r.status) is in absurd (omega (arith, status))
-  unread_over s eight inputs read (inr (o, m, is)) = unread_of s o inputs read m is eight
+  -- where no read failed
+  unread_by : (s : IsSent asked told failed ended old new after) → failed None → (e : NamedFault) (inputs : List (Option (List ℕ)))
+      → AreRead told failed (inputs_of asked) inputs → Makes asked inputs (Err e) → s.reply ≡ refusal e.name e.fault → e.fault ≡ faults.Unread
+      → IsUnread asked told failed old new
+  unread_by s none e inputs read m is unread =
+      let cause = unread_cause told failed e unread asked inputs read m in
+      record {
+        name = e.name;
+        is_input = cause.0;
+        cause = unread_cause_of e.name none cause.1;
+        written = s.text ∙ ap (λ (r : ReplyFields). followed_by old r.text) (is ∙ ap (refusal e.name) unread);
+      }
 
-  unread_sent : IsSent asked told rose ended old new after → ended ≡ 8 → IsUnread asked told rose old new
-  unread_sent s eight = unread_over s eight s.is.0 s.is.1 s.is.2
+  unread_over : (s : IsSent asked told failed ended old new after) → failed None → ended ≡ 8 → (inputs : List (Option (List ℕ)))
+      → AreRead told failed (inputs_of asked) inputs → IsReplyOver asked inputs s.reply → IsUnread asked told failed old new
+  unread_over s none eight inputs read (inl (refute, is)) = other_reply s usage is eight (λ e. omega (arith, e))
+  unread_over s none eight inputs read (inr (Ok d, m, is)) = other_reply s (reply_of (Ok d)) is eight (λ e. omega (arith, e))
+  unread_over s none eight inputs read (inr (Err e, m, is)) =
+      unread_by s none e inputs read m is (refusal_unread e.name e.fault (sym (s.status ∙ ap (λ (r : ReplyFields). r.status) is) ∙ eight))
 
-  pub read_fault_line : Ends asked told rose ended old new failed after wrong → ended ≡ 8 → IsUnread asked told rose old new
+  unread_said : (s : IsSent asked told failed ended old new after) → ended ≡ 8 → SaysWhich failed (inputs_of asked) s.reply → IsUnread asked told failed old new
+  unread_said s eight (inl none) = unread_over s none eight s.is.0 s.is.1 s.is.2
+  unread_said s eight (inr (name, among, is, why)) =
+      record { name = name; is_input = among; cause = inl why; written = s.text ∙ ap (λ (r : ReplyFields). followed_by old r.text) is }
+
+  unread_sent : IsSent asked told failed ended old new after → ended ≡ 8 → IsUnread asked told failed old new
+  unread_sent s eight = unread_said s eight s.is.3
+
+  none_said : (s : IsSent asked told failed ended old new after) → (ended ≡ 8 → ⊥) → SaysWhich failed (inputs_of asked) s.reply → failed None
+  none_said s no_read (inl none) = none
+  none_said s no_read (inr (name, among, is, why)) = absurd (no_read (s.status ∙ ap (λ (r : ReplyFields). r.status) is))
+
+  none_sent : IsSent asked told failed ended old new after → (ended ≡ 8 → ⊥) → failed None
+  none_sent s no_read = none_said s no_read s.is.3
+
+  pub no_read_fault : Ends asked told failed ended old new unsent after wrong → (ended ≡ 8 → ⊥) → (ended ≡ 9 → ⊥) → (ended ≡ 70 → ⊥) → failed None
+  no_read_fault ends no_read no_write no_want = none_sent (sent ends no_write no_want) no_read
+
+  pub read_fault_line : Ends asked told failed ended old new unsent after wrong → ended ≡ 8 → IsUnread asked told failed old new
   read_fault_line ends eight = unread_sent (sent ends (λ e. omega arith) (λ e. omega arith)) eight

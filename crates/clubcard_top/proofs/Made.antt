@@ -19,13 +19,13 @@ use Rattle.part_codec.specs.Fitting.{Fits}
 use Rattle.job_core.specs.declared.bounds.TheConstants.Limits.{PUBLISHED}
 use Rattle.job_core.specs.JobFields.{JobFields}
 use Rattle.job_core.specs.JobLayout.{job_of}
-use Rattle.job_core.specs.JobFacts.{FitsFields, IsWithinLimits}
+use Rattle.job_core.specs.JobFacts.{FitsFields, FitsPublishing, IsWithinLimits}
 use Rattle.ledger_core.specs.LedgerFields.{LedgerFields}
 use Rattle.ledger_core.specs.LedgerText.{ledger_text}
 use Rattle.ledger_core.specs.LedgerReading.{ledger_of as ledger_of_bytes}
 use Rattle.ledger_core.specs.declared.fault.LedgerFault.{LedgerFault}
 use Rattle.sets_core.specs.Among.{Among}
-use Rattle.universe_core.specs.Jobs.{told}
+use Rattle.universe_core.specs.Jobs.{facts_of}
 use Rattle.universe_core.specs.History.{past_of, seen, sightings}
 use Rattle.universe_core.specs.Counting.{counts}
 use Rattle.universe_core.specs.Ledgers.{no_ledger, ledger_of}
@@ -48,7 +48,8 @@ use Rattle.clubcard_top.specs.Faults.{of_job, of_ledger, of_store}
 use Rattle.clubcard_top.specs.PartFile.{part_file}
 use Rattle.clubcard_top.specs.Readings.{faulted, job_in, ledger_in, part_in, store_in}
 use Rattle.clubcard_top.specs.ReplyFields.{Done, NamedFault}
-use Rattle.clubcard_top.specs.Commands.{◌>>=◌, named, input, only, verdict_word, query_done, query_makes, epoch_of, stored, begun_by, installed_by, start_makes, install_makes, publication_done, published_as, MakesPart, MakesSnapshot, MakesDelta, Makes}
+use Rattle.clubcard_top.specs.Commands.{◌>>=◌, named, input, only, verdict_word, query_done, query_makes, epoch_of, stored, begun_by, installed_by, start_makes}
+use Rattle.clubcard_top.specs.Commands.{install_makes, publication_done, published_as, MakesPart, MakesSnapshot, MakesDelta, Makes}
 use Rattle.clubcard_top.specs.Replies.{held_by}
 use Rattle.clubcard_top.specs.Headline.{HoldsJob, PublishesJob, publishes_to, IsPublished, StoresPart, stores_to, IsStored, AsksHistory, truth_done}
 use Rattle.clubcard_top.proofs.Results.{ok_same}
@@ -58,15 +59,16 @@ use Rattle.clubcard_top.proofs.Unique.{Publishing}
 pub record Layers : Type 0 where
   pub publishing : Publishing
   pub none : ledger_of (history [] []) ≡ no_ledger
-  pub admissible : (jobs : List JobFields) (parts : List SealedFields) (job : JobFields) (p : Published) → IsHistory jobs parts → FitsFields job → IsWithinLimits PUBLISHED job
+  pub admissible : (jobs : List JobFields) (parts : List SealedFields) (job : JobFields) (p : Published) → IsHistory jobs parts → FitsPublishing job → IsWithinLimits PUBLISHED job
       → Publishes (ledger_of (history jobs parts)) job (Ok p) → IsAdmissible (history jobs parts) job
-  pub next : (jobs : List JobFields) (parts : List SealedFields) (job : JobFields) (p : Published) → IsHistory jobs parts → FitsFields job → IsWithinLimits PUBLISHED job
+  pub next : (jobs : List JobFields) (parts : List SealedFields) (job : JobFields) (p : Published) → IsHistory jobs parts → FitsPublishing job → IsWithinLimits PUBLISHED job
       → Publishes (ledger_of (history jobs parts)) job (Ok p) → IsHistory (jobs ++ job ∷ []) (parts ++ p.sealed ∷ [])
   pub ledger : (jobs : List JobFields) (parts : List SealedFields) (job : JobFields) (p : Published) → IsHistory jobs parts
       → Publishes (ledger_of (history jobs parts)) job (Ok p) → p.ledger ≡ ledger_of (history (jobs ++ job ∷ []) (parts ++ p.sealed ∷ []))
   pub numbers : (jobs : List JobFields) (parts : List SealedFields) (job : JobFields) (p : Published) → IsHistory jobs parts
-      → Publishes (ledger_of (history jobs parts)) job (Ok p) → p.counts ≡ counts (past_of (history jobs parts)) (told job)
-  pub place : (jobs : List JobFields) (parts : List SealedFields) (job : JobFields) (p : Published) → IsHistory jobs parts → Publishes (ledger_of (history jobs parts)) job (Ok p) → p.place ≡ length jobs
+      → Publishes (ledger_of (history jobs parts)) job (Ok p) → p.counts ≡ counts (past_of (history jobs parts)) (facts_of job)
+  pub place : (jobs : List JobFields) (parts : List SealedFields) (job : JobFields) (p : Published) → IsHistory jobs parts
+      → Publishes (ledger_of (history jobs parts)) job (Ok p) → p.place ≡ length jobs
   pub ledger_read : (jobs : List JobFields) (parts : List SealedFields) → IsHistory jobs parts → 1 ≤ length jobs → ledger_of_bytes (ledger_bytes jobs parts) ≡ Ok (ledger_of (history jobs parts))
   pub chain : (jobs : List JobFields) (parts : List SealedFields) → IsHistory jobs parts → IsChain parts
   pub few : (jobs : List JobFields) (parts : List SealedFields) → IsHistory jobs parts → length parts ≤ 64
@@ -89,17 +91,21 @@ module _ (layers : Layers) where
   -- what is published behind the ledger of a history
   published_by : (asked : Command) (jobs : List JobFields) (parts : List SealedFields) (job : JobFields) (d : Done) (name part ledger : List ℕ) (before : LedgerFields) → IsHistory jobs parts
       → before ≡ ledger_of (history jobs parts) → ((a b : List ℕ) → publishes_to asked a b ≡ record { name = part; bytes = a } ∷ record { name = ledger; bytes = b } ∷ [])
-      → (fits : FitsFields job) (limits : IsWithinLimits PUBLISHED job) (r : Result Published PublishFault) → Publishes before job r → Ok d ≡ published_as name part ledger r → IsPublished asked jobs parts job d
+      → (fits : FitsFields job) (limits : IsWithinLimits PUBLISHED job) (r : Result Published PublishFault) → Publishes before job r
+      → Ok d ≡ published_as name part ledger r → IsPublished asked jobs parts job d
   published_by asked jobs parts job d name part ledger before is ledger_is outputs fits limits (Ok p) pub_ is_done =
       let same : d ≡ publication_done part ledger p = ok_same {E = NamedFault} d (publication_done part ledger p) is_done in
       let x : Publishes (ledger_of (history jobs parts)) job (Ok p) = subst (λ (l : LedgerFields). Publishes l job (Ok p)) ledger_is pub_ in
       record {
         sealed = p.sealed;
-        admissible = layers.admissible jobs parts job p is fits limits x;
-        is_history = layers.next jobs parts job p is fits limits x;
-        outputs = ap (λ (e : Done). e.outputs) same ∙ ap (λ (l : LedgerFields). record { name = part; bytes = spelling p.sealed } ∷ record { name = ledger; bytes = ledger_text l } ∷ []) (layers.ledger jobs parts job p is x)
+        fits = fits;
+        admissible = layers.admissible jobs parts job p is fits.publishing limits x;
+        is_history = layers.next jobs parts job p is fits.publishing limits x;
+        outputs = ap (λ (e : Done). e.outputs) same ∙ ap (λ (l : LedgerFields).
+            record { name = part; bytes = spelling p.sealed } ∷ record { name = ledger; bytes = ledger_text l } ∷ []) (layers.ledger jobs parts job p is x)
             ∙ sym (outputs (part_bytes p.sealed) (ledger_bytes (jobs ++ job ∷ []) (parts ++ p.sealed ∷ [])));
-        report = ap (λ (e : Done). e.text) same ∙ ap (λ (h : HeadFields). report_line h.epoch p.place p.counts) x.1.head ∙ ap (λ (n : ℕ). report_line job.epoch n p.counts) (layers.place jobs parts job p is x)
+        report = ap (λ (e : Done). e.text) same ∙ ap (λ (h : HeadFields). report_line h.epoch p.place p.counts) x.1.head ∙ ap
+            (λ (n : ℕ). report_line job.epoch n p.counts) (layers.place jobs parts job p is x)
             ∙ ap (report_line job.epoch (length jobs)) (layers.numbers jobs parts job p is x);
       }
   published_by asked jobs parts job d name part ledger before is ledger_is outputs fits limits (Err fault) pub_ is_done =
@@ -119,7 +125,8 @@ module _ (layers : Layers) where
     pub outputs : (a b : List ℕ) → publishes_to asked a b ≡ record { name = part_name; bytes = a } ∷ record { name = ledger_name; bytes = b } ∷ []
     pub makes : MakesPart name part_name ledger_name before job o
 
-  behind : (asked : Command) (files : Files) (jobs : List JobFields) (parts : List SealedFields) (job : JobFields) (o : Result Done NamedFault) → IsHistory jobs parts → PublishesJob asked files jobs parts job
+  behind : (asked : Command) (files : Files) (jobs : List JobFields) (parts : List SealedFields) (job : JobFields) (o : Result Done NamedFault)
+      → IsHistory jobs parts → PublishesJob asked files jobs parts job
       → Makes asked (held_by asked files) o → Behind asked jobs parts job o
   behind commands.Usage files jobs parts job o is p m = absurd p
   behind (commands.Query q) files jobs parts job o is p m = absurd p
@@ -161,7 +168,8 @@ module _ (layers : Layers) where
   done_by name part ledger before job o p x (Err fault) y is =
       absurd (let h : ◌≡◌ {A = Result Published PublishFault} (Ok p) (Err fault) = layers.publishing.one before job (Ok p) (Err fault) x y in cc)
 
-  pub admitted : (asked : Command) (files : Files) (jobs : List JobFields) (parts : List SealedFields) (job : JobFields) (o : Result Done NamedFault) → IsHistory jobs parts → PublishesJob asked files jobs parts job
+  pub admitted : (asked : Command) (files : Files) (jobs : List JobFields) (parts : List SealedFields) (job : JobFields) (o : Result Done NamedFault)
+      → IsHistory jobs parts → PublishesJob asked files jobs parts job
       → IsAdmissible (history jobs parts) job → Makes asked (held_by asked files) o → (d : Done) × (o ≡ Ok d)
   admitted asked files jobs parts job o is p a m =
       let b = behind asked files jobs parts job o is p m in
@@ -199,7 +207,8 @@ module _ (layers : Layers) where
   last_fits [] s all = All-head Fits s [] all
   last_fits (p ∷ parts) s all = last_fits parts s (All-tail Fits p (parts ++ s ∷ []) all)
 
-  stored_is : (asked : Command) (name : List ℕ) (parts : List SealedFields) (s : SealedFields) (o : Result Done NamedFault) → ((b : List ℕ) → stores_to asked b ≡ record { name = name; bytes = b } ∷ [])
+  stored_is : (asked : Command) (name : List ℕ) (parts : List SealedFields) (s : SealedFields) (o : Result Done NamedFault)
+      → ((b : List ℕ) → stores_to asked b ≡ record { name = name; bytes = b } ∷ [])
       → o ≡ Ok (stored name (parts ++ s ∷ [])) → (d : Done) × (o ≡ Ok d) × IsStored asked parts s d
   stored_is asked name parts s o outputs is = (
     stored name (parts ++ s ∷ []),
@@ -221,15 +230,21 @@ module _ (layers : Layers) where
       m ∙ ap (λ (r : Result (SealedFields × ℕ) NamedFault). r >>= (λ x. named t.part (begun_by x.0 x.0.part.head.kind) >>= (λ parts. Ok (stored t.store parts)))) (part_input files t.part s fits held)
       ∙ ap (λ (r : Result (List SealedFields) FileFault). named t.part r >>= (λ parts. Ok (stored t.store parts))) (begun_with s s.part.head.kind (layers.chain jobs (s ∷ []) is).0)
 
-  install_stored : (i : InstallFields) (files : Files) (jobs : List JobFields) (parts : List SealedFields) (s : SealedFields) (o : Result Done NamedFault) → IsHistory jobs (parts ++ s ∷ []) → 1 ≤ length parts
-      → get files i.store ≡ Some (store_bytes parts) → get files i.part ≡ Some (part_bytes s) → o ≡ install_makes i (get files i.store) (get files i.part) → o ≡ Ok (stored i.new_store (parts ++ s ∷ []))
+  install_stored : (i : InstallFields) (files : Files) (jobs : List JobFields) (parts : List SealedFields) (s : SealedFields) (o : Result Done NamedFault)
+      → IsHistory jobs (parts ++ s ∷ []) → 1 ≤ length parts
+      → get files i.store ≡ Some (store_bytes parts) → get files i.part ≡ Some (part_bytes s) → o ≡ install_makes i (get files i.store) (get files i.part)
+      → o ≡ Ok (stored i.new_store (parts ++ s ∷ []))
   install_stored i files jobs parts s o is some store_held part_held m =
       let few : length parts < 64 = omega (arith, layers.few jobs (parts ++ s ∷ []) is, length_push parts s) in
       let grown = layers.grown parts s (layers.chain jobs (parts ++ s ∷ []) is) some few in
       let all = layers.texts jobs (parts ++ s ∷ []) is in
-      m ∙ ap (λ (r : Result (List SealedFields) NamedFault). r >>= (λ ps. input i.part part_in (get files i.part) >>= (λ x. named i.part (installed_by (refusal_of ps x.0) ps x.0) >>= (λ more. Ok (stored i.new_store more)))))
+      m ∙ ap (λ (r : Result (List SealedFields) NamedFault). r >>=
+      (λ ps. input i.part part_in (get files i.part) >>= (λ x. named i.part (installed_by (refusal_of ps x.0) ps x.0) >>=
+      (λ more. Ok (stored i.new_store more)))))
       (store_input files i.store parts grown.0 some (omega (arith, few)) (front_fits parts s all) store_held)
-      ∙ ap (λ (r : Result (SealedFields × ℕ) NamedFault). r >>= (λ x. named i.part (installed_by (refusal_of parts x.0) parts x.0) >>= (λ more. Ok (stored i.new_store more)))) (part_input files i.part s (last_fits parts s all) part_held)
+      ∙ ap (λ (r : Result (SealedFields × ℕ) NamedFault). r >>=
+      (λ x. named i.part (installed_by (refusal_of parts x.0) parts x.0) >>= (λ more. Ok (stored i.new_store more))))
+      (part_input files i.part s (last_fits parts s all) part_held)
       ∙ ap (λ (why : Option Refusal). named i.part (installed_by why parts s) >>= (λ more. Ok (stored i.new_store more))) grown.1
 
   pub stored_law : (asked : Command) (files : Files) (jobs : List JobFields) (parts : List SealedFields) (s : SealedFields) (o : Result Done NamedFault) → IsHistory jobs (parts ++ s ∷ [])
@@ -253,14 +268,17 @@ module _ (layers : Layers) where
   some_parts (j ∷ jobs) [] is some = absurd is
   some_parts (j ∷ jobs) (s ∷ parts) is some = omega arith
 
-  query_asked : (q : QueryFields) (files : Files) (jobs : List JobFields) (parts : List SealedFields) (o : Result Done NamedFault) → IsHistory jobs parts → 1 ≤ length jobs → get files q.store ≡ Some (store_bytes parts)
-      → 1 ≤ length q.sightings → ((s : Sighting) → Among q.sightings s → Among (sightings q.id (seen (history jobs parts))) s) → o ≡ query_makes q (get files q.store) → o ≡ Ok (truth_done jobs parts q)
+  query_asked : (q : QueryFields) (files : Files) (jobs : List JobFields) (parts : List SealedFields) (o : Result Done NamedFault) → IsHistory jobs parts
+      → 1 ≤ length jobs → get files q.store ≡ Some (store_bytes parts)
+      → 1 ≤ length q.sightings → ((s : Sighting) → Among q.sightings s → Among (sightings q.id (seen (history jobs parts))) s)
+      → o ≡ query_makes q (get files q.store) → o ≡ Ok (truth_done jobs parts q)
   query_asked q files jobs parts o is some held asked accepted m =
       m ∙ ap (λ (r : Result (List SealedFields) NamedFault). r >>= (λ ps. Ok (query_done q ps)))
       (store_input files q.store parts (layers.chain jobs parts is) (some_parts jobs parts is some) (layers.few jobs parts is) (layers.texts jobs parts is) held)
       ∙ ap (λ (v : Verdict). Ok (only (line (verdict_word v)))) (layers.truths jobs parts q.id q.sightings is asked accepted)
 
-  pub asked_law : (asked : Command) (files : Files) (q : QueryFields) (jobs : List JobFields) (parts : List SealedFields) (o : Result Done NamedFault) → IsHistory jobs parts → AsksHistory asked files q jobs parts
+  pub asked_law : (asked : Command) (files : Files) (q : QueryFields) (jobs : List JobFields) (parts : List SealedFields) (o : Result Done NamedFault)
+      → IsHistory jobs parts → AsksHistory asked files q jobs parts
       → Makes asked (held_by asked files) o → o ≡ Ok (truth_done jobs parts q)
   asked_law asked files q jobs parts o is p m =
       query_asked q files jobs parts o is p.1 p.2 p.3 p.4 (subst (λ (c : Command). Makes c (held_by c files) o) p.0 m)

@@ -46,7 +46,8 @@ use Rattle.clubcard_top.specs.PartFile.{part_file}
 use Rattle.clubcard_top.specs.Readings.{faulted, queries_in, job_in, ledger_in, part_in, store_in}
 use Rattle.clubcard_top.specs.ReplyFields.{Done, NamedFault}
 use Rattle.clubcard_top.specs.Statuses.{is_one_of}
-use Rattle.clubcard_top.specs.Commands.{◌>>=◌, named, input, begun_by, begun, installed_by, installed, stored, query_done, check_done, show_done, publication_done, published_as, MakesSnapshot, MakesDelta, rehearsed, IsRefused, MakesRehearsal, sample_done, Makes}
+use Rattle.clubcard_top.specs.Commands.{◌>>=◌, named, input, begun_by, begun, installed_by, installed, stored, query_done, check_done, show_done}
+use Rattle.clubcard_top.specs.Commands.{publication_done, published_as, MakesSnapshot, MakesDelta, rehearsed, IsRefused, MakesRehearsal, sample_done, Makes}
 use Rattle.clubcard_top.specs.Steps.{RehearsesOn}
 use Rattle.clubcard_top.specs.Replies.{refusal, reply_of}
 use Rattle.clubcard_top.specs.Inputs.{IsRead, AreRead}
@@ -108,7 +109,8 @@ module _ {A : Type 0} (names : List (List ℕ)) (f : A → Done) (are : (x : A) 
       let x = after_ok r (λ y. Ok (f y)) d h in
       ap (λ (e : Done). names_of e.outputs) (ok_same {E = NamedFault} d (f x.0) x.2) ∙ are x.0
 
-published_names : (of part_name ledger_name : List ℕ) (r : Result Published PublishFault) (d : Done) → Ok d ≡ published_as of part_name ledger_name r → names_of d.outputs ≡ part_name ∷ ledger_name ∷ []
+published_names : (of part_name ledger_name : List ℕ) (r : Result Published PublishFault) (d : Done) → Ok d ≡ published_as of part_name ledger_name r
+    → names_of d.outputs ≡ part_name ∷ ledger_name ∷ []
 published_names of part_name ledger_name (Ok p) d h = ap (λ (e : Done). names_of e.outputs) (ok_same {E = NamedFault} d (publication_done part_name ledger_name p) h)
 published_names of part_name ledger_name (Err fault) d h = absurd (let g : ◌≡◌ {A = Result Done NamedFault} (Ok d) (Err (record { name = of; fault = of_publishing fault })) = h in cc)
 
@@ -125,7 +127,8 @@ delta_names t (Ok j) (Err e) d m = absurd (not_err d e m)
 delta_names t (Err e) l d m = absurd (not_err d e m)
 
 -- a rehearsal writes no file
-rehearses_names : (queries : List Query) (jobs : List JobFields) (parts : List SealedFields) (names : List (List ℕ)) (inputs : List (Option (List ℕ))) (d : Done) → RehearsesOn queries jobs parts names inputs (Ok d)
+rehearses_names : (queries : List Query) (jobs : List JobFields) (parts : List SealedFields) (names : List (List ℕ)) (inputs : List (Option (List ℕ)))
+    (d : Done) → RehearsesOn queries jobs parts names inputs (Ok d)
     → names_of d.outputs ≡ []
 rehearses_names queries jobs parts [] [] d m = ap (λ (e : Done). names_of e.outputs) (ok_same {E = NamedFault} d (rehearsed queries jobs parts) m)
 rehearses_names queries jobs parts [] (g ∷ inputs) d m = absurd m
@@ -237,7 +240,8 @@ end_read : (s : SealedFields) (bytes : List ℕ) (r : Result (Unit {0} × ℕ) L
 end_read s bytes (Ok x) h = not_err (s, x.1) faults.Unread h
 end_read s bytes (Err f) h = let g : faults.Layout f ≡ faults.Unread = err_same {A = SealedFields × ℕ} (faults.Layout f) faults.Unread h in cc
 
-alone_read : (bytes : List ℕ) (r : Result (SealedFields × ℕ) PartFault) → then_read (with_fault of_part r) (λ s. layout_then (mapped faults.Layout end) (λ nothing. whole s)) bytes ≡ Err faults.Unread → ⊥
+alone_read : (bytes : List ℕ) (r : Result (SealedFields × ℕ) PartFault)
+    → then_read (with_fault of_part r) (λ s. layout_then (mapped faults.Layout end) (λ nothing. whole s)) bytes ≡ Err faults.Unread → ⊥
 alone_read bytes (Ok x) h = end_read x.0 bytes (end bytes x.1) h
 alone_read bytes (Err f) h = part_fault_read f (err_same {A = SealedFields × ℕ} (of_part f) faults.Unread h)
 
@@ -315,34 +319,35 @@ first_unread : {A : Type 0} (name : List ℕ) (read : List ℕ → Result A File
 first_unread name read given next e refute rest (inl h) u = input_unread name read given e refute h u
 first_unread name read given next e refute rest (inr (x, is, h)) u = absurd (rest x h)
 
-module _ (told : Option Files) (rose : Type 0) (e : NamedFault) (u : e.fault ≡ faults.Unread) where
+module _ (told : Option Files) (failed : Option (List ℕ) → Type 0) (e : NamedFault) (u : e.fault ≡ faults.Unread) where
   abbrev Cause : List (List ℕ) → Type 0
-  Cause names = Among names e.name × (rose ⊎ IsMissing told e.name)
+  Cause names = Among names e.name × (failed (Some e.name) ⊎ IsMissing told e.name)
 
-  cause_of : (names : List (List ℕ)) (name : List ℕ) (given : Option (List ℕ)) → Among names name → IsRead told rose name given → (given ≡ None) × (name ≡ e.name) → Cause names
+  cause_of : (names : List (List ℕ)) (name : List ℕ) (given : Option (List ℕ)) → Among names name → IsRead told failed name given → (given ≡ None) × (name ≡ e.name) → Cause names
   cause_of names name given among read (none, is) =
-      subst (λ (n : List ℕ). Among names n × (rose ⊎ IsMissing told n)) is (among, subst (λ (g : Option (List ℕ)). IsRead told rose name g) none read)
+      subst (λ (n : List ℕ). Among names n × (failed (Some n) ⊎ IsMissing told n)) is (among, subst (λ (g : Option (List ℕ)). IsRead told failed name g) none read)
 
-  second_unread : (i : InstallFields) (s p : Option (List ℕ)) (parts : List SealedFields) → IsRead told rose i.part p → Err e ≡ install_after i p parts → Cause (i.store ∷ i.part ∷ [])
+  second_unread : (i : InstallFields) (s p : Option (List ℕ)) (parts : List SealedFields) → IsRead told failed i.part p → Err e ≡ install_after i p parts → Cause (i.store ∷ i.part ∷ [])
   second_unread i s p parts read h =
       cause_of (i.store ∷ i.part ∷ []) i.part p (inr (inl refl)) read
       (first_unread i.part part_in p (install_then i parts) e part_read (λ x g. install_unread i parts x e g u) (after_err (input i.part part_in p) (install_then i parts) e h) u)
 
-  install_by : (i : InstallFields) (s p : Option (List ℕ)) → IsRead told rose i.store s → IsRead told rose i.part p
+  install_by : (i : InstallFields) (s p : Option (List ℕ)) → IsRead told failed i.store s → IsRead told failed i.part p
       → (input i.store store_in s ≡ Err e) ⊎ ((parts : List SealedFields) × (input i.store store_in s ≡ Ok parts) × (Err e ≡ install_after i p parts)) → Cause (i.store ∷ i.part ∷ [])
   install_by i s p first second (inl h) = cause_of (i.store ∷ i.part ∷ []) i.store s (inl refl) first (input_unread i.store store_in s e store_read h u)
   install_by i s p first second (inr (parts, is, h)) = second_unread i s p parts second h
 
-  delta_by : (t : DeltaFields) (j l : Option (List ℕ)) → IsRead told rose t.job j → IsRead told rose t.ledger l → (input t.job job_in j ≡ Err e) ⊎ (input t.ledger ledger_in l ≡ Err e)
+  delta_by : (t : DeltaFields) (j l : Option (List ℕ)) → IsRead told failed t.job j → IsRead told failed t.ledger l → (input t.job job_in j ≡ Err e) ⊎ (input t.ledger ledger_in l ≡ Err e)
       → Cause (t.job ∷ t.ledger ∷ [])
   delta_by t j l first second (inl h) = cause_of (t.job ∷ t.ledger ∷ []) t.job j (inl refl) first (input_unread t.job job_in j e job_read h u)
   delta_by t j l first second (inr h) = cause_of (t.job ∷ t.ledger ∷ []) t.ledger l (inr (inl refl)) second (input_unread t.ledger ledger_in l e ledger_read h u)
 
-  refused_by : (jobs : List JobFields) (parts : List SealedFields) (name : List ℕ) (given : Option (List ℕ)) (names : List (List ℕ)) → IsRead told rose name given → IsRefused jobs parts name given e → Cause (name ∷ names)
+  refused_by : (jobs : List JobFields) (parts : List SealedFields) (name : List ℕ) (given : Option (List ℕ)) (names : List (List ℕ))
+      → IsRead told failed name given → IsRefused jobs parts name given e → Cause (name ∷ names)
   refused_by jobs parts name given names read (inl h) = cause_of (name ∷ names) name given (inl refl) read (input_unread name job_in given e job_read h u)
   refused_by jobs parts name given names read (inr (job, fault, is, publishes, same)) = absurd (publish_fault_read fault (sym (ap (λ (k : NamedFault). k.fault) same) ∙ u))
 
-  rehearses_by : (queries : List Query) (jobs : List JobFields) (parts : List SealedFields) (names : List (List ℕ)) (inputs : List (Option (List ℕ))) → AreRead told rose names inputs
+  rehearses_by : (queries : List Query) (jobs : List JobFields) (parts : List SealedFields) (names : List (List ℕ)) (inputs : List (Option (List ℕ))) → AreRead told failed names inputs
       → RehearsesOn queries jobs parts names inputs (Err e) → Cause names
   rehearses_by queries jobs parts [] [] read m = absurd (not_ok (rehearsed queries jobs parts) e m)
   rehearses_by queries jobs parts [] (g ∷ inputs) read m = absurd m
@@ -352,7 +357,8 @@ module _ (told : Option Files) (rose : Type 0) (e : NamedFault) (u : e.fault ≡
   rehearses_by queries jobs parts (name ∷ names) (g ∷ inputs) read (inr (job, more, is_read, is, rest)) =
       let c = rehearses_by queries (jobs ++ job ∷ []) more names inputs read.1 rest in (inr c.0, c.1)
 
-  rehearsal_by : (r : RehearseFields) (given : Option (List ℕ)) (inputs : List (Option (List ℕ))) (queries : Result (List Query) NamedFault) → IsRead told rose r.queries given → AreRead told rose r.jobs inputs
+  rehearsal_by : (r : RehearseFields) (given : Option (List ℕ)) (inputs : List (Option (List ℕ))) (queries : Result (List Query) NamedFault)
+      → IsRead told failed r.queries given → AreRead told failed r.jobs inputs
       → input r.queries queries_in given ≡ queries → MakesRehearsal r queries inputs (Err e) → Cause (r.queries ∷ r.jobs)
   rehearsal_by r given inputs (Ok queries) first others is m =
       let c = rehearses_by queries [] [] r.jobs inputs others (from_first queries r.jobs inputs (Err e) m) in (inr c.0, c.1)
@@ -361,11 +367,12 @@ module _ (told : Option Files) (rose : Type 0) (e : NamedFault) (u : e.fault ≡
       (input_unread r.queries queries_in given e queries_read (is ∙ ap (λ (k : NamedFault). Err k) (sym (err_same {A = Done} e f m))) u)
 
   -- An input that can't be read has its cause.
-  pub unread_cause : (c : Command) (inputs : List (Option (List ℕ))) → AreRead told rose (inputs_of c) inputs → Makes c inputs (Err e) → Cause (inputs_of c)
+  pub unread_cause : (c : Command) (inputs : List (Option (List ℕ))) → AreRead told failed (inputs_of c) inputs → Makes c inputs (Err e) → Cause (inputs_of c)
   unread_cause commands.Usage inputs read m = absurd m
   unread_cause (commands.Query q) (s ∷ []) read m =
       cause_of (q.store ∷ []) q.store s (inl refl) read.0
-      (first_unread q.store store_in s (λ parts. Ok (query_done q parts)) e store_read (λ x h. not_ok (query_done q x) e h) (after_err (input q.store store_in s) (λ parts. Ok (query_done q parts)) e m) u)
+      (first_unread q.store store_in s (λ parts. Ok (query_done q parts)) e store_read (λ x h. not_ok (query_done q x) e h)
+      (after_err (input q.store store_in s) (λ parts. Ok (query_done q parts)) e m) u)
   unread_cause (commands.Check name) (p ∷ []) read m =
       cause_of (name ∷ []) name p (inl refl) read.0
       (first_unread name part_in p (λ x. Ok (check_done x)) e part_read (λ x h. not_ok (check_done x) e h) (after_err (input name part_in p) (λ x. Ok (check_done x)) e m) u)

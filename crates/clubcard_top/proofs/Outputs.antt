@@ -1,5 +1,6 @@
 -- Outputs that are written one after the other, and what is left of the other files.
-use Rattle.std.proofs.Common.{◌≡◌, ℕ, suc, ◌+◌, ◌<◌, inl, inr, List, [], ◌∷◌, ◌++◌, map, take, drop, get_or, length, append_assoc, Option, Some, None, Result, Ok, Err, ◌⊎◌, refl, sym, ap, subst, ◌∙◌, arith}
+use Rattle.std.proofs.Common.{◌≡◌, ℕ, suc, ◌+◌, ◌<◌, inl, inr, List, [], ◌∷◌, ◌++◌, map, take, drop, get_or, length, append_assoc, Option, Some, None, Result}
+use Rattle.std.proofs.Common.{Ok, Err, ◌⊎◌, refl, sym, ap, subst, ◌∙◌, arith}
 use Rattle.std.specs.Prelude.{OnOk, OnErr}
 use Rattle.std.proofs.lemmas.List.{take-append-drop, take_more}
 use Rattle.outside_core.specs.Files.{Files, putting, extending, Torn}

@@ -25,18 +25,20 @@ some_is f g e = cc
 
 -- ---- where no fault was counted, what was read is what the files hold
 
-held_one : (files : Files) (rose : Type 0) (name : List ℕ) (given : Option (List ℕ)) → (rose → ⊥) → IsRead (Some files) rose name given → given ≡ get files name
-held_one files rose name None quiet (inl why) = absurd (quiet why)
-held_one files rose name None quiet (inr (told, same, none)) = sym (subst (λ (f : Files). get f name ≡ None) (some_is told files (sym same)) none)
-held_one files rose name (Some bytes) quiet read = sym read
+held_one : (files : Files) (failed : Option (List ℕ) → Type 0) (name : List ℕ) (given : Option (List ℕ)) → ((name : List ℕ) → failed (Some name) → ⊥)
+    → IsRead (Some files) failed name given → given ≡ get files name
+held_one files failed name None quiet (inl why) = absurd (quiet name why)
+held_one files failed name None quiet (inr (told, same, none)) = sym (subst (λ (f : Files). get f name ≡ None) (some_is told files (sym same)) none)
+held_one files failed name (Some bytes) quiet read = sym read
 
-pub held_all : (files : Files) (rose : Type 0) (names : List (List ℕ)) (inputs : List (Option (List ℕ))) → (rose → ⊥) → AreRead (Some files) rose names inputs → inputs ≡ map (get files) names
-held_all files rose [] [] quiet read = refl
-held_all files rose [] (g ∷ inputs) quiet read = absurd read
-held_all files rose (name ∷ names) [] quiet read = absurd read
-held_all files rose (name ∷ names) (g ∷ inputs) quiet read =
-    let one = held_one files rose name g quiet read.0 in
-    let rest = held_all files rose names inputs quiet read.1 in
+pub held_all : (files : Files) (failed : Option (List ℕ) → Type 0) (names : List (List ℕ)) (inputs : List (Option (List ℕ)))
+    → ((name : List ℕ) → failed (Some name) → ⊥) → AreRead (Some files) failed names inputs → inputs ≡ map (get files) names
+held_all files failed [] [] quiet read = refl
+held_all files failed [] (g ∷ inputs) quiet read = absurd read
+held_all files failed (name ∷ names) [] quiet read = absurd read
+held_all files failed (name ∷ names) (g ∷ inputs) quiet read =
+    let one = held_one files failed name g quiet read.0 in
+    let rest = held_all files failed names inputs quiet read.1 in
     λ i. one i ∷ rest i
 
 -- ---- where the answer isn't that an input can't be read
@@ -48,26 +50,30 @@ IsSeen o = (e : NamedFault) → o ≡ Err e → e.fault ≡ faults.Unread → �
 abbrev unread : List ℕ → NamedFault
 unread name = record { name = name; fault = faults.Unread }
 
-delta_other : (t : DeltaFields) (r : Result JobFields NamedFault) (l : Result LedgerFields NamedFault) (o : Result Done NamedFault) → IsSeen o → MakesDelta t r (Err (unread t.ledger)) o → MakesDelta t r l o
+delta_other : (t : DeltaFields) (r : Result JobFields NamedFault) (l : Result LedgerFields NamedFault) (o : Result Done NamedFault) → IsSeen o
+    → MakesDelta t r (Err (unread t.ledger)) o → MakesDelta t r l o
 delta_other t (Ok j) l o seen m = absurd (seen (unread t.ledger) m refl)
 delta_other t (Err e) l o seen m = m
 
-install_other : (i : InstallFields) (r : Result (List SealedFields) NamedFault) (p : Option (List ℕ)) (o : Result Done NamedFault) → IsSeen o → o ≡ (r >>= install_after i None) → o ≡ (r >>= install_after i p)
+install_other : (i : InstallFields) (r : Result (List SealedFields) NamedFault) (p : Option (List ℕ)) (o : Result Done NamedFault) → IsSeen o
+    → o ≡ (r >>= install_after i None) → o ≡ (r >>= install_after i p)
 install_other i (Ok parts) p o seen m = absurd (seen (unread i.part) m refl)
 install_other i (Err e) p o seen m = m
 
-delta_over : (files : Files) (rose : Type 0) (t : DeltaFields) (j l : Option (List ℕ)) (o : Result Done NamedFault) → IsSeen o → IsRead (Some files) rose t.job j → IsRead (Some files) rose t.ledger l
+delta_over : (files : Files) (failed : Option (List ℕ) → Type 0) (t : DeltaFields) (j l : Option (List ℕ)) (o : Result Done NamedFault) → IsSeen o
+    → IsRead (Some files) failed t.job j → IsRead (Some files) failed t.ledger l
     → MakesDelta t (input t.job job_in j) (input t.ledger ledger_in l) o → MakesDelta t (input t.job job_in (get files t.job)) (input t.ledger ledger_in (get files t.ledger)) o
-delta_over files rose t None l o seen first second m = absurd (seen (unread t.job) m refl)
-delta_over files rose t (Some b) None o seen first second m =
+delta_over files failed t None l o seen first second m = absurd (seen (unread t.job) m refl)
+delta_over files failed t (Some b) None o seen first second m =
     rw first (delta_other t (input t.job job_in (Some b)) (input t.ledger ledger_in (get files t.ledger)) o seen m)
-delta_over files rose t (Some b) (Some c) o seen first second m = rw (first, second) m
+delta_over files failed t (Some b) (Some c) o seen first second m = rw (first, second) m
 
-install_over : (files : Files) (rose : Type 0) (i : InstallFields) (s p : Option (List ℕ)) (o : Result Done NamedFault) → IsSeen o → IsRead (Some files) rose i.store s → IsRead (Some files) rose i.part p
+install_over : (files : Files) (failed : Option (List ℕ) → Type 0) (i : InstallFields) (s p : Option (List ℕ)) (o : Result Done NamedFault) → IsSeen o
+    → IsRead (Some files) failed i.store s → IsRead (Some files) failed i.part p
     → o ≡ install_makes i s p → o ≡ install_makes i (get files i.store) (get files i.part)
-install_over files rose i None p o seen first second m = absurd (seen (unread i.store) m refl)
-install_over files rose i (Some b) None o seen first second m = rw first (install_other i (input i.store store_in (Some b)) (get files i.part) o seen m)
-install_over files rose i (Some b) (Some c) o seen first second m = rw (first, second) m
+install_over files failed i None p o seen first second m = absurd (seen (unread i.store) m refl)
+install_over files failed i (Some b) None o seen first second m = rw first (install_other i (input i.store store_in (Some b)) (get files i.part) o seen m)
+install_over files failed i (Some b) (Some c) o seen first second m = rw (first, second) m
 
 -- what is wrong with a job that isn't given is that it can't be read
 unread_job : (jobs : List JobFields) (parts : List SealedFields) (name : List ℕ) (e : NamedFault) → IsRefused jobs parts name None e → e.fault ≡ faults.Unread
@@ -76,68 +82,74 @@ unread_job jobs parts name e (inl h) =
     sym (ap (λ (k : NamedFault). k.fault) same)
 unread_job jobs parts name e (inr (job, fault, is, not, same)) = absurd (let g : ◌≡◌ {A = Result JobFields NamedFault} (Err (unread name)) (Ok job) = is in cc)
 
-rehearses_over : (files : Files) (rose : Type 0) (queries : List Query) (jobs : List JobFields) (parts : List SealedFields) (names : List (List ℕ)) (inputs : List (Option (List ℕ))) (o : Result Done NamedFault) → IsSeen o
-    → AreRead (Some files) rose names inputs → RehearsesOn queries jobs parts names inputs o → RehearsesOn queries jobs parts names (map (get files) names) o
-rehearses_over files rose queries jobs parts [] [] o seen read m = m
-rehearses_over files rose queries jobs parts [] (g ∷ inputs) o seen read m = absurd m
-rehearses_over files rose queries jobs parts (name ∷ names) [] o seen read m = absurd m
-rehearses_over files rose queries jobs parts (name ∷ names) (None ∷ inputs) o seen read (inl (e, refused, is)) = absurd (seen e is (unread_job jobs parts name e refused))
-rehearses_over files rose queries jobs parts (name ∷ names) (None ∷ inputs) o seen read (inr (job, more, is_job, is_more, rest)) =
+rehearses_over : (files : Files) (failed : Option (List ℕ) → Type 0) (queries : List Query) (jobs : List JobFields) (parts : List SealedFields) (names : List (List ℕ))
+    (inputs : List (Option (List ℕ))) (o : Result Done NamedFault) → IsSeen o
+    → AreRead (Some files) failed names inputs → RehearsesOn queries jobs parts names inputs o → RehearsesOn queries jobs parts names (map (get files) names) o
+rehearses_over files failed queries jobs parts [] [] o seen read m = m
+rehearses_over files failed queries jobs parts [] (g ∷ inputs) o seen read m = absurd m
+rehearses_over files failed queries jobs parts (name ∷ names) [] o seen read m = absurd m
+rehearses_over files failed queries jobs parts (name ∷ names) (None ∷ inputs) o seen read (inl (e, refused, is)) = absurd (seen e is (unread_job jobs parts name e refused))
+rehearses_over files failed queries jobs parts (name ∷ names) (None ∷ inputs) o seen read (inr (job, more, is_job, is_more, rest)) =
     absurd (let g : ◌≡◌ {A = Result JobFields NamedFault} (Err (unread name)) (Ok job) = is_job in cc)
-rehearses_over files rose queries jobs parts (name ∷ names) (Some b ∷ inputs) o seen read (inl (e, refused, is)) =
+rehearses_over files failed queries jobs parts (name ∷ names) (Some b ∷ inputs) o seen read (inl (e, refused, is)) =
     inl (e, subst (λ (g : Option (List ℕ)). IsRefused jobs parts name g e) (sym read.0) refused, is)
-rehearses_over files rose queries jobs parts (name ∷ names) (Some b ∷ inputs) o seen read (inr (job, more, is_job, is_more, rest)) =
+rehearses_over files failed queries jobs parts (name ∷ names) (Some b ∷ inputs) o seen read (inr (job, more, is_job, is_more, rest)) =
     inr (
       job,
       more,
       subst (λ (g : Option (List ℕ)). input name job_in g ≡ Ok job) (sym read.0) is_job,
       is_more,
-      rehearses_over files rose queries (jobs ++ job ∷ []) more names inputs o seen read.1 rest,
+      rehearses_over files failed queries (jobs ++ job ∷ []) more names inputs o seen read.1 rest,
     )
 
-rehearsal_by : (files : Files) (rose : Type 0) (r : RehearseFields) (queries : Result (List Query) NamedFault) (inputs : List (Option (List ℕ))) (o : Result Done NamedFault) → IsSeen o
-    → AreRead (Some files) rose r.jobs inputs → MakesRehearsal r queries inputs o → MakesRehearsal r queries (map (get files) r.jobs) o
-rehearsal_by files rose r (Ok queries) inputs o seen read m =
-    first_of queries r.jobs (map (get files) r.jobs) o (rehearses_over files rose queries [] [] r.jobs inputs o seen read (from_first queries r.jobs inputs o m))
-rehearsal_by files rose r (Err e) inputs o seen read m = m
+rehearsal_by : (files : Files) (failed : Option (List ℕ) → Type 0) (r : RehearseFields) (queries : Result (List Query) NamedFault)
+    (inputs : List (Option (List ℕ))) (o : Result Done NamedFault) → IsSeen o
+    → AreRead (Some files) failed r.jobs inputs → MakesRehearsal r queries inputs o → MakesRehearsal r queries (map (get files) r.jobs) o
+rehearsal_by files failed r (Ok queries) inputs o seen read m =
+    first_of queries r.jobs (map (get files) r.jobs) o (rehearses_over files failed queries [] [] r.jobs inputs o seen read (from_first queries r.jobs inputs o m))
+rehearsal_by files failed r (Err e) inputs o seen read m = m
 
-rehearsal_over : (files : Files) (rose : Type 0) (r : RehearseFields) (q : Option (List ℕ)) (inputs : List (Option (List ℕ))) (o : Result Done NamedFault) → IsSeen o → IsRead (Some files) rose r.queries q
-    → AreRead (Some files) rose r.jobs inputs → MakesRehearsal r (input r.queries queries_in q) inputs o → MakesRehearsal r (input r.queries queries_in (get files r.queries)) (map (get files) r.jobs) o
-rehearsal_over files rose r None inputs o seen first others m = absurd (seen (unread r.queries) m refl)
-rehearsal_over files rose r (Some b) inputs o seen first others m = rw first (rehearsal_by files rose r (input r.queries queries_in (Some b)) inputs o seen others m)
+rehearsal_over : (files : Files) (failed : Option (List ℕ) → Type 0) (r : RehearseFields) (q : Option (List ℕ)) (inputs : List (Option (List ℕ))) (o : Result Done NamedFault)
+    → IsSeen o → IsRead (Some files) failed r.queries q
+    → AreRead (Some files) failed r.jobs inputs → MakesRehearsal r (input r.queries queries_in q) inputs o
+    → MakesRehearsal r (input r.queries queries_in (get files r.queries)) (map (get files) r.jobs) o
+rehearsal_over files failed r None inputs o seen first others m = absurd (seen (unread r.queries) m refl)
+rehearsal_over files failed r (Some b) inputs o seen first others m = rw first (rehearsal_by files failed r (input r.queries queries_in (Some b)) inputs o seen others m)
 
 -- of one input
-one_over : (files : Files) (rose : Type 0) (name : List ℕ) (P : Option (List ℕ) → Type 0) (given : Option (List ℕ)) → (P None → ⊥) → IsRead (Some files) rose name given → P given → P (get files name)
-one_over files rose name P None refute read m = absurd (refute m)
-one_over files rose name P (Some bytes) refute read m = subst P (sym read) m
+one_over : (files : Files) (failed : Option (List ℕ) → Type 0) (name : List ℕ) (P : Option (List ℕ) → Type 0) (given : Option (List ℕ)) → (P None → ⊥)
+    → IsRead (Some files) failed name given → P given → P (get files name)
+one_over files failed name P None refute read m = absurd (refute m)
+one_over files failed name P (Some bytes) refute read m = subst P (sym read) m
 
-pub over_files : (files : Files) (rose : Type 0) (c : Command) (inputs : List (Option (List ℕ))) (o : Result Done NamedFault) → IsSeen o → AreRead (Some files) rose (inputs_of c) inputs → Makes c inputs o
+pub over_files : (files : Files) (failed : Option (List ℕ) → Type 0) (c : Command) (inputs : List (Option (List ℕ))) (o : Result Done NamedFault) → IsSeen o
+    → AreRead (Some files) failed (inputs_of c) inputs → Makes c inputs o
     → Makes c (held_by c files) o
-over_files files rose commands.Usage inputs o seen read m = absurd m
-over_files files rose (commands.Query q) (s ∷ []) o seen read m = one_over files rose q.store (λ g. o ≡ query_makes q g) s (λ h. seen (unread q.store) h refl) read.0 m
-over_files files rose (commands.Check name) (p ∷ []) o seen read m = one_over files rose name (λ g. o ≡ check_makes name g) p (λ h. seen (unread name) h refl) read.0 m
-over_files files rose (commands.Show name) (p ∷ []) o seen read m = one_over files rose name (λ g. o ≡ show_makes name g) p (λ h. seen (unread name) h refl) read.0 m
-over_files files rose (commands.Snapshot s) (j ∷ []) o seen read m = one_over files rose s.job (λ g. Makes (commands.Snapshot s) (g ∷ []) o) j (λ h. seen (unread s.job) h refl) read.0 m
-over_files files rose (commands.Delta t) (j ∷ l ∷ []) o seen read m = delta_over files rose t j l o seen read.0 read.1.0 m
-over_files files rose (commands.Start t) (p ∷ []) o seen read m = one_over files rose t.part (λ g. o ≡ start_makes t g) p (λ h. seen (unread t.part) h refl) read.0 m
-over_files files rose (commands.Install i) (s ∷ p ∷ []) o seen read m = install_over files rose i s p o seen read.0 read.1.0 m
-over_files files rose (commands.Rehearse r) (q ∷ inputs) o seen read m = rehearsal_over files rose r q inputs o seen read.0 read.1 m
-over_files files rose (commands.Sample s) [] o seen read m = m
-over_files files rose (commands.Rehearse r) [] o seen read m = absurd m
-over_files files rose (commands.Sample s) (a ∷ cs) o seen read m = absurd m
-over_files files rose (commands.Query q) [] o seen read m = absurd m
-over_files files rose (commands.Query q) (a ∷ b ∷ cs) o seen read m = absurd m
-over_files files rose (commands.Check name) [] o seen read m = absurd m
-over_files files rose (commands.Check name) (a ∷ b ∷ cs) o seen read m = absurd m
-over_files files rose (commands.Show name) [] o seen read m = absurd m
-over_files files rose (commands.Show name) (a ∷ b ∷ cs) o seen read m = absurd m
-over_files files rose (commands.Snapshot s) [] o seen read m = absurd m
-over_files files rose (commands.Snapshot s) (a ∷ b ∷ cs) o seen read m = absurd m
-over_files files rose (commands.Delta t) [] o seen read m = absurd m
-over_files files rose (commands.Delta t) (a ∷ []) o seen read m = absurd m
-over_files files rose (commands.Delta t) (a ∷ b ∷ k ∷ cs) o seen read m = absurd m
-over_files files rose (commands.Start t) [] o seen read m = absurd m
-over_files files rose (commands.Start t) (a ∷ b ∷ cs) o seen read m = absurd m
-over_files files rose (commands.Install i) [] o seen read m = absurd m
-over_files files rose (commands.Install i) (a ∷ []) o seen read m = absurd m
-over_files files rose (commands.Install i) (a ∷ b ∷ k ∷ cs) o seen read m = absurd m
+over_files files failed commands.Usage inputs o seen read m = absurd m
+over_files files failed (commands.Query q) (s ∷ []) o seen read m = one_over files failed q.store (λ g. o ≡ query_makes q g) s (λ h. seen (unread q.store) h refl) read.0 m
+over_files files failed (commands.Check name) (p ∷ []) o seen read m = one_over files failed name (λ g. o ≡ check_makes name g) p (λ h. seen (unread name) h refl) read.0 m
+over_files files failed (commands.Show name) (p ∷ []) o seen read m = one_over files failed name (λ g. o ≡ show_makes name g) p (λ h. seen (unread name) h refl) read.0 m
+over_files files failed (commands.Snapshot s) (j ∷ []) o seen read m = one_over files failed s.job (λ g. Makes (commands.Snapshot s) (g ∷ []) o) j (λ h. seen (unread s.job) h refl) read.0 m
+over_files files failed (commands.Delta t) (j ∷ l ∷ []) o seen read m = delta_over files failed t j l o seen read.0 read.1.0 m
+over_files files failed (commands.Start t) (p ∷ []) o seen read m = one_over files failed t.part (λ g. o ≡ start_makes t g) p (λ h. seen (unread t.part) h refl) read.0 m
+over_files files failed (commands.Install i) (s ∷ p ∷ []) o seen read m = install_over files failed i s p o seen read.0 read.1.0 m
+over_files files failed (commands.Rehearse r) (q ∷ inputs) o seen read m = rehearsal_over files failed r q inputs o seen read.0 read.1 m
+over_files files failed (commands.Sample s) [] o seen read m = m
+over_files files failed (commands.Rehearse r) [] o seen read m = absurd m
+over_files files failed (commands.Sample s) (a ∷ cs) o seen read m = absurd m
+over_files files failed (commands.Query q) [] o seen read m = absurd m
+over_files files failed (commands.Query q) (a ∷ b ∷ cs) o seen read m = absurd m
+over_files files failed (commands.Check name) [] o seen read m = absurd m
+over_files files failed (commands.Check name) (a ∷ b ∷ cs) o seen read m = absurd m
+over_files files failed (commands.Show name) [] o seen read m = absurd m
+over_files files failed (commands.Show name) (a ∷ b ∷ cs) o seen read m = absurd m
+over_files files failed (commands.Snapshot s) [] o seen read m = absurd m
+over_files files failed (commands.Snapshot s) (a ∷ b ∷ cs) o seen read m = absurd m
+over_files files failed (commands.Delta t) [] o seen read m = absurd m
+over_files files failed (commands.Delta t) (a ∷ []) o seen read m = absurd m
+over_files files failed (commands.Delta t) (a ∷ b ∷ k ∷ cs) o seen read m = absurd m
+over_files files failed (commands.Start t) [] o seen read m = absurd m
+over_files files failed (commands.Start t) (a ∷ b ∷ cs) o seen read m = absurd m
+over_files files failed (commands.Install i) [] o seen read m = absurd m
+over_files files failed (commands.Install i) (a ∷ []) o seen read m = absurd m
+over_files files failed (commands.Install i) (a ∷ b ∷ k ∷ cs) o seen read m = absurd m

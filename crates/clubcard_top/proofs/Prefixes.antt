@@ -5,7 +5,7 @@ use Rattle.std.proofs.lemmas.List.{append-nil}
 use Rattle.query_core.specs.Queries.{Query}
 use Rattle.part_codec.specs.SealedFields.{SealedFields}
 use Rattle.job_core.specs.JobFields.{JobFields}
-use Rattle.universe_core.specs.Jobs.{told}
+use Rattle.universe_core.specs.Jobs.{facts_of}
 use Rattle.universe_core.specs.History.{Release}
 use Rattle.publication_core.specs.Histories.{AreAdmissible, IsHistory, release_of}
 use Rattle.clubcard_top.specs.ReplyFields.{Done, NamedFault}
@@ -94,7 +94,7 @@ as_long rs [] [] are = refl
 as_long rs [] (s ∷ parts) are = absurd are
 as_long rs (j ∷ jobs) [] are = absurd are
 as_long rs (j ∷ jobs) (s ∷ parts) are =
-    ap (λ (k : ℕ). suc k) (as_long (rs ++ release_of rs (told j) s ∷ []) jobs parts are.2)
+    ap (λ (k : ℕ). suc k) (as_long (rs ++ release_of rs (facts_of j) s ∷ []) jobs parts are.2)
 
 -- the first jobs of a history are a history, with the first parts
 split : (rs : List Release) (jobs others : List JobFields) (all : List SealedFields)
@@ -104,7 +104,7 @@ split : (rs : List Release) (jobs others : List JobFields) (all : List SealedFie
 split rs [] others all are = ([], all, refl, as_long rs others all are, tt)
 split rs (j ∷ jobs) others [] are = absurd are
 split rs (j ∷ jobs) others (s ∷ all) are =
-    let r = split (rs ++ release_of rs (told j) s ∷ []) jobs others all are.2 in
+    let r = split (rs ++ release_of rs (facts_of j) s ∷ []) jobs others all are.2 in
     (s ∷ r.0, r.1, ap (λ (k : List SealedFields). s ∷ k) r.2, r.3, (are.0, are.1, r.4))
 
 -- where no part is behind, they are all

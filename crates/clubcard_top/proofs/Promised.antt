@@ -1,5 +1,5 @@
 -- What is promised of a call, from how it ends.
-use Rattle.std.proofs.Common.{◌≡◌, ℕ, ◌⊎◌, inl, inr, List, Option, Some, Result, Ok, Err, refl, sym, ap, subst, ◌∙◌, arith}
+use Rattle.std.proofs.Common.{◌≡◌, ℕ, ◌⊎◌, inl, inr, List, [], Option, Some, Result, Ok, Err, refl, sym, ap, subst, ◌∙◌, arith}
 use Rattle.std.specs.Prelude.{◌≢◌, IsTrue}
 use Rattle.outside_core.specs.Files.{Files, Rose}
 use Rattle.octets_core.specs.declared.fault.LayoutFault.{LayoutFault}
@@ -8,19 +8,19 @@ use Rattle.job_core.specs.declared.bounds.What.{What}
 use Rattle.store_core.specs.declared.chain.Refusal.{Refusal}
 use Rattle.word_core.specs.declared.command.Command.{Command}
 use Rattle.word_core.specs.declared.command.Command.TheVariants as commands
-use Rattle.word_core.specs.Names.{inputs_of}
+use Rattle.word_core.specs.Names.{inputs_of, outputs_of}
 use Rattle.clubcard_top.specs.declared.fault.FileFault.{FileFault}
 use Rattle.clubcard_top.specs.declared.fault.FileFault.TheVariants as faults
 use Rattle.clubcard_top.specs.ReplyFields.{ReplyFields, Done, NamedFault}
 use Rattle.clubcard_top.specs.Statuses.{is_one_of, of_replies}
-use Rattle.clubcard_top.specs.Inputs.{AreRead}
+use Rattle.clubcard_top.specs.Inputs.{Blames, AreRead}
 use Rattle.clubcard_top.specs.Commands.{Makes}
 use Rattle.clubcard_top.specs.Replies.{usage, refusal, reply_of, write_fault, IsReplyOver, IsReplyTo, held_by}
-use Rattle.clubcard_top.specs.Runs.{IsReply, with_outputs}
+use Rattle.clubcard_top.specs.Runs.{IsReply, KeepsAllBut, with_outputs}
 use Rattle.clubcard_top.specs.Sending.{SentSo, EndsSo}
 use Rattle.clubcard_top.proofs.Ways.{Ends, Answers, Refuses}
-use Rattle.clubcard_top.specs.Calls.{Call, FilesAreTold, Writes, HasRisen, NoFault}
-use Rattle.clubcard_top.specs.Endings.{Succeeds, Gives, WantedMemory, SinkFailed, PrintsOrFails, Sent, Torn, IsAnswer}
+use Rattle.clubcard_top.specs.Calls.{Call, FilesAreTold, Writes, ChangesNoFile, HasRisen, NoFault}
+use Rattle.clubcard_top.specs.Endings.{Succeeds, Gives, WantedMemory, SinkFailed, PrintsOrFails, Sent, Torn, WhichFailedIn, IsAnswer}
 use Rattle.clubcard_top.specs.Endings.{GivesTheReply, Ends as EndsCall}
 use Rattle.clubcard_top.specs.Refusals.{Comes, Refused}
 use Rattle.clubcard_top.specs.Promises.{Ending, Outside, Refusals}
@@ -31,7 +31,7 @@ use Rattle.clubcard_top.proofs.Tellings as tellings
 -- how a call ends, by its parts
 abbrev pub EndsAs : Call → Option Files → Type 0
 EndsAs call told =
-    Ends call.asked told (HasRisen call.read_faults) call.status call.text_before call.text_after
+    Ends call.asked told (WhichFailedIn call) call.status call.text_before call.text_after
     (HasRisen call.sink_faults) call.files_after (HasRisen call.write_faults)
 
 abbrev pub EndsOld : Call → Type 0
@@ -45,9 +45,11 @@ moved reply ended old new failed mid before after m b a files count h =
     subst (λ (n : ℕ). EndsSo reply ended old new failed before after (Rose n a)) count
     (subst (λ (t : Option Files). EndsSo reply ended old new failed t after (Rose m a)) files h)
 
-pub read_later : (asked : Command) (told : Option Files) (reply : ReplyFields) (b m a : ℕ) → a ≡ m
-    → IsReply asked told (Rose b m) reply → IsReply asked told (Rose b a) reply
-read_later asked told reply b m a count h = subst (λ (n : ℕ). IsReply asked told (Rose b n) reply) (sym count) h
+pub read_later : (asked : Command) (told : Option Files) (reply : ReplyFields) (b m a : ℕ) (first then last : Option (List (List ℕ)))
+    → a ≡ m → last ≡ then → IsReply asked told (Blames b m first then) reply → IsReply asked told (Blames b a first last) reply
+read_later asked told reply b m a first then last count names h =
+    subst (λ (n : ℕ). IsReply asked told (Blames b n first last) reply) (sym count)
+    (subst (λ (f : Option (List (List ℕ))). IsReply asked told (Blames b m first f) reply) (sym names) h)
 
 module _ (call : Call) where
   -- ---- the three ways
@@ -98,24 +100,35 @@ module _ (call : Call) where
 
   answer : EndsOld call → FilesAreTold call → call.status ≢ 8 → call.status ≢ 9 → call.status ≢ 70 → GivesTheReply call
   answer ends (files, is) no_read no_write no_want =
-      gives files is (tellings.answer call.asked _ _ _ _ _ _ _ (Some files) (at files is ends) no_read no_write no_want)
+      gives files is (tellings.answer call.asked (WhichFailedIn call) _ _ _ _ _ _ (Some files) (at files is ends) no_read no_write no_want)
 
   complete : EndsOld call → FilesAreTold call → NoFault call → call.status ≢ 70 → GivesTheReply call
   complete ends (files, is) quiet no_want =
       gives files is
-      (tellings.complete call.asked _ _ _ _ _ _ _ (Some files) (at files is ends) quiet.reads quiet.writes quiet.sink no_want)
+      (tellings.complete call.asked (WhichFailedIn call) _ _ _ _ _ _ (Some files) (at files is ends) (λ name h. quiet.reads h.0) quiet.writes quiet.sink no_want)
+
+  -- ---- files
+
+  pub unchanged : EndsOld call → call.status ≢ 0 → call.status ≢ 9 → ChangesNoFile call
+  unchanged ends = endings.unchanged _ _ (WhichFailedIn call) _ _ _ _ _ _ ends
+
+  pub other_files : EndsOld call → KeepsAllBut (outputs_of call.asked) call.files_before call.files_after
+  other_files ends = endings.other_files _ _ (WhichFailedIn call) _ _ _ _ _ _ ends
+
+  pub reading : EndsOld call → outputs_of call.asked ≡ [] → ChangesNoFile call
+  reading ends = endings.reading _ _ (WhichFailedIn call) _ _ _ _ _ _ ends
 
   pub ending : EndsOld call → Ending call
   ending ends = record {
     ends = ways ends;
-    statuses = endings.statuses _ _ _ _ _ _ _ _ _ ends;
+    statuses = endings.statuses _ _ (WhichFailedIn call) _ _ _ _ _ _ ends;
     answer = answer ends;
     complete = complete ends;
   }
 
   pub answers : EndsOld call → (files : Files) → call.files_before ≡ Some files → Succeeds call
       → Answers call.asked files call.text_before call.text_after call.files_after
-  answers ends files is zero = tellings.done call.asked _ _ _ _ _ _ _ (Some files) (at files is ends) zero
+  answers ends files is zero = tellings.done call.asked (WhichFailedIn call) _ _ _ _ _ _ (Some files) (at files is ends) zero
 
   -- ---- where no fault was counted
 
@@ -130,10 +143,10 @@ module _ (call : Call) where
 
   replied_to : (files : Files) → call.files_before ≡ Some files → (reply : ReplyFields) → NoFault call
       → IsAnswer call reply → IsReplyTo call.asked files reply
-  replied_to files is reply quiet (inputs, read, over) =
+  replied_to files is reply quiet (inputs, read, over, says) =
       subst (λ (g : List (Option (List ℕ))). IsReplyOver call.asked g reply)
-      (held_all files (HasRisen call.read_faults) (inputs_of call.asked) inputs quiet.reads
-      (subst (λ (t : Option Files). AreRead t (HasRisen call.read_faults) (inputs_of call.asked) inputs) is read))
+      (held_all files (WhichFailedIn call) (inputs_of call.asked) inputs (λ name h. quiet.reads h.0)
+      (subst (λ (t : Option Files). AreRead t (WhichFailedIn call) (inputs_of call.asked) inputs) is read))
       over
 
   -- what is sure to come of it
@@ -170,14 +183,14 @@ module _ (call : Call) where
   bad_layout : EndsOld call → call.status ≡ 3 → FilesAreTold call → (name : List ℕ) × (fault : LayoutFault)
       × Refused call name (faults.Layout fault)
   bad_layout ends st (files, is) =
-      let x = tellings.layout call.asked _ _ _ _ _ _ _ (Some files) (at files is ends) st in
+      let x = tellings.layout call.asked (WhichFailedIn call) _ _ _ _ _ _ (Some files) (at files is ends) st in
       let r = refused_of files is (faults.Layout x.0) x.1 in
       (r.0, x.0, r.1)
 
   bad_crl : EndsOld call → call.status ≡ 4 → FilesAreTold call → (name : List ℕ) × (place : ℕ) × (fault : CrlFault)
       × Refused call name (faults.BadCrl place fault)
   bad_crl ends st (files, is) =
-      let x = tellings.crl call.asked _ _ _ _ _ _ _ (Some files) (at files is ends) st in
+      let x = tellings.crl call.asked (WhichFailedIn call) _ _ _ _ _ _ (Some files) (at files is ends) st in
       let r = refused_of files is (faults.BadCrl x.0 x.1) x.2 in
       (r.0, x.0, x.1, r.1)
 
@@ -192,26 +205,26 @@ module _ (call : Call) where
   chain : EndsOld call → call.status ≡ 5 → FilesAreTold call → (name : List ℕ)
       × (Refused call name faults.NotSnapshot ⊎ ((why : Refusal) × Refused call name (faults.Chain why)))
   chain ends st (files, is) =
-      chain_by files is (tellings.chain call.asked _ _ _ _ _ _ _ (Some files) (at files is ends) st)
+      chain_by files is (tellings.chain call.asked (WhichFailedIn call) _ _ _ _ _ _ (Some files) (at files is ends) st)
 
   too_many : EndsOld call → call.status ≡ 6 → FilesAreTold call → (name : List ℕ) × (what : What) × (limit : ℕ)
       × Refused call name (faults.TooMany what limit)
   too_many ends st (files, is) =
-      let x = tellings.limit call.asked _ _ _ _ _ _ _ (Some files) (at files is ends) st in
+      let x = tellings.limit call.asked (WhichFailedIn call) _ _ _ _ _ _ (Some files) (at files is ends) st in
       let r = refused_of files is (faults.TooMany x.0 x.1) x.2 in
       (r.0, x.0, x.1, r.1)
 
   seeds : EndsOld call → call.status ≡ 7 → FilesAreTold call → (name : List ℕ) × (issuer : List ℕ) × (stage : ℕ)
       × Refused call name (faults.Seeds issuer stage)
   seeds ends st (files, is) =
-      let x = tellings.seeds call.asked _ _ _ _ _ _ _ (Some files) (at files is ends) st in
+      let x = tellings.seeds call.asked (WhichFailedIn call) _ _ _ _ _ _ (Some files) (at files is ends) st in
       let r = refused_of files is (faults.Seeds x.0 x.1) x.2 in
       (r.0, x.0, x.1, r.1)
 
   usage_reply : call.asked ≡ commands.Usage → (reply : ReplyFields) → IsAnswer call reply → Gives call reply
       → Gives call usage
-  usage_reply none reply (inputs, read, inl (asked, same)) g = subst (λ (r : ReplyFields). Gives call r) same g
-  usage_reply none reply (inputs, read, inr (o, m, same)) g = absurd (subst (λ (c : Command). Makes c inputs o) none m)
+  usage_reply none reply (inputs, read, inl (asked, same), says) g = subst (λ (r : ReplyFields). Gives call r) same g
+  usage_reply none reply (inputs, read, inr (o, m, same), says) g = absurd (subst (λ (c : Command). Makes c inputs o) none m)
 
   no_command : Way → call.asked ≡ commands.Usage → NoFault call → Gives call usage ⊎ WantedMemory call
   no_command (inl wanted) none quiet = inr wanted
@@ -236,7 +249,7 @@ module _ (call : Call) where
     chain = chain ends;
     too_many = too_many ends;
     seeds = seeds ends;
-    bad_words = endings.usage_line _ _ _ _ _ _ _ _ _ ends;
+    bad_words = endings.usage_line _ _ (WhichFailedIn call) _ _ _ _ _ _ ends;
     no_command = no_command (ways ends);
     refused = refused unique (ways ends);
   }
@@ -273,7 +286,8 @@ module _ (call : Call) where
 
   pub outside : EndsOld call → Outside call
   outside ends = record {
-    read_fault = λ eight. let u = endings.read_fault_line _ _ _ _ _ _ _ _ _ ends eight in (u.name, u.is_input, u.cause, u.written);
+    read_fault = λ eight. let u = endings.read_fault_line _ _ (WhichFailedIn call) _ _ _ _ _ _ ends eight in (u.name, u.is_input, u.cause, u.written);
+    no_read_fault = endings.no_read_fault _ _ (WhichFailedIn call) _ _ _ _ _ _ ends;
     write_fault = write_fault_by (ways ends);
     no_memory = no_memory_by (ways ends);
   }

@@ -1,18 +1,27 @@
 -- Files that are read piece by piece.
 use Rattle.std.proofs.Common.{◌≡◌, ℕ, ◌+◌, ◌≤◌, List, ◌++◌, take, drop, Option, Some, None, inl, inr, sym, ap, subst, ◌∙◌, arith}
-use Rattle.std.specs.Prelude.{IsErrOf, Err}
+use Rattle.std.specs.Prelude.{◌⊎◌, IsErrOf, Result, Ok, Err}
 use Rattle.std.proofs.Math.Seq.{take-add}
-use Rattle.outside_core.specs.Files.{Files, IsMissing, ReadFailed}
+use Rattle.outside_core.specs.declared.depot.Depot.{Ghosts}
+use Rattle.outside_core.specs.Effects.{ReadFailed}
+use Rattle.outside_core.specs.Files.{Files, IsMissing, blaming}
 use Rattle.clubcard_top.specs.Inputs.{WhereHeld, IsHeld}
 
--- a read that failed later in a call failed in it
-pub ReadFailed-earlier : (told now : Option Files) (name : List ℕ) (first then last : ℕ) → now ≡ told → first ≤ then → ReadFailed now name then last → ReadFailed told name first last
-ReadFailed-earlier told now name first then last same le (inl rose) = inl (omega arith)
-ReadFailed-earlier told now name first then last same le (inr missing) = inr (subst (λ (t : Option Files). IsMissing t name) same missing)
+-- a read that failed behind reads that went well
+pub failed_behind : {D : Type 0} (g : Ghosts D) (name : List ℕ) (old mid new : D) → g.files mid ≡ g.files old → g.read_faults old ≤ g.read_faults mid
+    → g.failed_reads mid ≡ g.failed_reads old → ReadFailed g name mid new → ReadFailed g name old new
+failed_behind g name old mid new same le well (inl (rose, blamed)) =
+    inl (omega (arith, rose, le), blamed ∙ ap (λ (f : Option (List (List ℕ))). blaming f name) well)
+failed_behind g name old mid new same le well (inr (missing, none)) = inr (subst (λ (t : Option Files). IsMissing t name) same missing, none ∙ well)
 
 -- an error says the same of another type of values
 pub err-of : {A B E : Type 0} (e f : E) → IsErrOf {T = A} (Err e) f → IsErrOf {T = B} (Err e) f
 err-of {A} {B} {E} e f is = let same : e ≡ f = cc in ap (λ (x : E). Err x) same
+
+-- where there is no error
+pub unless_err : {A E P : Type 0} (x : A) (e : E) → IsErrOf (Ok x) e ⊎ P → P
+unless_err {A} {E} x e (inl is) = absurd (let h : ◌≡◌ {A = Result A E} (Ok x) (Err e) = is in cc)
+unless_err x e (inr p) = p
 
 abbrev Grown : List ℕ → List ℕ → ℕ → ℕ → List ℕ → Type 0
 Grown old new k n file = new ≡ old ++ take n (drop k file)

@@ -72,7 +72,8 @@ module _ (layers : Layers) (files : Files) where
     done = same ∙ ap (λ (js : List JobFields). rehearsed queries js parts) (sym (append-nil jobs));
   }
 
-  follows_one : (queries : List Query) (jobs : List JobFields) (job : JobFields) (name : List ℕ) (names : List (List ℕ)) (d : Done) → HoldsJob files name job → Follows queries (jobs ++ job ∷ []) names d
+  follows_one : (queries : List Query) (jobs : List JobFields) (job : JobFields) (name : List ℕ) (names : List (List ℕ)) (d : Done) → HoldsJob files name job
+      → Follows queries (jobs ++ job ∷ []) names d
       → Follows queries jobs (name ∷ names) d
   follows_one queries jobs job name names d held f = record {
     others = job ∷ f.others;
@@ -90,7 +91,8 @@ module _ (layers : Layers) (files : Files) where
       follows_one queries jobs job name names d (job_held files name job (get files name) refl is_job) (follows queries (jobs ++ job ∷ []) more names d is_more rest)
 
   abbrev pub IsRehearsal : Command → Done → Type 0
-  IsRehearsal asked d = (queries : List Query) × (jobs : List JobFields) × (parts : List SealedFields) × RehearsesJobs asked files queries jobs × IsRehearsed queries jobs parts × (d ≡ rehearsed queries jobs parts)
+  IsRehearsal asked d = (queries : List Query) × (jobs : List JobFields) × (parts : List SealedFields) × RehearsesJobs asked files queries jobs
+      × IsRehearsed queries jobs parts × (d ≡ rehearsed queries jobs parts)
 
   rehearsed_as : (r : RehearseFields) (d : Done) (queries : List Query) → HoldsQueries files r.queries queries → Follows queries [] r.jobs d → IsRehearsal (commands.Rehearse r) d
   rehearsed_as r d queries held f = (
@@ -105,9 +107,11 @@ module _ (layers : Layers) (files : Files) where
     f.done,
   )
 
-  rehearsed_by : (r : RehearseFields) (d : Done) (queries : Result (List Query) NamedFault) → input r.queries queries_in (get files r.queries) ≡ queries → MakesRehearsal r queries (map (get files) r.jobs) (Ok d)
+  rehearsed_by : (r : RehearseFields) (d : Done) (queries : Result (List Query) NamedFault) → input r.queries queries_in (get files r.queries) ≡ queries
+      → MakesRehearsal r queries (map (get files) r.jobs) (Ok d)
       → IsRehearsal (commands.Rehearse r) d
-  rehearsed_by r d (Ok queries) is m = rehearsed_as r d queries (queries_held files r.queries queries (get files r.queries) refl is) (follows queries [] [] r.jobs d tt (from_first queries r.jobs (map (get files) r.jobs) (Ok d) m))
+  rehearsed_by r d (Ok queries) is m = rehearsed_as r d queries (queries_held files r.queries queries (get files r.queries) refl is)
+      (follows queries [] [] r.jobs d tt (from_first queries r.jobs (map (get files) r.jobs) (Ok d) m))
   rehearsed_by r d (Err e) is m = absurd (not_ok d e (sym m))
 
   pub rehearsed_law : (asked : Command) (r : RehearseFields) (d : Done) → asked ≡ commands.Rehearse r → Makes asked (held_by asked files) (Ok d) → IsRehearsal asked d
@@ -117,7 +121,8 @@ module _ (layers : Layers) (files : Files) where
 
   -- ---- histories are rehearsed
 
-  goes_on : (queries : List Query) (jobs : List JobFields) (parts : List SealedFields) (names : List (List ℕ)) (others : List JobFields) (all : List SealedFields) (o : Result Done NamedFault) → IsHistory jobs parts
+  goes_on : (queries : List Query) (jobs : List JobFields) (parts : List SealedFields) (names : List (List ℕ)) (others : List JobFields)
+      (all : List SealedFields) (o : Result Done NamedFault) → IsHistory jobs parts
       → IsHistory (jobs ++ others) all → AllZip (HoldsJob files) names others → RehearsesOn queries jobs parts names (map (get files) names) o → o ≡ Ok (rehearsed queries (jobs ++ others) all)
   goes_on queries jobs parts [] [] all o is is_all held m =
       let same : parts ≡ all = layers.publishing.parts jobs parts all is (subst (λ (js : List JobFields). IsHistory js all) (append-nil jobs) is_all) in
@@ -133,7 +138,8 @@ module _ (layers : Layers) (files : Files) where
       (subst (λ (k : JobFields). RehearsesOn queries (jobs ++ k ∷ []) more names (map (get files) names) o) same rest)
       ∙ ap (λ (js : List JobFields). Ok (rehearsed queries js all)) (append_assoc jobs (j ∷ []) others)
 
-  pub done_law : (asked : Command) (queries : List Query) (jobs : List JobFields) (parts : List SealedFields) (o : Result Done NamedFault) → IsHistory jobs parts → RehearsesJobs asked files queries jobs
+  pub done_law : (asked : Command) (queries : List Query) (jobs : List JobFields) (parts : List SealedFields) (o : Result Done NamedFault)
+      → IsHistory jobs parts → RehearsesJobs asked files queries jobs
       → Makes asked (held_by asked files) o → o ≡ Ok (rehearsed queries jobs parts)
   done_law commands.Usage queries jobs parts o is p m = absurd p
   done_law (commands.Query q) queries jobs parts o is p m = absurd p
@@ -146,4 +152,5 @@ module _ (layers : Layers) (files : Files) where
   done_law (commands.Sample s) queries jobs parts o is p m = absurd p
   done_law (commands.Rehearse r) queries jobs parts o is p m =
       goes_on queries [] [] r.jobs jobs parts o tt is p.1
-      (from_first queries r.jobs (map (get files) r.jobs) o (subst (λ (q : Result (List Query) NamedFault). MakesRehearsal r q (map (get files) r.jobs) o) (queries_input files r.queries queries p.0) m))
+      (from_first queries r.jobs (map (get files) r.jobs) o (subst (λ (q : Result (List Query) NamedFault). MakesRehearsal r q (map (get files) r.jobs) o)
+      (queries_input files r.queries queries p.0) m))

@@ -1,10 +1,13 @@
 -- The reply of a command, from what was read of its inputs.
-use Rattle.std.proofs.Common.{◌≡◌, ℕ, ◌≤◌, inl, inr, List, [], ◌∷◌, Option, Some, None, Result, Ok, Err, IfOk, refl, sym, ap, ◌∙◌, subst, arith}
-use Rattle.std.specs.Prelude.{IsErr}
+use Rattle.std.proofs.Common.{◌≡◌, ℕ, inl, inr, List, [], ◌∷◌, Option, Some, None, Result, Ok, Err, IfOk, refl, sym, ap, ◌∙◌, subst, arith}
+use Rattle.std.specs.Prelude.{◌⊎◌, IsErr, IsErrOf}
 use Rattle.std.specs.FinMap.{get}
 use Rattle.octets_core.specs.declared.memory.NoMemory.{NoMemory}
 use Rattle.octets_core.specs.Reading.{GivesUnless}
-use Rattle.outside_core.specs.Files.{Files, Rose, ReadFailed}
+use Rattle.outside_core.specs.declared.depot.Depot.{Ghosts}
+use Rattle.outside_core.specs.Effects.{OnlyReads}
+use Rattle.outside_core.specs.Files.{Files, IsMissing, blaming}
+use Rattle.sets_core.specs.Among.{Among}
 use Rattle.part_codec.specs.SealedFields.{SealedFields}
 use Rattle.job_core.specs.declared.bounds.TheConstants.Limits.{PUBLISHED}
 use Rattle.job_core.specs.JobFields.{JobFields}
@@ -25,45 +28,106 @@ use Rattle.clubcard_top.specs.declared.input.InputFault.{InputFault}
 use Rattle.clubcard_top.specs.declared.input.InputFault.TheVariants as reads
 use Rattle.clubcard_top.specs.Faults.{of_input, of_publishing}
 use Rattle.clubcard_top.specs.Readings.{faulted, job_in, ledger_in, part_in, store_in, input_as}
-use Rattle.clubcard_top.specs.Inputs.{IsHeld, IsRead, AreRead, IsInput}
-use Rattle.clubcard_top.specs.ReplyFields.{Done, NamedFault}
+use Rattle.clubcard_top.specs.Inputs.{IsHeld, WhichFailed, IsBlamed, BlamesFile, IsRead, AreRead, IsInput}
+use Rattle.clubcard_top.specs.ReplyFields.{ReplyFields, Done, NamedFault}
 use Rattle.clubcard_top.specs.Commands.{◌>>=◌, named, input, query_done, check_done, show_done, begun, installed, stored, publication_done, MakesPart, MakesSnapshot, MakesDelta, Makes}
 use Rattle.clubcard_top.specs.Replies.{done, refusal, reply_of}
-use Rattle.clubcard_top.specs.Answering.{shown}
-use Rattle.clubcard_top.specs.Runs.{IsReply}
+use Rattle.clubcard_top.specs.Answering.{reply_fields}
+use Rattle.clubcard_top.specs.Runs.{SaysWhich, IsReply}
+use Rattle.clubcard_top.proofs.Results.{not_ok}
 use Rattle.clubcard_top.proofs.Makings.{start_after, install_then, install_after}
 
 -- ---- files
 
-held_read : (files : Files) (rose : Type 0) (name : List ℕ) (held : Option (List ℕ)) → get files name ≡ held → (given : Option (List ℕ)) × IsRead (Some files) rose name given
-held_read files rose name None is = (None, inr (files, refl, is))
-held_read files rose name (Some bytes) is = (Some bytes, is)
+held_read : (files : Files) (failed : Option (List ℕ) → Type 0) (name : List ℕ) (held : Option (List ℕ)) → get files name ≡ held → (given : Option (List ℕ)) × IsRead (Some files) failed name given
+held_read files failed name None is = (None, inr (files, refl, is))
+held_read files failed name (Some bytes) is = (Some bytes, is)
 
 -- a file that need not be read
-pub some_read : (told : Option Files) (rose : Type 0) (name : List ℕ) → (given : Option (List ℕ)) × IsRead told rose name given
-some_read None rose name = (Some [], tt)
-some_read (Some files) rose name = held_read files rose name (get files name) refl
+pub some_read : (told : Option Files) (failed : Option (List ℕ) → Type 0) (name : List ℕ) → (given : Option (List ℕ)) × IsRead told failed name given
+some_read None failed name = (Some [], tt)
+some_read (Some files) failed name = held_read files failed name (get files name) refl
 
-whole_read : (told : Option Files) (rose : Type 0) (name bytes : List ℕ) → IsHeld told name (λ file. bytes ≡ file) → IsRead told rose name (Some bytes)
-whole_read None rose name bytes held = tt
-whole_read (Some files) rose name bytes (file, there, same) = there ∙ ap (λ (b : List ℕ). Some b) (sym same)
+whole_read : (told : Option Files) (failed : Option (List ℕ) → Type 0) (name bytes : List ℕ) → IsHeld told name (λ file. bytes ≡ file) → IsRead told failed name (Some bytes)
+whole_read None failed name bytes held = tt
+whole_read (Some files) failed name bytes (file, there, same) = there ∙ ap (λ (b : List ℕ). Some b) (sym same)
 
-pub wider : (told : Option Files) (rose later : Type 0) (name : List ℕ) (given : Option (List ℕ)) → (rose → later) → IsRead told rose name given → IsRead told later name given
-wider told rose later name None up (inl why) = inl (up why)
-wider told rose later name None up (inr missing) = inr missing
-wider told rose later name (Some bytes) up read = read
+-- a file that was read, whatever is known of those whose read failed
+pub read_well : {A : Type 0} (told : Option Files) (failed other : Option (List ℕ) → Type 0) (name : List ℕ) (read : List ℕ → Result A FileFault)
+    (given : Option (List ℕ)) (x : A) → input_as read given ≡ Ok x → IsRead told failed name given → IsRead told other name given
+read_well told failed other name read None x is held = absurd (not_ok x faults.Unread is)
+read_well told failed other name read (Some bytes) x is held = held
+
+pub read_named : {A : Type 0} (told : Option Files) (failed other : Option (List ℕ) → Type 0) (name : List ℕ) (read : List ℕ → Result A FileFault)
+    (given : Option (List ℕ)) (x : A) → input name read given ≡ Ok x → IsRead told failed name given → IsRead told other name given
+read_named told failed other name read None x is held = absurd (not_ok x (record { name = name; fault = faults.Unread }) is)
+read_named told failed other name read (Some bytes) x is held = held
+
+-- a file that was read later in a call
+pub later_read : (told mid : Option Files) (failed other : Option (List ℕ) → Type 0) (name : List ℕ) (given : Option (List ℕ)) → mid ≡ told
+    → ((which : Option (List ℕ)) → failed which → other which) → IsRead mid failed name given → IsRead told other name given
+later_read told mid failed other name None same wider (inl why) = inl (wider (Some name) why)
+later_read told mid failed other name None same wider (inr missing) = inr (subst (λ (t : Option Files). IsMissing t name) same missing)
+later_read told mid failed other name (Some bytes) same wider held = subst (λ (t : Option Files). IsRead t other name (Some bytes)) same held
+
+-- a read that failed behind others that went well is the one that failed
+pub failed_later : {D : Type 0} (g : Ghosts D) (old mid new : D) → OnlyReads g old mid → WhichFailed g old mid None
+    → (which : Option (List ℕ)) → WhichFailed g mid new which → WhichFailed g old new which
+failed_later g old mid new reads well None none = none ∙ well
+failed_later g old mid new reads well (Some name) (rose, blamed) =
+    let le = reads.later in (omega (arith, rose, le), blamed ∙ ap (λ (f : Option (List (List ℕ))). blaming f name) well)
+
+-- ---- which read failed
+
+pub none_failed : {A E : Type 0} (failed : Option (List ℕ) → Type 0) (name : List ℕ) (unread : E) (x : A) → IsBlamed failed name unread (Ok x) → failed None
+none_failed failed name unread x (inl none) = none
+none_failed {A} {E} failed name unread x (inr (is, why)) = absurd (let h : ◌≡◌ {A = Result A E} (Ok x) (Err unread) = is in cc)
+
+pub blames_file : {A : Type 0} (failed : Option (List ℕ) → Type 0) (names : List (List ℕ)) (name : List ℕ) (fault : FileFault) → Among names name
+    → IsBlamed {A = A} failed name faults.Unread (Err fault) → BlamesFile failed names (record { name = name; fault = fault })
+blames_file failed names name fault among (inl none) = inl none
+blames_file {A} failed names name fault among (inr (is, why)) =
+    inr (let h : ◌≡◌ {A = Result A FileFault} (Err fault) (Err faults.Unread) = is in cc, among, why)
+
+pub blamed_later : {A E : Type 0} (failed other : Option (List ℕ) → Type 0) (name : List ℕ) (unread : E) (r : Result A E)
+    → ((which : Option (List ℕ)) → failed which → other which) → IsBlamed failed name unread r → IsBlamed other name unread r
+blamed_later failed other name unread r wider (inl none) = inl (wider None none)
+blamed_later failed other name unread r wider (inr (is, why)) = inr (is, wider (Some name) why)
 
 -- ---- what a file was read as
 
-pub input_err : {A B : Type 0} (told : Option Files) (before now : ℕ) (name : List ℕ) (read : List ℕ → Result A FileFault) (view : B → A) (e : InputFault) → (e ≡ reads.Failed → ReadFailed told name before now)
-    → IsInput told (Rose before now) name read view (Err (of_input e))
-input_err told before now name read view reads.Failed failed = (None, failed refl, λ refute. refl)
-input_err told before now name read view reads.NoMemory failed =
-    let some = some_read told (Rose before now) name in (some.0, some.1, λ refute. absurd (refute refl))
+-- an input whose read failed
+unread_input : {A B : Type 0} (told : Option Files) (failed : Option (List ℕ) → Type 0) (name : List ℕ) (read : List ℕ → Result A FileFault) (view : B → A)
+    → failed (Some name) ⊎ (IsMissing told name × failed None) → IsInput told failed name read view (Err faults.Unread)
+unread_input told failed name read view (inl blamed) = (None, inl blamed, λ refute. refl, inr (refl, blamed))
+unread_input told failed name read view (inr (missing, none)) = (None, inr missing, λ refute. refl, inl none)
 
-pub input_value : {A B : Type 0} (told : Option Files) (rose : Type 0) (name bytes : List ℕ) (read : List ℕ → Result A FileFault) (view : B → A) (r : Result B FileFault) → IsHeld told name (λ file. bytes ≡ file)
-    → GivesUnless faults.NoMemory view r (read bytes) → IsInput told rose name read view r
-input_value told rose name bytes read view r held gives = (Some bytes, whole_read told rose name bytes held, gives)
+-- what the reading of a file says of which read failed
+well_read : {T : Type 0} (failed : Option (List ℕ) → Type 0) (r : Result T InputFault) → (r ≡ Err reads.Failed → ⊥) → IsErrOf r reads.Failed ⊎ failed None → failed None
+well_read failed r refute (inl is) = absurd (refute is)
+well_read failed r refute (inr none) = none
+
+pub input_err : {T A B : Type 0} (told : Option Files) (failed : Option (List ℕ) → Type 0) (name : List ℕ) (read : List ℕ → Result A FileFault) (view : B → A)
+    (e : InputFault) → (IsErrOf {T = T} (Err e) reads.Failed → failed (Some name) ⊎ (IsMissing told name × failed None))
+    → IsErrOf {T = T} (Err e) reads.Failed ⊎ failed None → IsInput told failed name read view (Err (of_input e))
+input_err told failed name read view reads.Failed why unblamed = unread_input told failed name read view (why refl)
+input_err {T} told failed name read view reads.NoMemory why unblamed =
+    let some = some_read told failed name in (
+      some.0,
+      some.1,
+      λ refute. absurd (refute refl),
+      inl (well_read {T = T} failed (Err reads.NoMemory) (λ h. let g : ◌≡◌ {A = Result T InputFault} (Err reads.NoMemory) (Err reads.Failed) = h in cc) unblamed),
+    )
+
+pub input_value : {T A B : Type 0} (told : Option Files) (failed : Option (List ℕ) → Type 0) (name bytes : List ℕ) (read : List ℕ → Result A FileFault) (view : B → A)
+    (r : Result B FileFault) (x : T) → IsHeld told name (λ file. bytes ≡ file) → IsErrOf (Ok x) reads.Failed ⊎ failed None
+    → GivesUnless faults.NoMemory view r (read bytes) → IsInput told failed name read view r
+input_value {T} told failed name bytes read view r x held unblamed gives = (
+  Some bytes,
+  whole_read told failed name bytes held,
+  gives,
+  inl (well_read failed (Ok x) (λ h. let g : ◌≡◌ {A = Result T InputFault} (Ok x) (Err reads.Failed) = h in cc) unblamed),
+)
 
 pub faulted_ok : {A B E : Type 0} (fault : E → FileFault) (view : B → A) (x : B) (spec : Result A E) → spec ≡ Ok (view x) → GivesUnless faults.NoMemory view (Ok x) (faulted fault spec)
 faulted_ok fault view x spec is = ap (faulted fault) is
@@ -74,68 +138,95 @@ faulted_err fault none e view spec same is = λ refute. ap (faulted fault) (is (
 
 -- ---- replies
 
-pub made : (c : Command) (told : Option Files) (rose : Type 0) (inputs : List (Option (List ℕ))) (o : Result Done NamedFault) (r : Result Answer NoMemory) → AreRead told rose (inputs_of c) inputs → Makes c inputs o
-    → IfOk r (λ a. shown a ≡ reply_of o) → IfOk r (λ a. IsReply c told rose (shown a))
-made c told rose inputs o (Ok a) read m is = (inputs, read, inr (o, m, is))
-made c told rose inputs o (Err e) read m is = tt
+-- what an outcome says of which read failed
+abbrev pub BlamesOf : (Option (List ℕ) → Type 0) → List (List ℕ) → Result Done NamedFault → Type 0
+BlamesOf failed names (Ok d) = failed None
+BlamesOf failed names (Err e) = BlamesFile failed names e
+
+says_fault : (failed : Option (List ℕ) → Type 0) (names : List (List ℕ)) (e : NamedFault) (reply : ReplyFields) → BlamesFile failed names e
+    → reply ≡ refusal e.name e.fault → SaysWhich failed names reply
+says_fault failed names e reply (inl none) is = inl none
+says_fault failed names e reply (inr (unread, among, why)) is = inr (e.name, among, is ∙ ap (refusal e.name) unread, why)
+
+says_which : (failed : Option (List ℕ) → Type 0) (names : List (List ℕ)) (o : Result Done NamedFault) (reply : ReplyFields) → BlamesOf failed names o
+    → reply ≡ reply_of o → SaysWhich failed names reply
+says_which failed names (Ok d) reply none is = inl none
+says_which failed names (Err e) reply blames is = says_fault failed names e reply blames is
+
+pub made : (c : Command) (told : Option Files) (failed : Option (List ℕ) → Type 0) (inputs : List (Option (List ℕ))) (o : Result Done NamedFault)
+    (r : Result Answer NoMemory) → AreRead told failed (inputs_of c) inputs → BlamesOf failed (inputs_of c) o → Makes c inputs o
+    → IfOk r (λ a. reply_fields a ≡ reply_of o) → IfOk r (λ a. IsReply c told failed (reply_fields a))
+made c told failed inputs o (Ok a) read blames m is = (inputs, read, inr (o, m, is), says_which failed (inputs_of c) o (reply_fields a) blames is)
+made c told failed inputs o (Err e) read blames m is = tt
 
 -- a fault that isn't want of memory
-pub made_unless : (c : Command) (told : Option Files) (rose : Type 0) (inputs : List (Option (List ℕ))) (name : List ℕ) (fault : FileFault) (r : Result Answer NoMemory) → AreRead told rose (inputs_of c) inputs
-    → ((fault ≡ faults.NoMemory → ⊥) → Makes c inputs (Err (record { name = name; fault = fault }))) → (fault ≡ faults.NoMemory → IsErr r) → IfOk r (λ a. shown a ≡ refusal name fault)
-    → IfOk r (λ a. IsReply c told rose (shown a))
-made_unless c told rose inputs name fault (Ok a) read m memory is =
-    made c told rose inputs (Err (record { name = name; fault = fault })) (Ok a) read (m (λ none. absurd (let h : IsErr {T = Answer} {E = NoMemory} (Ok a) = memory none in cc))) is
-made_unless c told rose inputs name fault (Err e) read m memory is = tt
+pub made_unless : (c : Command) (told : Option Files) (failed : Option (List ℕ) → Type 0) (inputs : List (Option (List ℕ))) (name : List ℕ) (fault : FileFault)
+    (r : Result Answer NoMemory) → AreRead told failed (inputs_of c) inputs
+    → BlamesFile failed (inputs_of c) (record { name = name; fault = fault })
+    → ((fault ≡ faults.NoMemory → ⊥) → Makes c inputs (Err (record { name = name; fault = fault }))) → (fault ≡ faults.NoMemory → IsErr r)
+    → IfOk r (λ a. reply_fields a ≡ refusal name fault)
+    → IfOk r (λ a. IsReply c told failed (reply_fields a))
+made_unless c told failed inputs name fault (Ok a) read blames m memory is =
+    made c told failed inputs (Err (record { name = name; fault = fault })) (Ok a) read blames
+    (m (λ none. absurd (let h : IsErr {T = Answer} {E = NoMemory} (Ok a) = memory none in cc))) is
+made_unless c told failed inputs name fault (Err e) read blames m memory is = tt
 
 -- ---- commands of one input
 
-module _ (told : Option Files) (rose : Type 0) (r : Result Answer NoMemory) where
+module _ (told : Option Files) (failed : Option (List ℕ) → Type 0) (r : Result Answer NoMemory) where
   -- the input is at fault
-  one_refused : {A B : Type 0} (c : Command) (name : List ℕ) (read : List ℕ → Result A FileFault) (view : B → A) (fault : FileFault) → ((given : Option (List ℕ)) → IsRead told rose name given → AreRead told rose (inputs_of c) (given ∷ []))
+  one_refused : {A B : Type 0} (c : Command) (name : List ℕ) (read : List ℕ → Result A FileFault) (view : B → A) (fault : FileFault)
+      → ((given : Option (List ℕ)) → IsRead told failed name given → AreRead told failed (inputs_of c) (given ∷ []))
       → ((given : Option (List ℕ)) → input name read given ≡ Err (record { name = name; fault = fault }) → Makes c (given ∷ []) (Err (record { name = name; fault = fault })))
-      → IsInput told rose name read view (Err fault) → (fault ≡ faults.NoMemory → IsErr r) → IfOk r (λ a. shown a ≡ refusal name fault) → IfOk r (λ a. IsReply c told rose (shown a))
-  one_refused c name read view fault reads_ makes (given, is_read, gives) memory is =
-      made_unless c told rose (given ∷ []) name fault r (reads_ given is_read) (λ refute. makes given (ap (named name) (gives refute))) memory is
+      → Among (inputs_of c) name → IsInput told failed name read view (Err fault) → (fault ≡ faults.NoMemory → IsErr r)
+      → IfOk r (λ a. reply_fields a ≡ refusal name fault) → IfOk r (λ a. IsReply c told failed (reply_fields a))
+  one_refused c name read view fault reads_ makes among (given, is_read, gives, blamed) memory is =
+      made_unless c told failed (given ∷ []) name fault r (reads_ given is_read) (blames_file failed (inputs_of c) name fault among blamed)
+      (λ refute. makes given (ap (named name) (gives refute))) memory is
 
-  pub query_refused : {B : Type 0} (q : QueryFields) (view : B → List SealedFields) (fault : FileFault) → IsInput told rose q.store store_in view (Err fault) → (fault ≡ faults.NoMemory → IsErr r)
-      → IfOk r (λ a. shown a ≡ refusal q.store fault) → IfOk r (λ a. IsReply (commands.Query q) told rose (shown a))
+  pub query_refused : {B : Type 0} (q : QueryFields) (view : B → List SealedFields) (fault : FileFault) → IsInput told failed q.store store_in view (Err fault) → (fault ≡ faults.NoMemory → IsErr r)
+      → IfOk r (λ a. reply_fields a ≡ refusal q.store fault) → IfOk r (λ a. IsReply (commands.Query q) told failed (reply_fields a))
   query_refused q view fault in_ memory is =
-      one_refused (commands.Query q) q.store store_in view fault (λ g read. (read, tt)) (λ g h. sym (ap (λ (x : Result (List SealedFields) NamedFault). x >>= (λ ps. Ok (query_done q ps))) h)) in_ memory is
+      one_refused (commands.Query q) q.store store_in view fault (λ g read. (read, tt))
+      (λ g h. sym (ap (λ (x : Result (List SealedFields) NamedFault). x >>= (λ ps. Ok (query_done q ps))) h)) (inl refl) in_ memory is
 
-  pub query_made : {B : Type 0} (q : QueryFields) (view : B → List SealedFields) (x : B) → IsInput told rose q.store store_in view (Ok x) → IfOk r (λ a. shown a ≡ done (query_done q (view x)))
-      → IfOk r (λ a. IsReply (commands.Query q) told rose (shown a))
-  query_made q view x (given, read, gives) is =
-      made (commands.Query q) told rose (given ∷ []) (Ok (query_done q (view x))) r (read, tt)
+  pub query_made : {B : Type 0} (q : QueryFields) (view : B → List SealedFields) (x : B) → IsInput told failed q.store store_in view (Ok x)
+      → IfOk r (λ a. reply_fields a ≡ done (query_done q (view x)))
+      → IfOk r (λ a. IsReply (commands.Query q) told failed (reply_fields a))
+  query_made q view x (given, read, gives, blamed) is =
+      made (commands.Query q) told failed (given ∷ []) (Ok (query_done q (view x))) r (read, tt) (none_failed failed q.store faults.Unread x blamed)
       (sym (ap (λ (y : Result (List SealedFields) FileFault). named q.store y >>= (λ ps. Ok (query_done q ps))) gives)) is
 
-  pub check_refused : {B : Type 0} (name : List ℕ) (view : B → SealedFields × ℕ) (fault : FileFault) → IsInput told rose name part_in view (Err fault) → (fault ≡ faults.NoMemory → IsErr r)
-      → IfOk r (λ a. shown a ≡ refusal name fault) → IfOk r (λ a. IsReply (commands.Check name) told rose (shown a))
+  pub check_refused : {B : Type 0} (name : List ℕ) (view : B → SealedFields × ℕ) (fault : FileFault) → IsInput told failed name part_in view (Err fault) → (fault ≡ faults.NoMemory → IsErr r)
+      → IfOk r (λ a. reply_fields a ≡ refusal name fault) → IfOk r (λ a. IsReply (commands.Check name) told failed (reply_fields a))
   check_refused name view fault in_ memory is =
-      one_refused (commands.Check name) name part_in view fault (λ g read. (read, tt)) (λ g h. sym (ap (λ (x : Result (SealedFields × ℕ) NamedFault). x >>= (λ y. Ok (check_done y))) h)) in_ memory is
+      one_refused (commands.Check name) name part_in view fault (λ g read. (read, tt))
+      (λ g h. sym (ap (λ (x : Result (SealedFields × ℕ) NamedFault). x >>= (λ y. Ok (check_done y))) h)) (inl refl) in_ memory is
 
-  pub check_made : {B : Type 0} (name : List ℕ) (view : B → SealedFields × ℕ) (x : B) → IsInput told rose name part_in view (Ok x) → IfOk r (λ a. shown a ≡ done (check_done (view x)))
-      → IfOk r (λ a. IsReply (commands.Check name) told rose (shown a))
-  check_made name view x (given, read, gives) is =
-      made (commands.Check name) told rose (given ∷ []) (Ok (check_done (view x))) r (read, tt)
+  pub check_made : {B : Type 0} (name : List ℕ) (view : B → SealedFields × ℕ) (x : B) → IsInput told failed name part_in view (Ok x) → IfOk r (λ a. reply_fields a ≡ done (check_done (view x)))
+      → IfOk r (λ a. IsReply (commands.Check name) told failed (reply_fields a))
+  check_made name view x (given, read, gives, blamed) is =
+      made (commands.Check name) told failed (given ∷ []) (Ok (check_done (view x))) r (read, tt) (none_failed failed name faults.Unread x blamed)
       (sym (ap (λ (y : Result (SealedFields × ℕ) FileFault). named name y >>= (λ z. Ok (check_done z))) gives)) is
 
-  pub show_refused : {B : Type 0} (name : List ℕ) (view : B → SealedFields × ℕ) (fault : FileFault) → IsInput told rose name part_in view (Err fault) → (fault ≡ faults.NoMemory → IsErr r)
-      → IfOk r (λ a. shown a ≡ refusal name fault) → IfOk r (λ a. IsReply (commands.Show name) told rose (shown a))
+  pub show_refused : {B : Type 0} (name : List ℕ) (view : B → SealedFields × ℕ) (fault : FileFault) → IsInput told failed name part_in view (Err fault) → (fault ≡ faults.NoMemory → IsErr r)
+      → IfOk r (λ a. reply_fields a ≡ refusal name fault) → IfOk r (λ a. IsReply (commands.Show name) told failed (reply_fields a))
   show_refused name view fault in_ memory is =
-      one_refused (commands.Show name) name part_in view fault (λ g read. (read, tt)) (λ g h. sym (ap (λ (x : Result (SealedFields × ℕ) NamedFault). x >>= (λ y. Ok (show_done y))) h)) in_ memory is
+      one_refused (commands.Show name) name part_in view fault (λ g read. (read, tt))
+      (λ g h. sym (ap (λ (x : Result (SealedFields × ℕ) NamedFault). x >>= (λ y. Ok (show_done y))) h)) (inl refl) in_ memory is
 
-  pub show_made : {B : Type 0} (name : List ℕ) (view : B → SealedFields × ℕ) (x : B) → IsInput told rose name part_in view (Ok x) → IfOk r (λ a. shown a ≡ done (show_done (view x)))
-      → IfOk r (λ a. IsReply (commands.Show name) told rose (shown a))
-  show_made name view x (given, read, gives) is =
-      made (commands.Show name) told rose (given ∷ []) (Ok (show_done (view x))) r (read, tt)
+  pub show_made : {B : Type 0} (name : List ℕ) (view : B → SealedFields × ℕ) (x : B) → IsInput told failed name part_in view (Ok x) → IfOk r (λ a. reply_fields a ≡ done (show_done (view x)))
+      → IfOk r (λ a. IsReply (commands.Show name) told failed (reply_fields a))
+  show_made name view x (given, read, gives, blamed) is =
+      made (commands.Show name) told failed (given ∷ []) (Ok (show_done (view x))) r (read, tt) (none_failed failed name faults.Unread x blamed)
       (sym (ap (λ (y : Result (SealedFields × ℕ) FileFault). named name y >>= (λ z. Ok (show_done z))) gives)) is
 
   -- ---- start
 
-  pub start_refused : {B : Type 0} (t : StartFields) (view : B → SealedFields × ℕ) (fault : FileFault) → IsInput told rose t.part part_in view (Err fault) → (fault ≡ faults.NoMemory → IsErr r)
-      → IfOk r (λ a. shown a ≡ refusal t.part fault) → IfOk r (λ a. IsReply (commands.Start t) told rose (shown a))
+  pub start_refused : {B : Type 0} (t : StartFields) (view : B → SealedFields × ℕ) (fault : FileFault) → IsInput told failed t.part part_in view (Err fault) → (fault ≡ faults.NoMemory → IsErr r)
+      → IfOk r (λ a. reply_fields a ≡ refusal t.part fault) → IfOk r (λ a. IsReply (commands.Start t) told failed (reply_fields a))
   start_refused t view fault in_ memory is =
-      one_refused (commands.Start t) t.part part_in view fault (λ g read. (read, tt)) (λ g h. sym (ap (λ (x : Result (SealedFields × ℕ) NamedFault). x >>= start_after t) h)) in_ memory is
+      one_refused (commands.Start t) t.part part_in view fault (λ g read. (read, tt)) (λ g h. sym (ap (λ (x : Result (SealedFields × ℕ) NamedFault). x >>= start_after t) h)) (inl refl) in_ memory is
 
   -- what follows the part that was read
   start_step : (t : StartFields) (x : SealedFields × ℕ) (given : Option (List ℕ)) (y : Result (List SealedFields) FileFault) → input_as part_in given ≡ Ok x → begun x.0 ≡ y
@@ -144,33 +235,37 @@ module _ (told : Option Files) (rose : Type 0) (r : Result Answer NoMemory) wher
       ap (λ (z : Result (List SealedFields) FileFault). named t.part z >>= (λ parts. Ok (stored t.store parts))) (sym is)
       ∙ sym (ap (λ (z : Result (SealedFields × ℕ) FileFault). named t.part z >>= start_after t) gives)
 
-  pub start_made : {B C : Type 0} (t : StartFields) (view : B → SealedFields × ℕ) (x : B) (shape : C → List SealedFields) (y : C) → IsInput told rose t.part part_in view (Ok x)
-      → GivesUnless faults.NoMemory shape (Ok y) (begun (view x).0) → IfOk r (λ a. shown a ≡ done (stored t.store (shape y))) → IfOk r (λ a. IsReply (commands.Start t) told rose (shown a))
-  start_made t view x shape y (given, read, gives) is_begun is =
-      made (commands.Start t) told rose (given ∷ []) (Ok (stored t.store (shape y))) r (read, tt) (start_step t (view x) given (Ok (shape y)) gives is_begun) is
+  pub start_made : {B C : Type 0} (t : StartFields) (view : B → SealedFields × ℕ) (x : B) (shape : C → List SealedFields) (y : C) → IsInput told failed t.part part_in view (Ok x)
+      → GivesUnless faults.NoMemory shape (Ok y) (begun (view x).0) → IfOk r (λ a. reply_fields a ≡ done (stored t.store (shape y)))
+      → IfOk r (λ a. IsReply (commands.Start t) told failed (reply_fields a))
+  start_made t view x shape y (given, read, gives, blamed) is_begun is =
+      made (commands.Start t) told failed (given ∷ []) (Ok (stored t.store (shape y))) r (read, tt) (none_failed failed t.part faults.Unread x blamed)
+      (start_step t (view x) given (Ok (shape y)) gives is_begun) is
 
-  pub start_not : {B C : Type 0} (t : StartFields) (view : B → SealedFields × ℕ) (x : B) (shape : C → List SealedFields) (fault : FileFault) → IsInput told rose t.part part_in view (Ok x)
-      → GivesUnless faults.NoMemory shape (Err fault) (begun (view x).0) → (fault ≡ faults.NoMemory → IsErr r) → IfOk r (λ a. shown a ≡ refusal t.part fault)
-      → IfOk r (λ a. IsReply (commands.Start t) told rose (shown a))
-  start_not t view x shape fault (given, read, gives) not_begun memory is =
-      made_unless (commands.Start t) told rose (given ∷ []) t.part fault r (read, tt) (λ refute. start_step t (view x) given (Err fault) gives (not_begun refute)) memory is
+  pub start_not : {B C : Type 0} (t : StartFields) (view : B → SealedFields × ℕ) (x : B) (shape : C → List SealedFields) (fault : FileFault) → IsInput told failed t.part part_in view (Ok x)
+      → GivesUnless faults.NoMemory shape (Err fault) (begun (view x).0) → (fault ≡ faults.NoMemory → IsErr r) → IfOk r (λ a. reply_fields a ≡ refusal t.part fault)
+      → IfOk r (λ a. IsReply (commands.Start t) told failed (reply_fields a))
+  start_not t view x shape fault (given, read, gives, blamed) not_begun memory is =
+      made_unless (commands.Start t) told failed (given ∷ []) t.part fault r (read, tt) (inl (none_failed failed t.part faults.Unread x blamed))
+      (λ refute. start_step t (view x) given (Err fault) gives (not_begun refute)) memory is
 
   -- ---- snapshot
 
-  pub snapshot_refused : {B : Type 0} (s : SnapshotFields) (view : B → JobFields) (fault : FileFault) → IsInput told rose s.job job_in view (Err fault) → (fault ≡ faults.NoMemory → IsErr r)
-      → IfOk r (λ a. shown a ≡ refusal s.job fault) → IfOk r (λ a. IsReply (commands.Snapshot s) told rose (shown a))
+  pub snapshot_refused : {B : Type 0} (s : SnapshotFields) (view : B → JobFields) (fault : FileFault) → IsInput told failed s.job job_in view (Err fault) → (fault ≡ faults.NoMemory → IsErr r)
+      → IfOk r (λ a. reply_fields a ≡ refusal s.job fault) → IfOk r (λ a. IsReply (commands.Snapshot s) told failed (reply_fields a))
   snapshot_refused s view fault in_ memory is =
       one_refused (commands.Snapshot s) s.job job_in view fault (λ g read. (read, tt))
-      (λ g h. subst (λ (x : Result JobFields NamedFault). MakesSnapshot s x (Err (record { name = s.job; fault = fault }))) (sym h) refl) in_ memory is
+      (λ g h. subst (λ (x : Result JobFields NamedFault). MakesSnapshot s x (Err (record { name = s.job; fault = fault }))) (sym h) refl) (inl refl) in_ memory is
 
   snapshot_step : (s : SnapshotFields) (j : JobFields) (given : Option (List ℕ)) (o : Result Done NamedFault) → input_as job_in given ≡ Ok j → MakesPart s.job s.part s.ledger no_ledger j o
       → Makes (commands.Snapshot s) (given ∷ []) o
   snapshot_step s j given o gives m = subst (λ (x : Result JobFields FileFault). MakesSnapshot s (named s.job x) o) (sym gives) m
 
-  pub snapshot_made : {B : Type 0} (s : SnapshotFields) (view : B → JobFields) (x : B) (p : Published) → IsInput told rose s.job job_in view (Ok x) → FitsFields (view x) → IsWithinLimits PUBLISHED (view x)
-      → PublishesUnless no_ledger (view x) (Ok p) → IfOk r (λ a. shown a ≡ done (publication_done s.part s.ledger p)) → IfOk r (λ a. IsReply (commands.Snapshot s) told rose (shown a))
-  snapshot_made s view x p (given, read, gives) fits limits publishes is =
-      made (commands.Snapshot s) told rose (given ∷ []) (Ok (publication_done s.part s.ledger p)) r (read, tt)
+  pub snapshot_made : {B : Type 0} (s : SnapshotFields) (view : B → JobFields) (x : B) (p : Published) → IsInput told failed s.job job_in view (Ok x)
+      → FitsFields (view x) → IsWithinLimits PUBLISHED (view x)
+      → PublishesUnless no_ledger (view x) (Ok p) → IfOk r (λ a. reply_fields a ≡ done (publication_done s.part s.ledger p)) → IfOk r (λ a. IsReply (commands.Snapshot s) told failed (reply_fields a))
+  snapshot_made s view x p (given, read, gives, blamed) fits limits publishes is =
+      made (commands.Snapshot s) told failed (given ∷ []) (Ok (publication_done s.part s.ledger p)) r (read, tt) (none_failed failed s.job faults.Unread x blamed)
       (snapshot_step s (view x) given (Ok (publication_done s.part s.ledger p)) gives (record { fits = fits; limits = limits; result = Ok p; publishes = publishes; is = refl })) is
 
 -- a fault of publishing that isn't want of memory
@@ -179,30 +274,49 @@ publishes_err before j (publish.Admission fault) h refute = h
 publishes_err before j (publish.SeedsExhausted issuer stage) h refute = h
 publishes_err before j publish.NoMemory h refute = absurd (refute refl)
 
-module _ (told : Option Files) (rose : Type 0) (r : Result Answer NoMemory) where
-  pub snapshot_not : {B : Type 0} (s : SnapshotFields) (view : B → JobFields) (x : B) (fault : PublishFault) → IsInput told rose s.job job_in view (Ok x) → FitsFields (view x) → IsWithinLimits PUBLISHED (view x)
-      → PublishesUnless no_ledger (view x) (Err fault) → (of_publishing fault ≡ faults.NoMemory → IsErr r) → IfOk r (λ a. shown a ≡ refusal s.job (of_publishing fault))
-      → IfOk r (λ a. IsReply (commands.Snapshot s) told rose (shown a))
-  snapshot_not s view x fault (given, read, gives) fits limits publishes memory is =
-      made_unless (commands.Snapshot s) told rose (given ∷ []) s.job (of_publishing fault) r (read, tt)
-      (λ refute. snapshot_step told rose r s (view x) given (Err (record { name = s.job; fault = of_publishing fault })) gives
+module _ (told : Option Files) (failed : Option (List ℕ) → Type 0) (r : Result Answer NoMemory) where
+  pub snapshot_not : {B : Type 0} (s : SnapshotFields) (view : B → JobFields) (x : B) (fault : PublishFault) → IsInput told failed s.job job_in view (Ok x)
+      → FitsFields (view x) → IsWithinLimits PUBLISHED (view x)
+      → PublishesUnless no_ledger (view x) (Err fault) → (of_publishing fault ≡ faults.NoMemory → IsErr r) → IfOk r (λ a. reply_fields a ≡ refusal s.job (of_publishing fault))
+      → IfOk r (λ a. IsReply (commands.Snapshot s) told failed (reply_fields a))
+  snapshot_not s view x fault (given, read, gives, blamed) fits limits publishes memory is =
+      made_unless (commands.Snapshot s) told failed (given ∷ []) s.job (of_publishing fault) r (read, tt) (inl (none_failed failed s.job faults.Unread x blamed))
+      (λ refute. snapshot_step told failed r s (view x) given (Err (record { name = s.job; fault = of_publishing fault })) gives
       (record { fits = fits; limits = limits; result = Err fault; publishes = publishes_err no_ledger (view x) fault publishes refute; is = refl })) memory is
 
 -- ---- commands of two inputs
 
--- reads that were counted later in a call were counted in it
-pub rose_later : (first then last : ℕ) → then ≤ last → Rose first then → Rose first last
-rose_later first then last le rose = omega (arith, rose)
+module _ {D : Type 0} (g : Ghosts D) (old mid new : D) (reads_ : OnlyReads g old mid) (r : Result Answer NoMemory) where
+  abbrev First : Option (List ℕ) → Type 0
+  First = WhichFailed g old mid
 
-pub rose_earlier : (first then last : ℕ) → first ≤ then → Rose then last → Rose first last
-rose_earlier first then last le rose = omega (arith, rose)
+  abbrev Second : Option (List ℕ) → Type 0
+  Second = WhichFailed g mid new
 
-module _ (told mid : Option Files) (first then last : ℕ) (same : mid ≡ told) (early : first ≤ then) (late : then ≤ last) (r : Result Answer NoMemory) where
-  read_first : (name : List ℕ) (given : Option (List ℕ)) → IsRead told (Rose first then) name given → IsRead told (Rose first last) name given
-  read_first name given read = wider told (Rose first then) (Rose first last) name given (rose_later first then last late) read
+  abbrev Both : Option (List ℕ) → Type 0
+  Both = WhichFailed g old new
 
-  read_second : (name : List ℕ) (given : Option (List ℕ)) → IsRead mid (Rose then last) name given → IsRead told (Rose first last) name given
-  read_second name given read = wider told (Rose then last) (Rose first last) name given (rose_earlier first then last early) (subst (λ (f : Option Files). IsRead f (Rose then last) name given) same read)
+  -- where the first was read well
+  module _ {B : Type 0} (first : List ℕ) (x : B) (blamed : IsBlamed First first faults.Unread (Ok x)) where
+    later : (which : Option (List ℕ)) → Second which → Both which
+    later which h = failed_later g old mid new reads_ (none_failed First first faults.Unread x blamed) which h
+
+    both_read : {A : Type 0} (second : List ℕ) (read : List ℕ → Result A FileFault) (y : A) (given more : Option (List ℕ)) → input_as read given ≡ Ok y
+        → IsRead (g.files old) First first given → IsRead (g.files mid) Second second more → AreRead (g.files old) Both (first ∷ second ∷ []) (given ∷ more ∷ [])
+    both_read second read y given more gives is_read is_more = (
+      read_well (g.files old) First Both first read given y gives is_read,
+      (later_read (g.files old) (g.files mid) Second Both second more reads_.same_files later is_more, tt),
+    )
+
+    -- and the second too
+    both_well : {C : Type 0} (second : List ℕ) (y : C) → IsBlamed Second second faults.Unread (Ok y) → Both None
+    both_well second y blamed_second = later None (none_failed Second second faults.Unread y blamed_second)
+
+    -- and the second is at fault
+    second_blamed : {C : Type 0} (second : List ℕ) (fault : FileFault) → IsBlamed {A = C} Second second faults.Unread (Err fault)
+        → BlamesFile Both (first ∷ second ∷ []) (record { name = second; fault = fault })
+    second_blamed {C} second fault h =
+        blames_file {A = C} Both (first ∷ second ∷ []) second fault (inr (inl refl)) (blamed_later {A = C} Second Both second faults.Unread (Err fault) later h)
 
   -- ---- delta
 
@@ -210,79 +324,96 @@ module _ (told mid : Option Files) (first then last : ℕ) (same : mid ≡ told)
       → MakesDelta t (Ok j) (input t.ledger ledger_in l) o → Makes (commands.Delta t) (given ∷ l ∷ []) o
   delta_step t j given l o gives m = subst (λ (x : Result JobFields FileFault). MakesDelta t (named t.job x) (input t.ledger ledger_in l) o) (sym gives) m
 
-  delta_then : (t : DeltaFields) (j : JobFields) (l : LedgerFields) (given given_ledger : Option (List ℕ)) (o : Result Done NamedFault) → input_as job_in given ≡ Ok j → input_as ledger_in given_ledger ≡ Ok l
+  delta_then : (t : DeltaFields) (j : JobFields) (l : LedgerFields) (given given_ledger : Option (List ℕ)) (o : Result Done NamedFault)
+      → input_as job_in given ≡ Ok j → input_as ledger_in given_ledger ≡ Ok l
       → MakesPart t.job t.part t.new_ledger l j o → Makes (commands.Delta t) (given ∷ given_ledger ∷ []) o
   delta_then t j l given given_ledger o gives gives_ledger m =
       delta_step t j given given_ledger o gives (subst (λ (x : Result LedgerFields FileFault). MakesDelta t (Ok j) (named t.ledger x) o) (sym gives_ledger) m)
 
-  pub delta_no_ledger : {B C : Type 0} (t : DeltaFields) (view : B → JobFields) (x : B) (shape : C → LedgerFields) (fault : FileFault) → IsInput told (Rose first then) t.job job_in view (Ok x)
-      → IsInput mid (Rose then last) t.ledger ledger_in shape (Err fault) → (fault ≡ faults.NoMemory → IsErr r) → IfOk r (λ a. shown a ≡ refusal t.ledger fault)
-      → IfOk r (λ a. IsReply (commands.Delta t) told (Rose first last) (shown a))
-  delta_no_ledger t view x shape fault (g, read, gives) (h, read_ledger, gives_ledger) memory is =
-      made_unless (commands.Delta t) told (Rose first last) (g ∷ h ∷ []) t.ledger fault r (read_first t.job g read, (read_second t.ledger h read_ledger, tt))
-      (λ refute. delta_step t (view x) g h (Err (record { name = t.ledger; fault = fault })) gives
+  pub delta_no_ledger : {B C : Type 0} (t : DeltaFields) (view : B → JobFields) (x : B) (shape : C → LedgerFields) (fault : FileFault) → IsInput (g.files old) First t.job job_in view (Ok x)
+      → IsInput (g.files mid) Second t.ledger ledger_in shape (Err fault) → (fault ≡ faults.NoMemory → IsErr r) → IfOk r (λ a. reply_fields a ≡ refusal t.ledger fault)
+      → IfOk r (λ a. IsReply (commands.Delta t) (g.files old) Both (reply_fields a))
+  delta_no_ledger {B} {C} t view x shape fault (given, read, gives, blamed) (more, read_ledger, gives_ledger, blamed_ledger) memory is =
+      made_unless (commands.Delta t) (g.files old) Both (given ∷ more ∷ []) t.ledger fault r
+      (both_read t.job x blamed t.ledger job_in (view x) given more gives read read_ledger) (second_blamed t.job x blamed {C = C} t.ledger fault blamed_ledger)
+      (λ refute. delta_step t (view x) given more (Err (record { name = t.ledger; fault = fault })) gives
       (subst (λ (y : Result LedgerFields FileFault). MakesDelta t (Ok (view x)) (named t.ledger y) (Err (record { name = t.ledger; fault = fault }))) (sym (gives_ledger refute)) refl)) memory is
 
-  pub delta_made : {B C : Type 0} (t : DeltaFields) (view : B → JobFields) (x : B) (shape : C → LedgerFields) (l : C) (p : Published) → IsInput told (Rose first then) t.job job_in view (Ok x)
-      → IsInput mid (Rose then last) t.ledger ledger_in shape (Ok l) → FitsFields (view x) → IsWithinLimits PUBLISHED (view x) → PublishesUnless (shape l) (view x) (Ok p)
-      → IfOk r (λ a. shown a ≡ done (publication_done t.part t.new_ledger p)) → IfOk r (λ a. IsReply (commands.Delta t) told (Rose first last) (shown a))
-  delta_made t view x shape l p (g, read, gives) (h, read_ledger, gives_ledger) fits limits publishes is =
-      made (commands.Delta t) told (Rose first last) (g ∷ h ∷ []) (Ok (publication_done t.part t.new_ledger p)) r (read_first t.job g read, (read_second t.ledger h read_ledger, tt))
-      (delta_then t (view x) (shape l) g h (Ok (publication_done t.part t.new_ledger p)) gives gives_ledger (record { fits = fits; limits = limits; result = Ok p; publishes = publishes; is = refl })) is
+  pub delta_made : {B C : Type 0} (t : DeltaFields) (view : B → JobFields) (x : B) (shape : C → LedgerFields) (l : C) (p : Published) → IsInput (g.files old) First t.job job_in view (Ok x)
+      → IsInput (g.files mid) Second t.ledger ledger_in shape (Ok l) → FitsFields (view x) → IsWithinLimits PUBLISHED (view x) → PublishesUnless (shape l) (view x) (Ok p)
+      → IfOk r (λ a. reply_fields a ≡ done (publication_done t.part t.new_ledger p)) → IfOk r (λ a. IsReply (commands.Delta t) (g.files old) Both (reply_fields a))
+  delta_made t view x shape l p (given, read, gives, blamed) (more, read_ledger, gives_ledger, blamed_ledger) fits limits publishes is =
+      made (commands.Delta t) (g.files old) Both (given ∷ more ∷ []) (Ok (publication_done t.part t.new_ledger p)) r
+      (both_read t.job x blamed t.ledger job_in (view x) given more gives read read_ledger) (both_well t.job x blamed t.ledger l blamed_ledger)
+      (delta_then t (view x) (shape l) given more (Ok (publication_done t.part t.new_ledger p)) gives gives_ledger
+      (record { fits = fits; limits = limits; result = Ok p; publishes = publishes; is = refl })) is
 
-  pub delta_not : {B C : Type 0} (t : DeltaFields) (view : B → JobFields) (x : B) (shape : C → LedgerFields) (l : C) (fault : PublishFault) → IsInput told (Rose first then) t.job job_in view (Ok x)
-      → IsInput mid (Rose then last) t.ledger ledger_in shape (Ok l) → FitsFields (view x) → IsWithinLimits PUBLISHED (view x) → PublishesUnless (shape l) (view x) (Err fault)
-      → (of_publishing fault ≡ faults.NoMemory → IsErr r) → IfOk r (λ a. shown a ≡ refusal t.job (of_publishing fault)) → IfOk r (λ a. IsReply (commands.Delta t) told (Rose first last) (shown a))
-  delta_not t view x shape l fault (g, read, gives) (h, read_ledger, gives_ledger) fits limits publishes memory is =
-      made_unless (commands.Delta t) told (Rose first last) (g ∷ h ∷ []) t.job (of_publishing fault) r (read_first t.job g read, (read_second t.ledger h read_ledger, tt))
-      (λ refute. delta_then t (view x) (shape l) g h (Err (record { name = t.job; fault = of_publishing fault })) gives gives_ledger
+  pub delta_not : {B C : Type 0} (t : DeltaFields) (view : B → JobFields) (x : B) (shape : C → LedgerFields) (l : C) (fault : PublishFault) → IsInput (g.files old) First t.job job_in view (Ok x)
+      → IsInput (g.files mid) Second t.ledger ledger_in shape (Ok l) → FitsFields (view x) → IsWithinLimits PUBLISHED (view x) → PublishesUnless (shape l) (view x) (Err fault)
+      → (of_publishing fault ≡ faults.NoMemory → IsErr r) → IfOk r (λ a. reply_fields a ≡ refusal t.job (of_publishing fault))
+      → IfOk r (λ a. IsReply (commands.Delta t) (g.files old) Both (reply_fields a))
+  delta_not t view x shape l fault (given, read, gives, blamed) (more, read_ledger, gives_ledger, blamed_ledger) fits limits publishes memory is =
+      made_unless (commands.Delta t) (g.files old) Both (given ∷ more ∷ []) t.job (of_publishing fault) r
+      (both_read t.job x blamed t.ledger job_in (view x) given more gives read read_ledger) (inl (both_well t.job x blamed t.ledger l blamed_ledger))
+      (λ refute. delta_then t (view x) (shape l) given more (Err (record { name = t.job; fault = of_publishing fault })) gives gives_ledger
       (record { fits = fits; limits = limits; result = Err fault; publishes = publishes_err (shape l) (view x) fault publishes refute; is = refl })) memory is
 
   -- ---- install
 
-  install_step : (i : InstallFields) (parts : List SealedFields) (g h : Option (List ℕ)) (y : Result (SealedFields × ℕ) FileFault) → input_as store_in g ≡ Ok parts → input_as part_in h ≡ y
-      → (named i.part y >>= install_then i parts) ≡ (input i.store store_in g >>= install_after i h)
-  install_step i parts g h y gives is =
+  install_step : (i : InstallFields) (parts : List SealedFields) (given more : Option (List ℕ)) (y : Result (SealedFields × ℕ) FileFault)
+      → input_as store_in given ≡ Ok parts → input_as part_in more ≡ y
+      → (named i.part y >>= install_then i parts) ≡ (input i.store store_in given >>= install_after i more)
+  install_step i parts given more y gives is =
       ap (λ (z : Result (SealedFields × ℕ) FileFault). named i.part z >>= install_then i parts) (sym is)
-      ∙ sym (ap (λ (z : Result (List SealedFields) FileFault). named i.store z >>= install_after i h) gives)
+      ∙ sym (ap (λ (z : Result (List SealedFields) FileFault). named i.store z >>= install_after i more) gives)
 
   install_last : (i : InstallFields) (parts : List SealedFields) (x : SealedFields × ℕ) (y : Result (List SealedFields) FileFault) → installed parts x.0 ≡ y
       → (named i.part y >>= (λ more. Ok (stored i.new_store more))) ≡ install_then i parts x
   install_last i parts x y is = ap (λ (z : Result (List SealedFields) FileFault). named i.part z >>= (λ more. Ok (stored i.new_store more))) (sym is)
 
-  pub install_no_part : {B C : Type 0} (i : InstallFields) (view : B → List SealedFields) (x : B) (shape : C → SealedFields × ℕ) (fault : FileFault) → IsInput told (Rose first then) i.store store_in view (Ok x)
-      → IsInput mid (Rose then last) i.part part_in shape (Err fault) → (fault ≡ faults.NoMemory → IsErr r) → IfOk r (λ a. shown a ≡ refusal i.part fault)
-      → IfOk r (λ a. IsReply (commands.Install i) told (Rose first last) (shown a))
-  install_no_part i view x shape fault (g, read, gives) (h, read_part, gives_part) memory is =
-      made_unless (commands.Install i) told (Rose first last) (g ∷ h ∷ []) i.part fault r (read_first i.store g read, (read_second i.part h read_part, tt))
-      (λ refute. install_step i (view x) g h (Err fault) gives (gives_part refute)) memory is
+  pub install_no_part : {B C : Type 0} (i : InstallFields) (view : B → List SealedFields) (x : B) (shape : C → SealedFields × ℕ) (fault : FileFault)
+      → IsInput (g.files old) First i.store store_in view (Ok x)
+      → IsInput (g.files mid) Second i.part part_in shape (Err fault) → (fault ≡ faults.NoMemory → IsErr r) → IfOk r (λ a. reply_fields a ≡ refusal i.part fault)
+      → IfOk r (λ a. IsReply (commands.Install i) (g.files old) Both (reply_fields a))
+  install_no_part {B} {C} i view x shape fault (given, read, gives, blamed) (more, read_part, gives_part, blamed_part) memory is =
+      made_unless (commands.Install i) (g.files old) Both (given ∷ more ∷ []) i.part fault r
+      (both_read i.store x blamed i.part store_in (view x) given more gives read read_part) (second_blamed i.store x blamed {C = C} i.part fault blamed_part)
+      (λ refute. install_step i (view x) given more (Err fault) gives (gives_part refute)) memory is
 
-  pub install_made : {B C D : Type 0} (i : InstallFields) (view : B → List SealedFields) (x : B) (shape : C → SealedFields × ℕ) (p : C) (form : D → List SealedFields) (y : D)
-      → IsInput told (Rose first then) i.store store_in view (Ok x) → IsInput mid (Rose then last) i.part part_in shape (Ok p) → GivesUnless faults.NoMemory form (Ok y) (installed (view x) (shape p).0)
-      → IfOk r (λ a. shown a ≡ done (stored i.new_store (form y))) → IfOk r (λ a. IsReply (commands.Install i) told (Rose first last) (shown a))
-  install_made i view x shape p form y (g, read, gives) (h, read_part, gives_part) more is =
-      made (commands.Install i) told (Rose first last) (g ∷ h ∷ []) (Ok (stored i.new_store (form y))) r (read_first i.store g read, (read_second i.part h read_part, tt))
-      (install_last i (view x) (shape p) (Ok (form y)) more ∙ install_step i (view x) g h (Ok (shape p)) gives gives_part) is
+  pub install_made : {B C E : Type 0} (i : InstallFields) (view : B → List SealedFields) (x : B) (shape : C → SealedFields × ℕ) (p : C) (form : E → List SealedFields) (y : E)
+      → IsInput (g.files old) First i.store store_in view (Ok x) → IsInput (g.files mid) Second i.part part_in shape (Ok p)
+      → GivesUnless faults.NoMemory form (Ok y) (installed (view x) (shape p).0)
+      → IfOk r (λ a. reply_fields a ≡ done (stored i.new_store (form y))) → IfOk r (λ a. IsReply (commands.Install i) (g.files old) Both (reply_fields a))
+  install_made i view x shape p form y (given, read, gives, blamed) (more, read_part, gives_part, blamed_part) grown is =
+      made (commands.Install i) (g.files old) Both (given ∷ more ∷ []) (Ok (stored i.new_store (form y))) r
+      (both_read i.store x blamed i.part store_in (view x) given more gives read read_part) (both_well i.store x blamed i.part p blamed_part)
+      (install_last i (view x) (shape p) (Ok (form y)) grown ∙ install_step i (view x) given more (Ok (shape p)) gives gives_part) is
 
-  pub install_not : {B C D : Type 0} (i : InstallFields) (view : B → List SealedFields) (x : B) (shape : C → SealedFields × ℕ) (p : C) (form : D → List SealedFields) (fault : FileFault)
-      → IsInput told (Rose first then) i.store store_in view (Ok x) → IsInput mid (Rose then last) i.part part_in shape (Ok p) → GivesUnless faults.NoMemory form (Err fault) (installed (view x) (shape p).0)
-      → (fault ≡ faults.NoMemory → IsErr r) → IfOk r (λ a. shown a ≡ refusal i.part fault) → IfOk r (λ a. IsReply (commands.Install i) told (Rose first last) (shown a))
-  install_not i view x shape p form fault (g, read, gives) (h, read_part, gives_part) not_more memory is =
-      made_unless (commands.Install i) told (Rose first last) (g ∷ h ∷ []) i.part fault r (read_first i.store g read, (read_second i.part h read_part, tt))
-      (λ refute. install_last i (view x) (shape p) (Err fault) (not_more refute) ∙ install_step i (view x) g h (Ok (shape p)) gives gives_part) memory is
+  pub install_not : {B C E : Type 0} (i : InstallFields) (view : B → List SealedFields) (x : B) (shape : C → SealedFields × ℕ) (p : C) (form : E → List SealedFields) (fault : FileFault)
+      → IsInput (g.files old) First i.store store_in view (Ok x) → IsInput (g.files mid) Second i.part part_in shape (Ok p)
+      → GivesUnless faults.NoMemory form (Err fault) (installed (view x) (shape p).0)
+      → (fault ≡ faults.NoMemory → IsErr r) → IfOk r (λ a. reply_fields a ≡ refusal i.part fault) → IfOk r (λ a. IsReply (commands.Install i) (g.files old) Both (reply_fields a))
+  install_not i view x shape p form fault (given, read, gives, blamed) (more, read_part, gives_part, blamed_part) not_grown memory is =
+      made_unless (commands.Install i) (g.files old) Both (given ∷ more ∷ []) i.part fault r
+      (both_read i.store x blamed i.part store_in (view x) given more gives read read_part) (inl (both_well i.store x blamed i.part p blamed_part))
+      (λ refute. install_last i (view x) (shape p) (Err fault) (not_grown refute) ∙ install_step i (view x) given more (Ok (shape p)) gives gives_part) memory is
 
 -- the first of two inputs is at fault
-module _ (told : Option Files) (rose : Type 0) (r : Result Answer NoMemory) where
-  pub delta_refused : {B : Type 0} (t : DeltaFields) (view : B → JobFields) (fault : FileFault) → IsInput told rose t.job job_in view (Err fault) → (fault ≡ faults.NoMemory → IsErr r)
-      → IfOk r (λ a. shown a ≡ refusal t.job fault) → IfOk r (λ a. IsReply (commands.Delta t) told rose (shown a))
-  delta_refused t view fault (g, read, gives) memory is =
-      let l = some_read told rose t.ledger in
-      made_unless (commands.Delta t) told rose (g ∷ l.0 ∷ []) t.job fault r (read, (l.1, tt))
-      (λ refute. subst (λ (x : Result JobFields FileFault). MakesDelta t (named t.job x) (input t.ledger ledger_in l.0) (Err (record { name = t.job; fault = fault }))) (sym (gives refute)) refl) memory is
+module _ (told : Option Files) (failed : Option (List ℕ) → Type 0) (r : Result Answer NoMemory) where
+  pub delta_refused : {B : Type 0} (t : DeltaFields) (view : B → JobFields) (fault : FileFault) → IsInput told failed t.job job_in view (Err fault) → (fault ≡ faults.NoMemory → IsErr r)
+      → IfOk r (λ a. reply_fields a ≡ refusal t.job fault) → IfOk r (λ a. IsReply (commands.Delta t) told failed (reply_fields a))
+  delta_refused t view fault (given, read, gives, blamed) memory is =
+      let l = some_read told failed t.ledger in
+      made_unless (commands.Delta t) told failed (given ∷ l.0 ∷ []) t.job fault r (read, (l.1, tt))
+      (blames_file failed (t.job ∷ t.ledger ∷ []) t.job fault (inl refl) blamed)
+      (λ refute. subst (λ (x : Result JobFields FileFault). MakesDelta t (named t.job x) (input t.ledger ledger_in l.0)
+      (Err (record { name = t.job; fault = fault }))) (sym (gives refute)) refl) memory is
 
-  pub install_refused : {B : Type 0} (i : InstallFields) (view : B → List SealedFields) (fault : FileFault) → IsInput told rose i.store store_in view (Err fault) → (fault ≡ faults.NoMemory → IsErr r)
-      → IfOk r (λ a. shown a ≡ refusal i.store fault) → IfOk r (λ a. IsReply (commands.Install i) told rose (shown a))
-  install_refused i view fault (g, read, gives) memory is =
-      let p = some_read told rose i.part in
-      made_unless (commands.Install i) told rose (g ∷ p.0 ∷ []) i.store fault r (read, (p.1, tt))
+  pub install_refused : {B : Type 0} (i : InstallFields) (view : B → List SealedFields) (fault : FileFault)
+      → IsInput told failed i.store store_in view (Err fault) → (fault ≡ faults.NoMemory → IsErr r)
+      → IfOk r (λ a. reply_fields a ≡ refusal i.store fault) → IfOk r (λ a. IsReply (commands.Install i) told failed (reply_fields a))
+  install_refused i view fault (given, read, gives, blamed) memory is =
+      let p = some_read told failed i.part in
+      made_unless (commands.Install i) told failed (given ∷ p.0 ∷ []) i.store fault r (read, (p.1, tt))
+      (blames_file failed (i.store ∷ i.part ∷ []) i.store fault (inl refl) blamed)
       (λ refute. sym (ap (λ (x : Result (List SealedFields) FileFault). named i.store x >>= install_after i p.0) (gives refute))) memory is

@@ -31,7 +31,8 @@ use Rattle.clubcard_top.specs.declared.fault.FileFault.TheVariants as faults
 use Rattle.clubcard_top.specs.Faults.{of_publishing}
 use Rattle.clubcard_top.specs.ReplyFields.{OutputFields, Done, NamedFault}
 use Rattle.clubcard_top.specs.Readings.{job_in, ledger_in, part_in, store_in}
-use Rattle.clubcard_top.specs.Commands.{◌>>=◌, named, input, query_done, check_done, show_done, epoch_of, stored, begun_by, begun, installed_by, installed, publication_done, published_as, MakesPart, MakesSnapshot, MakesDelta, sample_done, rehearsed, Makes}
+use Rattle.clubcard_top.specs.Commands.{◌>>=◌, named, input, query_done, check_done, show_done, epoch_of, stored, begun_by, begun, installed_by, installed}
+use Rattle.clubcard_top.specs.Commands.{publication_done, published_as, MakesPart, MakesSnapshot, MakesDelta, sample_done, rehearsed, Makes}
 use Rattle.clubcard_top.specs.Replies.{held_by}
 use Rattle.clubcard_top.specs.Runs.{with_outputs}
 use Rattle.clubcard_top.specs.Calls.{Call, Reads, Holds, Writes, ChangesNoFile, Prints, NoFault}
@@ -468,6 +469,7 @@ module _ (call : Call) where
         let two = both_held call.asked files jobs parts job part ledger p apart kept in
         record {
           sealed = l.sealed;
+          fits = l.fits;
           admissible = l.admissible;
           is_history = l.is_history;
           prints = a.written ∙ ap (followed_by call.text_before) l.report;

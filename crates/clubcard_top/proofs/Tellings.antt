@@ -17,6 +17,7 @@ use Rattle.clubcard_top.specs.Replies.{refusal, reply_of, IsReplyOver, IsReplyTo
 use Rattle.clubcard_top.specs.Runs.{IsReply, with_outputs}
 use Rattle.clubcard_top.proofs.Ways.{Ends, Answers, Refuses}
 use Rattle.clubcard_top.proofs.Endings.{IsSent, sent}
+use Rattle.clubcard_top.proofs.Makings.{refusal_quiet}
 use Rattle.clubcard_top.proofs.Overs.{IsSeen, over_files, held_all}
 
 -- ---- the reply over these files
@@ -29,30 +30,31 @@ Replied asked files ended old new after =
 seen_by : (o : Result Done NamedFault) (ended : ℕ) → (ended ≡ 8 → ⊥) → ended ≡ (reply_of o).status → IsSeen o
 seen_by o ended refute is = λ e same unread. refute (is ∙ ap (λ (r : Result Done NamedFault). (reply_of r).status) same ∙ ap (λ (f : FileFault). (refusal e.name f).status) unread)
 
-module _ (asked : Command) (files : Files) (rose : Type 0) (ended : ℕ) (old new : Option (List ℕ)) (failed : Type 0) (after : Option Files) (wrong : Type 0) where
-  over_seen : (s : IsSent asked (Some files) rose ended old new after) → (ended ≡ 8 → ⊥) → IsReply asked (Some files) rose s.reply → IsReplyTo asked files s.reply
-  over_seen s refute (inputs, read, inl (none, is)) = inl (none, is)
-  over_seen s refute (inputs, read, inr (o, m, is)) =
-      inr (o, over_files files rose asked inputs o (seen_by o ended refute (s.status ∙ ap (λ (r : ReplyFields). r.status) is)) read m, is)
+module _ (asked : Command) (files : Files) (failed : Option (List ℕ) → Type 0) (ended : ℕ) (old new : Option (List ℕ)) (unsent : Type 0) (after : Option Files) (wrong : Type 0) where
+  over_seen : (s : IsSent asked (Some files) failed ended old new after) → (ended ≡ 8 → ⊥) → IsReply asked (Some files) failed s.reply → IsReplyTo asked files s.reply
+  over_seen s refute (inputs, read, inl (none, is), says) = inl (none, is)
+  over_seen s refute (inputs, read, inr (o, m, is), says) =
+      inr (o, over_files files failed asked inputs o (seen_by o ended refute (s.status ∙ ap (λ (r : ReplyFields). r.status) is)) read m, is)
 
-  pub over_quiet : (s : IsSent asked (Some files) rose ended old new after) → (rose → ⊥) → IsReply asked (Some files) rose s.reply → IsReplyTo asked files s.reply
-  over_quiet s quiet (inputs, read, over) = subst (λ (g : List (Option (List ℕ))). IsReplyOver asked g s.reply) (held_all files rose (inputs_of asked) inputs quiet read) over
+  pub over_quiet : (s : IsSent asked (Some files) failed ended old new after) → ((name : List ℕ) → failed (Some name) → ⊥) → IsReply asked (Some files) failed s.reply → IsReplyTo asked files s.reply
+  over_quiet s quiet (inputs, read, over, says) = subst (λ (g : List (Option (List ℕ))). IsReplyOver asked g s.reply) (held_all files failed (inputs_of asked) inputs quiet read) over
 
-  replied : (s : IsSent asked (Some files) rose ended old new after) → IsReplyTo asked files s.reply → Replied asked files ended old new after
+  replied : (s : IsSent asked (Some files) failed ended old new after) → IsReplyTo asked files s.reply → Replied asked files ended old new after
   replied s is = (s.reply, is, s.status, s.text, s.files)
 
-  pub answered : Ends asked (Some files) rose ended old new failed after wrong → (ended ≡ 8 → ⊥) → (ended ≡ 9 → ⊥) → (ended ≡ 70 → ⊥) → Replied asked files ended old new after
+  pub answered : Ends asked (Some files) failed ended old new unsent after wrong → (ended ≡ 8 → ⊥) → (ended ≡ 9 → ⊥) → (ended ≡ 70 → ⊥) → Replied asked files ended old new after
   answered ends no_read no_write no_want =
-      let s = sent asked (Some files) rose ended old new failed after wrong ends no_write no_want in
+      let s = sent asked (Some files) failed ended old new unsent after wrong ends no_write no_want in
       replied s (over_seen s no_read s.is)
 
-  sent_quiet : Ends asked (Some files) rose ended old new failed after wrong → (wrong → ⊥) → (failed → ⊥) → (ended ≡ 70 → ⊥) → IsSent asked (Some files) rose ended old new after
+  sent_quiet : Ends asked (Some files) failed ended old new unsent after wrong → (wrong → ⊥) → (unsent → ⊥) → (ended ≡ 70 → ⊥) → IsSent asked (Some files) failed ended old new after
   sent_quiet (inl (is, same, kept)) sane calm no_want = absurd (no_want is)
   sent_quiet (inr (reply, is, own, inl (done, inl (status, text)))) sane calm no_want = record { reply = reply; is = is; status = status; text = text; files = done }
   sent_quiet (inr (reply, is, own, inl (done, inr (status, cut, why)))) sane calm no_want = absurd (calm why)
   sent_quiet (inr (reply, is, own, inr (amiss, rest))) sane calm no_want = absurd (sane amiss)
 
-  pub completed : Ends asked (Some files) rose ended old new failed after wrong → (rose → ⊥) → (wrong → ⊥) → (failed → ⊥) → (ended ≡ 70 → ⊥) → Replied asked files ended old new after
+  pub completed : Ends asked (Some files) failed ended old new unsent after wrong → ((name : List ℕ) → failed (Some name) → ⊥) → (wrong → ⊥) → (unsent → ⊥)
+      → (ended ≡ 70 → ⊥) → Replied asked files ended old new after
   completed ends quiet sane calm no_want =
       let s = sent_quiet ends sane calm no_want in
       replied s (over_quiet s quiet s.is)
@@ -119,16 +121,6 @@ done_of name (faults.TooMany thing limit) h = omega (arith, h)
 done_of name (faults.Seeds issuer stage) h = omega (arith, h)
 done_of name faults.NoMemory h = omega (arith, h)
 
-refusal_quiet_files : (files : Files) (name : List ℕ) (fault : FileFault) → with_outputs (Some files) (refusal name fault).outputs ≡ Some files
-refusal_quiet_files files name faults.Unread = refl
-refusal_quiet_files files name (faults.Layout f) = refl
-refusal_quiet_files files name faults.NotSnapshot = refl
-refusal_quiet_files files name (faults.Chain why) = refl
-refusal_quiet_files files name (faults.BadCrl place fault) = refl
-refusal_quiet_files files name (faults.TooMany thing limit) = refl
-refusal_quiet_files files name (faults.Seeds issuer stage) = refl
-refusal_quiet_files files name faults.NoMemory = refl
-
 module _ (asked : Command) (files : Files) (ended : ℕ) (old new : Option (List ℕ)) (after : Option Files) where
   -- what came of the command, as the call ended
   pub record Came : Type 0 where
@@ -163,7 +155,7 @@ module _ (asked : Command) (files : Files) (ended : ℕ) (old new : Option (List
     name = e.name;
     fault = e.fault;
     status = sym status;
-    refuses = record { name = e.name; makes = m; written = text; same_files = kept ∙ refusal_quiet_files files e.name e.fault };
+    refuses = record { name = e.name; makes = m; written = text; same_files = kept ∙ ap (with_outputs (Some files)) (refusal_quiet e.name e.fault) };
   })
 
   done_told : ((ended ≡ 0) × Answers asked files old new after) ⊎ Fails → ended ≡ 0 → Answers asked files old new after
@@ -205,43 +197,49 @@ module _ (asked : Command) (files : Files) (ended : ℕ) (old new : Option (List
 
 -- ---- a call by its status
 
-module _ (asked : Command) (rose : Type 0) (ended : ℕ) (old new : Option (List ℕ)) (failed : Type 0) (after : Option Files) (wrong : Type 0) where
-  pub answer : (told : Option Files) → Ends asked told rose ended old new failed after wrong → IfSome told (λ files. ended ≢ 8 → ended ≢ 9 → ended ≢ 70
+module _ (asked : Command) (failed : Option (List ℕ) → Type 0) (ended : ℕ) (old new : Option (List ℕ)) (unsent : Type 0) (after : Option Files) (wrong : Type 0) where
+  pub answer : (told : Option Files) → Ends asked told failed ended old new unsent after wrong → IfSome told (λ files. ended ≢ 8 → ended ≢ 9 → ended ≢ 70
       → (reply : ReplyFields) × IsReplyTo asked files reply × (ended ≡ reply.status) × (new ≡ followed_by old reply.text) × (after ≡ with_outputs told reply.outputs))
   answer None ends = tt
-  answer (Some files) ends = λ no_read no_write no_want. answered asked files rose ended old new failed after wrong ends no_read no_write no_want
+  answer (Some files) ends = λ no_read no_write no_want. answered asked files failed ended old new unsent after wrong ends no_read no_write no_want
 
-  pub complete : (told : Option Files) → Ends asked told rose ended old new failed after wrong → IfSome told (λ files. (rose → ⊥) → (wrong → ⊥) → (failed → ⊥) → ended ≢ 70
+  pub complete : (told : Option Files) → Ends asked told failed ended old new unsent after wrong
+      → IfSome told (λ files. ((name : List ℕ) → failed (Some name) → ⊥) → (wrong → ⊥) → (unsent → ⊥) → ended ≢ 70
       → (reply : ReplyFields) × IsReplyTo asked files reply × (ended ≡ reply.status) × (new ≡ followed_by old reply.text) × (after ≡ with_outputs told reply.outputs))
   complete None ends = tt
-  complete (Some files) ends = λ quiet sane calm no_want. completed asked files rose ended old new failed after wrong ends quiet sane calm no_want
+  complete (Some files) ends = λ quiet sane calm no_want. completed asked files failed ended old new unsent after wrong ends quiet sane calm no_want
 
-  came_told : (files : Files) (n : ℕ) → Ends asked (Some files) rose ended old new failed after wrong → ended ≡ n → (n ≡ 8 → ⊥) → (n ≡ 9 → ⊥) → (n ≡ 70 → ⊥) → (n ≡ 2 → ⊥) → Came asked files ended old new after
+  came_told : (files : Files) (n : ℕ) → Ends asked (Some files) failed ended old new unsent after wrong → ended ≡ n → (n ≡ 8 → ⊥) → (n ≡ 9 → ⊥) → (n ≡ 70 → ⊥)
+      → (n ≡ 2 → ⊥) → Came asked files ended old new after
   came_told files n ends is no_read no_write no_want no_usage =
       came asked files ended old new after
-      (answered asked files rose ended old new failed after wrong ends (λ z. no_read (sym is ∙ z)) (λ z. no_write (sym is ∙ z)) (λ z. no_want (sym is ∙ z))) (λ z. no_usage (sym is ∙ z))
+      (answered asked files failed ended old new unsent after wrong ends (λ z. no_read (sym is ∙ z)) (λ z. no_write (sym is ∙ z)) (λ z. no_want (sym is ∙ z))) (λ z. no_usage (sym is ∙ z))
 
-  pub done : (told : Option Files) → Ends asked told rose ended old new failed after wrong → IfSome told (λ files. ended ≡ 0 → Answers asked files old new after)
+  pub done : (told : Option Files) → Ends asked told failed ended old new unsent after wrong → IfSome told (λ files. ended ≡ 0 → Answers asked files old new after)
   done None ends = tt
   done (Some files) ends = λ is. done_case asked files ended old new after (came_told files 0 ends is (λ z. omega arith) (λ z. omega arith) (λ z. omega arith) (λ z. omega arith)) is
 
-  pub layout : (told : Option Files) → Ends asked told rose ended old new failed after wrong → IfSome told (λ files. ended ≡ 3 → (f : LayoutFault) × Refuses asked files (faults.Layout f) old new after)
+  pub layout : (told : Option Files) → Ends asked told failed ended old new unsent after wrong
+      → IfSome told (λ files. ended ≡ 3 → (f : LayoutFault) × Refuses asked files (faults.Layout f) old new after)
   layout None ends = tt
   layout (Some files) ends = λ is. layout_case asked files ended old new after (came_told files 3 ends is (λ z. omega arith) (λ z. omega arith) (λ z. omega arith) (λ z. omega arith)) is
 
-  pub crl : (told : Option Files) → Ends asked told rose ended old new failed after wrong → IfSome told (λ files. ended ≡ 4 → (place : ℕ) × (f : CrlFault) × Refuses asked files (faults.BadCrl place f) old new after)
+  pub crl : (told : Option Files) → Ends asked told failed ended old new unsent after wrong
+      → IfSome told (λ files. ended ≡ 4 → (place : ℕ) × (f : CrlFault) × Refuses asked files (faults.BadCrl place f) old new after)
   crl None ends = tt
   crl (Some files) ends = λ is. crl_case asked files ended old new after (came_told files 4 ends is (λ z. omega arith) (λ z. omega arith) (λ z. omega arith) (λ z. omega arith)) is
 
-  pub chain : (told : Option Files) → Ends asked told rose ended old new failed after wrong
+  pub chain : (told : Option Files) → Ends asked told failed ended old new unsent after wrong
       → IfSome told (λ files. ended ≡ 5 → Refuses asked files faults.NotSnapshot old new after ⊎ ((why : Refusal) × Refuses asked files (faults.Chain why) old new after))
   chain None ends = tt
   chain (Some files) ends = λ is. chain_case asked files ended old new after (came_told files 5 ends is (λ z. omega arith) (λ z. omega arith) (λ z. omega arith) (λ z. omega arith)) is
 
-  pub limit : (told : Option Files) → Ends asked told rose ended old new failed after wrong → IfSome told (λ files. ended ≡ 6 → (thing : What) × (n : ℕ) × Refuses asked files (faults.TooMany thing n) old new after)
+  pub limit : (told : Option Files) → Ends asked told failed ended old new unsent after wrong
+      → IfSome told (λ files. ended ≡ 6 → (thing : What) × (n : ℕ) × Refuses asked files (faults.TooMany thing n) old new after)
   limit None ends = tt
   limit (Some files) ends = λ is. limit_case asked files ended old new after (came_told files 6 ends is (λ z. omega arith) (λ z. omega arith) (λ z. omega arith) (λ z. omega arith)) is
 
-  pub seeds : (told : Option Files) → Ends asked told rose ended old new failed after wrong → IfSome told (λ files. ended ≡ 7 → (issuer : List ℕ) × (stage : ℕ) × Refuses asked files (faults.Seeds issuer stage) old new after)
+  pub seeds : (told : Option Files) → Ends asked told failed ended old new unsent after wrong
+      → IfSome told (λ files. ended ≡ 7 → (issuer : List ℕ) × (stage : ℕ) × Refuses asked files (faults.Seeds issuer stage) old new after)
   seeds None ends = tt
   seeds (Some files) ends = λ is. seeds_case asked files ended old new after (came_told files 7 ends is (λ z. omega arith) (λ z. omega arith) (λ z. omega arith) (λ z. omega arith)) is

@@ -5,7 +5,7 @@ use Rattle.query_core.specs.Queries.{Query}
 use Rattle.part_codec.specs.SealedFields.{SealedFields}
 use Rattle.job_core.specs.JobFields.{JobFields}
 use Rattle.ledger_core.specs.LedgerFields.{LedgerFields}
-use Rattle.universe_core.specs.Jobs.{Job, told}
+use Rattle.universe_core.specs.Jobs.{Job, facts_of}
 use Rattle.universe_core.specs.History.{Release}
 use Rattle.universe_core.specs.Ledgers.{ledger_of}
 use Rattle.publication_core.specs.declared.fault.PublishFault.{PublishFault}
@@ -61,9 +61,9 @@ module _ (publishing : Publishing) where
   admissible_behind rs (j ∷ jobs) [] job others all are are_all = absurd are
   admissible_behind rs (j ∷ jobs) (s ∷ parts) job others [] are are_all = absurd are_all
   admissible_behind rs (j ∷ jobs) (s ∷ parts) job others (t ∷ all) are are_all =
-      let same : t ≡ s = publishing.part rs (told j) t s are_all.1 are.1 in
-      admissible_behind (rs ++ release_of rs (told j) s ∷ []) jobs parts job others all are.2
-      (subst (λ (q : SealedFields). AreAdmissible (rs ++ release_of rs (told j) q ∷ []) (jobs ++ job ∷ others) all) same are_all.2)
+      let same : t ≡ s = publishing.part rs (facts_of j) t s are_all.1 are.1 in
+      admissible_behind (rs ++ release_of rs (facts_of j) s ∷ []) jobs parts job others all are.2
+      (subst (λ (q : SealedFields). AreAdmissible (rs ++ release_of rs (facts_of j) q ∷ []) (jobs ++ job ∷ others) all) same are_all.2)
 
   -- a job that isn't published doesn't follow
   pub not_published : (jobs : List JobFields) (parts : List SealedFields) (job : JobFields) (others : List JobFields) (all : List SealedFields) (fault : PublishFault) → IsHistory jobs parts
@@ -84,23 +84,28 @@ module _ (publishing : Publishing) where
   publish_fault_same : (x y : PublishFault) → ◌≡◌ {A = Result Published PublishFault} (Err x) (Err y) → x ≡ y
   publish_fault_same x y h = cc
 
-  refused_same : (jobs : List JobFields) (parts : List SealedFields) (name : List ℕ) (given : Option (List ℕ)) (e f : NamedFault) → IsRefused jobs parts name given e → IsRefused jobs parts name given f → e ≡ f
+  refused_same : (jobs : List JobFields) (parts : List SealedFields) (name : List ℕ) (given : Option (List ℕ)) (e f : NamedFault)
+      → IsRefused jobs parts name given e → IsRefused jobs parts name given f → e ≡ f
   refused_same jobs parts name given e f (inl h) (inl k) = fault_same e f (input name job_in given) h k
   refused_same jobs parts name given e f (inl h) (inr (job, fault, is, not, same)) = absurd (not_both job e (input name job_in given) is h)
   refused_same jobs parts name given e f (inr (job, fault, is, not, same)) (inl k) = absurd (not_both job f (input name job_in given) is k)
   refused_same jobs parts name given e f (inr (job, fault, is, not, same)) (inr (other, wrong, is_other, not_other, same_other)) =
       let j : job ≡ other = job_same job other (input name job_in given) is is_other in
-      let w : fault ≡ wrong = publish_fault_same fault wrong (one (ledger_of (history jobs parts)) other (Err fault) (Err wrong) (subst (λ (k : JobFields). Publishes (ledger_of (history jobs parts)) k (Err fault)) j not) not_other) in
+      let w : fault ≡ wrong = publish_fault_same fault wrong
+      (one (ledger_of (history jobs parts)) other (Err fault) (Err wrong)
+      (subst (λ (k : JobFields). Publishes (ledger_of (history jobs parts)) k (Err fault)) j not) not_other) in
       same ∙ ap (λ (k : PublishFault). record { name = name; fault = of_publishing k }) w ∙ sym same_other
 
-  pub refused_follows : (jobs : List JobFields) (parts : List SealedFields) (name : List ℕ) (given : Option (List ℕ)) (e : NamedFault) (job : JobFields) (others : List JobFields) (all : List SealedFields)
+  pub refused_follows : (jobs : List JobFields) (parts : List SealedFields) (name : List ℕ) (given : Option (List ℕ)) (e : NamedFault) (job : JobFields)
+      (others : List JobFields) (all : List SealedFields)
       → IsHistory jobs parts → input name job_in given ≡ Ok job → IsHistory (jobs ++ job ∷ others) all → IsRefused jobs parts name given e → ⊥
   refused_follows jobs parts name given e job others all is is_job is_all (inl h) = not_both job e (input name job_in given) is_job h
   refused_follows jobs parts name given e job others all is is_job is_all (inr (other, fault, is_other, not, same)) =
       not_published jobs parts job others all fault is is_all
       (subst (λ (k : JobFields). Publishes (ledger_of (history jobs parts)) k (Err fault)) (job_same other job (input name job_in given) is_other is_job) not)
 
-  rehearses_unique : (queries : List Query) (jobs : List JobFields) (parts : List SealedFields) (names : List (List ℕ)) (inputs : List (Option (List ℕ))) (a b : Result Done NamedFault) → IsHistory jobs parts
+  rehearses_unique : (queries : List Query) (jobs : List JobFields) (parts : List SealedFields) (names : List (List ℕ)) (inputs : List (Option (List ℕ)))
+      (a b : Result Done NamedFault) → IsHistory jobs parts
       → RehearsesOn queries jobs parts names inputs a → RehearsesOn queries jobs parts names inputs b → a ≡ b
   rehearses_unique queries jobs parts [] [] a b is x y = x ∙ sym y
   rehearses_unique queries jobs parts [] (g ∷ inputs) a b is x y = absurd x
@@ -118,7 +123,8 @@ module _ (publishing : Publishing) where
       (subst (λ (ps : List SealedFields). RehearsesOn queries (jobs ++ job ∷ []) ps names inputs b) m
       (subst (λ (k : JobFields). RehearsesOn queries (jobs ++ k ∷ []) more_other names inputs b) j rest_other))
 
-  rehearsal_unique : (r : RehearseFields) (queries : Result (List Query) NamedFault) (inputs : List (Option (List ℕ))) (a b : Result Done NamedFault) → MakesRehearsal r queries inputs a → MakesRehearsal r queries inputs b
+  rehearsal_unique : (r : RehearseFields) (queries : Result (List Query) NamedFault) (inputs : List (Option (List ℕ))) (a b : Result Done NamedFault)
+      → MakesRehearsal r queries inputs a → MakesRehearsal r queries inputs b
       → a ≡ b
   rehearsal_unique r (Ok queries) inputs a b x y = rehearses_unique queries [] [] r.jobs inputs a b tt (from_first queries r.jobs inputs a x) (from_first queries r.jobs inputs b y)
   rehearsal_unique r (Err e) inputs a b x y = x ∙ sym y

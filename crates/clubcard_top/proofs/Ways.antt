@@ -1,5 +1,5 @@
 -- How a call ends, by its parts.
-use Rattle.std.specs.Prelude.{◌≡◌, ℕ, ◌⊎◌, List, Option, Some, Ok, Err, IsTrue}
+use Rattle.std.specs.Prelude.{◌≡◌, ℕ, ◌⊎◌, List, Option, Some, None, Ok, Err, IsTrue}
 use Rattle.outside_core.specs.Files.{Files, IsMissing}
 use Rattle.outside_core.specs.Written.{followed_by}
 use Rattle.sets_core.specs.Among.{Among}
@@ -16,12 +16,12 @@ use Rattle.clubcard_top.specs.Sending.{EndsSo}
 -- Memory was wanted, and nothing was printed and no file changed; or the words' reply ended the call. The sink held old
 -- and holds new, and a fault of it was counted if it failed; the files were as told and are as after, and a write of
 -- them failed if something went wrong.
-abbrev pub Ends : Command → Option Files → Type 0 → ℕ → Option (List ℕ) → Option (List ℕ) → Type 0
+abbrev pub Ends : Command → Option Files → (Option (List ℕ) → Type 0) → ℕ → Option (List ℕ) → Option (List ℕ) → Type 0
     → Option Files → Type 0 → Type 0
-Ends asked told rose ended old new failed after wrong =
+Ends asked told failed ended old new unsent after wrong =
     ((ended ≡ status.no_memory) × (new ≡ old) × (after ≡ told))
-    ⊎ ((reply : ReplyFields) × IsReply asked told rose reply
-    × IsTrue (status.is_one_of status.of_replies reply.status) × EndsSo reply ended old new failed told after wrong)
+    ⊎ ((reply : ReplyFields) × IsReply asked told failed reply
+    × IsTrue (status.is_one_of status.of_replies reply.status) × EndsSo reply ended old new unsent told after wrong)
 
 -- The command was done: this came of it over what the files hold, its outputs were written, and its lines printed.
 pub record Answers (asked : Command) (files : Files) (old new : Option (List ℕ)) (after : Option Files) : Type 0 where
@@ -40,8 +40,10 @@ pub record Refuses
   pub same_files : after ≡ Some files
 
 -- An input of the command couldn't be read, which has its cause, and the line that says so was printed.
-pub record IsUnread (asked : Command) (told : Option Files) (rose : Type 0) (old new : Option (List ℕ)) : Type 0 where
+pub record IsUnread
+    (asked : Command) (told : Option Files) (failed : Option (List ℕ) → Type 0) (old new : Option (List ℕ))
+    : Type 0 where
   pub name : List ℕ
   pub is_input : Among (inputs_of asked) name
-  pub cause : rose ⊎ IsMissing told name
+  pub cause : failed (Some name) ⊎ (IsMissing told name × failed None)
   pub written : new ≡ followed_by old (read_fault name).text

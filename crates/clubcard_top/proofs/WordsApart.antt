@@ -7,7 +7,8 @@ use Rattle.std.proofs.lemmas.Bool.{false≢true}
 use Rattle.word_core.specs.CommandFields.{SnapshotFields, DeltaFields}
 use Rattle.word_core.specs.declared.command.Command.{Command}
 use Rattle.word_core.specs.declared.command.Command.TheVariants as commands
-use Rattle.word_core.specs.Words.{◌>>=◌, is_name, name_of, workers_of, two_names_of, named_delta, is_among, are_apart, snapshot_of, delta_of, query_of, name_alone, start_of, install_of, rehearse_of, sample_of, asks, command_of}
+use Rattle.word_core.specs.Words.{◌>>=◌, is_name, name_of, workers_of, two_names_of, named_delta, is_among, are_apart, snapshot_of, delta_of, query_of}
+use Rattle.word_core.specs.Words.{name_alone, start_of, install_of, rehearse_of, sample_of, asks, command_of}
 
 -- the names that two outputs go to differ
 abbrev pub IsApart : Command → Type 0

@@ -11,8 +11,8 @@ use Rattle.clubcard_top.specs.Replies.{done}
 abbrev pub with_files : List OutputFields → ReplyFields → ReplyFields
 with_files outputs r = record { status = r.status; text = r.text; outputs = outputs }
 
-abbrev pub shown : Answer → ReplyFields
-shown (answers.Reply r) = r
-shown (answers.Part s) = done (only (show_text s))
-shown (answers.Files outputs r) = with_files outputs.items r
-shown (answers.Sample o r) = with_files (o ∷ []) r
+abbrev pub reply_fields : Answer → ReplyFields
+reply_fields (answers.Reply r) = r
+reply_fields (answers.Part s) = done (only (show_text s))
+reply_fields (answers.Files outputs r) = with_files outputs.items r
+reply_fields (answers.Sample o r) = with_files (o ∷ []) r

@@ -1,7 +1,7 @@
 -- A call of the program: what it was asked, what it found, what it left, and which faults of the outside were counted.
 use Rattle.std.specs.Prelude.{◌≡◌, ℕ, List, map, string_bytes, Option, Some, Result, Ok, String}
 use Rattle.std.specs.FinMap.{get}
-use Rattle.outside_core.specs.Files.{Files, Rose}
+use Rattle.outside_core.specs.Files.{Files, Rose, FailedRead}
 use Rattle.outside_core.specs.Written.{followed_by}
 use Rattle.outside_core.specs.declared.depot.Depot as depots
 use Rattle.outside_core.specs.declared.sink.Sink as sinks
@@ -16,9 +16,14 @@ pub record Count : Type 0 where
   pub before : ℕ
   pub after : ℕ
 
+-- the names of the reads that had failed, before the call and after it, the last one last, where the depot tells them
+pub record Names : Type 0 where
+  pub before : Option (List (List ℕ))
+  pub after : Option (List (List ℕ))
+
 -- What the words asked for. What the files hold and what was printed, before the call and after it, where the depot and
 -- the sink tell it: those in memory do, those of a system don't. The exit status. The faults of reading files, of
--- writing files and of printing.
+-- writing files and of printing. The names of the failed reads.
 pub record Call : Type 0 where
   pub asked : Command
   pub files_before : Option Files
@@ -29,6 +34,7 @@ pub record Call : Type 0 where
   pub read_faults : Count
   pub write_faults : Count
   pub sink_faults : Count
+  pub failed_reads : Names
 
 -- the call that asked for this command, over this depot of files and this sink, before it and after it
 abbrev pub call_of : {D K : Type 0} → depots.Ghosts D → sinks.Ghosts K → Command → D → D → K → K → ℕ → Call
@@ -42,6 +48,7 @@ call_of d k asked depot depot_after out out_after ended = record {
   read_faults = record { before = d.read_faults depot; after = d.read_faults depot_after };
   write_faults = record { before = d.write_faults depot; after = d.write_faults depot_after };
   sink_faults = record { before = k.faults out; after = k.faults out_after };
+  failed_reads = record { before = d.failed_reads depot; after = d.failed_reads depot_after };
 }
 
 -- the call of these words
@@ -88,6 +95,17 @@ Prints call text = call.text_after ≡ followed_by call.text_before text
 -- a fault was counted, or the count had come to its last number, 2^64 - 1
 abbrev pub HasRisen : Count → Type 0
 HasRisen count = Rose count.before count.after
+
+-- no read failed and was counted: no name came behind those of before
+abbrev pub NoReadFailed : Call → Type 0
+NoReadFailed call = call.failed_reads.after ≡ call.failed_reads.before
+
+-- The file of this name couldn't be read. A fault was counted, and the read that failed was of this name and the only
+-- one; or files are told, the name isn't held, and no read failed.
+abbrev pub CouldNotRead : Call → List ℕ → Type 0
+CouldNotRead call name =
+    FailedRead call.files_before name call.read_faults.before call.read_faults.after
+    call.failed_reads.before call.failed_reads.after
 
 -- no read, no write and no printing failed
 pub record NoFault (call : Call) : Type 0 where

@@ -12,7 +12,7 @@ use Rattle.job_core.specs.JobFields.{JobFields}
 use Rattle.job_core.specs.JobFacts.{FitsFields, IsWithinLimits}
 use Rattle.ledger_core.specs.LedgerFields.{LedgerFields}
 use Rattle.ledger_core.specs.LedgerText.{ledger_text}
-use Rattle.universe_core.specs.Jobs.{told}
+use Rattle.universe_core.specs.Jobs.{facts_of}
 use Rattle.universe_core.specs.History.{past_of}
 use Rattle.universe_core.specs.Counting.{counts}
 use Rattle.universe_core.specs.Ledgers.{no_ledger, ledger_of}
@@ -171,7 +171,7 @@ MakesDelta d (Err e) l o = o ≡ Err e
 
 -- the report of a job behind a history
 abbrev pub report_behind : List JobFields → List SealedFields → JobFields → List ℕ
-report_behind jobs parts job = report_line job.epoch (length jobs) (counts (past_of (history jobs parts)) (told job))
+report_behind jobs parts job = report_line job.epoch (length jobs) (counts (past_of (history jobs parts)) (facts_of job))
 
 -- the reports of the jobs with these parts, behind others with theirs
 abbrev pub reports : (before : List JobFields) (parts_before : List SealedFields)

@@ -1,11 +1,12 @@
 -- How a call ends.
-use Rattle.std.specs.Prelude.{◌≡◌, ℕ, ◌⊎◌, List, Some, IsTrue}
+use Rattle.std.specs.Prelude.{◌≡◌, ℕ, ◌⊎◌, List, Option, Some, IsTrue}
 use Rattle.outside_core.specs.Files.{Files}
 use Rattle.outside_core.specs.Written.{CutShort}
 use Rattle.word_core.specs.declared.command.Command.{Command}
 use Rattle.clubcard_top.specs.ReplyFields.{ReplyFields}
 use Rattle.clubcard_top.specs.Statuses as status
 use Rattle.clubcard_top.specs.Replies.{write_fault, IsReplyTo}
+use Rattle.clubcard_top.specs.Inputs.{Blames}
 use Rattle.clubcard_top.specs.Runs.{IsReply, IsTorn}
 use Rattle.clubcard_top.specs.Calls.{Call, Found, Writes, ChangesNoFile, Prints, HasRisen, NoFault}
 
@@ -65,9 +66,15 @@ pub record Torn (call : Call) (reply : ReplyFields) (name : List ℕ) : Type 0 w
 
 -- ---- in one of these ways
 
--- the command's reply over its inputs as they were read: each gave what its file holds, or couldn't be read for a cause
+-- which read failed in the call and was counted
+abbrev pub WhichFailedIn : Call → Option (List ℕ) → Type 0
+WhichFailedIn call =
+    Blames call.read_faults.before call.read_faults.after call.failed_reads.before call.failed_reads.after
+
+-- The command's reply over its inputs as they were read: each gave what its file holds, or couldn't be read for a cause.
+-- It says which read failed, if one did.
 abbrev pub IsAnswer : Call → ReplyFields → Type 0
-IsAnswer call reply = IsReply call.asked call.files_before (HasRisen call.read_faults) reply
+IsAnswer call reply = IsReply call.asked call.files_before (WhichFailedIn call) reply
 
 -- Memory was wanted. Or there is an answer, whose status is none of memory or of writes, and it was sent, or a write to
 -- an output failed.

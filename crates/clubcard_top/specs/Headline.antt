@@ -9,9 +9,10 @@ use Rattle.query_core.specs.QueryReading.{queries_in}
 use Rattle.part_codec.specs.SealedFields.{SealedFields}
 use Rattle.job_core.specs.declared.bounds.TheConstants.Limits as limits
 use Rattle.job_core.specs.JobFields.{JobFields}
+use Rattle.job_core.specs.JobFacts.{FitsFields}
 use Rattle.job_core.specs.JobLayout.{job_of}
 use Rattle.sets_core.specs.Among.{Among}
-use Rattle.universe_core.specs.Jobs.{told}
+use Rattle.universe_core.specs.Jobs.{facts_of}
 use Rattle.universe_core.specs.History.{Release, past_of, seen, sightings}
 use Rattle.universe_core.specs.Counting.{counts}
 use Rattle.publication_core.specs.Histories.{IsAdmissible, IsHistory, history, part_bytes, store_bytes, ledger_bytes}
@@ -66,6 +67,8 @@ publishes_to command part ledger = []
 -- part, and LEDGER those of the ledger of them all.
 pub record Published (call : Call) (jobs : List JobFields) (parts : List SealedFields) (job : JobFields) : Type 0 where
   pub sealed : SealedFields
+  -- keys, serials and times fit their fields, those of its CRLs too
+  pub fits : FitsFields job
   pub admissible : IsAdmissible (history jobs parts) job
   pub is_history : IsHistory (jobs ++ job ∷ []) (parts ++ sealed ∷ [])
   pub prints : Prints call (report_behind jobs parts job)
@@ -80,11 +83,12 @@ pub record IsPublished
     (asked : Command) (jobs : List JobFields) (parts : List SealedFields) (job : JobFields) (d : Done)
     : Type 0 where
   pub sealed : SealedFields
+  pub fits : FitsFields job
   pub admissible : IsAdmissible (history jobs parts) job
   pub is_history : IsHistory (jobs ++ job ∷ []) (parts ++ sealed ∷ [])
   pub outputs : d.outputs
       ≡ publishes_to asked (part_bytes sealed) (ledger_bytes (jobs ++ job ∷ []) (parts ++ sealed ∷ []))
-  pub report : d.text ≡ report_line job.epoch (length jobs) (counts (past_of (history jobs parts)) (told job))
+  pub report : d.text ≡ report_line job.epoch (length jobs) (counts (past_of (history jobs parts)) (facts_of job))
 
 -- ---- stores
 

@@ -18,4 +18,3 @@ pub mod Steps
 pub mod Rehearsals
 pub mod Answering
 pub mod Sending
-pub mod Using

@@ -2,7 +2,6 @@
 use Rattle.std.specs.Prelude.{◌≡◌, ◌≢◌, ℕ, ◌≤◌, ◌⊎◌, List, [], ◌∷◌, ◌++◌, map, length, None, Err, IsTrue}
 use Rattle.octets_core.specs.declared.fault.LayoutFault.{LayoutFault}
 use Rattle.ident_core.specs.declared.kind.Kind.TheVariants as kinds
-use Rattle.outside_core.specs.Files.{IsMissing}
 use Rattle.crl_core.specs.declared.crl.CrlFault.{CrlFault}
 use Rattle.query_core.specs.Queries.{Query}
 use Rattle.part_codec.specs.SealedFields.{SealedFields}
@@ -28,7 +27,8 @@ use Rattle.clubcard_top.specs.Readings.{job_in, ledger_in, part_in, store_in}
 use Rattle.clubcard_top.specs.Commands.{verdict_word, rehearsed}
 use Rattle.clubcard_top.specs.Replies.{usage, read_fault, refusal}
 use Rattle.clubcard_top.specs.Runs.{KeepsAllBut}
-use Rattle.clubcard_top.specs.Calls.{Call, FilesAreTold, Reads, Holds, Writes, ChangesNoFile, Prints, HasRisen, NoFault}
+use Rattle.clubcard_top.specs.Calls.{Call, FilesAreTold, Reads, Holds, Writes, ChangesNoFile, Prints, NoFault}
+use Rattle.clubcard_top.specs.Calls.{NoReadFailed, CouldNotRead}
 use Rattle.clubcard_top.specs.Endings.{Succeeds, Did, GivesTheReply, WantedMemory, SinkFailed, Torn, IsAnswer, Ends}
 use Rattle.clubcard_top.specs.Endings.{MustSucceed, MustGive}
 use Rattle.clubcard_top.specs.Successes.{ReadsPart, PublishesFile, CanBePublished, NewStore}
@@ -124,7 +124,10 @@ pub record Refusals (call : Call) : Type 0 where
 -- What a fault of the outside leaves: an input that wasn't read; an answer or an output that is cut short; or nothing.
 pub record Outside (call : Call) : Type 0 where
   pub read_fault : call.status ≡ status.read_fault → (name : List ℕ) × Among (inputs_of call.asked) name
-      × (HasRisen call.read_faults ⊎ IsMissing call.files_before name) × Prints call (read_fault name).text
+      × CouldNotRead call name × Prints call (read_fault name).text
+  -- where no file is said to be unread, no read failed
+  pub no_read_fault : call.status ≢ status.read_fault → call.status ≢ status.write_fault
+      → call.status ≢ status.no_memory → NoReadFailed call
   pub write_fault : call.status ≡ status.write_fault → (reply : ReplyFields) × IsAnswer call reply
       × ((Writes call reply.outputs × SinkFailed call reply.text) ⊎ ((name : List ℕ) × Torn call reply name))
   pub no_memory : call.status ≡ status.no_memory → WantedMemory call

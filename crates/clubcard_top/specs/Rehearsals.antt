@@ -1,5 +1,5 @@
 -- What is known of jobs that were rehearsed from their files.
-use Rattle.std.specs.Prelude.{◌≡◌, ℕ, List, [], ◌∷◌, ◌++◌, Option, Result, Ok, Err}
+use Rattle.std.specs.Prelude.{◌≡◌, ℕ, List, [], ◌∷◌, ◌++◌, Option, None, Result, Ok, Err}
 use Rattle.outside_core.specs.Files.{Files}
 use Rattle.query_core.specs.Queries.{Query}
 use Rattle.part_codec.specs.SealedFields.{SealedFields}
@@ -8,7 +8,7 @@ use Rattle.rehearsal_core.specs.Rehearsing.{RehearsalFields, IsOf}
 use Rattle.clubcard_top.specs.ReplyFields.{NamedFault}
 use Rattle.clubcard_top.specs.Commands.{report_behind, reports, rehearsed}
 use Rattle.clubcard_top.specs.Steps.{RehearsesOn}
-use Rattle.clubcard_top.specs.Inputs.{AreRead}
+use Rattle.clubcard_top.specs.Inputs.{AreRead, BlamesFile}
 
 -- A job was read, and goes on with these jobs: the rehearsal holds one part more, and this is the line of its report.
 pub record AddsJob
@@ -24,16 +24,21 @@ pub record AddsJob
 
 -- The files of these names were read as jobs of a history, of which this is the rehearsal, and these are the reports.
 pub record IsRehearsedFrom
-    (told : Option Files) (rose : Type 0) (names : List (List ℕ)) (r : RehearsalFields) (text : List ℕ)
+    (told : Option Files) (failed : Option (List ℕ) → Type 0) (names : List (List ℕ))
+    (r : RehearsalFields) (text : List ℕ)
     : Type 0 where
   pub inputs : List (Option (List ℕ))
-  pub read : AreRead told rose names inputs
+  pub read : AreRead told failed names inputs
+  pub none_failed : failed None
   pub jobs : List JobFields
   pub lines : text ≡ reports [] [] jobs r.parts
   pub makes : (queries : List Query) → RehearsesOn queries [] [] names inputs (Ok (rehearsed queries jobs r.parts))
 
 -- This is wrong with one of the files, and those before it were read as jobs of a history.
-pub record IsRefusedFrom (told : Option Files) (rose : Type 0) (names : List (List ℕ)) (e : NamedFault) : Type 0 where
+pub record IsRefusedFrom
+    (told : Option Files) (failed : Option (List ℕ) → Type 0) (names : List (List ℕ)) (e : NamedFault)
+    : Type 0 where
   pub inputs : List (Option (List ℕ))
-  pub read : AreRead told rose names inputs
+  pub read : AreRead told failed names inputs
+  pub blames : BlamesFile failed names e
   pub makes : (queries : List Query) → RehearsesOn queries [] [] names inputs (Err e)

@@ -6,12 +6,20 @@ use Rattle.word_core.specs.declared.command.Command.{Command}
 use Rattle.word_core.specs.Names.{inputs_of}
 use Rattle.clubcard_top.specs.ReplyFields.{OutputFields, ReplyFields}
 use Rattle.clubcard_top.specs.Inputs.{AreRead}
-use Rattle.clubcard_top.specs.Replies.{IsReplyOver}
+use Rattle.sets_core.specs.Among.{Among}
+use Rattle.clubcard_top.specs.Replies.{read_fault, IsReplyOver}
 
--- What a command is answered, whatever the files tell: the reply over inputs that were read so.
-abbrev pub IsReply : Command → Option Files → Type 0 → ReplyFields → Type 0
-IsReply command told rose reply =
-    (inputs : List (Option (List ℕ))) × AreRead told rose (inputs_of command) inputs × IsReplyOver command inputs reply
+-- No read failed; or the reply is that one of these files couldn't be read, and the read of that one did.
+abbrev pub SaysWhich : (Option (List ℕ) → Type 0) → List (List ℕ) → ReplyFields → Type 0
+SaysWhich failed names reply =
+    failed None ⊎ ((name : List ℕ) × Among names name × (reply ≡ read_fault name) × failed (Some name))
+
+-- What a command is answered, whatever the files tell: the reply over inputs that were read so. It says which read
+-- failed, if one did.
+abbrev pub IsReply : Command → Option Files → (Option (List ℕ) → Type 0) → ReplyFields → Type 0
+IsReply command told failed reply =
+    (inputs : List (Option (List ℕ))) × AreRead told failed (inputs_of command) inputs
+    × IsReplyOver command inputs reply × SaysWhich failed (inputs_of command) reply
 
 -- ---- writing
 

@@ -1,11 +1,11 @@
 //! Answers, which are sent when all has been read and made.
 
 ghost use Rattle.std.specs.Prelude.{◌≡◌, ◌≤◌, [], ◌∷◌, IsTrue};
+ghost use Rattle.outside_core.specs.Effects.{OnlyWrites};
 ghost use Rattle.outside_core.specs.Files.{Rose};
 ghost use Rattle.clubcard_top.specs.Statuses as statuses;
-ghost use Rattle.clubcard_top.specs.Answering.{shown, with_files};
+ghost use Rattle.clubcard_top.specs.Answering.{reply_fields, with_files};
 ghost use Rattle.clubcard_top.specs.Sending.{SentSo, EndsSo};
-ghost use Rattle.clubcard_top.specs.Using.{OnlyWrites};
 
 use crate::output::{Output, SampleOutput, write_outputs};
 use crate::reply::Reply;
@@ -29,7 +29,8 @@ pub enum Answer {
 
 /// Sends one text, behind which the call ends so.
 fn send_text<K: Sink>(text: &[u8], status: Status, out: &mut K) -> Status
-    ensures sent { SentSo (record { status = status.0; text = text.now; outputs = [] }) result.0 (K.written out.old) (K.written out.new) (Rose (K.faults out.old) (K.faults out.new)) }
+    ensures sent { SentSo (record { status = status.0; text = text.now; outputs = [] }) result.0 (K.written out.old)
+        (K.written out.new) (Rose (K.faults out.old) (K.faults out.new)) }
     ensures later { K.faults out.old ≤ K.faults out.new }
 {
     match write_all(out, text) {
@@ -40,7 +41,8 @@ fn send_text<K: Sink>(text: &[u8], status: Status, out: &mut K) -> Status
 
 /// Sends a reply.
 fn send_reply<K: Sink>(reply: &Reply, out: &mut K) -> Status
-    ensures sent { SentSo reply.now result.0 (K.written out.old) (K.written out.new) (Rose (K.faults out.old) (K.faults out.new)) }
+    ensures sent { SentSo reply.now result.0 (K.written out.old) (K.written out.new)
+        (Rose (K.faults out.old) (K.faults out.new)) }
     ensures own { IsTrue (statuses.is_one_of statuses.of_replies reply.now.status) }
     ensures none { reply.now.outputs ≡ [] }
     ensures later { K.faults out.old ≤ K.faults out.new }
@@ -51,7 +53,8 @@ fn send_reply<K: Sink>(reply: &Reply, out: &mut K) -> Status
 
 /// Sends what a part holds.
 fn send_part<K: Sink>(sealed: &Sealed, out: &mut K) -> Status
-    ensures sent { SentSo (shown (Answer.Part sealed.now)) result.0 (K.written out.old) (K.written out.new) (Rose (K.faults out.old) (K.faults out.new)) }
+    ensures sent { SentSo (reply_fields (Answer.Part sealed.now)) result.0 (K.written out.old) (K.written out.new)
+        (Rose (K.faults out.old) (K.faults out.new)) }
     ensures later { K.faults out.old ≤ K.faults out.new }
 {
     match write_sealed(sealed, out) {
@@ -67,7 +70,8 @@ fn send_files<D: Depot, K: Sink>(
     depot: &mut D,
     out: &mut K,
 ) -> Status
-    ensures ends { EndsSo (with_files outputs.now reply.now) result.0 (K.written out.old) (K.written out.new) (Rose (K.faults out.old) (K.faults out.new))
+    ensures ends { EndsSo (with_files outputs.now reply.now) result.0 (K.written out.old) (K.written out.new)
+        (Rose (K.faults out.old) (K.faults out.new))
         (D.files depot.old) (D.files depot.new) (Rose (D.write_faults depot.old) (D.write_faults depot.new)) }
     ensures own { IsTrue (statuses.is_one_of statuses.of_replies reply.now.status) }
     ensures quiet { outputs.now ≡ [] → D.write_faults depot.new ≡ D.write_faults depot.old }
@@ -88,7 +92,8 @@ fn send_sample<D: Depot, K: Sink>(
     depot: &mut D,
     out: &mut K,
 ) -> Status
-    ensures ends { EndsSo (with_files (output ∷ []) reply.now) result.0 (K.written out.old) (K.written out.new) (Rose (K.faults out.old) (K.faults out.new))
+    ensures ends { EndsSo (with_files (output ∷ []) reply.now) result.0 (K.written out.old) (K.written out.new)
+        (Rose (K.faults out.old) (K.faults out.new))
         (D.files depot.old) (D.files depot.new) (Rose (D.write_faults depot.old) (D.write_faults depot.new)) }
     ensures own { IsTrue (statuses.is_one_of statuses.of_replies reply.now.status) }
     ensures only_writes { OnlyWrites D.Depot depot.old depot.new }
@@ -103,10 +108,11 @@ fn send_sample<D: Depot, K: Sink>(
 
 /// Sends an answer. No memory is taken.
 pub fn send<D: Depot, K: Sink>(answer: Answer, depot: &mut D, out: &mut K) -> Status
-    ensures ends { EndsSo (shown answer) result.0 (K.written out.old) (K.written out.new) (Rose (K.faults out.old) (K.faults out.new))
+    ensures ends { EndsSo (reply_fields answer) result.0 (K.written out.old) (K.written out.new)
+        (Rose (K.faults out.old) (K.faults out.new))
         (D.files depot.old) (D.files depot.new) (Rose (D.write_faults depot.old) (D.write_faults depot.new)) }
-    ensures own { IsTrue (statuses.is_one_of statuses.of_replies (shown answer).status) }
-    ensures quiet { (shown answer).outputs ≡ [] → D.write_faults depot.new ≡ D.write_faults depot.old }
+    ensures own { IsTrue (statuses.is_one_of statuses.of_replies (reply_fields answer).status) }
+    ensures quiet { (reply_fields answer).outputs ≡ [] → D.write_faults depot.new ≡ D.write_faults depot.old }
     ensures only_writes { OnlyWrites D.Depot depot.old depot.new }
     ensures later_out { K.faults out.old ≤ K.faults out.new }
 {

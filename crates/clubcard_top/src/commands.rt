@@ -1,13 +1,13 @@
 //! The commands that ask: what each answers, from what its file holds.
 
 ghost use Rattle.std.specs.Prelude.{◌≡◌, ◌<◌, IfOk, IsErr, map};
-ghost use Rattle.outside_core.specs.Files.{Rose};
+ghost use Rattle.outside_core.specs.Effects.{OnlyReads};
 ghost use Rattle.store_core.specs.Verdict.{verdict as verdict_of};
 ghost use Rattle.word_core.specs.declared.command.Command.{Command};
-ghost use Rattle.clubcard_top.specs.Answering.{shown};
+ghost use Rattle.clubcard_top.specs.Answering.{reply_fields};
 ghost use Rattle.clubcard_top.specs.Replies.{refusal};
+ghost use Rattle.clubcard_top.specs.Inputs.{WhichFailed};
 ghost use Rattle.clubcard_top.specs.Runs.{IsReply};
-ghost use Rattle.clubcard_top.specs.Using.{OnlyReads};
 
 use crate::answer::Answer;
 use crate::fault::FileFault;
@@ -25,7 +25,7 @@ use word_core::{FileName, Query};
 
 /// The answer about what is wrong with the file of this name.
 pub(crate) fn refused(alloc: Global, name: &str, fault: FileFault) -> Result<Answer, NoMemory>
-    ensures ok { IfOk result (λ a. shown a ≡ refusal name.now fault) }
+    ensures ok { IfOk result (λ a. reply_fields a ≡ refusal name.now fault) }
     ensures memory { fault ≡ FileFault.NoMemory → IsErr result }
 {
     Ok(Answer::Reply(Reply::refusal(alloc, name, fault)?))
@@ -65,7 +65,8 @@ pub fn answer_query<D: Depot>(
     query: &Query,
     depot: &mut D,
 ) -> Result<Answer, NoMemory>
-    ensures reply { IfOk result (λ a. IsReply (Command.Query query.now) (D.files depot.old) (Rose (D.read_faults depot.old) (D.read_faults depot.new)) (shown a)) }
+    ensures reply { IfOk result (λ a. IsReply (Command.Query query.now) (D.files depot.old)
+        (WhichFailed D.Depot depot.old depot.new) (reply_fields a)) }
     ensures only_reads { OnlyReads D.Depot depot.old depot.new }
 {
     match store_in(alloc, depot, query.store()) {
@@ -83,7 +84,8 @@ pub fn answer_check<D: Depot>(
     name: &FileName,
     depot: &mut D,
 ) -> Result<Answer, NoMemory>
-    ensures reply { IfOk result (λ a. IsReply (Command.Check name.now) (D.files depot.old) (Rose (D.read_faults depot.old) (D.read_faults depot.new)) (shown a)) }
+    ensures reply { IfOk result (λ a. IsReply (Command.Check name.now) (D.files depot.old)
+        (WhichFailed D.Depot depot.old depot.new) (reply_fields a)) }
     ensures only_reads { OnlyReads D.Depot depot.old depot.new }
 {
     match part_in(alloc, depot, name.as_str()) {
@@ -98,7 +100,8 @@ pub fn answer_show<D: Depot>(
     name: &FileName,
     depot: &mut D,
 ) -> Result<Answer, NoMemory>
-    ensures reply { IfOk result (λ a. IsReply (Command.Show name.now) (D.files depot.old) (Rose (D.read_faults depot.old) (D.read_faults depot.new)) (shown a)) }
+    ensures reply { IfOk result (λ a. IsReply (Command.Show name.now) (D.files depot.old)
+        (WhichFailed D.Depot depot.old depot.new) (reply_fields a)) }
     ensures only_reads { OnlyReads D.Depot depot.old depot.new }
 {
     match part_in(alloc, depot, name.as_str()) {

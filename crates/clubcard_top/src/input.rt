@@ -1,9 +1,8 @@
 //! Files that are taken whole.
 
-ghost use Rattle.std.specs.Prelude.{◌≡◌, ◌≤◌, ◌+◌, ◌++◌, length, take, drop, IfOk, OnOk, IsErrOf, vec_len};
-ghost use Rattle.outside_core.specs.Files.{Rose, IsMissing, ReadFailed};
+ghost use Rattle.std.specs.Prelude.{◌≡◌, ◌≤◌, ◌⊎◌, ◌+◌, ◌++◌, length, take, drop, IfOk, OnOk, IsErrOf, vec_len};
+ghost use Rattle.outside_core.specs.Effects.{OnlyReads, ReadFailed};
 ghost use Rattle.clubcard_top.specs.Inputs.{WhereHeld, IsHeld};
-ghost use Rattle.clubcard_top.specs.Using.{OnlyReads};
 
 use crate::fault::FileFault;
 use outside_core::{Depot, Failed};
@@ -42,7 +41,8 @@ fn read_piece<D: Depot>(depot: &mut D, name: &str, bytes: &mut Vec<u8>) -> Resul
     ensures piece { IfOk result (λ n. IsHeld (D.files depot.old) name.now (λ file.
         (bytes.new.items ≡ bytes.old.items ++ take n (drop (vec_len bytes.old) file))
         × (n ≡ 0 → length file ≤ vec_len bytes.old))) }
-    ensures failed { IsErrOf result InputFault.Failed → ReadFailed (D.files depot.old) name.now (D.read_faults depot.old) (D.read_faults depot.new) }
+    ensures failed { IsErrOf result InputFault.Failed → ReadFailed D.Depot name.now depot.old depot.new }
+    ensures unblamed { IsErrOf result InputFault.Failed ⊎ (D.failed_reads depot.new ≡ D.failed_reads depot.old) }
     ensures only_reads { OnlyReads D.Depot depot.old depot.new }
 {
     let mut buffer = [0u8; PIECE];
@@ -60,7 +60,8 @@ fn read_piece<D: Depot>(depot: &mut D, name: &str, bytes: &mut Vec<u8>) -> Resul
 fn read_on<D: Depot>(depot: &mut D, name: &str, taken: Vec<u8>) -> Result<Vec<u8>, InputFault>
     requires { vec_len taken ≡ 0 }
     ensures bytes { IfOk result (λ bytes. IsHeld (D.files depot.old) name.now (λ file. bytes.items ≡ file)) }
-    ensures failed { IsErrOf result InputFault.Failed → ReadFailed (D.files depot.old) name.now (D.read_faults depot.old) (D.read_faults depot.new) }
+    ensures failed { IsErrOf result InputFault.Failed → ReadFailed D.Depot name.now depot.old depot.new }
+    ensures unblamed { IsErrOf result InputFault.Failed ⊎ (D.failed_reads depot.new ≡ D.failed_reads depot.old) }
     ensures only_reads { OnlyReads D.Depot depot.old depot.new }
 {
     let mut bytes = taken;
@@ -76,7 +77,8 @@ fn read_on<D: Depot>(depot: &mut D, name: &str, taken: Vec<u8>) -> Result<Vec<u8
 /// doesn't fit is want of memory.
 pub fn read_all<D: Depot>(alloc: Global, depot: &mut D, name: &str) -> Result<Vec<u8>, InputFault>
     ensures bytes { IfOk result (λ bytes. IsHeld (D.files depot.old) name.now (λ file. bytes.items ≡ file)) }
-    ensures failed { IsErrOf result InputFault.Failed → ReadFailed (D.files depot.old) name.now (D.read_faults depot.old) (D.read_faults depot.new) }
+    ensures failed { IsErrOf result InputFault.Failed → ReadFailed D.Depot name.now depot.old depot.new }
+    ensures unblamed { IsErrOf result InputFault.Failed ⊎ (D.failed_reads depot.new ≡ D.failed_reads depot.old) }
     ensures only_reads { OnlyReads D.Depot depot.old depot.new }
 {
     read_on(depot, name, Vec::new(alloc))

@@ -3,14 +3,14 @@
 
 ghost use Rattle.std.specs.Prelude.{map, IfOk};
 ghost use Rattle.octets_core.specs.Reading.{GivesUnless};
-ghost use Rattle.outside_core.specs.Files.{Rose};
+ghost use Rattle.outside_core.specs.Effects.{OnlyReads};
 ghost use Rattle.query_core.specs.Queries.{as_query};
 ghost use Rattle.job_core.specs.JobFields.{fields_of_job};
 ghost use Rattle.job_core.specs.JobFacts.{FitsFields, IsWithinLimits};
 ghost use Rattle.clubcard_top.specs.PartFile.{part_file};
-ghost use Rattle.clubcard_top.specs.Readings.{queries_in as queries_of, job_in as job_of, ledger_in as ledger_of, part_in as part_of, store_in as store_of};
-ghost use Rattle.clubcard_top.specs.Inputs.{IsInput};
-ghost use Rattle.clubcard_top.specs.Using.{OnlyReads};
+ghost use Rattle.clubcard_top.specs.Readings.{queries_in as queries_of, job_in as job_of, ledger_in as ledger_of};
+ghost use Rattle.clubcard_top.specs.Readings.{part_in as part_of, store_in as store_of};
+ghost use Rattle.clubcard_top.specs.Inputs.{IsInput, WhichFailed};
 
 use crate::fault::FileFault;
 use crate::input::read_all;
@@ -29,7 +29,8 @@ pub fn queries_in<D: Depot>(
     depot: &mut D,
     name: &str,
 ) -> Result<Vec<Asked>, FileFault>
-    ensures input { IsInput (D.files depot.old) (Rose (D.read_faults depot.old) (D.read_faults depot.new)) name.now queries_of (λ v. map as_query v.items) result }
+    ensures input { IsInput (D.files depot.old) (WhichFailed D.Depot depot.old depot.new) name.now
+        queries_of (λ v. map as_query v.items) result }
     ensures only_reads { OnlyReads D.Depot depot.old depot.new }
 {
     let bytes = read_all(alloc, depot, name)?;
@@ -38,7 +39,8 @@ pub fn queries_in<D: Depot>(
 
 /// The job of the file of this name.
 pub fn job_in<D: Depot>(alloc: Global, depot: &mut D, name: &str) -> Result<Job, FileFault>
-    ensures input { IsInput (D.files depot.old) (Rose (D.read_faults depot.old) (D.read_faults depot.new)) name.now job_of fields_of_job result }
+    ensures input { IsInput (D.files depot.old) (WhichFailed D.Depot depot.old depot.new) name.now
+        job_of fields_of_job result }
     ensures fits { IfOk result (λ job. FitsFields (fields_of_job job)) }
     ensures within { IfOk result (λ job. IsWithinLimits Limits.PUBLISHED (fields_of_job job)) }
     ensures only_reads { OnlyReads D.Depot depot.old depot.new }
@@ -49,7 +51,8 @@ pub fn job_in<D: Depot>(alloc: Global, depot: &mut D, name: &str) -> Result<Job,
 
 /// The ledger of the file of this name.
 pub fn ledger_in<D: Depot>(alloc: Global, depot: &mut D, name: &str) -> Result<Ledger, FileFault>
-    ensures input { IsInput (D.files depot.old) (Rose (D.read_faults depot.old) (D.read_faults depot.new)) name.now ledger_of (λ l. l) result }
+    ensures input { IsInput (D.files depot.old) (WhichFailed D.Depot depot.old depot.new) name.now
+        ledger_of (λ l. l) result }
     ensures only_reads { OnlyReads D.Depot depot.old depot.new }
 {
     let bytes = read_all(alloc, depot, name)?;
@@ -74,7 +77,8 @@ pub fn part_in<D: Depot>(
     depot: &mut D,
     name: &str,
 ) -> Result<(Sealed, usize), FileFault>
-    ensures input { IsInput (D.files depot.old) (Rose (D.read_faults depot.old) (D.read_faults depot.new)) name.now part_of (λ x. x) result }
+    ensures input { IsInput (D.files depot.old) (WhichFailed D.Depot depot.old depot.new) name.now
+        part_of (λ x. x) result }
     ensures only_reads { OnlyReads D.Depot depot.old depot.new }
 {
     let bytes = read_all(alloc, depot, name)?;
@@ -83,7 +87,8 @@ pub fn part_in<D: Depot>(
 
 /// The store of the file of this name.
 pub fn store_in<D: Depot>(alloc: Global, depot: &mut D, name: &str) -> Result<Store, FileFault>
-    ensures input { IsInput (D.files depot.old) (Rose (D.read_faults depot.old) (D.read_faults depot.new)) name.now store_of (λ s. s) result }
+    ensures input { IsInput (D.files depot.old) (WhichFailed D.Depot depot.old depot.new) name.now
+        store_of (λ s. s) result }
     ensures only_reads { OnlyReads D.Depot depot.old depot.new }
 {
     let bytes = read_all(alloc, depot, name)?;

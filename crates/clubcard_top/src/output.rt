@@ -1,16 +1,16 @@
 //! Files that a command writes. All that a write and its failure say is made before the first is begun.
 
 ghost use Rattle.std.specs.Prelude.{◌≡◌, ◌≤◌, [], ◌∷◌, IfOk, OnOk, OnErr, IfSome, IsNone, string_bytes};
+ghost use Rattle.outside_core.specs.Effects.{OnlyWrites};
 ghost use Rattle.outside_core.specs.Files.{Rose, putting};
 ghost use Rattle.sample_core.specs.Sample.{sample_text};
 ghost use Rattle.clubcard_top.specs.Replies.{write_fault};
 ghost use Rattle.clubcard_top.specs.Runs.{with_outputs, IsLeft, IsTorn};
-ghost use Rattle.clubcard_top.specs.Using.{OnlyWrites};
 
 use line_core::about_file;
 use octets_core::NoMemory;
 use outside_core::{Depot, Failed, append_all};
-use sample_core::Draft;
+use sample_core::SampleJob;
 use std::alloc::Global;
 use std::marker::Model;
 use word_core::FileName;
@@ -100,11 +100,12 @@ pub fn write_outputs<'a, D: Depot>(outputs: &'a [Output], depot: &mut D) -> Opti
     None
 }
 
-/// A job to be written as it is made: the name of its file, its draft, and the line that says that it can't be written.
+/// A job to be written as it is made: the name of its file, what makes it, and the line that says that it can't be
+/// written.
 #[derive(Drop)]
 pub struct SampleOutput {
     name: FileName,
-    draft: Draft,
+    job: SampleJob,
     fault: String,
 }
 
@@ -116,21 +117,21 @@ impl Model for SampleOutput {
 
     ghost Value = { OutputFields };
 
-    ghost view = { λ o. record { name = o.name; bytes = sample_text o.draft.number o.draft.count } };
+    ghost view = { λ o. record { name = o.name; bytes = sample_text o.job.number o.job.count } };
 
     ghost invariant = { λ o. string_bytes o.fault ≡ (write_fault o.name).text };
 }
 
 impl SampleOutput {
-    /// The output of this draft to the file of this name.
-    pub fn new(alloc: Global, name: &str, draft: Draft) -> Result<SampleOutput, NoMemory>
-        ensures { IfOk result (λ o. o ≡ record { name = name.now; bytes = sample_text draft.number draft.count }) }
+    /// The output of this job to the file of this name.
+    pub fn new(alloc: Global, name: &str, job: SampleJob) -> Result<SampleOutput, NoMemory>
+        ensures { IfOk result (λ o. o ≡ record { name = name.now; bytes = sample_text job.number job.count }) }
     {
         let fault = about_file(alloc, "write-fault", name)?;
         let name = String::from_str(alloc, name)?;
         Ok(SampleOutput {
             name: FileName::new(name),
-            draft,
+            job,
             fault,
         })
     }
@@ -138,13 +139,13 @@ impl SampleOutput {
     /// Writes the job, and answers the line that says that it can't be written if it can't.
     pub fn write<D: Depot>(self, depot: &mut D) -> Option<String>
         ensures all { IsNone result → D.files depot.new ≡ putting (D.files depot.old) self.name self.bytes }
-        ensures torn { IfSome result (λ line. IsTorn (D.files depot.old) (D.files depot.new) (self ∷ []) self.name × (string_bytes line ≡ (write_fault self.name).text)) }
+        ensures torn { IfSome result (λ line. IsTorn (D.files depot.old) (D.files depot.new) (self ∷ []) self.name
+            × (string_bytes line ≡ (write_fault self.name).text)) }
         ensures cause { IfSome result (λ line. Rose (D.write_faults depot.old) (D.write_faults depot.new)) }
-        ensures later { D.write_faults depot.old ≤ D.write_faults depot.new }
-        ensures same_reads { D.read_faults depot.new ≡ D.read_faults depot.old }
+        ensures only_writes { OnlyWrites D.Depot depot.old depot.new }
     {
-        let SampleOutput { name, draft, fault } = self;
-        match draft.write(depot, name.as_str()) {
+        let SampleOutput { name, job, fault } = self;
+        match job.write(depot, name.as_str()) {
             Ok(()) => None,
             Err(Failed) => Some(fault),
         }

@@ -1,13 +1,13 @@
 //! The publisher's commands: what each answers, from what its files hold.
 
 ghost use Rattle.std.specs.Prelude.{◌≡◌, IfOk};
-ghost use Rattle.outside_core.specs.Files.{Rose};
+ghost use Rattle.outside_core.specs.Effects.{OnlyReads};
 ghost use Rattle.word_core.specs.declared.command.Command.{Command};
 ghost use Rattle.clubcard_top.specs.Commands.{publication_done};
-ghost use Rattle.clubcard_top.specs.Answering.{shown};
+ghost use Rattle.clubcard_top.specs.Answering.{reply_fields};
 ghost use Rattle.clubcard_top.specs.Replies.{done};
+ghost use Rattle.clubcard_top.specs.Inputs.{WhichFailed};
 ghost use Rattle.clubcard_top.specs.Runs.{IsReply};
-ghost use Rattle.clubcard_top.specs.Using.{OnlyReads};
 
 use crate::answer::Answer;
 use crate::commands::refused;
@@ -31,7 +31,7 @@ fn published(
     ledger: &str,
     publication: &Publication,
 ) -> Result<Answer, NoMemory>
-    ensures { IfOk result (λ a. shown a ≡ done (publication_done part.now ledger.now publication.now)) }
+    ensures { IfOk result (λ a. reply_fields a ≡ done (publication_done part.now ledger.now publication.now)) }
 {
     let sealed = publication.sealed();
     let part_bytes = encode_part(alloc, sealed)?;
@@ -51,7 +51,8 @@ pub fn answer_snapshot<R: Threads + Sync, D: Depot>(
     snapshot: &Snapshot,
     depot: &mut D,
 ) -> Result<Answer, NoMemory>
-    ensures reply { IfOk result (λ a. IsReply (Command.Snapshot snapshot.now) (D.files depot.old) (Rose (D.read_faults depot.old) (D.read_faults depot.new)) (shown a)) }
+    ensures reply { IfOk result (λ a. IsReply (Command.Snapshot snapshot.now) (D.files depot.old)
+        (WhichFailed D.Depot depot.old depot.new) (reply_fields a)) }
     ensures only_reads { OnlyReads D.Depot depot.old depot.new }
 {
     let job = match job_in(alloc, depot, snapshot.job()) {
@@ -71,7 +72,8 @@ pub fn answer_delta<R: Threads + Sync, D: Depot>(
     delta: &Delta,
     depot: &mut D,
 ) -> Result<Answer, NoMemory>
-    ensures reply { IfOk result (λ a. IsReply (Command.Delta delta.now) (D.files depot.old) (Rose (D.read_faults depot.old) (D.read_faults depot.new)) (shown a)) }
+    ensures reply { IfOk result (λ a. IsReply (Command.Delta delta.now) (D.files depot.old)
+        (WhichFailed D.Depot depot.old depot.new) (reply_fields a)) }
     ensures only_reads { OnlyReads D.Depot depot.old depot.new }
 {
     let job = match job_in(alloc, depot, delta.job()) {

@@ -1,18 +1,17 @@
 //! Rehearsals: jobs that are published and installed as they are read, and then asked. No file is written.
 
 ghost use Rattle.std.specs.Prelude.{◌≡◌, ◌≢◌, ◌≤◌, ◌++◌, [], ℕ, List, map, flat_map, length, Option, IfOk, IfErr, OnOk};
-ghost use Rattle.outside_core.specs.Files.{Rose};
+ghost use Rattle.outside_core.specs.Effects.{OnlyReads};
 ghost use Rattle.query_core.specs.Queries.{as_query};
 ghost use Rattle.job_core.specs.JobFields.{JobFields};
 ghost use Rattle.rehearsal_core.specs.Rehearsing.{IsOf};
 ghost use Rattle.word_core.specs.declared.command.Command.{Command};
 ghost use Rattle.clubcard_top.specs.Readings.{job_in as job_of};
-ghost use Rattle.clubcard_top.specs.Inputs.{IsRead};
+ghost use Rattle.clubcard_top.specs.Inputs.{IsBlamed, IsRead, WhichFailed};
 ghost use Rattle.clubcard_top.specs.Commands.{IsRefused, input, verdict_line as line_of_verdict};
 ghost use Rattle.clubcard_top.specs.Rehearsals.{AddsJob, IsRefusedFrom, IsRehearsedFrom};
-ghost use Rattle.clubcard_top.specs.Answering.{shown};
+ghost use Rattle.clubcard_top.specs.Answering.{reply_fields};
 ghost use Rattle.clubcard_top.specs.Runs.{IsReply};
-ghost use Rattle.clubcard_top.specs.Using.{OnlyReads};
 
 use crate::answer::Answer;
 use crate::commands::{refused, verdict_on};
@@ -52,10 +51,14 @@ fn with_file<R: Threads + Sync, D: Depot>(
 ) -> Result<(Rehearsal, Line), FileFault>
     requires some_workers { 1 ≤ workers }
     requires few_workers { workers ≤ 64 }
-    ensures added { IfOk result (λ x. (given : Option (List ℕ)) × IsRead (D.files depot.old) (Rose (D.read_faults depot.old) (D.read_faults depot.new)) name.now given
+    ensures added { IfOk result (λ x. (given : Option (List ℕ))
+        × IsRead (D.files depot.old) (WhichFailed D.Depot depot.old depot.new) name.now given
         × ((jobs : List JobFields) → IsOf jobs before → AddsJob jobs before (input name.now job_of given) x.0 x.1)) }
-    ensures refused { IfErr result (λ e. e ≢ FileFault.NoMemory → (given : Option (List ℕ)) × IsRead (D.files depot.old) (Rose (D.read_faults depot.old) (D.read_faults depot.new)) name.now given
-        × ((jobs : List JobFields) → IsOf jobs before → IsRefused jobs before.parts name.now given (record { name = name.now; fault = e }))) }
+    ensures refused { IfErr result (λ e. e ≢ FileFault.NoMemory → (given : Option (List ℕ))
+        × IsRead (D.files depot.old) (WhichFailed D.Depot depot.old depot.new) name.now given
+        × ((jobs : List JobFields) → IsOf jobs before
+        → IsRefused jobs before.parts name.now given (record { name = name.now; fault = e }))) }
+    ensures blamed { IsBlamed (WhichFailed D.Depot depot.old depot.new) name.now FileFault.Unread result }
     ensures only_reads { OnlyReads D.Depot depot.old depot.new }
 {
     let job = job_in(alloc, depot, name)?;
@@ -77,8 +80,11 @@ fn with_files<'a, R: Threads + Sync, D: Depot>(
     requires empty { text.items ≡ [] }
     requires some_workers { 1 ≤ workers }
     requires few_workers { workers ≤ 64 }
-    ensures rehearsed { IfOk result (λ x. IsRehearsedFrom (D.files depot.old) (Rose (D.read_faults depot.old) (D.read_faults depot.new)) names.now x.0 x.1.items) }
-    ensures refused { IfErr result (λ e. e.fault ≢ FileFault.NoMemory → IsRefusedFrom (D.files depot.old) (Rose (D.read_faults depot.old) (D.read_faults depot.new)) names.now (record { name = e.name.now; fault = e.fault })) }
+    ensures rehearsed { IfOk result (λ x. IsRehearsedFrom (D.files depot.old)
+        (WhichFailed D.Depot depot.old depot.new) names.now x.0 x.1.items) }
+    ensures refused { IfErr result (λ e. e.fault ≢ FileFault.NoMemory
+        → IsRefusedFrom (D.files depot.old) (WhichFailed D.Depot depot.old depot.new) names.now
+        (record { name = e.name.now; fault = e.fault })) }
     ensures only_reads { OnlyReads D.Depot depot.old depot.new }
 {
     let mut rehearsal = Rehearsal::new();
@@ -100,7 +106,8 @@ fn with_files<'a, R: Threads + Sync, D: Depot>(
 
 /// Appends the line of the verdict on a query.
 fn put_verdict(text: &mut Vec<u8>, rehearsal: &Rehearsal, query: &Asked) -> Result<(), NoMemory>
-    ensures { OnOk result (text.new.items ≡ text.old.items ++ line_of_verdict rehearsal.now.parts (as_query query.now)) }
+    ensures { OnOk result (text.new.items ≡ text.old.items
+        ++ line_of_verdict rehearsal.now.parts (as_query query.now)) }
 {
     let verdict = match rehearsal.store() {
         None => Verdict::NotCovered,
@@ -115,7 +122,8 @@ fn put_verdicts(
     rehearsal: &Rehearsal,
     queries: &[Asked],
 ) -> Result<(), NoMemory>
-    ensures { OnOk result (text.new.items ≡ text.old.items ++ flat_map (line_of_verdict rehearsal.now.parts) (map as_query queries.now)) }
+    ensures { OnOk result (text.new.items ≡ text.old.items
+        ++ flat_map (line_of_verdict rehearsal.now.parts) (map as_query queries.now)) }
 {
     for query in queries {
         put_verdict(text, rehearsal, query)?;
@@ -130,7 +138,8 @@ pub fn answer_rehearse<R: Threads + Sync, D: Depot>(
     rehearse: &Rehearse,
     depot: &mut D,
 ) -> Result<Answer, NoMemory>
-    ensures reply { IfOk result (λ a. IsReply (Command.Rehearse rehearse.now) (D.files depot.old) (Rose (D.read_faults depot.old) (D.read_faults depot.new)) (shown a)) }
+    ensures reply { IfOk result (λ a. IsReply (Command.Rehearse rehearse.now) (D.files depot.old)
+        (WhichFailed D.Depot depot.old depot.new) (reply_fields a)) }
     ensures only_reads { OnlyReads D.Depot depot.old depot.new }
 {
     let queries = match queries_in(alloc, depot, rehearse.queries()) {

@@ -2,7 +2,7 @@
 
 ghost use Rattle.std.specs.Prelude.{◌≡◌, IfOk};
 ghost use Rattle.clubcard_top.specs.Commands.{sample_done};
-ghost use Rattle.clubcard_top.specs.Answering.{shown};
+ghost use Rattle.clubcard_top.specs.Answering.{reply_fields};
 ghost use Rattle.clubcard_top.specs.Replies.{done};
 
 use crate::answer::Answer;
@@ -10,22 +10,17 @@ use crate::output::SampleOutput;
 use crate::reply::Reply;
 use line_core::sampled;
 use octets_core::NoMemory;
-use sample_core::Draft;
+use sample_core::SampleJob;
 use std::alloc::Global;
 use word_core::Sample;
 
 /// The answer of `sample`.
 pub fn answer_sample(alloc: Global, sample: &Sample) -> Result<Answer, NoMemory>
-    ensures { IfOk result (λ a. shown a ≡ done (sample_done sample.now)) }
+    ensures { IfOk result (λ a. reply_fields a ≡ done (sample_done sample.now)) }
 {
-    let draft = Draft::new(alloc, sample.number(), sample.count())?;
-    let line = sampled(
-        sample.number(),
-        sample.count(),
-        draft.revoked(),
-        draft.bytes(),
-    );
+    let job = SampleJob::new(alloc, sample.number(), sample.count())?;
+    let line = sampled(sample.number(), sample.count(), job.revoked(), job.bytes());
     let reply = Reply::done(alloc, &line)?;
-    let output = SampleOutput::new(alloc, sample.job(), draft)?;
+    let output = SampleOutput::new(alloc, sample.job(), job)?;
     Ok(Answer::Sample(output, reply))
 }

@@ -2,14 +2,15 @@
 
 ghost use Rattle.std.specs.Prelude.{◌≡◌, IfOk};
 ghost use Rattle.octets_core.specs.Reading.{GivesUnless};
-ghost use Rattle.outside_core.specs.Files.{Rose};
+ghost use Rattle.outside_core.specs.Effects.{OnlyReads};
 ghost use Rattle.store_core.specs.Chain.{newest_of};
 ghost use Rattle.word_core.specs.declared.command.Command.{Command};
-ghost use Rattle.clubcard_top.specs.Commands.{begun as begun_with, epoch_of, installed as installed_with, stored as stored_as};
-ghost use Rattle.clubcard_top.specs.Answering.{shown};
+ghost use Rattle.clubcard_top.specs.Commands.{begun as begun_with, epoch_of, installed as installed_with};
+ghost use Rattle.clubcard_top.specs.Commands.{stored as stored_as};
+ghost use Rattle.clubcard_top.specs.Answering.{reply_fields};
 ghost use Rattle.clubcard_top.specs.Replies.{done};
+ghost use Rattle.clubcard_top.specs.Inputs.{WhichFailed};
 ghost use Rattle.clubcard_top.specs.Runs.{IsReply};
-ghost use Rattle.clubcard_top.specs.Using.{OnlyReads};
 
 use crate::answer::Answer;
 use crate::commands::refused;
@@ -35,7 +36,7 @@ fn newest_epoch(store: &Store) -> u64
 
 /// The answer where a store is written to the file of this name.
 fn stored(alloc: Global, name: &str, store: &Store) -> Result<Answer, NoMemory>
-    ensures { IfOk result (λ a. shown a ≡ done (stored_as name.now store.now)) }
+    ensures { IfOk result (λ a. reply_fields a ≡ done (stored_as name.now store.now)) }
 {
     let text = encode_store(alloc, store)?;
     let mut outputs = Vec::with_capacity(alloc, 1)?;
@@ -72,7 +73,8 @@ pub fn answer_start<D: Depot>(
     start: &Start,
     depot: &mut D,
 ) -> Result<Answer, NoMemory>
-    ensures reply { IfOk result (λ a. IsReply (Command.Start start.now) (D.files depot.old) (Rose (D.read_faults depot.old) (D.read_faults depot.new)) (shown a)) }
+    ensures reply { IfOk result (λ a. IsReply (Command.Start start.now) (D.files depot.old)
+        (WhichFailed D.Depot depot.old depot.new) (reply_fields a)) }
     ensures only_reads { OnlyReads D.Depot depot.old depot.new }
 {
     let part = match part_in(alloc, depot, start.part()) {
@@ -91,7 +93,8 @@ pub fn answer_install<D: Depot>(
     install: &Install,
     depot: &mut D,
 ) -> Result<Answer, NoMemory>
-    ensures reply { IfOk result (λ a. IsReply (Command.Install install.now) (D.files depot.old) (Rose (D.read_faults depot.old) (D.read_faults depot.new)) (shown a)) }
+    ensures reply { IfOk result (λ a. IsReply (Command.Install install.now) (D.files depot.old)
+        (WhichFailed D.Depot depot.old depot.new) (reply_fields a)) }
     ensures only_reads { OnlyReads D.Depot depot.old depot.new }
 {
     let store = match store_in(alloc, depot, install.store()) {

@@ -1,15 +1,15 @@
 //! The top call.
 
 ghost use Rattle.std.specs.Prelude.{◌≡◌, ◌≤◌, [], IfOk, map, string_bytes};
-ghost use Rattle.outside_core.specs.Files.{Rose};
+ghost use Rattle.outside_core.specs.Effects.{OnlyReads};
 ghost use Rattle.word_core.specs.Names.{outputs_of};
 ghost use Rattle.word_core.specs.Words.{command_of};
-ghost use Rattle.clubcard_top.specs.Answering.{shown};
+ghost use Rattle.clubcard_top.specs.Answering.{reply_fields};
+ghost use Rattle.clubcard_top.specs.Inputs.{WhichFailed};
 ghost use Rattle.clubcard_top.specs.Runs.{IsReply};
 ghost use Rattle.clubcard_top.specs.Calls.{call, call_of};
 ghost use Rattle.clubcard_top.specs.Endings.{Ends};
 ghost use Rattle.clubcard_top.specs.Promises.{Ending, Frame, Histories, Outside, Refusals, Successes};
-ghost use Rattle.clubcard_top.specs.Using.{OnlyReads};
 
 use crate::answer::{Answer, send};
 use crate::commands::{answer_check, answer_query, answer_show};
@@ -34,7 +34,7 @@ fn answer_for<R: Threads + Sync, D: Depot>(
     depot: &mut D,
 ) -> Result<Answer, NoMemory>
     ensures reply { IfOk result (λ a. IsReply command.now (D.files depot.old)
-        (Rose (D.read_faults depot.old) (D.read_faults depot.new)) (shown a)) }
+        (WhichFailed D.Depot depot.old depot.new) (reply_fields a)) }
     ensures only_reads { OnlyReads D.Depot depot.old depot.new }
 {
     match command {

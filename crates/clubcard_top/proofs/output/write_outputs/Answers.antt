@@ -13,4 +13,5 @@ loop-output-preserved g c = record {
   quiet = λ none. absurd (omega (arith, c.loop-output-test.true, ap (λ (os : List OutputFields). length os) none));
   later = omega arith;
   same_reads = search rules;
+  same_failed = search rules;
 }

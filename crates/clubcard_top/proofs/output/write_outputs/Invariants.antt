@@ -8,4 +8,5 @@ invariant-loop-output g l = record {
   quiet : l.outputs ≡ [] → g.D.Depot.write_faults l.depot ≡ g.D.Depot.write_faults l.fn.depot;
   later : g.D.Depot.write_faults l.fn.depot ≤ g.D.Depot.write_faults l.depot;
   same_reads : g.D.Depot.read_faults l.depot ≡ g.D.Depot.read_faults l.fn.depot;
+  same_failed : g.D.Depot.failed_reads l.depot ≡ g.D.Depot.failed_reads l.fn.depot;
 }

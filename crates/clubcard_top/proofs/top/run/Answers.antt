@@ -2,7 +2,6 @@ use Rattle.std.proofs.Common.{map}
 use Rattle.std.specs.Prelude.{string_bytes}
 use Rattle.clubcard_top.proofs.Promised as promised
 use Rattle.clubcard_top.proofs.WordsApart as apart
-use Rattle.clubcard_top.proofs.Endings as endings
 use Rattle.clubcard_top.proofs.Succeeded as succeeded
 use Rattle.clubcard_top.proofs.top.run.Goals as goal
 
@@ -17,9 +16,9 @@ returns-clause-refusals g c = promised.refusals _ (λ files a b x y. c.replies_a
 
 pub returns-clause-frame : goal.returns-clause-frame
 returns-clause-frame g c = record {
-  unchanged = endings.unchanged _ _ _ _ _ _ _ _ _ (promised.parts _ c.run_words.ensures.ends);
-  other_files = endings.other_files _ _ _ _ _ _ _ _ _ (promised.parts _ c.run_words.ensures.ends);
-  reading = λ none. (endings.reading _ _ _ _ _ _ _ _ _ (promised.parts _ c.run_words.ensures.ends) none, c.run_words.ensures.reading none);
+  unchanged = promised.unchanged _ (promised.parts _ c.run_words.ensures.ends);
+  other_files = promised.other_files _ (promised.parts _ c.run_words.ensures.ends);
+  reading = λ none. (promised.reading _ (promised.parts _ c.run_words.ensures.ends) none, c.run_words.ensures.reading none);
   later_reads = c.run_words.ensures.later_reads;
   later_writes = c.run_words.ensures.later_writes;
   later_sink = c.run_words.ensures.later_out;

@@ -1,6 +1,7 @@
 use Rattle.std.proofs.Common.{◌∙◌}
 use Rattle.word_core.specs.Names.{outputs_of}
-use Rattle.clubcard_top.specs.Answering.{shown}
+use Rattle.clubcard_top.specs.Inputs.{WhichFailed}
+use Rattle.clubcard_top.specs.Answering.{reply_fields}
 use Rattle.clubcard_top.proofs.Endings.{named, unwritten}
 use Rattle.std.proofs.Common.{inr}
 use Rattle.clubcard_top.specs.Calls.{call_of}
@@ -9,15 +10,16 @@ use Rattle.clubcard_top.proofs.top.run_command.Goals as goal
 
 pub returns-in-Ok-clause-reading : goal.returns-in-Ok-clause-reading
 returns-in-Ok-clause-reading g c = λ none.
-    c.send.ensures.quiet (unwritten (outputs_of c.args.command.now) (shown c.in-Ok.answer).outputs (named c.args.command.now _ _ (shown c.in-Ok.answer) c.in-Ok.ensures.reply) none)
+    c.send.ensures.quiet (unwritten (outputs_of c.args.command.now) (reply_fields c.in-Ok.answer).outputs
+    (named c.args.command.now _ (WhichFailed g.D.Depot c.args.depot.now _) (reply_fields c.in-Ok.answer) c.in-Ok.ensures.reply) none)
     ∙ c.in-Ok.ensures.only_reads.same_writes
 
 pub returns-in-Ok-clause-ends : goal.returns-in-Ok-clause-ends
 returns-in-Ok-clause-ends g c =
     ways (call_of g.D.Depot g.K.Sink c.args.command.now c.args.depot.now c.send.new.depot c.args.out.now c.send.new.out c.send.result.0)
     (inr (
-      shown c.in-Ok.answer,
-      read_later c.args.command.now _ (shown c.in-Ok.answer) _ _ _ c.send.ensures.only_writes.same_reads c.in-Ok.ensures.reply,
+      reply_fields c.in-Ok.answer,
+      read_later c.args.command.now _ (reply_fields c.in-Ok.answer) _ _ _ _ _ _ c.send.ensures.only_writes.same_reads c.send.ensures.only_writes.same_failed c.in-Ok.ensures.reply,
       c.send.ensures.own,
-      moved (shown c.in-Ok.answer) _ _ _ _ _ _ _ _ _ _ c.in-Ok.ensures.only_reads.same_files c.in-Ok.ensures.only_reads.same_writes c.send.ensures.ends,
+      moved (reply_fields c.in-Ok.answer) _ _ _ _ _ _ _ _ _ _ c.in-Ok.ensures.only_reads.same_files c.in-Ok.ensures.only_reads.same_writes c.send.ensures.ends,
     ))
