@@ -2,7 +2,7 @@
 """Times `clubcard query` and `clubcard check`: a small store against a program that only prints a word, the longest
 store of one part, and the longest part against its SHA-256 by the same sha2, with the memory that a run takes at most
 (by /usr/bin/time). It prints which program it runs, the one that `./clubcard` runs. Run it at the top of the repository
-once `rt run` in crates/digest_bench has built the program for the digests:
+once `rt run` in crates/benches has built the program for the digests:
 
     python3 bench/query.py
 """
@@ -19,7 +19,7 @@ sys.path.insert(0, os.path.join(os.path.dirname(os.path.abspath(__file__)), "../
 from program import path_of_program  # noqa: E402
 
 PROGRAM = path_of_program()
-DIGEST = "crates/digest_bench/out/digest_bench"
+BENCHES = "crates/benches/out/benches"
 T = 1700000000000
 LOG = bytes([0xAA] * 32)
 
@@ -58,8 +58,8 @@ def memory(command):
 
 
 def main():
-    if not os.access(DIGEST, os.X_OK):
-        sys.exit("build the program for the digests first: (cd crates/digest_bench && rt run)")
+    if not os.access(BENCHES, os.X_OK):
+        sys.exit("build the program for the digests first: (cd crates/benches && rt run)")
     print(f"program {PROGRAM}", flush=True)
     with tempfile.TemporaryDirectory() as folder:
         print("run         bytes      time   memory  output")
@@ -76,8 +76,11 @@ def main():
         part = os.path.join(folder, "part")
         with open(part, "wb") as file:
             file.write(data[10:])
-        digest, _ = best([DIGEST, part], 50)
-        print(f"SHA-256   {len(data) - 10:7} {digest:6.2f} ms {memory([DIGEST, part]):4} KiB")
+        command = [BENCHES, "digest", part]
+        digest, output = best(command, 50)
+        if output.decode().strip() != hashlib.sha256(data[10:]).hexdigest():
+            sys.exit("the program for the digests prints another one")
+        print(f"SHA-256   {len(data) - 10:7} {digest:6.2f} ms {memory(command):4} KiB")
         for word in ("check", "show"):
             command = [PROGRAM, word, part]
             took, output = best(command, 50)

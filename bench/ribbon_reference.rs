@@ -1,5 +1,5 @@
-//! The loops of `ribbon_core` in plain Rust with no proofs, over the rows of `ribbon_bench`, to be timed beside it:
-//! `ribbon_reference KEYS PLANES ROUNDS`. It prints what `ribbon_bench` prints.
+//! The loops of `ribbon_core` in plain Rust with no proofs, over the rows of `benches ribbon`, to be timed beside it:
+//! `ribbon_reference KEYS PLANES ROUNDS`. It prints what `benches ribbon` prints.
 
 use std::hint::black_box;
 

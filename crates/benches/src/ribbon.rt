@@ -1,14 +1,15 @@
-//! Builds ribbon systems of pseudo-random rows, to be timed from outside: `ribbon_bench KEYS PLANES ROUNDS`. What it
-//! prints depends on its arguments alone: how many equations were kept, and the starts.
-#![tactic(auto)]
+//! Ribbon systems of pseudo-random rows.
 
 ghost use Rattle.std.specs.Prelude.{◌≡◌, ◌<◌, ◌≤◌, ◌%◌};
+ghost use Rattle.ident_core.specs.declared.bounds.TheConstants.{MAX_IDENTITIES};
+ghost use Rattle.equation_core.specs.declared.hash.TheConstants.{MAX_PLANES};
 
-use equation_core::{Row, starts_for};
+use equation_core::{MAX_PLANES, Row, starts_for};
+use ident_core::MAX_IDENTITIES;
 use octets_core::NoMemory;
 use ribbon_core::{Planes, System};
 use std::alloc::Global;
-use std::{env, io};
+use std::io;
 
 // The generator splitmix64 (Steele, Lea and Flood 2014).
 #[derive(Drop)]
@@ -47,16 +48,16 @@ fn build(
     planes: u8,
     random: &mut Random,
 ) -> Result<(u32, Planes), NoMemory>
-    requires keys { keys ≤ 4194304 }
+    requires keys { keys ≤ MAX_IDENTITIES }
     requires some_planes { 1 ≤ planes }
-    requires few_planes { planes ≤ 16 }
+    requires few_planes { planes ≤ MAX_PLANES }
 {
     let starts = starts_for(keys);
     let mut system = System::new(alloc, starts, planes)?;
     let mut kept = 0;
     for done in 0..keys {
         let row = random.row(starts);
-        let target = row.tag >> (16 - planes);
+        let target = row.tag >> (MAX_PLANES - planes);
         if system.add(&row, target).is_ok() {
             kept += 1;
         }
@@ -64,13 +65,11 @@ fn build(
     Ok((kept, system.solve()))
 }
 
-fn main(rt: HostRuntime) -> io::Result<()> {
-    let mut numbers = [0u32; 3];
-    for (place, word) in env::args(&rt)?.skip(1).take(3).enumerate() {
-        numbers[place] = word.parse::<u32>().unwrap_or(0);
-    }
+/// Solves systems of so many equations in so many planes, so many times over, and prints of each how many equations
+/// were kept and its starts, which depend on the numbers alone.
+pub fn run(rt: &HostRuntime, numbers: [u32; 3]) -> io::Result<()> {
     let [keys, planes, rounds] = numbers;
-    if keys > 4194304 || planes < 1 || planes > 16 {
+    if keys > MAX_IDENTITIES as u32 || planes < 1 || planes > u32::from(MAX_PLANES) {
         return Ok(());
     }
     let mut random = Random { state: 7 };

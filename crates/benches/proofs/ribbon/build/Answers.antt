@@ -1,6 +1,6 @@
 use Rattle.std.proofs.Common.{rules, arith, ◌≡◌, ◌+◌, ◌-◌, ◌<◌, ◌^◌}
 use Rattle.std.proofs.lemmas.Nat.{shr_below}
-use Rattle.ribbon_bench.proofs.build.Goals as goal
+use Rattle.benches.proofs.ribbon.build.Goals as goal
 
 pub add-requires-clause-few_planes : goal.add-requires-clause-few_planes
 add-requires-clause-few_planes c =
