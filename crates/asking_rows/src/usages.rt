@@ -46,7 +46,9 @@ fn bad_words_of_a_query(rt: HostRuntime) -> Result<(), Fail> {
 #[test]
 fn bad_keys_serials_and_times(rt: HostRuntime) -> Result<(), Fail> {
     let alloc = rt.alloc();
-    let long = "050505050505050505050505050505050505050505050505050505050505050505";
+    let long = "\
+        0505050505050505050505050505050505050505050505050505050505050505\
+        05";
     assert!(rt; is_no_command(&rt, alloc, &["query", "S", "11", "05", LA, T])?);
     assert!(rt; is_no_command(&rt, alloc, &["query", "S", K1, "5", LA, T])?);
     assert!(rt; is_no_command(&rt, alloc, &["query", "S", K1, "", LA, T])?);

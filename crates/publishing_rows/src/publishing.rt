@@ -222,8 +222,11 @@ fn as_many_workers_as_may_be(rt: HostRuntime) -> Result<(), Fail> {
 }
 
 // Of (K1, 00c5) at LA, T, in a TBS of version 3.
-const ENTRY_00C5: &str =
-    "03aaaaaaaaaaaaaaaaaaaaaaaaaaaaaaaaaaaaaaaaaaaaaaaaaaaaaaaaaaaaaaaa00003e00000000018bcfe568000001111111111111111111111111111111111111111111111111111111111111111100000d300ba003020102020200c530000000000000";
+const ENTRY_00C5: &str = "\
+    03aaaaaaaaaaaaaaaaaaaaaaaaaaaaaaaaaaaaaaaaaaaaaaaaaaaaaaaaaaaaaa\
+    aa00003e00000000018bcfe56800000111111111111111111111111111111111\
+    1111111111111111111111111111111100000d300ba003020102020200c53000\
+    0000000000";
 
 /// A job with this entry alone.
 fn job_of_00c5(alloc: Global) -> Result<Vec<u8>, Fail> {
@@ -247,14 +250,20 @@ fn serial_as_it_stands(rt: HostRuntime) -> Result<(), Fail> {
 }
 
 // With a byte behind the leaf of (K1, 05).
-const ENTRY_LONG: &str =
-    "03aaaaaaaaaaaaaaaaaaaaaaaaaaaaaaaaaaaaaaaaaaaaaaaaaaaaaaaaaaaaaaaa00003700000000018bcfe56800000111111111111111111111111111111111111111111111111111111111111111110000053003020105000000000000";
+const ENTRY_LONG: &str = "\
+    03aaaaaaaaaaaaaaaaaaaaaaaaaaaaaaaaaaaaaaaaaaaaaaaaaaaaaaaaaaaaaa\
+    aa00003700000000018bcfe56800000111111111111111111111111111111111\
+    111111111111111111111111111111110000053003020105000000000000";
 // Of the entry type 2.
-const ENTRY_TYPE_2: &str =
-    "03aaaaaaaaaaaaaaaaaaaaaaaaaaaaaaaaaaaaaaaaaaaaaaaaaaaaaaaaaaaaaaaa00003600000000018bcfe568000002111111111111111111111111111111111111111111111111111111111111111100000530030201050000000000";
+const ENTRY_TYPE_2: &str = "\
+    03aaaaaaaaaaaaaaaaaaaaaaaaaaaaaaaaaaaaaaaaaaaaaaaaaaaaaaaaaaaaaa\
+    aa00003600000000018bcfe56800000211111111111111111111111111111111\
+    1111111111111111111111111111111100000530030201050000000000";
 // Of a certificate whose chain is empty.
-const ENTRY_NO_CHAIN: &str =
-    "03aaaaaaaaaaaaaaaaaaaaaaaaaaaaaaaaaaaaaaaaaaaaaaaaaaaaaaaaaaaaaaaa00001800000000018bcfe568000000000007300530030201050000000003000000";
+const ENTRY_NO_CHAIN: &str = "\
+    03aaaaaaaaaaaaaaaaaaaaaaaaaaaaaaaaaaaaaaaaaaaaaaaaaaaaaaaaaaaaaa\
+    aa00001800000000018bcfe56800000000000730053003020105000000000300\
+    0000";
 
 /// The job of one_good with these entries, and with one behind its range.
 fn job_of_unread_entries(alloc: Global) -> Result<Vec<u8>, Fail> {

@@ -57,8 +57,16 @@ const SIX_QUERIES: &[&str] = &[
     K1, SERIAL_05, LA, T_2001,
 ];
 
-const REHEARSED: &str =
-    "epoch 1 part 0 issuers 1 universe 1 revoked 0 unread 0 uncovered 0 unenrolled 0 late 0 accepted 1\nepoch 2 part 1 issuers 1 universe 2 revoked 1 unread 0 uncovered 0 unenrolled 0 late 1 accepted 1\nepoch 3 part 2 issuers 1 universe 3 revoked 1 unread 0 uncovered 0 unenrolled 0 late 0 accepted 2\nrevoked\nrevoked\ngood\ngood\nnot-enrolled\nnot-covered\n";
+const REHEARSED: &str = "\
+    epoch 1 part 0 issuers 1 universe 1 revoked 0 unread 0 uncovered 0 unenrolled 0 late 0 accepted 1\n\
+    epoch 2 part 1 issuers 1 universe 2 revoked 1 unread 0 uncovered 0 unenrolled 0 late 1 accepted 1\n\
+    epoch 3 part 2 issuers 1 universe 3 revoked 1 unread 0 uncovered 0 unenrolled 0 late 0 accepted 2\n\
+    revoked\n\
+    revoked\n\
+    good\n\
+    good\n\
+    not-enrolled\n\
+    not-covered\n";
 
 /// The files of a rehearsal of three jobs.
 fn three_jobs(alloc: Global) -> Result<MemoryDepot, Fail> {
@@ -159,8 +167,10 @@ fn read_faults(rt: HostRuntime) -> Result<(), Fail> {
 }
 
 /// A query of 75 bytes.
-const QUERY: &str =
-    "1111111111111111111111111111111111111111111111111111111111111111010501aaaaaaaaaaaaaaaaaaaaaaaaaaaaaaaaaaaaaaaaaaaaaaaaaaaaaaaaaaaaaaaa0000018bcfe56800";
+const QUERY: &str = "\
+    1111111111111111111111111111111111111111111111111111111111111111\
+    010501aaaaaaaaaaaaaaaaaaaaaaaaaaaaaaaaaaaaaaaaaaaaaaaaaaaaaaaaaa\
+    aaaaaa0000018bcfe56800";
 
 /// The files of a rehearsal of the empty job with 400 queries, whose report and verdicts have 4,898 bytes.
 fn many_queries(alloc: Global) -> Result<MemoryDepot, Fail> {

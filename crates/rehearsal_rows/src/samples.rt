@@ -43,8 +43,19 @@ const PUBLISHED: &str =
     "epoch 1 part 0 issuers 4 universe 200000 revoked 2000 unread 0 uncovered 0 unenrolled 0 late 0 accepted 200000\n";
 
 /// By tools/reference.py: `History([sample_job(7, 200000)]).parts()[0].shown()`.
-const SHOWN: &str =
-    "part snapshot version 1 epoch 1 parent 0000000000000000000000000000000000000000000000000000000000000000\nrange caca4e6dbacda8cdd660ebf1462d71ab4f01d79c61f83555dd5f425f94d0b4d5 1700000000000 1700000199999\nissuer 3d3473e32d43886a4b0eee33ec8626d6f3d619738ed9a546a4016018f3488b26 mixed k 6 approx 0 563 exact 0 1479\nissuer c7ada04a9b22a564d0bf776d237fefd452df9c97c92fc9ff2fc290a95cdbeb9e mixed k 6 approx 0 563 exact 0 1455\nissuer c8577869fafb9265e08a6129f75a5ae4b736a53c6047649a888a5ce64ad52e29 mixed k 6 approx 0 563 exact 0 1490\nissuer d738042f0c9619dd5358ff7139d475e3a6c2629190a432fc895c352ea9922139 mixed k 6 approx 0 563 exact 0 1454\ntrailer c9dc9279acada1d434f88659784f107f520830c0b89ad547b1d0b395a170799c\n";
+const SHOWN: &str = "\
+    part snapshot version 1 epoch 1 parent \
+    0000000000000000000000000000000000000000000000000000000000000000\n\
+    range caca4e6dbacda8cdd660ebf1462d71ab4f01d79c61f83555dd5f425f94d0b4d5 1700000000000 1700000199999\n\
+    issuer 3d3473e32d43886a4b0eee33ec8626d6f3d619738ed9a546a4016018f3488b26 mixed k 6 approx 0 563 \
+    exact 0 1479\n\
+    issuer c7ada04a9b22a564d0bf776d237fefd452df9c97c92fc9ff2fc290a95cdbeb9e mixed k 6 approx 0 563 \
+    exact 0 1455\n\
+    issuer c8577869fafb9265e08a6129f75a5ae4b736a53c6047649a888a5ce64ad52e29 mixed k 6 approx 0 563 \
+    exact 0 1490\n\
+    issuer d738042f0c9619dd5358ff7139d475e3a6c2629190a432fc895c352ea9922139 mixed k 6 approx 0 563 \
+    exact 0 1454\n\
+    trailer c9dc9279acada1d434f88659784f107f520830c0b89ad547b1d0b395a170799c\n";
 
 // The trailer that is shown is the digest of the whole part that the other program made.
 #[test]

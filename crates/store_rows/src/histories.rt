@@ -1,7 +1,9 @@
 //! A history of five jobs, with three issuers and two logs. What each job is to say, and what the store of all five
 //! parts is to answer, was worked out by hand.
 
-use clubcard_rows::calls::{answers, copy, does, holds, put};
+use clubcard_rows::calls::{
+    GOOD, NOT_COVERED, NOT_ENROLLED, REVOKED, answers, copy, does, holds, put,
+};
 use clubcard_rows::files::{
     CRL_05, CRL_05_08, CRL_NONE, CRL_STALE_06, K1, K2, K3, LA, LB, LEDGER_FIVE, STORE_FIVE,
 };
@@ -86,8 +88,10 @@ fn fifth(alloc: Global) -> Result<Vec<u8>, Fail> {
     job.end()
 }
 
-const ENTRY_TYPE_2: &str =
-    "03aaaaaaaaaaaaaaaaaaaaaaaaaaaaaaaaaaaaaaaaaaaaaaaaaaaaaaaaaaaaaaaa00003600000000018bcfe568000002111111111111111111111111111111111111111111111111111111111111111100000530030201050000000000";
+const ENTRY_TYPE_2: &str = "\
+    03aaaaaaaaaaaaaaaaaaaaaaaaaaaaaaaaaaaaaaaaaaaaaaaaaaaaaaaaaaaaaa\
+    aa00003600000000018bcfe56800000211111111111111111111111111111111\
+    1111111111111111111111111111111100000530030201050000000000";
 
 const FIRST: &str =
     "epoch 1 part 0 issuers 2 universe 3 revoked 1 unread 0 uncovered 0 unenrolled 1 late 0 accepted 3\n";
@@ -103,6 +107,14 @@ const FOURTH: &str =
 
 const FIFTH: &str =
     "epoch 5 part 4 issuers 2 universe 6 revoked 3 unread 1 uncovered 1 unenrolled 0 late 0 accepted 3\n";
+
+const TWO_PARTS: &str = "store parts 2 epoch 2\n";
+
+const THREE_PARTS: &str = "store parts 3 epoch 3\n";
+
+const FOUR_PARTS: &str = "store parts 4 epoch 4\n";
+
+const FIVE_PARTS: &str = "store parts 5 epoch 5\n";
 
 /// Whether the first job is published, and a store begun with its part. The ledger is in `L`, and the store in `S`.
 fn begins<R: Threads + Sync>(rt: &R, alloc: Global, depot: &mut MemoryDepot) -> Result<bool, Fail> {
@@ -146,46 +158,10 @@ fn a_history_of_five_jobs(rt: HostRuntime) -> Result<(), Fail> {
     let alloc = rt.alloc();
     let depot = &mut MemoryDepot::new(alloc);
     assert!(rt; begins(&rt, alloc, depot)?);
-    assert!(rt;
-        grows(
-            &rt,
-            alloc,
-            depot,
-            &second(alloc)?,
-            SECOND,
-            "store parts 2 epoch 2\n"
-        )?
-    );
-    assert!(rt;
-        grows(
-            &rt,
-            alloc,
-            depot,
-            &third(alloc)?,
-            THIRD,
-            "store parts 3 epoch 3\n"
-        )?
-    );
-    assert!(rt;
-        grows(
-            &rt,
-            alloc,
-            depot,
-            &fourth(alloc)?,
-            FOURTH,
-            "store parts 4 epoch 4\n"
-        )?
-    );
-    assert!(rt;
-        grows(
-            &rt,
-            alloc,
-            depot,
-            &fifth(alloc)?,
-            FIFTH,
-            "store parts 5 epoch 5\n"
-        )?
-    );
+    assert!(rt; grows(&rt, alloc, depot, &second(alloc)?, SECOND, TWO_PARTS)?);
+    assert!(rt; grows(&rt, alloc, depot, &third(alloc)?, THIRD, THREE_PARTS)?);
+    assert!(rt; grows(&rt, alloc, depot, &fourth(alloc)?, FOURTH, FOUR_PARTS)?);
+    assert!(rt; grows(&rt, alloc, depot, &fifth(alloc)?, FIFTH, FIVE_PARTS)?);
     assert!(rt; holds(alloc, depot, "L", &[LEDGER_FIVE])?);
     assert!(rt; holds(alloc, depot, "S", &[STORE_FIVE])?);
     Ok(())
@@ -203,45 +179,12 @@ fn stored(alloc: Global) -> Result<MemoryDepot, Fail> {
 fn certificates_of_the_first_issuer(rt: HostRuntime) -> Result<(), Fail> {
     let alloc = rt.alloc();
     let depot = &mut stored(alloc)?;
-    assert!(rt;
-        answers(
-            &rt,
-            alloc,
-            depot,
-            K1,
-            "05",
-            LA,
-            "1700000000000",
-            "revoked\n"
-        )?
-    );
-    assert!(rt;
-        answers(
-            &rt,
-            alloc,
-            depot,
-            K1,
-            "05",
-            LB,
-            "1700000000009",
-            "revoked\n"
-        )?
-    );
-    assert!(rt; answers(&rt, alloc, depot, K1, "06", LA, "1700000000001", "good\n")?);
-    assert!(rt; answers(&rt, alloc, depot, K1, "06", LA, "1700000002950", "good\n")?);
-    assert!(rt; answers(&rt, alloc, depot, K1, "07", LA, "1700000001200", "good\n")?);
-    assert!(rt;
-        answers(
-            &rt,
-            alloc,
-            depot,
-            K1,
-            "08",
-            LB,
-            "1700000000950",
-            "revoked\n"
-        )?
-    );
+    assert!(rt; answers(&rt, alloc, depot, K1, "05", LA, "1700000000000", REVOKED)?);
+    assert!(rt; answers(&rt, alloc, depot, K1, "05", LB, "1700000000009", REVOKED)?);
+    assert!(rt; answers(&rt, alloc, depot, K1, "06", LA, "1700000000001", GOOD)?);
+    assert!(rt; answers(&rt, alloc, depot, K1, "06", LA, "1700000002950", GOOD)?);
+    assert!(rt; answers(&rt, alloc, depot, K1, "07", LA, "1700000001200", GOOD)?);
+    assert!(rt; answers(&rt, alloc, depot, K1, "08", LB, "1700000000950", REVOKED)?);
     Ok(())
 }
 
@@ -250,32 +193,10 @@ fn certificates_of_the_first_issuer(rt: HostRuntime) -> Result<(), Fail> {
 fn certificates_of_the_second_issuer(rt: HostRuntime) -> Result<(), Fail> {
     let alloc = rt.alloc();
     let depot = &mut stored(alloc)?;
-    assert!(rt;
-        answers(
-            &rt,
-            alloc,
-            depot,
-            K2,
-            "05",
-            LA,
-            "1700000000002",
-            "revoked\n"
-        )?
-    );
-    assert!(rt;
-        answers(
-            &rt,
-            alloc,
-            depot,
-            K2,
-            "05",
-            LB,
-            "1700000000600",
-            "revoked\n"
-        )?
-    );
-    assert!(rt; answers(&rt, alloc, depot, K2, "06", LB, "1700000000005", "good\n")?);
-    assert!(rt; answers(&rt, alloc, depot, K2, "08", LA, "1700000002500", "good\n")?);
+    assert!(rt; answers(&rt, alloc, depot, K2, "05", LA, "1700000000002", REVOKED)?);
+    assert!(rt; answers(&rt, alloc, depot, K2, "05", LB, "1700000000600", REVOKED)?);
+    assert!(rt; answers(&rt, alloc, depot, K2, "06", LB, "1700000000005", GOOD)?);
+    assert!(rt; answers(&rt, alloc, depot, K2, "08", LA, "1700000002500", GOOD)?);
     assert!(rt;
         answers(
             &rt,
@@ -285,7 +206,7 @@ fn certificates_of_the_second_issuer(rt: HostRuntime) -> Result<(), Fail> {
             "05",
             LB,
             "1700000000950",
-            "not-enrolled\n"
+            NOT_ENROLLED
         )?
     );
     Ok(())
@@ -295,54 +216,10 @@ fn certificates_of_the_second_issuer(rt: HostRuntime) -> Result<(), Fail> {
 fn certificates_of_the_third_issuer(rt: HostRuntime) -> Result<(), Fail> {
     let alloc = rt.alloc();
     let depot = &mut stored(alloc)?;
-    assert!(rt;
-        answers(
-            &rt,
-            alloc,
-            depot,
-            K3,
-            "05",
-            LA,
-            "1700000000003",
-            "revoked\n"
-        )?
-    );
-    assert!(rt;
-        answers(
-            &rt,
-            alloc,
-            depot,
-            K3,
-            "05",
-            LA,
-            "1700000002600",
-            "revoked\n"
-        )?
-    );
-    assert!(rt;
-        answers(
-            &rt,
-            alloc,
-            depot,
-            K3,
-            "05",
-            LB,
-            "1700000000920",
-            "revoked\n"
-        )?
-    );
-    assert!(rt;
-        answers(
-            &rt,
-            alloc,
-            depot,
-            K3,
-            "08",
-            LB,
-            "1700000000007",
-            "revoked\n"
-        )?
-    );
+    assert!(rt; answers(&rt, alloc, depot, K3, "05", LA, "1700000000003", REVOKED)?);
+    assert!(rt; answers(&rt, alloc, depot, K3, "05", LA, "1700000002600", REVOKED)?);
+    assert!(rt; answers(&rt, alloc, depot, K3, "05", LB, "1700000000920", REVOKED)?);
+    assert!(rt; answers(&rt, alloc, depot, K3, "08", LB, "1700000000007", REVOKED)?);
     assert!(rt;
         answers(
             &rt,
@@ -352,7 +229,7 @@ fn certificates_of_the_third_issuer(rt: HostRuntime) -> Result<(), Fail> {
             "05",
             LA,
             "1700000003001",
-            "not-covered\n"
+            NOT_COVERED
         )?
     );
     Ok(())

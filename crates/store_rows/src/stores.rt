@@ -1,6 +1,8 @@
 //! `install`, and stores of several parts.
 
-use clubcard_rows::calls::{answers, does, holds, lacks, put, says};
+use clubcard_rows::calls::{
+    GOOD, NOT_COVERED, NOT_ENROLLED, REVOKED, answers, does, holds, lacks, put, says,
+};
 use clubcard_rows::files::{
     K1, K2, LA, LB, PART_DROPPED, PART_GOOD, PART_LATE, PART_OLD, PART_REVOKED, PART_SHRUNK,
     STORE_GOOD_LATE, STORE_GOOD_LATE_DROPPED, STORE_HEAD, TWO_HEAD,
@@ -45,8 +47,9 @@ fn install_once(rt: HostRuntime) -> Result<(), Fail> {
     Ok(())
 }
 
-const ANOTHER_PARENT: &str =
-    "chain parent d720f255b1870ad1dd8b011598e3d444bd97fc8550a021a271b7d0ce89fddd26 3c5297690856618bbb3bc14ceaf19ce2d0f4c977bf05c935e445542588879af3 P\n";
+const ANOTHER_PARENT: &str = "\
+    chain parent d720f255b1870ad1dd8b011598e3d444bd97fc8550a021a271b7d0ce89fddd26 \
+    3c5297690856618bbb3bc14ceaf19ce2d0f4c977bf05c935e445542588879af3 P\n";
 
 #[test]
 fn install_twice(rt: HostRuntime) -> Result<(), Fail> {
@@ -90,8 +93,9 @@ fn install_a_snapshot(rt: HostRuntime) -> Result<(), Fail> {
     Ok(())
 }
 
-const ANOTHER_SNAPSHOT: &str =
-    "chain parent da82b3b0690711ee120227b798fe5a2a7fdf4b98418e78bf300309aa3f49d202 3c5297690856618bbb3bc14ceaf19ce2d0f4c977bf05c935e445542588879af3 P\n";
+const ANOTHER_SNAPSHOT: &str = "\
+    chain parent da82b3b0690711ee120227b798fe5a2a7fdf4b98418e78bf300309aa3f49d202 \
+    3c5297690856618bbb3bc14ceaf19ce2d0f4c977bf05c935e445542588879af3 P\n";
 
 // A delta behind another part, one of the same epoch, and one that covers less.
 #[test]
@@ -127,8 +131,9 @@ fn is_broken<R: Threads + Sync>(
     says(rt, alloc, &mut depot, words, Status::CHAIN, line)
 }
 
-const BROKEN_PARENT: &str =
-    "chain parent da82b3b0690711ee120227b798fe5a2a7fdf4b98418e78bf300309aa3f49d202 3c5297690856618bbb3bc14ceaf19ce2d0f4c977bf05c935e445542588879af3 S\n";
+const BROKEN_PARENT: &str = "\
+    chain parent da82b3b0690711ee120227b798fe5a2a7fdf4b98418e78bf300309aa3f49d202 \
+    3c5297690856618bbb3bc14ceaf19ce2d0f4c977bf05c935e445542588879af3 S\n";
 
 // Each part of a store is tested against the one before it, also where a byte stands behind the last.
 #[test]
@@ -212,22 +217,11 @@ fn store_of_three_parts(rt: HostRuntime) -> Result<(), Fail> {
     let depot = &mut MemoryDepot::new(alloc);
     assert!(rt; is_stored(&rt, alloc, depot)?);
     assert!(rt; holds(alloc, depot, "S", &[STORE_GOOD_LATE_DROPPED])?);
-    assert!(rt; answers(&rt, alloc, depot, K1, "05", LA, T, "revoked\n")?);
-    assert!(rt;
-        answers(
-            &rt,
-            alloc,
-            depot,
-            K1,
-            "05",
-            LB,
-            "1700000000010",
-            "revoked\n"
-        )?
-    );
-    assert!(rt; answers(&rt, alloc, depot, K1, "06", LA, "1700000001500", "good\n")?);
-    assert!(rt; answers(&rt, alloc, depot, K1, "08", LB, "1700000000020", "good\n")?);
-    assert!(rt; answers(&rt, alloc, depot, K2, "05", LA, T, "not-enrolled\n")?);
+    assert!(rt; answers(&rt, alloc, depot, K1, "05", LA, T, REVOKED)?);
+    assert!(rt; answers(&rt, alloc, depot, K1, "05", LB, "1700000000010", REVOKED)?);
+    assert!(rt; answers(&rt, alloc, depot, K1, "06", LA, "1700000001500", GOOD)?);
+    assert!(rt; answers(&rt, alloc, depot, K1, "08", LB, "1700000000020", GOOD)?);
+    assert!(rt; answers(&rt, alloc, depot, K2, "05", LA, T, NOT_ENROLLED)?);
     assert!(rt;
         answers(
             &rt,
@@ -237,7 +231,7 @@ fn store_of_three_parts(rt: HostRuntime) -> Result<(), Fail> {
             "05",
             LA,
             "1700000002001",
-            "not-covered\n"
+            NOT_COVERED
         )?
     );
     Ok(())
