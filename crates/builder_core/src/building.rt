@@ -1,6 +1,6 @@
 ghost use Rattle.std.specs.Prelude.{◌≤◌, All, length, map};
 ghost use Rattle.std.specs.List.Sorted.{IsStrictlySortedBy};
-ghost use Rattle.ident_core.specs.declared.bounds.TheConstants.{MAX_IDENTITIES, MAX_ISSUERS};
+ghost use Rattle.ident_core.specs.declared.bounds.TheConstants.{MAX_IDENTITIES, MAX_ISSUERS, MAX_WORKERS};
 ghost use Rattle.ident_core.specs.Order.{octets_cmp};
 ghost use Rattle.universe_core.specs.Groups.{group_fields, IsGroup};
 ghost use Rattle.builder_core.specs.Building.{BuildsBlocks, BuildsPart, identities_in, issuers_of};
@@ -53,7 +53,7 @@ pub fn build_part<R: Threads + Sync, H: EquationHash + Sync, G: Gate + Sync>(
     requires few { length groups.now ≤ MAX_ISSUERS }
     requires identities { identities_in (map group_fields groups.now) ≤ MAX_IDENTITIES }
     requires some_workers { 1 ≤ workers }
-    requires few_workers { workers ≤ 64 }
+    requires few_workers { workers ≤ MAX_WORKERS }
     ensures { BuildsPart (H.row_of hash.now) head (map group_fields groups.now) result }
 {
     let blocks = build_blocks(alloc, hash, gate, groups)?;

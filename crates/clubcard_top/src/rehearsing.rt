@@ -1,6 +1,7 @@
 //! Rehearsals: jobs that are published and installed as they are read, and then asked. No file is written.
 
 ghost use Rattle.std.specs.Prelude.{◌≡◌, ◌≢◌, ◌≤◌, ◌++◌, [], ℕ, List, map, flat_map, length, Option, IfOk, IfErr, OnOk};
+ghost use Rattle.ident_core.specs.declared.bounds.TheConstants.{MAX_WORKERS};
 ghost use Rattle.outside_core.specs.Effects.{OnlyReads};
 ghost use Rattle.query_core.specs.Queries.{as_query};
 ghost use Rattle.job_core.specs.JobFields.{JobFields};
@@ -50,7 +51,7 @@ fn with_file<R: Threads + Sync, D: Depot>(
     depot: &mut D,
 ) -> Result<(Rehearsal, Line), FileFault>
     requires some_workers { 1 ≤ workers }
-    requires few_workers { workers ≤ 64 }
+    requires few_workers { workers ≤ MAX_WORKERS }
     ensures added { IfOk result (λ x. (given : Option (List ℕ))
         × IsRead (D.files depot.old) (WhichFailed D.Depot depot.old depot.new) name.now given
         × ((jobs : List JobFields) → IsOf jobs before → AddsJob jobs before (input name.now job_of given) x.0 x.1)) }
@@ -79,7 +80,7 @@ fn with_files<'a, R: Threads + Sync, D: Depot>(
 ) -> Result<(Rehearsal, Vec<u8>), BadFile<'a>>
     requires empty { text.items ≡ [] }
     requires some_workers { 1 ≤ workers }
-    requires few_workers { workers ≤ 64 }
+    requires few_workers { workers ≤ MAX_WORKERS }
     ensures rehearsed { IfOk result (λ x. IsRehearsedFrom (D.files depot.old)
         (WhichFailed D.Depot depot.old depot.new) names.now x.0 x.1.items) }
     ensures refused { IfErr result (λ e. e.fault ≢ FileFault.NoMemory

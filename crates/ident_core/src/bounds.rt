@@ -14,3 +14,9 @@ pub const MAX_IDENTITIES: usize = 4_194_304;
 
 /// The most parts of a chain.
 pub const MAX_PARTS: usize = 64;
+
+/// The most workers that a part is built by.
+pub const MAX_WORKERS: usize = 64;
+
+/// The most entries of a job that is made to try the program on.
+pub const MAX_SAMPLE: usize = 1_000_000;

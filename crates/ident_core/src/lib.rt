@@ -10,7 +10,9 @@ mod kind;
 mod layout;
 mod range;
 
-pub use bounds::{MAX_IDENTITIES, MAX_ISSUERS, MAX_PARTS, MAX_RANGES, MAX_SERIAL};
+pub use bounds::{
+    MAX_IDENTITIES, MAX_ISSUERS, MAX_PARTS, MAX_RANGES, MAX_SAMPLE, MAX_SERIAL, MAX_WORKERS,
+};
 pub use fault::RangesFault;
 pub use head::Head;
 pub use identity::{BadSerial, Identity, Serial, compare, is_same};

@@ -2,6 +2,7 @@
 
 ghost use Rattle.std.specs.Prelude.{◌≡◌, ◌≤◌, All, length, map};
 ghost use Rattle.std.specs.List.Sorted.{IsStrictlySortedBy};
+ghost use Rattle.ident_core.specs.declared.bounds.TheConstants.{MAX_WORKERS};
 ghost use Rattle.ident_core.specs.Order.{octets_cmp};
 ghost use Rattle.job_core.specs.JobFields.{fields_of_job};
 ghost use Rattle.job_core.specs.JobFacts.{FitsPublishing, IsWithinLimits};
@@ -35,7 +36,7 @@ fn built<R: Threads + Sync>(
     requires few { length admitted.groups.items ≤ Limits.PUBLISHED.crls }
     requires identities { identities_in (map group_fields admitted.groups.items) ≤ Limits.PUBLISHED.identities }
     requires some_workers { 1 ≤ workers }
-    requires few_workers { workers ≤ 64 }
+    requires few_workers { workers ≤ MAX_WORKERS }
     ensures { Builds place admitted.head (map group_fields admitted.groups.items) admitted.next admitted.counts result }
 {
     let Admitted {
@@ -63,7 +64,7 @@ pub fn publish_first<R: Threads + Sync>(
     requires fits { FitsPublishing (fields_of_job job) }
     requires within { IsWithinLimits Limits.PUBLISHED (fields_of_job job) }
     requires some_workers { 1 ≤ workers }
-    requires few_workers { workers ≤ 64 }
+    requires few_workers { workers ≤ MAX_WORKERS }
     ensures { PublishesUnless no_ledger (fields_of_job job) result }
 {
     let admitted = match first(alloc, &job, &Limits::PUBLISHED) {
@@ -86,7 +87,7 @@ pub fn publish_after<R: Threads + Sync>(
     requires fits { FitsPublishing (fields_of_job job) }
     requires within { IsWithinLimits Limits.PUBLISHED (fields_of_job job) }
     requires some_workers { 1 ≤ workers }
-    requires few_workers { workers ≤ 64 }
+    requires few_workers { workers ≤ MAX_WORKERS }
     ensures { PublishesUnless ledger (fields_of_job job) result }
 {
     let place = ledger.parts().len() as u32;

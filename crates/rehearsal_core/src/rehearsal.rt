@@ -1,6 +1,7 @@
 //! A publisher and a client in one: each job is admitted, built and installed behind those before it.
 
 ghost use Rattle.std.specs.Prelude.{◌≡◌, ◌≢◌, ◌≤◌, List, [], Err, IfOk, IfErr, IfSome, IsNone};
+ghost use Rattle.ident_core.specs.declared.bounds.TheConstants.{MAX_WORKERS};
 ghost use Rattle.job_core.specs.JobFields.{JobFields, fields_of_job};
 ghost use Rattle.job_core.specs.JobFacts.{FitsPublishing, IsWithinLimits};
 ghost use Rattle.universe_core.specs.Ledgers.{no_ledger, ledger_of};
@@ -77,7 +78,7 @@ impl Rehearsal {
         requires fits { FitsPublishing (fields_of_job job) }
         requires within { IsWithinLimits Limits.PUBLISHED (fields_of_job job) }
         requires some_workers { 1 ≤ workers }
-        requires few_workers { workers ≤ 64 }
+        requires few_workers { workers ≤ MAX_WORKERS }
         ensures added { IfOk result (λ x. (jobs : List JobFields) → IsOf jobs of_none → Adds jobs of_none (fields_of_job job) x.0 x.1) }
         ensures refused { IfErr result (λ e. e ≢ PublishFault.NoMemory → Publishes no_ledger (fields_of_job job) (Err e)) }
     {
@@ -112,7 +113,7 @@ impl Rehearsal {
         requires fits { FitsPublishing (fields_of_job job) }
         requires within { IsWithinLimits Limits.PUBLISHED (fields_of_job job) }
         requires some_workers { 1 ≤ workers }
-        requires few_workers { workers ≤ 64 }
+        requires few_workers { workers ≤ MAX_WORKERS }
         ensures added { IfOk result (λ x. (jobs : List JobFields)
             → IsOf jobs (record { parts = store; ledger = ledger })
             → Adds jobs (record { parts = store; ledger = ledger }) (fields_of_job job) x.0 x.1) }
@@ -148,7 +149,7 @@ impl Rehearsal {
         requires fits { FitsPublishing (fields_of_job job) }
         requires within { IsWithinLimits Limits.PUBLISHED (fields_of_job job) }
         requires some_workers { 1 ≤ workers }
-        requires few_workers { workers ≤ 64 }
+        requires few_workers { workers ≤ MAX_WORKERS }
         ensures added { IfOk result (λ x. (jobs : List JobFields) → IsOf jobs self → Adds jobs self (fields_of_job job) x.0 x.1) }
         ensures refused { IfErr result (λ e. (jobs : List JobFields) → IsOf jobs self → e ≢ PublishFault.NoMemory
             → Publishes (ledger_of (history jobs self.parts)) (fields_of_job job) (Err e)) }

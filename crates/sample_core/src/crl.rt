@@ -1,6 +1,7 @@
 //! CRLs.
 
 ghost use Rattle.std.specs.Prelude.{◌≡◌, ◌+◌, ◌*◌, ◌≤◌, ◌<◌, ◌^◌, ◌++◌, [], if◌then◌else◌, length, IfOk, OnOk};
+ghost use Rattle.ident_core.specs.declared.bounds.TheConstants.{MAX_SAMPLE};
 ghost use Rattle.sample_core.specs.Sample.{is_listed as is_listed_of, is_listed_by as is_listed_by_issuer, der_length};
 ghost use Rattle.sample_core.specs.Sample.{sequence, sequence_of_some, date, algorithm, revoked_entry, revoked_entries};
 ghost use Rattle.sample_core.specs.Sample.{crl_body, crl_with};
@@ -134,7 +135,7 @@ fn crl_of_entries(alloc: Global, entries: &[u8]) -> Result<Vec<u8>, NoMemory>
 
 /// The CRL of an issuer.
 pub fn crl_bytes(alloc: Global, number: u64, count: u32, issuer: u8) -> Result<Vec<u8>, NoMemory>
-    requires { count ≤ 1000000 }
+    requires { count ≤ MAX_SAMPLE }
     ensures text { IfOk result (λ v. v.items ≡ crl_with (revoked_entries number count issuer)) }
     ensures len { IfOk result (λ v. length v.items ≤ 35000065) }
 {

@@ -1,6 +1,7 @@
 //! What stands before the entries of a job.
 
 ghost use Rattle.std.specs.Prelude.{◌≡◌, ◌+◌, ◌≤◌, ◌<◌, ◌++◌, length, IfOk, OnOk};
+ghost use Rattle.ident_core.specs.declared.bounds.TheConstants.{MAX_SAMPLE};
 ghost use Rattle.job_core.specs.JobText.{range_record, crl_record};
 ghost use Rattle.sample_core.specs.Sample.{range_of, crl};
 ghost use Rattle.sample_core.specs.Parts.{head_front, head_text};
@@ -28,7 +29,7 @@ fn put_crl(
     count: u32,
     issuer: u8,
 ) -> Result<(), NoMemory>
-    requires { (count ≤ 1000000) × (issuer < 4) }
+    requires { (count ≤ MAX_SAMPLE) × (issuer < 4) }
     ensures { OnOk result (out.new.items ≡ out.old.items ++ crl_record (crl keys.now count issuer)) }
 {
     let bytes = crl_bytes(alloc, keys.number(), count, issuer)?;
@@ -54,7 +55,7 @@ fn front_text(alloc: Global, keys: &Keys, count: u32) -> Result<Vec<u8>, NoMemor
 /// All that stands before the entries.
 #[tactic(auto, unfolding(crate::specs::Parts::head_text))]
 pub fn make_head(alloc: Global, keys: &Keys, count: u32) -> Result<Vec<u8>, NoMemory>
-    requires { (1 ≤ count) × (count ≤ 1000000) }
+    requires { (1 ≤ count) × (count ≤ MAX_SAMPLE) }
     ensures { IfOk result (λ v. v.items ≡ head_text keys.now count) }
 {
     let mut out = front_text(alloc, keys, count)?;

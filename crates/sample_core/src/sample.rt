@@ -1,6 +1,7 @@
 //! The job as it is written.
 
 ghost use Rattle.std.specs.Prelude.{◌≡◌, ◌≤◌, ◌++◌, length, IfOk, OnOk, OnErr};
+ghost use Rattle.ident_core.specs.declared.bounds.TheConstants.{MAX_SAMPLE};
 ghost use Rattle.outside_core.specs.Files.{extending, Torn, KeepsOthers, Rose, putting};
 ghost use Rattle.outside_core.specs.Effects.{OnlyWrites};
 ghost use Rattle.sample_core.specs.Sample.{sample_text, sample_revoked};
@@ -43,7 +44,7 @@ struct Prepared {
 }
 
 fn prepare(alloc: Global, keys: &Keys, count: u32) -> Result<Prepared, NoMemory>
-    requires { (1 ≤ count) × (count ≤ 1000000) }
+    requires { (1 ≤ count) × (count ≤ MAX_SAMPLE) }
     ensures { IfOk result (IsPrepared keys.now count) }
 {
     let mut front = make_head(alloc, keys, count)?;
@@ -141,7 +142,7 @@ impl Model for SampleJob {
 impl SampleJob {
     /// The job of the number with so many entries. Memory is taken for its CRLs and a buffer.
     pub fn new(alloc: Global, number: u64, count: u32) -> Result<SampleJob, NoMemory>
-        requires { (1 ≤ count) × (count ≤ 1000000) }
+        requires { (1 ≤ count) × (count ≤ MAX_SAMPLE) }
         ensures { IfOk result (λ j. j ≡ record { number = number; count = count }) }
     {
         let keys = Keys::new(number);

@@ -8,6 +8,7 @@ use Rattle.std.specs.Str.Parse.{digits_value}
 use Rattle.hex.specs.Hex.{decode_of, decode_sized}
 use Rattle.hex.specs.declared.error.FromHexError.{FromHexError}
 use Rattle.octets_core.specs.Layout.{within}
+use Rattle.ident_core.specs.declared.bounds.TheConstants.{MAX_PARTS, MAX_WORKERS, MAX_SAMPLE}
 use Rattle.ident_core.specs.declared.range.Sighting.{Sighting}
 use Rattle.word_core.specs.CommandFields.{QueryFields, SnapshotFields, DeltaFields, StartFields, InstallFields, RehearseFields, SampleFields}
 use Rattle.word_core.specs.declared.command.Command.{Command}
@@ -75,11 +76,11 @@ abbrev pub name_alone : List (List ℕ) → Option (List ℕ)
 name_alone (word ∷ []) = name_of word
 name_alone words = None
 
--- 1 to 64
+-- one or more, and no more than there may be workers
 abbrev pub workers_of : List ℕ → Option ℕ
 workers_of word = do
   n ← number_of word
-  if within 1 64 n then Some n else None
+  if within 1 MAX_WORKERS n then Some n else None
 
 abbrev pub is_among : List ℕ → List (List ℕ) → Bool
 is_among name names = list_any (λ other. bytes_eq other name) names
@@ -143,9 +144,9 @@ names_of (word ∷ rest) = do
   others ← names_of rest
   Some (name ∷ others)
 
--- 1 to 64 names
+-- one name or more, and no more than a chain may have parts
 abbrev pub jobs_of : List (List ℕ) → Option (List (List ℕ))
-jobs_of words = if within 1 64 (length words) then names_of words else None
+jobs_of words = if within 1 MAX_PARTS (length words) then names_of words else None
 
 -- QUERIES WORKERS, and the jobs
 abbrev pub rehearse_of : List (List ℕ) → Option RehearseFields
@@ -156,11 +157,11 @@ rehearse_of (queries ∷ workers ∷ jobs) = do
   Some (record { queries = q; workers = n; jobs = names })
 rehearse_of words = None
 
--- 1 to 1000000
+-- one or more, and no more than a sample may have
 abbrev pub count_of : List ℕ → Option ℕ
 count_of word = do
   n ← number_of word
-  if within 1 1000000 n then Some n else None
+  if within 1 MAX_SAMPLE n then Some n else None
 
 -- NUMBER COUNT JOB
 abbrev pub sample_of : List (List ℕ) → Option SampleFields

@@ -15,20 +15,22 @@ pub struct Snapshot {
 impl Model for Snapshot {
     ghost use Rattle.std.specs.Prelude.{◌≤◌};
     ghost use Rattle.word_core.specs.CommandFields.{SnapshotFields};
+    ghost use Rattle.ident_core.specs.declared.bounds.TheConstants.{MAX_WORKERS};
 
     ghost Value = { SnapshotFields };
 
     ghost view = { λ s. record { job = s.job; part = s.part; ledger = s.ledger; workers = s.workers } };
 
-    ghost invariant = { λ s. (1 ≤ s.workers) × (s.workers ≤ 64) };
+    ghost invariant = { λ s. (1 ≤ s.workers) × (s.workers ≤ MAX_WORKERS) };
 }
 
 impl Snapshot {
     ghost use Rattle.std.specs.Prelude.{◌≡◌, ◌≤◌};
+    ghost use Rattle.ident_core.specs.declared.bounds.TheConstants.{MAX_WORKERS};
 
     /// The job in the file `job`, to be built by so many workers and written to the files `part` and `ledger`.
     pub fn new(job: FileName, part: FileName, ledger: FileName, workers: u32) -> Snapshot
-        requires { (1 ≤ workers) × (workers ≤ 64) }
+        requires { (1 ≤ workers) × (workers ≤ MAX_WORKERS) }
         ensures { result ≡ record { job = job; part = part; ledger = ledger; workers = workers } }
     {
         Snapshot {
@@ -82,16 +84,18 @@ pub struct Delta {
 impl Model for Delta {
     ghost use Rattle.std.specs.Prelude.{◌≤◌};
     ghost use Rattle.word_core.specs.CommandFields.{DeltaFields};
+    ghost use Rattle.ident_core.specs.declared.bounds.TheConstants.{MAX_WORKERS};
 
     ghost Value = { DeltaFields };
 
     ghost view = { λ d. record { job = d.job; ledger = d.ledger; part = d.part; new_ledger = d.new_ledger; workers = d.workers } };
 
-    ghost invariant = { λ d. (1 ≤ d.workers) × (d.workers ≤ 64) };
+    ghost invariant = { λ d. (1 ≤ d.workers) × (d.workers ≤ MAX_WORKERS) };
 }
 
 impl Delta {
     ghost use Rattle.std.specs.Prelude.{◌≡◌, ◌≤◌};
+    ghost use Rattle.ident_core.specs.declared.bounds.TheConstants.{MAX_WORKERS};
 
     /// The job in the file `job` behind the ledger in the file `ledger`, to be built by so many workers and written to
     /// the files `part` and `new_ledger`.
@@ -102,7 +106,7 @@ impl Delta {
         new_ledger: FileName,
         workers: u32,
     ) -> Delta
-        requires { (1 ≤ workers) × (workers ≤ 64) }
+        requires { (1 ≤ workers) × (workers ≤ MAX_WORKERS) }
         ensures { result ≡ record { job = job; ledger = ledger; part = part; new_ledger = new_ledger; workers = workers } }
     {
         Delta {

@@ -1,6 +1,7 @@
 //! The commands that words spell together (docs/FORMATS.md, "Words").
 
 ghost use Rattle.std.specs.Prelude.{◌≡◌, ◌≤◌, ◌∷◌, IfOk, map, string_bytes};
+ghost use Rattle.ident_core.specs.declared.bounds.TheConstants.{MAX_WORKERS};
 ghost use Rattle.word_core.specs.Words.{command_of, query_of, name_alone, snapshot_of, named_delta, delta_of, start_of, install_of, rehearse_of, sample_of};
 
 use crate::command::{Command, FileName, Query};
@@ -11,7 +12,7 @@ use crate::words::{
     are_apart, count_word, key_word, number_word, read_name, read_names, read_pairs,
     read_two_names, serial_word, workers_word,
 };
-use ident_core::Identity;
+use ident_core::{Identity, MAX_PARTS};
 use octets_core::NoMemory;
 use std::alloc::Global;
 
@@ -84,7 +85,7 @@ fn delta_named(
     new_ledger: &str,
     workers: u32,
 ) -> Result<Option<Delta>, NoMemory>
-    requires { (1 ≤ workers) × (workers ≤ 64) }
+    requires { (1 ≤ workers) × (workers ≤ MAX_WORKERS) }
     ensures { IfOk result (λ d. d ≡ named_delta job.now ledger.now part.now new_ledger.now workers) }
 {
     let Some((job, ledger)) = read_two_names(alloc, job, ledger)? else {
@@ -172,7 +173,7 @@ fn rehearse_named(
     let Some(workers) = workers_word(workers) else {
         return Ok(None);
     };
-    if jobs.is_empty() || jobs.len() > 64 {
+    if jobs.is_empty() || jobs.len() > MAX_PARTS {
         return Ok(None);
     }
     let Some(jobs) = read_names(alloc, jobs)? else {

@@ -15,23 +15,25 @@ pub struct Rehearse {
 impl Model for Rehearse {
     ghost use Rattle.std.specs.Prelude.{◌≤◌, length};
     ghost use Rattle.word_core.specs.CommandFields.{RehearseFields};
+    ghost use Rattle.ident_core.specs.declared.bounds.TheConstants.{MAX_PARTS, MAX_WORKERS};
 
     ghost Value = { RehearseFields };
 
     ghost view = { λ r. record { queries = r.queries; workers = r.workers; jobs = r.jobs.items } };
 
-    ghost invariant = { λ r. (1 ≤ r.workers) × (r.workers ≤ 64) × (1 ≤ length r.jobs.items) × (length r.jobs.items ≤ 64) };
+    ghost invariant = { λ r. (1 ≤ r.workers) × (r.workers ≤ MAX_WORKERS) × (1 ≤ length r.jobs.items) × (length r.jobs.items ≤ MAX_PARTS) };
 }
 
 impl Rehearse {
     ghost use Rattle.std.specs.Prelude.{◌≡◌, ◌≤◌, length};
+    ghost use Rattle.ident_core.specs.declared.bounds.TheConstants.{MAX_PARTS, MAX_WORKERS};
 
     /// The jobs in the files `jobs`, in the order in which they are published, to be built by so many workers, and the
     /// queries in the file `queries`. Names may be equal.
     pub fn new(queries: FileName, workers: u32, jobs: Vec<FileName>) -> Rehearse
-        requires bounds { (1 ≤ workers) × (workers ≤ 64) }
+        requires bounds { (1 ≤ workers) × (workers ≤ MAX_WORKERS) }
         requires some { 1 ≤ length jobs.items }
-        requires few { length jobs.items ≤ 64 }
+        requires few { length jobs.items ≤ MAX_PARTS }
         ensures { result ≡ record { queries = queries; workers = workers; jobs = jobs.items } }
     {
         Rehearse {
@@ -77,20 +79,22 @@ pub struct Sample {
 impl Model for Sample {
     ghost use Rattle.std.specs.Prelude.{◌≤◌};
     ghost use Rattle.word_core.specs.CommandFields.{SampleFields};
+    ghost use Rattle.ident_core.specs.declared.bounds.TheConstants.{MAX_SAMPLE};
 
     ghost Value = { SampleFields };
 
     ghost view = { λ s. record { number = s.number; count = s.count; job = s.job } };
 
-    ghost invariant = { λ s. (1 ≤ s.count) × (s.count ≤ 1000000) };
+    ghost invariant = { λ s. (1 ≤ s.count) × (s.count ≤ MAX_SAMPLE) };
 }
 
 impl Sample {
     ghost use Rattle.std.specs.Prelude.{◌≡◌, ◌≤◌};
+    ghost use Rattle.ident_core.specs.declared.bounds.TheConstants.{MAX_SAMPLE};
 
     /// The job of so many entries that `number` stands for, to be written to the file `job`.
     pub fn new(number: u64, count: u32, job: FileName) -> Sample
-        requires { (1 ≤ count) × (count ≤ 1000000) }
+        requires { (1 ≤ count) × (count ≤ MAX_SAMPLE) }
         ensures { result ≡ record { number = number; count = count; job = job } }
     {
         Sample { number, count, job }
@@ -106,7 +110,7 @@ impl Sample {
     /// How many entries the job has.
     pub fn count(&self) -> u32
         ensures value { result ≡ self.now.count }
-        ensures bounds { (1 ≤ result) × (result ≤ 1000000) }
+        ensures bounds { (1 ≤ result) × (result ≤ MAX_SAMPLE) }
     {
         self.count
     }

@@ -5,12 +5,13 @@ ghost use Rattle.std.specs.List.{list_all, list_any};
 ghost use Rattle.std.specs.Str.{bytes_eq};
 ghost use Rattle.std.specs.Char.{is_ascii_digit};
 ghost use Rattle.std.specs.Option.{option_map};
+ghost use Rattle.ident_core.specs.declared.bounds.TheConstants.{MAX_SAMPLE, MAX_WORKERS};
 ghost use Rattle.word_core.specs.Words.{name_of, names_of, two_names_of, pairs_of, key_word, serial_of, number_of};
 ghost use Rattle.word_core.specs.Words.{workers_of, count_of, are_apart, is_name, is_plain};
 
 use crate::command::FileName;
 use hex::FromHex;
-use ident_core::{Serial, Sighting};
+use ident_core::{MAX_SAMPLE, MAX_WORKERS, Serial, Sighting};
 use octets_core::{Key32, NoMemory};
 use std::alloc::Global;
 
@@ -69,25 +70,25 @@ pub(crate) fn number_word(word: &str) -> Option<u64>
     }
 }
 
-/// The number of workers that a word spells, 1 to 64.
+/// The number of workers that a word spells, 1 to `MAX_WORKERS`.
 pub(crate) fn workers_word(word: &str) -> Option<u32>
     ensures value { result ≡ workers_of word.now }
-    ensures bounds { IfSome result (λ n. (1 ≤ n) × (n ≤ 64)) }
+    ensures bounds { IfSome result (λ n. (1 ≤ n) × (n ≤ MAX_WORKERS)) }
 {
     let n = number_word(word)?;
-    if n < 1 || n > 64 {
+    if n < 1 || n > MAX_WORKERS as u64 {
         return None;
     }
     Some(n as u32)
 }
 
-/// The count that a word spells, 1 to 1000000.
+/// The count that a word spells, 1 to `MAX_SAMPLE`.
 pub(crate) fn count_word(word: &str) -> Option<u32>
     ensures value { result ≡ count_of word.now }
-    ensures bounds { IfSome result (λ n. (1 ≤ n) × (n ≤ 1000000)) }
+    ensures bounds { IfSome result (λ n. (1 ≤ n) × (n ≤ MAX_SAMPLE)) }
 {
     let n = number_word(word)?;
-    if n < 1 || n > 1000000 {
+    if n < 1 || n > MAX_SAMPLE as u64 {
         return None;
     }
     Some(n as u32)
