@@ -37,6 +37,7 @@ pub fn read_ranges(
 ) -> Result<Vec<Range>, RangesFault>
     ensures exact { ReadsUnless RangesFault.NoMemory (λ v. v.items) (mapped RangesFault.Layout (ranges_layout count)) cursor.old cursor.new result }
     ensures facts { IfOk result (λ v. AreRanges v.items × (length v.items ≡ count)) }
+    ensures kept { cursor.new.bytes ≡ cursor.old.bytes }
 {
     let room = (count as usize).min(cursor.left() / RANGE_BYTES);
     let mut ranges = Vec::with_capacity(alloc, room)?;

@@ -1,6 +1,7 @@
 pub mod Repeated
 pub mod Fields
 pub mod Bounds
+pub mod OfFields
 pub mod Filling
 pub mod Powers
 pub mod Texts

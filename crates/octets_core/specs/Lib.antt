@@ -4,5 +4,6 @@ pub mod Position
 pub mod Layout
 pub mod Linked
 pub mod Reading
+pub mod OfFields
 pub mod Walk
 pub mod Vectors

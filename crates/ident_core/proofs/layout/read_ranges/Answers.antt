@@ -34,4 +34,4 @@ loop-preserved c =
 pub returns : goal.returns
 returns c =
     let all = is_done range next c.loop.ranges.items c.args.count c.loop.counter c.loop.previous c.loop.cursor.bytes c.loop.cursor.at _ c.loop-test.false c.loop.invariant.read in
-    record { exact = (ap wrapped all, c.loop.invariant.same); facts = ranges-ok c.args.count c.args.cursor.now.bytes c.args.cursor.now.at _ all }
+    record { exact = (ap wrapped all, c.loop.invariant.same); facts = ranges-ok c.args.count c.args.cursor.now.bytes c.args.cursor.now.at _ all; kept = c.loop.invariant.same }
