@@ -8,8 +8,8 @@ use Rattle.der_core.specs.Grammar.{IsElement, AreElements, StandsBefore, StandsO
 use Rattle.der_core.specs.Walk.{any, field, optional, element_where}
 use Rattle.der_core.proofs.WalkLaws.{step, given-step, value-step, alone-read, alone-taken, field-read, field-taken, optional-read, optional-other}
 use Rattle.der_core.proofs.WalkLaws.{optional-taken, element_where-read, element_where-taken, whole_field-read, whole_field-taken}
-use Rattle.log_core.specs.Certificates.{if_short, serial, signature_and_issuer, public_key, tbs_contents, certificate_contents, tbs_serial, certificate_serial, certificate_key}
-use Rattle.log_core.specs.CertificateGrammar.{BeginsWithSerial, IsTbs, HasTbs, IsCertificate, StandsBehindFour, HasKey}
+use Rattle.log_core.specs.Certificates.{if_short, serial, signature_and_issuer, public_key, tbs_contents, certificate_contents, tbs_serial, certificate_serial, certificate_key, left_by, left_within, certificate_tail}
+use Rattle.log_core.specs.CertificateGrammar.{BeginsWithSerial, IsTbs, HasTbs, IsCertificate, StandsBehindFour, HasKey, HasTail}
 use Rattle.log_core.proofs.VectorLaws.{join}
 
 le_true : (a b : ℕ) → a ≤ b → nat_le a b ≡ true
@@ -123,14 +123,15 @@ two-taken bytes x h =
       same = join bytes a.front signature.0.1 (b.front ++ x.1) a.same (join signature.0.1 b.front issuer.0.1 x.1 b.same gone);
     }
 
--- The serial and what stands behind it, of a walk that gave a key.
-pub record TakesKey (key contents : List ℕ) : Type 0 where
+-- The serial and what stands behind it, of a walk that gave a key and left the rest.
+pub record TakesKey (key contents rest : List ℕ) : Type 0 where
   pub serial : List ℕ
   pub behind : List ℕ
   pub begins : BeginsWithSerial serial contents behind
   pub stands : StandsBehindFour key behind
+  pub same : stands.rest ≡ rest
 
-pub key-taken : (contents : List ℕ) (x : List ℕ × List ℕ) → public_key contents ≡ Some x → TakesKey x.0 contents
+pub key-taken : (contents : List ℕ) (x : List ℕ × List ℕ) → public_key contents ≡ Some x → TakesKey x.0 contents x.1
 unfolding public_key
 key-taken contents x h =
     let number = step (serial contents) _ x h in
@@ -162,6 +163,7 @@ key-taken contents x h =
         rest = x.1;
         same = first;
       };
+      same = refl;
     }
 
 within-read : {A : Type 0} (walk : Walk A) (r : Option (List ℕ)) (contents : List ℕ) (x : A) (rest : List ℕ) → r ≡ Some contents → walk contents ≡ Some (x, rest) → within walk r ≡ Some x
@@ -237,3 +239,26 @@ certificate_key-taken key bytes h =
       begins = k.begins;
       stands = k.stands;
     }
+
+pub certificate_tail-read : (tail bytes : List ℕ) → HasTail tail bytes → certificate_tail bytes ≡ Some tail
+certificate_tail-read tail bytes h =
+    let k : HasKey h.key bytes = h.has in
+    rw (has_tbs-read k.tbs bytes k.is, key-read h.key k.serial k.tbs k.behind k.begins k.stands) (ap (λ (r : List ℕ). Some r) h.same)
+
+left-taken : {A : Type 0} (r : Option (A × List ℕ)) (rest : List ℕ) → left_by r ≡ Some rest → (x : A) × (r ≡ Some (x, rest))
+left-taken None rest h = cc
+left-taken {A} (Some y) rest h = let same : y.1 ≡ rest = cc in (y.0, ap (λ (r : List ℕ). Some (y.0, r)) same)
+
+tail-taken : (tail bytes : List ℕ) (r : Option (List ℕ)) → certificate_contents bytes ≡ r → left_within public_key r ≡ Some tail → HasTail tail bytes
+tail-taken tail bytes None e h = cc
+tail-taken tail bytes (Some tbs) e h =
+    let left = left-taken (public_key tbs) tail h in
+    let k = key-taken tbs (left.0, tail) left.1 in
+    record {
+      key = left.0;
+      has = record { tbs = tbs; serial = k.serial; behind = k.behind; is = has_tbs-taken tbs bytes e; begins = k.begins; stands = k.stands };
+      same = k.same;
+    }
+
+pub certificate_tail-taken : (tail bytes : List ℕ) → certificate_tail bytes ≡ Some tail → HasTail tail bytes
+certificate_tail-taken tail bytes h = tail-taken tail bytes (certificate_contents bytes) refl h

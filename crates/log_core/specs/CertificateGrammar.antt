@@ -55,3 +55,9 @@ pub record HasKey (key bytes : List ℕ) : Type 0 where
   pub is : HasTbs tbs bytes
   pub begins : BeginsWithSerial serial tbs behind
   pub stands : StandsBehindFour key behind
+
+-- a Certificate in whose TBS these bytes stand behind the subjectPublicKeyInfo
+pub record HasTail (tail bytes : List ℕ) : Type 0 where
+  pub key : List ℕ
+  pub has : HasKey key bytes
+  pub same : has.stands.rest ≡ tail

@@ -48,3 +48,16 @@ certificate_serial bytes = within serial (certificate_contents bytes)
 
 abbrev pub certificate_key : List ℕ → Option (List ℕ)
 certificate_key bytes = within public_key (certificate_contents bytes)
+
+-- what a walk leaves
+abbrev pub left_by : {A : Type 0} → Option (A × List ℕ) → Option (List ℕ)
+left_by None = None
+left_by (Some x) = Some x.1
+
+abbrev pub left_within : {A : Type 0} → Walk A → Option (List ℕ) → Option (List ℕ)
+left_within walk None = None
+left_within walk (Some contents) = left_by (walk contents)
+
+-- the tail of a certificate: what stands behind the subjectPublicKeyInfo in its TBS
+abbrev pub certificate_tail : List ℕ → Option (List ℕ)
+certificate_tail bytes = left_within public_key (certificate_contents bytes)

@@ -5,7 +5,7 @@ ghost use Rattle.octets_core.specs.Walk.{Walks};
 ghost use Rattle.log_core.specs.CertificateGrammar.{HasKey};
 ghost use Rattle.log_core.specs.Leaves.{GivesHash};
 ghost use Rattle.log_core.specs.Certificates.{if_short, serial, signature_and_issuer, public_key, certificate_contents};
-ghost use Rattle.log_core.specs.Certificates.{tbs_serial, certificate_serial, certificate_key};
+ghost use Rattle.log_core.specs.Certificates.{tbs_serial, certificate_serial, certificate_key, certificate_tail};
 
 use crate::Unread;
 use der_core::Elements;
@@ -69,12 +69,21 @@ pub(crate) fn tbs_serial_of(bytes: &[u8]) -> Option<Serial>
     serial_of(&mut fields)
 }
 
-/// The serial of a certificate.
-pub(crate) fn certificate_serial_of(bytes: &[u8]) -> Option<Serial>
+/// The serial of a certificate (RFC 5280, 4.1.2.2), where it has 1 to 32 octets.
+pub fn certificate_serial_of(bytes: &[u8]) -> Option<Serial>
     ensures { result ≡ certificate_serial bytes.now }
 {
     let mut fields = elements(certificate_of(bytes)?);
     serial_of(&mut fields)
+}
+
+/// The elements behind the subjectPublicKeyInfo in a certificate's TBS (RFC 5280, 4.1).
+pub fn elements_behind_key(bytes: &[u8]) -> Option<Elements<'_>>
+    ensures { result ≡ certificate_tail bytes.now }
+{
+    let mut fields = elements(certificate_of(bytes)?);
+    public_key_of(&mut fields)?;
+    Some(fields)
 }
 
 fn certificate_key_of(bytes: &[u8]) -> Option<&[u8]>

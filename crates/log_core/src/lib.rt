@@ -6,7 +6,7 @@ mod certificate;
 mod entry;
 mod leaf;
 
-pub use certificate::issuer_hash;
+pub use certificate::{certificate_serial_of, elements_behind_key, issuer_hash};
 pub use entry::read_entry;
 
 /// The entry, or the certificate, isn't one that this profile reads.
