@@ -6,3 +6,4 @@ mod extension;
 mod findings;
 
 pub use crl::{Crl, CrlFault, read_crl};
+pub use extension::{Extension, extension_of};

@@ -20,7 +20,7 @@ fn critical_in(flag: Option<&[u8]>) -> Option<bool>
 
 /// The extension that an element is.
 #[tactic(auto, unfolding(crate::specs::Extensions::extension_fields, crate::specs::Extensions::extension))]
-pub(crate) fn extension_of<'a>(e: &Element<'a>) -> Option<Extension<'a>>
+pub fn extension_of<'a>(e: &Element<'a>) -> Option<Extension<'a>>
     ensures { option_map ext_of result ≡ extension (der_of e.now) }
 {
     if e.tag != 0x30 {
