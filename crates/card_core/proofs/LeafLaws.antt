@@ -1,5 +1,5 @@
--- A filter is exact on its universe, and the only one.
-use Rattle.std.proofs.Common.{◌≡◌, ◌<◌, ◌≤◌, ◌+◌, ◌&&◌, ℕ, zero, suc, Bool, true, false, nat_eq, not, cond, List, [], ◌∷◌, ◌++◌, length, map, get_or, Option}
+-- A leaf is exact on its universe, and the only one.
+use Rattle.std.proofs.Common.{◌≡◌, ◌<◌, ◌≤◌, ◌+◌, ◌&&◌, ℕ, zero, suc, Bool, true, false, nat_eq, cond, List, [], ◌∷◌, ◌++◌, length, map, get_or, Option}
 use Rattle.std.proofs.Common.{Some, None, refl, sym, ap, ◌∙◌, subst, arith, inl, inr, eq-eqb, add-one}
 use Rattle.std.specs.List.{list_all, range_with_len, filter, Contains}
 use Rattle.std.proofs.lemmas.List.{get_or-map, length-map, get_or_default, same_lists}
@@ -12,10 +12,10 @@ use Rattle.ribbon_core.specs.Equations.{Equation, Solves, SolvesAll, Least}
 use Rattle.ribbon_core.specs.Rows.{equation_of, equation_with}
 use Rattle.ribbon_core.proofs.LeastLaws.{least_unique}
 use Rattle.card_core.specs.declared.stage.Stage.{Stage}
-use Rattle.card_core.specs.declared.block.Body.TheVariants.{Clean, Every, Mixed}
+use Rattle.card_core.specs.declared.leaf.Leaf.TheVariants.{Clean, Every, Mixed}
 use Rattle.card_core.specs.MixedFields.{MixedFields}
-use Rattle.card_core.specs.Leaf.{IsWidth, Solvable, IsStage, IsExhausted, approx_equations, exact_equations, passes, exact_sum, is_positive, IsApprox, false_positives, IsExact, IsMixed, flagged}
-use Rattle.card_core.specs.Laws.{BlockIsExact, IsExactOn, LeafIsExact, LeafIsUnique, OneStageIsRefused, RefusedHasNoLeaf}
+use Rattle.card_core.specs.Leaf.{IsWidth, Solvable, IsStage, IsExhausted, approx_equations, exact_equations, passes, exact_sum, IsApprox, false_positives, IsExact, IsMixed}
+use Rattle.card_core.specs.Laws.{IsExactOn, LeafIsExact, LeafIsUnique, OneStageIsRefused, RefusedHasNoLeaf}
 
 -- a test that holds at each number of a range
 pub all_from : (f : ℕ → Bool) (a n : ℕ) → ((p : ℕ) → a ≤ p → p < a + n → f p ≡ true) → list_all f (range_with_len a n) ≡ true
@@ -205,36 +205,3 @@ refused_once rows revoked others stage other r t = elim r.2 [
     | inr b ↦ a.0 ∙ sym b.0
   ]
 ]
-
-contains_first : (x : Identity) (xs : List Identity) → Contains (x ∷ xs) x
-contains_first x xs = (0, omega arith, refl)
-
-contains_next : (x y : Identity) (xs : List Identity) → Contains xs y → Contains (x ∷ xs) y
-contains_next x y xs c = (c.0 + 1, omega (arith, c.1), rw add-one c.2)
-
-contains_kept : (x y : Identity) (f : Bool) (xs : List Identity) → Contains xs y → Contains (cond f (x ∷ xs) xs) y
-contains_kept x y true xs c = contains_next x y xs c
-contains_kept x y false xs c = c
-
--- an identity whose flag is set is among the flagged
-flagged_at : (xs : List Identity) (fs : List Bool) (i : ℕ) (d : Identity) → i < length xs → get_or fs i false ≡ true → Contains (flagged xs fs) (get_or xs i d)
-flagged_at [] fs i d lt e = absurd (omega arith)
-flagged_at (x ∷ xs) [] i d lt e = absurd (cc)
-flagged_at (x ∷ xs) (true ∷ fs) zero d lt e = contains_first x (flagged xs fs)
-flagged_at (x ∷ xs) (false ∷ fs) zero d lt e = absurd (cc)
-flagged_at (x ∷ xs) (f ∷ fs) (suc i) d lt e = contains_kept x (get_or xs i d) f (flagged xs fs) (flagged_at xs fs i d (omega arith) e)
-
-not_at : (fs : List Bool) (i : ℕ) → i < length fs → get_or (map not fs) i false ≡ not (get_or fs i false)
-not_at fs i lt = get_or-map not fs i false false lt
-
-by_flag : (f : Bool) (P : Bool → Type 0) → (f ≡ true → P true) → (f ≡ false → P false) → P f
-by_flag true P a b = a refl
-by_flag false P a b = b refl
-
-pub block_exact : BlockIsExact
-block_exact rows issuer universe flags block same h i x lt =
-    let e : IsExactOn rows (flagged universe flags) (flagged universe (map not flags)) block.body = leaf_exact rows (flagged universe flags) (flagged universe (map not flags)) block.body h.1 in
-    let lt' : i < length flags = omega (arith, same) in
-    by_flag (get_or flags i false) (λ f. is_positive rows (get_or universe i x) block.body ≡ f)
-    (λ t. e.0 (get_or universe i x) (flagged_at universe flags i x lt t))
-    (λ n. e.1 (get_or universe i x) (flagged_at universe (map not flags) i x lt (not_at flags i lt' ∙ ap not n)))

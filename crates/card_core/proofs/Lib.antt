@@ -1,4 +1,5 @@
 pub mod LeafLaws
+pub mod FilterLaws
 pub mod Accepting
 pub mod Ascending
 pub mod Searching

@@ -8,7 +8,7 @@ use Rattle.ident_core.specs.declared.identity.Identity.{Identity}
 use Rattle.ident_core.specs.declared.range.Sighting.{Sighting}
 use Rattle.equation_core.specs.Rows.{Rows}
 use Rattle.card_core.specs.declared.block.Block.{Block}
-use Rattle.card_core.specs.Leaf.{is_positive}
+use Rattle.card_core.specs.Filter.{is_positive}
 use Rattle.card_core.specs.PartFields.{PartFields}
 
 -- the block of an issuer

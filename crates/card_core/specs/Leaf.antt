@@ -1,5 +1,5 @@
--- The filter of a universe: which stages it has, and for whom it tests positive.
-use Rattle.std.specs.Prelude.{◌≡◌, ◌<◌, ◌≤◌, ◌+◌, ◌*◌, ◌^◌, ◌⊎◌, ◌==◌, ◌&&◌, ℕ, Bool, true, false, not, List, [], ◌∷◌}
+-- The leaf of a universe, its filter: which stages it has, and for whom it tests positive.
+use Rattle.std.specs.Prelude.{◌≡◌, ◌<◌, ◌≤◌, ◌+◌, ◌*◌, ◌^◌, ◌⊎◌, ◌==◌, ◌&&◌, ℕ, Bool, true, false, List, [], ◌∷◌}
 use Rattle.std.specs.Prelude.{◌++◌, length, map, filter, slice_index, Option, Some, None, cond}
 use Rattle.std.specs.List.{list_all, range_with_len}
 use Rattle.std.specs.Int.{bit_at}
@@ -10,9 +10,8 @@ use Rattle.equation_core.specs.declared.hash.TheConstants.{MAX_PLANES}
 use Rattle.ribbon_core.specs.Equations.{Equation, sum_of, IsSolvable, Least}
 use Rattle.ribbon_core.specs.Rows.{equation_of, equation_with}
 use Rattle.card_core.specs.declared.stage.Stage.{Stage}
-use Rattle.card_core.specs.declared.block.Block.{Block}
-use Rattle.card_core.specs.declared.block.Body.{Body}
-use Rattle.card_core.specs.declared.block.Body.TheVariants.{Clean, Every, Mixed}
+use Rattle.card_core.specs.declared.leaf.Leaf.{Leaf}
+use Rattle.card_core.specs.declared.leaf.Leaf.TheVariants.{Clean, Every, Mixed}
 use Rattle.card_core.specs.MixedFields.{MixedFields}
 
 -- the identities whose flag is set
@@ -70,11 +69,11 @@ passes rows (Some s) x = accepts rows s x
 abbrev pub exact_sum : Rows → Stage → Identity → ℕ
 exact_sum rows s x = sum_of (equation_of (rows 2 s.seed x s.planes.starts)) (slice_index s.planes.columns 0)
 
--- whether a filter tests positive for an identity
-abbrev pub is_positive : Rows → Identity → Body → Bool
-is_positive rows x Clean = false
-is_positive rows x Every = true
-is_positive rows x (Mixed m) = passes rows m.approx x && exact_sum rows m.exact x == 1
+-- whether a leaf tests positive for an identity
+abbrev pub is_leaf_positive : Rows → Identity → Leaf → Bool
+is_leaf_positive rows x Clean = false
+is_leaf_positive rows x Every = true
+is_leaf_positive rows x (Mixed m) = passes rows m.approx x && exact_sum rows m.exact x == 1
 
 -- the approximate stage, where the width isn't 0
 abbrev pub IsApprox : Rows → List Identity → List Identity → Option Stage → Type 0
@@ -97,8 +96,8 @@ pub record IsMixed (rows : Rows) (revoked others : List Identity) (m : MixedFiel
   pub approx : IsApprox rows revoked others m.approx
   pub exact : IsExact rows revoked (false_positives rows m.approx others) m.exact
 
--- the filter of the revoked and the other identities of a universe
-abbrev pub IsLeaf : Rows → List Identity → List Identity → Body → Type 0
+-- the leaf of the revoked and the other identities of a universe
+abbrev pub IsLeaf : Rows → List Identity → List Identity → Leaf → Type 0
 IsLeaf rows revoked others Clean = length revoked ≡ 0
 IsLeaf rows revoked others Every = (1 ≤ length revoked) × (length others ≡ 0)
 IsLeaf rows revoked others (Mixed m) = IsMixed rows revoked others m
@@ -110,7 +109,3 @@ IsRefused rows revoked others stage =
     × (((stage ≡ 1) × ((k : ℕ) × (1 ≤ k) × IsWidth (length revoked) (length others) k × IsExhausted (approx_equations rows revoked) k))
     ⊎ ((stage ≡ 2) × ((approx : Option Stage) × IsApprox rows revoked others approx
     × IsExhausted (exact_equations rows revoked (false_positives rows approx others)) 1)))
-
--- the block of an issuer whose identities have these flags
-abbrev pub IsBlock : Rows → List ℕ → List Identity → List Bool → Block → Type 0
-IsBlock rows issuer universe flags block = (block.issuer ≡ issuer) × IsLeaf rows (flagged universe flags) (flagged universe (map not flags)) block.body

@@ -1,3 +1,4 @@
+use crate::leaf::Leaf;
 use crate::mixed::Mixed;
 use equation_core::EquationHash;
 use ident_core::Identity;
@@ -17,7 +18,7 @@ pub enum Body {
 
 impl Body {
     ghost use Rattle.std.specs.Prelude.{◌≡◌, ◌≤◌, ◌+◌};
-    ghost use Rattle.card_core.specs.Leaf.{is_positive};
+    ghost use Rattle.card_core.specs.Filter.{is_positive};
 
     /// Whether the block tests positive for a certificate of its issuer. Each word that is read takes a step.
     pub fn tests_positive<H: EquationHash, M: Ledger>(
@@ -34,6 +35,21 @@ impl Body {
             Body::Clean => false,
             Body::Every => true,
             Body::Mixed(mixed) => mixed.tests_positive(hash, id, words),
+        }
+    }
+}
+
+impl From<Leaf> for Body {
+    ghost use Rattle.std.specs.Prelude.{◌≡◌};
+    ghost use Rattle.card_core.specs.Filter.{as_body};
+
+    ghost from_gives = { λ leaf body. body ≡ as_body leaf };
+
+    fn from(leaf: Leaf) -> Body {
+        match leaf {
+            Leaf::Clean => Body::Clean,
+            Leaf::Every => Body::Every,
+            Leaf::Mixed(mixed) => Body::Mixed(mixed),
         }
     }
 }

@@ -1,6 +1,6 @@
 ghost use Rattle.std.specs.Prelude.{◌≡◌, ◌≤◌, ◌+◌, length, MatchOption};
-ghost use Rattle.card_core.specs.declared.block.Body.TheVariants.{Mixed as MixedBody};
-ghost use Rattle.card_core.specs.Leaf.{passes as is_passed, is_positive};
+ghost use Rattle.card_core.specs.declared.leaf.Leaf.TheVariants.{Mixed as MixedLeaf};
+ghost use Rattle.card_core.specs.Leaf.{is_leaf_positive, passes as is_passed};
 
 use crate::stage::{Stage, accepts, exact_sum_of};
 use equation_core::EquationHash;
@@ -76,7 +76,7 @@ impl Mixed {
         id: &Identity,
         words: &mut Steps<M>,
     ) -> bool
-        ensures value { result ≡ is_positive (H.row_of hash.now) id.now (MixedBody self.now) }
+        ensures value { result ≡ is_leaf_positive (H.row_of hash.now) id.now (MixedLeaf self.now) }
         ensures more { words.old ≤ words.new }
         ensures steps { words.new ≤ words.old + 51 }
     {

@@ -1,4 +1,4 @@
-use Rattle.card_core.proofs.LeafLaws.{block_exact}
+use Rattle.card_core.proofs.FilterLaws.{block_exact}
 use Rattle.card_core.proofs.laws.block_is_exact.Goals as goal
 
 pub returns : goal.returns

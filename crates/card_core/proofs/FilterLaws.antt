@@ -1,0 +1,75 @@
+-- The filter of an issuer's universe is exact, and the only one.
+use Rattle.std.proofs.Common.{◌≡◌, ◌<◌, ◌+◌, ℕ, zero, suc, Bool, true, false, not, cond, List, [], ◌∷◌, length, map, get_or, refl, sym, ap, ◌∙◌, arith, add-one}
+use Rattle.std.specs.List.{Contains}
+use Rattle.std.proofs.lemmas.List.{get_or-map}
+use Rattle.ident_core.specs.declared.identity.Identity.{Identity}
+use Rattle.card_core.specs.declared.leaf.Leaf.{Leaf}
+use Rattle.card_core.specs.declared.leaf.Leaf.TheVariants as leaves
+use Rattle.card_core.specs.declared.block.Body.{Body}
+use Rattle.card_core.specs.declared.block.Body.TheVariants as bodies
+use Rattle.card_core.specs.Leaf.{flagged}
+use Rattle.card_core.specs.Filter.{as_body, is_positive, leaf_of}
+use Rattle.card_core.specs.Laws.{BlockIsExact, BlockIsUnique, BodyIsOfOneLeaf, IsExactOn, RefusedHasNoBlock}
+use Rattle.card_core.proofs.LeafLaws.{leaf_exact, leaf_unique, refused_no_leaf}
+
+-- the leaf of a leaf's body is this leaf
+pub leaf_back : (leaf : Leaf) → leaf_of (as_body leaf) ≡ leaf
+leaf_back leaves.Clean = refl
+leaf_back leaves.Every = refl
+leaf_back (leaves.Mixed m) = refl
+
+-- a body is that of its leaf
+pub body_back : (body : Body) → as_body (leaf_of body) ≡ body
+body_back bodies.Clean = refl
+body_back bodies.Every = refl
+body_back (bodies.Mixed m) = refl
+
+pub body_of_one : BodyIsOfOneLeaf
+body_of_one a b e = sym (leaf_back a) ∙ ap leaf_of e ∙ leaf_back b
+
+body_same : (a b : Body) → leaf_of a ≡ leaf_of b → a ≡ b
+body_same a b e = sym (body_back a) ∙ ap as_body e ∙ body_back b
+
+contains_first : (x : Identity) (xs : List Identity) → Contains (x ∷ xs) x
+contains_first x xs = (0, omega arith, refl)
+
+contains_next : (x y : Identity) (xs : List Identity) → Contains xs y → Contains (x ∷ xs) y
+contains_next x y xs c = (c.0 + 1, omega (arith, c.1), rw add-one c.2)
+
+contains_kept : (x y : Identity) (f : Bool) (xs : List Identity) → Contains xs y → Contains (cond f (x ∷ xs) xs) y
+contains_kept x y true xs c = contains_next x y xs c
+contains_kept x y false xs c = c
+
+-- an identity whose flag is set is among the flagged
+flagged_at : (xs : List Identity) (fs : List Bool) (i : ℕ) (d : Identity) → i < length xs → get_or fs i false ≡ true → Contains (flagged xs fs) (get_or xs i d)
+flagged_at [] fs i d lt e = absurd (omega arith)
+flagged_at (x ∷ xs) [] i d lt e = absurd (cc)
+flagged_at (x ∷ xs) (true ∷ fs) zero d lt e = contains_first x (flagged xs fs)
+flagged_at (x ∷ xs) (false ∷ fs) zero d lt e = absurd (cc)
+flagged_at (x ∷ xs) (f ∷ fs) (suc i) d lt e = contains_kept x (get_or xs i d) f (flagged xs fs) (flagged_at xs fs i d (omega arith) e)
+
+not_at : (fs : List Bool) (i : ℕ) → i < length fs → get_or (map not fs) i false ≡ not (get_or fs i false)
+not_at fs i lt = get_or-map not fs i false false lt
+
+by_flag : (f : Bool) (P : Bool → Type 0) → (f ≡ true → P true) → (f ≡ false → P false) → P f
+by_flag true P a b = a refl
+by_flag false P a b = b refl
+
+pub block_exact : BlockIsExact
+block_exact rows issuer universe flags block same h i x lt =
+    let leaf : Leaf = leaf_of block.body in
+    let e : IsExactOn rows (flagged universe flags) (flagged universe (map not flags)) leaf = leaf_exact rows (flagged universe flags) (flagged universe (map not flags)) leaf h.1 in
+    let lt' : i < length flags = omega (arith, same) in
+    by_flag (get_or flags i false) (λ f. is_positive rows (get_or universe i x) block.body ≡ f)
+    (λ t. e.0 (get_or universe i x) (flagged_at universe flags i x lt t))
+    (λ n. e.1 (get_or universe i x) (flagged_at universe (map not flags) i x lt (not_at flags i lt' ∙ ap not n)))
+
+pub block_unique : BlockIsUnique
+block_unique rows issuer universe flags a b h k =
+    let issuers : a.issuer ≡ b.issuer = h.0 ∙ sym k.0 in
+    let leaves : leaf_of a.body ≡ leaf_of b.body = leaf_unique rows (flagged universe flags) (flagged universe (map not flags)) (leaf_of a.body) (leaf_of b.body) h.1 k.1 in
+    λ i. record { issuer = issuers i; body = body_same a.body b.body leaves i }
+
+pub refused_no_block : RefusedHasNoBlock
+refused_no_block rows issuer universe flags stage block r h =
+    refused_no_leaf rows (flagged universe flags) (flagged universe (map not flags)) stage (leaf_of block.body) r h.1

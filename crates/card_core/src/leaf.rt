@@ -1,0 +1,39 @@
+use crate::mixed::Mixed;
+use equation_core::EquationHash;
+use ident_core::Identity;
+use octets_core::Steps;
+use std::sync::ledger::Ledger;
+
+/// A filter: what it says of the certificates of a universe.
+#[derive(Drop)]
+pub enum Leaf {
+    /// None is revoked (mode 0).
+    Clean,
+    /// Each one is revoked (mode 1).
+    Every,
+    /// Some are revoked (mode 2).
+    Mixed(Mixed),
+}
+
+impl Leaf {
+    ghost use Rattle.std.specs.Prelude.{◌≡◌, ◌≤◌, ◌+◌};
+    ghost use Rattle.card_core.specs.Leaf.{is_leaf_positive};
+
+    /// Whether the leaf tests positive for a certificate of its universe. Each word that is read takes a step.
+    pub fn tests_positive<H: EquationHash, M: Ledger>(
+        &self,
+        hash: &H,
+        id: &Identity,
+        words: &mut Steps<M>,
+    ) -> bool
+        ensures value { result ≡ is_leaf_positive (H.row_of hash.now) id.now self.now }
+        ensures more { words.old ≤ words.new }
+        ensures steps { words.new ≤ words.old + 51 }
+    {
+        match self {
+            Leaf::Clean => false,
+            Leaf::Every => true,
+            Leaf::Mixed(mixed) => mixed.tests_positive(hash, id, words),
+        }
+    }
+}
