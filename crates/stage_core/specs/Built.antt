@@ -1,13 +1,14 @@
 -- What building a filter gives.
-use Rattle.std.specs.Prelude.{◌≡◌, ◌≤◌, ◌<◌, ℕ, Bool, not, List, map, length, slice_index, Option, Some, None, Result, Ok, Err}
+use Rattle.std.specs.Prelude.{◌≡◌, ◌≤◌, ◌<◌, ℕ, Bool, List, length, slice_index, Option, Some, None, Result, Ok, Err}
 use Rattle.ident_core.specs.declared.identity.Identity.{Identity}
 use Rattle.equation_core.specs.Rows.{Rows}
 use Rattle.ribbon_core.specs.Equations.{Equation, Least, SolvesAll}
 use Rattle.ribbon_core.specs.PlaneWords.{PlaneColumns}
 use Rattle.card_core.specs.declared.stage.Stage.{Stage}
 use Rattle.card_core.specs.declared.block.Block.{Block}
-use Rattle.card_core.specs.declared.block.Body.{Body}
-use Rattle.card_core.specs.Leaf.{IsLeaf, IsBlock, IsRefused, flagged, IsStage, IsExhausted, IsWidth, IsApprox, IsExact, approx_equations, exact_equations}
+use Rattle.card_core.specs.declared.leaf.Leaf.{Leaf}
+use Rattle.card_core.specs.Leaf.{IsLeaf, IsRefused, IsStage, IsExhausted, IsWidth, IsApprox, IsExact, approx_equations, exact_equations}
+use Rattle.card_core.specs.Filter.{IsBlock, IsBlockRefused}
 use Rattle.stage_core.specs.declared.fault.BlockFault.{BlockFault}
 use Rattle.stage_core.specs.declared.fault.BlockFault.TheVariants.{SeedsExhausted, NoMemory}
 
@@ -33,14 +34,14 @@ BuildsExact rows revoked passed (Ok s) = IsExact rows revoked passed s
 BuildsExact rows revoked passed (Err NoMemory) = Unit {0}
 BuildsExact rows revoked passed (Err (SeedsExhausted stage)) = (stage ≡ 2) × IsExhausted (exact_equations rows revoked passed) 1
 
--- the filter, or the stage that is unsolvable at each seed, or want of memory
-abbrev pub BuildsLeaf : Rows → List Identity → List Identity → Result Body BlockFault → Type 0
-BuildsLeaf rows revoked others (Ok body) = IsLeaf rows revoked others body
+-- the leaf, or the stage that is unsolvable at each seed, or want of memory
+abbrev pub BuildsLeaf : Rows → List Identity → List Identity → Result Leaf BlockFault → Type 0
+BuildsLeaf rows revoked others (Ok leaf) = IsLeaf rows revoked others leaf
 BuildsLeaf rows revoked others (Err NoMemory) = Unit {0}
 BuildsLeaf rows revoked others (Err (SeedsExhausted stage)) = IsRefused rows revoked others stage
 
--- the same with the issuer
+-- the block, or the same
 abbrev pub BuildsBlock : Rows → List ℕ → List Identity → List Bool → Result Block BlockFault → Type 0
 BuildsBlock rows issuer universe flags (Ok block) = IsBlock rows issuer universe flags block
 BuildsBlock rows issuer universe flags (Err NoMemory) = Unit {0}
-BuildsBlock rows issuer universe flags (Err (SeedsExhausted stage)) = IsRefused rows (flagged universe flags) (flagged universe (map not flags)) stage
+BuildsBlock rows issuer universe flags (Err (SeedsExhausted stage)) = IsBlockRefused rows universe flags stage

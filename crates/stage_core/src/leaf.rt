@@ -8,7 +8,7 @@ use crate::fault::BlockFault;
 use crate::keys::{KeyTarget, Shape};
 use crate::seeds::first_stage;
 use crate::width::width_for;
-use card_core::{Block, Body, Mixed, Stage, accepts};
+use card_core::{Block, Leaf, Mixed, Stage, accepts};
 use equation_core::{EquationHash, starts_for};
 use ident_core::Identity;
 use octets_core::{Key32, Steps};
@@ -128,13 +128,13 @@ fn exact_of<H: EquationHash>(
     }
 }
 
-// The filter of a universe of which some are revoked and some are not.
+// The leaf of a universe of which some are revoked and some are not.
 fn mixed_of<H: EquationHash>(
     alloc: Global,
     hash: &H,
     universe: &[Identity],
     revoked: &[bool],
-) -> Result<Body, BlockFault>
+) -> Result<Leaf, BlockFault>
     requires flags { length revoked.now ≡ length universe.now }
     requires few { length universe.now ≤ MAX_IDENTITIES }
     requires some_revoked { 1 ≤ length (flagged universe.now revoked.now) }
@@ -144,26 +144,26 @@ fn mixed_of<H: EquationHash>(
     let approx = approx_of(alloc, hash, universe, revoked)?;
     let passed = false_positives_of(alloc, hash, &approx, universe, revoked)?;
     let exact = exact_of(alloc, hash, universe, revoked, &passed)?;
-    Ok(Body::Mixed(Mixed::new(approx, exact)))
+    Ok(Leaf::Mixed(Mixed::new(approx, exact)))
 }
 
-// The filter of a universe.
+// The leaf of a universe.
 fn leaf_of<H: EquationHash>(
     alloc: Global,
     hash: &H,
     universe: &[Identity],
     revoked: &[bool],
-) -> Result<Body, BlockFault>
+) -> Result<Leaf, BlockFault>
     requires flags { length revoked.now ≡ length universe.now }
     requires few { length universe.now ≤ MAX_IDENTITIES }
     ensures { BuildsLeaf (H.row_of hash.now) (flagged universe.now revoked.now) (flagged universe.now (map not revoked.now)) result }
 {
     let keys = count(revoked);
     if keys == 0 {
-        return Ok(Body::Clean);
+        return Ok(Leaf::Clean);
     }
     if keys == universe.len() {
-        return Ok(Body::Every);
+        return Ok(Leaf::Every);
     }
     mixed_of(alloc, hash, universe, revoked)
 }
@@ -182,7 +182,10 @@ pub fn build_block<H: EquationHash>(
     ensures { BuildsBlock (H.row_of hash.now) issuer universe.now revoked.now result }
 {
     match leaf_of(alloc, hash, universe, revoked) {
-        Ok(body) => Ok(Block { issuer, body }),
+        Ok(leaf) => Ok(Block {
+            issuer,
+            body: leaf.into(),
+        }),
         Err(fault) => Err(fault),
     }
 }
