@@ -18,14 +18,17 @@ use Rattle.equation_core.specs.Sizes.{columns_for, words_for}
 use Rattle.ribbon_core.specs.PlaneWords.{PlaneColumns}
 use Rattle.card_core.specs.declared.block.Body.{Body}
 use Rattle.card_core.specs.declared.block.Body.TheVariants as bodies
+use Rattle.card_core.specs.declared.leaf.Leaf.{Leaf}
+use Rattle.card_core.specs.declared.leaf.Leaf.TheVariants as leaves
+use Rattle.card_core.specs.Filter.{as_body, leaf_of}
 use Rattle.card_core.specs.declared.stage.Stage.{Stage}
 use Rattle.card_core.specs.MixedFields.{MixedFields}
 use Rattle.equation_core.specs.declared.hash.TheConstants.{MAX_PLANES}
 use Rattle.equation_core.specs.declared.sizes.TheConstants.{MAX_STARTS}
 use Rattle.part_codec.specs.PlaneBytes.{columns_of_bytes, bytes_of_columns, is_padded}
-use Rattle.part_codec.specs.PartLayout.{plane_bytes, plane, planes, approx_stage, approx, exact, mixed, body_of}
-use Rattle.part_codec.specs.PartText.{mode_of, planes_text, stage_text, width_of, approx_text, mixed_text, body_text}
-use Rattle.part_codec.specs.Fitting.{PlanesFit, StageFits, FirstFits, MixedFits, BodyFits}
+use Rattle.part_codec.specs.PartLayout.{plane_bytes, plane, planes, approx_stage, approx, exact, mixed, leaf, body_of}
+use Rattle.part_codec.specs.PartText.{leaf_mode, mode_of, planes_text, stage_text, width_of, approx_text, mixed_text, leaf_text, body_text}
+use Rattle.part_codec.specs.Fitting.{PlanesFit, StageFits, FirstFits, MixedFits, LeafFits, BodyFits}
 use Rattle.part_codec.proofs.PlaneBytes.{length-bytes, columns-again, bytes-back}
 
 -- ---- planes
@@ -188,15 +191,33 @@ mixed-leaves bytes fits at =
       record { approx = b.1; exact = c.1; one = c.2 },
     )
 
+pub leaf-read : (before : List ℕ) (l : Leaf) → LeafFits l → IsRead (leaf (leaf_mode l)) before l (leaf_text l)
+leaf-read before leaves.Clean fits = whole-read before leaves.Clean
+leaf-read before leaves.Every fits = whole-read before leaves.Every
+leaf-read before (leaves.Mixed m) fits = ends-read (λ (x : MixedFields). leaves.Mixed x) (mixed-read before m fits)
+
+pub leaf-leaves : (n : ℕ) (bytes : List ℕ) → IsBytes bytes → (at : ℕ) → n ≤ 2 → at ≤ length bytes
+    → Leaves (leaf n) bytes at (λ l end. Takes bytes at (leaf_text l) end × LeafFits l × (leaf_mode l ≡ n))
+leaf-leaves zero bytes fits at few le = whole-leaves leaves.Clean bytes at _ (takes-nothing bytes at le, tt, refl)
+leaf-leaves (suc zero) bytes fits at few le = whole-leaves leaves.Every bytes at _ (takes-nothing bytes at le, tt, refl)
+leaf-leaves (suc (suc n)) bytes fits at few le =
+    mixed-leaves bytes fits at >>- λ m end a.
+    whole-leaves (leaves.Mixed m) bytes end _ (a.0, a.1, omega arith)
+
+-- ---- a block is one leaf
+
 pub body-read : (before : List ℕ) (b : Body) → BodyFits b → IsRead (body_of (mode_of b)) before b (body_text b)
-body-read before bodies.Clean fits = whole-read before bodies.Clean
-body-read before bodies.Every fits = whole-read before bodies.Every
-body-read before (bodies.Mixed m) fits = ends-read (λ (x : MixedFields). bodies.Mixed x) (mixed-read before m fits)
+body-read before bodies.Clean fits = ends-read as_body (leaf-read before leaves.Clean fits)
+body-read before bodies.Every fits = ends-read as_body (leaf-read before leaves.Every fits)
+body-read before (bodies.Mixed m) fits = ends-read as_body (leaf-read before (leaves.Mixed m) fits)
+
+as_body-leaf : (l : Leaf) → leaf_of (as_body l) ≡ l
+as_body-leaf leaves.Clean = refl
+as_body-leaf leaves.Every = refl
+as_body-leaf (leaves.Mixed m) = refl
 
 pub body-leaves : (n : ℕ) (bytes : List ℕ) → IsBytes bytes → (at : ℕ) → n ≤ 2 → at ≤ length bytes
     → Leaves (body_of n) bytes at (λ b end. Takes bytes at (body_text b) end × BodyFits b × (mode_of b ≡ n))
-body-leaves zero bytes fits at few le = whole-leaves bodies.Clean bytes at _ (takes-nothing bytes at le, tt, refl)
-body-leaves (suc zero) bytes fits at few le = whole-leaves bodies.Every bytes at _ (takes-nothing bytes at le, tt, refl)
-body-leaves (suc (suc n)) bytes fits at few le =
-    mixed-leaves bytes fits at >>- λ m end a.
-    whole-leaves (bodies.Mixed m) bytes end _ (a.0, a.1, omega arith)
+body-leaves n bytes fits at few le =
+    leaf-leaves n bytes fits at few le >>- λ l end a.
+    whole-leaves (as_body l) bytes end _ (subst (λ (k : Leaf). Takes bytes at (leaf_text k) end × LeafFits k × (leaf_mode k ≡ n)) (sym (as_body-leaf l)) a)

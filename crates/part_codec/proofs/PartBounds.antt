@@ -21,7 +21,7 @@ use Rattle.part_codec.specs.declared.fault.PartFault.TheVariants as faults
 use Rattle.part_codec.specs.Offsets.{offset_in_part}
 use Rattle.equation_core.specs.Sizes.{words_for}
 use Rattle.part_codec.specs.PlaneBytes.{is_padded}
-use Rattle.part_codec.specs.PartLayout.{fielded, head, plane, planes, approx_stage, approx, exact, mixed, block, body_of, unsealed, part}
+use Rattle.part_codec.specs.PartLayout.{fielded, head, plane, planes, approx_stage, approx, exact, mixed, block, leaf, body_of, unsealed, sealed, part}
 
 abbrev offset : LayoutFault → ℕ
 offset f = f.at
@@ -94,33 +94,39 @@ mixed-bounded =
     exact-bounded >>> λ second.
     whole-bounded offset _
 
-body-bounded : (n : ℕ) → IsBounded offset (body_of n)
-body-bounded zero = whole-bounded offset _
-body-bounded (suc zero) = whole-bounded offset _
-body-bounded (suc (suc n)) = mixed-bounded >>> λ m. whole-bounded offset _
+leaf-bounded : (n : ℕ) → IsBounded offset (leaf n)
+leaf-bounded zero = whole-bounded offset _
+leaf-bounded (suc zero) = whole-bounded offset _
+leaf-bounded (suc (suc n)) = mixed-bounded >>> λ m. whole-bounded offset _
 
-pub block-bounded : (previous : Option (List ℕ)) → IsBounded offset_in_part (block previous)
+body-bounded : (n : ℕ) → IsBounded offset (body_of n)
+body-bounded n = leaf-bounded n >>> λ l. whole-bounded offset _
+
+pub block-bounded : (previous : Option (List ℕ)) → IsBounded offset (block previous)
 unfolding block
 block-bounded previous =
-    fielded-bounded _ (bytes-bounded fields.BlockIssuer 32 (is_after previous)) >>> λ issuer.
-    fielded-bounded _ (number-bounded fields.BlockMode w8 0 2) >>> λ mode.
-    fielded-bounded _ (body-bounded mode) >>> λ body.
-    whole-bounded offset_in_part _
+    bytes-bounded fields.BlockIssuer 32 (is_after previous) >>> λ issuer.
+    number-bounded fields.BlockMode w8 0 2 >>> λ mode.
+    body-bounded mode >>> λ body.
+    whole-bounded offset _
 
-unsealed-bounded : IsBounded offset_in_part unsealed
+unsealed-bounded : IsBounded offset unsealed
 unfolding unsealed
 unsealed-bounded =
-    fielded-bounded head head-bounded >>> λ h.
-    fielded-bounded _ (number-bounded fields.PartIssuers w32 0 MAX_BLOCKS) >>> λ count.
-    repeated-bounded offset_in_part block _ block-bounded count None >>> λ list.
-    whole-bounded offset_in_part _
+    head-bounded >>> λ h.
+    number-bounded fields.PartIssuers w32 0 MAX_BLOCKS >>> λ count.
+    repeated-bounded offset block _ block-bounded count None >>> λ list.
+    whole-bounded offset _
+
+pub sealed-bounded : IsBounded offset sealed
+unfolding sealed
+sealed-bounded =
+    unsealed-bounded >>> λ p.
+    sum_field-bounded offset _ _ 32 _ (λ at. refl) (λ at. refl) >>> λ trailer.
+    whole-bounded offset _
 
 pub part-bounded : IsBounded offset_in_part part
-unfolding part
-part-bounded =
-    unsealed-bounded >>> λ p.
-    fielded-bounded _ (sum_field-bounded offset _ _ 32 _ (λ at. refl) (λ at. refl)) >>> λ trailer.
-    whole-bounded offset_in_part _
+part-bounded = fielded-bounded sealed sealed-bounded
 
 within-err : (bytes : List ℕ) (e : PartFault) (read : Result (SealedFields × ℕ) PartFault) → IsWithin offset_in_part bytes read → read ≡ Err e → offset_in_part e ≤ length bytes
 within-err bytes e read h is = subst (IsWithin offset_in_part bytes) is h

@@ -7,10 +7,7 @@ use Rattle.std.proofs.lemmas.List.{length-take}
 use Rattle.std.proofs.lemmas.Slice.Eq.{bytes_eq-Decides}
 use Rattle.sha2.specs.Sha256.{sha256}
 use Rattle.sha2.proofs.Facts256.{length-sha256}
-use Rattle.octets_core.specs.Position.{Position, start_of}
 use Rattle.octets_core.specs.Linked.{is_after}
-use Rattle.octets_core.specs.Reading.{number, key, digest}
-use Rattle.octets_core.specs.declared.field.Field.TheVariants as fields
 use Rattle.ident_core.specs.declared.kind.Kind.{Kind}
 use Rattle.ident_core.specs.declared.kind.Kind.TheVariants as kinds
 use Rattle.ident_core.specs.HeadFields.{HeadFields, zero_key}
@@ -25,7 +22,7 @@ use Rattle.part_codec.specs.declared.fault.PartFault.{PartFault}
 use Rattle.part_codec.specs.declared.fault.PartFault.TheVariants as faults
 use Rattle.octets_core.specs.Reading.{GivesUnless}
 use Rattle.part_codec.specs.SealedFields.{SealedFields}
-use Rattle.part_codec.specs.PartLayout.{kind_of, is_parent, body_of, head, block, unsealed, part}
+use Rattle.part_codec.specs.PartLayout.{kind_of, is_parent, head, block, unsealed, sealed, part}
 use Rattle.part_codec.specs.PartText.{kind_number, head_text, mode_of, block_text, unsealed_text, spelling}
 use Rattle.part_codec.proofs.MixedTexts.{body-read, body-leaves}
 use Rattle.part_codec.specs.Fitting.{FitsBlock, FitsHead, FitsPart, Fits}
@@ -59,10 +56,10 @@ parent_tells (suc n) parent le passed is = absurd cc
 is_one : (n : ℕ) → 1 ≤ n → n ≤ 1 → n ≡ 1
 is_one n low high = omega arith
 
-pub head-read : (before : List ℕ) (h : HeadFields) → FitsHead h → IsRead head before h (head_text h)
+pub head-read : (before : List ℕ) (h : HeadFields) → FitsHead h → IsRead head before h (head_text 1 h)
 unfolding head head_text
 head-read before h fits =
-    subst (λ (k : Kind). IsRead head before (record h { kind = k }) (head_text h)) (kind_back h.kind) (from_front
+    subst (λ (k : Kind). IsRead head before (record h { kind = k }) (head_text 1 h)) (kind_back h.kind) (from_front
     (reads _ (bytes_field-read _ _ 8 (bytes_eq (codes "CLUBCARD")) _ (codes "CLUBCARD") refl refl)
     (reads _ (number_field-read _ _ w8 (2 ^ 8) 1 1 wide8 _ 1 (omega arith) (omega arith) (omega arith))
     (reads _ (number_field-read _ _ w8 (2 ^ 8) 0 1 wide8 _ (kind_number h.kind) (omega arith) (kind_few h.kind) (omega (arith, kind_few h.kind)))
@@ -72,7 +69,7 @@ head-read before h fits =
     (reads _ (ranges-read _ h.ranges fits.ranges)
     (done _)))))))))
 
-pub head-leaves : (bytes : List ℕ) → IsBytes bytes → (at : ℕ) → Leaves head bytes at (λ h end. Takes bytes at (head_text h) end × FitsHead h)
+pub head-leaves : (bytes : List ℕ) → IsBytes bytes → (at : ℕ) → Leaves head bytes at (λ h end. Takes bytes at (head_text 1 h) end × FitsHead h)
 unfolding head head_text
 head-leaves bytes fits at =
     bytes_field-leaves _ _ 8 (bytes_eq (codes "CLUBCARD")) bytes at >>- λ begin p a.
@@ -110,17 +107,17 @@ mode_few (bodies.Mixed m) = omega arith
 pub block-read : (previous : Option (List ℕ)) (before : List ℕ) (b : Block) → FitsBlock previous b → IsRead (block previous) before b (block_text b)
 unfolding block
 block-read previous before b fits = from_front
-    (reads _ (mapped-read faults.Layout _ _ _ _ (bytes_field-read _ _ 32 (is_after previous) _ b.issuer fits.1.issuer fits.0))
-    (reads _ (mapped-read faults.Layout _ _ _ _ (number_field-read _ _ w8 (2 ^ 8) 0 2 wide8 _ (mode_of b.body) (omega arith) (mode_few b.body) (omega (arith, mode_few b.body))))
-    (reads _ (mapped-read faults.Layout (body_of (mode_of b.body)) _ _ _ (body-read _ b.body fits.1.body))
+    (reads _ (bytes_field-read _ _ 32 (is_after previous) _ b.issuer fits.1.issuer fits.0)
+    (reads _ (number_field-read _ _ w8 (2 ^ 8) 0 2 wide8 _ (mode_of b.body) (omega arith) (mode_few b.body) (omega (arith, mode_few b.body)))
+    (reads _ (body-read _ b.body fits.1.body)
     (done b))))
 
 pub block-leaves : (bytes : List ℕ) → IsBytes bytes → (previous : Option (List ℕ)) (at : ℕ) → Leaves (block previous) bytes at (λ b end. Takes bytes at (block_text b) end × FitsBlock previous b)
 unfolding block
 block-leaves bytes fits previous at =
-    mapped-leaves faults.Layout (key fields.BlockIssuer (is_after previous)) bytes at _ (bytes_field-leaves _ _ 32 (is_after previous) bytes at) >>- λ issuer p a.
-    mapped-leaves faults.Layout (number fields.BlockMode w8 0 2) bytes p _ (number_field-leaves _ _ w8 (2 ^ 8) 0 2 wide8 bytes fits p) >>- λ mode q b.
-    mapped-leaves faults.Layout (body_of mode) bytes q _ (body-leaves mode bytes fits q b.to_high b.takes.room) >>- λ body end c.
+    bytes_field-leaves _ _ 32 (is_after previous) bytes at >>- λ issuer p a.
+    number_field-leaves _ _ w8 (2 ^ 8) 0 2 wide8 bytes fits p >>- λ mode q b.
+    body-leaves mode bytes fits q b.to_high b.takes.room >>- λ body end c.
     whole-leaves _ bytes end _ (
       a.takes >>> Takes-as (to_be_bytes w8 mode) (to_be_bytes w8 (mode_of body)) (ap (to_be_bytes w8) (sym c.2)) b.takes >>> c.0,
       (a.passed, record { issuer = a.len; body = c.1 }),
@@ -137,16 +134,16 @@ block-facts previous b fits = fits.0
 pub unsealed-read : (p : PartFields) → FitsPart p → IsRead unsealed [] p (unsealed_text p)
 unfolding unsealed unsealed_text
 unsealed-read p fits = from_front
-    (reads _ (mapped-read faults.Layout head _ _ _ (head-read _ p.head fits.head))
-    (reads _ (mapped-read faults.Layout _ _ _ _ (number_field-read _ _ w32 (2 ^ 32) 0 MAX_BLOCKS wide32 _ (length p.blocks) (omega arith) fits.facts.few (omega (arith, fits.facts.few))))
+    (reads _ (head-read _ p.head fits.head)
+    (reads _ (number_field-read _ _ w32 (2 ^ 32) 0 MAX_BLOCKS wide32 _ (length p.blocks) (omega arith) fits.facts.few (omega (arith, fits.facts.few)))
     (reads _ (repeated-read block (λ previous b. Some b.issuer) FitsBlock block_text block-read None _ p.blocks fits.blocks)
     (done p))))
 
 pub unsealed-leaves : (bytes : List ℕ) → IsBytes bytes → Leaves unsealed bytes 0 (λ p end. Takes bytes 0 (unsealed_text p) end × FitsPart p)
 unfolding unsealed unsealed_text
 unsealed-leaves bytes fits =
-    mapped-leaves faults.Layout head bytes 0 _ (head-leaves bytes fits 0) >>- λ h p a.
-    mapped-leaves faults.Layout (number fields.PartIssuers w32 0 MAX_BLOCKS) bytes p _ (number_field-leaves _ _ w32 (2 ^ 32) 0 MAX_BLOCKS wide32 bytes fits p) >>- λ count q b.
+    head-leaves bytes fits 0 >>- λ h p a.
+    number_field-leaves _ _ w32 (2 ^ 32) 0 MAX_BLOCKS wide32 bytes fits p >>- λ count q b.
     repeated-leaves block (λ previous b. Some b.issuer) FitsBlock block_text bytes (block-leaves bytes fits) count None q b.takes.room >>- λ list end c.
     whole-leaves _ bytes end _ (
       a.0 >>> Takes-as (to_be_bytes w32 count) (to_be_bytes w32 (length list)) (ap (to_be_bytes w32) (sym c.2)) b.takes >>> c.0,
@@ -158,42 +155,32 @@ unsealed-leaves bytes fits =
     )
 
 -- the digest behind a part's text is that of the text
-sum_is : (bytes trailer text : List ℕ) (end : ℕ) → take end bytes ≡ text → bytes_eq (sha256 (take end bytes)) trailer ≡ true → trailer ≡ sha256 text
+pub sum_is : (bytes trailer text : List ℕ) (end : ℕ) → take end bytes ≡ text → bytes_eq (sha256 (take end bytes)) trailer ≡ true → trailer ≡ sha256 text
 sum_is bytes trailer text end front passed = sym ((bytes_eq-Decides (sha256 (take end bytes)) trailer).0 passed) ∙ ap sha256 front
 
-pub sealed-from : (bytes : List ℕ) → IsBytes bytes → (p : PartFields) (end : ℕ) (trailer : List ℕ) (after : ℕ)
-    → unsealed bytes 0 ≡ Ok (p, end) → digest fields.PartTrailer bytes end ≡ Ok (trailer, after) → trailer ≡ sha256 (unsealed_text p)
-sealed-from bytes fits p end trailer after front sum =
-    let a = (unsealed-leaves bytes fits).each (p, end) front in
-    let b = (sum_field-leaves _ _ 32 sha256 bytes end).each (trailer, after) sum in
-    sum_is bytes trailer (unsealed_text p) end a.0.parts b.passed
-
--- the same of a cursor that began at the first byte
-pub sealed-by_cursor : (bytes : List ℕ) → IsBytes bytes → (old new : Position) (p : PartFields) (trailer : List ℕ) (after : ℕ) → old ≡ start_of bytes
-    → (unsealed old.bytes old.at ≡ Ok (p, new.at)) × (new.bytes ≡ old.bytes) → digest fields.PartTrailer new.bytes new.at ≡ Ok (trailer, after) → trailer ≡ sha256 (unsealed_text p)
-sealed-by_cursor bytes fits old new p trailer after is front sum =
-    let same : new.bytes ≡ bytes = front.1 ∙ ap (λ (q : Position). q.bytes) is in
-    sealed-from bytes fits p new.at trailer after
-    (subst (λ (q : Position). unsealed q.bytes q.at ≡ Ok (p, new.at)) is front.0)
-    (subst (λ (l : List ℕ). digest fields.PartTrailer l new.at ≡ Ok (trailer, after)) same sum)
-
-sealed-read : (p : PartFields) → FitsPart p → IsRead part [] (record { part = p; trailer = sha256 (unsealed_text p) }) (unsealed_text p ++ sha256 (unsealed_text p))
-unfolding part
-sealed-read p fits = from_front
+sealed-one : (p : PartFields) → FitsPart p → IsRead sealed [] (record { part = p; trailer = sha256 (unsealed_text p) }) (unsealed_text p ++ sha256 (unsealed_text p))
+unfolding sealed
+sealed-one p fits = from_front
     (reads _ (unsealed-read p fits)
-    (reads _ (mapped-read faults.Layout _ _ _ _ (sum_field-read _ _ 32 sha256 length-sha256 _))
+    (reads _ (sum_field-read _ _ 32 sha256 length-sha256 _)
     (done (record { part = p; trailer = sha256 (unsealed_text p) }))))
 
-pub part-read : (s : SealedFields) → Fits s → IsRead part [] s (spelling s)
+pub sealed-read : (s : SealedFields) → Fits s → IsRead sealed [] s (spelling s)
 unfolding spelling
-part-read s fits = subst (λ (trailer : List ℕ). IsRead part [] (record { part = s.part; trailer = trailer }) (unsealed_text s.part ++ trailer)) (sym fits.trailer) (sealed-read s.part fits.part)
+sealed-read s fits = subst (λ (trailer : List ℕ). IsRead sealed [] (record { part = s.part; trailer = trailer }) (unsealed_text s.part ++ trailer)) (sym fits.trailer) (sealed-one s.part fits.part)
+
+pub part-read : (s : SealedFields) → Fits s → IsRead part [] s (spelling s)
+part-read s fits = mapped-read faults.Layout sealed [] s (spelling s) (sealed-read s fits)
+
+pub sealed-leaves : (bytes : List ℕ) → IsBytes bytes → Leaves sealed bytes 0 (λ s end. Takes bytes 0 (spelling s) end × Fits s)
+unfolding sealed spelling
+sealed-leaves bytes fits =
+    unsealed-leaves bytes fits >>- λ p q a.
+    sum_field-leaves _ _ 32 sha256 bytes q >>- λ trailer end b.
+    whole-leaves _ bytes end _ (a.0 >>> b.takes, record { part = a.1; trailer = sum_is bytes trailer (unsealed_text p) q a.0.parts b.passed })
 
 pub part-leaves : (bytes : List ℕ) → IsBytes bytes → Leaves part bytes 0 (λ s end. Takes bytes 0 (spelling s) end × Fits s)
-unfolding part spelling
-part-leaves bytes fits =
-    unsealed-leaves bytes fits >>- λ p q a.
-    mapped-leaves faults.Layout (digest fields.PartTrailer) bytes q _ (sum_field-leaves _ _ 32 sha256 bytes q) >>- λ trailer end b.
-    whole-leaves _ bytes end _ (a.0 >>> b.takes, record { part = a.1; trailer = sum_is bytes trailer (unsealed_text p) q a.0.parts b.passed })
+part-leaves bytes fits = mapped-leaves faults.Layout sealed bytes 0 _ (sealed-leaves bytes fits)
 
 -- ---- what a decoder gives
 

@@ -11,7 +11,9 @@ use Rattle.ident_core.specs.HeadFields.{HeadFields, IsHead}
 use Rattle.ident_core.specs.RangeText.{FitsRange}
 use Rattle.card_core.specs.declared.block.Block.{Block}
 use Rattle.card_core.specs.declared.block.Body.{Body}
-use Rattle.card_core.specs.declared.block.Body.TheVariants as bodies
+use Rattle.card_core.specs.declared.leaf.Leaf.{Leaf}
+use Rattle.card_core.specs.declared.leaf.Leaf.TheVariants as leaves
+use Rattle.card_core.specs.Filter.{leaf_of}
 use Rattle.card_core.specs.declared.stage.Stage.{Stage}
 use Rattle.card_core.specs.MixedFields.{MixedFields}
 use Rattle.card_core.specs.PartFields.{PartFields, IsPart}
@@ -44,10 +46,14 @@ pub record MixedFits (m : MixedFields) : Type 0 where
   pub exact : StageFits m.exact
   pub one : length m.exact.planes.columns ≡ 1
 
+abbrev pub LeafFits : Leaf → Type 0
+LeafFits leaves.Clean = Unit {0}
+LeafFits leaves.Every = Unit {0}
+LeafFits (leaves.Mixed m) = MixedFits m
+
+-- a block is one leaf
 abbrev pub BodyFits : Body → Type 0
-BodyFits bodies.Clean = Unit {0}
-BodyFits bodies.Every = Unit {0}
-BodyFits (bodies.Mixed m) = MixedFits m
+BodyFits body = LeafFits (leaf_of body)
 
 -- the issuer is a key
 pub record BlockFits (b : Block) : Type 0 where

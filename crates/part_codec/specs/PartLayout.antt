@@ -23,7 +23,9 @@ use Rattle.ident_core.specs.HeadFields.{HeadFields, zero_key}
 use Rattle.ident_core.specs.RangeLayout.{ranges}
 use Rattle.card_core.specs.declared.block.Block.{Block}
 use Rattle.card_core.specs.declared.block.Body.{Body}
-use Rattle.card_core.specs.declared.block.Body.TheVariants as bodies
+use Rattle.card_core.specs.declared.leaf.Leaf.{Leaf}
+use Rattle.card_core.specs.declared.leaf.Leaf.TheVariants as leaves
+use Rattle.card_core.specs.Filter.{as_body}
 use Rattle.card_core.specs.declared.part.TheConstants.{MAX_BLOCKS}
 use Rattle.card_core.specs.declared.stage.Stage.{Stage}
 use Rattle.card_core.specs.MixedFields.{MixedFields}
@@ -109,36 +111,47 @@ mixed = do
   second ← exact
   whole (record { approx = first; exact = second })
 
--- none, all or mixed
-abbrev pub body_of : ℕ → Layout LayoutFault Body
-body_of zero = whole bodies.Clean
-body_of (suc zero) = whole bodies.Every
-body_of (suc (suc n)) = do
+-- a leaf of a mode: none, all or mixed
+abbrev pub leaf : ℕ → Layout LayoutFault Leaf
+leaf zero = whole leaves.Clean
+leaf (suc zero) = whole leaves.Every
+leaf (suc (suc n)) = do
   m ← mixed
-  whole (bodies.Mixed m)
+  whole (leaves.Mixed m)
+
+-- a block is one leaf
+abbrev pub body_of : ℕ → Layout LayoutFault Body
+body_of mode = do
+  l ← leaf mode
+  whole (as_body l)
 
 -- behind an issuer, if there is one before it
-unfoldable pub block : Option (List ℕ) → Layout PartFault Block
+unfoldable pub block : Option (List ℕ) → Layout LayoutFault Block
 block previous = do
-  issuer ← fielded (key fields.BlockIssuer (is_after previous))
-  mode ← fielded (number fields.BlockMode w8 0 2)
-  body ← fielded (body_of mode)
+  issuer ← key fields.BlockIssuer (is_after previous)
+  mode ← number fields.BlockMode w8 0 2
+  body ← body_of mode
   whole (record { issuer = issuer; body = body })
 
 -- so many blocks
-abbrev pub blocks : ℕ → Layout PartFault (List Block)
+abbrev pub blocks : ℕ → Layout LayoutFault (List Block)
 blocks count = repeated block (λ previous b. Some b.issuer) count None
 
 -- all but the trailer
-unfoldable pub unsealed : Layout PartFault PartFields
+unfoldable pub unsealed : Layout LayoutFault PartFields
 unsealed = do
-  h ← fielded head
-  count ← fielded (number fields.PartIssuers w32 0 MAX_BLOCKS)
+  h ← head
+  count ← number fields.PartIssuers w32 0 MAX_BLOCKS
   list ← blocks count
   whole (record { head = h; blocks = list })
 
-unfoldable pub part : Layout PartFault SealedFields
-part = do
+-- a part with its trailer
+unfoldable pub sealed : Layout LayoutFault SealedFields
+sealed = do
   p ← unsealed
-  trailer ← fielded (digest fields.PartTrailer)
+  trailer ← digest fields.PartTrailer
   whole (record { part = p; trailer = trailer })
+
+-- the same, for a function that also wants memory
+abbrev pub part : Layout PartFault SealedFields
+part = fielded sealed

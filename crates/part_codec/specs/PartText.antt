@@ -9,7 +9,9 @@ use Rattle.ident_core.specs.HeadFields.{HeadFields}
 use Rattle.ident_core.specs.RangeText.{range_text}
 use Rattle.card_core.specs.declared.block.Block.{Block}
 use Rattle.card_core.specs.declared.block.Body.{Body}
-use Rattle.card_core.specs.declared.block.Body.TheVariants as bodies
+use Rattle.card_core.specs.declared.leaf.Leaf.{Leaf}
+use Rattle.card_core.specs.declared.leaf.Leaf.TheVariants as leaves
+use Rattle.card_core.specs.Filter.{leaf_of}
 use Rattle.card_core.specs.declared.stage.Stage.{Stage}
 use Rattle.card_core.specs.MixedFields.{MixedFields}
 use Rattle.card_core.specs.PartFields.{PartFields}
@@ -20,15 +22,20 @@ abbrev pub kind_number : Kind → ℕ
 kind_number kinds.Snapshot = 0
 kind_number kinds.Delta = 1
 
-unfoldable pub head_text : HeadFields → List ℕ
-head_text h =
-    codes "CLUBCARD" ++ to_be_bytes w8 1 ++ to_be_bytes w8 (kind_number h.kind) ++ to_be_bytes w64 h.epoch ++ h.parent
+-- of a version
+unfoldable pub head_text : ℕ → HeadFields → List ℕ
+head_text version h =
+    codes "CLUBCARD" ++ to_be_bytes w8 version ++ to_be_bytes w8 (kind_number h.kind) ++ to_be_bytes w64 h.epoch ++ h.parent
     ++ to_be_bytes w16 (length h.ranges) ++ flat_map range_text h.ranges
 
+abbrev pub leaf_mode : Leaf → ℕ
+leaf_mode leaves.Clean = 0
+leaf_mode leaves.Every = 1
+leaf_mode (leaves.Mixed m) = 2
+
+-- a block is one leaf
 abbrev pub mode_of : Body → ℕ
-mode_of bodies.Clean = 0
-mode_of bodies.Every = 1
-mode_of (bodies.Mixed m) = 2
+mode_of body = leaf_mode (leaf_of body)
 
 -- the starts, and plane after plane
 unfoldable pub planes_text : PlaneColumns → List ℕ
@@ -50,17 +57,20 @@ unfoldable pub mixed_text : MixedFields → List ℕ
 mixed_text m = to_be_bytes w8 (width_of m.approx) ++ approx_text m.approx ++ stage_text m.exact
 
 -- what follows the mode
+abbrev pub leaf_text : Leaf → List ℕ
+leaf_text leaves.Clean = []
+leaf_text leaves.Every = []
+leaf_text (leaves.Mixed m) = mixed_text m
+
 abbrev pub body_text : Body → List ℕ
-body_text bodies.Clean = []
-body_text bodies.Every = []
-body_text (bodies.Mixed m) = mixed_text m
+body_text body = leaf_text (leaf_of body)
 
 abbrev pub block_text : Block → List ℕ
 block_text b = b.issuer ++ to_be_bytes w8 (mode_of b.body) ++ body_text b.body
 
 -- all but the trailer
 unfoldable pub unsealed_text : PartFields → List ℕ
-unsealed_text p = head_text p.head ++ to_be_bytes w32 (length p.blocks) ++ flat_map block_text p.blocks
+unsealed_text p = head_text 1 p.head ++ to_be_bytes w32 (length p.blocks) ++ flat_map block_text p.blocks
 
 unfoldable pub spelling : SealedFields → List ℕ
 spelling s = unsealed_text s.part ++ s.trailer

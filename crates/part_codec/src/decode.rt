@@ -13,7 +13,7 @@ ghost use Rattle.part_codec.specs.SealedFields.{SealedFields};
 ghost use Rattle.part_codec.specs.PartLayout.{Reads, fielded, head, kind_of, is_parent, plane_bytes as plane_layout};
 ghost use Rattle.part_codec.specs.PartLayout.{columns as columns_layout, planes as planes_layout};
 ghost use Rattle.part_codec.specs.PartLayout.{approx as approx_layout, exact as exact_layout, mixed as mixed_layout};
-ghost use Rattle.part_codec.specs.PartLayout.{body_of as body_layout, block, blocks as blocks_layout, unsealed, part};
+ghost use Rattle.part_codec.specs.PartLayout.{leaf as leaf_layout, body_of as body_layout, block, blocks as blocks_layout, unsealed, part};
 ghost use Rattle.part_codec.specs.PlaneBytes.{is_padded as are_padded};
 ghost use Rattle.part_codec.specs.PartText.{spelling};
 ghost use Rattle.part_codec.specs.Fitting.{Fits};
@@ -21,7 +21,7 @@ ghost use Rattle.part_codec.specs.Offsets.{offset_in_part};
 
 use crate::fault::PartFault;
 use crate::sealed::Sealed;
-use card_core::{Block, Body, MAX_BLOCKS, Mixed, Part, Stage};
+use card_core::{Block, Body, Leaf, MAX_BLOCKS, Mixed, Part, Stage};
 use equation_core::{MAX_PLANES, MAX_STARTS, words_for};
 use ident_core::{Head, Kind, MAX_RANGES, read_ranges};
 use octets_core::{
@@ -218,14 +218,22 @@ fn mixed_of(alloc: Global, cursor: &mut Cursor<'_>) -> Result<Mixed, PartFault>
     Ok(Mixed::new(approx, exact))
 }
 
+fn leaf_of(alloc: Global, cursor: &mut Cursor<'_>, mode: u8) -> Result<Leaf, PartFault>
+    ensures { Reads (λ leaf. leaf) (fielded (leaf_layout mode)) cursor.old cursor.new result }
+{
+    match mode {
+        0 => Ok(Leaf::Clean),
+        1 => Ok(Leaf::Every),
+        _ => Ok(Leaf::Mixed(mixed_of(alloc, cursor)?)),
+    }
+}
+
+/// A block is one leaf.
 fn body_of(alloc: Global, cursor: &mut Cursor<'_>, mode: u8) -> Result<Body, PartFault>
     ensures { Reads (λ body. body) (fielded (body_layout mode)) cursor.old cursor.new result }
 {
-    match mode {
-        0 => Ok(Body::Clean),
-        1 => Ok(Body::Every),
-        _ => Ok(Body::Mixed(mixed_of(alloc, cursor)?)),
-    }
+    let leaf = leaf_of(alloc, cursor, mode)?;
+    Ok(Body::from(leaf))
 }
 
 #[tactic(auto, unfolding(crate::specs::PartLayout::block))]
@@ -234,7 +242,7 @@ fn block_of(
     cursor: &mut Cursor<'_>,
     previous: Option<Key32>,
 ) -> Result<Block, PartFault>
-    ensures { Reads (λ block. block) (block previous) cursor.old cursor.new result }
+    ensures { Reads (λ block. block) (fielded (block previous)) cursor.old cursor.new result }
 {
     let issuer = issuer_of(cursor, previous)?;
     let mode = read_u8(cursor, Field::BlockMode, 0, 2)?;
@@ -243,7 +251,7 @@ fn block_of(
 }
 
 fn blocks_of(alloc: Global, cursor: &mut Cursor<'_>, count: u32) -> Result<Vec<Block>, PartFault>
-    ensures exact { Reads (λ v. v.items) (blocks_layout count) cursor.old cursor.new result }
+    ensures exact { Reads (λ v. v.items) (fielded (blocks_layout count)) cursor.old cursor.new result }
     ensures facts { IfOk result (λ v. AreBlocks v.items × (length v.items ≡ count)) }
 {
     let mut blocks = Vec::with_capacity(alloc, count as usize)?;
@@ -258,7 +266,7 @@ fn blocks_of(alloc: Global, cursor: &mut Cursor<'_>, count: u32) -> Result<Vec<B
 
 #[tactic(auto, unfolding(crate::specs::PartLayout::unsealed))]
 fn unsealed_of(alloc: Global, cursor: &mut Cursor<'_>) -> Result<Part, PartFault>
-    ensures { Reads (λ p. p) unsealed cursor.old cursor.new result }
+    ensures { Reads (λ p. p) (fielded unsealed) cursor.old cursor.new result }
 {
     let head = head_of(alloc, cursor)?;
     let count = read_u32(cursor, Field::PartIssuers, 0, MAX_BLOCKS)?;
@@ -266,7 +274,7 @@ fn unsealed_of(alloc: Global, cursor: &mut Cursor<'_>) -> Result<Part, PartFault
     Ok(Part::new(head, blocks))
 }
 
-#[tactic(auto, unfolding(crate::specs::PartLayout::part))]
+#[tactic(auto, unfolding(crate::specs::PartLayout::sealed))]
 fn sealed_of(alloc: Global, bytes: &[u8]) -> Result<(Sealed, usize), PartFault>
     ensures { GivesUnless PartFault.NoMemory (λ x. x) result (part bytes.now 0) }
 {

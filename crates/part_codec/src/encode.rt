@@ -33,12 +33,12 @@ const MAX_STAGE: usize = 10_000_000;
 const MAX_BLOCK: usize = 34 + 2 * MAX_STAGE;
 
 #[tactic(auto, unfolding(crate::specs::PartText::head_text))]
-fn put_head(out: &mut Vec<u8>, head: &Head) -> Result<(), NoMemory>
-    ensures text { OnOk result (out.new.items ≡ out.old.items ++ head_text head.now) }
+fn put_head(out: &mut Vec<u8>, version: u8, head: &Head) -> Result<(), NoMemory>
+    ensures text { OnOk result (out.new.items ≡ out.old.items ++ head_text version head.now) }
     ensures fits { OnOk result (FitsHead head.now) }
 {
     put_bytes(out, b"CLUBCARD")?;
-    put_u8(out, 1)?;
+    put_u8(out, version)?;
     put_u8(out, kind_byte(head.kind()))?;
     put_u64(out, head.epoch())?;
     put_bytes(out, head.parent().bytes())?;
@@ -150,7 +150,7 @@ fn put_unsealed(out: &mut Vec<u8>, part: &Part) -> Result<(), NoMemory>
     ensures text { OnOk result (out.new.items ≡ out.old.items ++ unsealed_text part.now) }
     ensures fits { OnOk result (FitsPart part.now) }
 {
-    put_head(out, part.head())?;
+    put_head(out, 1, part.head())?;
     let blocks = part.blocks();
     put_u32(out, blocks.len() as u32)?;
     put_blocks(out, blocks)?;

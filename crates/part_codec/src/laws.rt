@@ -2,7 +2,8 @@
 
 ghost use Rattle.std.specs.Prelude.{◌≡◌, ◌++◌, ℕ, List, length, Ok};
 ghost use Rattle.part_codec.specs.SealedFields.{SealedFields};
-ghost use Rattle.part_codec.specs.PartLayout.{part};
+ghost use Rattle.octets_core.specs.OfFields.{IsOfFields, IsShort};
+ghost use Rattle.part_codec.specs.PartLayout.{part, sealed};
 ghost use Rattle.part_codec.specs.PartText.{spelling};
 ghost use Rattle.part_codec.specs.Fitting.{Fits};
 
@@ -10,4 +11,10 @@ ghost use Rattle.part_codec.specs.Fitting.{Fits};
 /// fits.
 pub fn a_text_is_read_back()
     ensures { (s : SealedFields) (rest : List ℕ) → Fits s → part (spelling s ++ rest) 0 ≡ Ok (s, length (spelling s)) }
+{}
+
+/// A part is a list of fields, each with a width and a test that depend on the fields before it alone: bytes behind
+/// those that were read change neither the part nor the fault, unless a field was short.
+pub fn bytes_behind_change_nothing()
+    ensures { IsOfFields IsShort sealed }
 {}

@@ -11,5 +11,5 @@ mod sealed;
 pub use decode::decode_part;
 pub use encode::encode_part;
 pub use fault::PartFault;
-pub use laws::a_text_is_read_back;
+pub use laws::{a_text_is_read_back, bytes_behind_change_nothing};
 pub use sealed::{Sealed, seal};

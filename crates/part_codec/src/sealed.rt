@@ -101,11 +101,11 @@ fn hash_ranges(hasher: &mut Sha256, ranges: &[Range])
 }
 
 #[tactic(auto, unfolding(crate::specs::PartText::head_text))]
-fn hash_head(hasher: &mut Sha256, head: &Head)
-    ensures { Hashed hasher.old hasher.new (head_text head.now) }
+fn hash_head(hasher: &mut Sha256, version: u8, head: &Head)
+    ensures { Hashed hasher.old hasher.new (head_text version head.now) }
 {
     hasher.update(b"CLUBCARD");
-    hasher.update(&[1]);
+    hash_u8(hasher, version);
     hasher.update(&[kind_byte(head.kind())]);
     hasher.update(&head.epoch().to_be_bytes());
     hasher.update(head.parent().bytes());
@@ -204,7 +204,7 @@ fn digest_of(part: &Part) -> Key32
     ensures { result ≡ sha256 (unsealed_text part.now) }
 {
     let mut hasher = Sha256::new();
-    hash_head(&mut hasher, part.head());
+    hash_head(&mut hasher, 1, part.head());
     let blocks = part.blocks();
     hasher.update(&(blocks.len() as u32).to_be_bytes());
     hash_blocks(&mut hasher, blocks);

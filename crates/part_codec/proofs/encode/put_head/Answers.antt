@@ -12,7 +12,7 @@ pub returns-clause-text : goal.returns-clause-text
 unfolding head_text
 returns-clause-text c =
     let h = c.args.head.now in
-    appended-seven c.args.out.now.items (codes "CLUBCARD") (to_be_bytes w8 1) (to_be_bytes w8 (kind_number h.kind)) (to_be_bytes w64 h.epoch) h.parent
+    appended-seven c.args.out.now.items (codes "CLUBCARD") (to_be_bytes w8 c.args.version) (to_be_bytes w8 (kind_number h.kind)) (to_be_bytes w64 h.epoch) h.parent
     (to_be_bytes w16 (length h.ranges)) (flat_map range_text h.ranges)
     c.put_bytes.new.out.items c.put_u8.new.out.items c.put_u8-2.new.out.items c.put_u64.new.out.items c.put_bytes-2.new.out.items c.put_u16.new.out.items c.put_ranges.new.out.items
     c.in_ok-put_bytes.ensures.ok
