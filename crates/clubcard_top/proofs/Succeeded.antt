@@ -20,7 +20,7 @@ use Rattle.store_core.specs.declared.chain.Refusal.{Refusal}
 use Rattle.store_core.specs.Chain.{newest_of, refusal_of}
 use Rattle.store_core.specs.StoreLayout.{store_text}
 use Rattle.publication_core.specs.declared.fault.PublishFault.{PublishFault}
-use Rattle.publication_core.specs.Publishing.{Published as Publication, Publishes}
+use Rattle.publication_core.specs.Publishing.{Published as Publication, CanBePublished, Publishes}
 use Rattle.publication_core.specs.Histories.{IsAdmissible, IsHistory, history, part_bytes, store_bytes, ledger_bytes}
 use Rattle.word_core.specs.declared.command.Command.{Command}
 use Rattle.word_core.specs.declared.command.Command.TheVariants as commands
@@ -37,7 +37,7 @@ use Rattle.clubcard_top.specs.Replies.{held_by}
 use Rattle.clubcard_top.specs.Runs.{with_outputs}
 use Rattle.clubcard_top.specs.Calls.{Call, Reads, Holds, Writes, ChangesNoFile, Prints, NoFault}
 use Rattle.clubcard_top.specs.Endings.{Succeeds, Did, WantedMemory}
-use Rattle.clubcard_top.specs.Successes.{PublishesFile, CanBePublished}
+use Rattle.clubcard_top.specs.Successes.{PublishesFile}
 use Rattle.clubcard_top.specs.Headline.{AsksHistory, IsPublished, IsRehearsed, IsStored, PublishesJob, RehearsesJobs}
 use Rattle.clubcard_top.specs.Headline.{StoresPart, publishes_to, stores_to, truth_line, truth_done, Published, Stored}
 use Rattle.clubcard_top.specs.Headline.{AsksToPublish, AsksToStore, AsksTruth, AsksToRehearse}
@@ -163,6 +163,9 @@ abbrev pub OneOutcome : Type 0
 OneOutcome =
     (command : Command) (inputs : List (Option (List ℕ))) (a b : Result Done NamedFault) → Makes command inputs a
     → Makes command inputs b → a ≡ b
+
+abbrev pub Publishable : Type 0
+Publishable = (before : LedgerFields) (job : JobFields) → CanBePublished before job → (made : Publication) × Publishes before job (Ok made)
 
 -- ---- each command
 
@@ -355,7 +358,7 @@ module _ (call : Call) where
       let same : others ≡ files = some_same others files (sym told_so ∙ told) in
       ap (input name read) (ap (λ (f : Files). get f name) (sym same) ∙ held) ∙ ap (named name) is
 
-  module _ (one : OneOutcome) (ends : EndsOld call) where
+  module _ (one : OneOutcome) (publishable : Publishable) (ends : EndsOld call) where
     -- what is sure to come of the command that was asked
     sure_of : (command : Command) (files : Files) (d : Done) → call.files_before ≡ Some files → call.asked ≡ command
         → (command ≡ commands.Usage → ⊥)
@@ -370,7 +373,9 @@ module _ (call : Call) where
 
     pub snapshot_complete : (s : SnapshotFields) (job : JobFields) → call.asked ≡ commands.Snapshot s
         → Reads call s.job job_in job → CanBePublished no_ledger job → NoFault call → Succeeds call ⊎ WantedMemory call
-    snapshot_complete s job asked (bytes, (files, told, held), is) (made, x) quiet =
+    snapshot_complete s job asked (bytes, (files, told, held), is) can quiet =
+        let made = (publishable no_ledger job can).0 in
+        let x = (publishable no_ledger job can).1 in
         let job_is = read_in files told s.job job_in job (bytes, (files, told, held), is) in
         let d = publication_done s.part s.ledger made in
         sure_of (commands.Snapshot s) files d told asked
@@ -383,7 +388,9 @@ module _ (call : Call) where
     pub delta_complete : (t : DeltaFields) (before : LedgerFields) (job : JobFields) → call.asked ≡ commands.Delta t
         → Reads call t.ledger ledger_in before → Reads call t.job job_in job → CanBePublished before job → NoFault call
         → Succeeds call ⊎ WantedMemory call
-    delta_complete t before job asked ledger_reads (bytes, (files, told, held), is) (made, x) quiet =
+    delta_complete t before job asked ledger_reads (bytes, (files, told, held), is) can quiet =
+        let made = (publishable before job can).0 in
+        let x = (publishable before job can).1 in
         let job_is = read_in files told t.job job_in job (bytes, (files, told, held), is) in
         let ledger_is = read_in files told t.ledger ledger_in before ledger_reads in
         let d = publication_done t.part t.new_ledger made in
@@ -548,15 +555,15 @@ module _ (call : Call) where
           left did.files a.done (rehearsed l.0 l.1 l.2) l.5 a.files_are ∙ sym did.told,
         )
 
-    pub successes : OneOutcome → IsApart call.asked → Successes call
-    successes one apart = record {
+    pub successes : OneOutcome → Publishable → IsApart call.asked → Successes call
+    successes one publishable apart = record {
       query = query ends;
       check = λ name did. let c = check ends name did in (c.0.0, c.0.1, c.1, c.2, c.3);
       show = λ name did. let c = show ends name did in (c.0.0, (c.0.1, c.1), c.2, c.3);
       snapshot = snapshot apart ends;
-      snapshot_complete = snapshot_complete one ends;
+      snapshot_complete = snapshot_complete one publishable ends;
       delta = delta apart ends;
-      delta_complete = delta_complete one ends;
+      delta_complete = delta_complete one publishable ends;
       start = λ t did. let c = start ends t did in (c.0.0, (c.0.1, c.1), c.2, record { holds = c.3; prints = c.4 });
       install = λ i did.
           let c = install ends i did in (

@@ -15,6 +15,7 @@ use Rattle.store_core.specs.declared.chain.Refusal.{Refusal}
 use Rattle.store_core.specs.Chain.{refusal_of}
 use Rattle.store_core.specs.Verdict.{verdict}
 use Rattle.publication_core.specs.Histories.{IsAdmissible, IsHistory, history}
+use Rattle.publication_core.specs.Publishing.{CanBePublished}
 use Rattle.word_core.specs.declared.command.Command.TheVariants as commands
 use Rattle.word_core.specs.CommandFields.{QueryFields, SnapshotFields, DeltaFields, StartFields, InstallFields}
 use Rattle.word_core.specs.CommandFields.{RehearseFields, SampleFields}
@@ -31,7 +32,7 @@ use Rattle.clubcard_top.specs.Calls.{Call, FilesAreTold, Reads, Holds, Writes, C
 use Rattle.clubcard_top.specs.Calls.{NoReadFailed, CouldNotRead}
 use Rattle.clubcard_top.specs.Endings.{Succeeds, Did, GivesTheReply, WantedMemory, SinkFailed, Torn, IsAnswer, Ends}
 use Rattle.clubcard_top.specs.Endings.{MustSucceed, MustGive}
-use Rattle.clubcard_top.specs.Successes.{ReadsPart, PublishesFile, CanBePublished, NewStore}
+use Rattle.clubcard_top.specs.Successes.{ReadsPart, PublishesFile, NewStore}
 use Rattle.clubcard_top.specs.Headline.{AsksToPublish, AsksToStore, AsksTruth, AsksToRehearse, truth_line}
 use Rattle.clubcard_top.specs.Headline.{Published, Stored, IsRehearsed}
 use Rattle.clubcard_top.specs.Refusals.{Comes, Refused}

@@ -1,4 +1,4 @@
--- What comes of a command that succeeds, and which job can be published.
+-- What comes of a command that succeeds.
 use Rattle.std.specs.Prelude.{ℕ, List, [], ◌∷◌, ◌++◌, length, Ok}
 use Rattle.part_codec.specs.SealedFields.{SealedFields}
 use Rattle.part_codec.specs.PartText.{spelling}
@@ -25,10 +25,6 @@ pub record PublishesFile (call : Call) (before : LedgerFields) (job part ledger 
   pub prints : Prints call (report_line made.sealed.part.head.epoch made.place made.counts)
   pub part_holds : Holds call part (spelling made.sealed)
   pub ledger_holds : Holds call ledger (ledger_text made.ledger)
-
--- The job can be published behind this ledger: nothing refuses it, and each enrolled issuer has a block.
-abbrev pub CanBePublished : LedgerFields → JobFields → Type 0
-CanBePublished before job = (made : Publication) × Publishes before job (Ok made)
 
 -- The number of parts and the newest one's epoch were printed, and STORE holds these parts with this one behind them.
 pub record NewStore (call : Call) (store : List ℕ) (parts : List SealedFields) (s : SealedFields) : Type 0 where

@@ -5,7 +5,9 @@ ghost use Rattle.outside_core.specs.Files.{Files};
 ghost use Rattle.query_core.specs.Queries.{Query};
 ghost use Rattle.part_codec.specs.SealedFields.{SealedFields};
 ghost use Rattle.job_core.specs.JobFields.{JobFields};
+ghost use Rattle.ledger_core.specs.LedgerFields.{LedgerFields};
 ghost use Rattle.publication_core.specs.Histories.{IsAdmissible, IsHistory, history};
+ghost use Rattle.publication_core.specs.Publishing.{CanBePublished, Published, Publishes};
 ghost use Rattle.word_core.specs.declared.command.Command.{Command};
 ghost use Rattle.word_core.specs.CommandFields.{QueryFields, RehearseFields};
 ghost use Rattle.word_core.specs.Names.{inputs_of, outputs_of};
@@ -19,7 +21,7 @@ ghost use Rattle.clubcard_top.specs.Headline.{RehearsesJobs, IsRehearsed};
 
 use publication_core::{
     histories_are_published, ledgers_are_read_back, parts_are_chains, publications_are_unique,
-    verdicts_are_the_truth,
+    verdicts_are_the_truth, what_can_be_is_published,
 };
 use store_core::{chains_grow, stores_are_read_back};
 
@@ -37,7 +39,7 @@ pub fn replies_are_unique()
 /// What comes of commands over the files of histories. A job that is published behind a history makes a history with
 /// it, whose part and ledger are written; each admissible job is published. A part of a history is added to the store
 /// of those before it. The store of a history, asked with accepted sightings, answers the truth. Jobs that are
-/// rehearsed are a history, and each history is rehearsed.
+/// rehearsed are a history, and each history is rehearsed. Behind any ledger, what can be published is.
 pub fn histories_are_made()
     ensures published { (command : Command) (files : Files)
         (jobs : List JobFields) (parts : List SealedFields) (job : JobFields) (d : Done)
@@ -64,6 +66,8 @@ pub fn histories_are_made()
         (jobs : List JobFields) (parts : List SealedFields) (o : Result Done NamedFault)
         → IsHistory jobs parts → RehearsesJobs command files queries jobs
         → Makes command (held_by command files) o → o ≡ Ok (rehearsed queries jobs parts) }
+    ensures publishable { (before : LedgerFields) (job : JobFields) → CanBePublished before job
+        → (made : Published) × Publishes before job (Ok made) }
 {
     publications_are_unique();
     histories_are_published();
@@ -72,6 +76,7 @@ pub fn histories_are_made()
     verdicts_are_the_truth();
     chains_grow();
     stores_are_read_back();
+    what_can_be_is_published();
     part_codec::a_text_is_read_back();
 }
 

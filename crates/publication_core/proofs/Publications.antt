@@ -1,7 +1,10 @@
 -- What is published behind the ledger of a history is that of the history.
-use Rattle.std.proofs.Common.{◌≡◌, List, [], ◌∷◌, ◌++◌, map, length, Ok, refl, sym, ap, ◌∙◌, subst, arith}
+use Rattle.std.proofs.Common.{◌≡◌, ◌+◌, List, [], ◌∷◌, ◌++◌, map, length, None, Ok, refl, sym, ap, ◌∙◌, subst, arith, add-one}
+use Rattle.std.specs.List.{Contains}
 use Rattle.sha2.specs.Sha256.{sha256}
 use Rattle.equation_core.specs.Rows.{sha256_row}
+use Rattle.card_core.specs.declared.block.Block.{Block}
+use Rattle.card_core.specs.PartFields.{PartFields}
 use Rattle.part_codec.specs.SealedFields.{SealedFields}
 use Rattle.part_codec.specs.PartText.{unsealed_text}
 use Rattle.job_core.specs.declared.bounds.TheConstants.Limits.{PUBLISHED}
@@ -12,12 +15,13 @@ use Rattle.universe_core.specs.History.{Release, past_of}
 use Rattle.universe_core.specs.Groups.{GroupFields}
 use Rattle.universe_core.specs.Ledgers.{next_ledger, part_from, ledger_of}
 use Rattle.universe_core.specs.Counting.{counts}
-use Rattle.universe_core.specs.Step.{head_after, counts_after}
+use Rattle.universe_core.specs.Step.{refusal, head_after, groups_after, counts_after}
 use Rattle.history_core.specs.Facts.{IsSound}
 use Rattle.history_core.proofs.Ledger.{next_is, groups_are, counts_are}
-use Rattle.builder_core.specs.Building.{AreGroupBlocks}
+use Rattle.ledger_core.specs.LedgerFields.{LedgerFields}
+use Rattle.builder_core.specs.Building.{IsGroupBlock, AreGroupBlocks}
 use Rattle.publication_core.specs.Histories.{IsPartOf, IsAdmissible, IsHistory, history}
-use Rattle.publication_core.specs.Publishing.{Published, IsPublication, Publishes}
+use Rattle.publication_core.specs.Publishing.{CanBePublished, Published, IsPublication, Publishes}
 use Rattle.publication_core.proofs.Histories.{history_push, admissible_push, history_length, history_sound}
 use Rattle.publication_core.proofs.Admitting.{admitted, not_refused, parts_many}
 
@@ -32,6 +36,36 @@ part_of_history rs job p sound is = record {
   blocks = subst (λ (gs : List GroupFields). AreGroupBlocks sha256_row gs p.sealed.part.blocks) (groups_are rs sound (facts_of job) []) is.blocks;
   trailer = is.trailer;
 }
+
+-- A job that is admitted behind a ledger, with a block for each group, is published.
+admitted_published : (ledger : LedgerFields) (job : JobFields) → refusal PUBLISHED ledger job ≡ None
+    → (blocks : List Block) → AreGroupBlocks sha256_row (groups_after ledger (facts_of job)) blocks
+    → (p : Published) × Publishes ledger job (Ok p)
+admitted_published ledger job none blocks are =
+    let made : PartFields = record { head = head_after ledger.parts (facts_of job); blocks = blocks } in
+    let sealed : SealedFields = record { part = made; trailer = sha256 (unsealed_text made) } in (
+      record {
+        place = length ledger.parts;
+        sealed = sealed;
+        ledger = next_ledger ledger (facts_of job) sealed.trailer;
+        counts = counts_after ledger (facts_of job);
+      },
+      (none, record { place = refl; head = refl; blocks = are; trailer = refl; next = refl; counts = refl }),
+    )
+
+-- a block for each of the groups, as a list
+blocks_of_each : (groups : List GroupFields) → ((g : GroupFields) → Contains groups g → (block : Block) × IsGroupBlock sha256_row g block)
+    → (blocks : List Block) × AreGroupBlocks sha256_row groups blocks
+blocks_of_each [] each = ([], tt)
+blocks_of_each (g ∷ groups) each =
+    let first = each g (0, omega arith, refl) in
+    let rest = blocks_of_each groups (λ h c. each h (c.0 + 1, omega (arith, c.1), rw add-one c.2)) in
+    (first.0 ∷ rest.0, (first.1, rest.1))
+
+pub can_be_published : (ledger : LedgerFields) (job : JobFields) → CanBePublished ledger job → (p : Published) × Publishes ledger job (Ok p)
+can_be_published ledger job can =
+    let made = blocks_of_each (groups_after ledger (facts_of job)) can.blocks in
+    admitted_published ledger job can.admitted made.0 made.1
 
 -- a job that is published is admissible
 admissible_then : (rs : List Release) (job : JobFields) (p : Published) → IsSound rs → FitsPublishing job → IsWithinLimits PUBLISHED job → Publishes (ledger_of rs) job (Ok p) → IsAdmissible rs job
@@ -73,20 +107,7 @@ module _ (jobs : List JobFields) (parts : List SealedFields) (job : JobFields) (
   admissible_published a =
       let rs : List Release = history jobs parts in
       let sound : IsSound rs = history_sound jobs parts is in
-      let sealed : SealedFields = record {
-        part = record { head = head_after (ledger_of rs).parts (facts_of job); blocks = a.blocks.0 };
-        trailer = sha256 (unsealed_text (record { head = head_after (ledger_of rs).parts (facts_of job); blocks = a.blocks.0 }));
-      } in (
-        record { place = length (ledger_of rs).parts; sealed = sealed; ledger = next_ledger (ledger_of rs) (facts_of job) sealed.trailer; counts = counts_after (ledger_of rs) (facts_of job) },
-        (
-          not_refused rs job sound (record { crls = a.crls; goes_on = a.goes_on; few_parts = a.few_parts; few_identities = a.few_identities }),
-          record {
-            place = refl;
-            head = refl;
-            blocks = subst (λ (gs : List GroupFields). AreGroupBlocks sha256_row gs a.blocks.0) (sym (groups_are rs sound (facts_of job) [])) a.blocks.1;
-            trailer = refl;
-            next = refl;
-            counts = refl;
-          },
-        ),
-      )
+      admitted_published (ledger_of rs) job
+      (not_refused rs job sound (record { crls = a.crls; goes_on = a.goes_on; few_parts = a.few_parts; few_identities = a.few_identities }))
+      a.blocks.0
+      (subst (λ (gs : List GroupFields). AreGroupBlocks sha256_row gs a.blocks.0) (sym (groups_are rs sound (facts_of job) [])) a.blocks.1)

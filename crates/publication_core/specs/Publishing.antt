@@ -1,7 +1,8 @@
 -- What is published of a job behind a ledger, which need not be that of a history; and why nothing is.
-use Rattle.std.specs.Prelude.{◌≡◌, ℕ, length, Some, None, Result, Ok, Err}
+use Rattle.std.specs.Prelude.{◌≡◌, ℕ, length, Some, None, Result, Ok, Err, Contains}
 use Rattle.sha2.specs.Sha256.{sha256}
 use Rattle.equation_core.specs.Rows.{sha256_row}
+use Rattle.card_core.specs.declared.block.Block.{Block}
 use Rattle.part_codec.specs.SealedFields.{SealedFields}
 use Rattle.part_codec.specs.PartText.{unsealed_text}
 use Rattle.job_core.specs.declared.bounds.TheConstants.Limits as limits
@@ -9,9 +10,10 @@ use Rattle.job_core.specs.JobFields.{JobFields}
 use Rattle.ledger_core.specs.LedgerFields.{LedgerFields}
 use Rattle.universe_core.specs.declared.counts.Counts.{Counts}
 use Rattle.universe_core.specs.Jobs.{facts_of}
+use Rattle.universe_core.specs.Groups.{GroupFields}
 use Rattle.universe_core.specs.Ledgers.{next_ledger}
 use Rattle.universe_core.specs.Step.{refusal, head_after, groups_after, counts_after}
-use Rattle.builder_core.specs.Building.{AreGroupBlocks, IsFirstRefused}
+use Rattle.builder_core.specs.Building.{IsGroupBlock, AreGroupBlocks, IsFirstRefused}
 use Rattle.publication_core.specs.declared.fault.PublishFault.{PublishFault}
 use Rattle.publication_core.specs.declared.fault.PublishFault.TheVariants.{Admission, SeedsExhausted, NoMemory}
 
@@ -44,3 +46,8 @@ abbrev pub PublishesUnless : LedgerFields → JobFields → Result Published Pub
 PublishesUnless ledger job (Ok p) = Publishes ledger job (Ok p)
 PublishesUnless ledger job (Err NoMemory) = Unit {0}
 PublishesUnless ledger job (Err fault) = Publishes ledger job (Err fault)
+
+-- Nothing refuses the job behind this ledger, and each enrolled issuer has a block.
+pub record CanBePublished (ledger : LedgerFields) (job : JobFields) : Type 0 where
+  pub admitted : refusal limits.PUBLISHED ledger job ≡ None
+  pub blocks : (g : GroupFields) → Contains (groups_after ledger (facts_of job)) g → (block : Block) × IsGroupBlock sha256_row g block

@@ -12,7 +12,7 @@ ghost use Rattle.universe_core.specs.Ledgers.{no_ledger, ledger_of};
 ghost use Rattle.universe_core.specs.Counting.{counts};
 ghost use Rattle.publication_core.specs.declared.fault.PublishFault.{PublishFault};
 ghost use Rattle.publication_core.specs.Histories.{IsPartOf, IsAdmissible, IsHistory, history};
-ghost use Rattle.publication_core.specs.Publishing.{Published, Publishes};
+ghost use Rattle.publication_core.specs.Publishing.{CanBePublished, Published, Publishes};
 
 /// A job has one part at most, jobs publish one list of parts at most, and one thing comes of a job behind a ledger.
 pub fn publications_are_unique()
@@ -41,4 +41,11 @@ pub fn histories_are_published()
         → Publishes (ledger_of (history jobs parts)) job (Ok p) → p.place ≡ length jobs }
     ensures complete { (jobs : List JobFields) (parts : List SealedFields) (job : JobFields) → IsHistory jobs parts → IsAdmissible (history jobs parts) job
         → (p : Published) × Publishes (ledger_of (history jobs parts)) job (Ok p) }
+{}
+
+/// A job is published behind any ledger, that of a history or not, where nothing refuses it and each enrolled issuer
+/// has a block.
+pub fn what_can_be_is_published()
+    ensures { (ledger : LedgerFields) (job : JobFields) → CanBePublished ledger job
+        → (p : Published) × Publishes ledger job (Ok p) }
 {}

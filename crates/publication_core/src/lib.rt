@@ -11,7 +11,7 @@ mod verdict_laws;
 
 pub use chain_laws::parts_are_chains;
 pub use fault::PublishFault;
-pub use laws::{histories_are_published, publications_are_unique};
+pub use laws::{histories_are_published, publications_are_unique, what_can_be_is_published};
 pub use ledger_laws::ledgers_are_read_back;
 pub use publication::Publication;
 pub use publish::{publish_after, publish_first};

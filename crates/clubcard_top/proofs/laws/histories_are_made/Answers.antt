@@ -33,4 +33,5 @@ returns c =
       asked = λ command files q jobs parts o is p m. asked_law layers command files q jobs parts o is p m;
       rehearsed = λ command files r d is m. rehearsed_law layers files command r d is m;
       followed = λ command files queries jobs parts o is p m. done_law layers files command queries jobs parts o is p m;
+      publishable = c.what_can_be_is_published.ensures;
     }

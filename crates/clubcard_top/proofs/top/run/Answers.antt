@@ -36,6 +36,7 @@ returns-clause-successes g c =
       follows = c.histories_are_made.ensures.followed _;
     })
     (promised.parts _ c.run_words.ensures.ends) (λ command inputs a b x y. c.replies_are_unique.ensures.outcome command inputs a b x y)
+    (λ before job can. c.histories_are_made.ensures.publishable before job can)
     (apart.words_apart (map string_bytes c.args.words.now))
 
 pub returns-clause-histories : goal.returns-clause-histories
