@@ -1,10 +1,9 @@
 -- Back substitution: the columns from one on, as numbers, and as words.
 use Rattle.std.proofs.Common.{◌≡◌, ℕ, zero, suc, ◌+◌, ◌-◌, ◌*◌, ◌/◌, ◌%◌, ◌^◌, ◌<◌, ◌≤◌, ◌≢◌, ◌⊎◌, inl, inr, refl, sym, ◌∙◌, arith, List, length, get_or, add-one, min}
 use Rattle.std.specs.Int.{bit_at}
-use Rattle.std.proofs.lemmas.Nat.{same_from_place}
 use Rattle.std.proofs.lemmas.Bool.{cases_lt}
 use Rattle.ribbon_core.specs.Bands.{AreBanded, column_before, back, columns_from}
-use Rattle.ribbon_core.specs.PlaneWords.{number_by, word_of}
+use Rattle.ribbon_core.specs.PlaneWords.{number_by, kept_word}
 use Rattle.ribbon_core.proofs.Bands.{column_half, shift, div_one}
 
 module _ (plane : ℕ) (cs ts : List ℕ) where
@@ -62,23 +61,18 @@ pub number_none : (f : ℕ → ℕ) (i n : ℕ) → n ≡ 0 → number_by f i n 
 unfolding number_by
 number_none f i n e = rw e refl
 
--- words of two planes, or two words of a plane, stand at two places
-pub places_apart : (q k plane i width : ℕ) → k < width → i < width → (q ≢ plane) ⊎ (k ≢ i) → q * width + k ≢ plane * width + i
-places_apart q k plane i width lt lt' (inl ne) e = ne (same_from_place q k plane i width lt lt' e).0
-places_apart q k plane i width lt lt' (inr ne) e = ne (same_from_place q k plane i width lt lt' e).1
-
 -- the low word of the window is word i of the plane
 pub word_written : (plane : ℕ) (cs ts : List ℕ) → ((p : ℕ) → p < length cs → (get_or cs p 0 % 2 ≡ 1) ⊎ (get_or cs p 0 ≡ 0))
-    → (width i window : ℕ) (new old : List ℕ) → i < width → window ≡ columns_from plane cs ts (64 * i) % 2 ^ 128
-    → get_or new (plane * width + i) 0 ≡ window % 2 ^ 64
-    → ((k : ℕ) → k < width → k ≢ i → get_or new (plane * width + k) 0 ≡ get_or old (plane * width + k) 0)
-    → number_by (word_of old width plane) (i + 1) (width - (i + 1)) ≡ columns_from plane cs ts (64 * (i + 1))
-    → number_by (word_of new width plane) i (width - i) ≡ columns_from plane cs ts (64 * i)
-word_written plane cs ts pivots width i window new old lt e written others h =
-    let f : get_or new (plane * width + i) 0 ≡ columns_from plane cs ts (64 * i) % 2 ^ 64 = omega (arith, written, e) in
+    → (planes width i window : ℕ) (new old : List ℕ) → i < width → window ≡ columns_from plane cs ts (64 * i) % 2 ^ 128
+    → kept_word new planes width plane i ≡ window % 2 ^ 64
+    → ((k : ℕ) → k < width → k ≢ i → kept_word new planes width plane k ≡ kept_word old planes width plane k)
+    → number_by (kept_word old planes width plane) (i + 1) (width - (i + 1)) ≡ columns_from plane cs ts (64 * (i + 1))
+    → number_by (kept_word new planes width plane) i (width - i) ≡ columns_from plane cs ts (64 * i)
+word_written plane cs ts pivots planes width i window new old lt e written others h =
+    let f : kept_word new planes width plane i ≡ columns_from plane cs ts (64 * i) % 2 ^ 64 = omega (arith, written, e) in
     let g : 64 * (i + 1) ≡ 64 * i + 64 = omega arith in
     let n : width - i ≡ width - (i + 1) + 1 = omega arith in
-    let s : number_by (word_of new width plane) (i + 1) (width - (i + 1)) ≡ number_by (word_of old width plane) (i + 1) (width - (i + 1))
+    let s : number_by (kept_word new planes width plane) (i + 1) (width - (i + 1)) ≡ number_by (kept_word old planes width plane) (i + 1) (width - (i + 1))
     = number_same _ _ (i + 1) (width - (i + 1)) (λ k le k_lt. others k (omega arith) (omega arith)) in
     let s' = rw (h, g) at s in
-    rw (number_step (word_of new width plane) i (width - i) (width - (i + 1)) n, s', f) (sym (columns_word plane cs ts pivots (64 * i)))
+    rw (number_step (kept_word new planes width plane) i (width - i) (width - (i + 1)) n, s', f) (sym (columns_word plane cs ts pivots (64 * i)))

@@ -6,6 +6,7 @@ pub mod ColumnSums
 pub mod KeptEquations
 pub mod LeastLaws
 pub mod Parity
+pub mod PlacesApart
 pub mod Reduction
 pub mod Solution
 pub mod Solved

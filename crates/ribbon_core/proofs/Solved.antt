@@ -6,20 +6,20 @@ use Rattle.std.proofs.lemmas.List.FromFn.{length-map-range_with_len, get_or-map-
 use Rattle.ribbon_core.specs.Equations.{Least}
 use Rattle.ribbon_core.specs.Bands.{solution_from}
 use Rattle.ribbon_core.specs.Kept.{kept_from, IsSystem}
-use Rattle.ribbon_core.specs.PlaneWords.{ArePlanes, plane_of_words, columns_of}
+use Rattle.ribbon_core.specs.PlaneWords.{ArePlanes, kept_plane, kept_columns}
 use Rattle.equation_core.specs.Sizes.{words_for}
 use Rattle.ribbon_core.proofs.KeptEquations.{kept_solves}
 use Rattle.ribbon_core.proofs.Solution.{solution_solves, solution_le, solution_lt}
 use Rattle.ribbon_core.proofs.LeastLaws.{least_from_le}
 
-pub length-columns : (starts planes : ℕ) (words : List ℕ) → length (columns_of starts planes words) ≡ planes
-length-columns starts planes words = length-map-range_with_len (plane_of_words words (words_for starts)) 0 planes
+pub length-columns : (starts planes : ℕ) (words : List ℕ) → length (kept_columns starts planes words) ≡ planes
+length-columns starts planes words = length-map-range_with_len (kept_plane words planes (words_for starts)) 0 planes
 
-pub columns-at : (starts planes plane : ℕ) (words : List ℕ) → plane < planes → get_or (columns_of starts planes words) plane 0 ≡ plane_of_words words (words_for starts) plane
-columns-at starts planes plane words lt = get_or-map-range_with_len (plane_of_words words (words_for starts)) 0 planes plane plane 0 lt (omega arith)
+pub columns-at : (starts planes plane : ℕ) (words : List ℕ) → plane < planes → get_or (kept_columns starts planes words) plane 0 ≡ kept_plane words planes (words_for starts) plane
+columns-at starts planes plane words lt = get_or-map-range_with_len (kept_plane words planes (words_for starts)) 0 planes plane plane 0 lt (omega arith)
 
 module _ (starts planes : ℕ) (cs ts old words : List ℕ) (system : IsSystem starts planes cs ts old) (room : length words ≡ length old)
-    (solved : (plane : ℕ) → plane < planes → plane_of_words words (words_for starts) plane ≡ solution_from plane cs ts 0 (length cs)) where
+    (solved : (plane : ℕ) → plane < planes → kept_plane words planes (words_for starts) plane ≡ solution_from plane cs ts 0 (length cs)) where
   pub solved_planes : ArePlanes starts planes words
   solved_planes = record {
     some_starts = system.some_starts;
@@ -30,13 +30,13 @@ module _ (starts planes : ℕ) (cs ts old words : List ℕ) (system : IsSystem s
     padding = λ plane lt. rw (solved plane lt, ← system.columns) (solution_lt plane planes cs ts system.bands);
   }
 
-  pub solved_least : (plane : ℕ) → plane < planes → Least plane (kept_from 0 cs ts) (get_or (columns_of starts planes words) plane 0)
+  pub solved_least : (plane : ℕ) → plane < planes → Least plane (kept_from 0 cs ts) (get_or (kept_columns starts planes words) plane 0)
   solved_least plane lt =
       rw (columns-at starts planes plane words lt, solved plane lt)
       (least_from_le plane (kept_from 0 cs ts) (solution_from plane cs ts 0 (length cs))
       ((kept_solves plane planes (solution_from plane cs ts 0 (length cs)) cs ts system.bands).1 (solution_solves plane planes cs ts system.bands))
       (λ Y s. solution_le plane planes cs ts system.bands Y ((kept_solves plane planes Y cs ts system.bands).0 s)))
 
-pub columns_padded : (starts planes : ℕ) (words : List ℕ) → ArePlanes starts planes words → All (λ Z. Z < 2 ^ (starts + 127)) (columns_of starts planes words)
-columns_padded starts planes words p = All-from_get_or (λ Z. Z < 2 ^ (starts + 127)) (columns_of starts planes words) 0
+pub columns_padded : (starts planes : ℕ) (words : List ℕ) → ArePlanes starts planes words → All (λ Z. Z < 2 ^ (starts + 127)) (kept_columns starts planes words)
+columns_padded starts planes words p = All-from_get_or (λ Z. Z < 2 ^ (starts + 127)) (kept_columns starts planes words) 0
     (λ i lt. let n = length-columns starts planes words in let k : i < planes = omega (arith, n) in rw (columns-at starts planes i words k) (p.padding i k))

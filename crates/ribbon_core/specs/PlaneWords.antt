@@ -15,17 +15,33 @@ unfoldable pub number_by : (ℕ → ℕ) → ℕ → ℕ → ℕ
 number_by f i zero = 0
 number_by f i (suc n) = f i + 2 ^ 64 * number_by f (suc i) n
 
--- word i of a plane, where the planes stand one after the other
+-- word i of a plane, in a text of planes one after the other
 abbrev pub word_of : List ℕ → ℕ → ℕ → ℕ → ℕ
 word_of words width plane i = get_or words (plane * width + i) 0
 
--- the columns of a plane
+-- the columns of a plane of such a text
 abbrev pub plane_of_words : List ℕ → ℕ → ℕ → ℕ
 plane_of_words words width plane = number_by (word_of words width plane) 0 width
 
--- the columns of each plane
+-- the columns of each plane of such a text
 abbrev pub columns_of : ℕ → ℕ → List ℕ → List ℕ
 columns_of starts planes words = map (plane_of_words words (words_for starts)) (range_with_len 0 planes)
+
+-- the place of word i of a plane, among the words that are kept
+abbrev pub place : ℕ → ℕ → ℕ → ℕ → ℕ
+place planes width plane i = plane * width + i
+
+-- word i of a plane, as it is kept
+abbrev pub kept_word : List ℕ → ℕ → ℕ → ℕ → ℕ → ℕ
+kept_word words planes width plane i = get_or words (place planes width plane i) 0
+
+-- the columns of a plane, as they are kept
+abbrev pub kept_plane : List ℕ → ℕ → ℕ → ℕ → ℕ
+kept_plane words planes width plane = number_by (kept_word words planes width plane) 0 width
+
+-- the columns of each plane, as they are kept
+abbrev pub kept_columns : ℕ → ℕ → List ℕ → List ℕ
+kept_columns starts planes words = map (kept_plane words planes (words_for starts)) (range_with_len 0 planes)
 
 -- the fields of planes
 pub record ArePlanes (starts planes : ℕ) (words : List ℕ) : Type 0 where
@@ -34,4 +50,4 @@ pub record ArePlanes (starts planes : ℕ) (words : List ℕ) : Type 0 where
   pub some_planes : 1 ≤ planes
   pub few_planes : planes ≤ MAX_PLANES
   pub room : length words ≡ planes * words_for starts
-  pub padding : (plane : ℕ) → plane < planes → plane_of_words words (words_for starts) plane < 2 ^ (starts + 127)
+  pub padding : (plane : ℕ) → plane < planes → kept_plane words planes (words_for starts) plane < 2 ^ (starts + 127)

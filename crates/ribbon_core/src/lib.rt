@@ -4,6 +4,7 @@
 
 mod elimination;
 mod laws;
+mod places;
 mod planes;
 mod reading;
 mod substitution;

@@ -5,7 +5,7 @@ ghost use Rattle.equation_core.specs.Sizes.{words_for as words_of};
 ghost use Rattle.equation_core.specs.declared.hash.TheConstants.{MAX_PLANES};
 ghost use Rattle.equation_core.specs.declared.sizes.TheConstants.{MAX_STARTS};
 ghost use Rattle.ribbon_core.specs.Equations.{sum_of};
-ghost use Rattle.ribbon_core.specs.PlaneWords.{ArePlanes, columns_of, plane_of_words};
+ghost use Rattle.ribbon_core.specs.PlaneWords.{ArePlanes, columns_of, kept_columns, plane_of_words};
 ghost use Rattle.ribbon_core.specs.Rows.{equation_of};
 
 use crate::reading::{sums_of, word_of};
@@ -24,11 +24,11 @@ pub struct Planes {
 }
 
 impl Model for Planes {
-    ghost use Rattle.ribbon_core.specs.PlaneWords.{PlaneColumns, columns_of, ArePlanes};
+    ghost use Rattle.ribbon_core.specs.PlaneWords.{PlaneColumns, kept_columns, ArePlanes};
 
     ghost Value = { PlaneColumns };
 
-    ghost view = { λ p. record { starts = p.starts; columns = columns_of p.starts p.planes p.words.items } };
+    ghost view = { λ p. record { starts = p.starts; columns = kept_columns p.starts p.planes p.words.items } };
 
     ghost invariant = { λ p. ArePlanes p.starts p.planes p.words.items };
 }
@@ -56,7 +56,7 @@ impl Planes {
     // The same, of words that stand as the type keeps them.
     pub(crate) fn from_words(starts: u32, planes: u8, words: Vec<u64>) -> Planes
         requires { ArePlanes starts planes words.items }
-        ensures { result ≡ record { starts = starts; columns = columns_of starts planes words.items } }
+        ensures { result ≡ record { starts = starts; columns = kept_columns starts planes words.items } }
     {
         Planes {
             starts,
@@ -91,7 +91,8 @@ impl Planes {
         ensures value { result ≡ slice_index self.now.columns plane / 2 ^ (64 * i) % 2 ^ 64 }
         ensures steps { words.new ≡ words.old + 1 }
     {
-        word_of(&self.words, words_for(self.starts), plane, i, words)
+        let width = words_for(self.starts);
+        word_of(&self.words, self.planes, width, plane, i, words)
     }
 
     /// In bit `p`, the sum modulo 2 of the columns of plane `p` that the row chooses. Each word that is read takes a
@@ -106,8 +107,8 @@ impl Planes {
         let width = words_for(self.starts);
         sums_of(
             &self.words,
-            width,
             self.planes,
+            width,
             start as usize,
             coeff,
             words,

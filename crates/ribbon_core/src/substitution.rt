@@ -2,15 +2,17 @@ ghost use Rattle.std.specs.Prelude.{◌≡◌, ℕ, ◌+◌, ◌*◌, ◌/◌, �
 ghost use Rattle.std.specs.Int.{bit_at};
 ghost use Rattle.equation_core.specs.declared.hash.TheConstants.{MAX_PLANES};
 ghost use Rattle.ribbon_core.specs.Bands.{AreBanded, IsPivot, column_before, columns_from, solution_from};
-ghost use Rattle.ribbon_core.specs.PlaneWords.{plane_of_words};
+ghost use Rattle.ribbon_core.specs.PlaneWords.{kept_plane, kept_word};
+
+use crate::places::place;
 
 // Writes the least solution of each plane, word by word from the last: all planes in one pass over the coefficients.
 pub fn solve_planes(coeffs: &[u128], targets: &[u16], planes: u8, width: usize, words: &mut [u64])
     requires planes { planes ≤ MAX_PLANES }
     requires bands { AreBanded coeffs.now targets.now planes }
     requires width { width ≡ (length coeffs.now + 63) / 64 }
-    requires room { length words.old ≡ planes * width }
-    ensures { (plane : ℕ) → plane < planes → plane_of_words words.new width plane ≡ solution_from plane coeffs.now targets.now 0 (length coeffs.now) }
+    requires room { planes * width ≤ length words.old }
+    ensures { (plane : ℕ) → plane < planes → kept_plane words.new planes width plane ≡ solution_from plane coeffs.now targets.now 0 (length coeffs.now) }
 {
     let mut windows = [0u128; 16];
     for i in (0..width).rev() {
@@ -71,12 +73,13 @@ fn column(coeff: u128, target: u16, plane: u8, window: u128) -> u128
 // Writes word `i` of each plane.
 fn write_words(windows: &[u128], planes: u8, width: usize, i: usize, words: &mut [u64])
     requires planes { planes ≤ length windows.now }
-    requires room { length words.old ≡ planes * width }
+    requires room { planes * width ≤ length words.old }
     requires word { i < width }
-    ensures written { (plane : ℕ) → plane < planes → slice_index words.new (plane * width + i) ≡ slice_index windows.now plane % 2 ^ 64 }
-    ensures others { (plane k : ℕ) → k < width → k ≢ i → slice_index words.new (plane * width + k) ≡ slice_index words.old (plane * width + k) }
+    ensures written { (plane : ℕ) → plane < planes → kept_word words.new planes width plane i ≡ slice_index windows.now plane % 2 ^ 64 }
+    ensures others { (plane k : ℕ) → plane < planes → k < width → k ≢ i → kept_word words.new planes width plane k ≡ kept_word words.old planes width plane k }
 {
-    for plane in 0..planes as usize {
-        words[plane * width + i] = (windows[plane] & 0xffff_ffff_ffff_ffff) as u64;
+    for plane in 0..planes {
+        let word = (windows[plane as usize] & 0xffff_ffff_ffff_ffff) as u64;
+        words[place(planes, width, plane, i)] = word;
     }
 }

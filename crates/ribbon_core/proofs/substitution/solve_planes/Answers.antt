@@ -29,7 +29,7 @@ loop-i-preserved c =
       windows = c.columns_down.ensures;
       words = λ plane lt.
           let h = c.loop-i.invariant.words plane lt in
-          word_written plane c.args.coeffs.now c.args.targets.now (band_pivots c.args.planes c.args.coeffs.now c.args.targets.now c.requires.bands) c.args.width
+          word_written plane c.args.coeffs.now c.args.targets.now (band_pivots c.args.planes c.args.coeffs.now c.args.targets.now c.requires.bands) c.args.planes c.args.width
           (c.loop-i.i - 1) _ _ c.loop-i.words (omega arith)
-          (c.columns_down.ensures plane lt) (c.write_words.ensures.written plane lt) (c.write_words.ensures.others plane) (rw e h);
+          (c.columns_down.ensures plane lt) (c.write_words.ensures.written plane lt) (λ k. c.write_words.ensures.others plane k lt) (rw e h);
     }
