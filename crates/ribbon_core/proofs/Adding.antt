@@ -1,10 +1,11 @@
 -- What the contracts of `new` and `add` say, over the fields of a system.
-use Rattle.std.proofs.Common.{◌≡◌, ℕ, ◌+◌, ◌-◌, ◌*◌, ◌/◌, ◌^◌, ◌<◌, ◌≤◌, ◌↔◌, inr, refl, arith, List, length, replicate, take, drop, ◌++◌, Result, Ok, Err}
+use Rattle.std.proofs.Common.{◌≡◌, ℕ, ◌+◌, ◌-◌, ◌/◌, ◌^◌, ◌<◌, ◌≤◌, ◌↔◌, inr, refl, arith, List, length, replicate, take, drop, ◌++◌, Result, Ok, Err}
 use Rattle.std.specs.Prelude.{bit_and, OnOk, OnErr, IsErr}
 use Rattle.std.specs.Int.{bit_at}
 use Rattle.std.proofs.lemmas.List.{take_at, length-replicate, get_or-replicate}
 use Rattle.std.proofs.lemmas.Bool.{false≢true}
 use Rattle.std.proofs.Math.Pow.{pow_mono, pow_pos}
+use Rattle.ribbon_core.specs.PlaneWords.{kept_length}
 use Rattle.ribbon_core.specs.Equations.{Equation, equation_at, parity, Solves, SolvesAll}
 use Rattle.ribbon_core.specs.Bands.{SolvesBands, AreBanded, solution_from}
 use Rattle.ribbon_core.specs.Kept.{kept_from, IsSystem}
@@ -71,7 +72,7 @@ pub written_back : (len : ℕ) (new old : List ℕ) → length new ≡ length ol
 written_back len new old e f = take_at new (drop (length new) old) len (omega arith)
 
 pub new_system : (starts planes : ℕ) (cs ts words : List ℕ) → 1 ≤ starts → starts ≤ 4718593 → 1 ≤ planes → planes ≤ 16
-    → cs ≡ replicate (starts + 127) 0 → ts ≡ replicate (starts + 127) 0 → length words ≡ planes * words_for starts → IsSystem starts planes cs ts words
+    → cs ≡ replicate (starts + 127) 0 → ts ≡ replicate (starts + 127) 0 → words ≡ replicate (kept_length planes (words_for starts)) 0 → IsSystem starts planes cs ts words
 new_system starts planes cs ts words a b c d e f g = record {
   some_starts = a;
   few_starts = b;
@@ -79,5 +80,5 @@ new_system starts planes cs ts words a b c d e f g = record {
   few_planes = d;
   columns = rw e (length-replicate (starts + 127) 0);
   bands = rw (e, f) (empty_banded (starts + 127) planes);
-  room = g;
+  room = rw g (length-replicate (kept_length planes (words_for starts)) 0);
 }

@@ -64,15 +64,15 @@ number_none f i n e = rw e refl
 -- the low word of the window is word i of the plane
 pub word_written : (plane : ℕ) (cs ts : List ℕ) → ((p : ℕ) → p < length cs → (get_or cs p 0 % 2 ≡ 1) ⊎ (get_or cs p 0 ≡ 0))
     → (planes width i window : ℕ) (new old : List ℕ) → i < width → window ≡ columns_from plane cs ts (64 * i) % 2 ^ 128
-    → kept_word new planes width plane i ≡ window % 2 ^ 64
-    → ((k : ℕ) → k < width → k ≢ i → kept_word new planes width plane k ≡ kept_word old planes width plane k)
-    → number_by (kept_word old planes width plane) (i + 1) (width - (i + 1)) ≡ columns_from plane cs ts (64 * (i + 1))
-    → number_by (kept_word new planes width plane) i (width - i) ≡ columns_from plane cs ts (64 * i)
+    → kept_word new planes plane i ≡ window % 2 ^ 64
+    → ((k : ℕ) → k ≢ i → kept_word new planes plane k ≡ kept_word old planes plane k)
+    → number_by (kept_word old planes plane) (i + 1) (width - (i + 1)) ≡ columns_from plane cs ts (64 * (i + 1))
+    → number_by (kept_word new planes plane) i (width - i) ≡ columns_from plane cs ts (64 * i)
 word_written plane cs ts pivots planes width i window new old lt e written others h =
-    let f : kept_word new planes width plane i ≡ columns_from plane cs ts (64 * i) % 2 ^ 64 = omega (arith, written, e) in
+    let f : kept_word new planes plane i ≡ columns_from plane cs ts (64 * i) % 2 ^ 64 = omega (arith, written, e) in
     let g : 64 * (i + 1) ≡ 64 * i + 64 = omega arith in
     let n : width - i ≡ width - (i + 1) + 1 = omega arith in
-    let s : number_by (kept_word new planes width plane) (i + 1) (width - (i + 1)) ≡ number_by (kept_word old planes width plane) (i + 1) (width - (i + 1))
-    = number_same _ _ (i + 1) (width - (i + 1)) (λ k le k_lt. others k (omega arith) (omega arith)) in
+    let s : number_by (kept_word new planes plane) (i + 1) (width - (i + 1)) ≡ number_by (kept_word old planes plane) (i + 1) (width - (i + 1))
+    = number_same _ _ (i + 1) (width - (i + 1)) (λ k le k_lt. others k (omega arith)) in
     let s' = rw (h, g) at s in
-    rw (number_step (kept_word new planes width plane) i (width - i) (width - (i + 1)) n, s', f) (sym (columns_word plane cs ts pivots (64 * i)))
+    rw (number_step (kept_word new planes plane) i (width - i) (width - (i + 1)) n, s', f) (sym (columns_word plane cs ts pivots (64 * i)))

@@ -1,13 +1,15 @@
 -- What the contract of `solve` says, over the fields of a system.
 use Rattle.std.specs.List.{All}
 use Rattle.std.proofs.lemmas.List.Elements.{All-from_get_or}
-use Rattle.std.proofs.Common.{◌≡◌, ℕ, ◌<◌, ◌^◌, ◌+◌, ◌∙◌, arith, List, length, get_or}
-use Rattle.std.proofs.lemmas.List.FromFn.{length-map-range_with_len, get_or-map-range_with_len}
+use Rattle.std.proofs.Common.{◌≡◌, ℕ, ◌<◌, ◌≤◌, ◌^◌, ◌+◌, ◌∙◌, arith, List, length, get_or}
+use Rattle.std.proofs.lemmas.List.FromFn.{length-map-range_with_len, get_or-map-range_with_len, fill_by_all}
 use Rattle.ribbon_core.specs.Equations.{Least}
 use Rattle.ribbon_core.specs.Bands.{solution_from}
 use Rattle.ribbon_core.specs.Kept.{kept_from, IsSystem}
-use Rattle.ribbon_core.specs.PlaneWords.{ArePlanes, kept_plane, kept_columns}
+use Rattle.ribbon_core.specs.PlaneWords.{ArePlanes, plane_of_words, columns_of, kept_length, kept_plane, kept_columns}
 use Rattle.equation_core.specs.Sizes.{words_for}
+use Rattle.equation_core.specs.declared.hash.TheConstants.{MAX_PLANES}
+use Rattle.equation_core.specs.declared.sizes.TheConstants.{MAX_STARTS}
 use Rattle.ribbon_core.proofs.KeptEquations.{kept_solves}
 use Rattle.ribbon_core.proofs.Solution.{solution_solves, solution_le, solution_lt}
 use Rattle.ribbon_core.proofs.LeastLaws.{least_from_le}
@@ -36,6 +38,24 @@ module _ (starts planes : ℕ) (cs ts old words : List ℕ) (system : IsSystem s
       (least_from_le plane (kept_from 0 cs ts) (solution_from plane cs ts 0 (length cs))
       ((kept_solves plane planes (solution_from plane cs ts 0 (length cs)) cs ts system.bands).1 (solution_solves plane planes cs ts system.bands))
       (λ Y s. solution_le plane planes cs ts system.bands Y ((kept_solves plane planes Y cs ts system.bands).0 s)))
+
+-- the planes whose words were put at their places
+module _ (starts planes : ℕ) (text words : List ℕ)
+    (same : (plane : ℕ) → plane < planes → kept_plane words planes (words_for starts) plane ≡ plane_of_words text (words_for starts) plane) where
+  pub placed_columns : kept_columns starts planes words ≡ columns_of starts planes text
+  placed_columns = fill_by_all (plane_of_words text (words_for starts)) (kept_columns starts planes words) planes 0 (length-columns starts planes words)
+      (λ plane lt. columns-at starts planes plane words lt ∙ same plane lt)
+
+  pub placed_planes : 1 ≤ starts → starts ≤ MAX_STARTS → 1 ≤ planes → planes ≤ MAX_PLANES → length words ≡ kept_length planes (words_for starts)
+      → ((plane : ℕ) → plane < planes → plane_of_words text (words_for starts) plane < 2 ^ (starts + 127)) → ArePlanes starts planes words
+  placed_planes a b c d room padding = record {
+    some_starts = a;
+    few_starts = b;
+    some_planes = c;
+    few_planes = d;
+    room = room;
+    padding = λ plane lt. rw (same plane lt) (padding plane lt);
+  }
 
 pub columns_padded : (starts planes : ℕ) (words : List ℕ) → ArePlanes starts planes words → All (λ Z. Z < 2 ^ (starts + 127)) (kept_columns starts planes words)
 columns_padded starts planes words p = All-from_get_or (λ Z. Z < 2 ^ (starts + 127)) (kept_columns starts planes words) 0

@@ -8,14 +8,10 @@ use Rattle.std.proofs.Math.Nat.{mod-eq_of_lt, pow-suc}
 use Rattle.std.proofs.Math.Pow.{pow_mono}
 use Rattle.ribbon_core.specs.Equations.{parity}
 use Rattle.ribbon_core.proofs.Bands.{below_two}
-use Rattle.ribbon_core.proofs.Window.{parity_mod}
 
 pub low_parity : (n : ℕ) → bit_and (count_ones n) 1 ≡ parity n
 unfolding parity
 low_parity n = and_mask (count_ones n) 1
-
-pub window_parity : (c y w : ℕ) → c < 2 ^ 128 → w ≡ y % 2 ^ 128 → bit_and (count_ones (bit_and c w)) 1 ≡ parity (bit_and c y)
-window_parity c y w lt e = rw e (low_parity (bit_and c (y % 2 ^ 128)) ∙ parity_mod 128 c y lt)
 
 bit_times : (b p : ℕ) → (b ≡ 0) ⊎ (b ≡ 1) → b * p ≤ p
 bit_times b p (inl e) = rw e (omega arith)
@@ -45,6 +41,3 @@ sums_few sums b plane lt two few =
     let d = doubled plane in
     let t = bit_times b (2 ^ plane) (below_two b two) in
     rw (set_bit sums b plane lt two few, d) (omega (arith, t))
-
-pub steps_more : (a plane k : ℕ) → (a + plane * k) + k ≡ a + (plane + 1) * k
-steps_more a plane k = grind arith

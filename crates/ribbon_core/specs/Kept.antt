@@ -1,10 +1,11 @@
 -- What a system keeps.
-use Rattle.std.specs.Prelude.{◌≡◌, ℕ, ◌+◌, ◌*◌, ◌≤◌, List, [], ◌∷◌, length, get_or, drop, if◌then◌else◌, ◌==◌}
+use Rattle.std.specs.Prelude.{◌≡◌, ℕ, ◌+◌, ◌≤◌, List, [], ◌∷◌, length, get_or, drop, if◌then◌else◌, ◌==◌}
 use Rattle.equation_core.specs.Sizes.{words_for}
 use Rattle.equation_core.specs.declared.hash.TheConstants.{MAX_PLANES}
 use Rattle.equation_core.specs.declared.sizes.TheConstants.{MAX_STARTS}
 use Rattle.ribbon_core.specs.Equations.{Equation}
 use Rattle.ribbon_core.specs.Bands.{AreBanded}
+use Rattle.ribbon_core.specs.PlaneWords.{kept_length}
 
 -- what a public contract sees of a system
 pub record Kept : Type 0 where
@@ -27,4 +28,4 @@ pub record IsSystem (starts planes : ℕ) (coeffs targets words : List ℕ) : Ty
   pub few_planes : planes ≤ MAX_PLANES
   pub columns : length coeffs ≡ starts + 127
   pub bands : AreBanded coeffs targets planes
-  pub room : length words ≡ planes * words_for starts
+  pub room : length words ≡ kept_length planes (words_for starts)

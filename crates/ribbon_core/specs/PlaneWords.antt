@@ -1,5 +1,5 @@
 -- Planes, and the words that hold their columns.
-use Rattle.std.specs.Prelude.{◌≡◌, ℕ, zero, suc, ◌+◌, ◌*◌, ◌^◌, ◌<◌, ◌≤◌, List, length, get_or, map}
+use Rattle.std.specs.Prelude.{◌≡◌, ℕ, zero, suc, ◌+◌, ◌-◌, ◌*◌, ◌^◌, ◌<◌, ◌≤◌, List, length, get_or, map}
 use Rattle.std.specs.List.{range_with_len}
 use Rattle.equation_core.specs.Sizes.{words_for}
 use Rattle.equation_core.specs.declared.hash.TheConstants.{MAX_PLANES}
@@ -27,21 +27,25 @@ plane_of_words words width plane = number_by (word_of words width plane) 0 width
 abbrev pub columns_of : ℕ → ℕ → List ℕ → List ℕ
 columns_of starts planes words = map (plane_of_words words (words_for starts)) (range_with_len 0 planes)
 
--- the place of word i of a plane, among the words that are kept
-abbrev pub place : ℕ → ℕ → ℕ → ℕ → ℕ
-place planes width plane i = plane * width + i
+-- the place of word i of a plane, among the words that are kept: word i of all planes stand side by side
+abbrev pub place : ℕ → ℕ → ℕ → ℕ
+place planes plane i = i * planes + plane
 
 -- word i of a plane, as it is kept
-abbrev pub kept_word : List ℕ → ℕ → ℕ → ℕ → ℕ → ℕ
-kept_word words planes width plane i = get_or words (place planes width plane i) 0
+abbrev pub kept_word : List ℕ → ℕ → ℕ → ℕ → ℕ
+kept_word words planes plane i = get_or words (place planes plane i) 0
 
 -- the columns of a plane, as they are kept
 abbrev pub kept_plane : List ℕ → ℕ → ℕ → ℕ → ℕ
-kept_plane words planes width plane = number_by (kept_word words planes width plane) 0 width
+kept_plane words planes width plane = number_by (kept_word words planes plane) 0 width
 
 -- the columns of each plane, as they are kept
 abbrev pub kept_columns : ℕ → ℕ → List ℕ → List ℕ
 kept_columns starts planes words = map (kept_plane words planes (words_for starts)) (range_with_len 0 planes)
+
+-- how many words are kept, so that the last run of planes can be loaded as whole lanes
+abbrev pub kept_length : ℕ → ℕ → ℕ
+kept_length planes width = planes * width + (MAX_PLANES - planes)
 
 -- the fields of planes
 pub record ArePlanes (starts planes : ℕ) (words : List ℕ) : Type 0 where
@@ -49,5 +53,5 @@ pub record ArePlanes (starts planes : ℕ) (words : List ℕ) : Type 0 where
   pub few_starts : starts ≤ MAX_STARTS
   pub some_planes : 1 ≤ planes
   pub few_planes : planes ≤ MAX_PLANES
-  pub room : length words ≡ planes * words_for starts
+  pub room : length words ≡ kept_length planes (words_for starts)
   pub padding : (plane : ℕ) → plane < planes → kept_plane words planes (words_for starts) plane < 2 ^ (starts + 127)

@@ -8,6 +8,7 @@ ghost use Rattle.ribbon_core.specs.Equations.{sum_of};
 ghost use Rattle.ribbon_core.specs.PlaneWords.{ArePlanes, columns_of, kept_columns, plane_of_words};
 ghost use Rattle.ribbon_core.specs.Rows.{equation_of};
 
+use crate::places::{kept_length, place_planes};
 use crate::reading::{sums_of, word_of};
 use equation_core::{Row, words_for};
 use octets_core::{NoMemory, Steps};
@@ -49,8 +50,9 @@ impl Planes {
         requires padding { (plane : ℕ) → plane < planes → plane_of_words words.now (words_of starts) plane < 2 ^ (starts + 127) }
         ensures { IfOk result (λ p. p ≡ record { starts = starts; columns = columns_of starts planes words.now }) }
     {
-        let words = Vec::from_slice(alloc, words)?;
-        Ok(Planes::from_words(starts, planes, words))
+        let mut kept = vec![in alloc; 0u64; kept_length(starts, planes)]?;
+        place_planes(words, planes, words_for(starts), &mut kept);
+        Ok(Planes::from_words(starts, planes, kept))
     }
 
     // The same, of words that stand as the type keeps them.
@@ -91,8 +93,7 @@ impl Planes {
         ensures value { result ≡ slice_index self.now.columns plane / 2 ^ (64 * i) % 2 ^ 64 }
         ensures steps { words.new ≡ words.old + 1 }
     {
-        let width = words_for(self.starts);
-        word_of(&self.words, self.planes, width, plane, i, words)
+        word_of(&self.words, self.planes, plane, i, words)
     }
 
     /// In bit `p`, the sum modulo 2 of the columns of plane `p` that the row chooses. Each word that is read takes a
@@ -104,14 +105,6 @@ impl Planes {
         ensures steps { words.new ≡ words.old + length self.now.columns * (if row.now.start % 64 == 0 then 2 else 3) }
     {
         let Row { start, coeff, .. } = *row;
-        let width = words_for(self.starts);
-        sums_of(
-            &self.words,
-            self.planes,
-            width,
-            start as usize,
-            coeff,
-            words,
-        )
+        sums_of(&self.words, self.planes, start as usize, coeff, words)
     }
 }

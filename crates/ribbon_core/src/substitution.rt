@@ -75,11 +75,11 @@ fn write_words(windows: &[u128], planes: u8, width: usize, i: usize, words: &mut
     requires planes { planes ≤ length windows.now }
     requires room { planes * width ≤ length words.old }
     requires word { i < width }
-    ensures written { (plane : ℕ) → plane < planes → kept_word words.new planes width plane i ≡ slice_index windows.now plane % 2 ^ 64 }
-    ensures others { (plane k : ℕ) → plane < planes → k < width → k ≢ i → kept_word words.new planes width plane k ≡ kept_word words.old planes width plane k }
+    ensures written { (plane : ℕ) → plane < planes → kept_word words.new planes plane i ≡ slice_index windows.now plane % 2 ^ 64 }
+    ensures others { (plane k : ℕ) → plane < planes → k ≢ i → kept_word words.new planes plane k ≡ kept_word words.old planes plane k }
 {
     for plane in 0..planes {
         let word = (windows[plane as usize] & 0xffff_ffff_ffff_ffff) as u64;
-        words[place(planes, width, plane, i)] = word;
+        words[place(planes, plane, i)] = word;
     }
 }

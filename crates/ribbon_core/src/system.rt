@@ -6,6 +6,7 @@ ghost use Rattle.ribbon_core.specs.Equations.{IsAdded, IsContradicted, IsEquatio
 ghost use Rattle.ribbon_core.specs.Rows.{equation_with};
 
 use crate::elimination::{Inconsistent, reduce};
+use crate::places::kept_length;
 use crate::planes::Planes;
 use crate::substitution::solve_planes;
 use equation_core::{Row, words_for};
@@ -49,7 +50,7 @@ impl System {
         let columns = starts as usize + 127;
         let coeffs = vec![in alloc; 0u128; columns]?;
         let targets = vec![in alloc; 0u16; columns]?;
-        let words = vec![in alloc; 0u64; planes as usize * words_for(starts)]?;
+        let words = vec![in alloc; 0u64; kept_length(starts, planes)]?;
         Ok(System {
             starts,
             planes,

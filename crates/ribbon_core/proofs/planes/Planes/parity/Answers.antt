@@ -1,11 +1,23 @@
+use Rattle.std.proofs.Common.{◌<◌, length, ap, ◌∙◌, arith}
+use Rattle.equation_core.specs.Sizes.{words_for}
+use Rattle.ribbon_core.proofs.PlacesApart.{lanes_room}
 use Rattle.ribbon_core.proofs.Solved.{length-columns, columns-at}
 use Rattle.ribbon_core.proofs.planes.Planes.parity.Goals as goal
+
+pub sums_of-requires-clause-room : goal.sums_of-requires-clause-room
+sums_of-requires-clause-room g c =
+    let s : c.args.row.now.start < c.args.self.now.starts = c.requires in
+    let s' = rw (← c.self.view_is) at s in
+    lanes_room c.self.inside.planes c.self.inside.starts c.args.row.now.start _ c.self.invariant.few_planes s' (ap length c.deref.ensures.value ∙ c.self.invariant.room)
 
 pub returns-clause-sums : goal.returns-clause-sums
 returns-clause-sums g c =
     let n = length-columns c.self.inside.starts c.self.inside.planes c.self.inside.words.items in
-    let v = rw (c.deref.ensures.value, c.words_for-width.ensures) at c.sums_of.ensures.sums in
-    rw (← c.self.view_is, n) (λ plane h. rw (columns-at c.self.inside.starts c.self.inside.planes plane c.self.inside.words.items h) (v plane h))
+    let s : c.args.row.now.start < c.args.self.now.starts = c.requires in
+    let s' = rw (← c.self.view_is) at s in
+    let v = rw c.deref.ensures.value at c.sums_of.ensures.sums in
+    rw (← c.self.view_is, n)
+    (λ plane h. rw (columns-at c.self.inside.starts c.self.inside.planes plane c.self.inside.words.items h) (v (words_for c.self.inside.starts) plane (omega (arith, s')) h))
 
 pub returns-clause-few_planes : goal.returns-clause-few_planes
 returns-clause-few_planes g c =

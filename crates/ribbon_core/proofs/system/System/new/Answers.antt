@@ -1,4 +1,4 @@
-use Rattle.std.proofs.Common.{rules, ◌≡◌, ◌+◌, List, [], replicate, ap}
+use Rattle.std.proofs.Common.{ℕ, ◌∙◌, ◌≡◌, ◌+◌, List, [], replicate, ap}
 use Rattle.ribbon_core.specs.Equations.{Equation}
 use Rattle.ribbon_core.specs.Kept.{Kept, kept_from}
 use Rattle.ribbon_core.proofs.KeptEquations.{kept_of_new}
@@ -7,7 +7,8 @@ use Rattle.ribbon_core.proofs.system.System.new.Goals as goal
 
 pub invariant_of-result : goal.invariant_of-result
 invariant_of-result c = new_system c.args.starts c.args.planes _ _ _ c.requires.some_starts c.requires.few_starts c.requires.some_planes c.requires.few_planes
-    (c.in_ok-coeffs.ensures.items_if_clones_equal (λ y h. h)) (c.in_ok-targets.ensures.items_if_clones_equal (λ y h. h)) (search rules)
+    (c.in_ok-coeffs.ensures.items_if_clones_equal (λ y h. h)) (c.in_ok-targets.ensures.items_if_clones_equal (λ y h. h))
+    (c.in_ok-words.ensures.items_if_clones_equal (λ y h. h) ∙ ap (λ (n : ℕ). replicate n 0) c.kept_length.ensures)
 
 pub returns : goal.returns
 returns c =
