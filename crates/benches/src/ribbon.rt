@@ -6,10 +6,12 @@ ghost use Rattle.equation_core.specs.declared.hash.TheConstants.{MAX_PLANES};
 
 use equation_core::{MAX_PLANES, Row, starts_for};
 use ident_core::MAX_IDENTITIES;
-use octets_core::NoMemory;
+use octets_core::{NoMemory, Steps};
 use ribbon_core::{Planes, System};
 use std::alloc::Global;
 use std::io;
+use std::marker::Brand;
+use std::sync::ledger::{Blank, Ledger};
 
 // The generator splitmix64 (Steele, Lea and Flood 2014).
 #[derive(Drop)]
@@ -80,4 +82,59 @@ pub fn run(rt: &HostRuntime, numbers: [u32; 3]) -> io::Result<()> {
         }
     }
     Ok(())
+}
+
+// Of as many random rows, how many have the targets as their sums.
+fn accepted<L: Ledger>(
+    planes: &Planes,
+    keys: u32,
+    random: &mut Random,
+    steps: &mut Steps<L>,
+) -> u32 {
+    let starts = planes.starts();
+    let unused = MAX_PLANES - planes.planes();
+    let mut accepted = 0;
+    for done in 0..keys {
+        let row = random.row(starts);
+        if planes.parity(&row, steps) == row.tag >> unused {
+            accepted += 1;
+        }
+    }
+    accepted
+}
+
+fn ask_rounds<L: Ledger>(
+    rt: &HostRuntime,
+    planes: &Planes,
+    keys: u32,
+    rounds: u32,
+    blank: Blank,
+) -> io::Result<()>
+    requires name { blank.name ≡ L.name }
+    requires parts { blank.parts ≡ L.parts }
+    requires some { 0 < L.parts }
+{
+    let mut steps: Steps<L> = Steps::new(blank);
+    let mut others = Random { state: 8 };
+    for _ in 0..rounds {
+        let mut same = Random { state: 7 };
+        let present = accepted(planes, keys, &mut same, &mut steps);
+        let absent = accepted(planes, keys, &mut others, &mut steps);
+        println!(rt; "{present} {absent}")?;
+    }
+    Ok(())
+}
+
+/// Solves a system of so many equations in so many planes. Then it asks, so many times over, for the sums of their rows
+/// and of as many others, and prints how many of these have the targets as their sums.
+pub fn ask(rt: &HostRuntime, numbers: [u32; 3]) -> io::Result<()> {
+    let [keys, planes, rounds] = numbers;
+    if keys > MAX_IDENTITIES as u32 || planes < 1 || planes > u32::from(MAX_PLANES) {
+        return Ok(());
+    }
+    let mut random = Random { state: 7 };
+    match build(rt.alloc(), keys, planes as u8, &mut random) {
+        Ok((_, solution)) => ask_rounds::<Brand>(rt, &solution, keys, rounds, Blank::new(1)),
+        Err(NoMemory) => println!(rt; "no memory"),
+    }
 }
