@@ -2,21 +2,23 @@
 use Rattle.std.proofs.Common.{◌≡◌, ℕ, not, List, [], ◌∷◌, ◌++◌, map, drop, get_or, sym, ap, ◌∙◌, subst}
 use Rattle.equation_core.specs.Rows.{Rows}
 use Rattle.card_core.specs.declared.block.Block.{Block}
-use Rattle.card_core.specs.Leaf.{IsRefused, flagged}
-use Rattle.card_core.proofs.LeafLaws.{refused_no_leaf, refused_once}
+use Rattle.card_core.specs.Leaf.{flagged}
+use Rattle.card_core.specs.Filter.{IsBlockRefused}
+use Rattle.card_core.proofs.LeafLaws.{refused_once}
+use Rattle.card_core.proofs.FilterLaws.{refused_no_block}
 use Rattle.universe_core.specs.Groups.{GroupFields}
 use Rattle.builder_core.specs.Building.{AreGroupBlocks, IsGroupBlock}
 use Rattle.builder_core.specs.Laws.{RefusedHasNoBlocks, OneIsFirstRefused}
 
 module _ (rows : Rows) where
   abbrev IsRefusedAt : GroupFields → ℕ → Type 0
-  IsRefusedAt g stage = IsRefused rows (flagged g.universe g.revoked) (flagged g.universe (map not g.revoked)) stage
+  IsRefusedAt g stage = IsBlockRefused rows g.universe g.revoked stage
 
   abbrev HasBlock : GroupFields → Type 0
   HasBlock g = (b : Block) × IsGroupBlock rows g b
 
   no_block : (g : GroupFields) (stage : ℕ) → IsRefusedAt g stage → HasBlock g → ⊥
-  no_block g stage r h = refused_no_leaf rows (flagged g.universe g.revoked) (flagged g.universe (map not g.revoked)) stage h.0.body r h.1.1
+  no_block g stage r h = refused_no_block rows g.issuer g.universe g.revoked stage h.0 r h.1
 
   block_at : (xs : List GroupFields) (g : GroupFields) (ys : List GroupFields) (bs : List Block) → AreGroupBlocks rows (xs ++ (g ∷ ys)) bs → HasBlock g
   block_at [] g ys [] a = absurd a

@@ -1,5 +1,5 @@
 -- Blocks of groups: how they grow by one, which part they make, and that they are unique.
-use Rattle.std.proofs.Common.{◌≡◌, ◌<◌, ◌≤◌, ◌+◌, ℕ, suc, Bool, not, List, [], ◌∷◌, ◌++◌, length, map, take, drop, get_or, Some, Err, refl, sym, ap, ◌∙◌, subst, arith, All}
+use Rattle.std.proofs.Common.{◌≡◌, ◌<◌, ◌≤◌, ◌+◌, ℕ, suc, Bool, List, [], ◌∷◌, ◌++◌, length, map, take, drop, get_or, Some, Err, refl, sym, ap, ◌∙◌, subst, arith, All}
 use Rattle.std.specs.declared.cmp.Ordering.TheVariants.{Less}
 use Rattle.std.specs.Ordering.{is_lt}
 use Rattle.std.specs.List.{AllByRecursion}
@@ -11,10 +11,10 @@ use Rattle.ident_core.specs.HeadFields.{HeadFields}
 use Rattle.ident_core.specs.Order.{octets_cmp}
 use Rattle.equation_core.specs.Rows.{Rows}
 use Rattle.card_core.specs.declared.block.Block.{Block}
-use Rattle.card_core.specs.Leaf.{IsBlock, IsRefused, flagged}
+use Rattle.card_core.specs.Filter.{IsBlock, IsBlockRefused}
 use Rattle.card_core.specs.PartFields.{IsPart, AreBlocks}
 use Rattle.card_core.proofs.Ascending.{AreLinked}
-use Rattle.card_core.proofs.LeafLaws.{leaf_unique}
+use Rattle.card_core.proofs.FilterLaws.{block_unique}
 use Rattle.stage_core.specs.declared.fault.BlockFault.{BlockFault}
 use Rattle.stage_core.specs.declared.fault.BlockFault.TheVariants.{SeedsExhausted, NoMemory}
 use Rattle.stage_core.specs.Built.{BuildsBlock}
@@ -55,19 +55,13 @@ module _ (rows : Rows) where
   blocks_ascend (g ∷ gs) (x ∷ bs) a s =
       let below = subst (λ (k : List ℕ). AllByRecursion (λ l. octets_cmp k l ≡ Less) (issuers_of gs)) (sym a.0.0) s.0 in (refl, ascend_from x.issuer gs bs a.1 below s.1)
 
-block_same : (rows : Rows) (g : GroupFields) (a b : Block) → IsGroupBlock rows g a → IsGroupBlock rows g b → a ≡ b
-block_same rows g a b p q =
-    let issuer : a.issuer ≡ b.issuer = p.0 ∙ sym q.0 in
-    let body : a.body ≡ b.body = leaf_unique rows (flagged g.universe g.revoked) (flagged g.universe (map not g.revoked)) a.body b.body p.1 q.1 in
-    λ i. record { issuer = issuer i; body = body i }
-
 pub blocks_unique : GroupBlocksAreUnique
 blocks_unique rows [] [] [] p q = refl
 blocks_unique rows [] [] (y ∷ b) p q = absurd q
 blocks_unique rows [] (x ∷ a) b p q = absurd p
 blocks_unique rows (g ∷ gs) [] b p q = absurd p
 blocks_unique rows (g ∷ gs) (x ∷ a) [] p q = absurd q
-blocks_unique rows (g ∷ gs) (x ∷ a) (y ∷ b) p q = λ i. block_same rows g x y p.0 q.0 i ∷ blocks_unique rows gs a b p.1 q.1 i
+blocks_unique rows (g ∷ gs) (x ∷ a) (y ∷ b) p q = λ i. block_unique rows g.issuer g.universe g.revoked x y p.0 q.0 i ∷ blocks_unique rows gs a b p.1 q.1 i
 
 -- what the part asks of its blocks
 pub part_ready : (rows : Rows) (head : HeadFields) (groups : List Group) (blocks : List Block) → AreGroupBlocks rows (map group_fields groups) blocks → length groups ≤ 65535
@@ -114,10 +108,10 @@ module _ (groups : List Group) (i : ℕ) (g : Group) (lt : i < length groups) (i
       subst (λ (gs : List GroupFields). AreGroupBlocks rows gs (out ++ (b ∷ []))) (sym e) (blocks_joined rows (map group_fields (take i groups)) (group_fields g ∷ []) out (b ∷ []) so_far (c, tt))
 
   -- the first refusal
-  group_refused : (stage : ℕ) → IsRefused rows (flagged u f) (flagged u (map not f)) stage → IsFirstRefused rows (map group_fields groups) g.issuer stage
+  group_refused : (stage : ℕ) → IsBlockRefused rows u f stage → IsFirstRefused rows (map group_fields groups) g.issuer stage
   group_refused stage h =
-      let a = subst (λ (v : List Identity). IsRefused rows (flagged v f) (flagged v (map not f)) stage) u-is h in
-      let c = subst (λ (v : List Bool). IsRefused rows (flagged g.universe.items v) (flagged g.universe.items (map not v)) stage) f-is a in
+      let a = subst (λ (v : List Identity). IsBlockRefused rows v f stage) u-is h in
+      let c = subst (λ (v : List Bool). IsBlockRefused rows g.universe.items v stage) f-is a in
       let split : groups ≡ take i groups ++ (g ∷ drop (i + 1) groups) =
       sym (take-append-drop (i + 1) groups) ∙ ap (λ (t : List Group). t ++ drop (i + 1) groups) (take_more groups i g lt)
       ∙ append_assoc (take i groups) (get_or groups i g ∷ []) (drop (i + 1) groups) ∙ ap (λ (x : Group). take i groups ++ (x ∷ drop (i + 1) groups)) (sym is) in

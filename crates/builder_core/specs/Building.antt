@@ -1,11 +1,11 @@
 -- The blocks of groups, and the part that they make.
-use Rattle.std.specs.Prelude.{◌≡◌, ℕ, not, List, [], ◌∷◌, ◌++◌, map, length, sum_by, Result, Ok, Err}
+use Rattle.std.specs.Prelude.{◌≡◌, ℕ, List, [], ◌∷◌, ◌++◌, map, length, sum_by, Result, Ok, Err}
 use Rattle.std.specs.declared.alloc.Global.{Global}
 use Rattle.std.specs.declared.vec.Vec.{Vec}
 use Rattle.ident_core.specs.HeadFields.{HeadFields}
 use Rattle.equation_core.specs.Rows.{Rows}
 use Rattle.card_core.specs.declared.block.Block.{Block}
-use Rattle.card_core.specs.Leaf.{IsBlock, IsRefused, flagged}
+use Rattle.card_core.specs.Filter.{IsBlock, IsBlockRefused}
 use Rattle.card_core.specs.PartFields.{PartFields}
 use Rattle.stage_core.specs.declared.fault.BlockFault.{BlockFault}
 use Rattle.stage_core.specs.declared.fault.BlockFault.TheVariants as block
@@ -39,7 +39,7 @@ pub record IsFirstRefused (rows : Rows) (groups : List GroupFields) (issuer : Li
   pub blocks : List Block
   pub built : AreGroupBlocks rows before blocks
   pub named : group.issuer ≡ issuer
-  pub refused : IsRefused rows (flagged group.universe group.revoked) (flagged group.universe (map not group.revoked)) stage
+  pub refused : IsBlockRefused rows group.universe group.revoked stage
 
 -- a block's fault with its issuer
 abbrev pub fault_of : List ℕ → BlockFault → BuildFault
