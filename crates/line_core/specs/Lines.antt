@@ -12,7 +12,9 @@ use Rattle.ident_core.specs.declared.range.Range.{Range}
 use Rattle.ident_core.specs.HeadFields.{HeadFields}
 use Rattle.card_core.specs.declared.block.Block.{Block}
 use Rattle.card_core.specs.declared.block.Body.{Body}
-use Rattle.card_core.specs.declared.block.Body.TheVariants as bodies
+use Rattle.card_core.specs.declared.leaf.Leaf.{Leaf}
+use Rattle.card_core.specs.declared.leaf.Leaf.TheVariants as leaves
+use Rattle.card_core.specs.Filter.{leaf_of}
 use Rattle.card_core.specs.declared.stage.Stage.{Stage}
 use Rattle.card_core.specs.MixedFields.{MixedFields}
 use Rattle.part_codec.specs.SealedFields.{SealedFields}
@@ -76,12 +78,16 @@ abbrev pub mixed_words : MixedFields → List ℕ
 mixed_words m =
     codes "mixed k " ++ decimal (width_of m.approx) ++ approx_words m.approx ++ codes " exact " ++ stage_words m.exact
 
-abbrev pub body_words : Body → List ℕ
-body_words bodies.Clean = codes "none"
-body_words bodies.Every = codes "all"
-body_words (bodies.Mixed m) = mixed_words m
+-- none, all, or mixed and its stages
+abbrev pub leaf_words : Leaf → List ℕ
+leaf_words leaves.Clean = codes "none"
+leaf_words leaves.Every = codes "all"
+leaf_words (leaves.Mixed m) = mixed_words m
 
--- issuer KEY none, all, or mixed and its stages
+abbrev pub body_words : Body → List ℕ
+body_words body = leaf_words (leaf_of body)
+
+-- issuer KEY WORDS
 abbrev pub block_line : Block → List ℕ
 block_line b = codes "issuer " ++ encode_lower b.issuer ++ 32 ∷ [] ++ body_words b.body ++ 10 ∷ []
 
