@@ -12,6 +12,8 @@ mod octets;
 #[cfg(test)]
 mod queries;
 #[cfg(test)]
+mod scts;
+#[cfg(test)]
 mod sets;
 #[cfg(test)]
 mod words;

@@ -1,0 +1,6 @@
+mod CountLaws
+mod FirstLaws
+mod ListLaws
+mod SerialLaws
+mod TimestampLaws
+mod SightingLaws

@@ -1,0 +1,4 @@
+pub mod Timestamps
+pub mod Extensions
+pub mod Outcome
+pub mod Grammar
