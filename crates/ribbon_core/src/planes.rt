@@ -16,12 +16,18 @@ use std::alloc::Global;
 use std::marker::Model;
 use std::sync::ledger::Ledger;
 
+// What planes hold. It stands in a box, so that what holds planes is small.
+#[derive(Drop)]
+pub(crate) struct KeptWords {
+    pub starts: u32,
+    pub planes: u8,
+    pub words: Vec<u64>,
+}
+
 /// The columns of 1 to 16 planes, each of as many words as its columns need. The bits behind the last column are zero.
 #[derive(Drop)]
 pub struct Planes {
-    starts: u32,
-    planes: u8,
-    words: Vec<u64>,
+    kept: Box<KeptWords>,
 }
 
 impl Model for Planes {
@@ -29,9 +35,9 @@ impl Model for Planes {
 
     ghost Value = { PlaneColumns };
 
-    ghost view = { λ p. record { starts = p.starts; columns = kept_columns p.starts p.planes p.words.items } };
+    ghost view = { λ p. record { starts = p.kept.value.starts; columns = kept_columns p.kept.value.starts p.kept.value.planes p.kept.value.words.items } };
 
-    ghost invariant = { λ p. ArePlanes p.starts p.planes p.words.items };
+    ghost invariant = { λ p. ArePlanes p.kept.value.starts p.kept.value.planes p.kept.value.words.items };
 }
 
 impl Planes {
@@ -50,21 +56,23 @@ impl Planes {
         requires padding { (plane : ℕ) → plane < planes → plane_of_words words.now (words_of starts) plane < 2 ^ (starts + 127) }
         ensures { IfOk result (λ p. p ≡ record { starts = starts; columns = columns_of starts planes words.now }) }
     {
-        let mut kept = vec![in alloc; 0u64; kept_length(starts, planes)]?;
-        place_planes(words, planes, words_for(starts), &mut kept);
-        Ok(Planes::from_words(starts, planes, kept))
+        let mut placed = vec![in alloc; 0u64; kept_length(starts, planes)]?;
+        place_planes(words, planes, words_for(starts), &mut placed);
+        let kept = KeptWords {
+            starts,
+            planes,
+            words: placed,
+        };
+        let kept = Box::new(alloc, kept)?;
+        Ok(Planes::from_kept(kept))
     }
 
     // The same, of words that stand as the type keeps them.
-    pub(crate) fn from_words(starts: u32, planes: u8, words: Vec<u64>) -> Planes
-        requires { ArePlanes starts planes words.items }
-        ensures { result ≡ record { starts = starts; columns = kept_columns starts planes words.items } }
+    pub(crate) fn from_kept(kept: Box<KeptWords>) -> Planes
+        requires { ArePlanes kept.value.starts kept.value.planes kept.value.words.items }
+        ensures { result ≡ record { starts = kept.value.starts; columns = kept_columns kept.value.starts kept.value.planes kept.value.words.items } }
     {
-        Planes {
-            starts,
-            planes,
-            words,
-        }
+        Planes { kept }
     }
 
     /// How many starts there are, which is 127 less than columns.
@@ -73,7 +81,7 @@ impl Planes {
         ensures some { 1 ≤ result }
         ensures few { result ≤ MAX_STARTS }
     {
-        self.starts
+        self.kept.starts
     }
 
     /// How many planes there are.
@@ -83,7 +91,7 @@ impl Planes {
         ensures few { result ≤ MAX_PLANES }
         ensures padding { All (λ Z. Z < 2 ^ (self.now.starts + 127)) self.now.columns }
     {
-        self.planes
+        self.kept.planes
     }
 
     /// Word `i` of a plane: its columns from `64 * i` on, the lowest in the lowest bit. It takes one step.
@@ -93,7 +101,7 @@ impl Planes {
         ensures value { result ≡ slice_index self.now.columns plane / 2 ^ (64 * i) % 2 ^ 64 }
         ensures steps { words.new ≡ words.old + 1 }
     {
-        word_of(&self.words, self.planes, plane, i, words)
+        word_of(&self.kept.words, self.kept.planes, plane, i, words)
     }
 
     /// In bit `p`, the sum modulo 2 of the columns of plane `p` that the row chooses. Each word that is read takes a
@@ -105,6 +113,12 @@ impl Planes {
         ensures steps { words.new ≡ words.old + length self.now.columns * (if row.now.start % 64 == 0 then 2 else 3) }
     {
         let Row { start, coeff, .. } = *row;
-        sums_of(&self.words, self.planes, start as usize, coeff, words)
+        sums_of(
+            &self.kept.words,
+            self.kept.planes,
+            start as usize,
+            coeff,
+            words,
+        )
     }
 }

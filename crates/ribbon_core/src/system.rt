@@ -7,7 +7,7 @@ ghost use Rattle.ribbon_core.specs.Rows.{equation_with};
 
 use crate::elimination::{Inconsistent, reduce};
 use crate::places::kept_length;
-use crate::planes::Planes;
+use crate::planes::{KeptWords, Planes};
 use crate::substitution::solve_planes;
 use equation_core::{Row, words_for};
 use octets_core::NoMemory;
@@ -18,13 +18,11 @@ use std::marker::Model;
 /// `p`.
 #[derive(Drop)]
 pub struct System {
-    starts: u32,
-    planes: u8,
     // of each column the coefficient whose lowest one stands there, or 0, with its target
     coeffs: Vec<u128>,
     targets: Vec<u16>,
-    // room for the solution
-    words: Vec<u64>,
+    // the counts of starts and planes, and room for the solution
+    kept: Box<KeptWords>,
 }
 
 impl Model for System {
@@ -32,9 +30,9 @@ impl Model for System {
 
     ghost Value = { Kept };
 
-    ghost view = { λ s. record { starts = s.starts; planes = s.planes; equations = kept_from 0 s.coeffs.items s.targets.items } };
+    ghost view = { λ s. record { starts = s.kept.value.starts; planes = s.kept.value.planes; equations = kept_from 0 s.coeffs.items s.targets.items } };
 
-    ghost invariant = { λ s. IsSystem s.starts s.planes s.coeffs.items s.targets.items s.words.items };
+    ghost invariant = { λ s. IsSystem s.kept.value.starts s.kept.value.planes s.coeffs.items s.targets.items s.kept.value.words.items };
 }
 
 impl System {
@@ -51,12 +49,16 @@ impl System {
         let coeffs = vec![in alloc; 0u128; columns]?;
         let targets = vec![in alloc; 0u16; columns]?;
         let words = vec![in alloc; 0u64; kept_length(starts, planes)]?;
-        Ok(System {
+        let kept = KeptWords {
             starts,
             planes,
+            words,
+        };
+        let kept = Box::new(alloc, kept)?;
+        Ok(System {
             coeffs,
             targets,
-            words,
+            kept,
         })
     }
 
@@ -78,7 +80,7 @@ impl System {
         reduce(
             &mut self.coeffs,
             &mut self.targets,
-            self.planes,
+            self.kept.planes,
             start as usize,
             coeff,
             target,
@@ -93,13 +95,12 @@ impl System {
         ensures least { (plane : ℕ) → plane < self.planes → Least plane self.equations (slice_index result.columns plane) }
     {
         let System {
-            starts,
-            planes,
             coeffs,
             targets,
-            mut words,
+            mut kept,
         } = self;
-        solve_planes(&coeffs, &targets, planes, words_for(starts), &mut words);
-        Planes::from_words(starts, planes, words)
+        let width = words_for(kept.starts);
+        solve_planes(&coeffs, &targets, kept.planes, width, &mut kept.words);
+        Planes::from_kept(kept)
     }
 }
