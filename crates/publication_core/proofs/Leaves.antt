@@ -1,4 +1,4 @@
--- A filter and a block that the definitions allow fit the fields of a part's layout.
+-- A leaf and a block that the definitions allow fit the fields of a part's layout.
 use Rattle.std.proofs.Common.{◌≡◌, ℕ, suc, ◌+◌, ◌-◌, ◌/◌, ◌%◌, ◌^◌, ◌<◌, ◌≤◌, Bool, true, false, not, cond, List, [], ◌∷◌, length, map, get_or, Option, Some, None, sym, ap, ◌∙◌, arith}
 use Rattle.std.specs.Prelude.{bit_and}
 use Rattle.std.specs.List.{All, filter}
@@ -16,11 +16,12 @@ use Rattle.ribbon_core.proofs.LeastLaws.{least_le}
 use Rattle.ribbon_core.proofs.Window.{parity_mod}
 use Rattle.card_core.specs.declared.stage.Stage.{Stage}
 use Rattle.card_core.specs.declared.block.Block.{Block}
-use Rattle.card_core.specs.declared.block.Body.{Body}
-use Rattle.card_core.specs.declared.block.Body.TheVariants.{Clean, Every, Mixed}
+use Rattle.card_core.specs.declared.leaf.Leaf.{Leaf}
+use Rattle.card_core.specs.declared.leaf.Leaf.TheVariants.{Clean, Every, Mixed}
 use Rattle.card_core.specs.MixedFields.{MixedFields}
-use Rattle.card_core.specs.Leaf.{IsStage, approx_equations, exact_equations, passes, IsApprox, false_positives, IsLeaf, IsMixed, IsBlock, flagged}
-use Rattle.part_codec.specs.Fitting.{StageFits, FirstFits, MixedFits, BodyFits, BlockFits}
+use Rattle.card_core.specs.Leaf.{IsStage, approx_equations, exact_equations, passes, IsApprox, false_positives, IsLeaf, IsMixed, flagged}
+use Rattle.card_core.specs.Filter.{IsBlock, leaf_of}
+use Rattle.part_codec.specs.Fitting.{StageFits, FirstFits, MixedFits, LeafFits, BlockFits}
 
 -- the 128 columns from one of the first columns on are the same in a remainder
 window_of_columns : (Z start columns : ℕ) → start + 128 ≤ columns → Z % 2 ^ columns / 2 ^ start % 2 ^ 128 ≡ Z / 2 ^ start % 2 ^ 128
@@ -120,14 +121,14 @@ module _ (rows : Rows) (formed : (stage seed : ℕ) (id : Identity) (starts : �
         one = h.exact.count;
       }
 
-  body_fits : (revoked others : List Identity) (body : Body) → length revoked + length others ≤ 4194304 → IsLeaf rows revoked others body → BodyFits body
-  body_fits revoked others Clean few h = tt
-  body_fits revoked others Every few h = tt
-  body_fits revoked others (Mixed m) few h = mixed_fits revoked others m few h
+  leaf_fits : (revoked others : List Identity) (leaf : Leaf) → length revoked + length others ≤ 4194304 → IsLeaf rows revoked others leaf → LeafFits leaf
+  leaf_fits revoked others Clean few h = tt
+  leaf_fits revoked others Every few h = tt
+  leaf_fits revoked others (Mixed m) few h = mixed_fits revoked others m few h
 
--- a filter of at most 4,194,304 identities has a text
-pub leaves_have_texts : (revoked others : List Identity) (body : Body) → length revoked + length others ≤ 4194304 → IsLeaf sha256_row revoked others body → BodyFits body
-leaves_have_texts = body_fits sha256_row rows_are_rows
+-- a leaf of at most 4,194,304 identities has a text
+pub leaves_have_texts : (revoked others : List Identity) (leaf : Leaf) → length revoked + length others ≤ 4194304 → IsLeaf sha256_row revoked others leaf → LeafFits leaf
+leaves_have_texts = leaf_fits sha256_row rows_are_rows
 
 parted : (f : Bool) (x : Identity) (a b : List Identity) (n : ℕ) → length a + length b ≤ n → length (cond f (x ∷ a) a) + length (cond (not f) (x ∷ b) b) ≤ suc n
 parted true x a b n h = omega arith
@@ -144,5 +145,5 @@ pub blocks_have_texts : (issuer : List ℕ) (universe : List Identity) (flags : 
     → IsBlock sha256_row issuer universe flags block → BlockFits block
 blocks_have_texts issuer universe flags block key few h = record {
   issuer = ap length h.0 ∙ key;
-  body = leaves_have_texts (flagged universe flags) (flagged universe (map not flags)) block.body (omega (arith, flagged_few universe flags)) h.1;
+  body = leaves_have_texts (flagged universe flags) (flagged universe (map not flags)) (leaf_of block.body) (omega (arith, flagged_few universe flags)) h.1;
 }

@@ -9,10 +9,10 @@ use Rattle.ident_core.specs.declared.identity.Identity.{Identity}
 use Rattle.ident_core.specs.HeadFields.{HeadFields}
 use Rattle.equation_core.specs.Rows.{sha256_row}
 use Rattle.card_core.specs.declared.block.Block.{Block}
-use Rattle.card_core.specs.Leaf.{is_positive}
+use Rattle.card_core.specs.Filter.{is_positive}
 use Rattle.card_core.specs.PartFields.{PartFields}
 use Rattle.card_core.specs.Consulting.{block_of, consulted}
-use Rattle.card_core.proofs.LeafLaws.{block_exact}
+use Rattle.card_core.proofs.FilterLaws.{block_exact}
 use Rattle.part_codec.specs.SealedFields.{SealedFields}
 use Rattle.sets_core.specs.Sets.{has, has_key}
 use Rattle.sets_core.proofs.Elements.{Among-in_filter, bool_same}
