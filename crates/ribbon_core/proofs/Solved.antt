@@ -14,8 +14,11 @@ use Rattle.ribbon_core.proofs.KeptEquations.{kept_solves}
 use Rattle.ribbon_core.proofs.Solution.{solution_solves, solution_le, solution_lt}
 use Rattle.ribbon_core.proofs.LeastLaws.{least_from_le}
 
-pub length-columns : (starts planes : ℕ) (words : List ℕ) → length (kept_columns starts planes words) ≡ planes
-length-columns starts planes words = length-map-range_with_len (kept_plane words planes (words_for starts)) 0 planes
+pub length-columns : (starts planes : ℕ) (words : List ℕ) → length (columns_of starts planes words) ≡ planes
+length-columns starts planes words = length-map-range_with_len (plane_of_words words (words_for starts)) 0 planes
+
+pub length-kept : (starts planes : ℕ) (words : List ℕ) → length (kept_columns starts planes words) ≡ planes
+length-kept starts planes words = length-map-range_with_len (kept_plane words planes (words_for starts)) 0 planes
 
 pub columns-at : (starts planes plane : ℕ) (words : List ℕ) → plane < planes → get_or (kept_columns starts planes words) plane 0 ≡ kept_plane words planes (words_for starts) plane
 columns-at starts planes plane words lt = get_or-map-range_with_len (kept_plane words planes (words_for starts)) 0 planes plane plane 0 lt (omega arith)
@@ -43,7 +46,7 @@ module _ (starts planes : ℕ) (cs ts old words : List ℕ) (system : IsSystem s
 module _ (starts planes : ℕ) (text words : List ℕ)
     (same : (plane : ℕ) → plane < planes → kept_plane words planes (words_for starts) plane ≡ plane_of_words text (words_for starts) plane) where
   pub placed_columns : kept_columns starts planes words ≡ columns_of starts planes text
-  placed_columns = fill_by_all (plane_of_words text (words_for starts)) (kept_columns starts planes words) planes 0 (length-columns starts planes words)
+  placed_columns = fill_by_all (plane_of_words text (words_for starts)) (kept_columns starts planes words) planes 0 (length-kept starts planes words)
       (λ plane lt. columns-at starts planes plane words lt ∙ same plane lt)
 
   pub placed_planes : 1 ≤ starts → starts ≤ MAX_STARTS → 1 ≤ planes → planes ≤ MAX_PLANES → length words ≡ kept_length planes (words_for starts)
@@ -59,4 +62,4 @@ module _ (starts planes : ℕ) (text words : List ℕ)
 
 pub columns_padded : (starts planes : ℕ) (words : List ℕ) → ArePlanes starts planes words → All (λ Z. Z < 2 ^ (starts + 127)) (kept_columns starts planes words)
 columns_padded starts planes words p = All-from_get_or (λ Z. Z < 2 ^ (starts + 127)) (kept_columns starts planes words) 0
-    (λ i lt. let n = length-columns starts planes words in let k : i < planes = omega (arith, n) in rw (columns-at starts planes i words k) (p.padding i k))
+    (λ i lt. let n = length-kept starts planes words in let k : i < planes = omega (arith, n) in rw (columns-at starts planes i words k) (p.padding i k))

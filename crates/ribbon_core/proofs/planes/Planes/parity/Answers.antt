@@ -1,7 +1,7 @@
 use Rattle.std.proofs.Common.{◌<◌, arith}
 use Rattle.equation_core.specs.Sizes.{words_for}
 use Rattle.ribbon_core.proofs.PlacesApart.{lanes_room}
-use Rattle.ribbon_core.proofs.Solved.{length-columns, columns-at}
+use Rattle.ribbon_core.proofs.Solved.{length-kept, columns-at}
 use Rattle.ribbon_core.proofs.planes.Planes.parity.Goals as goal
 
 pub sums_of-requires-clause-room : goal.sums_of-requires-clause-room
@@ -12,7 +12,7 @@ sums_of-requires-clause-room g c =
 
 pub returns-clause-sums : goal.returns-clause-sums
 returns-clause-sums g c =
-    let n = length-columns c.self.inside.kept.value.starts c.self.inside.kept.value.planes c.self.inside.kept.value.words.items in
+    let n = length-kept c.self.inside.kept.value.starts c.self.inside.kept.value.planes c.self.inside.kept.value.words.items in
     let s : c.args.row.now.start < c.args.self.now.starts = c.requires in
     let s' = rw (← c.self.view_is) at s in
     let v = rw (c.deref-2.ensures.value, c.deref.ensures, c.deref-3.ensures) at c.sums_of.ensures.sums in
@@ -21,10 +21,10 @@ returns-clause-sums g c =
 
 pub returns-clause-few_planes : goal.returns-clause-few_planes
 returns-clause-few_planes g c =
-    let n = length-columns c.self.inside.kept.value.starts c.self.inside.kept.value.planes c.self.inside.kept.value.words.items in
+    let n = length-kept c.self.inside.kept.value.starts c.self.inside.kept.value.planes c.self.inside.kept.value.words.items in
     rw (← c.self.view_is, n) (rw c.deref-3.ensures at c.sums_of.ensures.few_planes)
 
 pub returns-clause-steps : goal.returns-clause-steps
 returns-clause-steps g c =
-    let n = length-columns c.self.inside.kept.value.starts c.self.inside.kept.value.planes c.self.inside.kept.value.words.items in
+    let n = length-kept c.self.inside.kept.value.starts c.self.inside.kept.value.planes c.self.inside.kept.value.words.items in
     rw (← c.self.view_is, n) (rw c.deref-3.ensures at c.sums_of.ensures.steps)

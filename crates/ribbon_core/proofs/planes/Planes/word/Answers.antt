@@ -1,12 +1,12 @@
 use Rattle.std.proofs.Common.{◌<◌, length, arith}
 use Rattle.equation_core.specs.Sizes.{words_for}
 use Rattle.ribbon_core.proofs.PlacesApart.{place_inside}
-use Rattle.ribbon_core.proofs.Solved.{length-columns, columns-at}
+use Rattle.ribbon_core.proofs.Solved.{length-kept, columns-at}
 use Rattle.ribbon_core.proofs.planes.Planes.word.Goals as goal
 
 pub word_of-requires : goal.word_of-requires
 word_of-requires g c =
-    let n = length-columns c.self.inside.kept.value.starts c.self.inside.kept.value.planes c.self.inside.kept.value.words.items in
+    let n = length-kept c.self.inside.kept.value.starts c.self.inside.kept.value.planes c.self.inside.kept.value.words.items in
     let h : c.args.plane < length c.args.self.now.columns = c.requires.plane in
     let h' = rw (← c.self.view_is, n) at h in
     let w : c.args.i < words_for c.args.self.now.starts = c.requires.word in
@@ -17,7 +17,7 @@ word_of-requires g c =
 
 pub returns-clause-value : goal.returns-clause-value
 returns-clause-value g c =
-    let n = length-columns c.self.inside.kept.value.starts c.self.inside.kept.value.planes c.self.inside.kept.value.words.items in
+    let n = length-kept c.self.inside.kept.value.starts c.self.inside.kept.value.planes c.self.inside.kept.value.words.items in
     let h : c.args.plane < length c.args.self.now.columns = c.requires.plane in
     let h' = rw (← c.self.view_is, n) at h in
     let w : c.args.i < words_for c.args.self.now.starts = c.requires.word in

@@ -1,7 +1,7 @@
 use Rattle.std.proofs.Common.{◌≡◌, length, ap, ◌∙◌}
 use Rattle.ribbon_core.specs.declared.planes.KeptWords.{KeptWords}
 use Rattle.ribbon_core.proofs.Adding.{written_back}
-use Rattle.ribbon_core.proofs.Solved.{length-columns, solved_planes, solved_least}
+use Rattle.ribbon_core.proofs.Solved.{length-kept, solved_planes, solved_least}
 use Rattle.ribbon_core.proofs.KeptEquations.{kept_equations}
 use Rattle.ribbon_core.proofs.system.System.solve.Goals as goal
 
@@ -17,7 +17,7 @@ from_kept-requires c =
 
 pub returns-clause-planes : goal.returns-clause-planes
 returns-clause-planes c =
-    rw (← c.self.view_is, c.from_kept.ensures, c.deref_mut.ensures.value) (length-columns c.self.inside.kept.value.starts c.self.inside.kept.value.planes _)
+    rw (← c.self.view_is, c.from_kept.ensures, c.deref_mut.ensures.value) (length-kept c.self.inside.kept.value.starts c.self.inside.kept.value.planes _)
 
 pub returns-clause-least : goal.returns-clause-least
 returns-clause-least c =
