@@ -1,3 +1,4 @@
 pub mod GroupBlocks
+pub mod OutcomesInOrder
 pub mod FirstRefused
 pub mod Admitted

@@ -5,16 +5,16 @@ ghost use Rattle.ident_core.specs.Order.{octets_cmp};
 ghost use Rattle.universe_core.specs.Groups.{group_fields, IsGroup};
 ghost use Rattle.builder_core.specs.Building.{BuildsBlocks, BuildsPart, identities_in, issuers_of};
 
+use crate::outcomes::{assemble, outcomes_of};
 use crate::{BuildFault, Gate};
 use card_core::{Block, Part};
 use equation_core::EquationHash;
 use ident_core::Head;
-use stage_core::build_block;
 use std::alloc::Global;
 use std::thread::Threads;
 use universe_core::Group;
 
-// The blocks of the groups, one after the other.
+// The blocks of the groups, of what comes of each.
 fn build_blocks<H: EquationHash, G: Gate>(
     alloc: Global,
     hash: &H,
@@ -26,15 +26,8 @@ fn build_blocks<H: EquationHash, G: Gate>(
     requires identities { identities_in (map group_fields groups.now) ≤ MAX_IDENTITIES }
     ensures { BuildsBlocks (H.row_of hash.now) (map group_fields groups.now) result }
 {
-    let mut blocks = Vec::with_capacity(alloc, groups.len())?;
-    for (place, group) in groups.iter().enumerate() {
-        gate.enter(place as u32);
-        match build_block(alloc, hash, group.issuer, &group.universe, &group.revoked) {
-            Ok(block) => blocks.push(block)?,
-            Err(fault) => return Err(BuildFault::new(group.issuer, fault)),
-        }
-    }
-    Ok(blocks)
+    let outcomes = outcomes_of(alloc, hash, gate, groups)?;
+    assemble(alloc, outcomes)
 }
 
 /// The part of this head with the block of each group, or the first refusal. The groups are built one after the other

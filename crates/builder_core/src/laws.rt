@@ -1,6 +1,6 @@
 //! Laws of the definitions, apart from all code. Each is a function that does nothing, and its clause says the law.
 
-ghost use Rattle.builder_core.specs.Laws.{GroupBlocksAreUnique, OneIsFirstRefused, RefusedHasNoBlocks};
+ghost use Rattle.builder_core.specs.Laws.{GroupBlocksAreUnique, OneIsFirstRefused, OutcomesGiveBlocks, RefusedHasNoBlocks};
 
 /// Groups have one list of blocks at most.
 pub fn group_blocks_are_unique()
@@ -15,4 +15,10 @@ pub fn refused_has_no_blocks()
 /// One issuer at most is the first that is refused, at one stage.
 pub fn one_is_first_refused()
     ensures { OneIsFirstRefused }
+{}
+
+/// What comes of each group by itself, in order and whoever built it, gives the blocks of all groups or the first
+/// refusal.
+pub fn outcomes_give_blocks()
+    ensures { OutcomesGiveBlocks }
 {}

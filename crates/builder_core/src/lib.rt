@@ -5,8 +5,11 @@ mod building;
 mod fault;
 mod gate;
 mod laws;
+mod outcomes;
 
 pub use building::build_part;
 pub use fault::BuildFault;
 pub use gate::{Gate, Open};
-pub use laws::{group_blocks_are_unique, one_is_first_refused, refused_has_no_blocks};
+pub use laws::{
+    group_blocks_are_unique, one_is_first_refused, outcomes_give_blocks, refused_has_no_blocks,
+};

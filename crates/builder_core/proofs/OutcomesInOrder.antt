@@ -1,0 +1,102 @@
+-- Outcomes of groups, one behind the other, and the blocks that they give.
+use Rattle.std.proofs.Common.{◌≡◌, ◌<◌, ◌≤◌, ◌+◌, ◌⊎◌, inl, inr, ℕ, Bool, List, [], ◌∷◌, ◌++◌, length, map, take, drop, get_or, Result, Ok, Err, refl, sym, ap, ◌∙◌, subst, arith, All}
+use Rattle.std.proofs.lemmas.List.{take_more, take-append-drop, append_assoc, map-append, length-map, get_or-map}
+use Rattle.std.proofs.lemmas.List.Sums.{get_or-le-sum_by}
+use Rattle.ident_core.specs.declared.identity.Identity.{Identity}
+use Rattle.equation_core.specs.Rows.{Rows}
+use Rattle.card_core.specs.declared.block.Block.{Block}
+use Rattle.card_core.specs.Filter.{IsBlockRefused}
+use Rattle.stage_core.specs.declared.fault.BlockFault.{BlockFault}
+use Rattle.stage_core.specs.declared.fault.BlockFault.TheVariants as block
+use Rattle.stage_core.specs.Built.{BuildsBlock}
+use Rattle.universe_core.specs.declared.admitted.Group.{Group}
+use Rattle.universe_core.specs.Groups.{GroupFields, group_fields, IsGroup}
+use Rattle.builder_core.specs.declared.fault.BuildFault.{BuildFault}
+use Rattle.builder_core.specs.declared.fault.BuildFault.TheVariants.{SeedsExhausted, NoMemory}
+use Rattle.builder_core.specs.Building.{AreGroupBlocks, IsFirstRefused, IsBuildFault, fault_of, identities_in}
+use Rattle.builder_core.specs.Outcomes.{IsReady, IsOutcome, AreOutcomes, IsFirstFault}
+use Rattle.builder_core.specs.Laws.{OutcomesGiveBlocks}
+
+-- what building asks of each group
+pub groups_ready : (groups : List Group) → All IsGroup (map group_fields groups) → identities_in (map group_fields groups) ≤ 4194304 → All IsReady groups
+groups_ready groups all few i d lt =
+    let g : Group = get_or groups i d in
+    let fields : List GroupFields = map group_fields groups in
+    let within : i < length fields = omega (arith, lt, length-map groups group_fields) in
+    let at : get_or fields i (group_fields g) ≡ group_fields g = get_or-map group_fields groups i d (group_fields g) lt in
+    let facts : IsGroup (group_fields g) = subst IsGroup at (all i (group_fields g) within) in
+    let le : length (get_or fields i (group_fields g)).universe ≤ identities_in fields = get_or-le-sum_by (λ (x : GroupFields). length x.universe) fields i (group_fields g) within in
+    let same : length (get_or fields i (group_fields g)).universe ≡ length g.universe.items = ap (λ (x : GroupFields). length x.universe) at in
+    record { beside = facts.beside; few = omega (arith, le, few, same) }
+
+module _ (rows : Rows) where
+  -- a block's fault is its group's outcome
+  pub outcome_fault : (g : Group) (u : List Identity) (f : List Bool) → u ≡ g.universe.items → f ≡ g.revoked.items
+      → (fault : BlockFault) → BuildsBlock rows g.issuer u f (Err fault) → IsOutcome rows (group_fields g) (Err (fault_of g.issuer fault))
+  outcome_fault g u f u-is f-is block.NoMemory h = tt
+  outcome_fault g u f u-is f-is (block.SeedsExhausted stage) h =
+      let a = subst (λ (v : List Identity). IsBlockRefused rows v f stage) u-is h in
+      (refl, subst (λ (v : List Bool). IsBlockRefused rows g.universe.items v stage) f-is a)
+
+  pub outcomes_joined : (gs hs : List GroupFields) (os ps : List (Result Block BuildFault))
+      → AreOutcomes rows gs os → AreOutcomes rows hs ps → AreOutcomes rows (gs ++ hs) (os ++ ps)
+  outcomes_joined [] hs [] ps a b = b
+  outcomes_joined [] hs (o ∷ os) ps a b = absurd a
+  outcomes_joined (g ∷ gs) hs [] ps a b = absurd a
+  outcomes_joined (g ∷ gs) hs (Ok x ∷ os) ps a b = (a.0, outcomes_joined gs hs os ps a.1 b)
+  outcomes_joined (g ∷ gs) hs (Err e ∷ os) ps a b = a
+
+  module _ (groups : List Group) (i : ℕ) (g : Group) (lt : i < length groups) (is : g ≡ get_or groups i g) (os ps : List (Result Block BuildFault))
+      (so_far : AreOutcomes rows (map group_fields (take i groups)) os) where
+    -- one block more
+    pub block_behind : (b : Block) → IsOutcome rows (group_fields g) (Ok b) → ps ≡ os ++ (Ok b ∷ []) → AreOutcomes rows (map group_fields (take (i + 1) groups)) ps
+    block_behind b h e =
+        let whole : map group_fields (take (i + 1) groups) ≡ map group_fields (take i groups) ++ (group_fields g ∷ []) =
+        ap (map group_fields) (take_more groups i g lt ∙ ap (λ (x : Group). take i groups ++ (x ∷ [])) (sym is)) ∙ map-append group_fields (take i groups) (g ∷ []) in
+        rw (e, whole) (outcomes_joined (map group_fields (take i groups)) (group_fields g ∷ []) os (Ok b ∷ []) so_far (h, tt))
+
+    -- a fault ends the list
+    pub fault_behind : (fault : BuildFault) → IsOutcome rows (group_fields g) (Err fault) → ps ≡ os ++ (Err fault ∷ []) → AreOutcomes rows (map group_fields groups) ps
+    fault_behind fault h e =
+        let split : groups ≡ take i groups ++ (g ∷ drop (i + 1) groups) =
+        sym (take-append-drop (i + 1) groups) ∙ ap (λ (t : List Group). t ++ drop (i + 1) groups) (take_more groups i g lt)
+        ∙ append_assoc (take i groups) (get_or groups i g ∷ []) (drop (i + 1) groups) ∙ ap (λ (x : Group). take i groups ++ (x ∷ drop (i + 1) groups)) (sym is) in
+        let whole : map group_fields groups ≡ map group_fields (take i groups) ++ (group_fields g ∷ map group_fields (drop (i + 1) groups)) =
+        ap (map group_fields) split ∙ map-append group_fields (take i groups) (g ∷ drop (i + 1) groups) in
+        let all = outcomes_joined (map group_fields (take i groups)) (group_fields g ∷ map group_fields (drop (i + 1) groups)) os (Err fault ∷ []) so_far h in
+        subst (λ (l : List (Result Block BuildFault)). AreOutcomes rows (map group_fields groups) l) (sym e)
+        (subst (λ (l : List GroupFields). AreOutcomes rows l (os ++ (Err fault ∷ []))) (sym whole) all)
+
+  all_built : (gs : List GroupFields) (bs : List Block) → AreOutcomes rows gs (map Ok bs) → AreGroupBlocks rows gs bs
+  all_built [] [] a = tt
+  all_built [] (b ∷ bs) a = absurd a
+  all_built (g ∷ gs) [] a = absurd a
+  all_built (g ∷ gs) (b ∷ bs) a = (a.0, all_built gs bs a.1)
+
+  one_refused : (gs : List GroupFields) (before : List Block) (after : List (Result Block BuildFault)) (issuer : List ℕ) (stage : ℕ)
+      → AreOutcomes rows gs (map Ok before ++ (Err (SeedsExhausted issuer stage) ∷ after)) → IsFirstRefused rows gs issuer stage
+  one_refused [] [] after issuer stage a = absurd a
+  one_refused [] (b ∷ bs) after issuer stage a = absurd a
+  one_refused (g ∷ gs) [] after issuer stage a = record { before = []; group = g; after = gs; whole = refl; blocks = []; built = tt; named = a.0; refused = a.1 }
+  one_refused (g ∷ gs) (b ∷ bs) after issuer stage a =
+      let h = one_refused gs bs after issuer stage a.1 in
+      record {
+        before = g ∷ h.before;
+        group = h.group;
+        after = h.after;
+        whole = ap (λ (l : List GroupFields). g ∷ l) h.whole;
+        blocks = b ∷ h.blocks;
+        built = (a.0, h.built);
+        named = h.named;
+        refused = h.refused;
+      }
+
+  one_fault : (gs : List GroupFields) (os : List (Result Block BuildFault)) (e : BuildFault) → AreOutcomes rows gs os → (e ≡ NoMemory) ⊎ IsFirstFault os e → IsBuildFault rows gs e
+  one_fault gs os NoMemory a h = tt
+  one_fault gs os (SeedsExhausted issuer stage) a (inl e) = absurd cc
+  one_fault gs os (SeedsExhausted issuer stage) a (inr h) =
+      one_refused gs h.before h.after issuer stage (subst (λ (l : List (Result Block BuildFault)). AreOutcomes rows gs l) h.whole a)
+
+pub outcomes_give : OutcomesGiveBlocks
+outcomes_give rows gs os (Ok v) a h = all_built rows gs v.items (subst (λ (l : List (Result Block BuildFault)). AreOutcomes rows gs l) h a)
+outcomes_give rows gs os (Err e) a h = one_fault rows gs os e a h

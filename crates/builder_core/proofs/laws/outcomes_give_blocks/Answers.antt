@@ -1,0 +1,5 @@
+use Rattle.builder_core.proofs.OutcomesInOrder.{outcomes_give}
+use Rattle.builder_core.proofs.laws.outcomes_give_blocks.Goals as goal
+
+pub returns : goal.returns
+returns c = outcomes_give

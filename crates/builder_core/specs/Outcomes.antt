@@ -1,0 +1,48 @@
+-- What comes of each group, built by itself, and what is made of it.
+use Rattle.std.specs.Prelude.{◌≡◌, ◌≤◌, ◌⊎◌, List, [], ◌∷◌, ◌++◌, map, length, Result, Ok, Err}
+use Rattle.std.specs.declared.alloc.Global.{Global}
+use Rattle.std.specs.declared.vec.Vec.{Vec}
+use Rattle.ident_core.specs.declared.bounds.TheConstants.{MAX_IDENTITIES}
+use Rattle.equation_core.specs.Rows.{Rows}
+use Rattle.card_core.specs.declared.block.Block.{Block}
+use Rattle.card_core.specs.Filter.{IsBlockRefused}
+use Rattle.universe_core.specs.declared.admitted.Group.{Group}
+use Rattle.universe_core.specs.Groups.{GroupFields}
+use Rattle.builder_core.specs.declared.fault.BuildFault.{BuildFault}
+use Rattle.builder_core.specs.declared.fault.BuildFault.TheVariants.{SeedsExhausted, NoMemory}
+use Rattle.builder_core.specs.Building.{IsGroupBlock}
+
+-- what building a group asks of it
+pub record IsReady (g : Group) : Type 0 where
+  pub beside : length g.revoked.items ≡ length g.universe.items
+  pub few : length g.universe.items ≤ MAX_IDENTITIES
+
+-- the block of a group, or why there is none
+abbrev pub IsOutcome : Rows → GroupFields → Result Block BuildFault → Type 0
+IsOutcome rows g (Ok block) = IsGroupBlock rows g block
+IsOutcome rows g (Err NoMemory) = Unit {0}
+IsOutcome rows g (Err (SeedsExhausted issuer stage)) = (g.issuer ≡ issuer) × IsBlockRefused rows g.universe g.revoked stage
+
+-- an outcome for each group, in order; behind a fault there may be any, or none
+abbrev pub AreOutcomes : Rows → List GroupFields → List (Result Block BuildFault) → Type 0
+AreOutcomes rows [] [] = Unit {0}
+AreOutcomes rows [] (o ∷ outcomes) = ⊥
+AreOutcomes rows (g ∷ groups) [] = ⊥
+AreOutcomes rows (g ∷ groups) (Ok block ∷ outcomes) = IsOutcome rows g (Ok block) × AreOutcomes rows groups outcomes
+AreOutcomes rows (g ∷ groups) (Err fault ∷ outcomes) = IsOutcome rows g (Err fault)
+
+-- the same, or want of memory
+abbrev pub BuildsOutcomes : Rows → List GroupFields → Result (Vec (Result Block BuildFault) Global) BuildFault → Type 0
+BuildsOutcomes rows groups (Ok outcomes) = AreOutcomes rows groups outcomes.items
+BuildsOutcomes rows groups (Err fault) = fault ≡ NoMemory
+
+-- a fault behind blocks
+pub record IsFirstFault (outcomes : List (Result Block BuildFault)) (fault : BuildFault) : Type 0 where
+  pub before : List Block
+  pub after : List (Result Block BuildFault)
+  pub whole : outcomes ≡ map Ok before ++ (Err fault ∷ after)
+
+-- the blocks of the outcomes, or the first fault, or want of memory
+abbrev pub IsAssembled : List (Result Block BuildFault) → Result (Vec Block Global) BuildFault → Type 0
+IsAssembled outcomes (Ok blocks) = outcomes ≡ map Ok blocks.items
+IsAssembled outcomes (Err fault) = (fault ≡ NoMemory) ⊎ IsFirstFault outcomes fault
