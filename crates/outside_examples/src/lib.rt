@@ -1,5 +1,5 @@
-//! Worked examples of files and sinks, in memory and real ones, of files that are read in order, and of CRLs; and what
-//! a caller of a feed can conclude.
+//! Worked examples of files and sinks, in memory and real ones, of files that are read in order, of devices, and of
+//! CRLs; and what a caller of a feed can conclude.
 #![tactic(auto)]
 
 mod reading;
@@ -10,6 +10,8 @@ pub use reading::read_through;
 mod append;
 #[cfg(test)]
 mod crls;
+#[cfg(test)]
+mod disks;
 #[cfg(test)]
 mod feed;
 #[cfg(test)]

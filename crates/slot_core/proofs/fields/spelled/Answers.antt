@@ -1,0 +1,6 @@
+use Rattle.std.proofs.Common.{sym}
+use Rattle.std.proofs.lemmas.Nat.{be_bytes_8}
+use Rattle.slot_core.proofs.fields.spelled.Goals as goal
+
+pub returns : goal.returns
+returns c = sym (be_bytes_8 c.args.bytes.now c.from_be_bytes.result c.told-bytes c.fits-bytes c.from_be_bytes.ensures)

@@ -1,0 +1,11 @@
+pub mod Disk
+pub mod Steps
+pub mod Lawful
+pub mod Changes
+pub mod Memory
+pub mod View
+pub mod Device
+pub mod Moments
+pub mod Attached
+pub mod Fields
+pub mod Refusals
