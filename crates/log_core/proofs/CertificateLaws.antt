@@ -8,7 +8,8 @@ use Rattle.der_core.specs.Grammar.{IsElement, AreElements, StandsBefore, StandsO
 use Rattle.der_core.specs.Walk.{any, field, optional, element_where}
 use Rattle.der_core.proofs.WalkLaws.{step, given-step, value-step, alone-read, alone-taken, field-read, field-taken, optional-read, optional-other}
 use Rattle.der_core.proofs.WalkLaws.{optional-taken, element_where-read, element_where-taken, whole_field-read, whole_field-taken}
-use Rattle.log_core.specs.Certificates.{if_short, serial, signature_and_issuer, public_key, tbs_contents, certificate_contents, tbs_serial, certificate_serial, certificate_key, left_by, left_within, certificate_tail}
+use Rattle.log_core.specs.Certificates.{if_short, serial, signature_and_issuer, public_key, tbs_contents, certificate_contents}
+use Rattle.log_core.specs.Certificates.{tbs_serial, certificate_serial, certificate_key, left_by, left_within, certificate_tail}
 use Rattle.log_core.specs.CertificateGrammar.{BeginsWithSerial, IsTbs, HasTbs, IsCertificate, StandsBehindFour, HasKey, HasTail}
 use Rattle.log_core.proofs.VectorLaws.{join}
 

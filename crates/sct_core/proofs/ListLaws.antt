@@ -1,5 +1,6 @@
 -- A list of timestamps, one after the other.
-use Rattle.std.proofs.Common.{◌≡◌, ℕ, ◌<◌, ◌≤◌, List, [], ◌∷◌, ◌++◌, length, Bool, true, false, nat_lt, nat_eq, Option, Some, None, Result, Ok, Err, refl, sym, ap, ◌∙◌, arith, append-nil, if◌then◌else◌, lit<}
+use Rattle.std.proofs.Common.{◌≡◌, ℕ, ◌<◌, ◌≤◌, List, [], ◌∷◌, ◌++◌, length, Bool, true, false, nat_lt, nat_eq, Option, Some, None}
+use Rattle.std.proofs.Common.{Result, Ok, Err, refl, sym, ap, ◌∙◌, arith, append-nil, if◌then◌else◌, lit<}
 use Rattle.std.proofs.lemmas.List.{append_assoc, length-append}
 use Rattle.std.proofs.lemmas.Bool.Decides.{nat_tests}
 use Rattle.octets_core.specs.Walk.{and_more, all_of}
@@ -50,7 +51,8 @@ none : (xs : List Sighting) → length xs ≡ 0 → of_sightings xs ≡ Err faul
 none [] h = refl
 none (x ∷ xs) h = absurd (omega (arith, h))
 
-full-many : (have : List Sighting) (many : Bool) (s : Sighting) (r : Option (List (Option Sighting))) → length have ≡ MAX_SCTS → continued have many (and_more (Some (Some s)) r) ≡ continued have true r
+full-many : (have : List Sighting) (many : Bool) (s : Sighting) (r : Option (List (Option Sighting))) → length have ≡ MAX_SCTS
+    → continued have many (and_more (Some (Some s)) r) ≡ continued have true r
 full-many have many s None h = refl
 full-many have true s (Some xs) h = refl
 full-many have false s (Some xs) h = long (have ++ s ∷ sightings_among xs) (omega (arith, length-append have (s ∷ sightings_among xs), h))
@@ -79,14 +81,18 @@ shorter bytes rest found h = let less = shrinks bytes (found, rest) (sym h) in l
 pub bad : (have : List Sighting) (many : Bool) (bytes : List ℕ) → 0 < length bytes → None ≡ timestamp bytes → Err fault.BadScts ≡ continued have many (all_of timestamp bytes)
 bad have many bytes some h = ap (continued have many) (sym (all_of-none timestamp bytes some (sym h)))
 
-pub passes : (have : List Sighting) (many : Bool) (bytes rest : List ℕ) (found : Option Sighting) → Some (found, rest) ≡ timestamp bytes → found ≡ None → continued have many (all_of timestamp rest) ≡ continued have many (all_of timestamp bytes)
+pub passes : (have : List Sighting) (many : Bool) (bytes rest : List ℕ) (found : Option Sighting) → Some (found, rest) ≡ timestamp bytes → found ≡ None
+    → continued have many (all_of timestamp rest) ≡ continued have many (all_of timestamp bytes)
 passes have many bytes rest found h same = sym (ap (continued have many) (more bytes rest found None h same) ∙ other have many (all_of timestamp rest))
 
-pub puts : (have : List Sighting) (many : Bool) (bytes rest : List ℕ) (found : Option Sighting) (s : Sighting) → Some (found, rest) ≡ timestamp bytes → found ≡ Some s → continued (have ++ s ∷ []) many (all_of timestamp rest) ≡ continued have many (all_of timestamp bytes)
+pub puts : (have : List Sighting) (many : Bool) (bytes rest : List ℕ) (found : Option Sighting) (s : Sighting) → Some (found, rest) ≡ timestamp bytes → found ≡ Some s
+    → continued (have ++ s ∷ []) many (all_of timestamp rest) ≡ continued have many (all_of timestamp bytes)
 puts have many bytes rest found s h same = sym (ap (continued have many) (more bytes rest found (Some s) h same) ∙ put have many s (all_of timestamp rest))
 
-pub overflows : (have : List Sighting) (many : Bool) (bytes rest : List ℕ) (found : Option Sighting) (s : Sighting) → Some (found, rest) ≡ timestamp bytes → found ≡ Some s → nat_eq (length have) MAX_SCTS ≡ true → continued have true (all_of timestamp rest) ≡ continued have many (all_of timestamp bytes)
-overflows have many bytes rest found s h same all = sym (ap (continued have many) (more bytes rest found (Some s) h same) ∙ full-many have many s (all_of timestamp rest) (same_number (length have) MAX_SCTS all))
+pub overflows : (have : List Sighting) (many : Bool) (bytes rest : List ℕ) (found : Option Sighting) (s : Sighting) → Some (found, rest) ≡ timestamp bytes → found ≡ Some s
+    → nat_eq (length have) MAX_SCTS ≡ true → continued have true (all_of timestamp rest) ≡ continued have many (all_of timestamp bytes)
+overflows have many bytes rest found s h same all =
+    sym (ap (continued have many) (more bytes rest found (Some s) h same) ∙ full-many have many s (all_of timestamp rest) (same_number (length have) MAX_SCTS all))
 
 ended : (have : List Sighting) (many : Bool) (bytes : List ℕ) → length bytes ≡ 0 → continued have many (Some []) ≡ continued have many (all_of timestamp bytes)
 ended have many bytes h = ap (continued have many) (sym (all_of-ends timestamp bytes h))
@@ -102,7 +108,8 @@ end-of_sightings have true bytes h m = cc
 pub end-none : (have : List Sighting) (many : Bool) (bytes : List ℕ) → length bytes ≡ 0 → many ≡ false → nat_eq (length have) 0 ≡ true → Err fault.NoScts ≡ continued have many (all_of timestamp bytes)
 end-none have many bytes h m empty = sym (none have (same_number (length have) 0 empty)) ∙ end-of_sightings have many bytes h m
 
-pub end-some : (have returned : List Sighting) (many : Bool) (bytes : List ℕ) → returned ≡ have → length bytes ≡ 0 → many ≡ false → nat_eq (length have) 0 ≡ false → length have ≤ MAX_SCTS → Ok returned ≡ continued have many (all_of timestamp bytes)
+pub end-some : (have returned : List Sighting) (many : Bool) (bytes : List ℕ) → returned ≡ have → length bytes ≡ 0 → many ≡ false → nat_eq (length have) 0 ≡ false
+    → length have ≤ MAX_SCTS → Ok returned ≡ continued have many (all_of timestamp bytes)
 end-some have returned many bytes same h m empty room =
     ap (λ (xs : List Sighting). Ok xs) same
     ∙ sym (few have (some_number (length have) empty) room)

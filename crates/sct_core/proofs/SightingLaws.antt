@@ -1,5 +1,6 @@
 -- What is read of a certificate is what it carries.
-use Rattle.std.proofs.Common.{◌⊎◌, inl, inr, ◌≡◌, ◌≢◌, ℕ, ◌≤◌, List, [], ◌∷◌, ◌++◌, length, Bool, true, false, cond, nat_eq, nat_lt, Option, Some, None, Result, Ok, Err, refl, sym, ap, ◌∙◌, subst, arith, append-nil}
+use Rattle.std.proofs.Common.{◌⊎◌, inl, inr, ◌≡◌, ℕ, ◌≤◌, List, [], ◌∷◌, ◌++◌, length, Bool, true, false, cond, nat_eq, nat_lt, Option}
+use Rattle.std.proofs.Common.{Some, None, Result, Ok, Err, refl, sym, ap, ◌∙◌, subst, arith, append-nil}
 use Rattle.std.proofs.lemmas.Bool.Decides.{nat_tests}
 use Rattle.std.specs.Prelude.{IfOk}
 use Rattle.std.specs.Option.{option_map}
@@ -97,7 +98,8 @@ mapped : {A : Type 0} (r : Option (List (Option A))) (x : Option A) → option_m
 mapped None x h = cc
 mapped (Some xs) x h = (xs, refl, cc)
 
-values-taken : (explicit : List ℕ) (value : Option (List ℕ)) (r : Option (List ℕ)) → value_of (alone 0x30 explicit) ≡ r → value_among r ≡ Some value → (values : List (Option (List ℕ))) × AreValues values explicit × (first_some values ≡ value)
+values-taken : (explicit : List ℕ) (value : Option (List ℕ)) (r : Option (List ℕ)) → value_of (alone 0x30 explicit) ≡ r → value_among r ≡ Some value
+    → (values : List (Option (List ℕ))) × AreValues values explicit × (first_some values ≡ value)
 values-taken explicit value None e h = cc
 values-taken explicit value (Some contents) e h =
     let f = mapped (each value_from (items contents)) value h in
@@ -116,7 +118,8 @@ whole_list-taken bytes x h =
     let Q : List ℕ → Type 0 = λ bs. IsSomeVector 2 x.0 bs in
     subst Q (sym whole) (subst P same f.is)
 
-list-taken : (xs : List (Option Sighting)) (value list : List ℕ) (r : Option (List ℕ)) → value_of (alone 0x04 value) ≡ r → within whole_list r ≡ Some list → all_of timestamp list ≡ Some xs → IsTimestampList xs value
+list-taken : (xs : List (Option Sighting)) (value list : List ℕ) (r : Option (List ℕ)) → value_of (alone 0x04 value) ≡ r
+    → within whole_list r ≡ Some list → all_of timestamp list ≡ Some xs → IsTimestampList xs value
 list-taken xs value list None e h k = cc
 list-taken xs value list (Some contents) e h k =
     let v = value-step (whole_list contents) list h in
@@ -130,7 +133,8 @@ record Counted (seen : List Sighting) (r : Option (List (Option Sighting))) : Ty
   some : 1 ≤ length seen
   few : length seen ≤ MAX_SCTS
 
-few-by : (x : Sighting) (xs seen : List Sighting) (b : Bool) → nat_lt MAX_SCTS (length (x ∷ xs)) ≡ b → cond b (Err fault.TooManyScts) (Ok (x ∷ xs)) ≡ Ok seen → ((x ∷ xs) ≡ seen) × (length (x ∷ xs) ≤ MAX_SCTS)
+few-by : (x : Sighting) (xs seen : List Sighting) (b : Bool) → nat_lt MAX_SCTS (length (x ∷ xs)) ≡ b
+    → cond b (Err fault.TooManyScts) (Ok (x ∷ xs)) ≡ Ok seen → ((x ∷ xs) ≡ seen) × (length (x ∷ xs) ≤ MAX_SCTS)
 few-by x xs seen true t h = cc
 few-by x xs seen false t h = (cc, grind (arith, nat_tests))
 
@@ -161,7 +165,8 @@ record Formed (bytes : List ℕ) (r : Result (List Sighting) CertFault) : Type 0
 abbrev ComesOfForm : List ℕ → Result (List Sighting) CertFault → Type 0
 ComesOfForm bytes r = (r ≡ Err fault.Malformed) ⊎ Formed bytes r
 
-value-comes : (bytes tail explicit : List ℕ) (elements : List (Option (List ℕ))) → length bytes ≤ MAX_CERTIFICATE → HasTail tail bytes → AreEach IsOfTail elements tail → first_some elements ≡ Some explicit
+value-comes : (bytes tail explicit : List ℕ) (elements : List (Option (List ℕ))) → length bytes ≤ MAX_CERTIFICATE
+    → HasTail tail bytes → AreEach IsOfTail elements tail → first_some elements ≡ Some explicit
     → (r : Option (Option (List ℕ))) → value_in explicit ≡ r → ComesOfForm bytes (of_value r)
 value-comes bytes tail explicit elements small has are found None e = inl refl
 value-comes bytes tail explicit elements small has are found (Some value) e =
@@ -202,7 +207,8 @@ formless bytes h (inr f) = absurd (h f.values f.form)
 pub malformed-read : (bytes : List ℕ) → IsMalformed bytes → sightings_of bytes ≡ Err fault.Malformed
 malformed-read bytes h = formless bytes h (comes bytes)
 
-bad-all : (value list : List ℕ) → ((xs : List (Option Sighting)) → IsTimestampList xs value → ⊥) → list_in value ≡ Some list → (r : Option (List (Option Sighting))) → all_of timestamp list ≡ r → of_timestamps r ≡ Err fault.BadScts
+bad-all : (value list : List ℕ) → ((xs : List (Option Sighting)) → IsTimestampList xs value → ⊥) → list_in value ≡ Some list
+    → (r : Option (List (Option Sighting))) → all_of timestamp list ≡ r → of_timestamps r ≡ Err fault.BadScts
 bad-all value list bad e None k = refl
 bad-all value list bad e (Some xs) k = absurd (bad xs (list-taken xs value list (value_of (alone 0x04 value)) refl e k))
 
@@ -213,7 +219,8 @@ bad-list value bad (Some list) e = bad-all value list bad e (all_of timestamp li
 pub bad-read : (bytes : List ℕ) → HasBadList bytes → sightings_of bytes ≡ Err fault.BadScts
 bad-read bytes h = has-read h.value bytes h.has ∙ bad-list h.value h.bad (list_in h.value) refl
 
-value-taken : (seen : List Sighting) (values : Option (List (Option (List ℕ)))) (r : Option (List ℕ)) → first_value values ≡ r → of_value (Some r) ≡ Ok seen → (value : List ℕ) × (first_value values ≡ Some value) × (of_list (list_in value) ≡ Ok seen)
+value-taken : (seen : List Sighting) (values : Option (List (Option (List ℕ)))) (r : Option (List ℕ)) → first_value values ≡ r → of_value (Some r) ≡ Ok seen
+    → (value : List ℕ) × (first_value values ≡ Some value) × (of_list (list_in value) ≡ Ok seen)
 value-taken seen values None e h = cc
 value-taken seen values (Some value) e h = (value, e, h)
 

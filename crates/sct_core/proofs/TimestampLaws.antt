@@ -93,7 +93,8 @@ with-taken : {A : Type 0} (r : Option A) (x : Option A) → with_some r ≡ Some
 with-taken None x h = cc
 with-taken (Some y) x h = (y, refl, cc)
 
-by-version : (version : ℕ) (rest : List ℕ) (x : Option Sighting) (b : Bool) → nat_eq version 0 ≡ b → cond b (with_some (value_of (version_1 rest))) (Some None) ≡ Some x → IsTimestamp x (version ∷ rest)
+by-version : (version : ℕ) (rest : List ℕ) (x : Option Sighting) (b : Bool) → nat_eq version 0 ≡ b
+    → cond b (with_some (value_of (version_1 rest))) (Some None) ≡ Some x → IsTimestamp x (version ∷ rest)
 by-version version rest x false t h =
     let same : None ≡ x = cc in
     let P : Option Sighting → Type 0 = λ y. IsTimestamp y (version ∷ rest) in
@@ -141,7 +142,8 @@ none-left (b ∷ bytes) (Some y) e h =
     let more = all_of-more timestamp shrinks (b ∷ bytes) y e in
     absurd (none-more y.0 (all_of timestamp y.1) (sym more ∙ h))
 
-first-left : (bytes : List ℕ) (r : Option (Option Sighting × List ℕ)) (x : Option Sighting) (xs : List (Option Sighting)) → timestamp bytes ≡ r → all_of timestamp bytes ≡ Some (x ∷ xs) → (y : Option Sighting × List ℕ) × (timestamp bytes ≡ Some y)
+first-left : (bytes : List ℕ) (r : Option (Option Sighting × List ℕ)) (x : Option Sighting) (xs : List (Option Sighting)) → timestamp bytes ≡ r
+    → all_of timestamp bytes ≡ Some (x ∷ xs) → (y : Option Sighting × List ℕ) × (timestamp bytes ≡ Some y)
 first-left [] r x xs e h = let none = all_of-ends timestamp [] refl in cc
 first-left (b ∷ bytes) None x xs e h = let none = all_of-none timestamp (b ∷ bytes) (omega arith) e in cc
 first-left (b ∷ bytes) (Some y) x xs e h = (y, e)

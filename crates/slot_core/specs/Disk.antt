@@ -6,8 +6,8 @@ use Rattle.outside_core.specs.Files.{IsPiece, Rose}
 abbrev pub Images : Type 1
 Images = List ℕ → Type 0
 
--- The bytes as they read, where they are told; what a crash now may leave; the time; what a crash at some moment since a
--- time might have left, during a call or between two; and how many calls have failed.
+-- The bytes as they read, where they are told; what a crash now may leave; the time; what a crash at some moment since
+-- a time might have left, during a call or between two; and how many calls have failed.
 pub record DiskState : Type 1 where
   pub told : Option (List ℕ)
   pub images : Images
@@ -19,8 +19,8 @@ pub record DiskState : Type 1 where
 abbrev pub HasFailed : DiskState → DiskState → Type 0
 HasFailed old new = Rose old.faults new.faults
 
--- What each disk keeps, whatever is called: the bytes as they read are an image of now; an image of now is one since each
--- time until now; and since now there is no other.
+-- What each disk keeps, whatever is called: the bytes as they read are an image of now; an image of now is one since
+-- each time until now; and since now there is no other.
 pub record IsLawful (disk : DiskState) : Type 0 where
   pub told_is_image : (bytes : List ℕ) → disk.told ≡ Some bytes → disk.images bytes
   pub now_counts : (t : ℕ) (image : List ℕ) → t ≤ disk.clock → disk.images image → disk.since t image

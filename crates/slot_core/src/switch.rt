@@ -8,8 +8,8 @@ use crate::disk::Disk;
 use crate::fields::write_slot;
 use outside_core::Failed;
 
-/// Writes the slot that isn't picked, and then lets the gate pick it. A crash at any moment leaves a device whose picked
-/// slot holds what it held or these bytes.
+/// Writes the slot that isn't picked, and then lets the gate pick it. A crash at any moment leaves a device whose
+/// picked slot holds what it held or these bytes.
 pub(crate) fn switch<D: Disk>(
     disk: &mut D,
     capacity: u64,

@@ -13,7 +13,8 @@ loop-rest-smaller-then-is_full c = shorter c.loop-rest.rest.now c.in-Some.after.
 
 pub loop-rest-preserved-then-is_full : goal.loop-rest-preserved-then-is_full
 loop-rest-preserved-then-is_full c =
-    overflows c.loop-rest.kept c.loop-rest.many c.loop-rest.rest.now c.in-Some.after.now c.in-Some.found c.in-Some-found.sighting c.in-Some.ensures c.in-Some-found.is (sym c.is_full.ensures.value ∙ c.if-is_full.true)
+    overflows c.loop-rest.kept c.loop-rest.many c.loop-rest.rest.now c.in-Some.after.now c.in-Some.found c.in-Some-found.sighting c.in-Some.ensures c.in-Some-found.is
+    (sym c.is_full.ensures.value ∙ c.if-is_full.true)
     ∙ c.loop-rest.invariant
 
 pub loop-rest-smaller-else-is_full : goal.loop-rest-smaller-else-is_full
