@@ -5,4 +5,5 @@ pub mod Calls
 pub mod Entries
 pub mod View
 pub mod Feeding
+pub mod Standing
 pub mod Filling
