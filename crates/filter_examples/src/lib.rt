@@ -4,6 +4,8 @@
 #[cfg(test)]
 mod equations;
 #[cfg(test)]
+mod lanes;
+#[cfg(test)]
 mod parts;
 #[cfg(test)]
 mod stages;

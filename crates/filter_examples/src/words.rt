@@ -9,8 +9,8 @@ use std::marker::Brand;
 use std::process::Abort;
 use std::sync::ledger::{Blank, Ledger};
 
-// The word, where the planes have one there.
-fn word_of<L: Ledger>(
+/// The word, where the planes have one there.
+pub fn word_of<L: Ledger>(
     planes: &Planes,
     plane: usize,
     i: usize,
