@@ -6,5 +6,6 @@ mod Torn
 mod FieldLaws
 mod Tearing
 mod Unbroken
+mod Broken
 pub mod Moments
 mod Switching

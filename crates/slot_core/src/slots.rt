@@ -1,10 +1,10 @@
-ghost use Rattle.std.specs.Prelude.{◌≡◌, ◌≤◌, ◌<◌, List, ℕ, length, not, IfOk, IfErr, Err};
+ghost use Rattle.std.specs.Prelude.{◌≡◌, ◌≤◌, ◌<◌, ◌⊎◌, List, ℕ, length, not, IfOk, IfErr, Err};
 ghost use Rattle.slot_core.specs.Disk.{Quiet, Tells, any_bytes};
-ghost use Rattle.slot_core.specs.Device.{IsDevice};
+ghost use Rattle.slot_core.specs.Device.{IsDevice, BreaksAt};
 ghost use Rattle.slot_core.specs.Fields.{Shows};
 ghost use Rattle.slot_core.specs.Refusals.{RefusesDevice, RefusesBytes, RefusesRead};
 ghost use Rattle.slot_core.specs.Moments.{LeavesOnly};
-ghost use Rattle.slot_core.specs.declared.fault.SlotFault.TheVariants.{TooLong, DiskFault};
+ghost use Rattle.slot_core.specs.declared.fault.SlotFault.TheVariants.{BadDevice, TooLong, DiskFault};
 
 use crate::device::{LENGTH, MAX_CAPACITY, slot_at};
 use crate::disk::Disk;
@@ -58,6 +58,8 @@ impl Slots {
     pub fn attach<D: Disk>(disk: &mut D) -> Result<Slots, SlotFault>
         ensures ok { IfOk result (λ slots. Shows (D.state disk.old).told (λ _. (bytes : List ℕ) × IsSlotsOf (D.state disk.new) slots bytes)) }
         ensures refusal { IfErr result (λ fault. RefusesDevice (D.state disk.old) (D.state disk.new) fault) }
+        ensures broken { (at : ℕ)
+            → Shows (D.state disk.old).told (λ device. BreaksAt device at → (result ≡ Err (BadDevice at)) ⊎ (result ≡ Err DiskFault)) }
         ensures whole { (capacity : ℕ) (bytes : List ℕ)
             → Shows (D.state disk.old).told (λ device. IsDevice capacity bytes device → IfErr result (λ fault. fault ≡ DiskFault)) }
         ensures later { (D.state disk.old).faults ≤ (D.state disk.new).faults }
