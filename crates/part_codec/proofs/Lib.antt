@@ -1,4 +1,3 @@
-pub mod PartFacts
 pub mod PartBounds
 pub mod PartOfFields
 pub mod PlaneBytes
@@ -6,7 +5,13 @@ pub mod Planes
 pub mod MixedTexts
 pub mod PartTexts
 mod Appends
-pub mod Wrapped
 pub mod Loops
 pub mod Words
 pub mod Lengths
+pub mod MachineLaws
+pub mod FieldSteps
+pub mod MachineStands
+pub mod Scans
+pub mod Collects
+pub mod Readings
+pub mod Onces

@@ -1,5 +1,5 @@
 -- Planes that are read one after the other into one list of words.
-use Rattle.std.proofs.Common.{◌≡◌, ℕ, zero, suc, ◌+◌, ◌-◌, ◌*◌, ◌/◌, ◌^◌, ◌<◌, ◌≤◌, Result, Ok, Err, List, [], ◌∷◌, ◌++◌, length, get_or, drop, true, refl, sym}
+use Rattle.std.proofs.Common.{◌≡◌, ℕ, zero, suc, ◌+◌, ◌*◌, ◌/◌, ◌^◌, ◌<◌, List, [], ◌∷◌, ◌++◌, length, get_or, drop, true, refl, sym}
 use Rattle.std.proofs.Common.{ap, ◌∙◌, subst, length-append, below_more, arith}
 use Rattle.std.specs.Prelude.{map}
 use Rattle.std.specs.List.{range_with_len}
@@ -8,25 +8,13 @@ use Rattle.std.specs.Simd.{first_chunks}
 use Rattle.std.proofs.lemmas.Bool.{ltb-true}
 use Rattle.std.proofs.lemmas.List.{length-map, get_or_append_left, get_or-append-add}
 use Rattle.std.proofs.lemmas.List.FromFn.{length-map-range_with_len, get_or-map-range_with_len, map-range_with_len_more, fill_by_all}
-use Rattle.octets_core.specs.Layout.{then_read, whole, repeated}
-use Rattle.octets_core.specs.declared.field.Field.{Field}
-use Rattle.octets_core.specs.declared.fault.LayoutFault.{LayoutFault}
-use Rattle.octets_core.proofs.Repeated.{with_front, goes_on, ends, is_done}
 use Rattle.equation_core.specs.Sizes.{columns_for, words_for}
 use Rattle.ribbon_core.specs.PlaneWords.{word_of, plane_of_words, columns_of}
 use Rattle.ribbon_core.proofs.BackSubstitution.{number_same}
 use Rattle.ribbon_core.proofs.Words.{plane_room}
 use Rattle.part_codec.specs.PlaneBytes.{columns_of_bytes, is_padded}
-use Rattle.part_codec.specs.PartLayout.{plane_bytes, plane}
+use Rattle.part_codec.specs.ReadWords.{AreRead, spelled}
 use Rattle.part_codec.proofs.PlaneBytes.{number-spelled}
-
--- these are the words of so many planes, with their padding
-pub record AreRead (starts count : ℕ) (words : List ℕ) : Type 0 where
-  pub room : length words ≡ count * words_for starts
-  pub padding : (plane : ℕ) → plane < count → plane_of_words words (words_for starts) plane < 2 ^ columns_for starts
-
-abbrev pub spelled : ℕ → List ℕ → List ℕ
-spelled n bytes = map (from_be_bytes w64) (first_chunks 8 n bytes)
 
 pub length-first_chunks : {X : Type 0} (k n : ℕ) (xs : List X) → length (first_chunks k n xs) ≡ n
 length-first_chunks k zero xs = refl
@@ -81,45 +69,5 @@ none_read starts words is = record {
   padding = λ plane lt. absurd (omega arith);
 }
 
--- ---- the loop that reads them
-
-plane-of_bytes : (name : Field) (starts : ℕ) (bytes : List ℕ) (p : ℕ) (x : List ℕ) (q : ℕ) → plane_bytes name starts bytes p ≡ Ok (x, q)
-    → plane name starts bytes p ≡ Ok (columns_of_bytes (words_for starts) x, q)
-unfolding plane
-plane-of_bytes name starts bytes p x q h = ap (λ (r : Result (List ℕ × ℕ) LayoutFault). then_read r (λ b. whole (columns_of_bytes (words_for starts) b)) bytes) h
-
-plane-of_fault : (name : Field) (starts : ℕ) (bytes : List ℕ) (p : ℕ) (e : LayoutFault) → plane_bytes name starts bytes p ≡ Err e → plane name starts bytes p ≡ Err e
-unfolding plane
-plane-of_fault name starts bytes p e h = ap (λ (r : Result (List ℕ × ℕ) LayoutFault). then_read r (λ b. whole (columns_of_bytes (words_for starts) b)) bytes) h
-
--- what is left to read behind some planes
-abbrev pub left : Field → ℕ → ℕ → List ℕ → ℕ → Result (List ℕ × ℕ) LayoutFault
-left name starts n bytes p = repeated (λ (s : Unit {0}). plane name starts) (λ s Z. s) n tt bytes p
-
-words-are : (starts : ℕ) (x : List ℕ) → length x ≡ 8 * words_for starts → map (from_be_bytes w64) (first_chunks 8 (length x / 8) x) ≡ spelled (words_for starts) x
+pub words-are : (starts : ℕ) (x : List ℕ) → length x ≡ 8 * words_for starts → map (from_be_bytes w64) (first_chunks 8 (length x / 8) x) ≡ spelled (words_for starts) x
 words-are starts x len = let n : length x / 8 ≡ words_for starts = omega (arith, len) in ap (λ (k : ℕ). spelled k x) n
-
-module _ (name : Field) (starts count i : ℕ) (words : List ℕ) (bytes : List ℕ) (p : ℕ) (total : Result (List ℕ × ℕ) LayoutFault) (lt : i < count)
-    (so_far : with_front (columns_of starts i words) (left name starts (count - i) bytes p) ≡ total) where
-  module _ (more x : List ℕ) (q : ℕ) (are : AreRead starts i words) (len : length x ≡ 8 * words_for starts)
-      (is : more ≡ words ++ map (from_be_bytes w64) (first_chunks 8 (length x / 8) x)) where
-    longer_is : more ≡ words ++ spelled (words_for starts) x
-    longer_is = is ∙ ap (λ (l : List ℕ). words ++ l) (words-are starts x len)
-
-    pub one_more : plane_bytes name starts bytes p ≡ Ok (x, q) → with_front (columns_of starts (i + 1) more) (left name starts (count - (i + 1)) bytes q) ≡ total
-    one_more h =
-        let front : columns_of starts (i + 1) more ≡ columns_of starts i words
-        ++ columns_of_bytes (words_for starts) x ∷ [] = ap (columns_of starts (i + 1)) longer_is ∙ columns-more starts i words x are in
-        ap (λ (l : List ℕ). with_front l (left name starts (count - (i + 1)) bytes q)) front
-        ∙ goes_on (λ (s : Unit {0}). plane name starts) (λ s Z. s) (columns_of starts i words) count i tt bytes p (columns_of_bytes (words_for starts) x) q
-        total lt (plane-of_bytes name starts bytes p x q h) so_far
-
-    pub one_more_padded : is_padded starts x ≡ true → AreRead starts (i + 1) more
-    one_more_padded padded = subst (AreRead starts (i + 1)) (sym longer_is) (are_read-more starts i words x are padded)
-
-  pub one_fails : (e : LayoutFault) → plane_bytes name starts bytes p ≡ Err e → total ≡ Err e
-  one_fails e h = ends (λ (s : Unit {0}). plane name starts) (λ s Z. s) (columns_of starts i words) count i tt bytes p e total lt (plane-of_fault name starts bytes p e h) so_far
-
-pub all_read : (name : Field) (starts count i : ℕ) (words bytes : List ℕ) (p : ℕ) (total : Result (List ℕ × ℕ) LayoutFault) → count ≤ i
-    → with_front (columns_of starts i words) (left name starts (count - i) bytes p) ≡ total → total ≡ Ok (columns_of starts i words, p)
-all_read name starts count i words bytes p total le so_far = is_done (λ (s : Unit {0}). plane name starts) (λ s Z. s) (columns_of starts i words) count i tt bytes p total le so_far

@@ -5,3 +5,12 @@ pub mod PartText
 pub mod Fitting
 pub mod Offsets
 pub mod Hashing
+pub mod Remaining
+pub mod Stepping
+pub mod Scanning
+pub mod Standing
+pub mod Noting
+pub mod ReadWords
+pub mod PileFields
+pub mod Collecting
+pub mod ReaderStanding

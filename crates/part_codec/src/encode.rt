@@ -30,7 +30,7 @@ const STAGE: usize = 5;
 const MAX_STAGE: usize = 10_000_000;
 
 /// No block has more bytes: its issuer, its mode, a count of planes and two stages.
-const MAX_BLOCK: usize = 34 + 2 * MAX_STAGE;
+pub(crate) const MAX_BLOCK: usize = 34 + 2 * MAX_STAGE;
 
 #[tactic(auto, unfolding(crate::specs::PartText::head_text))]
 fn put_head(out: &mut Vec<u8>, version: u8, head: &Head) -> Result<(), NoMemory>

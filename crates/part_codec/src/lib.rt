@@ -5,11 +5,18 @@
 mod decode;
 mod encode;
 mod fault;
+mod fields;
 mod laws;
+mod machine;
+mod pile;
+mod reader;
+mod scan;
 mod sealed;
 
 pub use decode::decode_part;
 pub use encode::encode_part;
 pub use fault::PartFault;
 pub use laws::{a_text_is_read_back, bytes_behind_change_nothing};
+pub use reader::PartReader;
+pub use scan::{PartNote, PartScan};
 pub use sealed::{Sealed, seal};

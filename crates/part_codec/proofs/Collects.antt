@@ -1,0 +1,230 @@
+-- What is collected is what was seen.
+use Rattle.std.proofs.Common.{◌≡◌, ℕ, zero, suc, ◌+◌, ◌-◌, ◌*◌, ◌/◌, ◌≤◌, Bool, true, false, List, [], ◌∷◌, ◌++◌, length, drop, Option, Some, None, refl, sym, ap, subst, ◌∙◌, arith}
+use Rattle.std.specs.Prelude.{map}
+use Rattle.std.specs.Int.{w8, w16, w32, w64, from_be_bytes}
+use Rattle.std.specs.Simd.{first_chunks}
+use Rattle.std.proofs.lemmas.List.{drop-append-le}
+use Rattle.equation_core.specs.declared.hash.TheConstants.{MAX_PLANES}
+use Rattle.equation_core.specs.Sizes.{words_for}
+use Rattle.ribbon_core.specs.PlaneWords.{columns_of, ArePlanes}
+use Rattle.ident_core.specs.declared.range.Range.{Range}
+use Rattle.card_core.specs.declared.block.Block.{Block}
+use Rattle.card_core.specs.declared.leaf.Leaf.TheVariants as leaves_of
+use Rattle.card_core.specs.Filter.{as_body}
+use Rattle.card_core.specs.declared.stage.Stage.{Stage}
+use Rattle.part_codec.specs.PlaneBytes.{columns_of_bytes, is_padded}
+use Rattle.part_codec.specs.ReadWords.{AreRead, spelled}
+use Rattle.part_codec.specs.PileFields.{PileFields}
+use Rattle.part_codec.specs.declared.fields.Kept.{Kept}
+use Rattle.part_codec.specs.declared.fields.Open.{Open}
+use Rattle.part_codec.specs.declared.fields.Open.TheVariants as opens
+use Rattle.part_codec.specs.declared.machine.Machine.{Machine}
+use Rattle.part_codec.specs.Remaining.{Seen, with_approx, with_plane, column_of, mixed_of, with_block, kept_range}
+use Rattle.part_codec.specs.Remaining.{kept_ranges, kept_issuers, kept_mode, kept_leaves}
+use Rattle.part_codec.specs.Stepping.{seen_mode, kept_after, open_range, open_block, open_mode, open_approx, open_plane, open_after}
+use Rattle.part_codec.specs.Stepping.{seen_after, AreStarts, Passed, open_leaf, in_front, IsOpen}
+use Rattle.part_codec.specs.Scanning.{Stands, Moved, seen_when}
+use Rattle.part_codec.specs.Collecting.{with_words, cleared, stage_by, pile_mode, pile_plane, pile_exact, pile_after, pile_when}
+use Rattle.part_codec.specs.Collecting.{pile_passed, CanCollect, FewPlanes, IsApprox, IsExact, Staged, Collects, Reads, ReadsFront}
+use Rattle.part_codec.proofs.FieldSteps.{leaf-starts}
+use Rattle.part_codec.proofs.MachineStands.{drop-all, front-moved}
+use Rattle.part_codec.proofs.Planes.{columns-more, are_read-more, none_read, words-are}
+
+staged-range : (n : ℕ) (k : Kept) (s : Seen) (p : PileFields) → Staged (open_range n) k s p []
+staged-range zero k s p = tt
+staged-range (suc n) k s p = tt
+
+staged-block : (n : ℕ) (k : Kept) (s : Seen) (p : PileFields) → Staged (open_block n) k s p []
+staged-block zero k s p = tt
+staged-block (suc n) k s p = tt
+
+staged-approx : (n : ℕ) (k : Kept) (s : Seen) (p : PileFields) → k.planes ≡ n → n ≤ MAX_PLANES → s.approx ≡ p.approx → Staged (open_approx n) k s p []
+staged-approx zero k s p is few same = same
+staged-approx (suc n) k s p is few same = (omega (arith, is), omega (arith, is, few))
+
+collected-mode : (mode : ℕ) (k : Kept) (s : Seen) (p : PileFields) → s.ranges ≡ p.ranges → s.blocks ≡ p.blocks
+    → Collects (open_mode (kept_mode mode k).mode (kept_mode mode k).leaves (kept_mode mode k).left) (kept_mode mode k) (seen_mode mode k s) (pile_mode (kept_mode mode k).mode (kept_mode mode k) p) []
+collected-mode zero k s p ranges blocks = record {
+  ranges = ranges;
+  blocks = ap (λ (l : List Block). l ++ record { issuer = k.key; body = as_body leaves_of.Clean } ∷ []) blocks;
+  stage = staged-block (k.left - 1) (kept_mode 0 k) _ _;
+}
+collected-mode (suc zero) k s p ranges blocks = record {
+  ranges = ranges;
+  blocks = ap (λ (l : List Block). l ++ record { issuer = k.key; body = as_body leaves_of.Every } ∷ []) blocks;
+  stage = staged-block (k.left - 1) (kept_mode 1 k) _ _;
+}
+collected-mode (suc (suc n)) k s p ranges blocks = record { ranges = ranges; blocks = blocks; stage = tt }
+
+-- behind a plane, or before the first
+piled-plane : (n : ℕ) (k : Kept) (s : Seen) (q : PileFields) → k.planes ≡ n → s.ranges ≡ q.ranges → s.blocks ≡ q.blocks → s.approx ≡ Some (stage_by k q)
+    → s.columns ≡ columns_of k.starts q.done q.words
+    → AreRead k.starts q.done q.words → q.done + n ≤ MAX_PLANES → q.plane ≡ [] → Collects (open_plane n) k s (pile_plane n k q) []
+piled-plane zero k s q is ranges blocks approx columns read few none = record { ranges = ranges; blocks = blocks; stage = approx }
+piled-plane (suc n) k s q is ranges blocks approx columns read few none =
+    record { ranges = ranges; blocks = blocks; stage = record { columns = columns; read = read; some = omega (arith, is); few = omega (arith, is, few); plane = none } }
+
+first-plane : (n : ℕ) (k : Kept) (s : Seen) (q : PileFields) → k.planes ≡ n → 1 ≤ n → n ≤ MAX_PLANES → s.ranges ≡ q.ranges → s.blocks ≡ q.blocks
+    → Collects (open_plane n) k (with_approx k (record s { columns = [] })) (cleared q) []
+first-plane zero k s q is some few ranges blocks = absurd (omega arith)
+first-plane (suc n) k s q is some few ranges blocks =
+    record { ranges = ranges; blocks = blocks; stage = record { columns = refl; read = none_read k.starts [] refl; some = omega (arith, is); few = omega (arith, is, few); plane = refl } }
+
+starts-plane : (k : Kept) (s : Seen) (p : PileFields) → s.ranges ≡ p.ranges → s.blocks ≡ p.blocks → FewPlanes k
+    → Collects (open_plane k.planes) k (with_approx k (record s { columns = [] })) (cleared p) []
+starts-plane k s p ranges blocks few = first-plane k.planes k s p refl few.0 few.1 ranges blocks
+
+-- the words of the open plane
+more-words : (starts : ℕ) (p : PileFields) (P : List ℕ) → p.plane ≡ P → length P ≡ 8 * words_for starts → (with_words p).words ≡ p.words ++ spelled (words_for starts) P
+more-words starts p P is len = ap (λ (l : List ℕ). p.words ++ map (from_be_bytes w64) (first_chunks 8 (length l / 8) l)) is ∙ ap (λ (l : List ℕ). p.words ++ l) (words-are starts P len)
+
+more-columns : (starts : ℕ) (p : PileFields) (P : List ℕ) (columns : List ℕ) → p.plane ≡ P → length P ≡ 8 * words_for starts → AreRead starts p.done p.words
+    → columns ≡ columns_of starts p.done p.words
+    → (k : Kept) → k.starts ≡ starts → columns ++ column_of k P ∷ [] ≡ columns_of starts (p.done + 1) (with_words p).words
+more-columns starts p P columns is len read same k at =
+    ap (λ (l : List ℕ). l ++ column_of k P ∷ []) same
+    ∙ ap (λ (n : ℕ). columns_of starts p.done p.words ++ columns_of_bytes (words_for n) P ∷ []) at
+    ∙ sym (ap (columns_of starts (p.done + 1)) (more-words starts p P is len) ∙ columns-more starts p.done p.words P read)
+
+more-read : (starts : ℕ) (p : PileFields) (P : List ℕ) → p.plane ≡ P → (is_padded starts P ≡ true) × (length P ≡ 8 * words_for starts) → AreRead starts p.done p.words
+    → AreRead starts (p.done + 1) (with_words p).words
+more-read starts p P is told read = subst (AreRead starts (p.done + 1)) (sym (more-words starts p P is told.1)) (are_read-more starts p.done p.words P read told.0)
+
+collected-plane : (k : Kept) (s : Seen) (p : PileFields) (P : List ℕ) → s.ranges ≡ p.ranges → s.blocks ≡ p.blocks → IsApprox k s p P
+    → (is_padded k.starts P ≡ true) × (length P ≡ 8 * words_for k.starts)
+    → Collects (open_plane (k.planes - 1)) (record k { planes = k.planes - 1 }) (with_approx k (with_plane k s P)) (pile_plane (k.planes - 1) (record k { planes = k.planes - 1 }) (with_words p)) []
+collected-plane k s p P ranges blocks st told =
+    let columns : s.columns ++ column_of k P ∷ [] ≡ columns_of k.starts (p.done + 1) (with_words p).words = more-columns k.starts p P s.columns st.plane told.1 st.read st.columns k refl in
+    piled-plane (k.planes - 1) (record k { planes = k.planes - 1 }) (with_approx k (with_plane k s P)) (with_words p) refl ranges blocks
+    (ap (λ (l : List ℕ). Some (record { seed = k.seed; planes = record { starts = k.starts; columns = l } })) columns) columns (more-read k.starts p P st.plane told st.read) (omega
+    (arith, st.some, st.few)) refl
+
+none-read : (starts : ℕ) (p : PileFields) → p.done ≡ 0 → p.words ≡ [] → AreRead starts p.done p.words
+none-read starts p none words = rw none (none_read starts p.words words)
+
+mixed_with : Kept → Option Stage → List ℕ → Block
+mixed_with k approx columns =
+    record { issuer = k.key; body = as_body (leaves_of.Mixed (record { approx = approx; exact = record { seed = k.seed; planes = record { starts = k.starts; columns = columns } } })) }
+
+collected-exact : (n : ℕ) (k : Kept) (s : Seen) (p : PileFields) (P : List ℕ) → k.leaves - 1 ≡ n → k.leaves ≡ 1 → s.ranges ≡ p.ranges → s.blocks ≡ p.blocks → IsExact s p P
+    → length P ≡ 8 * words_for k.starts
+    → Collects (open_leaf (kept_leaves n k).leaves (kept_leaves n k).left) (kept_leaves n k) (with_block s k (mixed_of k (record s { columns = column_of k P ∷ [] }))) (pile_exact (kept_leaves n k) p) []
+unfolding mixed_with
+collected-exact (suc n) k s p P is one ranges blocks st len = absurd (omega (arith, is, one))
+collected-exact zero k s p P is one ranges blocks st len =
+    let none : [] ≡ columns_of k.starts p.done p.words = sym (ap (λ (n : ℕ). columns_of k.starts n p.words) st.none) in
+    let columns : column_of k P ∷ [] ≡ columns_of k.starts (p.done + 1) (with_words p).words = more-columns k.starts p P [] st.plane len (none-read k.starts p st.none st.words) none k refl in
+    record {
+      ranges = ranges;
+      blocks =
+          ap (λ (l : List Block). l ++ mixed_with k s.approx (column_of k P ∷ []) ∷ []) blocks
+          ∙ ap (λ (a : Option Stage). p.blocks ++ mixed_with k a (column_of k P ∷ []) ∷ []) st.approx
+          ∙ ap (λ (l : List ℕ). p.blocks ++ mixed_with k p.approx l ∷ []) columns;
+      stage = staged-block (k.left - 1) (kept_leaves 0 k) _ _;
+    }
+
+collected-steps : (o : Open) (k : Kept) (s : Seen) (p : PileFields) (P : List ℕ) → IsOpen o k → Collects o k s p P → Passed o k P
+    → Collects (open_after o (kept_after o k P)) (kept_after o k P) (seen_after o k s P) (pile_after o (kept_after o k P) p) []
+collected-steps opens.Ranges k s p P opened c told = record { ranges = refl; blocks = c.blocks; stage = staged-range (from_be_bytes w16 P) (kept_ranges k (from_be_bytes w16 P)) (record s { ranges = [] }) (record p { ranges = [] }) }
+collected-steps opens.RangeTo k s p P opened c told = record { ranges = ap (λ (l : List Range). l ++ record { log = k.key; from = k.from; to = from_be_bytes w64 P } ∷ []) c.ranges; blocks = c.blocks; stage = staged-range (k.ranges_left - 1) (kept_range (record k { to = from_be_bytes w64 P })) _ _ }
+collected-steps opens.Issuers k s p P opened c told = record { ranges = c.ranges; blocks = refl; stage = staged-block (from_be_bytes w32 P) (kept_issuers k (from_be_bytes w32 P)) (record s { blocks = [] }) (record p { blocks = [] }) }
+collected-steps opens.BlockMode k s p P opened c told = collected-mode (from_be_bytes w8 P) k s p c.ranges c.blocks
+collected-steps opens.BlockK k s p P opened c told = record { ranges = c.ranges; blocks = c.blocks; stage = staged-approx (from_be_bytes w8 P) (record k { planes = from_be_bytes w8 P }) (record s { approx = None }) (record p { approx = None }) refl told refl }
+collected-steps opens.ApproxSeed k s p P opened c told = record { ranges = c.ranges; blocks = c.blocks; stage = c.stage }
+collected-steps opens.ApproxStarts k s p P opened c told = starts-plane (record k { starts = from_be_bytes w32 P }) s p c.ranges c.blocks c.stage
+collected-steps opens.ApproxPlane k s p P opened c told = collected-plane k s p P c.ranges c.blocks c.stage told
+collected-steps opens.ExactSeed k s p P opened c told = record { ranges = c.ranges; blocks = c.blocks; stage = c.stage }
+collected-steps opens.ExactStarts k s p P opened c told = record { ranges = c.ranges; blocks = c.blocks; stage = record { approx = c.stage; none = refl; words = refl; plane = refl } }
+collected-steps opens.ExactPlane k s p P opened c told = collected-exact (k.leaves - 1) k s p P refl opened.1 c.ranges c.blocks c.stage told.1
+collected-steps o k s p P opened c told = record { ranges = c.ranges; blocks = c.blocks; stage = tt }
+
+collects-more : (o : Open) (k : Kept) (s : Seen) (p : PileFields) (P t : List ℕ) → Collects o k s p P → Collects o k s (pile_passed o p t) (P ++ t)
+collects-more opens.ApproxPlane k s p P t c = record { ranges = c.ranges; blocks = c.blocks; stage = record { columns = c.stage.columns; read = c.stage.read; some = c.stage.some; few = c.stage.few; plane = ap (λ (l : List ℕ). l ++ t) c.stage.plane } }
+collects-more opens.ExactPlane k s p P t c = record { ranges = c.ranges; blocks = c.blocks; stage = record { approx = c.stage.approx; none = c.stage.none; words = c.stage.words; plane = ap (λ (l : List ℕ). l ++ t) c.stage.plane } }
+collects-more o k s p P t c = record { ranges = c.ranges; blocks = c.blocks; stage = c.stage }
+
+are-planes : (k : Kept) (s : Seen) (p : PileFields) (P : List ℕ) → IsApprox k s p P → AreStarts k.starts → (is_padded k.starts P ≡ true) × (length P ≡ 8 * words_for k.starts)
+    → ArePlanes k.starts (p.done + 1) (with_words p).words
+are-planes k s p P st starts told =
+    let read = more-read k.starts p P st.plane told st.read in
+    record { some_starts = starts.0; few_starts = starts.1; some_planes = omega arith; few_planes = omega (arith, st.few, st.some); room = read.room; padding = read.padding }
+
+are-exact : (k : Kept) (s : Seen) (p : PileFields) (P : List ℕ) → IsExact s p P → AreStarts k.starts → (is_padded k.starts P ≡ true) × (length P ≡ 8 * words_for k.starts)
+    → ArePlanes k.starts (p.done + 1) (with_words p).words
+are-exact k s p P st starts told =
+    let read = more-read k.starts p P st.plane told (none-read k.starts p st.none st.words) in
+    record { some_starts = starts.0; few_starts = starts.1; some_planes = omega arith; few_planes = omega (arith, st.none); room = read.room; padding = read.padding }
+
+can-collect : (o : Open) (k : Kept) (s : Seen) (p : PileFields) (P : List ℕ) → Collects o k s p P → AreStarts k.starts → Passed o k P → CanCollect o (kept_after o k P) p
+can-collect opens.ApproxPlane k s p P c starts told = are-planes k s p P c.stage starts told
+can-collect opens.ExactPlane k s p P c starts told = rw (leaf-starts (k.leaves - 1) k) (are-exact k s p P c.stage starts told, c.stage.none)
+can-collect o k s p P c starts told = tt
+
+-- ---- one step of a reader
+
+drop-more : (m : Machine) (s : Seen) (b t : List ℕ) → Stands m s b → drop m.at b ++ t ≡ drop m.at (b ++ t)
+drop-more m s b t st = sym (drop-append-le m.at b t (omega (arith, st.place)))
+
+collected-so_far : (m : Machine) (s : Seen) (p q : PileFields) (b t : List ℕ) → Stands m s b → Collects m.field m.kept s p (drop m.at b) → q ≡ pile_passed m.field p t
+    → Collects m.field m.kept s q (drop m.at (b ++ t))
+collected-so_far m s p q b t st c is =
+    subst (λ (l : List ℕ). Collects m.field m.kept s q l) (drop-more m s b t st) (rw is (collects-more m.field m.kept s p (drop m.at b) t c))
+
+pub can-settle : (m n : Machine) (p q : PileFields) (b t : List ℕ) → Reads m p b → q ≡ pile_passed m.field p t → Moved true m n (b ++ t) → CanCollect m.field n.kept q
+can-settle m n p q b t r is moved =
+    rw moved.kept (can-collect m.field m.kept r.0 q (drop m.at (b ++ t)) (collected-so_far m r.0 p q b t r.1 r.2 is) m.starts moved.passed)
+
+drop-end : (n : ℕ) (l : List ℕ) → n ≡ length l → [] ≡ drop n l
+drop-end n l is = sym (drop-all n l is)
+
+settled : (w : Bool) (m n : Machine) (s : Seen) (q r : PileFields) (bt : List ℕ) → IsOpen m.field m.kept → Collects m.field m.kept s q (drop m.at bt) → Moved w m n bt
+    → r ≡ pile_when w m.field n.kept q
+    → Collects n.field n.kept (seen_when w m s (drop m.at bt)) r (drop n.at bt)
+settled true m n s q r bt opened c v is =
+    let done = collected-steps m.field m.kept s q (drop m.at bt) opened c v.passed in
+    let k : Collects (open_after m.field n.kept) n.kept (seen_after m.field m.kept s (drop m.at bt)) (pile_after m.field n.kept q) [] =
+    subst (λ (x : Kept). Collects (open_after m.field x) x (seen_after m.field m.kept s (drop m.at bt)) (pile_after m.field x q) []) (sym v.kept) done in
+    let o = subst (λ (x : Open). Collects x n.kept (seen_after m.field m.kept s (drop m.at bt)) (pile_after m.field n.kept q) []) (sym v.field) k in
+    let l = subst (λ (x : List ℕ). Collects n.field n.kept (seen_after m.field m.kept s (drop m.at bt)) (pile_after m.field n.kept q) x) (drop-end n.at bt v.at) o in
+    subst (λ (x : PileFields). Collects n.field n.kept (seen_after m.field m.kept s (drop m.at bt)) x (drop n.at bt)) (sym is) l
+settled false m n s q r bt opened c v is =
+    subst (λ (x : PileFields). Collects n.field n.kept s x (drop n.at bt)) (sym is)
+    (subst (λ (x : ℕ). Collects n.field n.kept s q (drop x bt)) (sym v.at)
+    (subst (λ (x : Kept). Collects n.field x s q (drop m.at bt)) (sym v.kept)
+    (subst (λ (x : Open). Collects x m.kept s q (drop m.at bt)) (sym v.field) c)))
+
+pub reads-step : (w : Bool) (m n : Machine) (p q r : PileFields) (b t : List ℕ) → (read : Reads m p b) → q ≡ pile_passed m.field p t → Moved w m n (b ++ t) → r ≡ pile_when w m.field n.kept q
+    → Stands n (seen_when w m read.0 (drop m.at (b ++ t))) (b ++ t) → Reads n r (b ++ t)
+reads-step w m n p q r b t read is moved made st =
+    (seen_when w m read.0 (drop m.at (b ++ t)), st, settled w m n read.0 q r (b ++ t) read.1.opens.opened (collected-so_far m read.0 p q b t read.1 read.2 is) moved made)
+
+-- ---- at the trailer nothing is collected
+
+passed-none : (o : Open) (p : PileFields) (t : List ℕ) → in_front o ≡ false → p ≡ pile_passed o p t
+passed-none opens.Trailer p t last = refl
+passed-none opens.Done p t last = refl
+passed-none o p t last = absurd cc
+
+seen-same : (o : Open) (k : Kept) (s : Seen) (P : List ℕ) → in_front o ≡ false → seen_after o k s P ≡ s
+seen-same opens.Trailer k s P last = refl
+seen-same opens.Done k s P last = refl
+seen-same o k s P last = absurd cc
+
+seen-none : (w : Bool) (m : Machine) (s : Seen) (P : List ℕ) → in_front m.field ≡ false → seen_when w m s P ≡ s
+seen-none true m s P last = seen-same m.field m.kept s P last
+seen-none false m s P last = refl
+
+pile-none : (w : Bool) (o : Open) (k : Kept) (p : PileFields) → in_front o ≡ false → p ≡ pile_when w o k p
+pile-none true opens.Trailer k p last = refl
+pile-none true opens.Done k p last = refl
+pile-none true o k p last = absurd cc
+pile-none false o k p last = refl
+
+pub reads-end : (w : Bool) (m n : Machine) (p : PileFields) (b t : List ℕ) → in_front m.field ≡ false → (read : Reads m p b) → Moved w m n (b ++ t) → Stands n read.0 (b ++ t) → Reads n p (b ++ t)
+reads-end w m n p b t last read moved st =
+    let c = settled w m n read.0 p p (b ++ t) read.1.opens.opened (collected-so_far m read.0 p p b t read.1 read.2 (passed-none m.field p t last)) moved (pile-none w m.field n.kept p last) in
+    (read.0, st, subst (λ (s : Seen). Collects n.field n.kept s p (drop n.at (b ++ t))) (seen-none w m read.0 (drop m.at (b ++ t)) last) c)
+
+-- no byte of the trailer came
+pub reads-front : (w : Bool) (m n : Machine) (r : PileFields) (b : List ℕ) → in_front m.field ≡ true → Moved w m n b → Reads n r b → ReadsFront n r b
+reads-front w m n r b front moved read = record { reads = read; front = front-moved w m n b front moved }

@@ -1,0 +1,19 @@
+use Rattle.std.proofs.Common.{Ok, sym, ap, ◌∙◌}
+use Rattle.part_codec.specs.declared.scan.PartNote.{PartNote}
+use Rattle.part_codec.proofs.Scans.{by-none, behind-of, faulty, noted-short, noted-done}
+use Rattle.part_codec.proofs.scan.PartScan.finish.Goals as goal
+
+pub returns-in-Some-clause-exact : goal.returns-in-Some-clause-exact
+returns-in-Some-clause-exact c = λ b st. faulty c.args.self.fault c.in-Some.fault c.args.self.machine c.args.self.hasher b c.in-Some.is st
+
+pub returns-then-not-is_done-clause-exact : goal.returns-then-not-is_done-clause-exact
+returns-then-not-is_done-clause-exact c = λ b st.
+    let s = c.args.self in
+    noted-short s.machine b c.short.result (behind-of s.machine s.hasher b (by-none s.fault s.machine s.hasher b c.in_default.is st))
+    (λ done. let is = c.is_done.ensures.1 done in let not = c.if-not-is_done.true in absurd cc) (s.partial c.in_default.is) c.short.ensures
+
+pub returns-clause-exact : goal.returns-clause-exact
+returns-clause-exact c = λ b st.
+    let s = c.args.self in
+    noted-done s.machine b (behind-of s.machine s.hasher b (by-none s.fault s.machine s.hasher b c.in_default.is st)) (c.is_done.ensures.0 c.if-not-is_done.false)
+    ∙ ap (λ (n : PartNote). Ok n) (sym c.note.ensures)

@@ -1,0 +1,129 @@
+-- What a part that is read in pieces is collected into, and when that is what was seen.
+use Rattle.std.specs.Prelude.{◌≡◌, ℕ, zero, suc, ◌+◌, ◌/◌, ◌≤◌, List, [], ◌∷◌, ◌++◌, length, map, drop, Bool, true, false, Some, None}
+use Rattle.std.specs.Int.{w64, from_be_bytes}
+use Rattle.std.specs.Simd.{first_chunks}
+use Rattle.sha2.specs.declared.Sha256.{Sha256}
+use Rattle.equation_core.specs.declared.hash.TheConstants.{MAX_PLANES}
+use Rattle.ribbon_core.specs.PlaneWords.{columns_of, ArePlanes}
+use Rattle.card_core.specs.declared.leaf.Leaf.{Leaf}
+use Rattle.card_core.specs.declared.leaf.Leaf.TheVariants as leaves_of
+use Rattle.card_core.specs.Filter.{as_body}
+use Rattle.card_core.specs.declared.stage.Stage.{Stage}
+use Rattle.part_codec.specs.ReadWords.{AreRead}
+use Rattle.part_codec.specs.PileFields.{PileFields}
+use Rattle.part_codec.specs.declared.fields.Kept.{Kept}
+use Rattle.part_codec.specs.declared.fields.Open.{Open}
+use Rattle.part_codec.specs.declared.fields.Open.TheVariants as opens
+use Rattle.part_codec.specs.declared.machine.Machine.{Machine}
+use Rattle.part_codec.specs.Remaining.{Seen}
+use Rattle.part_codec.specs.Scanning.{Stands, Hashes, hashed_to}
+
+abbrev pub nothing_piled : PileFields
+nothing_piled = record { ranges = []; blocks = []; approx = None; words = []; done = 0; plane = [] }
+
+-- the words of the open plane behind those before it
+abbrev pub with_words : PileFields → PileFields
+with_words p = record p { words = p.words ++ map (from_be_bytes w64) (first_chunks 8 (length p.plane / 8) p.plane); done = p.done + 1; plane = [] }
+
+abbrev pub cleared : PileFields → PileFields
+cleared p = record p { words = []; done = 0; plane = [] }
+
+abbrev pub stage_by : Kept → PileFields → Stage
+stage_by k p = record { seed = k.seed; planes = record { starts = k.starts; columns = columns_of k.starts p.done p.words } }
+
+abbrev pub with_leaf : Kept → Leaf → PileFields → PileFields
+with_leaf k l p = record p { blocks = p.blocks ++ record { issuer = k.key; body = as_body l } ∷ [] }
+
+abbrev pub pile_mode : ℕ → Kept → PileFields → PileFields
+pile_mode zero k p = with_leaf k leaves_of.Clean p
+pile_mode (suc zero) k p = with_leaf k leaves_of.Every p
+pile_mode (suc (suc n)) k p = p
+
+-- behind the last plane the stage is whole
+abbrev pub pile_plane : ℕ → Kept → PileFields → PileFields
+pile_plane zero k p = record p { approx = Some (stage_by k p) }
+pile_plane (suc n) k p = p
+
+abbrev pub exact_leaf : Kept → PileFields → Leaf
+exact_leaf k p = leaves_of.Mixed (record { approx = p.approx; exact = stage_by k (with_words p) })
+
+abbrev pub pile_exact : Kept → PileFields → PileFields
+pile_exact k p = record (with_leaf k (exact_leaf k p) (with_words p)) { approx = None }
+
+-- behind a field that passed, from what is kept then
+abbrev pub pile_after : Open → Kept → PileFields → PileFields
+pile_after opens.Ranges k p = record p { ranges = [] }
+pile_after opens.RangeTo k p = record p { ranges = p.ranges ++ record { log = k.key; from = k.from; to = k.to } ∷ [] }
+pile_after opens.Issuers k p = record p { blocks = [] }
+pile_after opens.BlockMode k p = pile_mode k.mode k p
+pile_after opens.BlockK k p = record p { approx = None }
+pile_after opens.ApproxStarts k p = cleared p
+pile_after opens.ApproxPlane k p = pile_plane k.planes k (with_words p)
+pile_after opens.ExactStarts k p = cleared p
+pile_after opens.ExactPlane k p = pile_exact k p
+pile_after o k p = p
+
+abbrev pub pile_when : Bool → Open → Kept → PileFields → PileFields
+pile_when true o k p = pile_after o k p
+pile_when false o k p = p
+
+-- bytes of a plane are collected as they come
+abbrev pub pile_passed : Open → PileFields → List ℕ → PileFields
+pile_passed opens.ApproxPlane p t = record p { plane = p.plane ++ t }
+pile_passed opens.ExactPlane p t = record p { plane = p.plane ++ t }
+pile_passed o p t = p
+
+-- what a stage needs that is made whole
+abbrev pub CanCollect : Open → Kept → PileFields → Type 0
+CanCollect opens.ApproxPlane k p = ArePlanes k.starts (p.done + 1) (with_words p).words
+CanCollect opens.ExactPlane k p = (ArePlanes k.starts (p.done + 1) (with_words p).words) × (p.done ≡ 0)
+CanCollect o k p = Unit {0}
+
+abbrev pub FewPlanes : Kept → Type 0
+FewPlanes k = (1 ≤ k.planes) × (k.planes ≤ MAX_PLANES)
+
+pub record IsApprox (k : Kept) (s : Seen) (p : PileFields) (P : List ℕ) : Type 0 where
+  pub columns : s.columns ≡ columns_of k.starts p.done p.words
+  pub read : AreRead k.starts p.done p.words
+  pub some : 1 ≤ k.planes
+  pub few : p.done + k.planes ≤ MAX_PLANES
+  pub plane : p.plane ≡ P
+
+pub record IsExact (s : Seen) (p : PileFields) (P : List ℕ) : Type 0 where
+  pub approx : s.approx ≡ p.approx
+  pub none : p.done ≡ 0
+  pub words : p.words ≡ []
+  pub plane : p.plane ≡ P
+
+-- of the open block
+abbrev pub Staged : Open → Kept → Seen → PileFields → List ℕ → Type 0
+Staged opens.ApproxSeed k s p P = FewPlanes k
+Staged opens.ApproxStarts k s p P = FewPlanes k
+Staged opens.ApproxPlane k s p P = IsApprox k s p P
+Staged opens.ExactSeed k s p P = s.approx ≡ p.approx
+Staged opens.ExactStarts k s p P = s.approx ≡ p.approx
+Staged opens.ExactPlane k s p P = IsExact s p P
+Staged o k s p P = Unit {0}
+
+-- what was seen is what was collected, and P came of the open field
+pub record Collects (o : Open) (k : Kept) (s : Seen) (p : PileFields) (P : List ℕ) : Type 0 where
+  pub ranges : s.ranges ≡ p.ranges
+  pub blocks : s.blocks ≡ p.blocks
+  pub stage : Staged o k s p P
+
+-- the machine stands for b behind what was collected
+abbrev pub Reads : Machine → PileFields → List ℕ → Type 0
+Reads m p b = (s : Seen) × Stands m s b × Collects m.field m.kept s p (drop m.at b)
+
+-- and no byte of the trailer came
+pub record ReadsFront (m : Machine) (p : PileFields) (b : List ℕ) : Type 0 where
+  pub reads : Reads m p b
+  pub front : hashed_to m.field m.at (length b) ≡ length b
+
+-- for some bytes
+abbrev pub HasRead : Machine → PileFields → Type 0
+HasRead m p = (b : List ℕ) × Reads m p b
+
+-- of which those before the trailer were hashed
+abbrev pub HasHashed : Machine → PileFields → Sha256 → Type 0
+HasHashed m p hasher = (b : List ℕ) × Reads m p b × Hashes m hasher b

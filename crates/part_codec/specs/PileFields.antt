@@ -1,0 +1,15 @@
+-- What a part that is read in pieces is collected into.
+use Rattle.std.specs.Prelude.{ℕ, List, Option}
+use Rattle.ident_core.specs.declared.range.Range.{Range}
+use Rattle.card_core.specs.declared.block.Block.{Block}
+use Rattle.card_core.specs.declared.stage.Stage.{Stage}
+
+pub record PileFields : Type 0 where
+  pub ranges : List Range
+  pub blocks : List Block
+  pub approx : Option Stage
+  -- the words of the open stage, and of how many planes they are
+  pub words : List ℕ
+  pub done : ℕ
+  -- the bytes of the open plane
+  pub plane : List ℕ

@@ -1,0 +1,21 @@
+-- For which bytes a scan stands.
+use Rattle.std.specs.Prelude.{◌≡◌, ℕ, List, ◌++◌, length, Option, Some, None, Ok, Err}
+use Rattle.sha2.specs.declared.Sha256.{Sha256}
+use Rattle.octets_core.specs.declared.fault.LayoutFault.{LayoutFault}
+use Rattle.part_codec.specs.SealedFields.{SealedFields}
+use Rattle.part_codec.specs.PartLayout.{sealed}
+use Rattle.part_codec.specs.declared.machine.Machine.{Machine}
+use Rattle.part_codec.specs.declared.scan.PartScan.{PartScan}
+use Rattle.part_codec.specs.Scanning.{Scans}
+
+-- by its machine and what was hashed, or these bytes have the fault, whatever follows
+abbrev pub StandsBy : Option LayoutFault → Machine → Sha256 → List ℕ → Type 0
+StandsBy None m hasher b = Scans m hasher b
+StandsBy (Some e) m hasher b = (x : List ℕ) → sealed (b ++ x) 0 ≡ Err e
+
+abbrev pub StandsFor : PartScan → List ℕ → Type 0
+StandsFor scan b = StandsBy scan.fault scan.machine scan.hasher b
+
+-- these bytes are a part, whatever follows
+abbrev pub EndsAt : List ℕ → Type 0
+EndsAt b = (x : List ℕ) → (s : SealedFields) × (sealed (b ++ x) 0 ≡ Ok (s, length b))

@@ -1,0 +1,228 @@
+//! What a part that is read in pieces is collected into.
+
+ghost use Rattle.std.specs.Prelude.{◌≡◌, ◌<◌, ◌+◌, ◌++◌, ◌/◌, [], length, map, IfOk, OnOk, true};
+ghost use Rattle.std.specs.Int.{w64, from_be_bytes};
+ghost use Rattle.std.specs.Simd.{first_chunks};
+ghost use Rattle.ribbon_core.specs.PlaneWords.{ArePlanes};
+ghost use Rattle.part_codec.specs.Collecting.{nothing_piled, with_words, with_leaf, stage_by, cleared, pile_mode, pile_plane, pile_exact};
+ghost use Rattle.part_codec.specs.Collecting.{pile_after, pile_when, pile_passed, CanCollect};
+
+use crate::fields::{Kept, LEAST_BLOCK, Open};
+use card_core::{Block, Body, Leaf, Mixed, Stage};
+use ident_core::{RANGE_BYTES, Range};
+use octets_core::NoMemory;
+use ribbon_core::Planes;
+use std::alloc::Global;
+use std::marker::Model;
+
+/// The ranges and blocks that came whole, and of the open block its stages.
+#[derive(Drop)]
+pub(crate) struct Pile {
+    ranges: Vec<Range>,
+    blocks: Vec<Block>,
+    approx: Option<Stage>,
+    /// The words of the open stage, and of how many planes they are.
+    words: Vec<u64>,
+    done: u8,
+    /// The bytes of the open plane.
+    plane: Vec<u8>,
+}
+
+impl Model for Pile {
+    ghost use Rattle.part_codec.specs.PileFields.{PileFields};
+
+    ghost Value = { PileFields };
+
+    ghost view = { λ p. record {
+      ranges = p.ranges.items;
+      blocks = p.blocks.items;
+      approx = p.approx;
+      words = p.words.items;
+      done = p.done;
+      plane = p.plane.items;
+    } };
+}
+
+/// Appends the words that these bytes spell.
+fn push_words(words: &mut Vec<u64>, bytes: &[u8]) -> Result<(), NoMemory>
+    ensures { OnOk result (words.new.items ≡ words.old.items ++ map (from_be_bytes w64) (first_chunks 8 (length bytes.now / 8) bytes.now)) }
+{
+    let (chunks, _) = bytes.as_chunks::<8>();
+    for chunk in chunks {
+        words.push(u64::from_be_bytes(*chunk))?;
+    }
+    Ok(())
+}
+
+impl Pile {
+    pub(crate) fn new(alloc: Global) -> Pile
+        ensures { result ≡ nothing_piled }
+    {
+        Pile {
+            ranges: Vec::new(alloc),
+            blocks: Vec::new(alloc),
+            approx: None,
+            words: Vec::new(alloc),
+            done: 0,
+            plane: Vec::new(alloc),
+        }
+    }
+
+    /// Collects the bytes of a plane.
+    pub(crate) fn pass(&mut self, field: Open, piece: &[u8]) -> Result<(), NoMemory>
+        ensures { OnOk result (self.new ≡ pile_passed field self.old piece.now) }
+    {
+        match field {
+            Open::ApproxPlane | Open::ExactPlane => {
+                self.plane.extend_from_slice(piece)?;
+                Ok(())
+            }
+            _ => Ok(()),
+        }
+    }
+
+    fn close_plane(&mut self) -> Result<(), NoMemory>
+        requires { self.old.done < 255 }
+        ensures { OnOk result (self.new ≡ with_words self.old) }
+    {
+        push_words(&mut self.words, &self.plane)?;
+        self.done += 1;
+        self.plane.clear();
+        Ok(())
+    }
+
+    fn stage(&self, alloc: Global, kept: &Kept) -> Result<Stage, NoMemory>
+        requires { ArePlanes kept.now.starts self.now.done self.now.words }
+        ensures { IfOk result (λ s. s ≡ stage_by kept.now self.now) }
+    {
+        let planes = Planes::of_words(alloc, kept.starts, self.done, &self.words)?;
+        Ok(Stage {
+            seed: kept.seed,
+            planes,
+        })
+    }
+
+    fn push_leaf(&mut self, kept: &Kept, leaf: Leaf) -> Result<(), NoMemory>
+        ensures { OnOk result (self.new ≡ with_leaf kept.now leaf self.old) }
+    {
+        self.blocks.push(Block {
+            issuer: kept.key,
+            body: Body::from(leaf),
+        })?;
+        Ok(())
+    }
+
+    fn approx_plane(&mut self, alloc: Global, kept: &Kept) -> Result<(), NoMemory>
+        requires { ArePlanes kept.now.starts (self.old.done + 1) (with_words self.old).words }
+        ensures { OnOk result (self.new ≡ pile_plane kept.now.planes kept.now (with_words self.old)) }
+    {
+        self.close_plane()?;
+        if kept.planes == 0 {
+            self.approx = Some(self.stage(alloc, kept)?);
+        }
+        Ok(())
+    }
+
+    fn exact_plane(&mut self, alloc: Global, kept: &Kept) -> Result<(), NoMemory>
+        requires planes { ArePlanes kept.now.starts (self.old.done + 1) (with_words self.old).words }
+        requires one { self.old.done ≡ 0 }
+        ensures { OnOk result (self.new ≡ pile_exact kept.now self.old) }
+    {
+        self.close_plane()?;
+        let exact = self.stage(alloc, kept)?;
+        let approx = self.approx.take();
+        self.push_leaf(kept, Leaf::Mixed(Mixed::new(approx, exact)))
+    }
+
+    fn plain(&mut self, kept: &Kept) -> Result<(), NoMemory>
+        ensures { OnOk result (self.new ≡ pile_mode kept.now.mode kept.now self.old) }
+    {
+        match kept.mode {
+            0 => self.push_leaf(kept, Leaf::Clean),
+            1 => self.push_leaf(kept, Leaf::Every),
+            _ => Ok(()),
+        }
+    }
+
+    /// Room for so many ranges, but for no more than so many bytes can hold.
+    fn clear_ranges(&mut self, count: u16, bytes: usize) -> Result<(), NoMemory>
+        ensures { OnOk result (self.new ≡ record self.old { ranges = [] }) }
+    {
+        self.ranges.clear();
+        self.ranges
+            .reserve((count as usize).min(bytes / RANGE_BYTES))?;
+        Ok(())
+    }
+
+    /// Room for so many blocks, but for no more than so many bytes can hold.
+    fn clear_blocks(&mut self, count: u32, bytes: usize) -> Result<(), NoMemory>
+        ensures { OnOk result (self.new ≡ record self.old { blocks = [] }) }
+    {
+        self.blocks.clear();
+        self.blocks
+            .reserve((count as usize).min(bytes / LEAST_BLOCK))?;
+        Ok(())
+    }
+
+    fn clear_stage(&mut self)
+        ensures { self.new ≡ cleared self.old }
+    {
+        self.words.clear();
+        self.done = 0;
+        self.plane.clear();
+    }
+
+    /// Collects what a field made whole, behind which so many bytes are at hand.
+    fn collect(
+        &mut self,
+        alloc: Global,
+        field: Open,
+        kept: &Kept,
+        bytes: usize,
+    ) -> Result<(), NoMemory>
+        requires { CanCollect field kept.now self.old }
+        ensures { OnOk result (self.new ≡ pile_after field kept.now self.old) }
+    {
+        match field {
+            Open::Ranges => self.clear_ranges(kept.ranges, bytes)?,
+            Open::RangeTo => self.ranges.push(Range {
+                log: kept.key,
+                from: kept.from,
+                to: kept.to,
+            })?,
+            Open::Issuers => self.clear_blocks(kept.issuers, bytes)?,
+            Open::BlockMode => self.plain(kept)?,
+            Open::BlockK => self.approx = None,
+            Open::ApproxStarts | Open::ExactStarts => self.clear_stage(),
+            Open::ApproxPlane => self.approx_plane(alloc, kept)?,
+            Open::ExactPlane => self.exact_plane(alloc, kept)?,
+            _ => {}
+        }
+        Ok(())
+    }
+
+    /// Collects what the field made whole, if it did.
+    pub(crate) fn settle(
+        &mut self,
+        alloc: Global,
+        whole: bool,
+        field: Open,
+        kept: &Kept,
+        bytes: usize,
+    ) -> Result<(), NoMemory>
+        requires { whole ≡ true → CanCollect field kept.now self.old }
+        ensures { OnOk result (self.new ≡ pile_when whole field kept.now self.old) }
+    {
+        match whole {
+            true => self.collect(alloc, field, kept, bytes),
+            false => Ok(()),
+        }
+    }
+
+    pub(crate) fn lists(self) -> (Vec<Range>, Vec<Block>)
+        ensures ranges { result.0.items ≡ self.ranges }
+        ensures blocks { result.1.items ≡ self.blocks }
+    {
+        (self.ranges, self.blocks)
+    }
+}

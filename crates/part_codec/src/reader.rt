@@ -1,0 +1,223 @@
+//! Parts that are read in pieces.
+
+ghost use Rattle.std.specs.Prelude.{◌≡◌, ◌≢◌, ◌++◌, ◌+◌, ◌≤◌, ◌<◌, ℕ, List, [], length, take, true, false, Option, Some, None, Ok, Err, IfOk, OnOk, IfErr};
+ghost use Rattle.octets_core.specs.Reading.{fault_at};
+ghost use Rattle.octets_core.specs.declared.fault.Why.TheVariants as why;
+ghost use Rattle.part_codec.specs.SealedFields.{SealedFields};
+ghost use Rattle.part_codec.specs.declared.fields.Open.TheVariants as opens;
+ghost use Rattle.part_codec.specs.declared.fault.PartFault.TheVariants as faults;
+ghost use Rattle.part_codec.specs.PartLayout.{part};
+ghost use Rattle.part_codec.specs.Stepping.{in_front, tail_of, name_of};
+ghost use Rattle.part_codec.specs.Scanning.{Hashes};
+ghost use Rattle.part_codec.specs.Collecting.{Reads, ReadsFront, HasRead, HasHashed};
+
+use crate::fault::PartFault;
+use crate::fields::{is_done, is_front, kind};
+use crate::machine::Machine;
+use crate::pile::Pile;
+use crate::sealed::Sealed;
+use card_core::Part;
+use ident_core::Head;
+use sha2::{Digest, Sha256};
+use std::alloc::Global;
+
+/// Takes bytes up to the end of the open field, which isn't the trailer, and collects what they make whole.
+fn step(
+    alloc: Global,
+    machine: &mut Machine,
+    pile: &mut Pile,
+    piece: &[u8],
+) -> Result<usize, PartFault>
+    requires front { in_front machine.old.field ≡ true }
+    requires partial { machine.old.filled < tail_of machine.old.field }
+    requires read { ∥ HasRead machine.old pile.old ∥₁ }
+    ensures ok { IfOk result (λ n. (b : List ℕ) → Reads machine.old pile.old b → ReadsFront machine.new pile.new (b ++ take n piece.now)) }
+    ensures read { OnOk result (∥ HasRead machine.new pile.new ∥₁) }
+    ensures err { IfErr result (λ e. e ≢ faults.NoMemory → (b x : List ℕ) → Reads machine.old pile.old b → part (b ++ piece.now ++ x) 0 ≡ Err e) }
+    ensures partial { OnOk result (machine.new.field ≢ opens.Done → machine.new.filled < tail_of machine.new.field) }
+    ensures count { IfOk result (λ n. n ≤ length piece.now) }
+    ensures progress { IfOk result (λ n. 0 < length piece.now → 0 < n) }
+{
+    let field = machine.field;
+    let (n, whole) = machine.advance(piece)?;
+    pile.pass(field, &piece[..n])?;
+    pile.settle(alloc, whole, field, &machine.kept, piece.len() - n)?;
+    Ok(n)
+}
+
+/// Takes the bytes of the piece before the trailer.
+fn read_fields(
+    alloc: Global,
+    machine: &mut Machine,
+    pile: &mut Pile,
+    piece: &[u8],
+) -> Result<usize, PartFault>
+    requires front { in_front machine.old.field ≡ true }
+    requires partial { machine.old.filled < tail_of machine.old.field }
+    requires read { ∥ HasRead machine.old pile.old ∥₁ }
+    ensures ok { IfOk result (λ n. (b : List ℕ) → Reads machine.old pile.old b → ReadsFront machine.new pile.new (b ++ take n piece.now)) }
+    ensures read { OnOk result (∥ HasRead machine.new pile.new ∥₁) }
+    ensures err { IfErr result (λ e. e ≢ faults.NoMemory → (b x : List ℕ) → Reads machine.old pile.old b → part (b ++ piece.now ++ x) 0 ≡ Err e) }
+    ensures partial { OnOk result (machine.new.field ≢ opens.Done → machine.new.filled < tail_of machine.new.field) }
+    ensures count { IfOk result (λ n. n ≤ length piece.now) }
+    ensures all { IfOk result (λ n. n < length piece.now → in_front machine.new.field ≡ false) }
+{
+    let mut taken = 0;
+    while taken < piece.len() {
+        if !is_front(machine.field) {
+            return Ok(taken);
+        }
+        let n = step(alloc, machine, pile, &piece[taken..])?;
+        taken += n;
+    }
+    Ok(taken)
+}
+
+/// Takes the bytes of the piece before the trailer, and hashes them at once.
+fn read_front(
+    alloc: Global,
+    machine: &mut Machine,
+    pile: &mut Pile,
+    hasher: &mut Sha256,
+    piece: &[u8],
+) -> Result<usize, PartFault>
+    requires partial { machine.old.field ≢ opens.Done → machine.old.filled < tail_of machine.old.field }
+    requires read { ∥ HasHashed machine.old pile.old hasher.old ∥₁ }
+    ensures ok { IfOk result (λ n. (b : List ℕ) → Reads machine.old pile.old b → Reads machine.new pile.new (b ++ take n piece.now)) }
+    ensures hashed { IfOk result (λ n. (b : List ℕ) → Reads machine.old pile.old b → Hashes machine.old hasher.old b
+        → Hashes machine.new hasher.new (b ++ take n piece.now)) }
+    ensures read { OnOk result (∥ HasHashed machine.new pile.new hasher.new ∥₁) }
+    ensures err { IfErr result (λ e. e ≢ faults.NoMemory → (b x : List ℕ) → Reads machine.old pile.old b → part (b ++ piece.now ++ x) 0 ≡ Err e) }
+    ensures partial { OnOk result (machine.new.field ≢ opens.Done → machine.new.filled < tail_of machine.new.field) }
+    ensures count { IfOk result (λ n. n ≤ length piece.now) }
+    ensures all { IfOk result (λ n. n < length piece.now → in_front machine.new.field ≡ false) }
+{
+    if !is_front(machine.field) {
+        return Ok(0);
+    }
+    let taken = read_fields(alloc, machine, pile, piece)?;
+    hasher.update(&piece[..taken]);
+    Ok(taken)
+}
+
+/// Takes the bytes of the piece that belong to the part.
+fn read_on(
+    alloc: Global,
+    machine: &mut Machine,
+    pile: &mut Pile,
+    hasher: &mut Sha256,
+    piece: &[u8],
+) -> Result<usize, PartFault>
+    requires partial { machine.old.field ≢ opens.Done → machine.old.filled < tail_of machine.old.field }
+    requires read { ∥ HasHashed machine.old pile.old hasher.old ∥₁ }
+    ensures ok { IfOk result (λ n. (b : List ℕ) → Reads machine.old pile.old b → Hashes machine.old hasher.old b
+        → Reads machine.new pile.new (b ++ take n piece.now) × Hashes machine.new hasher.new (b ++ take n piece.now)) }
+    ensures read { OnOk result (∥ HasHashed machine.new pile.new hasher.new ∥₁) }
+    ensures err { IfErr result (λ e. e ≢ faults.NoMemory → (b x : List ℕ) → Reads machine.old pile.old b → Hashes machine.old hasher.old b
+        → part (b ++ piece.now ++ x) 0 ≡ Err e) }
+    ensures partial { OnOk result (machine.new.field ≢ opens.Done → machine.new.filled < tail_of machine.new.field) }
+    ensures count { IfOk result (λ n. n ≤ length piece.now) }
+    ensures all { IfOk result (λ n. n < length piece.now → machine.new.field ≡ opens.Done) }
+{
+    let taken = read_front(alloc, machine, pile, hasher, piece)?;
+    if is_front(machine.field) {
+        return Ok(taken);
+    }
+    let (last, _) = machine.end(hasher, &piece[taken..])?;
+    Ok(taken + last)
+}
+
+/// The part that was collected.
+fn finished(machine: Machine, pile: Pile) -> Sealed
+    requires done { machine.field ≡ opens.Done }
+    requires read { ∥ HasRead machine pile ∥₁ }
+    ensures { (b x : List ℕ) → Reads machine pile b → part (b ++ x) 0 ≡ Ok (result, length b) }
+{
+    let kept = machine.kept;
+    let (ranges, blocks) = pile.lists();
+    let head = Head::new(kind(kept.kind), kept.epoch, kept.parent, ranges);
+    Sealed::new(Part::new(head, blocks), kept.trailer)
+}
+
+/// A part that is read in pieces.
+#[derive(Drop)]
+pub struct PartReader {
+    alloc: Global,
+    machine: Machine,
+    pile: Pile,
+    hasher: Sha256,
+    fault: Option<PartFault>,
+    ghost partial: { fault ≡ None → machine.field ≢ opens.Done → machine.filled < tail_of machine.field },
+    ghost read: { fault ≡ None → ∥ HasHashed machine pile hasher ∥₁ },
+}
+
+impl PartReader {
+    ghost use Rattle.part_codec.specs.ReaderStanding.{ReadsFor, EndsAs};
+
+    /// Before the first byte. No memory is taken.
+    pub fn new(alloc: Global) -> PartReader
+        ensures { ReadsFor result [] }
+    {
+        let machine = Machine::new();
+        let pile = Pile::new(alloc);
+        let hasher = Sha256::new();
+        PartReader {
+            alloc,
+            machine,
+            pile,
+            hasher,
+            fault: None,
+        }
+    }
+
+    /// Takes the next piece, up to the end of the part, and answers how many bytes it took. After a fault it answers
+    /// that fault from then on, want of memory included.
+    pub fn feed(&mut self, piece: &[u8]) -> Result<usize, PartFault>
+        // It stands for the bytes that it took, behind those before.
+        ensures ok { IfOk result (λ n. (b : List ℕ) → ReadsFor self.old b → ReadsFor self.new (b ++ take n piece.now)) }
+        // A fault other than want of memory is that of the bytes, whatever follows, and it stays.
+        ensures err { IfErr result (λ e. e ≢ faults.NoMemory → (b x : List ℕ) → ReadsFor self.old b → part (b ++ piece.now ++ x) 0 ≡ Err e) }
+        ensures stays { IfErr result (λ e. (b : List ℕ) → ReadsFor self.old b → ReadsFor self.new (b ++ piece.now)) }
+        ensures again { (e : PartFault) → self.old.fault ≡ Some e → result ≡ Err e }
+        ensures kept { IfErr result (λ e. self.new.fault ≡ Some e) }
+        ensures count { IfOk result (λ n. n ≤ length piece.now) }
+        // It takes fewer bytes than there are exactly where the part ends before.
+        ensures less { IfOk result (λ n. n < length piece.now → (b : List ℕ) → ReadsFor self.old b → EndsAs (b ++ take n piece.now)) }
+        ensures ends { IfOk result (λ n. (b : List ℕ) (s : SealedFields) (end : ℕ) → ReadsFor self.old b → part (b ++ piece.now) 0 ≡ Ok (s, end)
+            → length b + n ≡ end) }
+    {
+        if let Some(fault) = self.fault {
+            return Err(fault);
+        }
+        match read_on(
+            self.alloc,
+            &mut self.machine,
+            &mut self.pile,
+            &mut self.hasher,
+            piece,
+        ) {
+            Ok(n) => Ok(n),
+            Err(fault) => {
+                self.fault = Some(fault);
+                Err(fault)
+            }
+        }
+    }
+
+    /// The part, if all of it came.
+    pub fn finish(self) -> Result<Sealed, PartFault>
+        ensures ok { IfOk result (λ s. (b x : List ℕ) → ReadsFor self b → part (b ++ x) 0 ≡ Ok (s, length b)) }
+        ensures err { IfErr result (λ e. e ≢ faults.NoMemory → (b : List ℕ) → ReadsFor self b → part b 0 ≡ Err e) }
+        ensures again { (e : PartFault) → self.fault ≡ Some e → result ≡ Err e }
+        // Before its end the open field is short.
+        ensures short { IfErr result (λ e. self.fault ≡ None → e ≡ PartFault.Layout (fault_at why.Short (name_of self.machine.field) self.machine.at)) }
+    {
+        if let Some(fault) = self.fault {
+            return Err(fault);
+        }
+        if !is_done(self.machine.field) {
+            return Err(PartFault::Layout(self.machine.short()));
+        }
+        Ok(finished(self.machine, self.pile))
+    }
+}

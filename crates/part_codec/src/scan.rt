@@ -1,0 +1,150 @@
+//! Parts that are scanned in pieces, with no memory.
+
+ghost use Rattle.std.specs.Prelude.{◌≡◌, ◌≢◌, ◌++◌, ◌+◌, ◌≤◌, ◌<◌, ℕ, List, [], length, take, false, Option, Some, None, Ok, Err, IfOk, OnOk, IfErr};
+ghost use Rattle.octets_core.specs.Reading.{fault_at};
+ghost use Rattle.octets_core.specs.declared.fault.LayoutFault.{LayoutFault};
+ghost use Rattle.octets_core.specs.declared.fault.Why.TheVariants as why;
+ghost use Rattle.part_codec.specs.SealedFields.{SealedFields};
+ghost use Rattle.part_codec.specs.declared.fields.Open.TheVariants as opens;
+ghost use Rattle.part_codec.specs.PartLayout.{sealed};
+ghost use Rattle.part_codec.specs.Stepping.{in_front, tail_of, name_of};
+ghost use Rattle.part_codec.specs.Scanning.{Scans};
+ghost use Rattle.part_codec.specs.Noting.{noted, note_by};
+
+use crate::fields::{is_done, is_front, kind};
+use crate::machine::Machine;
+use ident_core::Kind;
+use octets_core::{Key32, LayoutFault};
+use sha2::{Digest, Sha256};
+
+/// What is known of a part that was scanned.
+#[derive(Clone, Copy, Debug)]
+pub struct PartNote {
+    pub kind: Kind,
+    pub epoch: u64,
+    /// How many ranges it has.
+    pub ranges: u16,
+    /// How many blocks it has.
+    pub issuers: u32,
+    /// How many bytes it has.
+    pub length: u64,
+    pub trailer: Key32,
+}
+
+/// A part that is read in pieces, of which no byte is kept but what a field's test needs. It takes no memory.
+#[derive(Drop)]
+pub struct PartScan {
+    machine: Machine,
+    hasher: Sha256,
+    fault: Option<LayoutFault>,
+    ghost partial: { fault ≡ None → machine.field ≢ opens.Done → machine.filled < tail_of machine.field },
+}
+
+fn note(machine: &Machine) -> PartNote
+    ensures { result ≡ note_by machine.now.kept machine.now.at }
+{
+    PartNote {
+        kind: kind(machine.kept.kind),
+        epoch: machine.kept.epoch,
+        ranges: machine.kept.ranges,
+        issuers: machine.kept.issuers,
+        length: machine.at,
+        trailer: machine.kept.trailer,
+    }
+}
+
+/// Takes the bytes of the piece before the trailer, and hashes them at once.
+fn scan_front(
+    machine: &mut Machine,
+    hasher: &mut Sha256,
+    piece: &[u8],
+) -> Result<usize, LayoutFault>
+    requires partial { machine.old.field ≢ opens.Done → machine.old.filled < tail_of machine.old.field }
+    ensures ok { IfOk result (λ n. (b : List ℕ) → Scans machine.old hasher.old b → Scans machine.new hasher.new (b ++ take n piece.now)) }
+    ensures err { IfErr result (λ e. (b x : List ℕ) → Scans machine.old hasher.old b → sealed (b ++ piece.now ++ x) 0 ≡ Err e) }
+    ensures partial { OnOk result (machine.new.field ≢ opens.Done → machine.new.filled < tail_of machine.new.field) }
+    ensures count { IfOk result (λ n. n ≤ length piece.now) }
+    ensures all { IfOk result (λ n. n < length piece.now → in_front machine.new.field ≡ false) }
+{
+    if !is_front(machine.field) {
+        return Ok(0);
+    }
+    let taken = machine.read(piece)?;
+    hasher.update(&piece[..taken]);
+    Ok(taken)
+}
+
+/// Takes the bytes of the piece that belong to the part.
+fn scan_on(machine: &mut Machine, hasher: &mut Sha256, piece: &[u8]) -> Result<usize, LayoutFault>
+    requires partial { machine.old.field ≢ opens.Done → machine.old.filled < tail_of machine.old.field }
+    ensures ok { IfOk result (λ n. (b : List ℕ) → Scans machine.old hasher.old b → Scans machine.new hasher.new (b ++ take n piece.now)) }
+    ensures err { IfErr result (λ e. (b x : List ℕ) → Scans machine.old hasher.old b → sealed (b ++ piece.now ++ x) 0 ≡ Err e) }
+    ensures partial { OnOk result (machine.new.field ≢ opens.Done → machine.new.filled < tail_of machine.new.field) }
+    ensures count { IfOk result (λ n. n ≤ length piece.now) }
+    ensures all { IfOk result (λ n. n < length piece.now → machine.new.field ≡ opens.Done) }
+{
+    let taken = scan_front(machine, hasher, piece)?;
+    let (last, _) = machine.end(hasher, &piece[taken..])?;
+    Ok(taken + last)
+}
+
+impl PartScan {
+    ghost use Rattle.part_codec.specs.Standing.{StandsFor, EndsAt};
+
+    /// Before the first byte.
+    pub fn new() -> PartScan
+        ensures { StandsFor result [] }
+    {
+        let machine = Machine::new();
+        let hasher = Sha256::new();
+        PartScan {
+            machine,
+            hasher,
+            fault: None,
+        }
+    }
+
+    /// Takes the next piece, up to the end of the part, and answers how many bytes it took. After a fault it answers
+    /// that fault from then on.
+    pub fn feed(&mut self, piece: &[u8]) -> Result<usize, LayoutFault>
+        // It stands for the bytes that it took, behind those before.
+        ensures ok { IfOk result (λ n. (b : List ℕ) → StandsFor self.old b → StandsFor self.new (b ++ take n piece.now)) }
+        // The fault is that of the bytes, whatever follows, and it stays.
+        ensures err { IfErr result (λ e. (b x : List ℕ) → StandsFor self.old b → sealed (b ++ piece.now ++ x) 0 ≡ Err e) }
+        ensures stays { IfErr result (λ e. (b : List ℕ) → StandsFor self.old b → StandsFor self.new (b ++ piece.now)) }
+        ensures again { (e : LayoutFault) → self.old.fault ≡ Some e → result ≡ Err e }
+        ensures kept { IfErr result (λ e. self.new.fault ≡ Some e) }
+        ensures count { IfOk result (λ n. n ≤ length piece.now) }
+        // It takes fewer bytes than there are exactly where the part ends before.
+        ensures less { IfOk result (λ n. n < length piece.now → (b : List ℕ) → StandsFor self.old b → EndsAt (b ++ take n piece.now)) }
+        ensures ends { IfOk result (λ n. (b : List ℕ) (s : SealedFields) (end : ℕ) → StandsFor self.old b → sealed (b ++ piece.now) 0 ≡ Ok (s, end)
+            → length b + n ≡ end) }
+    {
+        if let Some(fault) = self.fault {
+            return Err(fault);
+        }
+        match scan_on(&mut self.machine, &mut self.hasher, piece) {
+            Ok(n) => Ok(n),
+            Err(fault) => {
+                self.fault = Some(fault);
+                Err(fault)
+            }
+        }
+    }
+
+    /// What is known of the part, if all of it came.
+    pub fn finish(self) -> Result<PartNote, LayoutFault>
+        ensures exact { (b : List ℕ) → StandsFor self b → noted (sealed b 0) ≡ result }
+        ensures again { (e : LayoutFault) → self.fault ≡ Some e → result ≡ Err e }
+        // Before its end the open field is short.
+        ensures short { IfErr result (λ e. self.fault ≡ None → e ≡ fault_at why.Short (name_of self.machine.field) self.machine.at) }
+    {
+        if let Some(fault) = self.fault {
+            return Err(fault);
+        }
+        if !is_done(self.machine.field) {
+            return Err(self.machine.short());
+        }
+        Ok(note(&self.machine))
+    }
+}
