@@ -8,6 +8,8 @@ mod lanes;
 #[cfg(test)]
 mod parts;
 #[cfg(test)]
+mod pieces;
+#[cfg(test)]
 mod stages;
 #[cfg(test)]
 mod stores;

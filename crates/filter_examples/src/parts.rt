@@ -38,7 +38,7 @@ const TWO_RANGES: &str = "\
 
 // A delta with one range and one mixed block, with no approximate stage. Of its issuer's certificates the serial 05 is
 // revoked and 06 is not, and the program solved the exact stage of these two.
-const MIXED: &str = "\
+pub(crate) const MIXED: &str = "\
     434c554243415244010100000000000000023c5297690856618bbb3bc14ceaf1\
     9ce2d0f4c977bf05c935e445542588879af30001aaaaaaaaaaaaaaaaaaaaaaaa\
     aaaaaaaaaaaaaaaaaaaaaaaaaaaaaaaaaaaaaaaa0000018bcfe568000000018b\
@@ -162,7 +162,7 @@ fn reads_two_stages(rt: HostRuntime) -> Result<(), Fail> {
 }
 
 // The text cut to a length, with one byte set.
-fn changed(
+pub(crate) fn changed(
     alloc: Global,
     text: &str,
     len: usize,
