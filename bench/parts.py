@@ -1,0 +1,78 @@
+#!/usr/bin/env python3
+"""Times the scan of a part in pieces of 4,096 bytes, and its decoding, beside the SHA-256 of the same bytes by the same
+sha2, in processor time for each round. Run it at the top of the repository once `rt run` in crates/benches has built the
+program:
+
+    python3 bench/parts.py
+"""
+
+import hashlib
+import os
+import resource
+import subprocess
+import sys
+import tempfile
+
+BENCHES = "crates/benches/out/benches"
+T = 1700000000000
+
+
+def front(ranges, issuers):
+    """The fields of a snapshot up to its blocks."""
+    part = b"CLUBCARD" + bytes([1, 0]) + (1).to_bytes(8, "big") + bytes(32) + ranges.to_bytes(2, "big")
+    for log in range(1, ranges + 1):
+        part += log.to_bytes(32, "big") + T.to_bytes(8, "big") + (T + 1000).to_bytes(8, "big")
+    return part + issuers.to_bytes(4, "big")
+
+
+def issuers(count):
+    return sorted(hashlib.sha256(i.to_bytes(4, "big")).digest() for i in range(count))
+
+
+def sealed(part):
+    return part + hashlib.sha256(part).digest()
+
+
+def plain(count):
+    """The longest ranges, and blocks that say all."""
+    return sealed(front(1024, count) + b"".join(key + b"\x01" for key in issuers(count)))
+
+
+def mixed(count, starts):
+    """Mixed blocks with six planes in their approximate stages."""
+    plane = bytes(8 * ((starts + 127 + 63) // 64))
+    stage = bytes(1) + starts.to_bytes(4, "big")
+    blocks = [key + bytes([2, 6]) + stage + 6 * plane + stage + plane for key in issuers(count)]
+    return sealed(front(1, count) + b"".join(blocks))
+
+
+def processor_time(what, path, rounds):
+    before = resource.getrusage(resource.RUSAGE_CHILDREN)
+    subprocess.run([BENCHES, "part", what, path, str(rounds)], stdout=subprocess.DEVNULL, check=True)
+    after = resource.getrusage(resource.RUSAGE_CHILDREN)
+    return after.ru_utime - before.ru_utime + after.ru_stime - before.ru_stime
+
+
+def a_round(what, path, rounds):
+    """The least time of a round in milliseconds, without the program's start."""
+    runs = [processor_time(what, path, rounds + 1) - processor_time(what, path, 1) for _ in range(9)]
+    return min(runs) / rounds * 1000
+
+
+def main():
+    if not os.access(BENCHES, os.X_OK):
+        sys.exit("build the program first: (cd crates/benches && rt run)")
+    parts = [("65,535 plain blocks", plain(65535)), ("400 mixed blocks, 1,200 starts", mixed(400, 1200))]
+    parts += [("4 mixed blocks, 100,000 starts", mixed(4, 100000)), ("4,000 mixed blocks, 10 starts", mixed(4000, 10))]
+    with tempfile.TemporaryDirectory() as folder:
+        for name, part in parts:
+            path = os.path.join(folder, "part")
+            with open(path, "wb") as file:
+                file.write(part)
+            times = [a_round(what, path, 20) for what in ("hash", "scan", "decode")]
+            ratios = " ".join(f"{time:7.3f} ms ({time / times[0]:.2f})" for time in times)
+            print(f"{name:32} {len(part):8} {ratios}", flush=True)
+
+
+if __name__ == "__main__":
+    main()
