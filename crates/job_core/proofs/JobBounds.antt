@@ -1,5 +1,5 @@
 -- A job's faults lie within its bytes, and are of its fields or its limits.
-use Rattle.std.proofs.Common.{◌≡◌, ℕ, zero, suc, ◌+◌, ◌≤◌, ◌-◌, ◌^◌, Bool, true, false, List, length, Option, Some, None, Result, Ok, Err, refl, subst, arith, IfErr}
+use Rattle.std.proofs.Common.{◌≡◌, ℕ, zero, suc, ◌+◌, ◌≤◌, ◌-◌, ◌^◌, Bool, true, false, List, [], ◌∷◌, length, Option, Some, None, Result, Ok, Err, refl, subst, arith, IfErr}
 use Rattle.std.specs.Prelude.{nat_le, if◌then◌else◌}
 use Rattle.std.specs.Int.{Width, w32, w64}
 use Rattle.octets_core.specs.Layout.{Layout, ◌>>=◌, whole, refused}
@@ -11,15 +11,14 @@ use Rattle.octets_core.specs.declared.field.Field.TheVariants as fields
 use Rattle.octets_core.specs.declared.fault.Why.TheVariants as why
 use Rattle.octets_core.specs.declared.fault.LayoutFault.{LayoutFault}
 use Rattle.ident_core.specs.RangeLayout.{range}
-use Rattle.crl_core.specs.Outcome.{outcome}
 use Rattle.job_core.specs.declared.bounds.Limits.{Limits}
 use Rattle.job_core.specs.declared.bounds.What.{What}
 use Rattle.job_core.specs.declared.bounds.What.TheVariants as what
 use Rattle.job_core.specs.declared.fault.JobFault.{JobFault}
 use Rattle.job_core.specs.declared.fault.JobFault.TheVariants as faults
 use Rattle.job_core.specs.JobFields.{JobFields}
-use Rattle.job_core.specs.JobLayout.{fielded, record_kind, crl, entry, SoFar, nothing_yet, Item, at_most, kept, range_item, crl_item, entry_item, item_of}
-use Rattle.job_core.specs.JobLayout.{next_item, with_item, with_others, records_within, records, job, job_of}
+use Rattle.job_core.specs.JobLayout.{fielded, record_kind, crl, entry, Held, nothing_held, Item, at_most, range_item, crl_item, entry_item, item_of}
+use Rattle.job_core.specs.JobLayout.{next_item, with_item, serials_of, with_serials, with_others, records_within, records, opening, JobTexts, job, said_by, job_of}
 use Rattle.job_core.specs.Offsets.{offset_in_job}
 
 abbrev offset : LayoutFault → ℕ
@@ -90,69 +89,79 @@ limit-bounded : (n : ℕ) (thing : What) (limit count : ℕ) → IsBounded (plac
 limit-bounded n thing limit count =
     either-bounded n (nat_le count limit) (whole tt) (refused (faults.TooMany thing limit)) (whole-bounded (place n) tt) (record { each = λ bytes at le. omega arith })
 
-range_item-bounded : (n : ℕ) (limits : Limits) (s : SoFar) → IsBounded (place n) (range_item limits s)
+range_item-bounded : (n : ℕ) (limits : Limits) (h : Held) → IsBounded (place n) (range_item limits h)
 unfolding range_item
-range_item-bounded n limits s =
-    limit-bounded n what.Ranges limits.ranges (length s.ranges + 1) >>> λ room.
-    fielded-bounded n _ (range-bounded s.log) >>> λ r.
+range_item-bounded n limits h =
+    limit-bounded n what.Ranges limits.ranges (h.ranges + 1) >>> λ room.
+    fielded-bounded n _ (range-bounded h.log) >>> λ r.
     whole-bounded (place n) _
 
-crl_item-bounded : (n : ℕ) (limits : Limits) (s : SoFar) → IsBounded (place n) (crl_item limits s)
+crl_item-bounded : (n : ℕ) (limits : Limits) (h : Held) → IsBounded (place n) (crl_item limits h)
 unfolding crl_item
-crl_item-bounded n limits s =
-    limit-bounded n what.Crls limits.crls (length s.crls + 1) >>> λ room.
+crl_item-bounded n limits h =
+    limit-bounded n what.Crls limits.crls (h.crls + 1) >>> λ room.
     fielded-bounded n crl crl-bounded >>> λ c.
-    limit-bounded n what.Serials limits.serials (s.serials + kept (outcome c.bytes)) >>> λ few.
     whole-bounded (place n) _
 
-entry_item-bounded : (n : ℕ) (limits : Limits) (s : SoFar) → IsBounded (place n) (entry_item limits s)
+entry_item-bounded : (n : ℕ) (limits : Limits) (h : Held) → IsBounded (place n) (entry_item limits h)
 unfolding entry_item
-entry_item-bounded n limits s =
-    limit-bounded n what.Entries limits.entries (length s.entries + 1) >>> λ room.
+entry_item-bounded n limits h =
+    limit-bounded n what.Entries limits.entries (h.entries + 1) >>> λ room.
     fielded-bounded n entry entry-bounded >>> λ e.
     whole-bounded (place n) _
 
-item-bounded : (n kind : ℕ) (limits : Limits) (s : SoFar) → IsBounded (place n) (item_of kind limits s)
-item-bounded n kind limits s =
-    either-bounded n _ (range_item limits s) _ (range_item-bounded n limits s)
-    (either-bounded n _ (crl_item limits s) (entry_item limits s) (crl_item-bounded n limits s) (entry_item-bounded n limits s))
+item-bounded : (n kind : ℕ) (limits : Limits) (h : Held) → IsBounded (place n) (item_of kind limits h)
+item-bounded n kind limits h =
+    either-bounded n _ (range_item limits h) _ (range_item-bounded n limits h)
+    (either-bounded n _ (crl_item limits h) (entry_item limits h) (crl_item-bounded n limits h) (entry_item-bounded n limits h))
 
-next-bounded : (n : ℕ) (limits : Limits) (s : SoFar) → IsBounded (place n) (next_item limits s)
+next-bounded : (n : ℕ) (limits : Limits) (h : Held) → IsBounded (place n) (next_item limits h)
 unfolding next_item
-next-bounded n limits s =
-    fielded-bounded n _ (kind-bounded s.kind) >>> λ kind.
-    either-bounded n _ _ _ (whole-bounded (place n) None) (item-bounded n kind limits s >>> λ x. whole-bounded (place n) _)
+next-bounded n limits h =
+    fielded-bounded n _ (kind-bounded h.kind) >>> λ kind.
+    either-bounded n _ _ _ (whole-bounded (place n) None) (item-bounded n kind limits h >>> λ x. whole-bounded (place n) _)
 
-others-bounded : (n : ℕ) (others : SoFar → Layout JobFault SoFar) (s : SoFar) (x : Option Item) → ((t : SoFar) → IsBounded (place n) (others t)) → IsBounded (place n) (with_others others s x)
-others-bounded n others s None each = whole-bounded (place n) s
-others-bounded n others s (Some x) each = each (with_item s x)
+others-bounded : (brings : List ℕ → ℕ) (n : ℕ) (others : Held → ℕ → Layout JobFault (List Item)) (limits : Limits) (h : Held) (serials : ℕ) (x : Option Item)
+    → ((t : Held) (k : ℕ) → IsBounded (place n) (others t k)) → IsBounded (place n) (with_others brings others limits h serials x)
+others-bounded brings n others limits h serials None each = whole-bounded (place n) []
+others-bounded brings n others limits h serials (Some x) each =
+    limit-bounded n what.Serials limits.serials (with_serials brings serials x) >>> λ few.
+    each (with_item h x) (with_serials brings serials x) >>> λ xs.
+    whole-bounded (place n) (x ∷ xs)
 
-records-bounded : (n count : ℕ) (limits : Limits) (s : SoFar) → IsBounded (place n) (records_within count limits s)
+records-bounded : (brings : List ℕ → ℕ) (n count : ℕ) (limits : Limits) (h : Held) (serials : ℕ) → IsBounded (place n) (records_within brings count limits h serials)
 unfolding records_within
-records-bounded n zero limits s = record { each = λ bytes at le. le }
-records-bounded n (suc count) limits s = next-bounded n limits s >>> λ x. others-bounded n (records_within count limits) s x (λ t. records-bounded n count limits t)
+records-bounded brings n zero limits h serials = record { each = λ bytes at le. le }
+records-bounded brings n (suc count) limits h serials =
+    next-bounded n limits h >>> λ x. others-bounded brings n (records_within brings count limits) limits h serials x (λ t k. records-bounded brings n count limits t k)
 
-all-bounded : (n : ℕ) (limits : Limits) (s : SoFar) → IsBounded (place n) (records limits s)
-all-bounded n limits s = record { each = λ bytes at le. (records-bounded n (length bytes - at) limits s).each bytes at le }
+all-bounded : (brings : List ℕ → ℕ) (n : ℕ) (limits : Limits) (h : Held) (serials : ℕ) → IsBounded (place n) (records brings limits h serials)
+all-bounded brings n limits h serials = record { each = λ bytes at le. (records-bounded brings n (length bytes - at) limits h serials).each bytes at le }
 
-pub job-bounded : (n : ℕ) (limits : Limits) → IsBounded (place n) (job limits)
+opening-bounded : IsBounded offset opening
+unfolding opening
+opening-bounded =
+    bytes-bounded fields.JobMagic 8 _ >>> λ begin.
+    number-bounded fields.JobEpoch w64 0 (2 ^ 64 - 1) >>> λ epoch.
+    number-bounded fields.JobMoment w64 0 (2 ^ 64 - 1) >>> λ moment.
+    whole-bounded offset _
+
+job-bounded : (brings : List ℕ → ℕ) (n : ℕ) (limits : Limits) → IsBounded (place n) (job brings limits)
 unfolding job
-job-bounded n limits =
-    fielded-bounded n _ (bytes-bounded fields.JobMagic 8 _) >>> λ begin.
-    fielded-bounded n _ (number-bounded fields.JobEpoch w64 0 (2 ^ 64 - 1)) >>> λ epoch.
-    fielded-bounded n _ (number-bounded fields.JobMoment w64 0 (2 ^ 64 - 1)) >>> λ moment.
-    all-bounded n limits nothing_yet >>> λ s.
+job-bounded brings n limits =
+    fielded-bounded n opening opening-bounded >>> λ o.
+    all-bounded brings n limits nothing_held 0 >>> λ s.
     fielded-bounded n end end-bounded >>> λ over.
     whole-bounded (place n) _
 
-fault-within : (n : ℕ) (bytes : List ℕ) (e : JobFault) (read : Result (JobFields × ℕ) JobFault) → IsWithin (place n) bytes read → value_of read ≡ Err e → place n e ≤ length bytes
+fault-within : (n : ℕ) (bytes : List ℕ) (e : JobFault) (read : Result (JobTexts × ℕ) JobFault) → IsWithin (place n) bytes read → said_by (value_of read) ≡ Err e → place n e ≤ length bytes
 fault-within n bytes e (Ok x) h is = absurd cc
 fault-within n bytes e (Err d) h is =
     let same : d ≡ e = cc in
     subst (λ (f : JobFault). place n f ≤ length bytes) same h
 
 fault-place : (n : ℕ) (limits : Limits) (bytes : List ℕ) (e : JobFault) → job_of limits bytes ≡ Err e → place n e ≤ length bytes
-fault-place n limits bytes e is = fault-within n bytes e (job limits bytes 0) ((job-bounded n limits).each bytes 0 (omega arith)) is
+fault-place n limits bytes e is = fault-within n bytes e (job serials_of limits bytes 0) ((job-bounded serials_of n limits).each bytes 0 (omega arith)) is
 
 offset-of : (limits : Limits) (bytes : List ℕ) (e : JobFault) → ((e ≡ faults.NoMemory → ⊥) → job_of limits bytes ≡ Err e) → offset_in_job e ≤ length bytes
 offset-of limits bytes faults.NoMemory h = omega arith

@@ -1,81 +1,31 @@
 -- The text of what a job holds is read as its meaning, or its serials are too many.
-use Rattle.std.proofs.Common.{◌≡◌, ℕ, suc, ◌+◌, ◌-◌, ◌≤◌, ◌<◌, ◌^◌, false, List, [], ◌∷◌, ◌++◌, length, Some, None, Result, Ok, Err, refl, sym, ap, subst, ◌∙◌}
+use Rattle.std.proofs.Common.{◌≡◌, ℕ, suc, ◌+◌, ◌-◌, ◌≤◌, ◌<◌, ◌^◌, ◌⊎◌, List, [], ◌∷◌, ◌++◌, length, Some, None, Result, Ok, Err, refl, sym, ap, subst, ◌∙◌}
 use Rattle.std.proofs.Common.{append_assoc, length-append, arith, inl, inr, IfOk, OnOk}
-use Rattle.std.specs.Prelude.{All, map, flat_map, codes, nat_lt}
+use Rattle.std.specs.Prelude.{All, map, flat_map, codes}
 use Rattle.std.specs.Int.{w8, w64, to_be_bytes}
 use Rattle.std.specs.Str.{bytes_eq}
 use Rattle.std.proofs.lemmas.Bool.{cases_lt, le-ltb, le-leb, lt-leb}
 use Rattle.std.proofs.lemmas.List.{append-nil}
-use Rattle.std.proofs.lemmas.List.Sums.{sum_by-cons}
-use Rattle.octets_core.specs.Layout.{◌>>=◌, whole}
+use Rattle.octets_core.specs.Layout.{Layout, then_read, ◌>>=◌, whole}
 use Rattle.octets_core.specs.Linked.{Linked}
 use Rattle.octets_core.specs.Reading.{value_of, end}
-use Rattle.octets_core.proofs.Texts.{IsRead, mapped-read, bytes_field-read, number_field-read, wide64}
+use Rattle.octets_core.proofs.Texts.{IsRead, reads, done, from_front, bytes_field-read, number_field-read, wide64}
 use Rattle.ident_core.specs.declared.range.Range.{Range}
 use Rattle.ident_core.specs.RangeText.{FitsRange}
 use Rattle.ident_core.proofs.RangeTexts.{below_limit}
-use Rattle.crl_core.specs.Outcome.{outcome}
 use Rattle.job_core.specs.declared.bounds.Limits.{Limits}
+use Rattle.job_core.specs.declared.bounds.What.TheVariants as what
 use Rattle.job_core.specs.declared.fault.JobFault.{JobFault}
 use Rattle.job_core.specs.declared.fault.JobFault.TheVariants as faults
-use Rattle.job_core.specs.JobFields.{CrlMeaning, JobFields}
-use Rattle.job_core.specs.JobLayout.{fielded, CrlText, EntryText, SoFar, nothing_yet, Item, OneRange, OneCrl, OneEntry, with_item, kept, next_item, with_others, records_within, records, job, job_of}
-use Rattle.job_core.specs.JobText.{JobContents, range_record, crl_record, entry_record, spelling, FitsCrl, FitsEntry, FitsJob}
-use Rattle.job_core.specs.JobMeaning.{crl_meaning, entry_meaning, meaning_of, kept_in, reading_of}
-use Rattle.job_core.proofs.Giving.{Gives, ended, given, then-gives, then-last, stops, wider, regroup, moved, from_here}
-use Rattle.job_core.proofs.RecordTexts.{total, too_many, next-range, next-crl, next-crl-refused, next-entry, next-none}
-
--- ---- records
-
-more : (limits : Limits) (n : ℕ) (s : SoFar) (before : List ℕ) (x : Item) (r : Result SoFar JobFault) (t u rest : List ℕ)
-    → IsRead (next_item limits s) before (Some x) t → Gives (records_within n limits (with_item s x)) (before ++ t) r u rest → Gives (records_within (suc n) limits s) before r (t ++ u) rest
-unfolding records_within
-more limits n s before x r t u rest one others = then-gives (next_item limits s) (with_others (records_within n limits) s) before (Some x) r t u rest (given one (u ++ rest)) others
-
-ends : (limits : Limits) (n : ℕ) (s : SoFar) (before rest : List ℕ) → Gives (records_within (suc n) limits s) before (Ok s) (to_be_bytes w8 0) rest
-unfolding records_within
-ends limits n s before rest =
-    then-gives (next_item limits s) (with_others (records_within n limits) s) before None (Ok s) (to_be_bytes w8 0) [] rest
-    (given (next-none limits s before) rest) (record { is = ap (λ (k : ℕ). Ok (s, k)) (omega arith) })
-
--- n steps more than there are elements
-abbrev steps_over : {X : Type 0} → List X → ℕ → ℕ
-steps_over [] n = n
-steps_over (x ∷ xs) n = suc (steps_over xs n)
-
-steps-are : {X : Type 0} (xs : List X) (n : ℕ) → steps_over xs n ≡ length xs + n
-steps-are [] n = omega arith
-steps-are (x ∷ xs) n = omega (arith, steps-are xs n)
-
--- ---- ranges
-
-abbrev after_ranges : SoFar → List Range → SoFar
-after_ranges s [] = s
-after_ranges s (r ∷ rs) = after_ranges (with_item s (OneRange r)) rs
-
-ranges-give : (limits : Limits) (n : ℕ) (rs : List Range) (s : SoFar) (before : List ℕ) (r : Result SoFar JobFault) (u rest : List ℕ)
-    → s.kind ≤ 1 → length s.ranges + length rs ≤ limits.ranges → Linked FitsRange (λ previous r. Some r.log) s.log rs
-    → Gives (records_within n limits (after_ranges s rs)) (before ++ flat_map range_record rs) r u rest
-    → Gives (records_within (steps_over rs n) limits s) before r (flat_map range_record rs ++ u) rest
-ranges-give limits n [] s before r u rest low few linked others = from_here (records_within n limits s) before r u rest others
-ranges-give limits n (x ∷ rs) s before r u rest low few linked others =
-    regroup (records_within (steps_over (x ∷ rs) n) limits s) before r (range_record x) (flat_map range_record rs) u rest
-    (more limits (steps_over rs n) s before (OneRange x) r (range_record x) (flat_map range_record rs ++ u) rest
-    (next-range limits s before x low (omega (arith, few)) linked.0)
-    (ranges-give limits n rs (with_item s (OneRange x)) (before ++ range_record x) r u rest (omega arith) (omega (arith, few, length-append s.ranges (x ∷ []))) linked.1
-    (moved (records_within n limits (after_ranges s (x ∷ rs))) before r (range_record x) (flat_map range_record rs) u rest others)))
-
--- ---- CRLs
-
-abbrev after_crls : SoFar → List CrlText → SoFar
-after_crls s [] = s
-after_crls s (c ∷ cs) = after_crls (with_item s (OneCrl (crl_meaning c) (total s c))) cs
-
-abbrev pub brought : List CrlText → ℕ
-brought cs = kept_in (map crl_meaning cs)
-
-pub brought-more : (c : CrlText) (cs : List CrlText) → brought (c ∷ cs) ≡ kept (outcome c.bytes) + brought cs
-brought-more c cs = sum_by-cons (λ (m : CrlMeaning). kept m.outcome) (crl_meaning c) (map crl_meaning cs)
+use Rattle.job_core.specs.JobFields.{JobFields}
+use Rattle.job_core.specs.JobLayout.{fielded, CrlText, EntryText, Held, nothing_held, Item, OneRange, OneCrl, OneEntry, with_item, serials_of, with_serials, next_item, records}
+use Rattle.job_core.specs.JobLayout.{opening, JobTexts, job, said_by, job_of}
+use Rattle.job_core.specs.JobText.{JobContents, range_record, crl_record, entry_record, record_text, opening_text, spelling, FitsCrl, FitsEntry, FitsJob, FitsItem, Pass, held_behind, serials_behind, behind}
+use Rattle.job_core.specs.JobMeaning.{meaning_of, kept_in, reading_of}
+use Rattle.job_core.proofs.RecordTexts.{next-read, next-none}
+use Rattle.job_core.proofs.Steps.{goes_on, ends, runs_over}
+use Rattle.job_core.proofs.Passing.{texts_of, split, passes}
+use Rattle.job_core.proofs.Items.{items_of, texts-are, saying-meaning, brought, brought-more}
 
 first_of : {X : Type 0} (P : X → Type 0) (x : X) (xs : List X) → All P (x ∷ xs) → P x
 first_of P x xs all = all 0 x (omega arith)
@@ -83,247 +33,199 @@ first_of P x xs all = all 0 x (omega arith)
 others_of : {X : Type 0} (P : X → Type 0) (x : X) (xs : List X) → All P (x ∷ xs) → All P xs
 others_of P x xs all = λ k d lt. all (suc k) d (omega (arith, lt))
 
-crls-give : (limits : Limits) (n : ℕ) (cs : List CrlText) (s : SoFar) (before : List ℕ) (r : Result SoFar JobFault) (u rest : List ℕ)
-    → s.kind ≤ 2 → length s.crls + length cs ≤ limits.crls → s.serials + brought cs ≤ limits.serials → All FitsCrl cs
-    → Gives (records_within n limits (after_crls s cs)) (before ++ flat_map crl_record cs) r u rest
-    → Gives (records_within (steps_over cs n) limits s) before r (flat_map crl_record cs ++ u) rest
-crls-give limits n [] s before r u rest low few under fits others = from_here (records_within n limits s) before r u rest others
-crls-give limits n (c ∷ cs) s before r u rest low few under fits others =
-    let sum : brought (c ∷ cs) ≡ kept (outcome c.bytes) + brought cs = brought-more c cs in
-    regroup (records_within (steps_over (c ∷ cs) n) limits s) before r (crl_record c) (flat_map crl_record cs) u rest
-    (more limits (steps_over cs n) s before (OneCrl (crl_meaning c) (total s c)) r (crl_record c) (flat_map crl_record cs ++ u) rest
-    (next-crl limits s before c low (omega (arith, few)) (omega (arith, under, sum)) (first_of FitsCrl c cs fits))
-    (crls-give limits n cs (with_item s (OneCrl (crl_meaning c) (total s c))) (before ++ crl_record c) r u rest (omega arith)
-    (omega (arith, few, length-append s.crls (crl_meaning c ∷ []))) (omega (arith, under, sum)) (others_of FitsCrl c cs fits)
-    (moved (records_within n limits (after_crls s (c ∷ cs))) before r (crl_record c) (flat_map crl_record cs) u rest others)))
+-- ---- records that pass
 
--- the first CRL that brings the serials past their limit
-crls-refused : (limits : Limits) (n : ℕ) (cs : List CrlText) (s : SoFar) (before u rest : List ℕ)
-    → s.kind ≤ 2 → length s.crls + length cs ≤ limits.crls → s.serials ≤ limits.serials → limits.serials < s.serials + brought cs → All FitsCrl cs
-    → Gives (records_within (steps_over cs n) limits s) before (Err (too_many limits)) (flat_map crl_record cs ++ u) rest
-unfolding records_within
-crls-refused limits n [] s before u rest low few under over fits = absurd (omega (arith, under, over))
-crls-refused limits n (c ∷ cs) s before u rest low few under over fits =
-    let sum : brought (c ∷ cs) ≡ kept (outcome c.bytes) + brought cs = brought-more c cs in
-    regroup (records_within (steps_over (c ∷ cs) n) limits s) before (Err (too_many limits)) (crl_record c) (flat_map crl_record cs) u rest
-    (elim (cases_lt limits.serials (total s c)) [
-      | inl past ↦
-          wider (records_within (steps_over (c ∷ cs) n) limits s) before (too_many limits) (crl_record c) (flat_map crl_record cs ++ u) rest
-          (stops (next_item limits s) (with_others (records_within (steps_over cs n) limits) s) before (too_many limits) (crl_record c) ((flat_map crl_record cs ++ u) ++ rest)
-          (next-crl-refused limits s before c low (omega (arith, few)) past (first_of FitsCrl c cs fits) ((flat_map crl_record cs ++ u) ++ rest)))
-      | inr le ↦
-          more limits (steps_over cs n) s before (OneCrl (crl_meaning c) (total s c)) (Err (too_many limits)) (crl_record c) (flat_map crl_record cs ++ u) rest
-          (next-crl limits s before c low (omega (arith, few)) le (first_of FitsCrl c cs fits))
-          (crls-refused limits n cs (with_item s (OneCrl (crl_meaning c) (total s c))) (before ++ crl_record c) u rest (omega arith)
-          (omega (arith, few, length-append s.crls (crl_meaning c ∷ []))) le (omega (arith, over, sum)) (others_of FitsCrl c cs fits))
-    ])
+abbrev too_many : Limits → JobFault
+too_many limits = faults.TooMany what.Serials limits.serials
 
--- ---- entries
+-- some records pass, and the next one brings too many serials
+abbrev Over : Limits → Held → ℕ → List Item → Type 0
+Over limits h serials [] = ⊥
+Over limits h serials (x ∷ xs) =
+    FitsItem limits h x × ((limits.serials < with_serials serials_of serials x)
+    ⊎ ((with_serials serials_of serials x ≤ limits.serials) × Over limits (with_item h x) (with_serials serials_of serials x) xs))
 
-abbrev after_entries : SoFar → List EntryText → SoFar
-after_entries s [] = s
-after_entries s (e ∷ es) = after_entries (with_item s (OneEntry (entry_meaning e))) es
+-- what ranges leave: other counts as they are
+abbrev AfterRanges : (Held → Type 0) → Held → Type 0
+AfterRanges P h = (t : Held) → t.kind ≤ 1 → t.crls ≡ h.crls → t.entries ≡ h.entries → P t
 
-entries-give : (limits : Limits) (n : ℕ) (es : List EntryText) (s : SoFar) (before : List ℕ) (r : Result SoFar JobFault) (u rest : List ℕ)
-    → s.kind ≤ 3 → length s.entries + length es ≤ limits.entries → All FitsEntry es
-    → Gives (records_within n limits (after_entries s es)) (before ++ flat_map entry_record es) r u rest
-    → Gives (records_within (steps_over es n) limits s) before r (flat_map entry_record es ++ u) rest
-entries-give limits n [] s before r u rest low few fits others = from_here (records_within n limits s) before r u rest others
-entries-give limits n (e ∷ es) s before r u rest low few fits others =
-    regroup (records_within (steps_over (e ∷ es) n) limits s) before r (entry_record e) (flat_map entry_record es) u rest
-    (more limits (steps_over es n) s before (OneEntry (entry_meaning e)) r (entry_record e) (flat_map entry_record es ++ u) rest
-    (next-entry limits s before e low (omega (arith, few)) (first_of FitsEntry e es fits))
-    (entries-give limits n es (with_item s (OneEntry (entry_meaning e))) (before ++ entry_record e) r u rest (omega arith)
-    (omega (arith, few, length-append s.entries (entry_meaning e ∷ []))) (others_of FitsEntry e es fits)
-    (moved (records_within n limits (after_entries s (e ∷ es))) before r (entry_record e) (flat_map entry_record es) u rest others)))
+ranges-pass : (limits : Limits) (rs : List Range) (h : Held) (serials : ℕ) (xs : List Item) → h.kind ≤ 1 → h.ranges + length rs ≤ limits.ranges
+    → Linked FitsRange (λ previous r. Some r.log) h.log rs → serials ≤ limits.serials → AfterRanges (λ t. Pass serials_of limits t serials xs) h
+    → Pass serials_of limits h serials (map (λ r. OneRange r) rs ++ xs)
+ranges-pass limits [] h serials xs low few fits under each = each h low refl refl
+ranges-pass limits (r ∷ rs) h serials xs low few fits under each = (
+  (fits.0, low, omega (arith, few)),
+  under,
+  ranges-pass limits rs (with_item h (OneRange r)) serials xs (omega arith) (omega (arith, few)) fits.1 under each,
+)
 
--- ---- what the records come to
+ranges-over : (limits : Limits) (rs : List Range) (h : Held) (serials : ℕ) (xs : List Item) → h.kind ≤ 1 → h.ranges + length rs ≤ limits.ranges
+    → Linked FitsRange (λ previous r. Some r.log) h.log rs → serials ≤ limits.serials → AfterRanges (λ t. Over limits t serials xs) h
+    → Over limits h serials (map (λ r. OneRange r) rs ++ xs)
+ranges-over limits [] h serials xs low few fits under each = each h low refl refl
+ranges-over limits (r ∷ rs) h serials xs low few fits under each = (
+  (fits.0, low, omega (arith, few)),
+  inr (under, ranges-over limits rs (with_item h (OneRange r)) serials xs (omega arith) (omega (arith, few)) fits.1 under each),
+)
 
-record RangesTaken (s t : SoFar) (rs : List Range) : Type 0 where
-  ranges : t.ranges ≡ s.ranges ++ rs
-  crls : t.crls ≡ s.crls
-  serials : t.serials ≡ s.serials
-  entries : t.entries ≡ s.entries
-  kind : s.kind ≤ 1 → t.kind ≤ 1
-
-ranges-taken : (s : SoFar) (rs : List Range) → RangesTaken s (after_ranges s rs) rs
-ranges-taken s [] = record { ranges = sym (append-nil s.ranges); crls = refl; serials = refl; entries = refl; kind = λ le. le }
-ranges-taken s (x ∷ rs) =
-    let t = ranges-taken (with_item s (OneRange x)) rs in
-    record { ranges = t.ranges ∙ append_assoc s.ranges (x ∷ []) rs; crls = t.crls; serials = t.serials; entries = t.entries; kind = λ le. t.kind (omega arith) }
-
-record CrlsTaken (s t : SoFar) (cs : List CrlText) : Type 0 where
-  ranges : t.ranges ≡ s.ranges
-  crls : t.crls ≡ s.crls ++ map crl_meaning cs
-  entries : t.entries ≡ s.entries
-  kind : s.kind ≤ 2 → t.kind ≤ 2
-
-crls-taken : (s : SoFar) (cs : List CrlText) → CrlsTaken s (after_crls s cs) cs
-crls-taken s [] = record { ranges = refl; crls = sym (append-nil s.crls); entries = refl; kind = λ le. le }
-crls-taken s (c ∷ cs) =
-    let t = crls-taken (with_item s (OneCrl (crl_meaning c) (total s c))) cs in
-    record { ranges = t.ranges; crls = t.crls ∙ append_assoc s.crls (crl_meaning c ∷ []) (map crl_meaning cs); entries = t.entries; kind = λ le. t.kind (omega arith) }
-
-record EntriesTaken (s t : SoFar) (es : List EntryText) : Type 0 where
-  ranges : t.ranges ≡ s.ranges
-  crls : t.crls ≡ s.crls
-  entries : t.entries ≡ s.entries ++ map entry_meaning es
-
-entries-taken : (s : SoFar) (es : List EntryText) → EntriesTaken s (after_entries s es) es
-entries-taken s [] = record { ranges = refl; crls = refl; entries = sym (append-nil s.entries) }
-entries-taken s (e ∷ es) =
-    let t = entries-taken (with_item s (OneEntry (entry_meaning e))) es in
-    record { ranges = t.ranges; crls = t.crls; entries = t.entries ∙ append_assoc s.entries (entry_meaning e ∷ []) (map entry_meaning es) }
-
-abbrev ranged : JobContents → SoFar
-ranged j = after_ranges nothing_yet j.ranges
-
-abbrev crls_behind : JobContents → SoFar
-crls_behind j = after_crls (ranged j) j.crls
-
-abbrev all_behind : JobContents → SoFar
-all_behind j = after_entries (crls_behind j) j.entries
-
--- what a job says, by what its records say
-abbrev said : ℕ → ℕ → SoFar → JobFields
-said epoch moment s = record { epoch = epoch; moment = moment; ranges = s.ranges; crls = s.crls; entries = s.entries }
-
-all-said : (j : JobContents) → said j.epoch j.moment (all_behind j) ≡ meaning_of j
-all-said j =
-    let a = ranges-taken nothing_yet j.ranges in
-    let b = crls-taken (ranged j) j.crls in
-    let c = entries-taken (crls_behind j) j.entries in
-    let ranges : (all_behind j).ranges ≡ j.ranges = c.ranges ∙ b.ranges ∙ a.ranges in
-    let crls : (all_behind j).crls ≡ map crl_meaning j.crls = c.crls ∙ b.crls ∙ ap (λ (l : List CrlMeaning). l ++ map crl_meaning j.crls) a.crls in
-    let entries : (all_behind j).entries ≡ map entry_meaning j.entries = c.entries ∙ ap (λ l. l ++ map entry_meaning j.entries) (b.entries ∙ a.entries) in
-    rw (ranges, crls, entries) refl
-
--- ---- all records of a job
-
-abbrev texts : JobContents → List ℕ
-texts j = flat_map range_record j.ranges ++ (flat_map crl_record j.crls ++ (flat_map entry_record j.entries ++ to_be_bytes w8 0))
-
-abbrev count : JobContents → ℕ → ℕ
-count j n = steps_over j.ranges (steps_over j.crls (steps_over j.entries (suc n)))
-
--- a record has a byte or more
-few-texts : {X : Type 0} (text : X → List ℕ) → ((x : X) → 1 ≤ length (text x)) → (xs : List X) → length xs ≤ length (flat_map text xs)
-few-texts text one [] = omega arith
-few-texts text one (x ∷ xs) = omega (arith, one x, few-texts text one xs, length-append (text x) (flat_map text xs))
-
-enough : (j : JobContents) → length j.ranges + (length j.crls + (length j.entries + 1)) ≤ length (texts j)
-enough j =
-    let R : List ℕ = flat_map range_record j.ranges in
-    let C : List ℕ = flat_map crl_record j.crls in
-    let E : List ℕ = flat_map entry_record j.entries in
-    omega (
-      arith,
-      few-texts range_record (λ r. omega arith) j.ranges,
-      few-texts crl_record (λ c. omega arith) j.crls,
-      few-texts entry_record (λ e. omega arith) j.entries,
-      length-append R (C ++ (E ++ to_be_bytes w8 0)),
-      length-append C (E ++ to_be_bytes w8 0),
-      length-append E (to_be_bytes w8 0),
+crls-pass : (limits : Limits) (cs : List CrlText) (h : Held) (serials : ℕ) (xs : List Item) → h.kind ≤ 2 → h.crls + length cs ≤ limits.crls
+    → serials + brought cs ≤ limits.serials → All FitsCrl cs
+    → ((t : Held) → t.kind ≤ 2 → t.entries ≡ h.entries → Pass serials_of limits t (serials + brought cs) xs)
+    → Pass serials_of limits h serials (map (λ c. OneCrl c) cs ++ xs)
+crls-pass limits [] h serials xs low few under fits each = subst (λ (n : ℕ). Pass serials_of limits h n xs) (omega arith) (each h low refl)
+crls-pass limits (c ∷ cs) h serials xs low few under fits each =
+    let sum : brought (c ∷ cs) ≡ serials_of c.bytes + brought cs = brought-more c cs in
+    let next : serials + brought (c ∷ cs) ≡ serials + serials_of c.bytes + brought cs = omega (arith, sum) in (
+      (first_of FitsCrl c cs fits, low, omega (arith, few)),
+      omega (arith, under, sum),
+      crls-pass limits cs (with_item h (OneCrl c)) (serials + serials_of c.bytes) xs (omega arith) (omega (arith, few)) (omega (arith, under, sum))
+          (others_of FitsCrl c cs fits) (λ t kind entries. subst (λ (n : ℕ). Pass serials_of limits t n xs) next (each t kind entries)),
     )
 
--- as many steps as bytes are left
-within-all : (limits : Limits) (j : JobContents) (before : List ℕ) (r : Result SoFar JobFault)
-    → ((n : ℕ) → Gives (records_within (count j n) limits nothing_yet) before r (texts j) []) → Gives (records limits nothing_yet) before r (texts j) []
-within-all limits j before r each =
-    let n : ℕ = length (texts j) - (length j.ranges + (length j.crls + (length j.entries + 1))) in
-    let steps : length (before ++ (texts j ++ [])) - length before
-    ≡ count j n = omega (
-      arith,
-      length-append before (texts j ++ []),
-      length-append (texts j) [],
-      enough j,
-      steps-are j.ranges (steps_over j.crls (steps_over j.entries (suc n))),
-      steps-are j.crls (steps_over j.entries (suc n)),
-      steps-are j.entries (suc n),
-    ) in
-    record { is = ap (λ (k : ℕ). records_within k limits nothing_yet (before ++ (texts j ++ [])) (length before)) steps ∙ (each n).is }
+crls-over : (limits : Limits) (cs : List CrlText) (h : Held) (serials : ℕ) (xs : List Item) → h.kind ≤ 2 → h.crls + length cs ≤ limits.crls
+    → serials ≤ limits.serials → limits.serials < serials + brought cs → All FitsCrl cs → Over limits h serials (map (λ c. OneCrl c) cs ++ xs)
+crls-over limits [] h serials xs low few under over fits = absurd (omega (arith, under, over))
+crls-over limits (c ∷ cs) h serials xs low few under over fits =
+    let sum : brought (c ∷ cs) ≡ serials_of c.bytes + brought cs = brought-more c cs in (
+      (first_of FitsCrl c cs fits, low, omega (arith, few)),
+      elim (cases_lt limits.serials (serials + serials_of c.bytes)) [
+        | inl past ↦ inl past
+        | inr le ↦ inr (
+          le,
+          crls-over limits cs (with_item h (OneCrl c)) (serials + serials_of c.bytes) xs (omega arith) (omega (arith, few)) le
+              (omega (arith, over, sum)) (others_of FitsCrl c cs fits),
+        )
+      ],
+    )
 
-records-give : (limits : Limits) (j : JobContents) → FitsJob limits j → kept_in (meaning_of j).crls ≤ limits.serials → (before : List ℕ)
-    → Gives (records limits nothing_yet) before (Ok (all_behind j)) (texts j) []
-records-give limits j fits under before =
-    let a = ranges-taken nothing_yet j.ranges in
-    let b = crls-taken (ranged j) j.crls in
-    let C : List ℕ = flat_map crl_record j.crls in
-    let E : List ℕ = flat_map entry_record j.entries in
-    let end : List ℕ = to_be_bytes w8 0 in
-    within-all limits j before (Ok (all_behind j)) (λ n.
-    ranges-give limits (steps_over j.crls (steps_over j.entries (suc n))) j.ranges nothing_yet before (Ok (all_behind j)) (C ++ (E ++ end)) [] (omega arith)
-    (omega (arith, fits.few_ranges)) fits.ranges
-    (crls-give limits (steps_over j.entries (suc n)) j.crls (ranged j) _ (Ok (all_behind j)) (E ++ end) [] (omega (arith, a.kind (omega arith)))
-    (omega (arith, ap length a.crls, fits.few_crls)) (omega (arith, a.serials, under)) fits.crls
-    (entries-give limits (suc n) j.entries (crls_behind j) _ (Ok (all_behind j)) end [] (omega (arith, b.kind (omega (arith, a.kind (omega arith)))))
-    (omega (arith, ap length b.entries, ap length a.entries, fits.few_entries)) fits.entries
-    (ends limits n (all_behind j) _ []))))
+entries-pass : (limits : Limits) (es : List EntryText) (h : Held) (serials : ℕ) → h.kind ≤ 3 → h.entries + length es ≤ limits.entries
+    → serials ≤ limits.serials → All FitsEntry es → Pass serials_of limits h serials (map (λ e. OneEntry e) es)
+entries-pass limits [] h serials low few under fits = tt
+entries-pass limits (e ∷ es) h serials low few under fits = (
+  (first_of FitsEntry e es fits, low, omega (arith, few)),
+  under,
+  entries-pass limits es (with_item h (OneEntry e)) serials (omega arith) (omega (arith, few)) under (others_of FitsEntry e es fits),
+)
 
-records-refused : (limits : Limits) (j : JobContents) → FitsJob limits j → limits.serials < kept_in (meaning_of j).crls → (before : List ℕ)
-    → Gives (records limits nothing_yet) before (Err (too_many limits)) (texts j) []
-records-refused limits j fits over before =
-    let a = ranges-taken nothing_yet j.ranges in
-    let E : List ℕ = flat_map entry_record j.entries in
-    let end : List ℕ = to_be_bytes w8 0 in
-    within-all limits j before (Err (too_many limits)) (λ n.
-    ranges-give limits (steps_over j.crls (steps_over j.entries (suc n))) j.ranges nothing_yet before (Err (too_many limits))
-    (flat_map crl_record j.crls ++ (E ++ end)) [] (omega arith) (omega (arith, fits.few_ranges)) fits.ranges
-    (crls-refused limits (steps_over j.entries (suc n)) j.crls (ranged j) _ (E ++ end) [] (omega (arith, a.kind (omega arith)))
-    (omega (arith, ap length a.crls, fits.few_crls)) (omega (arith, a.serials)) (omega (arith, a.serials, over)) fits.crls))
+job-passes : (limits : Limits) (j : JobContents) → FitsJob limits j → kept_in (meaning_of j).crls ≤ limits.serials → Pass serials_of limits nothing_held 0 (items_of j)
+job-passes limits j fits under =
+    ranges-pass limits j.ranges nothing_held 0 (map (λ c. OneCrl c) j.crls ++ map (λ e. OneEntry e) j.entries) (omega arith) (omega (arith, fits.few_ranges)) fits.ranges (omega arith)
+    (λ t kind crls entries.
+    crls-pass limits j.crls t 0 (map (λ e. OneEntry e) j.entries) (omega (arith, kind)) (omega (arith, crls, fits.few_crls)) (omega (arith, under)) fits.crls
+    (λ u low same. entries-pass limits j.entries u (0 + brought j.crls) (omega (arith, low)) (omega (arith, same, entries, fits.few_entries)) (omega (arith, under)) fits.entries))
+
+job-over : (limits : Limits) (j : JobContents) → FitsJob limits j → limits.serials < kept_in (meaning_of j).crls → Over limits nothing_held 0 (items_of j)
+job-over limits j fits over =
+    ranges-over limits j.ranges nothing_held 0 (map (λ c. OneCrl c) j.crls ++ map (λ e. OneEntry e) j.entries) (omega arith) (omega (arith, fits.few_ranges)) fits.ranges (omega arith)
+    (λ t kind crls entries.
+    crls-over limits j.crls t 0 (map (λ e. OneEntry e) j.entries) (omega (arith, kind)) (omega (arith, crls, fits.few_crls)) (omega arith) (omega (arith, over)) fits.crls)
+
+-- ---- what they are read as
+
+records-over : (limits : Limits) (h : Held) (serials : ℕ) (xs : List Item) (before rest : List ℕ) → Over limits h serials xs
+    → records serials_of limits h serials (before ++ (texts_of xs ++ rest)) (length before) ≡ Err (too_many limits)
+records-over limits h serials [] before rest over = absurd over
+records-over limits h serials (x ∷ xs) before rest (fits, over) =
+    let n : ℕ = with_serials serials_of serials x in
+    let B : List ℕ = before ++ (record_text x ++ (texts_of xs ++ rest)) in
+    let next : next_item limits h B (length before) ≡ Ok (Some x, length before + length (record_text x)) = (next-read limits h before x fits).each (texts_of xs ++ rest) in
+    rw (split before x xs rest)
+    (elim over [
+      | inl past ↦ runs_over serials_of limits h serials B (length before) x (length before + length (record_text x)) next past
+      | inr on ↦
+          let later = records-over limits (with_item h x) n xs (before ++ record_text x) rest on.1 in
+          let moved : (before ++ record_text x) ++ (texts_of xs ++ rest) ≡ B = append_assoc before (record_text x) (texts_of xs ++ rest) in
+          let place : length (before ++ record_text x) ≡ length before + length (record_text x) = length-append before (record_text x) in
+          goes_on serials_of limits h serials B (length before) x (length before + length (record_text x)) next on.0
+          ∙ ap (behind (x ∷ []))
+          (ap (λ (q : ℕ). records serials_of limits (with_item h x) n B q) (sym place)
+          ∙ ap (λ (l : List ℕ). records serials_of limits (with_item h x) n l (length (before ++ record_text x))) (sym moved)
+          ∙ later)
+    ])
+
+records-end : (brings : List ℕ → ℕ) (limits : Limits) (xs : List Item) (before : List ℕ) → Pass brings limits nothing_held 0 xs
+    → records brings limits nothing_held 0 (before ++ (texts_of xs ++ to_be_bytes w8 0)) (length before) ≡ Ok (xs, length (before ++ (texts_of xs ++ to_be_bytes w8 0)))
+records-end brings limits xs before pass =
+    let zero : List ℕ = to_be_bytes w8 0 in
+    let B : List ℕ = before ++ (texts_of xs ++ zero) in
+    let H : Held = held_behind nothing_held xs in
+    let S : ℕ = serials_behind brings 0 xs in
+    let moved : (before ++ texts_of xs) ++ (zero ++ []) ≡ B = append_assoc before (texts_of xs) (zero ++ []) ∙ ap (λ (l : List ℕ). before ++ (texts_of xs ++ l)) (append-nil zero) in
+    let at : length (before ++ texts_of xs) ≡ length before + length (texts_of xs) = length-append before (texts_of xs) in
+    let last : length before + length (texts_of xs) + 1 ≡ length B = omega (arith, length-append before (texts_of xs ++ zero), length-append (texts_of xs) zero) in
+    let read = (next-none limits H (before ++ texts_of xs)).each [] in
+    let next : next_item limits H B (length before + length (texts_of xs)) ≡ Ok (None, length before + length (texts_of xs) + 1) = rw (← moved, ← at) read in
+    passes brings limits nothing_held 0 xs before zero pass
+    ∙ ap (behind xs) (ends brings limits H S B (length before + length (texts_of xs)) (length before + length (texts_of xs) + 1) next)
+    ∙ ap (λ (l : List Item). Ok (l, length before + length (texts_of xs) + 1)) (append-nil xs)
+    ∙ ap (λ (n : ℕ). Ok (xs, n)) last
 
 -- ---- the job
 
-right_of : (a b c d e f g : List ℕ) → a ++ b ++ c ++ d ++ e ++ f ++ g ≡ a ++ (b ++ (c ++ (d ++ (e ++ (f ++ g)))))
-right_of a b c d e f g =
-    append_assoc (a ++ b ++ c ++ d ++ e) f g ∙ append_assoc (a ++ b ++ c ++ d) e (f ++ g) ∙ append_assoc (a ++ b ++ c) d (e ++ (f ++ g))
-    ∙ append_assoc (a ++ b) c (d ++ (e ++ (f ++ g))) ∙ append_assoc a b (c ++ (d ++ (e ++ (f ++ g))))
+opening-read : (epoch moment : ℕ) → epoch < 2 ^ 64 → moment < 2 ^ 64 → (before : List ℕ) → IsRead opening before (epoch, moment) (opening_text epoch moment)
+unfolding opening
+opening-read epoch moment few_epoch few_moment before = from_front
+    (reads _ (bytes_field-read _ _ 8 (bytes_eq (codes "CLUBJOB1")) _ (codes "CLUBJOB1") refl refl)
+    (reads _ (number_field-read _ _ w64 (2 ^ 64) 0 (2 ^ 64 - 1) wide64 _ epoch (omega arith) (below_limit _ few_epoch) few_epoch)
+    (reads _ (number_field-read _ _ w64 (2 ^ 64) 0 (2 ^ 64 - 1) wide64 _ moment (omega arith) (below_limit _ few_moment) few_moment)
+    (done (epoch, moment)))))
 
-ends-job : (x : JobFields) (before : List ℕ) → Gives (fielded end >>= λ over. whole x) before (Ok x) [] []
-ends-job x before =
-    let over : nat_lt (length before) (length (before ++ [])) ≡ false = le-ltb _ _ (omega (arith, length-append before [])) in
-    record { is = rw over (ap (λ (k : ℕ). Ok (x, k)) (omega arith)) }
+-- what is read behind the opening
+abbrev behind_opening : (List ℕ → ℕ) → Limits → ℕ × ℕ → Layout JobFault JobTexts
+behind_opening brings limits o = records brings limits nothing_held 0 >>= λ xs. fielded end >>= λ over. whole (record { epoch = o.0; moment = o.1; items = xs })
 
--- from its magic to its moment
-job-gives : (limits : Limits) (j : JobContents) (r : Result JobFields JobFault) → FitsJob limits j
-    → ((before : List ℕ) → Gives (records limits nothing_yet >>= λ s. fielded end >>= λ over. whole (said j.epoch j.moment s)) before r (texts j) [])
-    → Gives (job limits) [] r (spelling j) []
-unfolding job spelling
-job-gives limits j r fits each =
-    let e : List ℕ = to_be_bytes w64 j.epoch in
-    let m : List ℕ = to_be_bytes w64 j.moment in
-    subst (λ (l : List ℕ). Gives (job limits) [] r l []) (sym
-    (right_of (codes "CLUBJOB1") e m (flat_map range_record j.ranges) (flat_map crl_record j.crls) (flat_map entry_record j.entries) (to_be_bytes w8 0)))
-    (then-gives _ _ [] (codes "CLUBJOB1") r (codes "CLUBJOB1") (e ++ (m ++ texts j)) []
-    (given (mapped-read faults.Layout _ _ _ _ (bytes_field-read _ _ 8 (bytes_eq (codes "CLUBJOB1")) _ (codes "CLUBJOB1") refl refl)) _)
-    (then-gives _ _ _ j.epoch r e (m ++ texts j) []
-    (given (mapped-read faults.Layout _ _ _ _ (number_field-read _ _ w64 (2 ^ 64) 0 (2 ^ 64 - 1) wide64 _ j.epoch (omega arith) (below_limit _ fits.epoch) fits.epoch)) _)
-    (then-gives _ _ _ j.moment r m (texts j) []
-    (given (mapped-read faults.Layout _ _ _ _ (number_field-read _ _ w64 (2 ^ 64) 0 (2 ^ 64 - 1) wide64 _ j.moment (omega arith) (below_limit _ fits.moment) fits.moment)) _)
-    (each _))))
+pub behind-opening : (brings : List ℕ → ℕ) (limits : Limits) (bytes : List ℕ) (at : ℕ) (o : ℕ × ℕ) (q : ℕ) → opening bytes at ≡ Ok (o, q)
+    → job brings limits bytes at ≡ behind_opening brings limits o bytes q
+unfolding job
+behind-opening brings limits bytes at o q is = rw is refl
 
-value-ended : {E A : Type 0} (n : ℕ) (r : Result A E) → value_of (ended n r) ≡ r
-value-ended n (Ok x) = refl
-value-ended n (Err e) = refl
+pub ends-at : (bytes : List ℕ) → end bytes (length bytes) ≡ Ok (tt, length bytes)
+ends-at bytes = rw (le-ltb (length bytes) (length bytes) (omega arith)) refl
 
-job-answers : (limits : Limits) (bytes : List ℕ) (r : Result JobFields JobFault) → Gives (job limits) [] r bytes [] → job_of limits bytes ≡ r
-job-answers limits bytes r one = ap (λ (l : List ℕ). value_of (job limits l 0)) (sym (append-nil bytes)) ∙ ap value_of one.is ∙ value-ended _ r
+regrouped : (o r c e z : List ℕ) → o ++ r ++ c ++ e ++ z ≡ o ++ ((r ++ (c ++ e)) ++ z)
+regrouped o r c e z =
+    ap (λ (l : List ℕ). l ++ z) (append_assoc (o ++ r) c e ∙ append_assoc o r (c ++ e)) ∙ append_assoc o (r ++ (c ++ e)) z
+
+pub spelling-is : (j : JobContents) → spelling j ≡ opening_text j.epoch j.moment ++ (texts_of (items_of j) ++ to_be_bytes w8 0)
+unfolding spelling
+spelling-is j =
+    regrouped (opening_text j.epoch j.moment) (flat_map range_record j.ranges) (flat_map crl_record j.crls) (flat_map entry_record j.entries) (to_be_bytes w8 0)
+    ∙ ap (λ (l : List ℕ). opening_text j.epoch j.moment ++ (l ++ to_be_bytes w8 0)) (sym (texts-are j.ranges j.crls j.entries))
+
+opened : (limits : Limits) (j : JobContents) → FitsJob limits j → (T : List ℕ)
+    → job serials_of limits (opening_text j.epoch j.moment ++ T) 0
+    ≡ behind_opening serials_of limits (j.epoch, j.moment) (opening_text j.epoch j.moment ++ T) (length (opening_text j.epoch j.moment))
+opened limits j fits T =
+    behind-opening serials_of limits (opening_text j.epoch j.moment ++ T) 0 (j.epoch, j.moment) (length (opening_text j.epoch j.moment))
+    ((opening-read j.epoch j.moment fits.epoch fits.moment []).each T)
+
+whole-read : (limits : Limits) (j : JobContents) → FitsJob limits j → kept_in (meaning_of j).crls ≤ limits.serials → job_of limits (spelling j) ≡ Ok (meaning_of j)
+whole-read limits j fits under =
+    let O : List ℕ = opening_text j.epoch j.moment in
+    let T : List ℕ = texts_of (items_of j) ++ to_be_bytes w8 0 in
+    let all = records-end serials_of limits (items_of j) O (job-passes limits j fits under) in
+    let read : job serials_of limits (O ++ T) 0 ≡ Ok (record { epoch = j.epoch; moment = j.moment; items = items_of j }, length (O ++ T)) =
+    opened limits j fits T
+    ∙ ap (λ r. then_read r (λ xs. fielded end >>= λ over. whole (record { epoch = j.epoch; moment = j.moment; items = xs })) (O ++ T)) all
+    ∙ rw (ends-at (O ++ T)) refl in
+    rw (spelling-is j) (ap (λ r. said_by (value_of r)) read ∙ ap (λ (f : JobFields). Ok f) (saying-meaning j))
+
+over-read : (limits : Limits) (j : JobContents) → FitsJob limits j → limits.serials < kept_in (meaning_of j).crls → job_of limits (spelling j) ≡ Err (too_many limits)
+over-read limits j fits over =
+    let O : List ℕ = opening_text j.epoch j.moment in
+    let T : List ℕ = texts_of (items_of j) ++ to_be_bytes w8 0 in
+    let read : job serials_of limits (O ++ T) 0 ≡ Err (too_many limits) =
+    opened limits j fits T
+    ∙ ap (λ r. then_read r (λ xs. fielded end >>= λ over. whole (record { epoch = j.epoch; moment = j.moment; items = xs })) (O ++ T))
+    (records-over limits nothing_held 0 (items_of j) O (to_be_bytes w8 0) (job-over limits j fits over)) in
+    rw (spelling-is j) (ap (λ r. said_by (value_of r)) read)
 
 -- what is spelled so is read as its meaning; or its serials are too many
 pub spelled-read : (limits : Limits) (j : JobContents) → FitsJob limits j → job_of limits (spelling j) ≡ reading_of limits j
 spelled-read limits j fits =
     elim (cases_lt limits.serials (kept_in (meaning_of j).crls)) [
-      | inl over ↦
-          rw (lt-leb (kept_in (meaning_of j).crls) limits.serials over)
-          (job-answers limits (spelling j) (Err (too_many limits)) (job-gives limits j (Err (too_many limits)) fits (λ before.
-          stops (records limits nothing_yet) _ before (too_many limits) (texts j) [] (records-refused limits j fits over before))))
-      | inr under ↦
-          rw (le-leb (kept_in (meaning_of j).crls) limits.serials under)
-          (job-answers limits (spelling j) (Ok (meaning_of j)) (job-gives limits j (Ok (meaning_of j)) fits (λ before.
-          then-last (records limits nothing_yet) (λ s. fielded end >>= λ over. whole (said j.epoch j.moment s)) before (all_behind j) (Ok (meaning_of j))
-          (texts j) [] (records-give limits j fits under before)
-          (subst (λ (f : JobFields). Gives (fielded end >>= λ over. whole (said j.epoch j.moment (all_behind j))) (before ++ texts j) (Ok f) [] []) (all-said j)
-          (ends-job (said j.epoch j.moment (all_behind j)) (before ++ texts j))))))
+      | inl over ↦ rw (lt-leb (kept_in (meaning_of j).crls) limits.serials over) (over-read limits j fits over)
+      | inr under ↦ rw (le-leb (kept_in (meaning_of j).crls) limits.serials under) (whole-read limits j fits under)
     ]
 
 pub read_back-of : {X : Type 0} (items : X → List ℕ) (limits : Limits) (j : JobContents) {E : Type 0} (r : Result X E) → IfOk r (λ out. items out ≡ spelling j) → OnOk r (FitsJob limits j)

@@ -1,10 +1,11 @@
-pub mod Records
 pub mod JobBounds
-pub mod Giving
 pub mod RecordTexts
+pub mod Passing
+pub mod Items
 pub mod JobReads
 pub mod WrittenJob
 pub mod RecordsSpelled
 pub mod JobSpelled
+pub mod Saying
 pub mod Steps
 pub mod JobFacts

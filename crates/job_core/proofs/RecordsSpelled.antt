@@ -11,17 +11,15 @@ use Rattle.octets_core.proofs.Fields.{bytes_field-ok}
 use Rattle.octets_core.proofs.Texts.{IsBytes, IsBytes-piece, Takes, Takes-as, ◌>>>◌, Leaves, ◌>>-◌, whole-leaves, mapped-leaves, bytes_field-leaves, number_field-leaves, wide8, wide32}
 use Rattle.octets_core.proofs.ThreeBytes.{octets-leaves, length_of_three-leaves}
 use Rattle.ident_core.specs.RangeLayout.{range}
-use Rattle.ident_core.specs.RangeText.{FitsRange}
 use Rattle.ident_core.proofs.RangeTexts.{range-leaves}
 use Rattle.job_core.specs.declared.bounds.Limits.{Limits}
 use Rattle.job_core.specs.declared.bounds.What.{What}
 use Rattle.job_core.specs.declared.bounds.What.TheVariants as what
 use Rattle.job_core.specs.declared.fault.JobFault.{JobFault}
 use Rattle.job_core.specs.declared.fault.JobFault.TheVariants as faults
-use Rattle.job_core.specs.JobLayout.{is_kind, record_kind, CrlText, crl, EntryText, entry, SoFar, Item, OneRange, OneCrl, OneEntry, at_most, range_item, crl_item, entry_item, some_of, next_item}
-use Rattle.job_core.specs.JobText.{range_record, crl_record, entry_record, FitsCrl, FitsEntry}
-use Rattle.job_core.specs.JobMeaning.{crl_meaning, entry_meaning}
-use Rattle.job_core.proofs.RecordTexts.{behind_kind, crl_body, entry_body, total}
+use Rattle.job_core.specs.JobLayout.{is_kind, record_kind, crl, entry, Held, Item, OneRange, OneCrl, OneEntry, at_most, range_item, crl_item, entry_item, some_of, next_item}
+use Rattle.job_core.specs.JobText.{record_text, FitsCrl, FitsEntry, FitsItem}
+use Rattle.job_core.proofs.RecordTexts.{behind_kind, crl_body, entry_body}
 
 -- ---- fields
 
@@ -71,20 +69,13 @@ entry-leaves bytes fits at =
       (a.len, omega (arith, c.1, b.1), omega (arith, e.1, d.1)),
     )
 
--- ---- what a record says, and where it lies
+-- ---- a record, and where it lies
 
-abbrev pub SaysOne : Limits → SoFar → List ℕ → ℕ → Item → ℕ → Type 0
-SaysOne limits s bytes at (OneRange r) q = Takes bytes at (range_record r) q × FitsRange s.log r × (s.kind ≤ 1) × (length s.ranges + 1 ≤ limits.ranges)
-SaysOne limits s bytes at (OneCrl m n) q =
-    (c : CrlText) × Takes bytes at (crl_record c) q × FitsCrl c × (m ≡ crl_meaning c) × (n ≡ total s c) × (s.kind ≤ 2) × (length s.crls + 1 ≤ limits.crls) × (total s c ≤ limits.serials)
-SaysOne limits s bytes at (OneEntry m) q =
-    (e : EntryText) × Takes bytes at (entry_record e) q × FitsEntry e × (m ≡ entry_meaning e) × (s.kind ≤ 3) × (length s.entries + 1 ≤ limits.entries)
+abbrev pub Says : Limits → Held → List ℕ → ℕ → Option Item → ℕ → Type 0
+Says limits h bytes at None q = Takes bytes at (to_be_bytes w8 0) q
+Says limits h bytes at (Some x) q = Takes bytes at (record_text x) q × FitsItem limits h x
 
-abbrev pub Says : Limits → SoFar → List ℕ → ℕ → Option Item → ℕ → Type 0
-Says limits s bytes at None q = Takes bytes at (to_be_bytes w8 0) q
-Says limits s bytes at (Some x) q = SaysOne limits s bytes at x q
-
-at_most-leaves : (thing : What) (limit count : ℕ) (bytes : List ℕ) (at : ℕ) → Leaves (at_most thing limit count) bytes at (λ u q. (q ≡ at) × (count ≤ limit))
+pub at_most-leaves : (thing : What) (limit count : ℕ) (bytes : List ℕ) (at : ℕ) → Leaves (at_most thing limit count) bytes at (λ u q. (q ≡ at) × (count ≤ limit))
 at_most-leaves thing limit count bytes at =
     elim (cases_lt limit count) [
       | inl over ↦ rw (lt-leb count limit over) (record { each = λ x h. absurd cc })
@@ -95,35 +86,33 @@ at_most-leaves thing limit count bytes at =
 from_kind : (bytes : List ℕ) (at p q r : ℕ) (k t : List ℕ) → Takes bytes at k p → q ≡ p → Takes bytes q t r → Takes bytes at (k ++ t) r
 from_kind bytes at p q r k t one same two = one >>> subst (λ (n : ℕ). Takes bytes n t r) same two
 
-range_item-leaves : (limits : Limits) (s : SoFar) (bytes : List ℕ) → IsBytes bytes → (at p : ℕ) → Takes bytes at (to_be_bytes w8 1) p → s.kind ≤ 1
-    → Leaves (range_item limits s) bytes p (SaysOne limits s bytes at)
+range_item-leaves : (limits : Limits) (h : Held) (bytes : List ℕ) → IsBytes bytes → (at p : ℕ) → Takes bytes at (to_be_bytes w8 1) p → h.kind ≤ 1
+    → Leaves (range_item limits h) bytes p (λ x q. Says limits h bytes at (Some x) q)
 unfolding range_item
-range_item-leaves limits s bytes fits at p one low =
-    at_most-leaves what.Ranges limits.ranges (length s.ranges + 1) bytes p >>- λ room q a.
-    mapped-leaves faults.Layout (range s.log) bytes q _ (range-leaves bytes fits s.log q) >>- λ r end b.
-    whole-leaves (OneRange r) bytes end _ (from_kind bytes at p q end _ _ one a.0 b.0, b.1, low, a.1)
+range_item-leaves limits h bytes fits at p one low =
+    at_most-leaves what.Ranges limits.ranges (h.ranges + 1) bytes p >>- λ room q a.
+    mapped-leaves faults.Layout (range h.log) bytes q _ (range-leaves bytes fits h.log q) >>- λ r end b.
+    whole-leaves (OneRange r) bytes end _ (from_kind bytes at p q end _ _ one a.0 b.0, (b.1, low, a.1))
 
-crl_item-leaves : (limits : Limits) (s : SoFar) (bytes : List ℕ) → IsBytes bytes → (at p : ℕ) → Takes bytes at (to_be_bytes w8 2) p → s.kind ≤ 2
-    → Leaves (crl_item limits s) bytes p (SaysOne limits s bytes at)
+crl_item-leaves : (limits : Limits) (h : Held) (bytes : List ℕ) → IsBytes bytes → (at p : ℕ) → Takes bytes at (to_be_bytes w8 2) p → h.kind ≤ 2
+    → Leaves (crl_item limits h) bytes p (λ x q. Says limits h bytes at (Some x) q)
 unfolding crl_item
-crl_item-leaves limits s bytes fits at p one low =
-    at_most-leaves what.Crls limits.crls (length s.crls + 1) bytes p >>- λ room q a.
-    mapped-leaves faults.Layout crl bytes q _ (crl-leaves bytes fits q) >>- λ c r b.
-    at_most-leaves what.Serials limits.serials (total s c) bytes r >>- λ few end d.
-    whole-leaves (OneCrl (crl_meaning c) (total s c)) bytes end _
-    (c, from_kind bytes at p q end _ _ one a.0 (subst (λ (n : ℕ). Takes bytes q (crl_body c) n) (sym d.0) b.0), b.1, refl, refl, low, a.1, d.1)
+crl_item-leaves limits h bytes fits at p one low =
+    at_most-leaves what.Crls limits.crls (h.crls + 1) bytes p >>- λ room q a.
+    mapped-leaves faults.Layout crl bytes q _ (crl-leaves bytes fits q) >>- λ c end b.
+    whole-leaves (OneCrl c) bytes end _ (from_kind bytes at p q end _ _ one a.0 b.0, (b.1, low, a.1))
 
-entry_item-leaves : (limits : Limits) (s : SoFar) (bytes : List ℕ) → IsBytes bytes → (at p : ℕ) → Takes bytes at (to_be_bytes w8 3) p → s.kind ≤ 3
-    → Leaves (entry_item limits s) bytes p (SaysOne limits s bytes at)
+entry_item-leaves : (limits : Limits) (h : Held) (bytes : List ℕ) → IsBytes bytes → (at p : ℕ) → Takes bytes at (to_be_bytes w8 3) p → h.kind ≤ 3
+    → Leaves (entry_item limits h) bytes p (λ x q. Says limits h bytes at (Some x) q)
 unfolding entry_item
-entry_item-leaves limits s bytes fits at p one low =
-    at_most-leaves what.Entries limits.entries (length s.entries + 1) bytes p >>- λ room q a.
+entry_item-leaves limits h bytes fits at p one low =
+    at_most-leaves what.Entries limits.entries (h.entries + 1) bytes p >>- λ room q a.
     mapped-leaves faults.Layout entry bytes q _ (entry-leaves bytes fits q) >>- λ e end b.
-    whole-leaves (OneEntry (entry_meaning e)) bytes end _ (e, from_kind bytes at p q end _ _ one a.0 b.0, b.1, refl, low, a.1)
+    whole-leaves (OneEntry e) bytes end _ (from_kind bytes at p q end _ _ one a.0 b.0, (b.1, low, a.1))
 
-some-leaves : (limits : Limits) (s : SoFar) (layout : Layout JobFault Item) (bytes : List ℕ) (at p : ℕ) → Leaves layout bytes p (SaysOne limits s bytes at)
-    → Leaves (some_of layout) bytes p (Says limits s bytes at)
-some-leaves limits s layout bytes at p one = one >>- λ x q h. whole-leaves (Some x) bytes q _ h
+some-leaves : (limits : Limits) (h : Held) (layout : Layout JobFault Item) (bytes : List ℕ) (at p : ℕ)
+    → Leaves layout bytes p (λ x q. Says limits h bytes at (Some x) q) → Leaves (some_of layout) bytes p (Says limits h bytes at)
+some-leaves limits h layout bytes at p one = one >>- λ x q said. whole-leaves (Some x) bytes q _ said
 
 -- ---- kinds
 
@@ -133,20 +122,20 @@ kind-tells previous kind false not h =
     let both = and_parts (nat_le previous kind) (nat_le kind 3) h in
     (leb-true previous kind both.0, leb-true kind 3 both.1)
 
-behind-leaves : (limits : Limits) (s : SoFar) (bytes : List ℕ) → IsBytes bytes → (at p kind : ℕ) → Takes bytes at (to_be_bytes w8 kind) p → is_kind s.kind kind ≡ true
-    → Leaves (behind_kind limits s kind) bytes p (Says limits s bytes at)
-behind-leaves limits s bytes fits at p zero one passed = whole-leaves None bytes p _ one
-behind-leaves limits s bytes fits at p (suc zero) one passed =
-    some-leaves limits s (range_item limits s) bytes at p (range_item-leaves limits s bytes fits at p one (kind-tells s.kind 1 false refl passed).0)
-behind-leaves limits s bytes fits at p (suc (suc zero)) one passed =
-    some-leaves limits s (crl_item limits s) bytes at p (crl_item-leaves limits s bytes fits at p one (kind-tells s.kind 2 false refl passed).0)
-behind-leaves limits s bytes fits at p (suc (suc (suc zero))) one passed =
-    some-leaves limits s (entry_item limits s) bytes at p (entry_item-leaves limits s bytes fits at p one (kind-tells s.kind 3 false refl passed).0)
-behind-leaves limits s bytes fits at p (suc (suc (suc (suc k)))) one passed =
-    let few = (kind-tells s.kind (suc (suc (suc (suc k)))) (suc (suc (suc (suc k))) == 0) (ne_eqb (suc (suc (suc (suc k)))) 0 (omega arith)) passed).1 in
+behind-leaves : (limits : Limits) (h : Held) (bytes : List ℕ) → IsBytes bytes → (at p kind : ℕ) → Takes bytes at (to_be_bytes w8 kind) p → is_kind h.kind kind ≡ true
+    → Leaves (behind_kind limits h kind) bytes p (Says limits h bytes at)
+behind-leaves limits h bytes fits at p zero one passed = whole-leaves None bytes p _ one
+behind-leaves limits h bytes fits at p (suc zero) one passed =
+    some-leaves limits h (range_item limits h) bytes at p (range_item-leaves limits h bytes fits at p one (kind-tells h.kind 1 false refl passed).0)
+behind-leaves limits h bytes fits at p (suc (suc zero)) one passed =
+    some-leaves limits h (crl_item limits h) bytes at p (crl_item-leaves limits h bytes fits at p one (kind-tells h.kind 2 false refl passed).0)
+behind-leaves limits h bytes fits at p (suc (suc (suc zero))) one passed =
+    some-leaves limits h (entry_item limits h) bytes at p (entry_item-leaves limits h bytes fits at p one (kind-tells h.kind 3 false refl passed).0)
+behind-leaves limits h bytes fits at p (suc (suc (suc (suc k)))) one passed =
+    let few = (kind-tells h.kind (suc (suc (suc (suc k)))) (suc (suc (suc (suc k))) == 0) (ne_eqb (suc (suc (suc (suc k)))) 0 (omega arith)) passed).1 in
     absurd (omega (arith, few))
 
-pub next-leaves : (limits : Limits) (s : SoFar) (bytes : List ℕ) → IsBytes bytes → (at : ℕ) → Leaves (next_item limits s) bytes at (Says limits s bytes at)
+pub next-leaves : (limits : Limits) (h : Held) (bytes : List ℕ) → IsBytes bytes → (at : ℕ) → Leaves (next_item limits h) bytes at (Says limits h bytes at)
 unfolding next_item
-next-leaves limits s bytes fits at =
-    mapped-leaves faults.Layout (record_kind s.kind) bytes at _ (kind-leaves s.kind bytes fits at) >>- λ kind p a. behind-leaves limits s bytes fits at p kind a.0 a.1
+next-leaves limits h bytes fits at =
+    mapped-leaves faults.Layout (record_kind h.kind) bytes at _ (kind-leaves h.kind bytes fits at) >>- λ kind p a. behind-leaves limits h bytes fits at p kind a.0 a.1

@@ -66,67 +66,55 @@ entry = do
   extra ← octets fields.EntryExtra extra_width
   whole (record { log = log; leaf = leaf; extra = extra })
 
--- What the records so far say: the last one's kind, the last range's log, and how many serials of the CRLs are kept.
-pub record SoFar : Type 0 where
+-- a record as it stands
+pub data Item : Type 0 where
+  OneRange : Range → Item
+  OneCrl : CrlText → Item
+  OneEntry : EntryText → Item
+
+-- What is held of the records so far: the last one's kind, the last range's log, and how many there are of each kind.
+pub record Held : Type 0 where
   pub kind : ℕ
   pub log : Option (List ℕ)
-  pub ranges : List Range
-  pub crls : List CrlMeaning
-  pub serials : ℕ
-  pub entries : List (Option EntryFields)
+  pub ranges : ℕ
+  pub crls : ℕ
+  pub entries : ℕ
 
 -- before the first record
-abbrev pub nothing_yet : SoFar
-nothing_yet = record { kind = 0; log = None; ranges = []; crls = []; serials = 0; entries = [] }
+abbrev pub nothing_held : Held
+nothing_held = record { kind = 0; log = None; ranges = 0; crls = 0; entries = 0 }
+
+-- with one record more
+abbrev pub with_item : Held → Item → Held
+with_item h (OneRange r) = record { kind = 1; log = Some r.log; ranges = h.ranges + 1; crls = h.crls; entries = h.entries }
+with_item h (OneCrl c) = record { kind = 2; log = h.log; ranges = h.ranges; crls = h.crls + 1; entries = h.entries }
+with_item h (OneEntry e) = record { kind = 3; log = h.log; ranges = h.ranges; crls = h.crls; entries = h.entries + 1 }
 
 -- no more of them than the limit
 abbrev pub at_most : What → ℕ → ℕ → Layout JobFault (Unit {0})
 at_most thing limit count = if nat_le count limit then whole tt else refused (faults.TooMany thing limit)
 
--- how many serials a CRL brings; one that isn't taken brings none
-abbrev pub kept : Result CrlFields CrlFault → ℕ
-kept (Ok crl) = length crl.serials
-kept (Err e) = 0
-
--- no byte is left for a kind
-abbrev pub short_kind : {A : Type 0} → Layout JobFault A
-short_kind bytes at = Err (faults.Layout (fault_at why.Short fields.RecordKind at))
-
--- What a record says. Beside a CRL stands how many serials are kept of all CRLs so far, its own too.
-pub data Item : Type 0 where
-  OneRange : Range → Item
-  OneCrl : CrlMeaning → ℕ → Item
-  OneEntry : Option EntryFields → Item
-
--- with one record more
-abbrev pub with_item : SoFar → Item → SoFar
-with_item s (OneRange r) = record { kind = 1; log = Some r.log; ranges = s.ranges ++ r ∷ []; crls = s.crls; serials = s.serials; entries = s.entries }
-with_item s (OneCrl c total) = record { kind = 2; log = s.log; ranges = s.ranges; crls = s.crls ++ c ∷ []; serials = total; entries = s.entries }
-with_item s (OneEntry e) = record { kind = 3; log = s.log; ranges = s.ranges; crls = s.crls; serials = s.serials; entries = s.entries ++ e ∷ [] }
-
-unfoldable pub range_item : Limits → SoFar → Layout JobFault Item
-range_item limits s = do
-  room ← at_most what.Ranges limits.ranges (length s.ranges + 1)
-  r ← fielded (range s.log)
+unfoldable pub range_item : Limits → Held → Layout JobFault Item
+range_item limits h = do
+  room ← at_most what.Ranges limits.ranges (h.ranges + 1)
+  r ← fielded (range h.log)
   whole (OneRange r)
 
-unfoldable pub crl_item : Limits → SoFar → Layout JobFault Item
-crl_item limits s = do
-  room ← at_most what.Crls limits.crls (length s.crls + 1)
+unfoldable pub crl_item : Limits → Held → Layout JobFault Item
+crl_item limits h = do
+  room ← at_most what.Crls limits.crls (h.crls + 1)
   c ← fielded crl
-  few ← at_most what.Serials limits.serials (s.serials + kept (outcome c.bytes))
-  whole (OneCrl (record { issuer = c.issuer; outcome = outcome c.bytes }) (s.serials + kept (outcome c.bytes)))
+  whole (OneCrl c)
 
--- an entry that can't be read is none
-unfoldable pub entry_item : Limits → SoFar → Layout JobFault Item
-entry_item limits s = do
-  room ← at_most what.Entries limits.entries (length s.entries + 1)
+unfoldable pub entry_item : Limits → Held → Layout JobFault Item
+entry_item limits h = do
+  room ← at_most what.Entries limits.entries (h.entries + 1)
   e ← fielded entry
-  whole (OneEntry (entry_of e.log e.leaf e.extra))
+  whole (OneEntry e)
 
 -- behind a kind
-abbrev pub item_of : ℕ → Limits → SoFar → Layout JobFault Item
-item_of kind limits s = if kind == 1 then range_item limits s else if kind == 2 then crl_item limits s else entry_item limits s
+abbrev pub item_of : ℕ → Limits → Held → Layout JobFault Item
+item_of kind limits h = if kind == 1 then range_item limits h else if kind == 2 then crl_item limits h else entry_item limits h
 
 abbrev pub some_of : {A : Type 0} → Layout JobFault A → Layout JobFault (Option A)
 some_of layout = do
@@ -134,35 +122,105 @@ some_of layout = do
   whole (Some x)
 
 -- a record behind those so far; none, where the job ends
-unfoldable pub next_item : Limits → SoFar → Layout JobFault (Option Item)
-next_item limits s = do
-  kind ← fielded (record_kind s.kind)
-  if kind == 0 then whole None else some_of (item_of kind limits s)
+unfoldable pub next_item : Limits → Held → Layout JobFault (Option Item)
+next_item limits h = do
+  kind ← fielded (record_kind h.kind)
+  if kind == 0 then whole None else some_of (item_of kind limits h)
 
--- all records from there on
-abbrev pub with_others : (SoFar → Layout JobFault SoFar) → SoFar → Option Item → Layout JobFault SoFar
-with_others others s None = whole s
-with_others others s (Some x) = others (with_item s x)
+-- ---- serials
 
--- records, each of one byte or more, up to the one that ends the job; where no byte is left its kind is short
-unfoldable pub records_within : ℕ → Limits → SoFar → Layout JobFault SoFar
-records_within zero limits s = short_kind
-records_within (suc n) limits s = do
-  x ← next_item limits s
-  with_others (records_within n limits) s x
+-- how many serials of a CRL are kept: of one that isn't taken, none
+abbrev pub kept : Result CrlFields CrlFault → ℕ
+kept (Ok crl) = length crl.serials
+kept (Err e) = 0
 
-abbrev pub records : Limits → SoFar → Layout JobFault SoFar
-records limits s bytes at = records_within (length bytes - at) limits s bytes at
+-- how many the bytes of a CRL bring
+abbrev pub serials_of : List ℕ → ℕ
+serials_of bytes = kept (outcome bytes)
 
-unfoldable pub job : Limits → Layout JobFault JobFields
-job limits = do
-  begin ← fielded (magic fields.JobMagic (codes "CLUBJOB1"))
-  epoch ← fielded (number fields.JobEpoch w64 0 (2 ^ 64 - 1))
-  moment ← fielded (number fields.JobMoment w64 0 (2 ^ 64 - 1))
-  s ← records limits nothing_yet
+-- with those of one record more
+abbrev pub with_serials : (List ℕ → ℕ) → ℕ → Item → ℕ
+with_serials brings serials (OneRange r) = serials
+with_serials brings serials (OneCrl c) = serials + brings c.bytes
+with_serials brings serials (OneEntry e) = serials
+
+-- ---- all records
+
+-- no byte is left for a kind
+abbrev pub short_kind : {A : Type 0} → Layout JobFault A
+short_kind bytes at = Err (faults.Layout (fault_at why.Short fields.RecordKind at))
+
+-- a record with those behind it, where the serials that are kept of all CRLs so far are no more than the limit
+abbrev pub with_others : (List ℕ → ℕ) → (Held → ℕ → Layout JobFault (List Item)) → Limits → Held → ℕ → Option Item → Layout JobFault (List Item)
+with_others brings others limits h serials None = whole []
+with_others brings others limits h serials (Some x) = do
+  few ← at_most what.Serials limits.serials (with_serials brings serials x)
+  xs ← others (with_item h x) (with_serials brings serials x)
+  whole (x ∷ xs)
+
+-- Records, each of one byte or more, up to the one that ends the job. The number is the most that is read; what is read
+-- doesn't depend on it, and `a_job_is_its_text` says it over texts.
+unfoldable pub records_within : (List ℕ → ℕ) → ℕ → Limits → Held → ℕ → Layout JobFault (List Item)
+records_within brings zero limits h serials = short_kind
+records_within brings (suc n) limits h serials = do
+  x ← next_item limits h
+  with_others brings (records_within brings n limits) limits h serials x
+
+abbrev pub records : (List ℕ → ℕ) → Limits → Held → ℕ → Layout JobFault (List Item)
+records brings limits h serials bytes at = records_within brings (length bytes - at) limits h serials bytes at
+
+-- ---- the job
+
+-- the epoch and the moment, which stand before the records
+unfoldable pub opening : Layout LayoutFault (ℕ × ℕ)
+opening = do
+  begin ← magic fields.JobMagic (codes "CLUBJOB1")
+  epoch ← number fields.JobEpoch w64 0 (2 ^ 64 - 1)
+  moment ← number fields.JobMoment w64 0 (2 ^ 64 - 1)
+  whole (epoch, moment)
+
+-- what stands in a job
+pub record JobTexts : Type 0 where
+  pub epoch : ℕ
+  pub moment : ℕ
+  pub items : List Item
+
+-- By how many serials a CRL brings: those that reading it keeps, or none where CRLs aren't read.
+unfoldable pub job : (List ℕ → ℕ) → Limits → Layout JobFault JobTexts
+job brings limits = do
+  o ← fielded opening
+  xs ← records brings limits nothing_held 0
   over ← fielded end
-  whole (record { epoch = epoch; moment = moment; ranges = s.ranges; crls = s.crls; entries = s.entries })
+  whole (record { epoch = o.0; moment = o.1; items = xs })
+
+-- ---- what it says
+
+abbrev pub crl_meaning : CrlText → CrlMeaning
+crl_meaning c = record { issuer = c.issuer; outcome = outcome c.bytes }
+
+-- an entry that can't be read is none
+abbrev pub entry_meaning : EntryText → Option EntryFields
+entry_meaning e = entry_of e.log e.leaf e.extra
+
+-- with what one record says
+abbrev pub saying_one : JobFields → Item → JobFields
+saying_one f (OneRange r) = record f { ranges = f.ranges ++ r ∷ [] }
+saying_one f (OneCrl c) = record f { crls = f.crls ++ crl_meaning c ∷ [] }
+saying_one f (OneEntry e) = record f { entries = f.entries ++ entry_meaning e ∷ [] }
+
+-- with what records say
+abbrev pub saying : JobFields → List Item → JobFields
+saying f [] = f
+saying f (x ∷ xs) = saying (saying_one f x) xs
+
+-- a job before its first record
+abbrev pub begun : ℕ → ℕ → JobFields
+begun epoch moment = record { epoch = epoch; moment = moment; ranges = []; crls = []; entries = [] }
+
+abbrev pub said_by : Result JobTexts JobFault → Result JobFields JobFault
+said_by (Ok t) = Ok (saying (begun t.epoch t.moment) t.items)
+said_by (Err e) = Err e
 
 -- the job of these bytes, or the first fault in their order
 abbrev pub job_of : Limits → List ℕ → Result JobFields JobFault
-job_of limits bytes = value_of (job limits bytes 0)
+job_of limits bytes = said_by (value_of (job serials_of limits bytes 0))

@@ -1,20 +1,13 @@
 -- What a job means, by what its records hold.
-use Rattle.std.specs.Prelude.{ℕ, List, map, sum_by, nat_le, if◌then◌else◌, Result, Ok, Err, Option}
-use Rattle.crl_core.specs.Outcome.{outcome}
-use Rattle.log_core.specs.Entries.{EntryFields, entry_of}
+use Rattle.std.specs.Prelude.{ℕ, List, map, sum_by, nat_le, if◌then◌else◌, Result, Ok, Err}
 use Rattle.job_core.specs.declared.bounds.Limits.{Limits}
 use Rattle.job_core.specs.declared.bounds.What.TheVariants as what
 use Rattle.job_core.specs.declared.fault.JobFault.{JobFault}
 use Rattle.job_core.specs.declared.fault.JobFault.TheVariants as faults
 use Rattle.job_core.specs.JobFields.{CrlMeaning, JobFields}
-use Rattle.job_core.specs.JobLayout.{CrlText, EntryText, kept}
+use Rattle.job_core.specs.JobLayout.{kept}
+pub use Rattle.job_core.specs.JobLayout.{crl_meaning, entry_meaning}
 use Rattle.job_core.specs.JobText.{JobContents}
-
-abbrev pub crl_meaning : CrlText → CrlMeaning
-crl_meaning c = record { issuer = c.issuer; outcome = outcome c.bytes }
-
-abbrev pub entry_meaning : EntryText → Option EntryFields
-entry_meaning e = entry_of e.log e.leaf e.extra
 
 abbrev pub meaning_of : JobContents → JobFields
 meaning_of j = record {

@@ -1,5 +1,5 @@
 -- The text of what a job holds: the bytes that the layout of a job reads as it; and which raw jobs have one.
-use Rattle.std.specs.Prelude.{◌≡◌, ℕ, ◌≤◌, ◌<◌, ◌^◌, List, ◌++◌, length, codes, map, flat_map, All, Some, None}
+use Rattle.std.specs.Prelude.{◌≡◌, ℕ, ◌+◌, ◌≤◌, ◌<◌, ◌^◌, List, [], ◌∷◌, ◌++◌, length, codes, map, flat_map, All, Some, None, Result, Ok, Err}
 use Rattle.std.specs.Int.{w8, w32, w64, to_be_bytes}
 use Rattle.octets_core.specs.Linked.{Linked}
 use Rattle.octets_core.specs.Numbers.{three_bytes}
@@ -12,7 +12,7 @@ use Rattle.job_core.specs.declared.fields.TheConstants.{MAX_CRL}
 use Rattle.job_core.specs.declared.raw.RawCrl.{RawCrl}
 use Rattle.job_core.specs.declared.raw.RawEntry.{RawEntry}
 use Rattle.job_core.specs.declared.raw.RawJob.{RawJob}
-use Rattle.job_core.specs.JobLayout.{CrlText, EntryText}
+use Rattle.job_core.specs.JobLayout.{CrlText, EntryText, Item, OneRange, OneCrl, OneEntry, Held, with_item, with_serials}
 
 -- what the records of a job hold, in their order, with CRLs and entries as they stand
 pub record JobContents : Type 0 where
@@ -32,6 +32,14 @@ crl_record c = to_be_bytes w8 2 ++ (c.issuer ++ to_be_bytes w32 (length c.bytes)
 
 abbrev pub entry_record : EntryText → List ℕ
 entry_record e = to_be_bytes w8 3 ++ (e.log ++ three_bytes (length e.leaf) ++ e.leaf ++ three_bytes (length e.extra) ++ e.extra)
+
+abbrev pub record_text : Item → List ℕ
+record_text (OneRange r) = range_record r
+record_text (OneCrl c) = crl_record c
+record_text (OneEntry e) = entry_record e
+
+abbrev pub opening_text : ℕ → ℕ → List ℕ
+opening_text epoch moment = codes "CLUBJOB1" ++ to_be_bytes w64 epoch ++ to_be_bytes w64 moment
 
 unfoldable pub spelling : JobContents → List ℕ
 spelling j =
@@ -58,6 +66,34 @@ pub record FitsJob (limits : Limits) (j : JobContents) : Type 0 where
   pub crls : All FitsCrl j.crls
   pub few_entries : length j.entries ≤ limits.entries
   pub entries : All FitsEntry j.entries
+
+-- ---- which records pass behind those before them
+
+-- its kind doesn't descend, there are no more of its kind than the limit, and its values fit their fields
+abbrev pub FitsItem : Limits → Held → Item → Type 0
+FitsItem limits h (OneRange r) = FitsRange h.log r × (h.kind ≤ 1) × (h.ranges + 1 ≤ limits.ranges)
+FitsItem limits h (OneCrl c) = FitsCrl c × (h.kind ≤ 2) × (h.crls + 1 ≤ limits.crls)
+FitsItem limits h (OneEntry e) = FitsEntry e × (h.kind ≤ 3) × (h.entries + 1 ≤ limits.entries)
+
+-- each of them fits, and brings no more serials than there may be
+abbrev pub Pass : (List ℕ → ℕ) → Limits → Held → ℕ → List Item → Type 0
+Pass brings limits h serials [] = Unit {0}
+Pass brings limits h serials (x ∷ xs) =
+    FitsItem limits h x × (with_serials brings serials x ≤ limits.serials) × Pass brings limits (with_item h x) (with_serials brings serials x) xs
+
+-- what is held behind them, and how many serials they brought
+abbrev pub held_behind : Held → List Item → Held
+held_behind h [] = h
+held_behind h (x ∷ xs) = held_behind (with_item h x) xs
+
+abbrev pub serials_behind : (List ℕ → ℕ) → ℕ → List Item → ℕ
+serials_behind brings serials [] = serials
+serials_behind brings serials (x ∷ xs) = serials_behind brings (with_serials brings serials x) xs
+
+-- the records before those that are read
+abbrev pub behind : {E : Type 0} → List Item → Result (List Item × ℕ) E → Result (List Item × ℕ) E
+behind xs (Ok x) = Ok (xs ++ x.0, x.1)
+behind xs (Err e) = Err e
 
 -- ---- the same of the types of the code
 

@@ -1,10 +1,11 @@
 //! What follows for every job, with no call.
 
-ghost use Rattle.std.specs.Prelude.{◌≡◌, ◌+◌, ◌<◌, ◌≤◌, ℕ, List, length, All, Ok};
+ghost use Rattle.std.specs.Prelude.{◌≡◌, ◌+◌, ◌<◌, ◌≤◌, ◌++◌, ℕ, List, length, flat_map, All, Ok, Err};
 ghost use Rattle.job_core.specs.declared.bounds.Limits.{Limits};
 ghost use Rattle.job_core.specs.JobFields.{JobFields};
-ghost use Rattle.job_core.specs.JobLayout.{SoFar, nothing_yet, records_within, records, job_of};
-ghost use Rattle.job_core.specs.JobText.{JobContents, FitsJob, spelling};
+ghost use Rattle.job_core.specs.declared.fault.JobFault.{JobFault};
+ghost use Rattle.job_core.specs.JobLayout.{Item, Held, next_item, records_within, records, serials_of, saying, begun, job_of};
+ghost use Rattle.job_core.specs.JobText.{JobContents, FitsJob, spelling, record_text, Pass, held_behind, serials_behind, behind};
 ghost use Rattle.job_core.specs.JobMeaning.{kept_in, reading_of};
 
 /// Bytes are the text of what one job holds, and mean what it says.
@@ -17,12 +18,20 @@ pub fn a_job_is_its_text()
         × (reading_of limits j ≡ Ok f) }
 {}
 
-/// What the definition of a job's records counts.
-pub fn records_are_read_whole()
+/// The definition of a job's records, over texts.
+pub fn records_are_texts()
+    // Behind records that pass, what is left is read from what is held behind them.
+    ensures passed { (brings : List ℕ → ℕ) (limits : Limits) (h : Held) (serials : ℕ) (xs : List Item) (before rest : List ℕ)
+        → Pass brings limits h serials xs
+        → records brings limits h serials (before ++ (flat_map record_text xs ++ rest)) (length before)
+        ≡ behind xs (records brings limits (held_behind h xs) (serials_behind brings serials xs)
+        (before ++ (flat_map record_text xs ++ rest)) (length before + length (flat_map record_text xs))) }
+    // A fault is that of the next record.
+    ensures fault { (brings : List ℕ → ℕ) (limits : Limits) (h : Held) (serials : ℕ) (bytes : List ℕ) (at : ℕ) (e : JobFault)
+        → next_item limits h bytes at ≡ Err e → records brings limits h serials bytes at ≡ Err e }
     // As many steps as bytes are left are enough.
-    ensures steps { (n : ℕ) (limits : Limits) (s : SoFar) (bytes : List ℕ) (at : ℕ) → All (λ b. b < 256) bytes
-        → length bytes ≤ at + n → records_within n limits s bytes at ≡ records limits s bytes at }
+    ensures steps { (brings : List ℕ → ℕ) (n : ℕ) (limits : Limits) (h : Held) (serials : ℕ) (bytes : List ℕ) (at : ℕ)
+        → length bytes ≤ at + n → records_within brings n limits h serials bytes at ≡ records brings limits h serials bytes at }
     // The count of serials is that of the CRLs that were read.
-    ensures serials { (limits : Limits) (bytes : List ℕ) (at : ℕ) (s : SoFar) (q : ℕ) → All (λ b. b < 256) bytes
-        → records limits nothing_yet bytes at ≡ Ok (s, q) → s.serials ≡ kept_in s.crls }
+    ensures serials { (xs : List Item) → serials_behind serials_of 0 xs ≡ kept_in (saying (begun 0 0) xs).crls }
 {}

@@ -13,7 +13,7 @@ mod writing;
 
 pub use bounds::{Limits, What};
 pub use fault::JobFault;
-pub use laws::{a_job_is_its_text, records_are_read_whole};
+pub use laws::{a_job_is_its_text, records_are_texts};
 pub use meaning::{Job, JobCrl};
 pub use raw::{RawCrl, RawEntry, RawJob};
 pub use reading::read_job;

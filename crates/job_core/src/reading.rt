@@ -1,10 +1,12 @@
 //! Jobs from bytes.
 
-ghost use Rattle.std.specs.Prelude.{◌≡◌, ◌≢◌, ◌≤◌, length, map, All, Ok, IfSome, IfOk, IfErr, FitsSigned};
+ghost use Rattle.std.specs.Prelude.{◌≡◌, ◌≢◌, ◌+◌, ◌≤◌, length, map, All, Ok, Err, IfSome, IfOk, IfErr, OnOk, FitsSigned};
 ghost use Rattle.std.specs.Int.{w64};
-ghost use Rattle.job_core.specs.JobFields.{crl_view, entry_view, fields_of_job, AreWithin};
-ghost use Rattle.job_core.specs.JobLayout.{Reads, nothing_yet, records, job, job_of};
-ghost use Rattle.job_core.specs.Partial.{so_far};
+ghost use Rattle.job_core.specs.JobFields.{outcome_view, crl_view, entry_view, fields_of_job, AreWithin};
+ghost use Rattle.job_core.specs.JobLayout.{Reads, OneRange, OneCrl, OneEntry, kept, saying_one, job_of};
+ghost use Rattle.job_core.specs.Partial.{TakesOne, records_saying, ReadsBegun};
+ghost use Rattle.crl_core.specs.Outcome.{outcome};
+ghost use Rattle.log_core.specs.Entries.{entry_of};
 ghost use Rattle.octets_core.specs.Reading.{GivesUnless};
 ghost use Rattle.job_core.specs.JobText.{JobContents, FitsJob, spelling};
 ghost use Rattle.job_core.specs.JobMeaning.{reading_of};
@@ -12,31 +14,109 @@ ghost use Rattle.crl_core.specs.Outcome.{CrlFieldsFit};
 ghost use Rattle.job_core.specs.JobFacts.{SerialFits, EntryFieldsFit, FitsFields, IsWithinLimits};
 ghost use Rattle.job_core.specs.Offsets.{offset_in_job};
 
-use crate::bounds::Limits;
+use crate::bounds::{Limits, What};
 use crate::fault::JobFault;
 use crate::meaning::{Job, JobCrl};
-use crate::partial::{PartialJob, next_record, no_records, put_record};
-use ident_core::{Identity, Serial, Sighting};
-use octets_core::{Cursor, Field, Key32, LayoutFault, Why, read_end, read_magic, read_u64};
+use crate::partial::{Taken, next_record, no_numbers};
+use crl_core::{Crl, CrlFault, read_crl};
+use ident_core::{Identity, Range, Serial, Sighting};
+use log_core::read_entry;
+use octets_core::{Cursor, Field, Key32, LayoutFault, read_end, read_magic, read_u64};
 use std::alloc::Global;
 
-/// The records up to the one that ends the job.
-fn records_of(
+fn entry_from(log: Key32, leaf: &[u8], extra: &[u8]) -> Option<(Identity, Sighting)>
+    ensures { entry_view result ≡ entry_of log leaf.now extra.now }
+{
+    match read_entry(log, leaf, extra) {
+        Ok(pair) => Some(pair),
+        Err(_) => None,
+    }
+}
+
+fn outcome_in(alloc: Global, bytes: &[u8]) -> Result<Result<Crl, CrlFault>, JobFault>
+    ensures value { IfOk result (λ x. outcome_view x ≡ outcome bytes.now) }
+    ensures settled { IfOk result (λ x. x ≢ Err CrlFault.NoMemory) }
+    ensures wanted { IfErr result (λ e. e ≡ JobFault.NoMemory) }
+{
+    match read_crl(alloc, bytes) {
+        Ok(crl) => Ok(Ok(crl)),
+        Err(CrlFault::NoMemory) => Err(JobFault::NoMemory),
+        Err(fault) => Ok(Err(fault)),
+    }
+}
+
+fn total_with(serials: u32, outcome: &Result<Crl, CrlFault>) -> usize
+    ensures { result ≡ serials + kept (outcome_view outcome.now) }
+{
+    match outcome {
+        Ok(crl) => serials as usize + crl.serials.len(),
+        Err(_) => serials as usize,
+    }
+}
+
+/// Adds a CRL, and answers how many serials are kept of all CRLs so far, its own too.
+fn put_crl(
+    job: &mut Job,
+    alloc: Global,
+    issuer: Key32,
+    bytes: &[u8],
+    serials: u32,
+    limits: &Limits,
+) -> Result<u32, JobFault>
+    ensures { TakesOne limits.now serials (OneCrl (record { issuer = issuer; bytes = bytes.now })) (fields_of_job job.old) (fields_of_job job.new) result }
+{
+    let outcome = outcome_in(alloc, bytes)?;
+    let total = total_with(serials, &outcome);
+    if total > limits.serials as usize {
+        return Err(JobFault::TooMany {
+            what: What::Serials,
+            limit: limits.serials,
+        });
+    }
+    job.crls.push(JobCrl { issuer, outcome })?;
+    Ok(total as u32)
+}
+
+fn put_range(job: &mut Job, range: Range) -> Result<(), JobFault>
+    ensures ok { OnOk result (fields_of_job job.new ≡ saying_one (fields_of_job job.old) (OneRange range)) }
+    ensures wanted { IfErr result (λ e. e ≡ JobFault.NoMemory) }
+{
+    job.ranges.push(range)?;
+    Ok(())
+}
+
+fn put_entry(job: &mut Job, log: Key32, leaf: &[u8], extra: &[u8]) -> Result<(), JobFault>
+    ensures ok { OnOk result (fields_of_job job.new
+        ≡ saying_one (fields_of_job job.old) (OneEntry (record { log = log; leaf = leaf.now; extra = extra.now }))) }
+    ensures wanted { IfErr result (λ e. e ≡ JobFault.NoMemory) }
+{
+    let pair = entry_from(log, leaf, extra);
+    job.entries.push(pair)?;
+    Ok(())
+}
+
+/// Adds what the records say, up to the one that ends the job.
+fn put_records(
+    job: &mut Job,
     alloc: Global,
     cursor: &mut Cursor<'_>,
     limits: &Limits,
-) -> Result<PartialJob, JobFault>
-    ensures { Reads so_far (records limits.now nothing_yet) cursor.old cursor.new result }
+) -> Result<(), JobFault>
+    ensures { Reads (λ u. fields_of_job job.new) (records_saying limits.now (fields_of_job job.old)) cursor.old cursor.new result }
 {
-    let mut partial = no_records(alloc);
-    let left = cursor.left();
-    for _ in 0..left {
-        match next_record(alloc, &partial, cursor, limits)? {
-            None => return Ok(partial),
-            Some(record) => put_record(&mut partial, record)?,
+    let mut numbers = no_numbers();
+    let mut serials = 0;
+    'records: loop {
+        match next_record(&mut numbers, cursor, limits) {
+            Ok(None) => return Ok(()),
+            Ok(Some(Taken::Range(range))) => put_range(job, range)?,
+            Ok(Some(Taken::Crl(crl))) => {
+                serials = put_crl(job, alloc, crl.issuer, crl.bytes, serials, limits)?;
+            }
+            Ok(Some(Taken::Entry(entry))) => put_entry(job, entry.log, entry.leaf, entry.extra)?,
+            Err(fault) => return Err(fault),
         }
     }
-    Err(JobFault::Layout(LayoutFault::new(cursor.at(), Field::RecordKind, Why::Short)))
 }
 
 /// What the types of an entry's fields say of them; the calls do no more than bring it.
@@ -108,27 +188,35 @@ fn crls_facts(crls: &[JobCrl])
     }
 }
 
-#[tactic(auto, unfolding(crate::specs::JobLayout::job))]
+/// A job before its first record.
+#[tactic(auto, unfolding(crate::specs::JobLayout::opening))]
+fn read_opening(alloc: Global, cursor: &mut Cursor<'_>) -> Result<Job, LayoutFault>
+    ensures { ReadsBegun fields_of_job cursor.old cursor.new result }
+{
+    read_magic(cursor, Field::JobMagic, b"CLUBJOB1")?;
+    let epoch = read_u64(cursor, Field::JobEpoch, 0, u64::MAX)?;
+    let moment = read_u64(cursor, Field::JobMoment, 0, u64::MAX)?;
+    Ok(Job {
+        epoch,
+        moment,
+        ranges: Vec::new(alloc),
+        crls: Vec::new(alloc),
+        entries: Vec::new(alloc),
+    })
+}
+
 fn job_in(alloc: Global, bytes: &[u8], limits: &Limits) -> Result<Job, JobFault>
     ensures exact { GivesUnless JobFault.NoMemory fields_of_job result (job_of limits.now bytes.now) }
     ensures crls { IfOk result (λ job. All (λ c. IfOk c.outcome CrlFieldsFit) (map crl_view job.crls.items)) }
     ensures entries { IfOk result (λ job. All (λ e. IfSome e EntryFieldsFit) (map entry_view job.entries.items)) }
 {
     let mut cursor = Cursor::new(bytes);
-    read_magic(&mut cursor, Field::JobMagic, b"CLUBJOB1")?;
-    let epoch = read_u64(&mut cursor, Field::JobEpoch, 0, u64::MAX)?;
-    let moment = read_u64(&mut cursor, Field::JobMoment, 0, u64::MAX)?;
-    let partial = records_of(alloc, &mut cursor, limits)?;
+    let mut job = read_opening(alloc, &mut cursor)?;
+    put_records(&mut job, alloc, &mut cursor, limits)?;
     read_end(&mut cursor)?;
-    crls_facts(&partial.crls);
-    entries_facts(&partial.entries);
-    Ok(Job {
-        epoch,
-        moment,
-        ranges: partial.ranges,
-        crls: partial.crls,
-        entries: partial.entries,
-    })
+    crls_facts(&job.crls);
+    entries_facts(&job.entries);
+    Ok(job)
 }
 
 /// The job of the bytes, or the first fault in their order: a field that is short or fails its test, or one thing more

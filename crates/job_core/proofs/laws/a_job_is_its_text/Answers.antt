@@ -1,6 +1,5 @@
 use Rattle.job_core.proofs.JobReads.{spelled-read}
-use Rattle.job_core.proofs.JobSpelled.{read-spelled}
-use Rattle.job_core.proofs.Steps.{all-bytes}
+use Rattle.job_core.proofs.JobSpelled.{all-bytes, read-spelled}
 use Rattle.job_core.proofs.laws.a_job_is_its_text.Goals as goal
 
 pub returns-clause-read : goal.returns-clause-read
