@@ -110,7 +110,6 @@ fn one_timestamp(rt: HostRuntime) {
 /// Which extension, and which timestamps of it, are read.
 #[test]
 fn several_timestamps(rt: HostRuntime) {
-    let alone = seen(1, sighting(0xaa, 1_700_000_000_000));
     let rows = [
         // Two, with one of another version between them.
         (
@@ -139,7 +138,7 @@ fn several_timestamps(rt: HostRuntime) {
                 \xaa\xaa\xaa\xaa\xaa\xaa\xaa\xaa\xaa\xaa\xaa\xaa\xaa\xaa\xaa\xaa\
                 \xaa\x00\x00\x01\x8b\xcf\xe5\x68\x00\x00\x00\x04\x03\x00\x00"
                 .as_slice(),
-            alone,
+            seen(1, sighting(0xaa, 1_700_000_000_000)),
         ),
         // Of two extensions of timestamps the first, also where it is no list.
         (
@@ -152,7 +151,7 @@ fn several_timestamps(rt: HostRuntime) {
                 \xcf\xe5\x68\x00\x00\x00\x04\x03\x00\x00\x30\x0f\x06\x0a\x2b\x06\
                 \x01\x04\x01\xd6\x79\x02\x04\x02\x04\x01\x00"
                 .as_slice(),
-            alone,
+            seen(1, sighting(0xaa, 1_700_000_000_000)),
         ),
         (
             b"\
