@@ -6,14 +6,14 @@ use Rattle.std.specs.Simd.{first_chunks}
 use Rattle.std.proofs.lemmas.List.{drop-append-le}
 use Rattle.equation_core.specs.declared.hash.TheConstants.{MAX_PLANES}
 use Rattle.equation_core.specs.Sizes.{words_for}
-use Rattle.ribbon_core.specs.PlaneWords.{columns_of, ArePlanes}
+use Rattle.ribbon_core.specs.PlaneWords.{columns_of}
 use Rattle.ident_core.specs.declared.range.Range.{Range}
 use Rattle.card_core.specs.declared.block.Block.{Block}
 use Rattle.card_core.specs.declared.leaf.Leaf.TheVariants as leaves_of
 use Rattle.card_core.specs.Filter.{as_body}
 use Rattle.card_core.specs.declared.stage.Stage.{Stage}
 use Rattle.part_codec.specs.PlaneBytes.{columns_of_bytes, is_padded}
-use Rattle.part_codec.specs.ReadWords.{AreRead, spelled}
+use Rattle.part_codec.specs.ReadWords.{AreRead, AreStageWords, spelled}
 use Rattle.part_codec.specs.PileFields.{PileFields}
 use Rattle.part_codec.specs.declared.fields.Kept.{Kept}
 use Rattle.part_codec.specs.declared.fields.Open.{Open}
@@ -144,13 +144,13 @@ collects-more opens.ExactPlane k s p P t c = record { ranges = c.ranges; blocks 
 collects-more o k s p P t c = record { ranges = c.ranges; blocks = c.blocks; stage = c.stage }
 
 are-planes : (k : Kept) (s : Seen) (p : PileFields) (P : List ℕ) → IsApprox k s p P → AreStarts k.starts → (is_padded k.starts P ≡ true) × (length P ≡ 8 * words_for k.starts)
-    → ArePlanes k.starts (p.done + 1) (with_words p).words
+    → AreStageWords k.starts (p.done + 1) (with_words p).words
 are-planes k s p P st starts told =
     let read = more-read k.starts p P st.plane told st.read in
     record { some_starts = starts.0; few_starts = starts.1; some_planes = omega arith; few_planes = omega (arith, st.few, st.some); room = read.room; padding = read.padding }
 
 are-exact : (k : Kept) (s : Seen) (p : PileFields) (P : List ℕ) → IsExact s p P → AreStarts k.starts → (is_padded k.starts P ≡ true) × (length P ≡ 8 * words_for k.starts)
-    → ArePlanes k.starts (p.done + 1) (with_words p).words
+    → AreStageWords k.starts (p.done + 1) (with_words p).words
 are-exact k s p P st starts told =
     let read = more-read k.starts p P st.plane told (none-read k.starts p st.none st.words) in
     record { some_starts = starts.0; few_starts = starts.1; some_planes = omega arith; few_planes = omega (arith, st.none); room = read.room; padding = read.padding }

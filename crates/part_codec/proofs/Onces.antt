@@ -2,7 +2,7 @@
 use Rattle.std.proofs.Common.{◌≡◌, ℕ, ◌≤◌, List, [], ◌∷◌, true, refl}
 use Rattle.std.proofs.Props.{props}
 use Rattle.octets_core.specs.Linked.{Linked, is_after}
-use Rattle.ribbon_core.specs.PlaneWords.{ArePlanes}
+use Rattle.part_codec.specs.ReadWords.{AreStageWords}
 use Rattle.ident_core.specs.HeadFields.{HeadFields, IsHead, zero_key}
 use Rattle.ident_core.specs.declared.kind.Kind.TheVariants as kinds
 use Rattle.ident_core.specs.declared.range.Range.{Range}
@@ -15,10 +15,10 @@ use Rattle.part_codec.specs.declared.fields.Open.{Open}
 use Rattle.part_codec.specs.declared.fields.Open.TheVariants as opens
 use Rattle.part_codec.specs.Collecting.{CanCollect}
 
-planes-once : (starts planes : ℕ) (words : List ℕ) → IsProp (ArePlanes starts planes words)
+planes-once : (starts planes : ℕ) (words : List ℕ) → IsProp (AreStageWords starts planes words)
 planes-once starts planes words = Prim.hlevel props
 
-exact-once : (starts planes done : ℕ) (words : List ℕ) → IsProp (ArePlanes starts planes words × (done ≡ 0))
+exact-once : (starts planes done : ℕ) (words : List ℕ) → IsProp (AreStageWords starts planes words × (done ≡ 0))
 exact-once starts planes done words = Prim.hlevel props
 
 pub can-once : (o : Open) (k : Kept) (p : PileFields) → IsProp (CanCollect o k p)

@@ -4,12 +4,12 @@ use Rattle.std.specs.Int.{w64, from_be_bytes}
 use Rattle.std.specs.Simd.{first_chunks}
 use Rattle.sha2.specs.declared.Sha256.{Sha256}
 use Rattle.equation_core.specs.declared.hash.TheConstants.{MAX_PLANES}
-use Rattle.ribbon_core.specs.PlaneWords.{columns_of, ArePlanes}
+use Rattle.ribbon_core.specs.PlaneWords.{columns_of}
 use Rattle.card_core.specs.declared.leaf.Leaf.{Leaf}
 use Rattle.card_core.specs.declared.leaf.Leaf.TheVariants as leaves_of
 use Rattle.card_core.specs.Filter.{as_body}
 use Rattle.card_core.specs.declared.stage.Stage.{Stage}
-use Rattle.part_codec.specs.ReadWords.{AreRead}
+use Rattle.part_codec.specs.ReadWords.{AreRead, AreStageWords}
 use Rattle.part_codec.specs.PileFields.{PileFields}
 use Rattle.part_codec.specs.declared.fields.Kept.{Kept}
 use Rattle.part_codec.specs.declared.fields.Open.{Open}
@@ -75,8 +75,8 @@ pile_passed o p t = p
 
 -- what a stage needs that is made whole
 abbrev pub CanCollect : Open → Kept → PileFields → Type 0
-CanCollect opens.ApproxPlane k p = ArePlanes k.starts (p.done + 1) (with_words p).words
-CanCollect opens.ExactPlane k p = (ArePlanes k.starts (p.done + 1) (with_words p).words) × (p.done ≡ 0)
+CanCollect opens.ApproxPlane k p = AreStageWords k.starts (p.done + 1) (with_words p).words
+CanCollect opens.ExactPlane k p = (AreStageWords k.starts (p.done + 1) (with_words p).words) × (p.done ≡ 0)
 CanCollect o k p = Unit {0}
 
 abbrev pub FewPlanes : Kept → Type 0

@@ -3,9 +3,9 @@
 ghost use Rattle.std.specs.Prelude.{◌≡◌, ◌<◌, ◌+◌, ◌++◌, ◌/◌, [], length, map, IfOk, OnOk, true};
 ghost use Rattle.std.specs.Int.{w64, from_be_bytes};
 ghost use Rattle.std.specs.Simd.{first_chunks};
-ghost use Rattle.ribbon_core.specs.PlaneWords.{ArePlanes};
 ghost use Rattle.part_codec.specs.Collecting.{nothing_piled, with_words, with_leaf, stage_by, cleared, pile_mode, pile_plane, pile_exact};
 ghost use Rattle.part_codec.specs.Collecting.{pile_after, pile_when, pile_passed, CanCollect};
+ghost use Rattle.part_codec.specs.ReadWords.{AreStageWords};
 
 use crate::fields::{Kept, LEAST_BLOCK, Open};
 use card_core::{Block, Body, Leaf, Mixed, Stage};
@@ -92,7 +92,7 @@ impl Pile {
     }
 
     fn stage(&self, alloc: Global, kept: &Kept) -> Result<Stage, NoMemory>
-        requires { ArePlanes kept.now.starts self.now.done self.now.words }
+        requires { AreStageWords kept.now.starts self.now.done self.now.words }
         ensures { IfOk result (λ s. s ≡ stage_by kept.now self.now) }
     {
         let planes = Planes::of_words(alloc, kept.starts, self.done, &self.words)?;
@@ -113,7 +113,7 @@ impl Pile {
     }
 
     fn approx_plane(&mut self, alloc: Global, kept: &Kept) -> Result<(), NoMemory>
-        requires { ArePlanes kept.now.starts (self.old.done + 1) (with_words self.old).words }
+        requires { AreStageWords kept.now.starts (self.old.done + 1) (with_words self.old).words }
         ensures { OnOk result (self.new ≡ pile_plane kept.now.planes kept.now (with_words self.old)) }
     {
         self.close_plane()?;
@@ -124,7 +124,7 @@ impl Pile {
     }
 
     fn exact_plane(&mut self, alloc: Global, kept: &Kept) -> Result<(), NoMemory>
-        requires planes { ArePlanes kept.now.starts (self.old.done + 1) (with_words self.old).words }
+        requires planes { AreStageWords kept.now.starts (self.old.done + 1) (with_words self.old).words }
         requires one { self.old.done ≡ 0 }
         ensures { OnOk result (self.new ≡ pile_exact kept.now self.old) }
     {
