@@ -1,6 +1,6 @@
 //! Programs to be timed from outside. The first word chooses: `benches ribbon KEYS PLANES ROUNDS` builds and solves
-//! ribbon systems of pseudo-random rows, `benches parity KEYS PLANES ROUNDS` asks for sums of one, `benches part WHAT FILE
-//! ROUNDS` reads the part of a file, and `benches digest FILE` prints the SHA-256 of a file.
+//! ribbon systems of pseudo-random rows, `benches parity KEYS PLANES ROUNDS` asks for sums of one,
+//! `benches part WHAT FILE ROUNDS` reads the part of a file, and `benches digest FILE` prints the SHA-256 of a file.
 #![tactic(auto)]
 
 mod digest;

@@ -71,8 +71,8 @@ abbrev pub WhichFailedIn : Call → Option (List ℕ) → Type 0
 WhichFailedIn call =
     Blames call.read_faults.before call.read_faults.after call.failed_reads.before call.failed_reads.after
 
--- The command's reply over its inputs as they were read: each gave what its file holds, or couldn't be read for a cause.
--- It says which read failed, if one did.
+-- The command's reply over its inputs as they were read: each gave what its file holds, or couldn't be read for a
+-- cause. It says which read failed, if one did.
 abbrev pub IsAnswer : Call → ReplyFields → Type 0
 IsAnswer call reply = IsReply call.asked call.files_before (WhichFailedIn call) reply
 

@@ -41,8 +41,8 @@ BlamesFile failed names e = failed None ⊎ ((e.fault ≡ faults.Unread) × Amon
 
 -- ---- what was read
 
--- A file of this name couldn't be read: its read failed and was counted, or files are told and the name isn't held. Or it
--- gave these bytes, which are those that it holds where files are told.
+-- A file of this name couldn't be read: its read failed and was counted, or files are told and the name isn't held. Or
+-- it gave these bytes, which are those that it holds where files are told.
 abbrev pub IsRead : Option Files → (Option (List ℕ) → Type 0) → List ℕ → Option (List ℕ) → Type 0
 IsRead told failed name None = failed (Some name) ⊎ IsMissing told name
 IsRead told failed name (Some bytes) = IfSome told (λ files. get files name ≡ Some bytes)

@@ -1,5 +1,5 @@
-/// An extension of a CRL, of one of its entries or of a certificate (RFC 5280, 4.1 and 5.1). Where no BOOLEAN says so it
-/// isn't critical.
+/// An extension of a CRL, of one of its entries or of a certificate (RFC 5280, 4.1 and 5.1). Where no BOOLEAN says so
+/// it isn't critical.
 #[derive(Clone, Copy, Debug)]
 pub struct Extension<'a> {
     /// The contents of the OBJECT IDENTIFIER.

@@ -1,5 +1,5 @@
-//! Parts read and scanned in pieces, against bytes that another program wrote (Python, with its hashlib for the trailers)
-//! by the table of docs/FORMATS.md.
+//! Parts read and scanned in pieces, against bytes that another program wrote (Python, with its hashlib for the
+//! trailers) by the table of docs/FORMATS.md.
 
 ghost use Rattle.std.specs.Prelude.{◌≤◌};
 

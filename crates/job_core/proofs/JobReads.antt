@@ -20,7 +20,8 @@ use Rattle.job_core.specs.declared.fault.JobFault.TheVariants as faults
 use Rattle.job_core.specs.JobFields.{JobFields}
 use Rattle.job_core.specs.JobLayout.{fielded, CrlText, EntryText, Held, nothing_held, Item, OneRange, OneCrl, OneEntry, with_item, serials_of, with_serials, next_item, records}
 use Rattle.job_core.specs.JobLayout.{opening, JobTexts, job, said_by, job_of}
-use Rattle.job_core.specs.JobText.{JobContents, range_record, crl_record, entry_record, record_text, opening_text, spelling, FitsCrl, FitsEntry, FitsJob, FitsItem, Pass, held_behind, serials_behind, behind}
+use Rattle.job_core.specs.JobText.{JobContents, range_record, crl_record, entry_record, record_text, opening_text, spelling}
+use Rattle.job_core.specs.JobText.{FitsCrl, FitsEntry, FitsJob, FitsItem, Pass, held_behind, serials_behind, behind}
 use Rattle.job_core.specs.JobMeaning.{meaning_of, kept_in, reading_of}
 use Rattle.job_core.proofs.RecordTexts.{next-read, next-none}
 use Rattle.job_core.proofs.Steps.{goes_on, ends, runs_over}

@@ -75,7 +75,8 @@ impl<'a, D: Depot> Feed<'a, D> {
     /// the end of the file. After `Failed` the feed is as it was.
     pub fn fill(&mut self) -> Result<&[u8], Failed>
         ensures ok { IfOk result (λ bytes. IsInOrder D.Depot self.old → OffersNext D.Depot self.old bytes.now) }
-        ensures kept { (0 < length (buffered_of self.old)) ⊎ (place_of self.old ≡ 2 ^ 64 - 1) → IsOk result × IfOk result (λ bytes. bytes.now ≡ buffered_of self.old) }
+        ensures kept { (0 < length (buffered_of self.old)) ⊎ (place_of self.old ≡ 2 ^ 64 - 1)
+            → IsOk result × IfOk result (λ bytes. bytes.now ≡ buffered_of self.old) }
         ensures bound { IfOk result (λ bytes. length bytes.now ≤ most_at_once) }
         ensures* after_borrow { sem 𝓛 (Rests (feed_row (record { mir = named 1; lft = [] }) D.row) self.entry (λ new. Filled D.Depot self.old new result)) }
     {

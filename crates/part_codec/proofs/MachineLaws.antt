@@ -151,7 +151,8 @@ abbrev behind_ranges : Kept → Seen → List Range → Rest
 behind_ranges k s more = at_issuers k (record s { ranges = s.ranges ++ more })
 
 behind-range : (n : ℕ) (k : Kept) (s : Seen) → k.ranges_left ≡ suc n → (log : List ℕ) (from to : ℕ)
-    → ◌≡◌ {A = Rest} (repeated range next_log n (Some log) >>= λ others. behind_ranges k s (made log from to ∷ others)) (at_ranges (kept_range (record k { key = log; from = from; to = to })) (with_range s (made log from to)))
+    → ◌≡◌ {A = Rest} (repeated range next_log n (Some log) >>= λ others. behind_ranges k s (made log from to ∷ others))
+        (at_ranges (kept_range (record k { key = log; from = from; to = to })) (with_range s (made log from to)))
 unfolding at_ranges at_issuers at_blocks at_trailer
 behind-range n k s is log from to =
     ap (λ (m : ℕ). repeated range next_log m (Some log) >>= λ others. behind_ranges k s (made log from to ∷ others)) (one_less n k.ranges_left is)
@@ -222,7 +223,8 @@ abbrev no_state : Unit {0} → ℕ → Unit {0}
 no_state u Z = u
 
 planes-flat : (starts_name plane_name : Field) (count : ℕ) (h : PlaneColumns → Rest)
-    → ◌≡◌ {A = Rest} (planes starts_name plane_name count >>= h) (number starts_name w32 1 MAX_STARTS >>= λ starts. columns plane_name starts count >>= λ list. h (record { starts = starts; columns = list }))
+    → ◌≡◌ {A = Rest} (planes starts_name plane_name count >>= h)
+        (number starts_name w32 1 MAX_STARTS >>= λ starts. columns plane_name starts count >>= λ list. h (record { starts = starts; columns = list }))
 unfolding planes
 planes-flat starts_name plane_name count h =
     assoc (number starts_name w32 1 MAX_STARTS) (λ starts. columns plane_name starts count >>= λ list. whole (record { starts = starts; columns = list })) h
@@ -245,7 +247,8 @@ abbrev exact_then : (Stage → Rest) → ℕ → ℕ → List ℕ → Rest
 exact_then h seed starts bytes = h (staged seed (record { starts = starts; columns = columns_of_bytes (words_for starts) bytes ∷ [] }))
 
 exact-flat : (h : Stage → Rest)
-    → ◌≡◌ {A = Rest} (exact >>= h) (seed_field fields.ExactSeed >>= λ seed. number fields.ExactStarts w32 1 MAX_STARTS >>= λ starts. plane_bytes fields.ExactPlane starts >>= λ bytes. exact_then h seed starts bytes)
+    → ◌≡◌ {A = Rest} (exact >>= h) (seed_field fields.ExactSeed >>= λ seed. number fields.ExactStarts w32 1 MAX_STARTS
+        >>= λ starts. plane_bytes fields.ExactPlane starts >>= λ bytes. exact_then h seed starts bytes)
 unfolding exact
 exact-flat h =
     assoc (seed_field fields.ExactSeed) (λ seed. planes fields.ExactStarts fields.ExactPlane 1 >>= λ p. whole (staged seed p)) h
@@ -260,7 +263,8 @@ unfolding at_exact_seed at_exact_starts at_exact_plane at_blocks at_trailer
 exact-open k s first = exact-flat (λ second. after_leaf k s (leaves_of.Mixed (record { approx = first; exact = second })))
 
 approx-flat : (n : ℕ) (h : Option Stage → Rest)
-    → ◌≡◌ {A = Rest} (approx_stage n >>= h) (seed_field fields.ApproxSeed >>= λ seed. number fields.ApproxStarts w32 1 MAX_STARTS >>= λ starts. columns fields.ApproxPlane starts n >>= λ list. h (Some (staged seed (record { starts = starts; columns = list }))))
+    → ◌≡◌ {A = Rest} (approx_stage n >>= h) (seed_field fields.ApproxSeed >>= λ seed. number fields.ApproxStarts w32 1 MAX_STARTS
+        >>= λ starts. columns fields.ApproxPlane starts n >>= λ list. h (Some (staged seed (record { starts = starts; columns = list }))))
 unfolding approx_stage
 approx-flat n h =
     assoc (seed_field fields.ApproxSeed) (λ seed. planes fields.ApproxStarts fields.ApproxPlane n >>= λ p. whole (Some (staged seed p))) h
@@ -339,8 +343,10 @@ leaf-open k s one =
 -- ---- one field further
 
 pub rest-steps : (o : Open) (k : Kept) (s : Seen) (b : List ℕ) (at : ℕ) → IsOpen o k → at + width_of o k ≤ length b → passes o k (sha256 (take at b)) (piece (width_of o k) b at) ≡ true
-    → rest o k s b at ≡ rest (open_after o (kept_after o k (piece (width_of o k) b at))) (kept_after o k (piece (width_of o k) b at)) (seen_after o k s (piece (width_of o k) b at)) b (at + width_of o k)
-unfolding rest at_magic at_version at_kind at_epoch at_parent at_count at_range_log at_range_from at_range_to at_issuers at_issuer at_mode at_k at_approx_seed at_approx_starts at_approx_plane at_exact_seed at_exact_starts at_exact_plane at_trailer
+    → rest o k s b at ≡ rest (open_after o (kept_after o k (piece (width_of o k) b at))) (kept_after o k (piece (width_of o k) b at))
+        (seen_after o k s (piece (width_of o k) b at)) b (at + width_of o k)
+unfolding rest at_magic at_version at_kind at_epoch at_parent at_count at_range_log at_range_from at_range_to
+    at_issuers at_issuer at_mode at_k at_approx_seed at_approx_starts at_approx_plane at_exact_seed at_exact_starts at_exact_plane at_trailer
 rest-steps opens.Magic k s b at opened room passed = bytes-step fields.PartMagic 8 (bytes_eq (codes "CLUBCARD")) (λ begin. at_version k s) b at room passed
 rest-steps opens.Version k s b at opened room passed = number-step fields.PartVersion w8 1 1 (λ version. at_kind k s) b at room passed
 rest-steps opens.Kind k s b at opened room passed = number-step fields.PartKind w8 0 1 (λ kind. at_epoch (record k { kind = kind }) s) b at room passed
@@ -377,7 +383,8 @@ rest-steps opens.Done k s b at opened room passed = absurd cc
 
 pub rest-fails : (o : Open) (k : Kept) (s : Seen) (b : List ℕ) (at : ℕ) → (o ≡ opens.Done → ⊥) → at + width_of o k ≤ length b → passes o k (sha256 (take at b)) (piece (width_of o k) b at) ≡ false
     → rest o k s b at ≡ Err (fault_at (wrong_of o) (name_of o) at)
-unfolding rest at_magic at_version at_kind at_epoch at_parent at_count at_range_log at_range_from at_range_to at_issuers at_issuer at_mode at_k at_approx_seed at_approx_starts at_approx_plane at_exact_seed at_exact_starts at_exact_plane at_trailer
+unfolding rest at_magic at_version at_kind at_epoch at_parent at_count at_range_log at_range_from at_range_to
+    at_issuers at_issuer at_mode at_k at_approx_seed at_approx_starts at_approx_plane at_exact_seed at_exact_starts at_exact_plane at_trailer
 rest-fails opens.Magic k s b at goes room failed = bytes-fails fields.PartMagic 8 (bytes_eq (codes "CLUBCARD")) _ b at room failed
 rest-fails opens.Version k s b at goes room failed = number-fails fields.PartVersion w8 1 1 _ b at room failed
 rest-fails opens.Kind k s b at goes room failed = number-fails fields.PartKind w8 0 1 _ b at room failed
@@ -401,7 +408,8 @@ rest-fails opens.Trailer k s b at goes room failed = sum-fails fields.PartTraile
 rest-fails opens.Done k s b at goes room failed = absurd (goes refl)
 
 pub rest-short : (o : Open) (k : Kept) (s : Seen) (b : List ℕ) (at : ℕ) → length b < at + width_of o k → at ≤ length b → rest o k s b at ≡ Err (fault_at why.Short (name_of o) at)
-unfolding rest at_magic at_version at_kind at_epoch at_parent at_count at_range_log at_range_from at_range_to at_issuers at_issuer at_mode at_k at_approx_seed at_approx_starts at_approx_plane at_exact_seed at_exact_starts at_exact_plane at_trailer
+unfolding rest at_magic at_version at_kind at_epoch at_parent at_count at_range_log at_range_from at_range_to
+    at_issuers at_issuer at_mode at_k at_approx_seed at_approx_starts at_approx_plane at_exact_seed at_exact_starts at_exact_plane at_trailer
 rest-short opens.Magic k s b at short place = bytes-short fields.PartMagic 8 (bytes_eq (codes "CLUBCARD")) _ b at short
 rest-short opens.Version k s b at short place = number-short fields.PartVersion w8 1 1 _ b at short
 rest-short opens.Kind k s b at short place = number-short fields.PartKind w8 0 1 _ b at short

@@ -9,7 +9,14 @@ use Rattle.part_codec.specs.declared.scan.PartNote.{PartNote}
 -- of a part of so many bytes
 abbrev pub note_of : SealedFields → ℕ → PartNote
 note_of s n =
-    record { kind = s.part.head.kind; epoch = s.part.head.epoch; ranges = count s.part.head.ranges; issuers = count s.part.blocks; length = n; trailer = s.trailer }
+    record {
+      kind = s.part.head.kind;
+      epoch = s.part.head.epoch;
+      ranges = count s.part.head.ranges;
+      issuers = count s.part.blocks;
+      length = n;
+      trailer = s.trailer;
+    }
 
 -- of what was read
 abbrev pub noted : Result (SealedFields × ℕ) LayoutFault → Result PartNote LayoutFault

@@ -10,8 +10,8 @@ use std::simd::prelude::*;
 use std::simd::u64x16;
 use std::sync::ledger::Ledger;
 
-// Of each plane, in a bit, the sum of the columns from `start` on that the coefficient chooses. It takes 2 steps a plane
-// where these begin a word, and else 3.
+// Of each plane, in a bit, the sum of the columns from `start` on that the coefficient chooses. It takes 2 steps a
+// plane where these begin a word, and else 3.
 pub fn sums_of<L: Ledger>(
     words: &[u64],
     planes: u8,

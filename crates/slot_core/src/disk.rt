@@ -9,7 +9,8 @@ pub trait Disk {
     /// The bytes as they read, what a crash may leave, the time, and how many calls have failed.
     ghost state: { Self → DiskState };
 
-    /// Reads bytes from `at` on into the front of `buf`, and answers how many. `Ok(0)` for a buffer with room is the end.
+    /// Reads bytes from `at` on into the front of `buf`, and answers how many. `Ok(0)` for a buffer with room is the
+    /// end.
     fn read_at(&mut self, at: u64, buf: &mut [u8]) -> Result<usize, Failed>
         ensures count { IfOk result (λ n. n ≤ length buf.old) }
         ensures bytes { IfOk result (λ n. GivesPiece (state self.old).told at buf.new n) }

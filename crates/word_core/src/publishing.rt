@@ -65,7 +65,7 @@ impl Snapshot {
     /// How many workers build the part.
     pub fn workers(&self) -> u32
         ensures value { result ≡ self.now.workers }
-        ensures bounds { (1 ≤ result) × (result ≤ 64) }
+        ensures bounds { (1 ≤ result) × (result ≤ MAX_WORKERS) }
     {
         self.workers
     }
@@ -149,7 +149,7 @@ impl Delta {
     /// How many workers build the part.
     pub fn workers(&self) -> u32
         ensures value { result ≡ self.now.workers }
-        ensures bounds { (1 ≤ result) × (result ≤ 64) }
+        ensures bounds { (1 ≤ result) × (result ≤ MAX_WORKERS) }
     {
         self.workers
     }

@@ -53,7 +53,7 @@ impl Rehearse {
     /// How many workers build each part.
     pub fn workers(&self) -> u32
         ensures value { result ≡ self.now.workers }
-        ensures bounds { (1 ≤ result) × (result ≤ 64) }
+        ensures bounds { (1 ≤ result) × (result ≤ MAX_WORKERS) }
     {
         self.workers
     }
@@ -62,7 +62,7 @@ impl Rehearse {
     pub fn jobs(&self) -> &[FileName]
         ensures value { result.now ≡ self.now.jobs }
         ensures some { 1 ≤ length result.now }
-        ensures few { length result.now ≤ 64 }
+        ensures few { length result.now ≤ MAX_PARTS }
     {
         self.jobs.as_slice()
     }

@@ -36,7 +36,9 @@ records-preserved-in-Continue-1 c =
     let is = c.in-Ok-Some-Range.field-0-is ∙ ap Some c.in-Ok-Some-Range.field-0-0-is in
     record {
       read = says_more c.args.limits.now (fields_of_job c.records.job) (held_in c.records.numbers) c.records.serials c.records.cursor.bytes c.records.cursor.at _
-          (OneRange c.in-Ok-Some-Range.range) c.next_record.new.cursor.at _ _ _ _ (read.0 ∙ ap (read_to c.next_record.new.cursor.at) is) c.in_ok-put_range-in-Ok-Some-Range.ensures.ok (subst (Behind c.records.numbers c.next_record.new.numbers) is c.in-Ok-Some-Range.ensures.behind) refl
+          (OneRange c.in-Ok-Some-Range.range) c.next_record.new.cursor.at _ _ _ _ (read.0 ∙ ap (read_to c.next_record.new.cursor.at) is)
+              c.in_ok-put_range-in-Ok-Some-Range.ensures.ok (subst (Behind c.records.numbers c.next_record.new.numbers) is c.in-Ok-Some-Range.ensures.behind)
+              refl
           c.records.invariant.few read.1 c.records.invariant.read;
       same = read.1 ∙ c.records.invariant.same;
       few = c.records.invariant.few;
@@ -51,7 +53,8 @@ returns-in_err-serials-in-Ok-Some-Crl c =
     rw (p.1, p.2) (λ wants.
     let over = c.in_err-serials-in-Ok-Some-Crl.ensures wants in
     says_over c.args.limits.now (fields_of_job c.records.job) (held_in c.records.numbers) c.records.serials c.records.cursor.bytes c.records.cursor.at _
-    (OneCrl (record { issuer = c.in-Ok-Some-Crl.crl.issuer; bytes = c.in-Ok-Some-Crl.crl.bytes.now })) c.next_record.new.cursor.at (read.0 ∙ ap (read_to c.next_record.new.cursor.at) is) over.1 c.records.invariant.read
+    (OneCrl (record { issuer = c.in-Ok-Some-Crl.crl.issuer; bytes = c.in-Ok-Some-Crl.crl.bytes.now })) c.next_record.new.cursor.at
+        (read.0 ∙ ap (read_to c.next_record.new.cursor.at) is) over.1 c.records.invariant.read
     ∙ ap Err (sym over.0))
 
 pub records-smaller-in-Ok-Some-Crl : goal.records-smaller-in-Ok-Some-Crl
@@ -66,7 +69,8 @@ records-preserved-in-Ok-Some-Crl c =
     let took = c.in_ok-serials-in-Ok-Some-Crl.ensures in
     record {
       read = says_more c.args.limits.now (fields_of_job c.records.job) (held_in c.records.numbers) c.records.serials c.records.cursor.bytes c.records.cursor.at _
-          (OneCrl (record { issuer = c.in-Ok-Some-Crl.crl.issuer; bytes = c.in-Ok-Some-Crl.crl.bytes.now })) c.next_record.new.cursor.at _ _ _ _ (read.0 ∙ ap (read_to c.next_record.new.cursor.at) is) took.0
+          (OneCrl (record { issuer = c.in-Ok-Some-Crl.crl.issuer; bytes = c.in-Ok-Some-Crl.crl.bytes.now })) c.next_record.new.cursor.at _ _ _ _
+              (read.0 ∙ ap (read_to c.next_record.new.cursor.at) is) took.0
           (subst (Behind c.records.numbers c.next_record.new.numbers) is c.in-Ok-Some-Crl.ensures.behind) took.1 took.2 read.1 c.records.invariant.read;
       same = read.1 ∙ c.records.invariant.same;
       few = took.2;
@@ -84,7 +88,8 @@ records-preserved c =
     record {
       read = says_more c.args.limits.now (fields_of_job c.records.job) (held_in c.records.numbers) c.records.serials c.records.cursor.bytes c.records.cursor.at _
           (OneEntry (record { log = c.in-Ok-Some-Entry.entry.log; leaf = c.in-Ok-Some-Entry.entry.leaf.now; extra = c.in-Ok-Some-Entry.entry.extra.now }))
-          c.next_record.new.cursor.at _ _ _ _ (read.0 ∙ ap (read_to c.next_record.new.cursor.at) is) c.in_ok-put_entry-in-Ok-Some-Entry.ensures.ok (subst (Behind c.records.numbers c.next_record.new.numbers) is c.in-Ok-Some-Entry.ensures.behind) refl c.records.invariant.few
+          c.next_record.new.cursor.at _ _ _ _ (read.0 ∙ ap (read_to c.next_record.new.cursor.at) is) c.in_ok-put_entry-in-Ok-Some-Entry.ensures.ok
+              (subst (Behind c.records.numbers c.next_record.new.numbers) is c.in-Ok-Some-Entry.ensures.behind) refl c.records.invariant.few
           read.1 c.records.invariant.read;
       same = read.1 ∙ c.records.invariant.same;
       few = c.records.invariant.few;

@@ -30,4 +30,5 @@ returns-clause-least c =
     (solved_least kept.starts kept.planes c.self.inside.coeffs.items c.self.inside.targets.items kept.words.items c.solve_planes.new.words c.self.invariant n s)
 
 pub returns-clause-formed : goal.returns-clause-formed
-returns-clause-formed c = rw (← c.self.view_is, ← c.self.invariant.columns) (kept_equations c.self.inside.kept.value.planes c.self.inside.coeffs.items c.self.inside.targets.items c.self.invariant.bands)
+returns-clause-formed c = rw (← c.self.view_is, ← c.self.invariant.columns)
+    (kept_equations c.self.inside.kept.value.planes c.self.inside.coeffs.items c.self.inside.targets.items c.self.invariant.bands)
