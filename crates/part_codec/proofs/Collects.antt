@@ -109,7 +109,7 @@ mixed_with k approx columns =
 collected-exact : (n : ℕ) (k : Kept) (s : Seen) (p : PileFields) (P : List ℕ) → k.leaves - 1 ≡ n → k.leaves ≡ 1 → s.ranges ≡ p.ranges → s.blocks ≡ p.blocks → IsExact s p P
     → length P ≡ 8 * words_for k.starts
     → Collects (open_leaf (kept_leaves n k).leaves (kept_leaves n k).left) (kept_leaves n k)
-        (with_block s k (mixed_of k (record s { columns = column_of k P ∷ [] }))) (pile_exact (kept_leaves n k) p) []
+    (with_block s k (mixed_of k (record s { columns = column_of k P ∷ [] }))) (pile_exact (kept_leaves n k) p) []
 unfolding mixed_with
 collected-exact (suc n) k s p P is one ranges blocks st len = absurd (omega (arith, is, one))
 collected-exact zero k s p P is one ranges blocks st len =
@@ -126,17 +126,31 @@ collected-exact zero k s p P is one ranges blocks st len =
 
 collected-steps : (o : Open) (k : Kept) (s : Seen) (p : PileFields) (P : List ℕ) → IsOpen o k → Collects o k s p P → Passed o k P
     → Collects (open_after o (kept_after o k P)) (kept_after o k P) (seen_after o k s P) (pile_after o (kept_after o k P) p) []
-collected-steps opens.Ranges k s p P opened c told = record { ranges = refl; blocks = c.blocks; stage = staged-range (from_be_bytes w16 P)
-    (kept_ranges k (from_be_bytes w16 P)) (record s { ranges = [] }) (record p { ranges = [] }) }
+collected-steps opens.Ranges k s p P opened c told = record {
+  ranges = refl;
+  blocks = c.blocks;
+  stage = staged-range (from_be_bytes w16 P)
+      (kept_ranges k (from_be_bytes w16 P)) (record s { ranges = [] }) (record p { ranges = [] });
+}
 collected-steps opens.RangeTo k s p P opened c told = record {
-    ranges = ap (λ (l : List Range). l ++ record { log = k.key; from = k.from; to = from_be_bytes w64 P } ∷ []) c.ranges;
-    blocks = c.blocks; stage = staged-range (k.ranges_left - 1)
-    (kept_range (record k { to = from_be_bytes w64 P })) _ _ }
-collected-steps opens.Issuers k s p P opened c told = record { ranges = c.ranges; blocks = refl; stage = staged-block (from_be_bytes w32 P)
-    (kept_issuers k (from_be_bytes w32 P)) (record s { blocks = [] }) (record p { blocks = [] }) }
+  ranges = ap (λ (l : List Range). l ++ record { log = k.key; from = k.from; to = from_be_bytes w64 P } ∷ []) c.ranges;
+  blocks = c.blocks;
+  stage = staged-range (k.ranges_left - 1)
+      (kept_range (record k { to = from_be_bytes w64 P })) _ _;
+}
+collected-steps opens.Issuers k s p P opened c told = record {
+  ranges = c.ranges;
+  blocks = refl;
+  stage = staged-block (from_be_bytes w32 P)
+      (kept_issuers k (from_be_bytes w32 P)) (record s { blocks = [] }) (record p { blocks = [] });
+}
 collected-steps opens.BlockMode k s p P opened c told = collected-mode (from_be_bytes w8 P) k s p c.ranges c.blocks
-collected-steps opens.BlockK k s p P opened c told = record { ranges = c.ranges; blocks = c.blocks; stage = staged-approx (from_be_bytes w8 P)
-    (record k { planes = from_be_bytes w8 P }) (record s { approx = None }) (record p { approx = None }) refl told refl }
+collected-steps opens.BlockK k s p P opened c told = record {
+  ranges = c.ranges;
+  blocks = c.blocks;
+  stage = staged-approx (from_be_bytes w8 P)
+      (record k { planes = from_be_bytes w8 P }) (record s { approx = None }) (record p { approx = None }) refl told refl;
+}
 collected-steps opens.ApproxSeed k s p P opened c told = record { ranges = c.ranges; blocks = c.blocks; stage = c.stage }
 collected-steps opens.ApproxStarts k s p P opened c told = starts-plane (record k { starts = from_be_bytes w32 P }) s p c.ranges c.blocks c.stage
 collected-steps opens.ApproxPlane k s p P opened c told = collected-plane k s p P c.ranges c.blocks c.stage told
@@ -146,10 +160,18 @@ collected-steps opens.ExactPlane k s p P opened c told = collected-exact (k.leav
 collected-steps o k s p P opened c told = record { ranges = c.ranges; blocks = c.blocks; stage = tt }
 
 collects-more : (o : Open) (k : Kept) (s : Seen) (p : PileFields) (P t : List ℕ) → Collects o k s p P → Collects o k s (pile_passed o p t) (P ++ t)
-collects-more opens.ApproxPlane k s p P t c = record { ranges = c.ranges; blocks = c.blocks; stage =
-    record { columns = c.stage.columns; read = c.stage.read; some = c.stage.some; few = c.stage.few; plane = ap (λ (l : List ℕ). l ++ t) c.stage.plane } }
-collects-more opens.ExactPlane k s p P t c = record { ranges = c.ranges; blocks = c.blocks; stage =
-    record { approx = c.stage.approx; none = c.stage.none; words = c.stage.words; plane = ap (λ (l : List ℕ). l ++ t) c.stage.plane } }
+collects-more opens.ApproxPlane k s p P t c = record {
+  ranges = c.ranges;
+  blocks = c.blocks;
+  stage =
+      record { columns = c.stage.columns; read = c.stage.read; some = c.stage.some; few = c.stage.few; plane = ap (λ (l : List ℕ). l ++ t) c.stage.plane };
+}
+collects-more opens.ExactPlane k s p P t c = record {
+  ranges = c.ranges;
+  blocks = c.blocks;
+  stage =
+      record { approx = c.stage.approx; none = c.stage.none; words = c.stage.words; plane = ap (λ (l : List ℕ). l ++ t) c.stage.plane };
+}
 collects-more o k s p P t c = record { ranges = c.ranges; blocks = c.blocks; stage = c.stage }
 
 are-planes : (k : Kept) (s : Seen) (p : PileFields) (P : List ℕ) → IsApprox k s p P → AreStarts k.starts → (is_padded k.starts P ≡ true) × (length P ≡ 8 * words_for k.starts)

@@ -152,7 +152,7 @@ behind_ranges k s more = at_issuers k (record s { ranges = s.ranges ++ more })
 
 behind-range : (n : ℕ) (k : Kept) (s : Seen) → k.ranges_left ≡ suc n → (log : List ℕ) (from to : ℕ)
     → ◌≡◌ {A = Rest} (repeated range next_log n (Some log) >>= λ others. behind_ranges k s (made log from to ∷ others))
-        (at_ranges (kept_range (record k { key = log; from = from; to = to })) (with_range s (made log from to)))
+    (at_ranges (kept_range (record k { key = log; from = from; to = to })) (with_range s (made log from to)))
 unfolding at_ranges at_issuers at_blocks at_trailer
 behind-range n k s is log from to =
     ap (λ (m : ℕ). repeated range next_log m (Some log) >>= λ others. behind_ranges k s (made log from to ∷ others)) (one_less n k.ranges_left is)
@@ -224,7 +224,7 @@ no_state u Z = u
 
 planes-flat : (starts_name plane_name : Field) (count : ℕ) (h : PlaneColumns → Rest)
     → ◌≡◌ {A = Rest} (planes starts_name plane_name count >>= h)
-        (number starts_name w32 1 MAX_STARTS >>= λ starts. columns plane_name starts count >>= λ list. h (record { starts = starts; columns = list }))
+    (number starts_name w32 1 MAX_STARTS >>= λ starts. columns plane_name starts count >>= λ list. h (record { starts = starts; columns = list }))
 unfolding planes
 planes-flat starts_name plane_name count h =
     assoc (number starts_name w32 1 MAX_STARTS) (λ starts. columns plane_name starts count >>= λ list. whole (record { starts = starts; columns = list })) h
@@ -248,7 +248,7 @@ exact_then h seed starts bytes = h (staged seed (record { starts = starts; colum
 
 exact-flat : (h : Stage → Rest)
     → ◌≡◌ {A = Rest} (exact >>= h) (seed_field fields.ExactSeed >>= λ seed. number fields.ExactStarts w32 1 MAX_STARTS
-        >>= λ starts. plane_bytes fields.ExactPlane starts >>= λ bytes. exact_then h seed starts bytes)
+    >>= λ starts. plane_bytes fields.ExactPlane starts >>= λ bytes. exact_then h seed starts bytes)
 unfolding exact
 exact-flat h =
     assoc (seed_field fields.ExactSeed) (λ seed. planes fields.ExactStarts fields.ExactPlane 1 >>= λ p. whole (staged seed p)) h
@@ -264,7 +264,7 @@ exact-open k s first = exact-flat (λ second. after_leaf k s (leaves_of.Mixed (r
 
 approx-flat : (n : ℕ) (h : Option Stage → Rest)
     → ◌≡◌ {A = Rest} (approx_stage n >>= h) (seed_field fields.ApproxSeed >>= λ seed. number fields.ApproxStarts w32 1 MAX_STARTS
-        >>= λ starts. columns fields.ApproxPlane starts n >>= λ list. h (Some (staged seed (record { starts = starts; columns = list }))))
+    >>= λ starts. columns fields.ApproxPlane starts n >>= λ list. h (Some (staged seed (record { starts = starts; columns = list }))))
 unfolding approx_stage
 approx-flat n h =
     assoc (seed_field fields.ApproxSeed) (λ seed. planes fields.ApproxStarts fields.ApproxPlane n >>= λ p. whole (Some (staged seed p))) h
@@ -344,7 +344,7 @@ leaf-open k s one =
 
 pub rest-steps : (o : Open) (k : Kept) (s : Seen) (b : List ℕ) (at : ℕ) → IsOpen o k → at + width_of o k ≤ length b → passes o k (sha256 (take at b)) (piece (width_of o k) b at) ≡ true
     → rest o k s b at ≡ rest (open_after o (kept_after o k (piece (width_of o k) b at))) (kept_after o k (piece (width_of o k) b at))
-        (seen_after o k s (piece (width_of o k) b at)) b (at + width_of o k)
+    (seen_after o k s (piece (width_of o k) b at)) b (at + width_of o k)
 unfolding rest at_magic at_version at_kind at_epoch at_parent at_count at_range_log at_range_from at_range_to
     at_issuers at_issuer at_mode at_k at_approx_seed at_approx_starts at_approx_plane at_exact_seed at_exact_starts at_exact_plane at_trailer
 rest-steps opens.Magic k s b at opened room passed = bytes-step fields.PartMagic 8 (bytes_eq (codes "CLUBCARD")) (λ begin. at_version k s) b at room passed

@@ -37,8 +37,8 @@ records-preserved-in-Continue-1 c =
     record {
       read = says_more c.args.limits.now (fields_of_job c.records.job) (held_in c.records.numbers) c.records.serials c.records.cursor.bytes c.records.cursor.at _
           (OneRange c.in-Ok-Some-Range.range) c.next_record.new.cursor.at _ _ _ _ (read.0 ∙ ap (read_to c.next_record.new.cursor.at) is)
-              c.in_ok-put_range-in-Ok-Some-Range.ensures.ok (subst (Behind c.records.numbers c.next_record.new.numbers) is c.in-Ok-Some-Range.ensures.behind)
-              refl
+          c.in_ok-put_range-in-Ok-Some-Range.ensures.ok (subst (Behind c.records.numbers c.next_record.new.numbers) is c.in-Ok-Some-Range.ensures.behind)
+          refl
           c.records.invariant.few read.1 c.records.invariant.read;
       same = read.1 ∙ c.records.invariant.same;
       few = c.records.invariant.few;
@@ -54,7 +54,7 @@ returns-in_err-serials-in-Ok-Some-Crl c =
     let over = c.in_err-serials-in-Ok-Some-Crl.ensures wants in
     says_over c.args.limits.now (fields_of_job c.records.job) (held_in c.records.numbers) c.records.serials c.records.cursor.bytes c.records.cursor.at _
     (OneCrl (record { issuer = c.in-Ok-Some-Crl.crl.issuer; bytes = c.in-Ok-Some-Crl.crl.bytes.now })) c.next_record.new.cursor.at
-        (read.0 ∙ ap (read_to c.next_record.new.cursor.at) is) over.1 c.records.invariant.read
+    (read.0 ∙ ap (read_to c.next_record.new.cursor.at) is) over.1 c.records.invariant.read
     ∙ ap Err (sym over.0))
 
 pub records-smaller-in-Ok-Some-Crl : goal.records-smaller-in-Ok-Some-Crl
@@ -70,7 +70,7 @@ records-preserved-in-Ok-Some-Crl c =
     record {
       read = says_more c.args.limits.now (fields_of_job c.records.job) (held_in c.records.numbers) c.records.serials c.records.cursor.bytes c.records.cursor.at _
           (OneCrl (record { issuer = c.in-Ok-Some-Crl.crl.issuer; bytes = c.in-Ok-Some-Crl.crl.bytes.now })) c.next_record.new.cursor.at _ _ _ _
-              (read.0 ∙ ap (read_to c.next_record.new.cursor.at) is) took.0
+          (read.0 ∙ ap (read_to c.next_record.new.cursor.at) is) took.0
           (subst (Behind c.records.numbers c.next_record.new.numbers) is c.in-Ok-Some-Crl.ensures.behind) took.1 took.2 read.1 c.records.invariant.read;
       same = read.1 ∙ c.records.invariant.same;
       few = took.2;
@@ -89,7 +89,7 @@ records-preserved c =
       read = says_more c.args.limits.now (fields_of_job c.records.job) (held_in c.records.numbers) c.records.serials c.records.cursor.bytes c.records.cursor.at _
           (OneEntry (record { log = c.in-Ok-Some-Entry.entry.log; leaf = c.in-Ok-Some-Entry.entry.leaf.now; extra = c.in-Ok-Some-Entry.entry.extra.now }))
           c.next_record.new.cursor.at _ _ _ _ (read.0 ∙ ap (read_to c.next_record.new.cursor.at) is) c.in_ok-put_entry-in-Ok-Some-Entry.ensures.ok
-              (subst (Behind c.records.numbers c.next_record.new.numbers) is c.in-Ok-Some-Entry.ensures.behind) refl c.records.invariant.few
+          (subst (Behind c.records.numbers c.next_record.new.numbers) is c.in-Ok-Some-Entry.ensures.behind) refl c.records.invariant.few
           read.1 c.records.invariant.read;
       same = read.1 ∙ c.records.invariant.same;
       few = c.records.invariant.few;

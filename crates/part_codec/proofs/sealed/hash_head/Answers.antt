@@ -23,7 +23,7 @@ returns c =
     c.update.ensures
     c.hash_u8.ensures
     (subst (λ (t : List ℕ). Hashed c.hash_u8.new.hasher c.update-2.new.self t)
-        (ap (λ (n : ℕ). n ∷ []) (c.kind_byte.ensures ∙ ap kind_number c.kind.ensures) ∙ kind_in_a_byte h.kind) c.update-2.ensures)
+    (ap (λ (n : ℕ). n ∷ []) (c.kind_byte.ensures ∙ ap kind_number c.kind.ensures) ∙ kind_in_a_byte h.kind) c.update-2.ensures)
     (subst (λ (t : List ℕ). Hashed c.update-2.new.self c.update-3.new.self t) (c.to_be_bytes.ensures ∙ ap (to_be_bytes w64) c.epoch.ensures) c.update-3.ensures)
     (subst (λ (t : List ℕ). Hashed c.update-3.new.self c.update-4.new.self t) (c.bytes.ensures.value ∙ c.parent.ensures) c.update-4.ensures)
     (subst (λ (t : List ℕ). Hashed c.update-4.new.self c.update-5.new.self t)

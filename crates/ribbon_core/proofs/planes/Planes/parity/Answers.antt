@@ -9,7 +9,7 @@ sums_of-requires-clause-room g c =
     let s : c.args.row.now.start < c.args.self.now.starts = c.requires in
     let s' = rw (← c.self.view_is) at s in
     rw (c.deref-3.ensures, c.deref-2.ensures.value, c.deref.ensures)
-        (lanes_room c.self.inside.kept.value.planes c.self.inside.kept.value.starts c.args.row.now.start _ c.self.invariant.few_planes s' c.self.invariant.room)
+    (lanes_room c.self.inside.kept.value.planes c.self.inside.kept.value.starts c.args.row.now.start _ c.self.invariant.few_planes s' c.self.invariant.room)
 
 pub returns-clause-sums : goal.returns-clause-sums
 returns-clause-sums g c =
@@ -19,7 +19,7 @@ returns-clause-sums g c =
     let v = rw (c.deref-2.ensures.value, c.deref.ensures, c.deref-3.ensures) at c.sums_of.ensures.sums in
     rw (← c.self.view_is, n)
     (λ plane h. rw (columns-at c.self.inside.kept.value.starts c.self.inside.kept.value.planes plane c.self.inside.kept.value.words.items h)
-        (v (words_for c.self.inside.kept.value.starts) plane (omega (arith, s')) h))
+    (v (words_for c.self.inside.kept.value.starts) plane (omega (arith, s')) h))
 
 pub returns-clause-few_planes : goal.returns-clause-few_planes
 returns-clause-few_planes g c =

@@ -24,4 +24,4 @@ returns-clause-value g c =
     let w' = rw (← c.self.view_is) at w in
     let v = rw (c.deref-2.ensures.value, c.deref.ensures, c.deref-3.ensures) at c.word_of.ensures.value in
     rw (← c.self.view_is, columns-at c.self.inside.kept.value.starts c.self.inside.kept.value.planes c.args.plane c.self.inside.kept.value.words.items h')
-        (v (words_for c.self.inside.kept.value.starts) w')
+    (v (words_for c.self.inside.kept.value.starts) w')

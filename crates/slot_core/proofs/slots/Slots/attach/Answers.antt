@@ -10,4 +10,4 @@ returns-clause-whole g c = λ capacity bytes device told is.
 pub returns-clause-broken : goal.returns-clause-broken
 returns-clause-broken g c = λ at device told breaks.
     refused-there (g.D.Disk.state c.sync.new.self) (g.D.Disk.state c.examine.new.disk) device at c.examine.result (c.sync.ensures.quiet.same ∙ told) breaks
-        c.examine.ensures.ok c.examine.ensures.refusal
+    c.examine.ensures.ok c.examine.ensures.refusal
