@@ -4,7 +4,6 @@ pub mod PlaneBytes
 pub mod Planes
 pub mod MixedTexts
 pub mod PartTexts
-mod Appends
 pub mod Loops
 pub mod Words
 pub mod Lengths

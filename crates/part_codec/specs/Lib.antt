@@ -4,7 +4,7 @@ pub mod PartLayout
 pub mod PartText
 pub mod Fitting
 pub mod Offsets
-pub mod Hashing
+pub mod Output
 pub mod Remaining
 pub mod Stepping
 pub mod Scanning

@@ -8,10 +8,12 @@ mod fault;
 mod fields;
 mod laws;
 mod machine;
+mod output;
 mod pile;
 mod reader;
 mod scan;
 mod sealed;
+mod text;
 
 pub use decode::decode_part;
 pub use encode::encode_part;

@@ -5,10 +5,10 @@ use Rattle.card_core.specs.declared.block.Block.{Block}
 use Rattle.ident_core.specs.HeadFields.{HeadFields}
 use Rattle.part_codec.specs.Fitting.{BlockFits, FitsHead}
 use Rattle.octets_core.proofs.Loops.{Linked-with}
-use Rattle.part_codec.proofs.encode.put_unsealed.Goals as goal
+use Rattle.part_codec.proofs.text.put_unsealed.Goals as goal
 
 pub returns-clause-fits : goal.returns-clause-fits
-returns-clause-fits c = record {
+returns-clause-fits g c = record {
   facts = c.blocks-blocks.ensures.facts;
   head = subst (λ (h : HeadFields). FitsHead h) c.head.ensures c.in_ok-put_head.ensures.fits;
   blocks = Linked-with (λ previous b. is_after previous b.issuer ≡ true) BlockFits (λ previous b. Some b.issuer) None c.args.part.now.blocks c.blocks-blocks.ensures.facts.ascending

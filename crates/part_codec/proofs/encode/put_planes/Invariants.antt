@@ -1,9 +1,0 @@
-use Rattle.std.proofs.Common.{◌≡◌, ◌++◌, take}
-use Rattle.std.specs.Prelude.{flat_map}
-use Rattle.std.specs.Int.{w32, to_be_bytes}
-use Rattle.equation_core.specs.Sizes.{words_for}
-use Rattle.part_codec.specs.PlaneBytes.{bytes_of_columns}
-use Rattle.part_codec.proofs.encode.put_planes.Given as goal
-
-abbrev pub invariant-loop-plane : goal.invariant-loop-plane
-invariant-loop-plane g l = l.out.items ≡ l.fn.out.items ++ to_be_bytes w32 l.planes.starts ++ flat_map (bytes_of_columns (words_for l.planes.starts)) (take l.plane l.planes.columns)
