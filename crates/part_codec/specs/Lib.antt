@@ -8,6 +8,7 @@ pub mod Output
 pub mod Remaining
 pub mod Stepping
 pub mod Scanning
+pub mod Taking
 pub mod Standing
 pub mod Noting
 pub mod ReadWords

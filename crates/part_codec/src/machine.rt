@@ -50,7 +50,8 @@ pub(crate) struct Machine {
 }
 
 impl Machine {
-    ghost use Rattle.part_codec.specs.Scanning.{Opened, IsWhole, Tested, Stands, StandsFront, Stays, Hashes, Moved, seen_when};
+    ghost use Rattle.part_codec.specs.Scanning.{Opened, IsWhole, Tested, Stands, StandsFront, Stays, Moved};
+    ghost use Rattle.part_codec.specs.Taking.{IsFront, IsPartial, Advances, Takes, Closes, Fails, FailsAtEnd};
 
     /// At the first field.
     pub(crate) fn new() -> Machine
@@ -199,15 +200,9 @@ impl Machine {
     /// Takes bytes up to the end of the open field. Answers how many, and whether it became whole.
     #[inline(always)]
     fn step(&mut self, piece: &[u8]) -> Result<(usize, bool), LayoutFault>
-        requires front { in_front self.old.field ≡ true }
-        requires partial { self.old.filled < tail_of self.old.field }
-        ensures ok { IfOk result (λ r. (s : Seen) (b : List ℕ) → Stands self.old s b
-            → Stands self.new (seen_when r.1 self.old s (drop self.old.at (b ++ take r.0 piece.now))) (b ++ take r.0 piece.now)) }
-        ensures moved { IfOk result (λ r. (s : Seen) (b : List ℕ) → Stands self.old s b → Moved r.1 self.old self.new (b ++ take r.0 piece.now)) }
-        ensures err { IfErr result (λ e. (s : Seen) (b x : List ℕ) → Stands self.old s b → sealed (b ++ piece.now ++ x) 0 ≡ Err e) }
-        ensures partial { OnOk result (self.new.field ≢ Open.Done → self.new.filled < tail_of self.new.field) }
-        ensures count { IfOk result (λ r. r.0 ≤ length piece.now) }
-        ensures progress { IfOk result (λ r. 0 < length piece.now → 0 < r.0) }
+        requires { IsFront self.old }
+        ensures ok { IfOk result (Advances self.old self.new piece.now) }
+        ensures err { IfErr result (Fails self.old piece.now) }
     {
         if self.passed < skips(self.field, &self.kept) {
             return Ok((self.skip(piece), false));
@@ -224,15 +219,9 @@ impl Machine {
     /// The same. The fields of a block that says none or all are most of a long part, so each of them has a copy of the
     /// step in which the field is known.
     pub(crate) fn advance(&mut self, piece: &[u8]) -> Result<(usize, bool), LayoutFault>
-        requires front { in_front self.old.field ≡ true }
-        requires partial { self.old.filled < tail_of self.old.field }
-        ensures ok { IfOk result (λ r. (s : Seen) (b : List ℕ) → Stands self.old s b
-            → Stands self.new (seen_when r.1 self.old s (drop self.old.at (b ++ take r.0 piece.now))) (b ++ take r.0 piece.now)) }
-        ensures moved { IfOk result (λ r. (s : Seen) (b : List ℕ) → Stands self.old s b → Moved r.1 self.old self.new (b ++ take r.0 piece.now)) }
-        ensures err { IfErr result (λ e. (s : Seen) (b x : List ℕ) → Stands self.old s b → sealed (b ++ piece.now ++ x) 0 ≡ Err e) }
-        ensures partial { OnOk result (self.new.field ≢ Open.Done → self.new.filled < tail_of self.new.field) }
-        ensures count { IfOk result (λ r. r.0 ≤ length piece.now) }
-        ensures progress { IfOk result (λ r. 0 < length piece.now → 0 < r.0) }
+        requires { IsFront self.old }
+        ensures ok { IfOk result (Advances self.old self.new piece.now) }
+        ensures err { IfErr result (Fails self.old piece.now) }
     {
         match self.field {
             Open::BlockIssuer => self.step(piece),
@@ -248,7 +237,7 @@ impl Machine {
         requires empty { self.old.filled ≡ 0 }
         requires len { length piece.now ≡ LEAST_BLOCK }
         ensures ok { OnOk result ((s : Seen) (b : List ℕ) → Stands self.old s b → StandsFront self.new (b ++ piece.now)) }
-        ensures err { IfErr result (λ e. (s : Seen) (b x : List ℕ) → Stands self.old s b → sealed (b ++ piece.now ++ x) 0 ≡ Err e) }
+        ensures err { IfErr result (Fails self.old piece.now) }
         ensures empty { OnOk result (self.new.filled ≡ 0) }
     {
         self.complete(&piece[..32])?;
@@ -259,12 +248,9 @@ impl Machine {
     /// Takes bytes up to the end of the open field, or to that of a block's mode. Answers how many.
     #[inline(always)]
     fn walk(&mut self, piece: &[u8]) -> Result<usize, LayoutFault>
-        requires front { in_front self.old.field ≡ true }
-        requires partial { self.old.filled < tail_of self.old.field }
-        ensures ok { IfOk result (λ n. (s : Seen) (b : List ℕ) → Stands self.old s b → StandsFront self.new (b ++ take n piece.now)) }
-        ensures err { IfErr result (λ e. (s : Seen) (b x : List ℕ) → Stands self.old s b → sealed (b ++ piece.now ++ x) 0 ≡ Err e) }
-        ensures partial { OnOk result (self.new.field ≢ Open.Done → self.new.filled < tail_of self.new.field) }
-        ensures count { IfOk result (λ n. n ≤ length piece.now) }
+        requires { IsFront self.old }
+        ensures ok { IfOk result (Takes self.old self.new piece.now) }
+        ensures err { IfErr result (Fails self.old piece.now) }
         ensures progress { IfOk result (λ n. 0 < length piece.now → 0 < n) }
     {
         if is_block(self.field) && self.filled == 0 && piece.len() >= LEAST_BLOCK {
@@ -277,12 +263,9 @@ impl Machine {
 
     /// Takes the next piece up to the trailer. Answers how many bytes it took.
     pub(crate) fn read(&mut self, piece: &[u8]) -> Result<usize, LayoutFault>
-        requires front { in_front self.old.field ≡ true }
-        requires partial { self.old.filled < tail_of self.old.field }
-        ensures ok { IfOk result (λ n. (s : Seen) (b : List ℕ) → Stands self.old s b → StandsFront self.new (b ++ take n piece.now)) }
-        ensures err { IfErr result (λ e. (s : Seen) (b x : List ℕ) → Stands self.old s b → sealed (b ++ piece.now ++ x) 0 ≡ Err e) }
-        ensures partial { OnOk result (self.new.field ≢ Open.Done → self.new.filled < tail_of self.new.field) }
-        ensures count { IfOk result (λ n. n ≤ length piece.now) }
+        requires { IsFront self.old }
+        ensures ok { IfOk result (Takes self.old self.new piece.now) }
+        ensures err { IfErr result (Fails self.old piece.now) }
         ensures all { IfOk result (λ n. n < length piece.now → in_front self.new.field ≡ false) }
     {
         let mut taken = 0;
@@ -320,14 +303,8 @@ impl Machine {
     fn close(&mut self, hasher: &Sha256, piece: &[u8]) -> Result<(usize, bool), LayoutFault>
         requires last { self.old.field ≡ Open.Trailer }
         requires partial { self.old.filled < tail_of self.old.field }
-        ensures ok { IfOk result (λ r. (s : Seen) (b : List ℕ) → Stands self.old s b → Hashes self.old hasher.now b
-            → Stands self.new s (b ++ take r.0 piece.now) × Hashes self.new hasher.now (b ++ take r.0 piece.now)) }
-        ensures moved { IfOk result (λ r. (s : Seen) (b : List ℕ) → Stands self.old s b → Hashes self.old hasher.now b
-            → Moved r.1 self.old self.new (b ++ take r.0 piece.now)) }
-        ensures err { IfErr result (λ e. (s : Seen) (b x : List ℕ) → Stands self.old s b → Hashes self.old hasher.now b
-            → sealed (b ++ piece.now ++ x) 0 ≡ Err e) }
-        ensures partial { OnOk result (self.new.field ≢ Open.Done → self.new.filled < tail_of self.new.field) }
-        ensures count { IfOk result (λ r. r.0 ≤ length piece.now) }
+        ensures ok { IfOk result (Closes self.old self.new hasher.now piece.now) }
+        ensures err { IfErr result (FailsAtEnd self.old hasher.now piece.now) }
         ensures all { IfOk result (λ r. r.0 < length piece.now → self.new.field ≡ Open.Done) }
     {
         let want = TRAILER - self.filled;
@@ -347,15 +324,9 @@ impl Machine {
         hasher: &Sha256,
         piece: &[u8],
     ) -> Result<(usize, bool), LayoutFault>
-        requires partial { self.old.field ≢ Open.Done → self.old.filled < tail_of self.old.field }
-        ensures ok { IfOk result (λ r. (s : Seen) (b : List ℕ) → Stands self.old s b → Hashes self.old hasher.now b
-            → Stands self.new s (b ++ take r.0 piece.now) × Hashes self.new hasher.now (b ++ take r.0 piece.now)) }
-        ensures moved { IfOk result (λ r. (s : Seen) (b : List ℕ) → Stands self.old s b → Hashes self.old hasher.now b
-            → Moved r.1 self.old self.new (b ++ take r.0 piece.now)) }
-        ensures err { IfErr result (λ e. (s : Seen) (b x : List ℕ) → Stands self.old s b → Hashes self.old hasher.now b
-            → sealed (b ++ piece.now ++ x) 0 ≡ Err e) }
-        ensures partial { OnOk result (self.new.field ≢ Open.Done → self.new.filled < tail_of self.new.field) }
-        ensures count { IfOk result (λ r. r.0 ≤ length piece.now) }
+        requires partial { IsPartial self.old }
+        ensures ok { IfOk result (Closes self.old self.new hasher.now piece.now) }
+        ensures err { IfErr result (FailsAtEnd self.old hasher.now piece.now) }
         ensures all { IfOk result (λ r. in_front self.old.field ≡ false → r.0 < length piece.now → self.new.field ≡ Open.Done) }
     {
         match self.field {

@@ -7,9 +7,9 @@ ghost use Rattle.part_codec.specs.SealedFields.{SealedFields};
 ghost use Rattle.part_codec.specs.declared.fields.Open.TheVariants as opens;
 ghost use Rattle.part_codec.specs.declared.fault.PartFault.TheVariants as faults;
 ghost use Rattle.part_codec.specs.PartLayout.{part};
-ghost use Rattle.part_codec.specs.Stepping.{in_front, tail_of, name_of};
-ghost use Rattle.part_codec.specs.Scanning.{Hashes};
-ghost use Rattle.part_codec.specs.Collecting.{Reads, ReadsFront, HasRead, HasHashed};
+ghost use Rattle.part_codec.specs.Stepping.{in_front, name_of};
+ghost use Rattle.part_codec.specs.Collecting.{Reads, HasRead, HasHashed};
+ghost use Rattle.part_codec.specs.Taking.{IsFront, IsPartial, TakesTo, ReadsOn, FailsRead, FailsHashed};
 
 use crate::fault::PartFault;
 use crate::fields::{is_done, is_front, kind};
@@ -28,14 +28,10 @@ fn step(
     pile: &mut Pile,
     piece: &[u8],
 ) -> Result<usize, PartFault>
-    requires front { in_front machine.old.field ≡ true }
-    requires partial { machine.old.filled < tail_of machine.old.field }
+    requires front { IsFront machine.old }
     requires read { ∥ HasRead machine.old pile.old ∥₁ }
-    ensures ok { IfOk result (λ n. (b : List ℕ) → Reads machine.old pile.old b → ReadsFront machine.new pile.new (b ++ take n piece.now)) }
-    ensures read { OnOk result (∥ HasRead machine.new pile.new ∥₁) }
-    ensures err { IfErr result (λ e. e ≢ faults.NoMemory → (b x : List ℕ) → Reads machine.old pile.old b → part (b ++ piece.now ++ x) 0 ≡ Err e) }
-    ensures partial { OnOk result (machine.new.field ≢ opens.Done → machine.new.filled < tail_of machine.new.field) }
-    ensures count { IfOk result (λ n. n ≤ length piece.now) }
+    ensures ok { IfOk result (TakesTo machine.old machine.new pile.old pile.new piece.now) }
+    ensures err { IfErr result (FailsRead machine.old pile.old piece.now) }
     ensures progress { IfOk result (λ n. 0 < length piece.now → 0 < n) }
 {
     let field = machine.field;
@@ -52,14 +48,10 @@ fn read_fields(
     pile: &mut Pile,
     piece: &[u8],
 ) -> Result<usize, PartFault>
-    requires front { in_front machine.old.field ≡ true }
-    requires partial { machine.old.filled < tail_of machine.old.field }
+    requires front { IsFront machine.old }
     requires read { ∥ HasRead machine.old pile.old ∥₁ }
-    ensures ok { IfOk result (λ n. (b : List ℕ) → Reads machine.old pile.old b → ReadsFront machine.new pile.new (b ++ take n piece.now)) }
-    ensures read { OnOk result (∥ HasRead machine.new pile.new ∥₁) }
-    ensures err { IfErr result (λ e. e ≢ faults.NoMemory → (b x : List ℕ) → Reads machine.old pile.old b → part (b ++ piece.now ++ x) 0 ≡ Err e) }
-    ensures partial { OnOk result (machine.new.field ≢ opens.Done → machine.new.filled < tail_of machine.new.field) }
-    ensures count { IfOk result (λ n. n ≤ length piece.now) }
+    ensures ok { IfOk result (TakesTo machine.old machine.new pile.old pile.new piece.now) }
+    ensures err { IfErr result (FailsRead machine.old pile.old piece.now) }
     ensures all { IfOk result (λ n. n < length piece.now → in_front machine.new.field ≡ false) }
 {
     let mut taken = 0;
@@ -81,15 +73,10 @@ fn read_front(
     hasher: &mut Sha256,
     piece: &[u8],
 ) -> Result<usize, PartFault>
-    requires partial { machine.old.field ≢ opens.Done → machine.old.filled < tail_of machine.old.field }
+    requires partial { IsPartial machine.old }
     requires read { ∥ HasHashed machine.old pile.old hasher.old ∥₁ }
-    ensures ok { IfOk result (λ n. (b : List ℕ) → Reads machine.old pile.old b → Reads machine.new pile.new (b ++ take n piece.now)) }
-    ensures hashed { IfOk result (λ n. (b : List ℕ) → Reads machine.old pile.old b → Hashes machine.old hasher.old b
-        → Hashes machine.new hasher.new (b ++ take n piece.now)) }
-    ensures read { OnOk result (∥ HasHashed machine.new pile.new hasher.new ∥₁) }
-    ensures err { IfErr result (λ e. e ≢ faults.NoMemory → (b x : List ℕ) → Reads machine.old pile.old b → part (b ++ piece.now ++ x) 0 ≡ Err e) }
-    ensures partial { OnOk result (machine.new.field ≢ opens.Done → machine.new.filled < tail_of machine.new.field) }
-    ensures count { IfOk result (λ n. n ≤ length piece.now) }
+    ensures ok { IfOk result (ReadsOn machine.old machine.new pile.old pile.new hasher.old hasher.new piece.now) }
+    ensures err { IfErr result (FailsHashed machine.old pile.old hasher.old piece.now) }
     ensures all { IfOk result (λ n. n < length piece.now → in_front machine.new.field ≡ false) }
 {
     if !is_front(machine.field) {
@@ -108,15 +95,10 @@ fn read_on(
     hasher: &mut Sha256,
     piece: &[u8],
 ) -> Result<usize, PartFault>
-    requires partial { machine.old.field ≢ opens.Done → machine.old.filled < tail_of machine.old.field }
+    requires partial { IsPartial machine.old }
     requires read { ∥ HasHashed machine.old pile.old hasher.old ∥₁ }
-    ensures ok { IfOk result (λ n. (b : List ℕ) → Reads machine.old pile.old b → Hashes machine.old hasher.old b
-        → Reads machine.new pile.new (b ++ take n piece.now) × Hashes machine.new hasher.new (b ++ take n piece.now)) }
-    ensures read { OnOk result (∥ HasHashed machine.new pile.new hasher.new ∥₁) }
-    ensures err { IfErr result (λ e. e ≢ faults.NoMemory → (b x : List ℕ) → Reads machine.old pile.old b → Hashes machine.old hasher.old b
-        → part (b ++ piece.now ++ x) 0 ≡ Err e) }
-    ensures partial { OnOk result (machine.new.field ≢ opens.Done → machine.new.filled < tail_of machine.new.field) }
-    ensures count { IfOk result (λ n. n ≤ length piece.now) }
+    ensures ok { IfOk result (ReadsOn machine.old machine.new pile.old pile.new hasher.old hasher.new piece.now) }
+    ensures err { IfErr result (FailsHashed machine.old pile.old hasher.old piece.now) }
     ensures all { IfOk result (λ n. n < length piece.now → machine.new.field ≡ opens.Done) }
 {
     let taken = read_front(alloc, machine, pile, hasher, piece)?;
@@ -147,7 +129,7 @@ pub struct PartReader {
     pile: Pile,
     hasher: Sha256,
     fault: Option<PartFault>,
-    ghost partial: { fault ≡ None → machine.field ≢ opens.Done → machine.filled < tail_of machine.field },
+    ghost partial: { fault ≡ None → IsPartial machine },
     ghost read: { fault ≡ None → ∥ HasHashed machine pile hasher ∥₁ },
 }
 

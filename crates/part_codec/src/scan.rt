@@ -7,8 +7,8 @@ ghost use Rattle.octets_core.specs.declared.fault.Why.TheVariants as why;
 ghost use Rattle.part_codec.specs.SealedFields.{SealedFields};
 ghost use Rattle.part_codec.specs.declared.fields.Open.TheVariants as opens;
 ghost use Rattle.part_codec.specs.PartLayout.{sealed};
-ghost use Rattle.part_codec.specs.Stepping.{in_front, tail_of, name_of};
-ghost use Rattle.part_codec.specs.Scanning.{Scans};
+ghost use Rattle.part_codec.specs.Stepping.{in_front, name_of};
+ghost use Rattle.part_codec.specs.Taking.{IsPartial, ScansOn, FailsScan};
 ghost use Rattle.part_codec.specs.Noting.{noted, note_by};
 
 use crate::fields::{is_done, is_front, kind};
@@ -37,7 +37,7 @@ pub struct PartScan {
     machine: Machine,
     hasher: Sha256,
     fault: Option<LayoutFault>,
-    ghost partial: { fault ≡ None → machine.field ≢ opens.Done → machine.filled < tail_of machine.field },
+    ghost partial: { fault ≡ None → IsPartial machine },
 }
 
 fn note(machine: &Machine) -> PartNote
@@ -59,11 +59,9 @@ fn scan_front(
     hasher: &mut Sha256,
     piece: &[u8],
 ) -> Result<usize, LayoutFault>
-    requires partial { machine.old.field ≢ opens.Done → machine.old.filled < tail_of machine.old.field }
-    ensures ok { IfOk result (λ n. (b : List ℕ) → Scans machine.old hasher.old b → Scans machine.new hasher.new (b ++ take n piece.now)) }
-    ensures err { IfErr result (λ e. (b x : List ℕ) → Scans machine.old hasher.old b → sealed (b ++ piece.now ++ x) 0 ≡ Err e) }
-    ensures partial { OnOk result (machine.new.field ≢ opens.Done → machine.new.filled < tail_of machine.new.field) }
-    ensures count { IfOk result (λ n. n ≤ length piece.now) }
+    requires { IsPartial machine.old }
+    ensures ok { IfOk result (ScansOn machine.old machine.new hasher.old hasher.new piece.now) }
+    ensures err { IfErr result (FailsScan machine.old hasher.old piece.now) }
     ensures all { IfOk result (λ n. n < length piece.now → in_front machine.new.field ≡ false) }
 {
     if !is_front(machine.field) {
@@ -76,11 +74,9 @@ fn scan_front(
 
 /// Takes the bytes of the piece that belong to the part.
 fn scan_on(machine: &mut Machine, hasher: &mut Sha256, piece: &[u8]) -> Result<usize, LayoutFault>
-    requires partial { machine.old.field ≢ opens.Done → machine.old.filled < tail_of machine.old.field }
-    ensures ok { IfOk result (λ n. (b : List ℕ) → Scans machine.old hasher.old b → Scans machine.new hasher.new (b ++ take n piece.now)) }
-    ensures err { IfErr result (λ e. (b x : List ℕ) → Scans machine.old hasher.old b → sealed (b ++ piece.now ++ x) 0 ≡ Err e) }
-    ensures partial { OnOk result (machine.new.field ≢ opens.Done → machine.new.filled < tail_of machine.new.field) }
-    ensures count { IfOk result (λ n. n ≤ length piece.now) }
+    requires { IsPartial machine.old }
+    ensures ok { IfOk result (ScansOn machine.old machine.new hasher.old hasher.new piece.now) }
+    ensures err { IfErr result (FailsScan machine.old hasher.old piece.now) }
     ensures all { IfOk result (λ n. n < length piece.now → machine.new.field ≡ opens.Done) }
 {
     let taken = scan_front(machine, hasher, piece)?;

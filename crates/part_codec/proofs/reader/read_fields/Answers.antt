@@ -20,8 +20,8 @@ loop-taken-preserved c =
     record {
       stands = λ b read.
           subst (λ (l : List ℕ). ReadsFront c.step.new.machine c.step.new.pile l) (pieces-join b piece n c.in_ok-n.n _ (take_rest piece n))
-          (c.in_ok-n.ensures.ok _ (c.loop-taken.invariant.stands b read).reads);
-      read = c.in_ok-n.ensures.read;
+          (c.in_ok-n.ensures.ok.reads _ (c.loop-taken.invariant.stands b read).reads);
+      read = c.in_ok-n.ensures.ok.read;
       within = search rules;
-      partial = c.in_ok-n.ensures.partial;
+      partial = c.in_ok-n.ensures.ok.partial;
     }

@@ -1,4 +1,4 @@
-use Rattle.std.proofs.Common.{ℕ, List, ◌++◌, take, Result, ap, subst, sym, ◌∙◌}
+use Rattle.std.proofs.Common.{ℕ, List, ◌++◌, ◌-◌, length, take, drop, Result, ap, subst, sym, ◌∙◌, rules}
 use Rattle.std.proofs.Math.Logic.{∥∥₁_map}
 use Rattle.std.proofs.lemmas.Result.{err_from_is_err_and}
 use Rattle.std.proofs.lemmas.List.{take_rest}
@@ -19,26 +19,26 @@ returns-in_err-last-clause-err c =
     let piece = c.args.piece.now in
     let n = c.in_ok-taken.taken in
     rw (p.1, p.2) (λ other b x read h.
-    let r = c.in_ok-taken.ensures.ok b read in
+    let r = c.in_ok-taken.ensures.ok.reads b read h in
     part-piece-fails b piece x n _ _ (take_rest piece n)
-    (ap (λ (y : Result (SealedFields × ℕ) LayoutFault). with_fault faults.Layout y) (c.in_err-last.ensures.err r.0 _ x r.1 (c.in_ok-taken.ensures.hashed b read h))))
+    (ap (λ (y : Result (SealedFields × ℕ) LayoutFault). with_fault faults.Layout y) (c.in_err-last.ensures.err r.0.0 _ x r.0.1 r.1)))
 
 pub returns-clause-ok : goal.returns-clause-ok
-returns-clause-ok c = λ b read h.
+returns-clause-ok c =
     let piece = c.args.piece.now in
     let n = c.in_ok-taken.taken in
-    let r = c.in_ok-taken.ensures.ok b read in
-    let hashed = c.in_ok-taken.ensures.hashed b read h in
-    let st = c.in_ok-last.ensures.ok r.0 _ r.1 hashed in
-    let end = reads-end c.in_ok-last.field-0-1 c.read_front.new.machine c.end.new.self c.read_front.new.pile (b ++ take n piece) _ (sym c.is_front.ensures ∙ c.if-is_front.false) r
-    (c.in_ok-last.ensures.moved r.0 _ r.1 hashed) st.0 in
-    subst (λ (l : List ℕ). Reads c.end.new.self c.read_front.new.pile l × Hashes c.end.new.self c.read_front.new.hasher l) (pieces-join b piece n c.in_ok-last.last _ (take_rest piece n)) (end, st.1)
-
-pub returns-clause-read : goal.returns-clause-read
-returns-clause-read c = ∥∥₁_map c.in_ok-taken.ensures.read (λ r.
-    let st = c.in_ok-last.ensures.ok r.1.0 r.0 r.1.1 r.2 in (
-      _,
-      reads-end c.in_ok-last.field-0-1 c.read_front.new.machine c.end.new.self c.read_front.new.pile r.0 _ (sym c.is_front.ensures ∙ c.if-is_front.false) r.1
-          (c.in_ok-last.ensures.moved r.1.0 r.0 r.1.1 r.2) st.0,
-      st.1,
-    ))
+    let front = c.in_ok-taken.ensures.ok in
+    let last = c.in_ok-last.ensures.ok in
+    let pile = c.read_front.new.pile in
+    let ended : (b : List ℕ) → Reads c.read_front.new.machine pile b → Hashes c.read_front.new.machine c.read_front.new.hasher b
+    → Reads c.end.new.self pile (b ++ take c.in_ok-last.last (take (length piece - n) (drop n piece))) = λ b r hashed. reads-end c.in_ok-last.field-0-1 c.read_front.new.machine c.end.new.self pile b _ (sym c.is_front.ensures ∙ c.if-is_front.false) r
+    (last.moved r.0 b r.1 hashed) (last.stands r.0 b r.1 hashed).0 in
+    record {
+      reads = λ b read h.
+          let r = front.reads b read h in
+          subst (λ (l : List ℕ). Reads c.end.new.self pile l × Hashes c.end.new.self c.read_front.new.hasher l) (pieces-join b piece n c.in_ok-last.last _ (take_rest piece n))
+          (ended (b ++ take n piece) r.0 r.1, (last.stands r.0.0 _ r.0.1 r.1).1);
+      read = ∥∥₁_map front.read (λ r. (_, ended r.0 r.1 r.2, (last.stands r.1.0 r.0 r.1.1 r.2).1));
+      partial = last.partial;
+      count = search rules;
+    }

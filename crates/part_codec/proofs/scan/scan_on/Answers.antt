@@ -1,4 +1,4 @@
-use Rattle.std.proofs.Common.{ℕ, List, subst}
+use Rattle.std.proofs.Common.{ℕ, List, subst, rules}
 use Rattle.std.proofs.lemmas.Result.{err_from_is_err_and}
 use Rattle.std.proofs.lemmas.List.{take_rest}
 use Rattle.part_codec.specs.Scanning.{Scans}
@@ -11,13 +11,19 @@ returns-in_err-last-clause-err c =
     let piece = c.args.piece.now in
     let n = c.in_ok-taken.taken in
     rw (p.1, p.2) (λ b x t.
-    let f = c.in_ok-taken.ensures.ok b t in
+    let f = c.in_ok-taken.ensures.ok.scans b t in
     rest-piece-fails b piece x n _ _ (take_rest piece n) (c.in_err-last.ensures.err f.seen _ x f.stands f.hashed))
 
 pub returns-clause-ok : goal.returns-clause-ok
-returns-clause-ok c = λ b t.
+returns-clause-ok c =
     let piece = c.args.piece.now in
     let n = c.in_ok-taken.taken in
-    let f = c.in_ok-taken.ensures.ok b t in
-    let g = c.in_ok-last.ensures.ok f.seen _ f.stands f.hashed in
-    subst (λ (l : List ℕ). Scans c.end.new.self c.scan_front.new.hasher l) (pieces-join b piece n c.in_ok-last.last _ (take_rest piece n)) (record { seen = f.seen; stands = g.0; hashed = g.1 })
+    record {
+      scans = λ b t.
+          let f = c.in_ok-taken.ensures.ok.scans b t in
+          let g = c.in_ok-last.ensures.ok.stands f.seen _ f.stands f.hashed in
+          subst (λ (l : List ℕ). Scans c.end.new.self c.scan_front.new.hasher l) (pieces-join b piece n c.in_ok-last.last _ (take_rest piece n))
+          (record { seen = f.seen; stands = g.0; hashed = g.1 });
+      partial = c.in_ok-last.ensures.ok.partial;
+      count = search rules;
+    }

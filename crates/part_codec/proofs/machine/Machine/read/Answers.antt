@@ -21,7 +21,7 @@ loop-taken-preserved c =
     record {
       stands = λ s b st.
           let f = c.loop-taken.invariant.stands s b st in
-          subst (λ (l : List ℕ). StandsFront c.walk.new.self l) (pieces-join b piece n c.in_ok-n.n _ (take_rest piece n)) (c.in_ok-n.ensures.ok f.seen _ f.stands);
+          subst (λ (l : List ℕ). StandsFront c.walk.new.self l) (pieces-join b piece n c.in_ok-n.n _ (take_rest piece n)) (c.in_ok-n.ensures.ok.stands f.seen _ f.stands);
       within = search rules;
-      partial = c.in_ok-n.ensures.partial;
+      partial = c.in_ok-n.ensures.ok.partial;
     }

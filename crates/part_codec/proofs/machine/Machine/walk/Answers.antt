@@ -8,8 +8,10 @@ returns-in_err-block-clause-err c =
     rw (p.1, p.2) (λ s b x st. piece-fails b c.args.piece.now x 33 _ (c.in_err-block.ensures.err s b _ st))
 
 pub returns-clause-ok : goal.returns-clause-ok
-returns-clause-ok c = λ s b st. record {
-  seen = _;
-  stands = c.in_ok-n.ensures.ok s b st;
-  front = front-moved c.in_ok-n.field-0-1 c.args.self.now c.step.new.self _ c.requires.front (c.in_ok-n.ensures.moved s b st);
-}
+returns-clause-ok c =
+    let f = c.in_ok-n.ensures.ok in
+    record {
+      stands = λ s b st. record { seen = _; stands = f.stands s b st; front = front-moved c.in_ok-n.field-0-1 c.args.self.now c.step.new.self _ c.requires.front (f.moved s b st) };
+      partial = f.partial;
+      count = f.count;
+    }
