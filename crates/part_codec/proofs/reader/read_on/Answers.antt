@@ -31,7 +31,8 @@ returns-clause-ok c =
     let last = c.in_ok-last.ensures.ok in
     let pile = c.read_front.new.pile in
     let ended : (b : List ℕ) → Reads c.read_front.new.machine pile b → Hashes c.read_front.new.machine c.read_front.new.hasher b
-    → Reads c.end.new.self pile (b ++ take c.in_ok-last.last (take (length piece - n) (drop n piece))) = λ b r hashed. reads-end c.in_ok-last.field-0-1 c.read_front.new.machine c.end.new.self pile b _ (sym c.is_front.ensures ∙ c.if-is_front.false) r
+    → Reads c.end.new.self pile (b ++ take c.in_ok-last.last (take (length piece - n) (drop n piece))) = λ b r hashed.
+    reads-end c.in_ok-last.field-0-1 c.read_front.new.machine c.end.new.self pile b _ (sym c.is_front.ensures ∙ c.if-is_front.false) r
     (last.moved r.0 b r.1 hashed) (last.stands r.0 b r.1 hashed).0 in
     record {
       reads = λ b read h.

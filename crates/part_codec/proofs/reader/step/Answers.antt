@@ -19,7 +19,8 @@ returns-clause-ok c =
     let n = c.advance.new.self in
     let t : List ℕ = take c.in_ok-n.n c.args.piece.now in
     let f = c.in_ok-n.ensures.ok in
-    let reads : (b : List ℕ) → Reads m c.args.pile.now b → Reads n c.settle.new.self (b ++ t) = λ b read. reads-step c.in_ok-n.whole m n c.args.pile.now c.pass.new.self c.settle.new.self b t read c.in_ok-pass.ensures (f.moved read.0 b read.1)
+    let reads : (b : List ℕ) → Reads m c.args.pile.now b → Reads n c.settle.new.self (b ++ t) = λ b read.
+    reads-step c.in_ok-n.whole m n c.args.pile.now c.pass.new.self c.settle.new.self b t read c.in_ok-pass.ensures (f.moved read.0 b read.1)
     c.in_ok-settle.ensures (f.stands read.0 b read.1) in
     record {
       reads = λ b read. reads-front c.in_ok-n.whole m n c.settle.new.self _ c.requires.front.front (f.moved read.0 b read.1) (reads b read);
