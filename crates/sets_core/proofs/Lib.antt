@@ -6,3 +6,5 @@ pub mod Keys
 pub mod Marks
 pub mod Runs
 pub mod Groups
+pub mod Keyed
+pub mod Ranges

@@ -1,10 +1,12 @@
-ghost use Rattle.std.specs.Prelude.{◌≡◌, IfSome, IsNone, slice_get, false};
+ghost use Rattle.std.specs.Prelude.{◌≡◌, ◌&&◌, IfSome, IsNone, slice_get, nat_le, false};
 ghost use Rattle.std.specs.List.Sorted.{IsStrictlySortedBy};
+ghost use Rattle.ident_core.specs.Coverage.{AreRanges, covers};
 ghost use Rattle.ident_core.specs.Order.{identity_cmp, octets_cmp};
 ghost use Rattle.sets_core.specs.Sets.{has, has_key};
 
-use ident_core::Identity;
+use ident_core::{Identity, Range, Sighting};
 use octets_core::Key32;
+use std::cmp::Ordering;
 
 /// Whether ascending keys hold the key. A binary search.
 pub fn holds_key(keys: &[Key32], key: &Key32) -> bool
@@ -21,4 +23,28 @@ pub fn place_of(ids: &[Identity], id: &Identity) -> Option<usize>
     ensures none { IsNone result → has ids.now id.now ≡ false }
 {
     ids.binary_search(id).ok()
+}
+
+fn order(range: &Range, log: &Key32) -> Ordering
+    ensures { result ≡ octets_cmp range.now.log log.now }
+{
+    range.log.cmp(log)
+}
+
+fn holds_time(range: &Range, time: u64) -> bool
+    ensures { result ≡ (nat_le range.now.from time && nat_le time range.now.to) }
+{
+    range.from <= time && time <= range.to
+}
+
+/// Whether one of ranges whose logs ascend covers the sighting. A binary search by the log, of which there is at most
+/// one range.
+pub fn covers_sorted(ranges: &[Range], s: &Sighting) -> bool
+    requires sorted { AreRanges ranges.now }
+    ensures { result ≡ covers ranges.now s.now }
+{
+    match ranges.binary_search_by(|r| order(r, &s.log)) {
+        Ok(place) => holds_time(&ranges[place], s.time),
+        Err(_) => false,
+    }
 }

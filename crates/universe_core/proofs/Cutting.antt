@@ -21,7 +21,7 @@ use Rattle.sets_core.proofs.Runs.{then_less}
 use Rattle.sets_core.proofs.Groups.{group_is, lt_less}
 use Rattle.universe_core.specs.Groups.{GroupFields, members_of}
 use Rattle.universe_core.specs.Members.{group_with}
-use Rattle.universe_core.proofs.Searching.{get_map}
+use Rattle.sets_core.proofs.Keyed.{get_map}
 
 abbrev is_below : List ℕ → Identity → Bool
 is_below k x = is_lt (octets_cmp x.issuer k)

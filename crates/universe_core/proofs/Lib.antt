@@ -11,3 +11,4 @@ pub mod Beginning
 pub mod Building
 pub mod Late
 pub mod Continuing
+pub mod Searchable

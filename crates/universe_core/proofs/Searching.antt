@@ -2,10 +2,8 @@
 use Rattle.std.specs.List.{slice_get, find}
 use Rattle.std.specs.List.Sorted.{IsStrictlySortedBy, IsBinarySearchResult}
 use Rattle.std.specs.declared.cmp.Ordering.TheVariants.{Equal}
-use Rattle.std.specs.Ordering.{ordering_index}
 use Rattle.std.proofs.Common.{◌≡◌, ℕ, zero, suc, ◌<◌, ◌≤◌, ◌||◌, List, [], ◌∷◌, map, length, get_or, Bool, true, false, cond, Option, None, Some, Err, refl, sym, ap, ◌∙◌, subst, arith}
 use Rattle.std.proofs.lemmas.Bool.{true≢false}
-use Rattle.std.proofs.lemmas.List.{length-map}
 use Rattle.ident_core.specs.declared.identity.Identity.{Identity}
 use Rattle.ident_core.specs.Order.{is_same, identity_cmp}
 use Rattle.ledger_core.specs.declared.fields.LedgerItem.{LedgerItem}
@@ -14,14 +12,9 @@ use Rattle.sets_core.specs.Sets.{has}
 use Rattle.sets_core.proofs.Elements.{Among-from_place, some_item}
 use Rattle.sets_core.proofs.Order.{sorted_head, sorted_tail}
 use Rattle.sets_core.proofs.Sets.{identity_total, identity_exact, same_refl}
-use Rattle.sets_core.proofs.Keys.{searched_ok, searched_err, has_none, same_other, less_other}
+use Rattle.sets_core.proofs.Keyed as keyed
+use Rattle.sets_core.proofs.Keys.{has_none, same_other, less_other}
 use Rattle.universe_core.specs.declared.member.Member.{Member}
-
-pub get_map : {A B : Type 0} (f : A → B) (xs : List A) (i : ℕ) (d : A) → get_or (map f xs) i (f d) ≡ f (get_or xs i d)
-get_map f [] zero d = refl
-get_map f [] (suc i) d = refl
-get_map f (x ∷ xs) zero d = refl
-get_map f (x ∷ xs) (suc i) d = get_map f xs i d
 
 abbrev pub bare : Identity → Member
 bare x = record { id = x; birth = 0; last = None; settled = false }
@@ -31,24 +24,11 @@ bare_item x = record { id = x; birth = 0; last = None }
 
 -- a search among what has identities
 module _ {A : Type 0} (key : A → Identity) (make : Identity → A) (back : (x : Identity) → key (make x) ≡ x) where
-  key_at : (ms : List A) (k : ℕ) (x : Identity) → get_or (map key ms) k x ≡ key (get_or ms k (make x))
-  key_at ms k x = subst (λ y. get_or (map key ms) k y ≡ key (get_or ms k (make x))) (back x) (get_map key ms k (make x))
-
   pub found : (ms : List A) (x : Identity) (i : ℕ) → i < length ms → ((d : A) → identity_cmp (key (get_or ms i d)) x ≡ Equal) → slice_get (map key ms) i ≡ Some x
-  found ms x i l h =
-      let n = length-map ms key in
-      searched_ok identity_cmp identity_total identity_exact (map key ms) x i (omega arith) (ap (λ y. identity_cmp y x) (key_at ms i x) ∙ h (make x))
-
-  searched : (ms : List A) (x : Identity) (i : ℕ) → IsBinarySearchResult (λ (m : A). identity_cmp (key m) x) ms (Err i) → IsBinarySearchResult (λ y. identity_cmp y x) (map key ms) (Err i)
-  searched ms x i h = λ up.
-      let n = length-map ms key in
-      let p = h (λ a b d le lt.
-      subst (λ y. ordering_index (identity_cmp y x) ≤ ordering_index (identity_cmp (key (get_or ms b d)) x)) (get_map key ms a d)
-      (subst (λ y. ordering_index (identity_cmp (get_or (map key ms) a (key d)) x) ≤ ordering_index (identity_cmp y x)) (get_map key ms b d) (up a b (key d) le (omega arith)))) in
-      (λ k y lo hi. ap (λ z. identity_cmp z x) (key_at ms k y) ∙ p.0 k (make y) lo hi, λ k y lo hi. ap (λ z. identity_cmp z x) (key_at ms k y) ∙ p.1 k (make y) lo (omega arith))
+  found = keyed.found identity_cmp identity_total identity_exact key make back
 
   pub missed : (ms : List A) (x : Identity) (i : ℕ) → IsStrictlySortedBy identity_cmp (map key ms) → IsBinarySearchResult (λ (m : A). identity_cmp (key m) x) ms (Err i) → has (map key ms) x ≡ false
-  missed ms x i s h = has_none (map key ms) x (searched_err identity_cmp identity_total identity_exact (map key ms) x i s (searched ms x i h))
+  missed ms x i s h = has_none (map key ms) x (keyed.missed identity_cmp identity_total identity_exact key make back ms x i s h)
 
 -- ---- the item at a place
 

@@ -1,18 +1,29 @@
 -- What becomes of an identity: its item and its entries.
 use Rattle.std.specs.Prelude.{ℕ, List, filter, take, length, Bool, true, false, cond, not, ◌&&◌, ◌||◌, Option, Some, None, is_some, slice_get}
 use Rattle.std.specs.List.{list_any, list_all}
+use Rattle.std.specs.List.Sorted.{IsStrictlySortedBy}
 use Rattle.ident_core.specs.declared.identity.Identity.{Identity}
 use Rattle.sets_core.specs.Sets.{has_key}
-use Rattle.ident_core.specs.Coverage.{covers}
+use Rattle.ident_core.specs.Coverage.{covers, AreRanges}
+use Rattle.ident_core.specs.Order.{octets_cmp}
 use Rattle.ledger_core.specs.declared.fields.LedgerPart.{LedgerPart}
 use Rattle.ledger_core.specs.declared.fields.LedgerItem.{LedgerItem}
 use Rattle.universe_core.specs.Ledgers.{birth_or, last_or_none}
 use Rattle.universe_core.specs.declared.member.ReadEntry.{ReadEntry}
 use Rattle.universe_core.specs.declared.member.Member.{Member}
 
--- whether a part before the birth covers the sighting and enrolls the issuer
+-- the part's issuers ascend, and so do the logs of its ranges
+pub record IsSearchable (p : LedgerPart) : Type 0 where
+  pub issuers : IsStrictlySortedBy octets_cmp p.issuers.items
+  pub ranges : AreRanges p.ranges.items
+
+-- whether a part covers the sighting and enrolls the issuer
+abbrev pub lacks : ReadEntry → LedgerPart → Bool
+lacks e p = covers p.ranges.items e.sighting.now && has_key p.issuers.items e.id.issuer
+
+-- whether a part before the birth does
 abbrev pub lacked_in : List LedgerPart → ℕ → ReadEntry → Bool
-lacked_in parts birth e = list_any (λ p. covers p.ranges.items e.sighting.now && has_key p.issuers.items e.id.issuer) (take birth parts)
+lacked_in parts birth e = list_any (lacks e) (take birth parts)
 
 abbrev pub part_covers_all : Option LedgerPart → List ReadEntry → Bool
 part_covers_all None now = false

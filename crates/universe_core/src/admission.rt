@@ -3,7 +3,7 @@
 ghost use Rattle.std.specs.Prelude.{◌≡◌, ◌≢◌, ◌≤◌, ◌<◌, ℕ, List, [], ◌∷◌, length, map, None, Some, IfOk, IfErr, OnOk, All};
 ghost use Rattle.std.specs.List.Sorted.{IsStrictlySortedBy};
 ghost use Rattle.ident_core.specs.Order.{identity_cmp};
-ghost use Rattle.ident_core.specs.Coverage.{RangesFit};
+ghost use Rattle.ident_core.specs.Coverage.{AreRanges, RangesFit};
 ghost use Rattle.job_core.specs.JobFields.{AreWithin, fields_of_job};
 ghost use Rattle.ident_core.specs.declared.bounds.TheConstants.{MAX_PARTS};
 ghost use Rattle.ledger_core.specs.LedgerFields.{LedgerFields, ledger_fields, sealed_with};
@@ -14,6 +14,7 @@ ghost use Rattle.universe_core.specs.Groups.{group_fields, IsGroup};
 ghost use Rattle.universe_core.specs.Ledgers.{no_ledger, past_in, past_by, next_item, next_ledger};
 ghost use Rattle.universe_core.specs.Members.{ids_of, members_in};
 ghost use Rattle.universe_core.specs.Following.{IsBefore};
+ghost use Rattle.universe_core.specs.Judging.{IsSearchable};
 ghost use Rattle.universe_core.specs.Step.{KeepsLimits, refusal, head_after, groups_after, counts_after};
 ghost use Rattle.universe_core.specs.declared.class.Class.TheVariants as class;
 
@@ -62,6 +63,8 @@ fn accept(
     job: &Job,
 ) -> Result<Acceptance, AllocError>
     requires few_parts { length parts.now < 256 }
+    requires parts { All IsSearchable parts.now }
+    requires ranges { AreRanges job.now.ranges.items }
     requires ascend { IsStrictlySortedBy identity_cmp (map (λ i. i.id) items.now) }
     requires few_entries { length job.now.entries.items ≤ 4294967295 }
     ensures issuers { IfOk result (λ a. a.issuers.items ≡ enrolled_of (facts_of_job job.now)) }

@@ -1,33 +1,39 @@
 ghost use Rattle.std.specs.List.{list_any};
-ghost use Rattle.std.specs.Prelude.{◌≡◌, ◌&&◌, filter, length, ◌<◌, Some, not, is_some};
-ghost use Rattle.ident_core.specs.Coverage.{covers as covers_of};
-ghost use Rattle.sets_core.specs.Sets.{has_key};
+ghost use Rattle.std.specs.Prelude.{◌≡◌, filter, length, ◌<◌, Some, All, not, is_some};
 ghost use Rattle.universe_core.specs.Ledgers.{birth_or, last_or_none};
-ghost use Rattle.universe_core.specs.Judging.{judge_of, lacked_in, settled_in, is_member_of, part_covers_all};
+ghost use Rattle.universe_core.specs.Judging.{IsSearchable, judge_of, lacks, lacked_in, settled_in, is_member_of, part_covers_all};
 
 use crate::member::{Member, ReadEntry};
-use ident_core::{Identity, covers};
+use ident_core::Identity;
 use ledger_core::{LedgerItem, LedgerPart};
-use octets_core::Key32;
-
-fn has_issuer(issuers: &[Key32], issuer: &Key32) -> bool
-    ensures { result ≡ has_key issuers.now issuer.now }
-{
-    issuers.iter().any(|k| *issuer == *k)
-}
+use sets_core::{covers_sorted, holds_key};
 
 /// Whether a part covers the entry and enrolls its issuer.
 fn part_lacks(part: &LedgerPart, e: &ReadEntry<'_>) -> bool
-    ensures { result ≡ (covers_of part.now.ranges.items e.now.sighting.now && has_key part.now.issuers.items e.now.id.issuer) }
+    requires { IsSearchable part.now }
+    ensures { result ≡ lacks e.now part.now }
 {
-    covers(&part.ranges, e.sighting) && has_issuer(&part.issuers, &e.id.issuer)
+    covers_sorted(&part.ranges, e.sighting) && holds_key(&part.issuers, &e.id.issuer)
+}
+
+fn some_lacks(parts: &[LedgerPart], e: &ReadEntry<'_>) -> bool
+    requires { All IsSearchable parts.now }
+    ensures { result ≡ list_any (lacks e.now) parts.now }
+{
+    for part in parts {
+        if part_lacks(part, e) {
+            return true;
+        }
+    }
+    false
 }
 
 /// Whether a part before the birth lacks the entry.
 pub(crate) fn is_late(parts: &[LedgerPart], birth: usize, e: &ReadEntry<'_>) -> bool
+    requires { All IsSearchable parts.now }
     ensures { result ≡ lacked_in parts.now birth e.now }
 {
-    parts.iter().take(birth).any(|p| part_lacks(p, e))
+    some_lacks(&parts[..birth.min(parts.len())], e)
 }
 
 pub(crate) fn birth_of(parts: &[LedgerPart], old: &Option<LedgerItem>) -> u8
@@ -50,6 +56,7 @@ fn last_of(old: &Option<LedgerItem>) -> Option<u8>
 }
 
 fn any_timely(parts: &[LedgerPart], birth: usize, run: &[ReadEntry<'_>]) -> bool
+    requires { All IsSearchable parts.now }
     ensures { result ≡ list_any (λ e. not (lacked_in parts.now birth e)) run.now }
 {
     run.iter().any(|e| !is_late(parts, birth, e))
@@ -61,15 +68,18 @@ fn part_settles(
     birth: usize,
     run: &[ReadEntry<'_>],
 ) -> bool
+    requires part { IsSearchable part.now }
+    requires parts { All IsSearchable parts.now }
     ensures { result ≡ part_covers_all (Some part.now) (filter (λ e. not (lacked_in parts.now birth e)) run.now) }
 {
     run.iter()
         .filter(|e| !is_late(parts, birth, e))
-        .all(|e| covers(&part.ranges, e.sighting))
+        .all(|e| covers_sorted(&part.ranges, e.sighting))
 }
 
 /// Whether the part of the last covers the entries that aren't late.
 fn is_settled(parts: &[LedgerPart], last: Option<u8>, birth: usize, run: &[ReadEntry<'_>]) -> bool
+    requires { All IsSearchable parts.now }
     ensures { result ≡ settled_in parts.now last (filter (λ e. not (lacked_in parts.now birth e)) run.now) }
 {
     match last {
@@ -88,7 +98,8 @@ fn is_member(
     birth: u8,
     run: &[ReadEntry<'_>],
 ) -> bool
-    requires { birth ≡ birth_or (length parts.now) old.now }
+    requires birth { birth ≡ birth_or (length parts.now) old.now }
+    requires parts { All IsSearchable parts.now }
     ensures { result ≡ is_member_of parts.now old.now run.now }
 {
     old.is_some() || any_timely(parts, birth as usize, run)
@@ -101,7 +112,8 @@ pub(crate) fn judge(
     old: &Option<LedgerItem>,
     run: &[ReadEntry<'_>],
 ) -> Option<Member>
-    requires { length parts.now < 256 }
+    requires few { length parts.now < 256 }
+    requires parts { All IsSearchable parts.now }
     ensures { result ≡ judge_of parts.now id.now old.now run.now }
 {
     let birth = birth_of(parts, old);

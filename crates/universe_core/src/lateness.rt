@@ -1,8 +1,9 @@
-ghost use Rattle.std.specs.Prelude.{◌≡◌, ◌≤◌, ◌<◌, length, map, find, slice_get};
+ghost use Rattle.std.specs.Prelude.{◌≡◌, ◌≤◌, ◌<◌, length, map, find, slice_get, All};
 ghost use Rattle.std.specs.List.{count_by};
 ghost use Rattle.std.specs.List.Sorted.{IsStrictlySortedBy};
 ghost use Rattle.ident_core.specs.Order.{identity_cmp, is_same as same};
 ghost use Rattle.ledger_core.specs.LedgerFields.{ids, ledger_fields};
+ghost use Rattle.universe_core.specs.Judging.{IsSearchable};
 ghost use Rattle.universe_core.specs.Reading.{is_lacked, one_if};
 
 use crate::judging::{birth_of, is_late};
@@ -37,6 +38,7 @@ fn item_of(items: &[LedgerItem], id: &Identity) -> Option<LedgerItem>
 /// Whether a part before its identity's birth covers the entry and enrolls its issuer.
 fn is_late_entry(parts: &[LedgerPart], items: &[LedgerItem], e: &ReadEntry<'_>) -> bool
     requires few { length parts.now < 256 }
+    requires parts { All IsSearchable parts.now }
     requires ascend { IsStrictlySortedBy identity_cmp (ids items.now) }
     ensures { result ≡ is_lacked (ledger_fields parts.now items.now) e.now }
 {
@@ -58,6 +60,7 @@ pub(crate) fn late_entries(
     entries: &[ReadEntry<'_>],
 ) -> usize
     requires few { length parts.now < 256 }
+    requires parts { All IsSearchable parts.now }
     requires ascend { IsStrictlySortedBy identity_cmp (ids items.now) }
     ensures { result ≡ count_by (is_lacked (ledger_fields parts.now items.now)) entries.now }
 {

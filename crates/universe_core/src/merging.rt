@@ -1,9 +1,9 @@
 ghost use Rattle.std.specs.List.Sorted.{IsStrictlySortedBy};
 ghost use Rattle.std.specs.List.{cons_option, take_while, filter_map};
-ghost use Rattle.std.specs.Prelude.{◌≡◌, ◌≤◌, ◌++◌, [], length, map, OnOk, IfOk, ◌<◌, IsPermutation};
+ghost use Rattle.std.specs.Prelude.{◌≡◌, ◌≤◌, ◌++◌, [], length, map, OnOk, IfOk, ◌<◌, IsPermutation, All};
 ghost use Rattle.ident_core.specs.Order.{identity_cmp, is_same as same};
 ghost use Rattle.universe_core.specs.Merging.{IsRising, least_of, run_of, after_run, first_of, after_first, merged, lower};
-ghost use Rattle.universe_core.specs.Judging.{judge_of};
+ghost use Rattle.universe_core.specs.Judging.{IsSearchable, judge_of};
 ghost use Rattle.ledger_core.specs.LedgerFields.{ledger_fields};
 ghost use Rattle.universe_core.specs.Jobs.{Job as JobMeaning, enrolled};
 ghost use Rattle.universe_core.specs.Reading.{if_read, entry_fields};
@@ -112,6 +112,7 @@ fn merge(
     entries: &[ReadEntry<'_>],
 ) -> Result<Vec<Member>, AllocError>
     requires few { length parts.now < 256 }
+    requires parts { All IsSearchable parts.now }
     requires ascend { IsStrictlySortedBy identity_cmp (map (λ i. i.id) items.now) }
     requires rise { IsRising entries.now }
     ensures { IfOk result (λ members. members.items ≡ merged (judge_of parts.now) items.now entries.now) }
@@ -138,6 +139,7 @@ pub(crate) fn members(
     entries: &mut Vec<ReadEntry<'_>>,
 ) -> Result<Vec<Member>, AllocError>
     requires few { length parts.now < 256 }
+    requires parts { All IsSearchable parts.now }
     requires ascend { IsStrictlySortedBy identity_cmp (map (λ i. i.id) items.now) }
     ensures same { IsPermutation entries.old.items entries.new.items }
     ensures members { (job : JobMeaning) → map entry_fields entries.old.items ≡ filter_map (if_read job.ranges (enrolled job)) job.entries

@@ -1,6 +1,7 @@
 ghost use Rattle.std.specs.List.Sorted.{IsStrictlySortedBy};
 ghost use Rattle.std.specs.List.{filter_map, cons_option, count_by};
 ghost use Rattle.std.specs.Prelude.{◌≡◌, ◌≤◌, ◌<◌, IfOk, OnOk, [], ◌++◌, ◌&&◌, IsPermutation, length, map};
+ghost use Rattle.ident_core.specs.Coverage.{AreRanges};
 ghost use Rattle.ident_core.specs.Order.{octets_cmp};
 ghost use Rattle.universe_core.specs.Reading.{if_read, facts_of_entry, entry_fields, class_alone, with_class};
 ghost use Rattle.universe_core.specs.History.{if_accepted};
@@ -10,9 +11,9 @@ ghost use Rattle.universe_core.specs.declared.class.Class.TheVariants as class;
 
 use crate::class::Class;
 use crate::member::ReadEntry;
-use ident_core::{Identity, Range, Sighting, covers};
+use ident_core::{Identity, Range, Sighting};
 use octets_core::Key32;
-use sets_core::holds_key;
+use sets_core::{covers_sorted, holds_key};
 use std::alloc::{AllocError, Global};
 
 /// How many entries are of the classes that a job alone tells, and how many are read.
@@ -34,13 +35,14 @@ pub(crate) struct Reading<'a> {
 /// What an entry is where no part lacks it.
 #[tactic(auto, using(crate::proofs::Classes::class_unread))]
 fn classify(ranges: &[Range], issuers: &[Key32], entry: &Option<(Identity, Sighting)>) -> Class
-    requires { IsStrictlySortedBy octets_cmp issuers.now }
+    requires ranges { AreRanges ranges.now }
+    requires sorted { IsStrictlySortedBy octets_cmp issuers.now }
     ensures { result ≡ class_alone ranges.now issuers.now (facts_of_entry entry.now) }
 {
     let Some((id, sighting)) = entry else {
         return Class::Unread;
     };
-    if !covers(ranges, sighting) {
+    if !covers_sorted(ranges, sighting) {
         return Class::Uncovered;
     }
     if !holds_key(issuers, &id.issuer) {
@@ -97,6 +99,7 @@ pub(crate) fn read<'a>(
     issuers: &[Key32],
     entries: &'a [Option<(Identity, Sighting)>],
 ) -> Result<Reading<'a>, AllocError>
+    requires ranges { AreRanges ranges.now }
     requires sorted { IsStrictlySortedBy octets_cmp issuers.now }
     requires few { length entries.now ≤ 4294967295 }
     ensures entries { IfOk result (λ r. map entry_fields r.entries.items ≡ filter_map (λ e. if_read ranges.now issuers.now (facts_of_entry e)) entries.now) }

@@ -1,4 +1,4 @@
-use Rattle.std.proofs.Common.{◌≡◌, ◌≤◌, ◌∙◌, ap, sym, map, length, arith}
+use Rattle.std.proofs.Common.{◌≡◌, ◌≤◌, ◌∙◌, ap, sym, map, length, None, arith}
 use Rattle.std.proofs.lemmas.List.{length-map}
 use Rattle.job_core.specs.JobFields.{fields_of_job}
 use Rattle.ledger_core.specs.LedgerFields.{ledger_fields, part_fields, sealed_with}
@@ -6,11 +6,18 @@ use Rattle.universe_core.specs.Jobs.{facts_of_job, enrolled}
 use Rattle.universe_core.specs.Groups.{group_fields}
 use Rattle.universe_core.proofs.Beginning.{job_issuers_few}
 use Rattle.universe_core.proofs.Continuing.{refusal_early, refusal_many, refusal_none, members_many, ids_ascend, groups_facts, is_next, next_is, counts_are, crls_few}
+use Rattle.universe_core.proofs.Searchable.{parts_searchable}
 use Rattle.universe_core.proofs.admission.step.Goals as goal
 
 pub returns-in-Some-clause-refused : goal.returns-in-Some-clause-refused
 returns-in-Some-clause-refused c = λ n.
     refusal_early c.args.limits.now (ledger_fields c.args.parts.now c.args.items.now) (fields_of_job c.args.job.now) c.in-Some.fault (sym c.early_fault.ensures ∙ c.in-Some.is)
+
+pub accept-requires-clause-parts : goal.accept-requires-clause-parts
+accept-requires-clause-parts c = parts_searchable None c.args.parts.now c.requires.before.parts
+
+pub accept-requires-clause-ranges : goal.accept-requires-clause-ranges
+accept-requires-clause-ranges c = c.requires.ranges.ascending
 
 pub accept-requires-clause-ascend : goal.accept-requires-clause-ascend
 accept-requires-clause-ascend c = c.requires.before.items_ascend
