@@ -54,3 +54,32 @@ fn pieces_of_two_files(rt: HostRuntime) -> Result<(), Fail> {
     assert_eq!(rt; depot.append(B, b"piece"), Err(Failed));
     Ok(())
 }
+
+const KEPT: &str = "kept_files";
+
+const FIRST: &str = "kept_files/first";
+
+const SECOND: &str = "kept_files/second";
+
+// The file that is read is opened once: it is read on where its name is gone, until another one is read.
+#[test]
+fn a_file_is_opened_once(rt: HostRuntime) -> Result<(), Fail> {
+    if fs::exists(&rt, KEPT)? {
+        fs::remove_dir_all(&rt, KEPT)?;
+    }
+    fs::create_dir(&rt, KEPT)?;
+    let mut depot = FileDepot::new(&rt);
+    depot.begin(FIRST)?;
+    append_all(&mut depot, FIRST, b"one two")?;
+    depot.begin(SECOND)?;
+    append_all(&mut depot, SECOND, b"other")?;
+    let mut buf = [b'-'; 4];
+    assert_eq!(rt; depot.read_at(FIRST, 0, &mut buf), Ok(4));
+    fs::remove_file(&rt, FIRST)?;
+    assert_eq!(rt; depot.read_at(FIRST, 4, &mut buf), Ok(3));
+    assert_eq!(rt; buf.get(..3), Some(b"two".as_slice()));
+    assert_eq!(rt; depot.read_at(SECOND, 0, &mut buf), Ok(4));
+    assert_eq!(rt; depot.read_at(FIRST, 0, &mut buf), Err(Failed));
+    fs::remove_dir_all(&rt, KEPT)?;
+    Ok(())
+}

@@ -9,24 +9,24 @@ use std::rt::Files;
 /// The longest name of a file that is kept open.
 const MAX_NAME: usize = 4096;
 
-/// The file that was begun last, which stays open: it is opened once for all that is added to it.
+/// A file that stays open under its name: it is opened once for all that is read from it, or added to it.
 #[derive(Drop)]
-struct Begun<F> {
+struct Held<F> {
     name: [u8; MAX_NAME],
     len: usize,
     file: F,
 }
 
-impl<F: Drop> Begun<F> {
+impl<F: Drop> Held<F> {
     /// The file of this name, unless the name is too long to be kept.
-    fn new(name: &str, file: F) -> Option<Begun<F>> {
+    fn new(name: &str, file: F) -> Option<Held<F>> {
         let bytes = name.as_bytes();
         let mut held = [0u8; MAX_NAME];
         if bytes.len() > MAX_NAME {
             return None;
         }
         held[..bytes.len()].copy_from_slice(bytes);
-        Some(Begun {
+        Some(Held {
             name: held,
             len: bytes.len(),
             file,
@@ -38,21 +38,20 @@ impl<F: Drop> Begun<F> {
     }
 }
 
-/// The files of the system, by their paths.
+/// The files of the system, by their paths. The file that was read last stays open, and so does the one that was begun
+/// last.
 #[derive(Drop)]
 pub struct FileDepot<'a, R: Files> {
     rt: &'a R,
-    begun: Option<Begun<R::File>>,
+    read: Option<Held<R::File>>,
+    begun: Option<Held<R::File>>,
     read_faults: u64,
     write_faults: u64,
 }
 
-fn read_from<R: Files>(rt: &R, name: &str, at: u64, buf: &mut [u8]) -> Result<usize, Failed>
+fn read_from<F: Read + Seek>(file: &mut F, at: u64, buf: &mut [u8]) -> Result<usize, Failed>
     ensures { IfOk result (λ n. n ≤ length buf.old) }
 {
-    let Ok(mut file) = fs::open(rt, name) else {
-        return Err(Failed);
-    };
     let Ok(_) = file.seek(SeekFrom::Start(at)) else {
         return Err(Failed);
     };
@@ -92,10 +91,30 @@ impl<'a, R: Files> FileDepot<'a, R> {
     {
         FileDepot {
             rt,
+            read: None,
             begun: None,
             read_faults: 0,
             write_faults: 0,
         }
+    }
+
+    /// Reads from the file that is open, or else from the one of this name, which then stays open.
+    fn read(&mut self, name: &str, at: u64, buf: &mut [u8]) -> Result<usize, Failed>
+        ensures count { IfOk result (λ n. n ≤ length buf.old) }
+        ensures same_reads { self.new.read_faults ≡ self.old.read_faults }
+        ensures same_writes { self.new.write_faults ≡ self.old.write_faults }
+    {
+        if let Some(held) = &mut self.read {
+            if held.is_named(name) {
+                return read_from(&mut held.file, at, buf);
+            }
+        }
+        let Ok(mut file) = fs::open(self.rt, name) else {
+            return Err(Failed);
+        };
+        let read = read_from(&mut file, at, buf);
+        self.read = Held::new(name, file);
+        read
     }
 
     /// Writes to the file that is open, or else behind what the name holds.
@@ -125,8 +144,9 @@ impl<'a, R: Files> Depot for FileDepot<'a, R> {
     ghost write_faults = { λ d. d.write_faults };
 
     fn read_at(&mut self, name: &str, at: u64, buf: &mut [u8]) -> Result<usize, Failed> {
-        let read = read_from(self.rt, name, at, buf);
+        let read = self.read(name, at, buf);
         if read.is_err() {
+            self.read = None;
             self.read_faults = self.read_faults.saturating_add(1);
         }
         read
@@ -136,7 +156,7 @@ impl<'a, R: Files> Depot for FileDepot<'a, R> {
         self.begun = None;
         match fs::create(self.rt, name) {
             Ok(file) => {
-                self.begun = Begun::new(name, file);
+                self.begun = Held::new(name, file);
                 Ok(())
             }
             Err(_) => {
