@@ -13,6 +13,7 @@ with_files outputs r = record { status = r.status; text = r.text; outputs = outp
 
 abbrev pub reply_fields : Answer → ReplyFields
 reply_fields (answers.Reply r) = r
+reply_fields (answers.Lines text) = done (only text.items)
 reply_fields (answers.Part s) = done (only (show_text s))
 reply_fields (answers.Files outputs r) = with_files outputs.items r
 reply_fields (answers.Sample o r) = with_files (o ∷ []) r

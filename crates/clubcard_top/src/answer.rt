@@ -10,21 +10,23 @@ ghost use Rattle.clubcard_top.specs.Sending.{SentSo, EndsSo};
 use crate::output::{Output, SampleOutput, write_outputs};
 use crate::reply::Reply;
 use crate::status::Status;
-use line_core::write_sealed;
+use line_core::{Message, about_file, write_sealed};
 use outside_core::{Depot, Failed, Sink, write_all};
 use part_codec::Sealed;
 
 /// What a command answers.
 #[derive(Drop)]
-pub enum Answer {
+pub enum Answer<'a> {
     /// One line.
-    Reply(Reply),
+    Reply(Reply<'a>),
+    /// Lines that were made ahead, of a command that was done.
+    Lines(Vec<u8>),
     /// All that a part holds, a line each.
     Part(Sealed),
     /// Files that are written first, and one line once they are whole.
-    Files(Vec<Output>, Reply),
+    Files(Vec<Output<'a>>, Reply<'a>),
     /// A job that is written as it is made, and one line once it is whole.
-    Sample(SampleOutput, Reply),
+    Sample(SampleOutput<'a>, Reply<'a>),
 }
 
 /// Sends one text, behind which the call ends so.
@@ -39,8 +41,20 @@ fn send_text<K: Sink>(text: &[u8], status: Status, out: &mut K) -> Status
     }
 }
 
+/// Sends one line, behind which the call ends so.
+fn send_message<K: Sink>(message: &Message<'_>, status: Status, out: &mut K) -> Status
+    ensures sent { SentSo (record { status = status.0; text = message.now; outputs = [] }) result.0 (K.written out.old)
+        (K.written out.new) (Rose (K.faults out.old) (K.faults out.new)) }
+    ensures later { K.faults out.old ≤ K.faults out.new }
+{
+    match message.write(out) {
+        Ok(()) => status,
+        Err(Failed) => Status::WRITE_FAULT,
+    }
+}
+
 /// Sends a reply.
-fn send_reply<K: Sink>(reply: &Reply, out: &mut K) -> Status
+fn send_reply<K: Sink>(reply: &Reply<'_>, out: &mut K) -> Status
     ensures sent { SentSo reply.now result.0 (K.written out.old) (K.written out.new)
         (Rose (K.faults out.old) (K.faults out.new)) }
     ensures own { IsTrue (statuses.is_one_of statuses.of_replies reply.now.status) }
@@ -48,7 +62,7 @@ fn send_reply<K: Sink>(reply: &Reply, out: &mut K) -> Status
     ensures later { K.faults out.old ≤ K.faults out.new }
 {
     let status = reply.status();
-    send_text(reply.text(), status, out)
+    send_message(reply.message(), status, out)
 }
 
 /// Sends what a part holds.
@@ -65,8 +79,8 @@ fn send_part<K: Sink>(sealed: &Sealed, out: &mut K) -> Status
 
 /// Writes the outputs, and then sends the reply, or the line that says which can't be written.
 fn send_files<D: Depot, K: Sink>(
-    outputs: &[Output],
-    reply: &Reply,
+    outputs: &[Output<'_>],
+    reply: &Reply<'_>,
     depot: &mut D,
     out: &mut K,
 ) -> Status
@@ -80,19 +94,19 @@ fn send_files<D: Depot, K: Sink>(
 {
     let status = reply.status();
     match write_outputs(outputs, depot) {
-        None => send_text(reply.text(), status, out),
-        Some(output) => send_text(output.fault_line(), Status::WRITE_FAULT, out),
+        None => send_message(reply.message(), status, out),
+        Some(name) => send_message(&about_file("write-fault", name), Status::WRITE_FAULT, out),
     }
 }
 
 /// Writes a job as it is made, and then sends the reply, or the line that says that it can't be written.
 fn send_sample<D: Depot, K: Sink>(
-    output: SampleOutput,
-    reply: &Reply,
+    output: SampleOutput<'_>,
+    reply: &Reply<'_>,
     depot: &mut D,
     out: &mut K,
 ) -> Status
-    ensures ends { EndsSo (with_files (output ∷ []) reply.now) result.0 (K.written out.old) (K.written out.new)
+    ensures ends { EndsSo (with_files (output.entry ∷ []) reply.now) result.0 (K.written out.old) (K.written out.new)
         (Rose (K.faults out.old) (K.faults out.new))
         (D.files depot.old) (D.files depot.new) (Rose (D.write_faults depot.old) (D.write_faults depot.new)) }
     ensures own { IsTrue (statuses.is_one_of statuses.of_replies reply.now.status) }
@@ -100,24 +114,26 @@ fn send_sample<D: Depot, K: Sink>(
     ensures later_out { K.faults out.old ≤ K.faults out.new }
 {
     let status = reply.status();
+    let name = output.name();
     match output.write(depot) {
-        None => send_text(reply.text(), status, out),
-        Some(fault) => send_text(fault.as_bytes(), Status::WRITE_FAULT, out),
+        Ok(()) => send_message(reply.message(), status, out),
+        Err(Failed) => send_message(&about_file("write-fault", name), Status::WRITE_FAULT, out),
     }
 }
 
 /// Sends an answer. No memory is taken.
-pub fn send<D: Depot, K: Sink>(answer: Answer, depot: &mut D, out: &mut K) -> Status
-    ensures ends { EndsSo (reply_fields answer) result.0 (K.written out.old) (K.written out.new)
+pub fn send<D: Depot, K: Sink>(answer: Answer<'_>, depot: &mut D, out: &mut K) -> Status
+    ensures ends { EndsSo (reply_fields answer.entry) result.0 (K.written out.old) (K.written out.new)
         (Rose (K.faults out.old) (K.faults out.new))
         (D.files depot.old) (D.files depot.new) (Rose (D.write_faults depot.old) (D.write_faults depot.new)) }
-    ensures own { IsTrue (statuses.is_one_of statuses.of_replies (reply_fields answer).status) }
-    ensures quiet { (reply_fields answer).outputs ≡ [] → D.write_faults depot.new ≡ D.write_faults depot.old }
+    ensures own { IsTrue (statuses.is_one_of statuses.of_replies (reply_fields answer.entry).status) }
+    ensures quiet { (reply_fields answer.entry).outputs ≡ [] → D.write_faults depot.new ≡ D.write_faults depot.old }
     ensures only_writes { OnlyWrites D.Depot depot.old depot.new }
     ensures later_out { K.faults out.old ≤ K.faults out.new }
 {
     match answer {
         Answer::Reply(reply) => send_reply(&reply, out),
+        Answer::Lines(text) => send_text(&text, Status::DONE, out),
         Answer::Part(sealed) => send_part(&sealed, out),
         Answer::Files(outputs, reply) => send_files(&outputs, &reply, depot, out),
         Answer::Sample(output, reply) => send_sample(output, &reply, depot, out),

@@ -24,11 +24,11 @@ use store_core::{Store, Verdict};
 use word_core::{FileName, Query};
 
 /// The answer about what is wrong with the file of this name.
-pub(crate) fn refused(alloc: Global, name: &str, fault: FileFault) -> Result<Answer, NoMemory>
+pub(crate) fn refused(name: &str, fault: FileFault) -> Result<Answer<'_>, NoMemory>
     ensures ok { IfOk result (λ a. reply_fields a ≡ refusal name.now fault) }
     ensures memory { fault ≡ FileFault.NoMemory → IsErr result }
 {
-    Ok(Answer::Reply(Reply::refusal(alloc, name, fault)?))
+    Ok(Answer::Reply(Reply::refusal(name, fault)?))
 }
 
 /// The verdict of a store, with counters of probes and of words that nothing reads.
@@ -60,11 +60,11 @@ pub fn verdict_on(store: &Store, id: &Identity, sightings: &[Sighting]) -> Verdi
 }
 
 /// The answer to a query.
-pub fn answer_query<D: Depot>(
+pub fn answer_query<'a, D: Depot>(
     alloc: Global,
-    query: &Query,
+    query: &Query<'a>,
     depot: &mut D,
-) -> Result<Answer, NoMemory>
+) -> Result<Answer<'a>, NoMemory>
     ensures reply { IfOk result (λ a. IsReply (Command.Query query.now) (D.files depot.old)
         (WhichFailed D.Depot depot.old depot.new) (reply_fields a)) }
     ensures only_reads { OnlyReads D.Depot depot.old depot.new }
@@ -72,40 +72,40 @@ pub fn answer_query<D: Depot>(
     match store_in(alloc, depot, query.store()) {
         Ok(store) => {
             let verdict = verdict_on(&store, query.id(), query.sightings());
-            Ok(Answer::Reply(Reply::verdict(alloc, verdict)?))
+            Ok(Answer::Reply(Reply::verdict(verdict)))
         }
-        Err(fault) => refused(alloc, query.store(), fault),
+        Err(fault) => refused(query.store(), fault),
     }
 }
 
 /// The answer of `check`.
-pub fn answer_check<D: Depot>(
+pub fn answer_check<'a, D: Depot>(
     alloc: Global,
-    name: &FileName,
+    name: &FileName<'a>,
     depot: &mut D,
-) -> Result<Answer, NoMemory>
+) -> Result<Answer<'a>, NoMemory>
     ensures reply { IfOk result (λ a. IsReply (Command.Check name.now) (D.files depot.old)
         (WhichFailed D.Depot depot.old depot.new) (reply_fields a)) }
     ensures only_reads { OnlyReads D.Depot depot.old depot.new }
 {
     match part_in(alloc, depot, name.as_str()) {
-        Ok((sealed, size)) => Ok(Answer::Reply(Reply::done(alloc, &checked(&sealed, size))?)),
-        Err(fault) => refused(alloc, name.as_str(), fault),
+        Ok((sealed, size)) => Ok(Answer::Reply(Reply::done(checked(&sealed, size)))),
+        Err(fault) => refused(name.as_str(), fault),
     }
 }
 
 /// The answer of `show`.
-pub fn answer_show<D: Depot>(
+pub fn answer_show<'a, D: Depot>(
     alloc: Global,
-    name: &FileName,
+    name: &FileName<'a>,
     depot: &mut D,
-) -> Result<Answer, NoMemory>
+) -> Result<Answer<'a>, NoMemory>
     ensures reply { IfOk result (λ a. IsReply (Command.Show name.now) (D.files depot.old)
         (WhichFailed D.Depot depot.old depot.new) (reply_fields a)) }
     ensures only_reads { OnlyReads D.Depot depot.old depot.new }
 {
     match part_in(alloc, depot, name.as_str()) {
         Ok((sealed, _)) => Ok(Answer::Part(sealed)),
-        Err(fault) => refused(alloc, name.as_str(), fault),
+        Err(fault) => refused(name.as_str(), fault),
     }
 }

@@ -25,67 +25,67 @@ use std::thread::Threads;
 use word_core::{Delta, Snapshot};
 
 /// The answer where a job is published: its part and the ledger after it, to files of these names, and its report.
-fn published(
+fn published<'a>(
     alloc: Global,
-    part: &str,
-    ledger: &str,
+    part: &'a str,
+    ledger: &'a str,
     publication: &Publication,
-) -> Result<Answer, NoMemory>
+) -> Result<Answer<'a>, NoMemory>
     ensures { IfOk result (λ a. reply_fields a ≡ done (publication_done part.now ledger.now publication.now)) }
 {
     let sealed = publication.sealed();
     let part_bytes = encode_part(alloc, sealed)?;
     let ledger_bytes = encode_ledger(alloc, publication.ledger())?;
     let mut outputs = Vec::with_capacity(alloc, 2)?;
-    outputs.push(Output::new(alloc, part, part_bytes)?)?;
-    outputs.push(Output::new(alloc, ledger, ledger_bytes)?)?;
+    outputs.push(Output::new(part, part_bytes))?;
+    outputs.push(Output::new(ledger, ledger_bytes))?;
     let epoch = sealed.part().head().epoch();
     let report = reported(epoch, publication.place(), publication.counts());
-    Ok(Answer::Files(outputs, Reply::done(alloc, &report)?))
+    Ok(Answer::Files(outputs, Reply::done(report)))
 }
 
 /// The answer of `snapshot`.
-pub fn answer_snapshot<R: Threads + Sync, D: Depot>(
+pub fn answer_snapshot<'a, R: Threads + Sync, D: Depot>(
     rt: &R,
     alloc: Global,
-    snapshot: &Snapshot,
+    snapshot: &Snapshot<'a>,
     depot: &mut D,
-) -> Result<Answer, NoMemory>
+) -> Result<Answer<'a>, NoMemory>
     ensures reply { IfOk result (λ a. IsReply (Command.Snapshot snapshot.now) (D.files depot.old)
         (WhichFailed D.Depot depot.old depot.new) (reply_fields a)) }
     ensures only_reads { OnlyReads D.Depot depot.old depot.new }
 {
     let job = match job_in(alloc, depot, snapshot.job()) {
         Ok(job) => job,
-        Err(fault) => return refused(alloc, snapshot.job(), fault),
+        Err(fault) => return refused(snapshot.job(), fault),
     };
     match publish_first(rt, alloc, job, snapshot.workers()) {
         Ok(publication) => published(alloc, snapshot.part(), snapshot.ledger(), &publication),
-        Err(fault) => refused(alloc, snapshot.job(), fault.into()),
+        Err(fault) => refused(snapshot.job(), fault.into()),
     }
 }
 
 /// The answer of `delta`.
-pub fn answer_delta<R: Threads + Sync, D: Depot>(
+pub fn answer_delta<'a, R: Threads + Sync, D: Depot>(
     rt: &R,
     alloc: Global,
-    delta: &Delta,
+    delta: &Delta<'a>,
     depot: &mut D,
-) -> Result<Answer, NoMemory>
+) -> Result<Answer<'a>, NoMemory>
     ensures reply { IfOk result (λ a. IsReply (Command.Delta delta.now) (D.files depot.old)
         (WhichFailed D.Depot depot.old depot.new) (reply_fields a)) }
     ensures only_reads { OnlyReads D.Depot depot.old depot.new }
 {
     let job = match job_in(alloc, depot, delta.job()) {
         Ok(job) => job,
-        Err(fault) => return refused(alloc, delta.job(), fault),
+        Err(fault) => return refused(delta.job(), fault),
     };
     let ledger = match ledger_in(alloc, depot, delta.ledger()) {
         Ok(ledger) => ledger,
-        Err(fault) => return refused(alloc, delta.ledger(), fault),
+        Err(fault) => return refused(delta.ledger(), fault),
     };
     match publish_after(rt, alloc, ledger, job, delta.workers()) {
         Ok(publication) => published(alloc, delta.part(), delta.new_ledger(), &publication),
-        Err(fault) => refused(alloc, delta.job(), fault.into()),
+        Err(fault) => refused(delta.job(), fault.into()),
     }
 }

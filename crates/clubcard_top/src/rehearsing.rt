@@ -18,7 +18,7 @@ use crate::answer::Answer;
 use crate::commands::{refused, verdict_on};
 use crate::fault::FileFault;
 use crate::inputs::{job_in, queries_in};
-use crate::reply::{Reply, verdict_line};
+use crate::reply::verdict_line;
 use line_core::{Line, reported};
 use octets_core::{NoMemory, put_bytes};
 use outside_core::Depot;
@@ -73,7 +73,7 @@ fn with_file<R: Threads + Sync, D: Depot>(
 fn with_files<'a, R: Threads + Sync, D: Depot>(
     rt: &R,
     alloc: Global,
-    names: &'a [FileName],
+    names: &[FileName<'a>],
     workers: u32,
     text: Vec<u8>,
     depot: &mut D,
@@ -114,7 +114,7 @@ fn put_verdict(text: &mut Vec<u8>, rehearsal: &Rehearsal, query: &Asked) -> Resu
         None => Verdict::NotCovered,
         Some(store) => verdict_on(store, &query.identity, query.sightings.as_slice()),
     };
-    put_bytes(text, verdict_line(verdict))
+    put_bytes(text, verdict_line(verdict).text())
 }
 
 /// Appends the lines of the verdicts on the queries, in their order.
@@ -133,19 +133,19 @@ fn put_verdicts(
 }
 
 /// The answer of `rehearse`.
-pub fn answer_rehearse<R: Threads + Sync, D: Depot>(
+pub fn answer_rehearse<'a, R: Threads + Sync, D: Depot>(
     rt: &R,
     alloc: Global,
-    rehearse: &Rehearse,
+    rehearse: &Rehearse<'a>,
     depot: &mut D,
-) -> Result<Answer, NoMemory>
+) -> Result<Answer<'a>, NoMemory>
     ensures reply { IfOk result (λ a. IsReply (Command.Rehearse rehearse.now) (D.files depot.old)
         (WhichFailed D.Depot depot.old depot.new) (reply_fields a)) }
     ensures only_reads { OnlyReads D.Depot depot.old depot.new }
 {
     let queries = match queries_in(alloc, depot, rehearse.queries()) {
         Ok(queries) => queries,
-        Err(fault) => return refused(alloc, rehearse.queries(), fault),
+        Err(fault) => return refused(rehearse.queries(), fault),
     };
     let names = rehearse.jobs();
     let verdicts = queries.len().saturating_mul(VERDICT);
@@ -154,8 +154,8 @@ pub fn answer_rehearse<R: Threads + Sync, D: Depot>(
     match with_files(rt, alloc, names, rehearse.workers(), text, depot) {
         Ok((rehearsal, mut text)) => {
             put_verdicts(&mut text, &rehearsal, &queries)?;
-            Ok(Answer::Reply(Reply::lines(text)))
+            Ok(Answer::Lines(text))
         }
-        Err(file) => refused(alloc, file.name, file.fault),
+        Err(file) => refused(file.name, file.fault),
     }
 }

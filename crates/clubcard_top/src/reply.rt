@@ -1,144 +1,142 @@
-//! What the program answers: how it ends, and what it writes. A reply owns its text, which is made before anything is
-//! written.
+//! What the program answers: how it ends, and the line that it writes, which is made before anything is written. A file's
+//! name is lent beside the words, so that no memory is taken.
 
-ghost use Rattle.std.specs.Prelude.{◌≡◌, [], IfOk, IsErr, IsTrue, string_bytes};
+ghost use Rattle.std.specs.Prelude.{◌≡◌, ◌≤◌, [], length, IfOk, IsErr, IsTrue};
 ghost use Rattle.clubcard_top.specs.Statuses as statuses;
 ghost use Rattle.line_core.specs.Lines.{line as line_of_words};
 ghost use Rattle.clubcard_top.specs.Commands.{only, verdict_word};
-ghost use Rattle.clubcard_top.specs.Replies.{chain_text, done, refusal, says, usage};
+ghost use Rattle.clubcard_top.specs.Replies.{chain_text, done, read_fault, refusal, says, usage};
 
 use crate::fault::FileFault;
 use crate::status::Status;
 use line_core::{
-    Line, about_file, coverage_line, crl_line, epoch_line, layout_line, limit_line, line_of,
-    parent_line, seeds_line,
+    Line, Message, about_file, coverage_line, crl_line, epoch_line, layout_line, limit_line,
+    line_of, parent_line, seeds_line,
 };
-use octets_core::NoMemory;
-use std::alloc::Global;
+use octets_core::{LayoutFault, NoMemory};
 use std::marker::Model;
 use store_core::{Refusal, Verdict};
 
 /// How the program ends unless a write fails, and what it writes to its sink.
-#[derive(Debug, Drop)]
-pub struct Reply {
+#[derive(Drop)]
+pub struct Reply<'a> {
     status: Status,
-    text: Vec<u8>,
+    message: Message<'a>,
 }
 
-impl Model for Reply {
+impl<'a> Model for Reply<'a> {
     ghost use Rattle.std.specs.Prelude.{IsTrue, []};
     ghost use Rattle.clubcard_top.specs.ReplyFields.{ReplyFields};
     ghost use Rattle.clubcard_top.specs.Statuses as statuses;
 
     ghost Value = { ReplyFields };
 
-    ghost view = { λ r. record { status = r.status.0; text = r.text.items; outputs = [] } };
+    ghost view = { λ r. record { status = r.status.0; text = r.message; outputs = [] } };
 
     ghost invariant = { λ r. IsTrue (statuses.is_one_of statuses.of_replies r.status.0) };
 }
 
 /// The line of a verdict.
-pub fn verdict_line(verdict: Verdict) -> &'static [u8]
-    ensures { result.now ≡ line_of_words (verdict_word verdict) }
+pub fn verdict_line(verdict: Verdict) -> Line
+    ensures { result ≡ line_of_words (verdict_word verdict) }
 {
     match verdict {
-        Verdict::NotCovered => b"not-covered\n",
-        Verdict::NotEnrolled => b"not-enrolled\n",
-        Verdict::Good => b"good\n",
-        Verdict::Revoked => b"revoked\n",
+        Verdict::NotCovered => line_of("not-covered"),
+        Verdict::NotEnrolled => line_of("not-enrolled"),
+        Verdict::Good => line_of("good"),
+        Verdict::Revoked => line_of("revoked"),
     }
 }
 
 /// The line about a file whose part, or job, a chain doesn't take.
-fn chain_line(alloc: Global, name: &str, why: Refusal) -> Result<String, NoMemory>
-    ensures { IfOk result (λ text. string_bytes text ≡ chain_text name.now why) }
+fn chain_line(name: &str, why: Refusal) -> Message<'_>
+    ensures { result ≡ chain_text name.now why }
 {
     match why {
-        Refusal::NotDelta => about_file(alloc, "chain not-delta", name),
-        Refusal::WrongParent { held, given } => parent_line(alloc, &held, &given, name),
-        Refusal::OldEpoch { held, given } => epoch_line(alloc, held, given, name),
-        Refusal::CoverageShrinks { log } => coverage_line(alloc, &log, name),
-        Refusal::Full => about_file(alloc, "chain full", name),
+        Refusal::NotDelta => about_file("chain not-delta", name),
+        Refusal::WrongParent { held, given } => parent_line(&held, &given, name),
+        Refusal::OldEpoch { held, given } => epoch_line(held, given, name),
+        Refusal::CoverageShrinks { log } => coverage_line(&log, name),
+        Refusal::Full => about_file("chain full", name),
     }
 }
 
-impl Reply {
-    /// The reply of a text.
-    fn of_text(status: Status, text: String) -> Reply
+impl<'a> Reply<'a> {
+    /// The reply of a line.
+    fn of(status: Status, message: Message<'a>) -> Reply<'a>
         requires { IsTrue (statuses.is_one_of statuses.of_replies status.0) }
-        ensures { result ≡ says status.0 (string_bytes text) }
+        ensures { result ≡ says status.0 message.entry }
     {
-        Reply {
-            status,
-            text: text.into_bytes(),
-        }
+        Reply { status, message }
     }
 
-    /// The reply of a line.
-    fn of_line(alloc: Global, status: Status, line: &Line) -> Result<Reply, NoMemory>
+    /// The reply of a line about no file.
+    fn alone(status: Status, line: Line) -> Reply<'a>
         requires { IsTrue (statuses.is_one_of statuses.of_replies status.0) }
-        ensures { IfOk result (λ r. r ≡ says status.0 line.now) }
+        ensures { result ≡ says status.0 line }
     {
-        let text = line.text().to_vec(alloc)?;
-        Ok(Reply { status, text })
+        Reply::of(status, Message::alone(line))
     }
 
     /// The reply to words that are no command.
-    pub fn usage(alloc: Global) -> Result<Reply, NoMemory>
-        ensures { IfOk result (λ r. r ≡ usage) }
+    pub fn usage() -> Reply<'a>
+        ensures { result ≡ usage }
     {
-        Ok(Reply::of_text(Status::USAGE, line_of(alloc, "usage")?))
+        Reply::alone(Status::USAGE, line_of("usage"))
     }
 
     /// The reply of a command that was done: this line.
-    pub fn done(alloc: Global, line: &Line) -> Result<Reply, NoMemory>
-        ensures { IfOk result (λ r. r ≡ done (only line.now)) }
+    pub fn done(line: Line) -> Reply<'a>
+        ensures { result ≡ done (only line) }
     {
-        Reply::of_line(alloc, Status::DONE, line)
-    }
-
-    /// The reply of a command that was done: these lines.
-    pub fn lines(text: Vec<u8>) -> Reply
-        ensures { result ≡ done (only text.items) }
-    {
-        Reply {
-            status: Status::DONE,
-            text,
-        }
+        Reply::alone(Status::DONE, line)
     }
 
     /// The reply of a command that was done: the line of a verdict.
-    pub fn verdict(alloc: Global, verdict: Verdict) -> Result<Reply, NoMemory>
-        ensures { IfOk result (λ r. r ≡ done (only (line_of_words (verdict_word verdict)))) }
+    pub fn verdict(verdict: Verdict) -> Reply<'a>
+        ensures { result ≡ done (only (line_of_words (verdict_word verdict))) }
     {
-        Ok(Reply::lines(verdict_line(verdict).to_vec(alloc)?))
+        Reply::done(verdict_line(verdict))
+    }
+
+    /// The reply about a file of this name that can't be read.
+    pub fn unread(name: &'a str) -> Reply<'a>
+        ensures { result ≡ read_fault name.now }
+    {
+        Reply::of(Status::READ_FAULT, about_file("read-fault", name))
+    }
+
+    /// The reply about a file of this name that breaks its layout.
+    pub fn bad_layout(name: &'a str, fault: LayoutFault) -> Reply<'a>
+        ensures { result ≡ refusal name.now (FileFault.Layout fault) }
+    {
+        Reply::of(Status::BAD_LAYOUT, layout_line(fault, name))
     }
 
     /// The reply about what is wrong with the file of this name.
-    pub fn refusal(alloc: Global, name: &str, fault: FileFault) -> Result<Reply, NoMemory>
+    pub fn refusal(name: &'a str, fault: FileFault) -> Result<Reply<'a>, NoMemory>
         ensures ok { IfOk result (λ r. r ≡ refusal name.now fault) }
         ensures memory { fault ≡ FileFault.NoMemory → IsErr result }
     {
-        let (status, text) = match fault {
-            FileFault::Unread => (Status::READ_FAULT, about_file(alloc, "read-fault", name)?),
-            FileFault::Layout(fault) => (Status::BAD_LAYOUT, layout_line(alloc, fault, name)?),
-            FileFault::NotSnapshot => (
+        match fault {
+            FileFault::Unread => Ok(Reply::unread(name)),
+            FileFault::Layout(fault) => Ok(Reply::bad_layout(name, fault)),
+            FileFault::NotSnapshot => Ok(Reply::of(
                 Status::CHAIN,
-                about_file(alloc, "chain not-snapshot", name)?,
-            ),
-            FileFault::Chain(why) => (Status::CHAIN, chain_line(alloc, name, why)?),
+                about_file("chain not-snapshot", name),
+            )),
+            FileFault::Chain(why) => Ok(Reply::of(Status::CHAIN, chain_line(name, why))),
             FileFault::BadCrl { place, fault } => {
-                (Status::BAD_CRL, crl_line(alloc, place, fault, name)?)
+                Ok(Reply::of(Status::BAD_CRL, crl_line(place, fault, name)))
             }
             FileFault::TooMany { what, limit } => {
-                (Status::TOO_MANY, limit_line(alloc, what, limit, name)?)
+                Ok(Reply::of(Status::TOO_MANY, limit_line(what, limit, name)))
             }
             FileFault::Seeds { issuer, stage } => {
-                return Reply::of_line(alloc, Status::SEEDS, &seeds_line(&issuer, stage));
+                Ok(Reply::alone(Status::SEEDS, seeds_line(&issuer, stage)))
             }
-            FileFault::NoMemory => return Err(NoMemory),
-        };
-        Ok(Reply::of_text(status, text))
+            FileFault::NoMemory => Err(NoMemory),
+        }
     }
 
     /// How the program ends.
@@ -151,9 +149,9 @@ impl Reply {
     }
 
     /// What the program writes.
-    pub fn text(&self) -> &[u8]
+    pub fn message(&self) -> &Message<'a>
         ensures { result.now ≡ self.now.text }
     {
-        self.text.as_slice()
+        &self.message
     }
 }

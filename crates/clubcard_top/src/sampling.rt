@@ -15,12 +15,11 @@ use std::alloc::Global;
 use word_core::Sample;
 
 /// The answer of `sample`.
-pub fn answer_sample(alloc: Global, sample: &Sample) -> Result<Answer, NoMemory>
+pub fn answer_sample<'a>(alloc: Global, sample: &Sample<'a>) -> Result<Answer<'a>, NoMemory>
     ensures { IfOk result (λ a. reply_fields a ≡ done (sample_done sample.now)) }
 {
     let job = SampleJob::new(alloc, sample.number(), sample.count())?;
     let line = sampled(sample.number(), sample.count(), job.revoked(), job.bytes());
-    let reply = Reply::done(alloc, &line)?;
-    let output = SampleOutput::new(alloc, sample.job(), job)?;
-    Ok(Answer::Sample(output, reply))
+    let output = SampleOutput::new(sample.job(), job);
+    Ok(Answer::Sample(output, Reply::done(line)))
 }

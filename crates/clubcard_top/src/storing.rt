@@ -35,14 +35,14 @@ fn newest_epoch(store: &Store) -> u64
 }
 
 /// The answer where a store is written to the file of this name.
-fn stored(alloc: Global, name: &str, store: &Store) -> Result<Answer, NoMemory>
+fn stored<'a>(alloc: Global, name: &'a str, store: &Store) -> Result<Answer<'a>, NoMemory>
     ensures { IfOk result (λ a. reply_fields a ≡ done (stored_as name.now store.now)) }
 {
     let text = encode_store(alloc, store)?;
     let mut outputs = Vec::with_capacity(alloc, 1)?;
-    outputs.push(Output::new(alloc, name, text)?)?;
+    outputs.push(Output::new(name, text))?;
     let line = stored_line(store.parts().len(), newest_epoch(store));
-    Ok(Answer::Files(outputs, Reply::done(alloc, &line)?))
+    Ok(Answer::Files(outputs, Reply::done(line)))
 }
 
 /// The store that the part begins.
@@ -68,45 +68,45 @@ fn installed(store: Store, part: Sealed) -> Result<Store, FileFault>
 }
 
 /// The answer of `start`.
-pub fn answer_start<D: Depot>(
+pub fn answer_start<'a, D: Depot>(
     alloc: Global,
-    start: &Start,
+    start: &Start<'a>,
     depot: &mut D,
-) -> Result<Answer, NoMemory>
+) -> Result<Answer<'a>, NoMemory>
     ensures reply { IfOk result (λ a. IsReply (Command.Start start.now) (D.files depot.old)
         (WhichFailed D.Depot depot.old depot.new) (reply_fields a)) }
     ensures only_reads { OnlyReads D.Depot depot.old depot.new }
 {
     let part = match part_in(alloc, depot, start.part()) {
         Ok((part, _)) => part,
-        Err(fault) => return refused(alloc, start.part(), fault),
+        Err(fault) => return refused(start.part(), fault),
     };
     match begun(alloc, part) {
         Ok(store) => stored(alloc, start.store(), &store),
-        Err(fault) => refused(alloc, start.part(), fault),
+        Err(fault) => refused(start.part(), fault),
     }
 }
 
 /// The answer of `install`.
-pub fn answer_install<D: Depot>(
+pub fn answer_install<'a, D: Depot>(
     alloc: Global,
-    install: &Install,
+    install: &Install<'a>,
     depot: &mut D,
-) -> Result<Answer, NoMemory>
+) -> Result<Answer<'a>, NoMemory>
     ensures reply { IfOk result (λ a. IsReply (Command.Install install.now) (D.files depot.old)
         (WhichFailed D.Depot depot.old depot.new) (reply_fields a)) }
     ensures only_reads { OnlyReads D.Depot depot.old depot.new }
 {
     let store = match store_in(alloc, depot, install.store()) {
         Ok(store) => store,
-        Err(fault) => return refused(alloc, install.store(), fault),
+        Err(fault) => return refused(install.store(), fault),
     };
     let part = match part_in(alloc, depot, install.part()) {
         Ok((part, _)) => part,
-        Err(fault) => return refused(alloc, install.part(), fault),
+        Err(fault) => return refused(install.part(), fault),
     };
     match installed(store, part) {
         Ok(store) => stored(alloc, install.new_store(), &store),
-        Err(fault) => refused(alloc, install.part(), fault),
+        Err(fault) => refused(install.part(), fault),
     }
 }

@@ -27,18 +27,18 @@ use std::thread::Threads;
 use word_core::{Command, read_words};
 
 /// The answer to a command.
-fn answer_for<R: Threads + Sync, D: Depot>(
+fn answer_for<'a, R: Threads + Sync, D: Depot>(
     rt: &R,
     alloc: Global,
-    command: &Command,
+    command: &Command<'a>,
     depot: &mut D,
-) -> Result<Answer, NoMemory>
+) -> Result<Answer<'a>, NoMemory>
     ensures reply { IfOk result (λ a. IsReply command.now (D.files depot.old)
         (WhichFailed D.Depot depot.old depot.new) (reply_fields a)) }
     ensures only_reads { OnlyReads D.Depot depot.old depot.new }
 {
     match command {
-        Command::Usage => Ok(Answer::Reply(Reply::usage(alloc)?)),
+        Command::Usage => Ok(Answer::Reply(Reply::usage())),
         Command::Query(asked) => answer_query(alloc, asked, depot),
         Command::Check(name) => answer_check(alloc, name, depot),
         Command::Show(name) => answer_show(alloc, name, depot),
@@ -55,7 +55,7 @@ fn answer_for<R: Threads + Sync, D: Depot>(
 fn run_command<R: Threads + Sync, D: Depot, K: Sink>(
     rt: &R,
     alloc: Global,
-    command: &Command,
+    command: &Command<'_>,
     depot: &mut D,
     out: &mut K,
 ) -> Status

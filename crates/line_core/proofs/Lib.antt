@@ -1,1 +1,2 @@
+pub mod FieldWords
 pub mod Sending

@@ -37,7 +37,7 @@ impl Model for Line {
 
 impl Line {
     /// An empty line.
-    fn new() -> Line
+    pub(crate) fn new() -> Line
         ensures { result ≡ [] }
     {
         Line {
@@ -46,7 +46,7 @@ impl Line {
         }
     }
 
-    fn push(&mut self, piece: &[u8])
+    pub(crate) fn push(&mut self, piece: &[u8])
         requires { length self.old + length piece.now ≤ 320 }
         ensures value { self.new ≡ self.old ++ piece.now }
         ensures len { length self.new ≡ length self.old + length piece.now }
@@ -66,7 +66,7 @@ impl Line {
     }
 
     /// A word and a number.
-    fn push_count(&mut self, word: &[u8], n: u64)
+    pub(crate) fn push_count(&mut self, word: &[u8], n: u64)
         requires { length self.old + length word.now + 20 ≤ 320 }
         ensures value { self.new ≡ self.old ++ word.now ++ decimal n }
         ensures len { length self.new ≤ length self.old + length word.now + 20 }
@@ -75,7 +75,7 @@ impl Line {
         self.push_number(n);
     }
 
-    fn push_key(&mut self, key: &Key32)
+    pub(crate) fn push_key(&mut self, key: &Key32)
         requires { length self.old + 64 ≤ 320 }
         ensures value { self.new ≡ self.old ++ encode_lower key.now }
         ensures len { length self.new ≡ length self.old + 64 }

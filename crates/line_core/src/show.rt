@@ -10,10 +10,17 @@ use ident_core::{Head, Range};
 use outside_core::{Failed, Sink, write_all};
 use part_codec::Sealed;
 
+/// Writes a text.
+pub(crate) fn write_text<K: Sink>(text: &[u8], out: &mut K) -> Result<(), Failed>
+    ensures { Sends (K.written out.old) (K.written out.new) (K.faults out.old) (K.faults out.new) result text.now }
+{
+    write_all(out, text)
+}
+
 fn write_line<K: Sink>(line: &Line, out: &mut K) -> Result<(), Failed>
     ensures { Sends (K.written out.old) (K.written out.new) (K.faults out.old) (K.faults out.new) result line.now }
 {
-    write_all(out, line.text())
+    write_text(line.text(), out)
 }
 
 fn write_ranges<K: Sink>(ranges: &[Range], out: &mut K) -> Result<(), Failed>

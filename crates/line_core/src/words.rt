@@ -1,12 +1,13 @@
 //! The words that lines have for the values of enums.
 
 ghost use Rattle.std.specs.Prelude.{◌≡◌, ◌≤◌, length};
+ghost use Rattle.octets_core.specs.FieldNames.{name_of};
 ghost use Rattle.line_core.specs.Lines.{kind_word, why_word, crl_word, what_word};
 
 use crl_core::CrlFault;
 use ident_core::Kind;
 use job_core::What;
-use octets_core::Why;
+use octets_core::{Field, Why};
 
 pub fn kind_text(kind: Kind) -> &'static [u8]
     ensures value { result.now ≡ kind_word kind }
@@ -18,36 +19,46 @@ pub fn kind_text(kind: Kind) -> &'static [u8]
     }
 }
 
-pub fn why_text(why: Why) -> &'static str
-    ensures { result.now ≡ why_word why }
+pub fn field_text(field: Field) -> &'static [u8]
+    ensures value { result.now ≡ name_of field }
+    ensures len { length result.now ≤ 24 }
+{
+    field.name().as_bytes()
+}
+
+pub fn why_text(why: Why) -> &'static [u8]
+    ensures value { result.now ≡ why_word why }
+    ensures len { length result.now ≤ 6 }
 {
     match why {
-        Why::Short => "short",
-        Why::Value => "value",
-        Why::Digest => "digest",
+        Why::Short => b"short",
+        Why::Value => b"value",
+        Why::Digest => b"digest",
     }
 }
 
-pub fn crl_text(fault: CrlFault) -> &'static str
-    ensures { result.now ≡ crl_word fault }
+pub fn crl_text(fault: CrlFault) -> &'static [u8]
+    ensures value { result.now ≡ crl_word fault }
+    ensures len { length result.now ≤ 9 }
 {
     match fault {
-        CrlFault::Malformed => "malformed",
-        CrlFault::DeltaCrl => "delta",
-        CrlFault::Indirect => "indirect",
-        CrlFault::UnknownCritical => "critical",
-        CrlFault::NoMemory => "",
+        CrlFault::Malformed => b"malformed",
+        CrlFault::DeltaCrl => b"delta",
+        CrlFault::Indirect => b"indirect",
+        CrlFault::UnknownCritical => b"critical",
+        CrlFault::NoMemory => b"",
     }
 }
 
-pub fn what_text(what: What) -> &'static str
-    ensures { result.now ≡ what_word what }
+pub fn what_text(what: What) -> &'static [u8]
+    ensures value { result.now ≡ what_word what }
+    ensures len { length result.now ≤ 10 }
 {
     match what {
-        What::Ranges => "ranges",
-        What::Crls => "crls",
-        What::Serials => "serials",
-        What::Entries => "entries",
-        What::Identities => "identities",
+        What::Ranges => b"ranges",
+        What::Crls => b"crls",
+        What::Serials => b"serials",
+        What::Entries => b"entries",
+        What::Identities => b"identities",
     }
 }

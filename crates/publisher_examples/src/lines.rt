@@ -4,10 +4,10 @@
 use crl_core::CrlFault;
 use job_core::What;
 use line_core::{
-    about_file, checked, coverage_line, crl_line, epoch_line, layout_line, limit_line, line_of,
-    parent_line, reported, sampled, seeds_line, stored, write_sealed,
+    Message, about_file, checked, coverage_line, crl_line, epoch_line, layout_line, limit_line,
+    line_of, parent_line, reported, sampled, seeds_line, stored, write_sealed,
 };
-use octets_core::{Field, Key32, LayoutFault, NoMemory, Why};
+use octets_core::{Field, Key32, LayoutFault, Why};
 use outside_core::MemorySink;
 use part_codec::decode_part;
 use std::process::Abort;
@@ -67,17 +67,21 @@ const TWO_STAGES_SHOWN: &str =
         issuer 2222222222222222222222222222222222222222222222222222222222222222 all\n\
         trailer ac9860f02a76857bbb43bb353209ed0eff12cf3009f3cd172c2f5553e2d5d0e1\n";
 
-fn compare(rt: &impl Abort, text: Result<String, NoMemory>, want: &str) -> Result<(), Fail> {
-    assert_eq!(rt; text?.as_str(), want);
+fn compare<R: AllocGlobal + Abort>(rt: &R, message: Message<'_>, want: &str) -> Result<(), Fail> {
+    let mut sink = MemorySink::new(rt.alloc());
+    message.write(&mut sink)?;
+    assert_eq!(rt; sink.bytes(), want.as_bytes());
     Ok(())
 }
 
 #[test]
 fn lines_of_words(rt: HostRuntime) -> Result<(), Fail> {
-    let alloc = rt.alloc();
-    compare(&rt, line_of(alloc, "usage"), "usage\n")?;
-    let text = about_file(alloc, "chain not-snapshot", "a store");
-    compare(&rt, text, "chain not-snapshot a store\n")
+    compare(&rt, Message::alone(line_of("usage")), "usage\n")?;
+    compare(
+        &rt,
+        about_file("chain not-snapshot", "a store"),
+        "chain not-snapshot a store\n",
+    )
 }
 
 #[test]
@@ -101,10 +105,16 @@ fn layout_lines(rt: HostRuntime) -> Result<(), Fail> {
             Why::Digest,
             "layout 4294967296 ledger.digest digest a/store\n",
         ),
+        (
+            u64::MAX,
+            Field::LedgerPartTrailer,
+            Why::Digest,
+            "layout 18446744073709551615 ledger.part_trailer digest a/store\n",
+        ),
     ];
     for (at, field, why, want) in rows {
         let fault = LayoutFault { at, field, why };
-        compare(&rt, layout_line(rt.alloc(), fault, "a/store"), want)?;
+        compare(&rt, layout_line(fault, "a/store"), want)?;
     }
     Ok(())
 }
@@ -122,7 +132,7 @@ fn crl_lines(rt: HostRuntime) -> Result<(), Fail> {
         ),
     ];
     for (place, fault, want) in rows {
-        compare(&rt, crl_line(rt.alloc(), place, fault, "a.job"), want)?;
+        compare(&rt, crl_line(place, fault, "a.job"), want)?;
     }
     Ok(())
 }
@@ -137,32 +147,40 @@ fn limit_lines(rt: HostRuntime) -> Result<(), Fail> {
         (What::Identities, 0, "limit identities 0 a.job\n"),
     ];
     for (what, limit, want) in rows {
-        compare(&rt, limit_line(rt.alloc(), what, limit, "a.job"), want)?;
+        compare(&rt, limit_line(what, limit, "a.job"), want)?;
     }
     Ok(())
 }
 
 #[test]
 fn chain_lines(rt: HostRuntime) -> Result<(), Fail> {
-    let alloc = rt.alloc();
     let held = Key32::new([0xab; 32]);
     let given = Key32::new([0x0c; 32]);
     compare(
         &rt,
-        parent_line(alloc, &held, &given, "a.card"),
+        parent_line(&held, &given, "a.card"),
         "chain parent abababababababababababababababababababababababababababababababab \
                 0c0c0c0c0c0c0c0c0c0c0c0c0c0c0c0c0c0c0c0c0c0c0c0c0c0c0c0c0c0c0c0c a.card\n",
     )?;
+    compare(&rt, epoch_line(9, 8, "a.card"), "chain epoch 9 8 a.card\n")?;
     compare(
         &rt,
-        epoch_line(alloc, 9, 8, "a.card"),
-        "chain epoch 9 8 a.card\n",
-    )?;
-    compare(
-        &rt,
-        coverage_line(alloc, &held, "a.card"),
+        coverage_line(&held, "a.card"),
         "chain coverage abababababababababababababababababababababababababababababababab a.card\n",
     )
+}
+
+// The words, the name and the end are a write each. The write that fails is answered, and nothing stands behind those
+// before it.
+#[test]
+fn each_write_of_a_message_fails_in_turn(rt: HostRuntime) -> Result<(), Fail> {
+    for (place, front) in [(0, ""), (1, "read-fault "), (2, "read-fault P")] {
+        let mut sink = MemorySink::new(rt.alloc());
+        sink.fail_writes(&[place])?;
+        assert!(rt; about_file("read-fault", "P").write(&mut sink).is_err());
+        assert_eq!(rt; sink.bytes(), front.as_bytes());
+    }
+    Ok(())
 }
 
 #[test]

@@ -6,47 +6,47 @@ use crate::trying::{Rehearse, Sample};
 use ident_core::{Identity, Sighting};
 use std::marker::Model;
 
-/// The name of a file.
+/// The name of a file, which the words of a call lend.
 #[derive(Debug, Drop)]
-pub struct FileName {
-    text: String,
+pub struct FileName<'a> {
+    text: &'a str,
 }
 
-impl Model for FileName {
-    ghost use Rattle.std.specs.Prelude.{List, ℕ, string_bytes};
+impl<'a> Model for FileName<'a> {
+    ghost use Rattle.std.specs.Prelude.{List, ℕ};
 
     ghost Value = { List ℕ };
 
-    ghost view = { λ n. string_bytes n.text };
+    ghost view = { λ n. n.text.now };
 }
 
-impl FileName {
-    ghost use Rattle.std.specs.Prelude.{◌≡◌, string_bytes};
+impl<'a> FileName<'a> {
+    ghost use Rattle.std.specs.Prelude.{◌≡◌};
 
     /// The name of this text.
-    pub fn new(text: String) -> FileName
-        ensures { result ≡ string_bytes text }
+    pub fn new(text: &'a str) -> FileName<'a>
+        ensures { result ≡ text.now }
     {
         FileName { text }
     }
 
     /// The name's text.
-    pub fn as_str(&self) -> &str
+    pub fn as_str(&self) -> &'a str
         ensures { result.now ≡ self.now }
     {
-        self.text.as_str()
+        self.text
     }
 }
 
 /// A question about one certificate, asked of the store in a file.
 #[derive(Debug, Drop)]
-pub struct Query {
-    store: FileName,
+pub struct Query<'a> {
+    store: FileName<'a>,
     id: Identity,
     sightings: Vec<Sighting>,
 }
 
-impl Model for Query {
+impl<'a> Model for Query<'a> {
     ghost use Rattle.word_core.specs.CommandFields.{QueryFields};
 
     ghost Value = { QueryFields };
@@ -54,12 +54,12 @@ impl Model for Query {
     ghost view = { λ q. record { store = q.store; id = q.id; sightings = q.sightings.items } };
 }
 
-impl Query {
+impl<'a> Query<'a> {
     ghost use Rattle.std.specs.Prelude.{◌≡◌};
 
     /// The query of these.
-    pub fn new(store: FileName, id: Identity, sightings: Vec<Sighting>) -> Query
-        ensures { result ≡ record { store = store; id = id; sightings = sightings.items } }
+    pub fn new(store: FileName<'a>, id: Identity, sightings: Vec<Sighting>) -> Query<'a>
+        ensures { result ≡ record { store = store.entry; id = id; sightings = sightings.items } }
     {
         Query {
             store,
@@ -69,7 +69,7 @@ impl Query {
     }
 
     /// The name of the file that holds the store.
-    pub fn store(&self) -> &str
+    pub fn store(&self) -> &'a str
         ensures { result.now ≡ self.now.store }
     {
         self.store.as_str()
@@ -90,27 +90,27 @@ impl Query {
     }
 }
 
-/// What the words of a call ask for.
+/// What the words of a call ask for. The words lend the names of files.
 #[derive(Debug, Drop)]
-pub enum Command {
+pub enum Command<'a> {
     /// The words are no command.
     Usage,
     /// What the parts of a store say of a certificate.
-    Query(Query),
+    Query(Query<'a>),
     /// Whether a file is a part.
-    Check(FileName),
+    Check(FileName<'a>),
     /// What a part holds.
-    Show(FileName),
+    Show(FileName<'a>),
     /// To publish a job as the first of a chain: its part and its ledger.
-    Snapshot(Snapshot),
+    Snapshot(Snapshot<'a>),
     /// To publish a job behind the part before: its part and its ledger.
-    Delta(Delta),
+    Delta(Delta<'a>),
     /// To begin a store with a part.
-    Start(Start),
+    Start(Start<'a>),
     /// To add a part to a store.
-    Install(Install),
+    Install(Install<'a>),
     /// To say what a history of jobs comes to, and what its queries answer.
-    Rehearse(Rehearse),
+    Rehearse(Rehearse<'a>),
     /// To write the job that a number and a count stand for.
-    Sample(Sample),
+    Sample(Sample<'a>),
 }

@@ -5,14 +5,14 @@ use std::marker::Model;
 
 /// A job to be published as the first of a chain.
 #[derive(Debug, Drop)]
-pub struct Snapshot {
-    job: FileName,
-    part: FileName,
-    ledger: FileName,
+pub struct Snapshot<'a> {
+    job: FileName<'a>,
+    part: FileName<'a>,
+    ledger: FileName<'a>,
     workers: u32,
 }
 
-impl Model for Snapshot {
+impl<'a> Model for Snapshot<'a> {
     ghost use Rattle.std.specs.Prelude.{◌≤◌};
     ghost use Rattle.word_core.specs.CommandFields.{SnapshotFields};
     ghost use Rattle.ident_core.specs.declared.bounds.TheConstants.{MAX_WORKERS};
@@ -24,14 +24,19 @@ impl Model for Snapshot {
     ghost invariant = { λ s. (1 ≤ s.workers) × (s.workers ≤ MAX_WORKERS) };
 }
 
-impl Snapshot {
+impl<'a> Snapshot<'a> {
     ghost use Rattle.std.specs.Prelude.{◌≡◌, ◌≤◌};
     ghost use Rattle.ident_core.specs.declared.bounds.TheConstants.{MAX_WORKERS};
 
     /// The job in the file `job`, to be built by so many workers and written to the files `part` and `ledger`.
-    pub fn new(job: FileName, part: FileName, ledger: FileName, workers: u32) -> Snapshot
+    pub fn new(
+        job: FileName<'a>,
+        part: FileName<'a>,
+        ledger: FileName<'a>,
+        workers: u32,
+    ) -> Snapshot<'a>
         requires { (1 ≤ workers) × (workers ≤ MAX_WORKERS) }
-        ensures { result ≡ record { job = job; part = part; ledger = ledger; workers = workers } }
+        ensures { result ≡ record { job = job.entry; part = part.entry; ledger = ledger.entry; workers = workers } }
     {
         Snapshot {
             job,
@@ -42,21 +47,21 @@ impl Snapshot {
     }
 
     /// The name of the file that holds the job.
-    pub fn job(&self) -> &str
+    pub fn job(&self) -> &'a str
         ensures { result.now ≡ self.now.job }
     {
         self.job.as_str()
     }
 
     /// The name of the file that the part is written to.
-    pub fn part(&self) -> &str
+    pub fn part(&self) -> &'a str
         ensures { result.now ≡ self.now.part }
     {
         self.part.as_str()
     }
 
     /// The name of the file that the ledger is written to.
-    pub fn ledger(&self) -> &str
+    pub fn ledger(&self) -> &'a str
         ensures { result.now ≡ self.now.ledger }
     {
         self.ledger.as_str()
@@ -73,15 +78,15 @@ impl Snapshot {
 
 /// A job to be published behind the part that a ledger names.
 #[derive(Debug, Drop)]
-pub struct Delta {
-    job: FileName,
-    ledger: FileName,
-    part: FileName,
-    new_ledger: FileName,
+pub struct Delta<'a> {
+    job: FileName<'a>,
+    ledger: FileName<'a>,
+    part: FileName<'a>,
+    new_ledger: FileName<'a>,
     workers: u32,
 }
 
-impl Model for Delta {
+impl<'a> Model for Delta<'a> {
     ghost use Rattle.std.specs.Prelude.{◌≤◌};
     ghost use Rattle.word_core.specs.CommandFields.{DeltaFields};
     ghost use Rattle.ident_core.specs.declared.bounds.TheConstants.{MAX_WORKERS};
@@ -93,21 +98,21 @@ impl Model for Delta {
     ghost invariant = { λ d. (1 ≤ d.workers) × (d.workers ≤ MAX_WORKERS) };
 }
 
-impl Delta {
+impl<'a> Delta<'a> {
     ghost use Rattle.std.specs.Prelude.{◌≡◌, ◌≤◌};
     ghost use Rattle.ident_core.specs.declared.bounds.TheConstants.{MAX_WORKERS};
 
     /// The job in the file `job` behind the ledger in the file `ledger`, to be built by so many workers and written to
     /// the files `part` and `new_ledger`.
     pub fn new(
-        job: FileName,
-        ledger: FileName,
-        part: FileName,
-        new_ledger: FileName,
+        job: FileName<'a>,
+        ledger: FileName<'a>,
+        part: FileName<'a>,
+        new_ledger: FileName<'a>,
         workers: u32,
-    ) -> Delta
+    ) -> Delta<'a>
         requires { (1 ≤ workers) × (workers ≤ MAX_WORKERS) }
-        ensures { result ≡ record { job = job; ledger = ledger; part = part; new_ledger = new_ledger; workers = workers } }
+        ensures { result ≡ record { job = job.entry; ledger = ledger.entry; part = part.entry; new_ledger = new_ledger.entry; workers = workers } }
     {
         Delta {
             job,
@@ -119,28 +124,28 @@ impl Delta {
     }
 
     /// The name of the file that holds the job.
-    pub fn job(&self) -> &str
+    pub fn job(&self) -> &'a str
         ensures { result.now ≡ self.now.job }
     {
         self.job.as_str()
     }
 
     /// The name of the file that holds the ledger of the part before.
-    pub fn ledger(&self) -> &str
+    pub fn ledger(&self) -> &'a str
         ensures { result.now ≡ self.now.ledger }
     {
         self.ledger.as_str()
     }
 
     /// The name of the file that the part is written to.
-    pub fn part(&self) -> &str
+    pub fn part(&self) -> &'a str
         ensures { result.now ≡ self.now.part }
     {
         self.part.as_str()
     }
 
     /// The name of the file that the part's ledger is written to.
-    pub fn new_ledger(&self) -> &str
+    pub fn new_ledger(&self) -> &'a str
         ensures { result.now ≡ self.now.new_ledger }
     {
         self.new_ledger.as_str()

@@ -1,6 +1,6 @@
 //! The commands that words spell together (docs/FORMATS.md, "Words").
 
-ghost use Rattle.std.specs.Prelude.{◌≡◌, ◌≤◌, ◌∷◌, IfOk, map, string_bytes};
+ghost use Rattle.std.specs.Prelude.{◌≡◌, ◌≤◌, ℕ, List, ◌∷◌, IfOk, IsOk, map, string_bytes};
 ghost use Rattle.ident_core.specs.declared.bounds.TheConstants.{MAX_WORKERS};
 ghost use Rattle.word_core.specs.Words.{command_of, query_of, name_alone, snapshot_of, named_delta, delta_of, start_of, install_of, rehearse_of, sample_of};
 
@@ -17,7 +17,7 @@ use octets_core::NoMemory;
 use std::alloc::Global;
 
 /// The query that words spell, if they spell one.
-fn read_query(alloc: Global, words: &[String]) -> Result<Option<Query>, NoMemory>
+fn read_query(alloc: Global, words: &[String]) -> Result<Option<Query<'_>>, NoMemory>
     ensures { IfOk result (λ q. q ≡ query_of (map string_bytes words.now)) }
 {
     let [store, issuer, serial, pairs @ ..] = words else {
@@ -35,83 +35,67 @@ fn read_query(alloc: Global, words: &[String]) -> Result<Option<Query>, NoMemory
     let Some(sightings) = read_pairs(alloc, pairs)? else {
         return Ok(None);
     };
-    let Some(store) = read_name(alloc, store.as_str())? else {
+    let Some(store) = read_name(store.as_str()) else {
         return Ok(None);
     };
     Ok(Some(Query::new(store, Identity { issuer, serial }, sightings)))
 }
 
 /// The name that words spell, if they are one word that spells one.
-fn read_name_alone(alloc: Global, words: &[String]) -> Result<Option<FileName>, NoMemory>
-    ensures { IfOk result (λ n. n ≡ name_alone (map string_bytes words.now)) }
+fn read_name_alone(words: &[String]) -> Option<FileName<'_>>
+    ensures { result ≡ name_alone (map string_bytes words.now) }
 {
     match words {
-        [word] => read_name(alloc, word.as_str()),
-        _ => Ok(None),
+        [word] => read_name(word.as_str()),
+        _ => None,
     }
 }
 
 /// The first part of a chain that words spell, if they spell one.
-fn read_snapshot(alloc: Global, words: &[String]) -> Result<Option<Snapshot>, NoMemory>
-    ensures { IfOk result (λ s. s ≡ snapshot_of (map string_bytes words.now)) }
+fn read_snapshot(words: &[String]) -> Option<Snapshot<'_>>
+    ensures { result ≡ snapshot_of (map string_bytes words.now) }
 {
     let [job, part, ledger, workers] = words else {
-        return Ok(None);
+        return None;
     };
     if !are_apart(&words[..1], &words[1..3]) {
-        return Ok(None);
+        return None;
     }
-    let Some(workers) = workers_word(workers.as_str()) else {
-        return Ok(None);
-    };
-    let Some(job) = read_name(alloc, job.as_str())? else {
-        return Ok(None);
-    };
-    let Some(part) = read_name(alloc, part.as_str())? else {
-        return Ok(None);
-    };
-    let Some(ledger) = read_name(alloc, ledger.as_str())? else {
-        return Ok(None);
-    };
-    Ok(Some(Snapshot::new(job, part, ledger, workers)))
+    let workers = workers_word(workers.as_str())?;
+    let job = read_name(job.as_str())?;
+    let part = read_name(part.as_str())?;
+    let ledger = read_name(ledger.as_str())?;
+    Some(Snapshot::new(job, part, ledger, workers))
 }
 
 /// The later part of a chain with names that words spell, if each spells one.
-fn delta_named(
-    alloc: Global,
-    job: &str,
-    ledger: &str,
-    part: &str,
-    new_ledger: &str,
+fn delta_named<'a>(
+    job: &'a str,
+    ledger: &'a str,
+    part: &'a str,
+    new_ledger: &'a str,
     workers: u32,
-) -> Result<Option<Delta>, NoMemory>
+) -> Option<Delta<'a>>
     requires { (1 ≤ workers) × (workers ≤ MAX_WORKERS) }
-    ensures { IfOk result (λ d. d ≡ named_delta job.now ledger.now part.now new_ledger.now workers) }
+    ensures { result ≡ named_delta job.now ledger.now part.now new_ledger.now workers }
 {
-    let Some((job, ledger)) = read_two_names(alloc, job, ledger)? else {
-        return Ok(None);
-    };
-    let Some((part, new_ledger)) = read_two_names(alloc, part, new_ledger)? else {
-        return Ok(None);
-    };
-    Ok(Some(Delta::new(job, ledger, part, new_ledger, workers)))
+    let (job, ledger) = read_two_names(job, ledger)?;
+    let (part, new_ledger) = read_two_names(part, new_ledger)?;
+    Some(Delta::new(job, ledger, part, new_ledger, workers))
 }
 
 /// The later part of a chain that words spell, if they spell one.
-fn read_delta(alloc: Global, words: &[String]) -> Result<Option<Delta>, NoMemory>
-    ensures { IfOk result (λ d. d ≡ delta_of (map string_bytes words.now)) }
+fn read_delta(words: &[String]) -> Option<Delta<'_>>
+    ensures { result ≡ delta_of (map string_bytes words.now) }
 {
     let [job, ledger, part, new_ledger, workers] = words else {
-        return Ok(None);
+        return None;
     };
     if !are_apart(&words[..2], &words[2..4]) {
-        return Ok(None);
+        return None;
     }
-    let Some(workers) = workers_word(workers.as_str()) else {
-        return Ok(None);
-    };
+    let workers = workers_word(workers.as_str())?;
     delta_named(
-        alloc,
         job.as_str(),
         ledger.as_str(),
         part.as_str(),
@@ -121,53 +105,43 @@ fn read_delta(alloc: Global, words: &[String]) -> Result<Option<Delta>, NoMemory
 }
 
 /// The beginning of a store that words spell, if they spell one.
-fn read_start(alloc: Global, words: &[String]) -> Result<Option<Start>, NoMemory>
-    ensures { IfOk result (λ s. s ≡ start_of (map string_bytes words.now)) }
+fn read_start(words: &[String]) -> Option<Start<'_>>
+    ensures { result ≡ start_of (map string_bytes words.now) }
 {
     let [part, store] = words else {
-        return Ok(None);
+        return None;
     };
     if !are_apart(&words[..1], &words[1..]) {
-        return Ok(None);
+        return None;
     }
-    let Some(part) = read_name(alloc, part.as_str())? else {
-        return Ok(None);
-    };
-    let Some(store) = read_name(alloc, store.as_str())? else {
-        return Ok(None);
-    };
-    Ok(Some(Start::new(part, store)))
+    let part = read_name(part.as_str())?;
+    let store = read_name(store.as_str())?;
+    Some(Start::new(part, store))
 }
 
 /// The longer store that words spell, if they spell one.
-fn read_install(alloc: Global, words: &[String]) -> Result<Option<Install>, NoMemory>
-    ensures { IfOk result (λ i. i ≡ install_of (map string_bytes words.now)) }
+fn read_install(words: &[String]) -> Option<Install<'_>>
+    ensures { result ≡ install_of (map string_bytes words.now) }
 {
     let [store, part, new_store] = words else {
-        return Ok(None);
+        return None;
     };
     if !are_apart(&words[..2], &words[2..]) {
-        return Ok(None);
+        return None;
     }
-    let Some(store) = read_name(alloc, store.as_str())? else {
-        return Ok(None);
-    };
-    let Some(part) = read_name(alloc, part.as_str())? else {
-        return Ok(None);
-    };
-    let Some(new_store) = read_name(alloc, new_store.as_str())? else {
-        return Ok(None);
-    };
-    Ok(Some(Install::new(store, part, new_store)))
+    let store = read_name(store.as_str())?;
+    let part = read_name(part.as_str())?;
+    let new_store = read_name(new_store.as_str())?;
+    Some(Install::new(store, part, new_store))
 }
 
 /// The rehearsal with these names of files that words spell, if they spell one.
-fn rehearse_named(
+fn rehearse_named<'a>(
     alloc: Global,
-    queries: &str,
+    queries: &'a str,
     workers: &str,
-    jobs: &[String],
-) -> Result<Option<Rehearse>, NoMemory>
+    jobs: &'a [String],
+) -> Result<Option<Rehearse<'a>>, NoMemory>
     ensures { IfOk result (λ r. r ≡ rehearse_of (queries.now ∷ workers.now ∷ map string_bytes jobs.now)) }
 {
     let Some(workers) = workers_word(workers) else {
@@ -179,14 +153,14 @@ fn rehearse_named(
     let Some(jobs) = read_names(alloc, jobs)? else {
         return Ok(None);
     };
-    let Some(queries) = read_name(alloc, queries)? else {
+    let Some(queries) = read_name(queries) else {
         return Ok(None);
     };
     Ok(Some(Rehearse::new(queries, workers, jobs)))
 }
 
 /// The rehearsal that words spell, if they spell one.
-fn read_rehearse(alloc: Global, words: &[String]) -> Result<Option<Rehearse>, NoMemory>
+fn read_rehearse(alloc: Global, words: &[String]) -> Result<Option<Rehearse<'_>>, NoMemory>
     ensures { IfOk result (λ r. r ≡ rehearse_of (map string_bytes words.now)) }
 {
     match words {
@@ -201,45 +175,48 @@ fn read_rehearse(alloc: Global, words: &[String]) -> Result<Option<Rehearse>, No
 }
 
 /// The job made from a number that words spell, if they spell one.
-fn read_sample(alloc: Global, words: &[String]) -> Result<Option<Sample>, NoMemory>
-    ensures { IfOk result (λ s. s ≡ sample_of (map string_bytes words.now)) }
+fn read_sample(words: &[String]) -> Option<Sample<'_>>
+    ensures { result ≡ sample_of (map string_bytes words.now) }
 {
     let [number, count, job] = words else {
-        return Ok(None);
+        return None;
     };
-    let Some(number) = number_word(number.as_str()) else {
-        return Ok(None);
-    };
-    let Some(count) = count_word(count.as_str()) else {
-        return Ok(None);
-    };
-    let Some(job) = read_name(alloc, job.as_str())? else {
-        return Ok(None);
-    };
-    Ok(Some(Sample::new(number, count, job)))
+    let number = number_word(number.as_str())?;
+    let count = count_word(count.as_str())?;
+    let job = read_name(job.as_str())?;
+    Some(Sample::new(number, count, job))
 }
 
 /// What a word and those behind it ask for.
-fn read_command(alloc: Global, command: &str, rest: &[String]) -> Result<Command, NoMemory>
-    ensures { IfOk result (λ c. c ≡ command_of (command.now ∷ map string_bytes rest.now)) }
+fn read_command<'a>(
+    alloc: Global,
+    command: &str,
+    rest: &'a [String],
+) -> Result<Command<'a>, NoMemory>
+    ensures value { IfOk result (λ c. c ≡ command_of (command.now ∷ map string_bytes rest.now)) }
+    ensures lent { (name : List ℕ) → command_of (command.now ∷ map string_bytes rest.now) ≡ Command.Check name
+        → IsOk result }
 {
     match command {
         "query" => Ok(read_query(alloc, rest)?.map_or(Command::Usage, Command::Query)),
-        "check" => Ok(read_name_alone(alloc, rest)?.map_or(Command::Usage, Command::Check)),
-        "show" => Ok(read_name_alone(alloc, rest)?.map_or(Command::Usage, Command::Show)),
-        "snapshot" => Ok(read_snapshot(alloc, rest)?.map_or(Command::Usage, Command::Snapshot)),
-        "delta" => Ok(read_delta(alloc, rest)?.map_or(Command::Usage, Command::Delta)),
-        "start" => Ok(read_start(alloc, rest)?.map_or(Command::Usage, Command::Start)),
-        "install" => Ok(read_install(alloc, rest)?.map_or(Command::Usage, Command::Install)),
+        "check" => Ok(read_name_alone(rest).map_or(Command::Usage, Command::Check)),
+        "show" => Ok(read_name_alone(rest).map_or(Command::Usage, Command::Show)),
+        "snapshot" => Ok(read_snapshot(rest).map_or(Command::Usage, Command::Snapshot)),
+        "delta" => Ok(read_delta(rest).map_or(Command::Usage, Command::Delta)),
+        "start" => Ok(read_start(rest).map_or(Command::Usage, Command::Start)),
+        "install" => Ok(read_install(rest).map_or(Command::Usage, Command::Install)),
         "rehearse" => Ok(read_rehearse(alloc, rest)?.map_or(Command::Usage, Command::Rehearse)),
-        "sample" => Ok(read_sample(alloc, rest)?.map_or(Command::Usage, Command::Sample)),
+        "sample" => Ok(read_sample(rest).map_or(Command::Usage, Command::Sample)),
         _ => Ok(Command::Usage),
     }
 }
 
-/// What words ask for.
-pub fn read_words(alloc: Global, words: &[String]) -> Result<Command, NoMemory>
-    ensures { IfOk result (λ c. c ≡ command_of (map string_bytes words.now)) }
+/// What words ask for. The words lend the names; room is taken for the sightings of a query and for the list of the
+/// jobs of a rehearsal, and for nothing else.
+pub fn read_words(alloc: Global, words: &[String]) -> Result<Command<'_>, NoMemory>
+    ensures value { IfOk result (λ c. c ≡ command_of (map string_bytes words.now)) }
+    // Words that ask for `check` are read without memory.
+    ensures lent { (name : List ℕ) → command_of (map string_bytes words.now) ≡ Command.Check name → IsOk result }
 {
     match words {
         [command, rest @ ..] => read_command(alloc, command.as_str(), rest),

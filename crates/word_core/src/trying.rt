@@ -6,13 +6,13 @@ use std::marker::Model;
 /// Jobs that are published one after the other, with no file written, and queries that are asked of the store they
 /// make.
 #[derive(Debug, Drop)]
-pub struct Rehearse {
-    queries: FileName,
+pub struct Rehearse<'a> {
+    queries: FileName<'a>,
     workers: u32,
-    jobs: Vec<FileName>,
+    jobs: Vec<FileName<'a>>,
 }
 
-impl Model for Rehearse {
+impl<'a> Model for Rehearse<'a> {
     ghost use Rattle.std.specs.Prelude.{◌≤◌, length};
     ghost use Rattle.word_core.specs.CommandFields.{RehearseFields};
     ghost use Rattle.ident_core.specs.declared.bounds.TheConstants.{MAX_PARTS, MAX_WORKERS};
@@ -24,17 +24,17 @@ impl Model for Rehearse {
     ghost invariant = { λ r. (1 ≤ r.workers) × (r.workers ≤ MAX_WORKERS) × (1 ≤ length r.jobs.items) × (length r.jobs.items ≤ MAX_PARTS) };
 }
 
-impl Rehearse {
+impl<'a> Rehearse<'a> {
     ghost use Rattle.std.specs.Prelude.{◌≡◌, ◌≤◌, length};
     ghost use Rattle.ident_core.specs.declared.bounds.TheConstants.{MAX_PARTS, MAX_WORKERS};
 
     /// The jobs in the files `jobs`, in the order in which they are published, to be built by so many workers, and the
     /// queries in the file `queries`. Names may be equal.
-    pub fn new(queries: FileName, workers: u32, jobs: Vec<FileName>) -> Rehearse
+    pub fn new(queries: FileName<'a>, workers: u32, jobs: Vec<FileName<'a>>) -> Rehearse<'a>
         requires bounds { (1 ≤ workers) × (workers ≤ MAX_WORKERS) }
         requires some { 1 ≤ length jobs.items }
         requires few { length jobs.items ≤ MAX_PARTS }
-        ensures { result ≡ record { queries = queries; workers = workers; jobs = jobs.items } }
+        ensures { result ≡ record { queries = queries.entry; workers = workers; jobs = jobs.entry.items } }
     {
         Rehearse {
             queries,
@@ -44,7 +44,7 @@ impl Rehearse {
     }
 
     /// The name of the file that holds the queries.
-    pub fn queries(&self) -> &str
+    pub fn queries(&self) -> &'a str
         ensures { result.now ≡ self.now.queries }
     {
         self.queries.as_str()
@@ -59,7 +59,7 @@ impl Rehearse {
     }
 
     /// The names of the files that hold the jobs, in the order in which they are published.
-    pub fn jobs(&self) -> &[FileName]
+    pub fn jobs(&self) -> &[FileName<'a>]
         ensures value { result.now ≡ self.now.jobs }
         ensures some { 1 ≤ length result.now }
         ensures few { length result.now ≤ MAX_PARTS }
@@ -70,13 +70,13 @@ impl Rehearse {
 
 /// A job that is made from a number.
 #[derive(Debug, Drop)]
-pub struct Sample {
+pub struct Sample<'a> {
     number: u64,
     count: u32,
-    job: FileName,
+    job: FileName<'a>,
 }
 
-impl Model for Sample {
+impl<'a> Model for Sample<'a> {
     ghost use Rattle.std.specs.Prelude.{◌≤◌};
     ghost use Rattle.word_core.specs.CommandFields.{SampleFields};
     ghost use Rattle.ident_core.specs.declared.bounds.TheConstants.{MAX_SAMPLE};
@@ -88,14 +88,14 @@ impl Model for Sample {
     ghost invariant = { λ s. (1 ≤ s.count) × (s.count ≤ MAX_SAMPLE) };
 }
 
-impl Sample {
+impl<'a> Sample<'a> {
     ghost use Rattle.std.specs.Prelude.{◌≡◌, ◌≤◌};
     ghost use Rattle.ident_core.specs.declared.bounds.TheConstants.{MAX_SAMPLE};
 
     /// The job of so many entries that `number` stands for, to be written to the file `job`.
-    pub fn new(number: u64, count: u32, job: FileName) -> Sample
+    pub fn new(number: u64, count: u32, job: FileName<'a>) -> Sample<'a>
         requires { (1 ≤ count) × (count ≤ MAX_SAMPLE) }
-        ensures { result ≡ record { number = number; count = count; job = job } }
+        ensures { result ≡ record { number = number; count = count; job = job.entry } }
     {
         Sample { number, count, job }
     }
@@ -116,7 +116,7 @@ impl Sample {
     }
 
     /// The name of the file that the job is written to.
-    pub fn job(&self) -> &str
+    pub fn job(&self) -> &'a str
         ensures { result.now ≡ self.now.job }
     {
         self.job.as_str()

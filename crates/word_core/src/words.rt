@@ -119,43 +119,39 @@ pub(crate) fn read_pairs(alloc: Global, words: &[String]) -> Result<Option<Vec<S
 }
 
 /// The name that a word spells, if it spells one.
-pub(crate) fn read_name(alloc: Global, word: &str) -> Result<Option<FileName>, NoMemory>
-    ensures { IfOk result (λ n. n ≡ name_of word.now) }
+pub(crate) fn read_name(word: &str) -> Option<FileName<'_>>
+    ensures { result ≡ name_of word.now }
 {
-    if !is_file_name(word) {
-        return Ok(None);
-    }
-    match String::from_str(alloc, word) {
-        Ok(text) => Ok(Some(FileName::new(text))),
-        Err(_) => Err(NoMemory),
+    if is_file_name(word) {
+        Some(FileName::new(word))
+    } else {
+        None
     }
 }
 
 /// Two names that two words spell, if each spells one.
-pub(crate) fn read_two_names(
-    alloc: Global,
-    first: &str,
-    second: &str,
-) -> Result<Option<(FileName, FileName)>, NoMemory>
-    ensures { IfOk result (λ names. names ≡ two_names_of first.now second.now) }
+pub(crate) fn read_two_names<'a>(
+    first: &'a str,
+    second: &'a str,
+) -> Option<(FileName<'a>, FileName<'a>)>
+    ensures { result ≡ two_names_of first.now second.now }
 {
-    let Some(first) = read_name(alloc, first)? else {
-        return Ok(None);
-    };
-    let Some(second) = read_name(alloc, second)? else {
-        return Ok(None);
-    };
-    Ok(Some((first, second)))
+    let first = read_name(first)?;
+    let second = read_name(second)?;
+    Some((first, second))
 }
 
 /// The names that words spell, if each spells one.
-pub(crate) fn read_names(alloc: Global, words: &[String]) -> Result<Option<Vec<FileName>>, NoMemory>
+pub(crate) fn read_names(
+    alloc: Global,
+    words: &[String],
+) -> Result<Option<Vec<FileName<'_>>>, NoMemory>
     ensures value { IfOk result (λ o. option_map (λ v. v.items) o ≡ names_of (map string_bytes words.now)) }
     ensures len { IfOk result (λ o. IfSome o (λ v. length v.items ≡ length words.now)) }
 {
     let mut names = Vec::with_capacity(alloc, words.len())?;
     for word in words {
-        let Some(name) = read_name(alloc, word.as_str())? else {
+        let Some(name) = read_name(word.as_str()) else {
             return Ok(None);
         };
         names.push(name)?;

@@ -5,7 +5,8 @@ use Rattle.clubcard_top.proofs.output.write_outputs.Goals as goal
 
 pub returns-in-Err-clause-torn : goal.returns-in-Err-clause-torn
 returns-in-Err-clause-torn g c =
-    torn-at _ _ _ c.args.outputs.now c.loop-output.output-index c.output-item.result c.loop-output-test.true c.output-item.is c.loop-output.invariant.written c.in-Err.ensures.err
+    rw c.name.ensures
+    (torn-at _ _ _ c.args.outputs.now c.loop-output.output-index c.output-item.result c.loop-output-test.true c.output-item.is c.loop-output.invariant.written c.in-Err.ensures.err)
 
 pub loop-output-preserved : goal.loop-output-preserved
 loop-output-preserved g c = record {

@@ -1,4 +1,4 @@
-use Rattle.std.proofs.Common.{map, Ok, Vec, Global}
+use Rattle.std.proofs.Common.{map, Ok, Vec, Global, refl}
 use Rattle.query_core.specs.declared.query.Asked.{Asked}
 use Rattle.query_core.specs.Queries.{as_query}
 use Rattle.clubcard_top.specs.declared.answer.Answer.TheVariants as answers
@@ -14,10 +14,10 @@ returns-in-Err-clause-reply g c =
 
 pub returns-in-Ok-with_files-clause-reply : goal.returns-in-Ok-with_files-clause-reply
 returns-in-Ok-with_files-clause-reply g c =
-    rehearse_made g.D.Depot c.args.depot.now _ _ c.in-Ok.ensures.only_reads c.args.rehearse.now (Ok (answers.Reply c.lines.result))
+    rehearse_made g.D.Depot c.args.depot.now _ _ c.in-Ok.ensures.only_reads c.args.rehearse.now (Ok (answers.Lines c.put_verdicts.new.text))
     (λ (v : Vec Asked Global). map as_query v.items) c.in-Ok.queries c.in-Ok-with_files.rehearsal c.in-Ok-with_files.text.items c.put_verdicts.new.text.items
     (rw c.queries.ensures at c.in-Ok.ensures.input)
-    (rw c.jobs-names.ensures.value at c.in-Ok-with_files.ensures.rehearsed) (rw c.deref.ensures.value at c.in_ok-put_verdicts-in-Ok-with_files.ensures) c.lines.ensures
+    (rw c.jobs-names.ensures.value at c.in-Ok-with_files.ensures.rehearsed) (rw c.deref.ensures.value at c.in_ok-put_verdicts-in-Ok-with_files.ensures) refl
 
 pub returns-clause-reply : goal.returns-clause-reply
 returns-clause-reply g c =
