@@ -1,6 +1,6 @@
 -- The words of a number.
 use Rattle.std.proofs.Common.{◌≡◌, ℕ, zero, suc, ◌+◌, ◌-◌, ◌*◌, ◌/◌, ◌%◌, ◌^◌, ◌<◌, ◌≤◌, refl, ◌∙◌, arith}
-use Rattle.std.proofs.lemmas.Nat.{pow-add, shr_below, shr-shr, rows, mod-pow-add, mod_low, mod_below, pow_pos}
+use Rattle.std.proofs.lemmas.Nat.{pow-add, shr-shr, rows, mod-pow-add, mod_low, mod_below, pow_pos}
 use Rattle.std.proofs.Math.Nat.{div-lt_iff_lt-mul}
 use Rattle.ribbon_core.specs.PlaneWords.{number_by}
 use Rattle.ribbon_core.proofs.Bands.{div_one}
@@ -43,7 +43,7 @@ mod_shorter Y j k =
     let p = mod-pow-add Y j k in
     rw (p, mod_low (Y / 2 ^ k % 2 ^ j) k (Y % 2 ^ k) (mod_below Y (2 ^ k) (pow_pos k))) refl
 
--- a number of words has its padding bits zero exactly where its last word has
+-- a number of words has its padding bits zero where its last word has
 module _ (f : ℕ → ℕ) (fits : (k : ℕ) → f k < 2 ^ 64) where
   last_word : (n : ℕ) → number_by f 0 (n + 1) / 2 ^ (64 * n) ≡ f n
   unfolding number_by
@@ -61,10 +61,3 @@ module _ (f : ℕ → ℕ) (fits : (k : ℕ) → f k < 2 ^ 64) where
       let p : 2 ^ (r + 64 * n) ≡ 2 ^ r * 2 ^ (64 * n) = pow-add 2 r (64 * n) in
       let w : 64 * n + r ≡ r + 64 * n = omega arith in
       rw (w, p) k
-
-  pub last_from_padded : (n r : ℕ) → number_by f 0 (n + 1) < 2 ^ (64 * n + r) → f n < 2 ^ r
-  last_from_padded n r lt =
-      let w : 64 * n + r ≡ r + 64 * n = omega arith in
-      let h : number_by f 0 (n + 1) < 2 ^ (r + 64 * n) = rw w at lt in
-      let k = shr_below (number_by f 0 (n + 1)) r (64 * n) h in
-      rw (last_word n) at k
