@@ -2,28 +2,17 @@
 use Rattle.std.proofs.Common.{◌≡◌, ℕ, zero, suc, ◌+◌, ◌-◌, ◌*◌, ◌/◌, ◌%◌, ◌^◌, ◌<◌, ◌≤◌, ◌≢◌, ◌↔◌, inl, inr, refl, sym, ap, ◌∙◌, arith, List, length, get_or, set, get_or-set_same, get_or-set_other}
 use Rattle.std.proofs.lemmas.Bool.{cases_eq, cases_lt}
 use Rattle.std.specs.Prelude.{bit_and, bit_xor}
-use Rattle.std.specs.Int.{bit_at, w16, w128, trailing_zeros}
+use Rattle.std.specs.Int.{bit_at, w16, w64, w128, trailing_zeros}
 use Rattle.std.specs.Int.Bits.{and_zero_l, xor_lt}
-use Rattle.std.proofs.lemmas.Nat.{shr-shr, shr_below, mod-pow-add}
+use Rattle.std.proofs.lemmas.Nat.{shr-shr, shr_below, mod-pow-add, field_of}
 use Rattle.std.proofs.lemmas.Nat.Bits.{bit_at_xor, bit_at-lt, bit_at-zero, bit_at_above, bit_at-trailing_zeros}
 use Rattle.std.proofs.lemmas.List.{length-set}
-use Rattle.std.proofs.Math.Nat.{pow-suc, div-eq_of_lt}
+use Rattle.std.proofs.Math.Nat.{div-eq_of_lt}
 use Rattle.std.proofs.Math.Pow.{pow_mono}
 use Rattle.ribbon_core.specs.Equations.{parity}
 use Rattle.ribbon_core.specs.Bands.{SolvesBands, AreBanded}
-use Rattle.ribbon_core.proofs.Parity.{xor_low, parity-lt, parity_step, parity_of_zero, and_half, and_low, parity-xor, parity_split}
-
-pub even_step : (c y : ℕ) → c % 2 ≡ 0 → parity (bit_and c y) ≡ parity (bit_and (c / 2) (y / 2))
-even_step c y e =
-    let l = parity-lt (bit_and (c / 2) (y / 2)) in
-    let p : parity (bit_and c y) ≡ (0 + parity (bit_and (c / 2) (y / 2))) % 2 = parity_step (bit_and c y) ∙ rw (and_low, and_half, e, and_zero_l) refl in
-    omega (arith, p, l)
-
-pub next_column : (Z at : ℕ) → Z / 2 ^ at / 2 ≡ Z / 2 ^ (at + 1)
-next_column Z at = shr-shr Z at 1
-
-pub even_at : (c Z at : ℕ) → c % 2 ≡ 0 → parity (bit_and c (Z / 2 ^ at)) ≡ parity (bit_and (c / 2) (Z / 2 ^ (at + 1)))
-even_at c Z at e = even_step c (Z / 2 ^ at) e ∙ rw next_column refl
+use Rattle.ribbon_core.proofs.Parity.{xor_low, parity-lt, parity_of_zero, parity-xor, parity_split}
+use Rattle.ribbon_core.proofs.Words.{mod_shorter}
 
 cancel : (a b d : ℕ) → a < 2 → b < 2 → (a + d) % 2 ≡ (b + d) % 2 → a ≡ b
 cancel a b d h i e = omega arith
@@ -68,28 +57,6 @@ store_solves plane planes at c t Z cs ts bands lt free =
       ],
     )
 
-pub store_banded : (planes at c t : ℕ) (cs ts : List ℕ) → AreBanded cs ts planes → at < length cs → c % 2 ≡ 1 → c < 2 ^ (length cs - at) → t < 2 ^ planes
-    → AreBanded (set cs at c) (set ts at t) planes
-store_banded planes at c t cs ts bands lt odd within few =
-    let lt' : at < length ts = omega (arith, bands.same_length) in
-    let n = length-set cs at c in
-    let m = length-set ts at t in
-    record {
-      same_length = m ∙ bands.same_length ∙ sym n;
-      pivots = λ p h. elim (cases_eq p at) [
-        | inl e ↦ (rw (e, get_or-set_same, get_or-set_same) (inl odd))
-        | inr ne ↦ (rw (get_or-set_other, get_or-set_other) (bands.pivots p (omega (arith, n))))
-      ];
-      within = λ p h. elim (cases_eq p at) [
-        | inl e ↦ (rw (n, e, get_or-set_same) within)
-        | inr ne ↦ (rw (n, get_or-set_other) (bands.within p (omega (arith, n))))
-      ];
-      few_planes = λ p h. elim (cases_eq p at) [
-        | inl e ↦ (rw (e, get_or-set_same) few)
-        | inr ne ↦ (rw get_or-set_other (bands.few_planes p (omega (arith, n))))
-      ];
-    }
-
 -- a target that is not 0 has a plane
 pub plane_of : (t planes : ℕ) → t ≢ 0 → t < 2 ^ 16 → t < 2 ^ planes → (plane : ℕ) × (plane < planes) × (bit_at t plane ≡ 1)
 plane_of t planes ne fits few =
@@ -130,26 +97,15 @@ module _ (cs ts : List ℕ) (start coeff target planes : ℕ) (bands : AreBanded
             let o : bit_at t p.0 ≡ 1 = p.2 in cc,
       )
 
-  pub same_even : (at c t : ℕ) → c % 2 ≡ 0 → SameGiven cs ts start coeff target at c t → SameGiven cs ts start coeff target (at + 1) (c / 2) t
-  same_even at c t e same plane Z s =
-      let h = even_at c Z at e in
+  pub odd_pivot : (at : ℕ) → at < length cs → get_or cs at 0 ≢ 0 → get_or cs at 0 % 2 ≡ 1
+  odd_pivot at lt ne = elim (bands.pivots at lt) [ inl o ↦ o | inr e ↦ absurd (ne e.0) ]
+
+  pub same_xor : (at c t : ℕ) → at < length cs → SameGiven cs ts start coeff target at c t
+      → SameGiven cs ts start coeff target at (bit_xor c (get_or cs at 0)) (bit_xor t (get_or ts at 0))
+  same_xor at c t lt same plane Z s =
       let k = same plane Z s in
-      (λ x. sym h ∙ k.0 x, λ x. k.1 (h ∙ x))
-
-  pub same_odd : (at c t : ℕ) → at < length cs → c % 2 ≡ 1 → get_or cs at 0 ≢ 0 → SameGiven cs ts start coeff target at c t
-      → SameGiven cs ts start coeff target (at + 1) (bit_xor c (get_or cs at 0) / 2) (bit_xor t (get_or ts at 0))
-  same_odd at c t lt odd ne same =
-      let odd' : get_or cs at 0 % 2 ≡ 1 = elim (bands.pivots at lt) [ inl o ↦ o | inr e ↦ absurd (ne e.0) ] in
-      same_even at (bit_xor c (get_or cs at 0)) (bit_xor t (get_or ts at 0)) (xor_even c (get_or cs at 0) odd odd')
-      (λ plane Z s. let k = same plane Z s in
       let x = xor_step c (get_or cs at 0) t (get_or ts at 0) plane (Z / 2 ^ at) (s at lt) in
-      (λ e. x.0 (k.0 e), λ e. k.1 (x.1 e)))
-
-  pub within_next : (at c : ℕ) → at < length cs → c < 2 ^ (length cs - at) → c / 2 < 2 ^ (length cs - (at + 1))
-  within_next at c lt h =
-      let e : length cs - at ≡ suc (length cs - (at + 1)) = omega arith in
-      let k : c < 2 ^ suc (length cs - (at + 1)) = rw e at h in
-      let p = pow-suc 2 (length cs - (at + 1)) in omega (arith, k, p)
+      (λ e. x.0 (k.0 e), λ e. k.1 (x.1 e))
 
   pub within_xor : (at c : ℕ) → at < length cs → c < 2 ^ (length cs - at) → bit_xor c (get_or cs at 0) < 2 ^ (length cs - at)
   within_xor at c lt h = xor_lt (length cs - at) c (get_or cs at 0) h (bands.within at lt)
@@ -185,11 +141,35 @@ low_zeros (suc k) c h =
 pub odd_some : (c : ℕ) → c % 2 ≡ 1 → c ≢ 0
 odd_some c odd e = absurd (omega (arith, odd, e))
 
+low_bit : (c i : ℕ) → i < 64 → bit_at (c % 2 ^ 64) i ≡ bit_at c i
+low_bit c i lt =
+    let e : 64 - i + i ≡ 64 = omega arith in
+    let f : c % 2 ^ (64 - i + i) / 2 ^ i ≡ c / 2 ^ i % 2 ^ (64 - i) = field_of c (64 - i) i in
+    let g : c % 2 ^ 64 / 2 ^ i ≡ c / 2 ^ i % 2 ^ (64 - i) = rw e at f in
+    let d : 63 - i + 1 ≡ 64 - i = omega arith in
+    let m : c / 2 ^ i % 2 ^ (63 - i + 1) % 2 ^ 1 ≡ c / 2 ^ i % 2 ^ 1 = mod_shorter (c / 2 ^ i) (63 - i) 1 in
+    let m' : c / 2 ^ i % 2 ^ (64 - i) % 2 ^ 1 ≡ c / 2 ^ i % 2 ^ 1 = rw d at m in
+    ap (λ (x : ℕ). x % 2) g ∙ m'
+
 -- the zeros below the lowest one
 pub lowest_one : (c : ℕ) → c ≢ 0 → c < 2 ^ 128 → (c % 2 ^ trailing_zeros w128 c ≡ 0) × (c / 2 ^ trailing_zeros w128 c % 2 ≡ 1)
 lowest_one c ne lt =
     let h = bit_at-trailing_zeros w128 c (omega arith) lt in
     (low_zeros (trailing_zeros w128 c) c h.2, h.1)
+
+-- where there is one among the low 64 bits
+pub lowest_low : (c : ℕ) → c % 2 ^ 64 ≢ 0 → (c % 2 ^ trailing_zeros w64 (c % 2 ^ 64) ≡ 0) × (c / 2 ^ trailing_zeros w64 (c % 2 ^ 64) % 2 ≡ 1)
+lowest_low c ne =
+    let h = bit_at-trailing_zeros w64 (c % 2 ^ 64) (omega arith) (omega arith) in
+    let few : trailing_zeros w64 (c % 2 ^ 64) < 64 = h.0 in (
+      low_zeros (trailing_zeros w64 (c % 2 ^ 64)) c (λ i lt. sym (low_bit c i (omega (arith, few, lt))) ∙ h.2 i lt),
+      sym (low_bit c (trailing_zeros w64 (c % 2 ^ 64)) few) ∙ h.1,
+    )
+
+-- an even number's lowest one isn't its lowest bit
+pub skips : (c s : ℕ) → c % 2 ≡ 0 → c / 2 ^ s % 2 ≡ 1 → 0 < s
+skips c zero even odd = absurd (omega (arith, even, odd))
+skips c (suc s) even odd = omega arith
 
 skip_at : (s c Z at : ℕ) → c % 2 ^ s ≡ 0 → parity (bit_and c (Z / 2 ^ at)) ≡ parity (bit_and (c / 2 ^ s) (Z / 2 ^ (at + s)))
 skip_at s c Z at e =
@@ -212,38 +192,40 @@ skip_within n at s c le odd lt = elim (cases_lt (at + s) n) [
 ]
 
 module _ (cs ts cs' ts' : List ℕ) (start coeff target planes at c t : ℕ) (bands : AreBanded cs ts planes) (r : Reducing cs ts cs' ts' start coeff target planes at c t) where
-  -- the place of the lowest one
-  pub skipped : c ≢ 0 → c < 2 ^ 128 → Reducing cs ts cs' ts' start coeff target planes (at + trailing_zeros w128 c) (c / 2 ^ trailing_zeros w128 c) t
-  skipped some lt =
-      let s : ℕ = trailing_zeros w128 c in
-      let l = lowest_one c some lt in
-      let w = skip_within (length cs) at (trailing_zeros w128 c) c r.place l.1 r.within in
+  -- the zeros below the lowest one are left out
+  pub skipped : (s : ℕ) → c % 2 ^ s ≡ 0 → c / 2 ^ s % 2 ≡ 1 → Reducing cs ts cs' ts' start coeff target planes (at + s) (c / 2 ^ s) t
+  skipped s zeros odd =
+      let w = skip_within (length cs) at s c r.place odd r.within in
       record {
         coeffs_kept = r.coeffs_kept;
         targets_kept = r.targets_kept;
         place = omega (arith, w.0);
         within = w.1;
         few_planes = r.few_planes;
-        same = λ plane Z s.
-            let h = skip_at (trailing_zeros w128 c) c Z at l.0 in
-            let k = r.same plane Z s in
+        same = λ plane Z solves.
+            let h = skip_at s c Z at zeros in
+            let k = r.same plane Z solves in
             (λ x. sym h ∙ k.0 x, λ x. k.1 (h ∙ x));
       }
 
   pub column_in : c ≢ 0 → at < length cs
   column_in some = some_column (length cs) at c r.place some r.within
 
-  pub reduced_odd : c % 2 ≡ 1 → get_or cs' at 0 ≢ 0
-      → Reducing cs ts cs' ts' start coeff target planes (at + 1) (bit_xor c (get_or cs' at 0) / 2) (bit_xor t (get_or ts' at 0))
-  reduced_odd odd ne =
-      let ne' : get_or cs at 0 ≢ 0 = rw r.coeffs_kept at ne in
+  pub reduced : c % 2 ≡ 1
+      → Reducing cs ts cs' ts' start coeff target planes at (bit_xor c (get_or cs' at 0)) (bit_xor t (get_or ts' at 0))
+  reduced odd =
       let some : c ≢ 0 = odd_some c odd in
       rw (r.coeffs_kept, r.targets_kept) (record {
         coeffs_kept = refl;
         targets_kept = refl;
-        place = omega (arith, column_in some);
-        within = within_next cs ts start coeff target planes bands at (bit_xor c (get_or cs at 0)) (column_in some)
-            (within_xor cs ts start coeff target planes bands at c (column_in some) r.within);
+        place = r.place;
+        within = within_xor cs ts start coeff target planes bands at c (column_in some) r.within;
         few_planes = few_xor cs ts start coeff target planes bands at t (column_in some) r.few_planes;
-        same = same_odd cs ts start coeff target planes bands at c t (column_in some) odd ne' r.same;
+        same = same_xor cs ts start coeff target planes bands at c t (column_in some) r.same;
       })
+
+  -- what is left has no one at the pivot's column
+  pub reduced_even : c % 2 ≡ 1 → get_or cs' at 0 ≢ 0 → bit_xor c (get_or cs' at 0) % 2 ≡ 0
+  reduced_even odd ne =
+      let ne' : get_or cs at 0 ≢ 0 = rw r.coeffs_kept at ne in
+      rw r.coeffs_kept (xor_even c (get_or cs at 0) odd (odd_pivot cs ts start coeff target planes bands at (column_in (odd_some c odd)) ne'))

@@ -14,9 +14,6 @@ use Rattle.ribbon_core.proofs.KeptEquations.{kept_solves}
 use Rattle.ribbon_core.proofs.Solution.{solution_solves, solution_le, solution_lt}
 use Rattle.ribbon_core.proofs.LeastLaws.{least_from_le}
 
-pub length-columns : (starts planes : ℕ) (words : List ℕ) → length (columns_of starts planes words) ≡ planes
-length-columns starts planes words = length-map-range_with_len (plane_of_words words (words_for starts)) 0 planes
-
 pub length-kept : (starts planes : ℕ) (words : List ℕ) → length (kept_columns starts planes words) ≡ planes
 length-kept starts planes words = length-map-range_with_len (kept_plane words planes (words_for starts)) 0 planes
 

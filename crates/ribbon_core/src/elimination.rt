@@ -1,4 +1,4 @@
-ghost use Rattle.std.specs.Prelude.{◌≡◌, ℕ, ◌-◌, ◌/◌, ◌^◌, ◌<◌, ◌≤◌, ◌↔◌, length, OnOk, OnErr, bit_and};
+ghost use Rattle.std.specs.Prelude.{◌≡◌, ◌≢◌, ℕ, ◌-◌, ◌/◌, ◌%◌, ◌^◌, ◌<◌, ◌≤◌, ◌↔◌, length, OnOk, OnErr, bit_and};
 ghost use Rattle.std.specs.Int.{bit_at};
 ghost use Rattle.ribbon_core.specs.Equations.{parity};
 ghost use Rattle.ribbon_core.specs.Bands.{SolvesBands, AreBanded};
@@ -18,6 +18,7 @@ pub fn reduce(
     mut target: u16,
 ) -> Result<(), Inconsistent>
     requires bands { AreBanded coeffs.old targets.old planes }
+    requires odd { coeff % 2 ≡ 1 }
     requires start { start ≤ length coeffs.old }
     requires within { coeff < 2 ^ (length coeffs.old - start) }
     requires few_planes { target < 2 ^ planes }
@@ -31,23 +32,41 @@ pub fn reduce(
     ensures targets_kept { OnErr result (targets.new ≡ targets.old) }
 {
     let mut at = start;
-    while coeff != 0 {
-        let skipped = coeff.trailing_zeros();
-        let odd = coeff >> skipped;
-        at += skipped as usize;
+    loop {
         let pivot = coeffs[at];
         if pivot == 0 {
-            coeffs[at] = odd;
+            coeffs[at] = coeff;
             targets[at] = target;
             return Ok(());
         }
-        coeff = (odd ^ pivot) >> 1;
+        coeff ^= pivot;
         target ^= targets[at];
-        at += 1;
+        if coeff == 0 {
+            return if target == 0 {
+                Ok(())
+            } else {
+                Err(Inconsistent)
+            };
+        }
+        let (odd, skipped) = at_lowest(coeff);
+        coeff = odd;
+        at += skipped as usize;
     }
-    if target == 0 {
-        Ok(())
-    } else {
-        Err(Inconsistent)
+}
+
+// The coefficient from its lowest one on, and how many zeros stand below that. It is mostly among the low 64 bits,
+// which are looked at first.
+fn at_lowest(coeff: u128) -> (u128, u32)
+    requires { coeff ≢ 0 }
+    ensures from_there { result.0 ≡ coeff / 2 ^ result.1 }
+    ensures zeros { coeff % 2 ^ result.1 ≡ 0 }
+    ensures odd { result.0 % 2 ≡ 1 }
+{
+    let low = (coeff & 0xffff_ffff_ffff_ffff) as u64;
+    if low != 0 {
+        let zeros = low.trailing_zeros();
+        return (coeff >> zeros, zeros);
     }
+    let zeros = coeff.trailing_zeros();
+    (coeff >> zeros, zeros)
 }

@@ -1,58 +1,60 @@
-use Rattle.std.proofs.Common.{rules, arith, ◌≡◌, ◌+◌, ◌/◌, ◌^◌, ◌<◌, ◌%◌, length}
-use Rattle.std.specs.Int.{w128, trailing_zeros}
-use Rattle.ribbon_core.proofs.Reduction.{Reducing, skipped, stored, followed, refused, reduced_odd, column_in, odd_some, lowest_one, store_banded}
+use Rattle.std.proofs.Common.{arith, ◌^◌, ◌<◌, length, get_or}
+use Rattle.std.specs.Prelude.{bit_xor}
+use Rattle.std.specs.Int.Bits.{xor_lt}
+use Rattle.ribbon_core.proofs.Reduction.{Reducing, skipped, stored, followed, refused, reduced, reduced_even, column_in, odd_some, skips}
 use Rattle.ribbon_core.proofs.elimination.reduce.Goals as goal
-use Rattle.ribbon_core.proofs.elimination.reduce.Goals.{In-loop-coeff}
+use Rattle.ribbon_core.proofs.elimination.reduce.Goals.{At-loop-coeffs}
 
--- where the row comes to rest
-at_rest : (c : In-loop-coeff) → Reducing c.args.coeffs.now c.args.targets.now c.loop-coeff.coeffs c.loop-coeff.targets c.args.start c.args.coeff c.args.target c.args.planes
-    (c.loop-coeff.at + trailing_zeros w128 c.loop-coeff.coeff) (c.loop-coeff.coeff / 2 ^ trailing_zeros w128 c.loop-coeff.coeff) c.loop-coeff.target
-at_rest c = skipped c.args.coeffs.now c.args.targets.now c.loop-coeff.coeffs c.loop-coeff.targets c.args.start c.args.coeff c.args.target c.args.planes
-    c.loop-coeff.at c.loop-coeff.coeff c.loop-coeff.target
-    c.requires.bands c.loop-coeff.invariant c.loop-coeff-test.true (search rules)
+in_range : (c : At-loop-coeffs) → c.loop-coeffs.at < length c.args.coeffs.now
+in_range c = column_in c.args.coeffs.now c.args.targets.now c.loop-coeffs.coeffs c.loop-coeffs.targets c.args.start c.args.coeff c.args.target c.args.planes
+    c.loop-coeffs.at c.loop-coeffs.coeff c.loop-coeffs.target c.requires.bands c.loop-coeffs.invariant.reducing (odd_some _ c.loop-coeffs.invariant.odd)
 
-odd_there : (c : In-loop-coeff) → c.loop-coeff.coeff / 2 ^ trailing_zeros w128 c.loop-coeff.coeff % 2 ≡ 1
-odd_there c = (lowest_one c.loop-coeff.coeff c.loop-coeff-test.true (search rules)).1
-
-in_range : (c : In-loop-coeff) → c.loop-coeff.at + trailing_zeros w128 c.loop-coeff.coeff < length c.args.coeffs.now
-in_range c = column_in c.args.coeffs.now c.args.targets.now c.loop-coeff.coeffs c.loop-coeff.targets c.args.start c.args.coeff c.args.target c.args.planes
-    (c.loop-coeff.at + trailing_zeros w128 c.loop-coeff.coeff) (c.loop-coeff.coeff / 2 ^ trailing_zeros w128 c.loop-coeff.coeff) c.loop-coeff.target c.requires.bands
-    (at_rest c) (odd_some _ (odd_there c))
-
-pub bounds-coeffs-at : goal.bounds-coeffs-at
-bounds-coeffs-at c = let h = in_range (goal.at.bounds-coeffs-at c).In-loop-coeff in omega (arith, h)
-
-pub bounds-coeffs-at-then-pivot-eq0 : goal.bounds-coeffs-at-then-pivot-eq0
-bounds-coeffs-at-then-pivot-eq0 c = let h = in_range (goal.at.bounds-coeffs-at-then-pivot-eq0 c).In-loop-coeff in omega (arith, h)
-
-pub bounds-targets-at : goal.bounds-targets-at
-bounds-targets-at c = let h = in_range (goal.at.bounds-targets-at c).In-loop-coeff in omega (arith, h, c.requires.bands.same_length)
-
-pub returns-then-pivot-eq0-clause-bands : goal.returns-then-pivot-eq0-clause-bands
-returns-then-pivot-eq0-clause-bands c =
-    let p = (goal.at.returns-then-pivot-eq0-clause-bands c).In-loop-coeff in
-    let r = at_rest p in
-    rw (r.coeffs_kept, r.targets_kept) (store_banded c.args.planes _ _ c.loop-coeff.target c.args.coeffs.now c.args.targets.now c.requires.bands (in_range p) (odd_there p) r.within r.few_planes)
+-- without the pivot's columns
+without : (c : At-loop-coeffs) → Reducing c.args.coeffs.now c.args.targets.now c.loop-coeffs.coeffs c.loop-coeffs.targets c.args.start c.args.coeff c.args.target c.args.planes
+    c.loop-coeffs.at (bit_xor c.loop-coeffs.coeff (get_or c.loop-coeffs.coeffs c.loop-coeffs.at 0)) (bit_xor c.loop-coeffs.target (get_or c.loop-coeffs.targets c.loop-coeffs.at 0))
+without c = reduced c.args.coeffs.now c.args.targets.now c.loop-coeffs.coeffs c.loop-coeffs.targets c.args.start c.args.coeff c.args.target c.args.planes
+    c.loop-coeffs.at c.loop-coeffs.coeff c.loop-coeffs.target c.requires.bands c.loop-coeffs.invariant.reducing c.loop-coeffs.invariant.odd
 
 pub returns-then-pivot-eq0-clause-ok : goal.returns-then-pivot-eq0-clause-ok
 returns-then-pivot-eq0-clause-ok c =
-    let p = (goal.at.returns-then-pivot-eq0-clause-ok c).In-loop-coeff in
-    let r = at_rest p in
+    let p = (goal.at.returns-then-pivot-eq0-clause-ok c).At-loop-coeffs in
+    let r = c.loop-coeffs.invariant.reducing in
     stored c.args.coeffs.now c.args.targets.now c.args.start c.args.coeff c.args.target c.args.planes c.requires.bands
-    c.loop-coeff.coeffs c.loop-coeff.targets _ _ c.loop-coeff.target r.coeffs_kept r.targets_kept
+    c.loop-coeffs.coeffs c.loop-coeffs.targets _ _ c.loop-coeffs.target r.coeffs_kept r.targets_kept
     (in_range p) (rw r.coeffs_kept at c.if-pivot-eq0.true) r.same
 
-pub loop-coeff-preserved : goal.loop-coeff-preserved
-loop-coeff-preserved c =
-    let p = (goal.at.loop-coeff-preserved c).In-loop-coeff in
-    reduced_odd c.args.coeffs.now c.args.targets.now c.loop-coeff.coeffs c.loop-coeff.targets c.args.start c.args.coeff c.args.target c.args.planes _ _ c.loop-coeff.target c.requires.bands
-    (at_rest p) (odd_there p) c.if-pivot-eq0.false
-
 pub returns-then-target-eq0-clause-ok : goal.returns-then-target-eq0-clause-ok
-returns-then-target-eq0-clause-ok c = followed c.args.coeffs.now c.args.targets.now c.args.start c.args.coeff c.args.target c.args.planes c.requires.bands
-    c.loop-coeff.coeffs c.loop-coeff.targets c.loop-coeff.at c.loop-coeff.coeff c.loop-coeff.target c.loop-coeff.invariant.coeffs_kept
-    c.loop-coeff.invariant.targets_kept (search rules) (search rules) c.loop-coeff.invariant.same
+returns-then-target-eq0-clause-ok c =
+    let p = (goal.at.returns-then-target-eq0-clause-ok c).At-loop-coeffs in
+    let r = without p in
+    followed c.args.coeffs.now c.args.targets.now c.args.start c.args.coeff c.args.target c.args.planes c.requires.bands
+    c.loop-coeffs.coeffs c.loop-coeffs.targets c.loop-coeffs.at _ _ r.coeffs_kept r.targets_kept c.if-coeff-eq0.true c.if-target-eq0.true r.same
 
 pub returns-else-target-eq0-clause-err : goal.returns-else-target-eq0-clause-err
-returns-else-target-eq0-clause-err c = refused c.args.coeffs.now c.args.targets.now c.args.start c.args.coeff c.args.target c.args.planes c.requires.bands
-    c.loop-coeff.at c.loop-coeff.coeff c.loop-coeff.target (search rules) (search rules) (search rules) (search rules) c.loop-coeff.invariant.same
+returns-else-target-eq0-clause-err c =
+    let p = (goal.at.returns-else-target-eq0-clause-err c).At-loop-coeffs in
+    let r = without p in
+    let old : c.loop-coeffs.target < 2 ^ 16 = omega (arith, c.loop-coeffs.auto.target-fits) in
+    let more : get_or c.loop-coeffs.targets c.loop-coeffs.at 0 < 2 ^ 16 = omega (arith, c.type_inv.targets c.loop-coeffs.at) in
+    refused c.args.coeffs.now c.args.targets.now c.args.start c.args.coeff c.args.target c.args.planes c.requires.bands
+    c.loop-coeffs.at _ _ c.if-coeff-eq0.true c.if-target-eq0.false (xor_lt 16 _ _ old more) r.few_planes r.same
+
+pub loop-coeffs-smaller : goal.loop-coeffs-smaller
+loop-coeffs-smaller c =
+    let p = (goal.at.loop-coeffs-smaller c).At-loop-coeffs in
+    let lt = in_range p in
+    let even = reduced_even c.args.coeffs.now c.args.targets.now c.loop-coeffs.coeffs c.loop-coeffs.targets c.args.start c.args.coeff c.args.target c.args.planes
+    c.loop-coeffs.at c.loop-coeffs.coeff c.loop-coeffs.target c.requires.bands c.loop-coeffs.invariant.reducing c.loop-coeffs.invariant.odd c.if-pivot-eq0.false in
+    let some = skips _ c.at_lowest-odd.result.1 even (rw c.at_lowest-odd.ensures.from_there at c.at_lowest-odd.ensures.odd) in
+    omega (arith, lt, some)
+
+pub loop-coeffs-preserved : goal.loop-coeffs-preserved
+loop-coeffs-preserved c =
+    let p = (goal.at.loop-coeffs-preserved c).At-loop-coeffs in
+    let odd = c.at_lowest-odd.ensures.odd in
+    record {
+      reducing = rw c.at_lowest-odd.ensures.from_there
+          (skipped c.args.coeffs.now c.args.targets.now c.loop-coeffs.coeffs c.loop-coeffs.targets c.args.start c.args.coeff c.args.target c.args.planes
+          c.loop-coeffs.at _ _ c.requires.bands (without p) c.at_lowest-odd.result.1 c.at_lowest-odd.ensures.zeros (rw c.at_lowest-odd.ensures.from_there at odd));
+      odd = odd;
+    }
