@@ -27,11 +27,21 @@ impl Random {
         let coeff = (u128::from(self.next()) << 64 | u128::from(self.next())) | 1;
         let place = self.next();
         Row {
-            start: (place % u64::from(starts)) as u32,
+            start: ((u128::from(place) * u128::from(starts)) >> 64) as u32,
             coeff,
-            tag: (place >> 48) as u16,
+            tag: place as u16,
         }
     }
+}
+
+fn at_lowest(coeff: u128) -> (u128, u32) {
+    let low = coeff as u64;
+    if low != 0 {
+        let zeros = low.trailing_zeros();
+        return (coeff >> zeros, zeros);
+    }
+    let zeros = coeff.trailing_zeros();
+    (coeff >> zeros, zeros)
 }
 
 struct System {
@@ -51,21 +61,22 @@ impl System {
     fn add(&mut self, row: &Row, mut target: u16) -> bool {
         let mut at = row.start as usize;
         let mut coeff = row.coeff;
-        while coeff != 0 {
-            let skipped = coeff.trailing_zeros();
-            let odd = coeff >> skipped;
-            at += skipped as usize;
+        loop {
             let pivot = self.coeffs[at];
             if pivot == 0 {
-                self.coeffs[at] = odd;
+                self.coeffs[at] = coeff;
                 self.targets[at] = target;
                 return true;
             }
-            coeff = (odd ^ pivot) >> 1;
+            coeff ^= pivot;
             target ^= self.targets[at];
-            at += 1;
+            if coeff == 0 {
+                return target == 0;
+            }
+            let (odd, skipped) = at_lowest(coeff);
+            coeff = odd;
+            at += skipped as usize;
         }
-        target == 0
     }
 
     fn solve(&self, planes: usize) -> Vec<u64> {

@@ -36,9 +36,9 @@ impl Random {
         let coeff = (u128::from(self.next()) << 64 | u128::from(self.next())) | 1;
         let place = self.next();
         Row {
-            start: (place % starts as u64) as u32,
+            start: ((u128::from(place) * u128::from(starts)) >> 64) as u32,
             coeff,
-            tag: (place >> 48) as u16,
+            tag: (place & 0xffff) as u16,
         }
     }
 }
