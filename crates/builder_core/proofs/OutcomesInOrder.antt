@@ -1,5 +1,7 @@
 -- Outcomes of groups, one behind the other, and the blocks that they give.
 use Rattle.std.proofs.Common.{◌≡◌, ◌<◌, ◌≤◌, ◌+◌, ◌⊎◌, inl, inr, ℕ, Bool, List, [], ◌∷◌, ◌++◌, length, map, take, drop, get_or, Result, Ok, Err, refl, sym, ap, ◌∙◌, subst, arith, All}
+use Rattle.std.specs.declared.alloc.Global.{Global}
+use Rattle.std.specs.declared.vec.Vec.{Vec}
 use Rattle.std.proofs.lemmas.List.{take_more, take-append-drop, append_assoc, map-append, length-map, get_or-map}
 use Rattle.std.proofs.lemmas.List.Sums.{get_or-le-sum_by}
 use Rattle.ident_core.specs.declared.identity.Identity.{Identity}
@@ -14,7 +16,7 @@ use Rattle.universe_core.specs.Groups.{GroupFields, group_fields, IsGroup}
 use Rattle.builder_core.specs.declared.fault.BuildFault.{BuildFault}
 use Rattle.builder_core.specs.declared.fault.BuildFault.TheVariants.{SeedsExhausted, NoMemory}
 use Rattle.builder_core.specs.Building.{AreGroupBlocks, IsFirstRefused, IsBuildFault, fault_of, identities_in}
-use Rattle.builder_core.specs.Outcomes.{IsReady, IsOutcome, AreOutcomes, IsFirstFault}
+use Rattle.builder_core.specs.Outcomes.{IsReady, IsOutcome, AreOutcomes, BuildsOutcomes, IsJoined, IsFirstFault}
 use Rattle.builder_core.specs.Laws.{OutcomesGiveBlocks}
 
 -- what building asks of each group
@@ -45,6 +47,15 @@ module _ (rows : Rows) where
   outcomes_joined (g ∷ gs) hs [] ps a b = absurd a
   outcomes_joined (g ∷ gs) hs (Ok x ∷ os) ps a b = (a.0, outcomes_joined gs hs os ps a.1 b)
   outcomes_joined (g ∷ gs) hs (Err e ∷ os) ps a b = a
+
+  -- the outcomes of two lists of groups together are those of both
+  pub halves_joined : (gs hs : List GroupFields) (first second result : Result (Vec (Result Block BuildFault) Global) BuildFault)
+      → BuildsOutcomes rows gs first → BuildsOutcomes rows hs second → IsJoined first second result → BuildsOutcomes rows (gs ++ hs) result
+  halves_joined gs hs (Err e) second result a b j = rw j a
+  halves_joined gs hs (Ok v) (Err e) result a b j = rw j b
+  halves_joined gs hs (Ok v) (Ok w) (Ok all) a b j =
+      subst (λ (l : List (Result Block BuildFault)). AreOutcomes rows (gs ++ hs) l) (sym j) (outcomes_joined gs hs v.items w.items a b)
+  halves_joined gs hs (Ok v) (Ok w) (Err e) a b j = j
 
   module _ (groups : List Group) (i : ℕ) (g : Group) (lt : i < length groups) (is : g ≡ get_or groups i g) (os ps : List (Result Block BuildFault))
       (so_far : AreOutcomes rows (map group_fields (take i groups)) os) where

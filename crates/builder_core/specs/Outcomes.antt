@@ -36,6 +36,14 @@ abbrev pub BuildsOutcomes : Rows → List GroupFields → Result (Vec (Result Bl
 BuildsOutcomes rows groups (Ok outcomes) = AreOutcomes rows groups outcomes.items
 BuildsOutcomes rows groups (Err fault) = fault ≡ NoMemory
 
+-- the second outcomes behind the first, or want of memory
+abbrev pub IsJoined : Result (Vec (Result Block BuildFault) Global) BuildFault → Result (Vec (Result Block BuildFault) Global) BuildFault
+    → Result (Vec (Result Block BuildFault) Global) BuildFault → Type 0
+IsJoined (Err e) second result = result ≡ Err e
+IsJoined (Ok first) (Err e) result = result ≡ Err e
+IsJoined (Ok first) (Ok second) (Ok all) = all.items ≡ first.items ++ second.items
+IsJoined (Ok first) (Ok second) (Err e) = e ≡ NoMemory
+
 -- a fault behind blocks
 pub record IsFirstFault (outcomes : List (Result Block BuildFault)) (fault : BuildFault) : Type 0 where
   pub before : List Block

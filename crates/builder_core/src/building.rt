@@ -15,23 +15,27 @@ use std::thread::Threads;
 use universe_core::Group;
 
 // The blocks of the groups, of what comes of each.
-fn build_blocks<H: EquationHash, G: Gate>(
+fn build_blocks<R: Threads + Sync, H: EquationHash + Sync, G: Gate + Sync>(
+    rt: &R,
     alloc: Global,
     hash: &H,
     gate: &G,
     groups: &[Group],
+    workers: u32,
 ) -> Result<Vec<Block>, BuildFault>
     requires facts { All IsGroup (map group_fields groups.now) }
     requires few { length groups.now ≤ MAX_ISSUERS }
     requires identities { identities_in (map group_fields groups.now) ≤ MAX_IDENTITIES }
+    requires few_workers { workers ≤ MAX_WORKERS }
     ensures { BuildsBlocks (H.row_of hash.now) (map group_fields groups.now) result }
 {
-    let outcomes = outcomes_of(alloc, hash, gate, groups)?;
+    let outcomes = outcomes_of(rt, alloc, hash, gate, 0, groups, workers)?;
     assemble(alloc, outcomes)
 }
 
-/// The part of this head with the block of each group, or the first refusal. The groups are built one after the other
-/// on the caller's thread, whatever `workers` says, and the gate is entered before each.
+/// The part of this head with the block of each group, or the first refusal. The groups are built side by side, by as
+/// many threads as there are workers, or groups where these are fewer. Each thread builds neighbouring groups in order,
+/// and enters the gate before each.
 pub fn build_part<R: Threads + Sync, H: EquationHash + Sync, G: Gate + Sync>(
     rt: &R,
     alloc: Global,
@@ -49,6 +53,6 @@ pub fn build_part<R: Threads + Sync, H: EquationHash + Sync, G: Gate + Sync>(
     requires few_workers { workers ≤ MAX_WORKERS }
     ensures { BuildsPart (H.row_of hash.now) head (map group_fields groups.now) result }
 {
-    let blocks = build_blocks(alloc, hash, gate, groups)?;
+    let blocks = build_blocks(rt, alloc, hash, gate, groups, workers)?;
     Ok(Part::new(head, blocks))
 }

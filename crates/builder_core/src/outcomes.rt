@@ -1,13 +1,15 @@
-ghost use Rattle.std.specs.Prelude.{◌≤◌, All, length, map};
-ghost use Rattle.ident_core.specs.declared.bounds.TheConstants.{MAX_ISSUERS};
+ghost use Rattle.std.specs.Prelude.{◌≤◌, ◌+◌, All, length, map};
+ghost use Rattle.std.specs.Thread.{IsSync};
+ghost use Rattle.ident_core.specs.declared.bounds.TheConstants.{MAX_ISSUERS, MAX_WORKERS};
 ghost use Rattle.universe_core.specs.Groups.{group_fields};
-ghost use Rattle.builder_core.specs.Outcomes.{BuildsOutcomes, IsAssembled, IsOutcome, IsReady};
+ghost use Rattle.builder_core.specs.Outcomes.{BuildsOutcomes, IsAssembled, IsJoined, IsOutcome, IsReady};
 
 use crate::{BuildFault, Gate};
 use card_core::Block;
 use equation_core::EquationHash;
 use stage_core::build_block;
 use std::alloc::Global;
+use std::thread::{Threads, join};
 use universe_core::Group;
 
 // The block of the group at this place, or why there is none. The gate is entered before.
@@ -28,20 +30,22 @@ fn outcome_of<H: EquationHash, G: Gate>(
     }
 }
 
-/// What comes of each group, one after the other, up to the first that has no block.
-pub(crate) fn outcomes_of<H: EquationHash, G: Gate>(
+// What comes of each group of a share, one after the other, up to the first that has no block. The share begins at this
+// place of all groups.
+fn outcomes_of_share<H: EquationHash, G: Gate>(
     alloc: Global,
     hash: &H,
     gate: &G,
+    first: u32,
     groups: &[Group],
 ) -> Result<Vec<Result<Block, BuildFault>>, BuildFault>
     requires ready { All IsReady groups.now }
-    requires few { length groups.now ≤ MAX_ISSUERS }
+    requires few { first + length groups.now ≤ MAX_ISSUERS }
     ensures { BuildsOutcomes (H.row_of hash.now) (map group_fields groups.now) result }
 {
     let mut outcomes = Vec::with_capacity(alloc, groups.len())?;
-    for (place, group) in groups.iter().enumerate() {
-        match outcome_of(alloc, hash, gate, place as u32, group) {
+    for (i, group) in groups.iter().enumerate() {
+        match outcome_of(alloc, hash, gate, first + i as u32, group) {
             Ok(block) => outcomes.push(Ok(block))?,
             Err(fault) => {
                 outcomes.push(Err(fault))?;
@@ -50,6 +54,61 @@ pub(crate) fn outcomes_of<H: EquationHash, G: Gate>(
         }
     }
     Ok(outcomes)
+}
+
+// The second outcomes behind the first.
+fn joined(
+    first: Result<Vec<Result<Block, BuildFault>>, BuildFault>,
+    second: Result<Vec<Result<Block, BuildFault>>, BuildFault>,
+) -> Result<Vec<Result<Block, BuildFault>>, BuildFault>
+    ensures { IsJoined first second result }
+{
+    let mut all = first?;
+    let mut rest = second?;
+    all.append(&mut rest)?;
+    Ok(all)
+}
+
+/// What comes of each group, in order, the first of which has this place. The groups are cut into as many shares of
+/// neighbours as there are workers, or groups where these are fewer. Each share goes in order, in a thread of its own,
+/// up to the first of its groups that has no block.
+pub(crate) fn outcomes_of<R: Threads + Sync, H: EquationHash + Sync, G: Gate + Sync>(
+    rt: &R,
+    alloc: Global,
+    hash: &H,
+    gate: &G,
+    first: u32,
+    groups: &[Group],
+    workers: u32,
+) -> Result<Vec<Result<Block, BuildFault>>, BuildFault>
+    requires ready { All IsReady groups.now }
+    requires few { first + length groups.now ≤ MAX_ISSUERS }
+    requires few_workers { workers ≤ MAX_WORKERS }
+    ensures { BuildsOutcomes (H.row_of hash.now) (map group_fields groups.now) result }
+{
+    let count = groups.len() as u32;
+    let workers = workers.min(count);
+    if workers <= 1 {
+        return outcomes_of_share(alloc, hash, gate, first, groups);
+    }
+    let half = workers / 2;
+    let others = workers - half;
+    let at = (count * half / workers).min(count);
+    let (left, right) = groups.split_at(at as usize);
+    let (one, other) = join(
+        rt,
+        || -> Result<Vec<Result<Block, BuildFault>>, BuildFault>
+            requires { IsSync R.row × IsSync H.row × IsSync G.row
+                × All IsReady left.now × (first + length left.now ≤ MAX_ISSUERS) × (half ≤ MAX_WORKERS) }
+            ensures { BuildsOutcomes (H.row_of hash.entry.now) (map group_fields left.entry.now) result }
+        { outcomes_of(rt, alloc, hash, gate, first, left, half) },
+        || -> Result<Vec<Result<Block, BuildFault>>, BuildFault>
+            requires { IsSync R.row × IsSync H.row × IsSync G.row
+                × All IsReady right.now × (first + at + length right.now ≤ MAX_ISSUERS) × (others ≤ MAX_WORKERS) }
+            ensures { BuildsOutcomes (H.row_of hash.entry.now) (map group_fields right.entry.now) result }
+        { outcomes_of(rt, alloc, hash, gate, first + at, right, others) },
+    );
+    joined(one, other)
 }
 
 /// The blocks of the outcomes, or the first fault.

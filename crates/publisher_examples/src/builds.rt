@@ -1,6 +1,6 @@
 //! Building a part: what each member is answered, a refusal, and the gate.
 
-ghost use Rattle.std.specs.Prelude.{◌≡◌, ◌<◌};
+ghost use Rattle.std.specs.Prelude.{◌≡◌, ◌<◌, ◌≤◌};
 
 use builder_core::{BuildFault, Gate, Open, build_part};
 use card_core::Part;
@@ -15,7 +15,7 @@ use std::process::Abort;
 use std::sync::atomic::{AtomicU32, Ordering};
 use std::sync::ledger::{Blank, Ledger};
 use std::test::Fail;
-use std::thread::Threads;
+use std::thread::{Threads, yield_now};
 use universe_core::{Admitted, first};
 
 #[derive(Clone, Copy)]
@@ -106,7 +106,11 @@ fn part_of<R: Threads + Sync, H: EquationHash + Sync, G: Gate + Sync>(
     hash: &H,
     gate: &G,
     job: &Job,
-) -> Result<Result<Part, BuildFault>, Fail> {
+    workers: u32,
+) -> Result<Result<Part, BuildFault>, Fail>
+    requires some_workers { 1 ≤ workers }
+    requires few_workers { workers ≤ 64 }
+{
     let few = job.crls.len() <= 65_535 && job.entries.len() <= 4_194_304;
     let fits = job.ranges.len() <= 1024 && ranges_fit(&job.ranges);
     if !(few && fits) {
@@ -116,7 +120,7 @@ fn part_of<R: Threads + Sync, H: EquationHash + Sync, G: Gate + Sync>(
     if groups.len() > 65_535 {
         return Err(Fail::from(BuildFault::NoMemory));
     }
-    Ok(build_part(rt, alloc, hash, gate, &groups, head, 1))
+    Ok(build_part(rt, alloc, hash, gate, &groups, head, workers))
 }
 
 // What a part says, with no step counted.
@@ -189,7 +193,7 @@ const TWO: Authority = Authority {
 #[test]
 fn each_member_is_consulted(rt: HostRuntime) -> Result<(), Fail> {
     let job = job_of(rt.alloc(), &[SOME, EVERY, NONE])?;
-    let part = part_of(&rt, rt.alloc(), &Sha256Rows, &Open, &job)??;
+    let part = part_of(&rt, rt.alloc(), &Sha256Rows, &Open, &job, 1)??;
     ask_each(&rt, &part, SOME)?;
     ask_each(&rt, &part, EVERY)?;
     ask_each(&rt, &part, NONE)
@@ -198,7 +202,7 @@ fn each_member_is_consulted(rt: HostRuntime) -> Result<(), Fail> {
 #[test]
 fn each_member_of_many_is_consulted(rt: HostRuntime) -> Result<(), Fail> {
     let job = job_of(rt.alloc(), &[MANY])?;
-    let part = part_of(&rt, rt.alloc(), &Sha256Rows, &Open, &job)??;
+    let part = part_of(&rt, rt.alloc(), &Sha256Rows, &Open, &job, 1)??;
     ask_each(&rt, &part, MANY)
 }
 
@@ -225,7 +229,7 @@ impl EquationHash for RowsAlike {
 #[test]
 fn the_first_refusal_is_answered(rt: HostRuntime) -> Result<(), Fail> {
     let job = job_of(rt.alloc(), &[SOME, EVERY, TWO])?;
-    let fault = part_of(&rt, rt.alloc(), &RowsAlike, &Open, &job)?.err();
+    let fault = part_of(&rt, rt.alloc(), &RowsAlike, &Open, &job, 1)?.err();
     let issuer = Key32::new([0x22; 32]);
     assert_eq!(&rt;
         fault,
@@ -278,7 +282,8 @@ impl<'a> EquationHash for Watching<'a> {
     }
 }
 
-// Each group enters once, in order, before its first member is hashed and behind the last one of the group before it.
+// With one worker each group enters once, in order, before its first member is hashed and behind the last one of the
+// group before it.
 #[test]
 fn each_group_enters(rt: HostRuntime) -> Result<(), Fail> {
     let gate = InOrder {
@@ -290,9 +295,51 @@ fn each_group_enters(rt: HostRuntime) -> Result<(), Fail> {
         strange: AtomicU32::new(0),
     };
     let job = job_of(rt.alloc(), &[TWO, SOME, MANY])?;
-    let _ = part_of(&rt, rt.alloc(), &hash, &gate, &job)??;
+    let _ = part_of(&rt, rt.alloc(), &hash, &gate, &job, 1)??;
     assert_eq!(&rt; gate.calls.load(Ordering::SeqCst), 3);
     assert_eq!(&rt; gate.entered.load(Ordering::SeqCst), 3);
     assert_eq!(&rt; hash.strange.load(Ordering::SeqCst), 0);
+    Ok(())
+}
+
+const OTHER: Authority = Authority {
+    issuer: 0x33,
+    count: 2,
+    revoked: Revoked::EachFiftieth,
+};
+
+// Keeps place 0 until place 1 has entered.
+#[derive(Drop)]
+struct HoldsFirst {
+    second: AtomicU32,
+    passed: AtomicU32,
+}
+
+impl Gate for HoldsFirst {
+    fn enter(&self, place: u32) {
+        if place == 1 {
+            self.second.store(1, Ordering::SeqCst);
+            return;
+        }
+        for _ in 0..100_000_000u32 {
+            if self.second.load(Ordering::SeqCst) == 1 {
+                self.passed.store(1, Ordering::SeqCst);
+                return;
+            }
+            yield_now();
+        }
+    }
+}
+
+// One thread alone would wait at place 0 to the end of the turns.
+#[test]
+fn two_workers_build_side_by_side(rt: HostRuntime) -> Result<(), Fail> {
+    let gate = HoldsFirst {
+        second: AtomicU32::new(0),
+        passed: AtomicU32::new(0),
+    };
+    let job = job_of(rt.alloc(), &[TWO, OTHER])?;
+    let _ = part_of(&rt, rt.alloc(), &Sha256Rows, &gate, &job, 2)??;
+    assert_eq!(&rt; gate.passed.load(Ordering::SeqCst), 1);
     Ok(())
 }

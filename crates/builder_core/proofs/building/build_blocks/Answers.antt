@@ -4,7 +4,7 @@ use Rattle.builder_core.proofs.OutcomesInOrder.{groups_ready, outcomes_give}
 use Rattle.builder_core.proofs.building.build_blocks.Goals as goal
 
 pub outcomes_of-requires-clause-ready : goal.outcomes_of-requires-clause-ready
-outcomes_of-requires-clause-ready g c = groups_ready c.args.groups.now c.requires.facts c.requires.identities
+outcomes_of-requires-clause-ready g c κs within = groups_ready c.args.groups.now c.requires.facts c.requires.identities
 
 pub returns : goal.returns
 returns g c =
