@@ -1,13 +1,13 @@
-//! Blocks that are built: widths, seeds that are exhausted, and two blocks of SHA-256 rows.
+//! Blocks that are built: widths, seeds that are exhausted, two blocks of SHA-256 rows, and one built in threads.
 
 ghost use Rattle.std.specs.Prelude.{◌≡◌, ◌<◌, ◌≤◌};
 
-use crate::words::compare_words;
+use crate::words::{compare_words, word_of};
 use card_core::{Block, Body, Stage};
-use equation_core::{EquationHash, Row, Sha256Rows};
+use equation_core::{EquationHash, Row, Sha256Rows, words_for};
 use ident_core::{Identity, Serial};
 use octets_core::{Key32, Steps};
-use stage_core::{BlockFault, build_block};
+use stage_core::{BlockFault, build_block, build_block_wide};
 use std::alloc::Global;
 use std::marker::Brand;
 use std::process::Abort;
@@ -201,4 +201,57 @@ fn widths(rt: HostRuntime) -> Result<(), Fail> {
         assert_eq!(rt; width_of(&rt, &block), width, "{revoked} of {others}");
     }
     Ok(())
+}
+
+#[test]
+fn exact_seeds_exhausted_in_threads(rt: HostRuntime) -> Result<(), Fail> {
+    let universe = [identity(b"\x00\x01")?, identity(b"\x00\x02")?];
+    let revoked = [true, false];
+    let issuer = Key32::new([0x11; 32]);
+    let fault = build_block_wide(&rt, rt.alloc(), &RowsByLength, issuer, &universe, &revoked).err();
+    assert_eq!(&rt; fault, Some(BlockFault::SeedsExhausted { stage: 2 }));
+    Ok(())
+}
+
+// The words of each plane, one plane after the other.
+fn words_in<L: Ledger>(alloc: Global, stage: &Stage, blank: Blank) -> Result<Vec<Option<u64>>, Fail>
+    requires name { blank.name ≡ L.name }
+    requires parts { blank.parts ≡ L.parts }
+    requires some { 0 < L.parts }
+{
+    let mut steps: Steps<L> = Steps::new(blank);
+    let mut words = Vec::new(alloc);
+    for plane in 0..usize::from(stage.planes.planes()) {
+        for i in 0..words_for(stage.planes.starts()) {
+            words.push(word_of(&stage.planes, plane, i, &mut steps))?;
+        }
+    }
+    Ok(words)
+}
+
+fn compare_built(rt: &impl Abort, alloc: Global, one: &Stage, other: &Stage) -> Result<(), Fail> {
+    assert_eq!(rt; one.seed, other.seed);
+    assert_eq!(rt; one.planes.starts(), other.planes.starts());
+    let words = words_in::<Brand>(alloc, one, Blank::new(1))?;
+    assert!(rt; words == words_in::<Brand>(alloc, other, Blank::new(1))?);
+    Ok(())
+}
+
+// One in a hundred is revoked, as in the blocks of a generated job of 200,000.
+#[test]
+fn built_alike_in_threads(rt: HostRuntime) -> Result<(), Fail> {
+    let of = first_of(rt.alloc(), 50_000, 500)?;
+    let block = block_of(&rt, rt.alloc(), &of)?;
+    assert!(&rt; of.revoked.len() == of.ids.len() && of.ids.len() <= 4_194_304);
+    let issuer = Key32::new([0x11; 32]);
+    let wide = build_block_wide(&rt, rt.alloc(), &Sha256Rows, issuer, &of.ids, &of.revoked)?;
+    let (Body::Mixed(one), Body::Mixed(other)) = (&block.body, &wide.body) else {
+        panic!(&rt; "no mixed block");
+    };
+    let (Some(approx), Some(other_approx)) = (one.approx(), other.approx()) else {
+        panic!(&rt; "no approximate stage");
+    };
+    assert_eq!(&rt; (approx.planes.planes(), approx.planes.starts()), (6, 563));
+    compare_built(&rt, rt.alloc(), approx, other_approx)?;
+    compare_built(&rt, rt.alloc(), one.exact(), other.exact())
 }

@@ -2,3 +2,4 @@ pub mod Flags
 pub mod Runs
 pub mod Stages
 pub mod Widths
+pub mod InThreads

@@ -1,7 +1,8 @@
-ghost use Rattle.std.specs.Prelude.{◌≡◌, ◌≤◌, ◌↔◌, ℕ, length, OnOk, OnErr};
+ghost use Rattle.std.specs.Prelude.{◌≡◌, ◌≤◌, ◌↔◌, ℕ, All, length, OnOk, OnErr};
 ghost use Rattle.equation_core.specs.declared.hash.TheConstants.{MAX_PLANES};
+ghost use Rattle.equation_core.specs.Rows.{IsRow};
 ghost use Rattle.ribbon_core.specs.Equations.{SolvesAll, IsAdded, IsContradicted};
-ghost use Rattle.stage_core.specs.Keys.{key_equation, flagged_equations, HasNoSolution};
+ghost use Rattle.stage_core.specs.Keys.{key_equation, flagged_equations, row_equations, HasNoSolution};
 
 use equation_core::{EquationHash, Row};
 use ident_core::Identity;
@@ -100,6 +101,29 @@ pub fn add_keys<H: EquationHash>(
         if *flag {
             add_key(system, hash, shape, seed, target, &universe[i])?;
         }
+    }
+    Ok(())
+}
+
+/// Adds the equation of each row.
+pub fn add_rows(
+    system: &mut System,
+    target: KeyTarget,
+    planes: u8,
+    rows: &[Row],
+) -> Result<(), Inconsistent>
+    requires rows { All (IsRow system.old.starts) rows.now }
+    requires planes { system.old.planes ≡ planes }
+    requires some { 1 ≤ planes }
+    requires few { planes ≤ MAX_PLANES }
+    ensures starts { system.new.starts ≡ system.old.starts }
+    ensures planes { system.new.planes ≡ system.old.planes }
+    ensures ok { OnOk result ((plane Z : ℕ) → SolvesAll plane system.new.equations Z
+        ↔ (SolvesAll plane system.old.equations Z × SolvesAll plane (row_equations target planes rows.now) Z)) }
+    ensures err { OnErr result (HasNoSolution planes system.old.equations (row_equations target planes rows.now)) }
+{
+    for row in rows {
+        system.add(row, target.bits(row, planes))?;
     }
     Ok(())
 }

@@ -2,11 +2,15 @@
 //! solvable.
 #![tactic(auto)]
 
+mod block;
 mod fault;
+mod hashing;
+mod in_threads;
 mod keys;
 mod leaf;
+mod passing;
 mod seeds;
 mod width;
 
+pub use block::{build_block, build_block_wide};
 pub use fault::BlockFault;
-pub use leaf::build_block;

@@ -6,23 +6,24 @@ ghost use Rattle.stage_core.specs.Built.{IsSolved, IsFirstStage};
 ghost use Rattle.stage_core.specs.declared.fault.BlockFault.TheVariants.{NoMemory};
 
 use crate::fault::BlockFault;
-use crate::keys::{KeyTarget, Shape, add_keys};
+use crate::hashing::Hashing;
+use crate::keys::{KeyTarget, Shape};
 use card_core::Stage;
-use equation_core::EquationHash;
 use ident_core::Identity;
 use ribbon_core::{Planes, System};
 use std::alloc::Global;
 
 // The least solution of each plane at one seed, if there is one.
-fn solve_at<H: EquationHash>(
+fn solve_at<W: Hashing>(
     alloc: Global,
-    hash: &H,
+    hashing: &W,
     shape: Shape,
     seed: u8,
     universe: &[Identity],
     revoked: &[bool],
     passed: &[bool],
 ) -> Result<Option<Planes>, BlockFault>
+    requires shared { W.shared hashing.now }
     requires some_starts { 1 ≤ shape.starts }
     requires few_starts { shape.starts ≤ MAX_STARTS }
     requires some { 1 ≤ shape.planes }
@@ -30,32 +31,19 @@ fn solve_at<H: EquationHash>(
     requires revoked { length revoked.now ≤ length universe.now }
     requires passed { length passed.now ≤ length universe.now }
     ensures ok { IfOk result (IsSolved
-        (shape_equations (H.row_of hash.now) shape universe.now revoked.now passed.now seed)
+        (shape_equations (W.row_of hashing.now) shape universe.now revoked.now passed.now seed)
         shape.starts
         shape.planes) }
     ensures err { IfErr result (λ e. e ≡ NoMemory) }
 {
     let mut system = System::new(alloc, shape.starts, shape.planes)?;
-    let Ok(()) = add_keys(
-        &mut system,
-        hash,
-        shape,
-        seed,
-        shape.target,
-        universe,
-        revoked,
-    ) else {
+    let target = shape.target;
+    let Ok(()) = hashing.add_keys(alloc, &mut system, shape, seed, target, universe, revoked)?
+    else {
         return Ok(None);
     };
-    let Ok(()) = add_keys(
-        &mut system,
-        hash,
-        shape,
-        seed,
-        KeyTarget::Zero,
-        universe,
-        passed,
-    ) else {
+    let target = KeyTarget::Zero;
+    let Ok(()) = hashing.add_keys(alloc, &mut system, shape, seed, target, universe, passed)? else {
         return Ok(None);
     };
     Ok(Some(system.solve()))
@@ -63,14 +51,15 @@ fn solve_at<H: EquationHash>(
 
 /// The stage of the least seed at which the equations are solvable, if there is one: those of the revoked, and those of
 /// the passed, whose targets are zero.
-pub fn first_stage<H: EquationHash>(
+pub fn first_stage<W: Hashing>(
     alloc: Global,
-    hash: &H,
+    hashing: &W,
     shape: Shape,
     universe: &[Identity],
     revoked: &[bool],
     passed: &[bool],
 ) -> Result<Option<Stage>, BlockFault>
+    requires shared { W.shared hashing.now }
     requires some_starts { 1 ≤ shape.starts }
     requires few_starts { shape.starts ≤ MAX_STARTS }
     requires some { 1 ≤ shape.planes }
@@ -78,14 +67,14 @@ pub fn first_stage<H: EquationHash>(
     requires revoked { length revoked.now ≤ length universe.now }
     requires passed { length passed.now ≤ length universe.now }
     ensures ok { IfOk result (IsFirstStage
-        (shape_equations (H.row_of hash.now) shape universe.now revoked.now passed.now)
+        (shape_equations (W.row_of hashing.now) shape universe.now revoked.now passed.now)
         shape.starts
         shape.planes) }
     ensures err { IfErr result (λ e. e ≡ NoMemory) }
 {
     for number in 0..256u16 {
         let seed = number as u8;
-        if let Some(planes) = solve_at(alloc, hash, shape, seed, universe, revoked, passed)? {
+        if let Some(planes) = solve_at(alloc, hashing, shape, seed, universe, revoked, passed)? {
             return Ok(Some(Stage { seed, planes }));
         }
     }

@@ -22,8 +22,8 @@ returns-in-Some g c =
     let size : c.starts_for.result ≡ starts_for (length (flagged xs fs))
     = c.starts_for.ensures.value ∙ ap starts_for (c.count-keys.ensures.value ∙ sym (flagged_count xs fs (omega (arith, c.requires.flags)))) in
     let h = rw c.in-Some.is at c.in_ok-stage.ensures.ok in
-    approx_found (g.H.EquationHash.row_of c.args.hash.now) (flagged xs fs) (flagged xs (map not fs)) c.width_for-planes.result c.in-Some.stage c.if-planes-eq0.false w
-    (approx_stage (g.H.EquationHash.row_of c.args.hash.now) (flagged xs fs) c.width_for-planes.result c.starts_for.result (flagged xs []) size (flagged_nil xs) c.in-Some.stage h)
+    approx_found (g.W.Hashing.row_of c.args.hashing.now) (flagged xs fs) (flagged xs (map not fs)) c.width_for-planes.result c.in-Some.stage c.if-planes-eq0.false w
+    (approx_stage (g.W.Hashing.row_of c.args.hashing.now) (flagged xs fs) c.width_for-planes.result c.starts_for.result (flagged xs []) size (flagged_nil xs) c.in-Some.stage h)
 
 pub returns-in-None : goal.returns-in-None
 returns-in-None g c =
@@ -39,6 +39,6 @@ returns-in-None g c =
         c.width_for-planes.result,
         some,
         w,
-        approx_exhausted (g.H.EquationHash.row_of c.args.hash.now) (flagged xs fs) c.width_for-planes.result c.starts_for.result (flagged xs []) size (flagged_nil xs) h,
+        approx_exhausted (g.W.Hashing.row_of c.args.hashing.now) (flagged xs fs) c.width_for-planes.result c.starts_for.result (flagged xs []) size (flagged_nil xs) h,
       ),
     )

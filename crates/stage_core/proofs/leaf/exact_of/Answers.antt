@@ -20,7 +20,7 @@ pub returns-in-Some : goal.returns-in-Some
 returns-in-Some g c =
     let e = counted c.args.universe.now c.args.revoked.now c.args.passed.now c.count.result c.count-2.result c.requires.revoked c.requires.passed c.count.ensures.value c.count-2.ensures.value in
     let h = rw c.in-Some.is at c.in_ok-stage.ensures.ok in
-    subst (λ (n : ℕ). IsStage (stage_equations (g.H.EquationHash.row_of c.args.hash.now) One 2 1 n (flagged c.args.universe.now c.args.revoked.now)
+    subst (λ (n : ℕ). IsStage (stage_equations (g.W.Hashing.row_of c.args.hashing.now) One 2 1 n (flagged c.args.universe.now c.args.revoked.now)
     (flagged c.args.universe.now c.args.passed.now)) n 1 c.in-Some.stage)
     (c.starts_for.ensures.value ∙ ap starts_for e) h
 
@@ -29,7 +29,7 @@ returns-in-None g c =
     let e = counted c.args.universe.now c.args.revoked.now c.args.passed.now c.count.result c.count-2.result c.requires.revoked c.requires.passed c.count.ensures.value c.count-2.ensures.value in
     let h = rw c.in-None.is at c.in_ok-stage.ensures.ok in (
       refl,
-      subst (λ (n : ℕ). IsExhausted (stage_equations (g.H.EquationHash.row_of c.args.hash.now) One 2 1 n (flagged c.args.universe.now c.args.revoked.now)
+      subst (λ (n : ℕ). IsExhausted (stage_equations (g.W.Hashing.row_of c.args.hashing.now) One 2 1 n (flagged c.args.universe.now c.args.revoked.now)
           (flagged c.args.universe.now c.args.passed.now)) 1)
           (c.starts_for.ensures.value ∙ ap starts_for e) h,
     )

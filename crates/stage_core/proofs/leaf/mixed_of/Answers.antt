@@ -7,20 +7,20 @@ use Rattle.stage_core.proofs.leaf.mixed_of.Goals as goal
 
 pub exact_of-requires-clause-few : goal.exact_of-requires-clause-few
 exact_of-requires-clause-few g c =
-    passed_few (passes (g.H.EquationHash.row_of c.args.hash.now) c.in_ok-approx.approx) c.args.universe.now (flagged c.args.universe.now c.deref.result.now) c.args.revoked.now 4194304
+    passed_few (passes (g.W.Hashing.row_of c.args.hashing.now) c.in_ok-approx.approx) c.args.universe.now (flagged c.args.universe.now c.deref.result.now) c.args.revoked.now 4194304
     c.requires.flags (ap (flagged c.args.universe.now) c.deref.ensures.value ∙ c.in_ok-passed.ensures.ok) c.requires.few
 
 pub returns-in_err-exact : goal.returns-in_err-exact
 returns-in_err-exact g c =
     let q = err_from_is_err_and c.from_residual-in_err-exact.result c.from_residual-in_err-exact.ensures.1 in
-    let f = exact_fault (g.H.EquationHash.row_of c.args.hash.now) (flagged c.args.universe.now c.args.revoked.now) (flagged c.args.universe.now (map not c.args.revoked.now)) c.in_ok-approx.approx
+    let f = exact_fault (g.W.Hashing.row_of c.args.hashing.now) (flagged c.args.universe.now c.args.revoked.now) (flagged c.args.universe.now (map not c.args.revoked.now)) c.in_ok-approx.approx
     (flagged c.args.universe.now c.deref.result.now) c.in_err-exact.field-0.0
     c.requires.some_revoked c.requires.some_others c.in_ok-approx.ensures (ap (flagged c.args.universe.now) c.deref.ensures.value ∙ c.in_ok-passed.ensures.ok) c.in_err-exact.ensures in
     rw (q.1, q.2) f
 
 pub returns : goal.returns
 returns g c =
-    rw c.new.ensures (mixed_found (g.H.EquationHash.row_of c.args.hash.now) (flagged c.args.universe.now c.args.revoked.now)
+    rw c.new.ensures (mixed_found (g.W.Hashing.row_of c.args.hashing.now) (flagged c.args.universe.now c.args.revoked.now)
     (flagged c.args.universe.now (map not c.args.revoked.now)) c.in_ok-approx.approx
     c.in_ok-exact.exact (flagged c.args.universe.now c.deref.result.now)
     c.requires.some_revoked c.requires.some_others c.in_ok-approx.ensures (ap (flagged c.args.universe.now) c.deref.ensures.value ∙ c.in_ok-passed.ensures.ok) c.in_ok-exact.ensures)

@@ -1,4 +1,4 @@
-use Rattle.stage_core.proofs.leaf.is_false_positive.Given as goal
+use Rattle.stage_core.proofs.passing.is_false_positive.Given as goal
 
 abbrev pub ghosts-passes_from : goal.ghosts-passes_from
 ghosts-passes_from g a = record { name = a.blank.name; parts = a.blank.parts }

@@ -2,7 +2,7 @@ use Rattle.std.proofs.Common.{◌∙◌, ◌+◌, ap, length, List, Bool, take, 
 use Rattle.std.proofs.lemmas.List.{length_push}
 use Rattle.card_core.specs.Leaf.{flagged, passes}
 use Rattle.stage_core.proofs.Flags.{passed_more}
-use Rattle.stage_core.proofs.leaf.false_positives_of.Goals as goal
+use Rattle.stage_core.proofs.passing.false_positives_of.Goals as goal
 
 pub loop-i-preserved : goal.loop-i-preserved
 loop-i-preserved g c = record {

@@ -1,6 +1,6 @@
 use Rattle.std.proofs.Common.{◌≡◌, length, take, map, not}
 use Rattle.card_core.specs.Leaf.{flagged, false_positives}
-use Rattle.stage_core.proofs.leaf.false_positives_of.Given as goal
+use Rattle.stage_core.proofs.passing.false_positives_of.Given as goal
 
 abbrev pub invariant-loop-i : goal.invariant-loop-i
 invariant-loop-i g l = record {
