@@ -1,13 +1,11 @@
 -- Outcomes of groups, one behind the other, and the blocks that they give.
-use Rattle.std.proofs.Common.{◌≡◌, ◌<◌, ◌≤◌, ◌+◌, ◌⊎◌, inl, inr, ℕ, Bool, List, [], ◌∷◌, ◌++◌, length, map, take, drop, get_or, Result, Ok, Err, refl, sym, ap, ◌∙◌, subst, arith, All}
+use Rattle.std.proofs.Common.{◌≡◌, ◌<◌, ◌≤◌, ◌+◌, ◌⊎◌, inl, inr, ℕ, List, [], ◌∷◌, ◌++◌, length, map, take, drop, get_or, Result, Ok, Err, refl, sym, ap, ◌∙◌, subst, arith, All}
 use Rattle.std.specs.declared.alloc.Global.{Global}
 use Rattle.std.specs.declared.vec.Vec.{Vec}
 use Rattle.std.proofs.lemmas.List.{take_more, take-append-drop, append_assoc, map-append, length-map, get_or-map}
 use Rattle.std.proofs.lemmas.List.Sums.{get_or-le-sum_by}
-use Rattle.ident_core.specs.declared.identity.Identity.{Identity}
 use Rattle.equation_core.specs.Rows.{Rows}
 use Rattle.card_core.specs.declared.block.Block.{Block}
-use Rattle.card_core.specs.Filter.{IsBlockRefused}
 use Rattle.stage_core.specs.declared.fault.BlockFault.{BlockFault}
 use Rattle.stage_core.specs.declared.fault.BlockFault.TheVariants as block
 use Rattle.stage_core.specs.Built.{BuildsBlock}
@@ -33,12 +31,10 @@ groups_ready groups all few i d lt =
 
 module _ (rows : Rows) where
   -- a block's fault is its group's outcome
-  pub outcome_fault : (g : Group) (u : List Identity) (f : List Bool) → u ≡ g.universe.items → f ≡ g.revoked.items
-      → (fault : BlockFault) → BuildsBlock rows g.issuer u f (Err fault) → IsOutcome rows (group_fields g) (Err (fault_of g.issuer fault))
-  outcome_fault g u f u-is f-is block.NoMemory h = tt
-  outcome_fault g u f u-is f-is (block.SeedsExhausted stage) h =
-      let a = subst (λ (v : List Identity). IsBlockRefused rows v f stage) u-is h in
-      (refl, subst (λ (v : List Bool). IsBlockRefused rows g.universe.items v stage) f-is a)
+  pub outcome_fault : (g : Group) (fault : BlockFault) → BuildsBlock rows g.issuer g.universe.items g.revoked.items (Err fault)
+      → IsOutcome rows (group_fields g) (Err (fault_of g.issuer fault))
+  outcome_fault g block.NoMemory h = tt
+  outcome_fault g (block.SeedsExhausted stage) h = (refl, h)
 
   pub outcomes_joined : (gs hs : List GroupFields) (os ps : List (Result Block BuildFault))
       → AreOutcomes rows gs os → AreOutcomes rows hs ps → AreOutcomes rows (gs ++ hs) (os ++ ps)

@@ -1,19 +1,45 @@
 ghost use Rattle.std.specs.Prelude.{◌≤◌, ◌+◌, All, length, map};
 ghost use Rattle.std.specs.Thread.{IsSync};
 ghost use Rattle.ident_core.specs.declared.bounds.TheConstants.{MAX_ISSUERS, MAX_WORKERS};
+ghost use Rattle.stage_core.specs.Built.{BuildsBlock};
 ghost use Rattle.universe_core.specs.Groups.{group_fields};
 ghost use Rattle.builder_core.specs.Outcomes.{BuildsOutcomes, IsAssembled, IsJoined, IsOutcome, IsReady};
 
 use crate::{BuildFault, Gate};
 use card_core::Block;
 use equation_core::EquationHash;
-use stage_core::build_block;
+use stage_core::{BlockFault, build_block, build_block_wide};
 use std::alloc::Global;
 use std::thread::{Threads, join};
 use universe_core::Group;
 
-// The block of the group at this place, or why there is none. The gate is entered before.
-fn outcome_of<H: EquationHash, G: Gate>(
+// From this many identities on the rows of a group are made by several threads.
+const WIDE: usize = 2048;
+
+// The block of the group, or why there is none.
+fn block_of<R: Threads + Sync, H: EquationHash + Sync>(
+    rt: &R,
+    alloc: Global,
+    hash: &H,
+    group: &Group,
+) -> Result<Block, BlockFault>
+    requires { IsReady group.now }
+    ensures { BuildsBlock (H.row_of hash.now) group.now.issuer group.now.universe.items group.now.revoked.items result }
+{
+    let Group {
+        issuer,
+        universe,
+        revoked,
+    } = group;
+    if universe.len() < WIDE {
+        return build_block(alloc, hash, *issuer, universe, revoked);
+    }
+    build_block_wide(rt, alloc, hash, *issuer, universe, revoked)
+}
+
+// What comes of the group at this place. The gate is entered before.
+fn outcome_of<R: Threads + Sync, H: EquationHash + Sync, G: Gate + Sync>(
+    rt: &R,
     alloc: Global,
     hash: &H,
     gate: &G,
@@ -24,7 +50,7 @@ fn outcome_of<H: EquationHash, G: Gate>(
     ensures { IsOutcome (H.row_of hash.now) (group_fields group.now) result }
 {
     gate.enter(place);
-    match build_block(alloc, hash, group.issuer, &group.universe, &group.revoked) {
+    match block_of(rt, alloc, hash, group) {
         Ok(block) => Ok(block),
         Err(fault) => Err(BuildFault::new(group.issuer, fault)),
     }
@@ -32,7 +58,8 @@ fn outcome_of<H: EquationHash, G: Gate>(
 
 // What comes of each group of a share, one after the other, up to the first that has no block. The share begins at this
 // place of all groups.
-fn outcomes_of_share<H: EquationHash, G: Gate>(
+fn outcomes_of_share<R: Threads + Sync, H: EquationHash + Sync, G: Gate + Sync>(
+    rt: &R,
     alloc: Global,
     hash: &H,
     gate: &G,
@@ -45,7 +72,7 @@ fn outcomes_of_share<H: EquationHash, G: Gate>(
 {
     let mut outcomes = Vec::with_capacity(alloc, groups.len())?;
     for (i, group) in groups.iter().enumerate() {
-        match outcome_of(alloc, hash, gate, first + i as u32, group) {
+        match outcome_of(rt, alloc, hash, gate, first + i as u32, group) {
             Ok(block) => outcomes.push(Ok(block))?,
             Err(fault) => {
                 outcomes.push(Err(fault))?;
@@ -89,7 +116,7 @@ pub(crate) fn outcomes_of<R: Threads + Sync, H: EquationHash + Sync, G: Gate + S
     let count = groups.len() as u32;
     let workers = workers.min(count);
     if workers <= 1 {
-        return outcomes_of_share(alloc, hash, gate, first, groups);
+        return outcomes_of_share(rt, alloc, hash, gate, first, groups);
     }
     let half = workers / 2;
     let others = workers - half;
