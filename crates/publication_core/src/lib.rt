@@ -9,6 +9,7 @@ mod publication;
 mod publish;
 mod verdict_laws;
 
+pub use builder_core::{Gate, Open};
 pub use chain_laws::parts_are_chains;
 pub use fault::PublishFault;
 pub use laws::{histories_are_published, publications_are_unique, what_can_be_is_published};

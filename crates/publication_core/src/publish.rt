@@ -14,7 +14,7 @@ ghost use Rattle.publication_core.specs.Publishing.{PublishesUnless};
 
 use crate::fault::{PublishFault, admission_fault, building_fault};
 use crate::publication::Publication;
-use builder_core::{Open, build_part};
+use builder_core::{Gate, build_part};
 use equation_core::Sha256Rows;
 use job_core::{Job, Limits};
 use ledger_core::Ledger;
@@ -24,9 +24,10 @@ use std::thread::Threads;
 use universe_core::{Admitted, admit, first};
 
 /// Builds and seals the part of an admitted job.
-fn built<R: Threads + Sync>(
+fn built<R: Threads + Sync, G: Gate + Sync>(
     rt: &R,
     alloc: Global,
+    gate: &G,
     place: u32,
     admitted: Admitted,
     workers: u32,
@@ -45,7 +46,7 @@ fn built<R: Threads + Sync>(
         counts,
         next,
     } = admitted;
-    let part = match build_part(rt, alloc, &Sha256Rows, &Open, &groups, head, workers) {
+    let part = match build_part(rt, alloc, &Sha256Rows, gate, &groups, head, workers) {
         Ok(part) => part,
         Err(fault) => return Err(building_fault(fault)),
     };
@@ -54,10 +55,12 @@ fn built<R: Threads + Sync>(
     Ok(Publication::new(place, sealed, ledger, counts))
 }
 
-/// What is published of a job as the first of a chain, by 1 to 64 workers. The job is dropped once it is admitted.
-pub fn publish_first<R: Threads + Sync>(
+/// What is published of a job as the first of a chain, by 1 to 64 workers, each of which enters the gate before it builds
+/// an issuer's block. The job is dropped once it is admitted.
+pub fn publish_first<R: Threads + Sync, G: Gate + Sync>(
     rt: &R,
     alloc: Global,
+    gate: &G,
     job: Job,
     workers: u32,
 ) -> Result<Publication, PublishFault>
@@ -72,14 +75,15 @@ pub fn publish_first<R: Threads + Sync>(
         Err(fault) => return Err(admission_fault(fault)),
     };
     drop(job);
-    built(rt, alloc, 0, admitted, workers)
+    built(rt, alloc, gate, 0, admitted, workers)
 }
 
-/// What is published of a job behind a ledger, by 1 to 64 workers. The ledger and the job are dropped once the job is
-/// admitted.
-pub fn publish_after<R: Threads + Sync>(
+/// What is published of a job behind a ledger, by 1 to 64 workers, each of which enters the gate before it builds an
+/// issuer's block. The ledger and the job are dropped once the job is admitted.
+pub fn publish_after<R: Threads + Sync, G: Gate + Sync>(
     rt: &R,
     alloc: Global,
+    gate: &G,
     ledger: Ledger,
     job: Job,
     workers: u32,
@@ -97,5 +101,5 @@ pub fn publish_after<R: Threads + Sync>(
     };
     drop(ledger);
     drop(job);
-    built(rt, alloc, place, admitted, workers)
+    built(rt, alloc, gate, place, admitted, workers)
 }

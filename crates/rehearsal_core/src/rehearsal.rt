@@ -12,7 +12,7 @@ ghost use Rattle.rehearsal_core.specs.Rehearsing.{of_none, Adds, IsOf};
 use job_core::{Job, Limits};
 use ledger_core::Ledger;
 use publication_core::{
-    Publication, PublishFault, histories_are_published, parts_are_chains, publish_after,
+    Gate, Publication, PublishFault, histories_are_published, parts_are_chains, publish_after,
     publish_first,
 };
 use std::alloc::Global;
@@ -69,9 +69,10 @@ impl Rehearsal {
     }
 
     /// The rehearsal of a first job.
-    fn begun<R: Threads + Sync>(
+    fn begun<R: Threads + Sync, G: Gate + Sync>(
         rt: &R,
         alloc: Global,
+        gate: &G,
         job: Job,
         workers: u32,
     ) -> Result<(Rehearsal, Report), PublishFault>
@@ -85,7 +86,7 @@ impl Rehearsal {
         histories_are_published();
         parts_are_chains();
         chains_grow();
-        let publication = publish_first(rt, alloc, job, workers)?;
+        let publication = publish_first(rt, alloc, gate, job, workers)?;
         let report = report_on(&publication);
         let (sealed, ledger) = publication.into_sealed_and_ledger();
         match Store::start(alloc, sealed) {
@@ -101,9 +102,10 @@ impl Rehearsal {
     }
 
     /// The rehearsal of a later job, behind this store and this ledger.
-    fn followed<R: Threads + Sync>(
+    fn followed<R: Threads + Sync, G: Gate + Sync>(
         rt: &R,
         alloc: Global,
+        gate: &G,
         store: Store,
         ledger: Ledger,
         job: Job,
@@ -122,7 +124,7 @@ impl Rehearsal {
         histories_are_published();
         parts_are_chains();
         chains_grow();
-        let publication = publish_after(rt, alloc, ledger, job, workers)?;
+        let publication = publish_after(rt, alloc, gate, ledger, job, workers)?;
         let report = report_on(&publication);
         let (sealed, ledger) = publication.into_sealed_and_ledger();
         let mut store = store;
@@ -137,12 +139,13 @@ impl Rehearsal {
         }
     }
 
-    /// The rehearsal with a job behind the others, built by 1 to 64 workers, and what is reported of the job. An `Err`
-    /// says why the job isn't published.
-    pub fn with_job<R: Threads + Sync>(
+    /// The rehearsal with a job behind the others, built by 1 to 64 workers, each of which enters the gate before it
+    /// builds an issuer's block; and what is reported of the job. An `Err` says why the job isn't published.
+    pub fn with_job<R: Threads + Sync, G: Gate + Sync>(
         self,
         rt: &R,
         alloc: Global,
+        gate: &G,
         job: Job,
         workers: u32,
     ) -> Result<(Rehearsal, Report), PublishFault>
@@ -155,8 +158,10 @@ impl Rehearsal {
             → Publishes (ledger_of (history jobs self.parts)) (fields_of_job job) (Err e)) }
     {
         match self.published {
-            None => Rehearsal::begun(rt, alloc, job, workers),
-            Some((store, ledger)) => { Rehearsal::followed(rt, alloc, store, ledger, job, workers) }
+            None => Rehearsal::begun(rt, alloc, gate, job, workers),
+            Some((store, ledger)) => {
+                Rehearsal::followed(rt, alloc, gate, store, ledger, job, workers)
+            }
         }
     }
 
