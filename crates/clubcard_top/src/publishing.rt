@@ -19,7 +19,7 @@ use line_core::reported;
 use octets_core::NoMemory;
 use outside_core::Depot;
 use part_codec::encode_part;
-use publication_core::{Publication, publish_after, publish_first};
+use publication_core::{Open, Publication, publish_after, publish_first};
 use std::alloc::Global;
 use std::thread::Threads;
 use word_core::{Delta, Snapshot};
@@ -59,7 +59,7 @@ pub fn answer_snapshot<'a, R: Threads + Sync, D: Depot>(
         Ok(job) => job,
         Err(fault) => return refused(snapshot.job(), fault),
     };
-    match publish_first(rt, alloc, job, snapshot.workers()) {
+    match publish_first(rt, alloc, &Open, job, snapshot.workers()) {
         Ok(publication) => published(alloc, snapshot.part(), snapshot.ledger(), &publication),
         Err(fault) => refused(snapshot.job(), fault.into()),
     }
@@ -84,7 +84,7 @@ pub fn answer_delta<'a, R: Threads + Sync, D: Depot>(
         Ok(ledger) => ledger,
         Err(fault) => return refused(delta.ledger(), fault),
     };
-    match publish_after(rt, alloc, ledger, job, delta.workers()) {
+    match publish_after(rt, alloc, &Open, ledger, job, delta.workers()) {
         Ok(publication) => published(alloc, delta.part(), delta.new_ledger(), &publication),
         Err(fault) => refused(delta.job(), fault.into()),
     }

@@ -22,6 +22,7 @@ use crate::reply::verdict_line;
 use line_core::{Line, reported};
 use octets_core::{NoMemory, put_bytes};
 use outside_core::Depot;
+use publication_core::Open;
 use query_core::Asked;
 use rehearsal_core::Rehearsal;
 use std::alloc::Global;
@@ -63,7 +64,7 @@ fn with_file<R: Threads + Sync, D: Depot>(
     ensures only_reads { OnlyReads D.Depot depot.old depot.new }
 {
     let job = job_in(alloc, depot, name)?;
-    let (after, report) = before.with_job(rt, alloc, job, workers)?;
+    let (after, report) = before.with_job(rt, alloc, &Open, job, workers)?;
     let line = reported(report.epoch, report.place, &report.counts);
     Ok((after, line))
 }
