@@ -1,5 +1,5 @@
-//! What the program answers: how it ends, and the line that it writes, which is made before anything is written. A file's
-//! name is lent beside the words, so that no memory is taken.
+//! What the program answers: how it ends, and the line that it writes, which is made before anything is written. A
+//! file's name is lent beside the words, so that no memory is taken.
 
 ghost use Rattle.std.specs.Prelude.{◌≡◌, ◌≤◌, [], length, IfOk, IsErr, IsTrue};
 ghost use Rattle.clubcard_top.specs.Statuses as statuses;

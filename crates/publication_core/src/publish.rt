@@ -55,8 +55,8 @@ fn built<R: Threads + Sync, G: Gate + Sync>(
     Ok(Publication::new(place, sealed, ledger, counts))
 }
 
-/// What is published of a job as the first of a chain, by 1 to 64 workers, each of which enters the gate before it builds
-/// an issuer's block. The job is dropped once it is admitted.
+/// What is published of a job as the first of a chain, by 1 to 64 workers, each of which enters the gate before it
+/// builds an issuer's block. The job is dropped once it is admitted.
 pub fn publish_first<R: Threads + Sync, G: Gate + Sync>(
     rt: &R,
     alloc: Global,
