@@ -7,5 +7,6 @@ pub mod WrittenJob
 pub mod RecordsSpelled
 pub mod JobSpelled
 pub mod Saying
+pub mod Pulling
 pub mod Steps
 pub mod JobFacts

@@ -1,5 +1,6 @@
 pub mod JobFields
 pub mod JobLayout
+pub mod Pulling
 pub mod Partial
 pub mod Offsets
 pub mod JobText

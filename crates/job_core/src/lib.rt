@@ -7,6 +7,7 @@ mod fields;
 mod laws;
 mod meaning;
 mod partial;
+mod pull;
 mod raw;
 mod reading;
 mod writing;
