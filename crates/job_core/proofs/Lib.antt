@@ -8,5 +8,7 @@ pub mod RecordsSpelled
 pub mod JobSpelled
 pub mod Saying
 pub mod Pulling
+pub mod Fetching
+pub mod Fetched
 pub mod Steps
 pub mod JobFacts

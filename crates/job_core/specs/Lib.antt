@@ -4,5 +4,6 @@ pub mod Pulling
 pub mod Partial
 pub mod Offsets
 pub mod JobText
+pub mod Records
 pub mod JobMeaning
 pub mod JobFacts

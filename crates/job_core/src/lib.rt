@@ -3,6 +3,7 @@
 
 mod bounds;
 mod fault;
+mod fetch;
 mod fields;
 mod laws;
 mod meaning;
@@ -10,6 +11,7 @@ mod partial;
 mod pull;
 mod raw;
 mod reading;
+mod records;
 mod writing;
 
 pub use bounds::{Limits, What};

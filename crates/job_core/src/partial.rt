@@ -44,7 +44,8 @@ pub fn no_numbers() -> Numbers
     }
 }
 
-fn is_room(limit: u32, count: u32) -> bool
+/// Whether there may be one more.
+pub fn is_room(limit: u32, count: u32) -> bool
     ensures { result ≡ nat_le (count + 1) limit }
 {
     count < limit

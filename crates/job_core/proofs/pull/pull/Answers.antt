@@ -23,7 +23,7 @@ pub returns-in_err-refill-clause-pulled : goal.returns-in_err-refill-clause-pull
 returns-in_err-refill-clause-pulled g c =
     let e = c.refill.ensures in
     pulled-then g.D.Depot c.args.feed.now c.pieces.feed c.refill.new.self c.pieces.invariant.pulled
-    (record { same_reference = e.same_reference; name = e.name; only_reads = e.only_reads; stands = e.stands })
+    (record { same_reference = e.same_reference; name = e.name; only_reads = e.only_reads; stands = e.stands; further = omega (arith, e.at) })
 
 pub returns-in_err-refill-clause-cause : goal.returns-in_err-refill-clause-cause
 returns-in_err-refill-clause-cause g c =
@@ -36,7 +36,7 @@ pub returns-then-is_empty-clause-pulled : goal.returns-then-is_empty-clause-pull
 returns-then-is_empty-clause-pulled g c =
     let e = c.refill.ensures in
     pulled-then g.D.Depot c.args.feed.now c.pieces.feed c.refill.new.self c.pieces.invariant.pulled
-    (record { same_reference = e.same_reference; name = e.name; only_reads = e.only_reads; stands = e.stands })
+    (record { same_reference = e.same_reference; name = e.name; only_reads = e.only_reads; stands = e.stands; further = omega (arith, e.at) })
 
 pub returns-then-is_empty-clause-short : goal.returns-then-is_empty-clause-short
 returns-then-is_empty-clause-short g c = λ is file stands.
@@ -59,12 +59,13 @@ pieces-preserved g c =
       within = omega (arith, inv.len, inv.within, c.min-count.ensures, c.copy_from_slice.ensures.len);
       pulled = pulled-then g.D.Depot c.args.feed.now c.pieces.feed c.take.new.self inv.pulled
           (pulled-then g.D.Depot c.pieces.feed c.refill.new.self c.take.new.self
-          (record { same_reference = e.same_reference; name = e.name; only_reads = e.only_reads; stands = e.stands })
+          (record { same_reference = e.same_reference; name = e.name; only_reads = e.only_reads; stands = e.stands; further = omega (arith, e.at) })
           (record {
             same_reference = t.same_reference;
             name = t.name;
             only_reads = rw t.depot (record { later = omega arith; same_files = refl; same_writes = refl });
             stands = t.stands;
+            further = omega (arith, t.at);
           }));
       unblamed = ap g.D.Depot.failed_reads t.depot ∙ c.in_ok-refill.ensures.unblamed ∙ inv.unblamed;
       place = omega (arith, t.at, e.at, inv.place);

@@ -1,0 +1,21 @@
+use Rattle.std.proofs.Common.{◌≡◌, ◌+◌, ◌-◌, ◌^◌, ◌<◌, ◌≤◌, ℕ, List, length, true, false, refl, sym, ap, subst, ◌∙◌, arith}
+use Rattle.std.specs.Int.{w32, w64, from_be_bytes}
+use Rattle.std.specs.Str.{bytes_eq}
+use Rattle.std.proofs.lemmas.Result.{err_from_is_err_and}
+use Rattle.octets_core.specs.Reading.{number, octets, length_of_three, key, any_key, magic}
+use Rattle.octets_core.specs.Position.{from_three}
+use Rattle.job_core.specs.JobLayout.{fielded}
+use Rattle.job_core.specs.declared.fault.JobFault.TheVariants as faults
+use Rattle.job_core.proofs.Fetching.{field-ok, field-wrong, field-short, number-is, number_test, bytes-are, three-is, in_bounds, too_low, too_high, fetched-refused}
+use Rattle.job_core.proofs.fetch.fetch_key.Goals as goal
+
+pub returns-in_err-fetch : goal.returns-in_err-fetch
+returns-in_err-fetch g c =
+    let p = err_from_is_err_and c.from_residual.result c.from_residual.ensures.1 in
+    rw (p.1, p.2) (field-short g.D.Depot (λ k. k) (fielded (key c.args.field any_key)) c.args.field 32 any_key (λ b. b) (bytes-are c.args.field 32 any_key)
+    c.args.feed.now c.fetch.new.feed c.fetch.new.out _ c.in_err-fetch.ensures.exact)
+
+pub returns : goal.returns
+returns g c =
+    field-ok g.D.Depot (λ k. k) (fielded (key c.args.field any_key)) c.args.field 32 any_key (λ b. b) (bytes-are c.args.field 32 any_key)
+    c.args.feed.now c.fetch.new.feed c.fetch.new.out _ c.in_ok-fetch.ensures.exact refl c.new.ensures
