@@ -51,7 +51,7 @@ bytes-both file at mid end le further one two = λ i.
 
 -- ---- steps
 
-blames-then : {D X : Type 0} (g : Ghosts D) (old mid new : Feed D) (r : Result X JobFault) → Pulled g old mid → NoneFailed g old mid → Blames g mid new r → Blames g old new r
+pub blames-then : {D X : Type 0} (g : Ghosts D) (old mid new : Feed D) (r : Result X JobFault) → Pulled g old mid → NoneFailed g old mid → Blames g mid new r → Blames g old new r
 blames-then g old mid new (Ok x) pulled none blames = blames ∙ none
 blames-then g old mid new (Err e) pulled none blames = (
   λ is. ReadFailed-then g (name_of old) (depot_of old) (depot_of mid) (depot_of new) pulled.only_reads none

@@ -163,7 +163,7 @@ records-end brings limits xs before pass =
 
 -- ---- the job
 
-opening-read : (epoch moment : ℕ) → epoch < 2 ^ 64 → moment < 2 ^ 64 → (before : List ℕ) → IsRead opening before (epoch, moment) (opening_text epoch moment)
+pub opening-read : (epoch moment : ℕ) → epoch < 2 ^ 64 → moment < 2 ^ 64 → (before : List ℕ) → IsRead opening before (epoch, moment) (opening_text epoch moment)
 unfolding opening
 opening-read epoch moment few_epoch few_moment before = from_front
     (reads _ (bytes_field-read _ _ 8 (bytes_eq (codes "CLUBJOB1")) _ (codes "CLUBJOB1") refl refl)
@@ -172,7 +172,7 @@ opening-read epoch moment few_epoch few_moment before = from_front
     (done (epoch, moment)))))
 
 -- what is read behind the opening
-abbrev behind_opening : (List ℕ → ℕ) → Limits → ℕ × ℕ → Layout JobFault JobTexts
+abbrev pub behind_opening : (List ℕ → ℕ) → Limits → ℕ × ℕ → Layout JobFault JobTexts
 behind_opening brings limits o = records brings limits nothing_held 0 >>= λ xs. fielded end >>= λ over. whole (record { epoch = o.0; moment = o.1; items = xs })
 
 pub behind-opening : (brings : List ℕ → ℕ) (limits : Limits) (bytes : List ℕ) (at : ℕ) (o : ℕ × ℕ) (q : ℕ) → opening bytes at ≡ Ok (o, q)

@@ -181,14 +181,14 @@ end-by : (b : Bool) (e : LayoutFault) (at : ℕ) (x : Unit {0} × ℕ) → (if b
 end-by true e at x h = absurd cc
 end-by false e at x h = (refl, ap (λ (p : Unit {0} × ℕ). p.1) (ok_is {E = LayoutFault} (tt, at) x h))
 
-end-tells : (bytes : List ℕ) (at : ℕ) → Leaves end bytes at (λ u q. (q ≡ at) × (length bytes ≤ at))
+pub end-tells : (bytes : List ℕ) (at : ℕ) → Leaves end bytes at (λ u q. (q ≡ at) × (length bytes ≤ at))
 end-tells bytes at = record {
   each = λ x h.
       let t = end-by (nat_lt at (length bytes)) (fault_at why.Value fields.End at) at x h in
       (sym t.1, ltb-false at (length bytes) t.0);
 }
 
-opening-leaves : (bytes : List ℕ) → IsBytes bytes → (at : ℕ) → Leaves opening bytes at (λ o q. Takes bytes at (opening_text o.0 o.1) q × (o.0 < 2 ^ 64) × (o.1 < 2 ^ 64))
+pub opening-leaves : (bytes : List ℕ) → IsBytes bytes → (at : ℕ) → Leaves opening bytes at (λ o q. Takes bytes at (opening_text o.0 o.1) q × (o.0 < 2 ^ 64) × (o.1 < 2 ^ 64))
 unfolding opening
 opening-leaves bytes fits at =
     bytes_field-leaves _ _ 8 (bytes_eq (codes "CLUBJOB1")) bytes at >>- λ begin p a.

@@ -12,3 +12,4 @@ pub mod Fetching
 pub mod Fetched
 pub mod Steps
 pub mod JobFacts
+pub mod JobStanding

@@ -1,9 +1,12 @@
 -- Reading records one by one: it doesn't depend on how many steps it may take.
-use Rattle.std.proofs.Common.{◌≡◌, ℕ, zero, suc, ◌+◌, ◌-◌, ◌≤◌, ◌<◌, ◌^◌, Bool, true, false, List, [], ◌∷◌, length, Option, Some, None, Result, Ok, Err, refl, sym, ap, ◌∙◌, arith, inl, inr}
-use Rattle.std.specs.Prelude.{if◌then◌else◌, nat_le}
-use Rattle.std.specs.Int.{Width, w8, w32, w64, from_be_bytes}
-use Rattle.std.proofs.lemmas.Bool.{cases_lt, lt-ltb, le-leb, lt-leb}
-use Rattle.octets_core.specs.Layout.{Layout, then_read, ◌>>=◌, whole, refused, mapped, bytes_field, number_field}
+use Rattle.std.proofs.Common.{◌≡◌, ℕ, zero, suc, ◌+◌, ◌-◌, ◌≤◌, ◌<◌, ◌^◌, Bool, true, false, List, [], ◌∷◌, length, take, drop, Option, Some, None, Result, Ok, Err, refl, sym, ap, subst, ◌∙◌, arith, inl, inr}
+use Rattle.std.specs.Prelude.{if◌then◌else◌, nat_le, codes}
+use Rattle.std.specs.Str.{bytes_eq}
+use Rattle.std.specs.Int.{Width, byte_len, w8, w32, w64, from_be_bytes}
+use Rattle.std.proofs.lemmas.Bool.{cases_lt, le-ltb, lt-ltb, le-leb, lt-leb}
+use Rattle.std.proofs.lemmas.List.{take-take, drop-take, drop-drop}
+use Rattle.octets_core.specs.Position.{piece}
+use Rattle.octets_core.specs.Layout.{Layout, then_read, ◌>>=◌, whole, refused, mapped, with_fault, bytes_field, number_field}
 use Rattle.octets_core.specs.Linked.{is_after}
 use Rattle.octets_core.specs.Reading.{fault_at, any_key, length_of_three}
 use Rattle.octets_core.specs.declared.field.Field.{Field}
@@ -17,26 +20,71 @@ use Rattle.job_core.specs.declared.bounds.What.{What}
 use Rattle.job_core.specs.declared.bounds.What.TheVariants as what
 use Rattle.job_core.specs.declared.fault.JobFault.{JobFault}
 use Rattle.job_core.specs.declared.fault.JobFault.TheVariants as faults
-use Rattle.job_core.specs.JobLayout.{fielded, is_kind, record_kind, crl, entry, Item, Held, with_item, at_most, range_item, crl_item, entry_item, item_of, some_of, next_item}
+use Rattle.job_core.specs.JobLayout.{fielded, is_kind, record_kind, opening, crl, entry, Item, Held, with_item, at_most, range_item, crl_item, entry_item, item_of, some_of, next_item}
 use Rattle.job_core.specs.JobLayout.{with_serials, with_others, records_within, records}
 use Rattle.job_core.specs.JobText.{behind}
 
 -- ---- what is read ends where it begins or later
 
-record Advances {E A : Type 0} (layout : Layout E A) : Type 0 where
-  each : (bytes : List ℕ) (at : ℕ) (x : A × ℕ) → layout bytes at ≡ Ok x → at ≤ x.1
+pub record Advances {E A : Type 0} (layout : Layout E A) : Type 0 where
+  pub each : (bytes : List ℕ) (at : ℕ) (x : A × ℕ) → layout bytes at ≡ Ok x → at ≤ x.1
+  -- and depends on no other bytes than those between
+  pub local : (bytes other : List ℕ) (at : ℕ) (x : A × ℕ) → layout bytes at ≡ Ok x → piece (x.1 - at) other at ≡ piece (x.1 - at) bytes at → x.1 ≤ length other → layout other at ≡ Ok x
+
+bytes-local : {E : Type 0} (short wrong : ℕ → E) (width : ℕ) (test : List ℕ → Bool) (bytes other : List ℕ) (at : ℕ) (x : List ℕ × ℕ) → bytes_field short wrong width test bytes at ≡ Ok x
+    → piece (x.1 - at) other at ≡ piece (x.1 - at) bytes at → x.1 ≤ length other → bytes_field short wrong width test other at ≡ Ok x
+unfolding bytes_field
+bytes-local short wrong width test bytes other at x h same room =
+    let f = bytes_field-ok short wrong width test bytes at x h in
+    let k : x.1 - at ≡ width = omega (arith, f.next) in
+    let there : piece width other at ≡ piece width bytes at = subst (λ (w : ℕ). piece w other at ≡ piece w bytes at) k same in
+    rw (le-ltb (length other) (at + width) (omega (arith, f.next, room)), there, f.passed, f.value, f.next) refl
 
 bytes-advances : {E : Type 0} (short wrong : ℕ → E) (width : ℕ) (test : List ℕ → Bool) → Advances (bytes_field short wrong width test)
-bytes-advances short wrong width test = record { each = λ bytes at x h. omega (arith, (bytes_field-ok short wrong width test bytes at x h).next) }
+bytes-advances short wrong width test = record {
+  each = λ bytes at x h. omega (arith, (bytes_field-ok short wrong width test bytes at x h).next);
+  local = bytes-local short wrong width test;
+}
+
+number-local : {E : Type 0} (short wrong : ℕ → E) (w : Width) (low high : ℕ) (bytes other : List ℕ) (at : ℕ) (x : ℕ × ℕ) → number_field short wrong w low high bytes at ≡ Ok x
+    → piece (x.1 - at) other at ≡ piece (x.1 - at) bytes at → x.1 ≤ length other → number_field short wrong w low high other at ≡ Ok x
+unfolding number_field
+number-local short wrong w low high bytes other at x h same room =
+    let f = number_field-ok short wrong w low high bytes at x h in
+    let k : x.1 - at ≡ byte_len w = omega (arith, f.next) in
+    let there : piece (byte_len w) other at ≡ piece (byte_len w) bytes at = subst (λ (n : ℕ). piece n other at ≡ piece n bytes at) k same in
+    rw (le-ltb (length other) (at + byte_len w) (omega (arith, f.next, room)), there, f.value, le-leb low x.0 f.from_low, le-leb x.0 high f.to_high, f.next) refl
 
 number-advances : {E : Type 0} (short wrong : ℕ → E) (w : Width) (low high : ℕ) → Advances (number_field short wrong w low high)
-number-advances short wrong w low high = record { each = λ bytes at x h. omega (arith, (number_field-ok short wrong w low high bytes at x h).next) }
+number-advances short wrong w low high = record {
+  each = λ bytes at x h. omega (arith, (number_field-ok short wrong w low high bytes at x h).next);
+  local = number-local short wrong w low high;
+}
 
 whole-advances : {E A : Type 0} (x : A) → Advances {E = E} (whole x)
-whole-advances {E} x = record { each = λ bytes at y h. let same = ap (λ p. p.1) (ok_is {E = E} (x, at) y h) in omega (arith, same) }
+whole-advances {E} x = record {
+  each = λ bytes at y h. let same = ap (λ p. p.1) (ok_is {E = E} (x, at) y h) in omega (arith, same);
+  local = λ bytes other at y h same room. h;
+}
 
 mapped-advances : {E F A : Type 0} (wrap : E → F) (layout : Layout E A) → Advances layout → Advances (mapped wrap layout)
-mapped-advances wrap layout one = record { each = λ bytes at x h. one.each bytes at x (mapped-ok wrap layout bytes at x h) }
+mapped-advances wrap layout one = record {
+  each = λ bytes at x h. one.each bytes at x (mapped-ok wrap layout bytes at x h);
+  local = λ bytes other at x h same room. ap (with_fault wrap) (one.local bytes other at x (mapped-ok wrap layout bytes at x h) same room);
+}
+
+-- the beginning of a piece, and what is left of it
+piece-front : (l : List ℕ) (at p q : ℕ) → at ≤ p → p ≤ q → take (p - at) (piece (q - at) l at) ≡ piece (p - at) l at
+piece-front l at p q le further = take-take (p - at) (q - at) (drop at l) (omega (arith, le, further))
+
+piece-back : (l : List ℕ) (at p q : ℕ) → at ≤ p → p ≤ q → drop (p - at) (piece (q - at) l at) ≡ piece (q - p) l p
+piece-back l at p q le further =
+    let k : q - at ≡ (p - at) + (q - p) = omega (arith, le, further) in
+    let n : at + (p - at) ≡ p = omega (arith, le) in
+    ap (λ (m : ℕ). drop (p - at) (take m (drop at l))) k
+    ∙ drop-take (p - at) (q - p) (drop at l)
+    ∙ ap (take (q - p)) (drop-drop (p - at) at l)
+    ∙ ap (λ (m : ℕ). take (q - p) (drop m l)) n
 
 infixl 10 ◌>>>◌
 ◌>>>◌ : {E A B : Type 0} {first : Layout E A} {next : A → Layout E B} → Advances first → ((x : A) → Advances (next x)) → Advances (first >>= next)
@@ -46,6 +94,16 @@ infixl 10 ◌>>>◌
       let before = one.each bytes at a.0 a.1 in
       let later = (rest a.0.0).each bytes a.0.1 y a.2 in
       omega (arith, before, later);
+  local = λ bytes other at y h same room.
+      let a = then_read-ok (first bytes at) next bytes y h in
+      let le = one.each bytes at a.0 a.1 in
+      let further = (rest a.0.0).each bytes a.0.1 y a.2 in
+      let front : piece (a.0.1 - at) other at ≡ piece (a.0.1 - at) bytes at
+      = sym (piece-front other at a.0.1 y.1 le further) ∙ ap (take (a.0.1 - at)) same ∙ piece-front bytes at a.0.1 y.1 le further in
+      let back : piece (y.1 - a.0.1) other a.0.1 ≡ piece (y.1 - a.0.1) bytes a.0.1
+      = sym (piece-back other at a.0.1 y.1 le further) ∙ ap (drop (a.0.1 - at)) same ∙ piece-back bytes at a.0.1 y.1 le further in
+      ap (λ r. then_read r next other) (one.local bytes other at a.0 a.1 front (omega (arith, further, room)))
+      ∙ (rest a.0.0).local bytes other a.0.1 y a.2 back room;
 }
 
 either-advances : {E A : Type 0} (b : Bool) (x y : Layout E A) → Advances x → Advances y → Advances (if b then x else y)
@@ -53,7 +111,7 @@ either-advances true x y hx hy = hx
 either-advances false x y hx hy = hy
 
 refused-advances : {E A : Type 0} (e : E) → Advances {A = A} (refused e)
-refused-advances e = record { each = λ bytes at x h. absurd cc }
+refused-advances e = record { each = λ bytes at x h. absurd cc; local = λ bytes other at x h same room. absurd cc }
 
 limit-advances : (thing : What) (limit count : ℕ) → Advances (at_most thing limit count)
 limit-advances thing limit count = either-advances (nat_le count limit) (whole tt) (refused (faults.TooMany thing limit)) (whole-advances tt) (refused-advances _)
@@ -104,6 +162,24 @@ item-advances : (kind : ℕ) (limits : Limits) (h : Held) → Advances (item_of 
 item-advances kind limits h =
     either-advances _ (range_item limits h) _ (range_item-advances limits h)
     (either-advances _ (crl_item limits h) (entry_item limits h) (crl_item-advances limits h) (entry_item-advances limits h))
+
+kind-advances : (previous : ℕ) → Advances (record_kind previous)
+unfolding record_kind
+kind-advances previous = bytes-advances _ _ 1 _ >>> λ byte. whole-advances _
+
+pub next-advances : (limits : Limits) (h : Held) → Advances (next_item limits h)
+unfolding next_item
+next-advances limits h =
+    mapped-advances faults.Layout _ (kind-advances h.kind) >>> λ kind.
+    either-advances _ (whole None) (some_of (item_of kind limits h)) (whole-advances None) (item-advances kind limits h >>> λ y. whole-advances (Some y))
+
+pub opening-advances : Advances opening
+unfolding opening
+opening-advances =
+    bytes-advances _ _ 8 (bytes_eq (codes "CLUBJOB1")) >>> λ begin.
+    number-advances _ _ w64 0 (2 ^ 64 - 1) >>> λ epoch.
+    number-advances _ _ w64 0 (2 ^ 64 - 1) >>> λ moment.
+    whole-advances _
 
 -- a record has the byte of its kind
 kind-further : (previous : ℕ) (bytes : List ℕ) (at : ℕ) (x : ℕ × ℕ) → record_kind previous bytes at ≡ Ok x → at < x.1

@@ -7,3 +7,4 @@ pub mod JobText
 pub mod Records
 pub mod JobMeaning
 pub mod JobFacts
+pub mod Reader
