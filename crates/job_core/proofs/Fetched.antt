@@ -1,14 +1,11 @@
 -- The records of a job, read off a feed field by field.
-use Rattle.std.proofs.Common.{◌≡◌, ◌+◌, ◌-◌, ◌^◌, ◌<◌, ◌≤◌, ℕ, zero, suc, List, length, Bool, Option, Some, None, Result, Ok, Err, Vec, Global, true, false, refl, sym, ap, subst, ◌∙◌, arith}
+use Rattle.std.proofs.Common.{◌≡◌, ◌+◌, ◌-◌, ◌^◌, ℕ, List, Option, Some, None, Ok, Err, Vec, Global, true, false, refl}
 use Rattle.std.specs.Prelude.{◌==◌, nat_le, codes, if◌then◌else◌}
-use Rattle.std.specs.Str.{bytes_eq}
 use Rattle.std.specs.Int.{w8, w32, w64, from_be_bytes}
 use Rattle.octets_core.specs.Linked.{is_after}
-use Rattle.octets_core.specs.Layout.{Layout, then_read, ◌>>=◌, whole}
+use Rattle.octets_core.specs.Layout.{Layout, ◌>>=◌, whole}
 use Rattle.octets_core.specs.Reading.{number, octets, length_of_three, key, any_key, magic}
-use Rattle.octets_core.specs.declared.key.Key32.{Key32}
 use Rattle.octets_core.specs.declared.field.Field.TheVariants as fields
-use Rattle.octets_core.specs.declared.fault.LayoutFault.{LayoutFault}
 use Rattle.ident_core.specs.declared.range.Range.{Range}
 use Rattle.ident_core.specs.RangeLayout.{range}
 use Rattle.outside_core.specs.declared.depot.Depot.{Ghosts}
@@ -21,11 +18,11 @@ use Rattle.job_core.specs.declared.raw.RawCrl.{RawCrl}
 use Rattle.job_core.specs.declared.raw.RawEntry.{RawEntry}
 use Rattle.job_core.specs.declared.records.Item.{Item as Taken}
 use Rattle.job_core.specs.declared.records.Item.TheVariants as takens
-use Rattle.job_core.specs.JobLayout.{fielded, is_kind, record_kind, CrlText, crl, EntryText, entry, opening, Held, Item, OneRange, OneCrl, OneEntry}
-use Rattle.job_core.specs.JobLayout.{at_most, range_item, crl_item, entry_item, item_of, some_of, next_item}
+use Rattle.job_core.specs.JobLayout.{fielded, is_kind, record_kind, crl, entry, opening, Held, Item, OneRange, OneCrl, OneEntry}
+use Rattle.job_core.specs.JobLayout.{range_item, crl_item, entry_item, item_of, some_of, next_item}
 use Rattle.job_core.specs.JobText.{crl_held, entry_held}
 use Rattle.job_core.specs.Records.{item_of_record, some_record}
-use Rattle.job_core.specs.Pulling.{Fetches, IsOfBytes}
+use Rattle.job_core.specs.Pulling.{Fetches}
 use Rattle.job_core.proofs.Fetching.{fetched-then, fetched-err, fetched-same, fetched-whole, fetched-refused, fielded-then, fielded-err, tested}
 
 -- ---- range

@@ -1,19 +1,17 @@
 -- Layouts read off a feed, one behind another.
-use Rattle.std.proofs.Common.{◌≡◌, ℕ, ◌+◌, ◌-◌, ◌≤◌, ◌<◌, Bool, true, false, cond, ltb, leb, ◌&&◌, not, List, ◌++◌, length, take, drop, get_or, Result, Ok, Err, refl, sym, ap, subst, ◌∙◌, arith, length-take, length-drop, inl, inr}
-use Rattle.std.specs.Prelude.{nat_lt, if◌then◌else◌}
+use Rattle.std.proofs.Common.{◌≡◌, ℕ, ◌+◌, ◌-◌, ◌≤◌, ◌<◌, Bool, true, false, cond, ltb, leb, ◌&&◌, not, List, length, drop, get_or, Result, Ok, Err, refl, sym, ap, subst, ◌∙◌, arith, length-take, inl, inr}
 use Rattle.std.specs.Int.{Width, byte_len, from_be_bytes}
-use Rattle.std.proofs.Math.Seq.{take-add}
 use Rattle.std.proofs.lemmas.Bool.{cases_lt, le-ltb, lt-ltb, le-leb, lt-leb}
-use Rattle.std.proofs.lemmas.List.{drop-drop, take_at, drop_at, get_or_append_left, get_or-take, get_or-drop, get_or_past}
+use Rattle.std.proofs.lemmas.List.{get_or-take, get_or-drop, get_or_past}
 use Rattle.octets_core.specs.Position.{piece, from_three}
-use Rattle.octets_core.specs.Layout.{Layout, then_read, ◌>>=◌, whole, bytes_field, number_field, within, mapped, with_fault}
+use Rattle.octets_core.specs.Layout.{Layout, then_read, ◌>>=◌, whole, bytes_field, number_field, within, with_fault}
 use Rattle.octets_core.specs.Reading.{end as end_of}
 use Rattle.octets_core.specs.Reading.{fault_at, octets, number, any_key, length_of_three}
 use Rattle.octets_core.specs.declared.field.Field.{Field}
 use Rattle.octets_core.specs.declared.field.Field.TheVariants as fields
 use Rattle.octets_core.specs.declared.fault.LayoutFault.{LayoutFault}
 use Rattle.octets_core.specs.declared.fault.Why.TheVariants as why
-use Rattle.octets_core.proofs.Fields.{bytes_field-ok, mapped-ok, ok_is}
+use Rattle.octets_core.proofs.Fields.{bytes_field-ok, mapped-ok}
 use Rattle.outside_core.specs.declared.depot.Depot.{Ghosts}
 use Rattle.outside_core.specs.declared.feed.Feed.{Feed}
 use Rattle.outside_core.specs.Effects.{ReadFailed}

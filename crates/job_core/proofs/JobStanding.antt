@@ -1,7 +1,7 @@
 -- What a reader of a job stands for, from one record to the next.
-use Rattle.std.proofs.Common.{◌≡◌, ℕ, zero, suc, ◌+◌, ◌-◌, ◌*◌, ◌≤◌, ◌<◌, ◌^◌, List, [], ◌∷◌, ◌++◌, length, get_or, take, drop, replicate, Option, Some, None, Result, Ok, Err}
+use Rattle.std.proofs.Common.{◌≡◌, ℕ, ◌+◌, ◌-◌, ◌≤◌, ◌<◌, ◌^◌, List, [], ◌∷◌, ◌++◌, length, get_or, take, drop, replicate, Option, Some, None, Result, Ok, Err}
 use Rattle.std.proofs.Common.{refl, sym, ap, subst, ◌∙◌, append_assoc, length-append, length-take, arith, inl, inr}
-use Rattle.std.specs.Prelude.{flat_map, OnOk}
+use Rattle.std.specs.Prelude.{OnOk}
 use Rattle.std.specs.Int.{w8, to_be_bytes}
 use Rattle.std.proofs.Math.Seq.{take-add}
 use Rattle.std.proofs.lemmas.Bool.{cases_lt}
@@ -11,7 +11,7 @@ use Rattle.octets_core.specs.Position.{piece}
 use Rattle.octets_core.specs.Layout.{Layout, then_read, ◌>>=◌, whole}
 use Rattle.octets_core.specs.Reading.{end as end_of}
 use Rattle.octets_core.proofs.Fields.{mapped-ok}
-use Rattle.octets_core.proofs.Texts.{IsBytes, Takes, Leaves}
+use Rattle.octets_core.proofs.Texts.{IsBytes, Takes}
 use Rattle.job_core.specs.declared.bounds.Limits.{Limits}
 use Rattle.job_core.specs.declared.fault.JobFault.{JobFault}
 use Rattle.job_core.specs.JobLayout.{fielded, Item, OneRange, OneCrl, OneEntry, Held, nothing_held, with_item, with_serials, next_item, opening, records, JobTexts, job}

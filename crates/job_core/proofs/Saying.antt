@@ -1,7 +1,7 @@
 -- What the records of a job say, read one by one, as a loop does.
 use Rattle.std.proofs.Common.{◌≡◌, ℕ, ◌-◌, ◌≤◌, ◌<◌, List, [], ◌∷◌, length, Option, Some, None, Result, Ok, Err, refl, sym, ap, ◌∙◌, arith, inl, inr}
 use Rattle.std.proofs.lemmas.Bool.{cases_lt}
-use Rattle.octets_core.specs.Layout.{then_read, ◌>>=◌, whole}
+use Rattle.octets_core.specs.Layout.{then_read, ◌>>=◌, whole, with_fault}
 use Rattle.octets_core.specs.Reading.{value_of, end}
 use Rattle.octets_core.specs.declared.fault.LayoutFault.{LayoutFault}
 use Rattle.octets_core.proofs.Fields.{ok_is}
@@ -99,3 +99,20 @@ module _ (limits : Limits) (bytes : List ℕ) (o : ℕ × ℕ) (at : ℕ) (opene
 
   pub job-says : (f : JobFields) (q p : ℕ) → records_saying limits (begun o.0 o.1) bytes at ≡ Ok (f, q) → end bytes q ≡ Ok (tt, p) → job_of limits bytes ≡ Ok f
   job-says f q p is over = job-is ∙ last-ends o bytes f q p _ is over
+
+-- ---- the same of layouts under the faults of a job
+
+with_fault-err : {A : Type 0} (r : Result (A × ℕ) LayoutFault) (e : JobFault) → with_fault faults.Layout r ≡ Err e → (d : LayoutFault) × (r ≡ Err d) × (faults.Layout d ≡ e)
+with_fault-err (Ok x) e is = absurd cc
+with_fault-err (Err d) e is = (d, refl, cc)
+
+pub opening-comes : (limits : Limits) (bytes : List ℕ) (e : JobFault) → fielded opening bytes 0 ≡ Err e → job_of limits bytes ≡ Err e
+opening-comes limits bytes e is =
+    let (d, fails_so, same) = with_fault-err (opening bytes 0) e is in
+    opening-fails limits bytes d fails_so ∙ ap (λ (c : JobFault). Err c) same
+
+pub end-comes : (limits : Limits) (bytes : List ℕ) (o : ℕ × ℕ) (at : ℕ) → opening bytes 0 ≡ Ok (o, at) → (f : JobFields) (q : ℕ) (e : JobFault) → records_saying limits (begun o.0 o.1) bytes at ≡ Ok (f, q)
+    → fielded end bytes q ≡ Err e → job_of limits bytes ≡ Err e
+end-comes limits bytes o at opened f q e is over =
+    let (d, fails_so, same) = with_fault-err (end bytes q) e over in
+    more-follows limits bytes o at opened f q d is fails_so ∙ ap (λ (c : JobFault). Err c) same

@@ -45,3 +45,13 @@ pub record Fetches {D X A : Type 0} (g : Ghosts D) (view : X → A) (layout : La
   pub pulled : Pulled g old new
   pub blames : Blames g old new result
   pub tells : (file : List ℕ) → StandsIn g old file → Tells view layout file (place_of old) (place_of new) result
+
+-- the same of a result alone, but for what the bytes are
+abbrev pub Says : {X A : Type 0} → (X → A) → Layout JobFault A → List ℕ → ℕ → ℕ → Result X JobFault → Type 0
+Says view layout file at end (Ok x) = layout file at ≡ Ok (view x, end)
+Says view layout file at end (Err e) = IsOfBytes e → layout file at ≡ Err e
+
+-- the value, or a fault of the bytes
+abbrev pub Comes : {X A : Type 0} → (X → A) → Result A JobFault → Result X JobFault → Type 0
+Comes view read (Ok x) = read ≡ Ok (view x)
+Comes view read (Err e) = IsOfBytes e → read ≡ Err e

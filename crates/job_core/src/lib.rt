@@ -12,6 +12,7 @@ mod pull;
 mod raw;
 mod reader;
 mod reading;
+mod reading_from;
 mod records;
 mod writing;
 
@@ -22,4 +23,5 @@ pub use meaning::{Job, JobCrl};
 pub use raw::{RawCrl, RawEntry, RawJob};
 pub use reader::{JobReader, Record};
 pub use reading::read_job;
+pub use reading_from::read_job_from;
 pub use writing::{job_fits, write_job};

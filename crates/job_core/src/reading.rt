@@ -55,7 +55,7 @@ fn total_with(serials: u32, outcome: &Result<Crl, CrlFault>) -> usize
 }
 
 /// Adds a CRL, and answers how many serials are kept of all CRLs so far, its own too.
-fn put_crl(
+pub fn put_crl(
     job: &mut Job,
     alloc: Global,
     issuer: Key32,
@@ -77,7 +77,8 @@ fn put_crl(
     Ok(total as u32)
 }
 
-fn put_range(job: &mut Job, range: Range) -> Result<(), JobFault>
+/// Adds a range.
+pub fn put_range(job: &mut Job, range: Range) -> Result<(), JobFault>
     ensures ok { OnOk result (fields_of_job job.new ≡ saying_one (fields_of_job job.old) (OneRange range)) }
     ensures wanted { IfErr result (λ e. e ≡ JobFault.NoMemory) }
 {
@@ -85,7 +86,8 @@ fn put_range(job: &mut Job, range: Range) -> Result<(), JobFault>
     Ok(())
 }
 
-fn put_entry(job: &mut Job, log: Key32, leaf: &[u8], extra: &[u8]) -> Result<(), JobFault>
+/// Adds what an entry gives.
+pub fn put_entry(job: &mut Job, log: Key32, leaf: &[u8], extra: &[u8]) -> Result<(), JobFault>
     ensures ok { OnOk result (fields_of_job job.new
         ≡ saying_one (fields_of_job job.old) (OneEntry (record { log = log; leaf = leaf.now; extra = extra.now }))) }
     ensures wanted { IfErr result (λ e. e ≡ JobFault.NoMemory) }
@@ -136,7 +138,8 @@ fn entry_facts(entry: &Option<(Identity, Sighting)>)
     }
 }
 
-fn entries_facts(entries: &[Option<(Identity, Sighting)>])
+/// What the types of entries say of them.
+pub fn entries_facts(entries: &[Option<(Identity, Sighting)>])
     ensures { All (λ e. IfSome e EntryFieldsFit) (map entry_view entries.now) }
 {
     for entry in entries {
@@ -180,7 +183,8 @@ fn crl_facts(crl: &JobCrl)
     }
 }
 
-fn crls_facts(crls: &[JobCrl])
+/// What the types of CRLs say of them.
+pub fn crls_facts(crls: &[JobCrl])
     ensures { All (λ c. IfOk c.outcome CrlFieldsFit) (map crl_view crls.now) }
 {
     for crl in crls {

@@ -1,13 +1,11 @@
-use Rattle.std.proofs.Common.{◌≡◌, ◌+◌, ◌-◌, ◌^◌, ◌<◌, ◌≤◌, ℕ, List, length, true, false, refl, sym, ap, subst, ◌∙◌, arith}
-use Rattle.std.specs.Int.{w32, w64, from_be_bytes}
-use Rattle.std.specs.Str.{bytes_eq}
+use Rattle.std.proofs.Common.{ℕ, ap, ◌∙◌, arith}
+use Rattle.std.specs.Int.{w32, from_be_bytes}
 use Rattle.std.proofs.lemmas.Result.{err_from_is_err_and}
-use Rattle.octets_core.specs.Reading.{number, octets, length_of_three, key, any_key, magic}
-use Rattle.octets_core.specs.Position.{from_three}
+use Rattle.octets_core.specs.Reading.{number}
 use Rattle.octets_core.specs.declared.fault.Why.TheVariants as why
 use Rattle.job_core.specs.JobLayout.{fielded}
 use Rattle.job_core.specs.declared.fault.JobFault.TheVariants as faults
-use Rattle.job_core.proofs.Fetching.{field-ok, field-wrong, field-short, number-is, number_test, bytes-are, three-is, in_bounds, too_low, too_high, fetched-refused}
+use Rattle.job_core.proofs.Fetching.{field-ok, field-wrong, field-short, number-is, number_test, in_bounds, too_high}
 use Rattle.job_core.proofs.fetch.fetch_u32.Goals as goal
 
 pub returns-in_err-fetch : goal.returns-in_err-fetch

@@ -5,7 +5,6 @@ use Rattle.std.proofs.lemmas.Result.{err_from_is_err_and}
 use Rattle.outside_core.specs.Feeding.{IsWindow}
 use Rattle.outside_core.specs.Standing.{place_of}
 use Rattle.outside_core.proofs.Effects.{ReadFailed-then}
-use Rattle.job_core.specs.Pulling.{Pulled}
 use Rattle.job_core.proofs.Pulling.{pulled-none, pulled-then, pulled-more}
 use Rattle.job_core.proofs.pull.pull.Goals as goal
 

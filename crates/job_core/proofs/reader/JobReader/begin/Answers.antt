@@ -1,14 +1,8 @@
-use Rattle.std.proofs.Common.{◌≡◌, ◌+◌, ◌≤◌, ℕ, List, length, take, Option, Some, None, Result, Ok, Err, refl, sym, ap, subst, ◌∙◌, arith}
+use Rattle.std.proofs.Common.{refl, arith}
 use Rattle.std.proofs.lemmas.Result.{err_from_is_err_and}
-use Rattle.outside_core.specs.Standing.{place_of, StandsIn}
-use Rattle.job_core.specs.declared.fault.JobFault.{JobFault}
-use Rattle.job_core.specs.declared.reader.Record.TheVariants as gives
-use Rattle.job_core.specs.JobLayout.{Item, OneRange, OneCrl, OneEntry}
-use Rattle.job_core.specs.JobText.{crl_held, entry_held}
+use Rattle.outside_core.specs.Standing.{place_of}
 use Rattle.job_core.specs.declared.reader.Stage.TheVariants as stages
-use Rattle.job_core.proofs.Pulling.{pulled-none, pulled-then}
-use Rattle.job_core.proofs.Fetching.{blames-then}
-use Rattle.job_core.proofs.JobStanding.{gives-one, gives-end, gives-first, gives-fault, gives-more, gives-no_job}
+use Rattle.job_core.proofs.JobStanding.{gives-first, gives-no_job}
 use Rattle.job_core.proofs.reader.JobReader.begin.Goals as goal
 
 pub returns-in_err-epoch-clause-next : goal.returns-in_err-epoch-clause-next

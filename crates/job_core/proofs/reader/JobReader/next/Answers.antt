@@ -1,4 +1,3 @@
-use Rattle.std.proofs.Common.{◌≡◌, ◌+◌, ◌≤◌, ℕ, List, length, take, Option, Some, None, Result, Ok, Err, refl, sym, ap, subst, ◌∙◌, arith}
 use Rattle.job_core.proofs.Pulling.{pulled-none}
 use Rattle.job_core.proofs.JobStanding.{reads-kept}
 use Rattle.job_core.proofs.reader.JobReader.next.Goals as goal

@@ -1,6 +1,6 @@
-use Rattle.std.proofs.Common.{◌≡◌, ◌+◌, ◌≤◌, ℕ, List, length, take, Option, Some, None, Result, Ok, Err, refl, sym, ap, subst, ◌∙◌, arith}
+use Rattle.std.proofs.Common.{◌≡◌, ℕ, Option, Some, Result, Ok, Err, refl, sym, ap, subst, ◌∙◌, arith}
 use Rattle.std.proofs.lemmas.Result.{err_from_is_err_and}
-use Rattle.outside_core.specs.Standing.{place_of, StandsIn}
+use Rattle.outside_core.specs.Standing.{place_of}
 use Rattle.job_core.specs.declared.fault.JobFault.{JobFault}
 use Rattle.job_core.specs.declared.reader.Record.{Record}
 use Rattle.job_core.specs.declared.reader.Record.TheVariants as gives
@@ -13,9 +13,9 @@ use Rattle.job_core.specs.JobLayout.{with_item}
 use Rattle.job_core.specs.Partial.{held_in}
 use Rattle.job_core.specs.Records.{item_of_record, some_record}
 use Rattle.job_core.specs.declared.partial.Numbers.{Numbers}
-use Rattle.job_core.proofs.Pulling.{pulled-none, pulled-then}
+use Rattle.job_core.proofs.Pulling.{pulled-then}
 use Rattle.job_core.proofs.Fetching.{blames-then}
-use Rattle.job_core.proofs.JobStanding.{gives-one, gives-end, gives-first, gives-fault, gives-more, gives-no_job}
+use Rattle.job_core.proofs.JobStanding.{gives-one, gives-end, gives-fault, gives-more}
 use Rattle.job_core.proofs.reader.JobReader.record.Goals as goal
 
 abbrev told_as : ℕ → Option Taken → Result (Option Item × ℕ) JobFault
