@@ -169,11 +169,12 @@ fetched-tested g v name width test f old new out x one passed is = record {
   pulled = one.pulled;
   blames = one.blames;
   tells = λ file stands.
-      let t = one.tells file stands in
-      (ap (with_fault faults.Layout)
-          (tested-ok name width test f file (place_of old) (place_of new) out (mapped-ok faults.Layout (octets name width) file (place_of old) (out, place_of new) t.0) passed
-          ∙ ap (λ z. Ok (z, place_of new)) (sym is)),
-      t.1);
+      let t = one.tells file stands in (
+        ap (with_fault faults.Layout)
+            (tested-ok name width test f file (place_of old) (place_of new) out (mapped-ok faults.Layout (octets name width) file (place_of old) (out, place_of new) t.0) passed
+            ∙ ap (λ z. Ok (z, place_of new)) (sym is)),
+        t.1,
+      );
 }
 
 pub fetched-wrong : {D X A : Type 0} (g : Ghosts D) (v : X → A) (name : Field) (width : ℕ) (test : List ℕ → Bool) (f : List ℕ → A) (old new : Feed D) (out : List ℕ)

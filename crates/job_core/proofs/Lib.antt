@@ -13,3 +13,4 @@ pub mod Fetched
 pub mod Steps
 pub mod JobFacts
 pub mod JobStanding
+pub mod SliceFiles

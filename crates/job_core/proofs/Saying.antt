@@ -1,6 +1,5 @@
 -- What the records of a job say, read one by one, as a loop does.
-use Rattle.std.proofs.Common.{◌≡◌, ℕ, ◌-◌, ◌≤◌, ◌<◌, List, [], ◌∷◌, length, Option, Some, None, Result, Ok, Err, refl, sym, ap, ◌∙◌, arith, inl, inr}
-use Rattle.std.proofs.lemmas.Bool.{cases_lt}
+use Rattle.std.proofs.Common.{◌≡◌, ℕ, ◌≤◌, ◌<◌, List, [], ◌∷◌, Some, None, Result, Ok, Err, refl, sym, ap, ◌∙◌, arith}
 use Rattle.octets_core.specs.Layout.{then_read, ◌>>=◌, whole, with_fault}
 use Rattle.octets_core.specs.Reading.{value_of, end}
 use Rattle.octets_core.specs.declared.fault.LayoutFault.{LayoutFault}
@@ -13,21 +12,10 @@ use Rattle.job_core.specs.JobFields.{JobFields}
 use Rattle.job_core.specs.JobLayout.{fielded, Item, Held, with_item, serials_of, with_serials, next_item, records, opening, JobTexts, job, saying_one, saying, begun, said_by, job_of}
 use Rattle.job_core.specs.JobText.{behind}
 use Rattle.job_core.specs.Partial.{said_behind, records_saying}
-use Rattle.job_core.proofs.Steps.{next-further, next-short, fails, ends, goes_on, runs_over}
+use Rattle.job_core.proofs.Steps.{fails, ends, goes_on, runs_over}
 use Rattle.job_core.proofs.JobReads.{behind-opening}
 
 -- ---- records
-
--- each record leaves fewer bytes
-pub fewer : (limits : Limits) (h : Held) (bytes later : List ℕ) (at q : ℕ) (x : Option Item) → next_item limits h bytes at ≡ Ok (x, q) → later ≡ bytes
-    → length later - q < length bytes - at
-fewer limits h bytes later at q x is same =
-    let on = next-further limits h bytes at (x, q) is in
-    let len : length later ≡ length bytes = ap length same in
-    elim (cases_lt at (length bytes)) [
-      | inl lt ↦ omega (arith, on, lt, len)
-      | inr le ↦ let short = next-short limits h bytes at le in absurd cc
-    ]
 
 module _ (limits : Limits) (f : JobFields) (h : Held) (serials : ℕ) (bytes : List ℕ) (at : ℕ) (total : Result (JobFields × ℕ) JobFault) where
   abbrev IsTotal : Type 0

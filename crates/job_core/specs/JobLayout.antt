@@ -2,9 +2,8 @@
 use Rattle.std.specs.Prelude.{ℕ, zero, suc, ◌+◌, ◌-◌, ◌^◌, List, [], ◌∷◌, ◌++◌, length, Bool, ◌||◌, ◌==◌, nat_le}
 use Rattle.std.specs.Prelude.{if◌then◌else◌, Result, Ok, Err, Option, Some, None, codes}
 use Rattle.std.specs.Int.{w8, w32, w64, from_be_bytes}
-use Rattle.octets_core.specs.Position.{Position}
 use Rattle.octets_core.specs.Layout.{Layout, ◌>>=◌, whole, refused, mapped, within, bytes_field}
-use Rattle.octets_core.specs.Reading.{ReadsUnless, value_of, fault_at, number, octets, length_of_three, key, any_key, magic, end}
+use Rattle.octets_core.specs.Reading.{value_of, fault_at, number, octets, length_of_three, key, any_key, magic, end}
 use Rattle.octets_core.specs.declared.field.Field.TheVariants as fields
 use Rattle.octets_core.specs.declared.fault.Why.TheVariants as why
 use Rattle.octets_core.specs.declared.fault.LayoutFault.{LayoutFault}
@@ -16,14 +15,10 @@ use Rattle.log_core.specs.Entries.{EntryFields, entry_of}
 use Rattle.job_core.specs.declared.bounds.Limits.{Limits}
 use Rattle.job_core.specs.declared.bounds.What.{What}
 use Rattle.job_core.specs.declared.bounds.What.TheVariants as what
-use Rattle.job_core.specs.declared.fields.TheConstants.{MAX_CRL}
+use Rattle.job_core.specs.declared.records.TheConstants.{MAX_CRL}
 use Rattle.job_core.specs.declared.fault.JobFault.{JobFault}
 use Rattle.job_core.specs.declared.fault.JobFault.TheVariants as faults
 use Rattle.job_core.specs.JobFields.{CrlMeaning, JobFields}
-
--- what a function that reads off a cursor did, unless memory was wanted
-abbrev pub Reads : {X A : Type 0} → (X → A) → Layout JobFault A → Position → Position → Result X JobFault → Type 0
-Reads view layout old new result = ReadsUnless faults.NoMemory view layout old new result
 
 -- a layout whose faults are those of its fields
 abbrev pub fielded : {A : Type 0} → Layout LayoutFault A → Layout JobFault A

@@ -8,7 +8,7 @@ use Rattle.ident_core.specs.Coverage.{RangesFit}
 use Rattle.ident_core.specs.RangeText.{range_text, FitsRange}
 use Rattle.job_core.specs.declared.bounds.Limits.{Limits}
 use Rattle.job_core.specs.declared.bounds.TheConstants.Limits as limits
-use Rattle.job_core.specs.declared.fields.TheConstants.{MAX_CRL}
+use Rattle.job_core.specs.declared.records.TheConstants.{MAX_CRL}
 use Rattle.job_core.specs.declared.raw.RawCrl.{RawCrl}
 use Rattle.job_core.specs.declared.raw.RawEntry.{RawEntry}
 use Rattle.job_core.specs.declared.raw.RawJob.{RawJob}

@@ -69,11 +69,7 @@ pub fn fetch_u24<D: Depot>(feed: &mut Feed<'_, D>, field: Field) -> Result<u32, 
 }
 
 /// A number of four bytes, up to `high`.
-pub fn fetch_u32<D: Depot>(
-    feed: &mut Feed<'_, D>,
-    field: Field,
-    high: u32,
-) -> Result<u32, JobFault>
+pub fn fetch_u32<D: Depot>(feed: &mut Feed<'_, D>, field: Field, high: u32) -> Result<u32, JobFault>
     ensures { Fetches D.Depot (λ n. n) (fielded (number field w32 0 high)) feed.old feed.new result }
 {
     let at = feed.at();
@@ -87,11 +83,7 @@ pub fn fetch_u32<D: Depot>(
 }
 
 /// A number of eight bytes, from `low` on.
-pub fn fetch_u64<D: Depot>(
-    feed: &mut Feed<'_, D>,
-    field: Field,
-    low: u64,
-) -> Result<u64, JobFault>
+pub fn fetch_u64<D: Depot>(feed: &mut Feed<'_, D>, field: Field, low: u64) -> Result<u64, JobFault>
     ensures { Fetches D.Depot (λ n. n) (fielded (number field w64 low (2 ^ 64 - 1))) feed.old feed.new result }
 {
     let at = feed.at();

@@ -4,7 +4,6 @@
 mod bounds;
 mod fault;
 mod fetch;
-mod fields;
 mod laws;
 mod meaning;
 mod partial;
@@ -14,6 +13,7 @@ mod reader;
 mod reading;
 mod reading_from;
 mod records;
+mod slice;
 mod writing;
 
 pub use bounds::{Limits, What};

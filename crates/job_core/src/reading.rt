@@ -3,8 +3,8 @@
 ghost use Rattle.std.specs.Prelude.{◌≡◌, ◌≢◌, ◌+◌, ◌≤◌, length, map, All, Ok, Err, IfSome, IfOk, IfErr, OnOk, FitsSigned};
 ghost use Rattle.std.specs.Int.{w64};
 ghost use Rattle.job_core.specs.JobFields.{outcome_view, crl_view, entry_view, fields_of_job, AreWithin};
-ghost use Rattle.job_core.specs.JobLayout.{Reads, OneRange, OneCrl, OneEntry, kept, saying_one, job_of};
-ghost use Rattle.job_core.specs.Partial.{TakesOne, records_saying, ReadsBegun};
+ghost use Rattle.job_core.specs.JobLayout.{OneRange, OneCrl, OneEntry, kept, saying_one, job_of};
+ghost use Rattle.job_core.specs.Partial.{TakesOne};
 ghost use Rattle.crl_core.specs.Outcome.{outcome};
 ghost use Rattle.log_core.specs.Entries.{entry_of};
 ghost use Rattle.octets_core.specs.Reading.{GivesUnless};
@@ -17,11 +17,13 @@ ghost use Rattle.job_core.specs.Offsets.{offset_in_job};
 use crate::bounds::{Limits, What};
 use crate::fault::JobFault;
 use crate::meaning::{Job, JobCrl};
-use crate::partial::{Taken, next_record, no_numbers};
+use crate::reading_from::read_job_from;
+use crate::slice::SliceDepot;
 use crl_core::{Crl, CrlFault, read_crl};
 use ident_core::{Identity, Range, Serial, Sighting};
 use log_core::read_entry;
-use octets_core::{Cursor, Field, Key32, LayoutFault, read_end, read_magic, read_u64};
+use octets_core::Key32;
+use outside_core::Feed;
 use std::alloc::Global;
 
 fn entry_from(log: Key32, leaf: &[u8], extra: &[u8]) -> Option<(Identity, Sighting)>
@@ -97,30 +99,6 @@ pub fn put_entry(job: &mut Job, log: Key32, leaf: &[u8], extra: &[u8]) -> Result
     Ok(())
 }
 
-/// Adds what the records say, up to the one that ends the job.
-fn put_records(
-    job: &mut Job,
-    alloc: Global,
-    cursor: &mut Cursor<'_>,
-    limits: &Limits,
-) -> Result<(), JobFault>
-    ensures { Reads (λ u. fields_of_job job.new) (records_saying limits.now (fields_of_job job.old)) cursor.old cursor.new result }
-{
-    let mut numbers = no_numbers();
-    let mut serials = 0;
-    'records: loop {
-        match next_record(&mut numbers, cursor, limits) {
-            Ok(None) => return Ok(()),
-            Ok(Some(Taken::Range(range))) => put_range(job, range)?,
-            Ok(Some(Taken::Crl(crl))) => {
-                serials = put_crl(job, alloc, crl.issuer, crl.bytes, serials, limits)?;
-            }
-            Ok(Some(Taken::Entry(entry))) => put_entry(job, entry.log, entry.leaf, entry.extra)?,
-            Err(fault) => return Err(fault),
-        }
-    }
-}
-
 /// What the types of an entry's fields say of them; the calls do no more than bring it.
 fn field_facts(id: &Identity, log: &Key32, time: u64)
     ensures { EntryFieldsFit (record { issuer = id.now.issuer; serial = id.now.serial; log = log.now; time = time }) }
@@ -192,35 +170,15 @@ pub fn crls_facts(crls: &[JobCrl])
     }
 }
 
-/// A job before its first record.
-#[tactic(auto, unfolding(crate::specs::JobLayout::opening))]
-fn read_opening(alloc: Global, cursor: &mut Cursor<'_>) -> Result<Job, LayoutFault>
-    ensures { ReadsBegun fields_of_job cursor.old cursor.new result }
-{
-    read_magic(cursor, Field::JobMagic, b"CLUBJOB1")?;
-    let epoch = read_u64(cursor, Field::JobEpoch, 0, u64::MAX)?;
-    let moment = read_u64(cursor, Field::JobMoment, 0, u64::MAX)?;
-    Ok(Job {
-        epoch,
-        moment,
-        ranges: Vec::new(alloc),
-        crls: Vec::new(alloc),
-        entries: Vec::new(alloc),
-    })
-}
-
 fn job_in(alloc: Global, bytes: &[u8], limits: &Limits) -> Result<Job, JobFault>
+    requires { AreWithin limits.now Limits.PUBLISHED }
     ensures exact { GivesUnless JobFault.NoMemory fields_of_job result (job_of limits.now bytes.now) }
     ensures crls { IfOk result (λ job. All (λ c. IfOk c.outcome CrlFieldsFit) (map crl_view job.crls.items)) }
     ensures entries { IfOk result (λ job. All (λ e. IfSome e EntryFieldsFit) (map entry_view job.entries.items)) }
 {
-    let mut cursor = Cursor::new(bytes);
-    let mut job = read_opening(alloc, &mut cursor)?;
-    put_records(&mut job, alloc, &mut cursor, limits)?;
-    read_end(&mut cursor)?;
-    crls_facts(&job.crls);
-    entries_facts(&job.entries);
-    Ok(job)
+    let mut depot = SliceDepot::new(bytes);
+    let mut feed = Feed::new(&mut depot, "");
+    read_job_from(alloc, &mut feed, limits)
 }
 
 /// The job of the bytes, or the first fault in their order: a field that is short or fails its test, or one thing more

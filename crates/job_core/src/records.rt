@@ -12,15 +12,19 @@ ghost use Rattle.job_core.specs.Pulling.{Fetches};
 
 use crate::bounds::{Limits, What};
 use crate::fault::JobFault;
-use crate::fetch::{fetch, fetch_key, fetch_key_after, fetch_magic, fetch_octets};
-use crate::fetch::{fetch_u24, fetch_u32, fetch_u64, wrong};
-use crate::fields::MAX_CRL;
+use crate::fetch::{
+    fetch, fetch_key, fetch_key_after, fetch_magic, fetch_octets, fetch_u24, fetch_u32, fetch_u64,
+    wrong,
+};
 use crate::partial::{Numbers, is_room};
 use crate::raw::{RawCrl, RawEntry};
 use ident_core::Range;
 use octets_core::{Field, Key32, Why};
 use outside_core::{Depot, Feed};
 use std::alloc::Global;
+
+/// The most bytes of a CRL.
+pub const MAX_CRL: u32 = 67_108_864;
 
 /// A record that was read.
 #[derive(Debug, Drop)]
@@ -54,10 +58,7 @@ fn fetch_kind<D: Depot>(feed: &mut Feed<'_, D>, previous: u8) -> Result<u8, JobF
 }
 
 /// A range behind the range of the previous log.
-fn fetch_range<D: Depot>(
-    feed: &mut Feed<'_, D>,
-    previous: Option<Key32>,
-) -> Result<Range, JobFault>
+fn fetch_range<D: Depot>(feed: &mut Feed<'_, D>, previous: Option<Key32>) -> Result<Range, JobFault>
     ensures { Fetches D.Depot (λ r. r) (fielded (range previous)) feed.old feed.new result }
 {
     let log = fetch_key_after(feed, Field::RangeLog, previous)?;
@@ -140,7 +141,7 @@ fn crl_from<D: Depot>(
     Ok(Item::Crl(crl))
 }
 
-fn entry_in<D: Depot>(
+fn entry_from<D: Depot>(
     alloc: Global,
     numbers: &mut Numbers,
     feed: &mut Feed<'_, D>,
@@ -174,7 +175,7 @@ fn item_from<D: Depot>(
     match kind {
         1 => range_from(numbers, feed, limits),
         2 => crl_from(alloc, numbers, feed, limits),
-        _ => entry_in(alloc, numbers, feed, limits),
+        _ => entry_from(alloc, numbers, feed, limits),
     }
 }
 

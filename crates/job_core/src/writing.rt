@@ -8,8 +8,8 @@ ghost use Rattle.job_core.specs.JobText.{contents_of, FitsCrl, FitsEntry, FitsJo
 ghost use Rattle.job_core.specs.JobMeaning.{reading_of};
 
 use crate::bounds::Limits;
-use crate::fields::MAX_CRL;
 use crate::raw::{RawCrl, RawEntry, RawJob};
+use crate::records::MAX_CRL;
 use ident_core::{Range, put_range, ranges_fit};
 use octets_core::{NoMemory, put_bytes, put_u8, put_u24, put_u32, put_u64};
 use std::alloc::Global;

@@ -5,7 +5,7 @@ use Rattle.job_core.proofs.records.fetch_entry.Goals as goal
 pub returns-in_err-log : goal.returns-in_err-log
 returns-in_err-log g c =
     let p = err_from_is_err_and c.from_residual.result c.from_residual.ensures.1 in
-    rw (p.1, p.2) (entry-log g.D.Depot c.args.feed.now _ _  c.in_err-log.ensures)
+    rw (p.1, p.2) (entry-log g.D.Depot c.args.feed.now _ _ c.in_err-log.ensures)
 
 pub returns-in_err-leaf_width : goal.returns-in_err-leaf_width
 returns-in_err-leaf_width g c =

@@ -2,7 +2,7 @@ use Rattle.std.proofs.Common.{sym, ◌∙◌}
 use Rattle.std.proofs.lemmas.Result.{err_from_is_err_and}
 use Rattle.job_core.specs.Partial.{held_in}
 use Rattle.job_core.proofs.Fetched.{entry_item-fetched, entry_item-err, entry_item-over}
-use Rattle.job_core.proofs.records.entry_in.Goals as goal
+use Rattle.job_core.proofs.records.entry_from.Goals as goal
 
 pub returns-then-not-is_room-clause-exact : goal.returns-then-not-is_room-clause-exact
 returns-then-not-is_room-clause-exact g c =

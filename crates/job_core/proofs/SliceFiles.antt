@@ -1,0 +1,52 @@
+-- The one file of a depot over a slice.
+use Rattle.std.proofs.Common.{◌≡◌, ℕ, ◌^◌, ◌-◌, ◌<◌, List, [], ◌∷◌, length, take, Some, None, Result, Ok, Err, true, false, inl, inr, refl, sym, ap, ◌∙◌, arith}
+use Rattle.std.specs.Prelude.{◌==◌}
+use Rattle.std.specs.Option.{option_map}
+use Rattle.std.specs.Ordering.{nat_cmp}
+use Rattle.std.specs.Cmp.Lexicographic.{slice_cmp, nat_list_cmp_total}
+use Rattle.std.specs.FinMap.{get, insert, empty, get-insert, get-empty}
+use Rattle.std.proofs.lemmas.Bool.{eqb-true}
+use Rattle.std.proofs.lemmas.List.{take_all}
+use Rattle.octets_core.specs.Reading.{GivesUnless}
+use Rattle.outside_core.specs.declared.depot.Depot.{Ghosts}
+use Rattle.outside_core.specs.declared.feed.Feed.{Feed}
+use Rattle.outside_core.specs.Effects.{ReadFailed}
+use Rattle.outside_core.specs.Files.{Files, FailedRead}
+use Rattle.outside_core.specs.Standing.{file_in, name_of, depot_of}
+use Rattle.job_core.specs.declared.fault.JobFault.{JobFault}
+use Rattle.job_core.specs.declared.fault.JobFault.TheVariants as faults
+use Rattle.job_core.specs.declared.slice.SliceDepot.{SliceDepot}
+use Rattle.job_core.specs.Pulling.{Blames, Comes}
+
+abbrev pub only : List ℕ → Files
+only bytes = insert empty [] bytes
+
+pub held-there : (bytes name : List ℕ) → (length name == 0) ≡ true → get (only bytes) name ≡ Some bytes
+held-there bytes [] is = get-insert nat_list_cmp_total empty [] bytes []
+held-there bytes (x ∷ name) is = let none = eqb-true (length (x ∷ name)) 0 is in absurd (omega (arith, none))
+
+pub none-there : (bytes name : List ℕ) → (length name == 0) ≡ false → get (only bytes) name ≡ None
+none-there bytes [] is = absurd cc
+none-there bytes (x ∷ name) is = get-insert nat_list_cmp_total empty [] bytes (x ∷ name) ∙ get-empty (slice_cmp nat_cmp) (x ∷ name)
+
+pub file-there : (bytes : List ℕ) → length bytes < 2 ^ 64 → file_in (Some (only bytes)) [] ≡ Some bytes
+file-there bytes fits = ap (option_map (take (2 ^ 64 - 1))) (held-there bytes [] refl) ∙ ap (λ (l : List ℕ). Some l) (take_all (2 ^ 64 - 1) bytes (omega (arith, fits)))
+
+-- no read of it fails
+pub never-fails : (bytes name : List ℕ) → name ≡ [] → FailedRead (Some (only bytes)) name 0 0 None None → ⊥
+never-fails bytes name is (inl (rose, blamed)) = absurd (omega (arith, rose))
+never-fails bytes name is (inr ((files, same, none), unblamed)) =
+    let e : only bytes ≡ files = cc in
+    let held : get (only bytes) name ≡ Some bytes = held-there bytes name (rw is refl) in
+    let there : get files name ≡ Some bytes = ap (λ (f : Files). get f name) (sym e) ∙ held in
+    absurd cc
+
+-- where no read fails, a job comes of the bytes or memory is wanted
+pub comes-from : {D X A : Type 0} (g : Ghosts D) (old new : Feed D) (view : X → A) (read : Result A JobFault) (r : Result X JobFault)
+    → (ReadFailed g (name_of old) (depot_of old) (depot_of new) → ⊥) → Blames g old new r → Comes view read r → GivesUnless faults.NoMemory view r read
+comes-from g old new view read (Ok x) never blames comes = comes
+comes-from g old new view read (Err e) never blames comes = λ wants. comes (wants, λ same. never (blames.0 same))
+
+-- what the depot says of itself
+abbrev pub slice_ghosts : Ghosts SliceDepot
+slice_ghosts = record { files = λ d. Some (only d.bytes.now); read_faults = λ d. 0; failed_reads = λ d. None; write_faults = λ d. d.refused }
