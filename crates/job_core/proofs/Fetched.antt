@@ -27,25 +27,33 @@ use Rattle.job_core.proofs.Fetching.{fetched-then, fetched-err, fetched-same, fe
 
 -- ---- range
 
-pub range-log : {D : Type 0} (g : Ghosts D) (previous : Option (List ℕ)) (old : Feed D) (f0 : Feed D) (e : JobFault) → Fetches g (λ (x : List ℕ). x) (fielded (key fields.RangeLog (is_after previous))) old f0 (Err e) → Fetches g (λ (r : Range). r) (fielded (range previous)) old f0 (Err e)
+pub range-log : {D : Type 0} (g : Ghosts D) (previous : Option (List ℕ)) (old : Feed D) (f0 : Feed D) (e : JobFault)
+    → Fetches g (λ (x : List ℕ). x) (fielded (key fields.RangeLog (is_after previous))) old f0 (Err e) → Fetches g (λ (r : Range). r) (fielded (range previous)) old f0 (Err e)
 unfolding range
 range-log g previous old f0 e h0 =
     fielded-err g (λ (x : List ℕ). x) (λ (r : Range). r) _ _ old f0 e h0
 
-pub range-from : {D : Type 0} (g : Ghosts D) (previous : Option (List ℕ)) (old : Feed D) (f0 : Feed D) (x0 : List ℕ) (f1 : Feed D) (e : JobFault) → Fetches g (λ (x : List ℕ). x) (fielded (key fields.RangeLog (is_after previous))) old f0 (Ok x0) → Fetches g (λ (x : ℕ). x) (fielded (number fields.RangeFrom w64 0 (2 ^ 64 - 1))) f0 f1 (Err e) → Fetches g (λ (r : Range). r) (fielded (range previous)) old f1 (Err e)
+pub range-from : {D : Type 0} (g : Ghosts D) (previous : Option (List ℕ)) (old : Feed D) (f0 : Feed D) (x0 : List ℕ) (f1 : Feed D) (e : JobFault)
+    → Fetches g (λ (x : List ℕ). x) (fielded (key fields.RangeLog (is_after previous))) old f0 (Ok x0) → Fetches g (λ (x : ℕ). x) (fielded (number fields.RangeFrom w64 0 (2 ^ 64 - 1))) f0 f1 (Err e)
+    → Fetches g (λ (r : Range). r) (fielded (range previous)) old f1 (Err e)
 unfolding range
 range-from g previous old f0 x0 f1 e h0 h1 =
     fielded-then g (λ (x : List ℕ). x) (λ (r : Range). r) _ _ old f0 f1 x0 (Err e) h0
     (fielded-err g (λ (x : ℕ). x) (λ (r : Range). r) _ _ f0 f1 e h1)
 
-pub range-to : {D : Type 0} (g : Ghosts D) (previous : Option (List ℕ)) (old : Feed D) (f0 : Feed D) (x0 : List ℕ) (f1 : Feed D) (x1 : ℕ) (f2 : Feed D) (e : JobFault) → Fetches g (λ (x : List ℕ). x) (fielded (key fields.RangeLog (is_after previous))) old f0 (Ok x0) → Fetches g (λ (x : ℕ). x) (fielded (number fields.RangeFrom w64 0 (2 ^ 64 - 1))) f0 f1 (Ok x1) → Fetches g (λ (x : ℕ). x) (fielded (number fields.RangeTo w64 x1 (2 ^ 64 - 1))) f1 f2 (Err e) → Fetches g (λ (r : Range). r) (fielded (range previous)) old f2 (Err e)
+pub range-to : {D : Type 0} (g : Ghosts D) (previous : Option (List ℕ)) (old : Feed D) (f0 : Feed D) (x0 : List ℕ) (f1 : Feed D) (x1 : ℕ) (f2 : Feed D) (e : JobFault)
+    → Fetches g (λ (x : List ℕ). x) (fielded (key fields.RangeLog (is_after previous))) old f0 (Ok x0) → Fetches g (λ (x : ℕ). x) (fielded (number fields.RangeFrom w64 0 (2 ^ 64 - 1))) f0 f1 (Ok x1)
+    → Fetches g (λ (x : ℕ). x) (fielded (number fields.RangeTo w64 x1 (2 ^ 64 - 1))) f1 f2 (Err e) → Fetches g (λ (r : Range). r) (fielded (range previous)) old f2 (Err e)
 unfolding range
 range-to g previous old f0 x0 f1 x1 f2 e h0 h1 h2 =
     fielded-then g (λ (x : List ℕ). x) (λ (r : Range). r) _ _ old f0 f2 x0 (Err e) h0
     (fielded-then g (λ (x : ℕ). x) (λ (r : Range). r) _ _ f0 f1 f2 x1 (Err e) h1
     (fielded-err g (λ (x : ℕ). x) (λ (r : Range). r) _ _ f1 f2 e h2))
 
-pub range-fetched : {D : Type 0} (g : Ghosts D) (previous : Option (List ℕ)) (old : Feed D) (f0 : Feed D) (x0 : List ℕ) (f1 : Feed D) (x1 : ℕ) (f2 : Feed D) (x2 : ℕ) → Fetches g (λ (x : List ℕ). x) (fielded (key fields.RangeLog (is_after previous))) old f0 (Ok x0) → Fetches g (λ (x : ℕ). x) (fielded (number fields.RangeFrom w64 0 (2 ^ 64 - 1))) f0 f1 (Ok x1) → Fetches g (λ (x : ℕ). x) (fielded (number fields.RangeTo w64 x1 (2 ^ 64 - 1))) f1 f2 (Ok x2) → Fetches g (λ (r : Range). r) (fielded (range previous)) old f2 (Ok (record { log = x0; from = x1; to = x2 }))
+pub range-fetched : {D : Type 0} (g : Ghosts D) (previous : Option (List ℕ)) (old : Feed D) (f0 : Feed D) (x0 : List ℕ) (f1 : Feed D) (x1 : ℕ) (f2 : Feed D) (x2 : ℕ)
+    → Fetches g (λ (x : List ℕ). x) (fielded (key fields.RangeLog (is_after previous))) old f0 (Ok x0) → Fetches g (λ (x : ℕ). x) (fielded (number fields.RangeFrom w64 0 (2 ^ 64 - 1))) f0 f1 (Ok x1)
+    → Fetches g (λ (x : ℕ). x) (fielded (number fields.RangeTo w64 x1 (2 ^ 64 - 1))) f1 f2 (Ok x2)
+    → Fetches g (λ (r : Range). r) (fielded (range previous)) old f2 (Ok (record { log = x0; from = x1; to = x2 }))
 unfolding range
 range-fetched g previous old f0 x0 f1 x1 f2 x2 h0 h1 h2 =
     fielded-then g (λ (x : List ℕ). x) (λ (r : Range). r) _ _ old f0 f2 x0 (Ok (record { log = x0; from = x1; to = x2 })) h0
@@ -55,25 +63,32 @@ range-fetched g previous old f0 x0 f1 x1 f2 x2 h0 h1 h2 =
 
 -- ---- crl
 
-pub crl-issuer : {D : Type 0} (g : Ghosts D) (old : Feed D) (f0 : Feed D) (e : JobFault) → Fetches g (λ (x : List ℕ). x) (fielded (key fields.CrlIssuer any_key)) old f0 (Err e) → Fetches g crl_held (fielded (crl)) old f0 (Err e)
+pub crl-issuer : {D : Type 0} (g : Ghosts D) (old : Feed D) (f0 : Feed D) (e : JobFault) → Fetches g (λ (x : List ℕ). x) (fielded (key fields.CrlIssuer any_key)) old f0 (Err e)
+    → Fetches g crl_held (fielded (crl)) old f0 (Err e)
 unfolding crl
 crl-issuer g old f0 e h0 =
     fielded-err g (λ (x : List ℕ). x) crl_held _ _ old f0 e h0
 
-pub crl-width : {D : Type 0} (g : Ghosts D) (old : Feed D) (f0 : Feed D) (x0 : List ℕ) (f1 : Feed D) (e : JobFault) → Fetches g (λ (x : List ℕ). x) (fielded (key fields.CrlIssuer any_key)) old f0 (Ok x0) → Fetches g (λ (x : ℕ). x) (fielded (number fields.CrlLength w32 0 67108864)) f0 f1 (Err e) → Fetches g crl_held (fielded (crl)) old f1 (Err e)
+pub crl-width : {D : Type 0} (g : Ghosts D) (old : Feed D) (f0 : Feed D) (x0 : List ℕ) (f1 : Feed D) (e : JobFault)
+    → Fetches g (λ (x : List ℕ). x) (fielded (key fields.CrlIssuer any_key)) old f0 (Ok x0) → Fetches g (λ (x : ℕ). x) (fielded (number fields.CrlLength w32 0 67108864)) f0 f1 (Err e)
+    → Fetches g crl_held (fielded (crl)) old f1 (Err e)
 unfolding crl
 crl-width g old f0 x0 f1 e h0 h1 =
     fielded-then g (λ (x : List ℕ). x) crl_held _ _ old f0 f1 x0 (Err e) h0
     (fielded-err g (λ (x : ℕ). x) crl_held _ _ f0 f1 e h1)
 
-pub crl-bytes : {D : Type 0} (g : Ghosts D) (old : Feed D) (f0 : Feed D) (x0 : List ℕ) (f1 : Feed D) (x1 : ℕ) (f2 : Feed D) (e : JobFault) → Fetches g (λ (x : List ℕ). x) (fielded (key fields.CrlIssuer any_key)) old f0 (Ok x0) → Fetches g (λ (x : ℕ). x) (fielded (number fields.CrlLength w32 0 67108864)) f0 f1 (Ok x1) → Fetches g (λ (v : Vec ℕ Global). v.items) (fielded (octets fields.CrlBytes x1)) f1 f2 (Err e) → Fetches g crl_held (fielded (crl)) old f2 (Err e)
+pub crl-bytes : {D : Type 0} (g : Ghosts D) (old : Feed D) (f0 : Feed D) (x0 : List ℕ) (f1 : Feed D) (x1 : ℕ) (f2 : Feed D) (e : JobFault)
+    → Fetches g (λ (x : List ℕ). x) (fielded (key fields.CrlIssuer any_key)) old f0 (Ok x0) → Fetches g (λ (x : ℕ). x) (fielded (number fields.CrlLength w32 0 67108864)) f0 f1 (Ok x1)
+    → Fetches g (λ (v : Vec ℕ Global). v.items) (fielded (octets fields.CrlBytes x1)) f1 f2 (Err e) → Fetches g crl_held (fielded (crl)) old f2 (Err e)
 unfolding crl
 crl-bytes g old f0 x0 f1 x1 f2 e h0 h1 h2 =
     fielded-then g (λ (x : List ℕ). x) crl_held _ _ old f0 f2 x0 (Err e) h0
     (fielded-then g (λ (x : ℕ). x) crl_held _ _ f0 f1 f2 x1 (Err e) h1
     (fielded-err g (λ (v : Vec ℕ Global). v.items) crl_held _ _ f1 f2 e h2))
 
-pub crl-fetched : {D : Type 0} (g : Ghosts D) (old : Feed D) (f0 : Feed D) (x0 : List ℕ) (f1 : Feed D) (x1 : ℕ) (f2 : Feed D) (x2 : Vec ℕ Global) → Fetches g (λ (x : List ℕ). x) (fielded (key fields.CrlIssuer any_key)) old f0 (Ok x0) → Fetches g (λ (x : ℕ). x) (fielded (number fields.CrlLength w32 0 67108864)) f0 f1 (Ok x1) → Fetches g (λ (v : Vec ℕ Global). v.items) (fielded (octets fields.CrlBytes x1)) f1 f2 (Ok x2) → Fetches g crl_held (fielded (crl)) old f2 (Ok (record { issuer = x0; bytes = x2 }))
+pub crl-fetched : {D : Type 0} (g : Ghosts D) (old : Feed D) (f0 : Feed D) (x0 : List ℕ) (f1 : Feed D) (x1 : ℕ) (f2 : Feed D) (x2 : Vec ℕ Global)
+    → Fetches g (λ (x : List ℕ). x) (fielded (key fields.CrlIssuer any_key)) old f0 (Ok x0) → Fetches g (λ (x : ℕ). x) (fielded (number fields.CrlLength w32 0 67108864)) f0 f1 (Ok x1)
+    → Fetches g (λ (v : Vec ℕ Global). v.items) (fielded (octets fields.CrlBytes x1)) f1 f2 (Ok x2) → Fetches g crl_held (fielded (crl)) old f2 (Ok (record { issuer = x0; bytes = x2 }))
 unfolding crl
 crl-fetched g old f0 x0 f1 x1 f2 x2 h0 h1 h2 =
     fielded-then g (λ (x : List ℕ). x) crl_held _ _ old f0 f2 x0 (Ok (record { issuer = x0; bytes = x2 })) h0
@@ -83,25 +98,33 @@ crl-fetched g old f0 x0 f1 x1 f2 x2 h0 h1 h2 =
 
 -- ---- entry
 
-pub entry-log : {D : Type 0} (g : Ghosts D) (old : Feed D) (f0 : Feed D) (e : JobFault) → Fetches g (λ (x : List ℕ). x) (fielded (key fields.EntryLog any_key)) old f0 (Err e) → Fetches g entry_held (fielded (entry)) old f0 (Err e)
+pub entry-log : {D : Type 0} (g : Ghosts D) (old : Feed D) (f0 : Feed D) (e : JobFault) → Fetches g (λ (x : List ℕ). x) (fielded (key fields.EntryLog any_key)) old f0 (Err e)
+    → Fetches g entry_held (fielded (entry)) old f0 (Err e)
 unfolding entry
 entry-log g old f0 e h0 =
     fielded-err g (λ (x : List ℕ). x) entry_held _ _ old f0 e h0
 
-pub entry-leaf_width : {D : Type 0} (g : Ghosts D) (old : Feed D) (f0 : Feed D) (x0 : List ℕ) (f1 : Feed D) (e : JobFault) → Fetches g (λ (x : List ℕ). x) (fielded (key fields.EntryLog any_key)) old f0 (Ok x0) → Fetches g (λ (x : ℕ). x) (fielded (length_of_three fields.EntryLeafLength)) f0 f1 (Err e) → Fetches g entry_held (fielded (entry)) old f1 (Err e)
+pub entry-leaf_width : {D : Type 0} (g : Ghosts D) (old : Feed D) (f0 : Feed D) (x0 : List ℕ) (f1 : Feed D) (e : JobFault)
+    → Fetches g (λ (x : List ℕ). x) (fielded (key fields.EntryLog any_key)) old f0 (Ok x0) → Fetches g (λ (x : ℕ). x) (fielded (length_of_three fields.EntryLeafLength)) f0 f1 (Err e)
+    → Fetches g entry_held (fielded (entry)) old f1 (Err e)
 unfolding entry
 entry-leaf_width g old f0 x0 f1 e h0 h1 =
     fielded-then g (λ (x : List ℕ). x) entry_held _ _ old f0 f1 x0 (Err e) h0
     (fielded-err g (λ (x : ℕ). x) entry_held _ _ f0 f1 e h1)
 
-pub entry-leaf : {D : Type 0} (g : Ghosts D) (old : Feed D) (f0 : Feed D) (x0 : List ℕ) (f1 : Feed D) (x1 : ℕ) (f2 : Feed D) (e : JobFault) → Fetches g (λ (x : List ℕ). x) (fielded (key fields.EntryLog any_key)) old f0 (Ok x0) → Fetches g (λ (x : ℕ). x) (fielded (length_of_three fields.EntryLeafLength)) f0 f1 (Ok x1) → Fetches g (λ (v : Vec ℕ Global). v.items) (fielded (octets fields.EntryLeaf x1)) f1 f2 (Err e) → Fetches g entry_held (fielded (entry)) old f2 (Err e)
+pub entry-leaf : {D : Type 0} (g : Ghosts D) (old : Feed D) (f0 : Feed D) (x0 : List ℕ) (f1 : Feed D) (x1 : ℕ) (f2 : Feed D) (e : JobFault)
+    → Fetches g (λ (x : List ℕ). x) (fielded (key fields.EntryLog any_key)) old f0 (Ok x0) → Fetches g (λ (x : ℕ). x) (fielded (length_of_three fields.EntryLeafLength)) f0 f1 (Ok x1)
+    → Fetches g (λ (v : Vec ℕ Global). v.items) (fielded (octets fields.EntryLeaf x1)) f1 f2 (Err e) → Fetches g entry_held (fielded (entry)) old f2 (Err e)
 unfolding entry
 entry-leaf g old f0 x0 f1 x1 f2 e h0 h1 h2 =
     fielded-then g (λ (x : List ℕ). x) entry_held _ _ old f0 f2 x0 (Err e) h0
     (fielded-then g (λ (x : ℕ). x) entry_held _ _ f0 f1 f2 x1 (Err e) h1
     (fielded-err g (λ (v : Vec ℕ Global). v.items) entry_held _ _ f1 f2 e h2))
 
-pub entry-extra_width : {D : Type 0} (g : Ghosts D) (old : Feed D) (f0 : Feed D) (x0 : List ℕ) (f1 : Feed D) (x1 : ℕ) (f2 : Feed D) (x2 : Vec ℕ Global) (f3 : Feed D) (e : JobFault) → Fetches g (λ (x : List ℕ). x) (fielded (key fields.EntryLog any_key)) old f0 (Ok x0) → Fetches g (λ (x : ℕ). x) (fielded (length_of_three fields.EntryLeafLength)) f0 f1 (Ok x1) → Fetches g (λ (v : Vec ℕ Global). v.items) (fielded (octets fields.EntryLeaf x1)) f1 f2 (Ok x2) → Fetches g (λ (x : ℕ). x) (fielded (length_of_three fields.EntryExtraLength)) f2 f3 (Err e) → Fetches g entry_held (fielded (entry)) old f3 (Err e)
+pub entry-extra_width : {D : Type 0} (g : Ghosts D) (old : Feed D) (f0 : Feed D) (x0 : List ℕ) (f1 : Feed D) (x1 : ℕ) (f2 : Feed D) (x2 : Vec ℕ Global) (f3 : Feed D) (e : JobFault)
+    → Fetches g (λ (x : List ℕ). x) (fielded (key fields.EntryLog any_key)) old f0 (Ok x0) → Fetches g (λ (x : ℕ). x) (fielded (length_of_three fields.EntryLeafLength)) f0 f1 (Ok x1)
+    → Fetches g (λ (v : Vec ℕ Global). v.items) (fielded (octets fields.EntryLeaf x1)) f1 f2 (Ok x2) → Fetches g (λ (x : ℕ). x) (fielded (length_of_three fields.EntryExtraLength)) f2 f3 (Err e)
+    → Fetches g entry_held (fielded (entry)) old f3 (Err e)
 unfolding entry
 entry-extra_width g old f0 x0 f1 x1 f2 x2 f3 e h0 h1 h2 h3 =
     fielded-then g (λ (x : List ℕ). x) entry_held _ _ old f0 f3 x0 (Err e) h0
@@ -109,7 +132,10 @@ entry-extra_width g old f0 x0 f1 x1 f2 x2 f3 e h0 h1 h2 h3 =
     (fielded-then g (λ (v : Vec ℕ Global). v.items) entry_held _ _ f1 f2 f3 x2 (Err e) h2
     (fielded-err g (λ (x : ℕ). x) entry_held _ _ f2 f3 e h3)))
 
-pub entry-extra : {D : Type 0} (g : Ghosts D) (old : Feed D) (f0 : Feed D) (x0 : List ℕ) (f1 : Feed D) (x1 : ℕ) (f2 : Feed D) (x2 : Vec ℕ Global) (f3 : Feed D) (x3 : ℕ) (f4 : Feed D) (e : JobFault) → Fetches g (λ (x : List ℕ). x) (fielded (key fields.EntryLog any_key)) old f0 (Ok x0) → Fetches g (λ (x : ℕ). x) (fielded (length_of_three fields.EntryLeafLength)) f0 f1 (Ok x1) → Fetches g (λ (v : Vec ℕ Global). v.items) (fielded (octets fields.EntryLeaf x1)) f1 f2 (Ok x2) → Fetches g (λ (x : ℕ). x) (fielded (length_of_three fields.EntryExtraLength)) f2 f3 (Ok x3) → Fetches g (λ (v : Vec ℕ Global). v.items) (fielded (octets fields.EntryExtra x3)) f3 f4 (Err e) → Fetches g entry_held (fielded (entry)) old f4 (Err e)
+pub entry-extra : {D : Type 0} (g : Ghosts D) (old : Feed D) (f0 : Feed D) (x0 : List ℕ) (f1 : Feed D) (x1 : ℕ) (f2 : Feed D) (x2 : Vec ℕ Global) (f3 : Feed D) (x3 : ℕ) (f4 : Feed D) (e : JobFault)
+    → Fetches g (λ (x : List ℕ). x) (fielded (key fields.EntryLog any_key)) old f0 (Ok x0) → Fetches g (λ (x : ℕ). x) (fielded (length_of_three fields.EntryLeafLength)) f0 f1 (Ok x1)
+    → Fetches g (λ (v : Vec ℕ Global). v.items) (fielded (octets fields.EntryLeaf x1)) f1 f2 (Ok x2) → Fetches g (λ (x : ℕ). x) (fielded (length_of_three fields.EntryExtraLength)) f2 f3 (Ok x3)
+    → Fetches g (λ (v : Vec ℕ Global). v.items) (fielded (octets fields.EntryExtra x3)) f3 f4 (Err e) → Fetches g entry_held (fielded (entry)) old f4 (Err e)
 unfolding entry
 entry-extra g old f0 x0 f1 x1 f2 x2 f3 x3 f4 e h0 h1 h2 h3 h4 =
     fielded-then g (λ (x : List ℕ). x) entry_held _ _ old f0 f4 x0 (Err e) h0
@@ -118,7 +144,11 @@ entry-extra g old f0 x0 f1 x1 f2 x2 f3 x3 f4 e h0 h1 h2 h3 h4 =
     (fielded-then g (λ (x : ℕ). x) entry_held _ _ f2 f3 f4 x3 (Err e) h3
     (fielded-err g (λ (v : Vec ℕ Global). v.items) entry_held _ _ f3 f4 e h4))))
 
-pub entry-fetched : {D : Type 0} (g : Ghosts D) (old : Feed D) (f0 : Feed D) (x0 : List ℕ) (f1 : Feed D) (x1 : ℕ) (f2 : Feed D) (x2 : Vec ℕ Global) (f3 : Feed D) (x3 : ℕ) (f4 : Feed D) (x4 : Vec ℕ Global) → Fetches g (λ (x : List ℕ). x) (fielded (key fields.EntryLog any_key)) old f0 (Ok x0) → Fetches g (λ (x : ℕ). x) (fielded (length_of_three fields.EntryLeafLength)) f0 f1 (Ok x1) → Fetches g (λ (v : Vec ℕ Global). v.items) (fielded (octets fields.EntryLeaf x1)) f1 f2 (Ok x2) → Fetches g (λ (x : ℕ). x) (fielded (length_of_three fields.EntryExtraLength)) f2 f3 (Ok x3) → Fetches g (λ (v : Vec ℕ Global). v.items) (fielded (octets fields.EntryExtra x3)) f3 f4 (Ok x4) → Fetches g entry_held (fielded (entry)) old f4 (Ok (record { log = x0; leaf = x2; extra = x4 }))
+pub entry-fetched : {D : Type 0} (g : Ghosts D) (old : Feed D) (f0 : Feed D) (x0 : List ℕ) (f1 : Feed D) (x1 : ℕ) (f2 : Feed D) (x2 : Vec ℕ Global) (f3 : Feed D) (x3 : ℕ) (f4 : Feed D)
+    (x4 : Vec ℕ Global) → Fetches g (λ (x : List ℕ). x) (fielded (key fields.EntryLog any_key)) old f0 (Ok x0)
+    → Fetches g (λ (x : ℕ). x) (fielded (length_of_three fields.EntryLeafLength)) f0 f1 (Ok x1) → Fetches g (λ (v : Vec ℕ Global). v.items) (fielded (octets fields.EntryLeaf x1)) f1 f2 (Ok x2)
+    → Fetches g (λ (x : ℕ). x) (fielded (length_of_three fields.EntryExtraLength)) f2 f3 (Ok x3) → Fetches g (λ (v : Vec ℕ Global). v.items) (fielded (octets fields.EntryExtra x3)) f3 f4 (Ok x4)
+    → Fetches g entry_held (fielded (entry)) old f4 (Ok (record { log = x0; leaf = x2; extra = x4 }))
 unfolding entry
 entry-fetched g old f0 x0 f1 x1 f2 x2 f3 x3 f4 x4 h0 h1 h2 h3 h4 =
     fielded-then g (λ (x : List ℕ). x) entry_held _ _ old f0 f4 x0 (Ok (record { log = x0; leaf = x2; extra = x4 })) h0
@@ -130,25 +160,34 @@ entry-fetched g old f0 x0 f1 x1 f2 x2 f3 x3 f4 x4 h0 h1 h2 h3 h4 =
 
 -- ---- opening
 
-pub opening-magic : {D : Type 0} (g : Ghosts D) (old : Feed D) (f0 : Feed D) (e : JobFault) → Fetches g (λ (u : Unit {0}). codes "CLUBJOB1") (fielded (magic fields.JobMagic (codes "CLUBJOB1"))) old f0 (Err e) → Fetches g (λ (o : ℕ × ℕ). o) (fielded (opening)) old f0 (Err e)
+pub opening-magic : {D : Type 0} (g : Ghosts D) (old : Feed D) (f0 : Feed D) (e : JobFault)
+    → Fetches g (λ (u : Unit {0}). codes "CLUBJOB1") (fielded (magic fields.JobMagic (codes "CLUBJOB1"))) old f0 (Err e) → Fetches g (λ (o : ℕ × ℕ). o) (fielded (opening)) old f0 (Err e)
 unfolding opening
 opening-magic g old f0 e h0 =
     fielded-err g (λ (u : Unit {0}). codes "CLUBJOB1") (λ (o : ℕ × ℕ). o) _ _ old f0 e h0
 
-pub opening-epoch : {D : Type 0} (g : Ghosts D) (old : Feed D) (f0 : Feed D) (x0 : Unit {0}) (f1 : Feed D) (e : JobFault) → Fetches g (λ (u : Unit {0}). codes "CLUBJOB1") (fielded (magic fields.JobMagic (codes "CLUBJOB1"))) old f0 (Ok x0) → Fetches g (λ (x : ℕ). x) (fielded (number fields.JobEpoch w64 0 (2 ^ 64 - 1))) f0 f1 (Err e) → Fetches g (λ (o : ℕ × ℕ). o) (fielded (opening)) old f1 (Err e)
+pub opening-epoch : {D : Type 0} (g : Ghosts D) (old : Feed D) (f0 : Feed D) (x0 : Unit {0}) (f1 : Feed D) (e : JobFault)
+    → Fetches g (λ (u : Unit {0}). codes "CLUBJOB1") (fielded (magic fields.JobMagic (codes "CLUBJOB1"))) old f0 (Ok x0)
+    → Fetches g (λ (x : ℕ). x) (fielded (number fields.JobEpoch w64 0 (2 ^ 64 - 1))) f0 f1 (Err e) → Fetches g (λ (o : ℕ × ℕ). o) (fielded (opening)) old f1 (Err e)
 unfolding opening
 opening-epoch g old f0 x0 f1 e h0 h1 =
     fielded-then g (λ (u : Unit {0}). codes "CLUBJOB1") (λ (o : ℕ × ℕ). o) _ _ old f0 f1 x0 (Err e) h0
     (fielded-err g (λ (x : ℕ). x) (λ (o : ℕ × ℕ). o) _ _ f0 f1 e h1)
 
-pub opening-moment : {D : Type 0} (g : Ghosts D) (old : Feed D) (f0 : Feed D) (x0 : Unit {0}) (f1 : Feed D) (x1 : ℕ) (f2 : Feed D) (e : JobFault) → Fetches g (λ (u : Unit {0}). codes "CLUBJOB1") (fielded (magic fields.JobMagic (codes "CLUBJOB1"))) old f0 (Ok x0) → Fetches g (λ (x : ℕ). x) (fielded (number fields.JobEpoch w64 0 (2 ^ 64 - 1))) f0 f1 (Ok x1) → Fetches g (λ (x : ℕ). x) (fielded (number fields.JobMoment w64 0 (2 ^ 64 - 1))) f1 f2 (Err e) → Fetches g (λ (o : ℕ × ℕ). o) (fielded (opening)) old f2 (Err e)
+pub opening-moment : {D : Type 0} (g : Ghosts D) (old : Feed D) (f0 : Feed D) (x0 : Unit {0}) (f1 : Feed D) (x1 : ℕ) (f2 : Feed D) (e : JobFault)
+    → Fetches g (λ (u : Unit {0}). codes "CLUBJOB1") (fielded (magic fields.JobMagic (codes "CLUBJOB1"))) old f0 (Ok x0)
+    → Fetches g (λ (x : ℕ). x) (fielded (number fields.JobEpoch w64 0 (2 ^ 64 - 1))) f0 f1 (Ok x1) → Fetches g (λ (x : ℕ). x) (fielded (number fields.JobMoment w64 0 (2 ^ 64 - 1))) f1 f2 (Err e)
+    → Fetches g (λ (o : ℕ × ℕ). o) (fielded (opening)) old f2 (Err e)
 unfolding opening
 opening-moment g old f0 x0 f1 x1 f2 e h0 h1 h2 =
     fielded-then g (λ (u : Unit {0}). codes "CLUBJOB1") (λ (o : ℕ × ℕ). o) _ _ old f0 f2 x0 (Err e) h0
     (fielded-then g (λ (x : ℕ). x) (λ (o : ℕ × ℕ). o) _ _ f0 f1 f2 x1 (Err e) h1
     (fielded-err g (λ (x : ℕ). x) (λ (o : ℕ × ℕ). o) _ _ f1 f2 e h2))
 
-pub opening-fetched : {D : Type 0} (g : Ghosts D) (old : Feed D) (f0 : Feed D) (x0 : Unit {0}) (f1 : Feed D) (x1 : ℕ) (f2 : Feed D) (x2 : ℕ) → Fetches g (λ (u : Unit {0}). codes "CLUBJOB1") (fielded (magic fields.JobMagic (codes "CLUBJOB1"))) old f0 (Ok x0) → Fetches g (λ (x : ℕ). x) (fielded (number fields.JobEpoch w64 0 (2 ^ 64 - 1))) f0 f1 (Ok x1) → Fetches g (λ (x : ℕ). x) (fielded (number fields.JobMoment w64 0 (2 ^ 64 - 1))) f1 f2 (Ok x2) → Fetches g (λ (o : ℕ × ℕ). o) (fielded (opening)) old f2 (Ok ((x1, x2)))
+pub opening-fetched : {D : Type 0} (g : Ghosts D) (old : Feed D) (f0 : Feed D) (x0 : Unit {0}) (f1 : Feed D) (x1 : ℕ) (f2 : Feed D) (x2 : ℕ)
+    → Fetches g (λ (u : Unit {0}). codes "CLUBJOB1") (fielded (magic fields.JobMagic (codes "CLUBJOB1"))) old f0 (Ok x0)
+    → Fetches g (λ (x : ℕ). x) (fielded (number fields.JobEpoch w64 0 (2 ^ 64 - 1))) f0 f1 (Ok x1) → Fetches g (λ (x : ℕ). x) (fielded (number fields.JobMoment w64 0 (2 ^ 64 - 1))) f1 f2 (Ok x2)
+    → Fetches g (λ (o : ℕ × ℕ). o) (fielded (opening)) old f2 (Ok ((x1, x2)))
 unfolding opening
 opening-fetched g old f0 x0 f1 x1 f2 x2 h0 h1 h2 =
     fielded-then g (λ (u : Unit {0}). codes "CLUBJOB1") (λ (o : ℕ × ℕ). o) _ _ old f0 f2 x0 (Ok ((x1, x2))) h0
@@ -158,7 +197,8 @@ opening-fetched g old f0 x0 f1 x1 f2 x2 h0 h1 h2 =
 
 -- ---- kinds
 
-pub kind-is : (previous : ℕ) (file : List ℕ) (at : ℕ) → fielded (record_kind previous) file at ≡ fielded (tested fields.RecordKind 1 (λ b. is_kind previous (from_be_bytes w8 b)) (from_be_bytes w8)) file at
+pub kind-is : (previous : ℕ) (file : List ℕ) (at : ℕ) → fielded (record_kind previous) file at ≡ fielded
+    (tested fields.RecordKind 1 (λ b. is_kind previous (from_be_bytes w8 b)) (from_be_bytes w8)) file at
 unfolding record_kind
 kind-is previous file at = refl
 

@@ -1,5 +1,6 @@
 -- Layouts read off a feed, one behind another.
-use Rattle.std.proofs.Common.{◌≡◌, ℕ, ◌+◌, ◌-◌, ◌≤◌, ◌<◌, Bool, true, false, cond, ltb, leb, ◌&&◌, not, List, length, drop, get_or, Result, Ok, Err, refl, sym, ap, subst, ◌∙◌, arith, length-take, inl, inr}
+use Rattle.std.proofs.Common.{◌≡◌, ℕ, ◌+◌, ◌-◌, ◌≤◌, ◌<◌, Bool, true, false, cond, ltb, leb, ◌&&◌, not, List}
+use Rattle.std.proofs.Common.{length, drop, get_or, Result, Ok, Err, refl, sym, ap, subst, ◌∙◌, arith, length-take, inl, inr}
 use Rattle.std.specs.Int.{Width, byte_len, from_be_bytes}
 use Rattle.std.proofs.lemmas.Bool.{cases_lt, le-ltb, lt-ltb, le-leb, lt-leb}
 use Rattle.std.proofs.lemmas.List.{get_or-take, get_or-drop, get_or_past}
@@ -40,7 +41,8 @@ bytes-both file at mid end le further one two = λ i.
             omega (arith, one i, a, b)
         | inr second ↦
             let j : ℕ = i - (mid - at) in
-            let a : get_or (piece (end - mid) file mid) j 0 ≡ get_or file (mid + j) 0 = get_or-take (end - mid) (drop mid file) j 0 (omega (arith, lt, second, le, further)) ∙ get_or-drop mid file j 0 in
+            let a : get_or (piece (end - mid) file mid) j 0 ≡ get_or file (mid + j) 0 = get_or-take (end - mid) (drop mid file) j 0 (omega (arith, lt, second, le, further))
+            ∙ get_or-drop mid file j 0 in
             let b : get_or (piece (end - at) file at) i 0 ≡ get_or file (at + i) 0 = get_or-take (end - at) (drop at file) i 0 lt ∙ get_or-drop at file i 0 in
             let k : mid + j ≡ at + i = omega (arith, second, le) in
             omega (arith, two j, a, b, ap (λ (n : ℕ). get_or file n 0) k)
@@ -280,7 +282,8 @@ unfolding bytes_field
 octets-short name width file at lt = rw (lt-ltb (length file) (at + width) lt) refl
 
 -- a field that fails
-pub fetched-fault : {D X A : Type 0} (g : Ghosts D) (v : X → A) (layout : Layout JobFault A) (old new : Feed D) (f : LayoutFault) (e : JobFault) → e ≡ faults.Layout f → Pulled g old new → NoneFailed g old new
+pub fetched-fault : {D X A : Type 0} (g : Ghosts D) (v : X → A) (layout : Layout JobFault A) (old new : Feed D) (f : LayoutFault) (e : JobFault) → e ≡ faults.Layout f → Pulled g old new
+    → NoneFailed g old new
     → ((file : List ℕ) → StandsIn g old file → layout file (place_of old) ≡ Err (faults.Layout f)) → Fetches g v layout old new (Err e)
 fetched-fault g v layout old new f e is pulled none each = record {
   pulled = pulled;

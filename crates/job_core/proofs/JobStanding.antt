@@ -257,6 +257,7 @@ module _ (old new : JobReader) (file : List ℕ) (at end : ℕ) (within : at ≤
       opening-fault old.limits file e (subst (λ (n : ℕ). fielded opening file n ≡ Err e) first (is of))
 
 -- keeping an answer changes a reader only behind a fault
-pub reads-kept : {D : Type 0} (g : Ghosts D) (old mid new : JobReader) (from to : Feed D) (r : Result Record JobFault) → OnOk r (new ≡ mid) → ReadsNext g old mid from to r → ReadsNext g old new from to r
+pub reads-kept : {D : Type 0} (g : Ghosts D) (old mid new : JobReader) (from to : Feed D) (r : Result Record JobFault) → OnOk r (new ≡ mid) → ReadsNext g old mid from to r
+    → ReadsNext g old new from to r
 reads-kept g old mid new from to (Ok r) same reads = subst (λ (n : JobReader). ReadsNext g old n from to (Ok r)) (sym same) reads
 reads-kept g old mid new from to (Err e) same reads = reads

@@ -11,7 +11,14 @@ use Rattle.outside_core.specs.Feeding.{IsWindow}
 use Rattle.job_core.specs.Pulling.{Pulled}
 
 pub pulled-none : {D : Type 0} (g : Ghosts D) (feed : Feed D) → Pulled g feed feed
-pulled-none g feed = record { same_reference = refl; name = refl; only_reads = record { later = omega arith; same_files = refl; same_writes = refl }; stands = λ file stands. stands; further = omega arith }
+pulled-none g feed = record {
+  same_reference = refl;
+  name = refl;
+  only_reads = record
+      { later = omega arith; same_files = refl; same_writes = refl };
+  stands = λ file stands. stands;
+  further = omega arith;
+}
 
 pub pulled-then : {D : Type 0} (g : Ghosts D) (old mid new : Feed D) → Pulled g old mid → Pulled g mid new → Pulled g old new
 pulled-then g old mid new a b = record {

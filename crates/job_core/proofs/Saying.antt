@@ -99,7 +99,8 @@ opening-comes limits bytes e is =
     let (d, fails_so, same) = with_fault-err (opening bytes 0) e is in
     opening-fails limits bytes d fails_so ∙ ap (λ (c : JobFault). Err c) same
 
-pub end-comes : (limits : Limits) (bytes : List ℕ) (o : ℕ × ℕ) (at : ℕ) → opening bytes 0 ≡ Ok (o, at) → (f : JobFields) (q : ℕ) (e : JobFault) → records_saying limits (begun o.0 o.1) bytes at ≡ Ok (f, q)
+pub end-comes : (limits : Limits) (bytes : List ℕ) (o : ℕ × ℕ) (at : ℕ) → opening bytes 0 ≡ Ok (o, at) → (f : JobFields) (q : ℕ) (e : JobFault)
+    → records_saying limits (begun o.0 o.1) bytes at ≡ Ok (f, q)
     → fielded end bytes q ≡ Err e → job_of limits bytes ≡ Err e
 end-comes limits bytes o at opened f q e is over =
     let (d, fails_so, same) = with_fault-err (end bytes q) e over in

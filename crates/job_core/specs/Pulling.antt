@@ -32,7 +32,8 @@ NoneFailed g old new = g.failed_reads (depot_of new) ≡ g.failed_reads (depot_o
 -- a read failed exactly where the fault is that of a read, and it is the only one
 abbrev pub Blames : {D X : Type 0} → Ghosts D → Feed D → Feed D → Result X JobFault → Type 0
 Blames g old new (Ok x) = NoneFailed g old new
-Blames g old new (Err e) = (e ≡ faults.ReadFault → ReadFailed g (name_of old) (depot_of old) (depot_of new)) × ((e ≡ faults.ReadFault → ⊥) → NoneFailed g old new)
+Blames g old new (Err e) = (e ≡ faults.ReadFault → ReadFailed g (name_of old) (depot_of old) (depot_of new)) ×
+    ((e ≡ faults.ReadFault → ⊥) → NoneFailed g old new)
 
 -- what a layout gives of a file from a place on, which are bytes as far as they were read
 abbrev pub Tells : {X A : Type 0} → (X → A) → Layout JobFault A → List ℕ → ℕ → ℕ → Result X JobFault → Type 0

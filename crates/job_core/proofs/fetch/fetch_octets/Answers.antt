@@ -17,10 +17,12 @@ pub returns-in_err-fetch : goal.returns-in_err-fetch
 returns-in_err-fetch g c =
     let p = err_from_is_err_and c.from_residual-in_err-fetch.result c.from_residual-in_err-fetch.ensures.1 in
     let len : length c.deref_mut.result.now ≡ c.args.width = omega (arith, c.deref_mut.ensures.len, c.in_ok-resize.ensures.len) in
-    rw (p.1, p.2) (fetched-items-err g.D.Depot (λ v. v.items) c.args.field (length c.deref_mut.result.now) c.args.width c.args.feed.now c.fetch.new.feed c.fetch.new.out _ len c.in_err-fetch.ensures.exact)
+    rw (p.1, p.2) (fetched-items-err g.D.Depot (λ v. v.items) c.args.field
+    (length c.deref_mut.result.now) c.args.width c.args.feed.now c.fetch.new.feed c.fetch.new.out _ len c.in_err-fetch.ensures.exact)
 
 pub returns : goal.returns
 returns g c =
     let len : length c.deref_mut.result.now ≡ c.args.width = omega (arith, c.deref_mut.ensures.len, c.in_ok-resize.ensures.len) in
-    fetched-items g.D.Depot (λ v. v.items) c.args.field (length c.deref_mut.result.now) c.args.width c.args.feed.now c.fetch.new.feed c.fetch.new.out _ (with_items c.resize.new.self c.fetch.new.out) len
+    fetched-items g.D.Depot (λ v. v.items) c.args.field (length c.deref_mut.result.now) c.args.width c.args.feed.now c.fetch.new.feed c.fetch.new.out _
+    (with_items c.resize.new.self c.fetch.new.out) len
     (take_at c.fetch.new.out _ c.resize.new.self.len (omega (arith, len, c.in_ok-fetch.ensures.len, c.in_ok-resize.ensures.len))) c.in_ok-fetch.ensures.exact

@@ -25,4 +25,5 @@ pub returns : goal.returns
 returns g c =
     field-ok g.D.Depot (λ n. n) (fielded (number c.args.field w32 0 c.args.high)) c.args.field 4 (number_test w32 0 c.args.high) (from_be_bytes w32)
     (number-is c.args.field w32 0 c.args.high) c.args.feed.now c.fetch.new.feed c.fetch.new.out _ c.in_ok-fetch.ensures.exact
-    (rw (← c.from_be_bytes-n.ensures) (in_bounds 0 c.args.high c.from_be_bytes-n.result (omega (arith, c.if-n-high.false)) (omega (arith, c.from_be_bytes-n.type_inv, c.if-n-high.false)))) c.from_be_bytes-n.ensures
+    (rw (← c.from_be_bytes-n.ensures) (in_bounds 0 c.args.high c.from_be_bytes-n.result (omega (arith, c.if-n-high.false)) (omega (arith, c.from_be_bytes-n.type_inv, c.if-n-high.false))))
+    c.from_be_bytes-n.ensures

@@ -25,4 +25,5 @@ pub returns : goal.returns
 returns g c =
     field-ok g.D.Depot (λ n. n) (fielded (number c.args.field w64 c.args.low (2 ^ 64 - 1))) c.args.field 8 (number_test w64 c.args.low (2 ^ 64 - 1)) (from_be_bytes w64)
     (number-is c.args.field w64 c.args.low (2 ^ 64 - 1)) c.args.feed.now c.fetch.new.feed c.fetch.new.out _ c.in_ok-fetch.ensures.exact
-    (rw (← c.from_be_bytes-n.ensures) (in_bounds c.args.low (2 ^ 64 - 1) c.from_be_bytes-n.result (omega (arith, c.if-n-low.false)) (omega (arith, c.from_be_bytes-n.type_inv, c.if-n-low.false)))) c.from_be_bytes-n.ensures
+    (rw (← c.from_be_bytes-n.ensures) (in_bounds c.args.low (2 ^ 64 - 1) c.from_be_bytes-n.result (omega (arith, c.if-n-low.false)) (omega (arith, c.from_be_bytes-n.type_inv, c.if-n-low.false))))
+    c.from_be_bytes-n.ensures

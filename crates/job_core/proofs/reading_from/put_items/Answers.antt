@@ -22,7 +22,13 @@ abbrev Behind : Numbers → Numbers → Option Taken → Type 0
 Behind old new o = IfSome o (λ taken. held_in new ≡ with_item (held_in old) (item_of_record taken))
 
 pub records-init : goal.records-init
-records-init g c = record { pulled = pulled-none g.D.Depot c.args.feed.now; none = refl; read = λ file stands. ap (λ (h : Held). said_behind (fields_of_job c.args.job.now) (records serials_of c.args.limits.now h 0 file (place_of c.args.feed.now))) c.no_numbers-numbers.ensures; few = omega arith }
+records-init g c = record {
+  pulled = pulled-none g.D.Depot c.args.feed.now;
+  none = refl;
+  read = λ file stands. ap
+      (λ (h : Held). said_behind (fields_of_job c.args.job.now) (records serials_of c.args.limits.now h 0 file (place_of c.args.feed.now))) c.no_numbers-numbers.ensures;
+  few = omega arith;
+}
 
 pub returns-in-Ok-None : goal.returns-in-Ok-None
 returns-in-Ok-None g c =
@@ -57,7 +63,8 @@ records-preserved-in-Continue-1 g c =
       pulled = pulled-then g.D.Depot c.args.feed.now c.records.feed c.next_item_from.new.feed inv.pulled e.pulled;
       none = e.blames ∙ inv.none;
       read = λ file stands.
-          says_more c.args.limits.now (fields_of_job c.records.job) (held_in c.records.numbers) c.records.serials file (place_of c.records.feed) _ (OneRange c.in-Ok-Some-Range.range) (place_of c.next_item_from.new.feed)
+          says_more c.args.limits.now (fields_of_job c.records.job) (held_in c.records.numbers) c.records.serials file (place_of c.records.feed) _ (OneRange c.in-Ok-Some-Range.range)
+          (place_of c.next_item_from.new.feed)
           _ _ _ file ((e.tells file (inv.pulled.stands file stands)).0 ∙ ap (told_as (place_of c.next_item_from.new.feed)) is) c.in_ok-put_range-in-Ok-Some-Range.ensures.ok
           (subst (Behind c.records.numbers c.next_item_from.new.numbers) is c.in-Ok-Some-Range.ensures.behind) refl inv.few refl (inv.read file stands);
       few = inv.few;
@@ -75,9 +82,13 @@ records-preserved-in-Ok-Some-Crl g c =
       pulled = pulled-then g.D.Depot c.args.feed.now c.records.feed c.next_item_from.new.feed inv.pulled e.pulled;
       none = e.blames ∙ inv.none;
       read = λ file stands.
-          says_more c.args.limits.now (fields_of_job c.records.job) (held_in c.records.numbers) c.records.serials file (place_of c.records.feed) _ (OneCrl (record { issuer = c.in-Ok-Some-Crl.crl.issuer; bytes = c.deref.result.now })) (place_of c.next_item_from.new.feed)
-          _ _ _ file ((e.tells file (inv.pulled.stands file stands)).0 ∙ ap (told_as (place_of c.next_item_from.new.feed)) is ∙ ap (λ (b : List ℕ). Ok (Some (OneCrl (record { issuer = c.in-Ok-Some-Crl.crl.issuer; bytes = b })), place_of c.next_item_from.new.feed)) (sym c.deref.ensures.value)) c.in_ok-serials-in-Ok-Some-Crl.ensures.0
-          (subst (Behind c.records.numbers c.next_item_from.new.numbers) is c.in-Ok-Some-Crl.ensures.behind) c.in_ok-serials-in-Ok-Some-Crl.ensures.1 c.in_ok-serials-in-Ok-Some-Crl.ensures.2 refl (inv.read file stands);
+          says_more c.args.limits.now (fields_of_job c.records.job) (held_in c.records.numbers) c.records.serials file (place_of c.records.feed) _
+          (OneCrl (record { issuer = c.in-Ok-Some-Crl.crl.issuer; bytes = c.deref.result.now })) (place_of c.next_item_from.new.feed)
+          _ _ _ file ((e.tells file (inv.pulled.stands file stands)).0 ∙ ap (told_as (place_of c.next_item_from.new.feed)) is
+          ∙ ap (λ (b : List ℕ). Ok (Some (OneCrl (record { issuer = c.in-Ok-Some-Crl.crl.issuer; bytes = b })), place_of c.next_item_from.new.feed)) (sym c.deref.ensures.value))
+          c.in_ok-serials-in-Ok-Some-Crl.ensures.0
+          (subst (Behind c.records.numbers c.next_item_from.new.numbers) is c.in-Ok-Some-Crl.ensures.behind) c.in_ok-serials-in-Ok-Some-Crl.ensures.1 c.in_ok-serials-in-Ok-Some-Crl.ensures.2 refl
+          (inv.read file stands);
       few = c.in_ok-serials-in-Ok-Some-Crl.ensures.2;
     }
 
@@ -93,8 +104,13 @@ records-preserved g c =
       pulled = pulled-then g.D.Depot c.args.feed.now c.records.feed c.next_item_from.new.feed inv.pulled e.pulled;
       none = e.blames ∙ inv.none;
       read = λ file stands.
-          says_more c.args.limits.now (fields_of_job c.records.job) (held_in c.records.numbers) c.records.serials file (place_of c.records.feed) _ (OneEntry (record { log = c.in-Ok-Some-Entry.entry.log; leaf = c.deref-in-Ok-Some-Entry.result.now; extra = c.deref-in-Ok-Some-Entry-2.result.now })) (place_of c.next_item_from.new.feed)
-          _ _ _ file ((e.tells file (inv.pulled.stands file stands)).0 ∙ ap (told_as (place_of c.next_item_from.new.feed)) is ∙ ap (λ (b : List ℕ). Ok (Some (OneEntry (record { log = c.in-Ok-Some-Entry.entry.log; leaf = b; extra = c.in-Ok-Some-Entry.entry.extra.items })), place_of c.next_item_from.new.feed)) (sym c.deref-in-Ok-Some-Entry.ensures.value) ∙ ap (λ (b : List ℕ). Ok (Some (OneEntry (record { log = c.in-Ok-Some-Entry.entry.log; leaf = c.deref-in-Ok-Some-Entry.result.now; extra = b })), place_of c.next_item_from.new.feed)) (sym c.deref-in-Ok-Some-Entry-2.ensures.value)) c.in_ok-put_entry-in-Ok-Some-Entry.ensures.ok
+          says_more c.args.limits.now (fields_of_job c.records.job) (held_in c.records.numbers) c.records.serials file (place_of c.records.feed) _
+          (OneEntry (record { log = c.in-Ok-Some-Entry.entry.log; leaf = c.deref-in-Ok-Some-Entry.result.now; extra = c.deref-in-Ok-Some-Entry-2.result.now })) (place_of c.next_item_from.new.feed)
+          _ _ _ file ((e.tells file (inv.pulled.stands file stands)).0 ∙ ap (told_as (place_of c.next_item_from.new.feed)) is
+          ∙ ap (λ (b : List ℕ). Ok (Some (OneEntry (record { log = c.in-Ok-Some-Entry.entry.log; leaf = b; extra = c.in-Ok-Some-Entry.entry.extra.items })), place_of c.next_item_from.new.feed))
+          (sym c.deref-in-Ok-Some-Entry.ensures.value) ∙ ap
+          (λ (b : List ℕ). Ok (Some (OneEntry (record { log = c.in-Ok-Some-Entry.entry.log; leaf = c.deref-in-Ok-Some-Entry.result.now; extra = b })), place_of c.next_item_from.new.feed))
+          (sym c.deref-in-Ok-Some-Entry-2.ensures.value)) c.in_ok-put_entry-in-Ok-Some-Entry.ensures.ok
           (subst (Behind c.records.numbers c.next_item_from.new.numbers) is c.in-Ok-Some-Entry.ensures.behind) refl inv.few refl (inv.read file stands);
       few = inv.few;
     }
@@ -111,12 +127,18 @@ returns-in_err-serials-in-Ok-Some-Crl g c =
     let is = c.in-Ok-Some-Crl.field-0-is ∙ ap Some c.in-Ok-Some-Crl.field-0-0-is in
     rw (p.1, p.2) (record {
       pulled = pulled-then g.D.Depot c.args.feed.now c.records.feed c.next_item_from.new.feed inv.pulled e.pulled;
-      blames = (λ same. let wants : c.in_err-serials-in-Ok-Some-Crl.field-0.0 ≡ faults.NoMemory → ⊥ = λ other. absurd cc in let over = (c.in_err-serials-in-Ok-Some-Crl.ensures wants).0 in absurd cc, λ not. e.blames ∙ inv.none);
+      blames = (
+        λ same. let wants : c.in_err-serials-in-Ok-Some-Crl.field-0.0 ≡ faults.NoMemory
+            → ⊥ = λ other. absurd cc in let over = (c.in_err-serials-in-Ok-Some-Crl.ensures wants).0 in absurd cc,
+        λ not. e.blames ∙ inv.none,
+      );
       says = λ file stands of.
           let over = c.in_err-serials-in-Ok-Some-Crl.ensures of.0 in
           says_over c.args.limits.now (fields_of_job c.records.job) (held_in c.records.numbers) c.records.serials file (place_of c.records.feed) _
           (OneCrl (record { issuer = c.in-Ok-Some-Crl.crl.issuer; bytes = c.deref.result.now })) (place_of c.next_item_from.new.feed)
-          ((e.tells file (inv.pulled.stands file stands)).0 ∙ ap (told_as (place_of c.next_item_from.new.feed)) is ∙ ap (λ (b : List ℕ). Ok (Some (OneCrl (record { issuer = c.in-Ok-Some-Crl.crl.issuer; bytes = b })), place_of c.next_item_from.new.feed)) (sym c.deref.ensures.value)) over.1 (inv.read file stands)
+          ((e.tells file (inv.pulled.stands file stands)).0 ∙ ap (told_as (place_of c.next_item_from.new.feed)) is
+          ∙ ap (λ (b : List ℕ). Ok (Some (OneCrl (record { issuer = c.in-Ok-Some-Crl.crl.issuer; bytes = b })), place_of c.next_item_from.new.feed)) (sym c.deref.ensures.value)) over.1
+          (inv.read file stands)
           ∙ ap Err (sym over.0);
     })
 

@@ -25,7 +25,8 @@ pub returns-in_err-epoch-clause-exact : goal.returns-in_err-epoch-clause-exact
 returns-in_err-epoch-clause-exact g c =
     let p = err_from_is_err_and c.from_residual.result c.from_residual.ensures.1 in
     rw (p.1, p.2) (λ file stands of.
-    opening-comes c.args.limits.now file c.in_err-epoch.field-0.0 (subst (λ (n : ℕ). fielded opening file n ≡ Err c.in_err-epoch.field-0.0) c.requires.first (c.in_err-epoch.ensures.tells file stands of)))
+    opening-comes c.args.limits.now file c.in_err-epoch.field-0.0
+    (subst (λ (n : ℕ). fielded opening file n ≡ Err c.in_err-epoch.field-0.0) c.requires.first (c.in_err-epoch.ensures.tells file stands of)))
 
 pub returns-in_err-epoch-clause-pulled : goal.returns-in_err-epoch-clause-pulled
 returns-in_err-epoch-clause-pulled g c = c.in_err-epoch.ensures.pulled
@@ -41,7 +42,8 @@ returns-in_err-put_items-clause-exact g c =
     let p = err_from_is_err_and r.result r.ensures.1 in
     let o = c.in_ok-epoch.ensures in
     rw (p.1, p.2) (λ file stands of.
-    let opened = mapped-ok faults.Layout opening file 0 _ (subst (Opens file (c.in_ok-epoch.epoch, c.in_ok-epoch.moment) (place_of c.fetch_opening.new.feed)) c.requires.first (o.tells file stands).0) in
+    let opened = mapped-ok faults.Layout opening file 0 _ (subst (Opens file (c.in_ok-epoch.epoch, c.in_ok-epoch.moment) (place_of c.fetch_opening.new.feed)) c.requires.first (o.tells file stands).0)
+    in
     records-fail c.args.limits.now file (c.in_ok-epoch.epoch, c.in_ok-epoch.moment) (place_of c.fetch_opening.new.feed) opened _
     (subst (SaysSo c.args.limits.now file (place_of c.fetch_opening.new.feed) _) c.begun_job-job.ensures (c.in_err-put_items.ensures.says file (o.pulled.stands file stands) of)))
 
@@ -62,7 +64,8 @@ returns-in_err-fetch_end-clause-exact g c =
     let o = c.in_ok-epoch.ensures in
     let q = c.in_ok-put_items.ensures in
     rw (p.1, p.2) (λ file stands of.
-    let opened = mapped-ok faults.Layout opening file 0 _ (subst (Opens file (c.in_ok-epoch.epoch, c.in_ok-epoch.moment) (place_of c.fetch_opening.new.feed)) c.requires.first (o.tells file stands).0) in
+    let opened = mapped-ok faults.Layout opening file 0 _ (subst (Opens file (c.in_ok-epoch.epoch, c.in_ok-epoch.moment) (place_of c.fetch_opening.new.feed)) c.requires.first (o.tells file stands).0)
+    in
     let mid = o.pulled.stands file stands in
     end-comes c.args.limits.now file (c.in_ok-epoch.epoch, c.in_ok-epoch.moment) (place_of c.fetch_opening.new.feed) opened _ (place_of c.put_items.new.feed) _
     (subst (SaysSo c.args.limits.now file (place_of c.fetch_opening.new.feed) _) c.begun_job-job.ensures (q.says file mid))
@@ -86,7 +89,8 @@ pub returns-clause-exact : goal.returns-clause-exact
 returns-clause-exact g c = λ file stands.
     let o = c.in_ok-epoch.ensures in
     let q = c.in_ok-put_items.ensures in
-    let opened = mapped-ok faults.Layout opening file 0 _ (subst (Opens file (c.in_ok-epoch.epoch, c.in_ok-epoch.moment) (place_of c.fetch_opening.new.feed)) c.requires.first (o.tells file stands).0) in
+    let opened = mapped-ok faults.Layout opening file 0 _ (subst (Opens file (c.in_ok-epoch.epoch, c.in_ok-epoch.moment) (place_of c.fetch_opening.new.feed)) c.requires.first (o.tells file stands).0)
+    in
     let mid = o.pulled.stands file stands in
     job-says c.args.limits.now file (c.in_ok-epoch.epoch, c.in_ok-epoch.moment) (place_of c.fetch_opening.new.feed) opened _ (place_of c.put_items.new.feed) (place_of c.fetch_end.new.feed)
     (subst (SaysSo c.args.limits.now file (place_of c.fetch_opening.new.feed) _) c.begun_job-job.ensures (q.says file mid))

@@ -16,7 +16,9 @@ returns-then-kind-eq0-clause-exact g c =
 pub returns-in_err-item-clause-exact : goal.returns-in_err-item-clause-exact
 returns-in_err-item-clause-exact g c =
     let p = err_from_is_err_and c.from_residual-in_err-item.result c.from_residual-in_err-item.ensures.1 in
-    rw (p.1, p.2) (next-one-err g.D.Depot c.args.limits.now (held_in c.args.numbers.now) c.args.feed.now _ _ _ _ (ne_eqb c.in_ok-kind.kind 0 c.if-kind-eq0.false) c.in_ok-kind.ensures.exact c.in_err-item.ensures.exact)
+    rw (p.1, p.2) (next-one-err g.D.Depot c.args.limits.now (held_in c.args.numbers.now) c.args.feed.now _ _ _ _
+    (ne_eqb c.in_ok-kind.kind 0 c.if-kind-eq0.false) c.in_ok-kind.ensures.exact c.in_err-item.ensures.exact)
 
 pub returns-clause-exact : goal.returns-clause-exact
-returns-clause-exact g c = next-one g.D.Depot c.args.limits.now (held_in c.args.numbers.now) c.args.feed.now _ _ _ _ (ne_eqb c.in_ok-kind.kind 0 c.if-kind-eq0.false) c.in_ok-kind.ensures.exact c.in_ok-item.ensures.exact
+returns-clause-exact g c = next-one g.D.Depot c.args.limits.now (held_in c.args.numbers.now) c.args.feed.now _ _ _ _
+    (ne_eqb c.in_ok-kind.kind 0 c.if-kind-eq0.false) c.in_ok-kind.ensures.exact c.in_ok-item.ensures.exact

@@ -9,7 +9,8 @@ pub returns-in_err-epoch-clause-next : goal.returns-in_err-epoch-clause-next
 returns-in_err-epoch-clause-next g c =
     let p = err_from_is_err_and c.from_residual.result c.from_residual.ensures.1 in
     let e = c.in_err-epoch.ensures in
-    rw (p.1, p.2) (λ file stands has. gives-no_job c.args.self.now c.args.self.now file (place_of c.args.feed.now) (place_of c.fetch_opening.new.feed) (omega (arith, stands.window.within)) has _ c.requires (e.tells file stands))
+    rw (p.1, p.2) (λ file stands has. gives-no_job c.args.self.now c.args.self.now file (place_of c.args.feed.now) (place_of c.fetch_opening.new.feed)
+    (omega (arith, stands.window.within)) has _ c.requires (e.tells file stands))
 
 pub returns-in_err-epoch-clause-blames : goal.returns-in_err-epoch-clause-blames
 returns-in_err-epoch-clause-blames g c =
@@ -29,5 +30,6 @@ pub returns-clause-next : goal.returns-clause-next
 returns-clause-next g c = λ file stands has.
     let e = c.in_ok-epoch.ensures in
     let later = e.pulled.stands file stands in
-    gives-first c.args.self.now (record c.args.self.now { stage = stages.Records }) file (place_of c.args.feed.now) (place_of c.fetch_opening.new.feed) e.pulled.further (omega (arith, later.window.within)) refl has (c.in_ok-epoch.epoch, c.in_ok-epoch.moment) c.requires refl refl
+    gives-first c.args.self.now (record c.args.self.now { stage = stages.Records }) file (place_of c.args.feed.now) (place_of c.fetch_opening.new.feed) e.pulled.further
+    (omega (arith, later.window.within)) refl has (c.in_ok-epoch.epoch, c.in_ok-epoch.moment) c.requires refl refl
     (e.tells file stands)

@@ -28,7 +28,8 @@ pub returns-in_err-next_item_from-clause-next : goal.returns-in_err-next_item_fr
 returns-in_err-next_item_from-clause-next g c =
     let p = err_from_is_err_and c.from_residual.result c.from_residual.ensures.1 in
     let e = c.in_err-next_item_from.ensures.exact in
-    rw (p.1, p.2) (λ file stands has. gives-fault c.args.self.now c.args.self.now file (place_of c.args.feed.now) (place_of c.next_item_from.new.feed) (omega (arith, stands.window.within)) has _ c.requires (e.tells file stands))
+    rw (p.1, p.2) (λ file stands has. gives-fault c.args.self.now c.args.self.now file (place_of c.args.feed.now) (place_of c.next_item_from.new.feed)
+    (omega (arith, stands.window.within)) has _ c.requires (e.tells file stands))
 
 pub returns-in_err-next_item_from-clause-pulled : goal.returns-in_err-next_item_from-clause-pulled
 returns-in_err-next_item_from-clause-pulled g c = c.in_err-next_item_from.ensures.exact.pulled

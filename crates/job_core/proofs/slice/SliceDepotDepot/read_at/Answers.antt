@@ -9,5 +9,9 @@ returns-then-not-is_empty-clause-cause c =
 
 pub returns-clause-bytes : goal.returns-clause-bytes
 returns-clause-bytes c = λ files e.
-    let same : insert empty [] c.args.self.now.bytes.now ≡ files = cc in
-    (c.args.self.now.bytes.now, ap (λ f. get f c.args.name.now) (sym same) ∙ held-there c.args.self.now.bytes.now c.args.name.now (sym c.is_empty.ensures ∙ c.if-not-is_empty.false), c.copy_from.ensures.piece)
+    let same : insert empty [] c.args.self.now.bytes.now ≡ files = cc in (
+      c.args.self.now.bytes.now,
+      ap (λ f. get f c.args.name.now) (sym same)
+          ∙ held-there c.args.self.now.bytes.now c.args.name.now (sym c.is_empty.ensures ∙ c.if-not-is_empty.false),
+      c.copy_from.ensures.piece,
+    )
