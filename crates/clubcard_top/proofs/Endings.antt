@@ -10,7 +10,8 @@ use Rattle.word_core.specs.Names.{inputs_of, outputs_of}
 use Rattle.clubcard_top.specs.declared.fault.FileFault.{FileFault}
 use Rattle.clubcard_top.specs.declared.fault.FileFault.TheVariants as faults
 use Rattle.clubcard_top.specs.ReplyFields.{OutputFields, ReplyFields, Done, NamedFault}
-use Rattle.clubcard_top.specs.Statuses.{is_one_of, all}
+use Rattle.clubcard_top.specs.Statuses.{is_one_of, all, of_replies}
+use Rattle.clubcard_top.specs.Sending.{EndsSo}
 use Rattle.clubcard_top.specs.Inputs.{AreRead}
 use Rattle.clubcard_top.specs.Commands.{Makes}
 use Rattle.clubcard_top.specs.Replies.{usage, refusal, reply_of, IsReplyOver}
@@ -26,6 +27,14 @@ not_among ns n m among is not = false≢true (sym not ∙ subst (λ (k : ℕ). i
 or_right : (a b : Bool) → b ≡ true → (a || b) ≡ true
 or_right true b h = refl
 or_right false b h = h
+
+-- a reply that was sent, or cut short by a fault of writing, is no want of memory
+pub not_memory : (reply : ReplyFields) (ended : ℕ) (old new : Option (List ℕ)) (unsent : Type 0) (told after : Option Files) (wrong : Type 0) → IsTrue (is_one_of of_replies reply.status)
+    → EndsSo reply ended old new unsent told after wrong → ended ≡ 70 → ⊥
+not_memory reply ended old new unsent told after wrong own (inl (files, inl (status, text))) want = not_among of_replies reply.status 70 own (sym status ∙ want) refl
+not_memory reply ended old new unsent told after wrong own (inl (files, inr (status, cut, failed))) want = omega (arith, status, want)
+not_memory reply ended old new unsent told after wrong own (inr (why, (name, torn, inl (status, text)))) want = omega (arith, status, want)
+not_memory reply ended old new unsent told after wrong own (inr (why, (name, torn, inr (status, cut, failed)))) want = omega (arith, status, want)
 
 -- the status of a file that can't be read is that of no other fault
 refusal_unread : (name : List ℕ) (fault : FileFault) → (refusal name fault).status ≡ 8 → fault ≡ faults.Unread

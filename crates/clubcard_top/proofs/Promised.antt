@@ -284,8 +284,9 @@ module _ (call : Call) where
   no_memory_by (inr (reply, answered, own, inl sent)) want = absurd (want_printed reply own want sent.printing)
   no_memory_by (inr (reply, answered, own, inr (name, torn))) want = absurd (torn_printed name want torn.printing)
 
-  pub outside : EndsOld call → Outside call
-  outside ends = record {
+  pub outside : ((part : List ℕ) → call.asked ≡ commands.Check part → call.status ≡ 70 → ⊥) → EndsOld call → Outside call
+  outside check ends = record {
+    check = check;
     read_fault = λ eight. let u = endings.read_fault_line _ _ (WhichFailedIn call) _ _ _ _ _ _ ends eight in (u.name, u.is_input, u.cause, u.written);
     no_read_fault = endings.no_read_fault _ _ (WhichFailedIn call) _ _ _ _ _ _ ends;
     write_fault = write_fault_by (ways ends);

@@ -30,7 +30,7 @@ use Rattle.clubcard_top.specs.Faults.{of_input, of_publishing}
 use Rattle.clubcard_top.specs.Readings.{faulted, job_in, ledger_in, part_in, store_in, input_as}
 use Rattle.clubcard_top.specs.Inputs.{IsHeld, WhichFailed, IsBlamed, BlamesFile, IsRead, AreRead, IsInput}
 use Rattle.clubcard_top.specs.ReplyFields.{ReplyFields, Done, NamedFault}
-use Rattle.clubcard_top.specs.Commands.{◌>>=◌, named, input, query_done, check_done, show_done, begun, installed, stored, publication_done, MakesPart, MakesSnapshot, MakesDelta, Makes}
+use Rattle.clubcard_top.specs.Commands.{◌>>=◌, named, input, query_done, show_done, begun, installed, stored, publication_done, MakesPart, MakesSnapshot, MakesDelta, Makes}
 use Rattle.clubcard_top.specs.Replies.{done, refusal, reply_of}
 use Rattle.clubcard_top.specs.Answering.{reply_fields}
 use Rattle.clubcard_top.specs.Runs.{SaysWhich, IsReply}
@@ -196,18 +196,6 @@ module _ (told : Option Files) (failed : Option (List ℕ) → Type 0) (r : Resu
   query_made q view x (given, read, gives, blamed) is =
       made (commands.Query q) told failed (given ∷ []) (Ok (query_done q (view x))) r (read, tt) (none_failed failed q.store faults.Unread x blamed)
       (sym (ap (λ (y : Result (List SealedFields) FileFault). named q.store y >>= (λ ps. Ok (query_done q ps))) gives)) is
-
-  pub check_refused : {B : Type 0} (name : List ℕ) (view : B → SealedFields × ℕ) (fault : FileFault) → IsInput told failed name part_in view (Err fault) → (fault ≡ faults.NoMemory → IsErr r)
-      → IfOk r (λ a. reply_fields a ≡ refusal name fault) → IfOk r (λ a. IsReply (commands.Check name) told failed (reply_fields a))
-  check_refused name view fault in_ memory is =
-      one_refused (commands.Check name) name part_in view fault (λ g read. (read, tt))
-      (λ g h. sym (ap (λ (x : Result (SealedFields × ℕ) NamedFault). x >>= (λ y. Ok (check_done y))) h)) (inl refl) in_ memory is
-
-  pub check_made : {B : Type 0} (name : List ℕ) (view : B → SealedFields × ℕ) (x : B) → IsInput told failed name part_in view (Ok x) → IfOk r (λ a. reply_fields a ≡ done (check_done (view x)))
-      → IfOk r (λ a. IsReply (commands.Check name) told failed (reply_fields a))
-  check_made name view x (given, read, gives, blamed) is =
-      made (commands.Check name) told failed (given ∷ []) (Ok (check_done (view x))) r (read, tt) (none_failed failed name faults.Unread x blamed)
-      (sym (ap (λ (y : Result (SealedFields × ℕ) FileFault). named name y >>= (λ z. Ok (check_done z))) gives)) is
 
   pub show_refused : {B : Type 0} (name : List ℕ) (view : B → SealedFields × ℕ) (fault : FileFault) → IsInput told failed name part_in view (Err fault) → (fault ≡ faults.NoMemory → IsErr r)
       → IfOk r (λ a. reply_fields a ≡ refusal name fault) → IfOk r (λ a. IsReply (commands.Show name) told failed (reply_fields a))

@@ -16,8 +16,14 @@ use Rattle.publication_core.specs.declared.fault.PublishFault.{PublishFault}
 use Rattle.publication_core.specs.declared.fault.PublishFault.TheVariants as publish
 use Rattle.clubcard_top.specs.declared.fault.FileFault.{FileFault}
 use Rattle.clubcard_top.specs.declared.fault.FileFault.TheVariants as faults
+use Rattle.clubcard_top.specs.declared.scanning.ScanFault.{ScanFault}
+use Rattle.clubcard_top.specs.declared.scanning.ScanFault.TheVariants as scan
 use Rattle.clubcard_top.specs.declared.input.InputFault.{InputFault}
 use Rattle.clubcard_top.specs.declared.input.InputFault.TheVariants as input
+
+abbrev pub of_scan : ScanFault → FileFault
+of_scan scan.Unread = faults.Unread
+of_scan (scan.Layout f) = faults.Layout f
 
 abbrev pub of_input : InputFault → FileFault
 of_input input.Failed = faults.Unread

@@ -16,5 +16,6 @@ pub mod Promises
 pub mod Workers
 pub mod Steps
 pub mod Rehearsals
+pub mod Scanned
 pub mod Answering
 pub mod Sending

@@ -132,6 +132,8 @@ pub record Outside (call : Call) : Type 0 where
   pub write_fault : call.status ≡ status.write_fault → (reply : ReplyFields) × IsAnswer call reply
       × ((Writes call reply.outputs × SinkFailed call reply.text) ⊎ ((name : List ℕ) × Torn call reply name))
   pub no_memory : call.status ≡ status.no_memory → WantedMemory call
+  -- `check` takes no memory, so that it never wants any
+  pub check : (part : List ℕ) → call.asked ≡ commands.Check part → call.status ≢ status.no_memory
 
 -- What never changes, and which counts never fall.
 pub record Frame (call : Call) : Type 0 where

@@ -8,15 +8,18 @@ ghost use Rattle.clubcard_top.specs.Answering.{reply_fields};
 ghost use Rattle.clubcard_top.specs.Replies.{refusal};
 ghost use Rattle.clubcard_top.specs.Inputs.{WhichFailed};
 ghost use Rattle.clubcard_top.specs.Runs.{IsReply};
+ghost use Rattle.clubcard_top.specs.Scanned.{scan_reply as reply_of_scan};
 
 use crate::answer::Answer;
 use crate::fault::FileFault;
 use crate::inputs::{part_in, store_in};
 use crate::reply::Reply;
+use crate::scanning::{ScanFault, scan_file};
 use ident_core::{Identity, Sighting};
 use line_core::checked;
 use octets_core::{NoMemory, Steps};
 use outside_core::Depot;
+use part_codec::PartNote;
 use std::alloc::Global;
 use std::marker::Brand;
 use std::sync::ledger::{Blank, Ledger};
@@ -78,20 +81,25 @@ pub fn answer_query<'a, D: Depot>(
     }
 }
 
-/// The answer of `check`.
-pub fn answer_check<'a, D: Depot>(
-    alloc: Global,
-    name: &FileName<'a>,
-    depot: &mut D,
-) -> Result<Answer<'a>, NoMemory>
-    ensures reply { IfOk result (λ a. IsReply (Command.Check name.now) (D.files depot.old)
-        (WhichFailed D.Depot depot.old depot.new) (reply_fields a)) }
+/// The reply about the file of this name, which was scanned.
+fn scan_reply(name: &str, scan: Result<PartNote, ScanFault>) -> Reply<'_>
+    ensures { result ≡ reply_of_scan name.now scan }
+{
+    match scan {
+        Ok(note) => Reply::done(checked(&note)),
+        Err(ScanFault::Unread) => Reply::unread(name),
+        Err(ScanFault::Layout(fault)) => Reply::bad_layout(name, fault),
+    }
+}
+
+/// The answer of `check`. No memory is taken.
+pub fn answer_check<'a, D: Depot>(name: &FileName<'a>, depot: &mut D) -> Answer<'a>
+    ensures reply { IsReply (Command.Check name.now) (D.files depot.old)
+        (WhichFailed D.Depot depot.old depot.new) (reply_fields result) }
     ensures only_reads { OnlyReads D.Depot depot.old depot.new }
 {
-    match part_in(alloc, depot, name.as_str()) {
-        Ok((sealed, size)) => Ok(Answer::Reply(Reply::done(checked(&sealed, size)))),
-        Err(fault) => refused(name.as_str(), fault),
-    }
+    let scan = scan_file(depot, name.as_str());
+    Answer::Reply(scan_reply(name.as_str(), scan))
 }
 
 /// The answer of `show`.

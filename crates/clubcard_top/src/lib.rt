@@ -13,6 +13,7 @@ mod publishing;
 mod rehearsing;
 mod reply;
 mod sampling;
+mod scanning;
 mod status;
 mod storing;
 mod top;

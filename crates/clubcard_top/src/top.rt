@@ -1,12 +1,13 @@
 //! The top call.
 
-ghost use Rattle.std.specs.Prelude.{◌≡◌, ◌≤◌, [], IfOk, map, string_bytes};
+ghost use Rattle.std.specs.Prelude.{◌≡◌, ◌≢◌, ◌≤◌, ℕ, List, [], IfOk, IsOk, map, string_bytes};
 ghost use Rattle.outside_core.specs.Effects.{OnlyReads};
 ghost use Rattle.word_core.specs.Names.{outputs_of};
 ghost use Rattle.word_core.specs.Words.{command_of};
 ghost use Rattle.clubcard_top.specs.Answering.{reply_fields};
 ghost use Rattle.clubcard_top.specs.Inputs.{WhichFailed};
 ghost use Rattle.clubcard_top.specs.Runs.{IsReply};
+ghost use Rattle.clubcard_top.specs.Statuses as statuses;
 ghost use Rattle.clubcard_top.specs.Calls.{call, call_of};
 ghost use Rattle.clubcard_top.specs.Endings.{Ends};
 ghost use Rattle.clubcard_top.specs.Promises.{Ending, Frame, Histories, Outside, Refusals, Successes};
@@ -35,12 +36,13 @@ fn answer_for<'a, R: Threads + Sync, D: Depot>(
 ) -> Result<Answer<'a>, NoMemory>
     ensures reply { IfOk result (λ a. IsReply command.now (D.files depot.old)
         (WhichFailed D.Depot depot.old depot.new) (reply_fields a)) }
+    ensures check { (name : List ℕ) → command.now ≡ Command.Check name → IsOk result }
     ensures only_reads { OnlyReads D.Depot depot.old depot.new }
 {
     match command {
         Command::Usage => Ok(Answer::Reply(Reply::usage())),
         Command::Query(asked) => answer_query(alloc, asked, depot),
-        Command::Check(name) => answer_check(alloc, name, depot),
+        Command::Check(name) => Ok(answer_check(name, depot)),
         Command::Show(name) => answer_show(alloc, name, depot),
         Command::Snapshot(asked) => answer_snapshot(rt, alloc, asked, depot),
         Command::Delta(asked) => answer_delta(rt, alloc, asked, depot),
@@ -60,6 +62,7 @@ fn run_command<R: Threads + Sync, D: Depot, K: Sink>(
     out: &mut K,
 ) -> Status
     ensures ends { Ends (call_of D.Depot K.Sink command.now depot.old depot.new out.old out.new result.0) }
+    ensures check { (name : List ℕ) → command.now ≡ Command.Check name → result.0 ≢ statuses.no_memory }
     ensures reading { outputs_of command.now ≡ [] → D.write_faults depot.new ≡ D.write_faults depot.old }
     ensures later_reads { D.read_faults depot.old ≤ D.read_faults depot.new }
     ensures later_writes { D.write_faults depot.old ≤ D.write_faults depot.new }
@@ -80,6 +83,8 @@ fn run_words<R: Threads + Sync, D: Depot, K: Sink>(
     out: &mut K,
 ) -> Status
     ensures ends { Ends (call D.Depot K.Sink words.now depot.old depot.new out.old out.new result.0) }
+    ensures check { (name : List ℕ) → command_of (map string_bytes words.now) ≡ Command.Check name
+        → result.0 ≢ statuses.no_memory }
     ensures reading { outputs_of (command_of (map string_bytes words.now)) ≡ []
         → D.write_faults depot.new ≡ D.write_faults depot.old }
     ensures later_reads { D.read_faults depot.old ≤ D.read_faults depot.new }

@@ -18,7 +18,9 @@ use Rattle.card_core.specs.Filter.{leaf_of}
 use Rattle.card_core.specs.declared.stage.Stage.{Stage}
 use Rattle.card_core.specs.MixedFields.{MixedFields}
 use Rattle.part_codec.specs.SealedFields.{SealedFields}
+use Rattle.part_codec.specs.Noting.{note_of}
 use Rattle.part_codec.specs.PartText.{width_of}
+use Rattle.part_codec.specs.declared.scan.PartNote.{PartNote}
 use Rattle.crl_core.specs.declared.crl.CrlFault.{CrlFault}
 use Rattle.crl_core.specs.declared.crl.CrlFault.TheVariants as crl_faults
 use Rattle.job_core.specs.declared.bounds.What.{What}
@@ -48,11 +50,14 @@ kind_word kinds.Snapshot = codes "snapshot"
 kind_word kinds.Delta = codes "delta"
 
 -- part KIND epoch E ranges N issuers M bytes B
+abbrev pub note_line : PartNote → List ℕ
+note_line n =
+    codes "part " ++ kind_word n.kind ++ codes " epoch " ++ decimal n.epoch ++ codes " ranges " ++ decimal n.ranges
+    ++ codes " issuers " ++ decimal n.issuers ++ codes " bytes " ++ decimal n.length ++ 10 ∷ []
+
+-- the line of a part of so many bytes
 abbrev pub check_line : SealedFields → ℕ → List ℕ
-check_line s size =
-    codes "part " ++ kind_word s.part.head.kind ++ codes " epoch " ++ decimal s.part.head.epoch
-    ++ codes " ranges " ++ decimal (length s.part.head.ranges)
-    ++ codes " issuers " ++ decimal (length s.part.blocks) ++ codes " bytes " ++ decimal size ++ 10 ∷ []
+check_line s size = note_line (note_of s size)
 
 -- part KIND version 1 epoch E parent KEY
 abbrev pub head_line : HeadFields → List ℕ

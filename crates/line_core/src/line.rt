@@ -3,7 +3,7 @@
 ghost use Rattle.std.specs.Prelude.{◌≡◌, ◌+◌, ◌*◌, ◌≤◌, [], ◌∷◌, ◌++◌, length, codes, decimal};
 ghost use Rattle.hex.specs.Hex.{encode_lower};
 ghost use Rattle.part_codec.specs.PartText.{width_of};
-ghost use Rattle.line_core.specs.Lines.{stage_words, approx_words, mixed_words, body_words, check_line, report_line};
+ghost use Rattle.line_core.specs.Lines.{stage_words, approx_words, mixed_words, body_words, note_line, report_line};
 ghost use Rattle.line_core.specs.Lines.{store_line, sample_line, head_line, range_line, block_line, trailer_line};
 ghost use Rattle.line_core.specs.Lines.{seeds_line};
 
@@ -11,7 +11,7 @@ use crate::words::kind_text;
 use card_core::{Block, Body, Mixed, Stage};
 use ident_core::{Head, Range};
 use octets_core::Key32;
-use part_codec::Sealed;
+use part_codec::PartNote;
 use std::marker::Model;
 use universe_core::Counts;
 
@@ -144,22 +144,16 @@ impl Line {
 }
 
 /// `part KIND epoch E ranges N issuers M bytes B`
-pub fn checked(sealed: &Sealed, size: usize) -> Line
-    ensures { result ≡ check_line sealed.now size }
+pub fn checked(note: &PartNote) -> Line
+    ensures { result ≡ note_line note.now }
 {
-    let part = sealed.part();
-    let head = part.head();
     let mut line = Line::new();
     line.push(b"part ");
-    line.push(kind_text(head.kind()));
-    line.push(b" epoch ");
-    line.push_number(head.epoch());
-    line.push(b" ranges ");
-    line.push_number(head.ranges().len() as u64);
-    line.push(b" issuers ");
-    line.push_number(part.blocks().len() as u64);
-    line.push(b" bytes ");
-    line.push_number(size as u64);
+    line.push(kind_text(note.kind));
+    line.push_count(b" epoch ", note.epoch);
+    line.push_count(b" ranges ", note.ranges as u64);
+    line.push_count(b" issuers ", note.issuers as u64);
+    line.push_count(b" bytes ", note.length);
     line.push(b"\n");
     line
 }

@@ -9,7 +9,7 @@ use line_core::{
 };
 use octets_core::{Field, Key32, LayoutFault, Why};
 use outside_core::MemorySink;
-use part_codec::decode_part;
+use part_codec::{PartScan, decode_part};
 use std::process::Abort;
 use std::test::Fail;
 use universe_core::Counts;
@@ -219,8 +219,9 @@ fn lines_without_a_name(rt: HostRuntime) -> Result<(), Fail> {
 #[test]
 fn a_part_in_short(rt: HostRuntime) -> Result<(), Fail> {
     let alloc = rt.alloc();
-    let (sealed, len) = decode_part(alloc, &hex::decode(alloc, TWO_RANGES)?)?;
-    let line = checked(&sealed, len);
+    let mut scan = PartScan::new();
+    let _ = scan.feed(&hex::decode(alloc, TWO_RANGES)?)?;
+    let line = checked(&scan.finish()?);
     assert_eq!(rt;
         line.text(),
         b"part delta epoch 72623859790382856 ranges 2 issuers 3 bytes 283\n".as_slice()

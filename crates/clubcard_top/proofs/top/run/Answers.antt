@@ -9,7 +9,7 @@ pub returns-clause-ending : goal.returns-clause-ending
 returns-clause-ending g c = promised.ending _ (promised.parts _ c.run_words.ensures.ends)
 
 pub returns-clause-outside : goal.returns-clause-outside
-returns-clause-outside g c = promised.outside _ (promised.parts _ c.run_words.ensures.ends)
+returns-clause-outside g c = promised.outside _ c.run_words.ensures.check (promised.parts _ c.run_words.ensures.ends)
 
 pub returns-clause-refusals : goal.returns-clause-refusals
 returns-clause-refusals g c = promised.refusals _ (λ files a b x y. c.replies_are_unique.ensures.reply _ files a b x y) (promised.parts _ c.run_words.ensures.ends)

@@ -2,7 +2,7 @@ use Rattle.std.proofs.Common.{◌∙◌}
 use Rattle.word_core.specs.Names.{outputs_of}
 use Rattle.clubcard_top.specs.Inputs.{WhichFailed}
 use Rattle.clubcard_top.specs.Answering.{reply_fields}
-use Rattle.clubcard_top.proofs.Endings.{named, unwritten}
+use Rattle.clubcard_top.proofs.Endings.{named, unwritten, not_memory}
 use Rattle.std.proofs.Common.{inr}
 use Rattle.clubcard_top.specs.Calls.{call_of}
 use Rattle.clubcard_top.proofs.Promised.{ways, moved, read_later}
@@ -23,3 +23,6 @@ returns-in-Ok-clause-ends g c =
       c.send.ensures.own,
       moved (reply_fields c.in-Ok.answer) _ _ _ _ _ _ _ _ _ _ c.in-Ok.ensures.only_reads.same_files c.in-Ok.ensures.only_reads.same_writes c.send.ensures.ends,
     ))
+
+pub returns-in-Ok-clause-check : goal.returns-in-Ok-clause-check
+returns-in-Ok-clause-check g c = λ name is. not_memory (reply_fields c.in-Ok.answer) _ _ _ _ _ _ _ c.send.ensures.own c.send.ensures.ends
