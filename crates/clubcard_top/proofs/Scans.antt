@@ -1,5 +1,6 @@
 -- Files that are scanned.
-use Rattle.std.proofs.Common.{◌≡◌, ℕ, ◌+◌, ◌≤◌, ◌<◌, ◌^◌, ◌-◌, List, [], ◌∷◌, ◌++◌, length, take, drop, true, false, nat_lt, Option, Some, None, Result, Ok, Err, refl, sym, ap, subst, ◌∙◌, arith, inl, inr, length-append, append_assoc}
+use Rattle.std.proofs.Common.{◌≡◌, ℕ, ◌+◌, ◌≤◌, ◌<◌, ◌^◌, ◌-◌, List, [], ◌∷◌, ◌++◌, length, take, drop, true, false}
+use Rattle.std.proofs.Common.{nat_lt, Option, Some, None, Result, Ok, Err, refl, sym, ap, subst, ◌∙◌, arith, inl, inr, length-append, append_assoc}
 use Rattle.std.specs.Prelude.{◌⊎◌, IfSome}
 use Rattle.std.specs.FinMap.{get}
 use Rattle.std.proofs.lemmas.Bool.Decides.{nat_tests}
@@ -88,7 +89,8 @@ bounded scan b t = let m = scan.machine in omega (arith, t.stands.place, m.few, 
 -- a part that was scanned to its end
 whole_ends : (m : Machine) (b : List ℕ) (s : SealedFields) (n : ℕ) → Behind m b → ((m.field ≡ opens.Done → ⊥) → m.filled < tail_of m.field) → sealed b 0 ≡ Ok (s, n) → length b ≡ n
 whole_ends m b s n t partial read =
-    let is = ends-at m b [] 0 s n (subst (λ (l : List ℕ). Behind m l) (sym (append-nil b)) t) partial (omega arith) (λ lt. absurd (omega (arith, lt))) (ap (λ (l : List ℕ). sealed l 0) (append-nil b) ∙ read) in
+    let is = ends-at m b [] 0 s n (subst (λ (l : List ℕ). Behind m l) (sym (append-nil b)) t) partial (omega arith) (λ lt. absurd (omega (arith, lt)))
+    (ap (λ (l : List ℕ). sealed l 0) (append-nil b) ∙ read) in
     omega (arith, is)
 
 by_value : (bytes : List ℕ) (x : Result (SealedFields × ℕ) LayoutFault) → sealed bytes 0 ≡ x → ((s : SealedFields) (n : ℕ) → x ≡ Ok (s, n) → n ≡ length bytes)
@@ -151,7 +153,8 @@ held_front (Some files) name b w at n len le before offers =
 pub held_piece : (told : Option Files) (name b w : List ℕ) (at : ℕ) → length b ≡ at → WhereHeld told name (λ file. b ≡ take at file) → Offers told name at w
     → IsHeld told name (λ file. b ++ w ≡ take (length (b ++ w)) file)
 held_piece told name b w at len before offers =
-    subst (λ (l : List ℕ). IsHeld told name (λ file. b ++ l ≡ take (length (b ++ l)) file)) (take_all (length w) w (omega arith)) (held_front told name b w at (length w) len (omega arith) before offers)
+    subst (λ (l : List ℕ). IsHeld told name (λ file. b ++ l ≡ take (length (b ++ l)) file)) (take_all (length w) w (omega arith))
+    (held_front told name b w at (length w) len (omega arith) before offers)
 
 where_held : (told : Option Files) (name : List ℕ) (P : List ℕ → Type 0) → IsHeld told name P → WhereHeld told name P
 where_held None name P h = tt
@@ -206,7 +209,8 @@ more told failed name w scan at n to t offers none lt is ends =
     (Some b.bytes, b.read, ap noted_file (more_in b.bytes whole.0 to behind read), inl none)
 
 -- the end of the file was seen
-pub all : (told : Option Files) (failed : Option (List ℕ) → Type 0) (name w : List ℕ) (scan : PartScan) (at : ℕ) (r : Result PartNote ScanFault) → Taken told name scan at → Offers told name at w → failed None
+pub all : (told : Option Files) (failed : Option (List ℕ) → Type 0) (name w : List ℕ) (scan : PartScan) (at : ℕ) (r : Result PartNote ScanFault)
+    → Taken told name scan at → Offers told name at w → failed None
     → at < 2 ^ 64 → w ≡ [] → ((c : List ℕ) → StandsFor scan c → layouts (noted (sealed c 0)) ≡ r)
     → ((e : LayoutFault) → scan.fault ≡ Some e → r ≡ Err (scans.Layout e)) → IsScan told failed name r
 all None failed name w scan at r t offers none fits empty exact again =
