@@ -4,11 +4,16 @@ sha2, in processor time for each round. Run it at the top of the repository once
 program:
 
     python3 bench/parts.py
+    python3 bench/parts.py instructions
+
+The second counts the instructions of a round by valgrind's callgrind in place of its time.
 """
 
 import hashlib
 import os
+import re
 import resource
+import shutil
 import subprocess
 import sys
 import tempfile
@@ -59,9 +64,25 @@ def a_round(what, path, rounds):
     return min(runs) / rounds * 1000
 
 
+def instructions(what, path, rounds):
+    """All that a run executes."""
+    command = ["valgrind", "--tool=callgrind", "--callgrind-out-file=/dev/null", BENCHES, "part", what, path, str(rounds)]
+    run = subprocess.run(command, stdout=subprocess.DEVNULL, stderr=subprocess.PIPE, text=True, check=True)
+    return int(re.search(r"Collected : (\d+)", run.stderr).group(1))
+
+
+def instructions_of_a_round(what, path):
+    """In millions, without the program's start."""
+    return (instructions(what, path, 2) - instructions(what, path, 1)) / 1e6
+
+
 def main():
     if not os.access(BENCHES, os.X_OK):
         sys.exit("build the program first: (cd crates/benches && rt run)")
+    counts = sys.argv[1:] == ["instructions"]
+    if counts and shutil.which("valgrind") is None:
+        sys.exit("valgrind is absent: its callgrind counts the instructions")
+    unit = "million" if counts else "ms"
     parts = [("65,535 plain blocks", plain(65535)), ("400 mixed blocks, 1,200 starts", mixed(400, 1200))]
     parts += [("4 mixed blocks, 100,000 starts", mixed(4, 100000)), ("4,000 mixed blocks, 10 starts", mixed(4000, 10))]
     with tempfile.TemporaryDirectory() as folder:
@@ -69,8 +90,9 @@ def main():
             path = os.path.join(folder, "part")
             with open(path, "wb") as file:
                 file.write(part)
-            times = [a_round(what, path, 20) for what in ("hash", "scan", "decode")]
-            ratios = " ".join(f"{time:7.3f} ms ({time / times[0]:.2f})" for time in times)
+            whats = ("hash", "scan", "decode")
+            costs = [instructions_of_a_round(what, path) if counts else a_round(what, path, 20) for what in whats]
+            ratios = " ".join(f"{cost:7.3f} {unit} ({cost / costs[0]:.2f})" for cost in costs)
             print(f"{name:32} {len(part):8} {ratios}", flush=True)
 
 

@@ -190,11 +190,29 @@ impl Machine {
         ensures filled { self.new.filled ≡ self.old.filled }
         ensures count { result ≤ length piece.now }
         ensures progress { 0 < length piece.now → 0 < result }
+        ensures all { result < length piece.now → self.new.passed ≡ skips_of self.old.field self.old.kept }
     {
         let want = skips(self.field, &self.kept) - self.passed;
         let n = std::cmp::min(want, piece.len());
         self.passed += n;
         n
+    }
+
+    /// Passes bytes of a plane before its last word, and takes that too where all of it is in the piece.
+    #[inline(always)]
+    fn plane(&mut self, piece: &[u8]) -> Result<(usize, bool), LayoutFault>
+        requires front { IsFront self.old }
+        requires some { self.old.passed < skips_of self.old.field self.old.kept }
+        ensures ok { IfOk result (Advances self.old self.new piece.now) }
+        ensures err { IfErr result (Fails self.old piece.now) }
+    {
+        let n = self.skip(piece);
+        let want = tail(self.field) - self.filled;
+        if piece.len() - n < want {
+            return Ok((n, false));
+        }
+        self.complete_with(&piece[n..n + want])?;
+        Ok((n + want, true))
     }
 
     /// Takes bytes up to the end of the open field. Answers how many, and whether it became whole.
@@ -205,7 +223,7 @@ impl Machine {
         ensures err { IfErr result (Fails self.old piece.now) }
     {
         if self.passed < skips(self.field, &self.kept) {
-            return Ok((self.skip(piece), false));
+            return self.plane(piece);
         }
         let want = tail(self.field) - self.filled;
         if piece.len() < want {
