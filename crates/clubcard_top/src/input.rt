@@ -31,7 +31,7 @@ impl From<InputFault> for FileFault {
     }
 }
 
-/// The most bytes that one read asks for: few reads of a long file, since a depot opens it for each.
+/// The most bytes that one read asks for: few reads of a long file.
 const PIECE: usize = 65_536;
 
 /// Reads the next piece of a file behind the bytes that were read, and answers how many bytes came: none only at the
