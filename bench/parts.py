@@ -1,7 +1,7 @@
 #!/usr/bin/env python3
 """Times the scan of a part in pieces of 4,096 bytes, and its decoding, beside the SHA-256 of the same bytes by the same
-sha2, in processor time for each round. Run it at the top of the repository once `rt run` in crates/benches has built the
-program:
+sha2, in processor time for each round. Run it at the top of the repository once `rt run` in crates/benches has built
+the program:
 
     python3 bench/parts.py
     python3 bench/parts.py instructions
