@@ -4,4 +4,6 @@
 #[cfg(test)]
 mod asking;
 #[cfg(test)]
+mod scans;
+#[cfg(test)]
 mod usages;

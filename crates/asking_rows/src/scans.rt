@@ -1,0 +1,111 @@
+//! `check` over files that come a byte at a time, and over reads that fail behind a damaged field.
+
+use clubcard_rows::calls::{bytes_of, put_with_byte, says};
+use clubcard_rows::files::{PART_LATE, PART_REVOKED};
+use clubcard_top::{Status, run};
+use outside_core::{Depot, Failed, MemoryDepot, MemorySink};
+use std::alloc::Global;
+use std::test::Fail;
+use std::thread::Threads;
+
+/// Files of which each read gives one byte, and that are never written.
+#[derive(Drop)]
+struct Bytewise {
+    files: MemoryDepot,
+    read_faults: u64,
+    write_faults: u64,
+}
+
+impl Depot for Bytewise {
+    ghost use Rattle.std.specs.Prelude.{None};
+
+    ghost files = { λ _. None };
+
+    ghost read_faults = { λ d. d.read_faults };
+
+    ghost failed_reads = { λ _. None };
+
+    ghost write_faults = { λ d. d.write_faults };
+
+    fn read_at(&mut self, name: &str, at: u64, buf: &mut [u8]) -> Result<usize, Failed> {
+        let room = buf.len().min(1);
+        let read = self.files.read_at(name, at, &mut buf[..room]);
+        if read.is_err() {
+            self.read_faults = self.read_faults.saturating_add(1);
+        }
+        read
+    }
+
+    fn begin(&mut self, _: &str) -> Result<(), Failed> {
+        self.write_faults = self.write_faults.saturating_add(1);
+        Err(Failed)
+    }
+
+    fn append(&mut self, _: &str, bytes: &[u8]) -> Result<usize, Failed> {
+        if bytes.is_empty() {
+            return Ok(0);
+        }
+        self.write_faults = self.write_faults.saturating_add(1);
+        Err(Failed)
+    }
+}
+
+/// Whether `check` of a file of these pieces that comes byte by byte ends and says so.
+fn checks_bytewise<R: Threads + Sync>(
+    rt: &R,
+    alloc: Global,
+    pieces: &[&str],
+    status: Status,
+    line: &str,
+) -> Result<bool, Fail> {
+    let mut files = MemoryDepot::new(alloc);
+    files.put("S", &bytes_of(alloc, pieces)?)?;
+    let mut depot = Bytewise {
+        files,
+        read_faults: 0,
+        write_faults: 0,
+    };
+    let mut words = Vec::new(alloc);
+    words.push(String::from_str(alloc, "check")?)?;
+    words.push(String::from_str(alloc, "S")?)?;
+    let mut out = MemorySink::new(alloc);
+    let ended = run(rt, alloc, &words, &mut depot, &mut out);
+    Ok(ended == status && out.bytes() == line.as_bytes())
+}
+
+#[test]
+fn a_part_that_comes_byte_by_byte(rt: HostRuntime) -> Result<(), Fail> {
+    let alloc = rt.alloc();
+    let line = "part delta epoch 2 ranges 1 issuers 1 bytes 199\n";
+    assert!(rt; checks_bytewise(&rt, alloc, &[PART_LATE], Status::DONE, line)?);
+    let line = "layout 169 end value S\n";
+    assert!(rt; checks_bytewise(&rt, alloc, &[PART_REVOKED, "00"], Status::BAD_LAYOUT, line)?);
+    let line = "layout 0 part.magic short S\n";
+    assert!(rt; checks_bytewise(&rt, alloc, &[], Status::BAD_LAYOUT, line)?);
+    Ok(())
+}
+
+// The field that fails comes with the first read, so that the second, which would fail, isn't made.
+#[test]
+fn a_damaged_field_before_a_failing_read(rt: HostRuntime) -> Result<(), Fail> {
+    let alloc = rt.alloc();
+    let mut depot = MemoryDepot::new(alloc);
+    put_with_byte(alloc, &mut depot, "S", &[PART_REVOKED], 18, 1)?;
+    depot.fail_reads(&[1])?;
+    let line = "layout 18 part.parent value S\n";
+    assert!(rt; says(&rt, alloc, &mut depot, &["check", "S"], Status::BAD_LAYOUT, line)?);
+    Ok(())
+}
+
+#[test]
+fn a_read_that_fails(rt: HostRuntime) -> Result<(), Fail> {
+    let alloc = rt.alloc();
+    for read in [0, 1] {
+        let mut depot = MemoryDepot::new(alloc);
+        depot.put("S", &bytes_of(alloc, &[PART_REVOKED])?)?;
+        depot.fail_reads(&[read])?;
+        let line = "read-fault S\n";
+        assert!(rt; says(&rt, alloc, &mut depot, &["check", "S"], Status::READ_FAULT, line)?);
+    }
+    Ok(())
+}
