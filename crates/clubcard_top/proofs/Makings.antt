@@ -1,8 +1,8 @@
 -- What comes of a command: its outputs, its statuses, and which inputs it rests on.
 use Rattle.std.proofs.Common.{◌≡◌, ℕ, ◌⊎◌, inl, inr, List, [], ◌∷◌, ◌++◌, Option, Some, None, Result, Ok, Err, refl, sym, ap, ◌∙◌, subst}
-use Rattle.std.specs.Prelude.{IsTrue}
+use Rattle.std.specs.Prelude.{IsTrue, IfErr}
 use Rattle.octets_core.specs.Layout.{Layout, then_read, with_fault, mapped, whole}
-use Rattle.octets_core.specs.Reading.{end, value_of}
+use Rattle.octets_core.specs.Reading.{end, value_of, GivesUnless}
 use Rattle.octets_core.specs.declared.fault.LayoutFault.{LayoutFault}
 use Rattle.outside_core.specs.Files.{Files, IsMissing}
 use Rattle.sets_core.specs.Among.{Among}
@@ -23,6 +23,7 @@ use Rattle.job_core.specs.JobFields.{JobFields}
 use Rattle.job_core.specs.JobLayout.{job_of}
 use Rattle.job_core.specs.declared.fault.JobFault.{JobFault}
 use Rattle.job_core.specs.declared.fault.JobFault.TheVariants as of_job_faults
+use Rattle.job_core.proofs.JobBounds.{never-of}
 use Rattle.ident_core.specs.declared.kind.Kind.{Kind}
 use Rattle.ident_core.specs.declared.kind.Kind.TheVariants as kinds
 use Rattle.universe_core.specs.declared.fault.AdmitFault.{AdmitFault}
@@ -199,11 +200,11 @@ query_fault_read : (f : QueriesFault) → IsRead_fault (of_queries f)
 query_fault_read (of_query_faults.Layout f) = λ h. cc
 query_fault_read of_query_faults.NoMemory = λ h. cc
 
-job_fault_read : (f : JobFault) → IsRead_fault (of_job f)
-job_fault_read (of_job_faults.Layout f) = λ h. cc
-job_fault_read (of_job_faults.TooMany what limit) = λ h. cc
-job_fault_read of_job_faults.ReadFault = λ h. cc
-job_fault_read of_job_faults.NoMemory = λ h. cc
+job_fault_read : (f : JobFault) → (f ≡ of_job_faults.ReadFault → ⊥) → IsRead_fault (of_job f)
+job_fault_read (of_job_faults.Layout f) read = λ h. cc
+job_fault_read (of_job_faults.TooMany what limit) read = λ h. cc
+job_fault_read of_job_faults.ReadFault read = λ h. read refl
+job_fault_read of_job_faults.NoMemory read = λ h. cc
 
 ledger_fault_read : (f : LedgerFault) → IsRead_fault (of_ledger f)
 ledger_fault_read (of_ledger_faults.Layout f) = λ h. cc
@@ -236,6 +237,15 @@ faulted_read : {A E : Type 0} (fault : E → FileFault) (r : Result A E) → ((e
 faulted_read {A} fault (Ok x) read h = not_err x faults.Unread h
 faulted_read {A} fault (Err e) read h = read e (err_same {A = A} (fault e) faults.Unread h)
 
+job_faulted_read : (r : Result JobFields JobFault) → IfErr r (λ e. e ≡ of_job_faults.ReadFault → ⊥) → faulted of_job r ≡ Err faults.Unread → ⊥
+job_faulted_read (Ok x) read h = not_err x faults.Unread h
+job_faulted_read (Err e) read h = job_fault_read e read (err_same {A = JobFields} (of_job e) faults.Unread h)
+
+-- what is given is what it is given as
+given : (r : Result JobFields JobFault) → GivesUnless of_job_faults.NoMemory (λ job. job) r r
+given (Ok x) = refl
+given (Err e) = λ wants. refl
+
 end_read : (s : SealedFields) (bytes : List ℕ) (r : Result (Unit {0} × ℕ) LayoutFault) → then_read (with_fault faults.Layout r) (λ nothing. whole s) bytes ≡ Err faults.Unread → ⊥
 end_read s bytes (Ok x) h = not_err (s, x.1) faults.Unread h
 end_read s bytes (Err f) h = let g : faults.Layout f ≡ faults.Unread = err_same {A = SealedFields × ℕ} (faults.Layout f) faults.Unread h in cc
@@ -249,7 +259,8 @@ queries_read : (bytes : List ℕ) → queries_in bytes ≡ Err faults.Unread →
 queries_read bytes h = faulted_read of_queries (queries_of bytes) query_fault_read h
 
 job_read : (bytes : List ℕ) → job_in bytes ≡ Err faults.Unread → ⊥
-job_read bytes h = faulted_read of_job (job_of PUBLISHED bytes) job_fault_read h
+job_read bytes h =
+    job_faulted_read (job_of PUBLISHED bytes) (never-of (λ job. job) PUBLISHED bytes (job_of PUBLISHED bytes) (given (job_of PUBLISHED bytes))) h
 
 ledger_read : (bytes : List ℕ) → ledger_in bytes ≡ Err faults.Unread → ⊥
 ledger_read bytes h = faulted_read of_ledger (ledger_of bytes) ledger_fault_read h

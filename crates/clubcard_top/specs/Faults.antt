@@ -37,7 +37,7 @@ of_queries queries.NoMemory = faults.NoMemory
 abbrev pub of_job : JobFault → FileFault
 of_job (job.Layout f) = faults.Layout f
 of_job (job.TooMany what limit) = faults.TooMany what limit
-of_job job.ReadFault = faults.NoMemory
+of_job job.ReadFault = faults.Unread
 of_job job.NoMemory = faults.NoMemory
 
 abbrev pub of_ledger : LedgerFault → FileFault

@@ -63,8 +63,7 @@ impl From<JobFault> for FileFault {
         match fault {
             JobFault::Layout(fault) => FileFault::Layout(fault),
             JobFault::TooMany { what, limit } => FileFault::TooMany { what, limit },
-            // Bytes that are there are read with no fault.
-            JobFault::ReadFault => FileFault::NoMemory,
+            JobFault::ReadFault => FileFault::Unread,
             JobFault::NoMemory => FileFault::NoMemory,
         }
     }

@@ -21,6 +21,7 @@ mod top;
 pub use laws::{
     histories_are_made, rehearsals_go_file_by_file, replies_are_unique, workers_are_free,
 };
+pub use publication_core::{Gate, Open};
 pub use status::Status;
 pub use store_core::{Refusal, Refused, StartFault, Store, Verdict};
-pub use top::run;
+pub use top::{run, run_gated};

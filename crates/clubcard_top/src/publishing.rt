@@ -19,7 +19,7 @@ use line_core::reported;
 use octets_core::NoMemory;
 use outside_core::Depot;
 use part_codec::encode_part;
-use publication_core::{Open, Publication, publish_after, publish_first};
+use publication_core::{Gate, Publication, publish_after, publish_first};
 use std::alloc::Global;
 use std::thread::Threads;
 use word_core::{Delta, Snapshot};
@@ -45,9 +45,10 @@ fn published<'a>(
 }
 
 /// The answer of `snapshot`.
-pub fn answer_snapshot<'a, R: Threads + Sync, D: Depot>(
+pub fn answer_snapshot<'a, R: Threads + Sync, G: Gate + Sync, D: Depot>(
     rt: &R,
     alloc: Global,
+    gate: &G,
     snapshot: &Snapshot<'a>,
     depot: &mut D,
 ) -> Result<Answer<'a>, NoMemory>
@@ -59,16 +60,17 @@ pub fn answer_snapshot<'a, R: Threads + Sync, D: Depot>(
         Ok(job) => job,
         Err(fault) => return refused(snapshot.job(), fault),
     };
-    match publish_first(rt, alloc, &Open, job, snapshot.workers()) {
+    match publish_first(rt, alloc, gate, job, snapshot.workers()) {
         Ok(publication) => published(alloc, snapshot.part(), snapshot.ledger(), &publication),
         Err(fault) => refused(snapshot.job(), fault.into()),
     }
 }
 
 /// The answer of `delta`.
-pub fn answer_delta<'a, R: Threads + Sync, D: Depot>(
+pub fn answer_delta<'a, R: Threads + Sync, G: Gate + Sync, D: Depot>(
     rt: &R,
     alloc: Global,
+    gate: &G,
     delta: &Delta<'a>,
     depot: &mut D,
 ) -> Result<Answer<'a>, NoMemory>
@@ -84,7 +86,7 @@ pub fn answer_delta<'a, R: Threads + Sync, D: Depot>(
         Ok(ledger) => ledger,
         Err(fault) => return refused(delta.ledger(), fault),
     };
-    match publish_after(rt, alloc, &Open, ledger, job, delta.workers()) {
+    match publish_after(rt, alloc, gate, ledger, job, delta.workers()) {
         Ok(publication) => published(alloc, delta.part(), delta.new_ledger(), &publication),
         Err(fault) => refused(delta.job(), fault.into()),
     }

@@ -22,7 +22,7 @@ use crate::reply::verdict_line;
 use line_core::{Line, reported};
 use octets_core::{NoMemory, put_bytes};
 use outside_core::Depot;
-use publication_core::Open;
+use publication_core::Gate;
 use query_core::Asked;
 use rehearsal_core::Rehearsal;
 use std::alloc::Global;
@@ -43,9 +43,10 @@ struct BadFile<'a> {
 }
 
 /// The rehearsal with the job of the file of this name, and the line of its report.
-fn with_file<R: Threads + Sync, D: Depot>(
+fn with_file<R: Threads + Sync, G: Gate + Sync, D: Depot>(
     rt: &R,
     alloc: Global,
+    gate: &G,
     before: Rehearsal,
     name: &str,
     workers: u32,
@@ -64,16 +65,17 @@ fn with_file<R: Threads + Sync, D: Depot>(
     ensures only_reads { OnlyReads D.Depot depot.old depot.new }
 {
     let job = job_in(alloc, depot, name)?;
-    let (after, report) = before.with_job(rt, alloc, &Open, job, workers)?;
+    let (after, report) = before.with_job(rt, alloc, gate, job, workers)?;
     let line = reported(report.epoch, report.place, &report.counts);
     Ok((after, line))
 }
 
 /// The rehearsal of the jobs of the files of these names, in their order, and the lines of their reports, which are
 /// written into the text.
-fn with_files<'a, R: Threads + Sync, D: Depot>(
+fn with_files<'a, R: Threads + Sync, G: Gate + Sync, D: Depot>(
     rt: &R,
     alloc: Global,
+    gate: &G,
     names: &[FileName<'a>],
     workers: u32,
     text: Vec<u8>,
@@ -93,7 +95,7 @@ fn with_files<'a, R: Threads + Sync, D: Depot>(
     let mut text = text;
     for file in names {
         let name = file.as_str();
-        let (next, line) = match with_file(rt, alloc, rehearsal, name, workers, depot) {
+        let (next, line) = match with_file(rt, alloc, gate, rehearsal, name, workers, depot) {
             Ok(added) => added,
             Err(fault) => return Err(BadFile { name, fault }),
         };
@@ -134,9 +136,10 @@ fn put_verdicts(
 }
 
 /// The answer of `rehearse`.
-pub fn answer_rehearse<'a, R: Threads + Sync, D: Depot>(
+pub fn answer_rehearse<'a, R: Threads + Sync, G: Gate + Sync, D: Depot>(
     rt: &R,
     alloc: Global,
+    gate: &G,
     rehearse: &Rehearse<'a>,
     depot: &mut D,
 ) -> Result<Answer<'a>, NoMemory>
@@ -152,7 +155,7 @@ pub fn answer_rehearse<'a, R: Threads + Sync, D: Depot>(
     let verdicts = queries.len().saturating_mul(VERDICT);
     let room = verdicts.saturating_add(names.len() * REPORT);
     let text = Vec::with_capacity(alloc, room)?;
-    match with_files(rt, alloc, names, rehearse.workers(), text, depot) {
+    match with_files(rt, alloc, gate, names, rehearse.workers(), text, depot) {
         Ok((rehearsal, mut text)) => {
             put_verdicts(&mut text, &rehearsal, &queries)?;
             Ok(Answer::Lines(text))

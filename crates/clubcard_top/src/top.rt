@@ -23,14 +23,16 @@ use crate::status::Status;
 use crate::storing::{answer_install, answer_start};
 use octets_core::NoMemory;
 use outside_core::{Depot, Sink};
+use publication_core::{Gate, Open};
 use std::alloc::Global;
 use std::thread::Threads;
 use word_core::{Command, read_words};
 
 /// The answer to a command.
-fn answer_for<'a, R: Threads + Sync, D: Depot>(
+fn answer_for<'a, R: Threads + Sync, G: Gate + Sync, D: Depot>(
     rt: &R,
     alloc: Global,
+    gate: &G,
     command: &Command<'a>,
     depot: &mut D,
 ) -> Result<Answer<'a>, NoMemory>
@@ -44,19 +46,20 @@ fn answer_for<'a, R: Threads + Sync, D: Depot>(
         Command::Query(asked) => answer_query(alloc, asked, depot),
         Command::Check(name) => Ok(answer_check(name, depot)),
         Command::Show(name) => answer_show(alloc, name, depot),
-        Command::Snapshot(asked) => answer_snapshot(rt, alloc, asked, depot),
-        Command::Delta(asked) => answer_delta(rt, alloc, asked, depot),
+        Command::Snapshot(asked) => answer_snapshot(rt, alloc, gate, asked, depot),
+        Command::Delta(asked) => answer_delta(rt, alloc, gate, asked, depot),
         Command::Start(asked) => answer_start(alloc, asked, depot),
         Command::Install(asked) => answer_install(alloc, asked, depot),
-        Command::Rehearse(asked) => answer_rehearse(rt, alloc, asked, depot),
+        Command::Rehearse(asked) => answer_rehearse(rt, alloc, gate, asked, depot),
         Command::Sample(asked) => answer_sample(alloc, asked),
     }
 }
 
 /// Runs a command: writes its outputs and its answer.
-fn run_command<R: Threads + Sync, D: Depot, K: Sink>(
+fn run_command<R: Threads + Sync, G: Gate + Sync, D: Depot, K: Sink>(
     rt: &R,
     alloc: Global,
+    gate: &G,
     command: &Command<'_>,
     depot: &mut D,
     out: &mut K,
@@ -68,16 +71,17 @@ fn run_command<R: Threads + Sync, D: Depot, K: Sink>(
     ensures later_writes { D.write_faults depot.old ≤ D.write_faults depot.new }
     ensures later_out { K.faults out.old ≤ K.faults out.new }
 {
-    match answer_for(rt, alloc, command, depot) {
+    match answer_for(rt, alloc, gate, command, depot) {
         Ok(answer) => send(answer, depot, out),
         Err(NoMemory) => Status::NO_MEMORY,
     }
 }
 
 /// Reads the words and runs their command.
-fn run_words<R: Threads + Sync, D: Depot, K: Sink>(
+fn run_words<R: Threads + Sync, G: Gate + Sync, D: Depot, K: Sink>(
     rt: &R,
     alloc: Global,
+    gate: &G,
     words: &[String],
     depot: &mut D,
     out: &mut K,
@@ -92,9 +96,32 @@ fn run_words<R: Threads + Sync, D: Depot, K: Sink>(
     ensures later_out { K.faults out.old ≤ K.faults out.new }
 {
     match read_words(alloc, words) {
-        Ok(command) => run_command(rt, alloc, &command, depot, out),
+        Ok(command) => run_command(rt, alloc, gate, &command, depot, out),
         Err(NoMemory) => Status::NO_MEMORY,
     }
+}
+
+/// What `run` does, with a gate that each worker enters before it builds an issuer's block: so a test can see how the
+/// words reach the builder.
+pub fn run_gated<R: Threads + Sync, D: Depot, K: Sink, G: Gate + Sync>(
+    rt: &R,
+    alloc: Global,
+    words: &[String],
+    depot: &mut D,
+    out: &mut K,
+    gate: &G,
+) -> Status
+    ensures successes { Successes (call D.Depot K.Sink words.now depot.old depot.new out.old out.new result.0) }
+    ensures histories { Histories (call D.Depot K.Sink words.now depot.old depot.new out.old out.new result.0) }
+    ensures refusals { Refusals (call D.Depot K.Sink words.now depot.old depot.new out.old out.new result.0) }
+    ensures outside { Outside (call D.Depot K.Sink words.now depot.old depot.new out.old out.new result.0) }
+    ensures frame { Frame (call D.Depot K.Sink words.now depot.old depot.new out.old out.new result.0) }
+    ensures ending { Ending (call D.Depot K.Sink words.now depot.old depot.new out.old out.new result.0) }
+{
+    // What the promises on histories and on refusals stand on.
+    histories_are_made();
+    replies_are_unique();
+    run_words(rt, alloc, gate, words, depot, out)
 }
 
 /// Runs the words after the program's name over a depot of files: writes the files that they name as outputs, prints
@@ -124,8 +151,5 @@ pub fn run<R: Threads + Sync, D: Depot, K: Sink>(
     // Every way to end, whatever is told: what the others stand on.
     ensures ending { Ending (call D.Depot K.Sink words.now depot.old depot.new out.old out.new result.0) }
 {
-    // What the promises on histories and on refusals stand on.
-    histories_are_made();
-    replies_are_unique();
-    run_words(rt, alloc, words, depot, out)
+    run_gated(rt, alloc, words, depot, out, &Open)
 }

@@ -5,3 +5,5 @@
 mod deltas;
 #[cfg(test)]
 mod publishing;
+#[cfg(test)]
+mod workers;

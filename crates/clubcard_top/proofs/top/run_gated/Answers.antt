@@ -3,7 +3,7 @@ use Rattle.std.specs.Prelude.{string_bytes}
 use Rattle.clubcard_top.proofs.Promised as promised
 use Rattle.clubcard_top.proofs.WordsApart as apart
 use Rattle.clubcard_top.proofs.Succeeded as succeeded
-use Rattle.clubcard_top.proofs.top.run.Goals as goal
+use Rattle.clubcard_top.proofs.top.run_gated.Goals as goal
 
 pub returns-clause-ending : goal.returns-clause-ending
 returns-clause-ending g c = promised.ending _ (promised.parts _ c.run_words.ensures.ends)
