@@ -93,7 +93,16 @@ fn a_damaged_field_before_a_failing_read(rt: HostRuntime) -> Result<(), Fail> {
     put_with_byte(alloc, &mut depot, "S", &[PART_REVOKED], 18, 1)?;
     depot.fail_reads(&[1])?;
     let line = "layout 18 part.parent value S\n";
-    assert!(rt; says(&rt, alloc, &mut depot, &["check", "S"], Status::BAD_LAYOUT, line)?);
+    assert!(rt;
+        says(
+            &rt,
+            alloc,
+            &mut depot,
+            &["check", "S"],
+            Status::BAD_LAYOUT,
+            line
+        )?
+    );
     Ok(())
 }
 
@@ -105,7 +114,16 @@ fn a_read_that_fails(rt: HostRuntime) -> Result<(), Fail> {
         depot.put("S", &bytes_of(alloc, &[PART_REVOKED])?)?;
         depot.fail_reads(&[read])?;
         let line = "read-fault S\n";
-        assert!(rt; says(&rt, alloc, &mut depot, &["check", "S"], Status::READ_FAULT, line)?);
+        assert!(rt;
+            says(
+                &rt,
+                alloc,
+                &mut depot,
+                &["check", "S"],
+                Status::READ_FAULT,
+                line
+            )?
+        );
     }
     Ok(())
 }
