@@ -1,7 +1,7 @@
 #!/usr/bin/env python3
-"""Times `clubcard delta` on jobs that a hostile log or publisher could make, each beside the same job without what could
-make it slow: processor time, the least of so many runs (3). It prints which program it runs, the one that `./clubcard`
-runs. Run it at the top of the repository:
+"""Times `clubcard delta` on jobs that a hostile log or publisher could make, each beside the same job without what
+could make it slow: processor time, the least of so many runs (3). It prints which program it runs, the one that
+`./clubcard` runs. Run it at the top of the repository:
 
     python3 bench/admission.py [RUNS]
 

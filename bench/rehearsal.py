@@ -1,6 +1,6 @@
 #!/usr/bin/env python3
 """Times `clubcard sample` and `clubcard rehearse` beside an optimized Rust program of the same rules
-(bench/rehearsal_reference.rs, built here with rustc): processor time, and the memory that a run takes at most (by
+(bench/publisher_reference.rs, built here with rustc): processor time, and the memory that a run takes at most (by
 /usr/bin/time). It prints which program it runs, the one that `./clubcard` runs. Run it at the top of the repository:
 
     python3 bench/rehearsal.py [RUNS]
@@ -121,8 +121,8 @@ def main():
     runs = int(sys.argv[1]) if len(sys.argv) > 1 else 9
     with tempfile.TemporaryDirectory() as folder:
         at = lambda name: os.path.join(folder, name)
-        reference = at("rehearsal_reference")
-        source = "bench/rehearsal_reference.rs"
+        reference = at("publisher_reference")
+        source = "bench/publisher_reference.rs"
         subprocess.run(["rustc", "--edition", "2021", "-O", source, "-o", reference], check=True)
         print(f"{'run':44} {'clubcard':>11} {'plain Rust':>11}  ratio")
         samples(reference, at, runs)

@@ -1,12 +1,13 @@
 #!/usr/bin/env python3
-"""Times `clubcard snapshot` of a generated job with 1, 2, 4 and 8 workers: by the clock, the processor time and the
-memory that it takes at most (by /usr/bin/time). It prints which program it runs, the one that `./clubcard` runs, or
-where a path is given, that one:
+"""Times `clubcard snapshot` of a generated job with 1, 2, 4 and 8 workers beside an optimized Rust program that writes
+the same bytes (bench/publisher_reference.rs, built here with rustc): by the clock, the processor time and the memory
+that a run takes at most (by /usr/bin/time). It prints which program it runs, the one that `./clubcard` runs, or where a
+path is given, that one. Run it at the top of the repository:
 
     python3 bench/workers.py [RUNS [COUNT [PROGRAM]]]
 
 Each time is the least of so many runs (5), which take turns. The job is `sample 7 COUNT` (1000000). The part, the
-ledger and the line must be the same with any number of workers.
+ledger and the line must be the same with any number of workers, and those of both programs.
 """
 
 import hashlib
@@ -52,30 +53,59 @@ def digest(path):
         return hashlib.file_digest(file, "sha256").hexdigest()
 
 
+class Publisher:
+    """A program that publishes, and the least times of its runs by the number of workers."""
+
+    def __init__(self, program, files):
+        self.command = [program, "snapshot", *files]
+        self.files = files
+        self.clock, self.spent = {}, {}
+
+    def run(self, workers):
+        """Publishes, and gives what was said and written."""
+        took, used, line = timed(self.command + [str(workers)])
+        self.clock[workers] = min(took, self.clock.get(workers, took))
+        self.spent[workers] = min(used, self.spent.get(workers, used))
+        return line, digest(self.files[1]), digest(self.files[2])
+
+
+def compare(ours, theirs, runs):
+    """Both programs in turn with each number of workers; the line of all of them."""
+    said = set()
+    for _ in range(runs):
+        for workers in WORKERS:
+            for publisher in (ours, theirs):
+                said.add(publisher.run(workers))
+                if len(said) > 1:
+                    sys.exit(f"another answer with {workers} workers: {said}")
+    return said.pop()[0]
+
+
+def told(what, publisher, workers):
+    clock, spent = publisher.clock[workers], publisher.spent[workers]
+    kib = memory(publisher.command + [str(workers)])
+    return f"{what} {clock:6.3f} s ({publisher.clock[1] / clock:.2f} times as fast as one), {spent:6.3f} s, {kib} KiB"
+
+
 def main():
     runs = int(sys.argv[1]) if len(sys.argv) > 1 else 5
     count = int(sys.argv[2]) if len(sys.argv) > 2 else 1000000
     program = sys.argv[3] if len(sys.argv) > 3 else path_of_program()
     print(f"program {program}, {os.cpu_count()} processors, load {os.getloadavg()[0]:.1f}", flush=True)
     with tempfile.TemporaryDirectory() as folder:
-        job, part, ledger = (os.path.join(folder, name) for name in ("job", "part", "ledger"))
-        timed([program, "sample", "7", str(count), job])
-        command = [program, "snapshot", job, part, ledger]
-        clock, spent, said = {}, {}, set()
-        for _ in range(runs):
-            for workers in WORKERS:
-                took, used, line = timed(command + [str(workers)])
-                clock[workers] = min(took, clock.get(workers, took))
-                spent[workers] = min(used, spent.get(workers, used))
-                said.add((line, digest(part), digest(ledger)))
-                if len(said) > 1:
-                    sys.exit(f"another answer with {workers} workers: {said}")
+        reference = os.path.join(folder, "publisher_reference")
+        source = "bench/publisher_reference.rs"
+        subprocess.run(["rustc", "--edition", "2021", "-O", source, "-o", reference], check=True)
+        files = [os.path.join(folder, name) for name in ("job", "part", "ledger")]
+        timed([program, "sample", "7", str(count), files[0]])
+        ours, theirs = Publisher(program, files), Publisher(reference, files)
+        line = compare(ours, theirs, runs)
+        print("workers: by the clock, of processors, most memory")
         for workers in WORKERS:
-            kib = memory(command + [str(workers)])
-            ratio = clock[1] / clock[workers]
-            print(f"{workers} workers: {clock[workers]:.3f} s by the clock, {ratio:.2f} times as fast as one; "
-                  f"{spent[workers]:.3f} s of processors, {kib} KiB")
-        print(said.pop()[0])
+            clock, spent = ours.clock[workers] / theirs.clock[workers], ours.spent[workers] / theirs.spent[workers]
+            print(f"{workers}: {told('clubcard', ours, workers)}; {told('plain Rust', theirs, workers)};"
+                  f" {clock:.2f} by the clock, {spent:.2f} of processors", flush=True)
+        print(line)
 
 
 if __name__ == "__main__":

@@ -1,23 +1,27 @@
-//! The jobs of the generator in plain Rust with no proofs, to be timed beside `clubcard sample` and `clubcard rehearse`
-//! (docs/FORMATS.md has the rules and the layouts; they print the same):
+//! A publisher in plain Rust with no proofs, to be timed beside `clubcard sample`, `clubcard snapshot` and `clubcard
+//! rehearse` (docs/FORMATS.md has the rules and the layouts; they print and write the same):
 //!
-//!     rehearsal_reference sample NUMBER COUNT JOB
-//!     rehearsal_reference rehearse QUERIES JOB
+//!     publisher_reference sample NUMBER COUNT JOB
+//!     publisher_reference snapshot JOB PART LEDGER WORKERS
+//!     publisher_reference rehearse QUERIES JOB
 //!
 //! It reads what the generator's jobs have: a rehearsal is of one job, an x509 entry counts as unread, and a CRL with
-//! extensions as malformed. It uses one thread, and hashes message after message by the steps of the standard, with no
-//! instructions that only some processors have.
+//! extensions as malformed. It hashes message after message by the steps of the standard, with no instructions that
+//! only some processors have. With WORKERS the issuers' filters are built in as many threads of the standard library,
+//! each of which takes neighbouring issuers; all else is done by one.
 
 use std::collections::BTreeMap;
 use std::fs::{self, File};
 use std::io::{self, BufWriter, Write};
 use std::process::exit;
+use std::thread;
 
 fn main() {
     let words: Vec<String> = std::env::args().skip(1).collect();
     let words: Vec<&str> = words.iter().map(String::as_str).collect();
     let done = match words[..] {
         ["sample", number, count, job] => sample(number, count, job),
+        ["snapshot", job, part, ledger, workers] => snapshot(job, part, ledger, workers),
         ["rehearse", queries, job] => rehearse(queries, job),
         _ => Err(Refusal::usage()),
     };
@@ -182,6 +186,29 @@ impl Message {
         }
         digest
     }
+}
+
+/// The SHA-256 of a long message.
+fn sha256(bytes: &[u8]) -> Key {
+    let mut state = INITIAL_HASH;
+    let mut blocks = bytes.chunks_exact(64);
+    for block in &mut blocks {
+        compress(&mut state, block.try_into().unwrap());
+    }
+    let rest = blocks.remainder();
+    let mut last = [0; 128];
+    last[..rest.len()].copy_from_slice(rest);
+    last[rest.len()] = 0x80;
+    let end = if rest.len() < 56 { 64 } else { 128 };
+    last[end - 8..end].copy_from_slice(&(8 * bytes.len() as u64).to_be_bytes());
+    for block in last[..end].chunks_exact(64) {
+        compress(&mut state, block.try_into().unwrap());
+    }
+    let mut digest = [0; 32];
+    for (bytes, word) in digest.chunks_exact_mut(4).zip(state) {
+        bytes.copy_from_slice(&word.to_be_bytes());
+    }
+    digest
 }
 
 // ---- The generator
@@ -1014,6 +1041,62 @@ fn parted(mut members: Vec<Serial>, listed: &[Serial]) -> (Vec<Serial>, Vec<Seri
     })
 }
 
+/// An issuer's filter, and its members.
+struct Built {
+    issuer: Key,
+    filter: Filter,
+    listed: Vec<Serial>,
+    others: Vec<Serial>,
+}
+
+fn built(group: Group) -> Result<Built, Refusal> {
+    let (listed, others) = parted(group.members, &group.listed);
+    let filter = Filter::new(&group.issuer, &listed, &others)?;
+    Ok(Built {
+        issuer: group.issuer,
+        filter,
+        listed,
+        others,
+    })
+}
+
+/// The filters of all groups, in order, built by so many threads.
+fn build_all(groups: Vec<Group>, workers: usize) -> Result<Vec<Built>, Refusal> {
+    if workers < 2 {
+        return groups.into_iter().map(built).collect();
+    }
+    let share = groups.len().div_ceil(workers).max(1);
+    let mut groups = groups.into_iter();
+    thread::scope(|scope| {
+        let mut handles = Vec::new();
+        loop {
+            let groups: Vec<Group> = groups.by_ref().take(share).collect();
+            if groups.is_empty() {
+                break;
+            }
+            let build = move || groups.into_iter().map(built).collect::<Vec<_>>();
+            handles.push(scope.spawn(build));
+        }
+        let all = handles.into_iter().flat_map(|handle| handle.join().unwrap());
+        all.collect()
+    })
+}
+
+fn report_of(epoch: u64, counts: &Counts, built: &[Built]) -> String {
+    let revoked: usize = built.iter().map(|group| group.listed.len()).sum();
+    let others: usize = built.iter().map(|group| group.others.len()).sum();
+    format!(
+        "epoch {epoch} part 0 issuers {} universe {} revoked {revoked} unread {} uncovered {} unenrolled {} late 0 \
+         accepted {}",
+        built.len(),
+        revoked + others,
+        counts.unread,
+        counts.uncovered,
+        counts.unenrolled,
+        counts.accepted,
+    )
+}
+
 /// What a client holds of a job.
 struct Part {
     ranges: Vec<Range>,
@@ -1023,26 +1106,11 @@ struct Part {
 impl Part {
     /// The part of a job, and the line of its report.
     fn publish(job: Job) -> Result<(Part, String), Refusal> {
-        let mut blocks = Vec::with_capacity(job.groups.len());
-        let (mut revoked, mut universe) = (0, 0);
-        for group in job.groups {
-            let (listed, others) = parted(group.members, &group.listed);
-            revoked += listed.len();
-            universe += listed.len() + others.len();
-            let filter = Filter::new(&group.issuer, &listed, &others)?;
-            blocks.push((group.issuer, filter));
-        }
-        let report = format!(
-            "epoch {} part 0 issuers {} universe {universe} revoked {revoked} unread {} uncovered {} unenrolled {} \
-             late 0 accepted {}",
-            job.epoch,
-            blocks.len(),
-            job.counts.unread,
-            job.counts.uncovered,
-            job.counts.unenrolled,
-            job.counts.accepted,
-        );
+        let built = build_all(job.groups, 1)?;
+        let report = report_of(job.epoch, &job.counts, &built);
+        let blocks = built.into_iter().map(|group| (group.issuer, group.filter));
         let ranges = job.ranges;
+        let blocks = blocks.collect();
         Ok((Part { ranges, blocks }, report))
     }
 
@@ -1063,6 +1131,116 @@ impl Part {
             Ok(_) => "good",
         }
     }
+}
+
+// ---- Snapshots
+
+fn put_ranges(text: &mut Vec<u8>, ranges: &[Range]) {
+    text.extend((ranges.len() as u16).to_be_bytes());
+    for range in ranges {
+        text.extend(range.log);
+        text.extend(range.from.to_be_bytes());
+        text.extend(range.to.to_be_bytes());
+    }
+}
+
+fn put_stage(text: &mut Vec<u8>, stage: &Stage) {
+    text.push(stage.rows.front[7]);
+    text.extend((stage.rows.starts as u32).to_be_bytes());
+    for word in &stage.planes.words {
+        text.extend(word.to_be_bytes());
+    }
+}
+
+fn put_block(text: &mut Vec<u8>, group: &Built) {
+    text.extend(group.issuer);
+    match &group.filter {
+        Filter::Clean => text.push(0),
+        Filter::Every => text.push(1),
+        Filter::Mixed { approx, exact } => {
+            text.push(2);
+            match approx {
+                None => text.push(0),
+                Some(stage) => {
+                    text.push((stage.planes.words.len() / stage.planes.width) as u8);
+                    put_stage(text, stage);
+                }
+            }
+            put_stage(text, exact);
+        }
+    }
+}
+
+fn seal(text: &mut Vec<u8>) -> Key {
+    let digest = sha256(text);
+    text.extend(digest);
+    digest
+}
+
+fn part_text(epoch: u64, ranges: &[Range], built: &[Built]) -> (Vec<u8>, Key) {
+    let mut text = b"CLUBCARD\x01\x00".to_vec();
+    text.extend(epoch.to_be_bytes());
+    text.extend([0; 32]);
+    put_ranges(&mut text, ranges);
+    text.extend((built.len() as u32).to_be_bytes());
+    for group in built {
+        put_block(&mut text, group);
+    }
+    let trailer = seal(&mut text);
+    (text, trailer)
+}
+
+fn put_item(text: &mut Vec<u8>, issuer: &Key, serial: &Serial, last: u8) {
+    text.extend(issuer);
+    text.push(serial.length);
+    text.extend(&serial.padded()[..usize::from(serial.length)]);
+    text.extend([0, last]);
+}
+
+/// The members of an issuer, ascending.
+fn put_items(text: &mut Vec<u8>, group: &Built) {
+    let mut others = group.others.iter().peekable();
+    for listed in &group.listed {
+        while let Some(other) = others.next_if(|other| *other < listed) {
+            put_item(text, &group.issuer, other, 255);
+        }
+        put_item(text, &group.issuer, listed, 0);
+    }
+    for other in others {
+        put_item(text, &group.issuer, other, 255);
+    }
+}
+
+fn ledger_text(epoch: u64, trailer: &Key, ranges: &[Range], built: &[Built]) -> Vec<u8> {
+    let members: usize = built.iter().map(|group| group.listed.len() + group.others.len()).sum();
+    let mut text = Vec::with_capacity(128 + 48 * ranges.len() + 32 * built.len() + 68 * members);
+    text.extend(b"CLUBLEDG\x01\x01");
+    text.extend(epoch.to_be_bytes());
+    text.extend(trailer);
+    put_ranges(&mut text, ranges);
+    text.extend((built.len() as u32).to_be_bytes());
+    for group in built {
+        text.extend(group.issuer);
+    }
+    text.extend((members as u32).to_be_bytes());
+    for group in built {
+        put_items(&mut text, group);
+    }
+    seal(&mut text);
+    text
+}
+
+fn snapshot(job_name: &str, part_name: &str, ledger_name: &str, workers: &str) -> Result<(), Refusal> {
+    let workers = workers.parse().map_err(|_| Refusal::usage())?;
+    let job = read_job(job_name).map_err(|refusal| refusal.about(job_name))?;
+    let built = build_all(job.groups, workers)?;
+    let (part, trailer) = part_text(job.epoch, &job.ranges, &built);
+    let ledger = ledger_text(job.epoch, &trailer, &job.ranges, &built);
+    for (name, text) in [(part_name, part), (ledger_name, ledger)] {
+        fs::write(name, text).map_err(|_| Refusal::unwritten(name))?;
+    }
+    println!("{}", report_of(job.epoch, &job.counts, &built));
+    Ok(())
 }
 
 // ---- Rehearsals
