@@ -229,11 +229,15 @@ fn words_in<L: Ledger>(alloc: Global, stage: &Stage, blank: Blank) -> Result<Vec
     Ok(words)
 }
 
+fn words_of(alloc: Global, stage: &Stage) -> Result<Vec<Option<u64>>, Fail> {
+    words_in::<Brand>(alloc, stage, Blank::new(1))
+}
+
 fn compare_built(rt: &impl Abort, alloc: Global, one: &Stage, other: &Stage) -> Result<(), Fail> {
     assert_eq!(rt; one.seed, other.seed);
     assert_eq!(rt; one.planes.starts(), other.planes.starts());
-    let words = words_in::<Brand>(alloc, one, Blank::new(1))?;
-    assert!(rt; words == words_in::<Brand>(alloc, other, Blank::new(1))?);
+    let words = words_of(alloc, one)?;
+    assert!(rt; words == words_of(alloc, other)?);
     Ok(())
 }
 
