@@ -8,3 +8,4 @@ pub mod Runs
 pub mod Groups
 pub mod Keyed
 pub mod Ranges
+pub mod Heads

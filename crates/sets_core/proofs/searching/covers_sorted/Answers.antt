@@ -5,7 +5,7 @@ use Rattle.std.proofs.lemmas.Map.Lookups.{exact_bytes}
 use Rattle.std.proofs.lemmas.Option.{slice_get_read}
 use Rattle.ident_core.specs.Order.{octets_cmp}
 use Rattle.ident_core.specs.declared.range.Range.{Range}
-use Rattle.sets_core.proofs.Keyed.{found, missed}
+use Rattle.sets_core.proofs.Keyed.{missed}
 use Rattle.sets_core.proofs.Ranges.{log_of, of_log, logs_ascend, none_covers, one_covers}
 use Rattle.sets_core.proofs.searching.covers_sorted.Goals as goal
 

@@ -1,15 +1,14 @@
-use Rattle.std.proofs.Common.{◌∙◌}
-use Rattle.std.proofs.lemmas.Cmp.{nat_list_cmp_total}
-use Rattle.std.proofs.lemmas.Map.Lookups.{exact_bytes}
-use Rattle.ident_core.specs.Order.{octets_cmp}
+use Rattle.std.specs.List.{slice_get}
+use Rattle.std.specs.Prelude.{IfSome, IsNone, is_some}
+use Rattle.std.proofs.Common.{◌≡◌, ◌∙◌, ℕ, List, Option, Some, None, false, refl, sym}
 use Rattle.sets_core.specs.Sets.{has_key}
-use Rattle.sets_core.proofs.Sets.{Among-from_has_key, has_key-from_Among}
-use Rattle.sets_core.proofs.Keys.{searched_is}
+use Rattle.sets_core.proofs.Elements.{Among-from_place}
+use Rattle.sets_core.proofs.Sets.{has_key-from_Among}
 use Rattle.sets_core.proofs.searching.holds_key.Goals as goal
 
+held : (keys : List (List ℕ)) (key : List ℕ) (o : Option ℕ) → IfSome o (λ i. slice_get keys i ≡ Some key) → (IsNone o → has_key keys key ≡ false) → is_some o ≡ has_key keys key
+held keys key (Some i) some none = sym (has_key-from_Among keys key (Among-from_place keys i key some))
+held keys key None some none = sym (none refl)
+
 pub returns : goal.returns
-returns c =
-    c.is_ok.ensures.value
-    ∙ searched_is octets_cmp nat_list_cmp_total exact_bytes c.args.keys.now c.args.key.now c.binary_search.result (has_key c.args.keys.now c.args.key.now)
-    c.requires.sorted c.binary_search.ensures.bound c.binary_search.ensures.position
-    (Among-from_has_key c.args.keys.now c.args.key.now) (has_key-from_Among c.args.keys.now c.args.key.now)
+returns c = c.is_some.ensures ∙ held c.args.keys.now c.args.key.now c.place_of_key.result c.place_of_key.ensures.some c.place_of_key.ensures.none
