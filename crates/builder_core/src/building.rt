@@ -29,13 +29,14 @@ fn build_blocks<R: Threads + Sync, H: EquationHash + Sync, G: Gate + Sync>(
     requires few_workers { workers ≤ MAX_WORKERS }
     ensures { BuildsBlocks (H.row_of hash.now) (map group_fields groups.now) result }
 {
-    let outcomes = outcomes_of(rt, alloc, hash, gate, 0, groups, workers)?;
+    let outcomes = outcomes_of(rt, alloc, hash, gate, groups, workers)?;
     assemble(alloc, outcomes)
 }
 
 /// The part of this head with the block of each group, or the first refusal. The groups are built side by side, by as
 /// many threads as there are workers, or groups where these are fewer. Each thread builds neighbouring groups in order,
-/// and enters the gate before each.
+/// and enters the gate before each. One worker builds all on the caller's thread; where there are several, the rows of a
+/// large group are made by as many threads as there are processors.
 pub fn build_part<R: Threads + Sync, H: EquationHash + Sync, G: Gate + Sync>(
     rt: &R,
     alloc: Global,

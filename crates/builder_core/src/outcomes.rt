@@ -13,14 +13,16 @@ use std::alloc::Global;
 use std::thread::{Threads, join};
 use universe_core::Group;
 
-// From this many identities on the rows of a group are made by several threads.
+// From this many identities on a group's rows are worth several threads.
 const WIDE: usize = 2048;
 
-// The block of the group, or why there is none.
+// The block of the group, or why there is none. Where `wide` allows it the rows of a large group are made by several
+// threads.
 fn block_of<R: Threads + Sync, H: EquationHash + Sync>(
     rt: &R,
     alloc: Global,
     hash: &H,
+    wide: bool,
     group: &Group,
 ) -> Result<Block, BlockFault>
     requires { IsReady group.now }
@@ -31,10 +33,10 @@ fn block_of<R: Threads + Sync, H: EquationHash + Sync>(
         universe,
         revoked,
     } = group;
-    if universe.len() < WIDE {
-        return build_block(alloc, hash, *issuer, universe, revoked);
+    if wide && WIDE <= universe.len() {
+        return build_block_wide(rt, alloc, hash, *issuer, universe, revoked);
     }
-    build_block_wide(rt, alloc, hash, *issuer, universe, revoked)
+    build_block(alloc, hash, *issuer, universe, revoked)
 }
 
 // What comes of the group at this place. The gate is entered before.
@@ -43,6 +45,7 @@ fn outcome_of<R: Threads + Sync, H: EquationHash + Sync, G: Gate + Sync>(
     alloc: Global,
     hash: &H,
     gate: &G,
+    wide: bool,
     place: u32,
     group: &Group,
 ) -> Result<Block, BuildFault>
@@ -50,7 +53,7 @@ fn outcome_of<R: Threads + Sync, H: EquationHash + Sync, G: Gate + Sync>(
     ensures { IsOutcome (H.row_of hash.now) (group_fields group.now) result }
 {
     gate.enter(place);
-    match block_of(rt, alloc, hash, group) {
+    match block_of(rt, alloc, hash, wide, group) {
         Ok(block) => Ok(block),
         Err(fault) => Err(BuildFault::new(group.issuer, fault)),
     }
@@ -63,6 +66,7 @@ fn outcomes_of_share<R: Threads + Sync, H: EquationHash + Sync, G: Gate + Sync>(
     alloc: Global,
     hash: &H,
     gate: &G,
+    wide: bool,
     first: u32,
     groups: &[Group],
 ) -> Result<Vec<Result<Block, BuildFault>>, BuildFault>
@@ -72,7 +76,7 @@ fn outcomes_of_share<R: Threads + Sync, H: EquationHash + Sync, G: Gate + Sync>(
 {
     let mut outcomes = Vec::with_capacity(alloc, groups.len())?;
     for (i, group) in groups.iter().enumerate() {
-        match outcome_of(rt, alloc, hash, gate, first + i as u32, group) {
+        match outcome_of(rt, alloc, hash, gate, wide, first + i as u32, group) {
             Ok(block) => outcomes.push(Ok(block))?,
             Err(fault) => {
                 outcomes.push(Err(fault))?;
@@ -96,10 +100,10 @@ fn joined(
     Ok(all)
 }
 
-/// What comes of each group, in order, the first of which has this place. The groups are cut into as many shares of
-/// neighbours as there are workers, or groups where these are fewer. Each share goes in order, in a thread of its own,
-/// up to the first of its groups that has no block.
-pub(crate) fn outcomes_of<R: Threads + Sync, H: EquationHash + Sync, G: Gate + Sync>(
+// What comes of each group, in order, the first of which has this place. The groups are cut into as many shares of
+// neighbours as there are workers, or groups where these are fewer. Each share goes in order, in a thread of its own,
+// up to the first of its groups that has no block.
+fn outcomes_of_shares<R: Threads + Sync, H: EquationHash + Sync, G: Gate + Sync>(
     rt: &R,
     alloc: Global,
     hash: &H,
@@ -116,7 +120,7 @@ pub(crate) fn outcomes_of<R: Threads + Sync, H: EquationHash + Sync, G: Gate + S
     let count = groups.len() as u32;
     let workers = workers.min(count);
     if workers <= 1 {
-        return outcomes_of_share(rt, alloc, hash, gate, first, groups);
+        return outcomes_of_share(rt, alloc, hash, gate, true, first, groups);
     }
     let half = workers / 2;
     let others = workers - half;
@@ -128,14 +132,36 @@ pub(crate) fn outcomes_of<R: Threads + Sync, H: EquationHash + Sync, G: Gate + S
             requires { IsSync R.row × IsSync H.row × IsSync G.row
                 × All IsReady left.now × (first + length left.now ≤ MAX_ISSUERS) × (half ≤ MAX_WORKERS) }
             ensures { BuildsOutcomes (H.row_of hash.entry.now) (map group_fields left.entry.now) result }
-        { outcomes_of(rt, alloc, hash, gate, first, left, half) },
+        { outcomes_of_shares(rt, alloc, hash, gate, first, left, half) },
         || -> Result<Vec<Result<Block, BuildFault>>, BuildFault>
             requires { IsSync R.row × IsSync H.row × IsSync G.row
                 × All IsReady right.now × (first + at + length right.now ≤ MAX_ISSUERS) × (others ≤ MAX_WORKERS) }
             ensures { BuildsOutcomes (H.row_of hash.entry.now) (map group_fields right.entry.now) result }
-        { outcomes_of(rt, alloc, hash, gate, first + at, right, others) },
+        { outcomes_of_shares(rt, alloc, hash, gate, first + at, right, others) },
     );
     joined(one, other)
+}
+
+/// What comes of each group, in order. One worker builds them all on the caller's thread. Several build shares of them
+/// side by side, and for large groups take as many threads more as there are processors, since the shares needn't be
+/// equally long.
+pub(crate) fn outcomes_of<R: Threads + Sync, H: EquationHash + Sync, G: Gate + Sync>(
+    rt: &R,
+    alloc: Global,
+    hash: &H,
+    gate: &G,
+    groups: &[Group],
+    workers: u32,
+) -> Result<Vec<Result<Block, BuildFault>>, BuildFault>
+    requires ready { All IsReady groups.now }
+    requires few { length groups.now ≤ MAX_ISSUERS }
+    requires few_workers { workers ≤ MAX_WORKERS }
+    ensures { BuildsOutcomes (H.row_of hash.now) (map group_fields groups.now) result }
+{
+    if workers <= 1 {
+        return outcomes_of_share(rt, alloc, hash, gate, false, 0, groups);
+    }
+    outcomes_of_shares(rt, alloc, hash, gate, 0, groups, workers)
 }
 
 /// The blocks of the outcomes, or the first fault.

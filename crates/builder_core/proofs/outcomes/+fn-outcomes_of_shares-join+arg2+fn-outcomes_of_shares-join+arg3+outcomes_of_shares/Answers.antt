@@ -2,7 +2,7 @@ use Rattle.std.proofs.Common.{◌≡◌, ◌++◌, ◌∙◌, map, sym, ap}
 use Rattle.std.proofs.lemmas.List.{take-append-drop, map-append}
 use Rattle.universe_core.specs.Groups.{group_fields}
 use Rattle.builder_core.proofs.OutcomesInOrder.{halves_joined}
-use Rattle.builder_core.proofs.outcomes.+fn-outcomes_of-join+arg2+fn-outcomes_of-join+arg3+outcomes_of.Goals as goal
+use Rattle.builder_core.proofs.outcomes.+fn-outcomes_of_shares-join+arg2+fn-outcomes_of_shares-join+arg3+outcomes_of_shares.Goals as goal
 
 pub returns : goal.returns
 returns g t c =
