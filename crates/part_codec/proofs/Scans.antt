@@ -1,5 +1,6 @@
 -- What a scan answers.
-use Rattle.std.proofs.Common.{◌≡◌, ℕ, ◌+◌, ◌≤◌, ◌<◌, List, [], ◌++◌, length, take, drop, Option, Some, None, Result, Ok, Err, refl, sym, ap, subst, ◌∙◌, append_assoc, length-append, arith, inl, inr}
+use Rattle.std.proofs.Common.{◌≡◌, ℕ, ◌+◌, ◌-◌, ◌^◌, ◌≤◌, ◌<◌, List, [], ◌++◌, length, take, drop, Option, Some, None, Result, Ok, Err, refl, sym, ap, subst, ◌∙◌, append_assoc, length-append, arith, inl, inr}
+use Rattle.std.specs.Prelude.{◌⊎◌}
 use Rattle.std.proofs.lemmas.Bool.{cases_lt}
 use Rattle.std.proofs.lemmas.List.{append-nil, length-take, take_all, take-append-drop}
 use Rattle.sha2.specs.declared.Sha256.{Sha256}
@@ -9,15 +10,17 @@ use Rattle.octets_core.specs.declared.fault.Why.TheVariants as why
 use Rattle.octets_core.proofs.Fields.{ok_is}
 use Rattle.part_codec.specs.SealedFields.{SealedFields}
 use Rattle.part_codec.specs.PartLayout.{sealed}
+use Rattle.part_codec.specs.declared.fields.Kept.{Kept}
 use Rattle.part_codec.specs.declared.fields.Open.{Open}
 use Rattle.part_codec.specs.declared.fields.Open.TheVariants as opens
 use Rattle.part_codec.specs.declared.machine.Machine.{Machine}
 use Rattle.part_codec.specs.declared.scan.PartNote.{PartNote}
 use Rattle.part_codec.specs.Remaining.{Seen, sealed_of, rest}
-use Rattle.part_codec.specs.Stepping.{IsOpen, tail_of, name_of}
+use Rattle.part_codec.specs.Stepping.{AreStarts, IsOpen, skips, tail_of, name_of}
 use Rattle.part_codec.specs.Noting.{note_of, noted, note_by}
 use Rattle.part_codec.specs.Scanning.{Stands, Scans}
-use Rattle.part_codec.specs.Standing.{StandsBy, EndsAt}
+use Rattle.part_codec.specs.Taking.{IsPartial}
+use Rattle.part_codec.specs.Standing.{StandsBy, EndsAt, HasFault}
 use Rattle.part_codec.proofs.FieldSteps.{none-left}
 use Rattle.part_codec.proofs.MachineStands.{at-end, field-done, field-short}
 
@@ -91,3 +94,24 @@ noted-done m b t done =
 pub noted-short : (m : Machine) (b : List ℕ) (e : LayoutFault) → Behind m b → (m.field ≡ opens.Done → ⊥) → ((m.field ≡ opens.Done → ⊥) → m.filled < tail_of m.field)
     → e ≡ fault_at why.Short (name_of m.field) m.at → noted (sealed b 0) ≡ Err e
 noted-short m b e t goes partial is = ap noted (field-short m t.0 b t.1 (partial goes)) ∙ ap (λ (f : LayoutFault). Err f) (sym is)
+
+-- ---- how many bytes it stands for
+
+-- a part is all of them
+pub ends-by : (f : Option LayoutFault) (m : Machine) (h : Sha256) (b : List ℕ) (s : SealedFields) (end : ℕ) → (f ≡ None → IsPartial m) → StandsBy f m h b → sealed b 0 ≡ Ok (s, end) → end ≡ length b
+ends-by None m h b s end partial st read = sym (whole-ends m b s end (behind-of m h b st) (partial refl) read)
+ends-by (Some e) m h b s end partial st read = absurd (not-both b s end e read (ap (λ (l : List ℕ). sealed l 0) (sym (append-nil b)) ∙ st []))
+
+-- a plane is the widest field
+width-bound : (o : Open) (k : Kept) → AreStarts k.starts → skips o k + tail_of o ≤ 1000000
+width-bound opens.ApproxPlane k starts = omega (arith, starts.1)
+width-bound opens.ExactPlane k starts = omega (arith, starts.1)
+width-bound o k starts = omega arith
+
+few-of : (m : Machine) (s : Seen) (b : List ℕ) → Stands m s b → length b < 2 ^ 64 - 1
+few-of m s b st = omega (arith, st.place, m.few, m.before, m.room, width-bound m.field m.kept m.starts)
+
+-- fewer than can be numbered, or they have a fault
+pub few-by : (f : Option LayoutFault) (m : Machine) (h : Sha256) (b : List ℕ) → StandsBy f m h b → length b < 2 ^ 64 - 1 ⊎ HasFault b
+few-by None m h b st = inl (few-of m st.seen b st.stands)
+few-by (Some e) m h b st = inr (e, st)

@@ -19,3 +19,7 @@ StandsFor scan b = StandsBy scan.fault scan.machine scan.hasher b
 -- these bytes are a part, whatever follows
 abbrev pub EndsAt : List ℕ → Type 0
 EndsAt b = (x : List ℕ) → (s : SealedFields) × (sealed (b ++ x) 0 ≡ Ok (s, length b))
+
+-- these bytes have this fault, whatever follows
+abbrev pub HasFault : List ℕ → Type 0
+HasFault b = (e : LayoutFault) × ((x : List ℕ) → sealed (b ++ x) 0 ≡ Err e)

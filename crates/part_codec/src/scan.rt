@@ -1,6 +1,6 @@
 //! Parts that are scanned in pieces, with no memory.
 
-ghost use Rattle.std.specs.Prelude.{◌≡◌, ◌≢◌, ◌++◌, ◌+◌, ◌≤◌, ◌<◌, ℕ, List, [], length, take, false, Option, Some, None, Ok, Err, IfOk, OnOk, IfErr};
+ghost use Rattle.std.specs.Prelude.{◌≡◌, ◌≢◌, ◌++◌, ◌+◌, ◌-◌, ◌^◌, ◌≤◌, ◌<◌, ◌⊎◌, ℕ, List, [], length, take, false, Option, Some, None, Ok, Err, IfOk, OnOk, IfErr};
 ghost use Rattle.octets_core.specs.Reading.{fault_at};
 ghost use Rattle.octets_core.specs.declared.fault.LayoutFault.{LayoutFault};
 ghost use Rattle.octets_core.specs.declared.fault.Why.TheVariants as why;
@@ -85,7 +85,7 @@ fn scan_on(machine: &mut Machine, hasher: &mut Sha256, piece: &[u8]) -> Result<u
 }
 
 impl PartScan {
-    ghost use Rattle.part_codec.specs.Standing.{StandsFor, EndsAt};
+    ghost use Rattle.part_codec.specs.Standing.{StandsFor, EndsAt, HasFault};
 
     /// Before the first byte.
     pub fn new() -> PartScan
@@ -134,6 +134,10 @@ impl PartScan {
         ensures again { (e : LayoutFault) → self.fault ≡ Some e → result ≡ Err e }
         // Before its end the open field is short.
         ensures short { IfErr result (λ e. self.fault ≡ None → e ≡ fault_at why.Short (name_of self.machine.field) self.machine.at) }
+        // A part is all of the bytes.
+        ensures ends { (b : List ℕ) (s : SealedFields) (end : ℕ) → StandsFor self b → sealed b 0 ≡ Ok (s, end) → end ≡ length b }
+        // Bytes without a fault are fewer than can be numbered.
+        ensures few { (b : List ℕ) → StandsFor self b → length b < 2 ^ 64 - 1 ⊎ HasFault b }
     {
         if let Some(fault) = self.fault {
             return Err(fault);

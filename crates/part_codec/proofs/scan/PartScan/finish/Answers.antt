@@ -1,6 +1,6 @@
 use Rattle.std.proofs.Common.{Ok, sym, ap, ◌∙◌}
 use Rattle.part_codec.specs.declared.scan.PartNote.{PartNote}
-use Rattle.part_codec.proofs.Scans.{by-none, behind-of, faulty, noted-short, noted-done}
+use Rattle.part_codec.proofs.Scans.{by-none, behind-of, faulty, noted-short, noted-done, ends-by, few-by}
 use Rattle.part_codec.proofs.scan.PartScan.finish.Goals as goal
 
 pub returns-in-Some-clause-exact : goal.returns-in-Some-clause-exact
@@ -17,3 +17,21 @@ returns-clause-exact c = λ b st.
     let s = c.args.self in
     noted-done s.machine b (behind-of s.machine s.hasher b (by-none s.fault s.machine s.hasher b c.in_default.is st)) (c.is_done.ensures.0 c.if-not-is_done.false)
     ∙ ap (λ (n : PartNote). Ok n) (sym c.note.ensures)
+
+pub returns-in-Some-clause-ends : goal.returns-in-Some-clause-ends
+returns-in-Some-clause-ends c = λ b s end st read. let l = c.args.self in ends-by l.fault l.machine l.hasher b s end l.partial st read
+
+pub returns-in-Some-clause-few : goal.returns-in-Some-clause-few
+returns-in-Some-clause-few c = λ b st. let l = c.args.self in few-by l.fault l.machine l.hasher b st
+
+pub returns-then-not-is_done-clause-ends : goal.returns-then-not-is_done-clause-ends
+returns-then-not-is_done-clause-ends c = λ b s end st read. let l = c.args.self in ends-by l.fault l.machine l.hasher b s end l.partial st read
+
+pub returns-then-not-is_done-clause-few : goal.returns-then-not-is_done-clause-few
+returns-then-not-is_done-clause-few c = λ b st. let l = c.args.self in few-by l.fault l.machine l.hasher b st
+
+pub returns-clause-ends : goal.returns-clause-ends
+returns-clause-ends c = λ b s end st read. let l = c.args.self in ends-by l.fault l.machine l.hasher b s end l.partial st read
+
+pub returns-clause-few : goal.returns-clause-few
+returns-clause-few c = λ b st. let l = c.args.self in few-by l.fault l.machine l.hasher b st
