@@ -78,6 +78,7 @@ pub(crate) struct Kept {
     pub(crate) trailer: Key32,
 }
 
+#[inline(always)]
 pub(crate) fn is_front(field: Open) -> bool
     ensures { result ≡ in_front field }
 {
@@ -96,6 +97,7 @@ pub(crate) fn is_done(field: Open) -> bool
     }
 }
 
+#[inline(always)]
 pub(crate) fn is_block(field: Open) -> bool
     ensures { IsTrue result ↔ field ≡ Open.BlockIssuer }
 {
@@ -167,6 +169,7 @@ fn is_parent_of(kind: u8, key: Key32) -> bool
     kind == 1 || key == Key32::new([0; 32])
 }
 
+#[inline(always)]
 fn number8(bytes: &[u8]) -> u8
     requires { length bytes.now ≡ 1 }
     ensures { result ≡ from_be_bytes w8 bytes.now }
@@ -181,6 +184,7 @@ fn number16(bytes: &[u8]) -> u16
     u16::from_be_bytes([bytes[0], bytes[1]])
 }
 
+#[inline(always)]
 fn number32(b: &[u8]) -> u32
     requires { length b.now ≡ 4 }
     ensures { result ≡ from_be_bytes w32 b.now }
@@ -188,6 +192,7 @@ fn number32(b: &[u8]) -> u32
     u32::from_be_bytes([b[0], b[1], b[2], b[3]])
 }
 
+#[inline(always)]
 fn number64(b: &[u8]) -> u64
     requires { length b.now ≡ 8 }
     ensures { result ≡ from_be_bytes w64 b.now }
@@ -215,6 +220,7 @@ pub(crate) fn is_digest(hasher: &Sha256, bytes: &[u8]) -> bool
 }
 
 /// Whether the bits of a plane's last word behind its last column are zero.
+#[inline(always)]
 fn is_last_padded(starts: u32, last: &[u8]) -> bool
     requires starts { AreStarts starts }
     requires len { length last.now ≡ 8 }
@@ -225,6 +231,7 @@ fn is_last_padded(starts: u32, last: &[u8]) -> bool
     u128::from(word) >> columns == 0
 }
 
+#[inline(always)]
 fn are_starts(starts: u32) -> bool
     ensures { result ≡ true ↔ AreStarts starts }
 {
@@ -382,6 +389,7 @@ fn at_mode(kept: &Kept) -> Open
     }
 }
 
+#[inline(always)]
 fn at_approx(planes: u8) -> Open
     ensures { result ≡ open_approx planes }
 {
@@ -391,6 +399,7 @@ fn at_approx(planes: u8) -> Open
     }
 }
 
+#[inline(always)]
 fn at_plane(planes: u8) -> Open
     ensures { result ≡ open_plane planes }
 {

@@ -215,6 +215,20 @@ impl Machine {
         Ok((n + want, true))
     }
 
+    /// The same, with a copy for each of the two fields.
+    #[inline(always)]
+    fn known_plane(&mut self, piece: &[u8]) -> Result<(usize, bool), LayoutFault>
+        requires front { IsFront self.old }
+        requires some { self.old.passed < skips_of self.old.field self.old.kept }
+        ensures ok { IfOk result (Advances self.old self.new piece.now) }
+        ensures err { IfErr result (Fails self.old piece.now) }
+    {
+        match self.field {
+            Open::ApproxPlane => self.plane(piece),
+            _ => self.plane(piece),
+        }
+    }
+
     /// Takes bytes up to the end of the open field. Answers how many, and whether it became whole.
     #[inline(always)]
     fn step(&mut self, piece: &[u8]) -> Result<(usize, bool), LayoutFault>
@@ -223,7 +237,7 @@ impl Machine {
         ensures err { IfErr result (Fails self.old piece.now) }
     {
         if self.passed < skips(self.field, &self.kept) {
-            return self.plane(piece);
+            return self.known_plane(piece);
         }
         let want = tail(self.field) - self.filled;
         if piece.len() < want {
@@ -236,6 +250,7 @@ impl Machine {
 
     /// The same. The fields of a block that says none or all are most of a long part, so each of them has a copy of the
     /// step in which the field is known.
+    #[inline(always)]
     pub(crate) fn advance(&mut self, piece: &[u8]) -> Result<(usize, bool), LayoutFault>
         requires { IsFront self.old }
         ensures ok { IfOk result (Advances self.old self.new piece.now) }
