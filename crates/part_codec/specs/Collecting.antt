@@ -22,8 +22,12 @@ abbrev pub nothing_piled : PileFields
 nothing_piled = record { ranges = []; blocks = []; approx = None; words = []; done = 0; plane = [] }
 
 -- the words of the open plane behind those before it
+abbrev pub spelled_plane : PileFields → PileFields
+spelled_plane p = record p { words = p.words ++ map (from_be_bytes w64) (first_chunks 8 (length p.plane / 8) p.plane); plane = [] }
+
+-- which is one more
 abbrev pub with_words : PileFields → PileFields
-with_words p = record p { words = p.words ++ map (from_be_bytes w64) (first_chunks 8 (length p.plane / 8) p.plane); done = p.done + 1; plane = [] }
+with_words p = record (spelled_plane p) { done = p.done + 1 }
 
 abbrev pub cleared : PileFields → PileFields
 cleared p = record p { words = []; done = 0; plane = [] }

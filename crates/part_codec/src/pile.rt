@@ -3,7 +3,7 @@
 ghost use Rattle.std.specs.Prelude.{◌≡◌, ◌<◌, ◌+◌, ◌++◌, ◌/◌, [], length, map, IfOk, OnOk, true};
 ghost use Rattle.std.specs.Int.{w64, from_be_bytes};
 ghost use Rattle.std.specs.Simd.{first_chunks};
-ghost use Rattle.part_codec.specs.Collecting.{nothing_piled, with_words, with_leaf, stage_by, cleared, pile_mode, pile_plane, pile_exact};
+ghost use Rattle.part_codec.specs.Collecting.{nothing_piled, spelled_plane, with_words, with_leaf, stage_by, cleared, pile_mode, pile_plane, pile_exact};
 ghost use Rattle.part_codec.specs.Collecting.{pile_after, pile_when, pile_passed, CanCollect};
 ghost use Rattle.part_codec.specs.ReadWords.{AreStageWords};
 
@@ -69,7 +69,7 @@ impl Pile {
     }
 
     /// Collects the bytes of a plane.
-    pub(crate) fn pass(&mut self, field: Open, piece: &[u8]) -> Result<(), NoMemory>
+    fn pass(&mut self, field: Open, piece: &[u8]) -> Result<(), NoMemory>
         ensures { OnOk result (self.new ≡ pile_passed field self.old piece.now) }
     {
         match field {
@@ -81,13 +81,26 @@ impl Pile {
         }
     }
 
-    fn close_plane(&mut self) -> Result<(), NoMemory>
-        requires { self.old.done < 255 }
-        ensures { OnOk result (self.new ≡ with_words self.old) }
+    /// Collects the words of the open plane, which ends with these bytes. Where they are all of it they aren't collected
+    /// before.
+    fn push_plane(&mut self, last: &[u8]) -> Result<(), NoMemory>
+        ensures { OnOk result (self.new ≡ spelled_plane (record self.old { plane = self.old.plane ++ last.now })) }
     {
+        if self.plane.is_empty() {
+            return push_words(&mut self.words, last);
+        }
+        self.plane.extend_from_slice(last)?;
         push_words(&mut self.words, &self.plane)?;
-        self.done += 1;
         self.plane.clear();
+        Ok(())
+    }
+
+    fn close_plane(&mut self, last: &[u8]) -> Result<(), NoMemory>
+        requires { self.old.done < 255 }
+        ensures { OnOk result (self.new ≡ with_words (record self.old { plane = self.old.plane ++ last.now })) }
+    {
+        self.push_plane(last)?;
+        self.done += 1;
         Ok(())
     }
 
@@ -112,23 +125,23 @@ impl Pile {
         Ok(())
     }
 
-    fn approx_plane(&mut self, alloc: Global, kept: &Kept) -> Result<(), NoMemory>
-        requires { AreStageWords kept.now.starts (self.old.done + 1) (with_words self.old).words }
-        ensures { OnOk result (self.new ≡ pile_plane kept.now.planes kept.now (with_words self.old)) }
+    fn approx_plane(&mut self, alloc: Global, kept: &Kept, last: &[u8]) -> Result<(), NoMemory>
+        requires { AreStageWords kept.now.starts (self.old.done + 1) (with_words (record self.old { plane = self.old.plane ++ last.now })).words }
+        ensures { OnOk result (self.new ≡ pile_plane kept.now.planes kept.now (with_words (record self.old { plane = self.old.plane ++ last.now }))) }
     {
-        self.close_plane()?;
+        self.close_plane(last)?;
         if kept.planes == 0 {
             self.approx = Some(self.stage(alloc, kept)?);
         }
         Ok(())
     }
 
-    fn exact_plane(&mut self, alloc: Global, kept: &Kept) -> Result<(), NoMemory>
-        requires planes { AreStageWords kept.now.starts (self.old.done + 1) (with_words self.old).words }
+    fn exact_plane(&mut self, alloc: Global, kept: &Kept, last: &[u8]) -> Result<(), NoMemory>
+        requires planes { AreStageWords kept.now.starts (self.old.done + 1) (with_words (record self.old { plane = self.old.plane ++ last.now })).words }
         requires one { self.old.done ≡ 0 }
-        ensures { OnOk result (self.new ≡ pile_exact kept.now self.old) }
+        ensures { OnOk result (self.new ≡ pile_exact kept.now (record self.old { plane = self.old.plane ++ last.now })) }
     {
-        self.close_plane()?;
+        self.close_plane(last)?;
         let exact = self.stage(alloc, kept)?;
         let approx = self.approx.take();
         self.push_leaf(kept, Leaf::Mixed(Mixed::new(approx, exact)))
@@ -172,16 +185,17 @@ impl Pile {
         self.plane.clear();
     }
 
-    /// Collects what a field made whole, behind which so many bytes are at hand.
+    /// Collects what a field made whole, of which these are the last bytes. So many are at hand behind them.
     fn collect(
         &mut self,
         alloc: Global,
         field: Open,
         kept: &Kept,
+        piece: &[u8],
         bytes: usize,
     ) -> Result<(), NoMemory>
-        requires { CanCollect field kept.now self.old }
-        ensures { OnOk result (self.new ≡ pile_after field kept.now self.old) }
+        requires { CanCollect field kept.now (pile_passed field self.old piece.now) }
+        ensures { OnOk result (self.new ≡ pile_after field kept.now (pile_passed field self.old piece.now)) }
     {
         match field {
             Open::Ranges => self.clear_ranges(kept.ranges, bytes)?,
@@ -194,28 +208,29 @@ impl Pile {
             Open::BlockMode => self.plain(kept)?,
             Open::BlockK => self.approx = None,
             Open::ApproxStarts | Open::ExactStarts => self.clear_stage(),
-            Open::ApproxPlane => self.approx_plane(alloc, kept)?,
-            Open::ExactPlane => self.exact_plane(alloc, kept)?,
+            Open::ApproxPlane => self.approx_plane(alloc, kept, piece)?,
+            Open::ExactPlane => self.exact_plane(alloc, kept, piece)?,
             _ => {}
         }
         Ok(())
     }
 
-    /// Collects what the field made whole, if it did.
-    pub(crate) fn settle(
+    /// Collects bytes of a field, and what it tells if it is whole with them. So many are at hand behind them.
+    pub(crate) fn put(
         &mut self,
         alloc: Global,
-        whole: bool,
         field: Open,
         kept: &Kept,
+        piece: &[u8],
+        whole: bool,
         bytes: usize,
     ) -> Result<(), NoMemory>
-        requires { whole ≡ true → CanCollect field kept.now self.old }
-        ensures { OnOk result (self.new ≡ pile_when whole field kept.now self.old) }
+        requires { whole ≡ true → CanCollect field kept.now (pile_passed field self.old piece.now) }
+        ensures { OnOk result (self.new ≡ pile_when whole field kept.now (pile_passed field self.old piece.now)) }
     {
         match whole {
-            true => self.collect(alloc, field, kept, bytes),
-            false => Ok(()),
+            true => self.collect(alloc, field, kept, piece, bytes),
+            false => self.pass(field, piece),
         }
     }
 

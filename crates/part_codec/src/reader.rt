@@ -36,8 +36,14 @@ fn step(
 {
     let field = machine.field;
     let (n, whole) = machine.advance(piece)?;
-    pile.pass(field, &piece[..n])?;
-    pile.settle(alloc, whole, field, &machine.kept, piece.len() - n)?;
+    pile.put(
+        alloc,
+        field,
+        &machine.kept,
+        &piece[..n],
+        whole,
+        piece.len() - n,
+    )?;
     Ok(n)
 }
 
