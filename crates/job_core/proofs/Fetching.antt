@@ -1,9 +1,10 @@
 -- Layouts read off a feed, one behind another.
-use Rattle.std.proofs.Common.{◌≡◌, ℕ, ◌+◌, ◌-◌, ◌≤◌, ◌<◌, Bool, true, false, cond, ltb, leb, ◌&&◌, not, List}
-use Rattle.std.proofs.Common.{length, drop, get_or, Result, Ok, Err, refl, sym, ap, subst, ◌∙◌, arith, length-take, inl, inr}
+use Rattle.std.proofs.Common.{◌≡◌, ℕ, ◌+◌, ◌-◌, ◌≤◌, ◌<◌, Bool, true, false, cond, ltb, leb, ◌&&◌, not, List, [], ◌++◌}
+use Rattle.std.proofs.Common.{length, Result, Ok, Err, refl, sym, ap, subst, ◌∙◌, arith, length-append, inl, inr}
+use Rattle.std.specs.Prelude.{OnOk}
 use Rattle.std.specs.Int.{Width, byte_len, from_be_bytes}
 use Rattle.std.proofs.lemmas.Bool.{cases_lt, le-ltb, lt-ltb, le-leb, lt-leb}
-use Rattle.std.proofs.lemmas.List.{get_or-take, get_or-drop, get_or_past}
+use Rattle.std.proofs.lemmas.List.{get_or_append_left, get_or-append_right}
 use Rattle.octets_core.specs.Position.{piece, from_three}
 use Rattle.octets_core.specs.Layout.{Layout, then_read, ◌>>=◌, whole, bytes_field, number_field, within, with_fault}
 use Rattle.octets_core.specs.Reading.{end as end_of}
@@ -21,32 +22,20 @@ use Rattle.outside_core.proofs.Effects.{ReadFailed-then}
 use Rattle.job_core.specs.declared.fault.JobFault.{JobFault}
 use Rattle.job_core.specs.declared.fault.JobFault.TheVariants as faults
 use Rattle.job_core.specs.JobLayout.{fielded}
-use Rattle.job_core.specs.Pulling.{Pulled, AreBytes, IsOfBytes, NoneFailed, Blames, Tells, Fetches}
+use Rattle.job_core.specs.Pulling.{Pulled, AreBytes, IsOfBytes, NoneFailed, Blames, Says, Lies, Fetches}
 use Rattle.job_core.proofs.Pulling.{pulled-none, pulled-then}
+use Rattle.job_core.proofs.Given.{lies-none, lies-first, lies-second, lies-both}
 
 -- ---- bytes
 
-bytes-none : (file : List ℕ) (at : ℕ) → AreBytes (piece (at - at) file at)
-bytes-none file at = λ i. rw (get_or_past (piece (at - at) file at) i 0 (omega (arith, length-take (at - at) (drop at file)))) (omega arith)
+pub bytes-none : AreBytes []
+bytes-none = λ i. omega arith
 
--- bytes up to a place, and from there on
-bytes-both : (file : List ℕ) (at mid end : ℕ) → at ≤ mid → mid ≤ end → AreBytes (piece (mid - at) file at) → AreBytes (piece (end - mid) file mid) → AreBytes (piece (end - at) file at)
-bytes-both file at mid end le further one two = λ i.
-    elim (cases_lt i (end - at)) [
-      | inr past ↦ rw (get_or_past (piece (end - at) file at) i 0 (omega (arith, past, length-take (end - at) (drop at file)))) (omega arith)
-      | inl lt ↦ elim (cases_lt i (mid - at)) [
-        | inl first ↦
-            let a : get_or (piece (mid - at) file at) i 0 ≡ get_or file (at + i) 0 = get_or-take (mid - at) (drop at file) i 0 first ∙ get_or-drop at file i 0 in
-            let b : get_or (piece (end - at) file at) i 0 ≡ get_or file (at + i) 0 = get_or-take (end - at) (drop at file) i 0 lt ∙ get_or-drop at file i 0 in
-            omega (arith, one i, a, b)
-        | inr second ↦
-            let j : ℕ = i - (mid - at) in
-            let a : get_or (piece (end - mid) file mid) j 0 ≡ get_or file (mid + j) 0 = get_or-take (end - mid) (drop mid file) j 0 (omega (arith, lt, second, le, further))
-            ∙ get_or-drop mid file j 0 in
-            let b : get_or (piece (end - at) file at) i 0 ≡ get_or file (at + i) 0 = get_or-take (end - at) (drop at file) i 0 lt ∙ get_or-drop at file i 0 in
-            let k : mid + j ≡ at + i = omega (arith, second, le) in
-            omega (arith, two j, a, b, ap (λ (n : ℕ). get_or file n 0) k)
-      ]
+pub bytes-both : (a b : List ℕ) → AreBytes a → AreBytes b → AreBytes (a ++ b)
+bytes-both a b one two = λ i.
+    elim (cases_lt i (length a)) [
+      | inl first ↦ rw (get_or_append_left a b 0 i first) (one i)
+      | inr second ↦ rw (get_or-append_right a b (length a) i 0 refl second) (two (i - length a))
     ]
 
 -- ---- steps
@@ -59,19 +48,48 @@ blames-then g old mid new (Err e) pulled none blames = (
   λ not. blames.1 not ∙ none,
 )
 
-tells-then : {X Y A B : Type 0} (v : X → A) (w : Y → B) (first : Layout JobFault A) (next : A → Layout JobFault B) (file : List ℕ) (at mid end : ℕ) (x : X) (r : Result Y JobFault)
-    → at ≤ mid → mid ≤ end → Tells v first file at mid (Ok x) → Tells w (next (v x)) file mid end r → Tells w (first >>= next) file at end r
-tells-then v w first next file at mid end x (Ok y) le further one two =
-    (ap (λ r. then_read r next file) one.0 ∙ two.0, bytes-both file at mid end le further one.1 two.1)
-tells-then v w first next file at mid end x (Err e) le further one two = λ of. ap (λ r. then_read r next file) one.0 ∙ two of
+-- what a layout gives of the feed's file, which are bytes as far as they were read
+abbrev pub Tells : {X A : Type 0} → (X → A) → Layout JobFault A → List ℕ → ℕ → ℕ → Result X JobFault → Type 0
+Tells view layout file at end (Ok x) = (layout file at ≡ Ok (view x, end)) × AreBytes (piece (end - at) file at)
+Tells view layout file at end (Err e) = IsOfBytes e → layout file at ≡ Err e
+
+told-by : {X A : Type 0} (v : X → A) (layout : Layout JobFault A) (file : List ℕ) (at end : ℕ) (given : List ℕ) (ended : Bool) (r : Result X JobFault) → end ≡ at + length given
+    → OnOk r (AreBytes given × (ended ≡ false)) → Lies ended file at given → Says v layout file at end r → Tells v layout file at end r
+told-by v layout file at end given ended (Ok x) place going lies says =
+    let k : length given ≡ end - at = omega (arith, place) in
+    (says, subst (λ (n : ℕ). AreBytes (piece n file at)) k (subst (λ (l : List ℕ). AreBytes l) lies.same going.0))
+told-by v layout file at end given ended (Err e) place going lies says = says
+
+pub told : {D X A : Type 0} {g : Ghosts D} {v : X → A} {layout : Layout JobFault A} {old new : Feed D} {r : Result X JobFault} → Fetches g v layout old new r
+    → (file : List ℕ) → StandsIn g old file → Tells v layout file (place_of old) (place_of new) r
+told {D} {X} {A} {g} {v} {layout} {old} {new} {r} it file stands =
+    told-by v layout file (place_of old) (place_of new) it.given it.ended r it.place it.going (it.lies file stands) (it.reads file (it.lies file stands))
+
+says-then : {X Y A B : Type 0} (v : X → A) (w : Y → B) (first : Layout JobFault A) (next : A → Layout JobFault B) (file : List ℕ) (at mid end : ℕ) (x : X) (r : Result Y JobFault)
+    → Says v first file at mid (Ok x) → Says w (next (v x)) file mid end r → Says w (first >>= next) file at end r
+says-then v w first next file at mid end x (Ok y) one two = ap (λ r. then_read r next file) one ∙ two
+says-then v w first next file at mid end x (Err e) one two = λ of. ap (λ r. then_read r next file) one ∙ two of
+
+going-then : {Y : Type 0} (a b : List ℕ) (ended : Bool) (r : Result Y JobFault) → AreBytes a → OnOk r (AreBytes b × (ended ≡ false)) → OnOk r (AreBytes (a ++ b) × (ended ≡ false))
+going-then a b ended (Ok y) one two = (bytes-both a b one two.0, two.1)
+going-then a b ended (Err e) one two = tt
 
 pub fetched-then : {D X Y A B : Type 0} (g : Ghosts D) (v : X → A) (w : Y → B) (first : Layout JobFault A) (next : A → Layout JobFault B) (old mid new : Feed D) (x : X) (r : Result Y JobFault)
     → Fetches g v first old mid (Ok x) → Fetches g w (next (v x)) mid new r → Fetches g w (first >>= next) old new r
 fetched-then g v w first next old mid new x r one two = record {
   pulled = pulled-then g old mid new one.pulled two.pulled;
   blames = blames-then g old mid new r one.pulled one.blames two.blames;
-  tells = λ file stands. tells-then v w first next file (place_of old) (place_of mid) (place_of new) x r one.pulled.further two.pulled.further
-      (one.tells file stands) (two.tells file (one.pulled.stands file stands));
+  given = one.given ++ two.given;
+  ended = two.ended;
+  place = omega (arith, one.place, two.place, length-append one.given two.given);
+  going = going-then one.given two.given two.ended r one.going.0 two.going;
+  lies = λ file stands. lies-both two.ended file (place_of old) (place_of mid) one.given two.given one.place
+      (subst (λ (b : Bool). Lies b file (place_of old) one.given) one.going.1 (one.lies file stands)) (two.lies file (one.pulled.stands file stands));
+  reads = λ file lies.
+      let front = lies-first two.ended file (place_of old) one.given two.given lies in
+      says-then v w first next file (place_of old) (place_of mid) (place_of new) x r
+      (one.reads file (subst (λ (b : Bool). Lies b file (place_of old) one.given) (sym one.going.1) front))
+      (two.reads file (lies-second two.ended file (place_of old) (place_of mid) one.given two.given one.place lies));
 }
 
 -- a fault ends the reading
@@ -80,7 +98,12 @@ pub fetched-err : {D X Y A B : Type 0} (g : Ghosts D) (v : X → A) (w : Y → B
 fetched-err g v w first next old new e one = record {
   pulled = one.pulled;
   blames = one.blames;
-  tells = λ file stands of. ap (λ r. then_read r next file) (one.tells file stands of);
+  given = one.given;
+  ended = one.ended;
+  place = one.place;
+  going = tt;
+  lies = one.lies;
+  reads = λ file lies of. ap (λ r. then_read r next file) (one.reads file lies of);
 }
 
 -- nothing is read
@@ -88,7 +111,12 @@ pub fetched-whole : {D X A : Type 0} (g : Ghosts D) (v : X → A) (y : A) (feed 
 fetched-whole g v y feed x is = record {
   pulled = pulled-none g feed;
   blames = refl;
-  tells = λ file stands. (ap (λ z. Ok (z, place_of feed)) (sym is), bytes-none file (place_of feed));
+  given = [];
+  ended = false;
+  place = omega arith;
+  going = (bytes-none, refl);
+  lies = λ file stands. lies-none file (place_of feed) (omega (arith, stands.window.within));
+  reads = λ file lies. ap (λ z. Ok (z, place_of feed)) (sym is);
 }
 
 -- a fault before anything is read
@@ -97,20 +125,30 @@ pub fetched-refused : {D X A : Type 0} (g : Ghosts D) (v : X → A) (layout : La
 fetched-refused g v layout feed e not is = record {
   pulled = pulled-none g feed;
   blames = (λ same. absurd (not same), λ other. refl);
-  tells = λ file stands of. is of file;
+  given = [];
+  ended = false;
+  place = omega arith;
+  going = tt;
+  lies = λ file stands. lies-none file (place_of feed) (omega (arith, stands.window.within));
+  reads = λ file lies of. is of file;
 }
 
-tells-same : {X A : Type 0} (v : X → A) (one two : Layout JobFault A) (file : List ℕ) (at end : ℕ) (r : Result X JobFault) → two file at ≡ one file at
-    → Tells v one file at end r → Tells v two file at end r
-tells-same v one two file at end (Ok x) same tells = (same ∙ tells.0, tells.1)
-tells-same v one two file at end (Err e) same tells = λ of. same ∙ tells of
+says-same : {X A : Type 0} (v : X → A) (one two : Layout JobFault A) (file : List ℕ) (at end : ℕ) (r : Result X JobFault) → two file at ≡ one file at
+    → Says v one file at end r → Says v two file at end r
+says-same v one two file at end (Ok x) same says = same ∙ says
+says-same v one two file at end (Err e) same says = λ of. same ∙ says of
 
 pub fetched-same : {D X A : Type 0} (g : Ghosts D) (v : X → A) (one two : Layout JobFault A) (old new : Feed D) (r : Result X JobFault)
     → ((file : List ℕ) (at : ℕ) → two file at ≡ one file at) → Fetches g v one old new r → Fetches g v two old new r
 fetched-same g v one two old new r same it = record {
   pulled = it.pulled;
   blames = it.blames;
-  tells = λ file stands. tells-same v one two file (place_of old) (place_of new) r (same file (place_of old)) (it.tells file stands);
+  given = it.given;
+  ended = it.ended;
+  place = it.place;
+  going = it.going;
+  lies = it.lies;
+  reads = λ file lies. says-same v one two file (place_of old) (place_of new) r (same file (place_of old)) (it.reads file lies);
 }
 
 -- ---- the same of layouts whose faults are those of their fields
@@ -170,13 +208,15 @@ pub fetched-tested : {D X A : Type 0} (g : Ghosts D) (v : X → A) (name : Field
 fetched-tested g v name width test f old new out x one passed is = record {
   pulled = one.pulled;
   blames = one.blames;
-  tells = λ file stands.
-      let t = one.tells file stands in (
-        ap (with_fault faults.Layout)
-            (tested-ok name width test f file (place_of old) (place_of new) out (mapped-ok faults.Layout (octets name width) file (place_of old) (out, place_of new) t.0) passed
-            ∙ ap (λ z. Ok (z, place_of new)) (sym is)),
-        t.1,
-      );
+  given = one.given;
+  ended = one.ended;
+  place = one.place;
+  going = one.going;
+  lies = one.lies;
+  reads = λ file lies.
+      ap (with_fault faults.Layout)
+      (tested-ok name width test f file (place_of old) (place_of new) out (mapped-ok faults.Layout (octets name width) file (place_of old) (out, place_of new) (one.reads file lies)) passed
+      ∙ ap (λ z. Ok (z, place_of new)) (sym is));
 }
 
 pub fetched-wrong : {D X A : Type 0} (g : Ghosts D) (v : X → A) (name : Field) (width : ℕ) (test : List ℕ → Bool) (f : List ℕ → A) (old new : Feed D) (out : List ℕ)
@@ -185,9 +225,14 @@ pub fetched-wrong : {D X A : Type 0} (g : Ghosts D) (v : X → A) (name : Field)
 fetched-wrong g v name width test f old new out one failed = record {
   pulled = one.pulled;
   blames = (λ same. absurd cc, λ not. one.blames);
-  tells = λ file stands of.
+  given = one.given;
+  ended = one.ended;
+  place = one.place;
+  going = tt;
+  lies = one.lies;
+  reads = λ file lies of.
       ap (with_fault faults.Layout) (tested-wrong name width test f file (place_of old) (place_of new) out
-      (mapped-ok faults.Layout (octets name width) file (place_of old) (out, place_of new) (one.tells file stands).0) failed);
+      (mapped-ok faults.Layout (octets name width) file (place_of old) (out, place_of new) (one.reads file lies)) failed);
 }
 
 pub fetched-short : {D X A : Type 0} (g : Ghosts D) (v : X → A) (name : Field) (width : ℕ) (test : List ℕ → Bool) (f : List ℕ → A) (old new : Feed D) (out : List ℕ) (e : JobFault)
@@ -195,7 +240,12 @@ pub fetched-short : {D X A : Type 0} (g : Ghosts D) (v : X → A) (name : Field)
 fetched-short g v name width test f old new out e one = record {
   pulled = one.pulled;
   blames = one.blames;
-  tells = λ file stands of. tested-err name width test f file (place_of old) e (one.tells file stands of);
+  given = one.given;
+  ended = one.ended;
+  place = one.place;
+  going = tt;
+  lies = one.lies;
+  reads = λ file lies of. tested-err name width test f file (place_of old) e (one.reads file lies of);
 }
 
 number-cases : (short passed : Bool) (d e : LayoutFault) (f : List ℕ → ℕ) (b file : List ℕ) (end : ℕ)
@@ -258,37 +308,59 @@ module _ {D X A : Type 0} (g : Ghosts D) (v : X → A) (layout : Layout JobFault
 
 -- ---- what fills a buffer
 
-octets-are : (name : Field) (width : ℕ) (file : List ℕ) (at end : ℕ) (out : List ℕ) (u : Unit {0}) → at + width ≤ length file → out ≡ piece width file at → end ≡ at + width → AreBytes out
-    → Tells (λ (u : Unit {0}). out) (fielded (octets name width)) file at end (Ok u)
+octets-are : (name : Field) (width : ℕ) (file : List ℕ) (at : ℕ) (out : List ℕ) → width ≡ length out → Lies false file at out → fielded (octets name width) file at ≡ Ok (out, at + length out)
 unfolding bytes_field
-octets-are name width file at end out u room same next fits =
-    let is : fielded (octets name width) file at ≡ Ok (piece width file at, at + width) = rw (le-ltb (length file) (at + width) room) refl in
-    let k : width ≡ end - at = omega (arith, next) in (
-      is ∙ ap (λ (p : List ℕ). Ok (p, at + width)) (sym same) ∙ ap (λ (q : ℕ). Ok (out, q)) (sym next),
-      subst (λ (w : ℕ). AreBytes (piece w file at)) k (subst AreBytes same fits),
-    )
+octets-are name width file at out is lies =
+    rw is (
+    let found : fielded (octets name (length out)) file at ≡ Ok (piece (length out) file at, at + length out) = rw (le-ltb (length file) (at + length out) lies.within) refl in
+    found ∙ ap (λ (p : List ℕ). Ok (p, at + length out)) (sym lies.same))
 
 pub fetched-octets : {D : Type 0} (g : Ghosts D) (name : Field) (width : ℕ) (old new : Feed D) (out : List ℕ) (u : Unit {0}) → Pulled g old new → NoneFailed g old new → AreBytes out
-    → place_of new ≡ place_of old + width → ((file : List ℕ) → StandsIn g old file → (place_of old + width ≤ length file) × (out ≡ piece width file (place_of old)))
+    → width ≡ length out → place_of new ≡ place_of old + length out → ((file : List ℕ) → StandsIn g old file → Lies false file (place_of old) out)
     → Fetches g (λ (u : Unit {0}). out) (fielded (octets name width)) old new (Ok u)
-fetched-octets g name width old new out u pulled none fits next full = record {
+fetched-octets g name width old new out u pulled none fits len next lies = record {
   pulled = pulled;
   blames = none;
-  tells = λ file stands. let f = full file stands in octets-are name width file (place_of old) (place_of new) out u f.0 f.1 next fits;
+  given = out;
+  ended = false;
+  place = next;
+  going = (fits, refl);
+  lies = lies;
+  reads = λ file there. octets-are name width file (place_of old) out len there ∙ ap (λ (q : ℕ). Ok (out, q)) (sym next);
 }
 
-pub octets-short : (name : Field) (width : ℕ) (file : List ℕ) (at : ℕ) → length file < at + width → fielded (octets name width) file at ≡ Err (faults.Layout (fault_at why.Short name at))
+octets-short : (name : Field) (width : ℕ) (file : List ℕ) (at : ℕ) → length file < at + width → fielded (octets name width) file at ≡ Err (faults.Layout (fault_at why.Short name at))
 unfolding bytes_field
 octets-short name width file at lt = rw (lt-ltb (length file) (at + width) lt) refl
 
--- a field that fails
-pub fetched-fault : {D X A : Type 0} (g : Ghosts D) (v : X → A) (layout : Layout JobFault A) (old new : Feed D) (f : LayoutFault) (e : JobFault) → e ≡ faults.Layout f → Pulled g old new
-    → NoneFailed g old new
-    → ((file : List ℕ) → StandsIn g old file → layout file (place_of old) ≡ Err (faults.Layout f)) → Fetches g v layout old new (Err e)
-fetched-fault g v layout old new f e is pulled none each = record {
+-- a field that is short, since the file ends behind these bytes
+pub fetched-cut : {D X : Type 0} (g : Ghosts D) (v : X → List ℕ) (name : Field) (width : ℕ) (old new : Feed D) (given : List ℕ) (e : JobFault)
+    → e ≡ faults.Layout (fault_at why.Short name (place_of old)) → Pulled g old new → NoneFailed g old new → length given < width → place_of new ≡ place_of old + length given
+    → ((file : List ℕ) → StandsIn g old file → Lies true file (place_of old) given) → Fetches g v (fielded (octets name width)) old new (Err e)
+fetched-cut g v name width old new given e is pulled none few next lies = record {
   pulled = pulled;
   blames = (λ same. absurd cc, λ not. none);
-  tells = λ file stands of. each file stands ∙ ap (λ (d : JobFault). Err d) (sym is);
+  given = given;
+  ended = true;
+  place = next;
+  going = tt;
+  lies = lies;
+  reads = λ file there of. octets-short name width file (place_of old) (omega (arith, there.last refl, few)) ∙ ap (λ (d : JobFault). Err d) (sym is);
+}
+
+-- a read that fails
+pub fetched-unread : {D X A : Type 0} (g : Ghosts D) (v : X → A) (layout : Layout JobFault A) (old new : Feed D) (given : List ℕ) → Pulled g old new
+    → ReadFailed g (name_of old) (depot_of old) (depot_of new) → place_of new ≡ place_of old + length given
+    → ((file : List ℕ) → StandsIn g old file → Lies false file (place_of old) given) → Fetches g v layout old new (Err faults.ReadFault)
+fetched-unread g v layout old new given pulled failed next lies = record {
+  pulled = pulled;
+  blames = (λ same. failed, λ not. absurd (not refl));
+  given = given;
+  ended = false;
+  place = next;
+  going = tt;
+  lies = lies;
+  reads = λ file there of. absurd (of.1 refl);
 }
 
 -- so many bytes, as some value
@@ -297,9 +369,13 @@ pub fetched-items : {D X : Type 0} (g : Ghosts D) (v : X → List ℕ) (name : F
 fetched-items g v name k width old new out u x len same one = record {
   pulled = one.pulled;
   blames = one.blames;
-  tells = λ file stands.
-      let t = one.tells file stands in
-      (subst (λ (n : ℕ). fielded (octets name n) file (place_of old) ≡ Ok (v x, place_of new)) len (t.0 ∙ ap (λ (l : List ℕ). Ok (l, place_of new)) (sym same)), t.1);
+  given = one.given;
+  ended = one.ended;
+  place = one.place;
+  going = one.going;
+  lies = one.lies;
+  reads = λ file lies.
+      subst (λ (n : ℕ). fielded (octets name n) file (place_of old) ≡ Ok (v x, place_of new)) len (one.reads file lies ∙ ap (λ (l : List ℕ). Ok (l, place_of new)) (sym same));
 }
 
 pub fetched-items-err : {D X : Type 0} (g : Ghosts D) (v : X → List ℕ) (name : Field) (k width : ℕ) (old new : Feed D) (out : List ℕ) (e : JobFault) → k ≡ width
@@ -307,16 +383,18 @@ pub fetched-items-err : {D X : Type 0} (g : Ghosts D) (v : X → List ℕ) (name
 fetched-items-err g v name k width old new out e len one = record {
   pulled = one.pulled;
   blames = one.blames;
-  tells = λ file stands of. subst (λ (n : ℕ). fielded (octets name n) file (place_of old) ≡ Err e) len (one.tells file stands of);
+  given = one.given;
+  ended = one.ended;
+  place = one.place;
+  going = tt;
+  lies = one.lies;
+  reads = λ file lies of. subst (λ (n : ℕ). fielded (octets name n) file (place_of old) ≡ Err e) len (one.reads file lies of);
 }
 
 -- ---- the end
 
-pub end-ok : (file : List ℕ) (at last : ℕ) (u : Unit {0}) → length file ≤ at → last ≡ at → Tells (λ (u : Unit {0}). tt {0}) (fielded end_of) file at last (Ok u)
-end-ok file at last u le same = (
-  rw (le-ltb at (length file) le) (ap (λ (q : ℕ). Ok (tt {0}, q)) (sym same)),
-  subst (λ (q : ℕ). AreBytes (piece (q - at) file at)) (sym same) (bytes-none file at),
-)
+pub end-ok : (file : List ℕ) (at last : ℕ) → length file ≤ at → last ≡ at → fielded end_of file at ≡ Ok (tt {0}, last)
+end-ok file at last le same = rw (le-ltb at (length file) le) (ap (λ (q : ℕ). Ok (tt {0}, q)) (sym same))
 
 pub end-wrong : (file : List ℕ) (at : ℕ) → at < length file → fielded end_of file at ≡ Err (faults.Layout (fault_at why.Value fields.End at))
 end-wrong file at lt = rw (lt-ltb at (length file) lt) refl

@@ -53,13 +53,13 @@ fits-meaning limits j fits published entries = record {
   entries = entries;
 }
 
-within-read : (limits : Limits) (bytes : List ℕ) (f : JobFields) → IsBytes bytes → job_of limits bytes ≡ Ok f → IsWithinLimits limits f
+pub within-read : (limits : Limits) (bytes : List ℕ) (f : JobFields) → IsBytes bytes → job_of limits bytes ≡ Ok f → IsWithinLimits limits f
 unfolding Said
 within-read limits bytes f fits h =
     let (j, fitting, few, is) = said limits bytes f fits h in
     subst (λ (g : JobFields). IsWithinLimits limits g) is (within-meaning limits j fitting few)
 
-fits-read : (limits : Limits) (bytes : List ℕ) (f : JobFields) → IsBytes bytes → limits.ranges ≤ 1024
+pub fits-read : (limits : Limits) (bytes : List ℕ) (f : JobFields) → IsBytes bytes → limits.ranges ≤ 1024
     → All (λ c. IfOk c.outcome CrlFieldsFit) f.crls → All (λ e. IfSome e EntryFieldsFit) f.entries → job_of limits bytes ≡ Ok f → FitsFields f
 unfolding Said
 fits-read limits bytes f fits published crls entries h =

@@ -8,8 +8,11 @@ pub mod RecordsSpelled
 pub mod JobSpelled
 pub mod Saying
 pub mod Pulling
+pub mod Given
 pub mod Fetching
 pub mod Fetched
+pub mod Gathering
+pub mod JobGiven
 pub mod Steps
 pub mod JobFacts
 pub mod JobStanding

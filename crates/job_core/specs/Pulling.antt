@@ -1,11 +1,14 @@
 -- What taking bytes from a feed leaves of it.
-use Rattle.std.specs.Prelude.{◌≡◌, ◌≤◌, ◌<◌, ◌-◌, ℕ, List, get_or, Result, Ok, Err}
+use Rattle.std.specs.Prelude.{◌≡◌, ◌+◌, ◌≤◌, ◌<◌, ◌-◌, ◌^◌, ℕ, List, [], ◌∷◌, length, get_or, Bool, true, false, Result, Ok, Err, OnOk, IfSome, Some}
+use Rattle.std.specs.FinMap.{get}
 use Rattle.octets_core.specs.Layout.{Layout}
 use Rattle.octets_core.specs.Position.{piece}
+use Rattle.octets_core.specs.Reading.{end}
 use Rattle.outside_core.specs.declared.depot.Depot.{Ghosts}
 use Rattle.outside_core.specs.declared.feed.Feed.{Feed}
 use Rattle.outside_core.specs.Effects.{OnlyReads, ReadFailed}
 use Rattle.outside_core.specs.Standing.{reference_of, depot_of, name_of, place_of, StandsIn}
+use Rattle.job_core.specs.JobLayout.{fielded}
 use Rattle.job_core.specs.declared.fault.JobFault.{JobFault}
 use Rattle.job_core.specs.declared.fault.JobFault.TheVariants as faults
 
@@ -35,24 +38,50 @@ Blames g old new (Ok x) = NoneFailed g old new
 Blames g old new (Err e) = (e ≡ faults.ReadFault → ReadFailed g (name_of old) (depot_of old) (depot_of new)) ×
     ((e ≡ faults.ReadFault → ⊥) → NoneFailed g old new)
 
--- what a layout gives of a file from a place on, which are bytes as far as they were read
-abbrev pub Tells : {X A : Type 0} → (X → A) → Layout JobFault A → List ℕ → ℕ → ℕ → Result X JobFault → Type 0
-Tells view layout file at end (Ok x) = (layout file at ≡ Ok (view x, end)) × AreBytes (piece (end - at) file at)
-Tells view layout file at end (Err e) = IsOfBytes e → layout file at ≡ Err e
-
--- What a function that reads a layout off a feed did: where files are told, it gave what the layout gives of the feed's
--- file.
-pub record Fetches {D X A : Type 0} (g : Ghosts D) (view : X → A) (layout : Layout JobFault A) (old new : Feed D) (result : Result X JobFault) : Type 0 where
-  pub pulled : Pulled g old new
-  pub blames : Blames g old new result
-  pub tells : (file : List ℕ) → StandsIn g old file → Tells view layout file (place_of old) (place_of new) result
-
--- the same of a result alone, but for what the bytes are
+-- what a layout gives of a file from a place on
 abbrev pub Says : {X A : Type 0} → (X → A) → Layout JobFault A → List ℕ → ℕ → ℕ → Result X JobFault → Type 0
 Says view layout file at end (Ok x) = layout file at ≡ Ok (view x, end)
 Says view layout file at end (Err e) = IsOfBytes e → layout file at ≡ Err e
+
+-- bytes lie in a file from a place on; where the end of input was seen, they are its last
+pub record Lies (ended : Bool) (file : List ℕ) (at : ℕ) (given : List ℕ) : Type 0 where
+  pub within : at + length given ≤ length file
+  pub same : given ≡ piece (length given) file at
+  pub last : ended ≡ true → length file ≤ at + length given
+
+-- What a function that reads a layout off a feed did: some bytes were given, which where files are told lie in the feed's
+-- file, and in each file in which they lie so the layout gives the result.
+pub record Fetches {D X A : Type 0} (g : Ghosts D) (view : X → A) (layout : Layout JobFault A) (old new : Feed D) (result : Result X JobFault) : Type 0 where
+  pub pulled : Pulled g old new
+  pub blames : Blames g old new result
+  pub given : List ℕ
+  pub ended : Bool
+  pub place : place_of new ≡ place_of old + length given
+  pub going : OnOk result (AreBytes given × (ended ≡ false))
+  pub lies : (file : List ℕ) → StandsIn g old file → Lies ended file (place_of old) given
+  pub reads : (file : List ℕ) → Lies ended file (place_of old) given → Says view layout file (place_of old) (place_of new) result
 
 -- the value, or a fault of the bytes
 abbrev pub Comes : {X A : Type 0} → (X → A) → Result A JobFault → Result X JobFault → Type 0
 Comes view read (Ok x) = read ≡ Ok (view x)
 Comes view read (Err e) = IsOfBytes e → read ≡ Err e
+
+-- a byte was seen where a file should end
+abbrev pub SeesMore : {D : Type 0} → Ghosts D → Feed D → JobFault → Type 0
+SeesMore g old e =
+    (x : ℕ) × ((file : List ℕ) → StandsIn g old file → Lies false file (place_of old) (x ∷ []))
+    × ((file : List ℕ) → place_of old < length file → fielded end file (place_of old) ≡ Err e)
+
+-- the bytes that the feed's file holds, where files are told
+abbrev pub IsGiven : {D : Type 0} → Ghosts D → Feed D → List ℕ → Type 0
+IsGiven g feed bytes = IfSome (g.files (depot_of feed)) (λ files. get files (name_of feed) ≡ Some bytes)
+
+-- What a job was read from: some bytes were given, which where files are told lie at the front of the feed's file, and
+-- of each file that begins with them the job is this result.
+pub record ReadsJob {D X A : Type 0} (g : Ghosts D) (view : X → A) (job : List ℕ → Result A JobFault) (old : Feed D) (result : Result X JobFault) : Type 0 where
+  pub given : List ℕ
+  pub ended : Bool
+  pub short : ended ≡ true → length given < 2 ^ 64 - 1
+  pub bytes : OnOk result (AreBytes given)
+  pub lies : (file : List ℕ) → StandsIn g old file → Lies ended file 0 given
+  pub reads : (file : List ℕ) → Lies ended file 0 given → Comes view (job file) result

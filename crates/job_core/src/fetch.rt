@@ -1,12 +1,12 @@
 //! The fields of a job, read off a feed.
 
-ghost use Rattle.std.specs.Prelude.{◌≡◌, ◌+◌, ◌-◌, ◌^◌, ◌<◌, ◌≤◌, length, OnOk, IfOk};
+ghost use Rattle.std.specs.Prelude.{◌≡◌, ◌+◌, ◌-◌, ◌^◌, ◌<◌, ◌≤◌, ℕ, List, length, OnOk, IfOk, IfErr};
 ghost use Rattle.std.specs.Int.{w32, w64};
 ghost use Rattle.octets_core.specs.Linked.{is_after as is_key_after};
-ghost use Rattle.octets_core.specs.Reading.{number, octets, length_of_three, key, any_key, magic, end as end_of};
-ghost use Rattle.outside_core.specs.Standing.{place_of};
+ghost use Rattle.octets_core.specs.Reading.{number, octets, length_of_three, key, any_key, magic};
+ghost use Rattle.outside_core.specs.Standing.{place_of, StandsIn};
 ghost use Rattle.job_core.specs.JobLayout.{fielded};
-ghost use Rattle.job_core.specs.Pulling.{Fetches};
+ghost use Rattle.job_core.specs.Pulling.{Pulled, IsOfBytes, Blames, Fetches, SeesMore};
 
 use crate::fault::JobFault;
 use crate::pull::pull;
@@ -25,6 +25,7 @@ pub fn wrong(at: u64, field: Field, why: Why) -> JobFault
 pub fn fetch<D: Depot>(feed: &mut Feed<'_, D>, field: Field, out: &mut [u8]) -> Result<(), JobFault>
     ensures len { length out.new ≡ length out.old }
     ensures place { OnOk result (place_of feed.new ≡ place_of feed.old + length out.old) }
+    ensures near { place_of feed.new ≤ place_of feed.old + length out.old }
     ensures exact { Fetches D.Depot (λ u. out.new) (fielded (octets field (length out.old))) feed.old feed.new result }
 {
     let at = feed.at();
@@ -42,7 +43,8 @@ pub fn fetch_octets<D: Depot>(
     field: Field,
     width: u32,
 ) -> Result<Vec<u8>, JobFault>
-    ensures { Fetches D.Depot (λ v. v.items) (fielded (octets field width)) feed.old feed.new result }
+    ensures exact { Fetches D.Depot (λ v. v.items) (fielded (octets field width)) feed.old feed.new result }
+    ensures near { place_of feed.new ≤ place_of feed.old + width }
 {
     let mut out = Vec::new(alloc);
     out.resize(width as usize, 0)?;
@@ -52,7 +54,8 @@ pub fn fetch_octets<D: Depot>(
 
 /// A key of 32 bytes.
 pub fn fetch_key<D: Depot>(feed: &mut Feed<'_, D>, field: Field) -> Result<Key32, JobFault>
-    ensures { Fetches D.Depot (λ k. k) (fielded (key field any_key)) feed.old feed.new result }
+    ensures exact { Fetches D.Depot (λ k. k) (fielded (key field any_key)) feed.old feed.new result }
+    ensures near { place_of feed.new ≤ place_of feed.old + 32 }
 {
     let mut out = [0u8; 32];
     fetch(feed, field, &mut out)?;
@@ -61,7 +64,9 @@ pub fn fetch_key<D: Depot>(feed: &mut Feed<'_, D>, field: Field) -> Result<Key32
 
 /// A number of three bytes.
 pub fn fetch_u24<D: Depot>(feed: &mut Feed<'_, D>, field: Field) -> Result<u32, JobFault>
-    ensures { Fetches D.Depot (λ n. n) (fielded (length_of_three field)) feed.old feed.new result }
+    ensures exact { Fetches D.Depot (λ n. n) (fielded (length_of_three field)) feed.old feed.new result }
+    ensures high { IfOk result (λ n. n < 2 ^ 24) }
+    ensures near { place_of feed.new ≤ place_of feed.old + 3 }
 {
     let mut out = [0u8; 3];
     fetch(feed, field, &mut out)?;
@@ -70,7 +75,9 @@ pub fn fetch_u24<D: Depot>(feed: &mut Feed<'_, D>, field: Field) -> Result<u32, 
 
 /// A number of four bytes, up to `high`.
 pub fn fetch_u32<D: Depot>(feed: &mut Feed<'_, D>, field: Field, high: u32) -> Result<u32, JobFault>
-    ensures { Fetches D.Depot (λ n. n) (fielded (number field w32 0 high)) feed.old feed.new result }
+    ensures exact { Fetches D.Depot (λ n. n) (fielded (number field w32 0 high)) feed.old feed.new result }
+    ensures high { IfOk result (λ n. n ≤ high) }
+    ensures near { place_of feed.new ≤ place_of feed.old + 4 }
 {
     let at = feed.at();
     let mut out = [0u8; 4];
@@ -84,7 +91,8 @@ pub fn fetch_u32<D: Depot>(feed: &mut Feed<'_, D>, field: Field, high: u32) -> R
 
 /// A number of eight bytes, from `low` on.
 pub fn fetch_u64<D: Depot>(feed: &mut Feed<'_, D>, field: Field, low: u64) -> Result<u64, JobFault>
-    ensures { Fetches D.Depot (λ n. n) (fielded (number field w64 low (2 ^ 64 - 1))) feed.old feed.new result }
+    ensures exact { Fetches D.Depot (λ n. n) (fielded (number field w64 low (2 ^ 64 - 1))) feed.old feed.new result }
+    ensures near { place_of feed.new ≤ place_of feed.old + 8 }
 {
     let at = feed.at();
     let mut out = [0u8; 8];
@@ -102,7 +110,8 @@ pub fn fetch_magic<D: Depot>(
     field: Field,
     text: &[u8; 8],
 ) -> Result<(), JobFault>
-    ensures { Fetches D.Depot (λ u. text.now) (fielded (magic field text.now)) feed.old feed.new result }
+    ensures exact { Fetches D.Depot (λ u. text.now) (fielded (magic field text.now)) feed.old feed.new result }
+    ensures near { place_of feed.new ≤ place_of feed.old + 8 }
 {
     let at = feed.at();
     let mut out = [0u8; 8];
@@ -119,7 +128,8 @@ pub fn fetch_key_after<D: Depot>(
     field: Field,
     previous: Option<Key32>,
 ) -> Result<Key32, JobFault>
-    ensures { Fetches D.Depot (λ k. k) (fielded (key field (is_key_after previous))) feed.old feed.new result }
+    ensures exact { Fetches D.Depot (λ k. k) (fielded (key field (is_key_after previous))) feed.old feed.new result }
+    ensures near { place_of feed.new ≤ place_of feed.old + 32 }
 {
     let at = feed.at();
     let mut out = [0u8; 32];
@@ -133,8 +143,11 @@ pub fn fetch_key_after<D: Depot>(
 
 /// The end of a whole file: no byte is left.
 pub fn fetch_end<D: Depot>(feed: &mut Feed<'_, D>) -> Result<(), JobFault>
-    ensures exact { Fetches D.Depot (λ u. tt) (fielded end_of) feed.old feed.new result }
+    ensures pulled { Pulled D.Depot feed.old feed.new }
+    ensures blames { Blames D.Depot feed.old feed.new result }
     ensures place { place_of feed.new ≡ place_of feed.old }
+    ensures ended { OnOk result ((file : List ℕ) → StandsIn D.Depot feed.old file → length file ≤ place_of feed.old) }
+    ensures more { IfErr result (λ e. IsOfBytes e → SeesMore D.Depot feed.old e) }
 {
     match feed.refill() {
         Err(Failed) => Err(JobFault::ReadFault),

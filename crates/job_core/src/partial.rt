@@ -1,6 +1,6 @@
 //! What is held of a job's records from one to the next.
 
-ghost use Rattle.std.specs.Prelude.{◌≡◌, ◌+◌, nat_le};
+ghost use Rattle.std.specs.Prelude.{◌≡◌, ◌+◌, ◌^◌, ◌<◌, nat_le};
 ghost use Rattle.job_core.specs.JobLayout.{nothing_held};
 ghost use Rattle.job_core.specs.Partial.{held_in};
 
@@ -36,4 +36,17 @@ pub fn is_room(limit: u32, count: u32) -> bool
     ensures { result ≡ nat_le (count + 1) limit }
 {
     count < limit
+}
+
+fn count_facts(count: u32)
+    ensures { count < 2 ^ 32 }
+{}
+
+/// What the types of the counts say of them.
+pub fn numbers_facts(numbers: &Numbers)
+    ensures { (numbers.now.ranges < 2 ^ 32) × (numbers.now.crls < 2 ^ 32) × (numbers.now.entries < 2 ^ 32) }
+{
+    count_facts(numbers.ranges);
+    count_facts(numbers.crls);
+    count_facts(numbers.entries);
 }

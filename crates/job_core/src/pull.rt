@@ -1,10 +1,9 @@
 //! Bytes of a file, taken in order from a feed.
 
-ghost use Rattle.std.specs.Prelude.{◌≡◌, ◌+◌, ◌≤◌, ◌<◌, ℕ, List, true, false, length, IfOk, OnOk, OnErr};
-ghost use Rattle.octets_core.specs.Position.{piece};
+ghost use Rattle.std.specs.Prelude.{◌≡◌, ◌+◌, ◌-◌, ◌≤◌, ◌<◌, ℕ, List, true, false, length, take, IfOk, OnOk, OnErr};
 ghost use Rattle.outside_core.specs.Effects.{ReadFailed};
 ghost use Rattle.outside_core.specs.Standing.{depot_of, name_of, place_of, StandsIn};
-ghost use Rattle.job_core.specs.Pulling.{Pulled};
+ghost use Rattle.job_core.specs.Pulling.{Pulled, Lies};
 
 use outside_core::{Depot, Failed, Feed};
 
@@ -12,11 +11,13 @@ use outside_core::{Depot, Failed, Feed};
 pub fn pull<D: Depot>(feed: &mut Feed<'_, D>, out: &mut [u8]) -> Result<bool, Failed>
     ensures len { length out.new ≡ length out.old }
     ensures pulled { Pulled D.Depot feed.old feed.new }
-    ensures place { IfOk result (λ full. full ≡ true → place_of feed.new ≡ place_of feed.old + length out.old) }
-    ensures full { IfOk result (λ full. full ≡ true → (file : List ℕ) → StandsIn D.Depot feed.old file
-        → (place_of feed.old + length out.old ≤ length file) × (out.new ≡ piece (length out.old) file (place_of feed.old))) }
-    ensures short { IfOk result (λ full. full ≡ false → (file : List ℕ) → StandsIn D.Depot feed.old file
-        → length file < place_of feed.old + length out.old) }
+    ensures near { place_of feed.new ≤ place_of feed.old + length out.old }
+    ensures full { IfOk result (λ full. full ≡ true → place_of feed.new ≡ place_of feed.old + length out.old) }
+    ensures short { IfOk result (λ full. full ≡ false → place_of feed.new < place_of feed.old + length out.old) }
+    ensures given { (file : List ℕ) → StandsIn D.Depot feed.old file
+        → Lies false file (place_of feed.old) (take (place_of feed.new - place_of feed.old) out.new) }
+    ensures ended { IfOk result (λ full. full ≡ false → (file : List ℕ) → StandsIn D.Depot feed.old file
+        → length file ≤ place_of feed.new) }
     ensures cause { OnErr result (ReadFailed D.Depot (name_of feed.old) (depot_of feed.old) (depot_of feed.new)) }
     ensures unblamed { OnOk result (D.failed_reads (depot_of feed.new) ≡ D.failed_reads (depot_of feed.old)) }
 {

@@ -37,7 +37,9 @@ enum Stage {
     Failed(JobFault),
 }
 
-/// Reads a job record by record off a feed, and holds no record that it gave.
+/// Reads a job record by record off a feed, and holds no record that it gave. For a command that goes through a job's
+/// records without holding the job, as one that gathers the pages of a log into a job; `read_job_from` is for those
+/// that want all of it.
 #[derive(Drop)]
 pub struct JobReader {
     alloc: Global,

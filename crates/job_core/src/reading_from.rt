@@ -1,19 +1,20 @@
 //! Jobs from a feed.
 
-ghost use Rattle.std.specs.Prelude.{◌≡◌, ◌+◌, ◌-◌, ◌≤◌, ◌<◌, ◌^◌, ℕ, List, map, All, IfSome, IfOk};
+ghost use Rattle.std.specs.Prelude.{◌≡◌, ◌≢◌, ◌+◌, ◌-◌, ◌≤◌, ◌<◌, ◌^◌, ℕ, List, map, All, Err, IfSome, IfOk};
+ghost use Rattle.outside_core.specs.Filling.{IsInOrder};
 ghost use Rattle.outside_core.specs.Standing.{place_of, StandsIn};
 ghost use Rattle.crl_core.specs.Outcome.{CrlFieldsFit};
 ghost use Rattle.job_core.specs.JobFields.{crl_view, entry_view, fields_of_job, AreWithin};
-ghost use Rattle.job_core.specs.JobFacts.{EntryFieldsFit};
+ghost use Rattle.job_core.specs.JobFacts.{EntryFieldsFit, FitsFields, IsWithinLimits};
 ghost use Rattle.job_core.specs.JobLayout.{begun, job_of};
 ghost use Rattle.job_core.specs.Partial.{records_saying};
-ghost use Rattle.job_core.specs.Pulling.{Pulled, Blames, Says, Comes};
+ghost use Rattle.job_core.specs.Pulling.{Pulled, Blames, Comes, Fetches, IsGiven, ReadsJob};
 
 use crate::bounds::Limits;
 use crate::fault::JobFault;
 use crate::fetch::fetch_end;
 use crate::meaning::Job;
-use crate::partial::no_numbers;
+use crate::partial::{no_numbers, numbers_facts};
 use crate::reading::{crls_facts, entries_facts, put_crl, put_entry, put_range};
 use crate::records::{Item, fetch_opening, next_item_from};
 use outside_core::{Depot, Feed};
@@ -39,14 +40,13 @@ fn put_items<D: Depot>(
     feed: &mut Feed<'_, D>,
     limits: &Limits,
 ) -> Result<(), JobFault>
-    ensures pulled { Pulled D.Depot feed.old feed.new }
-    ensures blames { Blames D.Depot feed.old feed.new result }
-    ensures says { (file : List ℕ) → StandsIn D.Depot feed.old file
-        → Says (λ u. fields_of_job job.new) (records_saying limits.now (fields_of_job job.old)) file (place_of feed.old) (place_of feed.new) result }
+    ensures exact { Fetches D.Depot (λ u. fields_of_job job.new) (records_saying limits.now (fields_of_job job.old)) feed.old feed.new result }
+    ensures near { place_of feed.new ≤ place_of feed.old + 2 ^ 62 }
 {
     let mut numbers = no_numbers();
     let mut serials = 0;
     'records: loop {
+        numbers_facts(&numbers);
         match next_item_from(alloc, &mut numbers, feed, limits) {
             Ok(None) => return Ok(()),
             Ok(Some(Item::Range(range))) => put_range(job, range)?,
@@ -59,8 +59,26 @@ fn put_items<D: Depot>(
     }
 }
 
+/// The job of the feed's file.
+fn job_from<D: Depot>(
+    alloc: Global,
+    feed: &mut Feed<'_, D>,
+    limits: &Limits,
+) -> Result<Job, JobFault>
+    requires { place_of feed.old ≡ 0 }
+    ensures pulled { Pulled D.Depot feed.old feed.new }
+    ensures blames { Blames D.Depot feed.old feed.new result }
+    ensures reads { ReadsJob D.Depot fields_of_job (job_of limits.now) feed.old result }
+{
+    let (epoch, moment) = fetch_opening(feed)?;
+    let mut job = begun_job(alloc, epoch, moment);
+    put_items(&mut job, alloc, feed, limits)?;
+    fetch_end(feed)?;
+    Ok(job)
+}
+
 /// The job of the feed's file, as `read_job` gives it of bytes. The feed must stand at the first byte. `ReadFault` is
-/// answered where a read failed, and only there.
+/// answered where a read failed, and only there. For `job_in`, which reads the job of a file for the commands.
 pub fn read_job_from<D: Depot>(
     alloc: Global,
     feed: &mut Feed<'_, D>,
@@ -71,13 +89,19 @@ pub fn read_job_from<D: Depot>(
     ensures pulled { Pulled D.Depot feed.old feed.new }
     ensures blames { Blames D.Depot feed.old feed.new result }
     ensures exact { (file : List ℕ) → StandsIn D.Depot feed.old file → Comes fields_of_job (job_of limits.now file) result }
+    // Where no read failed, some bytes are read as the answer: where files are told, those that the feed's file holds.
+    ensures given { IsInOrder D.Depot feed.old → result ≢ Err JobFault.ReadFault
+        → (given : List ℕ) × IsGiven D.Depot feed.old given × Comes fields_of_job (job_of limits.now given) result }
     ensures crls { IfOk result (λ job. All (λ c. IfOk c.outcome CrlFieldsFit) (map crl_view job.crls.items)) }
     ensures entries { IfOk result (λ job. All (λ e. IfSome e EntryFieldsFit) (map entry_view job.entries.items)) }
+    ensures fits { IfOk result (λ job. FitsFields (fields_of_job job)) }
+    ensures within { IfOk result (λ job. IsWithinLimits limits.now (fields_of_job job)) }
 {
-    let (epoch, moment) = fetch_opening(feed)?;
-    let mut job = begun_job(alloc, epoch, moment);
-    put_items(&mut job, alloc, feed, limits)?;
-    fetch_end(feed)?;
+    // A file that isn't there is seen here, before memory is wanted.
+    let Ok(()) = feed.refill() else {
+        return Err(JobFault::ReadFault);
+    };
+    let job = job_from(alloc, feed, limits)?;
     crls_facts(&job.crls);
     entries_facts(&job.entries);
     Ok(job)

@@ -1,6 +1,6 @@
 //! Records of a job, read one by one off a feed.
 
-ghost use Rattle.std.specs.Prelude.{◌≡◌, ◌≤◌, ◌<◌, true, IfOk, IfSome, OnOk};
+ghost use Rattle.std.specs.Prelude.{◌≡◌, ◌+◌, ◌^◌, ◌≤◌, ◌<◌, true, IfOk, IfSome, OnOk};
 ghost use Rattle.outside_core.specs.Standing.{place_of};
 ghost use Rattle.ident_core.specs.RangeLayout.{range};
 ghost use Rattle.job_core.specs.JobLayout.{fielded, with_item, is_kind, record_kind, crl, entry, opening};
@@ -44,6 +44,7 @@ fn is_kind_after(previous: u8, kind: u8) -> bool
 /// The kind of a record behind one of the previous kind.
 fn fetch_kind<D: Depot>(feed: &mut Feed<'_, D>, previous: u8) -> Result<u8, JobFault>
     ensures exact { Fetches D.Depot (λ k. k) (fielded (record_kind previous)) feed.old feed.new result }
+    ensures near { place_of feed.new ≤ place_of feed.old + 1 }
     ensures known { IfOk result (λ k. k ≤ 3) }
     ensures further { OnOk result (place_of feed.old < place_of feed.new) }
 {
@@ -59,7 +60,8 @@ fn fetch_kind<D: Depot>(feed: &mut Feed<'_, D>, previous: u8) -> Result<u8, JobF
 
 /// A range behind the range of the previous log.
 fn fetch_range<D: Depot>(feed: &mut Feed<'_, D>, previous: Option<Key32>) -> Result<Range, JobFault>
-    ensures { Fetches D.Depot (λ r. r) (fielded (range previous)) feed.old feed.new result }
+    ensures exact { Fetches D.Depot (λ r. r) (fielded (range previous)) feed.old feed.new result }
+    ensures near { place_of feed.new ≤ place_of feed.old + 48 }
 {
     let log = fetch_key_after(feed, Field::RangeLog, previous)?;
     let from = fetch_u64(feed, Field::RangeFrom, 0)?;
@@ -69,7 +71,8 @@ fn fetch_range<D: Depot>(feed: &mut Feed<'_, D>, previous: Option<Key32>) -> Res
 
 /// The CRL behind the kind of its record.
 fn fetch_crl<D: Depot>(alloc: Global, feed: &mut Feed<'_, D>) -> Result<RawCrl, JobFault>
-    ensures { Fetches D.Depot crl_held (fielded crl) feed.old feed.new result }
+    ensures exact { Fetches D.Depot crl_held (fielded crl) feed.old feed.new result }
+    ensures near { place_of feed.new ≤ place_of feed.old + 2 ^ 26 + 36 }
 {
     let issuer = fetch_key(feed, Field::CrlIssuer)?;
     let width = fetch_u32(feed, Field::CrlLength, MAX_CRL)?;
@@ -79,7 +82,8 @@ fn fetch_crl<D: Depot>(alloc: Global, feed: &mut Feed<'_, D>) -> Result<RawCrl, 
 
 /// The entry behind the kind of its record.
 fn fetch_entry<D: Depot>(alloc: Global, feed: &mut Feed<'_, D>) -> Result<RawEntry, JobFault>
-    ensures { Fetches D.Depot entry_held (fielded entry) feed.old feed.new result }
+    ensures exact { Fetches D.Depot entry_held (fielded entry) feed.old feed.new result }
+    ensures near { place_of feed.new ≤ place_of feed.old + 2 ^ 25 + 38 }
 {
     let log = fetch_key(feed, Field::EntryLog)?;
     let leaf_width = fetch_u24(feed, Field::EntryLeafLength)?;
@@ -91,7 +95,8 @@ fn fetch_entry<D: Depot>(alloc: Global, feed: &mut Feed<'_, D>) -> Result<RawEnt
 
 /// The epoch and the moment, which stand before the records.
 pub fn fetch_opening<D: Depot>(feed: &mut Feed<'_, D>) -> Result<(u64, u64), JobFault>
-    ensures { Fetches D.Depot (λ o. o) (fielded opening) feed.old feed.new result }
+    ensures exact { Fetches D.Depot (λ o. o) (fielded opening) feed.old feed.new result }
+    ensures near { place_of feed.new ≤ place_of feed.old + 24 }
 {
     fetch_magic(feed, Field::JobMagic, b"CLUBJOB1")?;
     let epoch = fetch_u64(feed, Field::JobEpoch, 0)?;
@@ -105,6 +110,7 @@ fn range_from<D: Depot>(
     limits: &Limits,
 ) -> Result<Item, JobFault>
     ensures exact { Fetches D.Depot item_of_record (range_item limits.now (held_in numbers.old)) feed.old feed.new result }
+    ensures near { place_of feed.new ≤ place_of feed.old + 2 ^ 27 }
     ensures behind { IfOk result (λ x. held_in numbers.new ≡ with_item (held_in numbers.old) (item_of_record x)) }
 {
     if !is_room(limits.ranges, numbers.ranges) {
@@ -127,6 +133,7 @@ fn crl_from<D: Depot>(
     limits: &Limits,
 ) -> Result<Item, JobFault>
     ensures exact { Fetches D.Depot item_of_record (crl_item limits.now (held_in numbers.old)) feed.old feed.new result }
+    ensures near { place_of feed.new ≤ place_of feed.old + 2 ^ 27 }
     ensures behind { IfOk result (λ x. held_in numbers.new ≡ with_item (held_in numbers.old) (item_of_record x)) }
 {
     if !is_room(limits.crls, numbers.crls) {
@@ -148,6 +155,7 @@ fn entry_from<D: Depot>(
     limits: &Limits,
 ) -> Result<Item, JobFault>
     ensures exact { Fetches D.Depot item_of_record (entry_item limits.now (held_in numbers.old)) feed.old feed.new result }
+    ensures near { place_of feed.new ≤ place_of feed.old + 2 ^ 27 }
     ensures behind { IfOk result (λ x. held_in numbers.new ≡ with_item (held_in numbers.old) (item_of_record x)) }
 {
     if !is_room(limits.entries, numbers.entries) {
@@ -170,6 +178,7 @@ fn item_from<D: Depot>(
     kind: u8,
 ) -> Result<Item, JobFault>
     ensures exact { Fetches D.Depot item_of_record (item_of kind limits.now (held_in numbers.old)) feed.old feed.new result }
+    ensures near { place_of feed.new ≤ place_of feed.old + 2 ^ 27 }
     ensures behind { IfOk result (λ x. held_in numbers.new ≡ with_item (held_in numbers.old) (item_of_record x)) }
 {
     match kind {
@@ -187,6 +196,7 @@ pub fn next_item_from<D: Depot>(
     limits: &Limits,
 ) -> Result<Option<Item>, JobFault>
     ensures exact { Fetches D.Depot some_record (next_item limits.now (held_in numbers.old)) feed.old feed.new result }
+    ensures near { place_of feed.new ≤ place_of feed.old + 2 ^ 27 + 1 }
     ensures behind { IfOk result (λ x. IfSome x (λ taken. held_in numbers.new ≡ with_item (held_in numbers.old) (item_of_record taken))) }
     ensures further { OnOk result (place_of feed.old < place_of feed.new) }
 {

@@ -9,21 +9,21 @@ use Rattle.job_core.proofs.Fetching.{field-ok, field-wrong, field-short, bytes-a
 use Rattle.std.proofs.lemmas.Slice.Eq.{bytes_eq-Decides}
 use Rattle.job_core.proofs.fetch.fetch_magic.Goals as goal
 
-pub returns-in_err-fetch : goal.returns-in_err-fetch
-returns-in_err-fetch g c =
+pub returns-in_err-fetch-clause-exact : goal.returns-in_err-fetch-clause-exact
+returns-in_err-fetch-clause-exact g c =
     let p = err_from_is_err_and c.from_residual.result c.from_residual.ensures.1 in
     rw (p.1, p.2) (field-short g.D.Depot (λ u. c.args.text.now) (fielded (magic c.args.field c.args.text.now)) c.args.field 8 (bytes_eq c.args.text.now) (λ b. b)
     (bytes-are c.args.field 8 (bytes_eq c.args.text.now)) c.args.feed.now c.fetch.new.feed c.fetch.new.out _ c.in_err-fetch.ensures.exact)
 
-pub returns-then-ne : goal.returns-then-ne
-returns-then-ne g c =
+pub returns-then-ne-clause-exact : goal.returns-then-ne-clause-exact
+returns-then-ne-clause-exact g c =
     let at = c.wrong.ensures ∙ ap (λ (n : ℕ). faults.Layout (record { at = n; field = c.args.field; why = why.Value })) c.at-at.ensures in
     let test : bytes_eq c.args.text.now c.fetch.new.out ≡ false = rw (← c.as_slice.ensures, ← c.as_slice-2.ensures) (not-true _ (sym c.ne.ensures ∙ c.if-ne.true)) in
     rw at (field-wrong g.D.Depot (λ u. c.args.text.now) (fielded (magic c.args.field c.args.text.now)) c.args.field 8 (bytes_eq c.args.text.now) (λ b. b)
     (bytes-are c.args.field 8 (bytes_eq c.args.text.now)) c.args.feed.now c.fetch.new.feed c.fetch.new.out c.in_ok-fetch.ensures.exact test)
 
-pub returns : goal.returns
-returns g c =
+pub returns-clause-exact : goal.returns-clause-exact
+returns-clause-exact g c =
     let test : bytes_eq c.args.text.now c.fetch.new.out ≡ true = rw (← c.as_slice.ensures, ← c.as_slice-2.ensures) (not-false _ (sym c.ne.ensures ∙ c.if-ne.false)) in
     field-ok g.D.Depot (λ u. c.args.text.now) (fielded (magic c.args.field c.args.text.now)) c.args.field 8 (bytes_eq c.args.text.now) (λ b. b)
     (bytes-are c.args.field 8 (bytes_eq c.args.text.now)) c.args.feed.now c.fetch.new.feed c.fetch.new.out _ c.in_ok-fetch.ensures.exact test

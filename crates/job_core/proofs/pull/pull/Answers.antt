@@ -1,11 +1,12 @@
-use Rattle.std.proofs.Common.{◌≡◌, ◌+◌, ◌≤◌, ℕ, List, length, take, refl, sym, ap, subst, ◌∙◌, arith}
+use Rattle.std.proofs.Common.{◌≡◌, ◌+◌, ◌≤◌, ℕ, List, length, refl, sym, ap, subst, ◌∙◌, arith}
 use Rattle.std.proofs.lemmas.Bool.{eqb-true}
-use Rattle.std.proofs.lemmas.List.{take_all, nil_from_length}
+use Rattle.std.proofs.lemmas.List.{nil_from_length}
 use Rattle.std.proofs.lemmas.Result.{err_from_is_err_and}
 use Rattle.outside_core.specs.Feeding.{IsWindow}
 use Rattle.outside_core.specs.Standing.{place_of}
 use Rattle.outside_core.proofs.Effects.{ReadFailed-then}
 use Rattle.job_core.proofs.Pulling.{pulled-none, pulled-then, pulled-more}
+use Rattle.job_core.proofs.Given.{lies-front}
 use Rattle.job_core.proofs.pull.pull.Goals as goal
 
 pub pieces-init : goal.pieces-init
@@ -38,11 +39,38 @@ returns-then-is_empty-clause-pulled g c =
     (record { same_reference = e.same_reference; name = e.name; only_reads = e.only_reads; stands = e.stands; further = omega (arith, e.at) })
 
 pub returns-then-is_empty-clause-short : goal.returns-then-is_empty-clause-short
-returns-then-is_empty-clause-short g c = λ is file stands.
+returns-then-is_empty-clause-short g c = λ is.
+    let inv = c.pieces.invariant in
+    omega (arith, c.refill.ensures.at, inv.place, inv.len, c.pieces-test.true)
+
+pub returns-then-is_empty-clause-ended : goal.returns-then-is_empty-clause-ended
+returns-then-is_empty-clause-ended g c = λ is file stands.
     let inv = c.pieces.invariant in
     let none : length c.buffered-ready.result.now ≡ 0 = eqb-true (length c.buffered-ready.result.now) 0 (sym c.is_empty.ensures ∙ c.if-is_empty.true) in
     let over = (c.in_ok-refill.ensures.ends file (inv.pulled.stands file stands)).0 (sym c.buffered-ready.ensures.value ∙ nil_from_length _ none) in
-    omega (arith, over, inv.place, inv.len, c.pieces-test.true)
+    omega (arith, over, c.refill.ensures.at)
+
+pub returns-then-is_empty-clause-near : goal.returns-then-is_empty-clause-near
+returns-then-is_empty-clause-near g c =
+    let inv = c.pieces.invariant in
+    omega (arith, c.refill.ensures.at, inv.place, inv.len, inv.within)
+
+pub returns-then-is_empty-clause-given : goal.returns-then-is_empty-clause-given
+returns-then-is_empty-clause-given g c = λ file stands.
+    let inv = c.pieces.invariant in
+    lies-front file (place_of c.args.feed.now) c.pieces.done (place_of c.refill.new.self) c.pieces.out inv.within (c.refill.ensures.at ∙ inv.place)
+    (omega (arith, (inv.pulled.stands file stands).window.within, inv.place)) (inv.taken file stands)
+
+pub returns-in_err-refill-clause-near : goal.returns-in_err-refill-clause-near
+returns-in_err-refill-clause-near g c =
+    let inv = c.pieces.invariant in
+    omega (arith, c.refill.ensures.at, inv.place, inv.len, inv.within)
+
+pub returns-in_err-refill-clause-given : goal.returns-in_err-refill-clause-given
+returns-in_err-refill-clause-given g c = λ file stands.
+    let inv = c.pieces.invariant in
+    lies-front file (place_of c.args.feed.now) c.pieces.done (place_of c.refill.new.self) c.pieces.out inv.within (c.refill.ensures.at ∙ inv.place)
+    (omega (arith, (inv.pulled.stands file stands).window.within, inv.place)) (inv.taken file stands)
 
 pub returns-then-is_empty-clause-unblamed : goal.returns-then-is_empty-clause-unblamed
 returns-then-is_empty-clause-unblamed g c = c.in_ok-refill.ensures.unblamed ∙ c.pieces.invariant.unblamed
@@ -79,18 +107,17 @@ pieces-preserved g c =
 pub returns-clause-pulled : goal.returns-clause-pulled
 returns-clause-pulled g c = c.pieces.invariant.pulled
 
-pub returns-clause-place : goal.returns-clause-place
-returns-clause-place g c = λ is. omega (arith, c.pieces.invariant.place, c.pieces.invariant.len, c.pieces.invariant.within, c.pieces-test.false)
-
 pub returns-clause-full : goal.returns-clause-full
-returns-clause-full g c = λ is file stands.
+returns-clause-full g c = λ is. omega (arith, c.pieces.invariant.place, c.pieces.invariant.len, c.pieces.invariant.within, c.pieces-test.false)
+
+pub returns-clause-near : goal.returns-clause-near
+returns-clause-near g c = omega (arith, c.pieces.invariant.place, c.pieces.invariant.len, c.pieces.invariant.within)
+
+pub returns-clause-given : goal.returns-clause-given
+returns-clause-given g c = λ file stands.
     let inv = c.pieces.invariant in
-    let all : c.pieces.done ≡ length c.args.out.now = omega (arith, inv.len, inv.within, c.pieces-test.false) in
-    let room = (inv.pulled.stands file stands).window.within in (
-      omega (arith, room, inv.place, all),
-      sym (take_all c.pieces.done c.pieces.out (omega (arith, inv.len, all)))
-          ∙ subst (λ (n : ℕ). take c.pieces.done c.pieces.out ≡ Rattle.octets_core.specs.Position.piece n file (place_of c.args.feed.now)) all (inv.taken file stands),
-    )
+    lies-front file (place_of c.args.feed.now) c.pieces.done (place_of c.pieces.feed) c.pieces.out inv.within inv.place
+    (omega (arith, (inv.pulled.stands file stands).window.within, inv.place)) (inv.taken file stands)
 
 pub returns-clause-unblamed : goal.returns-clause-unblamed
 returns-clause-unblamed g c = c.pieces.invariant.unblamed

@@ -1,4 +1,4 @@
-use Rattle.std.proofs.Common.{◌≡◌, ℕ, List, Option, Some, Result, Ok, Err, ap, subst, ◌∙◌, refl, sym, arith}
+use Rattle.std.proofs.Common.{◌≡◌, ℕ, List, Option, Some, None, Result, Ok, Err, ap, subst, ◌∙◌, refl, sym, arith}
 use Rattle.std.specs.Prelude.{IfSome}
 use Rattle.std.proofs.lemmas.Result.{err_from_is_err_and}
 use Rattle.outside_core.specs.Standing.{place_of}
@@ -7,16 +7,12 @@ use Rattle.job_core.specs.declared.fault.JobFault.TheVariants as faults
 use Rattle.job_core.specs.declared.partial.Numbers.{Numbers}
 use Rattle.job_core.specs.declared.records.Item.{Item as Taken}
 use Rattle.job_core.specs.JobFields.{fields_of_job}
-use Rattle.job_core.specs.JobLayout.{Item, OneRange, OneCrl, OneEntry, Held, with_item, serials_of, records}
-use Rattle.job_core.specs.Partial.{held_in, said_behind}
+use Rattle.job_core.specs.JobLayout.{Item, OneRange, OneCrl, OneEntry, CrlText, EntryText, Held, with_item}
+use Rattle.job_core.specs.Partial.{held_in}
 use Rattle.job_core.specs.Records.{item_of_record, some_record}
 use Rattle.job_core.proofs.Pulling.{pulled-none, pulled-then}
-use Rattle.job_core.proofs.Fetching.{blames-then}
-use Rattle.job_core.proofs.Saying.{says_more, says_all, says_over, says_fault}
+use Rattle.job_core.proofs.Gathering.{gathers-none, gathers-more, gathered-all, gathered-refused, gathered-fault, near-more, near-all}
 use Rattle.job_core.proofs.reading_from.put_items.Goals as goal
-
-abbrev told_as : ℕ → Option Taken → Result (Option Item × ℕ) JobFault
-told_as end o = Ok (some_record o, end)
 
 abbrev Behind : Numbers → Numbers → Option Taken → Type 0
 Behind old new o = IfSome o (λ taken. held_in new ≡ with_item (held_in old) (item_of_record taken))
@@ -25,8 +21,8 @@ pub records-init : goal.records-init
 records-init g c = record {
   pulled = pulled-none g.D.Depot c.args.feed.now;
   none = refl;
-  read = λ file stands. ap
-      (λ (h : Held). said_behind (fields_of_job c.args.job.now) (records serials_of c.args.limits.now h 0 file (place_of c.args.feed.now))) c.no_numbers-numbers.ensures;
+  gathers = gathers-none g.D.Depot c.args.limits.now (fields_of_job c.args.job.now) (held_in c.no_numbers-numbers.result) c.args.feed.now c.no_numbers-numbers.ensures;
+  near = omega arith;
   few = omega arith;
 }
 
@@ -35,23 +31,18 @@ returns-in-Ok-None g c =
     let inv = c.records.invariant in
     let e = c.in-Ok-None.ensures.exact in
     record {
-      pulled = pulled-then g.D.Depot c.args.feed.now c.records.feed c.next_item_from.new.feed inv.pulled e.pulled;
-      blames = e.blames ∙ inv.none;
-      says = λ file stands.
-          says_all c.args.limits.now (fields_of_job c.records.job) (held_in c.records.numbers) c.records.serials file (place_of c.records.feed) _ (place_of c.next_item_from.new.feed)
-          ((e.tells file (inv.pulled.stands file stands)).0 ∙ ap (told_as (place_of c.next_item_from.new.feed)) c.in-Ok-None.field-0-is) (inv.read file stands);
+      exact = gathered-all g.D.Depot c.args.limits.now (fields_of_job c.args.job.now) (fields_of_job c.records.job) (held_in c.records.numbers) c.records.serials c.args.feed.now c.records.feed
+          c.next_item_from.new.feed inv.gathers inv.pulled _ e (λ u. fields_of_job c.records.job) _ refl inv.none (ap some_record c.in-Ok-None.field-0-is);
+      near = near-all c.records.numbers (place_of c.args.feed.now) (place_of c.records.feed) (place_of c.next_item_from.new.feed) c.numbers_facts.ensures.0 c.numbers_facts.ensures.1 c.numbers_facts.ensures.2 inv.near (omega (arith, c.next_item_from.ensures.near));
     }
 
 pub returns-in-Err : goal.returns-in-Err
 returns-in-Err g c =
     let inv = c.records.invariant in
-    let e = c.in-Err.ensures.exact in
     record {
-      pulled = pulled-then g.D.Depot c.args.feed.now c.records.feed c.next_item_from.new.feed inv.pulled e.pulled;
-      blames = blames-then {X = Unit {0}} g.D.Depot c.args.feed.now c.records.feed c.next_item_from.new.feed (Err c.in-Err.fault) inv.pulled inv.none e.blames;
-      says = λ file stands of.
-          says_fault c.args.limits.now (fields_of_job c.records.job) (held_in c.records.numbers) c.records.serials file (place_of c.records.feed) _ c.in-Err.fault
-          (e.tells file (inv.pulled.stands file stands) of) (inv.read file stands);
+      exact = gathered-fault g.D.Depot c.args.limits.now (fields_of_job c.args.job.now) (fields_of_job c.records.job) (held_in c.records.numbers) c.records.serials c.args.feed.now c.records.feed
+          c.next_item_from.new.feed inv.gathers inv.pulled (λ u. fields_of_job c.records.job) c.in-Err.fault inv.none c.in-Err.ensures.exact;
+      near = near-all c.records.numbers (place_of c.args.feed.now) (place_of c.records.feed) (place_of c.next_item_from.new.feed) c.numbers_facts.ensures.0 c.numbers_facts.ensures.1 c.numbers_facts.ensures.2 inv.near (omega (arith, c.next_item_from.ensures.near));
     }
 
 pub records-preserved-in-Continue-1 : goal.records-preserved-in-Continue-1
@@ -59,14 +50,14 @@ records-preserved-in-Continue-1 g c =
     let inv = c.records.invariant in
     let e = c.in-Ok-Some-Range.ensures.exact in
     let is = c.in-Ok-Some-Range.field-0-is ∙ ap Some c.in-Ok-Some-Range.field-0-0-is in
+    let x : Item = OneRange c.in-Ok-Some-Range.range in
+    let holds = subst (Behind c.records.numbers c.next_item_from.new.numbers) is c.in-Ok-Some-Range.ensures.behind in
     record {
       pulled = pulled-then g.D.Depot c.args.feed.now c.records.feed c.next_item_from.new.feed inv.pulled e.pulled;
       none = e.blames ∙ inv.none;
-      read = λ file stands.
-          says_more c.args.limits.now (fields_of_job c.records.job) (held_in c.records.numbers) c.records.serials file (place_of c.records.feed) _ (OneRange c.in-Ok-Some-Range.range)
-          (place_of c.next_item_from.new.feed)
-          _ _ _ file ((e.tells file (inv.pulled.stands file stands)).0 ∙ ap (told_as (place_of c.next_item_from.new.feed)) is) c.in_ok-put_range-in-Ok-Some-Range.ensures.ok
-          (subst (Behind c.records.numbers c.next_item_from.new.numbers) is c.in-Ok-Some-Range.ensures.behind) refl inv.few refl (inv.read file stands);
+      gathers = gathers-more g.D.Depot c.args.limits.now (fields_of_job c.args.job.now) (fields_of_job c.records.job) (held_in c.records.numbers) c.records.serials c.args.feed.now c.records.feed
+          c.next_item_from.new.feed inv.gathers inv.pulled _ e x (held_in c.next_item_from.new.numbers) _ _ (ap some_record is) c.in_ok-put_range-in-Ok-Some-Range.ensures.ok holds refl inv.few;
+      near = near-more c.records.numbers c.next_item_from.new.numbers x (place_of c.args.feed.now) (place_of c.records.feed) (place_of c.next_item_from.new.feed) holds inv.near (omega (arith, c.next_item_from.ensures.near));
       few = inv.few;
     }
 
@@ -78,17 +69,14 @@ records-preserved-in-Ok-Some-Crl g c =
     let inv = c.records.invariant in
     let e = c.in-Ok-Some-Crl.ensures.exact in
     let is = c.in-Ok-Some-Crl.field-0-is ∙ ap Some c.in-Ok-Some-Crl.field-0-0-is in
+    let x : Item = OneCrl (record { issuer = c.in-Ok-Some-Crl.crl.issuer; bytes = c.deref.result.now }) in
+    let holds = subst (Behind c.records.numbers c.next_item_from.new.numbers) is c.in-Ok-Some-Crl.ensures.behind in
     record {
       pulled = pulled-then g.D.Depot c.args.feed.now c.records.feed c.next_item_from.new.feed inv.pulled e.pulled;
       none = e.blames ∙ inv.none;
-      read = λ file stands.
-          says_more c.args.limits.now (fields_of_job c.records.job) (held_in c.records.numbers) c.records.serials file (place_of c.records.feed) _
-          (OneCrl (record { issuer = c.in-Ok-Some-Crl.crl.issuer; bytes = c.deref.result.now })) (place_of c.next_item_from.new.feed)
-          _ _ _ file ((e.tells file (inv.pulled.stands file stands)).0 ∙ ap (told_as (place_of c.next_item_from.new.feed)) is
-          ∙ ap (λ (b : List ℕ). Ok (Some (OneCrl (record { issuer = c.in-Ok-Some-Crl.crl.issuer; bytes = b })), place_of c.next_item_from.new.feed)) (sym c.deref.ensures.value))
-          c.in_ok-serials-in-Ok-Some-Crl.ensures.0
-          (subst (Behind c.records.numbers c.next_item_from.new.numbers) is c.in-Ok-Some-Crl.ensures.behind) c.in_ok-serials-in-Ok-Some-Crl.ensures.1 c.in_ok-serials-in-Ok-Some-Crl.ensures.2 refl
-          (inv.read file stands);
+      gathers = gathers-more g.D.Depot c.args.limits.now (fields_of_job c.args.job.now) (fields_of_job c.records.job) (held_in c.records.numbers) c.records.serials c.args.feed.now c.records.feed
+          c.next_item_from.new.feed inv.gathers inv.pulled _ e x (held_in c.next_item_from.new.numbers) _ _ (ap some_record is ∙ ap (λ (b : List ℕ). Some (OneCrl (record { issuer = c.in-Ok-Some-Crl.crl.issuer; bytes = b }))) (sym c.deref.ensures.value)) c.in_ok-serials-in-Ok-Some-Crl.ensures.0 holds c.in_ok-serials-in-Ok-Some-Crl.ensures.1 c.in_ok-serials-in-Ok-Some-Crl.ensures.2;
+      near = near-more c.records.numbers c.next_item_from.new.numbers x (place_of c.args.feed.now) (place_of c.records.feed) (place_of c.next_item_from.new.feed) holds inv.near (omega (arith, c.next_item_from.ensures.near));
       few = c.in_ok-serials-in-Ok-Some-Crl.ensures.2;
     }
 
@@ -100,18 +88,16 @@ records-preserved g c =
     let inv = c.records.invariant in
     let e = c.in-Ok-Some-Entry.ensures.exact in
     let is = c.in-Ok-Some-Entry.field-0-is ∙ ap Some c.in-Ok-Some-Entry.field-0-0-is in
+    let x : Item = OneEntry (record { log = c.in-Ok-Some-Entry.entry.log; leaf = c.deref-in-Ok-Some-Entry.result.now; extra = c.deref-in-Ok-Some-Entry-2.result.now }) in
+    let holds = subst (Behind c.records.numbers c.next_item_from.new.numbers) is c.in-Ok-Some-Entry.ensures.behind in
     record {
       pulled = pulled-then g.D.Depot c.args.feed.now c.records.feed c.next_item_from.new.feed inv.pulled e.pulled;
       none = e.blames ∙ inv.none;
-      read = λ file stands.
-          says_more c.args.limits.now (fields_of_job c.records.job) (held_in c.records.numbers) c.records.serials file (place_of c.records.feed) _
-          (OneEntry (record { log = c.in-Ok-Some-Entry.entry.log; leaf = c.deref-in-Ok-Some-Entry.result.now; extra = c.deref-in-Ok-Some-Entry-2.result.now })) (place_of c.next_item_from.new.feed)
-          _ _ _ file ((e.tells file (inv.pulled.stands file stands)).0 ∙ ap (told_as (place_of c.next_item_from.new.feed)) is
-          ∙ ap (λ (b : List ℕ). Ok (Some (OneEntry (record { log = c.in-Ok-Some-Entry.entry.log; leaf = b; extra = c.in-Ok-Some-Entry.entry.extra.items })), place_of c.next_item_from.new.feed))
-          (sym c.deref-in-Ok-Some-Entry.ensures.value) ∙ ap
-          (λ (b : List ℕ). Ok (Some (OneEntry (record { log = c.in-Ok-Some-Entry.entry.log; leaf = c.deref-in-Ok-Some-Entry.result.now; extra = b })), place_of c.next_item_from.new.feed))
-          (sym c.deref-in-Ok-Some-Entry-2.ensures.value)) c.in_ok-put_entry-in-Ok-Some-Entry.ensures.ok
-          (subst (Behind c.records.numbers c.next_item_from.new.numbers) is c.in-Ok-Some-Entry.ensures.behind) refl inv.few refl (inv.read file stands);
+      gathers = gathers-more g.D.Depot c.args.limits.now (fields_of_job c.args.job.now) (fields_of_job c.records.job) (held_in c.records.numbers) c.records.serials c.args.feed.now c.records.feed
+          c.next_item_from.new.feed inv.gathers inv.pulled _ e x (held_in c.next_item_from.new.numbers) _ _ (ap some_record is
+          ∙ ap (λ (b : List ℕ). Some (OneEntry (record { log = c.in-Ok-Some-Entry.entry.log; leaf = b; extra = c.in-Ok-Some-Entry.entry.extra.items }))) (sym c.deref-in-Ok-Some-Entry.ensures.value)
+          ∙ ap (λ (b : List ℕ). Some (OneEntry (record { log = c.in-Ok-Some-Entry.entry.log; leaf = c.deref-in-Ok-Some-Entry.result.now; extra = b }))) (sym c.deref-in-Ok-Some-Entry-2.ensures.value)) c.in_ok-put_entry-in-Ok-Some-Entry.ensures.ok holds refl inv.few;
+      near = near-more c.records.numbers c.next_item_from.new.numbers x (place_of c.args.feed.now) (place_of c.records.feed) (place_of c.next_item_from.new.feed) holds inv.near (omega (arith, c.next_item_from.ensures.near));
       few = inv.few;
     }
 
@@ -126,20 +112,11 @@ returns-in_err-serials-in-Ok-Some-Crl g c =
     let e = c.in-Ok-Some-Crl.ensures.exact in
     let is = c.in-Ok-Some-Crl.field-0-is ∙ ap Some c.in-Ok-Some-Crl.field-0-0-is in
     rw (p.1, p.2) (record {
-      pulled = pulled-then g.D.Depot c.args.feed.now c.records.feed c.next_item_from.new.feed inv.pulled e.pulled;
-      blames = (
-        λ same. let wants : c.in_err-serials-in-Ok-Some-Crl.field-0.0 ≡ faults.NoMemory
-            → ⊥ = λ other. absurd cc in let over = (c.in_err-serials-in-Ok-Some-Crl.ensures wants).0 in absurd cc,
-        λ not. e.blames ∙ inv.none,
-      );
-      says = λ file stands of.
-          let over = c.in_err-serials-in-Ok-Some-Crl.ensures of.0 in
-          says_over c.args.limits.now (fields_of_job c.records.job) (held_in c.records.numbers) c.records.serials file (place_of c.records.feed) _
-          (OneCrl (record { issuer = c.in-Ok-Some-Crl.crl.issuer; bytes = c.deref.result.now })) (place_of c.next_item_from.new.feed)
-          ((e.tells file (inv.pulled.stands file stands)).0 ∙ ap (told_as (place_of c.next_item_from.new.feed)) is
-          ∙ ap (λ (b : List ℕ). Ok (Some (OneCrl (record { issuer = c.in-Ok-Some-Crl.crl.issuer; bytes = b })), place_of c.next_item_from.new.feed)) (sym c.deref.ensures.value)) over.1
-          (inv.read file stands)
-          ∙ ap Err (sym over.0);
+      exact = gathered-refused g.D.Depot c.args.limits.now (fields_of_job c.args.job.now) (fields_of_job c.records.job) (held_in c.records.numbers) c.records.serials c.args.feed.now c.records.feed
+          c.next_item_from.new.feed inv.gathers inv.pulled _ e _ (OneCrl (record { issuer = c.in-Ok-Some-Crl.crl.issuer; bytes = c.deref.result.now })) _ (ap some_record is ∙ ap (λ (b : List ℕ). Some (OneCrl (record { issuer = c.in-Ok-Some-Crl.crl.issuer; bytes = b }))) (sym c.deref.ensures.value)) inv.none
+          (λ same. let wants : c.in_err-serials-in-Ok-Some-Crl.field-0.0 ≡ faults.NoMemory → ⊥ = λ other. absurd cc in let over = (c.in_err-serials-in-Ok-Some-Crl.ensures wants).0 in absurd cc)
+          c.in_err-serials-in-Ok-Some-Crl.ensures;
+      near = near-all c.records.numbers (place_of c.args.feed.now) (place_of c.records.feed) (place_of c.next_item_from.new.feed) c.numbers_facts.ensures.0 c.numbers_facts.ensures.1 c.numbers_facts.ensures.2 inv.near (omega (arith, c.next_item_from.ensures.near));
     })
 
 pub returns-in_err-put_range-in-Ok-Some-Range : goal.returns-in_err-put_range-in-Ok-Some-Range
@@ -148,11 +125,13 @@ returns-in_err-put_range-in-Ok-Some-Range g c =
     let p = err_from_is_err_and r.result r.ensures.1 in
     let inv = c.records.invariant in
     let e = c.in-Ok-Some-Range.ensures.exact in
-    let none = c.in_err-put_range-in-Ok-Some-Range.ensures.wanted in
+    let is = c.in-Ok-Some-Range.field-0-is ∙ ap Some c.in-Ok-Some-Range.field-0-0-is in
     rw (p.1, p.2) (record {
-      pulled = pulled-then g.D.Depot c.args.feed.now c.records.feed c.next_item_from.new.feed inv.pulled e.pulled;
-      blames = (λ same. absurd cc, λ not. e.blames ∙ inv.none);
-      says = λ file stands of. absurd (of.0 none);
+      exact = gathered-refused g.D.Depot c.args.limits.now (fields_of_job c.args.job.now) (fields_of_job c.records.job) (held_in c.records.numbers) c.records.serials c.args.feed.now c.records.feed
+          c.next_item_from.new.feed inv.gathers inv.pulled _ e _ (OneRange c.in-Ok-Some-Range.range) _ (ap some_record is) inv.none
+          (λ same. let none = c.in_err-put_range-in-Ok-Some-Range.ensures.wanted in absurd cc)
+          (λ other. absurd (other c.in_err-put_range-in-Ok-Some-Range.ensures.wanted));
+      near = near-all c.records.numbers (place_of c.args.feed.now) (place_of c.records.feed) (place_of c.next_item_from.new.feed) c.numbers_facts.ensures.0 c.numbers_facts.ensures.1 c.numbers_facts.ensures.2 inv.near (omega (arith, c.next_item_from.ensures.near));
     })
 
 pub returns-in_err-put_entry-in-Ok-Some-Entry : goal.returns-in_err-put_entry-in-Ok-Some-Entry
@@ -161,9 +140,13 @@ returns-in_err-put_entry-in-Ok-Some-Entry g c =
     let p = err_from_is_err_and r.result r.ensures.1 in
     let inv = c.records.invariant in
     let e = c.in-Ok-Some-Entry.ensures.exact in
-    let none = c.in_err-put_entry-in-Ok-Some-Entry.ensures.wanted in
+    let is = c.in-Ok-Some-Entry.field-0-is ∙ ap Some c.in-Ok-Some-Entry.field-0-0-is in
     rw (p.1, p.2) (record {
-      pulled = pulled-then g.D.Depot c.args.feed.now c.records.feed c.next_item_from.new.feed inv.pulled e.pulled;
-      blames = (λ same. absurd cc, λ not. e.blames ∙ inv.none);
-      says = λ file stands of. absurd (of.0 none);
+      exact = gathered-refused g.D.Depot c.args.limits.now (fields_of_job c.args.job.now) (fields_of_job c.records.job) (held_in c.records.numbers) c.records.serials c.args.feed.now c.records.feed
+          c.next_item_from.new.feed inv.gathers inv.pulled _ e _ (OneEntry (record { log = c.in-Ok-Some-Entry.entry.log; leaf = c.deref-in-Ok-Some-Entry.result.now; extra = c.deref-in-Ok-Some-Entry-2.result.now })) _ (ap some_record is
+          ∙ ap (λ (b : List ℕ). Some (OneEntry (record { log = c.in-Ok-Some-Entry.entry.log; leaf = b; extra = c.in-Ok-Some-Entry.entry.extra.items }))) (sym c.deref-in-Ok-Some-Entry.ensures.value)
+          ∙ ap (λ (b : List ℕ). Some (OneEntry (record { log = c.in-Ok-Some-Entry.entry.log; leaf = c.deref-in-Ok-Some-Entry.result.now; extra = b }))) (sym c.deref-in-Ok-Some-Entry-2.ensures.value)) inv.none
+          (λ same. let none = c.in_err-put_entry-in-Ok-Some-Entry.ensures.wanted in absurd cc)
+          (λ other. absurd (other c.in_err-put_entry-in-Ok-Some-Entry.ensures.wanted));
+      near = near-all c.records.numbers (place_of c.args.feed.now) (place_of c.records.feed) (place_of c.next_item_from.new.feed) c.numbers_facts.ensures.0 c.numbers_facts.ensures.1 c.numbers_facts.ensures.2 inv.near (omega (arith, c.next_item_from.ensures.near));
     })

@@ -11,7 +11,7 @@ returns-then-not-is_room-clause-exact g c =
 pub returns-in_err-entry-clause-exact : goal.returns-in_err-entry-clause-exact
 returns-in_err-entry-clause-exact g c =
     let p = err_from_is_err_and c.from_residual.result c.from_residual.ensures.1 in
-    rw (p.1, p.2) (entry_item-err g.D.Depot c.args.limits.now (held_in c.args.numbers.now) c.args.feed.now _ _ (sym c.is_room.ensures ∙ c.if-not-is_room.false) c.in_err-entry.ensures)
+    rw (p.1, p.2) (entry_item-err g.D.Depot c.args.limits.now (held_in c.args.numbers.now) c.args.feed.now _ _ (sym c.is_room.ensures ∙ c.if-not-is_room.false) c.in_err-entry.ensures.exact)
 
 pub returns-clause-exact : goal.returns-clause-exact
-returns-clause-exact g c = entry_item-fetched g.D.Depot c.args.limits.now (held_in c.args.numbers.now) c.args.feed.now _ _ (sym c.is_room.ensures ∙ c.if-not-is_room.false) c.in_ok-entry.ensures
+returns-clause-exact g c = entry_item-fetched g.D.Depot c.args.limits.now (held_in c.args.numbers.now) c.args.feed.now _ _ (sym c.is_room.ensures ∙ c.if-not-is_room.false) c.in_ok-entry.ensures.exact

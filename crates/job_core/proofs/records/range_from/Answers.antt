@@ -11,7 +11,7 @@ returns-then-not-is_room-clause-exact g c =
 pub returns-in_err-range-clause-exact : goal.returns-in_err-range-clause-exact
 returns-in_err-range-clause-exact g c =
     let p = err_from_is_err_and c.from_residual.result c.from_residual.ensures.1 in
-    rw (p.1, p.2) (range_item-err g.D.Depot c.args.limits.now (held_in c.args.numbers.now) c.args.feed.now _ _ (sym c.is_room.ensures ∙ c.if-not-is_room.false) c.in_err-range.ensures)
+    rw (p.1, p.2) (range_item-err g.D.Depot c.args.limits.now (held_in c.args.numbers.now) c.args.feed.now _ _ (sym c.is_room.ensures ∙ c.if-not-is_room.false) c.in_err-range.ensures.exact)
 
 pub returns-clause-exact : goal.returns-clause-exact
-returns-clause-exact g c = range_item-fetched g.D.Depot c.args.limits.now (held_in c.args.numbers.now) c.args.feed.now _ _ (sym c.is_room.ensures ∙ c.if-not-is_room.false) c.in_ok-range.ensures
+returns-clause-exact g c = range_item-fetched g.D.Depot c.args.limits.now (held_in c.args.numbers.now) c.args.feed.now _ _ (sym c.is_room.ensures ∙ c.if-not-is_room.false) c.in_ok-range.ensures.exact

@@ -14,7 +14,7 @@ use Rattle.job_core.specs.Partial.{held_in}
 use Rattle.job_core.specs.Records.{item_of_record, some_record}
 use Rattle.job_core.specs.declared.partial.Numbers.{Numbers}
 use Rattle.job_core.proofs.Pulling.{pulled-then}
-use Rattle.job_core.proofs.Fetching.{blames-then}
+use Rattle.job_core.proofs.Fetching.{blames-then, told, end-ok}
 use Rattle.job_core.proofs.JobStanding.{gives-one, gives-end, gives-fault, gives-more}
 use Rattle.job_core.proofs.reader.JobReader.record.Goals as goal
 
@@ -29,7 +29,7 @@ returns-in_err-next_item_from-clause-next g c =
     let p = err_from_is_err_and c.from_residual.result c.from_residual.ensures.1 in
     let e = c.in_err-next_item_from.ensures.exact in
     rw (p.1, p.2) (λ file stands has. gives-fault c.args.self.now c.args.self.now file (place_of c.args.feed.now) (place_of c.next_item_from.new.feed)
-    (omega (arith, stands.window.within)) has _ c.requires (e.tells file stands))
+    (omega (arith, stands.window.within)) has _ c.requires (told e file stands))
 
 pub returns-in_err-next_item_from-clause-pulled : goal.returns-in_err-next_item_from-clause-pulled
 returns-in_err-next_item_from-clause-pulled g c = c.in_err-next_item_from.ensures.exact.pulled
@@ -44,47 +44,48 @@ returns-in_ok-fetch_end-in-None-clause-next g c = λ file stands has.
     let e = c.in_ok-next_item_from.ensures.exact in
     let f = c.in_ok-fetch_end-in-None.ensures in
     let mid = e.pulled.stands file stands in
-    let later = f.exact.pulled.stands file mid in
-    let t = e.tells file stands in
+    let later = f.pulled.stands file mid in
+    let t = told e file stands in
     gives-end c.args.self.now (record c.args.self.now { numbers = c.next_item_from.new.numbers; stage = stages.Ended }) file (place_of c.args.feed.now) (place_of c.fetch_end.new.feed)
-    (omega (arith, e.pulled.further, f.exact.pulled.further)) (omega (arith, later.window.within)) refl has (place_of c.next_item_from.new.feed) _ c.requires refl (sym f.place)
-    (t.0 ∙ ap (told_as (place_of c.next_item_from.new.feed)) c.in-None.is, t.1) (f.exact.tells file mid).0
+    (omega (arith, e.pulled.further, f.pulled.further)) (omega (arith, later.window.within)) refl has (place_of c.next_item_from.new.feed) _ c.requires refl (sym f.place)
+    (t.0 ∙ ap (told_as (place_of c.next_item_from.new.feed)) c.in-None.is, t.1) (end-ok file (place_of c.next_item_from.new.feed) (place_of c.fetch_end.new.feed) (f.ended file mid) f.place)
 
 pub returns-in_ok-fetch_end-in-None-clause-pulled : goal.returns-in_ok-fetch_end-in-None-clause-pulled
 returns-in_ok-fetch_end-in-None-clause-pulled g c = pulled-then g.D.Depot c.args.feed.now c.next_item_from.new.feed c.fetch_end.new.feed
-    c.in_ok-next_item_from.ensures.exact.pulled c.in_ok-fetch_end-in-None.ensures.exact.pulled
+    c.in_ok-next_item_from.ensures.exact.pulled c.in_ok-fetch_end-in-None.ensures.pulled
 
 pub returns-in_ok-fetch_end-in-None-clause-blames : goal.returns-in_ok-fetch_end-in-None-clause-blames
-returns-in_ok-fetch_end-in-None-clause-blames g c = c.in_ok-fetch_end-in-None.ensures.exact.blames ∙ c.in_ok-next_item_from.ensures.exact.blames
+returns-in_ok-fetch_end-in-None-clause-blames g c = c.in_ok-fetch_end-in-None.ensures.blames ∙ c.in_ok-next_item_from.ensures.exact.blames
 
 pub returns-in_err-fetch_end-in-None-clause-next : goal.returns-in_err-fetch_end-in-None-clause-next
 returns-in_err-fetch_end-in-None-clause-next g c =
     let r = c.from_residual-in_err-fetch_end-in-None in
     let p = err_from_is_err_and r.result r.ensures.1 in
     let e = c.in_ok-next_item_from.ensures.exact in
-    let f = c.in_err-fetch_end-in-None.ensures.exact in
+    let f = c.in_err-fetch_end-in-None.ensures in
     rw (p.1, p.2) (λ file stands has.
-    let t = e.tells file stands in
+    let t = told e file stands in
     gives-more c.args.self.now c.args.self.now file (place_of c.args.feed.now) (place_of c.fetch_end.new.feed) (omega (arith, stands.window.within)) has _ (place_of c.next_item_from.new.feed)
-    c.requires (t.0 ∙ ap (told_as (place_of c.next_item_from.new.feed)) c.in-None.is) (f.tells file (e.pulled.stands file stands)))
+    c.requires (t.0 ∙ ap (told_as (place_of c.next_item_from.new.feed)) c.in-None.is) (λ of.
+    let (x, next, wrong) = f.more of in wrong file (omega (arith, (next file (e.pulled.stands file stands)).within))))
 
 pub returns-in_err-fetch_end-in-None-clause-pulled : goal.returns-in_err-fetch_end-in-None-clause-pulled
 returns-in_err-fetch_end-in-None-clause-pulled g c = pulled-then g.D.Depot c.args.feed.now c.next_item_from.new.feed c.fetch_end.new.feed
-    c.in_ok-next_item_from.ensures.exact.pulled c.in_err-fetch_end-in-None.ensures.exact.pulled
+    c.in_ok-next_item_from.ensures.exact.pulled c.in_err-fetch_end-in-None.ensures.pulled
 
 pub returns-in_err-fetch_end-in-None-clause-blames : goal.returns-in_err-fetch_end-in-None-clause-blames
 returns-in_err-fetch_end-in-None-clause-blames g c =
     let r = c.from_residual-in_err-fetch_end-in-None in
     let p = err_from_is_err_and r.result r.ensures.1 in
     let e = c.in_ok-next_item_from.ensures.exact in
-    rw (p.1, p.2) (blames-then {X = Record} g.D.Depot c.args.feed.now c.next_item_from.new.feed c.fetch_end.new.feed (Err _) e.pulled e.blames c.in_err-fetch_end-in-None.ensures.exact.blames)
+    rw (p.1, p.2) (blames-then {X = Record} g.D.Depot c.args.feed.now c.next_item_from.new.feed c.fetch_end.new.feed (Err _) e.pulled e.blames c.in_err-fetch_end-in-None.ensures.blames)
 
 pub returns-in-Some-Range-clause-next : goal.returns-in-Some-Range-clause-next
 returns-in-Some-Range-clause-next g c = λ file stands has.
     let e = c.in_ok-next_item_from.ensures.exact in
     let later = e.pulled.stands file stands in
     let is = c.in-Some-Range.is ∙ ap Some c.in-Some-Range.field-0-is in
-    let t = e.tells file stands in
+    let t = told e file stands in
     gives-one c.args.self.now (record c.args.self.now { numbers = c.next_item_from.new.numbers }) file (place_of c.args.feed.now) (place_of c.next_item_from.new.feed) e.pulled.further
     (omega (arith, later.window.within)) refl has (OneRange c.in-Some-Range.range) (gives.Range c.in-Some-Range.range) c.requires c.requires
     (subst (Behind c.args.self.now.numbers c.next_item_from.new.numbers) is c.in_ok-next_item_from.ensures.behind) refl (λ same. absurd cc)
@@ -101,7 +102,7 @@ returns-in-Some-Crl-clause-next g c = λ file stands has.
     let e = c.in_ok-next_item_from.ensures.exact in
     let later = e.pulled.stands file stands in
     let is = c.in-Some-Crl.is ∙ ap Some c.in-Some-Crl.field-0-is in
-    let t = e.tells file stands in
+    let t = told e file stands in
     gives-one c.args.self.now (record c.args.self.now { numbers = c.next_item_from.new.numbers }) file (place_of c.args.feed.now) (place_of c.next_item_from.new.feed) e.pulled.further
     (omega (arith, later.window.within)) refl has (OneCrl (crl_held c.in-Some-Crl.crl)) (gives.Crl c.in-Some-Crl.crl) c.requires c.requires
     (subst (Behind c.args.self.now.numbers c.next_item_from.new.numbers) is c.in_ok-next_item_from.ensures.behind) refl (λ same. absurd cc)
@@ -118,7 +119,7 @@ returns-in-Some-Entry-clause-next g c = λ file stands has.
     let e = c.in_ok-next_item_from.ensures.exact in
     let later = e.pulled.stands file stands in
     let is = c.in-Some-Entry.is ∙ ap Some c.in-Some-Entry.field-0-is in
-    let t = e.tells file stands in
+    let t = told e file stands in
     gives-one c.args.self.now (record c.args.self.now { numbers = c.next_item_from.new.numbers }) file (place_of c.args.feed.now) (place_of c.next_item_from.new.feed) e.pulled.further
     (omega (arith, later.window.within)) refl has (OneEntry (entry_held c.in-Some-Entry.entry)) (gives.Entry c.in-Some-Entry.entry) c.requires c.requires
     (subst (Behind c.args.self.now.numbers c.next_item_from.new.numbers) is c.in_ok-next_item_from.ensures.behind) refl (λ same. absurd cc)
