@@ -35,8 +35,8 @@ fn build_blocks<R: Threads + Sync, H: EquationHash + Sync, G: Gate + Sync>(
 
 /// The part of this head with the block of each group, or the first refusal. The groups are built side by side, by as
 /// many threads as there are workers, or groups where these are fewer. Each thread builds neighbouring groups in order,
-/// and enters the gate before each. One worker builds all on the caller's thread; where there are several, the rows of a
-/// large group are made by as many threads as there are processors.
+/// and enters the gate before each. One worker builds all on the caller's thread; where there are several, the rows of
+/// a large group are made by as many threads as there are processors.
 pub fn build_part<R: Threads + Sync, H: EquationHash + Sync, G: Gate + Sync>(
     rt: &R,
     alloc: Global,

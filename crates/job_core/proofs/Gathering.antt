@@ -37,7 +37,8 @@ gathers-none g limits f h feed none = record {
   reads = λ file lies. ap (λ (k : Held). said_behind f (records serials_of limits k 0 file (place_of feed))) none;
 }
 
-module _ {D : Type 0} (g : Ghosts D) (limits : Limits) (first f : JobFields) (h : Held) (serials : ℕ) (old mid new : Feed D) (s : Gathers g limits first f h serials old mid) (pulled : Pulled g old mid) where
+module _ {D : Type 0} (g : Ghosts D) (limits : Limits) (first f : JobFields) (h : Held) (serials : ℕ) (old mid new : Feed D)
+    (s : Gathers g limits first f h serials old mid) (pulled : Pulled g old mid) where
   both-lie : (more : List ℕ) (ended : Bool) → ((file : List ℕ) → StandsIn g mid file → Lies ended file (place_of mid) more)
       → (file : List ℕ) → StandsIn g old file → Lies ended file (place_of old) (s.given ++ more)
   both-lie more ended each file stands = lies-both ended file (place_of old) (place_of mid) s.given more s.place (s.lies file stands) (each file (pulled.stands file stands))

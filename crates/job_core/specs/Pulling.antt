@@ -3,7 +3,7 @@ use Rattle.std.specs.Prelude.{◌≡◌, ◌+◌, ◌≤◌, ◌<◌, ◌-◌, �
 use Rattle.std.specs.FinMap.{get}
 use Rattle.octets_core.specs.Layout.{Layout}
 use Rattle.octets_core.specs.Position.{piece}
-use Rattle.octets_core.specs.Reading.{end}
+use Rattle.octets_core.specs.Reading.{end as file_end}
 use Rattle.outside_core.specs.declared.depot.Depot.{Ghosts}
 use Rattle.outside_core.specs.declared.feed.Feed.{Feed}
 use Rattle.outside_core.specs.Effects.{OnlyReads, ReadFailed}
@@ -49,8 +49,8 @@ pub record Lies (ended : Bool) (file : List ℕ) (at : ℕ) (given : List ℕ) :
   pub same : given ≡ piece (length given) file at
   pub last : ended ≡ true → length file ≤ at + length given
 
--- What a function that reads a layout off a feed did: some bytes were given, which where files are told lie in the feed's
--- file, and in each file in which they lie so the layout gives the result.
+-- What a function that reads a layout off a feed did: some bytes were given, which where files are told lie in the
+-- feed's file, and in each file in which they lie so the layout gives the result.
 pub record Fetches {D X A : Type 0} (g : Ghosts D) (view : X → A) (layout : Layout JobFault A) (old new : Feed D) (result : Result X JobFault) : Type 0 where
   pub pulled : Pulled g old new
   pub blames : Blames g old new result
@@ -70,7 +70,7 @@ Comes view read (Err e) = IsOfBytes e → read ≡ Err e
 abbrev pub SeesMore : {D : Type 0} → Ghosts D → Feed D → JobFault → Type 0
 SeesMore g old e =
     (x : ℕ) × ((file : List ℕ) → StandsIn g old file → Lies false file (place_of old) (x ∷ []))
-    × ((file : List ℕ) → place_of old < length file → fielded end file (place_of old) ≡ Err e)
+    × ((file : List ℕ) → place_of old < length file → fielded file_end file (place_of old) ≡ Err e)
 
 -- the bytes that the feed's file holds, where files are told
 abbrev pub IsGiven : {D : Type 0} → Ghosts D → Feed D → List ℕ → Type 0

@@ -81,8 +81,8 @@ impl Pile {
         }
     }
 
-    /// Collects the words of the open plane, which ends with these bytes. Where they are all of it they aren't collected
-    /// before.
+    /// Collects the words of the open plane, which ends with these bytes. Where they are all of it they aren't
+    /// collected before.
     fn push_plane(&mut self, last: &[u8]) -> Result<(), NoMemory>
         ensures { OnOk result (self.new ≡ spelled_plane (record self.old { plane = self.old.plane ++ last.now })) }
     {

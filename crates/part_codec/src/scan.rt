@@ -1,6 +1,7 @@
 //! Parts that are scanned in pieces, with no memory.
 
-ghost use Rattle.std.specs.Prelude.{◌≡◌, ◌≢◌, ◌++◌, ◌+◌, ◌-◌, ◌^◌, ◌≤◌, ◌<◌, ◌⊎◌, ℕ, List, [], length, take, false, Option, Some, None, Ok, Err, IfOk, OnOk, IfErr};
+ghost use Rattle.std.specs.Prelude.{◌≡◌, ◌≢◌, ◌++◌, ◌+◌, ◌-◌, ◌^◌, ◌≤◌, ◌<◌, ◌⊎◌, ℕ, List, [], length, take, false};
+ghost use Rattle.std.specs.Prelude.{Option, Some, None, Ok, Err, IfOk, OnOk, IfErr};
 ghost use Rattle.octets_core.specs.Reading.{fault_at};
 ghost use Rattle.octets_core.specs.declared.fault.LayoutFault.{LayoutFault};
 ghost use Rattle.octets_core.specs.declared.fault.Why.TheVariants as why;

@@ -20,7 +20,8 @@ returns-in_err-epoch g c =
       pulled = o.exact.pulled;
       blames = o.exact.blames;
       reads = reads-fault g.D.Depot c.args.limits.now fields_of_job (λ (f : JobFields). f) c.args.feed.now c.fetch_opening.new.feed c.requires _ (omega (arith, o.near, c.requires))
-          (fetched-err g.D.Depot (λ (o : ℕ × ℕ). o) (λ (f : JobFields). f) (fielded opening) (λ o. records_saying c.args.limits.now (begun o.0 o.1)) c.args.feed.now c.fetch_opening.new.feed _ o.exact);
+          (fetched-err g.D.Depot (λ (o : ℕ × ℕ). o) (λ (f : JobFields). f) (fielded opening) (λ o. records_saying c.args.limits.now (begun o.0 o.1))
+          c.args.feed.now c.fetch_opening.new.feed _ o.exact);
     })
 
 pub returns-in_err-put_items : goal.returns-in_err-put_items

@@ -33,7 +33,8 @@ returns-in-Ok-None g c =
     record {
       exact = gathered-all g.D.Depot c.args.limits.now (fields_of_job c.args.job.now) (fields_of_job c.records.job) (held_in c.records.numbers) c.records.serials c.args.feed.now c.records.feed
           c.next_item_from.new.feed inv.gathers inv.pulled _ e (λ u. fields_of_job c.records.job) _ refl inv.none (ap some_record c.in-Ok-None.field-0-is);
-      near = near-all c.records.numbers (place_of c.args.feed.now) (place_of c.records.feed) (place_of c.next_item_from.new.feed) c.numbers_facts.ensures.0 c.numbers_facts.ensures.1 c.numbers_facts.ensures.2 inv.near (omega (arith, c.next_item_from.ensures.near));
+      near = near-all c.records.numbers (place_of c.args.feed.now) (place_of c.records.feed) (place_of c.next_item_from.new.feed) c.numbers_facts.ensures.0
+          c.numbers_facts.ensures.1 c.numbers_facts.ensures.2 inv.near (omega (arith, c.next_item_from.ensures.near));
     }
 
 pub returns-in-Err : goal.returns-in-Err
@@ -42,7 +43,8 @@ returns-in-Err g c =
     record {
       exact = gathered-fault g.D.Depot c.args.limits.now (fields_of_job c.args.job.now) (fields_of_job c.records.job) (held_in c.records.numbers) c.records.serials c.args.feed.now c.records.feed
           c.next_item_from.new.feed inv.gathers inv.pulled (λ u. fields_of_job c.records.job) c.in-Err.fault inv.none c.in-Err.ensures.exact;
-      near = near-all c.records.numbers (place_of c.args.feed.now) (place_of c.records.feed) (place_of c.next_item_from.new.feed) c.numbers_facts.ensures.0 c.numbers_facts.ensures.1 c.numbers_facts.ensures.2 inv.near (omega (arith, c.next_item_from.ensures.near));
+      near = near-all c.records.numbers (place_of c.args.feed.now) (place_of c.records.feed) (place_of c.next_item_from.new.feed) c.numbers_facts.ensures.0
+          c.numbers_facts.ensures.1 c.numbers_facts.ensures.2 inv.near (omega (arith, c.next_item_from.ensures.near));
     }
 
 pub records-preserved-in-Continue-1 : goal.records-preserved-in-Continue-1
@@ -57,7 +59,8 @@ records-preserved-in-Continue-1 g c =
       none = e.blames ∙ inv.none;
       gathers = gathers-more g.D.Depot c.args.limits.now (fields_of_job c.args.job.now) (fields_of_job c.records.job) (held_in c.records.numbers) c.records.serials c.args.feed.now c.records.feed
           c.next_item_from.new.feed inv.gathers inv.pulled _ e x (held_in c.next_item_from.new.numbers) _ _ (ap some_record is) c.in_ok-put_range-in-Ok-Some-Range.ensures.ok holds refl inv.few;
-      near = near-more c.records.numbers c.next_item_from.new.numbers x (place_of c.args.feed.now) (place_of c.records.feed) (place_of c.next_item_from.new.feed) holds inv.near (omega (arith, c.next_item_from.ensures.near));
+      near = near-more c.records.numbers c.next_item_from.new.numbers x (place_of c.args.feed.now) (place_of c.records.feed)
+          (place_of c.next_item_from.new.feed) holds inv.near (omega (arith, c.next_item_from.ensures.near));
       few = inv.few;
     }
 
@@ -75,8 +78,11 @@ records-preserved-in-Ok-Some-Crl g c =
       pulled = pulled-then g.D.Depot c.args.feed.now c.records.feed c.next_item_from.new.feed inv.pulled e.pulled;
       none = e.blames ∙ inv.none;
       gathers = gathers-more g.D.Depot c.args.limits.now (fields_of_job c.args.job.now) (fields_of_job c.records.job) (held_in c.records.numbers) c.records.serials c.args.feed.now c.records.feed
-          c.next_item_from.new.feed inv.gathers inv.pulled _ e x (held_in c.next_item_from.new.numbers) _ _ (ap some_record is ∙ ap (λ (b : List ℕ). Some (OneCrl (record { issuer = c.in-Ok-Some-Crl.crl.issuer; bytes = b }))) (sym c.deref.ensures.value)) c.in_ok-serials-in-Ok-Some-Crl.ensures.0 holds c.in_ok-serials-in-Ok-Some-Crl.ensures.1 c.in_ok-serials-in-Ok-Some-Crl.ensures.2;
-      near = near-more c.records.numbers c.next_item_from.new.numbers x (place_of c.args.feed.now) (place_of c.records.feed) (place_of c.next_item_from.new.feed) holds inv.near (omega (arith, c.next_item_from.ensures.near));
+          c.next_item_from.new.feed inv.gathers inv.pulled _ e x (held_in c.next_item_from.new.numbers) _ _
+          (ap some_record is ∙ ap (λ (b : List ℕ). Some (OneCrl (record { issuer = c.in-Ok-Some-Crl.crl.issuer; bytes = b }))) (sym c.deref.ensures.value))
+          c.in_ok-serials-in-Ok-Some-Crl.ensures.0 holds c.in_ok-serials-in-Ok-Some-Crl.ensures.1 c.in_ok-serials-in-Ok-Some-Crl.ensures.2;
+      near = near-more c.records.numbers c.next_item_from.new.numbers x (place_of c.args.feed.now) (place_of c.records.feed)
+          (place_of c.next_item_from.new.feed) holds inv.near (omega (arith, c.next_item_from.ensures.near));
       few = c.in_ok-serials-in-Ok-Some-Crl.ensures.2;
     }
 
@@ -96,8 +102,10 @@ records-preserved g c =
       gathers = gathers-more g.D.Depot c.args.limits.now (fields_of_job c.args.job.now) (fields_of_job c.records.job) (held_in c.records.numbers) c.records.serials c.args.feed.now c.records.feed
           c.next_item_from.new.feed inv.gathers inv.pulled _ e x (held_in c.next_item_from.new.numbers) _ _ (ap some_record is
           ∙ ap (λ (b : List ℕ). Some (OneEntry (record { log = c.in-Ok-Some-Entry.entry.log; leaf = b; extra = c.in-Ok-Some-Entry.entry.extra.items }))) (sym c.deref-in-Ok-Some-Entry.ensures.value)
-          ∙ ap (λ (b : List ℕ). Some (OneEntry (record { log = c.in-Ok-Some-Entry.entry.log; leaf = c.deref-in-Ok-Some-Entry.result.now; extra = b }))) (sym c.deref-in-Ok-Some-Entry-2.ensures.value)) c.in_ok-put_entry-in-Ok-Some-Entry.ensures.ok holds refl inv.few;
-      near = near-more c.records.numbers c.next_item_from.new.numbers x (place_of c.args.feed.now) (place_of c.records.feed) (place_of c.next_item_from.new.feed) holds inv.near (omega (arith, c.next_item_from.ensures.near));
+          ∙ ap (λ (b : List ℕ). Some (OneEntry (record { log = c.in-Ok-Some-Entry.entry.log; leaf = c.deref-in-Ok-Some-Entry.result.now; extra = b })))
+          (sym c.deref-in-Ok-Some-Entry-2.ensures.value)) c.in_ok-put_entry-in-Ok-Some-Entry.ensures.ok holds refl inv.few;
+      near = near-more c.records.numbers c.next_item_from.new.numbers x (place_of c.args.feed.now) (place_of c.records.feed)
+          (place_of c.next_item_from.new.feed) holds inv.near (omega (arith, c.next_item_from.ensures.near));
       few = inv.few;
     }
 
@@ -113,10 +121,13 @@ returns-in_err-serials-in-Ok-Some-Crl g c =
     let is = c.in-Ok-Some-Crl.field-0-is ∙ ap Some c.in-Ok-Some-Crl.field-0-0-is in
     rw (p.1, p.2) (record {
       exact = gathered-refused g.D.Depot c.args.limits.now (fields_of_job c.args.job.now) (fields_of_job c.records.job) (held_in c.records.numbers) c.records.serials c.args.feed.now c.records.feed
-          c.next_item_from.new.feed inv.gathers inv.pulled _ e _ (OneCrl (record { issuer = c.in-Ok-Some-Crl.crl.issuer; bytes = c.deref.result.now })) _ (ap some_record is ∙ ap (λ (b : List ℕ). Some (OneCrl (record { issuer = c.in-Ok-Some-Crl.crl.issuer; bytes = b }))) (sym c.deref.ensures.value)) inv.none
+          c.next_item_from.new.feed inv.gathers inv.pulled _ e _ (OneCrl (record { issuer = c.in-Ok-Some-Crl.crl.issuer; bytes = c.deref.result.now })) _
+          (ap some_record is ∙ ap (λ (b : List ℕ). Some (OneCrl (record { issuer = c.in-Ok-Some-Crl.crl.issuer; bytes = b }))) (sym c.deref.ensures.value))
+          inv.none
           (λ same. let wants : c.in_err-serials-in-Ok-Some-Crl.field-0.0 ≡ faults.NoMemory → ⊥ = λ other. absurd cc in let over = (c.in_err-serials-in-Ok-Some-Crl.ensures wants).0 in absurd cc)
           c.in_err-serials-in-Ok-Some-Crl.ensures;
-      near = near-all c.records.numbers (place_of c.args.feed.now) (place_of c.records.feed) (place_of c.next_item_from.new.feed) c.numbers_facts.ensures.0 c.numbers_facts.ensures.1 c.numbers_facts.ensures.2 inv.near (omega (arith, c.next_item_from.ensures.near));
+      near = near-all c.records.numbers (place_of c.args.feed.now) (place_of c.records.feed) (place_of c.next_item_from.new.feed) c.numbers_facts.ensures.0
+          c.numbers_facts.ensures.1 c.numbers_facts.ensures.2 inv.near (omega (arith, c.next_item_from.ensures.near));
     })
 
 pub returns-in_err-put_range-in-Ok-Some-Range : goal.returns-in_err-put_range-in-Ok-Some-Range
@@ -131,7 +142,8 @@ returns-in_err-put_range-in-Ok-Some-Range g c =
           c.next_item_from.new.feed inv.gathers inv.pulled _ e _ (OneRange c.in-Ok-Some-Range.range) _ (ap some_record is) inv.none
           (λ same. let none = c.in_err-put_range-in-Ok-Some-Range.ensures.wanted in absurd cc)
           (λ other. absurd (other c.in_err-put_range-in-Ok-Some-Range.ensures.wanted));
-      near = near-all c.records.numbers (place_of c.args.feed.now) (place_of c.records.feed) (place_of c.next_item_from.new.feed) c.numbers_facts.ensures.0 c.numbers_facts.ensures.1 c.numbers_facts.ensures.2 inv.near (omega (arith, c.next_item_from.ensures.near));
+      near = near-all c.records.numbers (place_of c.args.feed.now) (place_of c.records.feed) (place_of c.next_item_from.new.feed) c.numbers_facts.ensures.0
+          c.numbers_facts.ensures.1 c.numbers_facts.ensures.2 inv.near (omega (arith, c.next_item_from.ensures.near));
     })
 
 pub returns-in_err-put_entry-in-Ok-Some-Entry : goal.returns-in_err-put_entry-in-Ok-Some-Entry
@@ -143,10 +155,17 @@ returns-in_err-put_entry-in-Ok-Some-Entry g c =
     let is = c.in-Ok-Some-Entry.field-0-is ∙ ap Some c.in-Ok-Some-Entry.field-0-0-is in
     rw (p.1, p.2) (record {
       exact = gathered-refused g.D.Depot c.args.limits.now (fields_of_job c.args.job.now) (fields_of_job c.records.job) (held_in c.records.numbers) c.records.serials c.args.feed.now c.records.feed
-          c.next_item_from.new.feed inv.gathers inv.pulled _ e _ (OneEntry (record { log = c.in-Ok-Some-Entry.entry.log; leaf = c.deref-in-Ok-Some-Entry.result.now; extra = c.deref-in-Ok-Some-Entry-2.result.now })) _ (ap some_record is
+          c.next_item_from.new.feed inv.gathers inv.pulled _ e _
+          (OneEntry (record {
+            log = c.in-Ok-Some-Entry.entry.log;
+            leaf = c.deref-in-Ok-Some-Entry.result.now;
+            extra = c.deref-in-Ok-Some-Entry-2.result.now;
+          })) _ (ap some_record is
           ∙ ap (λ (b : List ℕ). Some (OneEntry (record { log = c.in-Ok-Some-Entry.entry.log; leaf = b; extra = c.in-Ok-Some-Entry.entry.extra.items }))) (sym c.deref-in-Ok-Some-Entry.ensures.value)
-          ∙ ap (λ (b : List ℕ). Some (OneEntry (record { log = c.in-Ok-Some-Entry.entry.log; leaf = c.deref-in-Ok-Some-Entry.result.now; extra = b }))) (sym c.deref-in-Ok-Some-Entry-2.ensures.value)) inv.none
+          ∙ ap (λ (b : List ℕ). Some (OneEntry (record { log = c.in-Ok-Some-Entry.entry.log; leaf = c.deref-in-Ok-Some-Entry.result.now; extra = b })))
+          (sym c.deref-in-Ok-Some-Entry-2.ensures.value)) inv.none
           (λ same. let none = c.in_err-put_entry-in-Ok-Some-Entry.ensures.wanted in absurd cc)
           (λ other. absurd (other c.in_err-put_entry-in-Ok-Some-Entry.ensures.wanted));
-      near = near-all c.records.numbers (place_of c.args.feed.now) (place_of c.records.feed) (place_of c.next_item_from.new.feed) c.numbers_facts.ensures.0 c.numbers_facts.ensures.1 c.numbers_facts.ensures.2 inv.near (omega (arith, c.next_item_from.ensures.near));
+      near = near-all c.records.numbers (place_of c.args.feed.now) (place_of c.records.feed) (place_of c.next_item_from.new.feed) c.numbers_facts.ensures.0
+          c.numbers_facts.ensures.1 c.numbers_facts.ensures.2 inv.near (omega (arith, c.next_item_from.ensures.near));
     })

@@ -25,7 +25,9 @@ returns-in_err-extra_width-clause-exact g c =
 pub returns-in_err-extra-clause-exact : goal.returns-in_err-extra-clause-exact
 returns-in_err-extra-clause-exact g c =
     let p = err_from_is_err_and c.from_residual-in_err-extra.result c.from_residual-in_err-extra.ensures.1 in
-    rw (p.1, p.2) (entry-extra g.D.Depot c.args.feed.now _ _ _ _ _ _ _ _ _ _ c.in_ok-log.ensures.exact c.in_ok-leaf_width.ensures.exact c.in_ok-leaf.ensures.exact c.in_ok-extra_width.ensures.exact c.in_err-extra.ensures.exact)
+    rw (p.1, p.2) (entry-extra g.D.Depot c.args.feed.now _ _ _ _ _ _ _ _ _ _ c.in_ok-log.ensures.exact c.in_ok-leaf_width.ensures.exact
+    c.in_ok-leaf.ensures.exact c.in_ok-extra_width.ensures.exact c.in_err-extra.ensures.exact)
 
 pub returns-clause-exact : goal.returns-clause-exact
-returns-clause-exact g c = entry-fetched g.D.Depot c.args.feed.now _ _ _ _ _ _ _ _ _ _ c.in_ok-log.ensures.exact c.in_ok-leaf_width.ensures.exact c.in_ok-leaf.ensures.exact c.in_ok-extra_width.ensures.exact c.in_ok-extra.ensures.exact
+returns-clause-exact g c = entry-fetched g.D.Depot c.args.feed.now _ _ _ _ _ _ _ _ _ _ c.in_ok-log.ensures.exact c.in_ok-leaf_width.ensures.exact
+    c.in_ok-leaf.ensures.exact c.in_ok-extra_width.ensures.exact c.in_ok-extra.ensures.exact
