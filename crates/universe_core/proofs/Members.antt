@@ -63,19 +63,19 @@ accept_is false n l d e h = absurd cc
 
 -- the sorted entries of a job are those that its ranges cover and whose issuers are enrolled
 pub record AreRead (job : Job) (sorted : List ReadEntry) : Type 0 where
-  pub among : (e : ReadEntry) → Among sorted e → Among job.entries (Some (entry_fields e)) × (covers job.ranges e.sighting.now ≡ true) × (has_key (enrolled job) e.id.issuer ≡ true)
+  pub among : (e : ReadEntry) → Among sorted e → Among job.entries (Some (entry_fields e)) × (covers job.ranges e.sighting.now ≡ true) × (has_key (enrolled job) e.id.now.issuer ≡ true)
   pub all : (e : Entry) → Among job.entries (Some e) → covers job.ranges e.sighting ≡ true → has_key (enrolled job) e.id.issuer ≡ true → (d : ReadEntry) × Among sorted d × (entry_fields d ≡ e)
 
 module _ (past : Past) (job : Job) (sorted : List ReadEntry) (reads : AreRead job sorted) where
-  shown_to : (d : ReadEntry) → Among sorted d → past.lacked d.id d.sighting.now ≡ false → Among (shown past job) (entry_fields d)
+  shown_to : (d : ReadEntry) → Among sorted d → past.lacked d.id.now d.sighting.now ≡ false → Among (shown past job) (entry_fields d)
   unfolding shown class_by
   shown_to d a l =
       let r = reads.among d a in
       Among-in_filter_map (λ o. if_accepted (class_of past job o) o) job.entries (Some (entry_fields d)) (entry_fields d) r.0
-      (accept_yes (covers job.ranges d.sighting.now) (has_key (enrolled job) d.id.issuer) (past.lacked d.id d.sighting.now) (entry_fields d) r.1 r.2 l)
+      (accept_yes (covers job.ranges d.sighting.now) (has_key (enrolled job) d.id.now.issuer) (past.lacked d.id.now d.sighting.now) (entry_fields d) r.1 r.2 l)
 
   from_entry : (o : Option Entry) (e : Entry) → Among job.entries o → if_accepted (class_of past job o) o ≡ Some e
-      → (d : ReadEntry) × Among sorted d × (entry_fields d ≡ e) × (past.lacked d.id d.sighting.now ≡ false)
+      → (d : ReadEntry) × Among sorted d × (entry_fields d ≡ e) × (past.lacked d.id.now d.sighting.now ≡ false)
   unfolding class_by
   from_entry None e a h = absurd cc
   from_entry (Some d) e a h =
@@ -83,7 +83,7 @@ module _ (past : Past) (job : Job) (sorted : List ReadEntry) (reads : AreRead jo
       let r = reads.all d a t.1 t.2 in
       (r.0, r.1, r.2 ∙ t.0, subst (λ (z : Entry). past.lacked z.id z.sighting ≡ false) (sym r.2) t.3)
 
-  shown_from : (e : Entry) → Among (shown past job) e → (d : ReadEntry) × Among sorted d × (entry_fields d ≡ e) × (past.lacked d.id d.sighting.now ≡ false)
+  shown_from : (e : Entry) → Among (shown past job) e → (d : ReadEntry) × Among sorted d × (entry_fields d ≡ e) × (past.lacked d.id.now d.sighting.now ≡ false)
   unfolding shown
   shown_from e a =
       let f = Among-filter_map (λ o. if_accepted (class_of past job o) o) job.entries e a in
@@ -153,26 +153,26 @@ module _ (parts : List LedgerPart) (items : List LedgerItem) (job : Job) (sorted
   item_at x = find (λ (i : LedgerItem). is_same x i.id) items
 
   abbrev run_at : Identity → List ReadEntry
-  run_at x = filter (λ (e : ReadEntry). is_same x e.id) sorted
+  run_at x = filter (λ (e : ReadEntry). is_same x e.id.now) sorted
 
-  late_is : (x : Identity) (e : ReadEntry) → x ≡ e.id → lacked_in parts (birth_or (length parts) (item_at x)) e ≡ (past_in ledger).lacked e.id e.sighting.now
+  late_is : (x : Identity) (e : ReadEntry) → x ≡ e.id.now → lacked_in parts (birth_or (length parts) (item_at x)) e ≡ (past_in ledger).lacked e.id.now e.sighting.now
   late_is x e h =
-      subst (λ y. lacked_in parts (birth_or (length parts) (item_at y)) e ≡ (past_in ledger).lacked e.id e.sighting.now) (sym h) (sym (lacked_is parts items e.id e.sighting.now))
+      subst (λ y. lacked_in parts (birth_or (length parts) (item_at y)) e ≡ (past_in ledger).lacked e.id.now e.sighting.now) (sym h) (sym (lacked_is parts items e.id.now e.sighting.now))
 
-  timely_to : (x : Identity) (e : ReadEntry) → Among (timely parts (item_at x) (run_at x)) e → Among sorted e × (x ≡ e.id) × ((past_in ledger).lacked e.id e.sighting.now ≡ false)
+  timely_to : (x : Identity) (e : ReadEntry) → Among (timely parts (item_at x) (run_at x)) e → Among sorted e × (x ≡ e.id.now) × ((past_in ledger).lacked e.id.now e.sighting.now ≡ false)
   timely_to x e a =
       let f = Among-filter (λ d. not (lacked_in parts (birth_or (length parts) (item_at x)) d)) (run_at x) e a in
-      let g = Among-filter (λ (d : ReadEntry). is_same x d.id) sorted e f.0 in
-      let i = same_is x e.id g.1 in
+      let g = Among-filter (λ (d : ReadEntry). is_same x d.id.now) sorted e f.0 in
+      let i = same_is x e.id.now g.1 in
       (g.0, i, sym (late_is x e i) ∙ not_yes (lacked_in parts (birth_or (length parts) (item_at x)) e) f.1)
 
-  run_from : (x : Identity) (e : ReadEntry) → Among sorted e → x ≡ e.id → Among (run_at x) e
-  run_from x e a i = Among-in_filter (λ (d : ReadEntry). is_same x d.id) sorted e a (subst (λ y. is_same x y ≡ true) i (same_refl x))
+  run_from : (x : Identity) (e : ReadEntry) → Among sorted e → x ≡ e.id.now → Among (run_at x) e
+  run_from x e a i = Among-in_filter (λ (d : ReadEntry). is_same x d.id.now) sorted e a (subst (λ y. is_same x y ≡ true) i (same_refl x))
 
-  timely_at : (x : Identity) (e : ReadEntry) → x ≡ e.id → (past_in ledger).lacked e.id e.sighting.now ≡ false → not (lacked_in parts (birth_or (length parts) (item_at x)) e) ≡ true
+  timely_at : (x : Identity) (e : ReadEntry) → x ≡ e.id.now → (past_in ledger).lacked e.id.now e.sighting.now ≡ false → not (lacked_in parts (birth_or (length parts) (item_at x)) e) ≡ true
   timely_at x e i l = not_no (lacked_in parts (birth_or (length parts) (item_at x)) e) (late_is x e i ∙ l)
 
-  timely_from : (x : Identity) (e : ReadEntry) → Among sorted e → x ≡ e.id → (past_in ledger).lacked e.id e.sighting.now ≡ false → Among (timely parts (item_at x) (run_at x)) e
+  timely_from : (x : Identity) (e : ReadEntry) → Among sorted e → x ≡ e.id.now → (past_in ledger).lacked e.id.now e.sighting.now ≡ false → Among (timely parts (item_at x) (run_at x)) e
   timely_from x e a i l = Among-in_filter (λ d. not (lacked_in parts (birth_or (length parts) (item_at x)) d)) (run_at x) e (run_from x e a i) (timely_at x e i l)
 
   -- ---- the fields of a member
@@ -183,7 +183,7 @@ module _ (parts : List LedgerPart) (items : List LedgerItem) (job : Job) (sorted
       (λ h. all_from (covers p.ranges.items) (sightings x (shown (past_in ledger) job)) (λ s a.
       let m = Among-sightings x (shown (past_in ledger) job) s a in
       let d = shown_from (past_in ledger) job sorted reads m.0 m.1 in
-      let i : x ≡ d.0.id = m.2 ∙ ap (λ (e : Entry). e.id) (sym d.2) in
+      let i : x ≡ d.0.id.now = m.2 ∙ ap (λ (e : Entry). e.id) (sym d.2) in
       let c : covers p.ranges.items d.0.sighting.now ≡ true = all_at (λ (e : ReadEntry). covers p.ranges.items e.sighting.now)
       (timely parts (item_at x) (run_at x)) d.0 h (timely_from x d.0 d.1 i d.3) in
       subst (λ t. covers p.ranges.items t ≡ true) (ap (λ (e : Entry). e.sighting) d.2 ∙ m.3) c))
@@ -248,7 +248,7 @@ module _ (parts : List LedgerPart) (items : List LedgerItem) (job : Job) (sorted
       sorted_all_inserted identity_cmp identity_total (map (λ (e : Entry). e.id) (shown (past_in ledger) job)) (item_ids items)
       s
 
-  shown_id : (z : Identity) (e : ReadEntry) → Among sorted e → z ≡ e.id → (past_in ledger).lacked e.id e.sighting.now ≡ false → Among (map (λ (d : Entry). d.id) (shown (past_in ledger) job)) z
+  shown_id : (z : Identity) (e : ReadEntry) → Among sorted e → z ≡ e.id.now → (past_in ledger).lacked e.id.now e.sighting.now ≡ false → Among (map (λ (d : Entry). d.id) (shown (past_in ledger) job)) z
   shown_id z e a i l =
       subst (λ y. Among (map (λ (d : Entry). d.id) (shown (past_in ledger) job)) y) (sym i)
       (Among-in_map (λ (d : Entry). d.id) (shown (past_in ledger) job) (entry_fields e) (shown_to (past_in ledger) job sorted reads e a l))
@@ -267,22 +267,22 @@ module _ (parts : List LedgerPart) (items : List LedgerItem) (job : Job) (sorted
   from_shown z a =
       let m = Among-map (λ (e : Entry). e.id) (shown (past_in ledger) job) z a in
       let d = shown_from (past_in ledger) job sorted reads m.0 m.1 in
-      let i : z ≡ d.0.id = sym m.2 ∙ ap (λ (e : Entry). e.id) (sym d.2) in
+      let i : z ≡ d.0.id.now = sym m.2 ∙ ap (λ (e : Entry). e.id) (sym d.2) in
       let u : Among (all_ids items sorted) z =
-      Among-in_with_all (map (λ (e : ReadEntry). e.id) sorted) (item_ids items) z
-      (inl (subst (λ y. Among (map (λ (e : ReadEntry). e.id) sorted) y) (sym i) (Among-in_map (λ (e : ReadEntry). e.id) sorted d.0 d.1))) in
+      Among-in_with_all (map (λ (e : ReadEntry). e.id.now) sorted) (item_ids items) z
+      (inl (subst (λ y. Among (map (λ (e : ReadEntry). e.id.now) sorted) y) (sym i) (Among-in_map (λ (e : ReadEntry). e.id.now) sorted d.0 d.1))) in
       Among-in_filter test (all_ids items sorted) z u
       (or_right (is_some (item_at z)) (list_any (late_test z) (run_at z)) (any_at (late_test z) (run_at z) d.0 (run_from z d.0 d.1 i) (timely_at z d.0 i d.3)))
 
   from_item : (z : Identity) → Among (item_ids items) z → Among (filter test (all_ids items sorted)) z
   from_item z a =
-      Among-in_filter test (all_ids items sorted) z (Among-in_with_all (map (λ (e : ReadEntry). e.id) sorted) (item_ids items) z (inr a))
+      Among-in_filter test (all_ids items sorted) z (Among-in_with_all (map (λ (e : ReadEntry). e.id.now) sorted) (item_ids items) z (inr a))
       (or_left (is_some (item_at z)) (list_any (late_test z) (run_at z)) (some_item z items a))
 
   kept_is : IsStrictlySortedBy identity_cmp (item_ids items) → filter test (all_ids items sorted) ≡ accepted
   kept_is s =
       sorted_unique identity_cmp identity_total (filter test (all_ids items sorted)) accepted
-      (IsStrictlySortedBy-filter identity_cmp test (all_ids items sorted) (sorted_all_inserted identity_cmp identity_total (map (λ (e : ReadEntry). e.id) sorted) (item_ids items) s))
+      (IsStrictlySortedBy-filter identity_cmp test (all_ids items sorted) (sorted_all_inserted identity_cmp identity_total (map (λ (e : ReadEntry). e.id.now) sorted) (item_ids items) s))
       (accepted_sorted s) kept_to (λ z a. ⊎_elim (λ p. from_shown z p) (λ q. from_item z q) (of_accepted z a))
 
   -- the merge gives the accepted identities, each with its birth, its last and whether its sightings are settled

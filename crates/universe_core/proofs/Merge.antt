@@ -57,78 +57,78 @@ weaken P Q f [] h = tt
 weaken P Q f (x ∷ xs) h = (f x h.0, weaken P Q f xs h.1)
 
 abbrev pub NotAbove : Identity → List ReadEntry → Type 0
-NotAbove x es = AllByRecursion (λ (d : ReadEntry). is_gt (identity_cmp x d.id) ≡ false) es
+NotAbove x es = AllByRecursion (λ (d : ReadEntry). is_gt (identity_cmp x d.id.now) ≡ false) es
 
 -- ---- the run
 
 abbrev After : Identity → List ReadEntry → Type 0
-After x es = AllByRecursion (λ (d : ReadEntry). identity_cmp x d.id ≡ Less) es
+After x es = AllByRecursion (λ (d : ReadEntry). identity_cmp x d.id.now ≡ Less) es
 
-after_step : (x : Identity) (e : ReadEntry) (es : List ReadEntry) (b : Bool) → is_same x e.id ≡ b → NotAbove x (e ∷ es) → IsRising (e ∷ es)
+after_step : (x : Identity) (e : ReadEntry) (es : List ReadEntry) (b : Bool) → is_same x e.id.now ≡ b → NotAbove x (e ∷ es) → IsRising (e ∷ es)
     → After x (after_run x es) → After x (cond b (after_run x es) (e ∷ es))
 after_step x e es true i n r next = next
 after_step x e es false i n r next =
-    let l : identity_cmp x e.id ≡ Less = is_less (identity_cmp x e.id) n.0 (not_equal x e.id i) in
-    (l, weaken (λ (d : ReadEntry). is_gt (identity_cmp e.id d.id) ≡ false) (λ (d : ReadEntry). identity_cmp x d.id ≡ Less) (λ d g. through x e.id d.id (identity_cmp e.id d.id) l refl g) es r.0)
+    let l : identity_cmp x e.id.now ≡ Less = is_less (identity_cmp x e.id.now) n.0 (not_equal x e.id.now i) in
+    (l, weaken (λ (d : ReadEntry). is_gt (identity_cmp e.id.now d.id.now) ≡ false) (λ (d : ReadEntry). identity_cmp x d.id.now ≡ Less) (λ d g. through x e.id.now d.id.now (identity_cmp e.id.now d.id.now) l refl g) es r.0)
 
 pub after_is : (x : Identity) (es : List ReadEntry) → NotAbove x es → IsRising es → After x (after_run x es)
 after_is x [] n r = tt
-after_is x (e ∷ es) n r = after_step x e es (is_same x e.id) refl n r (after_is x es n.1 r.1)
+after_is x (e ∷ es) n r = after_step x e es (is_same x e.id.now) refl n r (after_is x es n.1 r.1)
 
 -- an identity below all of them is none of theirs
-none_same : (x : Identity) (es : List ReadEntry) → After x es → filter (λ (e : ReadEntry). is_same x e.id) es ≡ []
+none_same : (x : Identity) (es : List ReadEntry) → After x es → filter (λ (e : ReadEntry). is_same x e.id.now) es ≡ []
 none_same x [] h = refl
-none_same x (e ∷ es) h = ap (λ b. cond b (e ∷ filter (λ (d : ReadEntry). is_same x d.id) es) (filter (λ (d : ReadEntry). is_same x d.id) es))
-    (same_other x e.id (less_other x e.id h.0)) ∙ none_same x es h.1
+none_same x (e ∷ es) h = ap (λ b. cond b (e ∷ filter (λ (d : ReadEntry). is_same x d.id.now) es) (filter (λ (d : ReadEntry). is_same x d.id.now) es))
+    (same_other x e.id.now (less_other x e.id.now h.0)) ∙ none_same x es h.1
 
-run_step : (x : Identity) (e : ReadEntry) (es : List ReadEntry) (b : Bool) → is_same x e.id ≡ b → After x (cond b (after_run x es) (e ∷ es))
-    → (After x (after_run x es) → filter (λ (d : ReadEntry). is_same x d.id) es ≡ run_of x es)
-    → cond b (e ∷ filter (λ (d : ReadEntry). is_same x d.id) es) (filter (λ (d : ReadEntry). is_same x d.id) es) ≡ cond b (e ∷ run_of x es) []
+run_step : (x : Identity) (e : ReadEntry) (es : List ReadEntry) (b : Bool) → is_same x e.id.now ≡ b → After x (cond b (after_run x es) (e ∷ es))
+    → (After x (after_run x es) → filter (λ (d : ReadEntry). is_same x d.id.now) es ≡ run_of x es)
+    → cond b (e ∷ filter (λ (d : ReadEntry). is_same x d.id.now) es) (filter (λ (d : ReadEntry). is_same x d.id.now) es) ≡ cond b (e ∷ run_of x es) []
 run_step x e es true i h next = ap (λ (z : List ReadEntry). e ∷ z) (next h)
 run_step x e es false i h next = none_same x es h.1
 
 -- the run has all entries of the identity
-pub run_is : (x : Identity) (es : List ReadEntry) → After x (after_run x es) → filter (λ (e : ReadEntry). is_same x e.id) es ≡ run_of x es
+pub run_is : (x : Identity) (es : List ReadEntry) → After x (after_run x es) → filter (λ (e : ReadEntry). is_same x e.id.now) es ≡ run_of x es
 run_is x [] h = refl
-run_is x (e ∷ es) h = run_step x e es (is_same x e.id) refl h (run_is x es)
+run_is x (e ∷ es) h = run_step x e es (is_same x e.id.now) refl h (run_is x es)
 
-other_step : (x y : Identity) (e : ReadEntry) (es : List ReadEntry) (b : Bool) → is_same x e.id ≡ b → (x ≡ y → ⊥)
-    → filter (λ (d : ReadEntry). is_same y d.id) es ≡ filter (λ (d : ReadEntry). is_same y d.id) (after_run x es)
-    → filter (λ (d : ReadEntry). is_same y d.id) (e ∷ es) ≡ filter (λ (d : ReadEntry). is_same y d.id) (cond b (after_run x es) (e ∷ es))
+other_step : (x y : Identity) (e : ReadEntry) (es : List ReadEntry) (b : Bool) → is_same x e.id.now ≡ b → (x ≡ y → ⊥)
+    → filter (λ (d : ReadEntry). is_same y d.id.now) es ≡ filter (λ (d : ReadEntry). is_same y d.id.now) (after_run x es)
+    → filter (λ (d : ReadEntry). is_same y d.id.now) (e ∷ es) ≡ filter (λ (d : ReadEntry). is_same y d.id.now) (cond b (after_run x es) (e ∷ es))
 other_step x y e es false i n next = refl
 other_step x y e es true i n next =
-    ap (λ b. cond b (e ∷ filter (λ (d : ReadEntry). is_same y d.id) es) (filter (λ (d : ReadEntry). is_same y d.id) es)) (same_other y e.id (λ q. n (same_is x e.id i ∙ sym q))) ∙ next
+    ap (λ b. cond b (e ∷ filter (λ (d : ReadEntry). is_same y d.id.now) es) (filter (λ (d : ReadEntry). is_same y d.id.now) es)) (same_other y e.id.now (λ q. n (same_is x e.id.now i ∙ sym q))) ∙ next
 
 -- other identities have their entries behind it
-pub others_behind : (x y : Identity) (es : List ReadEntry) → (x ≡ y → ⊥) → filter (λ (e : ReadEntry). is_same y e.id) es ≡ filter (λ (e : ReadEntry). is_same y e.id) (after_run x es)
+pub others_behind : (x y : Identity) (es : List ReadEntry) → (x ≡ y → ⊥) → filter (λ (e : ReadEntry). is_same y e.id.now) es ≡ filter (λ (e : ReadEntry). is_same y e.id.now) (after_run x es)
 others_behind x y [] n = refl
-others_behind x y (e ∷ es) n = other_step x y e es (is_same x e.id) refl n (others_behind x y es n)
+others_behind x y (e ∷ es) n = other_step x y e es (is_same x e.id.now) refl n (others_behind x y es n)
 
 pub rising_after : (x : Identity) (es : List ReadEntry) → IsRising es → IsRising (after_run x es)
 rising_after x [] r = tt
-rising_after x (e ∷ es) r = elim (is_same x e.id) as (λ b. IsRising (cond b (after_run x es) (e ∷ es))) [ true ↦ rising_after x es r.1 | false ↦ r ]
+rising_after x (e ∷ es) r = elim (is_same x e.id.now) as (λ b. IsRising (cond b (after_run x es) (e ∷ es))) [ true ↦ rising_after x es r.1 | false ↦ r ]
 
-cases_step : (x : Identity) (e : ReadEntry) (es : List ReadEntry) (z : Identity) (b : Bool) → is_same x e.id ≡ b
-    → (Among (map (λ (d : ReadEntry). d.id) es) z → (x ≡ z) ⊎ Among (map (λ (d : ReadEntry). d.id) (after_run x es)) z)
-    → Among (map (λ (d : ReadEntry). d.id) (e ∷ es)) z → (x ≡ z) ⊎ Among (map (λ (d : ReadEntry). d.id) (cond b (after_run x es) (e ∷ es))) z
+cases_step : (x : Identity) (e : ReadEntry) (es : List ReadEntry) (z : Identity) (b : Bool) → is_same x e.id.now ≡ b
+    → (Among (map (λ (d : ReadEntry). d.id.now) es) z → (x ≡ z) ⊎ Among (map (λ (d : ReadEntry). d.id.now) (after_run x es)) z)
+    → Among (map (λ (d : ReadEntry). d.id.now) (e ∷ es)) z → (x ≡ z) ⊎ Among (map (λ (d : ReadEntry). d.id.now) (cond b (after_run x es) (e ∷ es))) z
 cases_step x e es z false i next m = inr m
-cases_step x e es z true i next (inl h) = inl (same_is x e.id i ∙ h)
+cases_step x e es z true i next (inl h) = inl (same_is x e.id.now i ∙ h)
 cases_step x e es z true i next (inr m) = next m
 
-ids_cases : (x : Identity) (es : List ReadEntry) (z : Identity) → Among (map (λ (e : ReadEntry). e.id) es) z → (x ≡ z) ⊎ Among (map (λ (e : ReadEntry). e.id) (after_run x es)) z
+ids_cases : (x : Identity) (es : List ReadEntry) (z : Identity) → Among (map (λ (e : ReadEntry). e.id.now) es) z → (x ≡ z) ⊎ Among (map (λ (e : ReadEntry). e.id.now) (after_run x es)) z
 ids_cases x [] z a = absurd a
-ids_cases x (e ∷ es) z a = cases_step x e es z (is_same x e.id) refl (ids_cases x es z) a
+ids_cases x (e ∷ es) z a = cases_step x e es z (is_same x e.id.now) refl (ids_cases x es z) a
 
-back_step : (x : Identity) (e : ReadEntry) (es : List ReadEntry) (z : Identity) (b : Bool) → (Among (map (λ (d : ReadEntry). d.id) (after_run x es)) z → Among (map (λ (d : ReadEntry). d.id) es) z)
-    → Among (map (λ (d : ReadEntry). d.id) (cond b (after_run x es) (e ∷ es))) z → Among (map (λ (d : ReadEntry). d.id) (e ∷ es)) z
+back_step : (x : Identity) (e : ReadEntry) (es : List ReadEntry) (z : Identity) (b : Bool) → (Among (map (λ (d : ReadEntry). d.id.now) (after_run x es)) z → Among (map (λ (d : ReadEntry). d.id.now) es) z)
+    → Among (map (λ (d : ReadEntry). d.id.now) (cond b (after_run x es) (e ∷ es))) z → Among (map (λ (d : ReadEntry). d.id.now) (e ∷ es)) z
 back_step x e es z false next m = m
 back_step x e es z true next m = inr (next m)
 
-ids_back : (x : Identity) (es : List ReadEntry) (z : Identity) → Among (map (λ (e : ReadEntry). e.id) (after_run x es)) z → Among (map (λ (e : ReadEntry). e.id) es) z
+ids_back : (x : Identity) (es : List ReadEntry) (z : Identity) → Among (map (λ (e : ReadEntry). e.id.now) (after_run x es)) z → Among (map (λ (e : ReadEntry). e.id.now) es) z
 ids_back x [] z a = a
-ids_back x (e ∷ es) z a = back_step x e es z (is_same x e.id) (ids_back x es z) a
+ids_back x (e ∷ es) z a = back_step x e es z (is_same x e.id.now) (ids_back x es z) a
 
-after_ids : (x : Identity) (es : List ReadEntry) (z : Identity) → After x es → Among (map (λ (e : ReadEntry). e.id) es) z → identity_cmp x z ≡ Less
+after_ids : (x : Identity) (es : List ReadEntry) (z : Identity) → After x es → Among (map (λ (e : ReadEntry). e.id.now) es) z → identity_cmp x z ≡ Less
 after_ids x [] z h a = absurd a
 after_ids x (e ∷ es) z h (inl i) = subst (λ w. identity_cmp x w ≡ Less) i h.0
 after_ids x (e ∷ es) z h (inr a) = after_ids x es z h.1 a
@@ -201,7 +201,7 @@ first_passed x y (i ∷ is) n = pass_step x y i is (is_same x i.id) refl n
 record IsLeast (x : Identity) (items : List LedgerItem) (entries : List ReadEntry) : Type 0 where
   entries_not_below : NotAbove x entries
   items_not_below : NoneBelow x (item_ids items)
-  among : Among (map (λ (e : ReadEntry). e.id) entries) x ⊎ Among (item_ids items) x
+  among : Among (map (λ (e : ReadEntry). e.id.now) entries) x ⊎ Among (item_ids items) x
 
 self : (x : Identity) → is_gt (identity_cmp x x) ≡ false
 self x = ap is_gt (tied_itself identity_total x)
@@ -209,31 +209,31 @@ self x = ap is_gt (tied_itself identity_total x)
 less_gt : (x : Identity) (ids : List Identity) → ((z : Identity) → Among ids z → identity_cmp x z ≡ Less) → NoneBelow x ids
 less_gt x ids f = all_from (λ (z : Identity). is_gt (identity_cmp x z) ≡ false) ids (λ z a. ap is_gt (f z a))
 
-least_both : (o : Ordering) (i : LedgerItem) (is : List LedgerItem) (e : ReadEntry) (es : List ReadEntry) → identity_cmp i.id e.id ≡ o
+least_both : (o : Ordering) (i : LedgerItem) (is : List LedgerItem) (e : ReadEntry) (es : List ReadEntry) → identity_cmp i.id e.id.now ≡ o
     → IsStrictlySortedBy identity_cmp (i.id ∷ item_ids is) → IsRising (e ∷ es)
-    → IsLeast (cond (is_lt o) i.id e.id) (i ∷ is) (e ∷ es)
+    → IsLeast (cond (is_lt o) i.id e.id.now) (i ∷ is) (e ∷ es)
 least_both Less i is e es h s r = record {
   entries_not_below = (
     ap is_gt h,
-    weaken (λ (d : ReadEntry). is_gt (identity_cmp e.id d.id) ≡ false) (λ (d : ReadEntry). is_gt (identity_cmp i.id d.id) ≡ false)
-        (λ d g. ap is_gt (through i.id e.id d.id (identity_cmp e.id d.id) h refl g)) es r.0,
+    weaken (λ (d : ReadEntry). is_gt (identity_cmp e.id.now d.id.now) ≡ false) (λ (d : ReadEntry). is_gt (identity_cmp i.id d.id.now) ≡ false)
+        (λ d g. ap is_gt (through i.id e.id.now d.id.now (identity_cmp e.id.now d.id.now) h refl g)) es r.0,
   );
   items_not_below = (self i.id, less_gt i.id (item_ids is) (λ z a. sorted_head identity_cmp i.id (item_ids is) z s a));
   among = inr (inl refl);
 }
 least_both Equal i is e es h s r =
-    let q : i.id ≡ e.id = identity_exact i.id e.id h in record {
-      entries_not_below = (self e.id, r.0);
+    let q : i.id ≡ e.id.now = identity_exact i.id e.id.now h in record {
+      entries_not_below = (self e.id.now, r.0);
       items_not_below = (
         subst (λ w. is_gt (identity_cmp w i.id) ≡ false) q (self i.id),
-        less_gt e.id (item_ids is) (λ z a. subst (λ w. identity_cmp w z ≡ Less) q (sorted_head identity_cmp i.id (item_ids is) z s a)),
+        less_gt e.id.now (item_ids is) (λ z a. subst (λ w. identity_cmp w z ≡ Less) q (sorted_head identity_cmp i.id (item_ids is) z s a)),
       );
       among = inl (inl refl);
     }
 least_both Greater i is e es h s r =
-    let l : identity_cmp e.id i.id ≡ Less = identity_total.antisymm e.id i.id ∙ ap ordering_reverse h in record {
-      entries_not_below = (self e.id, r.0);
-      items_not_below = (ap is_gt l, less_gt e.id (item_ids is) (λ z a. identity_total.trans e.id i.id z l (sorted_head identity_cmp i.id (item_ids is) z s a)));
+    let l : identity_cmp e.id.now i.id ≡ Less = identity_total.antisymm e.id.now i.id ∙ ap ordering_reverse h in record {
+      entries_not_below = (self e.id.now, r.0);
+      items_not_below = (ap is_gt l, less_gt e.id.now (item_ids is) (λ z a. identity_total.trans e.id.now i.id z l (sorted_head identity_cmp i.id (item_ids is) z s a)));
       among = inl (inl refl);
     }
 
@@ -248,8 +248,8 @@ least_is x (i ∷ is) [] s r h = subst (λ w. IsLeast w (i ∷ is) []) (some_sam
   items_not_below = (self i.id, less_gt i.id (item_ids is) (λ z a. sorted_head identity_cmp i.id (item_ids is) z s a));
   among = inr (inl refl);
 })
-least_is x [] (e ∷ es) s r h = subst (λ w. IsLeast w [] (e ∷ es)) (some_same e.id x h) (record { entries_not_below = (self e.id, r.0); items_not_below = tt; among = inl (inl refl) })
-least_is x (i ∷ is) (e ∷ es) s r h = subst (λ w. IsLeast w (i ∷ is) (e ∷ es)) (some_same (lower i.id e.id) x h) (least_both (identity_cmp i.id e.id) i is e es refl s r)
+least_is x [] (e ∷ es) s r h = subst (λ w. IsLeast w [] (e ∷ es)) (some_same e.id.now x h) (record { entries_not_below = (self e.id.now, r.0); items_not_below = tt; among = inl (inl refl) })
+least_is x (i ∷ is) (e ∷ es) s r h = subst (λ w. IsLeast w (i ∷ is) (e ∷ es)) (some_same (lower i.id e.id.now) x h) (least_both (identity_cmp i.id e.id.now) i is e es refl s r)
 
 -- ---- the step
 
@@ -265,19 +265,19 @@ merged_step {M} judge x items entries s r h =
     let l = least_is x items entries s r h in
     let behind = after_is x entries l.entries_not_below r in
     let above = first_less x items l.items_not_below s in
-    let f : Identity → Option M = λ y. judge y (find (λ (i : LedgerItem). is_same y i.id) items) (filter (λ (e : ReadEntry). is_same y e.id) entries) in
-    let g : Identity → Option M = λ y. judge y (find (λ (i : LedgerItem). is_same y i.id) (after_first x items)) (filter (λ (e : ReadEntry). is_same y e.id) (after_run x entries)) in
+    let f : Identity → Option M = λ y. judge y (find (λ (i : LedgerItem). is_same y i.id) items) (filter (λ (e : ReadEntry). is_same y e.id.now) entries) in
+    let g : Identity → Option M = λ y. judge y (find (λ (i : LedgerItem). is_same y i.id) (after_first x items)) (filter (λ (e : ReadEntry). is_same y e.id.now) (after_run x entries)) in
     let rest : List Identity = all_ids (after_first x items) (after_run x entries) in
     let ids : all_ids items entries ≡ x ∷ rest =
-    union_step x (map (λ (e : ReadEntry). e.id) entries) (map (λ (e : ReadEntry). e.id) (after_run x entries)) (item_ids items) (item_ids (after_first x items)) s (first_sorted x items s)
+    union_step x (map (λ (e : ReadEntry). e.id.now) entries) (map (λ (e : ReadEntry). e.id.now) (after_run x entries)) (item_ids items) (item_ids (after_first x items)) s (first_sorted x items s)
     (ids_cases x entries) (first_cases x items) (ids_back x entries) (first_back x items) l.among (λ z a. after_ids x (after_run x entries) z behind a) above in
     let here : f x ≡ judge x (first_of x items) (run_of x entries) =
-    ap (λ o. judge x o (filter (λ (e : ReadEntry). is_same x e.id) entries)) (first_found x items above) ∙ ap (judge x (first_of x items)) (run_is x entries behind) in
+    ap (λ o. judge x o (filter (λ (e : ReadEntry). is_same x e.id.now) entries)) (first_found x items above) ∙ ap (judge x (first_of x items)) (run_is x entries behind) in
     let there : filter_map f rest ≡ filter_map g rest =
     agree f g rest (λ y a.
     let n : (x ≡ y) → ⊥ = less_other x y (⊎_elim (λ p. after_ids x (after_run x entries) y behind p) (λ q. above y q)
-    (Among-with_all (map (λ (e : ReadEntry). e.id) (after_run x entries)) (item_ids (after_first x items)) y a)) in
-    ap (λ o. judge y o (filter (λ (e : ReadEntry). is_same y e.id) entries)) (first_passed x y items n) ∙ ap
+    (Among-with_all (map (λ (e : ReadEntry). e.id.now) (after_run x entries)) (item_ids (after_first x items)) y a)) in
+    ap (λ o. judge y o (filter (λ (e : ReadEntry). is_same y e.id.now) entries)) (first_passed x y items n) ∙ ap
     (judge y (find (λ (i : LedgerItem). is_same y i.id) (after_first x items))) (others_behind x y entries n)) in
     ap (filter_map f) ids ∙ ap (λ o. cons_option o (filter_map f rest)) here ∙ ap (cons_option (judge x (first_of x items) (run_of x entries))) there
 
@@ -313,16 +313,16 @@ all_done judge items entries out whole h w = sym (append-nil out) ∙ ap (λ z. 
 
 take_run : (x : Identity) (es : List ReadEntry) → take (length (run_of x es)) es ≡ run_of x es
 take_run x [] = refl
-take_run x (e ∷ es) = elim (is_same x e.id) as (λ b. take (length (cond b (e ∷ run_of x es) [])) (e ∷ es) ≡ cond b (e ∷ run_of x es) [])
+take_run x (e ∷ es) = elim (is_same x e.id.now) as (λ b. take (length (cond b (e ∷ run_of x es) [])) (e ∷ es) ≡ cond b (e ∷ run_of x es) [])
     [ true ↦ ap (λ (z : List ReadEntry). e ∷ z) (take_run x es) | false ↦ refl ]
 
 drop_run : (x : Identity) (es : List ReadEntry) → drop (length (run_of x es)) es ≡ after_run x es
 drop_run x [] = refl
-drop_run x (e ∷ es) = elim (is_same x e.id) as (λ b. drop (length (cond b (e ∷ run_of x es) [])) (e ∷ es) ≡ cond b (after_run x es) (e ∷ es)) [ true ↦ drop_run x es | false ↦ refl ]
+drop_run x (e ∷ es) = elim (is_same x e.id.now) as (λ b. drop (length (cond b (e ∷ run_of x es) [])) (e ∷ es) ≡ cond b (after_run x es) (e ∷ es)) [ true ↦ drop_run x es | false ↦ refl ]
 
 run_short : (x : Identity) (es : List ReadEntry) → length (run_of x es) ≤ length es
 run_short x [] = omega arith
-run_short x (e ∷ es) = elim (is_same x e.id) as (λ b. length (cond b (e ∷ run_of x es) []) ≤ length (e ∷ es)) [ true ↦ (let h = run_short x es in omega arith) | false ↦ omega arith ]
+run_short x (e ∷ es) = elim (is_same x e.id.now) as (λ b. length (cond b (e ∷ run_of x es) []) ≤ length (e ∷ es)) [ true ↦ (let h = run_short x es in omega arith) | false ↦ omega arith ]
 
 pub run_taken : (n : ℕ) (x : Identity) (es : List ReadEntry) → n ≡ length (run_of x es) → take n es ≡ run_of x es
 run_taken n x es h = ap (λ k. take k es) h ∙ take_run x es
@@ -337,7 +337,7 @@ run_within n x es h = let k = run_short x es in omega arith
 
 after_short : (x : Identity) (es : List ReadEntry) → length (after_run x es) ≤ length es
 after_short x [] = omega arith
-after_short x (e ∷ es) = elim (is_same x e.id) as (λ b. length (cond b (after_run x es) (e ∷ es)) ≤ length (e ∷ es)) [ true ↦ (let h = after_short x es in omega arith) | false ↦ omega arith ]
+after_short x (e ∷ es) = elim (is_same x e.id.now) as (λ b. length (cond b (after_run x es) (e ∷ es)) ≤ length (e ∷ es)) [ true ↦ (let h = after_short x es in omega arith) | false ↦ omega arith ]
 
 first_short : (x : Identity) (is : List LedgerItem) → length (after_first x is) ≤ length is
 first_short x [] = omega arith
@@ -348,9 +348,9 @@ item_gone x i is h =
     let e : is_same x i.id ≡ true = subst (λ w. is_same w i.id ≡ true) h (same_refl i.id) in
     subst (λ b. length (cond b is (i ∷ is)) < length (i ∷ is)) (sym e) (omega arith)
 
-entry_gone : (x : Identity) (e : ReadEntry) (es : List ReadEntry) → e.id ≡ x → length (after_run x (e ∷ es)) < length (e ∷ es)
+entry_gone : (x : Identity) (e : ReadEntry) (es : List ReadEntry) → e.id.now ≡ x → length (after_run x (e ∷ es)) < length (e ∷ es)
 entry_gone x e es h =
-    let i : is_same x e.id ≡ true = subst (λ w. is_same w e.id ≡ true) h (same_refl e.id) in
+    let i : is_same x e.id.now ≡ true = subst (λ w. is_same w e.id.now ≡ true) h (same_refl e.id.now) in
     let l = after_short x es in
     subst (λ b. length (cond b (after_run x es) (e ∷ es)) < length (e ∷ es)) (sym i) (omega arith)
 
@@ -362,11 +362,11 @@ pub smaller : (x : Identity) (items : List LedgerItem) (entries : List ReadEntry
     → length (after_first x items) + length (after_run x entries) < length items + length entries
 smaller x [] [] h = absurd cc
 smaller x (i ∷ is) [] h = let l = item_gone x i is (some_same i.id x h) in omega arith
-smaller x [] (e ∷ es) h = let l = entry_gone x e es (some_same e.id x h) in omega arith
+smaller x [] (e ∷ es) h = let l = entry_gone x e es (some_same e.id.now x h) in omega arith
 smaller x (i ∷ is) (e ∷ es) h =
     ⊎_elim (λ (q : i.id ≡ x). let l = item_gone x i is q in let k = after_short x (e ∷ es) in omega arith)
-    (λ (q : e.id ≡ x). let l = entry_gone x e es q in let k = first_short x (i ∷ is) in omega arith)
-    (lower_cases (is_lt (identity_cmp i.id e.id)) i.id e.id x (some_same (lower i.id e.id) x h))
+    (λ (q : e.id.now ≡ x). let l = entry_gone x e es q in let k = first_short x (i ∷ is) in omega arith)
+    (lower_cases (is_lt (identity_cmp i.id e.id.now)) i.id e.id.now x (some_same (lower i.id e.id.now) x h))
 
 pub lower_yes : (x y : Identity) (b : Bool) → b ≡ true → b ≡ is_lt (identity_cmp x y) → x ≡ lower x y
 lower_yes x y b t e = ap (λ c. cond c x y) (sym t ∙ e)
@@ -374,12 +374,12 @@ lower_yes x y b t e = ap (λ c. cond c x y) (sym t ∙ e)
 pub lower_no : (x y : Identity) (b : Bool) → b ≡ false → b ≡ is_lt (identity_cmp x y) → y ≡ lower x y
 lower_no x y b t e = ap (λ c. cond c x y) (sym t ∙ e)
 
-counted : (x : Identity) (es : List ReadEntry) → length (take_while (λ (e : ReadEntry). is_same x e.id) es) ≡ length (run_of x es)
+counted : (x : Identity) (es : List ReadEntry) → length (take_while (λ (e : ReadEntry). is_same x e.id.now) es) ≡ length (run_of x es)
 counted x [] = refl
 counted x (e ∷ es) =
-    ap length (take_while-cons (λ (d : ReadEntry). is_same x d.id) e es)
-    ∙ (elim (is_same x e.id) as (λ b. length (cond b (e ∷ take_while (λ (d : ReadEntry). is_same x d.id) es) []) ≡ length (cond b (e ∷ run_of x es) []))
+    ap length (take_while-cons (λ (d : ReadEntry). is_same x d.id.now) e es)
+    ∙ (elim (is_same x e.id.now) as (λ b. length (cond b (e ∷ take_while (λ (d : ReadEntry). is_same x d.id.now) es) []) ≡ length (cond b (e ∷ run_of x es) []))
     [ true ↦ ap suc (counted x es) | false ↦ refl ])
 
-pub run_counted : (n : ℕ) (x : Identity) (es : List ReadEntry) → n ≡ length (take_while (λ (e : ReadEntry). is_same x e.id) es) → n ≡ length (run_of x es)
+pub run_counted : (n : ℕ) (x : Identity) (es : List ReadEntry) → n ≡ length (take_while (λ (e : ReadEntry). is_same x e.id.now) es) → n ≡ length (run_of x es)
 run_counted n x es h = h ∙ counted x es

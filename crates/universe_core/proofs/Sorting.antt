@@ -1,13 +1,13 @@
 -- A sort by identity, and what a job's reading keeps.
-use Rattle.std.proofs.Common.{◌≡◌, ℕ, suc, ◌<◌, ◌≤◌, List, [], ◌∷◌, map, length, get_or, Bool, true, false, cond, ◌&&◌, Option, Some, None, refl, sym, ap, ◌∙◌, subst, arith}
+use Rattle.std.proofs.Common.{◌≡◌, ℕ, zero, suc, ◌<◌, ◌≤◌, List, [], ◌∷◌, map, length, get_or, Bool, true, false, cond, ◌&&◌, Option, Some, None, refl, sym, ap, ◌∙◌, subst, arith, inl, inr}
 use Rattle.std.specs.Prelude.{IsPermutation}
 use Rattle.std.specs.List.{filter_map}
-use Rattle.std.specs.List.Sorted.{IsSortedByKey}
+use Rattle.std.specs.List.Sorted.{IsSortedBy}
 use Rattle.std.specs.declared.cmp.Ordering.{Ordering}
 use Rattle.std.specs.declared.cmp.Ordering.TheVariants.{Less, Equal, Greater}
 use Rattle.std.specs.Ordering.{is_lt, is_gt, ordering_reverse}
 use Rattle.std.proofs.lemmas.Bool.{true≢false, and_parts, and_from}
-use Rattle.std.proofs.lemmas.List.Sorted.{sorted_far, ranks_by, Contains-permutation, IsPermutation-sym}
+use Rattle.std.proofs.lemmas.List.Sorted.{sorted_far, Contains-permutation, IsPermutation-sym}
 use Rattle.sets_core.specs.Among.{Among}
 use Rattle.ident_core.specs.declared.range.Range.{Range}
 use Rattle.sets_core.specs.Sets.{has_key}
@@ -17,10 +17,11 @@ use Rattle.universe_core.specs.Jobs.{Job, Entry, enrolled}
 use Rattle.sets_core.proofs.Elements.{Among-filter_map, Among-in_filter_map, Among-map, Among-in_map}
 use Rattle.universe_core.specs.declared.member.ReadEntry.{ReadEntry}
 use Rattle.universe_core.specs.Merging.{IsRising}
+use Rattle.universe_core.specs.Placing.{ArePlaced, placed_cmp}
 use Rattle.universe_core.specs.Reading.{if_read, entry_fields}
 use Rattle.sets_core.proofs.Canonical.{all_from, Among-from_Contains, Contains-from_Among}
-use Rattle.sets_core.proofs.Keys.{code_cmp, code_cmp_at, code_total}
 use Rattle.universe_core.proofs.Members.{AreRead}
+use Rattle.universe_core.proofs.Placing.{placed_ranks}
 use Rattle.sets_core.proofs.Sets.{identity_total}
 
 no_gt : (o : Ordering) → is_lt (ordering_reverse o) ≡ false → is_gt o ≡ false
@@ -31,19 +32,30 @@ no_gt Greater h = absurd (true≢false h)
 place : (es : List ReadEntry) (d : ReadEntry) → Among es d → (k : ℕ) × (k < length es) × (get_or es k d ≡ d)
 place es d a = Contains-from_Among es d a
 
-rising_from : (es : List ReadEntry) → ((i j : ℕ) (d : ReadEntry) → i ≤ j → j < length es → is_lt (code_cmp (get_or es j d).id (get_or es i d).id) ≡ false) → IsRising es
+among_get : (es : List ReadEntry) (k : ℕ) (d : ReadEntry) → k < length es → Among es (get_or es k d)
+among_get [] k d h = absurd (omega arith)
+among_get (e ∷ es) zero d h = inl refl
+among_get (e ∷ es) (suc k) d h = inr (among_get es k d (omega arith))
+
+rising_from : (es : List ReadEntry) → ((i j : ℕ) (d : ReadEntry) → i ≤ j → j < length es → is_lt (identity_cmp (get_or es j d).id.now (get_or es i d).id.now) ≡ false) → IsRising es
 rising_from [] f = tt
 rising_from (e ∷ es) f = (
-  all_from (λ (d : ReadEntry). is_gt (identity_cmp e.id d.id) ≡ false) es (λ d a.
+  all_from (λ (d : ReadEntry). is_gt (identity_cmp e.id.now d.id.now) ≡ false) es (λ d a.
       let p = place es d a in
-      let h : is_lt (code_cmp (get_or es p.0 d).id e.id) ≡ false = f 0 (suc p.0) d (omega arith) (omega arith) in
-      let g : is_lt (identity_cmp d.id e.id) ≡ false = ap is_lt (sym (code_cmp_at d.id e.id)) ∙ ap (λ (z : ReadEntry). is_lt (code_cmp z.id e.id)) (sym p.2) ∙ h in
-      no_gt (identity_cmp e.id d.id) (ap is_lt (sym (identity_total.antisymm d.id e.id)) ∙ g)),
+      let h : is_lt (identity_cmp (get_or es p.0 d).id.now e.id.now) ≡ false = f 0 (suc p.0) d (omega arith) (omega arith) in
+      let g : is_lt (identity_cmp d.id.now e.id.now) ≡ false = ap (λ (z : ReadEntry). is_lt (identity_cmp z.id.now e.id.now)) (sym p.2) ∙ h in
+      no_gt (identity_cmp e.id.now d.id.now) (ap is_lt (sym (identity_total.antisymm d.id.now e.id.now)) ∙ g)),
   rising_from es (λ i j d l m. f (suc i) (suc j) d (omega arith) (omega arith)),
 )
 
-pub rising_sorted : (es : List ReadEntry) → IsSortedByKey (λ (e : ReadEntry). e.id) code_cmp es → IsRising es
-rising_sorted es s = rising_from es (λ i j d l m. sorted_far (λ (a b : ReadEntry). is_lt (code_cmp a.id b.id)) (ranks_by code_total (λ (e : ReadEntry). e.id)) es s i j d l m)
+-- what is sorted by what stands beside the entries rises
+pub rising_sorted : (old es : List ReadEntry) → ArePlaced old → IsPermutation old es → IsSortedBy (λ (a b : ReadEntry). is_lt (placed_cmp a b)) es → IsRising es
+rising_sorted old es placed p s =
+    rising_from es (λ i j d l m.
+    let back : (e : ReadEntry) → Among es e → Among old e =
+    λ e a. Among-from_Contains old e (Contains-permutation es old e (IsPermutation-sym old es p) (Contains-from_Among es e a)) in
+    ap is_lt (sym (placed (get_or es j d) (get_or es i d) (back (get_or es j d) (among_get es j d m)) (back (get_or es i d) (among_get es i d (omega arith)))))
+    ∙ sorted_far (λ (a b : ReadEntry). is_lt (placed_cmp a b)) placed_ranks es s i j d l m)
 
 -- ---- what is read
 
@@ -66,7 +78,7 @@ are_read job left sorted l p = record {
       let m : Among (map entry_fields left) (entry_fields e) = Among-in_map entry_fields left e c in
       let f = Among-filter_map (if_read job.ranges (enrolled job)) job.entries (entry_fields e) (subst (λ z. Among z (entry_fields e)) l m) in
       let r = read_is job.ranges (enrolled job) f.0 (entry_fields e) f.2 in
-      let b = and_parts (covers job.ranges e.sighting.now) (has_key (enrolled job) e.id.issuer) r.1 in
+      let b = and_parts (covers job.ranges e.sighting.now) (has_key (enrolled job) e.id.now.issuer) r.1 in
       (subst (λ q. Among job.entries q) r.0 f.1, b.0, b.1);
   all = λ e a c n.
       let b : covers job.ranges e.sighting && has_key (enrolled job) e.id.issuer ≡ true = and_from (covers job.ranges e.sighting) (has_key (enrolled job) e.id.issuer) c n in

@@ -19,7 +19,7 @@ pub record IsSearchable (p : LedgerPart) : Type 0 where
 
 -- whether a part covers the sighting and enrolls the issuer
 abbrev pub lacks : ReadEntry → LedgerPart → Bool
-lacks e p = covers p.ranges.items e.sighting.now && has_key p.issuers.items e.id.issuer
+lacks e p = covers p.ranges.items e.sighting.now && has_key p.issuers.items e.id.now.issuer
 
 -- whether a part before the birth does
 abbrev pub lacked_in : List LedgerPart → ℕ → ReadEntry → Bool

@@ -7,6 +7,7 @@ pub mod Step
 pub mod Enrolling
 pub mod Reading
 pub mod Merging
+pub mod Placing
 pub mod Judging
 pub mod Members
 pub mod Following

@@ -11,7 +11,7 @@ use Rattle.universe_core.specs.declared.member.ReadEntry.{ReadEntry}
 -- no entry is above a later one
 abbrev pub IsRising : List ReadEntry → Type 0
 IsRising [] = Unit {0}
-IsRising (e ∷ es) = AllByRecursion (λ d. is_gt (identity_cmp e.id d.id) ≡ false) es × IsRising es
+IsRising (e ∷ es) = AllByRecursion (λ d. is_gt (identity_cmp e.id.now d.id.now) ≡ false) es × IsRising es
 
 abbrev pub lower : Identity → Identity → Identity
 lower x y = cond (is_lt (identity_cmp x y)) x y
@@ -20,17 +20,17 @@ lower x y = cond (is_lt (identity_cmp x y)) x y
 abbrev pub least_of : List LedgerItem → List ReadEntry → Option Identity
 least_of [] [] = None
 least_of (i ∷ is) [] = Some i.id
-least_of [] (e ∷ es) = Some e.id
-least_of (i ∷ is) (e ∷ es) = Some (lower i.id e.id)
+least_of [] (e ∷ es) = Some e.id.now
+least_of (i ∷ is) (e ∷ es) = Some (lower i.id e.id.now)
 
 -- the first entries, of one identity
 abbrev pub run_of : Identity → List ReadEntry → List ReadEntry
 run_of x [] = []
-run_of x (e ∷ es) = cond (is_same x e.id) (e ∷ run_of x es) []
+run_of x (e ∷ es) = cond (is_same x e.id.now) (e ∷ run_of x es) []
 
 abbrev pub after_run : Identity → List ReadEntry → List ReadEntry
 after_run x [] = []
-after_run x (e ∷ es) = cond (is_same x e.id) (after_run x es) (e ∷ es)
+after_run x (e ∷ es) = cond (is_same x e.id.now) (after_run x es) (e ∷ es)
 
 -- the first item, if it is the identity's
 abbrev pub first_of : Identity → List LedgerItem → Option LedgerItem
@@ -43,11 +43,11 @@ after_first x (i ∷ is) = cond (is_same x i.id) is (i ∷ is)
 
 -- the identities of items and entries
 abbrev pub all_ids : List LedgerItem → List ReadEntry → List Identity
-all_ids items entries = with_all (map (λ (e : ReadEntry). e.id) entries) (map (λ (i : LedgerItem). i.id) items)
+all_ids items entries = with_all (map (λ (e : ReadEntry). e.id.now) entries) (map (λ (i : LedgerItem). i.id) items)
 
 -- what a judge makes of the identities of both, each from its item and its entries
 unfoldable pub merged : {M : Type 0} → (Identity → Option LedgerItem → List ReadEntry → Option M) → List LedgerItem → List ReadEntry → List M
 merged judge items entries =
     filter_map
-    (λ x. judge x (find (λ (i : LedgerItem). is_same x i.id) items) (filter (λ (e : ReadEntry). is_same x e.id) entries))
+    (λ x. judge x (find (λ (i : LedgerItem). is_same x i.id) items) (filter (λ (e : ReadEntry). is_same x e.id.now) entries))
     (all_ids items entries)

@@ -18,7 +18,7 @@ use Rattle.universe_core.specs.declared.member.ReadEntry.{ReadEntry}
 use Rattle.universe_core.specs.declared.reading.Tally.{Tally}
 
 abbrev pub entry_fields : ReadEntry → Entry
-entry_fields e = record { id = e.id; sighting = e.sighting.now }
+entry_fields e = record { id = e.id.now; sighting = e.sighting.now }
 
 abbrev pub facts_of_entry : Option (Identity × Sighting) → Option Entry
 facts_of_entry e = option_map entry_of (entry_view e)
@@ -46,4 +46,4 @@ with_class c t = record {
 
 -- whether a part before its identity's birth covers the entry and enrolls its issuer
 abbrev pub is_lacked : LedgerFields → ReadEntry → Bool
-is_lacked ledger e = (past_in ledger).lacked e.id e.sighting.now
+is_lacked ledger e = (past_in ledger).lacked e.id.now e.sighting.now

@@ -42,7 +42,7 @@ fn is_late_entry(parts: &[LedgerPart], items: &[LedgerItem], e: &ReadEntry<'_>) 
     requires ascend { IsStrictlySortedBy identity_cmp (ids items.now) }
     ensures { result ≡ is_lacked (ledger_fields parts.now items.now) e.now }
 {
-    let old = item_of(items, &e.id);
+    let old = item_of(items, e.id);
     let birth = birth_of(parts, &old);
     is_late(parts, birth as usize, e)
 }

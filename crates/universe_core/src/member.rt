@@ -1,10 +1,17 @@
 use ident_core::{Identity, Sighting};
 
-/// An entry that is read. Its sighting stays where the job has it.
+/// An entry that is read. Its identity and sighting stay where the job has them; beside them stands what entries are
+/// sorted by.
 #[derive(Clone, Copy)]
 pub(crate) struct ReadEntry<'a> {
-    pub(crate) id: Identity,
+    pub(crate) id: &'a Identity,
     pub(crate) sighting: &'a Sighting,
+    /// The place of its issuer among the enrolled ones, which ascend.
+    pub(crate) place: usize,
+    /// The first eight octets of its serial, as a number.
+    pub(crate) head: u64,
+    /// How many octets its serial has.
+    pub(crate) length: u8,
 }
 
 /// An identity accepted so far, and what its item and its entries say.

@@ -6,6 +6,7 @@ ghost use Rattle.universe_core.specs.Merging.{IsRising, least_of, run_of, after_
 ghost use Rattle.universe_core.specs.Judging.{IsSearchable, judge_of};
 ghost use Rattle.ledger_core.specs.LedgerFields.{ledger_fields};
 ghost use Rattle.universe_core.specs.Jobs.{Job as JobMeaning, enrolled};
+ghost use Rattle.universe_core.specs.Placing.{ArePlaced};
 ghost use Rattle.universe_core.specs.Reading.{if_read, entry_fields};
 ghost use Rattle.universe_core.specs.Members.{members_in};
 
@@ -29,19 +30,19 @@ fn least(items: &[LedgerItem], entries: &[ReadEntry<'_>]) -> Option<Identity>
     match items.first() {
         None => match entries.first() {
             None => None,
-            Some(entry) => Some(entry.id),
+            Some(entry) => Some(*entry.id),
         },
         Some(item) => match entries.first() {
             None => Some(item.id),
-            Some(entry) => Some(lower_of(&item.id, &entry.id)),
+            Some(entry) => Some(lower_of(&item.id, entry.id)),
         },
     }
 }
 
 fn first_same(entries: &[ReadEntry<'_>], id: &Identity) -> usize
-    ensures { result ≡ length (take_while (λ e. same id.now e.id) entries.now) }
+    ensures { result ≡ length (take_while (λ e. same id.now e.id.now) entries.now) }
 {
-    entries.iter().take_while(|e| is_same(id, &e.id)).count()
+    entries.iter().take_while(|e| is_same(id, e.id)).count()
 }
 
 /// How many entries from the first on are the identity's.
@@ -141,6 +142,7 @@ pub(crate) fn members(
     requires few { length parts.now < 256 }
     requires parts { All IsSearchable parts.now }
     requires ascend { IsStrictlySortedBy identity_cmp (map (λ i. i.id) items.now) }
+    requires placed { ArePlaced entries.old.items }
     ensures same { IsPermutation entries.old.items entries.new.items }
     ensures members { (job : JobMeaning) → map entry_fields entries.old.items ≡ filter_map (if_read job.ranges (enrolled job)) job.entries
         → IfOk result (λ members. members.items ≡ members_in (ledger_fields parts.now items.now) job) }

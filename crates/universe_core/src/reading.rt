@@ -1,20 +1,22 @@
 ghost use Rattle.std.specs.List.Sorted.{IsStrictlySortedBy};
 ghost use Rattle.std.specs.List.{filter_map, cons_option, count_by};
-ghost use Rattle.std.specs.Prelude.{◌≡◌, ◌≤◌, ◌<◌, IfOk, OnOk, [], ◌++◌, ◌&&◌, IsPermutation, length, map};
+ghost use Rattle.std.specs.Prelude.{◌≡◌, ◌≤◌, ◌<◌, ℕ, List, Some, IfOk, OnOk, All, [], ◌++◌, ◌&&◌, IsPermutation, length, map, get_or, slice_get};
 ghost use Rattle.ident_core.specs.Coverage.{AreRanges};
 ghost use Rattle.ident_core.specs.Order.{octets_cmp};
 ghost use Rattle.universe_core.specs.Reading.{if_read, facts_of_entry, entry_fields, class_alone, with_class};
 ghost use Rattle.universe_core.specs.History.{if_accepted};
 ghost use Rattle.universe_core.specs.Counting.{is_class};
 ghost use Rattle.universe_core.specs.Merging.{IsRising};
+ghost use Rattle.universe_core.specs.Placing.{HasPlace, IsPlaced, ArePlaced, head_of, placed_cmp};
 ghost use Rattle.universe_core.specs.declared.class.Class.TheVariants as class;
 
 use crate::class::Class;
 use crate::member::ReadEntry;
 use ident_core::{Identity, Range, Sighting};
 use octets_core::Key32;
-use sets_core::{covers_sorted, holds_key};
+use sets_core::{covers_sorted, place_of_key};
 use std::alloc::{AllocError, Global};
+use std::cmp::Ordering;
 
 /// How many entries are of the classes that a job alone tells, and how many are read.
 #[derive(Clone, Copy)]
@@ -32,37 +34,87 @@ pub(crate) struct Reading<'a> {
     pub(crate) tally: Tally,
 }
 
-/// What an entry is where no part lacks it.
+/// What an entry is where no part lacks it, and the place of its issuer among the enrolled ones, or 0.
+#[derive(Clone, Copy)]
+struct Told {
+    class: Class,
+    place: usize,
+}
+
+/// What is told of an entry.
 #[tactic(auto, using(crate::proofs::Classes::class_unread))]
-fn classify(ranges: &[Range], issuers: &[Key32], entry: &Option<(Identity, Sighting)>) -> Class
+fn classify(ranges: &[Range], issuers: &[Key32], entry: &Option<(Identity, Sighting)>) -> Told
     requires ranges { AreRanges ranges.now }
     requires sorted { IsStrictlySortedBy octets_cmp issuers.now }
-    ensures { result ≡ class_alone ranges.now issuers.now (facts_of_entry entry.now) }
+    ensures class { result.class ≡ class_alone ranges.now issuers.now (facts_of_entry entry.now) }
+    ensures place { result.class ≡ class.Accepted → HasPlace issuers.now result.place entry.now }
 {
     let Some((id, sighting)) = entry else {
-        return Class::Unread;
+        return Told {
+            class: Class::Unread,
+            place: 0,
+        };
     };
     if !covers_sorted(ranges, sighting) {
-        return Class::Uncovered;
+        return Told {
+            class: Class::Uncovered,
+            place: 0,
+        };
     }
-    if !holds_key(issuers, &id.issuer) {
-        return Class::Unenrolled;
+    match place_of_key(issuers, &id.issuer) {
+        Some(place) => Told {
+            class: Class::Accepted,
+            place,
+        },
+        None => Told {
+            class: Class::Unenrolled,
+            place: 0,
+        },
     }
-    Class::Accepted
+}
+
+/// The number that the first eight octets spell, greatest first, and 0 for fewer.
+fn head(octets: &[u8]) -> u64
+    ensures value { result ≡ head_of octets.now }
+    ensures octets { (i : ℕ) → get_or octets.now i 0 < 256 }
+{
+    if octets.len() < 8 {
+        return 0;
+    }
+    let mut first = [0u8; 8];
+    first.copy_from_slice(&octets[..8]);
+    u64::from_be_bytes(first)
+}
+
+/// The entry of these, whose issuer has this place.
+fn read_entry<'a>(id: &'a Identity, sighting: &'a Sighting, place: usize) -> ReadEntry<'a>
+    ensures entry { entry_fields result ≡ record { id = id.now; sighting = sighting.now } }
+    ensures placed { (issuers : List (List ℕ)) → slice_get issuers place ≡ Some id.now.issuer → IsPlaced issuers result }
+{
+    let octets = id.serial.bytes();
+    ReadEntry {
+        id,
+        sighting,
+        place,
+        head: head(octets),
+        length: octets.len() as u8,
+    }
 }
 
 /// Keeps an entry that is read.
 fn keep_entry<'a>(
     out: &mut Vec<ReadEntry<'a>>,
-    class: Class,
+    told: Told,
     entry: &'a Option<(Identity, Sighting)>,
 ) -> Result<(), AllocError>
-    ensures { OnOk result (map entry_fields out.new.items ≡ map entry_fields out.old.items ++ cons_option (if_accepted class (facts_of_entry entry.now)) []) }
+    ensures kept { OnOk result (map entry_fields out.new.items ≡ map entry_fields out.old.items ++ cons_option (if_accepted told.class (facts_of_entry entry.now)) []) }
+    ensures placed { (issuers : List (List ℕ)) → (told.class ≡ class.Accepted → HasPlace issuers told.place entry.now)
+        → All (IsPlaced issuers) out.old.items → OnOk result (All (IsPlaced issuers) out.new.items) }
 {
-    match class {
+    match told.class {
         Class::Accepted => match entry {
             Some((id, sighting)) => {
-                let one = ReadEntry { id: *id, sighting };
+                let one = read_entry(id, sighting, told.place);
                 match out.push(one) {
                     Ok(()) => Ok(()),
                     Err(_) => Err(AllocError),
@@ -103,6 +155,7 @@ pub(crate) fn read<'a>(
     requires sorted { IsStrictlySortedBy octets_cmp issuers.now }
     requires few { length entries.now ≤ 4294967295 }
     ensures entries { IfOk result (λ r. map entry_fields r.entries.items ≡ filter_map (λ e. if_read ranges.now issuers.now (facts_of_entry e)) entries.now) }
+    ensures placed { IfOk result (λ r. ArePlaced r.entries.items) }
     ensures unread { IfOk result (λ r. r.tally.unread
         ≡ count_by (λ e. is_class class.Unread (class_alone ranges.now issuers.now (facts_of_entry e))) entries.now) }
     ensures uncovered { IfOk result (λ r. r.tally.uncovered
@@ -120,9 +173,9 @@ pub(crate) fn read<'a>(
         read: 0,
     };
     for entry in entries {
-        let class = classify(ranges, issuers, entry);
-        keep_entry(&mut left, class, entry)?;
-        tally = counted(tally, class);
+        let told = classify(ranges, issuers, entry);
+        keep_entry(&mut left, told, entry)?;
+        tally = counted(tally, told.class);
     }
     Ok(Reading {
         entries: left,
@@ -130,10 +183,28 @@ pub(crate) fn read<'a>(
     })
 }
 
+/// How entries are ordered: by the places of their issuers, then as serials are, of which the whole one is looked at only
+/// where both have as many octets and begin with the same eight.
+fn order(x: &ReadEntry<'_>, y: &ReadEntry<'_>) -> Ordering
+    ensures { result ≡ placed_cmp x.now y.now }
+{
+    if x.place != y.place {
+        return x.place.cmp(&y.place);
+    }
+    if x.length != y.length {
+        return x.length.cmp(&y.length);
+    }
+    if x.head != y.head {
+        return x.head.cmp(&y.head);
+    }
+    x.id.serial.cmp(&y.id.serial)
+}
+
 /// Sorts the entries by their identities.
 pub(crate) fn sort_entries(entries: &mut Vec<ReadEntry<'_>>)
+    requires { ArePlaced entries.old.items }
     ensures same { IsPermutation entries.old.items entries.new.items }
     ensures rising { IsRising entries.new.items }
 {
-    entries.sort_unstable_by_key(|e| e.id);
+    entries.sort_unstable_by(|x, y| order(x, y));
 }

@@ -5,6 +5,7 @@ use Rattle.universe_core.specs.Reading.{if_read, entry_fields, facts_of_entry, c
 use Rattle.universe_core.specs.declared.class.Class.TheVariants.{Unread, Uncovered, Unenrolled, Accepted}
 use Rattle.universe_core.specs.declared.reading.Tally.{Tally}
 use Rattle.universe_core.proofs.Classes.{read_more, count_more, taken_is}
+use Rattle.universe_core.proofs.Placing.{are_placed}
 use Rattle.universe_core.proofs.reading.read.Goals as goal
 
 pub loop-entry-preserved : goal.loop-entry-preserved
@@ -16,19 +17,23 @@ loop-entry-preserved c =
     let e = c.entry-item.result in
     record {
       entries = read_more (λ d. if_read R I (facts_of_entry d)) es i e (map entry_fields c.loop-entry.left.items) (map entry_fields c.keep_entry.new.out.items)
-          (if_accepted c.classify-class.result (facts_of_entry e)) c.loop-entry-test.true c.entry-item.is
-          c.loop-entry.invariant.entries (ap (λ k. if_accepted k (facts_of_entry e)) c.classify-class.ensures ∙ taken_is R I (facts_of_entry e)) c.in_ok-keep_entry.ensures;
+          (if_accepted c.classify-told.result.class (facts_of_entry e)) c.loop-entry-test.true c.entry-item.is
+          c.loop-entry.invariant.entries (ap (λ k. if_accepted k (facts_of_entry e)) c.classify-told.ensures.class ∙ taken_is R I (facts_of_entry e)) c.in_ok-keep_entry.ensures.kept;
+      placed = c.in_ok-keep_entry.ensures.placed I c.classify-told.ensures.place c.loop-entry.invariant.placed;
       unread = count_more (λ d. is_class Unread (class_alone R I (facts_of_entry d))) es i e c.loop-entry.tally.unread c.counted-tally.result.unread
-          (is_class Unread c.classify-class.result) c.loop-entry-test.true c.entry-item.is c.loop-entry.invariant.unread
-          (ap (is_class Unread) c.classify-class.ensures) (ap (λ (t : Tally). t.unread) c.counted-tally.ensures);
+          (is_class Unread c.classify-told.result.class) c.loop-entry-test.true c.entry-item.is c.loop-entry.invariant.unread
+          (ap (is_class Unread) c.classify-told.ensures.class) (ap (λ (t : Tally). t.unread) c.counted-tally.ensures);
       uncovered = count_more (λ d. is_class Uncovered (class_alone R I (facts_of_entry d))) es i e c.loop-entry.tally.uncovered c.counted-tally.result.uncovered
-          (is_class Uncovered c.classify-class.result) c.loop-entry-test.true c.entry-item.is c.loop-entry.invariant.uncovered
-          (ap (is_class Uncovered) c.classify-class.ensures) (ap (λ (t : Tally). t.uncovered) c.counted-tally.ensures);
+          (is_class Uncovered c.classify-told.result.class) c.loop-entry-test.true c.entry-item.is c.loop-entry.invariant.uncovered
+          (ap (is_class Uncovered) c.classify-told.ensures.class) (ap (λ (t : Tally). t.uncovered) c.counted-tally.ensures);
       unenrolled = count_more (λ d. is_class Unenrolled (class_alone R I (facts_of_entry d))) es i e c.loop-entry.tally.unenrolled
-          c.counted-tally.result.unenrolled (is_class Unenrolled c.classify-class.result) c.loop-entry-test.true c.entry-item.is
+          c.counted-tally.result.unenrolled (is_class Unenrolled c.classify-told.result.class) c.loop-entry-test.true c.entry-item.is
           c.loop-entry.invariant.unenrolled
-          (ap (is_class Unenrolled) c.classify-class.ensures) (ap (λ (t : Tally). t.unenrolled) c.counted-tally.ensures);
+          (ap (is_class Unenrolled) c.classify-told.ensures.class) (ap (λ (t : Tally). t.unenrolled) c.counted-tally.ensures);
       read = count_more (λ d. is_class Accepted (class_alone R I (facts_of_entry d))) es i e c.loop-entry.tally.read c.counted-tally.result.read
-          (is_class Accepted c.classify-class.result) c.loop-entry-test.true c.entry-item.is c.loop-entry.invariant.read
-          (ap (is_class Accepted) c.classify-class.ensures) (ap (λ (t : Tally). t.read) c.counted-tally.ensures);
+          (is_class Accepted c.classify-told.result.class) c.loop-entry-test.true c.entry-item.is c.loop-entry.invariant.read
+          (ap (is_class Accepted) c.classify-told.ensures.class) (ap (λ (t : Tally). t.read) c.counted-tally.ensures);
     }
+
+pub returns-clause-placed : goal.returns-clause-placed
+returns-clause-placed c = are_placed c.args.issuers.now c.loop-entry.left.items c.requires.sorted c.loop-entry.invariant.placed
