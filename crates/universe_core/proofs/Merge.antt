@@ -68,8 +68,11 @@ after_step : (x : Identity) (e : ReadEntry) (es : List ReadEntry) (b : Bool) →
     → After x (after_run x es) → After x (cond b (after_run x es) (e ∷ es))
 after_step x e es true i n r next = next
 after_step x e es false i n r next =
-    let l : identity_cmp x e.id.now ≡ Less = is_less (identity_cmp x e.id.now) n.0 (not_equal x e.id.now i) in
-    (l, weaken (λ (d : ReadEntry). is_gt (identity_cmp e.id.now d.id.now) ≡ false) (λ (d : ReadEntry). identity_cmp x d.id.now ≡ Less) (λ d g. through x e.id.now d.id.now (identity_cmp e.id.now d.id.now) l refl g) es r.0)
+    let l : identity_cmp x e.id.now ≡ Less = is_less (identity_cmp x e.id.now) n.0 (not_equal x e.id.now i) in (
+      l,
+      weaken (λ (d : ReadEntry). is_gt (identity_cmp e.id.now d.id.now) ≡ false) (λ (d : ReadEntry). identity_cmp x d.id.now ≡ Less)
+          (λ d g. through x e.id.now d.id.now (identity_cmp e.id.now d.id.now) l refl g) es r.0,
+    )
 
 pub after_is : (x : Identity) (es : List ReadEntry) → NotAbove x es → IsRising es → After x (after_run x es)
 after_is x [] n r = tt
@@ -119,7 +122,8 @@ ids_cases : (x : Identity) (es : List ReadEntry) (z : Identity) → Among (map (
 ids_cases x [] z a = absurd a
 ids_cases x (e ∷ es) z a = cases_step x e es z (is_same x e.id.now) refl (ids_cases x es z) a
 
-back_step : (x : Identity) (e : ReadEntry) (es : List ReadEntry) (z : Identity) (b : Bool) → (Among (map (λ (d : ReadEntry). d.id.now) (after_run x es)) z → Among (map (λ (d : ReadEntry). d.id.now) es) z)
+back_step : (x : Identity) (e : ReadEntry) (es : List ReadEntry) (z : Identity) (b : Bool)
+    → (Among (map (λ (d : ReadEntry). d.id.now) (after_run x es)) z → Among (map (λ (d : ReadEntry). d.id.now) es) z)
     → Among (map (λ (d : ReadEntry). d.id.now) (cond b (after_run x es) (e ∷ es))) z → Among (map (λ (d : ReadEntry). d.id.now) (e ∷ es)) z
 back_step x e es z false next m = m
 back_step x e es z true next m = inr (next m)

@@ -107,7 +107,8 @@ fn keep_entry<'a>(
     told: Told,
     entry: &'a Option<(Identity, Sighting)>,
 ) -> Result<(), AllocError>
-    ensures kept { OnOk result (map entry_fields out.new.items ≡ map entry_fields out.old.items ++ cons_option (if_accepted told.class (facts_of_entry entry.now)) []) }
+    ensures kept { OnOk result (map entry_fields out.new.items
+        ≡ map entry_fields out.old.items ++ cons_option (if_accepted told.class (facts_of_entry entry.now)) []) }
     ensures placed { (issuers : List (List ℕ)) → (told.class ≡ class.Accepted → HasPlace issuers told.place entry.now)
         → All (IsPlaced issuers) out.old.items → OnOk result (All (IsPlaced issuers) out.new.items) }
 {
@@ -183,8 +184,8 @@ pub(crate) fn read<'a>(
     })
 }
 
-/// How entries are ordered: by the places of their issuers, then as serials are, of which the whole one is looked at only
-/// where both have as many octets and begin with the same eight.
+/// How entries are ordered: by the places of their issuers, then as serials are, of which the whole one is looked at
+/// only where both have as many octets and begin with the same eight.
 fn order(x: &ReadEntry<'_>, y: &ReadEntry<'_>) -> Ordering
     ensures { result ≡ placed_cmp x.now y.now }
 {
