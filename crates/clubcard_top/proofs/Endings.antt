@@ -7,12 +7,12 @@ use Rattle.outside_core.specs.Written.{followed_by}
 use Rattle.word_core.specs.declared.command.Command.{Command}
 use Rattle.word_core.specs.declared.command.Command.TheVariants as commands
 use Rattle.word_core.specs.Names.{inputs_of, outputs_of}
-use Rattle.clubcard_top.specs.declared.fault.FileFault.{FileFault}
-use Rattle.clubcard_top.specs.declared.fault.FileFault.TheVariants as faults
+use Rattle.input_core.specs.declared.fault.FileFault.{FileFault}
+use Rattle.input_core.specs.declared.fault.FileFault.TheVariants as faults
 use Rattle.clubcard_top.specs.ReplyFields.{OutputFields, ReplyFields, Done, NamedFault}
 use Rattle.clubcard_top.specs.Statuses.{is_one_of, all, of_replies}
 use Rattle.clubcard_top.specs.Sending.{EndsSo}
-use Rattle.clubcard_top.specs.Inputs.{AreRead}
+use Rattle.input_core.specs.Inputs.{AreRead}
 use Rattle.clubcard_top.specs.Commands.{Makes}
 use Rattle.clubcard_top.specs.Replies.{usage, refusal, reply_of, IsReplyOver}
 use Rattle.clubcard_top.specs.Runs.{SaysWhich, IsReply, IsTorn, KeepsAllBut, with_outputs}

@@ -1,3 +1,4 @@
+pub mod Checked
 pub mod Endings
 pub mod Files
 pub mod Made
@@ -7,12 +8,10 @@ pub mod Outputs
 pub mod Overs
 pub mod Prefixes
 pub mod Promised
-pub mod Reading
 pub mod Rehearsal
 pub mod Rehearsed
 pub mod Replying
 pub mod Results
-pub mod Scans
 pub mod Succeeded
 pub mod Tellings
 pub mod Unique

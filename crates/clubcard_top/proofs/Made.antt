@@ -43,10 +43,10 @@ use Rattle.word_core.specs.declared.command.Command.{Command}
 use Rattle.word_core.specs.declared.command.Command.TheVariants as commands
 use Rattle.word_core.specs.CommandFields.{QueryFields, StartFields, InstallFields}
 use Rattle.line_core.specs.Lines.{line, report_line, store_line}
-use Rattle.clubcard_top.specs.declared.fault.FileFault.{FileFault}
-use Rattle.clubcard_top.specs.Faults.{of_job, of_ledger, of_store}
-use Rattle.clubcard_top.specs.PartFile.{part_file}
-use Rattle.clubcard_top.specs.Readings.{faulted, job_in, ledger_in, part_in, store_in}
+use Rattle.input_core.specs.declared.fault.FileFault.{FileFault}
+use Rattle.input_core.specs.Faults.{of_job, of_ledger, of_store}
+use Rattle.input_core.specs.PartFile.{part_file}
+use Rattle.input_core.specs.Readings.{faulted, job_in, ledger_in, part_in, store_in}
 use Rattle.clubcard_top.specs.ReplyFields.{Done, NamedFault}
 use Rattle.clubcard_top.specs.Commands.{◌>>=◌, named, input, only, verdict_word, query_done, query_makes, epoch_of, stored, begun_by, installed_by, start_makes}
 use Rattle.clubcard_top.specs.Commands.{install_makes, publication_done, published_as, MakesPart, MakesSnapshot, MakesDelta, Makes}

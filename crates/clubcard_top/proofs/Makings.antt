@@ -40,18 +40,19 @@ use Rattle.word_core.specs.declared.command.Command.{Command}
 use Rattle.word_core.specs.declared.command.Command.TheVariants as commands
 use Rattle.word_core.specs.CommandFields.{SnapshotFields, DeltaFields, StartFields, InstallFields, RehearseFields}
 use Rattle.word_core.specs.Names.{inputs_of, outputs_of}
-use Rattle.clubcard_top.specs.declared.fault.FileFault.{FileFault}
-use Rattle.clubcard_top.specs.declared.fault.FileFault.TheVariants as faults
-use Rattle.clubcard_top.specs.Faults.{of_queries, of_job, of_ledger, of_part, of_store, of_admission, of_publishing}
-use Rattle.clubcard_top.specs.PartFile.{part_file}
-use Rattle.clubcard_top.specs.Readings.{faulted, queries_in, job_in, ledger_in, part_in, store_in}
+use Rattle.input_core.specs.declared.fault.FileFault.{FileFault}
+use Rattle.input_core.specs.declared.fault.FileFault.TheVariants as faults
+use Rattle.input_core.specs.Faults.{of_queries, of_job, of_ledger, of_part, of_store}
+use Rattle.clubcard_top.specs.Faults.{of_admission, of_publishing}
+use Rattle.input_core.specs.PartFile.{part_file}
+use Rattle.input_core.specs.Readings.{faulted, queries_in, job_in, ledger_in, part_in, store_in}
 use Rattle.clubcard_top.specs.ReplyFields.{Done, NamedFault}
 use Rattle.clubcard_top.specs.Statuses.{is_one_of}
 use Rattle.clubcard_top.specs.Commands.{◌>>=◌, named, input, begun_by, begun, installed_by, installed, stored, query_done, check_done, show_done}
 use Rattle.clubcard_top.specs.Commands.{publication_done, published_as, MakesSnapshot, MakesDelta, rehearsed, IsRefused, MakesRehearsal, sample_done, Makes}
 use Rattle.clubcard_top.specs.Steps.{RehearsesOn}
 use Rattle.clubcard_top.specs.Replies.{refusal, reply_of}
-use Rattle.clubcard_top.specs.Inputs.{IsRead, AreRead}
+use Rattle.input_core.specs.Inputs.{IsRead, AreRead}
 use Rattle.clubcard_top.proofs.Outputs.{names_of}
 use Rattle.clubcard_top.proofs.Results.{ok_same, not_ok}
 use Rattle.clubcard_top.proofs.Prefixes.{from_first}

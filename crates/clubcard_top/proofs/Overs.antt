@@ -10,10 +10,10 @@ use Rattle.word_core.specs.declared.command.Command.{Command}
 use Rattle.word_core.specs.declared.command.Command.TheVariants as commands
 use Rattle.word_core.specs.CommandFields.{DeltaFields, InstallFields, RehearseFields}
 use Rattle.word_core.specs.Names.{inputs_of}
-use Rattle.clubcard_top.specs.declared.fault.FileFault.TheVariants as faults
+use Rattle.input_core.specs.declared.fault.FileFault.TheVariants as faults
 use Rattle.clubcard_top.specs.ReplyFields.{Done, NamedFault}
-use Rattle.clubcard_top.specs.Readings.{queries_in, job_in, ledger_in, store_in}
-use Rattle.clubcard_top.specs.Inputs.{IsRead, AreRead}
+use Rattle.input_core.specs.Readings.{queries_in, job_in, ledger_in, store_in}
+use Rattle.input_core.specs.Inputs.{IsRead, AreRead}
 use Rattle.clubcard_top.specs.Commands.{◌>>=◌, input, query_makes, check_makes, show_makes, start_makes, install_makes, MakesDelta, IsRefused, MakesRehearsal, Makes}
 use Rattle.clubcard_top.specs.Steps.{RehearsesOn}
 use Rattle.clubcard_top.specs.Replies.{held_by}

@@ -9,11 +9,11 @@ use Rattle.store_core.specs.declared.chain.Refusal.{Refusal}
 use Rattle.word_core.specs.declared.command.Command.{Command}
 use Rattle.word_core.specs.declared.command.Command.TheVariants as commands
 use Rattle.word_core.specs.Names.{inputs_of, outputs_of}
-use Rattle.clubcard_top.specs.declared.fault.FileFault.{FileFault}
-use Rattle.clubcard_top.specs.declared.fault.FileFault.TheVariants as faults
+use Rattle.input_core.specs.declared.fault.FileFault.{FileFault}
+use Rattle.input_core.specs.declared.fault.FileFault.TheVariants as faults
 use Rattle.clubcard_top.specs.ReplyFields.{ReplyFields, Done, NamedFault}
 use Rattle.clubcard_top.specs.Statuses.{is_one_of, of_replies}
-use Rattle.clubcard_top.specs.Inputs.{Blames, AreRead}
+use Rattle.input_core.specs.Inputs.{Blames, AreRead}
 use Rattle.clubcard_top.specs.Commands.{Makes}
 use Rattle.clubcard_top.specs.Replies.{usage, refusal, reply_of, write_fault, IsReplyOver, IsReplyTo, held_by}
 use Rattle.clubcard_top.specs.Runs.{IsReply, KeepsAllBut, with_outputs}

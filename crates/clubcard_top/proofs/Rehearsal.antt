@@ -18,18 +18,19 @@ use Rattle.rehearsal_core.specs.Rehearsing.{RehearsalFields, IsOf}
 use Rattle.word_core.specs.declared.command.Command.TheVariants as commands
 use Rattle.word_core.specs.CommandFields.{RehearseFields}
 use Rattle.clubcard_top.specs.declared.answer.Answer.{Answer}
-use Rattle.clubcard_top.specs.declared.fault.FileFault.{FileFault}
-use Rattle.clubcard_top.specs.declared.fault.FileFault.TheVariants as faults
+use Rattle.input_core.specs.declared.fault.FileFault.{FileFault}
+use Rattle.input_core.specs.declared.fault.FileFault.TheVariants as faults
 use Rattle.clubcard_top.specs.ReplyFields.{Done, NamedFault}
-use Rattle.clubcard_top.specs.Readings.{queries_in, job_in, input_as}
+use Rattle.input_core.specs.Readings.{queries_in, job_in, input_as}
 use Rattle.clubcard_top.specs.Commands.{named, input, report_behind, reports, rehearsed, verdict_line, IsRefused, MakesRehearsal}
 use Rattle.clubcard_top.specs.Steps.{RehearsesOn}
-use Rattle.clubcard_top.specs.Inputs.{WhichFailed, IsBlamed, BlamesFile, IsRead, AreRead, IsInput}
+use Rattle.input_core.specs.Inputs.{WhichFailed, IsBlamed, IsRead, AreRead, IsInput}
 use Rattle.clubcard_top.specs.Rehearsals.{AddsJob, IsRehearsedFrom, IsRefusedFrom}
 use Rattle.clubcard_top.specs.Replies.{done, refusal}
 use Rattle.clubcard_top.specs.Answering.{reply_fields}
-use Rattle.clubcard_top.specs.Runs.{IsReply}
-use Rattle.clubcard_top.proofs.Replying.{some_read, read_well, read_named, later_read, failed_later, none_failed, blames_file, blamed_later, made, made_unless}
+use Rattle.clubcard_top.specs.Runs.{BlamesFile, IsReply}
+use Rattle.input_core.proofs.FilesRead.{some_read, later_read, failed_later, none_failed, blamed_later}
+use Rattle.clubcard_top.proofs.Replying.{read_well, read_named, blames_file, made, made_unless}
 use Rattle.clubcard_top.proofs.Prefixes.{first_of}
 
 -- ---- files that were read

@@ -18,9 +18,9 @@ use Rattle.word_core.specs.declared.command.Command.{Command}
 use Rattle.word_core.specs.declared.command.Command.TheVariants as commands
 use Rattle.word_core.specs.CommandFields.{RehearseFields}
 use Rattle.line_core.specs.Lines.{line}
-use Rattle.clubcard_top.specs.declared.fault.FileFault.TheVariants as faults
-use Rattle.clubcard_top.specs.Faults.{of_queries, of_job}
-use Rattle.clubcard_top.specs.Readings.{faulted, queries_in, job_in}
+use Rattle.input_core.specs.declared.fault.FileFault.TheVariants as faults
+use Rattle.input_core.specs.Faults.{of_queries, of_job}
+use Rattle.input_core.specs.Readings.{faulted, queries_in, job_in}
 use Rattle.clubcard_top.specs.ReplyFields.{Done, NamedFault}
 use Rattle.clubcard_top.specs.Commands.{named, input, verdict_word, rehearsed, MakesRehearsal, Makes}
 use Rattle.clubcard_top.specs.Steps.{RehearsesOn}

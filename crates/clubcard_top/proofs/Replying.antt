@@ -22,35 +22,21 @@ use Rattle.word_core.specs.declared.command.Command.TheVariants as commands
 use Rattle.word_core.specs.CommandFields.{QueryFields, SnapshotFields, DeltaFields, StartFields, InstallFields}
 use Rattle.word_core.specs.Names.{inputs_of}
 use Rattle.clubcard_top.specs.declared.answer.Answer.{Answer}
-use Rattle.clubcard_top.specs.declared.fault.FileFault.{FileFault}
-use Rattle.clubcard_top.specs.declared.fault.FileFault.TheVariants as faults
-use Rattle.clubcard_top.specs.declared.input.InputFault.{InputFault}
-use Rattle.clubcard_top.specs.declared.input.InputFault.TheVariants as reads
-use Rattle.clubcard_top.specs.Faults.{of_input, of_publishing}
-use Rattle.clubcard_top.specs.Readings.{faulted, job_in, ledger_in, part_in, store_in, input_as}
-use Rattle.clubcard_top.specs.Inputs.{IsHeld, WhichFailed, IsBlamed, BlamesFile, IsRead, AreRead, IsInput}
+use Rattle.input_core.specs.declared.fault.FileFault.{FileFault}
+use Rattle.input_core.specs.declared.fault.FileFault.TheVariants as faults
+use Rattle.clubcard_top.specs.Faults.{of_publishing}
+use Rattle.input_core.specs.Readings.{faulted, job_in, ledger_in, part_in, store_in, input_as}
+use Rattle.input_core.specs.Inputs.{WhichFailed, IsBlamed, IsRead, AreRead, IsInput}
+use Rattle.input_core.proofs.FilesRead.{later_read, failed_later, none_failed}
 use Rattle.clubcard_top.specs.ReplyFields.{ReplyFields, Done, NamedFault}
 use Rattle.clubcard_top.specs.Commands.{◌>>=◌, named, input, query_done, show_done, begun, installed, stored, publication_done, MakesPart, MakesSnapshot, MakesDelta, Makes}
 use Rattle.clubcard_top.specs.Replies.{done, refusal, reply_of}
 use Rattle.clubcard_top.specs.Answering.{reply_fields}
-use Rattle.clubcard_top.specs.Runs.{SaysWhich, IsReply}
+use Rattle.clubcard_top.specs.Runs.{BlamesFile, SaysWhich, IsReply}
 use Rattle.clubcard_top.proofs.Results.{not_ok}
 use Rattle.clubcard_top.proofs.Makings.{start_after, install_then, install_after}
 
 -- ---- files
-
-held_read : (files : Files) (failed : Option (List ℕ) → Type 0) (name : List ℕ) (held : Option (List ℕ)) → get files name ≡ held → (given : Option (List ℕ)) × IsRead (Some files) failed name given
-held_read files failed name None is = (None, inr (files, refl, is))
-held_read files failed name (Some bytes) is = (Some bytes, is)
-
--- a file that need not be read
-pub some_read : (told : Option Files) (failed : Option (List ℕ) → Type 0) (name : List ℕ) → (given : Option (List ℕ)) × IsRead told failed name given
-some_read None failed name = (Some [], tt)
-some_read (Some files) failed name = held_read files failed name (get files name) refl
-
-whole_read : (told : Option Files) (failed : Option (List ℕ) → Type 0) (name bytes : List ℕ) → IsHeld told name (λ file. bytes ≡ file) → IsRead told failed name (Some bytes)
-whole_read None failed name bytes held = tt
-whole_read (Some files) failed name bytes (file, there, same) = there ∙ ap (λ (b : List ℕ). Some b) (sym same)
 
 -- a file that was read, whatever is known of those whose read failed
 pub read_well : {A : Type 0} (told : Option Files) (failed other : Option (List ℕ) → Type 0) (name : List ℕ) (read : List ℕ → Result A FileFault)
@@ -63,78 +49,13 @@ pub read_named : {A : Type 0} (told : Option Files) (failed other : Option (List
 read_named told failed other name read None x is held = absurd (not_ok x (record { name = name; fault = faults.Unread }) is)
 read_named told failed other name read (Some bytes) x is held = held
 
--- a file that was read later in a call
-pub later_read : (told mid : Option Files) (failed other : Option (List ℕ) → Type 0) (name : List ℕ) (given : Option (List ℕ)) → mid ≡ told
-    → ((which : Option (List ℕ)) → failed which → other which) → IsRead mid failed name given → IsRead told other name given
-later_read told mid failed other name None same wider (inl why) = inl (wider (Some name) why)
-later_read told mid failed other name None same wider (inr missing) = inr (subst (λ (t : Option Files). IsMissing t name) same missing)
-later_read told mid failed other name (Some bytes) same wider held = subst (λ (t : Option Files). IsRead t other name (Some bytes)) same held
-
--- a read that failed behind others that went well is the one that failed
-pub failed_later : {D : Type 0} (g : Ghosts D) (old mid new : D) → OnlyReads g old mid → WhichFailed g old mid None
-    → (which : Option (List ℕ)) → WhichFailed g mid new which → WhichFailed g old new which
-failed_later g old mid new reads well None none = none ∙ well
-failed_later g old mid new reads well (Some name) (rose, blamed) =
-    let le = reads.later in (omega (arith, rose, le), blamed ∙ ap (λ (f : Option (List (List ℕ))). blaming f name) well)
-
 -- ---- which read failed
-
-pub none_failed : {A E : Type 0} (failed : Option (List ℕ) → Type 0) (name : List ℕ) (unread : E) (x : A) → IsBlamed failed name unread (Ok x) → failed None
-none_failed failed name unread x (inl none) = none
-none_failed {A} {E} failed name unread x (inr (is, why)) = absurd (let h : ◌≡◌ {A = Result A E} (Ok x) (Err unread) = is in cc)
 
 pub blames_file : {A : Type 0} (failed : Option (List ℕ) → Type 0) (names : List (List ℕ)) (name : List ℕ) (fault : FileFault) → Among names name
     → IsBlamed {A = A} failed name faults.Unread (Err fault) → BlamesFile failed names (record { name = name; fault = fault })
 blames_file failed names name fault among (inl none) = inl none
 blames_file {A} failed names name fault among (inr (is, why)) =
     inr (let h : ◌≡◌ {A = Result A FileFault} (Err fault) (Err faults.Unread) = is in cc, among, why)
-
-pub blamed_later : {A E : Type 0} (failed other : Option (List ℕ) → Type 0) (name : List ℕ) (unread : E) (r : Result A E)
-    → ((which : Option (List ℕ)) → failed which → other which) → IsBlamed failed name unread r → IsBlamed other name unread r
-blamed_later failed other name unread r wider (inl none) = inl (wider None none)
-blamed_later failed other name unread r wider (inr (is, why)) = inr (is, wider (Some name) why)
-
--- ---- what a file was read as
-
--- an input whose read failed
-unread_input : {A B : Type 0} (told : Option Files) (failed : Option (List ℕ) → Type 0) (name : List ℕ) (read : List ℕ → Result A FileFault) (view : B → A)
-    → failed (Some name) ⊎ (IsMissing told name × failed None) → IsInput told failed name read view (Err faults.Unread)
-unread_input told failed name read view (inl blamed) = (None, inl blamed, λ refute. refl, inr (refl, blamed))
-unread_input told failed name read view (inr (missing, none)) = (None, inr missing, λ refute. refl, inl none)
-
--- what the reading of a file says of which read failed
-well_read : {T : Type 0} (failed : Option (List ℕ) → Type 0) (r : Result T InputFault) → (r ≡ Err reads.Failed → ⊥) → IsErrOf r reads.Failed ⊎ failed None → failed None
-well_read failed r refute (inl is) = absurd (refute is)
-well_read failed r refute (inr none) = none
-
-pub input_err : {T A B : Type 0} (told : Option Files) (failed : Option (List ℕ) → Type 0) (name : List ℕ) (read : List ℕ → Result A FileFault) (view : B → A)
-    (e : InputFault) → (IsErrOf {T = T} (Err e) reads.Failed → failed (Some name) ⊎ (IsMissing told name × failed None))
-    → IsErrOf {T = T} (Err e) reads.Failed ⊎ failed None → IsInput told failed name read view (Err (of_input e))
-input_err told failed name read view reads.Failed why unblamed = unread_input told failed name read view (why refl)
-input_err {T} told failed name read view reads.NoMemory why unblamed =
-    let some = some_read told failed name in (
-      some.0,
-      some.1,
-      λ refute. absurd (refute refl),
-      inl (well_read {T = T} failed (Err reads.NoMemory) (λ h. let g : ◌≡◌ {A = Result T InputFault} (Err reads.NoMemory) (Err reads.Failed) = h in cc) unblamed),
-    )
-
-pub input_value : {T A B : Type 0} (told : Option Files) (failed : Option (List ℕ) → Type 0) (name bytes : List ℕ) (read : List ℕ → Result A FileFault) (view : B → A)
-    (r : Result B FileFault) (x : T) → IsHeld told name (λ file. bytes ≡ file) → IsErrOf (Ok x) reads.Failed ⊎ failed None
-    → GivesUnless faults.NoMemory view r (read bytes) → IsInput told failed name read view r
-input_value {T} told failed name bytes read view r x held unblamed gives = (
-  Some bytes,
-  whole_read told failed name bytes held,
-  gives,
-  inl (well_read failed (Ok x) (λ h. let g : ◌≡◌ {A = Result T InputFault} (Ok x) (Err reads.Failed) = h in cc) unblamed),
-)
-
-pub faulted_ok : {A B E : Type 0} (fault : E → FileFault) (view : B → A) (x : B) (spec : Result A E) → spec ≡ Ok (view x) → GivesUnless faults.NoMemory view (Ok x) (faulted fault spec)
-faulted_ok fault view x spec is = ap (faulted fault) is
-
-pub faulted_err : {A B E : Type 0} (fault : E → FileFault) (none e : E) (view : B → A) (spec : Result A E) → fault none ≡ faults.NoMemory → ((e ≡ none → ⊥) → spec ≡ Err e)
-    → GivesUnless faults.NoMemory view (Err (fault e)) (faulted fault spec)
-faulted_err fault none e view spec same is = λ refute. ap (faulted fault) (is (λ h. refute (ap fault h ∙ same)))
 
 -- ---- replies
 

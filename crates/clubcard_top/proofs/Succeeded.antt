@@ -26,11 +26,11 @@ use Rattle.word_core.specs.declared.command.Command.{Command}
 use Rattle.word_core.specs.declared.command.Command.TheVariants as commands
 use Rattle.word_core.specs.CommandFields.{QueryFields, SnapshotFields, DeltaFields, StartFields, InstallFields, RehearseFields, SampleFields}
 use Rattle.line_core.specs.Lines.{store_line}
-use Rattle.clubcard_top.specs.declared.fault.FileFault.{FileFault}
-use Rattle.clubcard_top.specs.declared.fault.FileFault.TheVariants as faults
+use Rattle.input_core.specs.declared.fault.FileFault.{FileFault}
+use Rattle.input_core.specs.declared.fault.FileFault.TheVariants as faults
 use Rattle.clubcard_top.specs.Faults.{of_publishing}
 use Rattle.clubcard_top.specs.ReplyFields.{OutputFields, Done, NamedFault}
-use Rattle.clubcard_top.specs.Readings.{job_in, ledger_in, part_in, store_in}
+use Rattle.input_core.specs.Readings.{job_in, ledger_in, part_in, store_in}
 use Rattle.clubcard_top.specs.Commands.{◌>>=◌, named, input, query_done, check_done, show_done, epoch_of, stored, begun_by, begun, installed_by, installed}
 use Rattle.clubcard_top.specs.Commands.{publication_done, published_as, MakesPart, MakesSnapshot, MakesDelta, sample_done, rehearsed, Makes}
 use Rattle.clubcard_top.specs.Replies.{held_by}

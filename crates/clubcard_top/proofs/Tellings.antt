@@ -9,8 +9,8 @@ use Rattle.job_core.specs.declared.bounds.What.{What}
 use Rattle.store_core.specs.declared.chain.Refusal.{Refusal}
 use Rattle.word_core.specs.declared.command.Command.{Command}
 use Rattle.word_core.specs.Names.{inputs_of}
-use Rattle.clubcard_top.specs.declared.fault.FileFault.{FileFault}
-use Rattle.clubcard_top.specs.declared.fault.FileFault.TheVariants as faults
+use Rattle.input_core.specs.declared.fault.FileFault.{FileFault}
+use Rattle.input_core.specs.declared.fault.FileFault.TheVariants as faults
 use Rattle.clubcard_top.specs.ReplyFields.{ReplyFields, Done, NamedFault}
 use Rattle.clubcard_top.specs.Commands.{Makes}
 use Rattle.clubcard_top.specs.Replies.{refusal, reply_of, IsReplyOver, IsReplyTo, held_by}

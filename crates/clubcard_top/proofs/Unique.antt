@@ -15,7 +15,7 @@ use Rattle.word_core.specs.declared.command.Command.{Command}
 use Rattle.word_core.specs.declared.command.Command.TheVariants as commands
 use Rattle.word_core.specs.CommandFields.{SnapshotFields, DeltaFields, RehearseFields}
 use Rattle.clubcard_top.specs.ReplyFields.{Done, NamedFault, ReplyFields}
-use Rattle.clubcard_top.specs.Readings.{queries_in, job_in, ledger_in}
+use Rattle.input_core.specs.Readings.{queries_in, job_in, ledger_in}
 use Rattle.clubcard_top.specs.Commands.{input, published_as, MakesPart, MakesSnapshot, MakesDelta, IsRefused, MakesRehearsal, Makes}
 use Rattle.clubcard_top.specs.Steps.{RehearsesOn}
 use Rattle.clubcard_top.specs.Faults.{of_publishing}

@@ -5,7 +5,7 @@ use Rattle.outside_core.specs.Written.{followed_by}
 use Rattle.sets_core.specs.Among.{Among}
 use Rattle.word_core.specs.declared.command.Command.{Command}
 use Rattle.word_core.specs.Names.{inputs_of}
-use Rattle.clubcard_top.specs.declared.fault.FileFault.{FileFault}
+use Rattle.input_core.specs.declared.fault.FileFault.{FileFault}
 use Rattle.clubcard_top.specs.ReplyFields.{ReplyFields, Done}
 use Rattle.clubcard_top.specs.Statuses as status
 use Rattle.clubcard_top.specs.Commands.{Makes}

@@ -10,7 +10,7 @@ use Rattle.word_core.specs.declared.command.Command.TheVariants as commands
 use Rattle.word_core.specs.CommandFields.{SnapshotFields, DeltaFields, RehearseFields}
 use Rattle.word_core.specs.Names.{inputs_of, outputs_of}
 use Rattle.clubcard_top.specs.ReplyFields.{ReplyFields, Done, NamedFault}
-use Rattle.clubcard_top.specs.Readings.{queries_in, job_in, ledger_in}
+use Rattle.input_core.specs.Readings.{queries_in, job_in, ledger_in}
 use Rattle.clubcard_top.specs.Commands.{input, MakesSnapshot, MakesDelta, MakesRehearsal, Makes}
 use Rattle.clubcard_top.specs.Replies.{IsReplyOver, IsReplyTo, held_by}
 use Rattle.clubcard_top.specs.Workers.{with_workers}

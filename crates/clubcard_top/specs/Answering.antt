@@ -1,11 +1,14 @@
 -- What an answer says: how the call ends, the text, and the files before it.
-use Rattle.std.specs.Prelude.{List, [], ◌∷◌}
-use Rattle.line_core.specs.Lines.{show_text}
+use Rattle.std.specs.Prelude.{ℕ, List, [], ◌∷◌, Result, Ok, Err}
+use Rattle.line_core.specs.Lines.{note_line, show_text}
+use Rattle.part_codec.specs.declared.scan.PartNote.{PartNote}
+use Rattle.input_core.specs.declared.scanning.ScanFault.{ScanFault}
+use Rattle.input_core.specs.Faults.{of_scan}
 use Rattle.clubcard_top.specs.declared.answer.Answer.{Answer}
 use Rattle.clubcard_top.specs.declared.answer.Answer.TheVariants as answers
 use Rattle.clubcard_top.specs.ReplyFields.{OutputFields, ReplyFields}
 use Rattle.clubcard_top.specs.Commands.{only}
-use Rattle.clubcard_top.specs.Replies.{done}
+use Rattle.clubcard_top.specs.Replies.{done, refusal}
 
 -- a reply behind these outputs
 abbrev pub with_files : List OutputFields → ReplyFields → ReplyFields
@@ -17,3 +20,8 @@ reply_fields (answers.Lines text) = done (only text.items)
 reply_fields (answers.Part s) = done (only (show_text s))
 reply_fields (answers.Files outputs r) = with_files outputs.items r
 reply_fields (answers.Sample o r) = with_files (o ∷ []) r
+
+-- the reply to a command that scanned the file of this name
+abbrev pub scan_reply : List ℕ → Result PartNote ScanFault → ReplyFields
+scan_reply name (Ok note) = done (only (note_line note))
+scan_reply name (Err e) = refusal name (of_scan e)

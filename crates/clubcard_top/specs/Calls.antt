@@ -7,7 +7,7 @@ use Rattle.outside_core.specs.declared.depot.Depot as depots
 use Rattle.outside_core.specs.declared.sink.Sink as sinks
 use Rattle.word_core.specs.declared.command.Command.{Command}
 use Rattle.word_core.specs.Words.{command_of}
-use Rattle.clubcard_top.specs.declared.fault.FileFault.{FileFault}
+use Rattle.input_core.specs.declared.fault.FileFault.{FileFault}
 use Rattle.clubcard_top.specs.ReplyFields.{OutputFields}
 use Rattle.clubcard_top.specs.Runs.{with_outputs}
 

@@ -6,7 +6,7 @@ use Rattle.word_core.specs.declared.command.Command.{Command}
 use Rattle.clubcard_top.specs.ReplyFields.{ReplyFields}
 use Rattle.clubcard_top.specs.Statuses as status
 use Rattle.clubcard_top.specs.Replies.{write_fault, IsReplyTo}
-use Rattle.clubcard_top.specs.Inputs.{Blames}
+use Rattle.input_core.specs.Inputs.{Blames}
 use Rattle.clubcard_top.specs.Runs.{IsReply, IsTorn}
 use Rattle.clubcard_top.specs.Calls.{Call, Found, Writes, ChangesNoFile, Prints, HasRisen, NoFault}
 

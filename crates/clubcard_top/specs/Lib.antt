@@ -1,11 +1,8 @@
 pub mod Statuses
 pub mod ReplyFields
 pub mod Faults
-pub mod PartFile
-pub mod Readings
 pub mod Commands
 pub mod Replies
-pub mod Inputs
 pub mod Runs
 pub mod Calls
 pub mod Endings
@@ -16,6 +13,5 @@ pub mod Promises
 pub mod Workers
 pub mod Steps
 pub mod Rehearsals
-pub mod Scanned
 pub mod Answering
 pub mod Sending

@@ -21,10 +21,10 @@ use Rattle.word_core.specs.CommandFields.{QueryFields, SnapshotFields, DeltaFiel
 use Rattle.word_core.specs.CommandFields.{RehearseFields, SampleFields}
 use Rattle.word_core.specs.Names.{inputs_of, outputs_of}
 use Rattle.line_core.specs.Lines.{line, check_line, show_text, sample_line}
-use Rattle.clubcard_top.specs.declared.fault.FileFault.TheVariants as faults
+use Rattle.input_core.specs.declared.fault.FileFault.TheVariants as faults
 use Rattle.clubcard_top.specs.ReplyFields.{ReplyFields, NamedFault}
 use Rattle.clubcard_top.specs.Statuses as status
-use Rattle.clubcard_top.specs.Readings.{job_in, ledger_in, part_in, store_in}
+use Rattle.input_core.specs.Readings.{job_in, ledger_in, part_in, store_in}
 use Rattle.clubcard_top.specs.Commands.{verdict_word, rehearsed}
 use Rattle.clubcard_top.specs.Replies.{usage, read_fault, refusal}
 use Rattle.clubcard_top.specs.Runs.{KeepsAllBut}

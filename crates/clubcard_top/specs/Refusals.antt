@@ -1,6 +1,6 @@
 -- What a call says of a file that something is wrong with.
 use Rattle.std.specs.Prelude.{List, ℕ, Result, Err}
-use Rattle.clubcard_top.specs.declared.fault.FileFault.{FileFault}
+use Rattle.input_core.specs.declared.fault.FileFault.{FileFault}
 use Rattle.clubcard_top.specs.ReplyFields.{Done, NamedFault}
 use Rattle.clubcard_top.specs.Commands.{Makes}
 use Rattle.clubcard_top.specs.Replies.{refusal, held_by}

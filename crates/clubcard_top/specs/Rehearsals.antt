@@ -8,7 +8,8 @@ use Rattle.rehearsal_core.specs.Rehearsing.{RehearsalFields, IsOf}
 use Rattle.clubcard_top.specs.ReplyFields.{NamedFault}
 use Rattle.clubcard_top.specs.Commands.{report_behind, reports, rehearsed}
 use Rattle.clubcard_top.specs.Steps.{RehearsesOn}
-use Rattle.clubcard_top.specs.Inputs.{AreRead, BlamesFile}
+use Rattle.input_core.specs.Inputs.{AreRead}
+use Rattle.clubcard_top.specs.Runs.{BlamesFile}
 
 -- A job was read, and goes on with these jobs: the rehearsal holds one part more, and this is the line of its report.
 pub record AddsJob

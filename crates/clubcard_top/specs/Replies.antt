@@ -9,8 +9,8 @@ use Rattle.word_core.specs.declared.command.Command.TheVariants as commands
 use Rattle.word_core.specs.Names.{inputs_of}
 use Rattle.line_core.specs.Lines.{line, line_about, layout_line, crl_line, limit_line}
 use Rattle.line_core.specs.Lines.{parent_line, epoch_line, coverage_line, seeds_line}
-use Rattle.clubcard_top.specs.declared.fault.FileFault.{FileFault}
-use Rattle.clubcard_top.specs.declared.fault.FileFault.TheVariants as faults
+use Rattle.input_core.specs.declared.fault.FileFault.{FileFault}
+use Rattle.input_core.specs.declared.fault.FileFault.TheVariants as faults
 use Rattle.clubcard_top.specs.ReplyFields.{ReplyFields, Done, NamedFault}
 use Rattle.clubcard_top.specs.Statuses as status
 use Rattle.clubcard_top.specs.Commands.{Makes}

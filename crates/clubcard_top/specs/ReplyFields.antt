@@ -1,6 +1,6 @@
 -- What the program answers: how it ends, what it writes to its sink, and which files it writes before that.
 use Rattle.std.specs.Prelude.{ℕ, List}
-use Rattle.clubcard_top.specs.declared.fault.FileFault.{FileFault}
+use Rattle.input_core.specs.declared.fault.FileFault.{FileFault}
 
 -- a file that a command writes: its name, and the bytes that it then holds
 pub record OutputFields : Type 0 where

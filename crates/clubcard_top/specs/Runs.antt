@@ -4,10 +4,15 @@ use Rattle.std.specs.FinMap.{get}
 use Rattle.outside_core.specs.Files.{Files, putting}
 use Rattle.word_core.specs.declared.command.Command.{Command}
 use Rattle.word_core.specs.Names.{inputs_of}
-use Rattle.clubcard_top.specs.ReplyFields.{OutputFields, ReplyFields}
-use Rattle.clubcard_top.specs.Inputs.{AreRead}
+use Rattle.input_core.specs.declared.fault.FileFault.TheVariants as faults
+use Rattle.input_core.specs.Inputs.{AreRead}
+use Rattle.clubcard_top.specs.ReplyFields.{NamedFault, OutputFields, ReplyFields}
 use Rattle.sets_core.specs.Among.{Among}
 use Rattle.clubcard_top.specs.Replies.{read_fault, IsReplyOver}
+
+-- No read failed; or what is wrong is that this file couldn't be read, which is one of these, and its read did.
+abbrev pub BlamesFile : (Option (List ℕ) → Type 0) → List (List ℕ) → NamedFault → Type 0
+BlamesFile failed names e = failed None ⊎ ((e.fault ≡ faults.Unread) × Among names e.name × failed (Some e.name))
 
 -- No read failed; or the reply is that one of these files couldn't be read, and the read of that one did.
 abbrev pub SaysWhich : (Option (List ℕ) → Type 0) → List (List ℕ) → ReplyFields → Type 0

@@ -5,7 +5,7 @@ use Rattle.part_codec.specs.SealedFields.{SealedFields}
 use Rattle.job_core.specs.JobFields.{JobFields}
 use Rattle.publication_core.specs.Histories.{IsHistory}
 use Rattle.clubcard_top.specs.ReplyFields.{Done, NamedFault}
-use Rattle.clubcard_top.specs.Readings.{job_in}
+use Rattle.input_core.specs.Readings.{job_in}
 use Rattle.clubcard_top.specs.Commands.{input, rehearsed, IsRefused}
 
 -- What comes of files that hold jobs, behind a history: the first that doesn't follow those before it is refused; and

@@ -8,7 +8,7 @@ use Rattle.ledger_core.specs.LedgerText.{ledger_text}
 use Rattle.store_core.specs.StoreLayout.{store_text}
 use Rattle.publication_core.specs.Publishing.{Published as Publication, Publishes}
 use Rattle.line_core.specs.Lines.{report_line, store_line}
-use Rattle.clubcard_top.specs.Readings.{job_in, part_in}
+use Rattle.input_core.specs.Readings.{job_in, part_in}
 use Rattle.clubcard_top.specs.Calls.{Call, Reads, Holds, Prints}
 
 -- the file of this name held this part and nothing else

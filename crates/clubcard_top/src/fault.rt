@@ -1,146 +1,35 @@
-ghost use Rattle.std.specs.Prelude.{◌≡◌};
+//! What is wrong with the file of a job that isn't published.
 
-use crl_core::CrlFault;
-use job_core::{JobFault, What};
-use ledger_core::LedgerFault;
-use octets_core::{Key32, LayoutFault};
-use part_codec::PartFault;
+ghost use Rattle.clubcard_top.specs.Faults.{of_admission, of_publishing};
+
+use input_core::FileFault;
 use publication_core::PublishFault;
-use query_core::QueriesFault;
-use store_core::{Refusal, StoreFault};
+use store_core::Refusal;
 use universe_core::AdmitFault;
 
-/// What is wrong with a file that a command reads.
-#[derive(Clone, Copy, Debug, PartialEq, Eq)]
-pub enum FileFault {
-    /// It can't be read.
-    Unread,
-    /// A field is short or fails its test.
-    Layout(LayoutFault),
-    /// The first part of a store is a delta.
-    NotSnapshot,
-    /// A chain doesn't take a part, or the part of a job.
-    Chain(Refusal),
-    /// A CRL of a job isn't accepted. Its place counts the job's CRLs from 0.
-    BadCrl { place: u32, fault: CrlFault },
-    /// There is one more than the limit.
-    TooMany { what: What, limit: u32 },
-    /// The equations of this issuer's approximate stage (1) or exact stage (2) are unsolvable at each of the 256 seeds.
-    Seeds { issuer: Key32, stage: u8 },
-    /// Want of memory.
-    NoMemory,
-}
-
-impl From<LayoutFault> for FileFault {
-    ghost use Rattle.clubcard_top.specs.declared.fault.FileFault.TheVariants.{Layout};
-
-    ghost from_gives = { λ f e. e ≡ Layout f };
-
-    fn from(fault: LayoutFault) -> FileFault {
-        FileFault::Layout(fault)
+/// A job that isn't admitted breaks the chain as a part would.
+fn unadmitted(fault: AdmitFault) -> FileFault
+    ensures { result ≡ of_admission fault }
+{
+    match fault {
+        AdmitFault::BadCrl { place, fault } => FileFault::BadCrl { place, fault },
+        AdmitFault::OldEpoch { held, given } => {
+            FileFault::Chain(Refusal::OldEpoch { held, given })
+        }
+        AdmitFault::CoverageShrinks { log } => FileFault::Chain(Refusal::CoverageShrinks { log }),
+        AdmitFault::ChainFull => FileFault::Chain(Refusal::Full),
+        AdmitFault::TooMany { what, limit } => FileFault::TooMany { what, limit },
+        AdmitFault::NoMemory => FileFault::NoMemory,
     }
 }
 
-impl From<QueriesFault> for FileFault {
-    ghost use Rattle.clubcard_top.specs.Faults.{of_queries};
-
-    ghost from_gives = { λ f e. e ≡ of_queries f };
-
-    fn from(fault: QueriesFault) -> FileFault {
-        match fault {
-            QueriesFault::Layout(fault) => FileFault::Layout(fault),
-            QueriesFault::NoMemory => FileFault::NoMemory,
-        }
-    }
-}
-
-impl From<JobFault> for FileFault {
-    ghost use Rattle.clubcard_top.specs.Faults.{of_job};
-
-    ghost from_gives = { λ f e. e ≡ of_job f };
-
-    fn from(fault: JobFault) -> FileFault {
-        match fault {
-            JobFault::Layout(fault) => FileFault::Layout(fault),
-            JobFault::TooMany { what, limit } => FileFault::TooMany { what, limit },
-            JobFault::ReadFault => FileFault::Unread,
-            JobFault::NoMemory => FileFault::NoMemory,
-        }
-    }
-}
-
-impl From<LedgerFault> for FileFault {
-    ghost use Rattle.clubcard_top.specs.Faults.{of_ledger};
-
-    ghost from_gives = { λ f e. e ≡ of_ledger f };
-
-    fn from(fault: LedgerFault) -> FileFault {
-        match fault {
-            LedgerFault::Layout(fault) => FileFault::Layout(fault),
-            LedgerFault::NoMemory => FileFault::NoMemory,
-        }
-    }
-}
-
-impl From<PartFault> for FileFault {
-    ghost use Rattle.clubcard_top.specs.Faults.{of_part};
-
-    ghost from_gives = { λ f e. e ≡ of_part f };
-
-    fn from(fault: PartFault) -> FileFault {
-        match fault {
-            PartFault::Layout(fault) => FileFault::Layout(fault),
-            PartFault::NoMemory => FileFault::NoMemory,
-        }
-    }
-}
-
-impl From<StoreFault> for FileFault {
-    ghost use Rattle.clubcard_top.specs.Faults.{of_store};
-
-    ghost from_gives = { λ f e. e ≡ of_store f };
-
-    fn from(fault: StoreFault) -> FileFault {
-        match fault {
-            StoreFault::Layout(fault) => FileFault::Layout(fault),
-            StoreFault::NotSnapshot => FileFault::NotSnapshot,
-            StoreFault::Refused(why) => FileFault::Chain(why),
-            StoreFault::NoMemory => FileFault::NoMemory,
-        }
-    }
-}
-
-impl From<AdmitFault> for FileFault {
-    ghost use Rattle.clubcard_top.specs.Faults.{of_admission};
-
-    ghost from_gives = { λ f e. e ≡ of_admission f };
-
-    fn from(fault: AdmitFault) -> FileFault {
-        match fault {
-            AdmitFault::BadCrl { place, fault } => FileFault::BadCrl { place, fault },
-            AdmitFault::OldEpoch { held, given } => {
-                FileFault::Chain(Refusal::OldEpoch { held, given })
-            }
-            AdmitFault::CoverageShrinks { log } => {
-                FileFault::Chain(Refusal::CoverageShrinks { log })
-            }
-            AdmitFault::ChainFull => FileFault::Chain(Refusal::Full),
-            AdmitFault::TooMany { what, limit } => FileFault::TooMany { what, limit },
-            AdmitFault::NoMemory => FileFault::NoMemory,
-        }
-    }
-}
-
-impl From<PublishFault> for FileFault {
-    ghost use Rattle.clubcard_top.specs.Faults.{of_publishing};
-
-    ghost from_gives = { λ f e. e ≡ of_publishing f };
-
-    fn from(fault: PublishFault) -> FileFault {
-        match fault {
-            PublishFault::Admission(fault) => fault.into(),
-            PublishFault::SeedsExhausted { issuer, stage } => FileFault::Seeds { issuer, stage },
-            PublishFault::NoMemory => FileFault::NoMemory,
-        }
+/// What is wrong with the file of a job that isn't published.
+pub fn unpublished(fault: PublishFault) -> FileFault
+    ensures { result ≡ of_publishing fault }
+{
+    match fault {
+        PublishFault::Admission(fault) => unadmitted(fault),
+        PublishFault::SeedsExhausted { issuer, stage } => FileFault::Seeds { issuer, stage },
+        PublishFault::NoMemory => FileFault::NoMemory,
     }
 }

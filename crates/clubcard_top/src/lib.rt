@@ -5,15 +5,12 @@
 mod answer;
 mod commands;
 mod fault;
-mod input;
-mod inputs;
 mod laws;
 mod output;
 mod publishing;
 mod rehearsing;
 mod reply;
 mod sampling;
-mod scanning;
 mod status;
 mod storing;
 mod top;

@@ -6,14 +6,15 @@ ghost use Rattle.word_core.specs.declared.command.Command.{Command};
 ghost use Rattle.clubcard_top.specs.Commands.{publication_done};
 ghost use Rattle.clubcard_top.specs.Answering.{reply_fields};
 ghost use Rattle.clubcard_top.specs.Replies.{done};
-ghost use Rattle.clubcard_top.specs.Inputs.{WhichFailed};
+ghost use Rattle.input_core.specs.Inputs.{WhichFailed};
 ghost use Rattle.clubcard_top.specs.Runs.{IsReply};
 
 use crate::answer::Answer;
 use crate::commands::refused;
-use crate::inputs::{job_in, ledger_in};
+use crate::fault::unpublished;
 use crate::output::Output;
 use crate::reply::Reply;
+use input_core::{job_in, ledger_in};
 use ledger_core::encode_ledger;
 use line_core::reported;
 use octets_core::NoMemory;
@@ -62,7 +63,7 @@ pub fn answer_snapshot<'a, R: Threads + Sync, G: Gate + Sync, D: Depot>(
     };
     match publish_first(rt, alloc, gate, job, snapshot.workers()) {
         Ok(publication) => published(alloc, snapshot.part(), snapshot.ledger(), &publication),
-        Err(fault) => refused(snapshot.job(), fault.into()),
+        Err(fault) => refused(snapshot.job(), unpublished(fault)),
     }
 }
 
@@ -88,6 +89,6 @@ pub fn answer_delta<'a, R: Threads + Sync, G: Gate + Sync, D: Depot>(
     };
     match publish_after(rt, alloc, gate, ledger, job, delta.workers()) {
         Ok(publication) => published(alloc, delta.part(), delta.new_ledger(), &publication),
-        Err(fault) => refused(delta.job(), fault.into()),
+        Err(fault) => refused(delta.job(), unpublished(fault)),
     }
 }

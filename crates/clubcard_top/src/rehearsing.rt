@@ -7,8 +7,8 @@ ghost use Rattle.query_core.specs.Queries.{as_query};
 ghost use Rattle.job_core.specs.JobFields.{JobFields};
 ghost use Rattle.rehearsal_core.specs.Rehearsing.{IsOf};
 ghost use Rattle.word_core.specs.declared.command.Command.{Command};
-ghost use Rattle.clubcard_top.specs.Readings.{job_in as job_of};
-ghost use Rattle.clubcard_top.specs.Inputs.{IsBlamed, IsRead, WhichFailed};
+ghost use Rattle.input_core.specs.Readings.{job_in as job_of};
+ghost use Rattle.input_core.specs.Inputs.{IsBlamed, IsRead, WhichFailed};
 ghost use Rattle.clubcard_top.specs.Commands.{IsRefused, input, verdict_line as line_of_verdict};
 ghost use Rattle.clubcard_top.specs.Rehearsals.{AddsJob, IsRefusedFrom, IsRehearsedFrom};
 ghost use Rattle.clubcard_top.specs.Answering.{reply_fields};
@@ -16,9 +16,9 @@ ghost use Rattle.clubcard_top.specs.Runs.{IsReply};
 
 use crate::answer::Answer;
 use crate::commands::{refused, verdict_on};
-use crate::fault::FileFault;
-use crate::inputs::{job_in, queries_in};
+use crate::fault::unpublished;
 use crate::reply::verdict_line;
+use input_core::{FileFault, job_in, queries_in};
 use line_core::{Line, reported};
 use octets_core::{NoMemory, put_bytes};
 use outside_core::Depot;
@@ -65,7 +65,10 @@ fn with_file<R: Threads + Sync, G: Gate + Sync, D: Depot>(
     ensures only_reads { OnlyReads D.Depot depot.old depot.new }
 {
     let job = job_in(alloc, depot, name)?;
-    let (after, report) = before.with_job(rt, alloc, gate, job, workers)?;
+    let (after, report) = match before.with_job(rt, alloc, gate, job, workers) {
+        Ok(added) => added,
+        Err(fault) => return Err(unpublished(fault)),
+    };
     let line = reported(report.epoch, report.place, &report.counts);
     Ok((after, line))
 }

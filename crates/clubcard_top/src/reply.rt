@@ -7,8 +7,8 @@ ghost use Rattle.line_core.specs.Lines.{line as line_of_words};
 ghost use Rattle.clubcard_top.specs.Commands.{only, verdict_word};
 ghost use Rattle.clubcard_top.specs.Replies.{chain_text, done, read_fault, refusal, says, usage};
 
-use crate::fault::FileFault;
 use crate::status::Status;
+use input_core::FileFault;
 use line_core::{
     Line, Message, about_file, coverage_line, crl_line, epoch_line, layout_line, limit_line,
     line_of, parent_line, seeds_line,

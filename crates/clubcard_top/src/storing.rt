@@ -9,15 +9,14 @@ ghost use Rattle.clubcard_top.specs.Commands.{begun as begun_with, epoch_of, ins
 ghost use Rattle.clubcard_top.specs.Commands.{stored as stored_as};
 ghost use Rattle.clubcard_top.specs.Answering.{reply_fields};
 ghost use Rattle.clubcard_top.specs.Replies.{done};
-ghost use Rattle.clubcard_top.specs.Inputs.{WhichFailed};
+ghost use Rattle.input_core.specs.Inputs.{WhichFailed};
 ghost use Rattle.clubcard_top.specs.Runs.{IsReply};
 
 use crate::answer::Answer;
 use crate::commands::refused;
-use crate::fault::FileFault;
-use crate::inputs::{part_in, store_in};
 use crate::output::Output;
 use crate::reply::Reply;
+use input_core::{FileFault, part_in, store_in};
 use line_core::stored as stored_line;
 use octets_core::NoMemory;
 use outside_core::Depot;

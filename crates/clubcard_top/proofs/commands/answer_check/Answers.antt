@@ -1,5 +1,5 @@
-use Rattle.clubcard_top.specs.Inputs.{WhichFailed}
-use Rattle.clubcard_top.proofs.Scans.{check_scanned}
+use Rattle.input_core.specs.Inputs.{WhichFailed}
+use Rattle.clubcard_top.proofs.Checked.{check_scanned}
 use Rattle.clubcard_top.proofs.commands.answer_check.Goals as goal
 
 pub returns-clause-reply : goal.returns-clause-reply

@@ -1,5 +1,5 @@
 use Rattle.job_core.specs.JobFields.{fields_of_job}
-use Rattle.clubcard_top.specs.Inputs.{WhichFailed}
+use Rattle.input_core.specs.Inputs.{WhichFailed}
 use Rattle.clubcard_top.proofs.Replying.{delta_made, delta_refused, delta_no_ledger, delta_not}
 use Rattle.clubcard_top.proofs.publishing.answer_delta.Goals as goal
 
@@ -25,5 +25,5 @@ returns-in-Err-publish_after-clause-reply g c =
     delta_not g.D.Depot c.args.depot.now _ _ c.in-Ok.ensures.only_reads c.refused-in-Err-publish_after.result c.args.delta.now fields_of_job c.in-Ok.job (λ l. l)
     c.in-Ok-ledger_in.ledger c.in-Err-publish_after.fault (rw c.job.ensures at c.in-Ok.ensures.input) (rw c.ledger.ensures at c.in-Ok-ledger_in.ensures.input)
     c.in-Ok.ensures.fits c.in-Ok.ensures.within
-    c.in-Err-publish_after.ensures (rw c.into.ensures at c.refused-in-Err-publish_after.ensures.memory)
-    (rw (c.into.ensures, c.job-in-Err-publish_after.ensures) at c.refused-in-Err-publish_after.ensures.ok)
+    c.in-Err-publish_after.ensures (rw c.unpublished.ensures at c.refused-in-Err-publish_after.ensures.memory)
+    (rw (c.unpublished.ensures, c.job-in-Err-publish_after.ensures) at c.refused-in-Err-publish_after.ensures.ok)

@@ -1,5 +1,5 @@
 use Rattle.job_core.specs.JobFields.{fields_of_job}
-use Rattle.clubcard_top.specs.Inputs.{WhichFailed}
+use Rattle.input_core.specs.Inputs.{WhichFailed}
 use Rattle.clubcard_top.proofs.Replying.{snapshot_made, snapshot_refused, snapshot_not}
 use Rattle.clubcard_top.proofs.publishing.answer_snapshot.Goals as goal
 
@@ -18,5 +18,5 @@ pub returns-in-Err-publish_first-clause-reply : goal.returns-in-Err-publish_firs
 returns-in-Err-publish_first-clause-reply g c =
     snapshot_not (g.D.Depot.files c.args.depot.now) (WhichFailed g.D.Depot c.args.depot.now _) c.refused-in-Err-publish_first.result c.args.snapshot.now fields_of_job c.in-Ok.job
     c.in-Err-publish_first.fault (rw c.job.ensures at c.in-Ok.ensures.input) c.in-Ok.ensures.fits
-    c.in-Ok.ensures.within c.in-Err-publish_first.ensures (rw c.into.ensures at c.refused-in-Err-publish_first.ensures.memory)
-    (rw (c.into.ensures, c.job-in-Err-publish_first.ensures) at c.refused-in-Err-publish_first.ensures.ok)
+    c.in-Ok.ensures.within c.in-Err-publish_first.ensures (rw c.unpublished.ensures at c.refused-in-Err-publish_first.ensures.memory)
+    (rw (c.unpublished.ensures, c.job-in-Err-publish_first.ensures) at c.refused-in-Err-publish_first.ensures.ok)

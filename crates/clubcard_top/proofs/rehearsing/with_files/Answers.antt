@@ -1,8 +1,8 @@
 use Rattle.std.proofs.Common.{arith, refl, ap, ◌∙◌}
 use Rattle.outside_core.specs.Effects.{OnlyReads}
 use Rattle.rehearsal_core.specs.Rehearsing.{RehearsalFields}
-use Rattle.clubcard_top.specs.Inputs.{WhichFailed}
-use Rattle.clubcard_top.proofs.Replying.{failed_later, none_failed}
+use Rattle.input_core.specs.Inputs.{WhichFailed}
+use Rattle.input_core.proofs.FilesRead.{failed_later, none_failed}
 use Rattle.clubcard_top.proofs.Rehearsal.{none_gone, gone_more, gone_refused, gone_all}
 use Rattle.clubcard_top.proofs.rehearsing.with_files.Goals as goal
 

@@ -1,0 +1,3 @@
+pub mod FilesRead
+pub mod Reading
+pub mod Scans

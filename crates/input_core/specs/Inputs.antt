@@ -1,0 +1,52 @@
+-- What is known of files that were read.
+use Rattle.std.specs.Prelude.{◌≡◌, ◌⊎◌, ℕ, List, Option, Some, None, Result, Err, IfSome}
+use Rattle.std.specs.FinMap.{get}
+use Rattle.std.specs.List.{AllZip}
+use Rattle.octets_core.specs.Reading.{GivesUnless}
+use Rattle.outside_core.specs.Files.{Files, IsMissing, Rose, blaming}
+use Rattle.outside_core.specs.declared.depot.Depot.{Ghosts}
+use Rattle.input_core.specs.declared.fault.FileFault.{FileFault}
+use Rattle.input_core.specs.declared.fault.FileFault.TheVariants as faults
+use Rattle.input_core.specs.Readings.{input_as}
+
+-- what holds of the bytes under a name, where files are told and the name is held
+abbrev pub WhereHeld : Option Files → List ℕ → (List ℕ → Type 0) → Type 0
+WhereHeld told name P = IfSome told (λ files. IfSome (get files name) P)
+
+-- where files are told, the name is held, and P holds of its bytes
+abbrev pub IsHeld : Option Files → List ℕ → (List ℕ → Type 0) → Type 0
+IsHeld told name P = IfSome told (λ files. (bytes : List ℕ) × (get files name ≡ Some bytes) × P bytes)
+
+-- ---- which read failed
+
+-- Which read a count of faults and the names of the failed reads blame: none, and no name came behind those of before;
+-- or one of this name, and a fault was counted, and the name came behind them.
+abbrev pub Blames : ℕ → ℕ → Option (List (List ℕ)) → Option (List (List ℕ)) → Option (List ℕ) → Type 0
+Blames faults faults_now failed failed_now None = failed_now ≡ failed
+Blames faults faults_now failed failed_now (Some name) = Rose faults faults_now × (failed_now ≡ blaming failed name)
+
+-- which read of a depot failed and was counted between these two
+abbrev pub WhichFailed : {D : Type 0} → Ghosts D → D → D → Option (List ℕ) → Type 0
+WhichFailed g old new = Blames (g.read_faults old) (g.read_faults new) (g.failed_reads old) (g.failed_reads new)
+
+-- No read failed; or one of this name did, and the result is that it couldn't be read.
+abbrev pub IsBlamed : {A E : Type 0} → (Option (List ℕ) → Type 0) → List ℕ → E → Result A E → Type 0
+IsBlamed failed name unread result = failed None ⊎ ((result ≡ Err unread) × failed (Some name))
+
+-- ---- what was read
+
+-- A file of this name couldn't be read: its read failed and was counted, or files are told and the name isn't held. Or
+-- it gave these bytes, which are those that it holds where files are told.
+abbrev pub IsRead : Option Files → (Option (List ℕ) → Type 0) → List ℕ → Option (List ℕ) → Type 0
+IsRead told failed name None = failed (Some name) ⊎ IsMissing told name
+IsRead told failed name (Some bytes) = IfSome told (λ files. get files name ≡ Some bytes)
+
+abbrev pub AreRead : Option Files → (Option (List ℕ) → Type 0) → List (List ℕ) → List (Option (List ℕ)) → Type 0
+AreRead told failed names inputs = AllZip (IsRead told failed) names inputs
+
+-- what came of a file that was read so, unless memory was wanted
+abbrev pub IsInput : {A B : Type 0} → Option Files → (Option (List ℕ) → Type 0) → List ℕ
+    → (List ℕ → Result A FileFault) → (B → A) → Result B FileFault → Type 0
+IsInput told failed name read view result =
+    (given : Option (List ℕ)) × IsRead told failed name given
+    × GivesUnless faults.NoMemory view result (input_as read given) × IsBlamed failed name faults.Unread result

@@ -1,0 +1,5 @@
+pub mod Faults
+pub mod PartFile
+pub mod Readings
+pub mod Inputs
+pub mod Scanned
