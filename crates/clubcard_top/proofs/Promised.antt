@@ -17,8 +17,7 @@ use Rattle.input_core.specs.Inputs.{Blames, AreRead}
 use Rattle.clubcard_top.specs.Commands.{Makes}
 use Rattle.clubcard_top.specs.Replies.{usage, refusal, reply_of, write_fault, IsReplyOver, IsReplyTo, held_by}
 use Rattle.clubcard_top.specs.Runs.{IsReply, KeepsAllBut, with_outputs}
-use Rattle.clubcard_top.specs.Sending.{SentSo, EndsSo}
-use Rattle.clubcard_top.proofs.Ways.{Ends, Answers, Refuses}
+use Rattle.clubcard_top.proofs.Ways.{SentSo, EndsSo, Ends, Answers, Refuses}
 use Rattle.clubcard_top.specs.Calls.{Call, FilesAreTold, Writes, ChangesNoFile, HasRisen, NoFault}
 use Rattle.clubcard_top.specs.Endings.{Succeeds, Gives, WantedMemory, SinkFailed, PrintsOrFails, Sent, Torn, WhichFailedIn, IsAnswer}
 use Rattle.clubcard_top.specs.Endings.{GivesTheReply, Ends as EndsCall}

@@ -1,7 +1,7 @@
 -- How a call ends, by its parts.
 use Rattle.std.specs.Prelude.{◌≡◌, ℕ, ◌⊎◌, List, Option, Some, None, Ok, Err, IsTrue}
 use Rattle.outside_core.specs.Files.{Files, IsMissing}
-use Rattle.outside_core.specs.Written.{followed_by}
+use Rattle.outside_core.specs.Written.{followed_by, CutShort}
 use Rattle.sets_core.specs.Among.{Among}
 use Rattle.word_core.specs.declared.command.Command.{Command}
 use Rattle.word_core.specs.Names.{inputs_of}
@@ -9,9 +9,21 @@ use Rattle.input_core.specs.declared.fault.FileFault.{FileFault}
 use Rattle.clubcard_top.specs.ReplyFields.{ReplyFields, Done}
 use Rattle.clubcard_top.specs.Statuses as status
 use Rattle.clubcard_top.specs.Commands.{Makes}
-use Rattle.clubcard_top.specs.Replies.{read_fault, refusal, held_by}
-use Rattle.clubcard_top.specs.Runs.{IsReply, with_outputs}
-use Rattle.clubcard_top.specs.Sending.{EndsSo}
+use Rattle.clubcard_top.specs.Replies.{read_fault, write_fault, refusal, held_by}
+use Rattle.clubcard_top.specs.Runs.{IsReply, IsTorn, with_outputs}
+
+-- how a reply is printed and sent (specs/Sending), by the parts of the two records
+abbrev pub SentSo : ReplyFields → ℕ → Option (List ℕ) → Option (List ℕ) → Type 0 → Type 0
+SentSo reply ended old new failed =
+    ((ended ≡ reply.status) × (new ≡ followed_by old reply.text))
+    ⊎ ((ended ≡ status.write_fault) × CutShort old new reply.text × failed)
+
+abbrev pub EndsSo : ReplyFields → ℕ → Option (List ℕ) → Option (List ℕ) → Type 0
+    → Option Files → Option Files → Type 0 → Type 0
+EndsSo reply ended old new failed before after wrong =
+    ((after ≡ with_outputs before reply.outputs) × SentSo reply ended old new failed)
+    ⊎ (wrong × ((name : List ℕ) × IsTorn before after reply.outputs name
+    × SentSo (write_fault name) ended old new failed))
 
 -- Memory was wanted, and nothing was printed and no file changed; or the words' reply ended the call. The sink held old
 -- and holds new, and a fault of it was counted if it failed; the files were as told and are as after, and a write of

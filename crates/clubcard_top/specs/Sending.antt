@@ -2,21 +2,55 @@
 use Rattle.std.specs.Prelude.{◌≡◌, ℕ, ◌⊎◌, List, Option}
 use Rattle.outside_core.specs.Files.{Files}
 use Rattle.outside_core.specs.Written.{followed_by, CutShort}
+use Rattle.outside_core.specs.declared.depot.Depot as depots
+use Rattle.outside_core.specs.declared.sink.Sink as sinks
 use Rattle.clubcard_top.specs.ReplyFields.{ReplyFields}
 use Rattle.clubcard_top.specs.Statuses as status
 use Rattle.clubcard_top.specs.Replies.{write_fault}
 use Rattle.clubcard_top.specs.Runs.{IsTorn, with_outputs}
+use Rattle.clubcard_top.specs.Calls.{Count, HasRisen}
+
+-- What was printed before and after, where the sink tells it, the exit status that came, and the faults of printing.
+pub record Printing : Type 0 where
+  pub status : ℕ
+  pub text_before : Option (List ℕ)
+  pub text_after : Option (List ℕ)
+  pub faults : Count
+
+-- the printing to this sink, before it and after it, behind which the status came
+abbrev pub printing : {K : Type 0} → sinks.Ghosts K → K → K → ℕ → Printing
+printing k out out_after ended = record {
+  status = ended;
+  text_before = k.written out;
+  text_after = k.written out_after;
+  faults = record { before = k.faults out; after = k.faults out_after };
+}
+
+-- What the files hold before and after, where the depot tells it, and the faults of writing them.
+pub record Writing : Type 0 where
+  pub files_before : Option Files
+  pub files_after : Option Files
+  pub faults : Count
+
+-- the writing to this depot, before it and after it
+abbrev pub writing : {D : Type 0} → depots.Ghosts D → D → D → Writing
+writing d depot depot_after = record {
+  files_before = d.files depot;
+  files_after = d.files depot_after;
+  faults = record { before = d.write_faults depot; after = d.write_faults depot_after };
+}
 
 -- The reply's status came and its text was printed. Or printing failed, and a prefix of the text was printed.
-abbrev pub SentSo : ReplyFields → ℕ → Option (List ℕ) → Option (List ℕ) → Type 0 → Type 0
-SentSo reply ended old new failed =
-    ((ended ≡ reply.status) × (new ≡ followed_by old reply.text))
-    ⊎ ((ended ≡ status.write_fault) × CutShort old new reply.text × failed)
+abbrev pub IsPrinted : Printing → ReplyFields → Type 0
+IsPrinted printing reply =
+    ((printing.status ≡ reply.status) × (printing.text_after ≡ followed_by printing.text_before reply.text))
+    ⊎ ((printing.status ≡ status.write_fault) × CutShort printing.text_before printing.text_after reply.text
+    × HasRisen printing.faults)
 
--- The reply's outputs were written, and then it was sent. Or a write failed, and that was sent.
-abbrev pub EndsSo : ReplyFields → ℕ → Option (List ℕ) → Option (List ℕ) → Type 0
-    → Option Files → Option Files → Type 0 → Type 0
-EndsSo reply ended old new failed before after wrong =
-    ((after ≡ with_outputs before reply.outputs) × SentSo reply ended old new failed)
-    ⊎ (wrong × ((name : List ℕ) × IsTorn before after reply.outputs name
-    × SentSo (write_fault name) ended old new failed))
+-- The reply's outputs were written, and then it was printed. Or a write failed, and that was printed.
+abbrev pub IsSent : Writing → Printing → ReplyFields → Type 0
+IsSent writing printing reply =
+    ((writing.files_after ≡ with_outputs writing.files_before reply.outputs) × IsPrinted printing reply)
+    ⊎ (HasRisen writing.faults
+    × ((name : List ℕ) × IsTorn writing.files_before writing.files_after reply.outputs name
+    × IsPrinted printing (write_fault name)))

@@ -2,10 +2,9 @@
 
 ghost use Rattle.std.specs.Prelude.{◌≡◌, ◌≤◌, [], ◌∷◌, IsTrue};
 ghost use Rattle.outside_core.specs.Effects.{OnlyWrites};
-ghost use Rattle.outside_core.specs.Files.{Rose};
 ghost use Rattle.clubcard_top.specs.Statuses as statuses;
 ghost use Rattle.clubcard_top.specs.Answering.{reply_fields, with_files};
-ghost use Rattle.clubcard_top.specs.Sending.{SentSo, EndsSo};
+ghost use Rattle.clubcard_top.specs.Sending.{printing, writing, IsPrinted, IsSent};
 
 use crate::output::{Output, SampleOutput, write_outputs};
 use crate::reply::Reply;
@@ -31,8 +30,8 @@ pub enum Answer<'a> {
 
 /// Sends one text, behind which the call ends so.
 fn send_text<K: Sink>(text: &[u8], status: Status, out: &mut K) -> Status
-    ensures sent { SentSo (record { status = status.0; text = text.now; outputs = [] }) result.0 (K.written out.old)
-        (K.written out.new) (Rose (K.faults out.old) (K.faults out.new)) }
+    ensures sent { IsPrinted (printing K.Sink out.old out.new result.0)
+        (record { status = status.0; text = text.now; outputs = [] }) }
     ensures later { K.faults out.old ≤ K.faults out.new }
 {
     match write_all(out, text) {
@@ -43,8 +42,8 @@ fn send_text<K: Sink>(text: &[u8], status: Status, out: &mut K) -> Status
 
 /// Sends one line, behind which the call ends so.
 fn send_message<K: Sink>(message: &Message<'_>, status: Status, out: &mut K) -> Status
-    ensures sent { SentSo (record { status = status.0; text = message.now; outputs = [] }) result.0 (K.written out.old)
-        (K.written out.new) (Rose (K.faults out.old) (K.faults out.new)) }
+    ensures sent { IsPrinted (printing K.Sink out.old out.new result.0)
+        (record { status = status.0; text = message.now; outputs = [] }) }
     ensures later { K.faults out.old ≤ K.faults out.new }
 {
     match message.write(out) {
@@ -55,8 +54,7 @@ fn send_message<K: Sink>(message: &Message<'_>, status: Status, out: &mut K) -> 
 
 /// Sends a reply.
 fn send_reply<K: Sink>(reply: &Reply<'_>, out: &mut K) -> Status
-    ensures sent { SentSo reply.now result.0 (K.written out.old) (K.written out.new)
-        (Rose (K.faults out.old) (K.faults out.new)) }
+    ensures sent { IsPrinted (printing K.Sink out.old out.new result.0) reply.now }
     ensures own { IsTrue (statuses.is_one_of statuses.of_replies reply.now.status) }
     ensures none { reply.now.outputs ≡ [] }
     ensures later { K.faults out.old ≤ K.faults out.new }
@@ -67,8 +65,7 @@ fn send_reply<K: Sink>(reply: &Reply<'_>, out: &mut K) -> Status
 
 /// Sends what a part holds.
 fn send_part<K: Sink>(sealed: &Sealed, out: &mut K) -> Status
-    ensures sent { SentSo (reply_fields (Answer.Part sealed.now)) result.0 (K.written out.old) (K.written out.new)
-        (Rose (K.faults out.old) (K.faults out.new)) }
+    ensures sent { IsPrinted (printing K.Sink out.old out.new result.0) (reply_fields (Answer.Part sealed.now)) }
     ensures later { K.faults out.old ≤ K.faults out.new }
 {
     match write_sealed(sealed, out) {
@@ -84,9 +81,8 @@ fn send_files<D: Depot, K: Sink>(
     depot: &mut D,
     out: &mut K,
 ) -> Status
-    ensures ends { EndsSo (with_files outputs.now reply.now) result.0 (K.written out.old) (K.written out.new)
-        (Rose (K.faults out.old) (K.faults out.new))
-        (D.files depot.old) (D.files depot.new) (Rose (D.write_faults depot.old) (D.write_faults depot.new)) }
+    ensures ends { IsSent (writing D.Depot depot.old depot.new) (printing K.Sink out.old out.new result.0)
+        (with_files outputs.now reply.now) }
     ensures own { IsTrue (statuses.is_one_of statuses.of_replies reply.now.status) }
     ensures quiet { outputs.now ≡ [] → D.write_faults depot.new ≡ D.write_faults depot.old }
     ensures only_writes { OnlyWrites D.Depot depot.old depot.new }
@@ -106,9 +102,8 @@ fn send_sample<D: Depot, K: Sink>(
     depot: &mut D,
     out: &mut K,
 ) -> Status
-    ensures ends { EndsSo (with_files (output.entry ∷ []) reply.now) result.0 (K.written out.old) (K.written out.new)
-        (Rose (K.faults out.old) (K.faults out.new))
-        (D.files depot.old) (D.files depot.new) (Rose (D.write_faults depot.old) (D.write_faults depot.new)) }
+    ensures ends { IsSent (writing D.Depot depot.old depot.new) (printing K.Sink out.old out.new result.0)
+        (with_files (output.entry ∷ []) reply.now) }
     ensures own { IsTrue (statuses.is_one_of statuses.of_replies reply.now.status) }
     ensures only_writes { OnlyWrites D.Depot depot.old depot.new }
     ensures later_out { K.faults out.old ≤ K.faults out.new }
@@ -123,9 +118,8 @@ fn send_sample<D: Depot, K: Sink>(
 
 /// Sends an answer. No memory is taken.
 pub fn send<D: Depot, K: Sink>(answer: Answer<'_>, depot: &mut D, out: &mut K) -> Status
-    ensures ends { EndsSo (reply_fields answer.entry) result.0 (K.written out.old) (K.written out.new)
-        (Rose (K.faults out.old) (K.faults out.new))
-        (D.files depot.old) (D.files depot.new) (Rose (D.write_faults depot.old) (D.write_faults depot.new)) }
+    ensures ends { IsSent (writing D.Depot depot.old depot.new) (printing K.Sink out.old out.new result.0)
+        (reply_fields answer.entry) }
     ensures own { IsTrue (statuses.is_one_of statuses.of_replies (reply_fields answer.entry).status) }
     ensures quiet { (reply_fields answer.entry).outputs ≡ [] → D.write_faults depot.new ≡ D.write_faults depot.old }
     ensures only_writes { OnlyWrites D.Depot depot.old depot.new }
