@@ -2,8 +2,9 @@ ghost use Rattle.std.specs.Prelude.{◌≡◌, ◌≤◌, length, IfOk};
 
 use outside_core::{Depot, Failed};
 use std::fs;
-use std::fs::OpenOptions;
+use std::fs::{OpenFile, OpenOptions};
 use std::io::{Read, Seek, SeekFrom, Write};
+use std::os::unix::fs::MetadataExt;
 use std::rt::Files;
 
 /// The longest name of a file that is kept open.
@@ -39,7 +40,7 @@ impl<F: Drop> Held<F> {
 }
 
 /// The files of the system, by their paths. The file that was read last stays open, and so does the one that was begun
-/// last.
+/// last; that one can't be begun by another of its names, as by a link or as `./NAME`.
 #[derive(Drop)]
 pub struct FileDepot<'a, R: Files> {
     rt: &'a R,
@@ -83,6 +84,14 @@ fn add<R: Files>(rt: &R, name: &str, bytes: &[u8]) -> Result<usize, Failed>
     write_to(&mut file, bytes)
 }
 
+/// Whether the name is a name of this file, by its device and inode. Without an inode no two files are known as one.
+fn is_name_of<R: Files>(rt: &R, name: &str, file: &R::File) -> bool {
+    let (Ok(named), Ok(open)) = (fs::metadata(rt, name), file.metadata()) else {
+        return false;
+    };
+    open.ino() != 0 && named.ino() == open.ino() && named.dev() == open.dev()
+}
+
 impl<'a, R: Files> FileDepot<'a, R> {
     /// No error has been counted.
     pub fn new(rt: &'a R) -> FileDepot<'a, R>
@@ -115,6 +124,27 @@ impl<'a, R: Files> FileDepot<'a, R> {
         let read = read_from(&mut file, at, buf);
         self.read = Held::new(name, file);
         read
+    }
+
+    /// Whether this is another name of the file that was begun last.
+    fn is_begun(&self, name: &str) -> bool {
+        match &self.begun {
+            Some(begun) => !begun.is_named(name) && is_name_of(self.rt, name, &begun.file),
+            None => false,
+        }
+    }
+
+    /// Makes the name hold nothing, and keeps its file open.
+    fn create(&mut self, name: &str) -> Result<(), Failed>
+        ensures same_reads { self.new.read_faults ≡ self.old.read_faults }
+        ensures same_writes { self.new.write_faults ≡ self.old.write_faults }
+    {
+        self.begun = None;
+        let Ok(file) = fs::create(self.rt, name) else {
+            return Err(Failed);
+        };
+        self.begun = Held::new(name, file);
+        Ok(())
     }
 
     /// Writes to the file that is open, or else behind what the name holds.
@@ -153,17 +183,16 @@ impl<'a, R: Files> Depot for FileDepot<'a, R> {
     }
 
     fn begin(&mut self, name: &str) -> Result<(), Failed> {
-        self.begun = None;
-        match fs::create(self.rt, name) {
-            Ok(file) => {
-                self.begun = Held::new(name, file);
-                Ok(())
-            }
-            Err(_) => {
-                self.write_faults = self.write_faults.saturating_add(1);
-                Err(Failed)
-            }
+        // Emptied by its other name, the file would lose what was just written to it.
+        let begun = if self.is_begun(name) {
+            Err(Failed)
+        } else {
+            self.create(name)
+        };
+        if begun.is_err() {
+            self.write_faults = self.write_faults.saturating_add(1);
         }
+        begun
     }
 
     fn append(&mut self, name: &str, bytes: &[u8]) -> Result<usize, Failed> {
