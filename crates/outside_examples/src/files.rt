@@ -83,3 +83,47 @@ fn a_file_is_opened_once(rt: HostRuntime) -> Result<(), Fail> {
     fs::remove_dir_all(&rt, KEPT)?;
     Ok(())
 }
+
+const LINKED: &str = "linked_files";
+
+const WRITTEN: &str = "linked_files/written";
+
+const LINK: &str = "linked_files/link";
+
+// The file that was begun last keeps its bytes where another name of it is begun; by its own name it is begun anew.
+#[test]
+fn another_name_of_the_file_that_was_begun(rt: HostRuntime) -> Result<(), Fail> {
+    if fs::exists(&rt, LINKED)? {
+        fs::remove_dir_all(&rt, LINKED)?;
+    }
+    fs::create_dir(&rt, LINKED)?;
+    let mut depot = FileDepot::new(&rt);
+    depot.begin(WRITTEN)?;
+    append_all(&mut depot, WRITTEN, b"one ")?;
+    fs::hard_link(&rt, WRITTEN, LINK)?;
+    assert_eq!(rt; depot.begin(LINK), Err(Failed));
+    assert_eq!(rt; depot.begin("linked_files/./written"), Err(Failed));
+    append_all(&mut depot, WRITTEN, b"two")?;
+    assert_eq!(rt; fs::read(&rt, WRITTEN)?.as_slice(), b"one two".as_slice());
+    fs::remove_file(&rt, LINK)?;
+    assert_eq!(rt; depot.begin(LINK), Ok(()));
+    assert_eq!(rt; depot.begin(WRITTEN), Ok(()));
+    assert_eq!(rt; depot.begin(WRITTEN), Ok(()));
+    assert_eq!(rt; fs::read(&rt, WRITTEN)?.as_slice(), b"".as_slice());
+    fs::remove_dir_all(&rt, LINKED)?;
+    Ok(())
+}
+
+/// What is always full, where the system has it.
+const FULL: &str = "/dev/full";
+
+#[test]
+fn full_disk(rt: HostRuntime) -> Result<(), Fail> {
+    if fs::exists(&rt, FULL)? {
+        let mut depot = FileDepot::new(&rt);
+        assert_eq!(rt; depot.begin(FULL), Ok(()));
+        assert_eq!(rt; depot.append(FULL, b"piece"), Err(Failed));
+        assert_eq!(rt; append_all(&mut depot, FULL, b"piece"), Err(Failed));
+    }
+    Ok(())
+}
