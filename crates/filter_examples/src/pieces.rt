@@ -6,7 +6,7 @@ ghost use Rattle.std.specs.Prelude.{◌≤◌};
 use crate::parts::{MIXED, changed};
 use ident_core::Kind;
 use octets_core::{Field, LayoutFault, Why};
-use part_codec::{PartFault, PartNote, PartReader, PartScan, Sealed, encode_part};
+use part_codec::{PartFault, PartNote, PartReader, PartScan, Sealed, decode_part, encode_part};
 use std::alloc::Global;
 use std::process::Abort;
 use std::test::Fail;
@@ -156,8 +156,8 @@ fn each_cut_gives_the_open_field(rt: HostRuntime) -> Result<(), Fail> {
             field: *field,
             why: Why::Short,
         };
-        assert_eq!(rt; scanned(4096, front).err(), Some(fault), "cut to {cut}");
-        let read = read_in(rt.alloc(), 4096, front);
+        refuse(&rt, rt.alloc(), front, fault);
+        let read = decode_part(rt.alloc(), front);
         assert_eq!(rt; read.err(), Some(PartFault::Layout(fault)), "cut to {cut}");
     }
     Ok(())
