@@ -1,10 +1,12 @@
 //! Admission: small jobs by themselves, and jobs behind a ledger.
 
+ghost use Rattle.std.specs.Prelude.{◌≤◌};
+
 use crate::ledgers::item;
 use crate::slow;
 use crl_core::{Crl, CrlFault};
 use ident_core::{Identity, Kind, Range, Serial, Sighting, ranges_fit};
-use job_core::{Job, JobCrl, Limits};
+use job_core::{Job, JobCrl, Limits, What};
 use ledger_core::Ledger;
 use octets_core::Key32;
 use std::alloc::Global;
@@ -78,14 +80,25 @@ fn job(alloc: Global, crls: &[CrlRow<'_>], rows: &[(u8, u8, u64)]) -> Result<Job
     })
 }
 
-/// `first`, where the job keeps the limits; else a fault that `first` never gives.
-fn admit_first(alloc: Global, job: &Job) -> Result<Admitted, AdmitFault> {
+/// `first` with so many identities, where the job keeps the limits; else a fault that `first` never gives.
+fn admit_few(alloc: Global, job: &Job, identities: u32) -> Result<Admitted, AdmitFault>
+    requires { identities ≤ 4194304 }
+{
+    let limits = Limits {
+        identities,
+        ..Limits::PUBLISHED
+    };
     let few = job.crls.len() <= 65_535 && job.entries.len() <= 4_194_304;
     let fits = job.ranges.len() <= 1024 && ranges_fit(&job.ranges);
     if few && fits {
-        return first(alloc, job, &Limits::PUBLISHED);
+        return first(alloc, job, &limits);
     }
     Err(AdmitFault::ChainFull)
+}
+
+/// `first` with the published limits.
+fn admit_first(alloc: Global, job: &Job) -> Result<Admitted, AdmitFault> {
+    admit_few(alloc, job, Limits::PUBLISHED.identities)
 }
 
 fn numbers(admitted: &Admitted) -> [u32; 8] {
@@ -116,6 +129,24 @@ fn counts_what_is_not_accepted(rt: HostRuntime) -> Result<(), Fail> {
     assert_eq!(rt;
         numbers(&admit_first(alloc, &some)?),
         [1, 1, 0, 3, 1, 0, 0, 1]
+    );
+    Ok(())
+}
+
+// Three identities, of which one is listed.
+#[test]
+fn one_identity_too_many(rt: HostRuntime) -> Result<(), Fail> {
+    let alloc = rt.alloc();
+    let entries = [(0x11, 5, 0), (0x11, 6, 0), (0x11, 7, 0)];
+    let three = job(alloc, &[(0x11, None, &[5])], &entries)?;
+    let fault = AdmitFault::TooMany {
+        what: What::Identities,
+        limit: 2,
+    };
+    assert_eq!(rt; admit_few(alloc, &three, 2).err(), Some(fault));
+    assert_eq!(rt;
+        numbers(&admit_few(alloc, &three, 3)?),
+        [1, 3, 1, 0, 0, 0, 0, 3]
     );
     Ok(())
 }

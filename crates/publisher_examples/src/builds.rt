@@ -238,6 +238,30 @@ fn the_first_refusal_is_answered(rt: HostRuntime) -> Result<(), Fail> {
     Ok(())
 }
 
+/// Whether the issuer is the first that has no exact stage, for one worker and for two.
+fn is_refused<R: Threads + Sync>(
+    rt: &R,
+    alloc: Global,
+    authorities: &[Authority],
+    issuer: u8,
+) -> Result<bool, Fail> {
+    let job = job_of(alloc, authorities)?;
+    let issuer = Key32::new([issuer; 32]);
+    let refused = Some(BuildFault::SeedsExhausted { issuer, stage: 2 });
+    let by_one = part_of(rt, alloc, &RowsAlike, &Open, &job, 1)?.err();
+    let by_two = part_of(rt, alloc, &RowsAlike, &Open, &job, 2)?.err();
+    Ok(by_one == refused && by_two == refused)
+}
+
+// Both issuers have no exact stage, and then the second alone: of the first nothing is revoked.
+#[test]
+fn refusals_are_the_same_for_any_workers(rt: HostRuntime) -> Result<(), Fail> {
+    let alloc = rt.alloc();
+    assert!(&rt; is_refused(&rt, alloc, &[TWO, OTHER], 0x22)?);
+    assert!(&rt; is_refused(&rt, alloc, &[NONE, OTHER], 0x33)?);
+    Ok(())
+}
+
 // Counts the groups that enter, and those of them that enter in order.
 #[derive(Drop)]
 struct InOrder {
