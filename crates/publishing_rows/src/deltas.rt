@@ -301,3 +301,58 @@ fn job_in_place_of_the_ledger(rt: HostRuntime) -> Result<(), Fail> {
     assert!(rt; lacks(&depot, "P") && lacks(&depot, "M"));
     Ok(())
 }
+
+/// The ledger of one_good, but for 05, whose last part is the first.
+const LEDGER_LISTED: &str = "\
+    434c55424c454447010100000000000000013c5297690856618bbb3bc14ceaf1\
+    9ce2d0f4c977bf05c935e445542588879af30001aaaaaaaaaaaaaaaaaaaaaaaa\
+    aaaaaaaaaaaaaaaaaaaaaaaaaaaaaaaaaaaaaaaa0000018bcfe568000000018b\
+    cfe56be800000001111111111111111111111111111111111111111111111111\
+    1111111111111111000000011111111111111111111111111111111111111111\
+    1111111111111111111111110105000059399edc1fa5a85113ce612983241c50\
+    74729a4f3c896082fa492c358d147124";
+
+/// The part of late_entry behind it: one block, of mode none.
+const PART_NONE: &str = "\
+    434c554243415244010100000000000000023c5297690856618bbb3bc14ceaf1\
+    9ce2d0f4c977bf05c935e445542588879af30001aaaaaaaaaaaaaaaaaaaaaaaa\
+    aaaaaaaaaaaaaaaaaaaaaaaaaaaaaaaaaaaaaaaa0000018bcfe568000000018b\
+    cfe56fd000000001111111111111111111111111111111111111111111111111\
+    11111111111111110037ff7a7d64c1cca6cb6d061c49a485eca9526dced5d873\
+    1f4bd102b1b025c984";
+
+/// Its ledger.
+const LEDGER_NONE: &str = "\
+    434c55424c454447010200000000000000013c5297690856618bbb3bc14ceaf1\
+    9ce2d0f4c977bf05c935e445542588879af30001aaaaaaaaaaaaaaaaaaaaaaaa\
+    aaaaaaaaaaaaaaaaaaaaaaaaaaaaaaaaaaaaaaaa0000018bcfe568000000018b\
+    cfe56be800000001111111111111111111111111111111111111111111111111\
+    1111111111111111000000000000000237ff7a7d64c1cca6cb6d061c49a485ec\
+    a9526dced5d8731f4bd102b1b025c9840001aaaaaaaaaaaaaaaaaaaaaaaaaaaa\
+    aaaaaaaaaaaaaaaaaaaaaaaaaaaaaaaaaaaa0000018bcfe568000000018bcfe5\
+    6fd0000000011111111111111111111111111111111111111111111111111111\
+    1111111111110000000211111111111111111111111111111111111111111111\
+    1111111111111111111101050000111111111111111111111111111111111111\
+    1111111111111111111111111111010601ff729ae92542fdce06cd89d0b50e6d\
+    b981306ca92f745375e3fb5f9d7b90950f1f";
+
+// No history gives this ledger: the first part doesn't list 05. It is taken at its word, so 05 isn't revoked once more.
+#[test]
+fn ledger_of_no_history(rt: HostRuntime) -> Result<(), Fail> {
+    let alloc = rt.alloc();
+    let report =
+        "epoch 2 part 1 issuers 1 universe 2 revoked 0 unread 0 uncovered 0 unenrolled 0 late 1 accepted 1\n";
+    let job = late_entry(alloc)?;
+    assert!(rt;
+        publishes(
+            &rt,
+            alloc,
+            &job,
+            LEDGER_LISTED,
+            PART_NONE,
+            LEDGER_NONE,
+            report
+        )?
+    );
+    Ok(())
+}

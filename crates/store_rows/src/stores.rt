@@ -47,6 +47,16 @@ fn install_once(rt: HostRuntime) -> Result<(), Fail> {
     Ok(())
 }
 
+// A block of mode all says of each certificate of its issuer that it is revoked, also of one that no job showed.
+#[test]
+fn a_certificate_that_no_job_showed(rt: HostRuntime) -> Result<(), Fail> {
+    let alloc = rt.alloc();
+    let mut depot = MemoryDepot::new(alloc);
+    put(alloc, &mut depot, "S", &[STORE_HEAD, PART_REVOKED])?;
+    assert!(rt; answers(&rt, alloc, &mut depot, K1, "07", LA, T, REVOKED)?);
+    Ok(())
+}
+
 const ANOTHER_PARENT: &str = "\
     chain parent d720f255b1870ad1dd8b011598e3d444bd97fc8550a021a271b7d0ce89fddd26 \
     3c5297690856618bbb3bc14ceaf19ce2d0f4c977bf05c935e445542588879af3 P\n";
