@@ -1,5 +1,5 @@
 -- What is known of files that were read.
-use Rattle.std.proofs.Common.{◌≡◌, ℕ, inl, inr, List, [], Option, Some, None, Result, Ok, Err, refl, sym, ap, ◌∙◌, subst, arith}
+use Rattle.std.proofs.Common.{◌≡◌, ℕ, inl, inr, List, [], take, Option, Some, None, Result, Ok, Err, refl, ap, ◌∙◌, subst, arith}
 use Rattle.std.specs.Prelude.{◌⊎◌, IsErrOf}
 use Rattle.std.specs.FinMap.{get}
 use Rattle.octets_core.specs.Reading.{GivesUnless}
@@ -24,10 +24,6 @@ held_read files failed name (Some bytes) is = (Some bytes, is)
 pub some_read : (told : Option Files) (failed : Option (List ℕ) → Type 0) (name : List ℕ) → (given : Option (List ℕ)) × IsRead told failed name given
 some_read None failed name = (Some [], tt)
 some_read (Some files) failed name = held_read files failed name (get files name) refl
-
-whole_read : (told : Option Files) (failed : Option (List ℕ) → Type 0) (name bytes : List ℕ) → IsHeld told name (λ file. bytes ≡ file) → IsRead told failed name (Some bytes)
-whole_read None failed name bytes held = tt
-whole_read (Some files) failed name bytes (file, there, same) = there ∙ ap (λ (b : List ℕ). Some b) (sym same)
 
 -- a file that was read later in a call
 pub later_read : (told mid : Option Files) (failed other : Option (List ℕ) → Type 0) (name : List ℕ) (given : Option (List ℕ)) → mid ≡ told
@@ -57,10 +53,19 @@ blamed_later failed other name unread r wider (inr (is, why)) = inr (is, wider (
 -- ---- what a file was read as
 
 -- an input whose read failed
-unread_input : {A B : Type 0} (told : Option Files) (failed : Option (List ℕ) → Type 0) (name : List ℕ) (read : List ℕ → Result A FileFault) (view : B → A)
+pub unread_input : {A B : Type 0} (told : Option Files) (failed : Option (List ℕ) → Type 0) (name : List ℕ) (read : List ℕ → Result A FileFault) (view : B → A)
     → failed (Some name) ⊎ (IsMissing told name × failed None) → IsInput told failed name read view (Err faults.Unread)
 unread_input told failed name read view (inl blamed) = (None, inl blamed, λ refute. refl, inr (refl, blamed))
 unread_input told failed name read view (inr (missing, none)) = (None, inr missing, λ refute. refl, inl none)
+
+-- a fault of the bytes that the file holds
+pub fault_input : {A B : Type 0} (told : Option Files) (failed : Option (List ℕ) → Type 0) (name bytes : List ℕ) (read : List ℕ → Result A FileFault) (view : B → A) (e : FileFault)
+    → failed None → IsRead told failed name (Some bytes) → read bytes ≡ Err e → IsInput {B = B} told failed name read view (Err e)
+fault_input told failed name bytes read view e none held is = (Some bytes, held, λ refute. is, inl none)
+
+pub no_memory_input : {A B : Type 0} (told : Option Files) (failed : Option (List ℕ) → Type 0) (name : List ℕ) (read : List ℕ → Result A FileFault) (view : B → A)
+    → failed None → IsInput {B = B} told failed name read view (Err faults.NoMemory)
+no_memory_input told failed name read view none = let some = some_read told failed name in (some.0, some.1, λ refute. absurd (refute refl), inl none)
 
 -- what the reading of a file says of which read failed
 well_read : {T : Type 0} (failed : Option (List ℕ) → Type 0) (r : Result T InputFault) → (r ≡ Err reads.Failed → ⊥) → IsErrOf r reads.Failed ⊎ failed None → failed None
@@ -72,22 +77,43 @@ pub input_err : {T A B : Type 0} (told : Option Files) (failed : Option (List �
     → IsErrOf {T = T} (Err e) reads.Failed ⊎ failed None → IsInput told failed name read view (Err (of_input e))
 input_err told failed name read view reads.Failed why unblamed = unread_input told failed name read view (why refl)
 input_err {T} told failed name read view reads.NoMemory why unblamed =
-    let some = some_read told failed name in (
-      some.0,
-      some.1,
-      λ refute. absurd (refute refl),
-      inl (well_read {T = T} failed (Err reads.NoMemory) (λ h. let g : ◌≡◌ {A = Result T InputFault} (Err reads.NoMemory) (Err reads.Failed) = h in cc) unblamed),
-    )
+    no_memory_input told failed name read view
+    (well_read {T = T} failed (Err reads.NoMemory) (λ h. let g : ◌≡◌ {A = Result T InputFault} (Err reads.NoMemory) (Err reads.Failed) = h in cc) unblamed)
 
+-- a file of which these bytes are enough to read it
 pub input_value : {T A B : Type 0} (told : Option Files) (failed : Option (List ℕ) → Type 0) (name bytes : List ℕ) (read : List ℕ → Result A FileFault) (view : B → A)
-    (r : Result B FileFault) (x : T) → IsHeld told name (λ file. bytes ≡ file) → IsErrOf (Ok x) reads.Failed ⊎ failed None
+    (r : Result B FileFault) (x : T) → IsHeld told name (λ file. read bytes ≡ read file) → IsErrOf (Ok x) reads.Failed ⊎ failed None
     → GivesUnless faults.NoMemory view r (read bytes) → IsInput told failed name read view r
-input_value {T} told failed name bytes read view r x held unblamed gives = (
-  Some bytes,
-  whole_read told failed name bytes held,
-  gives,
+input_value {T} None failed name bytes read view r x held unblamed gives =
+    (Some bytes, tt, gives, inl (well_read failed (Ok x) (λ h. let g : ◌≡◌ {A = Result T InputFault} (Ok x) (Err reads.Failed) = h in cc) unblamed))
+input_value {T} {A} (Some files) failed name bytes read view r x (file, there, same) unblamed gives = (
+  Some file,
+  there,
+  subst (λ (given : Result A FileFault). GivesUnless faults.NoMemory view r given) same gives,
   inl (well_read failed (Ok x) (λ h. let g : ◌≡◌ {A = Result T InputFault} (Ok x) (Err reads.Failed) = h in cc) unblamed),
 )
+
+-- the bytes up to so many are enough
+enough : {A : Type 0} (told : Option Files) (name bytes : List ℕ) (most : ℕ) (read : List ℕ → Result A FileFault) → ((file : List ℕ) → read (take most file) ≡ read file)
+    → IsHeld told name (λ file. bytes ≡ take most file) → IsHeld told name (λ file. read bytes ≡ read file)
+enough None name bytes most read front held = tt
+enough (Some files) name bytes most read front (file, there, is) = (file, there, ap read is ∙ front file)
+
+pub input_front : {T A B : Type 0} (told : Option Files) (failed : Option (List ℕ) → Type 0) (name bytes : List ℕ) (most : ℕ) (read : List ℕ → Result A FileFault) (view : B → A)
+    (r : Result B FileFault) (x : T) → ((file : List ℕ) → read (take most file) ≡ read file) → IsHeld told name (λ file. bytes ≡ take most file)
+    → IsErrOf (Ok x) reads.Failed ⊎ failed None → GivesUnless faults.NoMemory view r (read bytes) → IsInput told failed name read view r
+input_front told failed name bytes most read view r x front held unblamed gives =
+    input_value told failed name bytes read view r x (enough told name bytes most read front held) unblamed gives
+
+-- all bytes are enough
+all_are : {A : Type 0} (told : Option Files) (name bytes : List ℕ) (read : List ℕ → Result A FileFault) → IsHeld told name (λ file. bytes ≡ file) → IsHeld told name (λ file. read bytes ≡ read file)
+all_are None name bytes read held = tt
+all_are (Some files) name bytes read (file, there, is) = (file, there, ap read is)
+
+pub input_whole : {T A B : Type 0} (told : Option Files) (failed : Option (List ℕ) → Type 0) (name bytes : List ℕ) (read : List ℕ → Result A FileFault) (view : B → A)
+    (r : Result B FileFault) (x : T) → IsHeld told name (λ file. bytes ≡ file) → IsErrOf (Ok x) reads.Failed ⊎ failed None
+    → GivesUnless faults.NoMemory view r (read bytes) → IsInput told failed name read view r
+input_whole told failed name bytes read view r x held unblamed gives = input_value told failed name bytes read view r x (all_are told name bytes read held) unblamed gives
 
 pub faulted_ok : {A B E : Type 0} (fault : E → FileFault) (view : B → A) (x : B) (spec : Result A E) → spec ≡ Ok (view x) → GivesUnless faults.NoMemory view (Ok x) (faulted fault spec)
 faulted_ok fault view x spec is = ap (faulted fault) is

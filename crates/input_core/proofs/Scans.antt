@@ -1,5 +1,5 @@
 -- Files that are scanned.
-use Rattle.std.proofs.Common.{◌≡◌, ℕ, ◌+◌, ◌≤◌, ◌<◌, ◌^◌, ◌-◌, List, [], ◌∷◌, ◌++◌, length, take, drop, true, false}
+use Rattle.std.proofs.Common.{◌≡◌, ℕ, ◌+◌, ◌≤◌, ◌<◌, ◌^◌, ◌-◌, List, [], ◌++◌, length, take, drop, true, false}
 use Rattle.std.proofs.Common.{nat_lt, Option, Some, None, Result, Ok, Err, refl, sym, ap, subst, ◌∙◌, arith, inl, inr, length-append, append_assoc}
 use Rattle.std.specs.Prelude.{◌⊎◌, IfSome}
 use Rattle.std.specs.FinMap.{get}
@@ -25,14 +25,12 @@ use Rattle.part_codec.specs.declared.machine.Machine.{Machine}
 use Rattle.part_codec.specs.declared.scan.PartNote.{PartNote}
 use Rattle.part_codec.specs.declared.scan.PartScan.{PartScan}
 use Rattle.part_codec.proofs.Scans.{Behind, by-none, behind-of, ends-at}
-use Rattle.input_core.specs.declared.fault.FileFault.{FileFault}
 use Rattle.input_core.specs.declared.fault.FileFault.TheVariants as faults
 use Rattle.input_core.specs.declared.scanning.ScanFault.{ScanFault}
 use Rattle.input_core.specs.declared.scanning.ScanFault.TheVariants as scans
-use Rattle.input_core.specs.Faults.{of_scan}
 use Rattle.input_core.specs.PartFile.{part_file}
-use Rattle.input_core.specs.Readings.{part_in, input_as}
-use Rattle.input_core.specs.Inputs.{IsHeld, WhereHeld, IsRead, IsBlamed}
+use Rattle.input_core.specs.Readings.{part_in}
+use Rattle.input_core.specs.Inputs.{IsHeld, WhereHeld, IsRead}
 use Rattle.input_core.specs.Scanned.{noted_file, scanned, layouts, IsScan}
 
 -- ---- what a file begins with
@@ -71,7 +69,7 @@ whole_in bytes s n all is = let test : nat_lt n (length bytes) ≡ false = grind
 -- ---- the end of input
 
 -- a plane is the widest field
-width-bound : (o : Open) (k : Kept) → AreStarts k.starts → skips o k + tail_of o ≤ 1000000
+pub width-bound : (o : Open) (k : Kept) → AreStarts k.starts → skips o k + tail_of o ≤ 1000000
 width-bound opens.ApproxPlane k starts = omega (arith, starts.1)
 width-bound opens.ExactPlane k starts = omega (arith, starts.1)
 width-bound o k starts = omega arith
@@ -128,7 +126,7 @@ pub record Taken (told : Option Files) (name : List ℕ) (scan : PartScan) (at :
   pub place : length bytes ≡ at
   pub front : WhereHeld told name (λ file. bytes ≡ take at file)
 
-nothing_of : (told : Option Files) (name : List ℕ) (at : ℕ) → at ≡ 0 → WhereHeld told name (λ file. [] ≡ take at file)
+pub nothing_of : (told : Option Files) (name : List ℕ) (at : ℕ) → at ≡ 0 → WhereHeld told name (λ file. [] ≡ take at file)
 nothing_of None name at none = tt
 nothing_of (Some files) name at none = nothing_in (get files name) at none
 
@@ -150,7 +148,7 @@ held_piece told name b w at len before offers =
     subst (λ (l : List ℕ). IsHeld told name (λ file. b ++ l ≡ take (length (b ++ l)) file)) (take_all (length w) w (omega arith))
     (held_front told name b w at (length w) len (omega arith) before offers)
 
-where_held : (told : Option Files) (name : List ℕ) (P : List ℕ → Type 0) → IsHeld told name P → WhereHeld told name P
+pub where_held : (told : Option Files) (name : List ℕ) (P : List ℕ → Type 0) → IsHeld told name P → WhereHeld told name P
 where_held None name P h = tt
 where_held (Some files) name P (file, there, p) = rw there p
 

@@ -3,3 +3,4 @@ pub mod PartFile
 pub mod Readings
 pub mod Inputs
 pub mod Scanned
+pub mod Taking

@@ -1,27 +1,37 @@
-//! The files that commands read: queries, a job, a ledger, a part and a store. The bytes are dropped once they are
-//! read.
+//! The files that are taken into memory and then read: queries, a ledger and a store. The bytes are dropped once
+//! they are read.
 
-ghost use Rattle.std.specs.Prelude.{map, IfOk};
-ghost use Rattle.octets_core.specs.Reading.{GivesUnless};
+ghost use Rattle.std.specs.Prelude.{map};
 ghost use Rattle.outside_core.specs.Effects.{OnlyReads};
 ghost use Rattle.query_core.specs.Queries.{as_query};
-ghost use Rattle.job_core.specs.JobFields.{fields_of_job};
-ghost use Rattle.job_core.specs.JobFacts.{FitsFields, IsWithinLimits};
-ghost use Rattle.input_core.specs.PartFile.{part_file};
-ghost use Rattle.input_core.specs.Readings.{queries_in as queries_of, job_in as job_of, ledger_in as ledger_of};
-ghost use Rattle.input_core.specs.Readings.{part_in as part_of, store_in as store_of};
+ghost use Rattle.input_core.specs.Readings.{queries_in as queries_of, ledger_in as ledger_of};
+ghost use Rattle.input_core.specs.Readings.{store_in as store_of};
 ghost use Rattle.input_core.specs.Inputs.{IsInput, WhichFailed};
 
 use crate::fault::FileFault;
-use crate::input::read_all;
-use job_core::{Job, Limits, read_job};
+use crate::input::{read_all, read_up_to};
+use ident_core::{MAX_IDENTITIES, MAX_ISSUERS, MAX_PARTS, MAX_RANGES, MAX_SERIAL};
 use ledger_core::{Ledger, decode_ledger};
-use octets_core::{Field, LayoutFault, Why};
 use outside_core::Depot;
-use part_codec::{Sealed, decode_part};
-use query_core::{Asked, read_queries};
+use query_core::{Asked, MAX_QUERIES, MAX_SIGHTINGS, read_queries};
 use std::alloc::Global;
 use store_core::{Store, decode_store};
+
+/// The most bytes of a range, of a ledger's part and of its identity.
+const RANGE: usize = 48;
+
+const PART: usize = 46 + MAX_RANGES * RANGE + MAX_ISSUERS * 32;
+
+const IDENTITY: usize = 35 + MAX_SERIAL;
+
+/// The most bytes of a ledger: it has a magic, a version, its counts, and a digest.
+const LONGEST_LEDGER: usize = 46 + MAX_PARTS * PART + MAX_IDENTITIES * IDENTITY;
+
+/// The most bytes of a query: it has an issuer and two counts.
+const QUERY: usize = 34 + MAX_SERIAL + MAX_SIGHTINGS as usize * 40;
+
+/// The most bytes of a query file: it has a magic and a count.
+const LONGEST_QUERIES: usize = 12 + MAX_QUERIES as usize * QUERY;
 
 /// The queries of the file of this name.
 pub fn queries_in<D: Depot>(
@@ -33,20 +43,8 @@ pub fn queries_in<D: Depot>(
         queries_of (λ v. map as_query v.items) result }
     ensures only_reads { OnlyReads D.Depot depot.old depot.new }
 {
-    let bytes = read_all(alloc, depot, name)?;
+    let bytes = read_up_to(alloc, depot, name, LONGEST_QUERIES)?;
     Ok(read_queries(alloc, &bytes)?)
-}
-
-/// The job of the file of this name.
-pub fn job_in<D: Depot>(alloc: Global, depot: &mut D, name: &str) -> Result<Job, FileFault>
-    ensures input { IsInput (D.files depot.old) (WhichFailed D.Depot depot.old depot.new) name.now
-        job_of fields_of_job result }
-    ensures fits { IfOk result (λ job. FitsFields (fields_of_job job)) }
-    ensures within { IfOk result (λ job. IsWithinLimits Limits.PUBLISHED (fields_of_job job)) }
-    ensures only_reads { OnlyReads D.Depot depot.old depot.new }
-{
-    let bytes = read_all(alloc, depot, name)?;
-    Ok(read_job(alloc, &bytes, &Limits::PUBLISHED)?)
 }
 
 /// The ledger of the file of this name.
@@ -55,34 +53,8 @@ pub fn ledger_in<D: Depot>(alloc: Global, depot: &mut D, name: &str) -> Result<L
         ledger_of (λ l. l) result }
     ensures only_reads { OnlyReads D.Depot depot.old depot.new }
 {
-    let bytes = read_all(alloc, depot, name)?;
+    let bytes = read_up_to(alloc, depot, name, LONGEST_LEDGER)?;
     Ok(decode_ledger(alloc, &bytes)?)
-}
-
-/// The part that a file's bytes are, and how many bytes it has.
-#[tactic(auto, unfolding(crate::specs::PartFile::part_file))]
-fn part_alone(alloc: Global, bytes: &[u8]) -> Result<(Sealed, usize), FileFault>
-    ensures { GivesUnless FileFault.NoMemory (λ x. x) result (part_file bytes.now 0) }
-{
-    let (sealed, end) = decode_part(alloc, bytes)?;
-    if end < bytes.len() {
-        return Err(LayoutFault::new(end, Field::End, Why::Value).into());
-    }
-    Ok((sealed, end))
-}
-
-/// The part of the file of this name, and how many bytes it has.
-pub fn part_in<D: Depot>(
-    alloc: Global,
-    depot: &mut D,
-    name: &str,
-) -> Result<(Sealed, usize), FileFault>
-    ensures input { IsInput (D.files depot.old) (WhichFailed D.Depot depot.old depot.new) name.now
-        part_of (λ x. x) result }
-    ensures only_reads { OnlyReads D.Depot depot.old depot.new }
-{
-    let bytes = read_all(alloc, depot, name)?;
-    part_alone(alloc, &bytes)
 }
 
 /// The store of the file of this name.

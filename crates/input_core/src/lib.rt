@@ -4,8 +4,13 @@
 mod fault;
 mod input;
 mod inputs;
+mod jobs;
+mod parts;
 mod scanning;
 
 pub use fault::FileFault;
-pub use inputs::{job_in, ledger_in, part_in, queries_in, store_in};
+pub use input::{InputFault, read_up_to};
+pub use inputs::{ledger_in, queries_in, store_in};
+pub use jobs::job_in;
+pub use parts::part_in;
 pub use scanning::{ScanFault, scan_file};

@@ -1,12 +1,14 @@
-use Rattle.std.proofs.Common.{map, refl, Ok, Err, Vec, Global}
+use Rattle.std.proofs.Common.{map, refl, ap, ◌+◌, Ok, Err, Vec, Global}
 use Rattle.std.proofs.lemmas.Result.{err_from_is_err_and}
 use Rattle.query_core.specs.declared.query.Asked.{Asked}
 use Rattle.query_core.specs.Queries.{as_query}
 use Rattle.query_core.specs.declared.fault.QueriesFault.TheVariants as faults
 use Rattle.input_core.specs.Faults.{of_queries}
-use Rattle.input_core.specs.Readings.{queries_in}
+use Rattle.input_core.specs.declared.inputs.TheConstants.{LONGEST_QUERIES}
+use Rattle.input_core.specs.Readings.{faulted, queries_in}
 use Rattle.input_core.specs.Inputs.{WhichFailed}
-use Rattle.input_core.proofs.FilesRead.{input_err, input_value, faulted_ok, faulted_err}
+use Rattle.input_core.proofs.FilesRead.{input_err, input_front, faulted_ok, faulted_err}
+use Rattle.input_core.proofs.LongestQueries.{queries-same}
 use Rattle.input_core.proofs.inputs.queries_in.Goals as goal
 
 pub returns-in_err-bytes-clause-input : goal.returns-in_err-bytes-clause-input
@@ -20,12 +22,12 @@ pub returns-in_err-read_queries-clause-input : goal.returns-in_err-read_queries-
 returns-in_err-read_queries-clause-input g c =
     let p = err_from_is_err_and c.from_residual-in_err-read_queries.result c.from_residual-in_err-read_queries.ensures.1 in
     rw (p.1, p.2)
-    (input_value (g.D.Depot.files c.args.depot.now) (WhichFailed g.D.Depot c.args.depot.now _) c.args.name.now c.in_ok-bytes.bytes.items queries_in (λ (v : Vec Asked Global). map as_query v.items)
-    (Err (of_queries c.in_err-read_queries.field-0.0)) c.in_ok-bytes.bytes c.in_ok-bytes.ensures.bytes c.in_ok-bytes.ensures.unblamed
+    (input_front (g.D.Depot.files c.args.depot.now) (WhichFailed g.D.Depot c.args.depot.now _) c.args.name.now c.in_ok-bytes.bytes.items (LONGEST_QUERIES + 1) queries_in (λ (v : Vec Asked Global). map as_query v.items)
+    (Err (of_queries c.in_err-read_queries.field-0.0)) c.in_ok-bytes.bytes (λ file. ap (faulted of_queries) (queries-same file)) c.in_ok-bytes.ensures.bytes c.in_ok-bytes.ensures.unblamed
     (faulted_err of_queries faults.NoMemory c.in_err-read_queries.field-0.0 (λ (v : Vec Asked Global). map as_query v.items) _ refl (rw c.deref.ensures.value at c.in_err-read_queries.ensures.exact)))
 
 pub returns-clause-input : goal.returns-clause-input
 returns-clause-input g c =
-    input_value (g.D.Depot.files c.args.depot.now) (WhichFailed g.D.Depot c.args.depot.now _) c.args.name.now c.in_ok-bytes.bytes.items queries_in (λ (v : Vec Asked Global). map as_query v.items)
-    (Ok c.in_ok-read_queries.field-0) c.in_ok-bytes.bytes c.in_ok-bytes.ensures.bytes c.in_ok-bytes.ensures.unblamed
+    input_front (g.D.Depot.files c.args.depot.now) (WhichFailed g.D.Depot c.args.depot.now _) c.args.name.now c.in_ok-bytes.bytes.items (LONGEST_QUERIES + 1) queries_in (λ (v : Vec Asked Global). map as_query v.items)
+    (Ok c.in_ok-read_queries.field-0) c.in_ok-bytes.bytes (λ file. ap (faulted of_queries) (queries-same file)) c.in_ok-bytes.ensures.bytes c.in_ok-bytes.ensures.unblamed
     (faulted_ok of_queries (λ (v : Vec Asked Global). map as_query v.items) c.in_ok-read_queries.field-0 _ (rw c.deref.ensures.value at c.in_ok-read_queries.ensures.exact))

@@ -1,0 +1,10 @@
+use Rattle.std.proofs.Common.{rules, subst}
+use Rattle.job_core.specs.JobFields.{fields_of_job}
+use Rattle.input_core.specs.Readings.{job_in}
+use Rattle.input_core.specs.Inputs.{WhichFailed, IsInput}
+use Rattle.input_core.proofs.jobs.job_in.Goals as goal
+
+pub returns-clause-input : goal.returns-clause-input
+returns-clause-input g c =
+    subst (λ (d : g.row.D.Denot). IsInput (g.D.Depot.files c.args.depot.now) (WhichFailed g.D.Depot c.args.depot.now d) c.args.name.now job_in fields_of_job c.fed_job.result) (search rules)
+    (rw (c.new-feed.ensures.depot, c.new-feed.ensures.name) at c.fed_job.ensures.input)
