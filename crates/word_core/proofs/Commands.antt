@@ -13,12 +13,14 @@ bytes_same a b h = search (rules, bytes_eq-Decides)
 other : (a b : List ℕ) → (a ≡ b → ⊥) → bytes_eq a b ≡ false
 other a b differ = false_from_ne_true (bytes_eq a b) (λ h. differ (bytes_same a b h))
 
--- a name that is none of the nine
-pub no_command : (name : List ℕ) (rest : List (List ℕ)) → (name ≡ codes "query" → ⊥) → (name ≡ codes "check" → ⊥) → (name ≡ codes "show" → ⊥) → (name ≡ codes "snapshot" → ⊥)
-    → (name ≡ codes "delta" → ⊥) → (name ≡ codes "start" → ⊥) → (name ≡ codes "install" → ⊥) → (name ≡ codes "rehearse" → ⊥) → (name ≡ codes "sample" → ⊥) → command_of (name ∷ rest) ≡ commands.Usage
-no_command name rest query check show snapshot delta start install rehearse sample =
+-- a name that is none of the ten
+pub no_command : (name : List ℕ) (rest : List (List ℕ)) → (name ≡ codes "query" → ⊥) → (name ≡ codes "query-cert" → ⊥) → (name ≡ codes "check" → ⊥)
+    → (name ≡ codes "show" → ⊥) → (name ≡ codes "snapshot" → ⊥) → (name ≡ codes "delta" → ⊥) → (name ≡ codes "start" → ⊥) → (name ≡ codes "install" → ⊥)
+    → (name ≡ codes "rehearse" → ⊥) → (name ≡ codes "sample" → ⊥) → command_of (name ∷ rest) ≡ commands.Usage
+no_command name rest query query_cert check show snapshot delta start install rehearse sample =
     rw (
       other name (codes "query") query,
+      other name (codes "query-cert") query_cert,
       other name (codes "check") check,
       other name (codes "show") show,
       other name (codes "snapshot") snapshot,

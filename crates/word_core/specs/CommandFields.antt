@@ -9,6 +9,12 @@ pub record QueryFields : Type 0 where
   pub id : Identity
   pub sightings : List Sighting
 
+-- a question about the certificate in a file
+pub record QueryCertFields : Type 0 where
+  pub store : List ℕ
+  pub cert : List ℕ
+  pub issuer_cert : List ℕ
+
 -- the first part of a chain
 pub record SnapshotFields : Type 0 where
   pub job : List ℕ

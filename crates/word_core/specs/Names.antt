@@ -1,12 +1,13 @@
 -- The files that a command reads and writes.
 use Rattle.std.specs.Prelude.{ℕ, List, [], ◌∷◌}
 use Rattle.word_core.specs.declared.command.Command.{Command}
-use Rattle.word_core.specs.declared.command.Command.TheVariants.{Usage, Query, Check, Show, Snapshot, Delta, Start, Install, Rehearse, Sample}
+use Rattle.word_core.specs.declared.command.Command.TheVariants.{Usage, Query, QueryCert, Check, Show, Snapshot, Delta, Start, Install, Rehearse, Sample}
 
 -- the names of the files that a command reads, in the order of reading
 abbrev pub inputs_of : Command → List (List ℕ)
 inputs_of Usage = []
 inputs_of (Query query) = query.store ∷ []
+inputs_of (QueryCert query) = query.store ∷ query.cert ∷ query.issuer_cert ∷ []
 inputs_of (Check name) = name ∷ []
 inputs_of (Show name) = name ∷ []
 inputs_of (Snapshot snapshot) = snapshot.job ∷ []
@@ -20,6 +21,7 @@ inputs_of (Sample sample) = []
 abbrev pub outputs_of : Command → List (List ℕ)
 outputs_of Usage = []
 outputs_of (Query query) = []
+outputs_of (QueryCert query) = []
 outputs_of (Check name) = []
 outputs_of (Show name) = []
 outputs_of (Snapshot snapshot) = snapshot.part ∷ snapshot.ledger ∷ []

@@ -10,7 +10,7 @@ use Rattle.hex.specs.declared.error.FromHexError.{FromHexError}
 use Rattle.octets_core.specs.Layout.{within}
 use Rattle.ident_core.specs.declared.bounds.TheConstants.{MAX_PARTS, MAX_WORKERS, MAX_SAMPLE}
 use Rattle.ident_core.specs.declared.range.Sighting.{Sighting}
-use Rattle.word_core.specs.CommandFields.{QueryFields, SnapshotFields, DeltaFields, StartFields, InstallFields, RehearseFields, SampleFields}
+use Rattle.word_core.specs.CommandFields.{QueryFields, QueryCertFields, SnapshotFields, DeltaFields, StartFields, InstallFields, RehearseFields, SampleFields}
 use Rattle.word_core.specs.declared.command.Command.{Command}
 use Rattle.word_core.specs.declared.command.Command.TheVariants as commands
 
@@ -70,6 +70,15 @@ query_of (store ∷ issuer ∷ serial ∷ pairs) = do
   sightings ← sightings_of pairs
   Some (record { store = name; id = record { issuer = i; serial = s }; sightings = sightings })
 query_of words = None
+
+-- STORE CERT ISSUERCERT
+abbrev pub query_cert_of : List (List ℕ) → Option QueryCertFields
+query_cert_of (store ∷ cert ∷ issuer_cert ∷ []) = do
+  s ← name_of store
+  c ← name_of cert
+  i ← name_of issuer_cert
+  Some (record { store = s; cert = c; issuer_cert = i })
+query_cert_of words = None
 
 -- one name
 abbrev pub name_alone : List (List ℕ) → Option (List ℕ)
@@ -182,6 +191,7 @@ abbrev pub command_of : List (List ℕ) → Command
 command_of [] = commands.Usage
 command_of (command ∷ words) =
     if bytes_eq command (codes "query") then asks commands.Query (query_of words)
+    else if bytes_eq command (codes "query-cert") then asks commands.QueryCert (query_cert_of words)
     else if bytes_eq command (codes "check") then asks commands.Check (name_alone words)
     else if bytes_eq command (codes "show") then asks commands.Show (name_alone words)
     else if bytes_eq command (codes "snapshot") then asks commands.Snapshot (snapshot_of words)

@@ -1,4 +1,4 @@
-//! What the words of a call ask for, and the command that asks about a certificate.
+//! What the words of a call ask for, and the commands that ask about a certificate.
 
 use crate::publishing::{Delta, Snapshot};
 use crate::storing::{Install, Start};
@@ -90,6 +90,58 @@ impl<'a> Query<'a> {
     }
 }
 
+/// A question about the certificate in one file, issued by the one in another, asked of the store in a third.
+#[derive(Debug, Drop)]
+pub struct QueryCert<'a> {
+    store: FileName<'a>,
+    cert: FileName<'a>,
+    issuer_cert: FileName<'a>,
+}
+
+impl<'a> Model for QueryCert<'a> {
+    ghost use Rattle.word_core.specs.CommandFields.{QueryCertFields};
+
+    ghost Value = { QueryCertFields };
+
+    ghost view = { λ q. record { store = q.store; cert = q.cert; issuer_cert = q.issuer_cert } };
+}
+
+impl<'a> QueryCert<'a> {
+    ghost use Rattle.std.specs.Prelude.{◌≡◌};
+
+    /// The query of the certificate in the file `cert`, whose issuer's is in the file `issuer_cert`.
+    pub fn new(store: FileName<'a>, cert: FileName<'a>, issuer_cert: FileName<'a>) -> QueryCert<'a>
+        ensures { result ≡ record { store = store.entry; cert = cert.entry; issuer_cert = issuer_cert.entry } }
+    {
+        QueryCert {
+            store,
+            cert,
+            issuer_cert,
+        }
+    }
+
+    /// The name of the file that holds the store.
+    pub fn store(&self) -> &'a str
+        ensures { result.now ≡ self.now.store }
+    {
+        self.store.as_str()
+    }
+
+    /// The name of the file that holds the certificate.
+    pub fn cert(&self) -> &'a str
+        ensures { result.now ≡ self.now.cert }
+    {
+        self.cert.as_str()
+    }
+
+    /// The name of the file that holds its issuer's certificate.
+    pub fn issuer_cert(&self) -> &'a str
+        ensures { result.now ≡ self.now.issuer_cert }
+    {
+        self.issuer_cert.as_str()
+    }
+}
+
 /// What the words of a call ask for. The words lend the names of files.
 #[derive(Debug, Drop)]
 pub enum Command<'a> {
@@ -97,6 +149,8 @@ pub enum Command<'a> {
     Usage,
     /// What the parts of a store say of a certificate.
     Query(Query<'a>),
+    /// What the parts of a store say of a certificate that a file holds.
+    QueryCert(QueryCert<'a>),
     /// Whether a file is a part.
     Check(FileName<'a>),
     /// What a part holds.

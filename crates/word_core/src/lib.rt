@@ -8,7 +8,7 @@ mod storing;
 mod trying;
 mod words;
 
-pub use command::{Command, FileName, Query};
+pub use command::{Command, FileName, Query, QueryCert};
 pub use publishing::{Delta, Snapshot};
 pub use reading::read_words;
 pub use storing::{Install, Start};

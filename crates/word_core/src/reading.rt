@@ -2,9 +2,9 @@
 
 ghost use Rattle.std.specs.Prelude.{◌≡◌, ◌≤◌, ℕ, List, ◌∷◌, IfOk, IsOk, map, string_bytes};
 ghost use Rattle.ident_core.specs.declared.bounds.TheConstants.{MAX_WORKERS};
-ghost use Rattle.word_core.specs.Words.{command_of, query_of, name_alone, snapshot_of, named_delta, delta_of, start_of, install_of, rehearse_of, sample_of};
+ghost use Rattle.word_core.specs.Words.{command_of, query_of, query_cert_of, name_alone, snapshot_of, named_delta, delta_of, start_of, install_of, rehearse_of, sample_of};
 
-use crate::command::{Command, FileName, Query};
+use crate::command::{Command, FileName, Query, QueryCert};
 use crate::publishing::{Delta, Snapshot};
 use crate::storing::{Install, Start};
 use crate::trying::{Rehearse, Sample};
@@ -39,6 +39,19 @@ fn read_query(alloc: Global, words: &[String]) -> Result<Option<Query<'_>>, NoMe
         return Ok(None);
     };
     Ok(Some(Query::new(store, Identity { issuer, serial }, sightings)))
+}
+
+/// The query of a certificate in a file that words spell, if they spell one.
+fn read_query_cert(words: &[String]) -> Option<QueryCert<'_>>
+    ensures { result ≡ query_cert_of (map string_bytes words.now) }
+{
+    let [store, cert, issuer_cert] = words else {
+        return None;
+    };
+    let store = read_name(store.as_str())?;
+    let cert = read_name(cert.as_str())?;
+    let issuer_cert = read_name(issuer_cert.as_str())?;
+    Some(QueryCert::new(store, cert, issuer_cert))
 }
 
 /// The name that words spell, if they are one word that spells one.
@@ -199,6 +212,7 @@ fn read_command<'a>(
 {
     match command {
         "query" => Ok(read_query(alloc, rest)?.map_or(Command::Usage, Command::Query)),
+        "query-cert" => Ok(read_query_cert(rest).map_or(Command::Usage, Command::QueryCert)),
         "check" => Ok(read_name_alone(rest).map_or(Command::Usage, Command::Check)),
         "show" => Ok(read_name_alone(rest).map_or(Command::Usage, Command::Show)),
         "snapshot" => Ok(read_snapshot(rest).map_or(Command::Usage, Command::Snapshot)),
