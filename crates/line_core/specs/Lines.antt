@@ -23,6 +23,8 @@ use Rattle.part_codec.specs.PartText.{width_of}
 use Rattle.part_codec.specs.declared.scan.PartNote.{PartNote}
 use Rattle.crl_core.specs.declared.crl.CrlFault.{CrlFault}
 use Rattle.crl_core.specs.declared.crl.CrlFault.TheVariants as crl_faults
+use Rattle.sct_core.specs.declared.fault.CertFault.{CertFault}
+use Rattle.sct_core.specs.declared.fault.CertFault.TheVariants as cert_faults
 use Rattle.job_core.specs.declared.bounds.What.{What}
 use Rattle.job_core.specs.declared.bounds.What.TheVariants as what
 use Rattle.universe_core.specs.declared.counts.Counts.{Counts}
@@ -135,6 +137,16 @@ crl_word crl_faults.NoMemory = []
 -- crl RECORD FAULT NAME
 abbrev pub crl_line : ℕ → CrlFault → List ℕ → List ℕ
 crl_line place fault name = codes "crl " ++ decimal place ++ 32 ∷ crl_word fault ++ 32 ∷ name ++ 10 ∷ []
+
+abbrev pub cert_word : CertFault → List ℕ
+cert_word cert_faults.Malformed = codes "malformed"
+cert_word cert_faults.NoScts = codes "no-scts"
+cert_word cert_faults.BadScts = codes "scts"
+cert_word cert_faults.TooManyScts = codes "many"
+
+-- cert FAULT NAME
+abbrev pub cert_line : CertFault → List ℕ → List ℕ
+cert_line fault name = codes "cert " ++ cert_word fault ++ 32 ∷ name ++ 10 ∷ []
 
 abbrev pub what_word : What → List ℕ
 what_word what.Ranges = codes "ranges"

@@ -3,16 +3,17 @@
 ghost use Rattle.std.specs.Prelude.{◌≡◌, ◌≤◌, ◌++◌, ◌∷◌, [], length};
 ghost use Rattle.octets_core.specs.FieldNames.{name_of};
 ghost use Rattle.line_core.specs.Lines.{line, line_about, layout_line, crl_line, limit_line, parent_line, epoch_line};
-ghost use Rattle.line_core.specs.Lines.{coverage_line};
+ghost use Rattle.line_core.specs.Lines.{coverage_line, cert_line};
 ghost use Rattle.line_core.specs.Sending.{Sends};
 
 use crate::line::Line;
 use crate::show::write_text;
-use crate::words::{crl_text, field_text, what_text, why_text};
+use crate::words::{cert_text, crl_text, field_text, what_text, why_text};
 use crl_core::CrlFault;
 use job_core::What;
 use octets_core::{Key32, LayoutFault};
 use outside_core::{Failed, Sink};
+use sct_core::CertFault;
 use std::marker::Model;
 
 /// One line: its words, the name of the file that it is about, and its end. A line about no file has them all as
@@ -125,6 +126,17 @@ pub fn crl_line(place: u32, fault: CrlFault, name: &str) -> Message<'_>
     line.push_count(b"crl ", place as u64);
     line.push(b" ");
     line.push(crl_text(fault));
+    line.push(b" ");
+    Message::about(line, name)
+}
+
+/// `cert FAULT NAME`: the certificate isn't read, or its timestamps aren't.
+pub fn cert_line(fault: CertFault, name: &str) -> Message<'_>
+    ensures { result ≡ cert_line fault name.now }
+{
+    let mut line = Line::new();
+    line.push(b"cert ");
+    line.push(cert_text(fault));
     line.push(b" ");
     Message::about(line, name)
 }

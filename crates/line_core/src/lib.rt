@@ -7,8 +7,8 @@ mod show;
 mod words;
 
 pub use about::{
-    Message, about_file, coverage_line, crl_line, epoch_line, layout_line, limit_line, line_of,
-    parent_line,
+    Message, about_file, cert_line, coverage_line, crl_line, epoch_line, layout_line, limit_line,
+    line_of, parent_line,
 };
 pub use line::{Line, checked, reported, sampled, seeds_line, stored};
 pub use show::write_sealed;

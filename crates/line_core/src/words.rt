@@ -2,12 +2,13 @@
 
 ghost use Rattle.std.specs.Prelude.{◌≡◌, ◌≤◌, length};
 ghost use Rattle.octets_core.specs.FieldNames.{name_of};
-ghost use Rattle.line_core.specs.Lines.{kind_word, why_word, crl_word, what_word};
+ghost use Rattle.line_core.specs.Lines.{kind_word, why_word, crl_word, cert_word, what_word};
 
 use crl_core::CrlFault;
 use ident_core::Kind;
 use job_core::What;
 use octets_core::{Field, Why};
+use sct_core::CertFault;
 
 pub fn kind_text(kind: Kind) -> &'static [u8]
     ensures value { result.now ≡ kind_word kind }
@@ -47,6 +48,18 @@ pub fn crl_text(fault: CrlFault) -> &'static [u8]
         CrlFault::Indirect => b"indirect",
         CrlFault::UnknownCritical => b"critical",
         CrlFault::NoMemory => b"",
+    }
+}
+
+pub fn cert_text(fault: CertFault) -> &'static [u8]
+    ensures value { result.now ≡ cert_word fault }
+    ensures len { length result.now ≤ 9 }
+{
+    match fault {
+        CertFault::Malformed => b"malformed",
+        CertFault::NoScts => b"no-scts",
+        CertFault::BadScts => b"scts",
+        CertFault::TooManyScts => b"many",
     }
 }
 
