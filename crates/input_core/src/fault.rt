@@ -6,6 +6,7 @@ use ledger_core::LedgerFault;
 use octets_core::{Key32, LayoutFault};
 use part_codec::PartFault;
 use query_core::QueriesFault;
+use sct_core::CertFault;
 use store_core::{Refusal, StoreFault};
 
 /// What is wrong with a file that a command reads.
@@ -25,6 +26,8 @@ pub enum FileFault {
     TooMany { what: What, limit: u32 },
     /// The equations of this issuer's approximate stage (1) or exact stage (2) are unsolvable at each of the 256 seeds.
     Seeds { issuer: Key32, stage: u8 },
+    /// A certificate isn't read, or its timestamps aren't.
+    BadCert(CertFault),
     /// Want of memory.
     NoMemory,
 }
@@ -105,5 +108,15 @@ impl From<StoreFault> for FileFault {
             StoreFault::Refused(why) => FileFault::Chain(why),
             StoreFault::NoMemory => FileFault::NoMemory,
         }
+    }
+}
+
+impl From<CertFault> for FileFault {
+    ghost use Rattle.input_core.specs.declared.fault.FileFault.TheVariants.{BadCert};
+
+    ghost from_gives = { λ f e. e ≡ BadCert f };
+
+    fn from(fault: CertFault) -> FileFault {
+        FileFault::BadCert(fault)
     }
 }

@@ -1,6 +1,7 @@
 //! The files that commands read: what each is read as, and what is wrong with them.
 #![tactic(auto)]
 
+mod certificates;
 mod fault;
 mod input;
 mod inputs;
@@ -8,6 +9,7 @@ mod jobs;
 mod parts;
 mod scanning;
 
+pub use certificates::{Certificate, certificate_in, issuer_in};
 pub use fault::FileFault;
 pub use input::{InputFault, read_up_to};
 pub use inputs::{ledger_in, queries_in, store_in};
