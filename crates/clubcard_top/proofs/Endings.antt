@@ -44,6 +44,7 @@ refusal_unread name (faults.Chain why) eight = absurd (omega (arith, eight))
 refusal_unread name (faults.BadCrl place fault) eight = absurd (omega (arith, eight))
 refusal_unread name (faults.TooMany thing limit) eight = absurd (omega (arith, eight))
 refusal_unread name (faults.Seeds issuer stage) eight = absurd (omega (arith, eight))
+refusal_unread name (faults.BadCert fault) eight = absurd (omega (arith, eight))
 refusal_unread name faults.NoMemory eight = absurd (omega (arith, eight))
 
 -- ---- outputs of a reply

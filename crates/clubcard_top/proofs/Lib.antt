@@ -1,4 +1,5 @@
 pub mod Checked
+pub mod CertTruth
 pub mod Endings
 pub mod Files
 pub mod Made
@@ -8,6 +9,7 @@ pub mod Outputs
 pub mod Overs
 pub mod Prefixes
 pub mod Promised
+pub mod QueryCerts
 pub mod Rehearsal
 pub mod Rehearsed
 pub mod Replying

@@ -41,17 +41,22 @@ use Rattle.publication_core.specs.Publishing.{Published, Publishes}
 use Rattle.publication_core.specs.Truth.{truth}
 use Rattle.word_core.specs.declared.command.Command.{Command}
 use Rattle.word_core.specs.declared.command.Command.TheVariants as commands
-use Rattle.word_core.specs.CommandFields.{QueryFields, StartFields, InstallFields}
+use Rattle.word_core.specs.CommandFields.{QueryFields, QueryCertFields, StartFields, InstallFields}
 use Rattle.line_core.specs.Lines.{line, report_line, store_line}
+use Rattle.input_core.specs.declared.certificates.Certificate.{Certificate}
 use Rattle.input_core.specs.declared.fault.FileFault.{FileFault}
 use Rattle.input_core.specs.Faults.{of_job, of_ledger, of_store}
 use Rattle.input_core.specs.PartFile.{part_file}
 use Rattle.input_core.specs.Readings.{faulted, job_in, ledger_in, part_in, store_in}
+use Rattle.input_core.specs.Certificates.{certificate_in, issuer_in}
 use Rattle.clubcard_top.specs.ReplyFields.{Done, NamedFault}
-use Rattle.clubcard_top.specs.Commands.{◌>>=◌, named, input, only, verdict_word, query_done, query_makes, epoch_of, stored, begun_by, installed_by, start_makes}
+use Rattle.clubcard_top.specs.Commands.{◌>>=◌, named, input, only, verdict_word, query_done, query_makes, query_cert_makes, epoch_of, stored, begun_by, installed_by, start_makes}
 use Rattle.clubcard_top.specs.Commands.{install_makes, publication_done, published_as, MakesPart, MakesSnapshot, MakesDelta, Makes}
 use Rattle.clubcard_top.specs.Replies.{held_by}
 use Rattle.clubcard_top.specs.Headline.{HoldsJob, PublishesJob, publishes_to, IsPublished, StoresPart, stores_to, IsStored, AsksHistory, truth_done}
+use Rattle.clubcard_top.specs.Headline.{HoldsCert, HoldsKey, AsksCert, cert_truth_line}
+use Rattle.clubcard_top.proofs.CertTruth.{certificate_read, issuer_read, truth_of_covered}
+use Rattle.clubcard_top.proofs.Makings.{cert_last, cert_then, cert_after}
 use Rattle.clubcard_top.proofs.Results.{ok_same}
 use Rattle.clubcard_top.proofs.Unique.{Publishing}
 
@@ -130,6 +135,7 @@ module _ (layers : Layers) where
       → Makes asked (held_by asked files) o → Behind asked jobs parts job o
   behind commands.Usage files jobs parts job o is p m = absurd p
   behind (commands.Query q) files jobs parts job o is p m = absurd p
+  behind (commands.QueryCert q) files jobs parts job o is p m = absurd p
   behind (commands.Check n) files jobs parts job o is p m = absurd p
   behind (commands.Show n) files jobs parts job o is p m = absurd p
   behind (commands.Rehearse r) files jobs parts job o is p m = absurd p
@@ -251,6 +257,7 @@ module _ (layers : Layers) where
       → StoresPart asked files parts s → Makes asked (held_by asked files) o → (d : Done) × (o ≡ Ok d) × IsStored asked parts s d
   stored_law commands.Usage files jobs parts s o is p m = absurd p
   stored_law (commands.Query q) files jobs parts s o is p m = absurd p
+  stored_law (commands.QueryCert q) files jobs parts s o is p m = absurd p
   stored_law (commands.Check n) files jobs parts s o is p m = absurd p
   stored_law (commands.Show n) files jobs parts s o is p m = absurd p
   stored_law (commands.Rehearse r) files jobs parts s o is p m = absurd p
@@ -282,3 +289,30 @@ module _ (layers : Layers) where
       → Makes asked (held_by asked files) o → o ≡ Ok (truth_done jobs parts q)
   asked_law asked files q jobs parts o is p m =
       query_asked q files jobs parts o is p.1 p.2 p.3 p.4 (subst (λ (c : Command). Makes c (held_by c files) o) p.0 m)
+
+  -- ---- asking with a certificate
+
+  cert_input : (files : Files) (name serial : List ℕ) (ss : List Sighting) → HoldsCert files name serial ss
+      → input name certificate_in (get files name) ≡ Ok (record { serial = serial; scts = ss })
+  cert_input files name serial ss (bytes, held, is, has) = rw held (ap (named name) (certificate_read bytes serial ss is has))
+
+  issuer_input : (files : Files) (name hash : List ℕ) → HoldsKey files name hash → input name issuer_in (get files name) ≡ Ok hash
+  issuer_input files name hash (bytes, key, held, small, has, is) = rw held (ap (named name) (issuer_read bytes key hash small has is))
+
+  cert_asked : (files : Files) (q : QueryCertFields) (x : Identity) (ss : List Sighting) (jobs : List JobFields) (parts : List SealedFields) (o : Result Done NamedFault)
+      → IsHistory jobs parts → AsksCert (commands.QueryCert q) files q x ss jobs parts
+      → o ≡ query_cert_makes q (get files q.store) (get files q.cert) (get files q.issuer_cert) → o ≡ Ok (only (cert_truth_line jobs parts x))
+  cert_asked files q x ss jobs parts o is a m =
+      let cert : Certificate = record { serial = x.serial; scts = ss } in
+      m ∙ ap (λ (r : Result (List SealedFields) NamedFault). r >>= cert_after q (get files q.cert) (get files q.issuer_cert))
+      (store_input files q.store parts (layers.chain jobs parts is) (some_parts jobs parts is a.some_jobs) (layers.few jobs parts is) (layers.texts jobs parts is) a.store)
+      ∙ ap (λ (r : Result Certificate NamedFault). r >>= cert_then q (get files q.issuer_cert) parts) (cert_input files q.cert x.serial ss a.cert)
+      ∙ ap (λ (r : Result (List ℕ) NamedFault). r >>= cert_last parts cert) (issuer_input files q.issuer_cert x.issuer a.issuer)
+      ∙ ap (λ (v : Verdict). Ok (only (line (verdict_word v)))) (truth_of_covered layers.truths jobs parts x ss is a.one a.covered)
+
+  pub cert_law : (asked : Command) (files : Files) (q : QueryCertFields) (x : Identity) (ss : List Sighting) (jobs : List JobFields) (parts : List SealedFields)
+      (o : Result Done NamedFault) → IsHistory jobs parts → AsksCert asked files q x ss jobs parts
+      → Makes asked (held_by asked files) o → o ≡ Ok (only (cert_truth_line jobs parts x))
+  cert_law asked files q x ss jobs parts o is a m =
+      let b : AsksCert (commands.QueryCert q) files q x ss jobs parts = subst (λ (c : Command). AsksCert c files q x ss jobs parts) a.is a in
+      cert_asked files q x ss jobs parts o is b (subst (λ (c : Command). Makes c (held_by c files) o) a.is m)

@@ -28,6 +28,7 @@ use Rattle.ident_core.specs.declared.kind.Kind.{Kind}
 use Rattle.ident_core.specs.declared.kind.Kind.TheVariants as kinds
 use Rattle.universe_core.specs.declared.fault.AdmitFault.{AdmitFault}
 use Rattle.universe_core.specs.declared.fault.AdmitFault.TheVariants as admit
+use Rattle.sct_core.specs.declared.fault.CertFault.{CertFault}
 use Rattle.store_core.specs.declared.chain.Refusal.{Refusal}
 use Rattle.store_core.specs.declared.fault.StoreFault.{StoreFault}
 use Rattle.store_core.specs.declared.fault.StoreFault.TheVariants as of_store_faults
@@ -38,17 +39,19 @@ use Rattle.publication_core.specs.declared.fault.PublishFault.TheVariants as pub
 use Rattle.publication_core.specs.Publishing.{Published}
 use Rattle.word_core.specs.declared.command.Command.{Command}
 use Rattle.word_core.specs.declared.command.Command.TheVariants as commands
-use Rattle.word_core.specs.CommandFields.{SnapshotFields, DeltaFields, StartFields, InstallFields, RehearseFields}
+use Rattle.word_core.specs.CommandFields.{QueryCertFields, SnapshotFields, DeltaFields, StartFields, InstallFields, RehearseFields}
 use Rattle.word_core.specs.Names.{inputs_of, outputs_of}
+use Rattle.input_core.specs.declared.certificates.Certificate.{Certificate}
 use Rattle.input_core.specs.declared.fault.FileFault.{FileFault}
 use Rattle.input_core.specs.declared.fault.FileFault.TheVariants as faults
 use Rattle.input_core.specs.Faults.{of_queries, of_job, of_ledger, of_part, of_store}
 use Rattle.clubcard_top.specs.Faults.{of_admission, of_publishing}
 use Rattle.input_core.specs.PartFile.{part_file}
 use Rattle.input_core.specs.Readings.{faulted, queries_in, job_in, ledger_in, part_in, store_in}
+use Rattle.input_core.specs.Certificates.{certificate_of, issuer_of, certificate_in, issuer_in}
 use Rattle.clubcard_top.specs.ReplyFields.{Done, NamedFault}
 use Rattle.clubcard_top.specs.Statuses.{is_one_of}
-use Rattle.clubcard_top.specs.Commands.{◌>>=◌, named, input, begun_by, begun, installed_by, installed, stored, query_done, check_done, show_done}
+use Rattle.clubcard_top.specs.Commands.{◌>>=◌, named, input, begun_by, begun, installed_by, installed, stored, query_done, query_cert_done, check_done, show_done}
 use Rattle.clubcard_top.specs.Commands.{publication_done, published_as, MakesSnapshot, MakesDelta, rehearsed, IsRefused, MakesRehearsal, sample_done, Makes}
 use Rattle.clubcard_top.specs.Steps.{RehearsesOn}
 use Rattle.clubcard_top.specs.Replies.{refusal, reply_of}
@@ -67,11 +70,12 @@ refusal_quiet name (faults.Chain why) = refl
 refusal_quiet name (faults.BadCrl place fault) = refl
 refusal_quiet name (faults.TooMany thing limit) = refl
 refusal_quiet name (faults.Seeds issuer stage) = refl
+refusal_quiet name (faults.BadCert fault) = refl
 refusal_quiet name faults.NoMemory = refl
 
 -- the statuses of a command that isn't `Usage`
 abbrev pub of_commands : List ℕ
-of_commands = 0 ∷ 3 ∷ 4 ∷ 5 ∷ 6 ∷ 7 ∷ 8 ∷ 70 ∷ []
+of_commands = 0 ∷ 3 ∷ 4 ∷ 5 ∷ 6 ∷ 7 ∷ 8 ∷ 12 ∷ 70 ∷ []
 
 pub fault_status : (name : List ℕ) (fault : FileFault) → IsTrue (is_one_of of_commands (refusal name fault).status)
 fault_status name faults.Unread = refl
@@ -81,6 +85,7 @@ fault_status name (faults.Chain why) = refl
 fault_status name (faults.BadCrl place fault) = refl
 fault_status name (faults.TooMany thing limit) = refl
 fault_status name (faults.Seeds issuer stage) = refl
+fault_status name (faults.BadCert fault) = refl
 fault_status name faults.NoMemory = refl
 
 pub outcome_status : (o : Result Done NamedFault) → IsTrue (is_one_of of_commands (reply_of o).status)
@@ -152,10 +157,23 @@ install_then i parts x = named i.part (installed parts x.0) >>= (λ more. Ok (st
 abbrev pub install_after : InstallFields → Option (List ℕ) → List SealedFields → Result Done NamedFault
 install_after i p parts = input i.part part_in p >>= install_then i parts
 
+abbrev pub cert_last : List SealedFields → Certificate → List ℕ → Result Done NamedFault
+cert_last parts cert issuer = Ok (query_cert_done parts cert issuer)
+
+abbrev pub cert_then : QueryCertFields → Option (List ℕ) → List SealedFields → Certificate → Result Done NamedFault
+cert_then q i parts cert = input q.issuer_cert issuer_in i >>= cert_last parts cert
+
+abbrev pub cert_after : QueryCertFields → (cert issuer_cert : Option (List ℕ)) → List SealedFields → Result Done NamedFault
+cert_after q k i parts = input q.cert certificate_in k >>= cert_then q i parts
+
 -- The outputs of a command that is done are those that it names.
 pub done_names : (c : Command) (inputs : List (Option (List ℕ))) (d : Done) → Makes c inputs (Ok d) → names_of d.outputs ≡ outputs_of c
 done_names commands.Usage inputs d m = absurd m
 done_names (commands.Query q) (s ∷ []) d m = names_after [] (query_done q) (λ x. refl) (input q.store store_in s) d m
+done_names (commands.QueryCert q) (s ∷ k ∷ i ∷ []) d m =
+    let x = after_ok (input q.store store_in s) (cert_after q k i) d m in
+    let y = after_ok (input q.cert certificate_in k) (cert_then q i x.0) d x.2 in
+    names_after [] (query_cert_done x.0 y.0) (λ z. refl) (input q.issuer_cert issuer_in i) d y.2
 done_names (commands.Check name) (p ∷ []) d m = names_after [] check_done (λ x. refl) (input name part_in p) d m
 done_names (commands.Show name) (p ∷ []) d m = names_after [] show_done (λ x. refl) (input name part_in p) d m
 done_names (commands.Snapshot s) (j ∷ []) d m = snapshot_names s (input s.job job_in j) d m
@@ -173,6 +191,10 @@ done_names (commands.Rehearse r) [] d m = absurd m
 done_names (commands.Sample s) (a ∷ cs) d m = absurd m
 done_names (commands.Query q) [] d m = absurd m
 done_names (commands.Query q) (a ∷ b ∷ cs) d m = absurd m
+done_names (commands.QueryCert q) [] d m = absurd m
+done_names (commands.QueryCert q) (a ∷ []) d m = absurd m
+done_names (commands.QueryCert q) (a ∷ b ∷ []) d m = absurd m
+done_names (commands.QueryCert q) (a ∷ b ∷ e ∷ f ∷ cs) d m = absurd m
 done_names (commands.Check name) [] d m = absurd m
 done_names (commands.Check name) (a ∷ b ∷ cs) d m = absurd m
 done_names (commands.Show name) [] d m = absurd m
@@ -273,6 +295,15 @@ part_read bytes h = alone_read bytes (part bytes 0) h
 store_read : (bytes : List ℕ) → store_in bytes ≡ Err faults.Unread → ⊥
 store_read bytes h = faulted_read of_store (value_of (store bytes 0)) store_fault_read h
 
+cert_fault_read : (f : CertFault) → IsRead_fault (faults.BadCert f)
+cert_fault_read f = λ h. cc
+
+certificate_read : (bytes : List ℕ) → certificate_in bytes ≡ Err faults.Unread → ⊥
+certificate_read bytes h = faulted_read faults.BadCert (certificate_of bytes) cert_fault_read h
+
+issuer_read : (bytes : List ℕ) → issuer_in bytes ≡ Err faults.Unread → ⊥
+issuer_read bytes h = faulted_read faults.BadCert (issuer_of bytes) cert_fault_read h
+
 -- ---- which input it is
 
 named_err : {A : Type 0} (name : List ℕ) (r : Result A FileFault) (e : NamedFault) → named name r ≡ Err e → (r ≡ Err e.fault) × (name ≡ e.name)
@@ -349,6 +380,27 @@ module _ (told : Option Files) (failed : Option (List ℕ) → Type 0) (e : Name
   install_by i s p first second (inl h) = cause_of (i.store ∷ i.part ∷ []) i.store s (inl refl) first (input_unread i.store store_in s e store_read h u)
   install_by i s p first second (inr (parts, is, h)) = second_unread i s p parts second h
 
+  abbrev certs : QueryCertFields → List (List ℕ)
+  certs q = inputs_of (commands.QueryCert q)
+
+  issuer_unread : (q : QueryCertFields) (i : Option (List ℕ)) (parts : List SealedFields) (cert : Certificate) → IsRead told failed q.issuer_cert i → Err e ≡ cert_then q i parts cert
+      → Cause (certs q)
+  issuer_unread q i parts cert read h =
+      cause_of (certs q) q.issuer_cert i (inr (inr (inl refl))) read
+      (first_unread q.issuer_cert issuer_in i (cert_last parts cert) e issuer_read (λ x g. not_ok (query_cert_done parts cert x) e g)
+      (after_err (input q.issuer_cert issuer_in i) (cert_last parts cert) e h) u)
+
+  cert_unread : (q : QueryCertFields) (k i : Option (List ℕ)) (parts : List SealedFields) → IsRead told failed q.cert k → IsRead told failed q.issuer_cert i
+      → (input q.cert certificate_in k ≡ Err e) ⊎ ((cert : Certificate) × (input q.cert certificate_in k ≡ Ok cert) × (Err e ≡ cert_then q i parts cert)) → Cause (certs q)
+  cert_unread q k i parts second third (inl h) = cause_of (certs q) q.cert k (inr (inl refl)) second (input_unread q.cert certificate_in k e certificate_read h u)
+  cert_unread q k i parts second third (inr (cert, is, h)) = issuer_unread q i parts cert third h
+
+  query_cert_by : (q : QueryCertFields) (s k i : Option (List ℕ)) → IsRead told failed q.store s → IsRead told failed q.cert k → IsRead told failed q.issuer_cert i
+      → (input q.store store_in s ≡ Err e) ⊎ ((parts : List SealedFields) × (input q.store store_in s ≡ Ok parts) × (Err e ≡ cert_after q k i parts)) → Cause (certs q)
+  query_cert_by q s k i first second third (inl h) = cause_of (certs q) q.store s (inl refl) first (input_unread q.store store_in s e store_read h u)
+  query_cert_by q s k i first second third (inr (parts, is, h)) =
+      cert_unread q k i parts second third (after_err (input q.cert certificate_in k) (cert_then q i parts) e h)
+
   delta_by : (t : DeltaFields) (j l : Option (List ℕ)) → IsRead told failed t.job j → IsRead told failed t.ledger l → (input t.job job_in j ≡ Err e) ⊎ (input t.ledger ledger_in l ≡ Err e)
       → Cause (t.job ∷ t.ledger ∷ [])
   delta_by t j l first second (inl h) = cause_of (t.job ∷ t.ledger ∷ []) t.job j (inl refl) first (input_unread t.job job_in j e job_read h u)
@@ -385,6 +437,8 @@ module _ (told : Option Files) (failed : Option (List ℕ) → Type 0) (e : Name
       cause_of (q.store ∷ []) q.store s (inl refl) read.0
       (first_unread q.store store_in s (λ parts. Ok (query_done q parts)) e store_read (λ x h. not_ok (query_done q x) e h)
       (after_err (input q.store store_in s) (λ parts. Ok (query_done q parts)) e m) u)
+  unread_cause (commands.QueryCert q) (s ∷ k ∷ i ∷ []) read m =
+      query_cert_by q s k i read.0 read.1.0 read.1.1.0 (after_err (input q.store store_in s) (cert_after q k i) e m)
   unread_cause (commands.Check name) (p ∷ []) read m =
       cause_of (name ∷ []) name p (inl refl) read.0
       (first_unread name part_in p (λ x. Ok (check_done x)) e part_read (λ x h. not_ok (check_done x) e h) (after_err (input name part_in p) (λ x. Ok (check_done x)) e m) u)
@@ -404,6 +458,10 @@ module _ (told : Option Files) (failed : Option (List ℕ) → Type 0) (e : Name
   unread_cause (commands.Sample s) (a ∷ cs) read m = absurd m
   unread_cause (commands.Query q) [] read m = absurd m
   unread_cause (commands.Query q) (a ∷ b ∷ cs) read m = absurd m
+  unread_cause (commands.QueryCert q) [] read m = absurd m
+  unread_cause (commands.QueryCert q) (a ∷ []) read m = absurd m
+  unread_cause (commands.QueryCert q) (a ∷ b ∷ []) read m = absurd m
+  unread_cause (commands.QueryCert q) (a ∷ b ∷ c ∷ d ∷ cs) read m = absurd m
   unread_cause (commands.Check name) [] read m = absurd m
   unread_cause (commands.Check name) (a ∷ b ∷ cs) read m = absurd m
   unread_cause (commands.Show name) [] read m = absurd m

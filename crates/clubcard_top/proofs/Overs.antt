@@ -8,16 +8,18 @@ use Rattle.ledger_core.specs.LedgerFields.{LedgerFields}
 use Rattle.part_codec.specs.SealedFields.{SealedFields}
 use Rattle.word_core.specs.declared.command.Command.{Command}
 use Rattle.word_core.specs.declared.command.Command.TheVariants as commands
-use Rattle.word_core.specs.CommandFields.{DeltaFields, InstallFields, RehearseFields}
+use Rattle.word_core.specs.CommandFields.{QueryCertFields, DeltaFields, InstallFields, RehearseFields}
 use Rattle.word_core.specs.Names.{inputs_of}
+use Rattle.input_core.specs.declared.fault.FileFault.{FileFault}
 use Rattle.input_core.specs.declared.fault.FileFault.TheVariants as faults
 use Rattle.clubcard_top.specs.ReplyFields.{Done, NamedFault}
 use Rattle.input_core.specs.Readings.{queries_in, job_in, ledger_in, store_in}
+use Rattle.input_core.specs.Certificates.{certificate_in, issuer_in}
 use Rattle.input_core.specs.Inputs.{IsRead, AreRead}
-use Rattle.clubcard_top.specs.Commands.{◌>>=◌, input, query_makes, check_makes, show_makes, start_makes, install_makes, MakesDelta, IsRefused, MakesRehearsal, Makes}
+use Rattle.clubcard_top.specs.Commands.{◌>>=◌, input, query_makes, query_cert_makes, check_makes, show_makes, start_makes, install_makes, MakesDelta, IsRefused, MakesRehearsal, Makes}
 use Rattle.clubcard_top.specs.Steps.{RehearsesOn}
 use Rattle.clubcard_top.specs.Replies.{held_by}
-use Rattle.clubcard_top.proofs.Makings.{install_after}
+use Rattle.clubcard_top.proofs.Makings.{install_after, cert_last, cert_then, cert_after}
 use Rattle.clubcard_top.proofs.Prefixes.{first_of, from_first}
 
 pub some_is : (f g : Files) → ◌≡◌ {A = Option Files} (Some f) (Some g) → f ≡ g
@@ -75,6 +77,28 @@ install_over files failed i None p o seen first second m = absurd (seen (unread 
 install_over files failed i (Some b) None o seen first second m = rw first (install_other i (input i.store store_in (Some b)) (get files i.part) o seen m)
 install_over files failed i (Some b) (Some c) o seen first second m = rw (first, second) m
 
+-- an input, and what follows it
+after_same : {A : Type 0} (r : Result A NamedFault) (next other : A → Result Done NamedFault) (o : Result Done NamedFault) → ((x : A) → o ≡ next x → o ≡ other x)
+    → o ≡ (r >>= next) → o ≡ (r >>= other)
+after_same (Ok x) next other o then m = then x m
+after_same (Err e) next other o then m = m
+
+after_over : {A : Type 0} (files : Files) (failed : Option (List ℕ) → Type 0) (name : List ℕ) (read : List ℕ → Result A FileFault) (given : Option (List ℕ))
+    (next other : A → Result Done NamedFault) (o : Result Done NamedFault) → IsSeen o → IsRead (Some files) failed name given
+    → ((x : A) → o ≡ next x → o ≡ other x) → o ≡ (input name read given >>= next) → o ≡ (input name read (get files name) >>= other)
+after_over files failed name read None next other o seen is_read then m = absurd (seen (unread name) m refl)
+after_over files failed name read (Some b) next other o seen is_read then m = rw is_read (after_same (input name read (Some b)) next other o then m)
+
+query_cert_over : (files : Files) (failed : Option (List ℕ) → Type 0) (q : QueryCertFields) (s k i : Option (List ℕ)) (o : Result Done NamedFault) → IsSeen o
+    → IsRead (Some files) failed q.store s → IsRead (Some files) failed q.cert k → IsRead (Some files) failed q.issuer_cert i
+    → o ≡ query_cert_makes q s k i → o ≡ query_cert_makes q (get files q.store) (get files q.cert) (get files q.issuer_cert)
+query_cert_over files failed q s k i o seen first second third m =
+    let held_cert = get files q.cert in
+    let held_issuer = get files q.issuer_cert in
+    after_over files failed q.store store_in s (cert_after q k i) (cert_after q held_cert held_issuer) o seen first
+    (λ parts. after_over files failed q.cert certificate_in k (cert_then q i parts) (cert_then q held_issuer parts) o seen second
+    (λ cert. after_over files failed q.issuer_cert issuer_in i (cert_last parts cert) (cert_last parts cert) o seen third (λ x h. h))) m
+
 -- what is wrong with a job that isn't given is that it can't be read
 unread_job : (jobs : List JobFields) (parts : List SealedFields) (name : List ℕ) (e : NamedFault) → IsRefused jobs parts name None e → e.fault ≡ faults.Unread
 unread_job jobs parts name e (inl h) =
@@ -127,6 +151,7 @@ pub over_files : (files : Files) (failed : Option (List ℕ) → Type 0) (c : Co
     → Makes c (held_by c files) o
 over_files files failed commands.Usage inputs o seen read m = absurd m
 over_files files failed (commands.Query q) (s ∷ []) o seen read m = one_over files failed q.store (λ g. o ≡ query_makes q g) s (λ h. seen (unread q.store) h refl) read.0 m
+over_files files failed (commands.QueryCert q) (s ∷ k ∷ i ∷ []) o seen read m = query_cert_over files failed q s k i o seen read.0 read.1.0 read.1.1.0 m
 over_files files failed (commands.Check name) (p ∷ []) o seen read m = one_over files failed name (λ g. o ≡ check_makes name g) p (λ h. seen (unread name) h refl) read.0 m
 over_files files failed (commands.Show name) (p ∷ []) o seen read m = one_over files failed name (λ g. o ≡ show_makes name g) p (λ h. seen (unread name) h refl) read.0 m
 over_files files failed (commands.Snapshot s) (j ∷ []) o seen read m = one_over files failed s.job (λ g. Makes (commands.Snapshot s) (g ∷ []) o) j (λ h. seen (unread s.job) h refl) read.0 m
@@ -139,6 +164,10 @@ over_files files failed (commands.Rehearse r) [] o seen read m = absurd m
 over_files files failed (commands.Sample s) (a ∷ cs) o seen read m = absurd m
 over_files files failed (commands.Query q) [] o seen read m = absurd m
 over_files files failed (commands.Query q) (a ∷ b ∷ cs) o seen read m = absurd m
+over_files files failed (commands.QueryCert q) [] o seen read m = absurd m
+over_files files failed (commands.QueryCert q) (a ∷ []) o seen read m = absurd m
+over_files files failed (commands.QueryCert q) (a ∷ b ∷ []) o seen read m = absurd m
+over_files files failed (commands.QueryCert q) (a ∷ b ∷ k ∷ l ∷ cs) o seen read m = absurd m
 over_files files failed (commands.Check name) [] o seen read m = absurd m
 over_files files failed (commands.Check name) (a ∷ b ∷ cs) o seen read m = absurd m
 over_files files failed (commands.Show name) [] o seen read m = absurd m

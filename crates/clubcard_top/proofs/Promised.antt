@@ -4,6 +4,7 @@ use Rattle.std.specs.Prelude.{◌≢◌, IsTrue}
 use Rattle.outside_core.specs.Files.{Files, Rose}
 use Rattle.octets_core.specs.declared.fault.LayoutFault.{LayoutFault}
 use Rattle.crl_core.specs.declared.crl.CrlFault.{CrlFault}
+use Rattle.sct_core.specs.declared.fault.CertFault.{CertFault}
 use Rattle.job_core.specs.declared.bounds.What.{What}
 use Rattle.store_core.specs.declared.chain.Refusal.{Refusal}
 use Rattle.word_core.specs.declared.command.Command.{Command}
@@ -220,6 +221,13 @@ module _ (call : Call) where
       let r = refused_of files is (faults.Seeds x.0 x.1) x.2 in
       (r.0, x.0, x.1, r.1)
 
+  bad_cert : EndsOld call → call.status ≡ 12 → FilesAreTold call → (name : List ℕ) × (fault : CertFault)
+      × Refused call name (faults.BadCert fault)
+  bad_cert ends st (files, is) =
+      let x = tellings.cert call.asked (WhichFailedIn call) _ _ _ _ _ _ (Some files) (at files is ends) st in
+      let r = refused_of files is (faults.BadCert x.0) x.1 in
+      (r.0, x.0, r.1)
+
   usage_reply : call.asked ≡ commands.Usage → (reply : ReplyFields) → IsAnswer call reply → Gives call reply
       → Gives call usage
   usage_reply none reply (inputs, read, inl (asked, same), says) g = subst (λ (r : ReplyFields). Gives call r) same g
@@ -248,6 +256,7 @@ module _ (call : Call) where
     chain = chain ends;
     too_many = too_many ends;
     seeds = seeds ends;
+    bad_cert = bad_cert ends;
     bad_words = endings.usage_line _ _ (WhichFailedIn call) _ _ _ _ _ _ ends;
     no_command = no_command (ways ends);
     refused = refused unique (ways ends);

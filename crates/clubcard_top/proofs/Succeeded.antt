@@ -8,6 +8,8 @@ use Rattle.outside_core.specs.Files.{Files}
 use Rattle.outside_core.specs.Written.{followed_by}
 use Rattle.ident_core.specs.declared.kind.Kind.{Kind}
 use Rattle.ident_core.specs.declared.kind.Kind.TheVariants as kinds
+use Rattle.ident_core.specs.declared.identity.Identity.{Identity}
+use Rattle.ident_core.specs.declared.range.Sighting.{Sighting}
 use Rattle.query_core.specs.Queries.{Query}
 use Rattle.sample_core.specs.Sample.{sample_text}
 use Rattle.job_core.specs.JobFields.{JobFields}
@@ -24,14 +26,16 @@ use Rattle.publication_core.specs.Publishing.{Published as Publication, CanBePub
 use Rattle.publication_core.specs.Histories.{IsAdmissible, IsHistory, history, part_bytes, store_bytes, ledger_bytes}
 use Rattle.word_core.specs.declared.command.Command.{Command}
 use Rattle.word_core.specs.declared.command.Command.TheVariants as commands
-use Rattle.word_core.specs.CommandFields.{QueryFields, SnapshotFields, DeltaFields, StartFields, InstallFields, RehearseFields, SampleFields}
+use Rattle.word_core.specs.CommandFields.{QueryFields, QueryCertFields, SnapshotFields, DeltaFields, StartFields, InstallFields, RehearseFields, SampleFields}
 use Rattle.line_core.specs.Lines.{store_line}
+use Rattle.input_core.specs.declared.certificates.Certificate.{Certificate}
 use Rattle.input_core.specs.declared.fault.FileFault.{FileFault}
 use Rattle.input_core.specs.declared.fault.FileFault.TheVariants as faults
 use Rattle.clubcard_top.specs.Faults.{of_publishing}
 use Rattle.clubcard_top.specs.ReplyFields.{OutputFields, Done, NamedFault}
 use Rattle.input_core.specs.Readings.{job_in, ledger_in, part_in, store_in}
-use Rattle.clubcard_top.specs.Commands.{◌>>=◌, named, input, query_done, check_done, show_done, epoch_of, stored, begun_by, begun, installed_by, installed}
+use Rattle.input_core.specs.Certificates.{certificate_in, issuer_in}
+use Rattle.clubcard_top.specs.Commands.{◌>>=◌, named, input, only, query_done, query_cert_done, check_done, show_done, epoch_of, stored, begun_by, begun, installed_by, installed}
 use Rattle.clubcard_top.specs.Commands.{publication_done, published_as, MakesPart, MakesSnapshot, MakesDelta, sample_done, rehearsed, Makes}
 use Rattle.clubcard_top.specs.Replies.{held_by}
 use Rattle.clubcard_top.specs.Runs.{with_outputs}
@@ -41,9 +45,11 @@ use Rattle.clubcard_top.specs.Successes.{PublishesFile}
 use Rattle.clubcard_top.specs.Headline.{AsksHistory, IsPublished, IsRehearsed, IsStored, PublishesJob, RehearsesJobs}
 use Rattle.clubcard_top.specs.Headline.{StoresPart, publishes_to, stores_to, truth_line, truth_done, Published, Stored}
 use Rattle.clubcard_top.specs.Headline.{AsksToPublish, AsksToStore, AsksTruth, AsksToRehearse}
+use Rattle.clubcard_top.specs.Headline.{AsksCert, AsksCertTruth, cert_truth_line}
 use Rattle.clubcard_top.specs.Headline.{part_name, ledger_name, store_name}
 use Rattle.clubcard_top.specs.Promises.{Successes, Histories}
 use Rattle.clubcard_top.proofs.Files.{get-other}
+use Rattle.clubcard_top.proofs.Makings.{cert_last, cert_then, cert_after}
 use Rattle.clubcard_top.proofs.Results.{ok_same}
 use Rattle.clubcard_top.proofs.Promised.{EndsOld, answers, sure}
 use Rattle.clubcard_top.proofs.WordsApart.{IsApart}
@@ -209,6 +215,29 @@ module _ (call : Call) where
         reads did.files did.told q.store store_in s.0 s.1,
         prints c.d (query_done q s.0) (sym same) c.text,
         left did.files c.d (query_done q s.0) (sym same) c.files_are ∙ sym did.told,
+      )
+
+  query_cert : EndsOld call → (q : QueryCertFields) → (did : Did call (commands.QueryCert q)) → (parts : List SealedFields)
+      × (cert : Certificate) × (issuer : List ℕ) × Reads call q.store store_in parts
+      × Reads call q.cert certificate_in cert × Reads call q.issuer_cert issuer_in issuer
+      × Prints call (query_cert_done parts cert issuer).text × ChangesNoFile call
+  query_cert ends q did =
+      let c = came ends (commands.QueryCert q) did in
+      let k = get did.files q.cert in
+      let i = get did.files q.issuer_cert in
+      let one = step_ok (input q.store store_in (get did.files q.store)) (cert_after q k i) c.d c.makes in
+      let two = step_ok (input q.cert certificate_in k) (cert_then q i one.0) c.d (sym one.2) in
+      let three = step_ok (input q.issuer_cert issuer_in i) (cert_last one.0 two.0) c.d (sym two.2) in
+      let said = query_cert_done one.0 two.0 three.0 in
+      let same = ok_same {E = NamedFault} said c.d three.2 in (
+        one.0,
+        two.0,
+        three.0,
+        reads did.files did.told q.store store_in one.0 one.1,
+        reads did.files did.told q.cert certificate_in two.0 two.1,
+        reads did.files did.told q.issuer_cert issuer_in three.0 three.1,
+        prints c.d said (sym same) c.text,
+        left did.files c.d said (sym same) c.files_are ∙ sym did.told,
       )
 
   check : EndsOld call → (name : List ℕ) → (did : Did call (commands.Check name)) → (x : SealedFields × ℕ)
@@ -400,6 +429,26 @@ module _ (call : Call) where
         (makes_this t.job t.part t.new_ledger before job o made x (both_read t files job before o job_is ledger_is m)))
         quiet
 
+    -- three inputs that are read are asked
+    pub query_cert_complete : (q : QueryCertFields) (parts : List SealedFields) (cert : Certificate) (issuer : List ℕ)
+        → call.asked ≡ commands.QueryCert q → Reads call q.store store_in parts
+        → Reads call q.cert certificate_in cert → Reads call q.issuer_cert issuer_in issuer
+        → NoFault call → Succeeds call ⊎ WantedMemory call
+    query_cert_complete q parts cert issuer asked (bytes, (files, told, held), is) cert_reads issuer_reads quiet =
+        let k = get files q.cert in
+        let i = get files q.issuer_cert in
+        let store_is = read_in files told q.store store_in parts (bytes, (files, told, held), is) in
+        let cert_is = read_in files told q.cert certificate_in cert cert_reads in
+        let issuer_is = read_in files told q.issuer_cert issuer_in issuer issuer_reads in
+        let d = query_cert_done parts cert issuer in
+        sure_of (commands.QueryCert q) files d told asked
+        (λ none. cc)
+        (λ o m. sym
+        (ap (λ (r : Result (List SealedFields) NamedFault). r >>= cert_after q k i) store_is
+        ∙ ap (λ (r : Result Certificate NamedFault). r >>= cert_then q i parts) cert_is
+        ∙ ap (λ (r : Result (List ℕ) NamedFault). r >>= cert_last parts cert) issuer_is))
+        quiet
+
   -- ---- histories
 
   -- the laws of what comes of a command over files, as `histories_are_made` says them
@@ -417,6 +466,10 @@ module _ (call : Call) where
     pub asks : (files : Files) (q : QueryFields) (jobs : List JobFields) (parts : List SealedFields)
         (o : Result Done NamedFault) → IsHistory jobs parts → AsksHistory call.asked files q jobs parts
         → Makes call.asked (held_by call.asked files) o → o ≡ Ok (truth_done jobs parts q)
+    pub certifies : (files : Files) (q : QueryCertFields) (x : Identity) (ss : List Sighting) (jobs : List JobFields)
+        (parts : List SealedFields) (o : Result Done NamedFault) → IsHistory jobs parts
+        → AsksCert call.asked files q x ss jobs parts
+        → Makes call.asked (held_by call.asked files) o → o ≡ Ok (only (cert_truth_line jobs parts x))
     pub rehearses : (files : Files) (r : RehearseFields) (d : Done) → call.asked ≡ commands.Rehearse r
         → Makes call.asked (held_by call.asked files) (Ok d)
         → (queries : List Query) × (jobs : List JobFields) × (parts : List SealedFields)
@@ -437,6 +490,7 @@ module _ (call : Call) where
       two_held files t.part t.new_ledger x y call.files_after apart is
   both_held commands.Usage files jobs parts job x y p apart is = absurd p
   both_held (commands.Query q) files jobs parts job x y p apart is = absurd p
+  both_held (commands.QueryCert q) files jobs parts job x y p apart is = absurd p
   both_held (commands.Check n) files jobs parts job x y p apart is = absurd p
   both_held (commands.Show n) files jobs parts job x y p apart is = absurd p
   both_held (commands.Start t) files jobs parts job x y p apart is = absurd p
@@ -451,6 +505,7 @@ module _ (call : Call) where
   store_held (commands.Install i) files parts s x p is = one_held files i.new_store x call.files_after is
   store_held commands.Usage files parts s x p is = absurd p
   store_held (commands.Query q) files parts s x p is = absurd p
+  store_held (commands.QueryCert q) files parts s x p is = absurd p
   store_held (commands.Check n) files parts s x p is = absurd p
   store_held (commands.Show n) files parts s x p is = absurd p
   store_held (commands.Snapshot t) files parts s x p is = absurd p
@@ -523,6 +578,22 @@ module _ (call : Call) where
         sure call ends files told (λ none. let g : commands.Query q ≡ commands.Usage = sym p.0 ∙ none in cc)
         (λ o m. (truth_done jobs parts q, laws.asks files q jobs parts o h p m)) quiet
 
+    cert_truth : (q : QueryCertFields) (x : Identity) (ss : List Sighting) (jobs : List JobFields)
+        (parts : List SealedFields) → IsHistory jobs parts → AsksCertTruth call q x ss jobs parts → Succeeds call
+        → Prints call (cert_truth_line jobs parts x)
+    cert_truth q x ss jobs parts h (files, told, p) zero =
+        let a = answers call ends files told zero in
+        let said = only (cert_truth_line jobs parts x) in
+        prints a.done said
+        (ok_same {E = NamedFault} a.done said (laws.certifies files q x ss jobs parts (Ok a.done) h p a.makes)) a.written
+
+    cert_answered : (q : QueryCertFields) (x : Identity) (ss : List Sighting) (jobs : List JobFields)
+        (parts : List SealedFields) → IsHistory jobs parts → AsksCertTruth call q x ss jobs parts → NoFault call
+        → Succeeds call ⊎ WantedMemory call
+    cert_answered q x ss jobs parts h (files, told, p) quiet =
+        sure call ends files told (λ none. let g : commands.QueryCert q ≡ commands.Usage = sym p.is ∙ none in cc)
+        (λ o m. (only (cert_truth_line jobs parts x), laws.certifies files q x ss jobs parts o h p m)) quiet
+
     followed : (queries : List Query) (jobs : List JobFields) (parts : List SealedFields) → IsHistory jobs parts
         → AsksToRehearse call queries jobs → NoFault call → Succeeds call ⊎ WantedMemory call
     followed queries jobs parts h (files, told, p) quiet =
@@ -537,6 +608,8 @@ module _ (call : Call) where
       taken = taken;
       truth = truth_clause;
       answered = answered;
+      cert_truth = cert_truth;
+      cert_answered = cert_answered;
       followed = followed;
     }
 
@@ -558,6 +631,8 @@ module _ (call : Call) where
     pub successes : OneOutcome → Publishable → IsApart call.asked → Successes call
     successes one publishable apart = record {
       query = query ends;
+      query_cert = query_cert ends;
+      query_cert_complete = query_cert_complete one publishable ends;
       check = λ name did. let c = check ends name did in (c.0.0, c.0.1, c.1, c.2, c.3);
       show = λ name did. let c = show ends name did in (c.0.0, (c.0.1, c.1), c.2, c.3);
       snapshot = snapshot apart ends;

@@ -134,6 +134,7 @@ module _ (publishing : Publishing) where
   pub outcome_unique : (c : Command) (inputs : List (Option (List ℕ))) (a b : Result Done NamedFault) → Makes c inputs a → Makes c inputs b → a ≡ b
   outcome_unique commands.Usage inputs a b x y = absurd x
   outcome_unique (commands.Query q) (g ∷ []) a b x y = x ∙ sym y
+  outcome_unique (commands.QueryCert q) (g ∷ h ∷ k ∷ []) a b x y = x ∙ sym y
   outcome_unique (commands.Check name) (g ∷ []) a b x y = x ∙ sym y
   outcome_unique (commands.Show name) (g ∷ []) a b x y = x ∙ sym y
   outcome_unique (commands.Snapshot s) (g ∷ []) a b x y = snapshot_unique s (input s.job job_in g) a b x y
@@ -146,6 +147,10 @@ module _ (publishing : Publishing) where
   outcome_unique (commands.Sample s) (g ∷ cs) a b x y = absurd x
   outcome_unique (commands.Query q) [] a b x y = absurd x
   outcome_unique (commands.Query q) (g ∷ h ∷ cs) a b x y = absurd x
+  outcome_unique (commands.QueryCert q) [] a b x y = absurd x
+  outcome_unique (commands.QueryCert q) (g ∷ []) a b x y = absurd x
+  outcome_unique (commands.QueryCert q) (g ∷ h ∷ []) a b x y = absurd x
+  outcome_unique (commands.QueryCert q) (g ∷ h ∷ k ∷ l ∷ cs) a b x y = absurd x
   outcome_unique (commands.Check name) [] a b x y = absurd x
   outcome_unique (commands.Check name) (g ∷ h ∷ cs) a b x y = absurd x
   outcome_unique (commands.Show name) [] a b x y = absurd x

@@ -7,7 +7,7 @@ use Rattle.std.proofs.lemmas.Bool.{false≢true}
 use Rattle.word_core.specs.CommandFields.{SnapshotFields, DeltaFields}
 use Rattle.word_core.specs.declared.command.Command.{Command}
 use Rattle.word_core.specs.declared.command.Command.TheVariants as commands
-use Rattle.word_core.specs.Words.{◌>>=◌, is_name, name_of, workers_of, two_names_of, named_delta, is_among, are_apart, snapshot_of, delta_of, query_of}
+use Rattle.word_core.specs.Words.{◌>>=◌, is_name, name_of, workers_of, two_names_of, named_delta, is_among, are_apart, snapshot_of, delta_of, query_of, query_cert_of}
 use Rattle.word_core.specs.Words.{name_alone, start_of, install_of, rehearse_of, sample_of, asks, command_of}
 
 -- the names that two outputs go to differ
@@ -162,9 +162,13 @@ abbrev from_check : List ℕ → List (List ℕ) → Command
 from_check command words =
     if bytes_eq command (codes "check") then asks commands.Check (name_alone words) else from_show command words
 
+abbrev from_query_cert : List ℕ → List (List ℕ) → Command
+from_query_cert command words =
+    if bytes_eq command (codes "query-cert") then asks commands.QueryCert (query_cert_of words) else from_check command words
+
 abbrev from_query : List ℕ → List (List ℕ) → Command
 from_query command words =
-    if bytes_eq command (codes "query") then asks commands.Query (query_of words) else from_check command words
+    if bytes_eq command (codes "query") then asks commands.Query (query_of words) else from_query_cert command words
 
 sample_apart : (command : List ℕ) (words : List (List ℕ)) → IsApart (from_sample command words)
 sample_apart command words =
@@ -213,11 +217,17 @@ check_apart command words =
     (from_show command words) (asks_free IsApart commands.Check (name_alone words) (λ x. tt) tt)
     (show_apart command words)
 
+query_cert_apart : (command : List ℕ) (words : List (List ℕ)) → IsApart (from_query_cert command words)
+query_cert_apart command words =
+    if_keeps IsApart (bytes_eq command (codes "query-cert")) (asks commands.QueryCert (query_cert_of words))
+    (from_check command words) (asks_free IsApart commands.QueryCert (query_cert_of words) (λ x. tt) tt)
+    (check_apart command words)
+
 query_apart : (command : List ℕ) (words : List (List ℕ)) → IsApart (from_query command words)
 query_apart command words =
     if_keeps IsApart (bytes_eq command (codes "query")) (asks commands.Query (query_of words))
-    (from_check command words) (asks_free IsApart commands.Query (query_of words) (λ x. tt) tt)
-    (check_apart command words)
+    (from_query_cert command words) (asks_free IsApart commands.Query (query_of words) (λ x. tt) tt)
+    (query_cert_apart command words)
 
 pub words_apart : (words : List (List ℕ)) → IsApart (command_of words)
 words_apart [] = tt

@@ -1,6 +1,7 @@
 -- What each command makes of its inputs.
 use Rattle.std.specs.Prelude.{◌≡◌, ℕ, List, [], ◌∷◌, ◌++◌, ◌⊎◌, map, flat_map, length, take, slice_get}
 use Rattle.std.specs.Prelude.{Option, Some, None, Result, Ok, Err, codes}
+use Rattle.ident_core.specs.declared.identity.Identity.{Identity}
 use Rattle.ident_core.specs.declared.kind.Kind.{Kind}
 use Rattle.ident_core.specs.declared.kind.Kind.TheVariants as kinds
 use Rattle.part_codec.specs.SealedFields.{SealedFields}
@@ -27,14 +28,16 @@ use Rattle.publication_core.specs.Publishing.{Published, Publishes}
 use Rattle.publication_core.specs.Histories.{IsHistory, history}
 use Rattle.word_core.specs.declared.command.Command.{Command}
 use Rattle.word_core.specs.declared.command.Command.TheVariants as commands
-use Rattle.word_core.specs.CommandFields.{QueryFields, SnapshotFields, DeltaFields, StartFields, InstallFields}
-use Rattle.word_core.specs.CommandFields.{RehearseFields, SampleFields}
+use Rattle.word_core.specs.CommandFields.{QueryFields, QueryCertFields, SnapshotFields, DeltaFields, StartFields}
+use Rattle.word_core.specs.CommandFields.{InstallFields, RehearseFields, SampleFields}
 use Rattle.line_core.specs.Lines.{line, check_line, show_text, store_line, report_line, sample_line}
+use Rattle.input_core.specs.declared.certificates.Certificate.{Certificate}
 use Rattle.input_core.specs.declared.fault.FileFault.{FileFault}
 use Rattle.input_core.specs.declared.fault.FileFault.TheVariants as faults
 use Rattle.clubcard_top.specs.Faults.{of_publishing}
 use Rattle.clubcard_top.specs.ReplyFields.{Done, NamedFault}
 use Rattle.input_core.specs.Readings.{queries_in, job_in, ledger_in, part_in, store_in, input_as}
+use Rattle.input_core.specs.Certificates.{certificate_in, issuer_in}
 
 -- ---- steps
 
@@ -72,6 +75,22 @@ abbrev pub query_makes : QueryFields → Option (List ℕ) → Result Done Named
 query_makes q store = do
   parts ← input q.store store_in store
   Ok (query_done q parts)
+
+-- the certificate of this issuer key's hash
+abbrev pub issued_by : List ℕ → Certificate → Identity
+issued_by issuer cert = record { issuer = issuer; serial = cert.serial }
+
+-- the verdict of the store's parts on it
+abbrev pub query_cert_done : List SealedFields → Certificate → List ℕ → Done
+query_cert_done parts cert issuer =
+    only (line (verdict_word (verdict (map (λ s. s.part) parts) (issued_by issuer cert) cert.scts)))
+
+abbrev pub query_cert_makes : QueryCertFields → (store cert issuer_cert : Option (List ℕ)) → Result Done NamedFault
+query_cert_makes q store cert issuer_cert = do
+  parts ← input q.store store_in store
+  c ← input q.cert certificate_in cert
+  issuer ← input q.issuer_cert issuer_in issuer_cert
+  Ok (query_cert_done parts c issuer)
 
 -- the part's head in short, and how many bytes it has
 abbrev pub check_done : SealedFields × ℕ → Done
@@ -237,6 +256,7 @@ sample_done s = record {
 -- What comes of a command: what it writes, or what is wrong with which file. The inputs are in the order of reading.
 abbrev pub Makes : Command → List (Option (List ℕ)) → Result Done NamedFault → Type 0
 Makes (commands.Query q) (store ∷ []) o = o ≡ query_makes q store
+Makes (commands.QueryCert q) (store ∷ cert ∷ issuer_cert ∷ []) o = o ≡ query_cert_makes q store cert issuer_cert
 Makes (commands.Check name) (part ∷ []) o = o ≡ check_makes name part
 Makes (commands.Show name) (part ∷ []) o = o ≡ show_makes name part
 Makes (commands.Snapshot s) (job ∷ []) o = MakesSnapshot s (input s.job job_in job) o

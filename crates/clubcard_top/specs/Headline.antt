@@ -1,12 +1,18 @@
 -- What a call asks for, and what comes of it, where its files are those of a history of admitted jobs.
-use Rattle.std.specs.Prelude.{◌≡◌, ℕ, ◌≤◌, List, [], ◌∷◌, ◌++◌, length, Some, Ok}
+use Rattle.std.specs.Prelude.{◌≡◌, ℕ, ◌≤◌, List, [], ◌∷◌, ◌++◌, length, Some, Ok, IsTrue}
 use Rattle.std.specs.List.{AllZip}
 use Rattle.std.specs.FinMap.{get}
+use Rattle.sha2.specs.Sha256.{sha256}
+use Rattle.ident_core.specs.declared.identity.Identity.{Identity}
 use Rattle.ident_core.specs.declared.range.Sighting.{Sighting}
+use Rattle.ident_core.specs.Coverage.{covers}
 use Rattle.outside_core.specs.Files.{Files}
 use Rattle.query_core.specs.Queries.{Query}
 use Rattle.query_core.specs.QueryReading.{queries_in}
 use Rattle.part_codec.specs.SealedFields.{SealedFields}
+use Rattle.log_core.specs.CertificateGrammar.{IsCertificate, HasKey}
+use Rattle.sct_core.specs.declared.bounds.TheConstants.{MAX_CERTIFICATE}
+use Rattle.sct_core.specs.Grammar.{HasSightings}
 use Rattle.job_core.specs.declared.bounds.TheConstants.Limits as limits
 use Rattle.job_core.specs.JobFields.{JobFields}
 use Rattle.job_core.specs.JobFacts.{FitsFields}
@@ -19,7 +25,7 @@ use Rattle.publication_core.specs.Histories.{IsAdmissible, IsHistory, history, p
 use Rattle.publication_core.specs.Truth.{truth}
 use Rattle.word_core.specs.declared.command.Command.{Command}
 use Rattle.word_core.specs.declared.command.Command.TheVariants as commands
-use Rattle.word_core.specs.CommandFields.{QueryFields}
+use Rattle.word_core.specs.CommandFields.{QueryFields, QueryCertFields}
 use Rattle.line_core.specs.Lines.{line, report_line, store_line}
 use Rattle.clubcard_top.specs.ReplyFields.{OutputFields, Done}
 use Rattle.clubcard_top.specs.Commands.{verdict_word, only, report_behind, verdict_line}
@@ -149,6 +155,43 @@ truth_line jobs parts q = line (verdict_word (truth (history jobs parts) q.id))
 -- that line alone
 abbrev pub truth_done : List JobFields → List SealedFields → QueryFields → Done
 truth_done jobs parts q = only (truth_line jobs parts q)
+
+-- ---- asking with a certificate
+
+-- the file of this name holds a certificate of this serial, whose timestamps of version 1 say these sightings
+abbrev pub HoldsCert : Files → List ℕ → List ℕ → List Sighting → Type 0
+HoldsCert files name serial ss =
+    (bytes : List ℕ) × (get files name ≡ Some bytes) × IsCertificate serial bytes × HasSightings ss bytes
+
+-- the file of this name holds a certificate of at most MAX_CERTIFICATE bytes, whose key has this hash
+abbrev pub HoldsKey : Files → List ℕ → List ℕ → Type 0
+HoldsKey files name hash =
+    (bytes : List ℕ) × (key : List ℕ) × (get files name ≡ Some bytes) × (length bytes ≤ MAX_CERTIFICATE)
+    × HasKey key bytes × (hash ≡ sha256 key)
+
+-- The command asks the store of a history about a certificate with these sightings, by its file and by its issuer's.
+-- One of the sightings is of its accepted entries, and so is each that some job covers.
+pub record AsksCert
+    (asked : Command) (files : Files) (q : QueryCertFields) (x : Identity) (ss : List Sighting)
+    (jobs : List JobFields) (parts : List SealedFields)
+    : Type 0 where
+  pub is : asked ≡ commands.QueryCert q
+  pub some_jobs : 1 ≤ length jobs
+  pub store : get files q.store ≡ Some (store_bytes parts)
+  pub cert : HoldsCert files q.cert x.serial ss
+  pub issuer : HoldsKey files q.issuer_cert x.issuer
+  pub one : (s : Sighting) × Among ss s × Among (sightings x (seen (history jobs parts))) s
+  pub covered : (s : Sighting) (job : JobFields) → Among ss s → Among jobs job → IsTrue (covers job.ranges s)
+      → Among (sightings x (seen (history jobs parts))) s
+
+-- the call asks the store of this history so
+abbrev pub AsksCertTruth : Call → QueryCertFields → Identity → List Sighting
+    → List JobFields → List SealedFields → Type 0
+AsksCertTruth call q x ss jobs parts = Found call (λ files. AsksCert call.asked files q x ss jobs parts)
+
+-- the line of what the history tells of the certificate, which is the truth
+abbrev pub cert_truth_line : List JobFields → List SealedFields → Identity → List ℕ
+cert_truth_line jobs parts x = line (verdict_word (truth (history jobs parts) x))
 
 -- ---- rehearsing
 

@@ -1,8 +1,11 @@
 -- What the program promises of a call: the contract of `run`.
 use Rattle.std.specs.Prelude.{◌≡◌, ◌≢◌, ℕ, ◌≤◌, ◌⊎◌, List, [], ◌∷◌, ◌++◌, map, length, None, Err, IsTrue}
 use Rattle.octets_core.specs.declared.fault.LayoutFault.{LayoutFault}
+use Rattle.ident_core.specs.declared.identity.Identity.{Identity}
 use Rattle.ident_core.specs.declared.kind.Kind.TheVariants as kinds
+use Rattle.ident_core.specs.declared.range.Sighting.{Sighting}
 use Rattle.crl_core.specs.declared.crl.CrlFault.{CrlFault}
+use Rattle.sct_core.specs.declared.fault.CertFault.{CertFault}
 use Rattle.query_core.specs.Queries.{Query}
 use Rattle.part_codec.specs.SealedFields.{SealedFields}
 use Rattle.job_core.specs.declared.bounds.What.{What}
@@ -17,15 +20,17 @@ use Rattle.store_core.specs.Verdict.{verdict}
 use Rattle.publication_core.specs.Histories.{IsAdmissible, IsHistory, history}
 use Rattle.publication_core.specs.Publishing.{CanBePublished}
 use Rattle.word_core.specs.declared.command.Command.TheVariants as commands
-use Rattle.word_core.specs.CommandFields.{QueryFields, SnapshotFields, DeltaFields, StartFields, InstallFields}
-use Rattle.word_core.specs.CommandFields.{RehearseFields, SampleFields}
+use Rattle.word_core.specs.CommandFields.{QueryFields, QueryCertFields, SnapshotFields, DeltaFields, StartFields}
+use Rattle.word_core.specs.CommandFields.{InstallFields, RehearseFields, SampleFields}
 use Rattle.word_core.specs.Names.{inputs_of, outputs_of}
 use Rattle.line_core.specs.Lines.{line, check_line, show_text, sample_line}
+use Rattle.input_core.specs.declared.certificates.Certificate.{Certificate}
 use Rattle.input_core.specs.declared.fault.FileFault.TheVariants as faults
 use Rattle.clubcard_top.specs.ReplyFields.{ReplyFields, NamedFault}
 use Rattle.clubcard_top.specs.Statuses as status
 use Rattle.input_core.specs.Readings.{job_in, ledger_in, part_in, store_in}
-use Rattle.clubcard_top.specs.Commands.{verdict_word, rehearsed}
+use Rattle.input_core.specs.Certificates.{certificate_in, issuer_in}
+use Rattle.clubcard_top.specs.Commands.{verdict_word, issued_by, rehearsed}
 use Rattle.clubcard_top.specs.Replies.{usage, read_fault, refusal}
 use Rattle.clubcard_top.specs.Runs.{KeepsAllBut}
 use Rattle.clubcard_top.specs.Calls.{Call, FilesAreTold, Reads, Holds, Writes, ChangesNoFile, Prints, NoFault}
@@ -33,7 +38,8 @@ use Rattle.clubcard_top.specs.Calls.{NoReadFailed, CouldNotRead}
 use Rattle.clubcard_top.specs.Endings.{Succeeds, Did, GivesTheReply, WantedMemory, SinkFailed, Torn, IsAnswer, Ends}
 use Rattle.clubcard_top.specs.Endings.{MustSucceed, MustGive}
 use Rattle.clubcard_top.specs.Successes.{ReadsPart, PublishesFile, NewStore}
-use Rattle.clubcard_top.specs.Headline.{AsksToPublish, AsksToStore, AsksTruth, AsksToRehearse, truth_line}
+use Rattle.clubcard_top.specs.Headline.{AsksToPublish, AsksToStore, AsksTruth, AsksCertTruth, AsksToRehearse}
+use Rattle.clubcard_top.specs.Headline.{truth_line, cert_truth_line}
 use Rattle.clubcard_top.specs.Headline.{Published, Stored, IsRehearsed}
 use Rattle.clubcard_top.specs.Refusals.{Comes, Refused}
 
@@ -44,6 +50,17 @@ pub record Successes (call : Call) : Type 0 where
   pub query : (q : QueryFields) → Did call (commands.Query q)
       → (parts : List SealedFields) × Reads call q.store store_in parts
       × Prints call (line (verdict_word (verdict (map (λ s. s.part) parts) q.id q.sightings))) × ChangesNoFile call
+  -- what the parts of STORE say of the certificate of CERT, with the sightings of its timestamps, under the key of
+  -- ISSUERCERT; and where all three are read, the call must succeed
+  pub query_cert : (q : QueryCertFields) → Did call (commands.QueryCert q)
+      → (parts : List SealedFields) × (cert : Certificate) × (issuer : List ℕ)
+      × Reads call q.store store_in parts × Reads call q.cert certificate_in cert
+      × Reads call q.issuer_cert issuer_in issuer
+      × Prints call (line (verdict_word (verdict (map (λ s. s.part) parts) (issued_by issuer cert) cert.scts)))
+      × ChangesNoFile call
+  pub query_cert_complete : (q : QueryCertFields) (parts : List SealedFields) (cert : Certificate) (issuer : List ℕ)
+      → call.asked ≡ commands.QueryCert q → Reads call q.store store_in parts → Reads call q.cert certificate_in cert
+      → Reads call q.issuer_cert issuer_in issuer → MustSucceed call
   -- PART is one part: its head in short, and how many bytes it has
   pub check : (part : List ℕ) → Did call (commands.Check part)
       → (s : SealedFields) × (size : ℕ) × Reads call part part_in (s, size)
@@ -97,6 +114,13 @@ pub record Histories (call : Call) : Type 0 where
       → AsksTruth call q jobs parts → Succeeds call → Prints call (truth_line jobs parts q)
   pub answered : (q : QueryFields) (jobs : List JobFields) (parts : List SealedFields) → IsHistory jobs parts
       → AsksTruth call q jobs parts → MustSucceed call
+  -- `query-cert`
+  pub cert_truth : (q : QueryCertFields) (x : Identity) (ss : List Sighting)
+      (jobs : List JobFields) (parts : List SealedFields) → IsHistory jobs parts
+      → AsksCertTruth call q x ss jobs parts → Succeeds call → Prints call (cert_truth_line jobs parts x)
+  pub cert_answered : (q : QueryCertFields) (x : Identity) (ss : List Sighting)
+      (jobs : List JobFields) (parts : List SealedFields) → IsHistory jobs parts
+      → AsksCertTruth call q x ss jobs parts → MustSucceed call
   -- `rehearse`
   pub followed : (queries : List Query) (jobs : List JobFields) (parts : List SealedFields) → IsHistory jobs parts
       → AsksToRehearse call queries jobs → MustSucceed call
@@ -116,6 +140,9 @@ pub record Refusals (call : Call) : Type 0 where
   -- an issuer of the job has no block
   pub seeds : call.status ≡ status.seeds → FilesAreTold call
       → (name : List ℕ) × (issuer : List ℕ) × (stage : ℕ) × Refused call name (faults.Seeds issuer stage)
+  -- CERT or ISSUERCERT
+  pub bad_cert : call.status ≡ status.bad_cert → FilesAreTold call
+      → (name : List ℕ) × (fault : CertFault) × Refused call name (faults.BadCert fault)
   -- what is wrong with a file, also that it can't be read, must be said
   pub refused : (e : NamedFault) → Comes call (Err e) → MustGive call (refusal e.name e.fault)
   -- words that are no command

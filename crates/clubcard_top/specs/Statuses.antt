@@ -38,6 +38,10 @@ read_fault = 8
 abbrev pub write_fault : ℕ
 write_fault = 9
 
+-- a certificate isn't read, or its timestamps aren't
+abbrev pub bad_cert : ℕ
+bad_cert = 12
+
 -- memory was wanted
 abbrev pub no_memory : ℕ
 no_memory = 70
@@ -47,7 +51,7 @@ is_one_of statuses n = list_any (λ m. nat_eq m n) statuses
 
 -- the statuses that a reply has: all but that of a failed write and that of want of memory
 abbrev pub of_replies : List ℕ
-of_replies = done ∷ usage ∷ bad_layout ∷ bad_crl ∷ chain ∷ too_many ∷ seeds ∷ read_fault ∷ []
+of_replies = done ∷ usage ∷ bad_layout ∷ bad_crl ∷ chain ∷ too_many ∷ seeds ∷ read_fault ∷ bad_cert ∷ []
 
 -- all statuses
 abbrev pub all : List ℕ

@@ -10,6 +10,7 @@ with_workers n (commands.Delta d) = commands.Delta (record d { workers = n })
 with_workers n (commands.Rehearse r) = commands.Rehearse (record r { workers = n })
 with_workers n commands.Usage = commands.Usage
 with_workers n (commands.Query q) = commands.Query q
+with_workers n (commands.QueryCert q) = commands.QueryCert q
 with_workers n (commands.Check name) = commands.Check name
 with_workers n (commands.Show name) = commands.Show name
 with_workers n (commands.Start t) = commands.Start t

@@ -12,7 +12,9 @@ ghost use Rattle.clubcard_top.specs.Runs.{IsReply};
 use crate::answer::Answer;
 use crate::reply::Reply;
 use ident_core::{Identity, Sighting};
-use input_core::{FileFault, ScanFault, part_in, scan_file, store_in};
+use input_core::{
+    Certificate, FileFault, ScanFault, certificate_in, issuer_in, part_in, scan_file, store_in,
+};
 use line_core::checked;
 use octets_core::{NoMemory, Steps};
 use outside_core::Depot;
@@ -21,7 +23,7 @@ use std::alloc::Global;
 use std::marker::Brand;
 use std::sync::ledger::{Blank, Ledger};
 use store_core::{Store, Verdict};
-use word_core::{FileName, Query};
+use word_core::{FileName, Query, QueryCert};
 
 /// The answer about what is wrong with the file of this name.
 pub(crate) fn refused(name: &str, fault: FileFault) -> Result<Answer<'_>, NoMemory>
@@ -75,6 +77,34 @@ pub fn answer_query<'a, D: Depot>(
             Ok(Answer::Reply(Reply::verdict(verdict)))
         }
         Err(fault) => refused(query.store(), fault),
+    }
+}
+
+/// The answer to a query of a certificate in a file.
+pub fn answer_query_cert<'a, D: Depot>(
+    alloc: Global,
+    query: &QueryCert<'a>,
+    depot: &mut D,
+) -> Result<Answer<'a>, NoMemory>
+    ensures reply { IfOk result (λ a. IsReply (Command.QueryCert query.now) (D.files depot.old)
+        (WhichFailed D.Depot depot.old depot.new) (reply_fields a)) }
+    ensures only_reads { OnlyReads D.Depot depot.old depot.new }
+{
+    let store = match store_in(alloc, depot, query.store()) {
+        Ok(store) => store,
+        Err(fault) => return refused(query.store(), fault),
+    };
+    let Certificate { serial, scts } = match certificate_in(alloc, depot, query.cert()) {
+        Ok(cert) => cert,
+        Err(fault) => return refused(query.cert(), fault),
+    };
+    match issuer_in(alloc, depot, query.issuer_cert()) {
+        Ok(issuer) => {
+            let id = Identity { issuer, serial };
+            let verdict = verdict_on(&store, &id, scts.sightings());
+            Ok(Answer::Reply(Reply::verdict(verdict)))
+        }
+        Err(fault) => refused(query.issuer_cert(), fault),
     }
 }
 

@@ -1,6 +1,8 @@
 //! What follows for every command and every history, with no call.
 
 ghost use Rattle.std.specs.Prelude.{◌≡◌, ◌↔◌, ℕ, List, [], ◌∷◌, ◌++◌, Option, Result, Ok};
+ghost use Rattle.ident_core.specs.declared.identity.Identity.{Identity};
+ghost use Rattle.ident_core.specs.declared.range.Sighting.{Sighting};
 ghost use Rattle.outside_core.specs.Files.{Files};
 ghost use Rattle.query_core.specs.Queries.{Query};
 ghost use Rattle.part_codec.specs.SealedFields.{SealedFields};
@@ -9,15 +11,15 @@ ghost use Rattle.ledger_core.specs.LedgerFields.{LedgerFields};
 ghost use Rattle.publication_core.specs.Histories.{IsAdmissible, IsHistory, history};
 ghost use Rattle.publication_core.specs.Publishing.{CanBePublished, Published, Publishes};
 ghost use Rattle.word_core.specs.declared.command.Command.{Command};
-ghost use Rattle.word_core.specs.CommandFields.{QueryFields, RehearseFields};
+ghost use Rattle.word_core.specs.CommandFields.{QueryFields, QueryCertFields, RehearseFields};
 ghost use Rattle.word_core.specs.Names.{inputs_of, outputs_of};
 ghost use Rattle.clubcard_top.specs.ReplyFields.{Done, NamedFault, ReplyFields};
-ghost use Rattle.clubcard_top.specs.Commands.{Makes, Rehearses, rehearsed};
+ghost use Rattle.clubcard_top.specs.Commands.{Makes, Rehearses, only, rehearsed};
 ghost use Rattle.clubcard_top.specs.Workers.{with_workers};
 ghost use Rattle.clubcard_top.specs.Steps.{RehearsesOn};
 ghost use Rattle.clubcard_top.specs.Replies.{IsReplyTo, held_by};
 ghost use Rattle.clubcard_top.specs.Headline.{PublishesJob, IsPublished, StoresPart, IsStored, AsksHistory, truth_done};
-ghost use Rattle.clubcard_top.specs.Headline.{RehearsesJobs, IsRehearsed};
+ghost use Rattle.clubcard_top.specs.Headline.{AsksCert, cert_truth_line, RehearsesJobs, IsRehearsed};
 
 use publication_core::{
     histories_are_published, ledgers_are_read_back, parts_are_chains, publications_are_unique,
@@ -38,7 +40,8 @@ pub fn replies_are_unique()
 
 /// What comes of commands over the files of histories. A job that is published behind a history makes a history with
 /// it, whose part and ledger are written; each admissible job is published. A part of a history is added to the store
-/// of those before it. The store of a history, asked with accepted sightings, answers the truth. Jobs that are
+/// of those before it. The store of a history, asked with accepted sightings, answers the truth; and so it does where
+/// it is asked with a certificate, one of whose sightings is accepted, and each that a job covers. Jobs that are
 /// rehearsed are a history, and each history is rehearsed. Behind any ledger, what can be published is.
 pub fn histories_are_made()
     ensures published { (command : Command) (files : Files)
@@ -57,6 +60,10 @@ pub fn histories_are_made()
         (jobs : List JobFields) (parts : List SealedFields) (o : Result Done NamedFault)
         → IsHistory jobs parts → AsksHistory command files q jobs parts
         → Makes command (held_by command files) o → o ≡ Ok (truth_done jobs parts q) }
+    ensures certified { (command : Command) (files : Files) (q : QueryCertFields) (x : Identity) (ss : List Sighting)
+        (jobs : List JobFields) (parts : List SealedFields) (o : Result Done NamedFault)
+        → IsHistory jobs parts → AsksCert command files q x ss jobs parts
+        → Makes command (held_by command files) o → o ≡ Ok (only (cert_truth_line jobs parts x)) }
     ensures rehearsed { (command : Command) (files : Files) (r : RehearseFields) (d : Done)
         → command ≡ Command.Rehearse r → Makes command (held_by command files) (Ok d)
         → (queries : List Query) × (jobs : List JobFields) × (parts : List SealedFields)

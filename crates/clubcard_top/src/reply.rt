@@ -10,8 +10,8 @@ ghost use Rattle.clubcard_top.specs.Replies.{chain_text, done, read_fault, refus
 use crate::status::Status;
 use input_core::FileFault;
 use line_core::{
-    Line, Message, about_file, coverage_line, crl_line, epoch_line, layout_line, limit_line,
-    line_of, parent_line, seeds_line,
+    Line, Message, about_file, cert_line, coverage_line, crl_line, epoch_line, layout_line,
+    limit_line, line_of, parent_line, seeds_line,
 };
 use octets_core::{LayoutFault, NoMemory};
 use std::marker::Model;
@@ -135,6 +135,7 @@ impl<'a> Reply<'a> {
             FileFault::Seeds { issuer, stage } => {
                 Ok(Reply::alone(Status::SEEDS, seeds_line(&issuer, stage)))
             }
+            FileFault::BadCert(fault) => Ok(Reply::of(Status::BAD_CERT, cert_line(fault, name))),
             FileFault::NoMemory => Err(NoMemory),
         }
     }

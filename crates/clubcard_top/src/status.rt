@@ -21,6 +21,8 @@ impl Status {
     pub const READ_FAULT: Status = Status(8);
     /// A file can't be written, or the sink failed.
     pub const WRITE_FAULT: Status = Status(9);
+    /// A certificate isn't read, or its timestamps aren't.
+    pub const BAD_CERT: Status = Status(12);
     /// Memory was wanted.
     pub const NO_MEMORY: Status = Status(70);
 }

@@ -13,7 +13,7 @@ ghost use Rattle.clubcard_top.specs.Endings.{Ends};
 ghost use Rattle.clubcard_top.specs.Promises.{Ending, Frame, Histories, Outside, Refusals, Successes};
 
 use crate::answer::{Answer, send};
-use crate::commands::{answer_check, answer_query, answer_show};
+use crate::commands::{answer_check, answer_query, answer_query_cert, answer_show};
 use crate::laws::{histories_are_made, replies_are_unique};
 use crate::publishing::{answer_delta, answer_snapshot};
 use crate::rehearsing::answer_rehearse;
@@ -44,6 +44,7 @@ fn answer_for<'a, R: Threads + Sync, G: Gate + Sync, D: Depot>(
     match command {
         Command::Usage => Ok(Answer::Reply(Reply::usage())),
         Command::Query(asked) => answer_query(alloc, asked, depot),
+        Command::QueryCert(asked) => answer_query_cert(alloc, asked, depot),
         Command::Check(name) => Ok(answer_check(name, depot)),
         Command::Show(name) => answer_show(alloc, name, depot),
         Command::Snapshot(asked) => answer_snapshot(rt, alloc, gate, asked, depot),

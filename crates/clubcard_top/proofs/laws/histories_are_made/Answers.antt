@@ -1,4 +1,4 @@
-use Rattle.clubcard_top.proofs.Made.{Layers, published, admitted, stored_law, asked_law}
+use Rattle.clubcard_top.proofs.Made.{Layers, published, admitted, stored_law, asked_law, cert_law}
 use Rattle.clubcard_top.proofs.Rehearsed.{rehearsed_law, done_law}
 use Rattle.clubcard_top.proofs.laws.histories_are_made.Goals as goal
 
@@ -31,6 +31,7 @@ returns c =
       admitted = λ command files jobs parts job o is p a m. admitted layers command files jobs parts job o is p a m;
       stored = λ command files jobs parts s o is p m. stored_law layers command files jobs parts s o is p m;
       asked = λ command files q jobs parts o is p m. asked_law layers command files q jobs parts o is p m;
+      certified = λ command files q x ss jobs parts o is a m. cert_law layers command files q x ss jobs parts o is a m;
       rehearsed = λ command files r d is m. rehearsed_law layers files command r d is m;
       followed = λ command files queries jobs parts o is p m. done_law layers files command queries jobs parts o is p m;
       publishable = c.what_can_be_is_published.ensures;

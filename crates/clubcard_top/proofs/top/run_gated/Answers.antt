@@ -32,6 +32,7 @@ returns-clause-successes g c =
       admitted = c.histories_are_made.ensures.admitted _;
       stored = c.histories_are_made.ensures.stored _;
       asks = c.histories_are_made.ensures.asked _;
+      certifies = c.histories_are_made.ensures.certified _;
       rehearses = c.histories_are_made.ensures.rehearsed _;
       follows = c.histories_are_made.ensures.followed _;
     })
@@ -47,6 +48,7 @@ returns-clause-histories g c =
       admitted = c.histories_are_made.ensures.admitted _;
       stored = c.histories_are_made.ensures.stored _;
       asks = c.histories_are_made.ensures.asked _;
+      certifies = c.histories_are_made.ensures.certified _;
       rehearses = c.histories_are_made.ensures.rehearsed _;
       follows = c.histories_are_made.ensures.followed _;
     })
