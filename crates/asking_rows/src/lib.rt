@@ -1,8 +1,10 @@
-//! Worked examples of `query`, `check` and `show`, and of words that are no command.
+//! Worked examples of `query`, `query-cert`, `check` and `show`, and of words that are no command.
 #![tactic(auto)]
 
 #[cfg(test)]
 mod asking;
+#[cfg(test)]
+mod certificates;
 #[cfg(test)]
 mod scans;
 #[cfg(test)]
