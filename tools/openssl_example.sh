@@ -11,14 +11,16 @@
 #     clubcard start PART STORE
 #     clubcard query STORE ISSUER SERIAL LOG TIME      for each certificate (ISSUER and SERIAL by tools/identity.py)
 #
-# Then each authority issues one more certificate, the first one revokes its first certificate, all make new CRLs, and a
-# second job holds these and the new certificates:
+# Then each authority issues one more certificate, with the fate of its first one, the first authority revokes its first
+# certificate, all make new CRLs, and a second job holds these and the new certificates:
 #
 #     clubcard delta JOB LEDGER PART NEWLEDGER 1
 #     clubcard install STORE PART NEWSTORE
 #     clubcard query NEWSTORE ..                       for each certificate, old and new
+#     clubcard query-cert NEWSTORE CERT ISSUERCERT     for each new one, which carries its timestamp
 #
-# Last, the two jobs and the same queries (tools/pack_queries.py) go through one call, whose verdicts must be those:
+# The last is asked by tools/query_cert.sh. Then the two jobs and the same queries (tools/pack_queries.py) go through
+# one call, whose verdicts must be those:
 #
 #     clubcard rehearse QUERIES 1 JOB JOB
 #
@@ -74,10 +76,15 @@ keyUsage = critical, keyCertSign, cRLSign
 subjectKeyIdentifier = hash
 [leaf]
 basicConstraints = CA:false
+[seen_leaf]
+basicConstraints = CA:false
+1.3.6.1.4.1.11129.2.4.2 = $ENV::timestamps
 [crl]
 authorityKeyIdentifier = keyid
 CONFIG
 export OPENSSL_CONF="$work/openssl.cnf"
+# Only a certificate of seen_leaf reads it.
+export timestamps=
 
 # Runs openssl. What it says is shown only where it fails.
 quiet() {
@@ -92,10 +99,10 @@ request() {
     quiet req "$@" -newkey ec -pkeyopt ec_paramgen_curve:P-256 -nodes
 }
 
-# Issues a certificate, N.pem.
+# Issues a certificate, N.pem, with these extensions.
 issue() {
     request -new -keyout leaf.key -out leaf.csr -subj "/CN=$1.$name.example"
-    quiet ca -batch -notext -in leaf.csr -out "$1.pem"
+    quiet ca -batch -notext -extensions "$2" -in leaf.csr -out "$1.pem"
 }
 
 # Makes an authority in a folder of its name: ca.pem, crl.pem and a certificate for each further word. The first serial
@@ -112,17 +119,25 @@ make_authority() (
     n=0
     for fate in "$@"; do
         n=$((n + 1))
-        issue "$n"
+        issue "$n" leaf
         [ "$fate" = good ] || quiet ca -revoke "$n.pem"
     done
     quiet ca -gencrl -out crl.pem
 )
 
-# Issues one more certificate, which has the number, and makes a new CRL.
+# The extension of one timestamp of version 1 (RFC 6962, 3.3), which isn't signed: an OCTET STRING with a list of 49
+# bytes, which is one timestamp of 47.
+timestamps_of() {
+    printf 'DER:04330031002f00%s%016x000004030000' "$log" "$1"
+}
+
+# Issues one more certificate, which has the number, a timestamp of this time and this fate, and makes a new CRL.
 go_on() (
     name=$1
+    timestamps=$(timestamps_of "$3")
     cd "$name"
-    issue "$2"
+    issue "$2" seen_leaf
+    [ "$4" = good ] || quiet ca -revoke "$2.pem"
     quiet ca -gencrl -out crl.pem
 )
 
@@ -152,8 +167,14 @@ openssl_verdict() {
     fi
 }
 
-# Asks a store about the certificates that are listed, and compares.
+# Compares a verdict on a certificate with openssl's.
 differing=0
+agree() {
+    echo "$1: clubcard $2, openssl $3"
+    [ "$2" = "$3" ] || differing=$((differing + 1))
+}
+
+# Asks a store about the certificates that are listed, and compares.
 compare() {
     : >queries.txt
     : >verdicts.txt
@@ -163,9 +184,7 @@ compare() {
         verdict=$("$top/clubcard" query "$1" $identity "$log" "$time") || true
         echo "$identity $log $time" >>queries.txt
         echo "$verdict" >>verdicts.txt
-        wanted=$(openssl_verdict "$name" "$n")
-        echo "$name $n: clubcard $verdict, openssl $wanted"
-        [ "$verdict" = "$wanted" ] || differing=$((differing + 1))
+        agree "$name $n" "$verdict" "$(openssl_verdict "$name" "$n")"
     done <certificates.txt
 }
 
@@ -191,15 +210,20 @@ while read -r name fates; do
     # shellcheck disable=SC2086 # a word for each certificate
     set -- $fates
     n=$(($# + 1))
-    go_on "$name" "$n"
     time=$((time + 1))
+    go_on "$name" "$n" "$time" "$1"
     echo "$name $n $time" >>certificates.txt
+    echo "$name $n" >>carriers.txt
     echo "--certificate $name/$n.pem $name/ca.pem $log $time" >>second
 done <authorities.txt
 python3 "$top/tools/pack_job.py" --epoch 2 --moment "$moment" --range "$log" "$moment" "$((moment + 2000))" @crls @second job2
 "$top/clubcard" delta job2 ledger1 part2 ledger2 1
 "$top/clubcard" install store1 part2 store2
 compare store2
+while read -r name n; do
+    verdict=$(sh "$top/tools/query_cert.sh" "$name/$n.pem" "$name/ca.pem" store2) || true
+    agree "$name $n, by its file" "$verdict" "$(openssl_verdict "$name" "$n")"
+done <carriers.txt
 
 python3 "$top/tools/pack_queries.py" queries <queries.txt
 "$top/clubcard" rehearse queries 1 job1 job2 >rehearsed
