@@ -1,5 +1,6 @@
 -- Parts that are read from a feed.
-use Rattle.std.proofs.Common.{◌≡◌, ◌≢◌, ℕ, zero, suc, ◌+◌, ◌≤◌, ◌<◌, ◌^◌, ◌-◌, List, [], ◌++◌, length, take, drop, Bool, true, false, nat_lt, Option, Some, None, Result, Ok, Err, refl, sym, ap, subst, ◌∙◌, arith, inl, inr, length-append, append_assoc}
+use Rattle.std.proofs.Common.{◌≡◌, ◌≢◌, ℕ, zero, suc, ◌+◌, ◌≤◌, ◌<◌, ◌^◌, ◌-◌, List, [], ◌++◌, length, take, drop, Bool, true}
+use Rattle.std.proofs.Common.{false, nat_lt, Option, Some, None, Result, Ok, Err, refl, sym, ap, subst, ◌∙◌, arith, inl, inr, length-append, append_assoc}
 use Rattle.std.specs.Prelude.{◌⊎◌, IfOk, IfErr}
 use Rattle.std.proofs.lemmas.Bool.Decides.{nat_tests}
 use Rattle.std.proofs.lemmas.List.{append-nil, take-append-drop, length-take, length-drop, nil_from_length}
@@ -63,7 +64,8 @@ going-more told name before w old new at n to g offers le is more =
 -- ---- what came of a part
 
 -- the reader has no fault where it answers a part
-no-fault : (f : Option PartFault) (reader : PartReader) (s : SealedFields × Bool) → reader.fault ≡ f → ((e : PartFault) → reader.fault ≡ Some e → ◌≡◌ {A = Result (SealedFields × Bool) FileFault} (Ok s) (Err (of_part e)))
+no-fault : (f : Option PartFault) (reader : PartReader) (s : SealedFields × Bool) → reader.fault ≡ f
+    → ((e : PartFault) → reader.fault ≡ Some e → ◌≡◌ {A = Result (SealedFields × Bool) FileFault} (Ok s) (Err (of_part e)))
     → reader.fault ≡ None
 no-fault None reader s is again = is
 no-fault (Some e) reader s is again = absurd (let h : ◌≡◌ {A = Result (SealedFields × Bool) FileFault} (Ok s) (Err (of_part e)) = again e is in cc)

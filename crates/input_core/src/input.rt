@@ -88,9 +88,9 @@ fn read_on<D: Depot>(
     }
 }
 
-/// Takes the bytes of a file: all of them, or as many as the limit and one more, which show that there are more than the
-/// limit. No byte behind these is asked for. The length of a file isn't known before its end, so room is taken as the
-/// bytes come.
+/// Takes the bytes of a file: all of them, or as many as the limit and one more, which show that there are more than
+/// the limit. No byte behind these is asked for. The length of a file isn't known before its end, so room is taken as
+/// the bytes come.
 pub fn read_up_to<D: Depot>(
     alloc: Global,
     depot: &mut D,

@@ -2,7 +2,8 @@
 
 ghost use Rattle.std.specs.Prelude.{◌≡◌, ◌≤◌, ℕ, List, ◌∷◌, IfOk, IsOk, map, string_bytes};
 ghost use Rattle.ident_core.specs.declared.bounds.TheConstants.{MAX_WORKERS};
-ghost use Rattle.word_core.specs.Words.{command_of, query_of, query_cert_of, name_alone, snapshot_of, named_delta, delta_of, start_of, install_of, rehearse_of, sample_of};
+ghost use Rattle.word_core.specs.Words.{command_of, query_of, query_cert_of, name_alone, snapshot_of};
+ghost use Rattle.word_core.specs.Words.{named_delta, delta_of, start_of, install_of, rehearse_of, sample_of};
 
 use crate::command::{Command, FileName, Query, QueryCert};
 use crate::publishing::{Delta, Snapshot};

@@ -22,12 +22,14 @@ pub returns-in_err-read_queries-clause-input : goal.returns-in_err-read_queries-
 returns-in_err-read_queries-clause-input g c =
     let p = err_from_is_err_and c.from_residual-in_err-read_queries.result c.from_residual-in_err-read_queries.ensures.1 in
     rw (p.1, p.2)
-    (input_front (g.D.Depot.files c.args.depot.now) (WhichFailed g.D.Depot c.args.depot.now _) c.args.name.now c.in_ok-bytes.bytes.items (LONGEST_QUERIES + 1) queries_in (λ (v : Vec Asked Global). map as_query v.items)
+    (input_front (g.D.Depot.files c.args.depot.now) (WhichFailed g.D.Depot c.args.depot.now _) c.args.name.now c.in_ok-bytes.bytes.items (LONGEST_QUERIES + 1)
+    queries_in (λ (v : Vec Asked Global). map as_query v.items)
     (Err (of_queries c.in_err-read_queries.field-0.0)) c.in_ok-bytes.bytes (λ file. ap (faulted of_queries) (queries-same file)) c.in_ok-bytes.ensures.bytes c.in_ok-bytes.ensures.unblamed
     (faulted_err of_queries faults.NoMemory c.in_err-read_queries.field-0.0 (λ (v : Vec Asked Global). map as_query v.items) _ refl (rw c.deref.ensures.value at c.in_err-read_queries.ensures.exact)))
 
 pub returns-clause-input : goal.returns-clause-input
 returns-clause-input g c =
-    input_front (g.D.Depot.files c.args.depot.now) (WhichFailed g.D.Depot c.args.depot.now _) c.args.name.now c.in_ok-bytes.bytes.items (LONGEST_QUERIES + 1) queries_in (λ (v : Vec Asked Global). map as_query v.items)
+    input_front (g.D.Depot.files c.args.depot.now) (WhichFailed g.D.Depot c.args.depot.now _) c.args.name.now c.in_ok-bytes.bytes.items (LONGEST_QUERIES + 1)
+    queries_in (λ (v : Vec Asked Global). map as_query v.items)
     (Ok c.in_ok-read_queries.field-0) c.in_ok-bytes.bytes (λ file. ap (faulted of_queries) (queries-same file)) c.in_ok-bytes.ensures.bytes c.in_ok-bytes.ensures.unblamed
     (faulted_ok of_queries (λ (v : Vec Asked Global). map as_query v.items) c.in_ok-read_queries.field-0 _ (rw c.deref.ensures.value at c.in_ok-read_queries.ensures.exact))

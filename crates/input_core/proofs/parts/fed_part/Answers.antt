@@ -26,7 +26,8 @@ returns-in_err-test_end-clause-input g c =
     (part_goes_on told (WhichFailed g.D.Depot (depot_of c.args.feed.now) (depot_of c.next_part.new.feed)) (WhichFailed g.D.Depot (depot_of c.next_part.new.feed) (depot_of c.test_end.new.feed))
     (WhichFailed g.D.Depot (depot_of c.args.feed.now) (depot_of c.test_end.new.feed)) name c.in_ok-sealed.sealed c.in_ok-sealed.ended (place_of c.next_part.new.feed)
     c.in_err-test_end.field-0.0 (λ x. x) (failed_later g.D.Depot (depot_of c.args.feed.now) (depot_of c.next_part.new.feed) (depot_of c.test_end.new.feed) e.only_reads part.0) part
-    (end_before told (g.D.Depot.files (depot_of c.next_part.new.feed)) (WhichFailed g.D.Depot (depot_of c.next_part.new.feed) (depot_of c.test_end.new.feed)) name (name_of c.next_part.new.feed) (place_of c.next_part.new.feed)
+    (end_before told (g.D.Depot.files (depot_of c.next_part.new.feed)) (WhichFailed g.D.Depot (depot_of c.next_part.new.feed) (depot_of c.test_end.new.feed))
+    name (name_of c.next_part.new.feed) (place_of c.next_part.new.feed)
     (Err c.in_err-test_end.field-0.0) e.only_reads.same_files e.name c.in_err-test_end.ensures.comes))
 
 pub returns-then-ended-clause-input : goal.returns-then-ended-clause-input
@@ -47,5 +48,6 @@ returns-clause-input g c =
     (WhichFailed g.D.Depot (depot_of c.args.feed.now) (depot_of c.test_end.new.feed)) name c.in_ok-sealed.sealed c.in_ok-sealed.ended (place_of c.next_part.new.feed) _ (λ x. x)
     (ap (λ (i : ℕ). (c.in_ok-sealed.sealed, i)) c.at-len.ensures)
     (failed_later g.D.Depot (depot_of c.args.feed.now) (depot_of c.next_part.new.feed) (depot_of c.test_end.new.feed) e.only_reads part.0) part
-    (end_before told (g.D.Depot.files (depot_of c.next_part.new.feed)) (WhichFailed g.D.Depot (depot_of c.next_part.new.feed) (depot_of c.test_end.new.feed)) name (name_of c.next_part.new.feed) (place_of c.next_part.new.feed)
+    (end_before told (g.D.Depot.files (depot_of c.next_part.new.feed)) (WhichFailed g.D.Depot (depot_of c.next_part.new.feed) (depot_of c.test_end.new.feed))
+    name (name_of c.next_part.new.feed) (place_of c.next_part.new.feed)
     (Ok tt) e.only_reads.same_files e.name c.in_ok-test_end.ensures.comes)

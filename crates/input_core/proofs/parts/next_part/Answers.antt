@@ -53,7 +53,8 @@ returns-in-Err-clause-comes g c = λ b taken.
     let offers : Offers told name (place_of c.pieces.feed) w =
     offers_there told _ name _ w _ _ inv.only_reads.same_files inv.name c.buffered-piece.ensures.value (c.in-Ok.ensures.ok inv.in_order) in
     rw c.into.ensures
-    (part-faulty told (WhichFailed g.D.Depot (depot_of c.args.feed.now) (depot_of c.refill.new.self)) name b w c.pieces.reader (place_of c.pieces.feed) (place_of c.refill.new.self) c.in-Err.fault (inv.going b taken) offers
+    (part-faulty told (WhichFailed g.D.Depot (depot_of c.args.feed.now) (depot_of c.refill.new.self)) name b w c.pieces.reader (place_of c.pieces.feed)
+    (place_of c.refill.new.self) c.in-Err.fault (inv.going b taken) offers
     (c.in-Ok.ensures.unblamed ∙ inv.unblamed) c.in-Err.ensures.err)
 
 pub returns-then-taken-len-clause-comes : goal.returns-then-taken-len-clause-comes
