@@ -3,4 +3,4 @@ mod FirstLaws
 mod ListLaws
 mod SerialLaws
 mod TimestampLaws
-mod SightingLaws
+pub mod SightingLaws
