@@ -1,7 +1,8 @@
-//! `check` over files that come a byte at a time, and over reads that fail behind a damaged field.
+//! Files that come a byte at a time, and `check` over reads that fail behind a damaged field.
 
 use clubcard_rows::calls::{bytes_of, put_with_byte, says};
-use clubcard_rows::files::{PART_LATE, PART_REVOKED};
+use clubcard_rows::files::{K1, LA, PART_LATE, PART_REVOKED, STORE_HEAD};
+use clubcard_rows::jobs::one_revoked;
 use clubcard_top::{Status, run};
 use outside_core::{Depot, Failed, MemoryDepot, MemorySink};
 use std::alloc::Global;
@@ -50,6 +51,31 @@ impl Depot for Bytewise {
     }
 }
 
+/// Whether the words end and say so over the file `S` of these bytes, which comes byte by byte.
+fn says_bytewise<R: Threads + Sync>(
+    rt: &R,
+    alloc: Global,
+    bytes: &[u8],
+    words: &[&str],
+    status: Status,
+    line: &str,
+) -> Result<bool, Fail> {
+    let mut files = MemoryDepot::new(alloc);
+    files.put("S", bytes)?;
+    let mut depot = Bytewise {
+        files,
+        read_faults: 0,
+        write_faults: 0,
+    };
+    let mut list = Vec::new(alloc);
+    for word in words {
+        list.push(String::from_str(alloc, word)?)?;
+    }
+    let mut out = MemorySink::new(alloc);
+    let ended = run(rt, alloc, &list, &mut depot, &mut out);
+    Ok(ended == status && out.bytes() == line.as_bytes())
+}
+
 /// Whether `check` of a file of these pieces that comes byte by byte ends and says so.
 fn checks_bytewise<R: Threads + Sync>(
     rt: &R,
@@ -58,19 +84,8 @@ fn checks_bytewise<R: Threads + Sync>(
     status: Status,
     line: &str,
 ) -> Result<bool, Fail> {
-    let mut files = MemoryDepot::new(alloc);
-    files.put("S", &bytes_of(alloc, pieces)?)?;
-    let mut depot = Bytewise {
-        files,
-        read_faults: 0,
-        write_faults: 0,
-    };
-    let mut words = Vec::new(alloc);
-    words.push(String::from_str(alloc, "check")?)?;
-    words.push(String::from_str(alloc, "S")?)?;
-    let mut out = MemorySink::new(alloc);
-    let ended = run(rt, alloc, &words, &mut depot, &mut out);
-    Ok(ended == status && out.bytes() == line.as_bytes())
+    let bytes = bytes_of(alloc, pieces)?;
+    says_bytewise(rt, alloc, &bytes, &["check", "S"], status, line)
 }
 
 #[test]
@@ -82,6 +97,23 @@ fn a_part_that_comes_byte_by_byte(rt: HostRuntime) -> Result<(), Fail> {
     assert!(rt; checks_bytewise(&rt, alloc, &[PART_REVOKED, "00"], Status::BAD_LAYOUT, line)?);
     let line = "layout 0 part.magic short S\n";
     assert!(rt; checks_bytewise(&rt, alloc, &[], Status::BAD_LAYOUT, line)?);
+    Ok(())
+}
+
+// A part with a byte behind it, a store, and a job, whose outputs can't be written.
+#[test]
+fn other_files_that_come_byte_by_byte(rt: HostRuntime) -> Result<(), Fail> {
+    let alloc = rt.alloc();
+    let part = bytes_of(alloc, &[PART_REVOKED, "00"])?;
+    let line = "layout 169 end value S\n";
+    assert!(rt; says_bytewise(&rt, alloc, &part, &["show", "S"], Status::BAD_LAYOUT, line)?);
+    let store = bytes_of(alloc, &[STORE_HEAD, PART_REVOKED])?;
+    let query: &[&str] = &["query", "S", K1, "05", LA, "1700000000000"];
+    assert!(rt; says_bytewise(&rt, alloc, &store, query, Status::DONE, "revoked\n")?);
+    let job = one_revoked(alloc)?;
+    let snapshot: &[&str] = &["snapshot", "S", "X", "Y", "1"];
+    let line = "write-fault X\n";
+    assert!(rt; says_bytewise(&rt, alloc, &job, snapshot, Status::WRITE_FAULT, line)?);
     Ok(())
 }
 
