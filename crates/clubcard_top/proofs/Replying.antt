@@ -27,7 +27,7 @@ use Rattle.input_core.specs.declared.fault.FileFault.TheVariants as faults
 use Rattle.clubcard_top.specs.Faults.{of_publishing}
 use Rattle.input_core.specs.Readings.{faulted, job_in, ledger_in, part_in, store_in, input_as}
 use Rattle.input_core.specs.Inputs.{WhichFailed, IsBlamed, IsRead, AreRead, IsInput}
-use Rattle.input_core.proofs.FilesRead.{later_read, failed_later, none_failed}
+use Rattle.input_core.proofs.FilesRead.{some_read, later_read, failed_later, none_failed, blamed_later}
 use Rattle.clubcard_top.specs.ReplyFields.{ReplyFields, Done, NamedFault}
 use Rattle.clubcard_top.specs.Commands.{◌>>=◌, named, input, query_done, show_done, begun, installed, stored, publication_done, MakesPart, MakesSnapshot, MakesDelta, Makes}
 use Rattle.clubcard_top.specs.Replies.{done, refusal, reply_of}

@@ -36,8 +36,8 @@ returns-in-Ok-issuer_in-clause-reply g c =
     (rw c.issuer_cert.ensures at c.in-Ok-issuer_in.ensures.input))
     (rw (c.verdict_on-verdict.ensures, c.sightings.ensures.value) at c.verdict.ensures)
 
-pub returns-in-Err-issuer_in-clause-reply : goal.returns-in-Err-issuer_in-clause-reply
-returns-in-Err-issuer_in-clause-reply g c =
+pub returns-clause-reply : goal.returns-clause-reply
+returns-clause-reply g c =
     let store = rw c.store.ensures at c.in-Ok.ensures.input in
     let none = none_before g.D.Depot c.args.depot.now _ c.args.query.now.store store_in (λ s. s) c.in-Ok.store store in
     let cert = input_behind g.D.Depot c.args.depot.now _ _ c.args.query.now.cert certificate_in (λ x. x) (Ok c.in-Ok-certificate_in.cert) c.in-Ok.ensures.only_reads none
