@@ -1,5 +1,6 @@
 //! What is wrong with the file of a job that isn't published.
 
+ghost use Rattle.std.specs.Prelude.{◌≡◌};
 ghost use Rattle.clubcard_top.specs.Faults.{of_admission, of_publishing};
 
 use input_core::FileFault;
