@@ -143,6 +143,7 @@ module _ (layers : Layers) (files : Files) where
       → Makes asked (held_by asked files) o → o ≡ Ok (rehearsed queries jobs parts)
   done_law commands.Usage queries jobs parts o is p m = absurd p
   done_law (commands.Query q) queries jobs parts o is p m = absurd p
+  done_law (commands.QueryCert q) queries jobs parts o is p m = absurd p
   done_law (commands.Check n) queries jobs parts o is p m = absurd p
   done_law (commands.Show n) queries jobs parts o is p m = absurd p
   done_law (commands.Snapshot s) queries jobs parts o is p m = absurd p
