@@ -101,7 +101,15 @@ fn gives_records_one_by_one(rt: HostRuntime) -> Result<(), Fail> {
     let mut feed = Feed::new(&mut depot, "job");
     let mut reader = JobReader::new(rt.alloc(), Limits::PUBLISHED);
     let first = next_record(&mut reader, &mut feed)?;
-    assert!(rt; matches!(first, Record::Begin { epoch: 7, moment: 1_700_000_000_000 }));
+    assert!(rt;
+        matches!(
+            first,
+            Record::Begin {
+                epoch: 7,
+                moment: 1_700_000_000_000
+            }
+        )
+    );
     for _ in 0..2 {
         let range = next_record(&mut reader, &mut feed)?;
         assert!(rt; matches!(range, Record::Range(_)));
@@ -111,7 +119,9 @@ fn gives_records_one_by_one(rt: HostRuntime) -> Result<(), Fail> {
         assert!(rt; matches!(&crl, Record::Crl(crl) if crl.bytes.len() == len));
     }
     let entry = next_record(&mut reader, &mut feed)?;
-    assert!(rt; matches!(&entry, Record::Entry(entry) if entry.leaf.len() == 1 && entry.extra.len() == 2));
+    assert!(rt;
+        matches!(&entry, Record::Entry(entry) if entry.leaf.len() == 1 && entry.extra.len() == 2)
+    );
     for _ in 0..2 {
         let end = next_record(&mut reader, &mut feed)?;
         assert!(rt; matches!(end, Record::End));
