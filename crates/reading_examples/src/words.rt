@@ -29,6 +29,7 @@ fn name_of(alloc: Global, words: &[&str]) -> Result<&'static str, NoMemory> {
     match read_words(alloc, &words)? {
         Command::Usage => Ok("usage"),
         Command::Query(_) => Ok("query"),
+        Command::QueryCert(_) => Ok("query-cert"),
         Command::Check(_) => Ok("check"),
         Command::Show(_) => Ok("show"),
         Command::Snapshot(_) => Ok("snapshot"),
