@@ -4,8 +4,6 @@
 #[cfg(test)]
 mod ders;
 #[cfg(test)]
-mod feeds;
-#[cfg(test)]
 mod jobs;
 #[cfg(test)]
 mod logs;
