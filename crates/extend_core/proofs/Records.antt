@@ -1,0 +1,76 @@
+-- Records are told apart by their texts.
+use Rattle.std.proofs.Common.{◌≡◌, ℕ, ◌+◌, ◌≤◌, List, [], ◌∷◌, ◌++◌, length, Some, Ok, refl, sym, ap, ◌∙◌, append_assoc, arith, length-append}
+use Rattle.std.specs.Prelude.{Option}
+use Rattle.std.proofs.lemmas.List.{append_cancel_left, append-nil}
+use Rattle.octets_core.proofs.Fields.{ok_is}
+use Rattle.job_core.specs.declared.bounds.TheConstants.Limits as limits
+use Rattle.job_core.specs.declared.fault.JobFault.{JobFault}
+use Rattle.job_core.specs.JobLayout.{Held, nothing_held, Item, OneRange, OneCrl, OneEntry, next_item, with_item}
+use Rattle.job_core.specs.JobText.{record_text, FitsItem, Pass}
+use Rattle.job_core.specs.Reader.{no_serials}
+use Rattle.job_core.proofs.RecordTexts.{next-read}
+use Rattle.job_core.proofs.Passing.{texts_of}
+use Rattle.extend_core.specs.Raw.{entries_in}
+use Rattle.extend_core.specs.Fitting.{Fits}
+
+abbrev pub AllFit : List Item → Type 0
+AllFit [] = Unit {0}
+AllFit (x ∷ xs) = Fits x × AllFit xs
+
+-- a record that passes fits
+fits-first : (h : Held) (x : Item) → FitsItem limits.PUBLISHED h x → Fits x
+fits-first h (OneRange r) fits = (((refl, fits.0.0.1), fits.0.1), omega arith, omega arith)
+fits-first h (OneCrl c) fits = (fits.0, omega arith, omega arith)
+fits-first h (OneEntry e) fits = (fits.0, omega arith, omega arith)
+
+pub pass-fits : (h : Held) (serials : ℕ) (xs : List Item) → Pass no_serials limits.PUBLISHED h serials xs → AllFit xs
+pass-fits h serials [] pass = tt
+pass-fits h serials (x ∷ xs) pass = (fits-first h x pass.0, pass-fits (with_item h x) _ xs pass.2)
+
+-- what a record is read as, whatever follows
+read_as : (x : Item) (a : List ℕ) → Fits x → next_item limits.PUBLISHED nothing_held (record_text x ++ a) 0 ≡ Ok (Some x, 0 + length (record_text x))
+read_as x a fits = (next-read limits.PUBLISHED nothing_held [] x fits).each a
+
+some_is : {A : Type 0} (x y : A) (p q : ℕ) → ◌≡◌ {A = Option A × ℕ} (Some x, p) (Some y, q) → x ≡ y
+some_is {A} x y p q h = let g : ◌≡◌ {A = Option A} (Some x) (Some y) = ap (λ (r : Option A × ℕ). r.0) h in cc
+
+pub one_text : (x y : Item) (a b : List ℕ) → Fits x → Fits y → record_text x ++ a ≡ record_text y ++ b → (x ≡ y) × (a ≡ b)
+one_text x y a b fits also same =
+    let both = sym (read_as x a fits) ∙ ap (λ (l : List ℕ). next_item limits.PUBLISHED nothing_held l 0) same ∙ read_as y b also in
+    let is : x ≡ y = some_is x y (0 + length (record_text x)) (0 + length (record_text y)) (ok_is {E = JobFault} _ _ both) in
+    (is, append_cancel_left (record_text y) a b (ap (λ (z : Item). record_text z ++ a) (sym is) ∙ same))
+
+pub some_text : (x : Item) → 1 ≤ length (record_text x)
+some_text (OneRange r) = omega arith
+some_text (OneCrl c) = omega arith
+some_text (OneEntry e) = omega arith
+
+pub same_texts : (xs ys : List Item) → AllFit xs → AllFit ys → texts_of xs ≡ texts_of ys → xs ≡ ys
+same_texts [] [] fits also same = refl
+same_texts [] (y ∷ ys) fits also same = absurd (omega (arith, some_text y, length-append (record_text y) (texts_of ys), ap (λ (l : List ℕ). length l) same))
+same_texts (x ∷ xs) [] fits also same = absurd (omega (arith, some_text x, length-append (record_text x) (texts_of xs), ap (λ (l : List ℕ). length l) same))
+same_texts (x ∷ xs) (y ∷ ys) fits also same =
+    let one = one_text x y (texts_of xs) (texts_of ys) fits.0 also.0 same in
+    ap (λ (z : Item). z ∷ xs) one.0 ∙ ap (λ (l : List Item). y ∷ l) (same_texts xs ys fits.1 also.1 one.1)
+
+-- with one more
+
+pub texts-more : (xs : List Item) (x : Item) → texts_of (xs ++ x ∷ []) ≡ texts_of xs ++ record_text x
+texts-more [] x = append-nil (record_text x)
+texts-more (y ∷ ys) x = ap (λ (l : List ℕ). record_text y ++ l) (texts-more ys x) ∙ sym (append_assoc (record_text y) (texts_of ys) (record_text x))
+
+pub fits-more : (xs : List Item) (x : Item) → AllFit xs → Fits x → AllFit (xs ++ x ∷ [])
+fits-more [] x all fits = (fits, tt)
+fits-more (y ∷ ys) x all fits = (all.0, fits-more ys x all.1 fits)
+
+pub entries-more : (xs : List Item) (x : Item) → length (entries_in (xs ++ x ∷ [])) ≡ length (entries_in xs) + length (entries_in (x ∷ []))
+entries-more [] x = omega arith
+entries-more (OneRange r ∷ ys) x = entries-more ys x
+entries-more (OneCrl c ∷ ys) x = entries-more ys x
+entries-more (OneEntry e ∷ ys) x = omega (arith, entries-more ys x)
+
+pub entries-few : (xs : List Item) → length (entries_in xs) ≤ length (texts_of xs)
+entries-few [] = omega arith
+entries-few (OneRange r ∷ ys) = omega (arith, entries-few ys, length-append (record_text (OneRange r)) (texts_of ys))
+entries-few (OneCrl c ∷ ys) = omega (arith, entries-few ys, length-append (record_text (OneCrl c)) (texts_of ys))
+entries-few (OneEntry e ∷ ys) = omega (arith, entries-few ys, some_text (OneEntry e), length-append (record_text (OneEntry e)) (texts_of ys))

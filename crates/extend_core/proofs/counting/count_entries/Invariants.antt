@@ -1,0 +1,10 @@
+use Rattle.std.proofs.Common.{◌-◌, length}
+use Rattle.outside_core.specs.Standing.{place_of}
+use Rattle.extend_core.proofs.Reading.{Going}
+use Rattle.extend_core.proofs.counting.count_entries.Given as goal
+
+abbrev pub invariant-loop-given : goal.invariant-loop-given
+invariant-loop-given l = Going l.bytes l.reader l.feed l.entries
+
+abbrev pub decreases-loop-given : goal.decreases-loop-given
+decreases-loop-given l = length l.bytes - place_of l.feed

@@ -1,0 +1,8 @@
+use Rattle.std.proofs.Common.{arith}
+use Rattle.extend_core.proofs.Joining.{opened-new}
+use Rattle.extend_core.proofs.job.OpenJob.new.Goals as goal
+
+pub returns-clause-ok : goal.returns-clause-ok
+returns-clause-ok c =
+    opened-new c.args.bytes.items _ (record { text = c.pop.new.self; entries = c.in_ok-entries.entries }) (rw c.deref.ensures.value at c.in_ok-entries.ensures.exact)
+    (first_of (assumption c.args.bytes.ok, omega (arith, c.args.bytes.ok), grind (arith, c.args.bytes.ok), omega (arith, c.deref.ensures.len))) c.pop.ensures.rest

@@ -1,0 +1,8 @@
+//! Pages of a log's `get-entries` answers, and their entries behind those of a job.
+#![tactic(auto)]
+
+mod fault;
+mod page;
+
+pub use fault::PageFault;
+pub use page::{MAX_DATA, MAX_PAGE, PageEntry, read_page};
