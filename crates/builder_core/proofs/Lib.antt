@@ -1,4 +1,5 @@
 pub mod GroupBlocks
 pub mod OutcomesInOrder
+pub mod OutcomesInPlace
 pub mod FirstRefused
 pub mod Admitted

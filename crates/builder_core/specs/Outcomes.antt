@@ -1,5 +1,6 @@
 -- What comes of each group, built by itself, and what is made of it.
-use Rattle.std.specs.Prelude.{◌≡◌, ◌≤◌, ◌⊎◌, List, [], ◌∷◌, ◌++◌, map, length, Result, Ok, Err}
+use Rattle.std.specs.Prelude.{◌≡◌, ◌≤◌, ◌⊎◌, ℕ, List, [], ◌∷◌, ◌++◌, map, length, Some, Result, Ok, Err}
+use Rattle.std.specs.List.{slice_get}
 use Rattle.std.specs.declared.alloc.Global.{Global}
 use Rattle.std.specs.declared.vec.Vec.{Vec}
 use Rattle.ident_core.specs.declared.bounds.TheConstants.{MAX_IDENTITIES}
@@ -22,6 +23,10 @@ abbrev pub IsOutcome : Rows → GroupFields → Result Block BuildFault → Type
 IsOutcome rows g (Ok block) = IsGroupBlock rows g block
 IsOutcome rows g (Err NoMemory) = Unit {0}
 IsOutcome rows g (Err (SeedsExhausted issuer stage)) = (g.issuer ≡ issuer) × IsBlockRefused rows g.universe g.revoked stage
+
+-- the same of the group at a place
+abbrev pub IsOutcomeAt : Rows → List GroupFields → ℕ → Result Block BuildFault → Type 0
+IsOutcomeAt rows groups place outcome = (g : GroupFields) → slice_get groups place ≡ Some g → IsOutcome rows g outcome
 
 -- an outcome for each group, in order; behind a fault there may be any, or none
 abbrev pub AreOutcomes : Rows → List GroupFields → List (Result Block BuildFault) → Type 0

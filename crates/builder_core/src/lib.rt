@@ -2,12 +2,14 @@
 #![tactic(auto)]
 
 mod building;
+mod claimed;
 mod fault;
 mod gate;
 mod laws;
 mod outcomes;
 
 pub use building::build_part;
+pub use claimed::build_part_claimed;
 pub use fault::BuildFault;
 pub use gate::{Gate, Open};
 pub use laws::{

@@ -39,8 +39,8 @@ fn block_of<R: Threads + Sync, H: EquationHash + Sync>(
     build_block(alloc, hash, *issuer, universe, revoked)
 }
 
-// What comes of the group at this place. The gate is entered before.
-fn outcome_of<R: Threads + Sync, H: EquationHash + Sync, G: Gate + Sync>(
+/// What comes of the group at this place. The gate is entered before.
+pub(crate) fn outcome_of<R: Threads + Sync, H: EquationHash + Sync, G: Gate + Sync>(
     rt: &R,
     alloc: Global,
     hash: &H,

@@ -2,7 +2,7 @@
 
 ghost use Rattle.std.specs.Prelude.{◌≡◌, ◌<◌, ◌≤◌};
 
-use builder_core::{BuildFault, Gate, Open, build_part};
+use builder_core::{BuildFault, Gate, Open, build_part, build_part_claimed};
 use card_core::Part;
 use crl_core::Crl;
 use equation_core::{EquationHash, Row, Sha256Rows};
@@ -24,6 +24,15 @@ enum Revoked {
     EachFiftieth,
     All,
 }
+
+// How the groups are shared among workers: cut into shares before the work, or drawn from one counter.
+#[derive(Clone, Copy, Debug)]
+enum Sharing {
+    Cut,
+    Claimed,
+}
+
+const BOTH: [Sharing; 2] = [Sharing::Cut, Sharing::Claimed];
 
 // An issuer with a certificate for each serial below `count`.
 #[derive(Clone, Copy)]
@@ -106,6 +115,7 @@ fn part_of<R: Threads + Sync, H: EquationHash + Sync, G: Gate + Sync>(
     hash: &H,
     gate: &G,
     job: &Job,
+    sharing: Sharing,
     workers: u32,
 ) -> Result<Result<Part, BuildFault>, Fail>
     requires some_workers { 1 ≤ workers }
@@ -120,7 +130,11 @@ fn part_of<R: Threads + Sync, H: EquationHash + Sync, G: Gate + Sync>(
     if groups.len() > 65_535 {
         return Err(Fail::from(BuildFault::NoMemory));
     }
-    Ok(build_part(rt, alloc, hash, gate, &groups, head, workers))
+    let groups = groups.as_slice();
+    Ok(match sharing {
+        Sharing::Cut => build_part(rt, alloc, hash, gate, groups, head, workers),
+        Sharing::Claimed => build_part_claimed(rt, alloc, hash, gate, groups, head, workers),
+    })
 }
 
 // What a part says, with no step counted.
@@ -193,17 +207,23 @@ const TWO: Authority = Authority {
 #[test]
 fn each_member_is_consulted(rt: HostRuntime) -> Result<(), Fail> {
     let job = job_of(rt.alloc(), &[SOME, EVERY, NONE])?;
-    let part = part_of(&rt, rt.alloc(), &Sha256Rows, &Open, &job, 1)??;
-    ask_each(&rt, &part, SOME)?;
-    ask_each(&rt, &part, EVERY)?;
-    ask_each(&rt, &part, NONE)
+    for sharing in BOTH {
+        let part = part_of(&rt, rt.alloc(), &Sha256Rows, &Open, &job, sharing, 1)??;
+        ask_each(&rt, &part, SOME)?;
+        ask_each(&rt, &part, EVERY)?;
+        ask_each(&rt, &part, NONE)?;
+    }
+    Ok(())
 }
 
 #[test]
 fn each_member_of_many_is_consulted(rt: HostRuntime) -> Result<(), Fail> {
     let job = job_of(rt.alloc(), &[MANY])?;
-    let part = part_of(&rt, rt.alloc(), &Sha256Rows, &Open, &job, 1)??;
-    ask_each(&rt, &part, MANY)
+    for sharing in BOTH {
+        let part = part_of(&rt, rt.alloc(), &Sha256Rows, &Open, &job, sharing, 1)??;
+        ask_each(&rt, &part, MANY)?;
+    }
+    Ok(())
 }
 
 // Each row chooses the first column alone.
@@ -229,16 +249,16 @@ impl EquationHash for RowsAlike {
 #[test]
 fn the_first_refusal_is_answered(rt: HostRuntime) -> Result<(), Fail> {
     let job = job_of(rt.alloc(), &[SOME, EVERY, TWO])?;
-    let fault = part_of(&rt, rt.alloc(), &RowsAlike, &Open, &job, 1)?.err();
     let issuer = Key32::new([0x22; 32]);
-    assert_eq!(&rt;
-        fault,
-        Some(BuildFault::SeedsExhausted { issuer, stage: 2 })
-    );
+    let refused = Some(BuildFault::SeedsExhausted { issuer, stage: 2 });
+    for sharing in BOTH {
+        let fault = part_of(&rt, rt.alloc(), &RowsAlike, &Open, &job, sharing, 1)?.err();
+        assert_eq!(&rt; fault, refused, "{sharing:?}");
+    }
     Ok(())
 }
 
-/// Whether the issuer is the first that has no exact stage, for one worker and for two.
+// Whether the issuer is the first that has no exact stage, for one worker and for two, however they share the groups.
 fn is_refused<R: Threads + Sync>(
     rt: &R,
     alloc: Global,
@@ -248,9 +268,14 @@ fn is_refused<R: Threads + Sync>(
     let job = job_of(alloc, authorities)?;
     let issuer = Key32::new([issuer; 32]);
     let refused = Some(BuildFault::SeedsExhausted { issuer, stage: 2 });
-    let by_one = part_of(rt, alloc, &RowsAlike, &Open, &job, 1)?.err();
-    let by_two = part_of(rt, alloc, &RowsAlike, &Open, &job, 2)?.err();
-    Ok(by_one == refused && by_two == refused)
+    for sharing in BOTH {
+        let by_one = part_of(rt, alloc, &RowsAlike, &Open, &job, sharing, 1)?.err();
+        let by_two = part_of(rt, alloc, &RowsAlike, &Open, &job, sharing, 2)?.err();
+        if by_one != refused || by_two != refused {
+            return Ok(false);
+        }
+    }
+    Ok(true)
 }
 
 // Both issuers have no exact stage, and then the second alone: of the first nothing is revoked.
@@ -310,19 +335,21 @@ impl<'a> EquationHash for Watching<'a> {
 // group before it.
 #[test]
 fn each_group_enters(rt: HostRuntime) -> Result<(), Fail> {
-    let gate = InOrder {
-        calls: AtomicU32::new(0),
-        entered: AtomicU32::new(0),
-    };
-    let hash = Watching {
-        gate: &gate,
-        strange: AtomicU32::new(0),
-    };
     let job = job_of(rt.alloc(), &[TWO, SOME, MANY])?;
-    let _ = part_of(&rt, rt.alloc(), &hash, &gate, &job, 1)??;
-    assert_eq!(&rt; gate.calls.load(Ordering::SeqCst), 3);
-    assert_eq!(&rt; gate.entered.load(Ordering::SeqCst), 3);
-    assert_eq!(&rt; hash.strange.load(Ordering::SeqCst), 0);
+    for sharing in BOTH {
+        let gate = InOrder {
+            calls: AtomicU32::new(0),
+            entered: AtomicU32::new(0),
+        };
+        let hash = Watching {
+            gate: &gate,
+            strange: AtomicU32::new(0),
+        };
+        let _ = part_of(&rt, rt.alloc(), &hash, &gate, &job, sharing, 1)??;
+        assert_eq!(&rt; gate.calls.load(Ordering::SeqCst), 3, "{sharing:?}");
+        assert_eq!(&rt; gate.entered.load(Ordering::SeqCst), 3, "{sharing:?}");
+        assert_eq!(&rt; hash.strange.load(Ordering::SeqCst), 0, "{sharing:?}");
+    }
     Ok(())
 }
 
@@ -332,21 +359,34 @@ const OTHER: Authority = Authority {
     revoked: Revoked::EachFiftieth,
 };
 
-// Keeps place 0 until place 1 has entered.
+// Keeps one place until so many others have entered.
 #[derive(Drop)]
-struct HoldsFirst {
-    second: AtomicU32,
+struct Holds {
+    place: u32,
+    others: u32,
+    entered: AtomicU32,
     passed: AtomicU32,
 }
 
-impl Gate for HoldsFirst {
+impl Holds {
+    fn new(place: u32, others: u32) -> Holds {
+        Holds {
+            place,
+            others,
+            entered: AtomicU32::new(0),
+            passed: AtomicU32::new(0),
+        }
+    }
+}
+
+impl Gate for Holds {
     fn enter(&self, place: u32) {
-        if place == 1 {
-            self.second.store(1, Ordering::SeqCst);
+        if place != self.place {
+            self.entered.fetch_add(1, Ordering::SeqCst);
             return;
         }
         for _ in 0..100_000_000u32 {
-            if self.second.load(Ordering::SeqCst) == 1 {
+            if self.entered.load(Ordering::SeqCst) == self.others {
                 self.passed.store(1, Ordering::SeqCst);
                 return;
             }
@@ -358,12 +398,32 @@ impl Gate for HoldsFirst {
 // One thread alone would wait at place 0 to the end of the turns.
 #[test]
 fn two_workers_build_side_by_side(rt: HostRuntime) -> Result<(), Fail> {
-    let gate = HoldsFirst {
-        second: AtomicU32::new(0),
-        passed: AtomicU32::new(0),
-    };
     let job = job_of(rt.alloc(), &[TWO, OTHER])?;
-    let _ = part_of(&rt, rt.alloc(), &Sha256Rows, &gate, &job, 2)??;
-    assert_eq!(&rt; gate.passed.load(Ordering::SeqCst), 1);
+    for sharing in BOTH {
+        let gate = Holds::new(0, 1);
+        let _ = part_of(&rt, rt.alloc(), &Sha256Rows, &gate, &job, sharing, 2)??;
+        assert_eq!(&rt; gate.passed.load(Ordering::SeqCst), 1, "{sharing:?}");
+    }
+    Ok(())
+}
+
+// Whichever group is kept, the other worker builds both others. Shares that are cut before the work have two of the
+// three groups in one share, and would keep the second of these behind the first in one of the runs.
+#[test]
+fn a_kept_group_holds_up_no_other(rt: HostRuntime) -> Result<(), Fail> {
+    let job = job_of(rt.alloc(), &[TWO, OTHER, MANY])?;
+    for place in 0..3 {
+        let gate = Holds::new(place, 2);
+        let _ = part_of(
+            &rt,
+            rt.alloc(),
+            &Sha256Rows,
+            &gate,
+            &job,
+            Sharing::Claimed,
+            2,
+        )??;
+        assert_eq!(&rt; gate.passed.load(Ordering::SeqCst), 1, "place {place}");
+    }
     Ok(())
 }

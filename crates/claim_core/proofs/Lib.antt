@@ -1,0 +1,5 @@
+pub mod Sums
+pub mod Kept
+pub mod Scheduled
+pub mod Places
+pub mod Played
