@@ -1,11 +1,12 @@
 #!/bin/sh
-# The released program: makes it, and says whether it is of this tree (release/README.md says what stands in release/).
+# The released program and library: makes them, and says whether they are of this tree (release/README.md says what
+# stands in release/).
 #
 #     tools/release.sh             makes release/ of the program in crates/clubcard/out/ (built where it isn't newer
-#                                  than its sources)
+#                                  than its sources) and of the library for C (tools/library.sh)
 #     tools/release.sh --check     says in a line whether release/ is of this tree
-#     tools/release.sh --verify    builds the program in a new folder, from nothing, and compares it with the released
-#                                  one
+#     tools/release.sh --verify    builds the program and the library in a new folder, from nothing, and compares them
+#                                  with the released ones
 #     tools/release.sh --digest    prints the digest of the sources
 #
 # The status is 0 where release/ was made, is of this tree, or has the bytes that were built; else it is 1, and a line
@@ -14,6 +15,8 @@
 top=$(CDPATH='' cd -- "$(dirname -- "$0")/.." && pwd) || exit 1
 release="$top/release"
 name=clubcard-x86_64-linux
+# All that is released.
+names="$name libclubcard.a libclubcard.so clubcard.h"
 
 # Lists the sources, each name ended by a zero byte: those that git tracks, else (in an unpacked archive) all that are
 # there. A commit's hook has variables by which git would look elsewhere.
@@ -31,19 +34,26 @@ digest() (
     list_sources | LC_ALL=C sort -z -u | xargs -0 sha256sum -- 2>/dev/null | sha256sum | cut -d ' ' -f 1
 )
 
-# The SHA-256 of a file.
-sum_of() {
-    sha256sum <"$1" | cut -d ' ' -f 1
-}
+# The lines of SHA256SUMS for the released files in a folder.
+sums_of() (
+    # shellcheck disable=SC2086 # a word for each name
+    cd "$1" && sha256sum -- $names 2>/dev/null
+)
 
-# Says whether the released program is the one that is stated, and made from the sources of this tree.
+# Says whether the released files are those that are stated, and made from the sources of this tree.
 check() {
-    if [ ! -f "$release/$name" ]; then
-        why="it holds no program"
-    elif [ "$(sum_of "$release/$name")" != "$(cut -d ' ' -f 1 "$release/SHA256SUMS" 2>/dev/null)" ]; then
-        why="its program hasn't the SHA-256 that stands beside it"
+    why=
+    for each in $names; do
+        [ -f "$release/$each" ] || why="it holds no $each"
+    done
+    if [ -n "$why" ]; then
+        :
+    elif [ "$(sums_of "$release")" != "$(cat "$release/SHA256SUMS" 2>/dev/null)" ]; then
+        why="its files haven't the SHA-256 that stands beside them"
     elif [ "$(digest)" != "$(cat "$release/SOURCES" 2>/dev/null)" ]; then
         why="it was made from other sources"
+    elif ! cmp -s "$top/bindings/c/clubcard.h" "$release/clubcard.h"; then
+        why="its clubcard.h isn't the one of bindings/c"
     elif [ ! -x "$release/$name" ]; then
         why="its program can't be executed"
     else
@@ -54,44 +64,55 @@ check() {
     return 1
 }
 
+# A folder that is removed at the end.
+new_folder() {
+    work=$(mktemp -d) || return 1
+    trap 'rm -rf "$work"' EXIT
+    trap 'exit 1' HUP INT TERM
+}
+
 # Makes release/. The program is put in its place last, so that an older one isn't taken for what the other files state.
 make() {
     before=$(digest)
+    new_folder || return 1
     program=$(sh "$top/tools/program.sh" --built) || return 1
+    sh "$top/tools/library.sh" "$work" || return 1
     toolchain=$(rt version) || return 1
     if [ "$(digest)" != "$before" ]; then
         echo "release: the sources were changed while the program was built" >&2
         return 1
     fi
-    mkdir -p "$release" && cp "$program" "$release/$name.draft" && chmod 755 "$release/$name.draft" &&
-        echo "$(sum_of "$release/$name.draft")  $name" >"$release/SHA256SUMS" &&
+    cp "$program" "$work/$name" && chmod 755 "$work/$name" && mkdir -p "$release" &&
+        sums_of "$work" >"$release/SHA256SUMS" &&
         echo "$toolchain" >"$release/TOOLCHAIN" &&
         echo "$before" >"$release/SOURCES" &&
-        mv "$release/$name.draft" "$release/$name" && check
+        cp "$work/libclubcard.a" "$work/libclubcard.so" "$work/clubcard.h" "$release" &&
+        cp "$work/$name" "$release/$name.draft" && mv "$release/$name.draft" "$release/$name" && check
 }
 
-# Builds the tree's program in a new folder, where nothing of an earlier build lies, and compares it byte for byte.
+# Builds the tree's program and library in a new folder, where nothing of an earlier build lies, and compares them byte
+# for byte.
 verify() {
     if [ ! -f "$release/$name" ]; then
         echo "release/ holds no program"
         return 1
     fi
-    work=$(mktemp -d) || return 1
-    trap 'rm -rf "$work"' EXIT
-    trap 'exit 1' HUP INT TERM
-    (cd "$top" && tar --exclude=out -cf - crates crates.txt HANDLES tools) | tar -xf - -C "$work" || return 1
+    new_folder || return 1
+    (cd "$top" && tar --exclude=out -cf - bindings crates crates.txt HANDLES tools) | tar -xf - -C "$work" || return 1
     started=$(date +%s)
     program=$(sh "$work/tools/program.sh" --built) || {
         tail -n 20 "$work/crates/clubcard/out/build.log" 2>/dev/null | sed "s/^/clubcard: /" >&2
         return 1
     }
+    mkdir "$work/built" && sh "$work/tools/library.sh" "$work/built" && cp "$program" "$work/built/$name" || return 1
     echo "built in $((($(date +%s) - started) / 60)) minutes by $(rt version); released: $(cat "$release/TOOLCHAIN")"
-    if cmp "$program" "$release/$name"; then
-        echo "release/ has the bytes of this build"
-    else
-        echo "release/ hasn't the bytes of this build"
-        return 1
-    fi
+    for each in $names; do
+        cmp "$work/built/$each" "$release/$each" || {
+            echo "release/ hasn't the bytes of this build"
+            return 1
+        }
+    done
+    echo "release/ has the bytes of this build"
 }
 
 case "$#:$*" in

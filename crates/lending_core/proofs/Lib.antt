@@ -1,0 +1,3 @@
+mod Newest
+mod Numbering
+mod Each

@@ -1,0 +1,4 @@
+pub mod Faults
+pub mod Lent
+pub mod Asking
+pub mod Replies
