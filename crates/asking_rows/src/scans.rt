@@ -1,23 +1,24 @@
-//! Files that come a byte at a time, and `check` over reads that fail behind a damaged field.
+//! Files that come a few bytes at a time, and `check` over reads that fail behind a damaged field.
 
-use clubcard_rows::calls::{bytes_of, put_with_byte, says};
+use clubcard_rows::calls::{bytes_of, copy, put_with_byte, says};
 use clubcard_rows::files::{K1, LA, PART_LATE, PART_REVOKED, STORE_HEAD};
-use clubcard_rows::jobs::one_revoked;
+use clubcard_rows::jobs::{JobText, one_good, one_revoked};
 use clubcard_top::{Status, run};
 use outside_core::{Depot, Failed, MemoryDepot, MemorySink};
 use std::alloc::Global;
 use std::test::Fail;
 use std::thread::Threads;
 
-/// Files of which each read gives one byte, and that are never written.
+/// Files of which each read gives so many bytes at most, and that are never written.
 #[derive(Drop)]
-struct Bytewise {
+struct Slow {
     files: MemoryDepot,
+    most: usize,
     read_faults: u64,
     write_faults: u64,
 }
 
-impl Depot for Bytewise {
+impl Depot for Slow {
     ghost use Rattle.std.specs.Prelude.{None};
 
     ghost files = { λ _. None };
@@ -29,7 +30,7 @@ impl Depot for Bytewise {
     ghost write_faults = { λ d. d.write_faults };
 
     fn read_at(&mut self, name: &str, at: u64, buf: &mut [u8]) -> Result<usize, Failed> {
-        let room = buf.len().min(1);
+        let room = buf.len().min(self.most);
         let read = self.files.read_at(name, at, &mut buf[..room]);
         if read.is_err() {
             self.read_faults = self.read_faults.saturating_add(1);
@@ -51,10 +52,19 @@ impl Depot for Bytewise {
     }
 }
 
-/// Whether the words end and say so over the file `S` of these bytes, which comes byte by byte.
-fn says_bytewise<R: Threads + Sync>(
+fn words_of(alloc: Global, words: &[&str]) -> Result<Vec<String>, Fail> {
+    let mut list = Vec::new(alloc);
+    for word in words {
+        list.push(String::from_str(alloc, word)?)?;
+    }
+    Ok(list)
+}
+
+/// Whether the words end and say so over the file `S` of these bytes, of which a read gives so many at most.
+fn says_slowly<R: Threads + Sync>(
     rt: &R,
     alloc: Global,
+    most: usize,
     bytes: &[u8],
     words: &[&str],
     status: Status,
@@ -62,15 +72,13 @@ fn says_bytewise<R: Threads + Sync>(
 ) -> Result<bool, Fail> {
     let mut files = MemoryDepot::new(alloc);
     files.put("S", bytes)?;
-    let mut depot = Bytewise {
+    let mut depot = Slow {
         files,
+        most,
         read_faults: 0,
         write_faults: 0,
     };
-    let mut list = Vec::new(alloc);
-    for word in words {
-        list.push(String::from_str(alloc, word)?)?;
-    }
+    let list = words_of(alloc, words)?;
     let mut out = MemorySink::new(alloc);
     let ended = run(rt, alloc, &list, &mut depot, &mut out);
     Ok(ended == status && out.bytes() == line.as_bytes())
@@ -85,7 +93,7 @@ fn checks_bytewise<R: Threads + Sync>(
     line: &str,
 ) -> Result<bool, Fail> {
     let bytes = bytes_of(alloc, pieces)?;
-    says_bytewise(rt, alloc, &bytes, &["check", "S"], status, line)
+    says_slowly(rt, alloc, 1, &bytes, &["check", "S"], status, line)
 }
 
 #[test]
@@ -106,14 +114,76 @@ fn other_files_that_come_byte_by_byte(rt: HostRuntime) -> Result<(), Fail> {
     let alloc = rt.alloc();
     let part = bytes_of(alloc, &[PART_REVOKED, "00"])?;
     let line = "layout 169 end value S\n";
-    assert!(rt; says_bytewise(&rt, alloc, &part, &["show", "S"], Status::BAD_LAYOUT, line)?);
+    assert!(rt;
+        says_slowly(
+            &rt,
+            alloc,
+            1,
+            &part,
+            &["show", "S"],
+            Status::BAD_LAYOUT,
+            line
+        )?
+    );
     let store = bytes_of(alloc, &[STORE_HEAD, PART_REVOKED])?;
     let query: &[&str] = &["query", "S", K1, "05", LA, "1700000000000"];
-    assert!(rt; says_bytewise(&rt, alloc, &store, query, Status::DONE, "revoked\n")?);
+    assert!(rt; says_slowly(&rt, alloc, 1, &store, query, Status::DONE, "revoked\n")?);
     let job = one_revoked(alloc)?;
     let snapshot: &[&str] = &["snapshot", "S", "X", "Y", "1"];
     let line = "write-fault X\n";
-    assert!(rt; says_bytewise(&rt, alloc, &job, snapshot, Status::WRITE_FAULT, line)?);
+    assert!(rt; says_slowly(&rt, alloc, 1, &job, snapshot, Status::WRITE_FAULT, line)?);
+    Ok(())
+}
+
+/// Whether the words are done, whatever they print.
+fn is_done<R: Threads + Sync>(
+    rt: &R,
+    alloc: Global,
+    depot: &mut MemoryDepot,
+    words: &[&str],
+) -> Result<bool, Fail> {
+    let list = words_of(alloc, words)?;
+    let mut out = MemorySink::new(alloc);
+    Ok(run(rt, alloc, &list, depot, &mut out) == Status::DONE)
+}
+
+/// Puts a part that enrolls no issuer behind those of the store `S`, by the ledger `L`.
+fn extend<R: Threads + Sync>(
+    rt: &R,
+    alloc: Global,
+    depot: &mut MemoryDepot,
+    epoch: u64,
+) -> Result<bool, Fail> {
+    let mut job = JobText::begin(alloc, epoch)?;
+    job.range(LA, 0, 1000)?;
+    depot.put("J", &job.end()?)?;
+    let delta = is_done(rt, alloc, depot, &["delta", "J", "L", "P", "M", "1"])?;
+    copy(alloc, depot, "M", "L")?;
+    let install = is_done(rt, alloc, depot, &["install", "S", "P", "N"])?;
+    copy(alloc, depot, "N", "S")?;
+    Ok(delta && install)
+}
+
+// As many parts as a store may have; the first one, of 169 bytes, enrolls the issuer, and the others have 136.
+#[test]
+fn a_store_of_64_parts_that_comes_by_three_bytes(rt: HostRuntime) -> Result<(), Fail> {
+    let alloc = rt.alloc();
+    let mut depot = MemoryDepot::new(alloc);
+    depot.put("J", &one_good(alloc)?)?;
+    assert!(rt; is_done(&rt, alloc, &mut depot, &["snapshot", "J", "P", "L", "1"])?);
+    assert!(rt; is_done(&rt, alloc, &mut depot, &["start", "P", "S"])?);
+    for epoch in 2..65 {
+        assert!(rt; extend(&rt, alloc, &mut depot, epoch)?, "epoch {epoch}");
+    }
+    let mut store = Vec::new(alloc);
+    if let Some(held) = depot.bytes_of("S") {
+        store.extend_from_slice(held)?;
+    }
+    let query: &[&str] = &["query", "S", K1, "05", LA, "1700000000000"];
+    assert!(rt; says_slowly(&rt, alloc, 3, &store, query, Status::DONE, "good\n")?);
+    store.push(0)?;
+    let line = "layout 8747 end value S\n";
+    assert!(rt; says_slowly(&rt, alloc, 3, &store, query, Status::BAD_LAYOUT, line)?);
     Ok(())
 }
 

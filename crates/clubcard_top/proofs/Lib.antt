@@ -6,6 +6,8 @@ pub mod Made
 pub mod Makings
 pub mod Newest
 pub mod Outputs
+pub mod PagesPut
+pub mod PagesRead
 pub mod Overs
 pub mod Prefixes
 pub mod Promised

@@ -140,6 +140,7 @@ module _ (layers : Layers) where
   behind (commands.Show n) files jobs parts job o is p m = absurd p
   behind (commands.Rehearse r) files jobs parts job o is p m = absurd p
   behind (commands.Sample t) files jobs parts job o is p m = absurd p
+  behind (commands.Gather g) files jobs parts job o is p m = absurd p
   behind (commands.Start t) files jobs parts job o is p m = absurd p
   behind (commands.Install i) files jobs parts job o is p m = absurd p
   behind (commands.Snapshot s) files jobs parts job o is p m = record {
@@ -262,6 +263,7 @@ module _ (layers : Layers) where
   stored_law (commands.Show n) files jobs parts s o is p m = absurd p
   stored_law (commands.Rehearse r) files jobs parts s o is p m = absurd p
   stored_law (commands.Sample t) files jobs parts s o is p m = absurd p
+  stored_law (commands.Gather g) files jobs parts s o is p m = absurd p
   stored_law (commands.Snapshot t) files jobs parts s o is p m = absurd p
   stored_law (commands.Delta d) files jobs parts s o is p m = absurd p
   stored_law (commands.Start t) files jobs [] s o is p m = stored_is (commands.Start t) t.store [] s o (λ b. refl) (start_stored t files jobs s o is p.1 m)

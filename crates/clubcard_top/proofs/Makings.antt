@@ -1,6 +1,6 @@
 -- What comes of a command: its outputs, its statuses, and which inputs it rests on.
 use Rattle.std.proofs.Common.{◌≡◌, ℕ, ◌⊎◌, inl, inr, List, [], ◌∷◌, ◌++◌, Option, Some, None, Result, Ok, Err, refl, sym, ap, ◌∙◌, subst}
-use Rattle.std.specs.Prelude.{IsTrue, IfErr}
+use Rattle.std.specs.Prelude.{IsTrue, IfErr, Bool, true, false, length, nat_lt, nat_le, ◌+◌, if◌then◌else◌}
 use Rattle.octets_core.specs.Layout.{Layout, then_read, with_fault, mapped, whole}
 use Rattle.octets_core.specs.Reading.{end, value_of, GivesUnless}
 use Rattle.octets_core.specs.declared.fault.LayoutFault.{LayoutFault}
@@ -19,8 +19,17 @@ use Rattle.ledger_core.specs.LedgerFields.{LedgerFields}
 use Rattle.ledger_core.specs.declared.fault.LedgerFault.{LedgerFault}
 use Rattle.ledger_core.specs.declared.fault.LedgerFault.TheVariants as of_ledger_faults
 use Rattle.job_core.specs.declared.bounds.TheConstants.Limits.{PUBLISHED}
+use Rattle.job_core.specs.declared.bounds.What.TheVariants as what
 use Rattle.job_core.specs.JobFields.{JobFields}
 use Rattle.job_core.specs.JobLayout.{job_of}
+use Rattle.job_core.specs.JobText.{JobContents}
+use Rattle.gather_core.specs.Pages.{PageFields}
+use Rattle.gather_core.specs.Pages.{page_of}
+use Rattle.gather_core.specs.declared.fault.PageFault.{PageFault}
+use Rattle.gather_core.specs.declared.fault.PageFault.TheVariants as of_page_faults
+use Rattle.gather_core.specs.declared.page.TheConstants.{MAX_PAGE}
+use Rattle.extend_core.specs.Raw.{raw_job}
+use Rattle.extend_core.proofs.NoReads.{no_read}
 use Rattle.job_core.specs.declared.fault.JobFault.{JobFault}
 use Rattle.job_core.specs.declared.fault.JobFault.TheVariants as of_job_faults
 use Rattle.job_core.proofs.JobBounds.{never-of}
@@ -39,12 +48,12 @@ use Rattle.publication_core.specs.declared.fault.PublishFault.TheVariants as pub
 use Rattle.publication_core.specs.Publishing.{Published}
 use Rattle.word_core.specs.declared.command.Command.{Command}
 use Rattle.word_core.specs.declared.command.Command.TheVariants as commands
-use Rattle.word_core.specs.CommandFields.{QueryCertFields, SnapshotFields, DeltaFields, StartFields, InstallFields, RehearseFields}
+use Rattle.word_core.specs.CommandFields.{QueryCertFields, SnapshotFields, DeltaFields, StartFields, InstallFields, RehearseFields, GatherFields}
 use Rattle.word_core.specs.Names.{inputs_of, outputs_of}
 use Rattle.input_core.specs.declared.certificates.Certificate.{Certificate}
 use Rattle.input_core.specs.declared.fault.FileFault.{FileFault}
 use Rattle.input_core.specs.declared.fault.FileFault.TheVariants as faults
-use Rattle.input_core.specs.Faults.{of_queries, of_job, of_ledger, of_part, of_store}
+use Rattle.input_core.specs.Faults.{of_queries, of_job, of_ledger, of_part, of_store, of_page}
 use Rattle.clubcard_top.specs.Faults.{of_admission, of_publishing}
 use Rattle.input_core.specs.PartFile.{part_file}
 use Rattle.input_core.specs.Readings.{faulted, queries_in, job_in, ledger_in, part_in, store_in}
@@ -52,7 +61,7 @@ use Rattle.input_core.specs.Certificates.{certificate_of, issuer_of, certificate
 use Rattle.clubcard_top.specs.ReplyFields.{Done, NamedFault}
 use Rattle.clubcard_top.specs.Statuses.{is_one_of}
 use Rattle.clubcard_top.specs.Commands.{◌>>=◌, named, input, begun_by, begun, installed_by, installed, stored, query_done, query_cert_done, check_done, show_done}
-use Rattle.clubcard_top.specs.Commands.{publication_done, published_as, MakesSnapshot, MakesDelta, rehearsed, IsRefused, MakesRehearsal, sample_done, Makes}
+use Rattle.clubcard_top.specs.Commands.{publication_done, published_as, MakesSnapshot, MakesDelta, rehearsed, IsRefused, MakesRehearsal, sample_done, head_in, page_in, room_for, pages_of, gather_done, Makes}
 use Rattle.clubcard_top.specs.Steps.{RehearsesOn}
 use Rattle.clubcard_top.specs.Replies.{refusal, reply_of}
 use Rattle.input_core.specs.Inputs.{IsRead, AreRead}
@@ -71,11 +80,12 @@ refusal_quiet name (faults.BadCrl place fault) = refl
 refusal_quiet name (faults.TooMany thing limit) = refl
 refusal_quiet name (faults.Seeds issuer stage) = refl
 refusal_quiet name (faults.BadCert fault) = refl
+refusal_quiet name (faults.BadPage fault) = refl
 refusal_quiet name faults.NoMemory = refl
 
 -- the statuses of a command that isn't `Usage`
 abbrev pub of_commands : List ℕ
-of_commands = 0 ∷ 3 ∷ 4 ∷ 5 ∷ 6 ∷ 7 ∷ 8 ∷ 12 ∷ 70 ∷ []
+of_commands = 0 ∷ 3 ∷ 4 ∷ 5 ∷ 6 ∷ 7 ∷ 8 ∷ 12 ∷ 16 ∷ 70 ∷ []
 
 pub fault_status : (name : List ℕ) (fault : FileFault) → IsTrue (is_one_of of_commands (refusal name fault).status)
 fault_status name faults.Unread = refl
@@ -86,6 +96,7 @@ fault_status name (faults.BadCrl place fault) = refl
 fault_status name (faults.TooMany thing limit) = refl
 fault_status name (faults.Seeds issuer stage) = refl
 fault_status name (faults.BadCert fault) = refl
+fault_status name (faults.BadPage fault) = refl
 fault_status name faults.NoMemory = refl
 
 pub outcome_status : (o : Result Done NamedFault) → IsTrue (is_one_of of_commands (reply_of o).status)
@@ -157,6 +168,9 @@ install_then i parts x = named i.part (installed parts x.0) >>= (λ more. Ok (st
 abbrev pub install_after : InstallFields → Option (List ℕ) → List SealedFields → Result Done NamedFault
 install_after i p parts = input i.part part_in p >>= install_then i parts
 
+abbrev pub gather_after : GatherFields → List (Option (List ℕ)) → JobContents → Result Done NamedFault
+gather_after f inputs j = pages_of f.job (length j.entries) f.pages inputs >>= (λ entries. Ok (gather_done f j entries))
+
 abbrev pub cert_last : List SealedFields → Certificate → List ℕ → Result Done NamedFault
 cert_last parts cert issuer = Ok (query_cert_done parts cert issuer)
 
@@ -188,6 +202,10 @@ done_names (commands.Install i) (s ∷ p ∷ []) d m =
 done_names (commands.Rehearse r) (q ∷ inputs) d m = rehearsal_names r (input r.queries queries_in q) inputs d m
 done_names (commands.Sample s) [] d m = ap (λ (e : Done). names_of e.outputs) (ok_same {E = NamedFault} d (sample_done s) m)
 done_names (commands.Rehearse r) [] d m = absurd m
+done_names (commands.Gather f) (h ∷ inputs) d m =
+    let x = after_ok (input f.head head_in h) (gather_after f inputs) d m in
+    names_after (f.job ∷ []) (gather_done f x.0) (λ y. refl) (pages_of f.job (length x.0.entries) f.pages inputs) d x.2
+done_names (commands.Gather f) [] d m = absurd m
 done_names (commands.Sample s) (a ∷ cs) d m = absurd m
 done_names (commands.Query q) [] d m = absurd m
 done_names (commands.Query q) (a ∷ b ∷ cs) d m = absurd m
@@ -304,6 +322,28 @@ certificate_read bytes h = faulted_read faults.BadCert (certificate_of bytes) ce
 issuer_read : (bytes : List ℕ) → issuer_in bytes ≡ Err faults.Unread → ⊥
 issuer_read bytes h = faulted_read faults.BadCert (issuer_of bytes) cert_fault_read h
 
+head_faulted_read : (r : Result JobContents JobFault) → (r ≡ Err of_job_faults.ReadFault → ⊥) → faulted of_job r ≡ Err faults.Unread → ⊥
+head_faulted_read (Ok x) read h = not_err x faults.Unread h
+head_faulted_read (Err e) read h = job_fault_read e (λ is. read (ap (λ (f : JobFault). Err f) is)) (err_same {A = JobContents} (of_job e) faults.Unread h)
+
+head_read : (bytes : List ℕ) → head_in bytes ≡ Err faults.Unread → ⊥
+head_read bytes h = head_faulted_read (raw_job PUBLISHED bytes) (no_read PUBLISHED bytes) h
+
+page_fault_read : (f : PageFault) → IsRead_fault (of_page f)
+page_fault_read of_page_faults.Json = λ h. cc
+page_fault_read (of_page_faults.Shape index) = λ h. cc
+page_fault_read (of_page_faults.Base64 index) = λ h. cc
+page_fault_read (of_page_faults.Size index) = λ h. cc
+page_fault_read of_page_faults.NoMemory = λ h. cc
+
+page_read_by : (b : Bool) (r : Result (List PageFields) FileFault) → (r ≡ Err faults.Unread → ⊥)
+    → (if b then Err (faults.BadPage (of_page_faults.Size 0)) else r) ≡ Err faults.Unread → ⊥
+page_read_by true r read h = let g : faults.BadPage (of_page_faults.Size 0) ≡ faults.Unread = err_same {A = List PageFields} (faults.BadPage (of_page_faults.Size 0)) faults.Unread h in cc
+page_read_by false r read h = read h
+
+page_read : (bytes : List ℕ) → page_in bytes ≡ Err faults.Unread → ⊥
+page_read bytes h = page_read_by (nat_lt MAX_PAGE (length bytes)) (faulted of_page (page_of bytes)) (faulted_read of_page (page_of bytes) page_fault_read) h
+
 -- ---- which input it is
 
 named_err : {A : Type 0} (name : List ℕ) (r : Result A FileFault) (e : NamedFault) → named name r ≡ Err e → (r ≡ Err e.fault) × (name ≡ e.name)
@@ -361,6 +401,36 @@ first_unread : {A : Type 0} (name : List ℕ) (read : List ℕ → Result A File
     → (input name read given ≡ Err e) ⊎ ((x : A) × (input name read given ≡ Ok x) × (Err e ≡ next x)) → e.fault ≡ faults.Unread → (given ≡ None) × (name ≡ e.name)
 first_unread name read given next e refute rest (inl h) u = input_unread name read given e refute h u
 first_unread name read given next e refute rest (inr (x, is, h)) u = absurd (rest x h)
+
+-- what follows a page that was read, and one for which there is room
+abbrev pub page_last : List ℕ → ℕ → List (List ℕ) → List (Option (List ℕ)) → List PageFields → Result (List PageFields) NamedFault
+page_last job before names inputs page = pages_of job (before + length page) names inputs >>= (λ others. Ok (page ++ others))
+
+abbrev pub page_then : List ℕ → ℕ → List (List ℕ) → List (Option (List ℕ)) → List PageFields → Result (List PageFields) NamedFault
+page_then job before names inputs read = room_for job before read >>= page_last job before names inputs
+
+after_err_of : {A B : Type 0} (r : Result A NamedFault) (next : A → Result B NamedFault) (e : NamedFault) → Err e ≡ (r >>= next) → (r ≡ Err e) ⊎ ((x : A) × (r ≡ Ok x) × (Err e ≡ next x))
+after_err_of (Ok x) next e h = inr (x, refl, h)
+after_err_of {A} {B} (Err f) next e h = inl (ap (λ (g : NamedFault). Err g) (sym (err_same {A = B} e f h)))
+
+last_err : (page : List PageFields) (r : Result (List PageFields) NamedFault) (e : NamedFault) → Err e ≡ (r >>= (λ others. Ok (page ++ others))) → Err e ≡ r
+last_err page (Ok others) e h = absurd (not_err (page ++ others) e (sym h))
+last_err page (Err f) e h = ap (λ (k : NamedFault). Err k) (err_same {A = List PageFields} e f h)
+
+done_err : {A : Type 0} (f : A → Done) (r : Result A NamedFault) (e : NamedFault) → Err e ≡ (r >>= (λ x. Ok (f x))) → Err e ≡ r
+done_err f (Ok x) e h = absurd (not_err (f x) e (sym h))
+done_err f (Err k) e h = ap (λ (n : NamedFault). Err n) (err_same {A = Done} e k h)
+
+-- too many entries aren't a file that can't be read
+room_read_by : (job : List ℕ) (page : List PageFields) (e : NamedFault) (b : Bool)
+    → (if b then Ok page else Err (record { name = job; fault = faults.TooMany what.Entries PUBLISHED.entries })) ≡ Err e → e.fault ≡ faults.Unread → ⊥
+room_read_by job page e true h u = not_err page e h
+room_read_by job page e false h u =
+    let g : faults.TooMany what.Entries PUBLISHED.entries ≡ faults.Unread
+    = ap (λ (k : NamedFault). k.fault) (err_same {A = List PageFields} (record { name = job; fault = faults.TooMany what.Entries PUBLISHED.entries }) e h) ∙ u in cc
+
+room_read : (job : List ℕ) (before : ℕ) (page : List PageFields) (e : NamedFault) → room_for job before page ≡ Err e → e.fault ≡ faults.Unread → ⊥
+room_read job before page e h u = room_read_by job page e (nat_le (before + length page) PUBLISHED.entries) h u
 
 module _ (told : Option Files) (failed : Option (List ℕ) → Type 0) (e : NamedFault) (u : e.fault ≡ faults.Unread) where
   abbrev Cause : List (List ℕ) → Type 0
@@ -430,6 +500,35 @@ module _ (told : Option Files) (failed : Option (List ℕ) → Type 0) (e : Name
       cause_of (r.queries ∷ r.jobs) r.queries given (inl refl) first
       (input_unread r.queries queries_in given e queries_read (is ∙ ap (λ (k : NamedFault). Err k) (sym (err_same {A = Done} e f m))) u)
 
+  -- the entries behind those of a page
+  room_by : (job : List ℕ) (before : ℕ) (name : List ℕ) (names : List (List ℕ)) (inputs : List (Option (List ℕ))) (page : List PageFields)
+      → ((n : ℕ) → Err e ≡ pages_of job n names inputs → Cause names)
+      → (room_for job before page ≡ Err e) ⊎ ((few : List PageFields) × (room_for job before page ≡ Ok few) × (Err e ≡ page_last job before names inputs few)) → Cause (name ∷ names)
+  room_by job before name names inputs page rest (inl h) = absurd (room_read job before page e h u)
+  room_by job before name names inputs page rest (inr (few, is, h)) =
+      let c = rest (before + length few) (last_err few (pages_of job (before + length few) names inputs) e h) in (inr c.0, c.1)
+
+  -- a page, behind which others are read
+  page_by : (job : List ℕ) (before : ℕ) (name : List ℕ) (names : List (List ℕ)) (g : Option (List ℕ)) (inputs : List (Option (List ℕ)))
+      → IsRead told failed name g → ((n : ℕ) → Err e ≡ pages_of job n names inputs → Cause names)
+      → (input name page_in g ≡ Err e) ⊎ ((read : List PageFields) × (input name page_in g ≡ Ok read) × (Err e ≡ page_then job before names inputs read)) → Cause (name ∷ names)
+  page_by job before name names g inputs read rest (inl h) = cause_of (name ∷ names) name g (inl refl) read (input_unread name page_in g e page_read h u)
+  page_by job before name names g inputs read rest (inr (page, is, h)) = room_by job before name names inputs page rest (after_err_of (room_for job before page) (page_last job before names inputs) e h)
+
+  pages_by : (job : List ℕ) (before : ℕ) (names : List (List ℕ)) (inputs : List (Option (List ℕ))) → AreRead told failed names inputs
+      → Err e ≡ pages_of job before names inputs → Cause names
+  pages_by job before [] [] read m = absurd (not_ok [] e m)
+  pages_by job before [] (g ∷ inputs) read m = absurd read
+  pages_by job before (name ∷ names) [] read m = absurd read
+  pages_by job before (name ∷ names) (g ∷ inputs) read m =
+      page_by job before name names g inputs read.0 (λ n h. pages_by job n names inputs read.1 h) (after_err_of (input name page_in g) (page_then job before names inputs) e m)
+
+  gather_by : (f : GatherFields) (h : Option (List ℕ)) (inputs : List (Option (List ℕ))) → IsRead told failed f.head h → AreRead told failed f.pages inputs
+      → (input f.head head_in h ≡ Err e) ⊎ ((j : JobContents) × (input f.head head_in h ≡ Ok j) × (Err e ≡ gather_after f inputs j)) → Cause (f.head ∷ f.pages)
+  gather_by f h inputs first others (inl is) = cause_of (f.head ∷ f.pages) f.head h (inl refl) first (input_unread f.head head_in h e head_read is u)
+  gather_by f h inputs first others (inr (j, is, m)) =
+      let c = pages_by f.job (length j.entries) f.pages inputs others (done_err (gather_done f j) (pages_of f.job (length j.entries) f.pages inputs) e m) in (inr c.0, c.1)
+
   -- An input that can't be read has its cause.
   pub unread_cause : (c : Command) (inputs : List (Option (List ℕ))) → AreRead told failed (inputs_of c) inputs → Makes c inputs (Err e) → Cause (inputs_of c)
   unread_cause commands.Usage inputs read m = absurd m
@@ -456,6 +555,9 @@ module _ (told : Option Files) (failed : Option (List ℕ) → Type 0) (e : Name
   unread_cause (commands.Sample s) [] read m = absurd (not_ok (sample_done s) e m)
   unread_cause (commands.Rehearse r) [] read m = absurd m
   unread_cause (commands.Sample s) (a ∷ cs) read m = absurd m
+  unread_cause (commands.Gather f) (h ∷ inputs) read m =
+      gather_by f h inputs read.0 read.1 (after_err (input f.head head_in h) (gather_after f inputs) e m)
+  unread_cause (commands.Gather f) [] read m = absurd m
   unread_cause (commands.Query q) [] read m = absurd m
   unread_cause (commands.Query q) (a ∷ b ∷ cs) read m = absurd m
   unread_cause (commands.QueryCert q) [] read m = absurd m

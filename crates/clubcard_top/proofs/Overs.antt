@@ -1,14 +1,16 @@
 -- What comes of a command over what the files hold, from what was read of them.
 use Rattle.std.proofs.Common.{◌≡◌, ℕ, inl, inr, List, [], ◌∷◌, ◌++◌, map, Option, Some, None, Result, Ok, Err, refl, sym, ap, subst}
+use Rattle.std.specs.Prelude.{◌+◌, length}
 use Rattle.std.specs.FinMap.{get}
 use Rattle.outside_core.specs.Files.{Files}
 use Rattle.query_core.specs.Queries.{Query}
 use Rattle.job_core.specs.JobFields.{JobFields}
+use Rattle.gather_core.specs.Pages.{PageFields}
 use Rattle.ledger_core.specs.LedgerFields.{LedgerFields}
 use Rattle.part_codec.specs.SealedFields.{SealedFields}
 use Rattle.word_core.specs.declared.command.Command.{Command}
 use Rattle.word_core.specs.declared.command.Command.TheVariants as commands
-use Rattle.word_core.specs.CommandFields.{QueryCertFields, DeltaFields, InstallFields, RehearseFields}
+use Rattle.word_core.specs.CommandFields.{QueryCertFields, DeltaFields, InstallFields, RehearseFields, GatherFields}
 use Rattle.word_core.specs.Names.{inputs_of}
 use Rattle.input_core.specs.declared.fault.FileFault.{FileFault}
 use Rattle.input_core.specs.declared.fault.FileFault.TheVariants as faults
@@ -16,10 +18,10 @@ use Rattle.clubcard_top.specs.ReplyFields.{Done, NamedFault}
 use Rattle.input_core.specs.Readings.{queries_in, job_in, ledger_in, store_in}
 use Rattle.input_core.specs.Certificates.{certificate_in, issuer_in}
 use Rattle.input_core.specs.Inputs.{IsRead, AreRead}
-use Rattle.clubcard_top.specs.Commands.{◌>>=◌, input, query_makes, query_cert_makes, check_makes, show_makes, start_makes, install_makes, MakesDelta, IsRefused, MakesRehearsal, Makes}
+use Rattle.clubcard_top.specs.Commands.{◌>>=◌, input, query_makes, query_cert_makes, check_makes, show_makes, start_makes, install_makes, MakesDelta, IsRefused, MakesRehearsal, head_in, page_in, room_for, pages_of, gather_done, gather_makes, Makes}
 use Rattle.clubcard_top.specs.Steps.{RehearsesOn}
 use Rattle.clubcard_top.specs.Replies.{held_by}
-use Rattle.clubcard_top.proofs.Makings.{install_after, cert_last, cert_then, cert_after}
+use Rattle.clubcard_top.proofs.Makings.{install_after, gather_after, page_last, page_then, cert_last, cert_then, cert_after}
 use Rattle.clubcard_top.proofs.Prefixes.{first_of, from_first}
 
 pub some_is : (f g : Files) → ◌≡◌ {A = Option Files} (Some f) (Some g) → f ≡ g
@@ -140,6 +142,44 @@ rehearsal_over : (files : Files) (failed : Option (List ℕ) → Type 0) (r : Re
 rehearsal_over files failed r None inputs o seen first others m = absurd (seen (unread r.queries) m refl)
 rehearsal_over files failed r (Some b) inputs o seen first others m = rw first (rehearsal_by files failed r (input r.queries queries_in (Some b)) inputs o seen others m)
 
+-- a step between two others
+through : {A C B : Type 0} (r : Result A NamedFault) (one other : A → Result C NamedFault) (next : C → Result B NamedFault) (o : Result B NamedFault)
+    → ((x : A) → o ≡ (one x >>= next) → o ≡ (other x >>= next)) → o ≡ ((r >>= one) >>= next) → o ≡ ((r >>= other) >>= next)
+through (Ok x) one other next o then m = then x m
+through (Err e) one other next o then m = m
+
+parted : {B : Type 0} (r : Result (List PageFields) NamedFault) (few : List PageFields) (next : List PageFields → Result B NamedFault) (o : Result B NamedFault)
+    → o ≡ ((r >>= (λ others. Ok (few ++ others))) >>= next) → o ≡ (r >>= (λ others. next (few ++ others)))
+parted (Ok others) few next o m = m
+parted (Err e) few next o m = m
+
+joined : {B : Type 0} (r : Result (List PageFields) NamedFault) (few : List PageFields) (next : List PageFields → Result B NamedFault) (o : Result B NamedFault)
+    → o ≡ (r >>= (λ others. next (few ++ others))) → o ≡ ((r >>= (λ others. Ok (few ++ others))) >>= next)
+joined (Ok others) few next o m = m
+joined (Err e) few next o m = m
+
+-- pages, behind which a step follows
+pages_over : {B : Type 0} (files : Files) (failed : Option (List ℕ) → Type 0) (o : Result B NamedFault) → ((e : NamedFault) → o ≡ Err e → e.fault ≡ faults.Unread → ⊥)
+    → (job : List ℕ) (before : ℕ) (names : List (List ℕ)) (inputs : List (Option (List ℕ))) → AreRead (Some files) failed names inputs
+    → (next : List PageFields → Result B NamedFault) → o ≡ (pages_of job before names inputs >>= next) → o ≡ (pages_of job before names (map (get files) names) >>= next)
+pages_over files failed o seen job before [] [] read next m = m
+pages_over files failed o seen job before [] (g ∷ inputs) read next m = absurd read
+pages_over files failed o seen job before (name ∷ names) [] read next m = absurd read
+pages_over files failed o seen job before (name ∷ names) (None ∷ inputs) read next m = absurd (seen (unread name) m refl)
+pages_over files failed o seen job before (name ∷ names) (Some b ∷ inputs) read next m =
+    rw read.0 (through (input name page_in (Some b)) (page_then job before names inputs) (page_then job before names (map (get files) names)) next o
+    (λ page h. through (room_for job before page) (page_last job before names inputs) (page_last job before names (map (get files) names)) next o
+    (λ few k. joined (pages_of job (before + length few) names (map (get files) names)) few next o
+    (pages_over files failed o seen job (before + length few) names inputs read.1 (λ others. next (few ++ others))
+    (parted (pages_of job (before + length few) names inputs) few next o k))) h) m)
+
+gather_over : (files : Files) (failed : Option (List ℕ) → Type 0) (f : GatherFields) (h : Option (List ℕ)) (inputs : List (Option (List ℕ))) (o : Result Done NamedFault) → IsSeen o
+    → IsRead (Some files) failed f.head h → AreRead (Some files) failed f.pages inputs
+    → o ≡ gather_makes f h inputs → o ≡ gather_makes f (get files f.head) (map (get files) f.pages)
+gather_over files failed f h inputs o seen first others m =
+    after_over files failed f.head head_in h (gather_after f inputs) (gather_after f (map (get files) f.pages)) o seen first
+    (λ j. pages_over files failed o seen f.job (length j.entries) f.pages inputs others (λ entries. Ok (gather_done f j entries))) m
+
 -- of one input
 one_over : (files : Files) (failed : Option (List ℕ) → Type 0) (name : List ℕ) (P : Option (List ℕ) → Type 0) (given : Option (List ℕ)) → (P None → ⊥)
     → IsRead (Some files) failed name given → P given → P (get files name)
@@ -162,6 +202,8 @@ over_files files failed (commands.Rehearse r) (q ∷ inputs) o seen read m = reh
 over_files files failed (commands.Sample s) [] o seen read m = m
 over_files files failed (commands.Rehearse r) [] o seen read m = absurd m
 over_files files failed (commands.Sample s) (a ∷ cs) o seen read m = absurd m
+over_files files failed (commands.Gather f) (h ∷ inputs) o seen read m = gather_over files failed f h inputs o seen read.0 read.1 m
+over_files files failed (commands.Gather f) [] o seen read m = absurd m
 over_files files failed (commands.Query q) [] o seen read m = absurd m
 over_files files failed (commands.Query q) (a ∷ b ∷ cs) o seen read m = absurd m
 over_files files failed (commands.QueryCert q) [] o seen read m = absurd m

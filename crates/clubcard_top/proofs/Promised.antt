@@ -5,6 +5,7 @@ use Rattle.outside_core.specs.Files.{Files, Rose}
 use Rattle.octets_core.specs.declared.fault.LayoutFault.{LayoutFault}
 use Rattle.crl_core.specs.declared.crl.CrlFault.{CrlFault}
 use Rattle.sct_core.specs.declared.fault.CertFault.{CertFault}
+use Rattle.gather_core.specs.declared.fault.PageFault.{PageFault}
 use Rattle.job_core.specs.declared.bounds.What.{What}
 use Rattle.store_core.specs.declared.chain.Refusal.{Refusal}
 use Rattle.word_core.specs.declared.command.Command.{Command}
@@ -228,6 +229,13 @@ module _ (call : Call) where
       let r = refused_of files is (faults.BadCert x.0) x.1 in
       (r.0, x.0, r.1)
 
+  bad_page : EndsOld call → call.status ≡ 16 → FilesAreTold call → (name : List ℕ) × (fault : PageFault)
+      × Refused call name (faults.BadPage fault)
+  bad_page ends st (files, is) =
+      let x = tellings.page call.asked (WhichFailedIn call) _ _ _ _ _ _ (Some files) (at files is ends) st in
+      let r = refused_of files is (faults.BadPage x.0) x.1 in
+      (r.0, x.0, r.1)
+
   usage_reply : call.asked ≡ commands.Usage → (reply : ReplyFields) → IsAnswer call reply → Gives call reply
       → Gives call usage
   usage_reply none reply (inputs, read, inl (asked, same), says) g = subst (λ (r : ReplyFields). Gives call r) same g
@@ -257,6 +265,7 @@ module _ (call : Call) where
     too_many = too_many ends;
     seeds = seeds ends;
     bad_cert = bad_cert ends;
+    bad_page = bad_page ends;
     bad_words = endings.usage_line _ _ (WhichFailedIn call) _ _ _ _ _ _ ends;
     no_command = no_command (ways ends);
     refused = refused unique (ways ends);

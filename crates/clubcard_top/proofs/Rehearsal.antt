@@ -39,7 +39,7 @@ use Rattle.clubcard_top.proofs.Prefixes.{first_of}
 abbrev pub nothing : Option (List ℕ) → Type 0
 nothing which = ⊥
 
-wider_all : (told : Option Files) (failed other : Option (List ℕ) → Type 0) (names : List (List ℕ)) (inputs : List (Option (List ℕ)))
+pub wider_all : (told : Option Files) (failed other : Option (List ℕ) → Type 0) (names : List (List ℕ)) (inputs : List (Option (List ℕ)))
     → ((which : Option (List ℕ)) → failed which → other which) → AreRead told failed names inputs → AreRead told other names inputs
 wider_all told failed other [] [] wider read = tt
 wider_all told failed other [] (g ∷ inputs) wider read = absurd read
@@ -47,7 +47,7 @@ wider_all told failed other (name ∷ names) [] wider read = absurd read
 wider_all told failed other (name ∷ names) (g ∷ inputs) wider read =
     (later_read told told failed other name g refl wider read.0, wider_all told failed other names inputs wider read.1)
 
-read_both : (told : Option Files) (failed : Option (List ℕ) → Type 0) (names others : List (List ℕ)) (inputs more : List (Option (List ℕ)))
+pub read_both : (told : Option Files) (failed : Option (List ℕ) → Type 0) (names others : List (List ℕ)) (inputs more : List (Option (List ℕ)))
     → AreRead told failed names inputs → AreRead told failed others more
     → AreRead told failed (names ++ others) (inputs ++ more)
 read_both told failed [] others [] more read read_more = read_more
@@ -56,7 +56,7 @@ read_both told failed (name ∷ names) others [] more read read_more = absurd re
 read_both told failed (name ∷ names) others (g ∷ inputs) more read read_more = (read.0, read_both told failed names others inputs more read.1 read_more)
 
 -- files that need not be read
-some_reads : (told : Option Files) (failed : Option (List ℕ) → Type 0) (names : List (List ℕ)) → (inputs : List (Option (List ℕ))) × AreRead told failed names inputs
+pub some_reads : (told : Option Files) (failed : Option (List ℕ) → Type 0) (names : List (List ℕ)) → (inputs : List (Option (List ℕ))) × AreRead told failed names inputs
 some_reads told failed [] = ([], tt)
 some_reads told failed (name ∷ names) =
     let one = some_read told failed name in
@@ -64,7 +64,7 @@ some_reads told failed (name ∷ names) =
     (one.0 ∷ rest.0, (one.1, rest.1))
 
 -- a name at a place is one of the names
-at_among : (names : List (List ℕ)) (i : ℕ) (name : List ℕ) (rest : List (List ℕ)) → drop i names ≡ name ∷ rest → Among names name
+pub at_among : (names : List (List ℕ)) (i : ℕ) (name : List ℕ) (rest : List (List ℕ)) → drop i names ≡ name ∷ rest → Among names name
 at_among [] zero name rest is = absurd (let h : ◌≡◌ {A = List (List ℕ)} [] (name ∷ rest) = is in cc)
 at_among [] (suc i) name rest is = absurd (let h : ◌≡◌ {A = List (List ℕ)} [] (name ∷ rest) = is in cc)
 at_among (n ∷ names) zero name rest is = inl (let h : ◌≡◌ {A = List (List ℕ)} (n ∷ names) (name ∷ rest) = is in cc)

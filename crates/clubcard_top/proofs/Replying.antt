@@ -1,12 +1,11 @@
 -- The reply of a command, from what was read of its inputs.
-use Rattle.std.proofs.Common.{◌≡◌, ℕ, inl, inr, List, [], ◌∷◌, Option, Some, None, Result, Ok, Err, IfOk, refl, sym, ap, ◌∙◌, subst, arith}
-use Rattle.std.specs.Prelude.{◌⊎◌, IsErr, IsErrOf}
-use Rattle.std.specs.FinMap.{get}
+use Rattle.std.proofs.Common.{◌≡◌, ℕ, inl, inr, List, [], ◌∷◌, Option, Some, None, Result, Ok, Err, IfOk, refl, sym, ap, ◌∙◌, subst}
+use Rattle.std.specs.Prelude.{IsErr}
 use Rattle.octets_core.specs.declared.memory.NoMemory.{NoMemory}
 use Rattle.octets_core.specs.Reading.{GivesUnless}
 use Rattle.outside_core.specs.declared.depot.Depot.{Ghosts}
 use Rattle.outside_core.specs.Effects.{OnlyReads}
-use Rattle.outside_core.specs.Files.{Files, IsMissing, blaming}
+use Rattle.outside_core.specs.Files.{Files}
 use Rattle.sets_core.specs.Among.{Among}
 use Rattle.part_codec.specs.SealedFields.{SealedFields}
 use Rattle.job_core.specs.declared.bounds.TheConstants.Limits.{PUBLISHED}
@@ -25,7 +24,7 @@ use Rattle.clubcard_top.specs.declared.answer.Answer.{Answer}
 use Rattle.input_core.specs.declared.fault.FileFault.{FileFault}
 use Rattle.input_core.specs.declared.fault.FileFault.TheVariants as faults
 use Rattle.clubcard_top.specs.Faults.{of_publishing}
-use Rattle.input_core.specs.Readings.{faulted, job_in, ledger_in, part_in, store_in, input_as}
+use Rattle.input_core.specs.Readings.{job_in, ledger_in, part_in, store_in, input_as}
 use Rattle.input_core.specs.Inputs.{WhichFailed, IsBlamed, IsRead, AreRead, IsInput}
 use Rattle.input_core.proofs.FilesRead.{some_read, later_read, failed_later, none_failed, blamed_later}
 use Rattle.clubcard_top.specs.ReplyFields.{ReplyFields, Done, NamedFault}

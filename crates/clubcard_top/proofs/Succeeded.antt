@@ -1,5 +1,7 @@
 -- What a call that succeeds found, left and said; and what it does for a history.
 use Rattle.std.proofs.Common.{◌≡◌, ◌≢◌, ℕ, cond, ◌⊎◌, List, [], ◌∷◌, ◌++◌, length, Option, Some, None, Result, Ok, Err, refl, sym, ap, subst, ◌∙◌}
+use Rattle.std.proofs.Common.{◌+◌, ◌≤◌, Bool, true, false, map, length-append, arith}
+use Rattle.std.specs.Prelude.{nat_le, if◌then◌else◌}
 use Rattle.std.specs.Cmp.Lexicographic.{nat_list_cmp_total}
 use Rattle.std.specs.FinMap.{get, insert, get-insert}
 use Rattle.std.proofs.lemmas.Map.Text.{is_eq-slice_cmp}
@@ -12,7 +14,11 @@ use Rattle.ident_core.specs.declared.identity.Identity.{Identity}
 use Rattle.ident_core.specs.declared.range.Sighting.{Sighting}
 use Rattle.query_core.specs.Queries.{Query}
 use Rattle.sample_core.specs.Sample.{sample_text}
+use Rattle.gather_core.specs.Pages.{PageFields}
+use Rattle.job_core.specs.declared.bounds.TheConstants.Limits as limits
+use Rattle.job_core.specs.declared.bounds.What.TheVariants as what
 use Rattle.job_core.specs.JobFields.{JobFields}
+use Rattle.job_core.specs.JobText.{JobContents, spelling as job_text}
 use Rattle.ledger_core.specs.LedgerFields.{LedgerFields}
 use Rattle.ledger_core.specs.LedgerText.{ledger_text}
 use Rattle.part_codec.specs.SealedFields.{SealedFields}
@@ -26,7 +32,7 @@ use Rattle.publication_core.specs.Publishing.{Published as Publication, CanBePub
 use Rattle.publication_core.specs.Histories.{IsAdmissible, IsHistory, history, part_bytes, store_bytes, ledger_bytes}
 use Rattle.word_core.specs.declared.command.Command.{Command}
 use Rattle.word_core.specs.declared.command.Command.TheVariants as commands
-use Rattle.word_core.specs.CommandFields.{QueryFields, QueryCertFields, SnapshotFields, DeltaFields, StartFields, InstallFields, RehearseFields, SampleFields}
+use Rattle.word_core.specs.CommandFields.{QueryFields, QueryCertFields, SnapshotFields, DeltaFields, StartFields, InstallFields, RehearseFields, SampleFields, GatherFields}
 use Rattle.line_core.specs.Lines.{store_line}
 use Rattle.input_core.specs.declared.certificates.Certificate.{Certificate}
 use Rattle.input_core.specs.declared.fault.FileFault.{FileFault}
@@ -36,12 +42,12 @@ use Rattle.clubcard_top.specs.ReplyFields.{OutputFields, Done, NamedFault}
 use Rattle.input_core.specs.Readings.{job_in, ledger_in, part_in, store_in}
 use Rattle.input_core.specs.Certificates.{certificate_in, issuer_in}
 use Rattle.clubcard_top.specs.Commands.{◌>>=◌, named, input, only, query_done, query_cert_done, check_done, show_done, epoch_of, stored, begun_by, begun, installed_by, installed}
-use Rattle.clubcard_top.specs.Commands.{publication_done, published_as, MakesPart, MakesSnapshot, MakesDelta, sample_done, rehearsed, Makes}
+use Rattle.clubcard_top.specs.Commands.{publication_done, published_as, MakesPart, MakesSnapshot, MakesDelta, sample_done, head_in, page_in, room_for, pages_of, longer, gather_done, rehearsed, Makes}
 use Rattle.clubcard_top.specs.Replies.{held_by}
 use Rattle.clubcard_top.specs.Runs.{with_outputs}
 use Rattle.clubcard_top.specs.Calls.{Call, Reads, Holds, Writes, ChangesNoFile, Prints, NoFault}
 use Rattle.clubcard_top.specs.Endings.{Succeeds, Did, WantedMemory}
-use Rattle.clubcard_top.specs.Successes.{PublishesFile}
+use Rattle.clubcard_top.specs.Successes.{PublishesFile, ReadsPages}
 use Rattle.clubcard_top.specs.Headline.{AsksHistory, IsPublished, IsRehearsed, IsStored, PublishesJob, RehearsesJobs}
 use Rattle.clubcard_top.specs.Headline.{StoresPart, publishes_to, stores_to, truth_line, truth_done, Published, Stored}
 use Rattle.clubcard_top.specs.Headline.{AsksToPublish, AsksToStore, AsksTruth, AsksToRehearse}
@@ -49,7 +55,8 @@ use Rattle.clubcard_top.specs.Headline.{AsksCert, AsksCertTruth, cert_truth_line
 use Rattle.clubcard_top.specs.Headline.{part_name, ledger_name, store_name}
 use Rattle.clubcard_top.specs.Promises.{Successes, Histories}
 use Rattle.clubcard_top.proofs.Files.{get-other}
-use Rattle.clubcard_top.proofs.Makings.{cert_last, cert_then, cert_after}
+use Rattle.clubcard_top.proofs.Makings.{gather_after, page_last, page_then, cert_last, cert_then, cert_after}
+use Rattle.clubcard_top.proofs.PagesPut.{behind_these, page_put}
 use Rattle.clubcard_top.proofs.Results.{ok_same}
 use Rattle.clubcard_top.proofs.Promised.{EndsOld, answers, sure}
 use Rattle.clubcard_top.proofs.WordsApart.{IsApart}
@@ -97,6 +104,15 @@ step_ok : {A B : Type 0} (r : Result A NamedFault) (f : A → Result B NamedFaul
     × (r ≡ Ok x) × (f x ≡ Ok d)
 step_ok (Ok x) f d h = (x, refl, sym h)
 step_ok (Err e) f d h = absurd (not_fault d e (sym h))
+
+room_ok_by : (job : List ℕ) (page few : List PageFields) (b : Bool)
+    → if◌then◌else◌ {A = Result (List PageFields) NamedFault} b (Ok page) (Err (record { name = job; fault = faults.TooMany what.Entries limits.PUBLISHED.entries })) ≡ Ok few
+    → page ≡ few
+room_ok_by job page few true h = ok_same {E = NamedFault} page few h
+room_ok_by job page few false h = absurd (not_fault few (record { name = job; fault = faults.TooMany what.Entries limits.PUBLISHED.entries }) h)
+
+room_ok : (job : List ℕ) (before : ℕ) (page few : List PageFields) → room_for job before page ≡ Ok few → page ≡ few
+room_ok job before page few h = room_ok_by job page few (nat_le (before + length page) limits.PUBLISHED.entries) h
 
 -- ---- parts of stores
 
@@ -378,6 +394,39 @@ module _ (call : Call) where
         one_held did.files s.job (sample_text s.number s.count) call.files_after kept,
       )
 
+  pages_read : (files : Files) → call.files_before ≡ Some files → (job : List ℕ) (before : ℕ) (names : List (List ℕ)) (entries : List PageFields)
+      → Ok entries ≡ pages_of job before names (map (get files) names) → ReadsPages call names entries
+  pages_read files told job before [] entries h = ok_same {E = NamedFault} entries [] h
+  pages_read files told job before (name ∷ names) entries h =
+      let others = map (get files) names in
+      let one = step_ok (input name page_in (get files name)) (page_then job before names others) entries h in
+      let two = step_ok (room_for job before one.0) (page_last job before names others) entries (sym one.2) in
+      let three = step_ok (pages_of job (before + length two.0) names others) (λ more. Ok (two.0 ++ more)) entries (sym two.2) in (
+        one.0,
+        three.0,
+        reads files told name page_in one.0 one.1,
+        sym (ok_same {E = NamedFault} (two.0 ++ three.0) entries three.2)
+            ∙ ap (λ (page : List PageFields). page ++ three.0) (sym (room_ok job before one.0 two.0 two.1)),
+        pages_read files told job (before + length two.0) names three.0 (sym three.1),
+      )
+
+  gather : EndsOld call → (g : GatherFields) → (did : Did call (commands.Gather g)) → (head : JobContents)
+      × (entries : List PageFields) × Reads call g.head head_in head × ReadsPages call g.pages entries
+      × Prints call (gather_done g head entries).text × Holds call g.job (job_text (longer g head entries))
+  gather ends g did =
+      let c = came ends (commands.Gather g) did in
+      let others = map (get did.files) g.pages in
+      let one = step_ok (input g.head head_in (get did.files g.head)) (gather_after g others) c.d c.makes in
+      let two = step_ok (pages_of g.job (length one.0.entries) g.pages others) (λ entries. Ok (gather_done g one.0 entries)) c.d (sym one.2) in
+      let same : c.d ≡ gather_done g one.0 two.0 = sym (ok_same {E = NamedFault} (gather_done g one.0 two.0) c.d two.2) in (
+        one.0,
+        two.0,
+        reads did.files did.told g.head head_in one.0 one.1,
+        pages_read did.files did.told g.job (length one.0.entries) g.pages two.0 (sym two.1),
+        prints c.d (gather_done g one.0 two.0) same c.text,
+        one_held did.files g.job (job_text (longer g one.0 two.0)) call.files_after (left did.files c.d (gather_done g one.0 two.0) same c.files_are),
+      )
+
   -- ---- what can be published
 
   read_in : {A : Type 0} (files : Files) → call.files_before ≡ Some files
@@ -386,6 +435,15 @@ module _ (call : Call) where
   read_in files told name read x (bytes, (others, told_so, held), is) =
       let same : others ≡ files = some_same others files (sym told_so ∙ told) in
       ap (input name read) (ap (λ (f : Files). get f name) (sym same) ∙ held) ∙ ap (named name) is
+
+  pages_back : (files : Files) → call.files_before ≡ Some files → (job : List ℕ) (before : ℕ) (names : List (List ℕ)) (entries : List PageFields)
+      → ReadsPages call names entries → before + length entries ≤ limits.PUBLISHED.entries → pages_of job before names (map (get files) names) ≡ Ok entries
+  pages_back files told job before [] entries is few = ap (λ (l : List PageFields). Ok l) (sym is)
+  pages_back files told job before (name ∷ names) entries (page, others, page_reads, is, rest) few =
+      let size : length entries ≡ length page + length others = ap (λ (l : List PageFields). length l) is ∙ length-append page others in
+      page_put job name names before (get files name) (map (get files) names) page (read_in files told name page_in page page_reads) (omega (arith, few, size))
+      ∙ ap (behind_these page) (pages_back files told job (before + length page) names others rest (omega (arith, few, size)))
+      ∙ ap (λ (l : List PageFields). Ok l) (sym is)
 
   module _ (one : OneOutcome) (publishable : Publishable) (ends : EndsOld call) where
     -- what is sure to come of the command that was asked
@@ -449,6 +507,21 @@ module _ (call : Call) where
         ∙ ap (λ (r : Result (List ℕ) NamedFault). r >>= cert_last parts cert) issuer_is))
         quiet
 
+    -- pages that are read and aren't too many are gathered
+    pub gather_complete : (g : GatherFields) (head : JobContents) (entries : List PageFields) → call.asked ≡ commands.Gather g
+        → Reads call g.head head_in head → ReadsPages call g.pages entries → length head.entries + length entries ≤ limits.PUBLISHED.entries
+        → NoFault call → Succeeds call ⊎ WantedMemory call
+    gather_complete g head entries asked (bytes, (files, told, held), is) page_reads few quiet =
+        let others = map (get files) g.pages in
+        let head_is = read_in files told g.head head_in head (bytes, (files, told, held), is) in
+        let pages_are = pages_back files told g.job (length head.entries) g.pages entries page_reads few in
+        sure_of (commands.Gather g) files (gather_done g head entries) told asked
+        (λ none. cc)
+        (λ o m. sym
+        (ap (λ (r : Result JobContents NamedFault). r >>= gather_after g others) head_is
+        ∙ ap (λ (r : Result (List PageFields) NamedFault). r >>= (λ es. Ok (gather_done g head es))) pages_are))
+        quiet
+
   -- ---- histories
 
   -- the laws of what comes of a command over files, as `histories_are_made` says them
@@ -497,6 +570,7 @@ module _ (call : Call) where
   both_held (commands.Install i) files jobs parts job x y p apart is = absurd p
   both_held (commands.Rehearse r) files jobs parts job x y p apart is = absurd p
   both_held (commands.Sample s) files jobs parts job x y p apart is = absurd p
+  both_held (commands.Gather g) files jobs parts job x y p apart is = absurd p
 
   store_held : (c : Command) (files : Files) (parts : List SealedFields) (s : SealedFields) (x : List ℕ)
       → StoresPart c files parts s
@@ -512,6 +586,7 @@ module _ (call : Call) where
   store_held (commands.Delta t) files parts s x p is = absurd p
   store_held (commands.Rehearse r) files parts s x p is = absurd p
   store_held (commands.Sample t) files parts s x p is = absurd p
+  store_held (commands.Gather g) files parts s x p is = absurd p
 
   -- what was written, over the files as they are told
   writes_as : (files : Files) → call.files_before ≡ Some files → (outputs others : List OutputFields) → outputs ≡ others
@@ -657,4 +732,6 @@ module _ (call : Call) where
           );
       rehearse = rehearse;
       sample = sample ends;
+      gather = gather ends;
+      gather_complete = gather_complete one publishable ends;
     }

@@ -6,6 +6,7 @@ use Rattle.outside_core.specs.Written.{followed_by}
 use Rattle.octets_core.specs.declared.fault.LayoutFault.{LayoutFault}
 use Rattle.crl_core.specs.declared.crl.CrlFault.{CrlFault}
 use Rattle.sct_core.specs.declared.fault.CertFault.{CertFault}
+use Rattle.gather_core.specs.declared.fault.PageFault.{PageFault}
 use Rattle.job_core.specs.declared.bounds.What.{What}
 use Rattle.store_core.specs.declared.chain.Refusal.{Refusal}
 use Rattle.word_core.specs.declared.command.Command.{Command}
@@ -71,6 +72,7 @@ layout_of name (faults.BadCrl place fault) h = absurd (omega (arith, h))
 layout_of name (faults.TooMany thing limit) h = absurd (omega (arith, h))
 layout_of name (faults.Seeds issuer stage) h = absurd (omega (arith, h))
 layout_of name (faults.BadCert fault) h = absurd (omega (arith, h))
+layout_of name (faults.BadPage fault) h = absurd (omega (arith, h))
 layout_of name faults.NoMemory h = absurd (omega (arith, h))
 
 crl_of : (name : List ℕ) (fault : FileFault) → (refusal name fault).status ≡ 4 → (place : ℕ) × (f : CrlFault) × (fault ≡ faults.BadCrl place f)
@@ -82,6 +84,7 @@ crl_of name (faults.BadCrl place fault) h = (place, fault, refl)
 crl_of name (faults.TooMany thing limit) h = absurd (omega (arith, h))
 crl_of name (faults.Seeds issuer stage) h = absurd (omega (arith, h))
 crl_of name (faults.BadCert fault) h = absurd (omega (arith, h))
+crl_of name (faults.BadPage fault) h = absurd (omega (arith, h))
 crl_of name faults.NoMemory h = absurd (omega (arith, h))
 
 chain_of : (name : List ℕ) (fault : FileFault) → (refusal name fault).status ≡ 5 → (fault ≡ faults.NotSnapshot) ⊎ ((why : Refusal) × (fault ≡ faults.Chain why))
@@ -93,6 +96,7 @@ chain_of name (faults.BadCrl place fault) h = absurd (omega (arith, h))
 chain_of name (faults.TooMany thing limit) h = absurd (omega (arith, h))
 chain_of name (faults.Seeds issuer stage) h = absurd (omega (arith, h))
 chain_of name (faults.BadCert fault) h = absurd (omega (arith, h))
+chain_of name (faults.BadPage fault) h = absurd (omega (arith, h))
 chain_of name faults.NoMemory h = absurd (omega (arith, h))
 
 limit_of : (name : List ℕ) (fault : FileFault) → (refusal name fault).status ≡ 6 → (thing : What) × (n : ℕ) × (fault ≡ faults.TooMany thing n)
@@ -104,6 +108,7 @@ limit_of name (faults.BadCrl place fault) h = absurd (omega (arith, h))
 limit_of name (faults.TooMany thing limit) h = (thing, limit, refl)
 limit_of name (faults.Seeds issuer stage) h = absurd (omega (arith, h))
 limit_of name (faults.BadCert fault) h = absurd (omega (arith, h))
+limit_of name (faults.BadPage fault) h = absurd (omega (arith, h))
 limit_of name faults.NoMemory h = absurd (omega (arith, h))
 
 seeds_of : (name : List ℕ) (fault : FileFault) → (refusal name fault).status ≡ 7 → (issuer : List ℕ) × (stage : ℕ) × (fault ≡ faults.Seeds issuer stage)
@@ -115,6 +120,7 @@ seeds_of name (faults.BadCrl place fault) h = absurd (omega (arith, h))
 seeds_of name (faults.TooMany thing limit) h = absurd (omega (arith, h))
 seeds_of name (faults.Seeds issuer stage) h = (issuer, stage, refl)
 seeds_of name (faults.BadCert fault) h = absurd (omega (arith, h))
+seeds_of name (faults.BadPage fault) h = absurd (omega (arith, h))
 seeds_of name faults.NoMemory h = absurd (omega (arith, h))
 
 cert_of : (name : List ℕ) (fault : FileFault) → (refusal name fault).status ≡ 12 → (f : CertFault) × (fault ≡ faults.BadCert f)
@@ -126,7 +132,20 @@ cert_of name (faults.BadCrl place fault) h = absurd (omega (arith, h))
 cert_of name (faults.TooMany thing limit) h = absurd (omega (arith, h))
 cert_of name (faults.Seeds issuer stage) h = absurd (omega (arith, h))
 cert_of name (faults.BadCert fault) h = (fault, refl)
+cert_of name (faults.BadPage fault) h = absurd (omega (arith, h))
 cert_of name faults.NoMemory h = absurd (omega (arith, h))
+
+page_of : (name : List ℕ) (fault : FileFault) → (refusal name fault).status ≡ 16 → (f : PageFault) × (fault ≡ faults.BadPage f)
+page_of name faults.Unread h = absurd (omega (arith, h))
+page_of name (faults.Layout f) h = absurd (omega (arith, h))
+page_of name faults.NotSnapshot h = absurd (omega (arith, h))
+page_of name (faults.Chain why) h = absurd (omega (arith, h))
+page_of name (faults.BadCrl place fault) h = absurd (omega (arith, h))
+page_of name (faults.TooMany thing limit) h = absurd (omega (arith, h))
+page_of name (faults.Seeds issuer stage) h = absurd (omega (arith, h))
+page_of name (faults.BadCert fault) h = absurd (omega (arith, h))
+page_of name (faults.BadPage fault) h = (fault, refl)
+page_of name faults.NoMemory h = absurd (omega (arith, h))
 
 done_of : (name : List ℕ) (fault : FileFault) → (refusal name fault).status ≡ 0 → ⊥
 done_of name faults.Unread h = omega (arith, h)
@@ -137,6 +156,7 @@ done_of name (faults.BadCrl place fault) h = omega (arith, h)
 done_of name (faults.TooMany thing limit) h = omega (arith, h)
 done_of name (faults.Seeds issuer stage) h = omega (arith, h)
 done_of name (faults.BadCert fault) h = omega (arith, h)
+done_of name (faults.BadPage fault) h = omega (arith, h)
 done_of name faults.NoMemory h = omega (arith, h)
 
 module _ (asked : Command) (files : Files) (ended : ℕ) (old new : Option (List ℕ)) (after : Option Files) where
@@ -216,6 +236,9 @@ module _ (asked : Command) (files : Files) (ended : ℕ) (old new : Option (List
   pub cert_case : Came → ended ≡ 12 → (f : CertFault) × Refuses asked files (faults.BadCert f) old new after
   cert_case c is = let x = fails_case c (λ z. omega (arith, z, is)) in let f = cert_of x.name x.fault (x.status ∙ is) in (f.0, refuses_as x (faults.BadCert f.0) f.1)
 
+  pub page_case : Came → ended ≡ 16 → (f : PageFault) × Refuses asked files (faults.BadPage f) old new after
+  page_case c is = let x = fails_case c (λ z. omega (arith, z, is)) in let f = page_of x.name x.fault (x.status ∙ is) in (f.0, refuses_as x (faults.BadPage f.0) f.1)
+
 -- ---- a call by its status
 
 module _ (asked : Command) (failed : Option (List ℕ) → Type 0) (ended : ℕ) (old new : Option (List ℕ)) (unsent : Type 0) (after : Option Files) (wrong : Type 0) where
@@ -269,3 +292,8 @@ module _ (asked : Command) (failed : Option (List ℕ) → Type 0) (ended : ℕ)
       → IfSome told (λ files. ended ≡ 12 → (f : CertFault) × Refuses asked files (faults.BadCert f) old new after)
   cert None ends = tt
   cert (Some files) ends = λ is. cert_case asked files ended old new after (came_told files 12 ends is (λ z. omega arith) (λ z. omega arith) (λ z. omega arith) (λ z. omega arith)) is
+
+  pub page : (told : Option Files) → Ends asked told failed ended old new unsent after wrong
+      → IfSome told (λ files. ended ≡ 16 → (f : PageFault) × Refuses asked files (faults.BadPage f) old new after)
+  page None ends = tt
+  page (Some files) ends = λ is. page_case asked files ended old new after (came_told files 16 ends is (λ z. omega arith) (λ z. omega arith) (λ z. omega arith) (λ z. omega arith)) is

@@ -143,6 +143,8 @@ module _ (publishing : Publishing) where
   outcome_unique (commands.Install i) (g ∷ h ∷ []) a b x y = x ∙ sym y
   outcome_unique (commands.Rehearse r) (g ∷ inputs) a b x y = rehearsal_unique r (input r.queries queries_in g) inputs a b x y
   outcome_unique (commands.Sample s) [] a b x y = x ∙ sym y
+  outcome_unique (commands.Gather f) (g ∷ inputs) a b x y = x ∙ sym y
+  outcome_unique (commands.Gather f) [] a b x y = absurd x
   outcome_unique (commands.Rehearse r) [] a b x y = absurd x
   outcome_unique (commands.Sample s) (g ∷ cs) a b x y = absurd x
   outcome_unique (commands.Query q) [] a b x y = absurd x

@@ -8,7 +8,7 @@ use Rattle.word_core.specs.CommandFields.{SnapshotFields, DeltaFields}
 use Rattle.word_core.specs.declared.command.Command.{Command}
 use Rattle.word_core.specs.declared.command.Command.TheVariants as commands
 use Rattle.word_core.specs.Words.{◌>>=◌, is_name, name_of, workers_of, two_names_of, named_delta, is_among, are_apart, snapshot_of, delta_of, query_of, query_cert_of}
-use Rattle.word_core.specs.Words.{name_alone, start_of, install_of, rehearse_of, sample_of, asks, command_of}
+use Rattle.word_core.specs.Words.{name_alone, start_of, install_of, rehearse_of, sample_of, gather_of, asks, command_of}
 
 -- the names that two outputs go to differ
 abbrev pub IsApart : Command → Type 0
@@ -130,9 +130,13 @@ delta_keeps (a ∷ b ∷ c ∷ d ∷ []) = tt
 delta_keeps (a ∷ b ∷ c ∷ d ∷ e ∷ f ∷ fs) = tt
 
 -- what is asked by a word that is none of the first few
+abbrev from_gather : List ℕ → List (List ℕ) → Command
+from_gather command words =
+    if bytes_eq command (codes "gather") then asks commands.Gather (gather_of words) else commands.Usage
+
 abbrev from_sample : List ℕ → List (List ℕ) → Command
 from_sample command words =
-    if bytes_eq command (codes "sample") then asks commands.Sample (sample_of words) else commands.Usage
+    if bytes_eq command (codes "sample") then asks commands.Sample (sample_of words) else from_gather command words
 
 abbrev from_rehearse : List ℕ → List (List ℕ) → Command
 from_rehearse command words =
@@ -170,10 +174,15 @@ abbrev from_query : List ℕ → List (List ℕ) → Command
 from_query command words =
     if bytes_eq command (codes "query") then asks commands.Query (query_of words) else from_query_cert command words
 
+gather_apart : (command : List ℕ) (words : List (List ℕ)) → IsApart (from_gather command words)
+gather_apart command words =
+    if_keeps IsApart (bytes_eq command (codes "gather")) (asks commands.Gather (gather_of words)) (commands.Usage)
+    (asks_free IsApart commands.Gather (gather_of words) (λ x. tt) tt) tt
+
 sample_apart : (command : List ℕ) (words : List (List ℕ)) → IsApart (from_sample command words)
 sample_apart command words =
-    if_keeps IsApart (bytes_eq command (codes "sample")) (asks commands.Sample (sample_of words)) (commands.Usage)
-    (asks_free IsApart commands.Sample (sample_of words) (λ x. tt) tt) tt
+    if_keeps IsApart (bytes_eq command (codes "sample")) (asks commands.Sample (sample_of words)) (from_gather command words)
+    (asks_free IsApart commands.Sample (sample_of words) (λ x. tt) tt) (gather_apart command words)
 
 rehearse_apart : (command : List ℕ) (words : List (List ℕ)) → IsApart (from_rehearse command words)
 rehearse_apart command words =

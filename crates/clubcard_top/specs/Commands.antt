@@ -1,5 +1,5 @@
 -- What each command makes of its inputs.
-use Rattle.std.specs.Prelude.{◌≡◌, ℕ, List, [], ◌∷◌, ◌++◌, ◌⊎◌, map, flat_map, length, take, slice_get}
+use Rattle.std.specs.Prelude.{◌≡◌, ℕ, ◌+◌, List, [], ◌∷◌, ◌++◌, ◌⊎◌, map, flat_map, length, take, slice_get}
 use Rattle.std.specs.Prelude.{Option, Some, None, Result, Ok, Err, codes}
 use Rattle.ident_core.specs.declared.identity.Identity.{Identity}
 use Rattle.ident_core.specs.declared.kind.Kind.{Kind}
@@ -8,7 +8,10 @@ use Rattle.part_codec.specs.SealedFields.{SealedFields}
 use Rattle.part_codec.specs.PartText.{spelling}
 use Rattle.query_core.specs.Queries.{Query}
 use Rattle.sample_core.specs.Sample.{sample_text, sample_revoked}
+use Rattle.gather_core.specs.Pages.{PageFields}
+use Rattle.extend_core.specs.Raw.{with_entries, of_log}
 use Rattle.job_core.specs.declared.bounds.TheConstants.Limits as limits
+use Rattle.job_core.specs.JobText.{JobContents, spelling as job_text}
 use Rattle.job_core.specs.JobFields.{JobFields}
 use Rattle.job_core.specs.JobFacts.{FitsFields, IsWithinLimits}
 use Rattle.ledger_core.specs.LedgerFields.{LedgerFields}
@@ -29,8 +32,8 @@ use Rattle.publication_core.specs.Histories.{IsHistory, history}
 use Rattle.word_core.specs.declared.command.Command.{Command}
 use Rattle.word_core.specs.declared.command.Command.TheVariants as commands
 use Rattle.word_core.specs.CommandFields.{QueryFields, QueryCertFields, SnapshotFields, DeltaFields, StartFields}
-use Rattle.word_core.specs.CommandFields.{InstallFields, RehearseFields, SampleFields}
-use Rattle.line_core.specs.Lines.{line, check_line, show_text, store_line, report_line, sample_line}
+use Rattle.word_core.specs.CommandFields.{InstallFields, RehearseFields, SampleFields, GatherFields}
+use Rattle.line_core.specs.Lines.{line, check_line, show_text, store_line, report_line, sample_line, gather_line}
 use Rattle.input_core.specs.declared.certificates.Certificate.{Certificate}
 use Rattle.input_core.specs.declared.fault.FileFault.{FileFault}
 use Rattle.input_core.specs.declared.fault.FileFault.TheVariants as faults
@@ -38,6 +41,7 @@ use Rattle.clubcard_top.specs.Faults.{of_publishing}
 use Rattle.clubcard_top.specs.ReplyFields.{Done, NamedFault}
 use Rattle.input_core.specs.Readings.{queries_in, job_in, ledger_in, part_in, store_in, input_as}
 use Rattle.input_core.specs.Certificates.{certificate_in, issuer_in}
+pub use Rattle.clubcard_top.specs.PageFiles.{head_in, page_in, room_for}
 
 -- ---- steps
 
@@ -251,6 +255,34 @@ sample_done s = record {
   outputs = record { name = s.job; bytes = sample_text s.number s.count } ∷ [];
 }
 
+-- ---- gathering
+
+-- The entries of the pages, behind so many others. Each page is read and then its entries are counted, before the next.
+abbrev pub pages_of : (job : List ℕ) (before : ℕ) → List (List ℕ) → List (Option (List ℕ)) → Result (List PageFields) NamedFault
+pages_of job before (name ∷ names) (given ∷ inputs) = do
+  read ← input name page_in given
+  page ← room_for job before read
+  others ← pages_of job (before + length page) names inputs
+  Ok (page ++ others)
+pages_of job before names inputs = Ok []
+
+-- the job with these entries of the log behind its own
+abbrev pub longer : GatherFields → JobContents → List PageFields → JobContents
+longer g head entries = with_entries head (map (of_log g.log) entries)
+
+-- how many pages and entries there are, and how many bytes the job has
+abbrev pub gather_done : GatherFields → JobContents → List PageFields → Done
+gather_done g head entries = record {
+  text = gather_line (length g.pages) (length entries) (length (job_text (longer g head entries)));
+  outputs = record { name = g.job; bytes = job_text (longer g head entries) } ∷ [];
+}
+
+abbrev pub gather_makes : GatherFields → Option (List ℕ) → List (Option (List ℕ)) → Result Done NamedFault
+gather_makes g head inputs = do
+  j ← input g.head head_in head
+  entries ← pages_of g.job (length j.entries) g.pages inputs
+  Ok (gather_done g j entries)
+
 -- ---- commands
 
 -- What comes of a command: what it writes, or what is wrong with which file. The inputs are in the order of reading.
@@ -266,4 +298,5 @@ Makes (commands.Start t) (part ∷ []) o = o ≡ start_makes t part
 Makes (commands.Install i) (store ∷ part ∷ []) o = o ≡ install_makes i store part
 Makes (commands.Rehearse r) (queries ∷ jobs) o = MakesRehearsal r (input r.queries queries_in queries) jobs o
 Makes (commands.Sample s) [] o = o ≡ Ok (sample_done s)
+Makes (commands.Gather g) (head ∷ inputs) o = o ≡ gather_makes g head inputs
 Makes command inputs o = ⊥

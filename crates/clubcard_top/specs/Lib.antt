@@ -1,6 +1,8 @@
 pub mod Statuses
 pub mod ReplyFields
 pub mod Faults
+pub mod Gathers
+pub mod PageFiles
 pub mod Commands
 pub mod Replies
 pub mod Runs

@@ -1,15 +1,19 @@
 -- What the program promises of a call: the contract of `run`.
-use Rattle.std.specs.Prelude.{◌≡◌, ◌≢◌, ℕ, ◌≤◌, ◌⊎◌, List, [], ◌∷◌, ◌++◌, map, length, None, Err, IsTrue}
+use Rattle.std.specs.Prelude.{◌≡◌, ◌≢◌, ℕ, ◌+◌, ◌≤◌, ◌⊎◌, List, [], ◌∷◌, ◌++◌, map, length, None, Err, IsTrue}
 use Rattle.octets_core.specs.declared.fault.LayoutFault.{LayoutFault}
 use Rattle.ident_core.specs.declared.identity.Identity.{Identity}
 use Rattle.ident_core.specs.declared.kind.Kind.TheVariants as kinds
 use Rattle.ident_core.specs.declared.range.Sighting.{Sighting}
 use Rattle.crl_core.specs.declared.crl.CrlFault.{CrlFault}
 use Rattle.sct_core.specs.declared.fault.CertFault.{CertFault}
+use Rattle.gather_core.specs.declared.fault.PageFault.{PageFault}
+use Rattle.gather_core.specs.Pages.{PageFields}
 use Rattle.query_core.specs.Queries.{Query}
 use Rattle.part_codec.specs.SealedFields.{SealedFields}
 use Rattle.job_core.specs.declared.bounds.What.{What}
+use Rattle.job_core.specs.declared.bounds.TheConstants.Limits as limits
 use Rattle.job_core.specs.JobFields.{JobFields}
+use Rattle.job_core.specs.JobText.{JobContents, spelling as job_text}
 use Rattle.sample_core.specs.Sample.{sample_text, sample_revoked}
 use Rattle.ledger_core.specs.LedgerFields.{LedgerFields}
 use Rattle.universe_core.specs.Ledgers.{no_ledger}
@@ -21,23 +25,23 @@ use Rattle.publication_core.specs.Histories.{IsAdmissible, IsHistory, history}
 use Rattle.publication_core.specs.Publishing.{CanBePublished}
 use Rattle.word_core.specs.declared.command.Command.TheVariants as commands
 use Rattle.word_core.specs.CommandFields.{QueryFields, QueryCertFields, SnapshotFields, DeltaFields, StartFields}
-use Rattle.word_core.specs.CommandFields.{InstallFields, RehearseFields, SampleFields}
+use Rattle.word_core.specs.CommandFields.{InstallFields, RehearseFields, SampleFields, GatherFields}
 use Rattle.word_core.specs.Names.{inputs_of, outputs_of}
-use Rattle.line_core.specs.Lines.{line, check_line, show_text, sample_line}
+use Rattle.line_core.specs.Lines.{line, check_line, show_text, sample_line, gather_line}
 use Rattle.input_core.specs.declared.certificates.Certificate.{Certificate}
 use Rattle.input_core.specs.declared.fault.FileFault.TheVariants as faults
 use Rattle.clubcard_top.specs.ReplyFields.{ReplyFields, NamedFault}
 use Rattle.clubcard_top.specs.Statuses as status
 use Rattle.input_core.specs.Readings.{job_in, ledger_in, part_in, store_in}
 use Rattle.input_core.specs.Certificates.{certificate_in, issuer_in}
-use Rattle.clubcard_top.specs.Commands.{verdict_word, issued_by, rehearsed}
+use Rattle.clubcard_top.specs.Commands.{verdict_word, issued_by, rehearsed, head_in, longer}
 use Rattle.clubcard_top.specs.Replies.{usage, read_fault, refusal}
 use Rattle.clubcard_top.specs.Runs.{KeepsAllBut}
 use Rattle.clubcard_top.specs.Calls.{Call, FilesAreTold, Reads, Holds, Writes, ChangesNoFile, Prints, NoFault}
 use Rattle.clubcard_top.specs.Calls.{NoReadFailed, CouldNotRead}
 use Rattle.clubcard_top.specs.Endings.{Succeeds, Did, GivesTheReply, WantedMemory, SinkFailed, Torn, IsAnswer, Ends}
 use Rattle.clubcard_top.specs.Endings.{MustSucceed, MustGive}
-use Rattle.clubcard_top.specs.Successes.{ReadsPart, PublishesFile, NewStore}
+use Rattle.clubcard_top.specs.Successes.{ReadsPart, PublishesFile, NewStore, ReadsPages}
 use Rattle.clubcard_top.specs.Headline.{AsksToPublish, AsksToStore, AsksTruth, AsksCertTruth, AsksToRehearse}
 use Rattle.clubcard_top.specs.Headline.{truth_line, cert_truth_line}
 use Rattle.clubcard_top.specs.Headline.{Published, Stored, IsRehearsed}
@@ -95,6 +99,16 @@ pub record Successes (call : Call) : Type 0 where
   pub sample : (s : SampleFields) → Did call (commands.Sample s)
       → Prints call (sample_line s.number s.count (sample_revoked s.count) (length (sample_text s.number s.count)))
       × Holds call s.job (sample_text s.number s.count)
+  -- the raw job of HEAD with the entries of the pages, of the log LOG, behind its own; and where HEAD and the pages are
+  -- read, and these are no more entries than a job may have, the call must succeed
+  pub gather : (g : GatherFields) → Did call (commands.Gather g)
+      → (head : JobContents) × (entries : List PageFields)
+      × Reads call g.head head_in head × ReadsPages call g.pages entries
+      × Prints call (gather_line (length g.pages) (length entries) (length (job_text (longer g head entries))))
+      × Holds call g.job (job_text (longer g head entries))
+  pub gather_complete : (g : GatherFields) (head : JobContents) (entries : List PageFields)
+      → call.asked ≡ commands.Gather g → Reads call g.head head_in head → ReadsPages call g.pages entries
+      → length head.entries + length entries ≤ limits.PUBLISHED.entries → MustSucceed call
 
 -- What a call does for a history of admitted jobs, in pairs: what its success is, and when it must succeed. What the
 -- success of `rehearse` is stands above.
@@ -143,6 +157,9 @@ pub record Refusals (call : Call) : Type 0 where
   -- CERT or ISSUERCERT
   pub bad_cert : call.status ≡ status.bad_cert → FilesAreTold call
       → (name : List ℕ) × (fault : CertFault) × Refused call name (faults.BadCert fault)
+  -- a page of a log
+  pub bad_page : call.status ≡ status.bad_page → FilesAreTold call
+      → (name : List ℕ) × (fault : PageFault) × Refused call name (faults.BadPage fault)
   -- what is wrong with a file, also that it can't be read, must be said
   pub refused : (e : NamedFault) → Comes call (Err e) → MustGive call (refusal e.name e.fault)
   -- words that are no command

@@ -8,7 +8,7 @@ use Rattle.word_core.specs.declared.command.Command.{Command}
 use Rattle.word_core.specs.declared.command.Command.TheVariants as commands
 use Rattle.word_core.specs.Names.{inputs_of}
 use Rattle.line_core.specs.Lines.{line, line_about, layout_line, crl_line, limit_line}
-use Rattle.line_core.specs.Lines.{parent_line, epoch_line, coverage_line, seeds_line, cert_line}
+use Rattle.line_core.specs.Lines.{parent_line, epoch_line, coverage_line, seeds_line, cert_line, page_line}
 use Rattle.input_core.specs.declared.fault.FileFault.{FileFault}
 use Rattle.input_core.specs.declared.fault.FileFault.TheVariants as faults
 use Rattle.clubcard_top.specs.ReplyFields.{ReplyFields, Done, NamedFault}
@@ -52,6 +52,7 @@ refusal name (faults.BadCrl place fault) = says status.bad_crl (crl_line place f
 refusal name (faults.TooMany thing limit) = says status.too_many (limit_line thing limit name)
 refusal name (faults.Seeds issuer stage) = says status.seeds (seeds_line issuer stage)
 refusal name (faults.BadCert fault) = says status.bad_cert (cert_line fault name)
+refusal name (faults.BadPage fault) = says status.bad_page (page_line fault name)
 refusal name faults.NoMemory = no_memory
 
 abbrev pub done : Done → ReplyFields

@@ -1,7 +1,8 @@
 -- What comes of a command that succeeds.
-use Rattle.std.specs.Prelude.{ℕ, List, [], ◌∷◌, ◌++◌, length, Ok}
+use Rattle.std.specs.Prelude.{◌≡◌, ℕ, List, [], ◌∷◌, ◌++◌, length, Ok}
 use Rattle.part_codec.specs.SealedFields.{SealedFields}
 use Rattle.part_codec.specs.PartText.{spelling}
+use Rattle.gather_core.specs.Pages.{PageFields}
 use Rattle.job_core.specs.JobFields.{JobFields}
 use Rattle.ledger_core.specs.LedgerFields.{LedgerFields}
 use Rattle.ledger_core.specs.LedgerText.{ledger_text}
@@ -9,6 +10,7 @@ use Rattle.store_core.specs.StoreLayout.{store_text}
 use Rattle.publication_core.specs.Publishing.{Published as Publication, Publishes}
 use Rattle.line_core.specs.Lines.{report_line, store_line}
 use Rattle.input_core.specs.Readings.{job_in, part_in}
+use Rattle.clubcard_top.specs.Commands.{page_in}
 use Rattle.clubcard_top.specs.Calls.{Call, Reads, Holds, Prints}
 
 -- the file of this name held this part and nothing else
@@ -30,3 +32,10 @@ pub record PublishesFile (call : Call) (before : LedgerFields) (job part ledger 
 pub record NewStore (call : Call) (store : List ℕ) (parts : List SealedFields) (s : SealedFields) : Type 0 where
   pub prints : Prints call (store_line (length (parts ++ s ∷ [])) s.part.head.epoch)
   pub holds : Holds call store (store_text (parts ++ s ∷ []))
+
+-- the files of these names held pages, whose entries are these, one page behind the other
+abbrev pub ReadsPages : Call → List (List ℕ) → List PageFields → Type 0
+ReadsPages call [] entries = entries ≡ []
+ReadsPages call (name ∷ names) entries =
+    (page : List PageFields) × (others : List PageFields) × Reads call name page_in page
+    × (entries ≡ page ++ others) × ReadsPages call names others

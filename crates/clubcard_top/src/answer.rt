@@ -8,8 +8,7 @@ ghost use Rattle.clubcard_top.specs.Sending.{printing, writing, IsPrinted, IsSen
 
 use crate::output::{Output, SampleOutput, write_outputs};
 use crate::reply::Reply;
-use crate::status::Status;
-use line_core::{Message, about_file, write_sealed};
+use line_core::{Message, Status, about_file, write_sealed};
 use outside_core::{Depot, Failed, Sink, write_all};
 use part_codec::Sealed;
 

@@ -5,20 +5,20 @@
 mod answer;
 mod commands;
 mod fault;
+mod gathering;
 mod laws;
 mod output;
 mod publishing;
 mod rehearsing;
 mod reply;
 mod sampling;
-mod status;
 mod storing;
 mod top;
 
 pub use laws::{
     histories_are_made, rehearsals_go_file_by_file, replies_are_unique, workers_are_free,
 };
+pub use line_core::Status;
 pub use publication_core::{Gate, Open};
-pub use status::Status;
 pub use store_core::{Refusal, Refused, StartFault, Store, Verdict};
 pub use top::{run, run_gated};

@@ -37,9 +37,9 @@ const VERDICT: usize = 13;
 
 /// A file, and what is wrong with it.
 #[derive(Drop)]
-struct BadFile<'a> {
-    name: &'a str,
-    fault: FileFault,
+pub(crate) struct BadFile<'a> {
+    pub name: &'a str,
+    pub fault: FileFault,
 }
 
 /// The rehearsal with the job of the file of this name, and the line of its report.

@@ -7,11 +7,10 @@ ghost use Rattle.line_core.specs.Lines.{line as line_of_words};
 ghost use Rattle.clubcard_top.specs.Commands.{only, verdict_word};
 ghost use Rattle.clubcard_top.specs.Replies.{chain_text, done, read_fault, refusal, says, usage};
 
-use crate::status::Status;
 use input_core::FileFault;
 use line_core::{
-    Line, Message, about_file, cert_line, coverage_line, crl_line, epoch_line, layout_line,
-    limit_line, line_of, parent_line, seeds_line,
+    Line, Message, Status, about_file, cert_line, coverage_line, crl_line, epoch_line, layout_line,
+    limit_line, line_of, page_line, parent_line, seeds_line,
 };
 use octets_core::{LayoutFault, NoMemory};
 use std::marker::Model;
@@ -136,6 +135,7 @@ impl<'a> Reply<'a> {
                 Ok(Reply::alone(Status::SEEDS, seeds_line(&issuer, stage)))
             }
             FileFault::BadCert(fault) => Ok(Reply::of(Status::BAD_CERT, cert_line(fault, name))),
+            FileFault::BadPage(fault) => Ok(Reply::of(Status::BAD_PAGE, page_line(fault, name))),
             FileFault::NoMemory => Err(NoMemory),
         }
     }

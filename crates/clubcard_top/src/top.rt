@@ -14,13 +14,14 @@ ghost use Rattle.clubcard_top.specs.Promises.{Ending, Frame, Histories, Outside,
 
 use crate::answer::{Answer, send};
 use crate::commands::{answer_check, answer_query, answer_query_cert, answer_show};
+use crate::gathering::answer_gather;
 use crate::laws::{histories_are_made, replies_are_unique};
 use crate::publishing::{answer_delta, answer_snapshot};
 use crate::rehearsing::answer_rehearse;
 use crate::reply::Reply;
 use crate::sampling::answer_sample;
-use crate::status::Status;
 use crate::storing::{answer_install, answer_start};
+use line_core::Status;
 use octets_core::NoMemory;
 use outside_core::{Depot, Sink};
 use publication_core::{Gate, Open};
@@ -53,6 +54,7 @@ fn answer_for<'a, R: Threads + Sync, G: Gate + Sync, D: Depot>(
         Command::Install(asked) => answer_install(alloc, asked, depot),
         Command::Rehearse(asked) => answer_rehearse(rt, alloc, gate, asked, depot),
         Command::Sample(asked) => answer_sample(alloc, asked),
+        Command::Gather(asked) => answer_gather(alloc, asked, depot),
     }
 }
 

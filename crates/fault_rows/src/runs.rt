@@ -47,7 +47,7 @@ pub fn inputs(alloc: Global) -> Result<MemoryDepot, Fail> {
 pub struct Run<'a> {
     pub words: &'a [&'a str],
     pub status: Status,
-    /// The file that each read is of. Each file fits one read, and another one finds its end.
+    /// The file that each read is of. Each file fits one read, and another one finds its end, unless a fault comes first.
     pub reads: &'a [&'a str],
     /// The outputs, each in pieces of hexadecimal. Each is begun by one write, and another one brings its bytes.
     pub outputs: &'a [&'a [&'a str]],
@@ -183,7 +183,7 @@ pub const REFUSED: [Run<'static>; 9] = [
     Run {
         words: &["install", "L", "D", "X"],
         status: Status::BAD_LAYOUT,
-        reads: &["L", "L"],
+        reads: &["L"],
         outputs: &[],
         prints: &["layout 0 store.magic value ", "L", "\n"],
     },

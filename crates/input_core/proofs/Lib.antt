@@ -7,3 +7,4 @@ pub mod LongestQueries
 pub mod PartsTaken
 pub mod Reading
 pub mod Scans
+pub mod StoresTaken

@@ -5,6 +5,8 @@ use Rattle.job_core.specs.declared.fault.JobFault.{JobFault}
 use Rattle.job_core.specs.declared.fault.JobFault.TheVariants as job
 use Rattle.ledger_core.specs.declared.fault.LedgerFault.{LedgerFault}
 use Rattle.ledger_core.specs.declared.fault.LedgerFault.TheVariants as ledger
+use Rattle.gather_core.specs.declared.fault.PageFault.{PageFault}
+use Rattle.gather_core.specs.declared.fault.PageFault.TheVariants as page
 use Rattle.part_codec.specs.declared.fault.PartFault.{PartFault}
 use Rattle.part_codec.specs.declared.fault.PartFault.TheVariants as part
 use Rattle.store_core.specs.declared.fault.StoreFault.{StoreFault}
@@ -28,7 +30,6 @@ abbrev pub of_queries : QueriesFault → FileFault
 of_queries (queries.Layout f) = faults.Layout f
 of_queries queries.NoMemory = faults.NoMemory
 
--- the bytes are there, so no read of them fails
 abbrev pub of_job : JobFault → FileFault
 of_job (job.Layout f) = faults.Layout f
 of_job (job.TooMany what limit) = faults.TooMany what limit
@@ -48,3 +49,7 @@ of_store (store.Layout f) = faults.Layout f
 of_store store.NotSnapshot = faults.NotSnapshot
 of_store (store.Refused why) = faults.Chain why
 of_store store.NoMemory = faults.NoMemory
+
+abbrev pub of_page : PageFault → FileFault
+of_page page.NoMemory = faults.NoMemory
+of_page fault = faults.BadPage fault

@@ -1,7 +1,8 @@
+pub mod Certificates
 pub mod Faults
+pub mod Inputs
 pub mod PartFile
 pub mod Readings
-pub mod Certificates
-pub mod Inputs
 pub mod Scanned
+pub mod Stores
 pub mod Taking

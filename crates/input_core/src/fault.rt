@@ -1,6 +1,7 @@
 ghost use Rattle.std.specs.Prelude.{◌≡◌};
 
 use crl_core::CrlFault;
+use gather_core::PageFault;
 use job_core::{JobFault, What};
 use ledger_core::LedgerFault;
 use octets_core::{Key32, LayoutFault};
@@ -28,6 +29,8 @@ pub enum FileFault {
     Seeds { issuer: Key32, stage: u8 },
     /// A certificate isn't read, or its timestamps aren't.
     BadCert(CertFault),
+    /// A page of a log isn't read, for this item of it.
+    BadPage(PageFault),
     /// Want of memory.
     NoMemory,
 }
@@ -107,6 +110,19 @@ impl From<StoreFault> for FileFault {
             StoreFault::NotSnapshot => FileFault::NotSnapshot,
             StoreFault::Refused(why) => FileFault::Chain(why),
             StoreFault::NoMemory => FileFault::NoMemory,
+        }
+    }
+}
+
+impl From<PageFault> for FileFault {
+    ghost use Rattle.input_core.specs.Faults.{of_page};
+
+    ghost from_gives = { λ f e. e ≡ of_page f };
+
+    fn from(fault: PageFault) -> FileFault {
+        match fault {
+            PageFault::NoMemory => FileFault::NoMemory,
+            refused => FileFault::BadPage(refused),
         }
     }
 }

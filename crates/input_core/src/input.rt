@@ -105,13 +105,3 @@ pub fn read_up_to<D: Depot>(
 {
     read_on(depot, name, Vec::new(alloc), limit)
 }
-
-/// Takes all bytes of a file; one that doesn't fit is want of memory.
-pub fn read_all<D: Depot>(alloc: Global, depot: &mut D, name: &str) -> Result<Vec<u8>, InputFault>
-    ensures bytes { IfOk result (λ bytes. IsHeld (D.files depot.old) name.now (λ file. bytes.items ≡ file)) }
-    ensures failed { IsErrOf result InputFault.Failed → ReadFailed D.Depot name.now depot.old depot.new }
-    ensures unblamed { IsErrOf result InputFault.Failed ⊎ (D.failed_reads depot.new ≡ D.failed_reads depot.old) }
-    ensures only_reads { OnlyReads D.Depot depot.old depot.new }
-{
-    read_up_to(alloc, depot, name, usize::MAX)
-}

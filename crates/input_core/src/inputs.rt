@@ -1,21 +1,18 @@
-//! The files that are taken into memory and then read: queries, a ledger and a store. The bytes are dropped once
-//! they are read.
+//! The files that are taken into memory and then read: queries and a ledger. The bytes are dropped once they are read.
 
 ghost use Rattle.std.specs.Prelude.{map};
 ghost use Rattle.outside_core.specs.Effects.{OnlyReads};
 ghost use Rattle.query_core.specs.Queries.{as_query};
 ghost use Rattle.input_core.specs.Readings.{queries_in as queries_of, ledger_in as ledger_of};
-ghost use Rattle.input_core.specs.Readings.{store_in as store_of};
 ghost use Rattle.input_core.specs.Inputs.{IsInput, WhichFailed};
 
 use crate::fault::FileFault;
-use crate::input::{read_all, read_up_to};
+use crate::input::read_up_to;
 use ident_core::{MAX_IDENTITIES, MAX_ISSUERS, MAX_PARTS, MAX_RANGES, MAX_SERIAL};
 use ledger_core::{Ledger, decode_ledger};
 use outside_core::Depot;
 use query_core::{Asked, MAX_QUERIES, MAX_SIGHTINGS, read_queries};
 use std::alloc::Global;
-use store_core::{Store, decode_store};
 
 /// The most bytes of a range, of a ledger's part and of its identity.
 const RANGE: usize = 48;
@@ -55,14 +52,4 @@ pub fn ledger_in<D: Depot>(alloc: Global, depot: &mut D, name: &str) -> Result<L
 {
     let bytes = read_up_to(alloc, depot, name, LONGEST_LEDGER)?;
     Ok(decode_ledger(alloc, &bytes)?)
-}
-
-/// The store of the file of this name.
-pub fn store_in<D: Depot>(alloc: Global, depot: &mut D, name: &str) -> Result<Store, FileFault>
-    ensures input { IsInput (D.files depot.old) (WhichFailed D.Depot depot.old depot.new) name.now
-        store_of (λ s. s) result }
-    ensures only_reads { OnlyReads D.Depot depot.old depot.new }
-{
-    let bytes = read_all(alloc, depot, name)?;
-    Ok(decode_store(alloc, &bytes)?)
 }

@@ -8,11 +8,13 @@ mod inputs;
 mod jobs;
 mod parts;
 mod scanning;
+mod stores;
 
 pub use certificates::{Certificate, certificate_in, issuer_in};
 pub use fault::FileFault;
 pub use input::{InputFault, read_up_to};
-pub use inputs::{ledger_in, queries_in, store_in};
+pub use inputs::{ledger_in, queries_in};
 pub use jobs::job_in;
 pub use parts::part_in;
 pub use scanning::{ScanFault, scan_file};
+pub use stores::store_in;

@@ -1,6 +1,6 @@
 //! Parts that are read as they come from a feed, of which no more is held than what was read.
 
-ghost use Rattle.std.specs.Prelude.{◌≡◌, ◌≢◌, ◌≤◌, ◌^◌, ◌++◌, ℕ, List, length, Some, Ok, Err, IfOk, OnOk, IfErr};
+ghost use Rattle.std.specs.Prelude.{◌≡◌, ◌≢◌, ◌≤◌, ◌<◌, ◌+◌, ◌^◌, ◌++◌, ℕ, List, length, Some, Ok, Err, IfOk, OnOk, IfErr};
 ghost use Rattle.octets_core.specs.Layout.{with_fault};
 ghost use Rattle.outside_core.specs.Effects.{OnlyReads};
 ghost use Rattle.outside_core.specs.Filling.{IsInOrder};
@@ -11,6 +11,7 @@ ghost use Rattle.part_codec.specs.declared.fault.PartFault.{PartFault};
 ghost use Rattle.input_core.specs.Faults.{of_part};
 ghost use Rattle.input_core.specs.Inputs.{IsInput, WhichFailed};
 ghost use Rattle.input_core.specs.Readings.{part_in as part_of};
+ghost use Rattle.input_core.specs.Stores.{offset_in};
 ghost use Rattle.input_core.specs.Taking.{AreTaken, ComesOfEnd, ComesOfPart};
 
 use crate::fault::FileFault;
@@ -26,6 +27,7 @@ fn finished(reader: PartReader, ended: bool) -> Result<(Sealed, bool), FileFault
     ensures err { IfErr result (λ e. e ≢ FileFault.NoMemory → (b : List ℕ) → ReadsFor reader b
         → with_fault of_part (part b 0) ≡ Err e) }
     ensures again { (f : PartFault) → reader.fault ≡ Some f → result ≡ Err (of_part f) }
+    ensures offset { IfErr result (λ e. (b : List ℕ) → ReadsFor reader b → offset_in e ≤ length b) }
 {
     let sealed = reader.finish()?;
     Ok((sealed, ended))
@@ -42,6 +44,9 @@ pub fn next_part<D: Depot>(
     ensures comes { (b : List ℕ) → AreTaken (D.files (depot_of feed.old)) (name_of feed.old) b (place_of feed.old)
         → ComesOfPart (D.files (depot_of feed.old)) (WhichFailed D.Depot (depot_of feed.old) (depot_of feed.new))
         (name_of feed.old) b (place_of feed.new) result }
+    // A part has less than 2^41 bytes.
+    ensures near { OnOk result (place_of feed.new ≤ place_of feed.old + 2 ^ 41) }
+    ensures offset { IfErr result (λ e. place_of feed.old + offset_in e < 2 ^ 64) }
     ensures same_reference { reference_of feed.new ≡ reference_of feed.old }
     ensures name { name_of feed.new ≡ name_of feed.old }
     ensures in_order { IsInOrder D.Depot feed.new }

@@ -1,2 +1,4 @@
 pub mod Lines
 pub mod Sending
+pub mod Devices
+pub mod Statuses

@@ -1,6 +1,6 @@
 -- The lines that the program prints (docs/FORMATS.md, "Lines and statuses"). Numbers are decimal, keys lower
 -- hexadecimal.
-use Rattle.std.specs.Prelude.{ℕ, List, [], ◌∷◌, ◌++◌, length, codes, decimal, flat_map, Option, Some, None}
+use Rattle.std.specs.Prelude.{ℕ, List, [], ◌∷◌, ◌++◌, codes, decimal, flat_map, Option, Some, None}
 use Rattle.hex.specs.Hex.{encode_lower}
 use Rattle.octets_core.specs.FieldNames.{name_of}
 use Rattle.octets_core.specs.declared.fault.Why.{Why}
@@ -25,6 +25,9 @@ use Rattle.crl_core.specs.declared.crl.CrlFault.{CrlFault}
 use Rattle.crl_core.specs.declared.crl.CrlFault.TheVariants as crl_faults
 use Rattle.sct_core.specs.declared.fault.CertFault.{CertFault}
 use Rattle.sct_core.specs.declared.fault.CertFault.TheVariants as cert_faults
+use Rattle.gather_core.specs.declared.fault.PageFault.{PageFault}
+use Rattle.gather_core.specs.declared.fault.PageFault.TheVariants as page_faults
+use Rattle.gather_core.specs.Pages.{index_of}
 use Rattle.job_core.specs.declared.bounds.What.{What}
 use Rattle.job_core.specs.declared.bounds.What.TheVariants as what
 use Rattle.universe_core.specs.declared.counts.Counts.{Counts}
@@ -127,6 +130,12 @@ sample_line number count revoked bytes =
     codes "sample " ++ decimal number ++ codes " entries " ++ decimal count
     ++ codes " revoked " ++ decimal revoked ++ codes " bytes " ++ decimal bytes ++ 10 ∷ []
 
+-- gather pages P entries N bytes B
+abbrev pub gather_line : (pages entries bytes : ℕ) → List ℕ
+gather_line pages entries bytes =
+    codes "gather pages " ++ decimal pages ++ codes " entries " ++ decimal entries
+    ++ codes " bytes " ++ decimal bytes ++ 10 ∷ []
+
 abbrev pub crl_word : CrlFault → List ℕ
 crl_word crl_faults.Malformed = codes "malformed"
 crl_word crl_faults.DeltaCrl = codes "delta"
@@ -147,6 +156,17 @@ cert_word cert_faults.TooManyScts = codes "many"
 -- cert FAULT NAME
 abbrev pub cert_line : CertFault → List ℕ → List ℕ
 cert_line fault name = codes "cert " ++ cert_word fault ++ 32 ∷ name ++ 10 ∷ []
+
+abbrev pub page_word : PageFault → List ℕ
+page_word page_faults.Json = codes "json"
+page_word (page_faults.Shape index) = codes "shape"
+page_word (page_faults.Base64 index) = codes "base64"
+page_word (page_faults.Size index) = codes "size"
+page_word page_faults.NoMemory = []
+
+-- page INDEX FAULT NAME
+abbrev pub page_line : PageFault → List ℕ → List ℕ
+page_line fault name = codes "page " ++ decimal (index_of fault) ++ 32 ∷ page_word fault ++ 32 ∷ name ++ 10 ∷ []
 
 abbrev pub what_word : What → List ℕ
 what_word what.Ranges = codes "ranges"

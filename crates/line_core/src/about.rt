@@ -3,13 +3,14 @@
 ghost use Rattle.std.specs.Prelude.{◌≡◌, ◌≤◌, ◌++◌, ◌∷◌, [], length};
 ghost use Rattle.octets_core.specs.FieldNames.{name_of};
 ghost use Rattle.line_core.specs.Lines.{line, line_about, layout_line, crl_line, limit_line, parent_line, epoch_line};
-ghost use Rattle.line_core.specs.Lines.{coverage_line, cert_line};
+ghost use Rattle.line_core.specs.Lines.{coverage_line, cert_line, page_line};
 ghost use Rattle.line_core.specs.Sending.{Sends};
 
 use crate::line::Line;
 use crate::show::write_text;
-use crate::words::{cert_text, crl_text, field_text, what_text, why_text};
+use crate::words::{cert_text, crl_text, field_text, page_text, what_text, why_text};
 use crl_core::CrlFault;
+use gather_core::PageFault;
 use job_core::What;
 use octets_core::{Key32, LayoutFault};
 use outside_core::{Failed, Sink};
@@ -64,7 +65,7 @@ impl<'a> Message<'a> {
     }
 
     /// These words and a name.
-    fn about(words: Line, name: &'a str) -> Message<'a>
+    pub(crate) fn about(words: Line, name: &'a str) -> Message<'a>
         ensures { result ≡ words ++ name.now ++ 10 ∷ [] }
     {
         Message {
@@ -137,6 +138,18 @@ pub fn cert_line(fault: CertFault, name: &str) -> Message<'_>
     let mut line = Line::new();
     line.push(b"cert ");
     line.push(cert_text(fault));
+    line.push(b" ");
+    Message::about(line, name)
+}
+
+/// `page INDEX FAULT NAME`: the page isn't read, for this item of it.
+pub fn page_line(fault: PageFault, name: &str) -> Message<'_>
+    ensures { result ≡ page_line fault name.now }
+{
+    let mut line = Line::new();
+    line.push_count(b"page ", fault.index() as u64);
+    line.push(b" ");
+    line.push(page_text(fault));
     line.push(b" ");
     Message::about(line, name)
 }

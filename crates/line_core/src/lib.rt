@@ -2,13 +2,17 @@
 #![tactic(auto)]
 
 mod about;
+mod device;
 mod line;
 mod show;
+mod status;
 mod words;
 
 pub use about::{
     Message, about_file, cert_line, coverage_line, crl_line, epoch_line, layout_line, limit_line,
-    line_of, parent_line,
+    line_of, page_line, parent_line,
 };
-pub use line::{Line, checked, reported, sampled, seeds_line, stored};
+pub use device::{device_line, full_line};
+pub use line::{Line, checked, gathered, reported, sampled, seeds_line, stored};
 pub use show::write_sealed;
+pub use status::Status;

@@ -4,7 +4,7 @@ ghost use Rattle.std.specs.Prelude.{◌≡◌, ◌+◌, ◌*◌, ◌≤◌, [], 
 ghost use Rattle.hex.specs.Hex.{encode_lower};
 ghost use Rattle.part_codec.specs.PartText.{width_of};
 ghost use Rattle.line_core.specs.Lines.{stage_words, approx_words, mixed_words, body_words, note_line, report_line};
-ghost use Rattle.line_core.specs.Lines.{store_line, sample_line, head_line, range_line, block_line, trailer_line};
+ghost use Rattle.line_core.specs.Lines.{store_line, sample_line, gather_line, head_line, range_line, block_line, trailer_line};
 ghost use Rattle.line_core.specs.Lines.{seeds_line};
 
 use crate::words::kind_text;
@@ -196,6 +196,18 @@ pub fn sampled(number: u64, count: u32, revoked: u32, bytes: u64) -> Line
     line.push_count(b"sample ", number);
     line.push_count(b" entries ", count as u64);
     line.push_count(b" revoked ", revoked as u64);
+    line.push_count(b" bytes ", bytes);
+    line.push(b"\n");
+    line
+}
+
+/// `gather pages P entries N bytes B`
+pub fn gathered(pages: usize, entries: u64, bytes: u64) -> Line
+    ensures { result ≡ gather_line pages entries bytes }
+{
+    let mut line = Line::new();
+    line.push_count(b"gather pages ", pages as u64);
+    line.push_count(b" entries ", entries);
     line.push_count(b" bytes ", bytes);
     line.push(b"\n");
     line

@@ -2,9 +2,10 @@
 
 ghost use Rattle.std.specs.Prelude.{◌≡◌, ◌≤◌, length};
 ghost use Rattle.octets_core.specs.FieldNames.{name_of};
-ghost use Rattle.line_core.specs.Lines.{kind_word, why_word, crl_word, cert_word, what_word};
+ghost use Rattle.line_core.specs.Lines.{kind_word, why_word, crl_word, cert_word, page_word, what_word};
 
 use crl_core::CrlFault;
+use gather_core::PageFault;
 use ident_core::Kind;
 use job_core::What;
 use octets_core::{Field, Why};
@@ -60,6 +61,19 @@ pub fn cert_text(fault: CertFault) -> &'static [u8]
         CertFault::NoScts => b"no-scts",
         CertFault::BadScts => b"scts",
         CertFault::TooManyScts => b"many",
+    }
+}
+
+pub fn page_text(fault: PageFault) -> &'static [u8]
+    ensures value { result.now ≡ page_word fault }
+    ensures len { length result.now ≤ 6 }
+{
+    match fault {
+        PageFault::Json => b"json",
+        PageFault::Shape { .. } => b"shape",
+        PageFault::Base64 { .. } => b"base64",
+        PageFault::Size { .. } => b"size",
+        PageFault::NoMemory => b"",
     }
 }
 

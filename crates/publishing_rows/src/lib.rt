@@ -4,6 +4,8 @@
 #[cfg(test)]
 mod deltas;
 #[cfg(test)]
+mod gathering;
+#[cfg(test)]
 mod publishing;
 #[cfg(test)]
 mod workers;

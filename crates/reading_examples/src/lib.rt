@@ -4,6 +4,8 @@
 #[cfg(test)]
 mod ders;
 #[cfg(test)]
+mod feeds;
+#[cfg(test)]
 mod jobs;
 #[cfg(test)]
 mod logs;

@@ -38,6 +38,7 @@ fn name_of(alloc: Global, words: &[&str]) -> Result<&'static str, NoMemory> {
         Command::Install(_) => Ok("install"),
         Command::Rehearse(_) => Ok("rehearse"),
         Command::Sample(_) => Ok("sample"),
+        Command::Gather(_) => Ok("gather"),
     }
 }
 

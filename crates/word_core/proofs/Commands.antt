@@ -10,14 +10,14 @@ use Rattle.word_core.specs.Words.{command_of}
 bytes_same : (a b : List ℕ) → bytes_eq a b ≡ true → a ≡ b
 bytes_same a b h = search (rules, bytes_eq-Decides)
 
-other : (a b : List ℕ) → (a ≡ b → ⊥) → bytes_eq a b ≡ false
+pub other : (a b : List ℕ) → (a ≡ b → ⊥) → bytes_eq a b ≡ false
 other a b differ = false_from_ne_true (bytes_eq a b) (λ h. differ (bytes_same a b h))
 
--- a name that is none of the ten
+-- a name that is none of the eleven
 pub no_command : (name : List ℕ) (rest : List (List ℕ)) → (name ≡ codes "query" → ⊥) → (name ≡ codes "query-cert" → ⊥) → (name ≡ codes "check" → ⊥)
     → (name ≡ codes "show" → ⊥) → (name ≡ codes "snapshot" → ⊥) → (name ≡ codes "delta" → ⊥) → (name ≡ codes "start" → ⊥) → (name ≡ codes "install" → ⊥)
-    → (name ≡ codes "rehearse" → ⊥) → (name ≡ codes "sample" → ⊥) → command_of (name ∷ rest) ≡ commands.Usage
-no_command name rest query query_cert check show snapshot delta start install rehearse sample =
+    → (name ≡ codes "rehearse" → ⊥) → (name ≡ codes "sample" → ⊥) → (name ≡ codes "gather" → ⊥) → command_of (name ∷ rest) ≡ commands.Usage
+no_command name rest query query_cert check show snapshot delta start install rehearse sample gather =
     rw (
       other name (codes "query") query,
       other name (codes "query-cert") query_cert,
@@ -29,4 +29,5 @@ no_command name rest query query_cert check show snapshot delta start install re
       other name (codes "install") install,
       other name (codes "rehearse") rehearse,
       other name (codes "sample") sample,
+      other name (codes "gather") gather,
     ) refl

@@ -3,3 +3,4 @@ pub mod Pairs
 pub mod Numbers
 pub mod Apart
 pub mod Commands
+pub mod DeviceCommands

@@ -1,6 +1,6 @@
 -- Pairs that are read one after the other.
 use Rattle.std.proofs.Common.{◌≡◌, ℕ, ◌<◌, List, [], ◌∷◌, length, map, None, refl, arith}
-use Rattle.word_core.specs.Words.{pairs_of, query_of}
+use Rattle.word_core.specs.Words.{pairs_of, query_of, gather_of}
 
 pub pairs_of-odd : {A : Type 0} (f : A → List ℕ) (xs : List A) → length xs < 2 → (length xs ≡ 0 → ⊥) → pairs_of (map f xs) ≡ None
 pairs_of-odd f [] short some = absurd (some refl)
@@ -12,3 +12,9 @@ query_of-short f [] short = refl
 query_of-short f (a ∷ []) short = refl
 query_of-short f (a ∷ b ∷ []) short = refl
 query_of-short f (a ∷ b ∷ c ∷ xs) short = absurd (omega arith)
+
+pub gather_of-short : {A : Type 0} (f : A → List ℕ) (xs : List A) → length xs < 3 → gather_of (map f xs) ≡ None
+gather_of-short f [] short = refl
+gather_of-short f (a ∷ []) short = refl
+gather_of-short f (a ∷ b ∷ []) short = refl
+gather_of-short f (a ∷ b ∷ c ∷ xs) short = absurd (omega arith)

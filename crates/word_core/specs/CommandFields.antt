@@ -52,3 +52,10 @@ pub record SampleFields : Type 0 where
   pub number : ℕ
   pub count : ℕ
   pub job : List ℕ
+
+-- a log's pages, whose entries are put behind those of a job
+pub record GatherFields : Type 0 where
+  pub head : List ℕ
+  pub log : List ℕ
+  pub job : List ℕ
+  pub pages : List (List ℕ)

@@ -1,3 +1,5 @@
 pub mod CommandFields
 pub mod Words
 pub mod Names
+pub mod DeviceFields
+pub mod Devices

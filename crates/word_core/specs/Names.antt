@@ -1,7 +1,7 @@
 -- The files that a command reads and writes.
 use Rattle.std.specs.Prelude.{ℕ, List, [], ◌∷◌}
 use Rattle.word_core.specs.declared.command.Command.{Command}
-use Rattle.word_core.specs.declared.command.Command.TheVariants.{Usage, Query, QueryCert, Check, Show, Snapshot, Delta, Start, Install, Rehearse, Sample}
+use Rattle.word_core.specs.declared.command.Command.TheVariants.{Usage, Query, QueryCert, Check, Show, Snapshot, Delta, Start, Install, Rehearse, Sample, Gather}
 
 -- the names of the files that a command reads, in the order of reading
 abbrev pub inputs_of : Command → List (List ℕ)
@@ -16,6 +16,7 @@ inputs_of (Start start) = start.part ∷ []
 inputs_of (Install install) = install.store ∷ install.part ∷ []
 inputs_of (Rehearse rehearse) = rehearse.queries ∷ rehearse.jobs
 inputs_of (Sample sample) = []
+inputs_of (Gather gather) = gather.head ∷ gather.pages
 
 -- the names of the files that a command writes, in the order of writing
 abbrev pub outputs_of : Command → List (List ℕ)
@@ -30,3 +31,4 @@ outputs_of (Start start) = start.store ∷ []
 outputs_of (Install install) = install.new_store ∷ []
 outputs_of (Rehearse rehearse) = []
 outputs_of (Sample sample) = sample.job ∷ []
+outputs_of (Gather gather) = gather.job ∷ []

@@ -10,7 +10,8 @@ use Rattle.hex.specs.declared.error.FromHexError.{FromHexError}
 use Rattle.octets_core.specs.Layout.{within}
 use Rattle.ident_core.specs.declared.bounds.TheConstants.{MAX_PARTS, MAX_WORKERS, MAX_SAMPLE}
 use Rattle.ident_core.specs.declared.range.Sighting.{Sighting}
-use Rattle.word_core.specs.CommandFields.{QueryFields, QueryCertFields, SnapshotFields, DeltaFields, StartFields, InstallFields, RehearseFields, SampleFields}
+use Rattle.word_core.specs.CommandFields.{QueryFields, QueryCertFields, SnapshotFields, DeltaFields, StartFields, InstallFields, RehearseFields, SampleFields, GatherFields}
+use Rattle.word_core.specs.declared.publishing.TheConstants.{MAX_PAGES}
 use Rattle.word_core.specs.declared.command.Command.{Command}
 use Rattle.word_core.specs.declared.command.Command.TheVariants as commands
 
@@ -181,6 +182,23 @@ sample_of (number ∷ count ∷ job ∷ []) = do
   Some (record { number = n; count = c; job = j })
 sample_of words = None
 
+-- one name or more, and no more than may be gathered
+abbrev pub pages_of : List (List ℕ) → Option (List (List ℕ))
+pages_of words = if within 1 MAX_PAGES (length words) then names_of words else None
+
+abbrev pub named_gather : (head log job : List ℕ) → List (List ℕ) → Option GatherFields
+named_gather head log job pages = do
+  l ← key_word log
+  names ← two_names_of head job
+  p ← pages_of pages
+  Some (record { head = names.0; log = l; job = names.1; pages = p })
+
+-- HEAD LOG JOB, and the pages; JOB is another file than HEAD and than each page
+abbrev pub gather_of : List (List ℕ) → Option GatherFields
+gather_of (head ∷ log ∷ job ∷ pages) =
+    if are_apart (head ∷ []) (job ∷ []) && are_apart pages (job ∷ []) then named_gather head log job pages else None
+gather_of words = None
+
 -- a command where its words are there, or none
 abbrev pub asks : {A : Type 0} → (A → Command) → Option A → Command
 asks command (Some x) = command x
@@ -200,4 +218,5 @@ command_of (command ∷ words) =
     else if bytes_eq command (codes "install") then asks commands.Install (install_of words)
     else if bytes_eq command (codes "rehearse") then asks commands.Rehearse (rehearse_of words)
     else if bytes_eq command (codes "sample") then asks commands.Sample (sample_of words)
+    else if bytes_eq command (codes "gather") then asks commands.Gather (gather_of words)
     else commands.Usage

@@ -1,6 +1,6 @@
 //! What the words of a call ask for, and the commands that ask about a certificate.
 
-use crate::publishing::{Delta, Snapshot};
+use crate::publishing::{Delta, Gather, Snapshot};
 use crate::storing::{Install, Start};
 use crate::trying::{Rehearse, Sample};
 use ident_core::{Identity, Sighting};
@@ -167,4 +167,6 @@ pub enum Command<'a> {
     Rehearse(Rehearse<'a>),
     /// To write the job that a number and a count stand for.
     Sample(Sample<'a>),
+    /// To write a job with the entries of a log's pages behind its own.
+    Gather(Gather<'a>),
 }

@@ -2,6 +2,7 @@
 #![tactic(auto)]
 
 mod command;
+mod device;
 mod publishing;
 mod reading;
 mod storing;
@@ -9,7 +10,8 @@ mod trying;
 mod words;
 
 pub use command::{Command, FileName, Query, QueryCert};
-pub use publishing::{Delta, Snapshot};
+pub use device::{DeviceCommand, Format, InstallPart, read_device_words};
+pub use publishing::{Delta, Gather, MAX_PAGES, Snapshot};
 pub use reading::read_words;
 pub use storing::{Install, Start};
 pub use trying::{Rehearse, Sample};

@@ -1,7 +1,87 @@
-//! The commands that publish a job.
+//! The commands that make a job from a log's pages, and publish one.
 
 use crate::command::FileName;
+use octets_core::Key32;
 use std::marker::Model;
+
+/// The most pages that one call gathers.
+pub const MAX_PAGES: usize = 1024;
+
+/// A log's pages, whose entries are put behind those of a job.
+#[derive(Debug, Drop)]
+pub struct Gather<'a> {
+    head: FileName<'a>,
+    log: Key32,
+    job: FileName<'a>,
+    pages: Vec<FileName<'a>>,
+}
+
+impl<'a> Model for Gather<'a> {
+    ghost use Rattle.std.specs.Prelude.{◌≤◌, length};
+    ghost use Rattle.word_core.specs.CommandFields.{GatherFields};
+    ghost use Rattle.word_core.specs.declared.publishing.TheConstants.{MAX_PAGES};
+
+    ghost Value = { GatherFields };
+
+    ghost view = { λ g. record { head = g.head; log = g.log; job = g.job; pages = g.pages.items } };
+
+    ghost invariant = { λ g. (1 ≤ length g.pages.items) × (length g.pages.items ≤ MAX_PAGES) };
+}
+
+impl<'a> Gather<'a> {
+    ghost use Rattle.std.specs.Prelude.{◌≡◌, ◌≤◌, length};
+    ghost use Rattle.word_core.specs.declared.publishing.TheConstants.{MAX_PAGES};
+
+    /// The pages in the files `pages`, in their order, of the log with this id, to be put behind the job in the file
+    /// `head` and written to the file `job`.
+    pub fn new(
+        head: FileName<'a>,
+        log: Key32,
+        job: FileName<'a>,
+        pages: Vec<FileName<'a>>,
+    ) -> Gather<'a>
+        requires some { 1 ≤ length pages.items }
+        requires few { length pages.items ≤ MAX_PAGES }
+        ensures { result ≡ record { head = head.entry; log = log; job = job.entry; pages = pages.entry.items } }
+    {
+        Gather {
+            head,
+            log,
+            job,
+            pages,
+        }
+    }
+
+    /// The name of the file that holds the job which the pages' entries are put behind.
+    pub fn head(&self) -> &'a str
+        ensures { result.now ≡ self.now.head }
+    {
+        self.head.as_str()
+    }
+
+    /// The log's id.
+    pub fn log(&self) -> &Key32
+        ensures { result.now ≡ self.now.log }
+    {
+        &self.log
+    }
+
+    /// The name of the file that the longer job is written to.
+    pub fn job(&self) -> &'a str
+        ensures { result.now ≡ self.now.job }
+    {
+        self.job.as_str()
+    }
+
+    /// The names of the files that hold the pages, in their order.
+    pub fn pages(&self) -> &[FileName<'a>]
+        ensures value { result.now ≡ self.now.pages }
+        ensures some { 1 ≤ length result.now }
+        ensures few { length result.now ≤ MAX_PAGES }
+    {
+        self.pages.as_slice()
+    }
+}
 
 /// A job to be published as the first of a chain.
 #[derive(Debug, Drop)]

@@ -3,10 +3,10 @@
 ghost use Rattle.std.specs.Prelude.{◌≡◌, ◌≤◌, ℕ, List, ◌∷◌, IfOk, IsOk, map, string_bytes};
 ghost use Rattle.ident_core.specs.declared.bounds.TheConstants.{MAX_WORKERS};
 ghost use Rattle.word_core.specs.Words.{command_of, query_of, query_cert_of, name_alone, snapshot_of};
-ghost use Rattle.word_core.specs.Words.{named_delta, delta_of, start_of, install_of, rehearse_of, sample_of};
+ghost use Rattle.word_core.specs.Words.{named_delta, delta_of, start_of, install_of, rehearse_of, sample_of, gather_of, named_gather};
 
 use crate::command::{Command, FileName, Query, QueryCert};
-use crate::publishing::{Delta, Snapshot};
+use crate::publishing::{Delta, Gather, MAX_PAGES, Snapshot};
 use crate::storing::{Install, Start};
 use crate::trying::{Rehearse, Sample};
 use crate::words::{
@@ -18,7 +18,7 @@ use octets_core::NoMemory;
 use std::alloc::Global;
 
 /// The query that words spell, if they spell one.
-fn read_query(alloc: Global, words: &[String]) -> Result<Option<Query<'_>>, NoMemory>
+pub(crate) fn read_query(alloc: Global, words: &[String]) -> Result<Option<Query<'_>>, NoMemory>
     ensures { IfOk result (λ q. q ≡ query_of (map string_bytes words.now)) }
 {
     let [store, issuer, serial, pairs @ ..] = words else {
@@ -201,6 +201,47 @@ fn read_sample(words: &[String]) -> Option<Sample<'_>>
     Some(Sample::new(number, count, job))
 }
 
+/// The job with pages behind it with names that words spell, if each spells one.
+fn gather_named<'a>(
+    alloc: Global,
+    head: &'a str,
+    log: &str,
+    job: &'a str,
+    pages: &'a [String],
+) -> Result<Option<Gather<'a>>, NoMemory>
+    ensures { IfOk result (λ g. g ≡ named_gather head.now log.now job.now (map string_bytes pages.now)) }
+{
+    let Some(log) = key_word(log) else {
+        return Ok(None);
+    };
+    let Some((head, job)) = read_two_names(head, job) else {
+        return Ok(None);
+    };
+    if pages.is_empty() || pages.len() > MAX_PAGES {
+        return Ok(None);
+    }
+    let Some(pages) = read_names(alloc, pages)? else {
+        return Ok(None);
+    };
+    Ok(Some(Gather::new(head, log, job, pages)))
+}
+
+/// The job with pages behind it that words spell, if they spell one.
+fn read_gather(alloc: Global, words: &[String]) -> Result<Option<Gather<'_>>, NoMemory>
+    ensures { IfOk result (λ g. g ≡ gather_of (map string_bytes words.now)) }
+{
+    let [head, log, job, pages @ ..] = words else {
+        return Ok(None);
+    };
+    if !are_apart(&words[..1], &words[2..3]) {
+        return Ok(None);
+    }
+    if !are_apart(pages, &words[2..3]) {
+        return Ok(None);
+    }
+    gather_named(alloc, head.as_str(), log.as_str(), job.as_str(), pages)
+}
+
 /// What a word and those behind it ask for.
 fn read_command<'a>(
     alloc: Global,
@@ -222,12 +263,13 @@ fn read_command<'a>(
         "install" => Ok(read_install(rest).map_or(Command::Usage, Command::Install)),
         "rehearse" => Ok(read_rehearse(alloc, rest)?.map_or(Command::Usage, Command::Rehearse)),
         "sample" => Ok(read_sample(rest).map_or(Command::Usage, Command::Sample)),
+        "gather" => Ok(read_gather(alloc, rest)?.map_or(Command::Usage, Command::Gather)),
         _ => Ok(Command::Usage),
     }
 }
 
-/// What words ask for. The words lend the names; room is taken for the sightings of a query and for the list of the
-/// jobs of a rehearsal, and for nothing else.
+/// What words ask for. The words lend the names; room is taken for the sightings of a query, for the list of the jobs
+/// of a rehearsal and for that of pages that are gathered, and for nothing else.
 pub fn read_words(alloc: Global, words: &[String]) -> Result<Command<'_>, NoMemory>
     ensures value { IfOk result (λ c. c ≡ command_of (map string_bytes words.now)) }
     // Words that ask for `check` are read without memory.

@@ -23,6 +23,14 @@ impl Status {
     pub const WRITE_FAULT: Status = Status(9);
     /// A certificate isn't read, or its timestamps aren't.
     pub const BAD_CERT: Status = Status(12);
+    /// The disk failed.
+    pub const DISK_FAULT: Status = Status(13);
+    /// A field of the device is short or fails its test.
+    pub const BAD_DEVICE: Status = Status(14);
+    /// There are more bytes than a slot of the device holds.
+    pub const TOO_LONG: Status = Status(15);
+    /// A page of a log isn't read.
+    pub const BAD_PAGE: Status = Status(16);
     /// Memory was wanted.
     pub const NO_MEMORY: Status = Status(70);
 }

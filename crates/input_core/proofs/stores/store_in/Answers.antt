@@ -1,0 +1,9 @@
+use Rattle.std.proofs.Common.{rules, subst}
+use Rattle.input_core.specs.Readings.{store_in}
+use Rattle.input_core.specs.Inputs.{WhichFailed, IsInput}
+use Rattle.input_core.proofs.stores.store_in.Goals as goal
+
+pub returns-clause-input : goal.returns-clause-input
+returns-clause-input g c =
+    subst (λ (d : g.row.D.Denot). IsInput (g.D.Depot.files c.args.depot.now) (WhichFailed g.D.Depot c.args.depot.now d) c.args.name.now store_in (λ s. s) c.fed_store.result) (search rules)
+    (rw (c.new-feed.ensures.depot, c.new-feed.ensures.name) at c.fed_store.ensures.input)
