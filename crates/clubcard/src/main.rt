@@ -1,8 +1,10 @@
-//! The program: runs its words over the real files and the terminal, and ends with the status of `run`.
+//! The program: runs its words over the real files and the terminal, and ends with the status of `run`, or of
+//! `run_device`.
 #![tactic(auto)]
 
 use clubcard_top::{Status, run};
-use real_edge::{FileDepot, Terminal};
+use device_top::run_device;
+use real_edge::{FileDepot, FileDisk, Terminal};
 use std::process::ExitCode;
 use std::{env, io};
 
@@ -24,13 +26,19 @@ fn words(rt: &HostRuntime) -> Result<Vec<String>, Status> {
 }
 
 fn main(rt: HostRuntime) -> ExitCode {
-    let status = match words(&rt) {
-        Ok(words) => {
-            let mut depot = FileDepot::new(&rt);
-            let mut out = Terminal::new(&rt);
-            run(&rt, rt.alloc(), &words, &mut depot, &mut out)
-        }
-        Err(status) => status,
+    let words = match words(&rt) {
+        Ok(words) => words,
+        Err(status) => return ExitCode::from(status.0),
     };
-    ExitCode::from(status.0)
+    let mut depot = FileDepot::new(&rt);
+    let mut out = Terminal::new(&rt);
+    // The words of a command on a device name the device second.
+    let status = match words.as_slice() {
+        [command, device, ..] if command.starts_with("device-") => {
+            let mut disk = FileDisk::new(&rt, device.as_str());
+            run_device(&rt, rt.alloc(), &words, &mut disk, &mut depot, &mut out).0
+        }
+        _ => run(&rt, rt.alloc(), &words, &mut depot, &mut out).0,
+    };
+    ExitCode::from(status)
 }

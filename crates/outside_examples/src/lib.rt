@@ -19,4 +19,6 @@ mod files;
 #[cfg(test)]
 mod memory;
 #[cfg(test)]
+mod real_disk;
+#[cfg(test)]
 mod sink;

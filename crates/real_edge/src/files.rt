@@ -50,7 +50,11 @@ pub struct FileDepot<'a, R: Files> {
     write_faults: u64,
 }
 
-fn read_from<F: Read + Seek>(file: &mut F, at: u64, buf: &mut [u8]) -> Result<usize, Failed>
+pub(crate) fn read_from<F: Read + Seek>(
+    file: &mut F,
+    at: u64,
+    buf: &mut [u8],
+) -> Result<usize, Failed>
     ensures { IfOk result (λ n. n ≤ length buf.old) }
 {
     let Ok(_) = file.seek(SeekFrom::Start(at)) else {
@@ -62,7 +66,7 @@ fn read_from<F: Read + Seek>(file: &mut F, at: u64, buf: &mut [u8]) -> Result<us
     }
 }
 
-fn write_to<F: Write>(file: &mut F, bytes: &[u8]) -> Result<usize, Failed>
+pub(crate) fn write_to<F: Write>(file: &mut F, bytes: &[u8]) -> Result<usize, Failed>
     ensures { IfOk result (λ n. n ≤ length bytes.now) }
 {
     match file.write(bytes) {

@@ -1,0 +1,221 @@
+-- What follows from how a call ends, over a disk whose bytes are told.
+use Rattle.std.proofs.Common.{◌≡◌, ℕ, ◌+◌, ◌^◌, ◌≤◌, ◌<◌, Bool, true, false, inl, inr, List, [], ◌∷◌, ◌++◌, length, map, Option, Some, None, Result, Ok, Err, refl, sym, ap, ◌∙◌, subst, arith}
+use Rattle.std.specs.Prelude.{◌≢◌, nat_lt, if◌then◌else◌, All}
+use Rattle.std.specs.Int.{w64, from_be_bytes}
+use Rattle.std.proofs.lemmas.Nat.{from_be_bytes-to_be_bytes_8}
+use Rattle.ident_core.specs.declared.identity.Identity.{Identity}
+use Rattle.ident_core.specs.declared.range.Sighting.{Sighting}
+use Rattle.octets_core.specs.Reading.{value_of}
+use Rattle.outside_core.specs.Written.{followed_by}
+use Rattle.part_codec.specs.Fitting.{Fits}
+use Rattle.part_codec.specs.SealedFields.{SealedFields}
+use Rattle.store_core.specs.declared.chain.Refusal.{Refusal}
+use Rattle.store_core.specs.declared.verdict.Verdict.{Verdict}
+use Rattle.store_core.specs.Chain.{IsChain, refusal_of}
+use Rattle.store_core.specs.StoreLayout.{store, store_text}
+use Rattle.store_core.specs.Verdict.{verdict}
+use Rattle.slot_core.specs.Disk.{piece}
+use Rattle.slot_core.specs.Device.{IsDevice, StandsAt, picked_at}
+use Rattle.job_core.specs.JobFields.{JobFields}
+use Rattle.sets_core.specs.Among.{Among}
+use Rattle.universe_core.specs.History.{seen, sightings}
+use Rattle.publication_core.specs.Histories.{IsHistory, history, store_bytes}
+use Rattle.publication_core.specs.Truth.{truth}
+use Rattle.input_core.specs.declared.fault.FileFault.{FileFault}
+use Rattle.input_core.specs.declared.fault.FileFault.TheVariants as faults
+use Rattle.input_core.specs.Faults.{of_store}
+use Rattle.input_core.specs.Readings.{faulted, input_as, part_in, store_in}
+use Rattle.input_core.specs.Inputs.{IsRead}
+use Rattle.word_core.specs.CommandFields.{QueryFields}
+use Rattle.word_core.specs.DeviceFields.{FormatFields, InstallPartFields}
+use Rattle.word_core.specs.declared.device.DeviceCommand.{DeviceCommand}
+use Rattle.word_core.specs.declared.device.DeviceCommand.TheVariants as commands
+use Rattle.device_top.specs.Said.{Said}
+use Rattle.device_top.specs.Replies.{bad_device, disk_fault, refusal, too_long, verdict_line}
+use Rattle.device_top.specs.Outcomes.{Outcome, Deed, Formats, Replaces, keeps, stored, formats, format_outcome, added, install_outcome, query_outcome}
+use Rattle.device_top.specs.Comes.{Comes, Queried}
+use Rattle.device_top.specs.Holding.{Leaves}
+use Rattle.device_top.specs.Calls.{DeviceCall, Ends}
+use Rattle.device_top.specs.Promises.{Prints, Formatted, Installed, Asked, Promises}
+use Rattle.device_top.proofs.Answering.{status_of}
+use Rattle.device_top.proofs.Plain.{plain, not_done}
+
+-- ---- one device
+
+-- one number stands at a place
+stands_once : (at a b : ℕ) (device : List ℕ) → StandsAt at a device → StandsAt at b device → a < 2 ^ 64 → b < 2 ^ 64 → a ≡ b
+stands_once at a b device is other low high =
+    sym (from_be_bytes-to_be_bytes_8 a low) ∙ ap (from_be_bytes w64) (sym is ∙ other) ∙ from_be_bytes-to_be_bytes_8 b high
+
+-- what a device's picked slot holds is one list of bytes
+held_once : (c d : ℕ) (these those device : List ℕ) → IsDevice c these device → IsDevice d those device → these ≡ those
+held_once c d these those device one other =
+    let same : c ≡ d = stands_once 10 c d device one.header.stands other.header.stands (omega (arith, one.header.high)) (omega (arith, other.header.high)) in
+    let moved = subst (λ (n : ℕ). IsDevice n these device) same one in
+    let long : length these ≡ length those =
+    stands_once (picked_at d device) (length these) (length those) device moved.slot.stands other.slot.stands
+    (omega (arith, moved.slot.within, moved.header.high)) (omega (arith, other.slot.within, other.header.high)) in
+    sym moved.slot.held ∙ ap (λ (n : ℕ). piece (picked_at d device + 8) n device) long ∙ other.slot.held
+
+-- ---- the ends of a call
+
+module _ (call : DeviceCall) (device : List ℕ) (told : call.before.told ≡ Some device) where
+  -- the command was done
+  pub record Done : Type 0 where
+    pub o : Outcome
+    pub comes : Comes call.asked call.files call.failed device o
+    pub zero : o.said.status ≡ 0
+    pub prints : Prints call o.said.text
+    pub leaves : Leaves o.deed device call.after
+
+  done_by : Ends call → call.printed.status ≡ 0 → Done
+  done_by (inl (status, text, same)) zero = absurd (omega (arith, status, zero))
+  done_by (inr (said, inl (status, text), inl (is, rose))) zero =
+      let thirteen = status_of said (disk_fault _) is in absurd (omega (arith, status, zero, thirteen))
+  done_by (inr (said, inl (status, text), inr (differs, shows))) zero =
+      let (o, comes, is, leaves) = shows device told in
+      record {
+        o = o;
+        comes = comes;
+        zero = sym (status_of said o.said is) ∙ sym status ∙ zero;
+        prints = text ∙ ap (λ (s : Said). followed_by call.printed.text_before s.text) is;
+        leaves = leaves;
+      }
+  done_by (inr (said, inr (status, cut, risen), answers)) zero = absurd (omega (arith, status, zero))
+
+  pub unchanged : Ends call → call.printed.status ≢ 0 → call.printed.status ≢ 9 → call.printed.status ≢ 13 → call.after.told ≡ Some device
+  unchanged (inl (status, text, same)) n0 n9 n13 = same ∙ told
+  unchanged (inr (said, inl (status, text), inl (is, rose))) n0 n9 n13 = absurd (n13 (status ∙ status_of said (disk_fault _) is))
+  unchanged (inr (said, inl (status, text), inr (differs, shows))) n0 n9 n13 =
+      let (o, comes, is, leaves) = shows device told in
+      elim (plain call.asked call.files call.failed device o comes) [
+        | inl kept ↦ subst (λ (d : Deed). Leaves d device call.after) kept leaves
+        | inr zero ↦ absurd (n0 (status ∙ status_of said o.said is ∙ zero))
+      ]
+  unchanged (inr (said, inr (status, cut, risen), answers)) n0 n9 n13 = absurd (n9 status)
+
+  -- what an outcome says and leaves, by an equal one
+  abbrev ShowsIt : Outcome → Type 0
+  ShowsIt o = (o.said.status ≡ 0) × Prints call o.said.text × Leaves o.deed device call.after
+
+  shown : (d : Done) (o : Outcome) → d.o ≡ o → ShowsIt o
+  shown d o is = subst ShowsIt is (d.zero, d.prints, d.leaves)
+
+  as_asked : (d : Done) (asked : DeviceCommand) → call.asked ≡ asked → Comes asked call.files call.failed device d.o
+  as_asked d asked is = subst (λ (a : DeviceCommand). Comes a call.files call.failed device d.o) is d.comes
+
+  -- ---- device-format
+
+  format_put : (f : FormatFields) (bytes : List ℕ) (parts : List SealedFields) → store_in bytes ≡ Ok parts → IsRead call.files call.failed f.store (Some bytes) → (b : Bool)
+      → ShowsIt (if b then keeps (too_long f.capacity f.device) else record { said = stored parts; deed = Formats f.capacity bytes }) → Formatted call f
+  format_put f bytes parts is read true (zero, prints, leaves) = absurd (omega (arith, zero))
+  format_put f bytes parts is read false (zero, prints, leaves) = record { bytes = bytes; parts = parts; is_read = read; is_store = is; prints = prints; rests = leaves }
+
+  format_read : (f : FormatFields) (bytes : List ℕ) (r : Result (List SealedFields) FileFault) → store_in bytes ≡ r → IsRead call.files call.failed f.store (Some bytes)
+      → ShowsIt (formats f bytes r) → Formatted call f
+  format_read f bytes (Err fault) is read (zero, prints, leaves) = absurd (not_done f.store fault zero)
+  format_read f bytes (Ok parts) is read shows = format_put f bytes parts is read (nat_lt f.capacity (length bytes)) shows
+
+  format_given : (f : FormatFields) (given : Option (List ℕ)) → IsRead call.files call.failed f.store given → ShowsIt (format_outcome f given) → Formatted call f
+  format_given f None read (zero, prints, leaves) = absurd (not_done f.store faults.Unread zero)
+  format_given f (Some bytes) read shows = format_read f bytes (store_in bytes) refl read shows
+
+  format_done : (f : FormatFields) (d : Done) → Comes (commands.Format f) call.files call.failed device d.o → Formatted call f
+  format_done f d (given, read, is) = format_given f given read (shown d (format_outcome f given) is)
+
+  -- ---- device-install
+
+  module _ (i : InstallPartFields) (capacity : ℕ) (held : List ℕ) (parts : List SealedFields) (is_device : IsDevice capacity held device) (is_store : store_in held ≡ Ok parts) where
+    install_put : (file : List ℕ) (x : SealedFields × ℕ) → IsRead call.files call.failed i.part (Some file) → part_in file ≡ Ok x → refusal_of parts x.0 ≡ None → (b : Bool)
+        → ShowsIt (if b then keeps (too_long capacity i.device)
+        else record { said = stored (parts ++ x.0 ∷ []); deed = Replaces capacity (store_text (parts ++ x.0 ∷ [])) }) → Installed call device i
+    install_put file x read is none true (zero, prints, leaves) = absurd (omega (arith, zero))
+    install_put file x read is none false (zero, prints, leaves) = record {
+      capacity = capacity;
+      held = held;
+      parts = parts;
+      file = file;
+      added = x.0;
+      size = x.1;
+      is_device = is_device;
+      is_store = is_store;
+      is_read = read;
+      is_part = is;
+      taken = none;
+      prints = prints;
+      rests = leaves;
+    }
+
+    install_added : (file : List ℕ) (x : SealedFields × ℕ) → IsRead call.files call.failed i.part (Some file) → part_in file ≡ Ok x → (r : Option Refusal) → refusal_of parts x.0 ≡ r
+        → ShowsIt (added i capacity parts x.0 r) → Installed call device i
+    install_added file x read is None none shows = install_put file x read is none (nat_lt capacity (length (store_text (parts ++ x.0 ∷ [])))) shows
+    install_added file x read is (Some why) refused (zero, prints, leaves) = absurd (not_done i.part (faults.Chain why) zero)
+
+    install_read : (file : List ℕ) (r : Result (SealedFields × ℕ) FileFault) → part_in file ≡ r → IsRead call.files call.failed i.part (Some file)
+        → ShowsIt (install_outcome i capacity parts r) → Installed call device i
+    install_read file (Err fault) is read (zero, prints, leaves) = absurd (not_done i.part fault zero)
+    install_read file (Ok x) is read shows = install_added file x read is (refusal_of parts x.0) refl shows
+
+    install_given : (given : Option (List ℕ)) → IsRead call.files call.failed i.part given → ShowsIt (install_outcome i capacity parts (input_as part_in given)) → Installed call device i
+    install_given None read (zero, prints, leaves) = absurd (not_done i.part faults.Unread zero)
+    install_given (Some file) read shows = install_read file (part_in file) refl read shows
+
+  install_done : (i : InstallPartFields) (d : Done) → Comes (commands.Install i) call.files call.failed device d.o → Installed call device i
+  install_done i d (inl (at, breaks, is)) = let s = shown d (keeps (bad_device at i.device)) is in absurd (let z : 14 ≡ 0 = s.0 in omega (arith, z))
+  install_done i d (inr (capacity, bytes, holds, inl (fault, bad, is))) = absurd (not_done i.device fault (shown d (keeps (refusal i.device fault)) is).0)
+  install_done i d (inr (capacity, bytes, holds, inr (parts, good, (given, read, is)))) =
+      install_given i capacity bytes parts holds good given read (shown d (install_outcome i capacity parts (input_as part_in given)) is)
+
+  -- ---- device-query
+
+  query_done : (q : QueryFields) (d : Done) → Queried q device d.o → Asked call device q
+  query_done q d (inl (at, breaks, is)) = let s = shown d (keeps (bad_device at q.store)) is in absurd (let z : 14 ≡ 0 = s.0 in omega (arith, z))
+  query_done q d (inr (capacity, bytes, holds, inl (fault, bad, is))) = absurd (not_done q.store fault (shown d (keeps (refusal q.store fault)) is).0)
+  query_done q d (inr (capacity, bytes, holds, inr (parts, good, is))) = record {
+    capacity = capacity;
+    held = bytes;
+    parts = parts;
+    is_device = holds;
+    is_store = good;
+    prints = (shown d (query_outcome q parts) is).1;
+  }
+
+  -- ---- histories
+
+  -- what the layers promise of histories
+  pub record Laws : Type 0 where
+    pub chain : (jobs : List JobFields) (parts : List SealedFields) → IsHistory jobs parts → IsChain parts
+    pub few : (jobs : List JobFields) (parts : List SealedFields) → IsHistory jobs parts → length parts ≤ 64
+    pub texts : (jobs : List JobFields) (parts : List SealedFields) → IsHistory jobs parts → All Fits parts
+    pub truths : (jobs : List JobFields) (parts : List SealedFields) (x : Identity) (ss : List Sighting) → IsHistory jobs parts → 1 ≤ length ss
+        → ((s : Sighting) → Among ss s → Among (sightings x (seen (history jobs parts))) s) → verdict (map (λ s. s.part) parts) x ss ≡ truth (history jobs parts) x
+    pub store_read : (parts : List SealedFields) → IsChain parts → 1 ≤ length parts → length parts ≤ 64 → All Fits parts → value_of (store (store_text parts) 0) ≡ Ok parts
+
+  some_parts : (jobs : List JobFields) (parts : List SealedFields) → IsHistory jobs parts → 1 ≤ length jobs → 1 ≤ length parts
+  some_parts [] parts is some = absurd (omega (arith, some))
+  some_parts (j ∷ jobs) [] is some = absurd is
+  some_parts (j ∷ jobs) (s ∷ parts) is some = omega arith
+
+  same_parts : (one other : List SealedFields) → ◌≡◌ {A = Result (List SealedFields) FileFault} (Ok one) (Ok other) → one ≡ other
+  same_parts one other is = cc
+
+  truth_done : Laws → (q : QueryFields) (jobs : List JobFields) (parts : List SealedFields) (capacity : ℕ) → IsHistory jobs parts → 1 ≤ length jobs
+      → IsDevice capacity (store_bytes parts) device → 1 ≤ length q.sightings → ((s : Sighting) → Among q.sightings s → Among (sightings q.id (seen (history jobs parts))) s)
+      → Asked call device q → Prints call (verdict_line (truth (history jobs parts) q.id))
+  truth_done laws q jobs parts capacity is some holds asked accepted a =
+      let held : a.held ≡ store_text parts = held_once a.capacity capacity a.held (store_text parts) device a.is_device holds in
+      let read : store_in (store_text parts) ≡ Ok parts =
+      ap (faulted of_store) (laws.store_read parts (laws.chain jobs parts is) (some_parts jobs parts is some) (laws.few jobs parts is) (laws.texts jobs parts is)) in
+      let same : a.parts ≡ parts = same_parts a.parts parts (sym a.is_store ∙ ap store_in held ∙ read) in
+      a.prints ∙ ap (λ (ps : List SealedFields). followed_by call.printed.text_before (verdict_line (verdict (map (λ s. s.part) ps) q.id q.sightings))) same
+      ∙ ap (λ (v : Verdict). followed_by call.printed.text_before (verdict_line v)) (laws.truths jobs parts q.id q.sightings is asked accepted)
+
+  pub promised : Laws → Ends call → Promises call device
+  promised laws ends = record {
+    format = λ f did. let d = done_by ends did.1 in format_done f d (as_asked d (commands.Format f) did.0);
+    install = λ i did. let d = done_by ends did.1 in install_done i d (as_asked d (commands.Install i) did.0);
+    query = λ q did. let d = done_by ends did.1 in query_done q d (as_asked d (commands.Query q) did.0);
+    truth = λ q jobs parts capacity is some holds asked accepted did.
+        let d = done_by ends did.1 in truth_done laws q jobs parts capacity is some holds asked accepted (query_done q d (as_asked d (commands.Query q) did.0));
+    unchanged = unchanged ends;
+  }

@@ -1,0 +1,14 @@
+use Rattle.std.proofs.Common.{length}
+use Rattle.slot_core.specs.declared.fault.SlotFault.TheVariants.{TooLong}
+use Rattle.device_top.specs.Outcomes.{Formats}
+use Rattle.device_top.proofs.Putting.{fits, rests_formatted, was_put}
+use Rattle.device_top.proofs.commands.formatted.Goals as goal
+
+pub returns-in-Ok-clause-answers : goal.returns-in-Ok-clause-answers
+returns-in-Ok-clause-answers g c =
+    let ok = rw c.capacity.ensures.value at c.in-Ok.ensures.ok in
+    let long = rw c.capacity.ensures.value at c.in-Ok.ensures.too_long in
+    was_put c.args.asked.now.device c.args.asked.now.capacity c.args.store.now (length c.args.bytes.now) (Formats c.args.asked.now.capacity c.args.bytes.now)
+    (g.D.Disk.state c.args.disk.now) (g.D.Disk.state c.format.new.disk) c.stored.result
+    (fits c.args.asked.now.capacity (length c.args.bytes.now) c.in-Ok.field-0 (TooLong c.args.asked.now.capacity) _ long) c.stored.ensures
+    (rests_formatted c.args.asked.now.capacity c.args.bytes.now (g.D.Disk.state c.args.disk.now) (g.D.Disk.state c.format.new.disk) ok c.in-Ok.ensures.durable)

@@ -1,0 +1,22 @@
+use Rattle.std.proofs.Common.{◌≡◌, inr, refl, sym, ◌∙◌, subst, arith}
+use Rattle.input_core.specs.Inputs.{WhichFailed}
+use Rattle.word_core.specs.DeviceFields.{InstallPartFields}
+use Rattle.word_core.specs.declared.device.DeviceCommand.TheVariants as commands
+use Rattle.device_top.specs.Outcomes.{keeps}
+use Rattle.device_top.specs.Replies.{usage}
+use Rattle.device_top.specs.Crashes.{Survives}
+use Rattle.device_top.proofs.Answering.{is_not}
+use Rattle.device_top.proofs.top.answer_for.Goals as goal
+
+pub returns-in-Usage-clause-answers : goal.returns-in-Usage-clause-answers
+returns-in-Usage-clause-answers g c =
+    rw c.in-Usage.is (inr (is_not 2 13 c.usage.result usage c.usage.ensures refl (λ h. omega (arith, h)), λ device told. (keeps usage, refl, c.usage.ensures, told)))
+
+same_asked : (one other : InstallPartFields) → commands.Install one ≡ commands.Install other → one ≡ other
+same_asked one other is = cc
+
+pub returns-in-Install-clause-survives : goal.returns-in-Install-clause-survives
+returns-in-Install-clause-survives g c = λ i is.
+    subst (λ (j : InstallPartFields). Survives (g.P.Depot.files c.args.depot.now) (WhichFailed g.P.Depot c.args.depot.now c.answer_install.new.depot) j.part
+    (g.D.Disk.state c.args.disk.now) (g.D.Disk.state c.answer_install.new.disk))
+    (same_asked c.in-Install.asked i (sym c.in-Install.is ∙ is)) c.answer_install.ensures.survives
