@@ -10,7 +10,7 @@ fn hexadecimal_digest(alloc: Global, bytes: &[u8]) -> io::Result<String> {
 }
 
 /// Prints the digest of the file in hexadecimal.
-pub fn run(rt: &HostRuntime, name: &str) -> io::Result<()> {
+pub(crate) fn run(rt: &HostRuntime, name: &str) -> io::Result<()> {
     let bytes = fs::read(rt, name)?;
     println!(rt; "{}", hexadecimal_digest(rt.alloc(), &bytes)?)
 }

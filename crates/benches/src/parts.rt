@@ -29,7 +29,7 @@ fn scan(bytes: &[u8]) -> u64 {
 }
 
 /// Does it, and prints the last answer: the first byte of the digest, or how many bytes the part has.
-pub fn run(rt: &HostRuntime, what: &str, name: &str, rounds: u32) -> io::Result<()> {
+pub(crate) fn run(rt: &HostRuntime, what: &str, name: &str, rounds: u32) -> io::Result<()> {
     let bytes = fs::read(rt, name)?;
     let mut answer = 0;
     for _ in 0..rounds {

@@ -69,7 +69,7 @@ fn build(
 
 /// Solves systems of so many equations in so many planes, so many times over, and prints of each how many equations
 /// were kept and its starts, which depend on the numbers alone.
-pub fn run(rt: &HostRuntime, numbers: [u32; 3]) -> io::Result<()> {
+pub(crate) fn run(rt: &HostRuntime, numbers: [u32; 3]) -> io::Result<()> {
     let [keys, planes, rounds] = numbers;
     if keys > MAX_IDENTITIES as u32 || planes < 1 || planes > u32::from(MAX_PLANES) {
         return Ok(());
@@ -127,7 +127,7 @@ fn ask_rounds<L: Ledger>(
 
 /// Solves a system of so many equations in so many planes. Then it asks, so many times over, for the sums of their rows
 /// and of as many others, and prints how many of these have the targets as their sums.
-pub fn ask(rt: &HostRuntime, numbers: [u32; 3]) -> io::Result<()> {
+pub(crate) fn ask(rt: &HostRuntime, numbers: [u32; 3]) -> io::Result<()> {
     let [keys, planes, rounds] = numbers;
     if keys > MAX_IDENTITIES as u32 || planes < 1 || planes > u32::from(MAX_PLANES) {
         return Ok(());

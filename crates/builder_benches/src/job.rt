@@ -49,7 +49,7 @@ fn enroll(alloc: Global, job: &mut Job, issuer: Key32, count: u32) -> Result<(),
 }
 
 /// The job of these sizes.
-pub fn job_of(alloc: Global, sizes: Sizes) -> Result<Job, NoMemory> {
+pub(crate) fn job_of(alloc: Global, sizes: Sizes) -> Result<Job, NoMemory> {
     let mut job = Job {
         epoch: 1,
         moment: 0,
