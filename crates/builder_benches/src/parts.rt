@@ -59,7 +59,7 @@ fn built<R: Threads + Sync>(
 }
 
 /// The part of the job's groups, which was built so many times over.
-pub fn last_part<R: Threads + Sync>(
+pub(crate) fn last_part<R: Threads + Sync>(
     rt: &R,
     alloc: Global,
     job: &Job,
