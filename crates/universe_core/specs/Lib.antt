@@ -4,6 +4,7 @@ pub mod Groups
 pub mod Counting
 pub mod Ledgers
 pub mod Step
+pub mod Formats
 pub mod Enrolling
 pub mod Reading
 pub mod Merging
