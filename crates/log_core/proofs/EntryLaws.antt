@@ -7,15 +7,15 @@ use Rattle.octets_core.specs.Walk.{Walk, ◌>>=◌, whole, given, ends, value_of
 use Rattle.octets_core.specs.Vectors.{bytes_field, number_field, vector, some_vector}
 use Rattle.der_core.proofs.WalkLaws.{step, given-step, ends-step, ends-read, value-step}
 use Rattle.log_core.specs.Certificates.{tbs_serial, certificate_serial, certificate_key}
-use Rattle.log_core.specs.Entries.{LeafFields, EntryFields, if_zero, key, issuer_of, leaf, first_in, chain, chain_hash, identified, identity_by, sighted, entry_by, entry_of}
+use Rattle.log_core.specs.declared.Entry.{Entry}
+use Rattle.log_core.specs.Entries.{LeafFields, if_zero, key, issuer_of, leaf, first_in, chain, chain_hash, identified, identity_by, sighted, entry_by, entry_of}
 use Rattle.log_core.specs.VectorGrammar.{IsNumber, IsVector, IsSomeVector}
 use Rattle.log_core.specs.CertificateGrammar.{HasKey}
 use Rattle.log_core.specs.EntryGrammar.{IsIssuer, IsLeaf, IsChain, IsIssuedBy, IsSigned, ReadsEntry}
 use Rattle.std.specs.Prelude.{IfOk}
 use Rattle.ident_core.specs.declared.identity.Identity.{Identity}
-use Rattle.ident_core.specs.declared.range.Sighting.{Sighting}
 use Rattle.log_core.specs.declared.Unread.{Unread}
-use Rattle.log_core.specs.Leaves.{fields_of, GivesEntry, GivesHash}
+use Rattle.log_core.specs.Leaves.{GivesEntry, GivesHash}
 use Rattle.log_core.proofs.VectorLaws.{join, bytes-read, bytes-taken, number-read, number-taken, vector-read, vector-taken, some_vector-read, some_vector-taken, vectors-read, vectors-taken}
 use Rattle.log_core.proofs.CertificateLaws.{tbs_serial-read, tbs_serial-taken, certificate_serial-read, certificate_serial-taken, certificate_key-read, certificate_key-taken}
 
@@ -289,38 +289,38 @@ hash-taken issuer bytes h =
       hash = k.hash;
     }
 
-signed-read : (by : Option (List ℕ)) (signed extra issuer octets : List ℕ) → IsSigned by signed extra issuer octets → identity_by by signed extra ≡ Some (issuer, octets)
+signed-read : (by : Option (List ℕ)) (signed extra issuer octets : List ℕ) → IsSigned by signed extra issuer octets → identity_by by signed extra ≡ Some (record { issuer = issuer; serial = octets })
 signed-read None signed extra issuer octets h = rw (hash-read issuer extra h.1, certificate_serial-read octets signed h.0) refl
 signed-read (Some k) signed extra issuer octets h = rw (tbs_serial-read octets signed h.0, h.1) refl
 
-identified-taken : (issuer octets : Option (List ℕ)) (x : List ℕ × List ℕ) → identified issuer octets ≡ Some x → (issuer ≡ Some x.0) × (octets ≡ Some x.1)
+identified-taken : (issuer octets : Option (List ℕ)) (x : Identity) → identified issuer octets ≡ Some x → (issuer ≡ Some x.issuer) × (octets ≡ Some x.serial)
 identified-taken None octets x h = cc
 identified-taken (Some issuer) None x h = cc
 identified-taken (Some issuer) (Some octets) x h =
-    let pair : List ℕ × List ℕ = (issuer, octets) in
-    let same : pair ≡ x = cc in
-    (ap (λ (p : List ℕ × List ℕ). Some p.0) same, ap (λ (p : List ℕ × List ℕ). Some p.1) same)
+    let made : Identity = record { issuer = issuer; serial = octets } in
+    let same : made ≡ x = cc in
+    (ap (λ (i : Identity). Some i.issuer) same, ap (λ (i : Identity). Some i.serial) same)
 
-signed-taken : (by : Option (List ℕ)) (signed extra : List ℕ) (x : List ℕ × List ℕ) → identity_by by signed extra ≡ Some x → IsSigned by signed extra x.0 x.1
+signed-taken : (by : Option (List ℕ)) (signed extra : List ℕ) (x : Identity) → identity_by by signed extra ≡ Some x → IsSigned by signed extra x.issuer x.serial
 signed-taken None signed extra x h =
     let parts = identified-taken (chain_hash extra) (certificate_serial signed) x h in
-    (certificate_serial-taken x.1 signed parts.1, hash-taken x.0 extra parts.0)
+    (certificate_serial-taken x.serial signed parts.1, hash-taken x.issuer extra parts.0)
 signed-taken (Some k) signed extra x h =
     let parts = identified-taken (Some k) (tbs_serial signed) x h in
-    (tbs_serial-taken x.1 signed parts.1, cc (parts.0))
+    (tbs_serial-taken x.serial signed parts.1, cc (parts.0))
 
-pub entry-read : (log bytes extra : List ℕ) (x : EntryFields) → ReadsEntry log bytes extra x → entry_of log bytes extra ≡ Some x
+pub entry-read : (log bytes extra : List ℕ) (x : Entry) → ReadsEntry log bytes extra x → entry_of log bytes extra ≡ Some x
 entry-read log bytes extra x h =
-    rw (leaf-read h.fields bytes h.is_leaf, signed-read h.fields.issuer h.fields.signed extra x.issuer x.serial h.signed, ← h.at_time, ← h.in_log) refl
+    rw (leaf-read h.fields bytes h.is_leaf, signed-read h.fields.issuer h.fields.signed extra x.id.issuer x.id.serial h.signed, ← h.at_time, ← h.in_log) refl
 
-sighted-taken : (log : List ℕ) (time : ℕ) (r : Option (List ℕ × List ℕ)) (x : EntryFields) → sighted log time r ≡ Some x → (r ≡ Some (x.issuer, x.serial)) × (x.time ≡ time) × (x.log ≡ log)
+sighted-taken : (log : List ℕ) (time : ℕ) (r : Option Identity) (x : Entry) → sighted log time r ≡ Some x → (r ≡ Some x.id) × (x.sighting.time ≡ time) × (x.sighting.log ≡ log)
 sighted-taken log time None x h = cc
 sighted-taken log time (Some y) x h =
-    let made : EntryFields = record { issuer = y.0; serial = y.1; log = log; time = time } in
+    let made : Entry = record { id = y; sighting = record { log = log; time = time } } in
     let same : made ≡ x = cc in
-    (ap (λ (z : EntryFields). Some (z.issuer, z.serial)) same, sym (ap (λ (z : EntryFields). z.time) same), sym (ap (λ (z : EntryFields). z.log) same))
+    (ap (λ (z : Entry). Some z.id) same, sym (ap (λ (z : Entry). z.sighting.time) same), sym (ap (λ (z : Entry). z.sighting.log) same))
 
-by-taken : (log bytes extra : List ℕ) (r : Option LeafFields) (x : EntryFields) → value_of (leaf bytes) ≡ r → entry_by log extra r ≡ Some x → ReadsEntry log bytes extra x
+by-taken : (log bytes extra : List ℕ) (r : Option LeafFields) (x : Entry) → value_of (leaf bytes) ≡ r → entry_by log extra r ≡ Some x → ReadsEntry log bytes extra x
 by-taken log bytes extra None x e h = cc
 by-taken log bytes extra (Some l) x e h =
     let v = value-step (leaf bytes) l e in
@@ -328,25 +328,25 @@ by-taken log bytes extra (Some l) x e h =
     record {
       fields = l;
       is_leaf = leaf-taken bytes (l, v.0) v.1;
-      signed = signed-taken l.issuer l.signed extra (x.issuer, x.serial) s.0;
+      signed = signed-taken l.issuer l.signed extra x.id s.0;
       at_time = s.1;
       in_log = s.2;
     }
 
-pub entry-taken : (log bytes extra : List ℕ) (x : EntryFields) → entry_of log bytes extra ≡ Some x → ReadsEntry log bytes extra x
+pub entry-taken : (log bytes extra : List ℕ) (x : Entry) → entry_of log bytes extra ≡ Some x → ReadsEntry log bytes extra x
 entry-taken log bytes extra x h = by-taken log bytes extra (value_of (leaf bytes)) x refl h
 
-pub entry-once : (log bytes extra : List ℕ) (x y : EntryFields) → ReadsEntry log bytes extra x → ReadsEntry log bytes extra y → x ≡ y
+pub entry-once : (log bytes extra : List ℕ) (x y : Entry) → ReadsEntry log bytes extra x → ReadsEntry log bytes extra y → x ≡ y
 entry-once log bytes extra x y h k = let one = entry-read log bytes extra x h in let other = entry-read log bytes extra y k in cc
 
-pub entry-found : (log bytes extra : List ℕ) (r : Result (Identity × Sighting) Unread) → GivesEntry (entry_of log bytes extra) r → IfOk r (λ x. ReadsEntry log bytes extra (fields_of x))
-entry-found log bytes extra (Ok x) h = entry-taken log bytes extra (fields_of x) h
+pub entry-found : (log bytes extra : List ℕ) (r : Result Entry Unread) → GivesEntry (entry_of log bytes extra) r → IfOk r (λ x. ReadsEntry log bytes extra x)
+entry-found log bytes extra (Ok x) h = entry-taken log bytes extra x h
 entry-found log bytes extra (Err e) h = tt
 
-pub entry-only : (log bytes extra : List ℕ) (r : Result (Identity × Sighting) Unread) → GivesEntry (entry_of log bytes extra) r → (x : EntryFields)
+pub entry-only : (log bytes extra : List ℕ) (r : Result Entry Unread) → GivesEntry (entry_of log bytes extra) r → (x : Entry)
     → ReadsEntry log bytes extra x → GivesEntry (Some x) r
 entry-only log bytes extra r h x reads =
-    let P : Option EntryFields → Type 0 = λ entry. GivesEntry entry r in
+    let P : Option Entry → Type 0 = λ entry. GivesEntry entry r in
     subst P (entry-read log bytes extra x reads) h
 
 pub hash-found : (cert : List ℕ) (r : Result (List ℕ) Unread) → GivesHash (certificate_key cert) r → IfOk r (λ hash. (key : List ℕ) × HasKey key cert × (hash ≡ sha256 key))

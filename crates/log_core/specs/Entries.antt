@@ -2,8 +2,10 @@
 use Rattle.std.specs.Prelude.{ℕ, List, [], ◌∷◌, Bool, true, false, ◌&&◌, nat_eq, if◌then◌else◌, Option, Some, None}
 use Rattle.std.specs.Option.{option_map, option_and_then}
 use Rattle.sha2.specs.Sha256.{sha256}
+use Rattle.ident_core.specs.declared.identity.Identity.{Identity}
 use Rattle.octets_core.specs.Walk.{Walk, ◌>>=◌, whole, given, value_of, ends, all_of}
 use Rattle.octets_core.specs.Vectors.{bytes_field, number_field, vector, some_vector}
+use Rattle.log_core.specs.declared.Entry.{Entry}
 use Rattle.log_core.specs.Certificates.{tbs_serial, certificate_serial, certificate_key}
 
 -- What a leaf says: when, and a certificate, or the key hash of its issuer and the TBS of a precertificate.
@@ -56,32 +58,25 @@ abbrev pub chain_hash : List ℕ → Option (List ℕ)
 chain_hash extra = option_map sha256 (option_and_then certificate_key (value_of (chain extra)))
 
 -- the hash of the issuer's key, and the serial
-abbrev pub identified : Option (List ℕ) → Option (List ℕ) → Option (List ℕ × List ℕ)
-identified (Some issuer) (Some serial) = Some (issuer, serial)
+abbrev pub identified : Option (List ℕ) → Option (List ℕ) → Option Identity
+identified (Some issuer) (Some serial) = Some (record { issuer = issuer; serial = serial })
 identified (Some issuer) None = None
 identified None serial = None
 
-abbrev pub identity_by : Option (List ℕ) → List ℕ → List ℕ → Option (List ℕ × List ℕ)
+abbrev pub identity_by : Option (List ℕ) → List ℕ → List ℕ → Option Identity
 identity_by (Some key) signed extra = identified (Some key) (tbs_serial signed)
 identity_by None signed extra = identified (chain_hash extra) (certificate_serial signed)
 
--- What an entry gives: an identity, and a sighting of it.
-pub record EntryFields : Type 0 where
-  pub issuer : List ℕ
-  pub serial : List ℕ
-  pub log : List ℕ
-  pub time : ℕ
-
-abbrev pub sighted : List ℕ → ℕ → Option (List ℕ × List ℕ) → Option EntryFields
+abbrev pub sighted : List ℕ → ℕ → Option Identity → Option Entry
 sighted log time None = None
-sighted log time (Some x) = Some (record { issuer = x.0; serial = x.1; log = log; time = time })
+sighted log time (Some x) = Some (record { id = x; sighting = record { log = log; time = time } })
 
-abbrev pub entry_by : List ℕ → List ℕ → Option LeafFields → Option EntryFields
+abbrev pub entry_by : List ℕ → List ℕ → Option LeafFields → Option Entry
 entry_by log extra None = None
 entry_by log extra (Some l) = sighted log l.time (identity_by l.issuer l.signed extra)
 
 -- what an entry of this log gives, if it is read
-abbrev pub entry_of : List ℕ → List ℕ → List ℕ → Option EntryFields
+abbrev pub entry_of : List ℕ → List ℕ → List ℕ → Option Entry
 entry_of log bytes extra = entry_by log extra (value_of (leaf bytes))
 
 -- whether there is anything

@@ -3,7 +3,8 @@ use Rattle.std.specs.Prelude.{◌≡◌, ℕ, List, [], ◌∷◌, ◌++◌, len
 use Rattle.sha2.specs.Sha256.{sha256}
 use Rattle.log_core.specs.VectorGrammar.{IsNumber, IsVector, IsSomeVector, AreVectors}
 use Rattle.log_core.specs.CertificateGrammar.{IsTbs, IsCertificate, HasKey}
-use Rattle.log_core.specs.Entries.{LeafFields, EntryFields}
+use Rattle.log_core.specs.declared.Entry.{Entry}
+use Rattle.log_core.specs.Entries.{LeafFields}
 
 -- the entry type, and the key hash of the issuer, which only a precert_entry has
 abbrev pub IsIssuer : Option (List ℕ) → List ℕ → List ℕ → Type 0
@@ -49,13 +50,13 @@ IsSigned None signed extra issuer serial = IsCertificate serial signed × IsIssu
 IsSigned (Some key) signed extra issuer serial = IsTbs serial signed × (issuer ≡ key)
 
 -- a leaf of this log and its extra data give this identity and this sighting
-pub record ReadsEntry (log bytes extra : List ℕ) (x : EntryFields) : Type 0 where
+pub record ReadsEntry (log bytes extra : List ℕ) (x : Entry) : Type 0 where
   pub fields : LeafFields
   pub is_leaf : IsLeaf fields bytes
-  pub signed : IsSigned fields.issuer fields.signed extra x.issuer x.serial
-  pub at_time : x.time ≡ fields.time
-  pub in_log : x.log ≡ log
+  pub signed : IsSigned fields.issuer fields.signed extra x.id.issuer x.id.serial
+  pub at_time : x.sighting.time ≡ fields.time
+  pub in_log : x.sighting.log ≡ log
 
--- an entry gives at most one pair
+-- an entry gives at most one identity with a sighting
 abbrev pub GivesAtMostOne : List ℕ → List ℕ → List ℕ → Type 0
-GivesAtMostOne log bytes extra = (x y : EntryFields) → ReadsEntry log bytes extra x → ReadsEntry log bytes extra y → x ≡ y
+GivesAtMostOne log bytes extra = (x y : Entry) → ReadsEntry log bytes extra x → ReadsEntry log bytes extra y → x ≡ y

@@ -2,22 +2,18 @@
 use Rattle.std.specs.Prelude.{◌≡◌, ℕ, List, Option, Some, None, Result, Ok, Err}
 use Rattle.std.specs.Option.{option_map}
 use Rattle.sha2.specs.Sha256.{sha256}
-use Rattle.ident_core.specs.declared.identity.Identity.{Identity}
-use Rattle.ident_core.specs.declared.range.Sighting.{Sighting}
+use Rattle.log_core.specs.declared.Entry.{Entry}
 use Rattle.log_core.specs.declared.Unread.{Unread}
 use Rattle.log_core.specs.declared.leaf.Leaf.{Leaf}
-use Rattle.log_core.specs.Entries.{LeafFields, EntryFields}
+use Rattle.log_core.specs.Entries.{LeafFields}
 
 -- a leaf without where it lies in memory
 abbrev pub leaf_of : Leaf → LeafFields
 leaf_of l = record { time = l.time; issuer = l.issuer; signed = l.signed.now }
 
-abbrev pub fields_of : Identity × Sighting → EntryFields
-fields_of x = record { issuer = x.0.issuer; serial = x.0.serial; log = x.1.log; time = x.1.time }
-
--- the pair that there is, or that there is none
-abbrev pub GivesEntry : Option EntryFields → Result (Identity × Sighting) Unread → Type 0
-GivesEntry entry (Ok x) = entry ≡ Some (fields_of x)
+-- the entry that there is, or that there is none
+abbrev pub GivesEntry : Option Entry → Result Entry Unread → Type 0
+GivesEntry entry (Ok x) = entry ≡ Some x
 GivesEntry entry (Err e) = entry ≡ None
 
 -- the hash of the key that there is, or that there is none

@@ -1,5 +1,5 @@
 use Rattle.log_core.proofs.EntryLaws.{entry-found, entry-only, entry-once}
-use Rattle.log_core.proofs.entry.read_entry.Goals as goal
+use Rattle.log_core.proofs.reading.read_entry.Goals as goal
 
 pub returns-clause-found : goal.returns-clause-found
 returns-clause-found c = entry-found c.args.log c.args.leaf.now c.args.extra.now c.entry_in.result c.entry_in.ensures

@@ -3,7 +3,7 @@ use Rattle.octets_core.specs.Vectors.{some_vector}
 use Rattle.log_core.specs.Entries.{is_cut}
 use Rattle.octets_core.proofs.Filling.{all_of-more, all_of-none, all_of-ends}
 use Rattle.log_core.proofs.ChainLaws.{shrinks, is_cut-more}
-use Rattle.log_core.proofs.entry.are_vectors.Goals as goal
+use Rattle.log_core.proofs.reading.are_vectors.Goals as goal
 
 pub returns-in_default : goal.returns-in_default
 returns-in_default c = ap is_cut (sym (all_of-none (some_vector 3) c.loop-rest.rest.now (omega arith) (sym c.in_default.ensures))) ∙ c.loop-rest.invariant

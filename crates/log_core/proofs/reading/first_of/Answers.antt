@@ -3,7 +3,7 @@ use Rattle.octets_core.specs.Vectors.{some_vector}
 use Rattle.log_core.specs.Entries.{first_in}
 use Rattle.octets_core.proofs.Filling.{all_of-more}
 use Rattle.log_core.proofs.ChainLaws.{shrinks, first_in-none, first_in-cut, first_in-not}
-use Rattle.log_core.proofs.entry.first_of.Goals as goal
+use Rattle.log_core.proofs.reading.first_of.Goals as goal
 
 pub returns-in_default : goal.returns-in_default
 returns-in_default c = sym (first_in-none (some_vector 3) c.args.list.now (sym c.in_default.ensures))

@@ -4,12 +4,13 @@ ghost use Rattle.octets_core.specs.Walk.{value_of, ends, all_of};
 ghost use Rattle.octets_core.specs.Vectors.{some_vector};
 ghost use Rattle.log_core.specs.Certificates.{tbs_serial, certificate_serial};
 ghost use Rattle.log_core.specs.EntryGrammar.{ReadsEntry, GivesAtMostOne};
-ghost use Rattle.log_core.specs.Entries.{EntryFields, leaf, if_zero, issuer_of, key, first_in, chain, chain_hash, identified, identity_by, entry_of, is_cut};
-ghost use Rattle.log_core.specs.Leaves.{leaf_of, fields_of, GivesEntry};
+ghost use Rattle.log_core.specs.declared.Entry.{Entry as EntryRead};
+ghost use Rattle.log_core.specs.Entries.{leaf, if_zero, issuer_of, key, first_in, chain, chain_hash, identified, identity_by, entry_of, is_cut};
+ghost use Rattle.log_core.specs.Leaves.{leaf_of, GivesEntry};
 
-use crate::Unread;
 use crate::certificate::{certificate_serial_of, issuer_hash, tbs_serial_of};
 use crate::leaf::Leaf;
+use crate::{Entry, Unread};
 use ident_core::{Identity, Sighting};
 use octets_core::vectors::{split_bytes, split_number, split_some_vector, split_vector};
 use octets_core::{Key32, key_of};
@@ -110,21 +111,21 @@ fn chain_hash_of(extra: &[u8]) -> Option<Key32>
 }
 
 fn precertificate_of(issuer: Key32, tbs: &[u8]) -> Option<Identity>
-    ensures { option_map {U = List ℕ × List ℕ} (λ x. (x.issuer, x.serial)) result ≡ identified (Some issuer) (tbs_serial tbs.now) }
+    ensures { result ≡ identified (Some issuer) (tbs_serial tbs.now) }
 {
     let serial = tbs_serial_of(tbs)?;
     Some(Identity { issuer, serial })
 }
 
 fn certificate_of(cert: &[u8], extra: &[u8]) -> Option<Identity>
-    ensures { option_map {U = List ℕ × List ℕ} (λ x. (x.issuer, x.serial)) result ≡ identified (chain_hash extra.now) (certificate_serial cert.now) }
+    ensures { result ≡ identified (chain_hash extra.now) (certificate_serial cert.now) }
 {
     let serial = certificate_serial_of(cert)?;
     let issuer = chain_hash_of(extra)?;
     Some(Identity { issuer, serial })
 }
 
-fn entry_in(log: Key32, leaf: &[u8], extra: &[u8]) -> Result<(Identity, Sighting), Unread>
+fn entry_in(log: Key32, leaf: &[u8], extra: &[u8]) -> Result<Entry, Unread>
     ensures { GivesEntry (entry_of log leaf.now extra.now) result }
 {
     let Some(fields) = read_leaf(leaf) else {
@@ -135,23 +136,23 @@ fn entry_in(log: Key32, leaf: &[u8], extra: &[u8]) -> Result<(Identity, Sighting
         None => certificate_of(fields.signed, extra),
     };
     match found {
-        Some(identity) => Ok((
-            identity,
-            Sighting {
+        Some(id) => Ok(Entry {
+            id,
+            sighting: Sighting {
                 log,
                 time: fields.time,
             },
-        )),
+        }),
         None => Err(Unread),
     }
 }
 
 /// The identity and the sighting that an entry of this log gives: a leaf, and its extra data (RFC 6962, 4.6). The
 /// extra data of a precertificate isn't read.
-pub fn read_entry(log: Key32, leaf: &[u8], extra: &[u8]) -> Result<(Identity, Sighting), Unread>
+pub fn read_entry(log: Key32, leaf: &[u8], extra: &[u8]) -> Result<Entry, Unread>
     // What is given is what the entry says, what an entry says is given, and no entry says two things.
-    ensures found { IfOk result (λ x. ReadsEntry log leaf.now extra.now (fields_of x)) }
-    ensures only { (x : EntryFields) → ReadsEntry log leaf.now extra.now x → GivesEntry (Some x) result }
+    ensures found { IfOk result (λ x. ReadsEntry log leaf.now extra.now x) }
+    ensures only { (x : EntryRead) → ReadsEntry log leaf.now extra.now x → GivesEntry (Some x) result }
     ensures once { GivesAtMostOne log leaf.now extra.now }
     ensures exact { GivesEntry (entry_of log leaf.now extra.now) result }
 {
