@@ -7,7 +7,7 @@ use Rattle.std.proofs.lemmas.List.Sums.{sum_by-append, sum_by-cons}
 use Rattle.std.proofs.lemmas.Grind.{flat_map-append}
 use Rattle.ident_core.specs.declared.range.Range.{Range}
 use Rattle.crl_core.specs.Outcome.{outcome}
-use Rattle.log_core.specs.Entries.{EntryFields}
+use Rattle.log_core.specs.declared.Entry.{Entry}
 use Rattle.std.specs.Prelude.{Option}
 use Rattle.job_core.specs.JobFields.{CrlMeaning, JobFields}
 use Rattle.job_core.specs.JobLayout.{CrlText, EntryText, Item, OneRange, OneCrl, OneEntry, kept, serials_of, crl_meaning, entry_meaning, saying_one, saying, begun}
@@ -48,10 +48,10 @@ saying-crls f (c ∷ cs) xs =
     ∙ ap (λ (l : List CrlMeaning). saying (record f { crls = l }) xs) (append_assoc f.crls (crl_meaning c ∷ []) (map crl_meaning cs))
 
 saying-entries : (f : JobFields) (es : List EntryText) → saying f (map (λ e. OneEntry e) es) ≡ record f { entries = f.entries ++ map entry_meaning es }
-saying-entries f [] = ap (λ (l : List (Option EntryFields)). record f { entries = l }) (sym (append-nil f.entries))
+saying-entries f [] = ap (λ (l : List (Option Entry)). record f { entries = l }) (sym (append-nil f.entries))
 saying-entries f (e ∷ es) =
     saying-entries (saying_one f (OneEntry e)) es
-    ∙ ap (λ (l : List (Option EntryFields)). record f { entries = l }) (append_assoc f.entries (entry_meaning e ∷ []) (map entry_meaning es))
+    ∙ ap (λ (l : List (Option Entry)). record f { entries = l }) (append_assoc f.entries (entry_meaning e ∷ []) (map entry_meaning es))
 
 pub saying-meaning : (j : JobContents) → saying (begun j.epoch j.moment) (items_of j) ≡ meaning_of j
 saying-meaning j =

@@ -5,18 +5,18 @@ use Rattle.ident_core.specs.declared.bounds.TheConstants.{MAX_SERIAL}
 use Rattle.ident_core.specs.Coverage.{RangesFit}
 use Rattle.ident_core.specs.RangeText.{FitsRange}
 use Rattle.crl_core.specs.Outcome.{CrlFieldsFit}
-use Rattle.log_core.specs.Entries.{EntryFields}
+use Rattle.log_core.specs.declared.Entry.{Entry}
 use Rattle.job_core.specs.declared.bounds.Limits.{Limits}
 use Rattle.job_core.specs.JobFields.{JobFields}
 use Rattle.job_core.specs.JobMeaning.{kept_in}
 
 -- keys of 32 bytes, a serial of 1 to the most octets, and a time of 64 bits
-pub record EntryFieldsFit (e : EntryFields) : Type 0 where
-  pub issuer : length e.issuer ≡ 32
-  pub some_serial : 1 ≤ length e.serial
-  pub short_serial : length e.serial ≤ MAX_SERIAL
-  pub log : length e.log ≡ 32
-  pub time : e.time < 2 ^ 64
+pub record EntryFieldsFit (e : Entry) : Type 0 where
+  pub issuer : length e.id.issuer ≡ 32
+  pub some_serial : 1 ≤ length e.id.serial
+  pub short_serial : length e.id.serial ≤ MAX_SERIAL
+  pub log : length e.sighting.log ≡ 32
+  pub time : e.sighting.time < 2 ^ 64
 
 -- one octet or more, and the most or fewer
 abbrev pub SerialFits : List ℕ → Type 0

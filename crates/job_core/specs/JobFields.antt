@@ -1,14 +1,10 @@
 -- What a job says.
 use Rattle.std.specs.Prelude.{ℕ, ◌≤◌, List, map, Option, Result, Ok, Err}
-use Rattle.std.specs.Option.{option_map}
 use Rattle.ident_core.specs.declared.range.Range.{Range}
-use Rattle.ident_core.specs.declared.identity.Identity.{Identity}
-use Rattle.ident_core.specs.declared.range.Sighting.{Sighting}
 use Rattle.crl_core.specs.declared.crl.Crl.{Crl}
 use Rattle.crl_core.specs.declared.crl.CrlFault.{CrlFault}
 use Rattle.crl_core.specs.Outcome.{CrlFields, crl_of}
-use Rattle.log_core.specs.Entries.{EntryFields}
-use Rattle.log_core.specs.Leaves.{fields_of}
+use Rattle.log_core.specs.declared.Entry.{Entry}
 use Rattle.job_core.specs.declared.bounds.Limits.{Limits}
 use Rattle.job_core.specs.declared.meaning.Job.{Job}
 use Rattle.job_core.specs.declared.meaning.JobCrl.{JobCrl}
@@ -24,7 +20,7 @@ pub record JobFields : Type 0 where
   pub moment : ℕ
   pub ranges : List Range
   pub crls : List CrlMeaning
-  pub entries : List (Option EntryFields)
+  pub entries : List (Option Entry)
 
 -- the same of the types of the code
 
@@ -35,16 +31,13 @@ outcome_view (Err e) = Err e
 abbrev pub crl_view : JobCrl → CrlMeaning
 crl_view c = record { issuer = c.issuer; outcome = outcome_view c.outcome }
 
-abbrev pub entry_view : Option (Identity × Sighting) → Option EntryFields
-entry_view e = option_map fields_of e
-
 abbrev pub fields_of_job : Job → JobFields
 fields_of_job j = record {
   epoch = j.epoch;
   moment = j.moment;
   ranges = j.ranges.items;
   crls = map crl_view j.crls.items;
-  entries = map entry_view j.entries.items;
+  entries = j.entries.items;
 }
 
 -- no limit is above the published one

@@ -11,7 +11,8 @@ use Rattle.ident_core.specs.declared.range.Range.{Range}
 use Rattle.ident_core.specs.RangeLayout.{range}
 use Rattle.crl_core.specs.declared.crl.CrlFault.{CrlFault}
 use Rattle.crl_core.specs.Outcome.{CrlFields, outcome}
-use Rattle.log_core.specs.Entries.{EntryFields, entry_of}
+use Rattle.log_core.specs.declared.Entry.{Entry}
+use Rattle.log_core.specs.Entries.{entry_of}
 use Rattle.job_core.specs.declared.bounds.Limits.{Limits}
 use Rattle.job_core.specs.declared.bounds.What.{What}
 use Rattle.job_core.specs.declared.bounds.What.TheVariants as what
@@ -194,7 +195,7 @@ abbrev pub crl_meaning : CrlText → CrlMeaning
 crl_meaning c = record { issuer = c.issuer; outcome = outcome c.bytes }
 
 -- an entry that can't be read is none
-abbrev pub entry_meaning : EntryText → Option EntryFields
+abbrev pub entry_meaning : EntryText → Option Entry
 entry_meaning e = entry_of e.log e.leaf e.extra
 
 -- with what one record says

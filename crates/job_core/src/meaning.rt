@@ -2,7 +2,8 @@ ghost use Rattle.std.specs.Prelude.{◌≢◌, Err};
 ghost use Rattle.crl_core.specs.declared.crl.CrlFault.TheVariants.{NoMemory};
 
 use crl_core::{Crl, CrlFault};
-use ident_core::{Identity, Range, Sighting};
+use ident_core::Range;
+use log_core::Entry;
 use octets_core::Key32;
 
 /// A CRL of a job: whose it is, and what its bytes come to.
@@ -22,6 +23,6 @@ pub struct Job {
     pub moment: u64,
     pub ranges: Vec<Range>,
     pub crls: Vec<JobCrl>,
-    /// The identity and the sighting that each entry gives, or `None` where the entry isn't read.
-    pub entries: Vec<Option<(Identity, Sighting)>>,
+    /// What each entry gives, or `None` where it isn't read.
+    pub entries: Vec<Option<Entry>>,
 }

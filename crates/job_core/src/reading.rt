@@ -2,7 +2,7 @@
 
 ghost use Rattle.std.specs.Prelude.{◌≡◌, ◌≢◌, ◌+◌, ◌≤◌, length, map, All, Ok, Err, IfSome, IfOk, IfErr, OnOk, FitsSigned};
 ghost use Rattle.std.specs.Int.{w64};
-ghost use Rattle.job_core.specs.JobFields.{outcome_view, crl_view, entry_view, fields_of_job, AreWithin};
+ghost use Rattle.job_core.specs.JobFields.{outcome_view, crl_view, fields_of_job, AreWithin};
 ghost use Rattle.job_core.specs.JobLayout.{OneRange, OneCrl, OneEntry, kept, saying_one, job_of};
 ghost use Rattle.job_core.specs.Partial.{TakesOne};
 ghost use Rattle.crl_core.specs.Outcome.{outcome};
@@ -20,17 +20,17 @@ use crate::meaning::{Job, JobCrl};
 use crate::reading_from::read_job_from;
 use crate::slice::SliceDepot;
 use crl_core::{Crl, CrlFault, read_crl};
-use ident_core::{Identity, Range, Serial, Sighting};
-use log_core::read_entry;
+use ident_core::{Identity, Range, Serial};
+use log_core::{Entry, read_entry};
 use octets_core::Key32;
 use outside_core::Feed;
 use std::alloc::Global;
 
-fn entry_from(log: Key32, leaf: &[u8], extra: &[u8]) -> Option<(Identity, Sighting)>
-    ensures { entry_view result ≡ entry_of log leaf.now extra.now }
+fn entry_from(log: Key32, leaf: &[u8], extra: &[u8]) -> Option<Entry>
+    ensures { result ≡ entry_of log leaf.now extra.now }
 {
     match read_entry(log, leaf, extra) {
-        Ok(pair) => Some(pair),
+        Ok(entry) => Some(entry),
         Err(_) => None,
     }
 }
@@ -94,31 +94,32 @@ pub fn put_entry(job: &mut Job, log: Key32, leaf: &[u8], extra: &[u8]) -> Result
         ≡ saying_one (fields_of_job job.old) (OneEntry (record { log = log; leaf = leaf.now; extra = extra.now }))) }
     ensures wanted { IfErr result (λ e. e ≡ JobFault.NoMemory) }
 {
-    let pair = entry_from(log, leaf, extra);
-    job.entries.push(pair)?;
+    let entry = entry_from(log, leaf, extra);
+    job.entries.push(entry)?;
     Ok(())
 }
 
 /// What the types of an entry's fields say of them; the calls do no more than bring it.
 fn field_facts(id: &Identity, log: &Key32, time: u64)
-    ensures { EntryFieldsFit (record { issuer = id.now.issuer; serial = id.now.serial; log = log.now; time = time }) }
+    ensures { EntryFieldsFit (record { id = id.now; sighting = record { log = log.now; time = time } }) }
 {
     let _ = id.issuer.bytes();
     let _ = id.serial.bytes();
     let _ = log.bytes();
 }
 
-fn entry_facts(entry: &Option<(Identity, Sighting)>)
-    ensures { IfSome (entry_view entry.now) EntryFieldsFit }
+fn entry_facts(entry: &Option<Entry>)
+    ensures { IfSome entry.now EntryFieldsFit }
 {
-    if let Some((id, sighting)) = entry {
-        field_facts(id, &sighting.log, sighting.time);
+    if let Some(entry) = entry {
+        let sighting = &entry.sighting;
+        field_facts(&entry.id, &sighting.log, sighting.time);
     }
 }
 
 /// What the types of entries say of them.
-pub fn entries_facts(entries: &[Option<(Identity, Sighting)>])
-    ensures { All (λ e. IfSome e EntryFieldsFit) (map entry_view entries.now) }
+pub fn entries_facts(entries: &[Option<Entry>])
+    ensures { All (λ e. IfSome e EntryFieldsFit) entries.now }
 {
     for entry in entries {
         entry_facts(entry);
@@ -174,7 +175,7 @@ fn job_in(alloc: Global, bytes: &[u8], limits: &Limits) -> Result<Job, JobFault>
     requires { AreWithin limits.now Limits.PUBLISHED }
     ensures exact { GivesUnless JobFault.NoMemory fields_of_job result (job_of limits.now bytes.now) }
     ensures crls { IfOk result (λ job. All (λ c. IfOk c.outcome CrlFieldsFit) (map crl_view job.crls.items)) }
-    ensures entries { IfOk result (λ job. All (λ e. IfSome e EntryFieldsFit) (map entry_view job.entries.items)) }
+    ensures entries { IfOk result (λ job. All (λ e. IfSome e EntryFieldsFit) job.entries.items) }
 {
     let mut depot = SliceDepot::new(bytes);
     let mut feed = Feed::new(&mut depot, "");

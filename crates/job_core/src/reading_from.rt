@@ -4,7 +4,7 @@ ghost use Rattle.std.specs.Prelude.{◌≡◌, ◌≢◌, ◌+◌, ◌-◌, ◌�
 ghost use Rattle.outside_core.specs.Filling.{IsInOrder};
 ghost use Rattle.outside_core.specs.Standing.{place_of, StandsIn};
 ghost use Rattle.crl_core.specs.Outcome.{CrlFieldsFit};
-ghost use Rattle.job_core.specs.JobFields.{crl_view, entry_view, fields_of_job, AreWithin};
+ghost use Rattle.job_core.specs.JobFields.{crl_view, fields_of_job, AreWithin};
 ghost use Rattle.job_core.specs.JobFacts.{EntryFieldsFit, FitsFields, IsWithinLimits};
 ghost use Rattle.job_core.specs.JobLayout.{begun, job_of};
 ghost use Rattle.job_core.specs.Partial.{records_saying};
@@ -93,7 +93,7 @@ pub fn read_job_from<D: Depot>(
     ensures given { IsInOrder D.Depot feed.old → result ≢ Err JobFault.ReadFault
         → (given : List ℕ) × IsGiven D.Depot feed.old given × Comes fields_of_job (job_of limits.now given) result }
     ensures crls { IfOk result (λ job. All (λ c. IfOk c.outcome CrlFieldsFit) (map crl_view job.crls.items)) }
-    ensures entries { IfOk result (λ job. All (λ e. IfSome e EntryFieldsFit) (map entry_view job.entries.items)) }
+    ensures entries { IfOk result (λ job. All (λ e. IfSome e EntryFieldsFit) job.entries.items) }
     ensures fits { IfOk result (λ job. FitsFields (fields_of_job job)) }
     ensures within { IfOk result (λ job. IsWithinLimits limits.now (fields_of_job job)) }
 {

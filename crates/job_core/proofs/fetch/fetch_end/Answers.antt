@@ -1,4 +1,4 @@
-use Rattle.std.proofs.Common.{◌≡◌, ◌≤◌, ℕ, List, [], ◌∷◌, length, true, false, Err, sym, ap, subst, ◌∙◌, arith}
+use Rattle.std.proofs.Common.{◌≡◌, ℕ, length, false, Err, sym, ap, subst, ◌∙◌, arith}
 use Rattle.std.specs.Prelude.{◌==◌}
 use Rattle.std.proofs.lemmas.Bool.{eqb-true}
 use Rattle.std.proofs.lemmas.List.{nil_from_length}
@@ -8,7 +8,6 @@ use Rattle.outside_core.specs.Feeding.{IsWindow}
 use Rattle.outside_core.specs.Standing.{place_of, buffered_of}
 use Rattle.job_core.specs.declared.fault.JobFault.{JobFault}
 use Rattle.job_core.specs.declared.fault.JobFault.TheVariants as faults
-use Rattle.job_core.specs.Pulling.{Pulled}
 use Rattle.job_core.proofs.Fetching.{end-wrong}
 use Rattle.job_core.proofs.Given.{lies-next}
 use Rattle.job_core.proofs.fetch.fetch_end.Goals as goal

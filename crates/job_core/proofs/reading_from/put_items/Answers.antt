@@ -1,13 +1,12 @@
-use Rattle.std.proofs.Common.{◌≡◌, ℕ, List, Option, Some, None, Result, Ok, Err, ap, subst, ◌∙◌, refl, sym, arith}
+use Rattle.std.proofs.Common.{◌≡◌, ℕ, List, Option, Some, ap, subst, ◌∙◌, refl, sym, arith}
 use Rattle.std.specs.Prelude.{IfSome}
 use Rattle.std.proofs.lemmas.Result.{err_from_is_err_and}
 use Rattle.outside_core.specs.Standing.{place_of}
-use Rattle.job_core.specs.declared.fault.JobFault.{JobFault}
 use Rattle.job_core.specs.declared.fault.JobFault.TheVariants as faults
 use Rattle.job_core.specs.declared.partial.Numbers.{Numbers}
 use Rattle.job_core.specs.declared.records.Item.{Item as Taken}
 use Rattle.job_core.specs.JobFields.{fields_of_job}
-use Rattle.job_core.specs.JobLayout.{Item, OneRange, OneCrl, OneEntry, CrlText, EntryText, Held, with_item}
+use Rattle.job_core.specs.JobLayout.{Item, OneRange, OneCrl, OneEntry, with_item}
 use Rattle.job_core.specs.Partial.{held_in}
 use Rattle.job_core.specs.Records.{item_of_record, some_record}
 use Rattle.job_core.proofs.Pulling.{pulled-none, pulled-then}

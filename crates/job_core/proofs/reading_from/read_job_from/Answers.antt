@@ -1,9 +1,8 @@
-use Rattle.std.proofs.Common.{◌≡◌, ◌-◌, ◌^◌, ℕ, List, Some, Result, Ok, Err, take, refl, ◌∙◌, arith}
+use Rattle.std.proofs.Common.{◌-◌, ◌^◌, Ok, Err, take, refl, ◌∙◌, arith}
 use Rattle.std.proofs.lemmas.Result.{err_from_is_err_and}
 use Rattle.outside_core.specs.Standing.{depot_of, name_of}
 use Rattle.job_core.specs.declared.meaning.Job.{Job}
 use Rattle.job_core.specs.JobFields.{fields_of_job}
-use Rattle.job_core.specs.Pulling.{Pulled}
 use Rattle.job_core.proofs.Pulling.{pulled-then}
 use Rattle.job_core.proofs.Fetching.{blames-then}
 use Rattle.job_core.proofs.JobGiven.{exact-given, within-given, fits-given, given-of, stands-there}
