@@ -1,4 +1,5 @@
 pub mod Digits
 pub mod RowLaws
 pub mod Rows
+pub mod Shards
 pub mod Sizes

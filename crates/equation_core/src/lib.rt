@@ -1,11 +1,14 @@
-//! The equation that each identity gives a filter, and the sizes of the systems that these equations make.
+//! The equation that each identity gives a filter, the sizes of the systems that these equations make, and the shards
+//! that cut a universe.
 //! No call takes memory.
 #![tactic(auto)]
 
 mod hash;
 mod sha256_rows;
+mod shards;
 mod sizes;
 
 pub use hash::{EquationHash, MAX_PLANES, Row};
 pub use sha256_rows::Sha256Rows;
+pub use shards::shard_of;
 pub use sizes::{MAX_STARTS, starts_for, words_for};
