@@ -1,4 +1,4 @@
--- The filter of an issuer's universe is exact, and the only one.
+-- The block of an issuer's universe is exact, and the only one.
 use Rattle.std.proofs.Common.{◌≡◌, ◌<◌, ◌+◌, ℕ, zero, suc, Bool, true, false, not, cond, List, [], ◌∷◌, length, map, get_or, refl, sym, ap, ◌∙◌, arith, add-one}
 use Rattle.std.specs.List.{Contains}
 use Rattle.std.proofs.lemmas.List.{get_or-map}
@@ -8,9 +8,9 @@ use Rattle.card_core.specs.declared.leaf.Leaf.TheVariants as leaves
 use Rattle.card_core.specs.declared.block.Body.{Body}
 use Rattle.card_core.specs.declared.block.Body.TheVariants as bodies
 use Rattle.card_core.specs.Leaf.{flagged}
-use Rattle.card_core.specs.Filter.{as_body, is_positive, leaf_of}
+use Rattle.card_core.specs.Filter.{Filter, alone, cut, as_body, filter_of, is_filtered, is_positive, leaf_of}
 use Rattle.card_core.specs.Laws.{BlockIsExact, BlockIsUnique, BodyIsOfOneLeaf, IsExactOn, RefusedHasNoBlock}
-use Rattle.card_core.proofs.LeafLaws.{leaf_exact, leaf_unique, refused_no_leaf}
+use Rattle.card_core.proofs.ShardLaws.{filter_exact, filter_unique, refused_no_filter}
 
 -- the leaf of a leaf's body is this leaf
 pub leaf_back : (leaf : Leaf) → leaf_of (as_body leaf) ≡ leaf
@@ -27,8 +27,13 @@ body_back (bodies.Mixed m) = refl
 pub body_of_one : BodyIsOfOneLeaf
 body_of_one a b e = sym (leaf_back a) ∙ ap leaf_of e ∙ leaf_back b
 
-body_same : (a b : Body) → leaf_of a ≡ leaf_of b → a ≡ b
-body_same a b e = sym (body_back a) ∙ ap as_body e ∙ body_back b
+abbrev leaf_in : Filter → Leaf
+leaf_in (alone leaf) = leaf
+leaf_in (cut shift all) = leaves.Clean
+
+-- a body is what its filter is
+pub body_same : (a b : Body) → filter_of a ≡ filter_of b → a ≡ b
+body_same a b e = sym (body_back a) ∙ ap as_body (ap leaf_in e) ∙ body_back b
 
 contains_first : (x : Identity) (xs : List Identity) → Contains (x ∷ xs) x
 contains_first x xs = (0, omega arith, refl)
@@ -56,20 +61,22 @@ by_flag true P a b = a refl
 by_flag false P a b = b refl
 
 pub block_exact : BlockIsExact
-block_exact rows issuer universe flags block same h i x lt =
-    let leaf : Leaf = leaf_of block.body in
-    let e : IsExactOn rows (flagged universe flags) (flagged universe (map not flags)) leaf = leaf_exact rows (flagged universe flags) (flagged universe (map not flags)) leaf h.1 in
+block_exact rows shift issuer universe flags block same h i x lt =
+    let revoked = flagged universe flags in
+    let others = flagged universe (map not flags) in
+    let e : IsExactOn revoked others (λ y. is_filtered rows y (filter_of block.body)) = filter_exact rows shift revoked others (filter_of block.body) h.1 in
     let lt' : i < length flags = omega (arith, same) in
     by_flag (get_or flags i false) (λ f. is_positive rows (get_or universe i x) block.body ≡ f)
     (λ t. e.0 (get_or universe i x) (flagged_at universe flags i x lt t))
     (λ n. e.1 (get_or universe i x) (flagged_at universe (map not flags) i x lt (not_at flags i lt' ∙ ap not n)))
 
 pub block_unique : BlockIsUnique
-block_unique rows issuer universe flags a b h k =
+block_unique rows shift issuer universe flags a b h k =
     let issuers : a.issuer ≡ b.issuer = h.0 ∙ sym k.0 in
-    let leaves : leaf_of a.body ≡ leaf_of b.body = leaf_unique rows (flagged universe flags) (flagged universe (map not flags)) (leaf_of a.body) (leaf_of b.body) h.1 k.1 in
-    λ i. record { issuer = issuers i; body = body_same a.body b.body leaves i }
+    let filters : filter_of a.body ≡ filter_of b.body
+    = filter_unique rows shift (flagged universe flags) (flagged universe (map not flags)) (filter_of a.body) (filter_of b.body) h.1 k.1 in
+    λ i. record { issuer = issuers i; body = body_same a.body b.body filters i }
 
 pub refused_no_block : RefusedHasNoBlock
-refused_no_block rows issuer universe flags stage block r h =
-    refused_no_leaf rows (flagged universe flags) (flagged universe (map not flags)) stage (leaf_of block.body) r h.1
+refused_no_block rows shift issuer universe flags stage block r h =
+    refused_no_filter rows shift (flagged universe flags) (flagged universe (map not flags)) stage (filter_of block.body) r h.1

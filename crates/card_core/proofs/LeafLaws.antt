@@ -14,7 +14,7 @@ use Rattle.ribbon_core.proofs.LeastLaws.{least_unique}
 use Rattle.card_core.specs.declared.stage.Stage.{Stage}
 use Rattle.card_core.specs.declared.leaf.Leaf.TheVariants.{Clean, Every, Mixed}
 use Rattle.card_core.specs.MixedFields.{MixedFields}
-use Rattle.card_core.specs.Leaf.{IsWidth, Solvable, IsStage, IsExhausted, approx_equations, exact_equations, passes, exact_sum, IsApprox, false_positives, IsExact, IsMixed}
+use Rattle.card_core.specs.Leaf.{IsWidth, Solvable, IsStage, IsExhausted, approx_equations, exact_equations, passes, exact_sum, is_leaf_positive, IsApprox, false_positives, IsExact, IsMixed}
 use Rattle.card_core.specs.Laws.{IsExactOn, LeafIsExact, LeafIsUnique, OneStageIsRefused, RefusedHasNoLeaf}
 
 -- a test that holds at each number of a range
@@ -92,7 +92,7 @@ neither : (a : Bool) (n : ℕ) → (a ≡ true → n ≡ 0) → (a && nat_eq n 1
 neither true n q = rw (q refl) refl
 neither false n q = refl
 
-mixed_exact : (rows : Rows) (revoked others : List Identity) (m : MixedFields) → IsMixed rows revoked others m → IsExactOn rows revoked others (Mixed m)
+mixed_exact : (rows : Rows) (revoked others : List Identity) (m : MixedFields) → IsMixed rows revoked others m → IsExactOn revoked others (λ x. is_leaf_positive rows x (Mixed m))
 mixed_exact rows revoked others m h = (
   λ x c. both _ _ (passes_revoked rows revoked others m.approx h.approx x c) (exact_revoked rows revoked (false_positives rows m.approx others) m.exact h.exact x c),
   λ x c. neither _ _ (λ p. exact_passed rows revoked (false_positives rows m.approx others) m.exact h.exact x (contains_filtered (passes rows m.approx) others c.0 x c.1 c.2 p)),

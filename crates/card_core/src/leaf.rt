@@ -4,7 +4,7 @@ use ident_core::Identity;
 use octets_core::Steps;
 use std::sync::ledger::Ledger;
 
-/// A filter: what it says of the certificates of a universe.
+/// The filter of a universe, or of one of its shards: what it says of their certificates.
 #[derive(Drop)]
 pub enum Leaf {
     /// None is revoked (mode 0).
