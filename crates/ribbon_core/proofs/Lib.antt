@@ -5,6 +5,7 @@ pub mod Bands
 pub mod ColumnSums
 pub mod KeptEquations
 pub mod LeastLaws
+pub mod LeastOrNone
 pub mod MaskedWords
 pub mod Parity
 pub mod PlacesApart

@@ -3,6 +3,7 @@
 #![tactic(auto)]
 
 mod elimination;
+mod existence;
 mod laws;
 mod places;
 mod planes;
@@ -11,6 +12,7 @@ mod substitution;
 mod system;
 
 pub use elimination::Inconsistent;
+pub use existence::a_least_or_none;
 pub use laws::{below_at_the_highest, kept_are_the_added, least_is_unique, sum_is_over_columns};
 pub use planes::Planes;
 pub use system::System;
