@@ -3,6 +3,7 @@
 use crl_core::Crl;
 use ident_core::{Identity, Range, Serial, Sighting};
 use job_core::{Job, JobCrl};
+use log_core::Entry;
 use octets_core::{Key32, NoMemory};
 use std::alloc::Global;
 
@@ -34,7 +35,10 @@ fn enroll(alloc: Global, job: &mut Job, issuer: Key32, count: u32) -> Result<(),
         if number % 100 == 0 {
             serials.push(serial)?;
         }
-        let entry = (Identity { issuer, serial }, Sighting { log, time: 0 });
+        let entry = Entry {
+            id: Identity { issuer, serial },
+            sighting: Sighting { log, time: 0 },
+        };
         job.entries.push(Some(entry))?;
     }
     job.crls.push(JobCrl {

@@ -8,6 +8,7 @@ use crl_core::{Crl, CrlFault};
 use ident_core::{Identity, Kind, Range, Serial, Sighting, ranges_fit};
 use job_core::{Job, JobCrl, Limits, What};
 use ledger_core::Ledger;
+use log_core::Entry;
 use octets_core::Key32;
 use std::alloc::Global;
 use std::test::Fail;
@@ -42,12 +43,12 @@ fn identity(issuer: u8, octet: u8) -> Result<Identity, Fail> {
 }
 
 /// An entry of an identity, seen by a log so long after noon.
-fn entry(log: u8, id: Identity, after: u64) -> Option<(Identity, Sighting)> {
+fn entry(log: u8, id: Identity, after: u64) -> Option<Entry> {
     let sighting = Sighting {
         log: Key32::new([log; 32]),
         time: NOON.saturating_add(after),
     };
-    Some((id, sighting))
+    Some(Entry { id, sighting })
 }
 
 /// A range of a log.

@@ -8,6 +8,7 @@ use crl_core::Crl;
 use equation_core::{EquationHash, Row, Sha256Rows};
 use ident_core::{Identity, Range, Serial, Sighting, ranges_fit};
 use job_core::{Job, JobCrl, Limits};
+use log_core::Entry;
 use octets_core::{Key32, Steps};
 use std::alloc::Global;
 use std::marker::Brand;
@@ -59,9 +60,12 @@ fn identity(issuer: u8, number: u16) -> Result<Identity, Fail> {
     })
 }
 
-fn entry(issuer: u8, number: u16) -> Result<(Identity, Sighting), Fail> {
+fn entry(issuer: u8, number: u16) -> Result<Entry, Fail> {
     let log = Key32::new(LOG);
-    Ok((identity(issuer, number)?, Sighting { log, time: 0 }))
+    Ok(Entry {
+        id: identity(issuer, number)?,
+        sighting: Sighting { log, time: 0 },
+    })
 }
 
 fn crl_of(alloc: Global, authority: Authority) -> Result<JobCrl, Fail> {

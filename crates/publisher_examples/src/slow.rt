@@ -1,7 +1,8 @@
 //! What a first job gives, by the words of the definitions and step by step.
 
-use ident_core::{Identity, Sighting};
+use ident_core::Identity;
 use job_core::{Job, JobCrl};
+use log_core::Entry;
 use octets_core::Key32;
 use std::alloc::Global;
 use std::test::Fail;
@@ -38,10 +39,11 @@ pub(crate) fn lists(job: &Job, id: &Identity) -> bool {
     job.crls.iter().any(|crl| holds(crl, id))
 }
 
-fn class(job: &Job, entry: &Option<(Identity, Sighting)>) -> Class {
-    let Some((id, s)) = entry else {
+fn class(job: &Job, entry: &Option<Entry>) -> Class {
+    let Some(entry) = entry else {
         return Class::Unread;
     };
+    let s = &entry.sighting;
     if !job
         .ranges
         .iter()
@@ -49,7 +51,7 @@ fn class(job: &Job, entry: &Option<(Identity, Sighting)>) -> Class {
     {
         return Class::Uncovered;
     }
-    if !is_enrolled(job, &id.issuer) {
+    if !is_enrolled(job, &entry.id.issuer) {
         return Class::Unenrolled;
     }
     Class::Accepted
@@ -92,7 +94,7 @@ pub(crate) fn issuers(alloc: Global, job: &Job) -> Result<Vec<Key32>, Fail> {
 fn identity_above(job: &Job, issuer: &Key32, last: Option<&Identity>) -> Option<Identity> {
     let mut least: Option<Identity> = None;
     for entry in &job.entries {
-        if let Some((id, _)) = entry {
+        if let Some(Entry { id, .. }) = entry {
             let above = last.map_or(true, |x| x.cmp(id).is_lt());
             let below = least.as_ref().map_or(true, |x| id.cmp(x).is_lt());
             if id.issuer == *issuer && class(job, entry) == Class::Accepted && above && below {

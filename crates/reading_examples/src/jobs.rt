@@ -3,6 +3,7 @@
 use crl_core::CrlFault;
 use ident_core::{Identity, Range, Serial, Sighting};
 use job_core::{JobFault, Limits, RawCrl, RawEntry, RawJob, What, job_fits, read_job, write_job};
+use log_core::Entry;
 use octets_core::{Field, Key32, LayoutFault, Why};
 use std::alloc::Global;
 use std::test::Fail;
@@ -334,7 +335,7 @@ fn reads_an_entry(rt: HostRuntime) -> Result<(), Fail> {
     let job = read_job(alloc, &bytes, &Limits::PUBLISHED)?;
     assert_eq!(rt; job.entries.len(), 1);
     let serial = Serial::new(b"\x05")?;
-    let identity = Identity {
+    let id = Identity {
         issuer: Key32::new([0x11; 32]),
         serial,
     };
@@ -344,7 +345,7 @@ fn reads_an_entry(rt: HostRuntime) -> Result<(), Fail> {
     };
     assert_eq!(rt;
         job.entries.first().copied(),
-        Some(Some((identity, sighting)))
+        Some(Some(Entry { id, sighting }))
     );
     Ok(())
 }

@@ -42,8 +42,12 @@ const EMPTY_KEY_HASH: [u8; 32] = [
 
 /// What an entry of the log `aa..` gives: the issuer, whether the serial is this one, and the sighting.
 fn gives(leaf: &[u8], extra: &[u8], serial: &[u8]) -> Result<(Key32, bool, Sighting), Unread> {
-    let (identity, sighting) = read_entry(Key32::new([0xaa; 32]), leaf, extra)?;
-    Ok((identity.issuer, identity.serial.bytes() == serial, sighting))
+    let entry = read_entry(Key32::new([0xaa; 32]), leaf, extra)?;
+    Ok((
+        entry.id.issuer,
+        entry.id.serial.bytes() == serial,
+        entry.sighting,
+    ))
 }
 
 /// What is wanted of an entry that is read.
