@@ -3,3 +3,4 @@ pub mod Runs
 pub mod Stages
 pub mod Widths
 pub mod InThreads
+pub mod Shifts

@@ -40,8 +40,8 @@ BuildsLeaf rows revoked others (Ok leaf) = IsLeaf rows revoked others leaf
 BuildsLeaf rows revoked others (Err NoMemory) = Unit {0}
 BuildsLeaf rows revoked others (Err (SeedsExhausted stage)) = IsRefused rows revoked others stage
 
--- the block, or the same
+-- the block that isn't cut, or the same
 abbrev pub BuildsBlock : Rows → List ℕ → List Identity → List Bool → Result Block BlockFault → Type 0
-BuildsBlock rows issuer universe flags (Ok block) = IsBlock rows issuer universe flags block
+BuildsBlock rows issuer universe flags (Ok block) = IsBlock rows 0 issuer universe flags block
 BuildsBlock rows issuer universe flags (Err NoMemory) = Unit {0}
-BuildsBlock rows issuer universe flags (Err (SeedsExhausted stage)) = IsBlockRefused rows universe flags stage
+BuildsBlock rows issuer universe flags (Err (SeedsExhausted stage)) = IsBlockRefused rows 0 universe flags stage

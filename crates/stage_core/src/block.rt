@@ -2,22 +2,37 @@ ghost use Rattle.std.specs.Prelude.{◌≡◌, ◌≤◌, length, map, not, IfOk
 ghost use Rattle.std.specs.Thread.{IsSync};
 ghost use Rattle.ident_core.specs.declared.bounds.TheConstants.{MAX_IDENTITIES};
 ghost use Rattle.card_core.specs.Leaf.{flagged, false_positives};
-ghost use Rattle.stage_core.specs.Built.{BuildsBlock};
+ghost use Rattle.stage_core.specs.Built.{BuildsBlock, BuildsLeaf};
 ghost use Rattle.stage_core.specs.declared.fault.BlockFault.TheVariants.{NoMemory};
 
 use crate::fault::BlockFault;
 use crate::hashing::{ByCalls, OneThread};
 use crate::in_threads::{false_positives_in_threads, rows_in_threads};
 use crate::leaf::leaf_of;
-use card_core::{Block, Stage};
+use card_core::{Block, Leaf, Stage};
 use equation_core::{EquationHash, Row};
 use ident_core::Identity;
 use octets_core::Key32;
 use std::alloc::Global;
 use std::thread::Threads;
 
-/// The block of an issuer: the filter of its universe, and of the identities among these whose flag is set, the
-/// revoked. It takes a byte for each identity, and the systems of one seed at a time.
+/// The leaf of a universe, or of one of its shards, and of the identities among these whose flag is set, the revoked.
+/// It takes a byte for each identity, and the systems of one seed at a time.
+pub fn build_leaf<H: EquationHash>(
+    alloc: Global,
+    hash: &H,
+    universe: &[Identity],
+    revoked: &[bool],
+) -> Result<Leaf, BlockFault>
+    requires flags { length revoked.now ≡ length universe.now }
+    requires few { length universe.now ≤ MAX_IDENTITIES }
+    ensures { BuildsLeaf (H.row_of hash.now) (flagged universe.now revoked.now) (flagged universe.now (map not revoked.now)) result }
+{
+    leaf_of(alloc, &OneThread { hash }, universe, revoked)
+}
+
+/// The block of an issuer, which isn't cut: the leaf of its universe, and of the identities among these whose flag is
+/// set, the revoked. It takes a byte for each identity, and the systems of one seed at a time.
 pub fn build_block<H: EquationHash>(
     alloc: Global,
     hash: &H,
@@ -29,7 +44,7 @@ pub fn build_block<H: EquationHash>(
     requires few { length universe.now ≤ MAX_IDENTITIES }
     ensures { BuildsBlock (H.row_of hash.now) issuer universe.now revoked.now result }
 {
-    match leaf_of(alloc, &OneThread { hash }, universe, revoked) {
+    match build_leaf(alloc, hash, universe, revoked) {
         Ok(leaf) => Ok(Block {
             issuer,
             body: leaf.into(),

@@ -10,7 +10,9 @@ mod keys;
 mod leaf;
 mod passing;
 mod seeds;
+mod shift;
 mod width;
 
-pub use block::{build_block, build_block_wide};
+pub use block::{build_block, build_block_wide, build_leaf};
 pub use fault::BlockFault;
+pub use shift::shift_for;
