@@ -6,3 +6,4 @@ pub mod Joining
 pub mod Accepting
 pub mod Ascending
 pub mod Searching
+pub mod Verdicts

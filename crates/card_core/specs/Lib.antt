@@ -6,3 +6,4 @@ pub mod Cutting
 pub mod Laws
 pub mod PartFields
 pub mod Consulting
+pub mod Verdict

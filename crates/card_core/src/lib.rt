@@ -8,6 +8,7 @@ mod mixed;
 mod part;
 mod sharded;
 mod stage;
+mod verdict;
 
 pub use block::{Block, Body};
 pub use laws::{
@@ -20,3 +21,4 @@ pub use mixed::Mixed;
 pub use part::{MAX_BLOCKS, Part};
 pub use sharded::Sharded;
 pub use stage::{Stage, accepts};
+pub use verdict::Verdict;
