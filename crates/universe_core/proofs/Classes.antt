@@ -1,20 +1,18 @@
 -- What an entry is by its job alone, and what is read and counted of it.
 use Rattle.std.specs.List.{filter_map, cons_option, count_by}
-use Rattle.std.specs.Option.{option_map}
-use Rattle.std.proofs.Common.{◌≡◌, ℕ, ◌+◌, ◌<◌, List, [], ◌∷◌, ◌++◌, map, length, get_or, take, Bool, true, false, cond, not, ◌&&◌, Option, Some, None, refl, sym, ap, ◌∙◌, arith}
+use Rattle.std.proofs.Common.{◌≡◌, ℕ, ◌+◌, ◌<◌, List, [], ◌∷◌, ◌++◌, length, get_or, take, Bool, true, false, cond, not, ◌&&◌, Option, Some, None, refl, sym, ap, ◌∙◌, arith}
 use Rattle.std.proofs.lemmas.List.Elements.{filter_map-append}
 use Rattle.std.proofs.lemmas.List.Sums.{count_by_more_yes, count_by_more_no}
 use Rattle.ident_core.specs.declared.identity.Identity.{Identity}
 use Rattle.ident_core.specs.declared.range.Sighting.{Sighting}
 use Rattle.ident_core.specs.declared.range.Range.{Range}
 use Rattle.ident_core.specs.Coverage.{covers}
-use Rattle.job_core.specs.JobFields.{entry_view}
 use Rattle.sets_core.specs.Sets.{has_key}
 use Rattle.sets_core.proofs.Keys.{take_is}
-use Rattle.universe_core.specs.Jobs.{Entry, entry_of}
+use Rattle.universe_core.specs.Jobs.{Entry}
 use Rattle.universe_core.specs.History.{class_by, if_accepted}
 use Rattle.universe_core.specs.Ledgers.{no_ledger, past_in, parts_before, item_of}
-use Rattle.universe_core.specs.Reading.{facts_of_entry, if_read, class_alone, one_if}
+use Rattle.universe_core.specs.Reading.{if_read, class_alone, one_if}
 use Rattle.universe_core.specs.declared.class.Class.TheVariants.{Unread, Uncovered, Unenrolled, Late, Accepted}
 
 -- without parts nothing is late
@@ -50,12 +48,6 @@ module _ (ranges : List Range) (issuers : List (List ℕ)) where
   unfolding class_by
   taken_is None = refl
   taken_is (Some e) = taken_by (covers ranges e.sighting) (has_key issuers e.id.issuer) ((past_in no_ledger).lacked e.id e.sighting) e (none_late e.id e.sighting)
-
-  -- of the entries as the job of some bytes tells them
-  pub read_told : (es : List (Option (Identity × Sighting)))
-      → filter_map (λ e. if_read ranges issuers (facts_of_entry e)) es ≡ filter_map (if_read ranges issuers) (map (option_map entry_of) (map entry_view es))
-  read_told [] = refl
-  read_told (e ∷ es) = ap (λ z. cons_option (if_read ranges issuers (facts_of_entry e)) z) (read_told es)
 
 -- ---- one more
 

@@ -1,18 +1,15 @@
 -- How many entries are late, and how many are accepted.
 use Rattle.std.specs.List.{count_by, filter_map, cons_option}
 use Rattle.std.specs.Prelude.{IsPermutation}
-use Rattle.std.specs.Option.{option_map}
 use Rattle.std.proofs.Common.{◌≡◌, ℕ, suc, ◌+◌, ◌-◌, ◌≤◌, List, [], ◌∷◌, map, filter, length, Bool, true, false, cond, not, ◌&&◌, Option, Some, None, refl, sym, ap, ◌∙◌, arith}
 use Rattle.std.proofs.lemmas.Bool.{true≢false}
-use Rattle.std.proofs.lemmas.List.{length-map}
 use Rattle.std.proofs.lemmas.List.Sorted.{sum_by-IsPermutation}
 use Rattle.std.proofs.lemmas.List.Sums.{length-filter, count_by-le-length}
 use Rattle.ident_core.specs.Coverage.{covers}
 use Rattle.ledger_core.specs.LedgerFields.{LedgerFields}
 use Rattle.sets_core.specs.Sets.{has_key}
 use Rattle.job_core.specs.declared.meaning.Job.{Job as CodeJob}
-use Rattle.job_core.specs.JobFields.{entry_view}
-use Rattle.universe_core.specs.Jobs.{Entry, Job, facts_of_job, entry_of, enrolled}
+use Rattle.universe_core.specs.Jobs.{Entry, Job, facts_of_job, enrolled}
 use Rattle.universe_core.specs.History.{Past, class_by, class_of}
 use Rattle.universe_core.specs.Ledgers.{no_ledger, past_in}
 use Rattle.universe_core.specs.Counting.{is_class, count}
@@ -109,8 +106,6 @@ count_alone k h p q job = ap (λ f. count_by f job.entries) (λ i. λ o. class_a
 pub late_fits : (ledger : LedgerFields) (job : CodeJob) (n : ℕ) → n ≡ count Late (past_in ledger) (facts_of_job job) → length job.entries.items ≤ 4294967295 → n ≤ 4294967295
 late_fits ledger job n h few =
     let a = count_few Late (past_in ledger) (facts_of_job job) in
-    let b = length-map (map entry_view job.entries.items) (option_map entry_of) in
-    let c = length-map job.entries.items entry_view in
     omega arith
 
 pub late_within : (past : Past) (job : Job) (read late : ℕ) → read ≡ count Accepted (past_in no_ledger) job → late ≡ count Late past job → late ≤ read

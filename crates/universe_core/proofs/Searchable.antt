@@ -1,5 +1,5 @@
 -- The parts of a ledger can be searched.
-use Rattle.std.proofs.Common.{◌≡◌, ℕ, zero, suc, List, [], ◌∷◌, map, length, take, min, All, Option, Some, sym, ap, ◌∙◌, arith}
+use Rattle.std.proofs.Common.{◌≡◌, ℕ, zero, suc, List, [], ◌∷◌, map, length, take, min, All, Option, Some, ap, ◌∙◌, arith}
 use Rattle.octets_core.specs.Linked.{Linked}
 use Rattle.ledger_core.specs.declared.fields.LedgerPart.{LedgerPart}
 use Rattle.ledger_core.specs.LedgerFields.{LedgerPartFields, IsPartAfter, part_fields}

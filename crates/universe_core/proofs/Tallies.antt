@@ -1,14 +1,11 @@
 -- The counts of a job.
 use Rattle.std.specs.List.{count_by, filter_map}
-use Rattle.std.specs.Option.{option_map}
 use Rattle.std.proofs.Common.{◌≡◌, ℕ, suc, inl, inr, List, [], ◌∷◌, map, filter, length, Bool, true, false, cond, not, ◌&&◌, Option, Some, None, refl, sym, ap, ◌∙◌}
 use Rattle.std.proofs.lemmas.Bool.{false_from_ne_true, true≢false}
 use Rattle.std.proofs.lemmas.List.Sums.{length-filter}
 use Rattle.ident_core.specs.declared.identity.Identity.{Identity}
-use Rattle.ident_core.specs.declared.range.Sighting.{Sighting}
 use Rattle.ident_core.specs.declared.range.Range.{Range}
 use Rattle.job_core.specs.declared.meaning.Job.{Job as CodeJob}
-use Rattle.job_core.specs.JobFields.{entry_view}
 use Rattle.ledger_core.specs.LedgerFields.{LedgerFields}
 use Rattle.ident_core.specs.Coverage.{covers}
 use Rattle.sets_core.specs.Among.{Among}
@@ -16,16 +13,16 @@ use Rattle.sets_core.specs.Sets.{has, has_key}
 use Rattle.sets_core.proofs.Elements.{bool_same}
 use Rattle.sets_core.proofs.Sets.{has-from_Among}
 use Rattle.sets_core.proofs.Runs.{filter_none}
-use Rattle.universe_core.specs.Jobs.{Entry, Job, facts_of_job, entry_of, enrolled}
+use Rattle.universe_core.specs.Jobs.{Entry, Job, facts_of_job, enrolled}
 use Rattle.universe_core.specs.History.{Past, class_by, class_of, accepted_with, universe, is_revoked, revoked}
 use Rattle.universe_core.specs.Ledgers.{no_ledger, past_in}
 use Rattle.universe_core.specs.Counting.{is_class, count}
-use Rattle.universe_core.specs.Reading.{facts_of_entry, class_alone, if_read}
+use Rattle.universe_core.specs.Reading.{class_alone, if_read}
 use Rattle.universe_core.specs.Members.{member_in}
 use Rattle.universe_core.specs.declared.class.Class.{Class}
 use Rattle.universe_core.specs.declared.class.Class.TheVariants.{Uncovered, Unenrolled, Late, Accepted}
 use Rattle.universe_core.specs.declared.member.Member.{Member}
-use Rattle.universe_core.proofs.Classes.{none_late, read_told}
+use Rattle.universe_core.proofs.Classes.{none_late}
 use Rattle.universe_core.proofs.Revoking.{universe_is, universe_has, revoked_is, revoked_has}
 
 length_mapped : {A B : Type 0} (p : B → Bool) (f : A → B) (xs : List A) → length (filter p (map f xs)) ≡ length (filter (λ x. p (f x)) xs)
@@ -37,30 +34,22 @@ length_mapped p f (x ∷ xs) =
 pub count_by-map : {A B : Type 0} (p : B → Bool) (f : A → B) (xs : List A) → count_by p (map f xs) ≡ count_by (λ x. p (f x)) xs
 count_by-map p f xs = sym (length-filter p (map f xs)) ∙ length_mapped p f xs ∙ length-filter (λ x. p (f x)) xs
 
--- the count of a class, without parts
-pub count_told : (k : Class) (job : Job) (es : List (Option (Identity × Sighting))) → job.entries ≡ map (option_map entry_of) (map entry_view es)
-    → count_by (λ e. is_class k (class_alone job.ranges (enrolled job) (facts_of_entry e))) es ≡ count k (past_in no_ledger) job
-count_told k job es t =
-    sym (count_by-map (λ e. is_class k (class_alone job.ranges (enrolled job) (option_map entry_of e))) entry_view es)
-    ∙ sym (count_by-map (λ e. is_class k (class_alone job.ranges (enrolled job) e)) (option_map entry_of) (map entry_view es))
-    ∙ ap (count_by (λ e. is_class k (class_alone job.ranges (enrolled job) e))) (sym t)
-
 -- ---- of a job, as slices show it
 
-pub count_job : (k : Class) (job : CodeJob) (ranges : List Range) (issuers : List (List ℕ)) (es : List (Option (Identity × Sighting))) (n : ℕ)
+pub count_job : (k : Class) (job : CodeJob) (ranges : List Range) (issuers : List (List ℕ)) (es : List (Option Entry)) (n : ℕ)
     → ranges ≡ job.ranges.items → issuers ≡ enrolled (facts_of_job job) → es ≡ job.entries.items
-    → n ≡ count_by (λ e. is_class k (class_alone ranges issuers (facts_of_entry e))) es → n ≡ count k (past_in no_ledger) (facts_of_job job)
+    → n ≡ count_by (λ e. is_class k (class_alone ranges issuers e)) es → n ≡ count k (past_in no_ledger) (facts_of_job job)
 count_job k job ranges issuers es n r i e h =
-    h ∙ ap (λ z. count_by (λ d. is_class k (class_alone z issuers (facts_of_entry d))) es) r ∙ ap (λ z. count_by (λ d. is_class k (class_alone job.ranges.items z (facts_of_entry d))) es) i
-    ∙ ap (count_by (λ d. is_class k (class_alone job.ranges.items (enrolled (facts_of_job job)) (facts_of_entry d)))) e ∙ count_told k (facts_of_job job) job.entries.items refl
+    h ∙ ap (λ z. count_by (λ d. is_class k (class_alone z issuers d)) es) r ∙ ap (λ z. count_by (λ d. is_class k (class_alone job.ranges.items z d)) es) i
+    ∙ ap (count_by (λ d. is_class k (class_alone job.ranges.items (enrolled (facts_of_job job)) d))) e
 
-pub read_job : (job : CodeJob) (ranges : List Range) (issuers : List (List ℕ)) (es : List (Option (Identity × Sighting))) (left : List Entry)
+pub read_job : (job : CodeJob) (ranges : List Range) (issuers : List (List ℕ)) (es : List (Option Entry)) (left : List Entry)
     → ranges ≡ job.ranges.items → issuers ≡ enrolled (facts_of_job job) → es ≡ job.entries.items
-    → left ≡ filter_map (λ e. if_read ranges issuers (facts_of_entry e)) es
-    → left ≡ filter_map (if_read job.ranges.items (enrolled (facts_of_job job))) (map (option_map entry_of) (map entry_view job.entries.items))
+    → left ≡ filter_map (λ e. if_read ranges issuers e) es
+    → left ≡ filter_map (if_read job.ranges.items (enrolled (facts_of_job job))) job.entries.items
 read_job job ranges issuers es left r i e h =
-    h ∙ ap (λ z. filter_map (λ d. if_read z issuers (facts_of_entry d)) es) r ∙ ap (λ z. filter_map (λ d. if_read job.ranges.items z (facts_of_entry d)) es) i
-    ∙ ap (filter_map (λ d. if_read job.ranges.items (enrolled (facts_of_job job)) (facts_of_entry d))) e ∙ read_told job.ranges.items (enrolled (facts_of_job job)) job.entries.items
+    h ∙ ap (λ z. filter_map (λ d. if_read z issuers d) es) r ∙ ap (λ z. filter_map (λ d. if_read job.ranges.items z d) es) i
+    ∙ ap (filter_map (λ d. if_read job.ranges.items (enrolled (facts_of_job job)) d)) e
 
 count_none : {A : Type 0} (p : A → Bool) (xs : List A) → ((x : A) → p x ≡ false) → count_by p xs ≡ 0
 count_none p xs f = sym (length-filter p xs) ∙ ap length (filter_none p xs (λ x a. f x))

@@ -2,14 +2,12 @@
 -- lists.
 use Rattle.std.specs.Prelude.{ℕ, ℤ, pos, ◌*ℤ◌, int_lt, List, map, filter, filter_map, Bool, false, not, Option, Some, None, Result, Ok, Err}
 use Rattle.std.specs.List.{list_any, list_all}
-use Rattle.std.specs.Option.{option_map}
 use Rattle.std.specs.Str.{bytes_eq}
 use Rattle.ident_core.specs.declared.identity.Identity.{Identity}
-use Rattle.ident_core.specs.declared.range.Sighting.{Sighting}
 use Rattle.ident_core.specs.declared.range.Range.{Range}
 use Rattle.crl_core.specs.declared.crl.CrlFault.{CrlFault}
 use Rattle.crl_core.specs.Outcome.{CrlFields}
-use Rattle.log_core.specs.Entries.{EntryFields}
+pub use Rattle.log_core.specs.declared.Entry.{Entry}
 use Rattle.job_core.specs.declared.meaning.Job.{Job as JobInCode}
 use Rattle.job_core.specs.JobFields.{CrlMeaning, JobFields, fields_of_job}
 use Rattle.sets_core.specs.Sets.{has_key, key_set}
@@ -19,11 +17,6 @@ pub record Crl : Type 0 where
   pub issuer : List ℕ
   pub next_update : Option ℤ
   pub serials : List (List ℕ)
-
--- an entry that is read: a certificate, and when a log saw it
-pub record Entry : Type 0 where
-  pub id : Identity
-  pub sighting : Sighting
 
 -- A job whose CRLs are all accepted. The moment is in milliseconds since 1970; an entry that isn't read is none.
 pub record Job : Type 0 where
@@ -43,9 +36,6 @@ crl_by issuer (Err e) = None
 abbrev pub accepted_crl : CrlMeaning → Option Crl
 accepted_crl c = crl_by c.issuer c.outcome
 
-abbrev pub entry_of : EntryFields → Entry
-entry_of e = record { id = record { issuer = e.issuer; serial = e.serial }; sighting = record { log = e.log; time = e.time } }
-
 -- the epoch, the moment, the coverage, the CRLs that are accepted, and the entries
 abbrev pub facts_of : JobFields → Job
 facts_of j = record {
@@ -53,7 +43,7 @@ facts_of j = record {
   moment = j.moment;
   ranges = j.ranges;
   crls = filter_map accepted_crl j.crls;
-  entries = map (option_map entry_of) j.entries;
+  entries = j.entries;
 }
 
 -- the same of a job as the code has it

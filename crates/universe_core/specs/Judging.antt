@@ -1,5 +1,5 @@
 -- What becomes of an identity: its item and its entries.
-use Rattle.std.specs.Prelude.{ℕ, List, filter, take, length, Bool, true, false, cond, not, ◌&&◌, ◌||◌, Option, Some, None, is_some, slice_get}
+use Rattle.std.specs.Prelude.{ℕ, List, filter, take, length, Bool, false, cond, not, ◌&&◌, ◌||◌, Option, Some, None, is_some, slice_get}
 use Rattle.std.specs.List.{list_any, list_all}
 use Rattle.std.specs.List.Sorted.{IsStrictlySortedBy}
 use Rattle.ident_core.specs.declared.identity.Identity.{Identity}

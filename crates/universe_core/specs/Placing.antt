@@ -4,11 +4,10 @@ use Rattle.std.specs.Prelude.{◌≡◌, ℕ, ◌<◌, List, length, get_or, tak
 use Rattle.std.specs.List.{slice_get}
 use Rattle.std.specs.declared.cmp.Ordering.{Ordering}
 use Rattle.std.specs.Ordering.{nat_cmp, then_cmp, on}
-use Rattle.ident_core.specs.declared.identity.Identity.{Identity}
-use Rattle.ident_core.specs.declared.range.Sighting.{Sighting}
 use Rattle.octets_core.specs.Numbers.{number}
 use Rattle.ident_core.specs.Order.{serial_cmp, identity_cmp}
 use Rattle.sets_core.specs.Among.{Among}
+use Rattle.universe_core.specs.Jobs.{Entry}
 use Rattle.universe_core.specs.declared.member.ReadEntry.{ReadEntry}
 
 -- the number that the first eight octets of a serial spell, and 0 for one with fewer
@@ -16,8 +15,8 @@ abbrev pub head_of : List ℕ → ℕ
 head_of octets = cond (nat_lt (length octets) 8) 0 (number (take 8 octets))
 
 -- the entry's issuer stands at the place
-abbrev pub HasPlace : List (List ℕ) → ℕ → Option (Identity × Sighting) → Type 0
-HasPlace issuers place entry = IfSome entry (λ e. slice_get issuers place ≡ Some e.0.issuer)
+abbrev pub HasPlace : List (List ℕ) → ℕ → Option Entry → Type 0
+HasPlace issuers place entry = IfSome entry (λ e. slice_get issuers place ≡ Some e.id.issuer)
 
 -- what stands beside an entry is told by its identity
 pub record IsPlaced (issuers : List (List ℕ)) (e : ReadEntry) : Type 0 where

@@ -1,14 +1,10 @@
 -- Which of a job's entries are read.
 use Rattle.std.specs.Prelude.{ℕ, ◌+◌, List, ◌&&◌, Bool, cond, Option, Some, None}
-use Rattle.std.specs.Option.{option_map}
-use Rattle.ident_core.specs.declared.identity.Identity.{Identity}
-use Rattle.ident_core.specs.declared.range.Sighting.{Sighting}
 use Rattle.ident_core.specs.declared.range.Range.{Range}
 use Rattle.ident_core.specs.Coverage.{covers}
-use Rattle.job_core.specs.JobFields.{entry_view}
 use Rattle.ledger_core.specs.LedgerFields.{LedgerFields}
 use Rattle.sets_core.specs.Sets.{has_key}
-use Rattle.universe_core.specs.Jobs.{Entry, entry_of}
+use Rattle.universe_core.specs.Jobs.{Entry}
 use Rattle.universe_core.specs.History.{class_by}
 use Rattle.universe_core.specs.Ledgers.{no_ledger, past_in}
 use Rattle.universe_core.specs.Counting.{is_class}
@@ -19,9 +15,6 @@ use Rattle.universe_core.specs.declared.reading.Tally.{Tally}
 
 abbrev pub entry_fields : ReadEntry → Entry
 entry_fields e = record { id = e.id.now; sighting = e.sighting.now }
-
-abbrev pub facts_of_entry : Option (Identity × Sighting) → Option Entry
-facts_of_entry e = option_map entry_of (entry_view e)
 
 -- the entry, if the ranges cover it and its issuer is enrolled
 abbrev pub if_read : List Range → List (List ℕ) → Option Entry → Option Entry

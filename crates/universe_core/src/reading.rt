@@ -3,7 +3,7 @@ ghost use Rattle.std.specs.List.{filter_map, cons_option, count_by};
 ghost use Rattle.std.specs.Prelude.{◌≡◌, ◌≤◌, ◌<◌, ℕ, List, Some, IfOk, OnOk, All, [], ◌++◌, ◌&&◌, IsPermutation, length, map, get_or, slice_get};
 ghost use Rattle.ident_core.specs.Coverage.{AreRanges};
 ghost use Rattle.ident_core.specs.Order.{octets_cmp};
-ghost use Rattle.universe_core.specs.Reading.{if_read, facts_of_entry, entry_fields, class_alone, with_class};
+ghost use Rattle.universe_core.specs.Reading.{if_read, entry_fields, class_alone, with_class};
 ghost use Rattle.universe_core.specs.History.{if_accepted};
 ghost use Rattle.universe_core.specs.Counting.{is_class};
 ghost use Rattle.universe_core.specs.Merging.{IsRising};
@@ -12,7 +12,8 @@ ghost use Rattle.universe_core.specs.declared.class.Class.TheVariants as class;
 
 use crate::class::Class;
 use crate::member::ReadEntry;
-use ident_core::{Identity, Range, Sighting};
+use ident_core::Range;
+use log_core::Entry;
 use octets_core::Key32;
 use sets_core::{covers_sorted, place_of_key};
 use std::alloc::{AllocError, Global};
@@ -43,25 +44,25 @@ struct Told {
 
 /// What is told of an entry.
 #[tactic(auto, using(crate::proofs::Classes::class_unread))]
-fn classify(ranges: &[Range], issuers: &[Key32], entry: &Option<(Identity, Sighting)>) -> Told
+fn classify(ranges: &[Range], issuers: &[Key32], entry: &Option<Entry>) -> Told
     requires ranges { AreRanges ranges.now }
     requires sorted { IsStrictlySortedBy octets_cmp issuers.now }
-    ensures class { result.class ≡ class_alone ranges.now issuers.now (facts_of_entry entry.now) }
+    ensures class { result.class ≡ class_alone ranges.now issuers.now entry.now }
     ensures place { result.class ≡ class.Accepted → HasPlace issuers.now result.place entry.now }
 {
-    let Some((id, sighting)) = entry else {
+    let Some(entry) = entry else {
         return Told {
             class: Class::Unread,
             place: 0,
         };
     };
-    if !covers_sorted(ranges, sighting) {
+    if !covers_sorted(ranges, &entry.sighting) {
         return Told {
             class: Class::Uncovered,
             place: 0,
         };
     }
-    match place_of_key(issuers, &id.issuer) {
+    match place_of_key(issuers, &entry.id.issuer) {
         Some(place) => Told {
             class: Class::Accepted,
             place,
@@ -87,14 +88,14 @@ fn head(octets: &[u8]) -> u64
 }
 
 /// The entry of these, whose issuer has this place.
-fn read_entry<'a>(id: &'a Identity, sighting: &'a Sighting, place: usize) -> ReadEntry<'a>
-    ensures entry { entry_fields result ≡ record { id = id.now; sighting = sighting.now } }
-    ensures placed { (issuers : List (List ℕ)) → slice_get issuers place ≡ Some id.now.issuer → IsPlaced issuers result }
+fn read_entry(entry: &Entry, place: usize) -> ReadEntry<'_>
+    ensures entry { entry_fields result ≡ entry.now }
+    ensures placed { (issuers : List (List ℕ)) → slice_get issuers place ≡ Some entry.now.id.issuer → IsPlaced issuers result }
 {
-    let octets = id.serial.bytes();
+    let octets = entry.id.serial.bytes();
     ReadEntry {
-        id,
-        sighting,
+        id: &entry.id,
+        sighting: &entry.sighting,
         place,
         head: head(octets),
         length: octets.len() as u8,
@@ -105,17 +106,17 @@ fn read_entry<'a>(id: &'a Identity, sighting: &'a Sighting, place: usize) -> Rea
 fn keep_entry<'a>(
     out: &mut Vec<ReadEntry<'a>>,
     told: Told,
-    entry: &'a Option<(Identity, Sighting)>,
+    entry: &'a Option<Entry>,
 ) -> Result<(), AllocError>
     ensures kept { OnOk result (map entry_fields out.new.items
-        ≡ map entry_fields out.old.items ++ cons_option (if_accepted told.class (facts_of_entry entry.now)) []) }
+        ≡ map entry_fields out.old.items ++ cons_option (if_accepted told.class entry.now) []) }
     ensures placed { (issuers : List (List ℕ)) → (told.class ≡ class.Accepted → HasPlace issuers told.place entry.now)
         → All (IsPlaced issuers) out.old.items → OnOk result (All (IsPlaced issuers) out.new.items) }
 {
     match told.class {
         Class::Accepted => match entry {
-            Some((id, sighting)) => {
-                let one = read_entry(id, sighting, told.place);
+            Some(entry) => {
+                let one = read_entry(entry, told.place);
                 match out.push(one) {
                     Ok(()) => Ok(()),
                     Err(_) => Err(AllocError),
@@ -150,21 +151,21 @@ pub(crate) fn read<'a>(
     alloc: Global,
     ranges: &[Range],
     issuers: &[Key32],
-    entries: &'a [Option<(Identity, Sighting)>],
+    entries: &'a [Option<Entry>],
 ) -> Result<Reading<'a>, AllocError>
     requires ranges { AreRanges ranges.now }
     requires sorted { IsStrictlySortedBy octets_cmp issuers.now }
     requires few { length entries.now ≤ 4294967295 }
-    ensures entries { IfOk result (λ r. map entry_fields r.entries.items ≡ filter_map (λ e. if_read ranges.now issuers.now (facts_of_entry e)) entries.now) }
+    ensures entries { IfOk result (λ r. map entry_fields r.entries.items ≡ filter_map (λ e. if_read ranges.now issuers.now e) entries.now) }
     ensures placed { IfOk result (λ r. ArePlaced r.entries.items) }
     ensures unread { IfOk result (λ r. r.tally.unread
-        ≡ count_by (λ e. is_class class.Unread (class_alone ranges.now issuers.now (facts_of_entry e))) entries.now) }
+        ≡ count_by (λ e. is_class class.Unread (class_alone ranges.now issuers.now e)) entries.now) }
     ensures uncovered { IfOk result (λ r. r.tally.uncovered
-        ≡ count_by (λ e. is_class class.Uncovered (class_alone ranges.now issuers.now (facts_of_entry e))) entries.now) }
+        ≡ count_by (λ e. is_class class.Uncovered (class_alone ranges.now issuers.now e)) entries.now) }
     ensures read { IfOk result (λ r. r.tally.read
-        ≡ count_by (λ e. is_class class.Accepted (class_alone ranges.now issuers.now (facts_of_entry e))) entries.now) }
+        ≡ count_by (λ e. is_class class.Accepted (class_alone ranges.now issuers.now e)) entries.now) }
     ensures unenrolled { IfOk result (λ r. r.tally.unenrolled
-        ≡ count_by (λ e. is_class class.Unenrolled (class_alone ranges.now issuers.now (facts_of_entry e))) entries.now) }
+        ≡ count_by (λ e. is_class class.Unenrolled (class_alone ranges.now issuers.now e)) entries.now) }
 {
     let mut left = Vec::with_capacity(alloc, entries.len())?;
     let mut tally = Tally {

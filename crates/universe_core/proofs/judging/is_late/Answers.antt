@@ -1,5 +1,5 @@
 use Rattle.std.specs.List.{list_any}
-use Rattle.std.proofs.Common.{◌≡◌, ◌∙◌, ap}
+use Rattle.std.proofs.Common.{◌∙◌, ap}
 use Rattle.std.proofs.lemmas.List.Elements.{All-take}
 use Rattle.universe_core.specs.Judging.{IsSearchable, lacked_in}
 use Rattle.universe_core.proofs.Searchable.{first_few}

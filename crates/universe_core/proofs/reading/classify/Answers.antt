@@ -6,15 +6,15 @@ use Rattle.universe_core.proofs.reading.classify.Goals as goal
 
 pub returns-then-not-covers_sorted-clause-class : goal.returns-then-not-covers_sorted-clause-class
 returns-then-not-covers_sorted-clause-class c =
-    rw c.in-Some.is (class_uncovered c.args.ranges.now c.args.issuers.now (record { id = c.in-Some.id; sighting = c.in-Some.sighting }) (sym c.covers_sorted.ensures ∙ c.if-not-covers_sorted.true))
+    rw c.in-Some.is (class_uncovered c.args.ranges.now c.args.issuers.now c.in-Some.entry (sym c.covers_sorted.ensures ∙ c.if-not-covers_sorted.true))
 
 pub returns-in-Some-place_of_key-clause-class : goal.returns-in-Some-place_of_key-clause-class
 returns-in-Some-place_of_key-clause-class c =
-    rw c.in-Some.is (class_accepted c.args.ranges.now c.args.issuers.now (record { id = c.in-Some.id; sighting = c.in-Some.sighting })
+    rw c.in-Some.is (class_accepted c.args.ranges.now c.args.issuers.now c.in-Some.entry
     (sym c.covers_sorted.ensures ∙ c.if-not-covers_sorted.false)
-    (has_key-from_Among c.args.issuers.now c.in-Some.id.issuer (Among-from_place c.args.issuers.now c.in-Some-place_of_key.place c.in-Some.id.issuer c.in-Some-place_of_key.ensures.some)))
+    (has_key-from_Among c.args.issuers.now c.in-Some.entry.id.issuer (Among-from_place c.args.issuers.now c.in-Some-place_of_key.place c.in-Some.entry.id.issuer c.in-Some-place_of_key.ensures.some)))
 
 pub returns-in-None-clause-class : goal.returns-in-None-clause-class
 returns-in-None-clause-class c =
-    rw c.in-Some.is (class_unenrolled c.args.ranges.now c.args.issuers.now (record { id = c.in-Some.id; sighting = c.in-Some.sighting })
+    rw c.in-Some.is (class_unenrolled c.args.ranges.now c.args.issuers.now c.in-Some.entry
     (sym c.covers_sorted.ensures ∙ c.if-not-covers_sorted.false) (c.in-None.ensures.none refl))
