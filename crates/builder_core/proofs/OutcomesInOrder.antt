@@ -11,6 +11,8 @@ use Rattle.stage_core.specs.declared.fault.BlockFault.TheVariants as block
 use Rattle.stage_core.specs.Built.{BuildsBlock}
 use Rattle.universe_core.specs.declared.admitted.Group.{Group}
 use Rattle.universe_core.specs.Groups.{GroupFields, group_fields, IsGroup}
+use Rattle.builder_core.specs.declared.format.Format.{Format}
+use Rattle.builder_core.specs.declared.format.Format.TheVariants.{Plain}
 use Rattle.builder_core.specs.declared.fault.BuildFault.{BuildFault}
 use Rattle.builder_core.specs.declared.fault.BuildFault.TheVariants.{SeedsExhausted, NoMemory}
 use Rattle.builder_core.specs.Building.{AreGroupBlocks, IsFirstRefused, IsBuildFault, fault_of, identities_in}
@@ -29,15 +31,15 @@ groups_ready groups all few i d lt =
     let same : length (get_or fields i (group_fields g)).universe ≡ length g.universe.items = ap (λ (x : GroupFields). length x.universe) at in
     record { beside = facts.beside; few = omega (arith, le, few, same) }
 
-module _ (rows : Rows) where
-  -- a block's fault is its group's outcome
-  pub outcome_fault : (g : Group) (fault : BlockFault) → BuildsBlock rows g.issuer g.universe.items g.revoked.items (Err fault)
-      → IsOutcome rows (group_fields g) (Err (fault_of g.issuer fault))
-  outcome_fault g block.NoMemory h = tt
-  outcome_fault g (block.SeedsExhausted stage) h = (refl, h)
+-- the fault of a block that isn't cut is its group's outcome
+pub outcome_fault : (rows : Rows) (g : Group) (fault : BlockFault) → BuildsBlock rows g.issuer g.universe.items g.revoked.items (Err fault)
+    → IsOutcome Plain rows (group_fields g) (Err (fault_of g.issuer fault))
+outcome_fault rows g block.NoMemory h = tt
+outcome_fault rows g (block.SeedsExhausted stage) h = (refl, h)
 
+module _ (format : Format) (rows : Rows) where
   pub outcomes_joined : (gs hs : List GroupFields) (os ps : List (Result Block BuildFault))
-      → AreOutcomes rows gs os → AreOutcomes rows hs ps → AreOutcomes rows (gs ++ hs) (os ++ ps)
+      → AreOutcomes format rows gs os → AreOutcomes format rows hs ps → AreOutcomes format rows (gs ++ hs) (os ++ ps)
   outcomes_joined [] hs [] ps a b = b
   outcomes_joined [] hs (o ∷ os) ps a b = absurd a
   outcomes_joined (g ∷ gs) hs [] ps a b = absurd a
@@ -46,24 +48,24 @@ module _ (rows : Rows) where
 
   -- the outcomes of two lists of groups together are those of both
   pub halves_joined : (gs hs : List GroupFields) (first second result : Result (Vec (Result Block BuildFault) Global) BuildFault)
-      → BuildsOutcomes rows gs first → BuildsOutcomes rows hs second → IsJoined first second result → BuildsOutcomes rows (gs ++ hs) result
+      → BuildsOutcomes format rows gs first → BuildsOutcomes format rows hs second → IsJoined first second result → BuildsOutcomes format rows (gs ++ hs) result
   halves_joined gs hs (Err e) second result a b j = rw j a
   halves_joined gs hs (Ok v) (Err e) result a b j = rw j b
   halves_joined gs hs (Ok v) (Ok w) (Ok all) a b j =
-      subst (λ (l : List (Result Block BuildFault)). AreOutcomes rows (gs ++ hs) l) (sym j) (outcomes_joined gs hs v.items w.items a b)
+      subst (λ (l : List (Result Block BuildFault)). AreOutcomes format rows (gs ++ hs) l) (sym j) (outcomes_joined gs hs v.items w.items a b)
   halves_joined gs hs (Ok v) (Ok w) (Err e) a b j = j
 
   module _ (groups : List Group) (i : ℕ) (g : Group) (lt : i < length groups) (is : g ≡ get_or groups i g) (os ps : List (Result Block BuildFault))
-      (so_far : AreOutcomes rows (map group_fields (take i groups)) os) where
+      (so_far : AreOutcomes format rows (map group_fields (take i groups)) os) where
     -- one block more
-    pub block_behind : (b : Block) → IsOutcome rows (group_fields g) (Ok b) → ps ≡ os ++ (Ok b ∷ []) → AreOutcomes rows (map group_fields (take (i + 1) groups)) ps
+    pub block_behind : (b : Block) → IsOutcome format rows (group_fields g) (Ok b) → ps ≡ os ++ (Ok b ∷ []) → AreOutcomes format rows (map group_fields (take (i + 1) groups)) ps
     block_behind b h e =
         let whole : map group_fields (take (i + 1) groups) ≡ map group_fields (take i groups) ++ (group_fields g ∷ []) =
         ap (map group_fields) (take_more groups i g lt ∙ ap (λ (x : Group). take i groups ++ (x ∷ [])) (sym is)) ∙ map-append group_fields (take i groups) (g ∷ []) in
         rw (e, whole) (outcomes_joined (map group_fields (take i groups)) (group_fields g ∷ []) os (Ok b ∷ []) so_far (h, tt))
 
     -- a fault ends the list
-    pub fault_behind : (fault : BuildFault) → IsOutcome rows (group_fields g) (Err fault) → ps ≡ os ++ (Err fault ∷ []) → AreOutcomes rows (map group_fields groups) ps
+    pub fault_behind : (fault : BuildFault) → IsOutcome format rows (group_fields g) (Err fault) → ps ≡ os ++ (Err fault ∷ []) → AreOutcomes format rows (map group_fields groups) ps
     fault_behind fault h e =
         let split : groups ≡ take i groups ++ (g ∷ drop (i + 1) groups) =
         sym (take-append-drop (i + 1) groups) ∙ ap (λ (t : List Group). t ++ drop (i + 1) groups) (take_more groups i g lt)
@@ -71,17 +73,17 @@ module _ (rows : Rows) where
         let whole : map group_fields groups ≡ map group_fields (take i groups) ++ (group_fields g ∷ map group_fields (drop (i + 1) groups)) =
         ap (map group_fields) split ∙ map-append group_fields (take i groups) (g ∷ drop (i + 1) groups) in
         let all = outcomes_joined (map group_fields (take i groups)) (group_fields g ∷ map group_fields (drop (i + 1) groups)) os (Err fault ∷ []) so_far h in
-        subst (λ (l : List (Result Block BuildFault)). AreOutcomes rows (map group_fields groups) l) (sym e)
-        (subst (λ (l : List GroupFields). AreOutcomes rows l (os ++ (Err fault ∷ []))) (sym whole) all)
+        subst (λ (l : List (Result Block BuildFault)). AreOutcomes format rows (map group_fields groups) l) (sym e)
+        (subst (λ (l : List GroupFields). AreOutcomes format rows l (os ++ (Err fault ∷ []))) (sym whole) all)
 
-  all_built : (gs : List GroupFields) (bs : List Block) → AreOutcomes rows gs (map Ok bs) → AreGroupBlocks rows gs bs
+  all_built : (gs : List GroupFields) (bs : List Block) → AreOutcomes format rows gs (map Ok bs) → AreGroupBlocks format rows gs bs
   all_built [] [] a = tt
   all_built [] (b ∷ bs) a = absurd a
   all_built (g ∷ gs) [] a = absurd a
   all_built (g ∷ gs) (b ∷ bs) a = (a.0, all_built gs bs a.1)
 
   one_refused : (gs : List GroupFields) (before : List Block) (after : List (Result Block BuildFault)) (issuer : List ℕ) (stage : ℕ)
-      → AreOutcomes rows gs (map Ok before ++ (Err (SeedsExhausted issuer stage) ∷ after)) → IsFirstRefused rows gs issuer stage
+      → AreOutcomes format rows gs (map Ok before ++ (Err (SeedsExhausted issuer stage) ∷ after)) → IsFirstRefused format rows gs issuer stage
   one_refused [] [] after issuer stage a = absurd a
   one_refused [] (b ∷ bs) after issuer stage a = absurd a
   one_refused (g ∷ gs) [] after issuer stage a = record { before = []; group = g; after = gs; whole = refl; blocks = []; built = tt; named = a.0; refused = a.1 }
@@ -98,12 +100,12 @@ module _ (rows : Rows) where
         refused = h.refused;
       }
 
-  one_fault : (gs : List GroupFields) (os : List (Result Block BuildFault)) (e : BuildFault) → AreOutcomes rows gs os → (e ≡ NoMemory) ⊎ IsFirstFault os e → IsBuildFault rows gs e
+  one_fault : (gs : List GroupFields) (os : List (Result Block BuildFault)) (e : BuildFault) → AreOutcomes format rows gs os → (e ≡ NoMemory) ⊎ IsFirstFault os e → IsBuildFault format rows gs e
   one_fault gs os NoMemory a h = tt
   one_fault gs os (SeedsExhausted issuer stage) a (inl e) = absurd cc
   one_fault gs os (SeedsExhausted issuer stage) a (inr h) =
-      one_refused gs h.before h.after issuer stage (subst (λ (l : List (Result Block BuildFault)). AreOutcomes rows gs l) h.whole a)
+      one_refused gs h.before h.after issuer stage (subst (λ (l : List (Result Block BuildFault)). AreOutcomes format rows gs l) h.whole a)
 
 pub outcomes_give : OutcomesGiveBlocks
-outcomes_give rows gs os (Ok v) a h = all_built rows gs v.items (subst (λ (l : List (Result Block BuildFault)). AreOutcomes rows gs l) h a)
-outcomes_give rows gs os (Err e) a h = one_fault rows gs os e a h
+outcomes_give format rows gs os (Ok v) a h = all_built format rows gs v.items (subst (λ (l : List (Result Block BuildFault)). AreOutcomes format rows gs l) h a)
+outcomes_give format rows gs os (Err e) a h = one_fault format rows gs os e a h

@@ -8,21 +8,22 @@ use Rattle.card_core.specs.declared.block.Block.{Block}
 use Rattle.claim_core.specs.Work.{IsInPlace}
 use Rattle.universe_core.specs.declared.admitted.Group.{Group}
 use Rattle.universe_core.specs.Groups.{GroupFields, group_fields}
+use Rattle.builder_core.specs.declared.format.Format.{Format}
 use Rattle.builder_core.specs.declared.fault.BuildFault.{BuildFault}
 use Rattle.builder_core.specs.Outcomes.{IsOutcome, IsOutcomeAt, AreOutcomes}
 
-module _ (rows : Rows) where
+module _ (format : Format) (rows : Rows) where
   -- what comes of the group that was read at a place
-  pub outcome_at : (groups : List Group) (i : ℕ) (d : Group) (o : Result Block BuildFault) → i < length groups → IsOutcome rows (group_fields (get_or groups i d)) o
-      → IsOutcomeAt rows (map group_fields groups) i o
+  pub outcome_at : (groups : List Group) (i : ℕ) (d : Group) (o : Result Block BuildFault) → i < length groups → IsOutcome format rows (group_fields (get_or groups i d)) o
+      → IsOutcomeAt format rows (map group_fields groups) i o
   outcome_at groups i d o lt h f at =
       let here : slice_get (map group_fields groups) i ≡ Some (group_fields (get_or groups i d)) =
       slice_get-map group_fields groups i ∙ ap (option_map group_fields) (slice_get-get_or groups i d lt) in
       let same : group_fields (get_or groups i d) ≡ f = cc in
-      subst (λ (x : GroupFields). IsOutcome rows x o) same h
+      subst (λ (x : GroupFields). IsOutcome format rows x o) same h
 
   -- outcomes at their places are outcomes in order
-  pub in_order : (gs : List GroupFields) (os : List (Result Block BuildFault)) → length os ≡ length gs → IsInPlace (IsOutcomeAt rows gs) os → AreOutcomes rows gs os
+  pub in_order : (gs : List GroupFields) (os : List (Result Block BuildFault)) → length os ≡ length gs → IsInPlace (IsOutcomeAt format rows gs) os → AreOutcomes format rows gs os
   in_order [] [] n h = tt
   in_order [] (o ∷ os) n h = absurd (omega arith)
   in_order (g ∷ gs) [] n h = absurd (omega arith)

@@ -1,32 +1,42 @@
 -- What holds of the blocks of all groups, and of a refusal.
-use Rattle.std.specs.Prelude.{◌≡◌, ℕ, List, Result}
+use Rattle.std.specs.Prelude.{◌≡◌, ◌<◌, ℕ, false, List, length, slice_index_or, Result}
 use Rattle.std.specs.declared.alloc.Global.{Global}
 use Rattle.std.specs.declared.vec.Vec.{Vec}
+use Rattle.ident_core.specs.declared.identity.Identity.{Identity}
 use Rattle.equation_core.specs.Rows.{Rows}
 use Rattle.card_core.specs.declared.block.Block.{Block}
+use Rattle.card_core.specs.Filter.{is_positive}
 use Rattle.universe_core.specs.Groups.{GroupFields}
+use Rattle.builder_core.specs.declared.format.Format.{Format}
 use Rattle.builder_core.specs.declared.fault.BuildFault.{BuildFault}
-use Rattle.builder_core.specs.Building.{AreGroupBlocks, BuildsBlocks, IsFirstRefused}
+use Rattle.builder_core.specs.Building.{IsGroupBlock, AreGroupBlocks, BuildsBlocks, IsFirstRefused}
 use Rattle.builder_core.specs.Outcomes.{AreOutcomes, IsAssembled}
 
+-- in each format the test of each identity of a group is its flag
+abbrev pub GroupBlockIsExact : Type 0
+GroupBlockIsExact =
+    (format : Format) (rows : Rows) (g : GroupFields) (block : Block) → length g.revoked ≡ length g.universe → IsGroupBlock format rows g block
+    → (i : ℕ) (x : Identity) → i < length g.universe → is_positive rows (slice_index_or g.universe i x) block.body ≡ slice_index_or g.revoked i false
+
 abbrev pub GroupBlocksAreUnique : Type 0
-GroupBlocksAreUnique = (rows : Rows) (groups : List GroupFields) (a b : List Block) → AreGroupBlocks rows groups a → AreGroupBlocks rows groups b → a ≡ b
+GroupBlocksAreUnique = (format : Format) (rows : Rows) (groups : List GroupFields) (a b : List Block)
+    → AreGroupBlocks format rows groups a → AreGroupBlocks format rows groups b → a ≡ b
 
 -- where a group is refused there are no blocks of all groups
 abbrev pub RefusedHasNoBlocks : Type 0
 RefusedHasNoBlocks =
-    (rows : Rows) (groups : List GroupFields) (issuer : List ℕ) (stage : ℕ) (blocks : List Block)
-    → IsFirstRefused rows groups issuer stage → AreGroupBlocks rows groups blocks → ⊥
+    (format : Format) (rows : Rows) (groups : List GroupFields) (issuer : List ℕ) (stage : ℕ) (blocks : List Block)
+    → IsFirstRefused format rows groups issuer stage → AreGroupBlocks format rows groups blocks → ⊥
 
 -- only one issuer is the first that is refused, at one stage
 abbrev pub OneIsFirstRefused : Type 0
 OneIsFirstRefused =
-    (rows : Rows) (groups : List GroupFields) (issuer other_issuer : List ℕ) (stage other_stage : ℕ)
-    → IsFirstRefused rows groups issuer stage → IsFirstRefused rows groups other_issuer other_stage
+    (format : Format) (rows : Rows) (groups : List GroupFields) (issuer other_issuer : List ℕ) (stage other_stage : ℕ)
+    → IsFirstRefused format rows groups issuer stage → IsFirstRefused format rows groups other_issuer other_stage
     → (issuer ≡ other_issuer) × (stage ≡ other_stage)
 
 -- outcomes in order give the blocks of the groups, or the first refusal
 abbrev pub OutcomesGiveBlocks : Type 0
 OutcomesGiveBlocks =
-    (rows : Rows) (groups : List GroupFields) (outcomes : List (Result Block BuildFault)) (result : Result (Vec Block Global) BuildFault)
-    → AreOutcomes rows groups outcomes → IsAssembled outcomes result → BuildsBlocks rows groups result
+    (format : Format) (rows : Rows) (groups : List GroupFields) (outcomes : List (Result Block BuildFault)) (result : Result (Vec Block Global) BuildFault)
+    → AreOutcomes format rows groups outcomes → IsAssembled outcomes result → BuildsBlocks format rows groups result

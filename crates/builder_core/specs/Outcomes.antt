@@ -9,9 +9,10 @@ use Rattle.card_core.specs.declared.block.Block.{Block}
 use Rattle.card_core.specs.Filter.{IsBlockRefused}
 use Rattle.universe_core.specs.declared.admitted.Group.{Group}
 use Rattle.universe_core.specs.Groups.{GroupFields}
+use Rattle.builder_core.specs.declared.format.Format.{Format}
 use Rattle.builder_core.specs.declared.fault.BuildFault.{BuildFault}
 use Rattle.builder_core.specs.declared.fault.BuildFault.TheVariants.{SeedsExhausted, NoMemory}
-use Rattle.builder_core.specs.Building.{IsGroupBlock}
+use Rattle.builder_core.specs.Building.{shift_in, IsGroupBlock}
 
 -- what building a group asks of it
 pub record IsReady (g : Group) : Type 0 where
@@ -19,27 +20,27 @@ pub record IsReady (g : Group) : Type 0 where
   pub few : length g.universe.items ≤ MAX_IDENTITIES
 
 -- the block of a group, or why there is none
-abbrev pub IsOutcome : Rows → GroupFields → Result Block BuildFault → Type 0
-IsOutcome rows g (Ok block) = IsGroupBlock rows g block
-IsOutcome rows g (Err NoMemory) = Unit {0}
-IsOutcome rows g (Err (SeedsExhausted issuer stage)) = (g.issuer ≡ issuer) × IsBlockRefused rows g.universe g.revoked stage
+abbrev pub IsOutcome : Format → Rows → GroupFields → Result Block BuildFault → Type 0
+IsOutcome format rows g (Ok block) = IsGroupBlock format rows g block
+IsOutcome format rows g (Err NoMemory) = Unit {0}
+IsOutcome format rows g (Err (SeedsExhausted issuer stage)) = (g.issuer ≡ issuer) × IsBlockRefused rows (shift_in format g) g.universe g.revoked stage
 
 -- the same of the group at a place
-abbrev pub IsOutcomeAt : Rows → List GroupFields → ℕ → Result Block BuildFault → Type 0
-IsOutcomeAt rows groups place outcome = (g : GroupFields) → slice_get groups place ≡ Some g → IsOutcome rows g outcome
+abbrev pub IsOutcomeAt : Format → Rows → List GroupFields → ℕ → Result Block BuildFault → Type 0
+IsOutcomeAt format rows groups place outcome = (g : GroupFields) → slice_get groups place ≡ Some g → IsOutcome format rows g outcome
 
 -- an outcome for each group, in order; behind a fault there may be any, or none
-abbrev pub AreOutcomes : Rows → List GroupFields → List (Result Block BuildFault) → Type 0
-AreOutcomes rows [] [] = Unit {0}
-AreOutcomes rows [] (o ∷ outcomes) = ⊥
-AreOutcomes rows (g ∷ groups) [] = ⊥
-AreOutcomes rows (g ∷ groups) (Ok block ∷ outcomes) = IsOutcome rows g (Ok block) × AreOutcomes rows groups outcomes
-AreOutcomes rows (g ∷ groups) (Err fault ∷ outcomes) = IsOutcome rows g (Err fault)
+abbrev pub AreOutcomes : Format → Rows → List GroupFields → List (Result Block BuildFault) → Type 0
+AreOutcomes format rows [] [] = Unit {0}
+AreOutcomes format rows [] (o ∷ outcomes) = ⊥
+AreOutcomes format rows (g ∷ groups) [] = ⊥
+AreOutcomes format rows (g ∷ groups) (Ok block ∷ outcomes) = IsOutcome format rows g (Ok block) × AreOutcomes format rows groups outcomes
+AreOutcomes format rows (g ∷ groups) (Err fault ∷ outcomes) = IsOutcome format rows g (Err fault)
 
 -- the same, or want of memory
-abbrev pub BuildsOutcomes : Rows → List GroupFields → Result (Vec (Result Block BuildFault) Global) BuildFault → Type 0
-BuildsOutcomes rows groups (Ok outcomes) = AreOutcomes rows groups outcomes.items
-BuildsOutcomes rows groups (Err fault) = fault ≡ NoMemory
+abbrev pub BuildsOutcomes : Format → Rows → List GroupFields → Result (Vec (Result Block BuildFault) Global) BuildFault → Type 0
+BuildsOutcomes format rows groups (Ok outcomes) = AreOutcomes format rows groups outcomes.items
+BuildsOutcomes format rows groups (Err fault) = fault ≡ NoMemory
 
 -- the second outcomes behind the first, or want of memory
 abbrev pub IsJoined : Result (Vec (Result Block BuildFault) Global) BuildFault → Result (Vec (Result Block BuildFault) Global) BuildFault

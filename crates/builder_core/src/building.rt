@@ -3,6 +3,7 @@ ghost use Rattle.std.specs.List.Sorted.{IsStrictlySortedBy};
 ghost use Rattle.ident_core.specs.declared.bounds.TheConstants.{MAX_IDENTITIES, MAX_ISSUERS, MAX_WORKERS};
 ghost use Rattle.ident_core.specs.Order.{octets_cmp};
 ghost use Rattle.universe_core.specs.Groups.{group_fields, IsGroup};
+ghost use Rattle.builder_core.specs.declared.format.Format.TheVariants.{Plain};
 ghost use Rattle.builder_core.specs.Building.{BuildsBlocks, BuildsPart, identities_in, issuers_of};
 
 use crate::outcomes::{assemble, outcomes_of};
@@ -27,7 +28,7 @@ fn build_blocks<R: Threads + Sync, H: EquationHash + Sync, G: Gate + Sync>(
     requires few { length groups.now ≤ MAX_ISSUERS }
     requires identities { identities_in (map group_fields groups.now) ≤ MAX_IDENTITIES }
     requires few_workers { workers ≤ MAX_WORKERS }
-    ensures { BuildsBlocks (H.row_of hash.now) (map group_fields groups.now) result }
+    ensures { BuildsBlocks Plain (H.row_of hash.now) (map group_fields groups.now) result }
 {
     let outcomes = outcomes_of(rt, alloc, hash, gate, groups, workers)?;
     assemble(alloc, outcomes)
@@ -52,7 +53,7 @@ pub fn build_part<R: Threads + Sync, H: EquationHash + Sync, G: Gate + Sync>(
     requires identities { identities_in (map group_fields groups.now) ≤ MAX_IDENTITIES }
     requires some_workers { 1 ≤ workers }
     requires few_workers { workers ≤ MAX_WORKERS }
-    ensures { BuildsPart (H.row_of hash.now) head (map group_fields groups.now) result }
+    ensures { BuildsPart Plain (H.row_of hash.now) head (map group_fields groups.now) result }
 {
     let blocks = build_blocks(rt, alloc, hash, gate, groups, workers)?;
     Ok(Part::new(head, blocks))

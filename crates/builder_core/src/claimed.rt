@@ -8,6 +8,7 @@ ghost use Rattle.card_core.specs.declared.block.Block.{Block};
 ghost use Rattle.universe_core.specs.declared.admitted.Group.{Group};
 ghost use Rattle.universe_core.specs.Groups.{group_fields, IsGroup};
 ghost use Rattle.builder_core.specs.declared.fault.BuildFault.{BuildFault};
+ghost use Rattle.builder_core.specs.declared.format.Format.TheVariants.{Plain};
 ghost use Rattle.builder_core.specs.Building.{BuildsBlocks, BuildsPart, identities_in, issuers_of};
 ghost use Rattle.builder_core.specs.Outcomes.{IsOutcome, IsReady};
 
@@ -42,9 +43,9 @@ impl<'a, H: EquationHash, F: Fn(u32, &Group) -> Result<Block, BuildFault>> Work
     ghost size = { λ s. length s.groups.now };
 
     ghost ready = { λ s. (place : ℕ) (group : Bor Group) → IsReady group.now → F.pre s.call.now place group
-        × ((r : Result Block BuildFault) → F.post s.call.now place group r → IsOutcome (H.row_of s.hash.now) (group_fields group.now) r) };
+        × ((r : Result Block BuildFault) → F.post s.call.now place group r → IsOutcome Plain (H.row_of s.hash.now) (group_fields group.now) r) };
 
-    ghost gives = { λ s place outcome. IsOutcomeAt (H.row_of s.hash.now) (map group_fields s.groups.now) place outcome };
+    ghost gives = { λ s place outcome. IsOutcomeAt Plain (H.row_of s.hash.now) (map group_fields s.groups.now) place outcome };
 
     fn places(&self) -> u32 {
         self.groups.len() as u32
@@ -72,12 +73,12 @@ fn build_blocks_claimed<R: Threads + Sync, H: EquationHash + Sync, G: Gate + Syn
     requires few { length groups.now ≤ MAX_ISSUERS }
     requires some_workers { 1 ≤ workers }
     requires few_workers { workers ≤ MAX_WORKERS }
-    ensures { BuildsBlocks (H.row_of hash.now) (map group_fields groups.now) result }
+    ensures { BuildsBlocks Plain (H.row_of hash.now) (map group_fields groups.now) result }
 {
     let wide = workers > 1;
     let call = |place: u32, group: &Group| -> Result<Block, BuildFault>
         requires { IsSync R.row × IsSync H.row × IsReady group.now }
-        ensures { IsOutcome (H.row_of hash.entry.now) (group_fields group.entry.now) result }
+        ensures { IsOutcome Plain (H.row_of hash.entry.now) (group_fields group.entry.now) result }
     { outcome_of(rt, alloc, hash, gate, wide, place, group) };
     let jobs = Groups {
         hash,
@@ -110,7 +111,7 @@ pub fn build_part_claimed<R: Threads + Sync, H: EquationHash + Sync, G: Gate + S
     requires identities { identities_in (map group_fields groups.now) ≤ MAX_IDENTITIES }
     requires some_workers { 1 ≤ workers }
     requires few_workers { workers ≤ MAX_WORKERS }
-    ensures { BuildsPart (H.row_of hash.now) head (map group_fields groups.now) result }
+    ensures { BuildsPart Plain (H.row_of hash.now) head (map group_fields groups.now) result }
 {
     let blocks = build_blocks_claimed(rt, alloc, hash, gate, groups, workers)?;
     Ok(Part::new(head, blocks))

@@ -1,8 +1,14 @@
 //! Laws of the definitions, apart from all code. Each is a function that does nothing, and its clause says the law.
 
-ghost use Rattle.builder_core.specs.Laws.{GroupBlocksAreUnique, OneIsFirstRefused, OutcomesGiveBlocks, RefusedHasNoBlocks};
+ghost use Rattle.builder_core.specs.Laws.{GroupBlockIsExact, GroupBlocksAreUnique, OneIsFirstRefused, OutcomesGiveBlocks};
+ghost use Rattle.builder_core.specs.Laws.{RefusedHasNoBlocks};
 
-/// Groups have one list of blocks at most.
+/// In each format the block of a group tests positive for exactly those of its universe that are revoked.
+pub fn group_block_is_exact()
+    ensures { GroupBlockIsExact }
+{}
+
+/// In each format groups have one list of blocks at most.
 pub fn group_blocks_are_unique()
     ensures { GroupBlocksAreUnique }
 {}

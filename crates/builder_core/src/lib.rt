@@ -4,6 +4,7 @@
 mod building;
 mod claimed;
 mod fault;
+mod format;
 mod gate;
 mod laws;
 mod outcomes;
@@ -11,7 +12,9 @@ mod outcomes;
 pub use building::build_part;
 pub use claimed::build_part_claimed;
 pub use fault::BuildFault;
+pub use format::Format;
 pub use gate::{Gate, Open};
 pub use laws::{
-    group_blocks_are_unique, one_is_first_refused, outcomes_give_blocks, refused_has_no_blocks,
+    group_block_is_exact, group_blocks_are_unique, one_is_first_refused, outcomes_give_blocks,
+    refused_has_no_blocks,
 };

@@ -3,6 +3,7 @@ ghost use Rattle.std.specs.Thread.{IsSync};
 ghost use Rattle.ident_core.specs.declared.bounds.TheConstants.{MAX_ISSUERS, MAX_WORKERS};
 ghost use Rattle.stage_core.specs.Built.{BuildsBlock};
 ghost use Rattle.universe_core.specs.Groups.{group_fields};
+ghost use Rattle.builder_core.specs.declared.format.Format.TheVariants.{Plain};
 ghost use Rattle.builder_core.specs.Outcomes.{BuildsOutcomes, IsAssembled, IsJoined, IsOutcome, IsReady};
 
 use crate::{BuildFault, Gate};
@@ -50,7 +51,7 @@ pub(crate) fn outcome_of<R: Threads + Sync, H: EquationHash + Sync, G: Gate + Sy
     group: &Group,
 ) -> Result<Block, BuildFault>
     requires { IsReady group.now }
-    ensures { IsOutcome (H.row_of hash.now) (group_fields group.now) result }
+    ensures { IsOutcome Plain (H.row_of hash.now) (group_fields group.now) result }
 {
     gate.enter(place);
     match block_of(rt, alloc, hash, wide, group) {
@@ -72,7 +73,7 @@ fn outcomes_of_share<R: Threads + Sync, H: EquationHash + Sync, G: Gate + Sync>(
 ) -> Result<Vec<Result<Block, BuildFault>>, BuildFault>
     requires ready { All IsReady groups.now }
     requires few { first + length groups.now ≤ MAX_ISSUERS }
-    ensures { BuildsOutcomes (H.row_of hash.now) (map group_fields groups.now) result }
+    ensures { BuildsOutcomes Plain (H.row_of hash.now) (map group_fields groups.now) result }
 {
     let mut outcomes = Vec::with_capacity(alloc, groups.len())?;
     for (i, group) in groups.iter().enumerate() {
@@ -115,7 +116,7 @@ fn outcomes_of_shares<R: Threads + Sync, H: EquationHash + Sync, G: Gate + Sync>
     requires ready { All IsReady groups.now }
     requires few { first + length groups.now ≤ MAX_ISSUERS }
     requires few_workers { workers ≤ MAX_WORKERS }
-    ensures { BuildsOutcomes (H.row_of hash.now) (map group_fields groups.now) result }
+    ensures { BuildsOutcomes Plain (H.row_of hash.now) (map group_fields groups.now) result }
 {
     let count = groups.len() as u32;
     let workers = workers.min(count);
@@ -131,12 +132,12 @@ fn outcomes_of_shares<R: Threads + Sync, H: EquationHash + Sync, G: Gate + Sync>
         || -> Result<Vec<Result<Block, BuildFault>>, BuildFault>
             requires { IsSync R.row × IsSync H.row × IsSync G.row
                 × All IsReady left.now × (first + length left.now ≤ MAX_ISSUERS) × (half ≤ MAX_WORKERS) }
-            ensures { BuildsOutcomes (H.row_of hash.entry.now) (map group_fields left.entry.now) result }
+            ensures { BuildsOutcomes Plain (H.row_of hash.entry.now) (map group_fields left.entry.now) result }
         { outcomes_of_shares(rt, alloc, hash, gate, first, left, half) },
         || -> Result<Vec<Result<Block, BuildFault>>, BuildFault>
             requires { IsSync R.row × IsSync H.row × IsSync G.row
                 × All IsReady right.now × (first + at + length right.now ≤ MAX_ISSUERS) × (others ≤ MAX_WORKERS) }
-            ensures { BuildsOutcomes (H.row_of hash.entry.now) (map group_fields right.entry.now) result }
+            ensures { BuildsOutcomes Plain (H.row_of hash.entry.now) (map group_fields right.entry.now) result }
         { outcomes_of_shares(rt, alloc, hash, gate, first + at, right, others) },
     );
     joined(one, other)
@@ -156,7 +157,7 @@ pub(crate) fn outcomes_of<R: Threads + Sync, H: EquationHash + Sync, G: Gate + S
     requires ready { All IsReady groups.now }
     requires few { length groups.now ≤ MAX_ISSUERS }
     requires few_workers { workers ≤ MAX_WORKERS }
-    ensures { BuildsOutcomes (H.row_of hash.now) (map group_fields groups.now) result }
+    ensures { BuildsOutcomes Plain (H.row_of hash.now) (map group_fields groups.now) result }
 {
     if workers <= 1 {
         return outcomes_of_share(rt, alloc, hash, gate, false, 0, groups);
