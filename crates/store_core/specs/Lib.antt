@@ -2,4 +2,3 @@ pub mod Chain
 pub mod Refusals
 pub mod Starting
 pub mod StoreLayout
-pub mod Verdict

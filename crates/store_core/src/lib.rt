@@ -8,12 +8,11 @@ mod encode;
 mod fault;
 mod laws;
 mod store;
-mod verdict;
 
+pub use card_core::Verdict;
 pub use chain::{Refusal, Refused};
 pub use decode::decode_store;
 pub use encode::encode_store;
 pub use fault::StoreFault;
 pub use laws::{chains_grow, refusals_are_exact, stores_are_read_back, what_is_read_is_a_chain};
 pub use store::{StartFault, Store};
-pub use verdict::Verdict;

@@ -1,15 +1,19 @@
-//! Stores: how one begins, and how it takes a further part.
+//! Stores: how one begins, how it takes a further part, and what it says of a certificate.
 
-ghost use Rattle.std.specs.Prelude.{◌≡◌, ◌++◌, ◌≤◌, [], ◌∷◌, length, Some, None, IfOk, IfErr, OnOk, OnErr};
+ghost use Rattle.std.specs.Prelude.{◌≡◌, ◌++◌, ◌≤◌, ◌+◌, ◌-◌, ◌*◌, [], ◌∷◌, map, length, Some, None, IfOk, IfErr, OnOk, OnErr};
+ghost use Rattle.card_core.specs.Verdict.{verdict, covering, AreProbes};
 ghost use Rattle.ident_core.specs.declared.bounds.TheConstants.{MAX_PARTS};
 ghost use Rattle.store_core.specs.Chain.{newest_of, refusal_of, IsChain};
 ghost use Rattle.store_core.specs.Starting.{IsNotBegun};
 
 use crate::chain::{Refusal, Refused, broken_by};
-use ident_core::{Kind, MAX_PARTS};
+use card_core::Verdict;
+use ident_core::{Identity, Kind, MAX_PARTS, Sighting};
+use octets_core::Steps;
 use part_codec::Sealed;
 use std::alloc::Global;
 use std::marker::Model;
+use std::sync::ledger::Ledger;
 
 /// A chain of 1 to `MAX_PARTS` parts with their trailers, oldest first: the first is a snapshot, and each later one is
 /// a delta that follows the part before it. It has room for `MAX_PARTS`.
@@ -93,5 +97,29 @@ impl Store {
         ensures few { length self.now ≤ MAX_PARTS }
     {
         self.parts.as_slice()
+    }
+
+    /// What the parts together say of the certificate, by rows of SHA-256. Only parts that cover one of the sightings
+    /// are asked. Each comparison of issuers is one probe, and each word that is read takes a step of `words`. No
+    /// memory is taken.
+    pub fn verdict<L: Ledger, M: Ledger>(
+        &self,
+        id: &Identity,
+        sightings: &[Sighting],
+        probes: &mut Steps<L>,
+        words: &mut Steps<M>,
+    ) -> Verdict
+        ensures value { result ≡ verdict (map (λ s. s.part) self.now) id.now sightings.now }
+        ensures more_probes { probes.old ≤ probes.new }
+        ensures few_probes { AreProbes (covering sightings.now (map (λ s. s.part) self.now)) (probes.new - probes.old) }
+        ensures more_words { words.old ≤ words.new }
+        ensures few_words { words.new ≤ words.old + 51 * length (covering sightings.now (map (λ s. s.part) self.now)) }
+    {
+        let mut verdict = Verdict::NotCovered;
+        for sealed in self.parts() {
+            let said = sealed.part().verdict(id, sightings, probes, words);
+            verdict = verdict.joined_with(said);
+        }
+        verdict
     }
 }

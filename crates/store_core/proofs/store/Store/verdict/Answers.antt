@@ -1,5 +1,6 @@
 use Rattle.std.proofs.Common.{◌≡◌, ◌∷◌, [], get_or, length, ap, subst, arith}
-use Rattle.store_core.proofs.Verdicts.{IsAsked, asked-none, asked-more, asked-all}
+use Rattle.card_core.proofs.Verdicts.{IsAsked, asked-none}
+use Rattle.store_core.proofs.Verdicts.{asked-more, asked-all}
 use Rattle.store_core.proofs.store.Store.verdict.Goals as goal
 
 pub loop-sealed-init : goal.loop-sealed-init
@@ -7,18 +8,18 @@ loop-sealed-init g c = asked-none c.args.id.now c.args.sightings.now c.args.prob
 
 pub loop-sealed-preserved : goal.loop-sealed-preserved
 loop-sealed-preserved g c =
-    let e = c.verdict_of_part-said.ensures in
-    let one : IsAsked c.args.id.now c.args.sightings.now (c.part.result.now ∷ []) c.verdict_of_part-said.result c.loop-sealed.probes
-    c.verdict_of_part-said.new.probes c.loop-sealed.words c.verdict_of_part-said.new.words
+    let e = c.verdict-said.ensures in
+    let one : IsAsked c.args.id.now c.args.sightings.now (c.part.result.now ∷ []) c.verdict-said.result c.loop-sealed.probes
+    c.verdict-said.new.probes c.loop-sealed.words c.verdict-said.new.words
     = record { value = e.value; more_probes = e.more_probes; few_probes = e.few_probes; more_words = e.more_words; few_words = e.few_words } in
-    rw c.joined-verdict.ensures
+    rw c.joined_with-verdict.ensures
     (asked-more c.args.id.now c.args.sightings.now c.args.self.now c.loop-sealed.sealed-index c.sealed-item.result c.loop-sealed.verdict
-    c.verdict_of_part-said.result c.args.probes.now c.loop-sealed.probes
-    c.verdict_of_part-said.new.probes c.args.words.now c.loop-sealed.words c.verdict_of_part-said.new.words
+    c.verdict-said.result c.args.probes.now c.loop-sealed.probes
+    c.verdict-said.new.probes c.args.words.now c.loop-sealed.words c.verdict-said.new.words
     (let t = c.loop-sealed-test.true in omega (arith, ap length c.parts-sealed-items.ensures.value))
     (subst (λ l. c.sealed-item.result ≡ get_or l c.loop-sealed.sealed-index c.sealed-item.result) c.parts-sealed-items.ensures.value c.sealed-item.is)
-    c.loop-sealed.invariant (subst (λ p. IsAsked c.args.id.now c.args.sightings.now (p ∷ []) c.verdict_of_part-said.result c.loop-sealed.probes
-    c.verdict_of_part-said.new.probes c.loop-sealed.words c.verdict_of_part-said.new.words) c.part.ensures one))
+    c.loop-sealed.invariant (subst (λ p. IsAsked c.args.id.now c.args.sightings.now (p ∷ []) c.verdict-said.result c.loop-sealed.probes
+    c.verdict-said.new.probes c.loop-sealed.words c.verdict-said.new.words) c.part.ensures one))
 
 pub returns : goal.returns
 returns g c =

@@ -1,5 +1,5 @@
 use Rattle.std.proofs.Common.{map, take}
-use Rattle.store_core.proofs.Verdicts.{IsAsked}
+use Rattle.card_core.proofs.Verdicts.{IsAsked}
 use Rattle.store_core.proofs.store.Store.verdict.Given as goal
 
 abbrev pub invariant-loop-sealed : goal.invariant-loop-sealed
