@@ -13,13 +13,12 @@ use Rattle.ident_core.specs.Coverage.{LiesWithin}
 use Rattle.part_codec.specs.SealedFields.{SealedFields}
 use Rattle.part_codec.specs.PartText.{unsealed_text}
 use Rattle.part_codec.specs.Fitting.{Fits}
-use Rattle.job_core.specs.JobFields.{JobFields}
-use Rattle.universe_core.specs.Jobs.{facts_of}
+use Rattle.universe_core.specs.Formats.{JobIn}
 use Rattle.universe_core.specs.History.{Release}
 use Rattle.universe_core.specs.Ledgers.{part_from}
 use Rattle.universe_core.specs.Step.{kind_by, parent_by}
 use Rattle.store_core.specs.Chain.{Follows, IsChain}
-use Rattle.publication_core.specs.Histories.{newest_of, GoesOn, IsAdmissible, IsPartOf, release_of, AreAdmissible, IsHistory}
+use Rattle.publication_core.specs.Histories.{newest_of, GoesOn, IsAdmissible, IsPartOf, release_of, AreAdmissible, History, of_jobs, IsHistory}
 use Rattle.publication_core.proofs.PartTexts.{newest_part, part_has_text}
 
 -- ---- the newest release, and its part
@@ -30,10 +29,10 @@ record Matches (r : Release) (s : SealedFields) : Type 0 where
   ranges : r.ranges ≡ s.part.head.ranges
   trailer : r.trailer ≡ s.trailer
 
-release_matches : (rs : List Release) (job : JobFields) (s : SealedFields) → IsPartOf rs (facts_of job) s → Matches (release_of rs (facts_of job) s) s
+release_matches : (rs : List Release) (job : JobIn) (s : SealedFields) → IsPartOf rs job s → Matches (release_of rs job s) s
 release_matches rs job s is = record {
-  epoch = sym (ap (λ (h : HeadFields). h.epoch) is.head);
-  ranges = sym (ap (λ (h : HeadFields). h.ranges) is.head);
+  epoch = sym (ap (λ (h : HeadFields). h.epoch) is.head_is);
+  ranges = sym (ap (λ (h : HeadFields). h.ranges) is.head_is);
   trailer = refl;
 }
 
@@ -49,51 +48,51 @@ later_kind [] r h = absurd cc
 later_kind (q ∷ rs) r h = refl
 
 -- the part of an admissible job follows that of the newest release
-part_follows : (rs : List Release) (r : Release) (job : JobFields) (held given : SealedFields) → newest_of rs ≡ Some r → Matches r held → IsAdmissible rs job
-    → IsPartOf rs (facts_of job) given → Follows held given
+part_follows : (rs : List Release) (r : Release) (job : JobIn) (held given : SealedFields) → newest_of rs ≡ Some r → Matches r held → IsAdmissible rs job
+    → IsPartOf rs job given → Follows held given
 part_follows rs r job held given last same admissible is =
-    let on : GoesOn job r = subst (λ (o : Option Release). IfSome o (GoesOn job)) last admissible.goes_on in
-    let epoch : given.part.head.epoch ≡ job.epoch = ap (λ (h : HeadFields). h.epoch) is.head in
-    let ranges : given.part.head.ranges ≡ job.ranges = ap (λ (h : HeadFields). h.ranges) is.head in
+    let on : GoesOn job.job r = subst (λ (o : Option Release). IfSome o (GoesOn job.job)) last admissible.goes_on in
+    let epoch : given.part.head.epoch ≡ job.job.epoch = ap (λ (h : HeadFields). h.epoch) is.head_is in
+    let ranges : given.part.head.ranges ≡ job.job.ranges = ap (λ (h : HeadFields). h.ranges) is.head_is in
     record {
-      kind = ap (λ (h : HeadFields). h.kind) is.head ∙ later_kind rs r last;
-      parent = ap (λ (h : HeadFields). h.parent) is.head ∙ ap parent_by (newest_part rs ∙ ap (option_map part_from) last) ∙ same.trailer;
+      kind = ap (λ (h : HeadFields). h.kind) is.head_is ∙ later_kind rs r last;
+      parent = ap (λ (h : HeadFields). h.parent) is.head_is ∙ ap parent_by (newest_part rs ∙ ap (option_map part_from) last) ∙ same.trailer;
       epoch = omega (arith, on.epoch, same.epoch, epoch);
       coverage = subst (λ (old : List Range). LiesWithin old given.part.head.ranges) same.ranges (subst (λ (new : List Range). LiesWithin r.ranges new) (sym ranges) on.coverage);
     }
 
-linked_after : (rs : List Release) (r : Release) (held : SealedFields) (jobs : List JobFields) (parts : List SealedFields) → newest_of rs ≡ Some r → Matches r held → AreAdmissible rs jobs parts
+linked_after : (rs : List Release) (r : Release) (held : SealedFields) (jobs : List JobIn) (parts : List SealedFields) → newest_of rs ≡ Some r → Matches r held → AreAdmissible rs jobs parts
     → Linked Follows (λ held given. given) held parts
 linked_after rs r held [] [] last same h = tt
 linked_after rs r held [] (s ∷ parts) last same h = absurd h
 linked_after rs r held (job ∷ jobs) [] last same h = absurd h
 linked_after rs r held (job ∷ jobs) (s ∷ parts) last same h =
-    let made : Release = release_of rs (facts_of job) s in (
+    let made : Release = release_of rs job s in (
       part_follows rs r job held s last same h.0 h.1,
       linked_after (rs ++ made ∷ []) made s jobs parts (newest_pushed rs made) (release_matches rs job s h.1) h.2,
     )
 
-pub history_chain : (jobs : List JobFields) (parts : List SealedFields) → IsHistory jobs parts → IsChain parts
-history_chain [] [] h = tt
-history_chain [] (s ∷ parts) h = absurd h
-history_chain (job ∷ jobs) [] h = absurd h
-history_chain (job ∷ jobs) (s ∷ parts) h =
-    let made : Release = release_of [] (facts_of job) s in
-    (ap (λ (h : HeadFields). h.kind) h.1.head, linked_after (made ∷ []) made s jobs parts refl (release_matches [] job s h.1) h.2)
+pub history_chain : (h : History) (parts : List SealedFields) → IsHistory h parts → IsChain parts
+history_chain (of_jobs []) [] h = tt
+history_chain (of_jobs []) (s ∷ parts) h = absurd h
+history_chain (of_jobs (job ∷ jobs)) [] h = absurd h
+history_chain (of_jobs (job ∷ jobs)) (s ∷ parts) h =
+    let made : Release = release_of [] job s in
+    (ap (λ (h : HeadFields). h.kind) h.1.head_is, linked_after (made ∷ []) made s jobs parts refl (release_matches [] job s h.1) h.2)
 
 -- ---- how many parts there are
 
-few_after : (rs : List Release) (jobs : List JobFields) (parts : List SealedFields) → length rs ≤ 64 → AreAdmissible rs jobs parts → length rs + length parts ≤ 64
+few_after : (rs : List Release) (jobs : List JobIn) (parts : List SealedFields) → length rs ≤ 64 → AreAdmissible rs jobs parts → length rs + length parts ≤ 64
 few_after rs [] [] few h = omega arith
 few_after rs [] (s ∷ parts) few h = absurd h
 few_after rs (job ∷ jobs) [] few h = absurd h
 few_after rs (job ∷ jobs) (s ∷ parts) few h =
     let room = h.0.few_parts in
-    let more = length-append rs (release_of rs (facts_of job) s ∷ []) in
-    omega (arith, room, more, few_after (rs ++ release_of rs (facts_of job) s ∷ []) jobs parts (omega (arith, room, more)) h.2)
+    let more = length-append rs (release_of rs job s ∷ []) in
+    omega (arith, room, more, few_after (rs ++ release_of rs job s ∷ []) jobs parts (omega (arith, room, more)) h.2)
 
-pub history_few : (jobs : List JobFields) (parts : List SealedFields) → IsHistory jobs parts → length parts ≤ 64
-history_few jobs parts h = omega (arith, few_after [] jobs parts (omega arith) h)
+pub history_few : (h : History) (parts : List SealedFields) → IsHistory h parts → length parts ≤ 64
+history_few (of_jobs jobs) parts h = omega (arith, few_after [] jobs parts (omega arith) h)
 
 -- ---- the texts
 
@@ -101,16 +100,16 @@ history_few jobs parts h = omega (arith, few_after [] jobs parts (omega arith) h
 abbrev EndsInDigest : List Release → Type 0
 EndsInDigest rs = IfSome (newest_of rs) (λ r. length r.trailer ≡ 32)
 
-digest_pushed : (rs : List Release) (job : JobFields) (s : SealedFields) → IsPartOf rs (facts_of job) s → EndsInDigest (rs ++ release_of rs (facts_of job) s ∷ [])
+digest_pushed : (rs : List Release) (job : JobIn) (s : SealedFields) → IsPartOf rs job s → EndsInDigest (rs ++ release_of rs job s ∷ [])
 digest_pushed rs job s is =
-    subst (λ (o : Option Release). IfSome o (λ r. length r.trailer ≡ 32)) (sym (newest_pushed rs (release_of rs (facts_of job) s))) (ap length is.trailer ∙ length-sha256 (unsealed_text s.part))
+    subst (λ (o : Option Release). IfSome o (λ r. length r.trailer ≡ 32)) (sym (newest_pushed rs (release_of rs job s))) (ap length is.trailer ∙ length-sha256 (unsealed_text s.part))
 
-texts_after : (rs : List Release) (jobs : List JobFields) (parts : List SealedFields) → EndsInDigest rs → AreAdmissible rs jobs parts → All Fits parts
+texts_after : (rs : List Release) (jobs : List JobIn) (parts : List SealedFields) → EndsInDigest rs → AreAdmissible rs jobs parts → All Fits parts
 texts_after rs [] [] digest h = All-nil Fits
 texts_after rs [] (s ∷ parts) digest h = absurd h
 texts_after rs (job ∷ jobs) [] digest h = absurd h
 texts_after rs (job ∷ jobs) (s ∷ parts) digest h =
-    All-cons Fits s parts (part_has_text rs job s h.0 h.1 digest) (texts_after (rs ++ release_of rs (facts_of job) s ∷ []) jobs parts (digest_pushed rs job s h.1) h.2)
+    All-cons Fits s parts (part_has_text rs job s h.0 h.1 digest) (texts_after (rs ++ release_of rs job s ∷ []) jobs parts (digest_pushed rs job s h.1) h.2)
 
-pub history_texts : (jobs : List JobFields) (parts : List SealedFields) → IsHistory jobs parts → All Fits parts
-history_texts jobs parts h = texts_after [] jobs parts tt h
+pub history_texts : (h : History) (parts : List SealedFields) → IsHistory h parts → All Fits parts
+history_texts (of_jobs jobs) parts h = texts_after [] jobs parts tt h

@@ -1,53 +1,59 @@
 -- Histories with one job more, and the facts that hold after each job.
 use Rattle.std.proofs.Common.{◌≡◌, suc, ◌+◌, List, [], ◌∷◌, ◌++◌, length, Bool, true, false, cond, not, Option, Some, refl, ap, arith}
 use Rattle.std.specs.Prelude.{IsNone, IfSome}
-use Rattle.std.specs.List.{find}
+use Rattle.std.specs.List.{find, AllZip}
 use Rattle.std.specs.Option.{option_map}
 use Rattle.std.proofs.lemmas.Bool.{and_from}
 use Rattle.ident_core.specs.declared.range.Range.{Range}
 use Rattle.ident_core.specs.Coverage.{lies_in_some, first_outside}
 use Rattle.ident_core.proofs.Within.{within-iff}
 use Rattle.part_codec.specs.SealedFields.{SealedFields}
-use Rattle.job_core.specs.JobFields.{JobFields}
-use Rattle.universe_core.specs.Jobs.{facts_of}
+use Rattle.universe_core.specs.Formats.{JobIn}
 use Rattle.universe_core.specs.History.{Release, lie_within}
 use Rattle.history_core.specs.Facts.{KeepsCoverage, IsSound}
 use Rattle.history_core.proofs.Sound.{nothing_sound, keeps_sound}
-use Rattle.publication_core.specs.Histories.{newest_of, GoesOn, IsAdmissible, IsPartOf, release_of, history_after, AreAdmissible, IsHistory, history}
+use Rattle.publication_core.specs.Formats.{facts_in}
+use Rattle.publication_core.specs.Histories.{newest_of, GoesOn, IsAdmissible, IsPartOf, release_of, history_after, AreAdmissible, History, of_jobs, members, with_job, IsHistory, history}
+
+pub zip_push : {A B : Type 0} (R : A → B → Type 0) (xs : List A) (ys : List B) (x : A) (y : B) → AllZip R xs ys → R x y → AllZip R (xs ++ x ∷ []) (ys ++ y ∷ [])
+zip_push R [] [] x y z r = (r, tt)
+zip_push R [] (w ∷ ys) x y z r = absurd z
+zip_push R (v ∷ xs) [] x y z r = absurd z
+zip_push R (v ∷ xs) (w ∷ ys) x y z r = (z.0, zip_push R xs ys x y z.1 r)
 
 -- ---- one job more
 
-pub history_push : (rs : List Release) (jobs : List JobFields) (parts : List SealedFields) (job : JobFields) (s : SealedFields) → AreAdmissible rs jobs parts
-    → history_after rs (jobs ++ job ∷ []) (parts ++ s ∷ []) ≡ history_after rs jobs parts ++ release_of (history_after rs jobs parts) (facts_of job) s ∷ []
+history_push : (rs : List Release) (jobs : List JobIn) (parts : List SealedFields) (job : JobIn) (s : SealedFields) → AreAdmissible rs jobs parts
+    → history_after rs (jobs ++ job ∷ []) (parts ++ s ∷ []) ≡ history_after rs jobs parts ++ release_of (history_after rs jobs parts) job s ∷ []
 history_push rs [] [] job s h = refl
 history_push rs [] (p ∷ parts) job s h = absurd h
 history_push rs (j ∷ jobs) [] job s h = absurd h
-history_push rs (j ∷ jobs) (p ∷ parts) job s h = history_push (rs ++ release_of rs (facts_of j) p ∷ []) jobs parts job s h.2
+history_push rs (j ∷ jobs) (p ∷ parts) job s h = history_push (rs ++ release_of rs j p ∷ []) jobs parts job s h.2
 
-pub admissible_push : (rs : List Release) (jobs : List JobFields) (parts : List SealedFields) (job : JobFields) (s : SealedFields) → AreAdmissible rs jobs parts
-    → IsAdmissible (history_after rs jobs parts) job → IsPartOf (history_after rs jobs parts) (facts_of job) s → AreAdmissible rs (jobs ++ job ∷ []) (parts ++ s ∷ [])
+admissible_push : (rs : List Release) (jobs : List JobIn) (parts : List SealedFields) (job : JobIn) (s : SealedFields) → AreAdmissible rs jobs parts
+    → IsAdmissible (history_after rs jobs parts) job → IsPartOf (history_after rs jobs parts) job s → AreAdmissible rs (jobs ++ job ∷ []) (parts ++ s ∷ [])
 admissible_push rs [] [] job s h a p = (a, p, tt)
 admissible_push rs [] (q ∷ parts) job s h a p = absurd h
 admissible_push rs (j ∷ jobs) [] job s h a p = absurd h
-admissible_push rs (j ∷ jobs) (q ∷ parts) job s h a p = (h.0, h.1, admissible_push (rs ++ release_of rs (facts_of j) q ∷ []) jobs parts job s h.2 a p)
+admissible_push rs (j ∷ jobs) (q ∷ parts) job s h a p = (h.0, h.1, admissible_push (rs ++ release_of rs j q ∷ []) jobs parts job s h.2 a p)
 
 length_more : {A : Type 0} (xs : List A) (x : A) → length (xs ++ x ∷ []) ≡ suc (length xs)
 length_more [] x = refl
 length_more (y ∷ xs) x = ap suc (length_more xs x)
 
-pub history_length : (rs : List Release) (jobs : List JobFields) (parts : List SealedFields) → AreAdmissible rs jobs parts → length (history_after rs jobs parts) ≡ length rs + length jobs
+history_length : (rs : List Release) (jobs : List JobIn) (parts : List SealedFields) → AreAdmissible rs jobs parts → length (history_after rs jobs parts) ≡ length rs + length jobs
 history_length rs [] [] h = omega arith
 history_length rs [] (p ∷ parts) h = absurd h
 history_length rs (j ∷ jobs) [] h = absurd h
 history_length rs (j ∷ jobs) (p ∷ parts) h =
-    let more = length_more rs (release_of rs (facts_of j) p) in
-    omega (arith, more, history_length (rs ++ release_of rs (facts_of j) p ∷ []) jobs parts h.2)
+    let more = length_more rs (release_of rs j p) in
+    omega (arith, more, history_length (rs ++ release_of rs j p ∷ []) jobs parts h.2)
 
-pub parts_length : (rs : List Release) (jobs : List JobFields) (parts : List SealedFields) → AreAdmissible rs jobs parts → length parts ≡ length jobs
+parts_length : (rs : List Release) (jobs : List JobIn) (parts : List SealedFields) → AreAdmissible rs jobs parts → length parts ≡ length jobs
 parts_length rs [] [] h = refl
 parts_length rs [] (p ∷ parts) h = absurd h
 parts_length rs (j ∷ jobs) [] h = absurd h
-parts_length rs (j ∷ jobs) (p ∷ parts) h = ap suc (parts_length (rs ++ release_of rs (facts_of j) p ∷ []) jobs parts h.2)
+parts_length rs (j ∷ jobs) (p ∷ parts) h = ap suc (parts_length (rs ++ release_of rs j p ∷ []) jobs parts h.2)
 
 -- ---- each job goes on from those before it
 
@@ -61,17 +67,39 @@ all_lie new (r ∷ old) h =
     let n = none_outside (lies_in_some new r) r (find (λ (x : Range). not (lies_in_some new x)) old) h in
     and_from (lies_in_some new r) (lie_within old new) n.0 (all_lie new old n.1)
 
-pub follows : (rs : List Release) (job : JobFields) → IfSome (newest_of rs) (GoesOn job) → KeepsCoverage rs (facts_of job)
+follows : (rs : List Release) (job : JobIn) → IfSome (newest_of rs) (GoesOn job.job) → KeepsCoverage rs (facts_in job)
 follows [] job h = tt
-follows (r ∷ []) job h = all_lie job.ranges r.ranges ((within-iff r.ranges job.ranges (first_outside r.ranges job.ranges) refl).1 h.coverage)
+follows (r ∷ []) job h = all_lie job.job.ranges r.ranges ((within-iff r.ranges job.job.ranges (first_outside r.ranges job.job.ranges) refl).1 h.coverage)
 follows (r ∷ q ∷ rs) job h = follows (q ∷ rs) job h
 
-pub after_sound : (rs : List Release) (jobs : List JobFields) (parts : List SealedFields) → IsSound rs → AreAdmissible rs jobs parts → IsSound (history_after rs jobs parts)
+-- The facts hold after each job that may follow.
+pub job_sound : (rs : List Release) (j : JobIn) (s : SealedFields) → IsSound rs → IsAdmissible rs j → IsSound (rs ++ release_of rs j s ∷ [])
+job_sound rs j s sound a = keeps_sound rs (facts_in j) s.trailer sound (follows rs j a.goes_on)
+
+after_sound : (rs : List Release) (jobs : List JobIn) (parts : List SealedFields) → IsSound rs → AreAdmissible rs jobs parts → IsSound (history_after rs jobs parts)
 after_sound rs [] [] sound h = sound
 after_sound rs [] (p ∷ parts) sound h = absurd h
 after_sound rs (j ∷ jobs) [] sound h = absurd h
 after_sound rs (j ∷ jobs) (p ∷ parts) sound h =
-    after_sound (rs ++ release_of rs (facts_of j) p ∷ []) jobs parts (keeps_sound rs (facts_of j) p.trailer sound (follows rs j h.0.goes_on)) h.2
+    after_sound (rs ++ release_of rs j p ∷ []) jobs parts (job_sound rs j p sound h.0) h.2
 
-pub history_sound : (jobs : List JobFields) (parts : List SealedFields) → IsHistory jobs parts → IsSound (history jobs parts)
-history_sound jobs parts h = after_sound [] jobs parts nothing_sound h
+-- The facts hold after each history.
+pub history_sound : (h : History) (parts : List SealedFields) → IsHistory h parts → IsSound (history h parts)
+history_sound (of_jobs jobs) parts is = after_sound [] jobs parts nothing_sound is
+
+-- ---- a history with a job more
+
+pub with_job_leaves : (h : History) (parts : List SealedFields) (j : JobIn) (s : SealedFields) → IsHistory h parts
+    → history (with_job h j) (parts ++ s ∷ []) ≡ history h parts ++ release_of (history h parts) j s ∷ []
+with_job_leaves (of_jobs jobs) parts j s is = history_push [] jobs parts j s is
+
+pub with_job_is : (h : History) (parts : List SealedFields) (j : JobIn) (s : SealedFields) → IsHistory h parts → IsAdmissible (history h parts) j → IsPartOf (history h parts) j s
+    → IsHistory (with_job h j) (parts ++ s ∷ [])
+with_job_is (of_jobs jobs) parts j s is a p = admissible_push [] jobs parts j s is a p
+
+-- a member leaves one release, and publishes one part
+pub members_many : (h : History) (parts : List SealedFields) → IsHistory h parts → length (history h parts) ≡ members h
+members_many (of_jobs jobs) parts is = omega (arith, history_length [] jobs parts is)
+
+pub parts_many : (h : History) (parts : List SealedFields) → IsHistory h parts → length parts ≡ members h
+parts_many (of_jobs jobs) parts is = parts_length [] jobs parts is

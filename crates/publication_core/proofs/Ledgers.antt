@@ -2,7 +2,7 @@
 use Rattle.std.proofs.Common.{◌≡◌, ℕ, ◌≤◌, ⊎_elim, List, [], ◌∷◌, ◌++◌, map, length, true, Option, Some, None, Result, Ok, Err, refl, sym, ap, ◌∙◌, subst, arith}
 use Rattle.std.specs.Prelude.{All, IfSome, not}
 use Rattle.std.specs.List.{list_all}
-use Rattle.std.specs.Option.{option_map, option_or}
+use Rattle.std.specs.Option.{option_or}
 use Rattle.std.proofs.lemmas.List.{length-map}
 use Rattle.std.proofs.lemmas.List.Elements.{All-nil, All-cons, All-append, All-map, All-contains, All-from_recursion}
 use Rattle.sha2.proofs.Facts256.{length-sha256}
@@ -14,7 +14,6 @@ use Rattle.ident_core.specs.declared.range.Range.{Range}
 use Rattle.ident_core.specs.RangeText.{RangeFits, FitsRange}
 use Rattle.crl_core.specs.declared.crl.CrlFault.{CrlFault}
 use Rattle.crl_core.specs.Outcome.{CrlFields}
-use Rattle.log_core.specs.Entries.{EntryFields}
 use Rattle.part_codec.specs.SealedFields.{SealedFields}
 use Rattle.part_codec.specs.PartText.{unsealed_text}
 use Rattle.job_core.specs.declared.bounds.TheConstants.Limits.{PUBLISHED}
@@ -33,7 +32,8 @@ use Rattle.sets_core.specs.Sets.{has, key_set}
 use Rattle.sets_core.proofs.Elements.{Among-filter, Among-map, Among-filter_map, some_item}
 use Rattle.sets_core.proofs.Sets.{Among-from_has, has-from_Among, Among-from_key_set}
 use Rattle.sets_core.proofs.Canonical.{Contains-from_Among, all_from}
-use Rattle.universe_core.specs.Jobs.{Crl, Entry, crl_by, accepted_crl, entry_of, facts_of, is_stale, crls_of, enrolled}
+use Rattle.universe_core.specs.Jobs.{Crl, Entry, crl_by, accepted_crl, facts_of, is_stale, crls_of, enrolled}
+use Rattle.universe_core.specs.Formats.{JobIn}
 use Rattle.universe_core.specs.History.{Release, past_of, accepted_with}
 use Rattle.universe_core.specs.Ledgers.{no_ledger, past_in, next_item, part_after, next_ledger, part_from, ledger_of}
 use Rattle.universe_core.specs.Members.{first_part}
@@ -46,10 +46,10 @@ use Rattle.history_core.specs.Facts.{IsSound}
 use Rattle.history_core.proofs.Accepting.{accepted_cases, shown_entry}
 use Rattle.history_core.proofs.Beginnings.{ledger_of_none}
 use Rattle.history_core.proofs.Ledger as histories
-use Rattle.history_core.proofs.Sound.{nothing_sound, keeps_sound}
-use Rattle.publication_core.specs.Histories.{IsAdmissible, IsPartOf, release_of, history_after, AreAdmissible, IsHistory, history, ledger_bytes}
+use Rattle.history_core.proofs.Sound.{nothing_sound}
+use Rattle.publication_core.specs.Histories.{IsAdmissible, IsPartOf, release_of, history_after, AreAdmissible, History, of_jobs, members, IsHistory, history, ledger_bytes}
 use Rattle.publication_core.proofs.Admitting.{not_refused}
-use Rattle.publication_core.proofs.Histories.{follows, history_length}
+use Rattle.publication_core.proofs.Histories.{job_sound, members_many}
 
 all_among : {A : Type 0} (P : A → Type 0) (xs : List A) (x : A) → All P xs → Among xs x → P x
 all_among P xs x h a = All-contains P xs x h (Contains-from_Among xs x a)
@@ -87,15 +87,10 @@ pub record IdentityFits (x : Identity) : Type 0 where
   pub some_octets : 1 ≤ length x.serial
   pub few_octets : length x.serial ≤ 32
 
-entry_fits : (o : Option EntryFields) (e : Entry) → IfSome o EntryFieldsFit → option_map entry_of o ≡ Some e → IdentityFits e.id
-entry_fits None e fits h = absurd cc
-entry_fits (Some f) e fits h =
-    subst (λ (d : Entry). IdentityFits d.id) (some_item (entry_of f) e h) (record { issuer = fits.issuer; some_octets = fits.some_serial; few_octets = fits.short_serial })
-
 entries_fit : (job : JobFields) (e : Entry) → All (λ o. IfSome o EntryFieldsFit) job.entries → Among (facts_of job).entries (Some e) → IdentityFits e.id
 entries_fit job e fits a =
-    let o = Among-map (option_map entry_of) job.entries (Some e) a in
-    entry_fits o.0 e (all_among (λ (p : Option EntryFields). IfSome p EntryFieldsFit) job.entries o.0 fits o.1) o.2
+    let f : EntryFieldsFit e = all_among (λ (o : Option Entry). IfSome o EntryFieldsFit) job.entries (Some e) fits a in
+    record { issuer = f.issuer; some_octets = f.some_serial; few_octets = f.short_serial }
 
 -- ---- one job more
 
@@ -167,9 +162,10 @@ module _ (l : LedgerFields) (job : JobFields) (kept : FitsBefore l) (fits : Fits
 -- ---- a history's ledger
 
 -- the ledger of releases and of one job more
-step_fits : (rs : List Release) (job : JobFields) (s : SealedFields) → IsSound rs → FitsBefore (ledger_of rs) → IsAdmissible rs job → IsPartOf rs (facts_of job) s
-    → FitsBefore (ledger_of (rs ++ release_of rs (facts_of job) s ∷ []))
-step_fits rs job s sound kept a part =
+step_fits : (rs : List Release) (j : JobIn) (s : SealedFields) → IsSound rs → FitsBefore (ledger_of rs) → IsAdmissible rs j → IsPartOf rs j s
+    → FitsBefore (ledger_of (rs ++ release_of rs j s ∷ []))
+step_fits rs j s sound kept a part =
+    let job : JobFields = j.job in
     let none = not_early (ledger_of rs) job (not_refused rs job sound (record { crls = a.crls; goes_on = a.goes_on; few_parts = a.few_parts; few_identities = a.few_identities })) in
     let same : length (accepted_with (past_in (ledger_of rs)) (facts_of job)) ≡ length (accepted_with (past_of rs) (facts_of job))
     = ap (λ past. length (accepted_with past (facts_of job))) (histories.past_in_ledger rs sound) in
@@ -178,26 +174,28 @@ step_fits rs job s sound kept a part =
     subst FitsBefore (histories.next_is rs sound (facts_of job) s.trailer)
     (fits_before (next_ledger (ledger_of rs) (facts_of job) s.trailer) (next_fits (ledger_of rs) job kept a.fits s.trailer key none a.limits.crls few))
 
-after_fits : (rs : List Release) (jobs : List JobFields) (parts : List SealedFields) → IsSound rs → FitsBefore (ledger_of rs) → AreAdmissible rs jobs parts
+after_fits : (rs : List Release) (jobs : List JobIn) (parts : List SealedFields) → IsSound rs → FitsBefore (ledger_of rs) → AreAdmissible rs jobs parts
     → FitsBefore (ledger_of (history_after rs jobs parts))
 after_fits rs [] [] sound kept h = kept
 after_fits rs [] (s ∷ parts) sound kept h = absurd h
 after_fits rs (job ∷ jobs) [] sound kept h = absurd h
 after_fits rs (job ∷ jobs) (s ∷ parts) sound kept h =
-    after_fits (rs ++ release_of rs (facts_of job) s ∷ []) jobs parts (keeps_sound rs (facts_of job) s.trailer sound (follows rs job h.0.goes_on)) (step_fits rs job s sound kept h.0 h.1) h.2
+    after_fits (rs ++ release_of rs job s ∷ []) jobs parts (job_sound rs job s sound h.0) (step_fits rs job s sound kept h.0 h.1) h.2
 
-parts_many : (rs : List Release) → length (ledger_of rs).parts ≡ length rs
+releases_many : (rs : List Release) → length (ledger_of rs).parts ≡ length rs
 unfolding ledger_of
-parts_many rs = length-map rs part_from
+releases_many rs = length-map rs part_from
 
-module _ (jobs : List JobFields) (parts : List SealedFields) (is : IsHistory jobs parts) (some : 1 ≤ length jobs) where
-  pub history_ledger_fits : Fits (ledger_of (history jobs parts))
+history_fits : (h : History) (parts : List SealedFields) → IsHistory h parts → FitsBefore (ledger_of (history h parts))
+history_fits (of_jobs jobs) parts is = after_fits [] jobs parts nothing_sound (subst FitsBefore (sym ledger_of_none) none_fits) is
+
+module _ (h : History) (parts : List SealedFields) (is : IsHistory h parts) (some : 1 ≤ members h) where
+  pub history_ledger_fits : Fits (ledger_of (history h parts))
   history_ledger_fits =
-      let l : LedgerFields = ledger_of (history jobs parts) in
-      let kept : FitsBefore l = after_fits [] jobs parts nothing_sound (subst FitsBefore (sym ledger_of_none) none_fits) is in
+      let kept : FitsBefore (ledger_of (history h parts)) = history_fits h parts is in
       record {
         facts = record {
-          some_parts = omega (arith, parts_many (history jobs parts), history_length [] jobs parts is, some);
+          some_parts = omega (arith, releases_many (history h parts), members_many h parts is, some);
           few_parts = kept.before.few_parts;
           parts = kept.before.parts;
           few_items = kept.few_items;
@@ -208,8 +206,8 @@ module _ (jobs : List JobFields) (parts : List SealedFields) (is : IsHistory job
         items = kept.items;
       }
 
-  pub history_ledger_read : ledger (ledger_bytes jobs parts) 0 ≡ Ok (ledger_of (history jobs parts), length (ledger_bytes jobs parts))
-  history_ledger_read = ledger-again (ledger_of (history jobs parts)) history_ledger_fits
+  pub history_ledger_read : ledger (ledger_bytes h parts) 0 ≡ Ok (ledger_of (history h parts), length (ledger_bytes h parts))
+  history_ledger_read = ledger-again (ledger_of (history h parts)) history_ledger_fits
 
-  pub history_ledger_value : read_ledger (ledger_bytes jobs parts) ≡ Ok (ledger_of (history jobs parts))
+  pub history_ledger_value : read_ledger (ledger_bytes h parts) ≡ Ok (ledger_of (history h parts))
   history_ledger_value = ap (λ r. value_of (with_fault ledger_faults.Layout r)) history_ledger_read

@@ -2,10 +2,12 @@ pub mod Leaves
 pub mod Histories
 pub mod Admitting
 pub mod Unique
+pub mod Fronts
 pub mod Publications
 pub mod Publishing
 pub mod Shown
 pub mod Verdicts
+pub mod Facts
 pub mod Ledgers
 pub mod PartTexts
 pub mod Chains

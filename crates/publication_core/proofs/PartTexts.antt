@@ -28,6 +28,7 @@ use Rattle.sets_core.proofs.Elements.{Among-filter, Among-map, Among-filter_map,
 use Rattle.sets_core.proofs.Sets.{Among-from_key_set}
 use Rattle.sets_core.proofs.Canonical.{Contains-from_Among}
 use Rattle.universe_core.specs.Jobs.{Crl, accepted_crl, crl_by, crls_of, enrolled, is_stale, facts_of}
+use Rattle.universe_core.specs.Formats.{JobIn}
 use Rattle.universe_core.specs.History.{Release, past_of, released}
 use Rattle.universe_core.specs.Groups.{members_of, group_of, groups}
 use Rattle.universe_core.specs.Ledgers.{part_from}
@@ -104,7 +105,10 @@ blocks_fit r previous (k ∷ ks) (b ∷ blocks) few linked wide are =
 block_after : (previous : Option (List ℕ)) (b : Block) → FitsBlock previous b → is_after previous b.issuer ≡ true
 block_after previous b fits = fits.0
 
-module _ (rs : List Release) (job : JobFields) (s : SealedFields) (admissible : IsAdmissible rs job) (is : IsPartOf rs (facts_of job) s) where
+module _ (rs : List Release) (j : JobIn) (s : SealedFields) (admissible : IsAdmissible rs j) (is : IsPartOf rs j s) where
+  abbrev job : JobFields
+  job = j.job
+
   abbrev made : Release
   made = released (past_of rs) (facts_of job) []
 
@@ -135,7 +139,7 @@ module _ (rs : List Release) (job : JobFields) (s : SealedFields) (admissible : 
         few = blocks_few;
         ascending = Linked-weaken FitsBlock (λ previous b. is_after previous b.issuer ≡ true) (λ previous b. Some b.issuer) block_after None s.part.blocks blocks_linked;
       };
-      head = subst FitsHead (sym is.head) (head_fits rs job admissible.fits digest);
+      head = subst FitsHead (sym is.head_is) (head_fits rs job admissible.fits digest);
       blocks = blocks_linked;
     };
     trailer = is.trailer;

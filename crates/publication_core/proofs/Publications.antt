@@ -11,6 +11,7 @@ use Rattle.job_core.specs.declared.bounds.TheConstants.Limits.{PUBLISHED}
 use Rattle.job_core.specs.JobFields.{JobFields}
 use Rattle.job_core.specs.JobFacts.{FitsPublishing, IsWithinLimits}
 use Rattle.universe_core.specs.Jobs.{facts_of}
+use Rattle.universe_core.specs.Formats.{in_format}
 use Rattle.universe_core.specs.History.{Release, past_of}
 use Rattle.universe_core.specs.Groups.{GroupFields}
 use Rattle.universe_core.specs.Ledgers.{next_ledger, part_from, ledger_of}
@@ -20,9 +21,10 @@ use Rattle.history_core.specs.Facts.{IsSound}
 use Rattle.history_core.proofs.Ledger.{next_is, groups_are, counts_are}
 use Rattle.ledger_core.specs.LedgerFields.{LedgerFields}
 use Rattle.builder_core.specs.Building.{IsGroupBlock, AreGroupBlocks}
-use Rattle.publication_core.specs.Histories.{IsPartOf, IsAdmissible, IsHistory, history}
+use Rattle.publication_core.specs.Formats.{current}
+use Rattle.publication_core.specs.Histories.{IsPartOf, IsAdmissible, History, members, with_job, IsHistory, history}
 use Rattle.publication_core.specs.Publishing.{CanBePublished, Published, IsPublication, Publishes}
-use Rattle.publication_core.proofs.Histories.{history_push, admissible_push, history_length, history_sound}
+use Rattle.publication_core.proofs.Histories.{with_job_leaves, with_job_is, members_many, history_sound}
 use Rattle.publication_core.proofs.Admitting.{admitted, not_refused, parts_many}
 
 heads_same : (rs : List Release) (job : JobFields) → head_after (ledger_of rs).parts (facts_of job) ≡ head_after (map part_from rs) (facts_of job)
@@ -30,9 +32,9 @@ unfolding ledger_of
 heads_same rs job = refl
 
 -- the part that is published is that of the history
-part_of_history : (rs : List Release) (job : JobFields) (p : Published) → IsSound rs → IsPublication (ledger_of rs) job p → IsPartOf rs (facts_of job) p.sealed
+part_of_history : (rs : List Release) (job : JobFields) (p : Published) → IsSound rs → IsPublication (ledger_of rs) job p → IsPartOf rs (in_format current job) p.sealed
 part_of_history rs job p sound is = record {
-  head = is.head ∙ heads_same rs job;
+  head_is = is.head ∙ heads_same rs job;
   blocks = subst (λ (gs : List GroupFields). AreGroupBlocks sha256_row gs p.sealed.part.blocks) (groups_are rs sound (facts_of job) []) is.blocks;
   trailer = is.trailer;
 }
@@ -68,7 +70,8 @@ can_be_published ledger job can =
     admitted_published ledger job can.admitted made.0 made.1
 
 -- a job that is published is admissible
-admissible_then : (rs : List Release) (job : JobFields) (p : Published) → IsSound rs → FitsPublishing job → IsWithinLimits PUBLISHED job → Publishes (ledger_of rs) job (Ok p) → IsAdmissible rs job
+admissible_then : (rs : List Release) (job : JobFields) (p : Published) → IsSound rs → FitsPublishing job → IsWithinLimits PUBLISHED job
+    → Publishes (ledger_of rs) job (Ok p) → IsAdmissible rs (in_format current job)
 admissible_then rs job p sound fits limits x =
     let a = admitted rs job sound x.0 in
     record {
@@ -81,32 +84,33 @@ admissible_then rs job p sound fits limits x =
       blocks = (p.sealed.part.blocks, (part_of_history rs job p sound x.1).blocks);
     }
 
-module _ (jobs : List JobFields) (parts : List SealedFields) (job : JobFields) (is : IsHistory jobs parts) where
-  pub published_admissible : (p : Published) → FitsPublishing job → IsWithinLimits PUBLISHED job → Publishes (ledger_of (history jobs parts)) job (Ok p) → IsAdmissible (history jobs parts) job
-  published_admissible p fits limits x = admissible_then (history jobs parts) job p (history_sound jobs parts is) fits limits x
+module _ (h : History) (parts : List SealedFields) (job : JobFields) (is : IsHistory h parts) where
+  pub published_admissible : (p : Published) → FitsPublishing job → IsWithinLimits PUBLISHED job → Publishes (ledger_of (history h parts)) job (Ok p)
+      → IsAdmissible (history h parts) (in_format current job)
+  published_admissible p fits limits x = admissible_then (history h parts) job p (history_sound h parts is) fits limits x
 
-  pub published_history : (p : Published) → FitsPublishing job → IsWithinLimits PUBLISHED job → Publishes (ledger_of (history jobs parts)) job (Ok p)
-      → IsHistory (jobs ++ job ∷ []) (parts ++ p.sealed ∷ [])
+  pub published_history : (p : Published) → FitsPublishing job → IsWithinLimits PUBLISHED job → Publishes (ledger_of (history h parts)) job (Ok p)
+      → IsHistory (with_job h (in_format current job)) (parts ++ p.sealed ∷ [])
   published_history p fits limits x =
-      admissible_push [] jobs parts job p.sealed is (published_admissible p fits limits x) (part_of_history (history jobs parts) job p (history_sound jobs parts is) x.1)
+      with_job_is h parts (in_format current job) p.sealed is (published_admissible p fits limits x) (part_of_history (history h parts) job p (history_sound h parts is) x.1)
 
-  pub published_ledger : (p : Published) → Publishes (ledger_of (history jobs parts)) job (Ok p) → p.ledger ≡ ledger_of (history (jobs ++ job ∷ []) (parts ++ p.sealed ∷ []))
+  pub published_ledger : (p : Published) → Publishes (ledger_of (history h parts)) job (Ok p) → p.ledger ≡ ledger_of (history (with_job h (in_format current job)) (parts ++ p.sealed ∷ []))
   published_ledger p x =
-      x.1.next ∙ next_is (history jobs parts) (history_sound jobs parts is) (facts_of job) p.sealed.trailer ∙ ap ledger_of (sym (history_push [] jobs parts job p.sealed is))
+      x.1.next ∙ next_is (history h parts) (history_sound h parts is) (facts_of job) p.sealed.trailer ∙ ap ledger_of (sym (with_job_leaves h parts (in_format current job) p.sealed is))
 
-  pub published_counts : (p : Published) → Publishes (ledger_of (history jobs parts)) job (Ok p) → p.counts ≡ counts (past_of (history jobs parts)) (facts_of job)
-  published_counts p x = x.1.counts ∙ counts_are (history jobs parts) (history_sound jobs parts is) (facts_of job)
+  pub published_counts : (p : Published) → Publishes (ledger_of (history h parts)) job (Ok p) → p.counts ≡ counts (past_of (history h parts)) (facts_of job)
+  published_counts p x = x.1.counts ∙ counts_are (history h parts) (history_sound h parts is) (facts_of job)
 
-  pub published_place : (p : Published) → Publishes (ledger_of (history jobs parts)) job (Ok p) → p.place ≡ length jobs
+  pub published_place : (p : Published) → Publishes (ledger_of (history h parts)) job (Ok p) → p.place ≡ members h
   published_place p x =
-      let many = parts_many (history jobs parts) job (history_sound jobs parts is) in
-      omega (arith, x.1.place, many, history_length [] jobs parts is)
+      let many = parts_many (history h parts) job (history_sound h parts is) in
+      omega (arith, x.1.place, many, members_many h parts is)
 
   -- An admissible job is published.
-  pub admissible_published : IsAdmissible (history jobs parts) job → (p : Published) × Publishes (ledger_of (history jobs parts)) job (Ok p)
+  pub admissible_published : IsAdmissible (history h parts) (in_format current job) → (p : Published) × Publishes (ledger_of (history h parts)) job (Ok p)
   admissible_published a =
-      let rs : List Release = history jobs parts in
-      let sound : IsSound rs = history_sound jobs parts is in
+      let rs : List Release = history h parts in
+      let sound : IsSound rs = history_sound h parts is in
       admitted_published (ledger_of rs) job
       (not_refused rs job sound (record { crls = a.crls; goes_on = a.goes_on; few_parts = a.few_parts; few_identities = a.few_identities }))
       a.blocks.0

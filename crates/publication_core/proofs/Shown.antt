@@ -18,7 +18,7 @@ use Rattle.sets_core.specs.Sets.{has, has_key}
 use Rattle.sets_core.proofs.Elements.{Among-in_filter, bool_same}
 use Rattle.sets_core.proofs.Sets.{Among-from_has, bytes_same, bytes_refl}
 use Rattle.sets_core.proofs.Canonical.{Contains-from_Among}
-use Rattle.universe_core.specs.Jobs.{Job}
+use Rattle.universe_core.specs.Formats.{JobIn}
 use Rattle.universe_core.specs.History.{Release}
 use Rattle.universe_core.specs.Groups.{members_of, group_of, groups}
 use Rattle.history_core.specs.Showing.{PartView, Shows}
@@ -93,6 +93,6 @@ blocks_show part r ranges are = record {
   some = λ x h. says r x (has_key r.issuers x.issuer) (block_of x.issuer part.blocks) h (find_block r x.issuer r.issuers part.blocks are);
 }
 
-pub part_shows : (rs : List Release) (job : Job) (s : SealedFields) → IsPartOf rs job s → Shows (shown_by s.part) (release_of rs job s)
+pub part_shows : (rs : List Release) (j : JobIn) (s : SealedFields) → IsPartOf rs j s → Shows (shown_by s.part) (release_of rs j s)
 unfolding groups
-part_shows rs job s is = blocks_show s.part (release_of rs job s) (ap (λ (head : HeadFields). head.ranges) is.head) is.blocks
+part_shows rs j s is = blocks_show s.part (release_of rs j s) (ap (λ (head : HeadFields). head.ranges) is.head_is) is.blocks

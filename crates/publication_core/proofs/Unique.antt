@@ -10,7 +10,8 @@ use Rattle.job_core.specs.declared.bounds.TheConstants.Limits.{PUBLISHED}
 use Rattle.job_core.specs.JobFields.{JobFields}
 use Rattle.ledger_core.specs.LedgerFields.{LedgerFields}
 use Rattle.universe_core.specs.declared.fault.AdmitFault.{AdmitFault}
-use Rattle.universe_core.specs.Jobs.{Job, facts_of}
+use Rattle.universe_core.specs.Jobs.{facts_of}
+use Rattle.universe_core.specs.Formats.{JobIn}
 use Rattle.universe_core.specs.History.{Release}
 use Rattle.universe_core.specs.Groups.{GroupFields}
 use Rattle.universe_core.specs.Ledgers.{next_ledger}
@@ -20,7 +21,8 @@ use Rattle.builder_core.proofs.GroupBlocks.{blocks_unique}
 use Rattle.builder_core.proofs.FirstRefused.{refused_no_blocks, first_refused_once}
 use Rattle.publication_core.specs.declared.fault.PublishFault.{PublishFault}
 use Rattle.publication_core.specs.declared.fault.PublishFault.TheVariants.{Admission, SeedsExhausted, NoMemory}
-use Rattle.publication_core.specs.Histories.{groups_of, IsPartOf, release_of, AreAdmissible, IsHistory}
+use Rattle.publication_core.specs.Formats.{facts_in}
+use Rattle.publication_core.specs.Histories.{groups_of, IsPartOf, release_of, AreAdmissible, History, of_jobs, IsHistory}
 use Rattle.publication_core.specs.Publishing.{Published, IsPublication, Publishes}
 
 -- parts with the same head, blocks of the same groups, and their digests
@@ -31,22 +33,22 @@ sealed_same head gs a b ha hb ba bb ta tb =
     let part : a.part ≡ b.part = λ i. record { head = (ha ∙ sym hb) i; blocks = blocks i } in
     λ i. record { part = part i; trailer = (ta ∙ ap (λ (p : PartFields). sha256 (unsealed_text p)) part ∙ sym tb) i }
 
-pub part_unique : (rs : List Release) (job : Job) (a b : SealedFields) → IsPartOf rs job a → IsPartOf rs job b → a ≡ b
-part_unique rs job a b x y = sealed_same _ (groups_of rs job) a b x.head y.head x.blocks y.blocks x.trailer y.trailer
+pub part_unique : (rs : List Release) (j : JobIn) (a b : SealedFields) → IsPartOf rs j a → IsPartOf rs j b → a ≡ b
+part_unique rs j a b x y = sealed_same _ (groups_of rs (facts_in j)) a b x.head_is y.head_is x.blocks y.blocks x.trailer y.trailer
 
-after_unique : (rs : List Release) (jobs : List JobFields) (a b : List SealedFields) → AreAdmissible rs jobs a → AreAdmissible rs jobs b → a ≡ b
+after_unique : (rs : List Release) (jobs : List JobIn) (a b : List SealedFields) → AreAdmissible rs jobs a → AreAdmissible rs jobs b → a ≡ b
 after_unique rs [] [] [] x y = refl
 after_unique rs [] [] (t ∷ b) x y = absurd y
 after_unique rs [] (s ∷ a) b x y = absurd x
 after_unique rs (j ∷ jobs) [] b x y = absurd x
 after_unique rs (j ∷ jobs) (s ∷ a) [] x y = absurd y
 after_unique rs (j ∷ jobs) (s ∷ a) (t ∷ b) x y =
-    let same : s ≡ t = part_unique rs (facts_of j) s t x.1 y.1 in
-    let rest : a ≡ b = after_unique (rs ++ release_of rs (facts_of j) s ∷ []) jobs a b x.2 (subst (λ z. AreAdmissible (rs ++ release_of rs (facts_of j) z ∷ []) jobs b) (sym same) y.2) in
+    let same : s ≡ t = part_unique rs j s t x.1 y.1 in
+    let rest : a ≡ b = after_unique (rs ++ release_of rs j s ∷ []) jobs a b x.2 (subst (λ z. AreAdmissible (rs ++ release_of rs j z ∷ []) jobs b) (sym same) y.2) in
     λ i. same i ∷ rest i
 
-pub history_unique : (jobs : List JobFields) (a b : List SealedFields) → IsHistory jobs a → IsHistory jobs b → a ≡ b
-history_unique jobs a b x y = after_unique [] jobs a b x y
+pub history_unique : (h : History) (a b : List SealedFields) → IsHistory h a → IsHistory h b → a ≡ b
+history_unique (of_jobs jobs) a b x y = after_unique [] jobs a b x y
 
 -- ---- what comes of a job behind a ledger
 

@@ -9,18 +9,17 @@ use Rattle.equation_core.specs.Rows.{sha256_row}
 use Rattle.card_core.specs.PartFields.{PartFields}
 use Rattle.card_core.specs.Consulting.{consulted, covers_some}
 use Rattle.part_codec.specs.SealedFields.{SealedFields}
-use Rattle.job_core.specs.JobFields.{JobFields}
 use Rattle.sets_core.specs.Among.{Among}
-use Rattle.universe_core.specs.Jobs.{facts_of}
+use Rattle.universe_core.specs.Formats.{JobIn}
 use Rattle.universe_core.specs.History.{Release, seen, sightings}
 use Rattle.history_core.specs.Facts.{IsSound}
 use Rattle.history_core.specs.Showing.{PartView, Shows, answers_of}
 use Rattle.history_core.proofs.Answers.{answers_are_truth}
 use Rattle.store_core.specs.declared.verdict.Verdict.TheVariants.{Good, Revoked}
 use Rattle.store_core.specs.Verdict.{covering, answers, by_answers, by_covering, verdict}
-use Rattle.publication_core.specs.Histories.{release_of, history_after, AreAdmissible, IsHistory, history}
+use Rattle.publication_core.specs.Histories.{release_of, history_after, AreAdmissible, History, of_jobs, IsHistory, history}
 use Rattle.publication_core.specs.Truth.{truth}
-use Rattle.publication_core.proofs.Histories.{history_sound}
+use Rattle.publication_core.proofs.Histories.{zip_push, history_sound}
 use Rattle.publication_core.proofs.Shown.{shown_by, part_shows}
 
 -- ---- the verdict, and the answers of the parts
@@ -49,27 +48,24 @@ verdict_is_truth parts rs x s ss sound shows asked =
 
 -- ---- the parts of a history show what its jobs leave
 
-shows_push : (views : List PartView) (rs : List Release) (v : PartView) (r : Release) → AllZip Shows views rs → Shows v r → AllZip Shows (views ++ v ∷ []) (rs ++ r ∷ [])
-shows_push [] [] v r z s = (s, tt)
-shows_push [] (q ∷ rs) v r z s = absurd z
-shows_push (w ∷ views) [] v r z s = absurd z
-shows_push (w ∷ views) (q ∷ rs) v r z s = (z.0, shows_push views rs v r z.1 s)
-
 -- behind views that show the releases before
-after_shown : (views : List PartView) (rs : List Release) (jobs : List JobFields) (parts : List SealedFields) → AllZip Shows views rs → AreAdmissible rs jobs parts
+after_shown : (views : List PartView) (rs : List Release) (jobs : List JobIn) (parts : List SealedFields) → AllZip Shows views rs → AreAdmissible rs jobs parts
     → AllZip Shows (views ++ map shown_by (map (λ s. s.part) parts)) (history_after rs jobs parts)
 after_shown views rs [] [] z h = rw append-nil z
 after_shown views rs [] (s ∷ parts) z h = absurd h
 after_shown views rs (job ∷ jobs) [] z h = absurd h
 after_shown views rs (job ∷ jobs) (s ∷ parts) z h =
-    let after : List Release = rs ++ release_of rs (facts_of job) s ∷ [] in
-    let pushed : AllZip Shows (views ++ shown_by s.part ∷ []) after = shows_push views rs (shown_by s.part) (release_of rs (facts_of job) s) z (part_shows rs (facts_of job) s h.1) in
+    let after : List Release = rs ++ release_of rs job s ∷ [] in
+    let pushed : AllZip Shows (views ++ shown_by s.part ∷ []) after = zip_push Shows views rs (shown_by s.part) (release_of rs job s) z (part_shows rs job s h.1) in
     subst (λ (vs : List PartView). AllZip Shows vs (history_after after jobs parts)) (append_assoc views (shown_by s.part ∷ []) (map shown_by (map (λ t. t.part) parts)))
     (after_shown (views ++ shown_by s.part ∷ []) after jobs parts pushed h.2)
 
+pub parts_shown : (h : History) (parts : List SealedFields) → IsHistory h parts → AllZip Shows (map shown_by (map (λ t. t.part) parts)) (history h parts)
+parts_shown (of_jobs jobs) parts is = after_shown [] [] jobs parts tt is
+
 -- The parts of a history answer its truth, asked with accepted sightings.
-pub history_verdict : (jobs : List JobFields) (parts : List SealedFields) (x : Identity) (ss : List Sighting) → IsHistory jobs parts → 1 ≤ length ss
-    → ((s : Sighting) → Among ss s → Among (sightings x (seen (history jobs parts))) s) → verdict (map (λ s. s.part) parts) x ss ≡ truth (history jobs parts) x
-history_verdict jobs parts x [] h some asked = absurd (omega arith)
-history_verdict jobs parts x (s ∷ ss) h some asked =
-    verdict_is_truth (map (λ t. t.part) parts) (history jobs parts) x s ss (history_sound jobs parts h) (after_shown [] [] jobs parts tt h) asked
+pub history_verdict : (h : History) (parts : List SealedFields) (x : Identity) (ss : List Sighting) → IsHistory h parts → 1 ≤ length ss
+    → ((s : Sighting) → Among ss s → Among (sightings x (seen (history h parts))) s) → verdict (map (λ s. s.part) parts) x ss ≡ truth (history h parts) x
+history_verdict h parts x [] is some asked = absurd (omega arith)
+history_verdict h parts x (s ∷ ss) is some asked =
+    verdict_is_truth (map (λ t. t.part) parts) (history h parts) x s ss (history_sound h parts is) (parts_shown h parts is) asked

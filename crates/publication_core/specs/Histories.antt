@@ -2,6 +2,7 @@
 use Rattle.std.specs.Prelude.{◌≡◌, ℕ, ◌<◌, ◌≤◌, List, [], ◌∷◌, ◌++◌, map, length, Option, Some, None, All, IfSome, IsOk}
 use Rattle.sha2.specs.Sha256.{sha256}
 use Rattle.ident_core.specs.Coverage.{LiesWithin}
+use Rattle.ident_core.specs.HeadFields.{HeadFields}
 use Rattle.equation_core.specs.Rows.{sha256_row}
 use Rattle.card_core.specs.declared.block.Block.{Block}
 use Rattle.part_codec.specs.SealedFields.{SealedFields}
@@ -11,26 +12,31 @@ use Rattle.job_core.specs.JobFields.{JobFields}
 use Rattle.job_core.specs.JobFacts.{FitsPublishing, IsWithinLimits}
 use Rattle.ident_core.specs.declared.bounds.TheConstants.{MAX_PARTS}
 use Rattle.ledger_core.specs.LedgerText.{ledger_text}
-use Rattle.universe_core.specs.Jobs.{Job, facts_of}
+use Rattle.universe_core.specs.Jobs.{Job}
+use Rattle.universe_core.specs.Formats.{JobFormat, JobIn, in_format}
 use Rattle.universe_core.specs.History.{Release, past_of, released, accepted_with}
 use Rattle.universe_core.specs.Groups.{GroupFields, groups}
 use Rattle.universe_core.specs.Ledgers.{part_from, ledger_of}
 use Rattle.universe_core.specs.Step.{head_after}
 use Rattle.builder_core.specs.Building.{AreGroupBlocks}
 use Rattle.store_core.specs.StoreLayout.{store_text}
+use Rattle.publication_core.specs.Formats.{current, facts_in}
 
 -- ---- one job
+
+-- A part with this head, a block for each of the groups in the format, by rows of SHA-256, and its digest.
+pub record IsSealedPart (format : JobFormat) (head : HeadFields) (groups : List GroupFields) (s : SealedFields) : Type 0 where
+  pub head_is : s.part.head ≡ head
+  pub blocks : AreGroupBlocks sha256_row groups s.part.blocks
+  pub trailer : s.trailer ≡ sha256 (unsealed_text s.part)
 
 -- what a job's blocks are built of, behind these releases
 abbrev pub groups_of : List Release → Job → List GroupFields
 groups_of rs job = groups (released (past_of rs) job [])
 
--- The part of a job behind these releases: its head, the block of each enrolled issuer by rows of SHA-256, and the
--- digest.
-pub record IsPartOf (rs : List Release) (job : Job) (s : SealedFields) : Type 0 where
-  pub head : s.part.head ≡ head_after (map part_from rs) job
-  pub blocks : AreGroupBlocks sha256_row (groups_of rs job) s.part.blocks
-  pub trailer : s.trailer ≡ sha256 (unsealed_text s.part)
+-- the part of a job behind these releases: a block for each enrolled issuer
+abbrev pub IsPartOf : List Release → JobIn → SealedFields → Type 0
+IsPartOf rs j s = IsSealedPart j.format (head_after (map part_from rs) (facts_in j)) (groups_of rs (facts_in j)) s
 
 -- the newest of these releases
 abbrev pub newest_of : List Release → Option Release
@@ -44,43 +50,69 @@ pub record GoesOn (job : JobFields) (r : Release) : Type 0 where
   pub coverage : LiesWithin r.ranges job.ranges
 
 -- The job may follow these releases.
-pub record IsAdmissible (rs : List Release) (job : JobFields) : Type 0 where
-  pub fits : FitsPublishing job
-  pub limits : IsWithinLimits PUBLISHED job
-  pub crls : All (λ c. IsOk c.outcome) job.crls
-  pub goes_on : IfSome (newest_of rs) (GoesOn job)
+pub record IsAdmissible (rs : List Release) (j : JobIn) : Type 0 where
+  pub fits : FitsPublishing j.job
+  pub limits : IsWithinLimits PUBLISHED j.job
+  pub crls : All (λ c. IsOk c.outcome) j.job.crls
+  pub goes_on : IfSome (newest_of rs) (GoesOn j.job)
   pub few_parts : length rs < MAX_PARTS
-  pub few_identities : length (accepted_with (past_of rs) (facts_of job)) ≤ PUBLISHED.identities
+  pub few_identities : length (accepted_with (past_of rs) (facts_in j)) ≤ PUBLISHED.identities
   -- each enrolled issuer has a block
-  pub blocks : (blocks : List Block) × AreGroupBlocks sha256_row (groups_of rs (facts_of job)) blocks
+  pub blocks : (blocks : List Block) × AreGroupBlocks sha256_row (groups_of rs (facts_in j)) blocks
+
+-- what a job with this part leaves
+abbrev pub release_of : List Release → JobIn → SealedFields → Release
+release_of rs j s = released (past_of rs) (facts_in j) s.trailer
+
+-- ---- jobs behind releases
+
+-- these releases, and then what the jobs with these parts leave
+abbrev pub history_after : List Release → List JobIn → List SealedFields → List Release
+history_after rs [] parts = rs
+history_after rs (j ∷ jobs) [] = rs
+history_after rs (j ∷ jobs) (s ∷ parts) = history_after (rs ++ release_of rs j s ∷ []) jobs parts
+
+-- each of the jobs may follow those before it, and these are their parts
+abbrev pub AreAdmissible : List Release → List JobIn → List SealedFields → Type 0
+AreAdmissible rs [] [] = Unit {0}
+AreAdmissible rs [] (s ∷ parts) = ⊥
+AreAdmissible rs (j ∷ jobs) [] = ⊥
+AreAdmissible rs (j ∷ jobs) (s ∷ parts) = IsAdmissible rs j × IsPartOf rs j s × AreAdmissible (rs ++ release_of rs j s ∷ []) jobs parts
 
 -- ---- histories
 
--- what a job with this part leaves
-abbrev pub release_of : List Release → Job → SealedFields → Release
-release_of rs job s = released (past_of rs) job s.trailer
+-- a history: the jobs from the first on
+pub data History : Type 0 where
+  of_jobs : List JobIn → History
 
--- these releases, and then what the jobs with these parts leave
-abbrev pub history_after : List Release → List JobFields → List SealedFields → List Release
-history_after rs [] parts = rs
-history_after rs (job ∷ jobs) [] = rs
-history_after rs (job ∷ jobs) (s ∷ parts) = history_after (rs ++ release_of rs (facts_of job) s ∷ []) jobs parts
+-- its jobs, in order
+abbrev pub jobs_of : History → List JobIn
+jobs_of (of_jobs jobs) = jobs
 
--- each of the jobs may follow those before it, and these are their parts
-abbrev pub AreAdmissible : List Release → List JobFields → List SealedFields → Type 0
-AreAdmissible rs [] [] = Unit {0}
-AreAdmissible rs [] (s ∷ parts) = ⊥
-AreAdmissible rs (job ∷ jobs) [] = ⊥
-AreAdmissible rs (job ∷ jobs) (s ∷ parts) = IsAdmissible rs job × IsPartOf rs (facts_of job) s
-    × AreAdmissible (rs ++ release_of rs (facts_of job) s ∷ []) jobs parts
+-- how many members it has
+abbrev pub members : History → ℕ
+members (of_jobs jobs) = length jobs
 
--- a history of admitted jobs, and the parts that it publishes
-abbrev pub IsHistory : List JobFields → List SealedFields → Type 0
-IsHistory jobs parts = AreAdmissible [] jobs parts
+-- with a job more
+abbrev pub with_job : History → JobIn → History
+with_job (of_jobs jobs) j = of_jobs (jobs ++ j ∷ [])
 
--- what the jobs of a history leave
-abbrev pub history : List JobFields → List SealedFields → List Release
-history jobs parts = history_after [] jobs parts
+-- with more jobs, in order
+abbrev pub with_jobs : History → List JobIn → History
+with_jobs h [] = h
+with_jobs h (j ∷ jobs) = with_jobs (with_job h j) jobs
+
+-- the history of these jobs, each taken in the current format
+abbrev pub chain : List JobFields → History
+chain jobs = with_jobs (of_jobs []) (map (in_format current) jobs)
+
+-- what the jobs of a history with these parts leave
+abbrev pub history : History → List SealedFields → List Release
+history (of_jobs jobs) parts = history_after [] jobs parts
+
+-- each job of the history may follow those before it, and these are the parts that they publish
+abbrev pub IsHistory : History → List SealedFields → Type 0
+IsHistory (of_jobs jobs) parts = AreAdmissible [] jobs parts
 
 -- ---- bytes
 
@@ -90,5 +122,5 @@ part_bytes s = spelling s
 abbrev pub store_bytes : List SealedFields → List ℕ
 store_bytes parts = store_text parts
 
-abbrev pub ledger_bytes : List JobFields → List SealedFields → List ℕ
-ledger_bytes jobs parts = ledger_text (ledger_of (history jobs parts))
+abbrev pub ledger_bytes : History → List SealedFields → List ℕ
+ledger_bytes h parts = ledger_text (ledger_of (history h parts))

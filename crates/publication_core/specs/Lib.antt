@@ -1,3 +1,4 @@
+pub mod Formats
 pub mod Histories
 pub mod Publishing
 pub mod Faults

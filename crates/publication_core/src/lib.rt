@@ -7,6 +7,7 @@ mod laws;
 mod ledger_laws;
 mod publication;
 mod publish;
+mod sound_laws;
 mod verdict_laws;
 
 pub use builder_core::{Gate, Open};
@@ -16,4 +17,5 @@ pub use laws::{histories_are_published, publications_are_unique, what_can_be_is_
 pub use ledger_laws::ledgers_are_read_back;
 pub use publication::Publication;
 pub use publish::{publish_after, publish_first};
+pub use sound_laws::histories_are_sound;
 pub use verdict_laws::verdicts_are_the_truth;

@@ -4,17 +4,16 @@ ghost use Rattle.std.specs.Prelude.{◌≡◌, ◌≤◌, List, length, map};
 ghost use Rattle.ident_core.specs.declared.identity.Identity.{Identity};
 ghost use Rattle.ident_core.specs.declared.range.Sighting.{Sighting};
 ghost use Rattle.part_codec.specs.SealedFields.{SealedFields};
-ghost use Rattle.job_core.specs.JobFields.{JobFields};
 ghost use Rattle.sets_core.specs.Among.{Among};
 ghost use Rattle.universe_core.specs.History.{seen, sightings};
 ghost use Rattle.store_core.specs.Verdict.{verdict};
-ghost use Rattle.publication_core.specs.Histories.{IsHistory, history};
+ghost use Rattle.publication_core.specs.Histories.{History, IsHistory, history};
 ghost use Rattle.publication_core.specs.Truth.{truth};
 
 /// The verdict of the parts of a history is the truth of the history, asked with one or more accepted sightings of the
 /// certificate.
 pub fn verdicts_are_the_truth()
-    ensures { (jobs : List JobFields) (parts : List SealedFields) (x : Identity) (ss : List Sighting) → IsHistory jobs parts → 1 ≤ length ss
-        → ((s : Sighting) → Among ss s → Among (sightings x (seen (history jobs parts))) s)
-        → verdict (map (λ s. s.part) parts) x ss ≡ truth (history jobs parts) x }
+    ensures { (h : History) (parts : List SealedFields) (x : Identity) (ss : List Sighting) → IsHistory h parts → 1 ≤ length ss
+        → ((s : Sighting) → Among ss s → Among (sightings x (seen (history h parts))) s)
+        → verdict (map (λ s. s.part) parts) x ss ≡ truth (history h parts) x }
 {}

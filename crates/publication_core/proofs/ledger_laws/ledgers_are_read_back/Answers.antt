@@ -3,7 +3,7 @@ use Rattle.publication_core.proofs.ledger_laws.ledgers_are_read_back.Goals as go
 
 pub returns : goal.returns
 returns c = record {
-  fits = λ jobs parts is some. history_ledger_fits jobs parts is some;
-  read = λ jobs parts is some. history_ledger_read jobs parts is some;
-  value = λ jobs parts is some. history_ledger_value jobs parts is some;
+  fits = λ h parts is some. history_ledger_fits h parts is some;
+  read = λ h parts is some. history_ledger_read h parts is some;
+  value = λ h parts is some. history_ledger_value h parts is some;
 }

@@ -1,0 +1,31 @@
+-- A job of a history is admissible behind the members before it.
+use Rattle.std.proofs.Common.{List, [], ◌∷◌, ◌++◌, subst}
+use Rattle.part_codec.specs.SealedFields.{SealedFields}
+use Rattle.universe_core.specs.Formats.{JobIn}
+use Rattle.universe_core.specs.History.{Release}
+use Rattle.publication_core.specs.Histories.{IsAdmissible, release_of, history_after, AreAdmissible, History, of_jobs, with_job, with_jobs, IsHistory, history}
+use Rattle.publication_core.proofs.Unique.{history_unique}
+
+peel_after : (rs : List Release) (jobs : List JobIn) (j : JobIn) (all : List SealedFields) → AreAdmissible rs (jobs ++ j ∷ []) all
+    → (parts : List SealedFields) × AreAdmissible rs jobs parts × IsAdmissible (history_after rs jobs parts) j
+peel_after rs [] j [] h = absurd h
+peel_after rs [] j (s ∷ []) h = ([], tt, h.0)
+peel_after rs [] j (s ∷ t ∷ all) h = absurd h.2
+peel_after rs (k ∷ jobs) j [] h = absurd h
+peel_after rs (k ∷ jobs) j (s ∷ all) h = let r = peel_after (rs ++ release_of rs k s ∷ []) jobs j all h.2 in (s ∷ r.0, (h.0, h.1, r.1), r.2)
+
+peel : (h : History) (j : JobIn) (all : List SealedFields) → IsHistory (with_job h j) all → (parts : List SealedFields) × IsHistory h parts × IsAdmissible (history h parts) j
+peel (of_jobs jobs) j all is = peel_after [] jobs j all is
+
+front : (others : List JobIn) (h : History) (all : List SealedFields) → IsHistory (with_jobs h others) all → (parts : List SealedFields) × IsHistory h parts
+front [] h all is = (all, is)
+front (o ∷ others) h all is =
+    let r = front others (with_job h o) all is in
+    let q = peel h o r.0 r.1 in (q.0, q.1)
+
+pub admissible_front : (h : History) (j : JobIn) (others : List JobIn) (parts all : List SealedFields) → IsHistory h parts → IsHistory (with_jobs h (j ∷ others)) all
+    → IsAdmissible (history h parts) j
+admissible_front h j others parts all is is_all =
+    let r = front others (with_job h j) all is_all in
+    let q = peel h j r.0 r.1 in
+    subst (λ (ps : List SealedFields). IsAdmissible (history h ps) j) (history_unique h q.0 parts q.1 is) q.2

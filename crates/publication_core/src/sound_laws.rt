@@ -1,0 +1,46 @@
+//! What holds of every history: what it has accepted, which part is the last of an identity, and what is listed.
+
+ghost use Rattle.std.specs.Prelude.{◌≡◌, ◌++◌, ◌∷◌, ◌&&◌, [], ℕ, List, Some, true, is_some, drop};
+ghost use Rattle.std.specs.List.{list_any, slice_get};
+ghost use Rattle.ident_core.specs.declared.identity.Identity.{Identity};
+ghost use Rattle.ident_core.specs.declared.range.Sighting.{Sighting};
+ghost use Rattle.ident_core.specs.Coverage.{covers};
+ghost use Rattle.part_codec.specs.SealedFields.{SealedFields};
+ghost use Rattle.sets_core.specs.Among.{Among};
+ghost use Rattle.sets_core.specs.Sets.{has, has_key};
+ghost use Rattle.universe_core.specs.Jobs.{Entry, enrolled, lists};
+ghost use Rattle.universe_core.specs.Formats.{JobIn};
+ghost use Rattle.universe_core.specs.History.{Release, seen, sightings, birth, is_listed};
+ghost use Rattle.universe_core.specs.Ledgers.{last};
+ghost use Rattle.history_core.specs.Facts.{IsSound};
+ghost use Rattle.publication_core.specs.Formats.{facts_in};
+ghost use Rattle.publication_core.specs.Histories.{IsAdmissible, release_of, History, of_jobs, jobs_of, IsHistory, history};
+
+/// Every history is sound: it is so before the first job (`begun`), and each job that may follow keeps it, from any
+/// state in which it is so (`kept`). So in each history:
+///
+/// - the last part of an identity, which the ledger keeps, covers all its accepted sightings (`last_covers`), and there
+///   is one exactly for the listed (`last_listed`);
+/// - each accepted sighting so far is covered by a job that enrolls the issuer (`covered`);
+/// - where a job covers one and enrolls its issuer, the identity was accepted by then (`timely`);
+/// - listed is what some job from the identity's birth on lists, and enrolls the issuer of (`listed`).
+pub fn histories_are_sound()
+    ensures begun { IsSound (history (of_jobs []) []) }
+    ensures kept { (rs : List Release) (j : JobIn) (s : SealedFields) → IsSound rs → IsAdmissible rs j
+        → IsSound (rs ++ release_of rs j s ∷ []) }
+    ensures sound { (h : History) (parts : List SealedFields) → IsHistory h parts → IsSound (history h parts) }
+    ensures last_covers { (h : History) (parts : List SealedFields) (x : Identity) (k : ℕ) → IsHistory h parts
+        → last x (history h parts) ≡ Some k → (s : SealedFields) × (slice_get parts k ≡ Some s)
+        × ((t : Sighting) → Among (sightings x (seen (history h parts))) t → covers s.part.head.ranges t ≡ true) }
+    ensures last_listed { (h : History) (parts : List SealedFields) (x : Identity) → IsHistory h parts
+        → is_some (last x (history h parts)) ≡ is_listed (history h parts) x }
+    ensures covered { (h : History) (parts : List SealedFields) (e : Entry) → IsHistory h parts → Among (seen (history h parts)) e
+        → (r : Release) × Among (history h parts) r × (covers r.ranges e.sighting ≡ true) × (has_key r.issuers e.id.issuer ≡ true) }
+    ensures timely { (h : History) (parts : List SealedFields) (e : Entry) (r : Release) → IsHistory h parts
+        → Among (seen (history h parts)) e → Among (history h parts) r → covers r.ranges e.sighting ≡ true
+        → has_key r.issuers e.id.issuer ≡ true → has r.accepted e.id ≡ true }
+    ensures listed { (h : History) (parts : List SealedFields) (x : Identity) → IsHistory h parts
+        → is_listed (history h parts) x
+        ≡ list_any (λ j. lists (facts_in j) x && has_key (enrolled (facts_in j)) x.issuer)
+        (drop (birth x (history h parts)) (jobs_of h)) }
+{}
