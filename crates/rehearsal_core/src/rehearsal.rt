@@ -1,11 +1,11 @@
 //! A publisher and a client in one: each job is admitted, built and installed behind those before it.
 
-ghost use Rattle.std.specs.Prelude.{◌≡◌, ◌≢◌, ◌≤◌, List, [], Err, IfOk, IfErr, IfSome, IsNone};
+ghost use Rattle.std.specs.Prelude.{◌≡◌, ◌≢◌, ◌≤◌, [], Err, IfOk, IfErr, IfSome, IsNone};
 ghost use Rattle.ident_core.specs.declared.bounds.TheConstants.{MAX_WORKERS};
-ghost use Rattle.job_core.specs.JobFields.{JobFields, fields_of_job};
+ghost use Rattle.job_core.specs.JobFields.{fields_of_job};
 ghost use Rattle.job_core.specs.JobFacts.{FitsPublishing, IsWithinLimits};
 ghost use Rattle.universe_core.specs.Ledgers.{no_ledger, ledger_of};
-ghost use Rattle.publication_core.specs.Histories.{history};
+ghost use Rattle.publication_core.specs.Histories.{History, of_jobs, history};
 ghost use Rattle.publication_core.specs.Publishing.{Publishes};
 ghost use Rattle.rehearsal_core.specs.Rehearsing.{of_none, Adds, IsOf};
 
@@ -37,15 +37,14 @@ pub struct Rehearsal {
 }
 
 impl Model for Rehearsal {
-    ghost use Rattle.std.specs.Prelude.{List};
-    ghost use Rattle.job_core.specs.JobFields.{JobFields};
+    ghost use Rattle.publication_core.specs.Histories.{History};
     ghost use Rattle.rehearsal_core.specs.Rehearsing.{RehearsalFields, IsOf, fields_of};
 
     ghost Value = { RehearsalFields };
 
     ghost view = { λ r. fields_of r.published };
 
-    ghost invariant = { λ r. (jobs : List JobFields) × IsOf jobs (fields_of r.published) };
+    ghost invariant = { λ r. (h : History) × IsOf h (fields_of r.published) };
 }
 
 fn report_on(publication: &Publication) -> Report
@@ -62,7 +61,7 @@ impl Rehearsal {
     /// The rehearsal of no job.
     pub fn new() -> Rehearsal
         ensures value { result ≡ of_none }
-        ensures is_of { IsOf [] result }
+        ensures is_of { IsOf (of_jobs []) result }
     {
         histories_are_published();
         Rehearsal { published: None }
@@ -80,7 +79,7 @@ impl Rehearsal {
         requires within { IsWithinLimits Limits.PUBLISHED (fields_of_job job) }
         requires some_workers { 1 ≤ workers }
         requires few_workers { workers ≤ MAX_WORKERS }
-        ensures added { IfOk result (λ x. (jobs : List JobFields) → IsOf jobs of_none → Adds jobs of_none (fields_of_job job) x.0 x.1) }
+        ensures added { IfOk result (λ x. (h : History) → IsOf h of_none → Adds h of_none (fields_of_job job) x.0 x.1) }
         ensures refused { IfErr result (λ e. e ≢ PublishFault.NoMemory → Publishes no_ledger (fields_of_job job) (Err e)) }
     {
         histories_are_published();
@@ -111,14 +110,14 @@ impl Rehearsal {
         job: Job,
         workers: u32,
     ) -> Result<(Rehearsal, Report), PublishFault>
-        requires held { (jobs : List JobFields) × IsOf jobs (record { parts = store; ledger = ledger }) }
+        requires held { (h : History) × IsOf h (record { parts = store; ledger = ledger }) }
         requires fits { FitsPublishing (fields_of_job job) }
         requires within { IsWithinLimits Limits.PUBLISHED (fields_of_job job) }
         requires some_workers { 1 ≤ workers }
         requires few_workers { workers ≤ MAX_WORKERS }
-        ensures added { IfOk result (λ x. (jobs : List JobFields)
-            → IsOf jobs (record { parts = store; ledger = ledger })
-            → Adds jobs (record { parts = store; ledger = ledger }) (fields_of_job job) x.0 x.1) }
+        ensures added { IfOk result (λ x. (h : History)
+            → IsOf h (record { parts = store; ledger = ledger })
+            → Adds h (record { parts = store; ledger = ledger }) (fields_of_job job) x.0 x.1) }
         ensures refused { IfErr result (λ e. e ≢ PublishFault.NoMemory → Publishes ledger (fields_of_job job) (Err e)) }
     {
         histories_are_published();
@@ -153,9 +152,9 @@ impl Rehearsal {
         requires within { IsWithinLimits Limits.PUBLISHED (fields_of_job job) }
         requires some_workers { 1 ≤ workers }
         requires few_workers { workers ≤ MAX_WORKERS }
-        ensures added { IfOk result (λ x. (jobs : List JobFields) → IsOf jobs self → Adds jobs self (fields_of_job job) x.0 x.1) }
-        ensures refused { IfErr result (λ e. (jobs : List JobFields) → IsOf jobs self → e ≢ PublishFault.NoMemory
-            → Publishes (ledger_of (history jobs self.parts)) (fields_of_job job) (Err e)) }
+        ensures added { IfOk result (λ x. (h : History) → IsOf h self → Adds h self (fields_of_job job) x.0 x.1) }
+        ensures refused { IfErr result (λ e. (h : History) → IsOf h self → e ≢ PublishFault.NoMemory
+            → Publishes (ledger_of (history h self.parts)) (fields_of_job job) (Err e)) }
     {
         match self.published {
             None => Rehearsal::begun(rt, alloc, gate, job, workers),

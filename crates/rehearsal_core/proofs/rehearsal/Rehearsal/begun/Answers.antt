@@ -1,5 +1,8 @@
 use Rattle.std.proofs.Common.{◌∷◌, []}
 use Rattle.job_core.specs.JobFields.{fields_of_job}
+use Rattle.universe_core.specs.Formats.{in_format}
+use Rattle.publication_core.specs.Formats.{current}
+use Rattle.publication_core.specs.Histories.{of_jobs}
 use Rattle.rehearsal_core.specs.Rehearsing.{of_none}
 use Rattle.rehearsal_core.proofs.Adding.{Layers, none_is, after_is, adds}
 use Rattle.rehearsal_core.proofs.rehearsal.Rehearsal.begun.Goals as goal
@@ -17,8 +20,8 @@ invariant_of-result g c =
       grown = c.chains_grow.ensures.only;
     } in
     rw (c.in-Ok.ensures.store, c.into_sealed_and_ledger-sealed.ensures) (
-      fields_of_job c.args.job ∷ [],
-      after_is layers [] of_none (fields_of_job c.args.job) c.in_ok-publication.publication (none_is layers) c.requires.fits c.requires.within c.in_ok-publication.ensures,
+      of_jobs (in_format current (fields_of_job c.args.job) ∷ []),
+      after_is layers (of_jobs []) of_none (fields_of_job c.args.job) c.in_ok-publication.publication (none_is layers) c.requires.fits c.requires.within c.in_ok-publication.ensures,
     )
 
 pub returns-in-Ok-clause-added : goal.returns-in-Ok-clause-added
@@ -33,6 +36,6 @@ returns-in-Ok-clause-added g c =
       few = c.parts_are_chains.ensures.few;
       grown = c.chains_grow.ensures.only;
     } in
-    λ jobs of.
+    λ h of.
     rw (c.in-Ok.ensures.store, c.into_sealed_and_ledger-sealed.ensures, c.report_on-report.ensures)
-    (adds layers jobs of_none (fields_of_job c.args.job) c.in_ok-publication.publication of c.requires.fits c.requires.within c.in_ok-publication.ensures)
+    (adds layers h of_none (fields_of_job c.args.job) c.in_ok-publication.publication of c.requires.fits c.requires.within c.in_ok-publication.ensures)

@@ -1,5 +1,7 @@
-use Rattle.std.proofs.Common.{◌∷◌, ◌++◌, []}
 use Rattle.job_core.specs.JobFields.{fields_of_job}
+use Rattle.universe_core.specs.Formats.{in_format}
+use Rattle.publication_core.specs.Formats.{current}
+use Rattle.publication_core.specs.Histories.{with_job}
 use Rattle.rehearsal_core.proofs.Adding.{Layers, after_is, adds, taken, not_refused}
 use Rattle.rehearsal_core.proofs.rehearsal.Rehearsal.followed.Goals as goal
 
@@ -16,7 +18,7 @@ invariant_of-result g c =
       grown = c.chains_grow.ensures.only;
     } in
     rw (c.in-Ok.ensures.added, c.into_sealed_and_ledger-sealed.ensures) (
-      c.requires.held.0 ++ fields_of_job c.args.job ∷ [],
+      with_job c.requires.held.0 (in_format current (fields_of_job c.args.job)),
       after_is layers c.requires.held.0 (record { parts = c.args.store; ledger = c.args.ledger }) (fields_of_job c.args.job) c.in_ok-publication.publication
           c.requires.held.1 c.requires.fits c.requires.within c.in_ok-publication.ensures,
     )
@@ -49,7 +51,7 @@ returns-clause-added g c =
       few = c.parts_are_chains.ensures.few;
       grown = c.chains_grow.ensures.only;
     } in
-    λ jobs of.
+    λ h of.
     rw (c.in-Ok.ensures.added, c.into_sealed_and_ledger-sealed.ensures, c.report_on-report.ensures)
-    (adds layers jobs (record { parts = c.args.store; ledger = c.args.ledger }) (fields_of_job c.args.job) c.in_ok-publication.publication of c.requires.fits
+    (adds layers h (record { parts = c.args.store; ledger = c.args.ledger }) (fields_of_job c.args.job) c.in_ok-publication.publication of c.requires.fits
     c.requires.within c.in_ok-publication.ensures)
