@@ -9,8 +9,8 @@ use Rattle.sct_core.specs.declared.fault.CertFault.TheVariants.{Malformed}
 use Rattle.sct_core.specs.Outcome.{sightings_of}
 use Rattle.part_codec.specs.SealedFields.{SealedFields}
 use Rattle.store_core.specs.StoreLayout.{store}
-use Rattle.store_core.specs.Verdict.{verdict}
-use Rattle.store_core.specs.declared.verdict.Verdict.{Verdict}
+use Rattle.card_core.specs.Verdict.{verdict}
+use Rattle.card_core.specs.declared.verdict.Verdict.{Verdict}
 use Rattle.lending_core.specs.declared.fault.LentFault.{LentFault}
 use Rattle.lending_core.specs.declared.fault.LentFault.TheVariants as faults
 use Rattle.lending_core.specs.declared.lent.LentQuery.{LentQuery}

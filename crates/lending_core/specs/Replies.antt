@@ -9,8 +9,8 @@ use Rattle.part_codec.specs.SealedFields.{SealedFields}
 use Rattle.store_core.specs.Chain.{newest_of}
 use Rattle.store_core.specs.declared.chain.Refusal.{Refusal}
 use Rattle.store_core.specs.declared.chain.Refusal.TheVariants as refusals
-use Rattle.store_core.specs.declared.verdict.Verdict.{Verdict}
-use Rattle.store_core.specs.declared.verdict.Verdict.TheVariants as verdicts
+use Rattle.card_core.specs.declared.verdict.Verdict.{Verdict}
+use Rattle.card_core.specs.declared.verdict.Verdict.TheVariants as verdicts
 use Rattle.lending_core.specs.declared.fault.LentFault.{LentFault}
 use Rattle.lending_core.specs.declared.fault.LentFault.TheVariants as faults
 use Rattle.lending_core.specs.declared.lent.LentQuery.{LentQuery}

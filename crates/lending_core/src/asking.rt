@@ -2,7 +2,7 @@
 
 ghost use Rattle.std.specs.Prelude.{◌≡◌, ◌<◌, map, Ok, IfOk};
 ghost use Rattle.octets_core.specs.Reading.{GivesUnless};
-ghost use Rattle.store_core.specs.Verdict.{verdict as verdict_of};
+ghost use Rattle.card_core.specs.Verdict.{verdict as verdict_of};
 ghost use Rattle.lending_core.specs.Lent.{sighting_of};
 ghost use Rattle.lending_core.specs.Asking.{store_of, issuer_of, query_gives, query_cert_gives, each_says};
 ghost use Rattle.lending_core.specs.Replies.{answer_of, verdict_number, with_number};

@@ -15,8 +15,8 @@ use Rattle.universe_core.specs.History.{Release, seen, sightings}
 use Rattle.history_core.specs.Facts.{IsSound}
 use Rattle.history_core.specs.Showing.{PartView, Shows, answers_of}
 use Rattle.history_core.proofs.Answers.{answers_are_truth}
-use Rattle.store_core.specs.declared.verdict.Verdict.TheVariants.{Good, Revoked}
-use Rattle.store_core.specs.Verdict.{covering, answers, by_answers, by_covering, verdict}
+use Rattle.card_core.specs.declared.verdict.Verdict.TheVariants.{Good, Revoked}
+use Rattle.card_core.specs.Verdict.{covering, answers, by_answers, by_covering, verdict}
 use Rattle.publication_core.specs.Histories.{release_of, history_after, AreAdmissible, History, of_jobs, IsHistory, history}
 use Rattle.publication_core.specs.Truth.{truth}
 use Rattle.publication_core.proofs.Histories.{zip_push, history_sound}

@@ -6,7 +6,7 @@ ghost use Rattle.ident_core.specs.declared.range.Sighting.{Sighting};
 ghost use Rattle.part_codec.specs.SealedFields.{SealedFields};
 ghost use Rattle.sets_core.specs.Among.{Among};
 ghost use Rattle.universe_core.specs.History.{seen, sightings};
-ghost use Rattle.store_core.specs.Verdict.{verdict};
+ghost use Rattle.card_core.specs.Verdict.{verdict};
 ghost use Rattle.publication_core.specs.Histories.{History, IsHistory, history};
 ghost use Rattle.publication_core.specs.Truth.{truth};
 
