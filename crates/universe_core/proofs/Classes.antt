@@ -10,7 +10,7 @@ use Rattle.ident_core.specs.Coverage.{covers}
 use Rattle.sets_core.specs.Sets.{has_key}
 use Rattle.sets_core.proofs.Keys.{take_is}
 use Rattle.universe_core.specs.Jobs.{Entry}
-use Rattle.universe_core.specs.History.{class_by, if_accepted}
+use Rattle.universe_core.specs.History.{Past, class_by, if_accepted}
 use Rattle.universe_core.specs.Ledgers.{no_ledger, past_in, parts_before, item_of}
 use Rattle.universe_core.specs.Reading.{if_read, class_alone, one_if}
 use Rattle.universe_core.specs.declared.class.Class.TheVariants.{Unread, Uncovered, Unenrolled, Late, Accepted}
@@ -20,22 +20,40 @@ pub none_late : (x : Identity) (s : Sighting) → (past_in no_ledger).lacked x s
 unfolding past_in parts_before item_of
 none_late x s = refl
 
+-- what an entry is, whatever the jobs before tell
+module _ (ranges : List Range) (issuers : List (List ℕ)) (past : Past) where
+  pub told_unread : Unread ≡ class_by ranges issuers past None
+  unfolding class_by
+  told_unread = refl
+
+  pub told_uncovered : (e : Entry) → covers ranges e.sighting ≡ false → Uncovered ≡ class_by ranges issuers past (Some e)
+  unfolding class_by
+  told_uncovered e c = rw c refl
+
+  pub told_unenrolled : (e : Entry) → covers ranges e.sighting ≡ true → has_key issuers e.id.issuer ≡ false → Unenrolled ≡ class_by ranges issuers past (Some e)
+  unfolding class_by
+  told_unenrolled e c n = rw (c, n) refl
+
+  pub told_late : (e : Entry) → covers ranges e.sighting ≡ true → has_key issuers e.id.issuer ≡ true → past.lacked e.id e.sighting ≡ true → Late ≡ class_by ranges issuers past (Some e)
+  unfolding class_by
+  told_late e c n l = rw (c, n, l) refl
+
+  pub told_accepted : (e : Entry) → covers ranges e.sighting ≡ true → has_key issuers e.id.issuer ≡ true → past.lacked e.id e.sighting ≡ false → Accepted ≡ class_by ranges issuers past (Some e)
+  unfolding class_by
+  told_accepted e c n l = rw (c, n, l) refl
+
 module _ (ranges : List Range) (issuers : List (List ℕ)) where
   pub class_unread : Unread ≡ class_alone ranges issuers None
-  unfolding class_by
-  class_unread = refl
+  class_unread = told_unread ranges issuers (past_in no_ledger)
 
   pub class_uncovered : (e : Entry) → covers ranges e.sighting ≡ false → Uncovered ≡ class_alone ranges issuers (Some e)
-  unfolding class_by
-  class_uncovered e c = rw c refl
+  class_uncovered e c = told_uncovered ranges issuers (past_in no_ledger) e c
 
   pub class_unenrolled : (e : Entry) → covers ranges e.sighting ≡ true → has_key issuers e.id.issuer ≡ false → Unenrolled ≡ class_alone ranges issuers (Some e)
-  unfolding class_by
-  class_unenrolled e c n = rw (c, n) refl
+  class_unenrolled e c n = told_unenrolled ranges issuers (past_in no_ledger) e c n
 
   pub class_accepted : (e : Entry) → covers ranges e.sighting ≡ true → has_key issuers e.id.issuer ≡ true → Accepted ≡ class_alone ranges issuers (Some e)
-  unfolding class_by
-  class_accepted e c n = let l = none_late e.id e.sighting in rw (c, n, l) refl
+  class_accepted e c n = told_accepted ranges issuers (past_in no_ledger) e c n (none_late e.id e.sighting)
 
   taken_by : (c n l : Bool) (e : Entry) → l ≡ false → if_accepted (cond (not c) Uncovered (cond (not n) Unenrolled (cond l Late Accepted))) (Some e) ≡ cond (c && n) (Some e) None
   taken_by true true true e h = absurd cc

@@ -5,6 +5,7 @@ pub mod Placing
 pub mod Sorting
 pub mod Searching
 pub mod Issuers
+pub mod Enrolled
 pub mod Revoking
 pub mod Cutting
 pub mod Tallies

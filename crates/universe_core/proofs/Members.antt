@@ -2,22 +2,25 @@
 use Rattle.std.proofs.Common.{◌≡◌, ℕ, zero, suc, ◌⊎◌, inl, inr, ⊎_elim, List, [], ◌∷◌, map, filter, find, length, Bool, true, false, cond, not, Option, Some}
 use Rattle.std.proofs.Common.{None, refl, sym, ap, ◌∙◌, subst, ◌&&◌, ◌||◌, take}
 use Rattle.std.specs.Prelude.{is_some}
-use Rattle.std.specs.List.{list_any, filter_map, cons_option, slice_get}
+use Rattle.std.specs.List.{list_any, list_all, filter_map, cons_option, slice_get}
 use Rattle.std.specs.Option.{option_map}
 use Rattle.std.specs.List.Sorted.{IsStrictlySortedBy}
 use Rattle.std.proofs.lemmas.Bool.{true≢false, or_cases, or_left, or_right}
 use Rattle.std.proofs.lemmas.List.{length-map}
+use Rattle.std.proofs.lemmas.List.Folds.{list_all-map}
+use Rattle.std.proofs.lemmas.Option.{slice_get-map}
 use Rattle.std.proofs.lemmas.List.Kept.{IsStrictlySortedBy-filter}
 use Rattle.sets_core.specs.Among.{Among}
 use Rattle.ident_core.specs.declared.identity.Identity.{Identity}
 use Rattle.ident_core.specs.declared.range.Sighting.{Sighting}
+use Rattle.ident_core.specs.declared.range.Range.{Range}
 use Rattle.universe_core.specs.Jobs.{Entry, Job, enrolled}
 use Rattle.ident_core.specs.Order.{is_same, identity_cmp}
 use Rattle.sets_core.specs.Sets.{has_key}
 use Rattle.ident_core.specs.Coverage.{covers}
 use Rattle.universe_core.specs.declared.class.Class.TheVariants.{Uncovered, Unenrolled, Late, Accepted}
 use Rattle.universe_core.specs.History.{Past, class_by, class_of, if_accepted, shown, sightings, accepted_with, covers_all}
-use Rattle.universe_core.specs.Ledgers.{past_in, parts_before, item_of, birth_or, last_or_none, last_covers, part_covers}
+use Rattle.universe_core.specs.Ledgers.{past_in, parts_before, item_of, birth_or, last_or_none, last_covers, part_covers, lacked_by}
 use Rattle.ledger_core.specs.LedgerFields.{LedgerFields, LedgerPartFields, part_fields, ledger_fields}
 use Rattle.ledger_core.specs.declared.fields.LedgerPart.{LedgerPart}
 use Rattle.ledger_core.specs.declared.fields.LedgerItem.{LedgerItem}
@@ -28,7 +31,7 @@ use Rattle.universe_core.specs.declared.member.ReadEntry.{ReadEntry}
 use Rattle.universe_core.specs.declared.member.Member.{Member}
 use Rattle.universe_core.specs.Reading.{entry_fields}
 use Rattle.universe_core.specs.Merging.{all_ids, merged}
-use Rattle.universe_core.specs.Judging.{lacked_in, settled_in, part_covers_all, timely, is_member_of, member_of, judge_of}
+use Rattle.universe_core.specs.Judging.{is_timely, timely, sightings_of, is_member_of, member_of, judge_of}
 use Rattle.universe_core.proofs.Merge.{item_ids}
 
 -- ---- lists
@@ -38,11 +41,6 @@ filter_map_test t f [] = refl
 filter_map_test t f (x ∷ xs) =
     (elim (t x) as (λ b. cons_option (cond b (Some (f x)) None) (filter_map (λ y. cond (t y) (Some (f y)) None) xs) ≡ map f (cond b (x ∷ filter t xs) (filter t xs)))
     [ true ↦ ap (λ z. f x ∷ z) (filter_map_test t f xs) | false ↦ filter_map_test t f xs ])
-
-slice_is : (parts : List LedgerPart) (r : ℕ) → slice_get (map part_fields parts) r ≡ option_map part_fields (slice_get parts r)
-slice_is [] r = refl
-slice_is (p ∷ ps) zero = refl
-slice_is (p ∷ ps) (suc r) = slice_is ps r
 
 -- ---- classes
 
@@ -111,7 +109,7 @@ not_no : (b : Bool) → b ≡ false → not b ≡ true
 not_no false h = refl
 not_no true h = absurd (true≢false h)
 
-any_parts : (x : Identity) (s : Sighting) (n : ℕ) (parts : List LedgerPart)
+pub any_parts : (x : Identity) (s : Sighting) (n : ℕ) (parts : List LedgerPart)
     → list_any (λ (p : LedgerPartFields). covers p.ranges s && has_key p.issuers x.issuer) (take n (map part_fields parts))
     ≡ list_any (λ (p : LedgerPart). covers p.ranges.items s && has_key p.issuers.items x.issuer) (take n parts)
 any_parts x s zero parts = refl
@@ -119,12 +117,18 @@ any_parts x s (suc n) [] = refl
 any_parts x s (suc n) (p ∷ parts) = ap (λ (b : Bool). (covers p.ranges.items s && has_key p.issuers.items x.issuer) || b) (any_parts x s n parts)
 
 pub lacked_is : (parts : List LedgerPart) (items : List LedgerItem) (x : Identity) (s : Sighting) → (past_in (ledger_fields parts items)).lacked x s
-    ≡ list_any (λ (p : LedgerPart). covers p.ranges.items s && has_key p.issuers.items x.issuer) (take (birth_or (length parts) (find (λ (i : LedgerItem). is_same x i.id) items)) parts)
+    ≡ lacked_by (take (birth_or (length parts) (find (λ (i : LedgerItem). is_same x i.id) items)) (map part_fields parts)) x s
 unfolding past_in parts_before item_of
 lacked_is parts items x s =
-    any_parts x s (birth_or (length (map part_fields parts)) (find (λ (i : LedgerItem). is_same x i.id) items)) parts
-    ∙ ap (λ n. list_any (λ (p : LedgerPart). covers p.ranges.items s && has_key p.issuers.items x.issuer)
-    (take (birth_or n (find (λ (i : LedgerItem). is_same x i.id) items)) parts)) (length-map parts part_fields)
+    ap (λ n. lacked_by (take (birth_or n (find (λ (i : LedgerItem). is_same x i.id) items)) (map part_fields parts)) x s) (length-map parts part_fields)
+
+-- where the part of the last is there, it covers the entries or not
+pub settled_there : (parts : List LedgerPart) (last : Option ℕ) (place : ℕ) (part : LedgerPart) (run : List ReadEntry) → last ≡ Some place → slice_get parts place ≡ Some part
+    → list_all (λ e. covers part.ranges.items e.sighting.now) run ≡ last_covers (map part_fields parts) last (sightings_of run)
+settled_there parts last place part run h at =
+    sym (list_all-map (covers part.ranges.items) (λ (e : ReadEntry). e.sighting.now) run)
+    ∙ sym (ap (λ o. last_covers (map part_fields parts) o (sightings_of run)) h
+    ∙ ap (λ q. part_covers q (sightings_of run)) (slice_get-map part_fields parts place ∙ ap (option_map part_fields) at))
 
 item_step : (x : Identity) (i : LedgerItem) (is : List LedgerItem) (b : Bool) → is_same x i.id ≡ b → (Among (item_ids is) x → is_some (find (λ (j : LedgerItem). is_same x j.id) is) ≡ true)
     → Among (item_ids (i ∷ is)) x → is_some (cond b (Some i) (find (λ (j : LedgerItem). is_same x j.id) is)) ≡ true
@@ -155,52 +159,59 @@ module _ (parts : List LedgerPart) (items : List LedgerItem) (job : Job) (sorted
   abbrev run_at : Identity → List ReadEntry
   run_at x = filter (λ (e : ReadEntry). is_same x e.id.now) sorted
 
-  late_is : (x : Identity) (e : ReadEntry) → x ≡ e.id.now → lacked_in parts (birth_or (length parts) (item_at x)) e ≡ (past_in ledger).lacked e.id.now e.sighting.now
+  abbrev late_in : Identity → ReadEntry → Bool
+  late_in x e = lacked_by (take (birth_or (length parts) (item_at x)) (map part_fields parts)) e.id.now e.sighting.now
+
+  late_is : (x : Identity) (e : ReadEntry) → x ≡ e.id.now → late_in x e ≡ (past_in ledger).lacked e.id.now e.sighting.now
   late_is x e h =
-      subst (λ y. lacked_in parts (birth_or (length parts) (item_at y)) e ≡ (past_in ledger).lacked e.id.now e.sighting.now) (sym h) (sym (lacked_is parts items e.id.now e.sighting.now))
+      subst (λ y. late_in y e ≡ (past_in ledger).lacked e.id.now e.sighting.now) (sym h) (sym (lacked_is parts items e.id.now e.sighting.now))
 
   timely_to : (x : Identity) (e : ReadEntry) → Among (timely parts (item_at x) (run_at x)) e → Among sorted e × (x ≡ e.id.now) × ((past_in ledger).lacked e.id.now e.sighting.now ≡ false)
   timely_to x e a =
-      let f = Among-filter (λ d. not (lacked_in parts (birth_or (length parts) (item_at x)) d)) (run_at x) e a in
+      let f = Among-filter (is_timely parts (birth_or (length parts) (item_at x))) (run_at x) e a in
       let g = Among-filter (λ (d : ReadEntry). is_same x d.id.now) sorted e f.0 in
       let i = same_is x e.id.now g.1 in
-      (g.0, i, sym (late_is x e i) ∙ not_yes (lacked_in parts (birth_or (length parts) (item_at x)) e) f.1)
+      (g.0, i, sym (late_is x e i) ∙ not_yes (late_in x e) f.1)
 
   run_from : (x : Identity) (e : ReadEntry) → Among sorted e → x ≡ e.id.now → Among (run_at x) e
   run_from x e a i = Among-in_filter (λ (d : ReadEntry). is_same x d.id.now) sorted e a (subst (λ y. is_same x y ≡ true) i (same_refl x))
 
-  timely_at : (x : Identity) (e : ReadEntry) → x ≡ e.id.now → (past_in ledger).lacked e.id.now e.sighting.now ≡ false → not (lacked_in parts (birth_or (length parts) (item_at x)) e) ≡ true
-  timely_at x e i l = not_no (lacked_in parts (birth_or (length parts) (item_at x)) e) (late_is x e i ∙ l)
+  timely_at : (x : Identity) (e : ReadEntry) → x ≡ e.id.now → (past_in ledger).lacked e.id.now e.sighting.now ≡ false → is_timely parts (birth_or (length parts) (item_at x)) e ≡ true
+  timely_at x e i l = not_no (late_in x e) (late_is x e i ∙ l)
 
   timely_from : (x : Identity) (e : ReadEntry) → Among sorted e → x ≡ e.id.now → (past_in ledger).lacked e.id.now e.sighting.now ≡ false → Among (timely parts (item_at x) (run_at x)) e
-  timely_from x e a i l = Among-in_filter (λ d. not (lacked_in parts (birth_or (length parts) (item_at x)) d)) (run_at x) e (run_from x e a i) (timely_at x e i l)
+  timely_from x e a i l = Among-in_filter (is_timely parts (birth_or (length parts) (item_at x))) (run_at x) e (run_from x e a i) (timely_at x e i l)
 
   -- ---- the fields of a member
 
-  covered_is : (p : LedgerPart) (x : Identity) → part_covers_all (Some p) (timely parts (item_at x) (run_at x)) ≡ covers_all p.ranges.items (sightings x (shown (past_in ledger) job))
-  covered_is p x =
-      bool_same (part_covers_all (Some p) (timely parts (item_at x) (run_at x))) (covers_all p.ranges.items (sightings x (shown (past_in ledger) job)))
-      (λ h. all_from (covers p.ranges.items) (sightings x (shown (past_in ledger) job)) (λ s a.
+  covered_is : (ranges : List Range) (x : Identity) → covers_all ranges (sightings_of (timely parts (item_at x) (run_at x))) ≡ covers_all ranges (sightings x (shown (past_in ledger) job))
+  covered_is ranges x =
+      bool_same (covers_all ranges (sightings_of (timely parts (item_at x) (run_at x)))) (covers_all ranges (sightings x (shown (past_in ledger) job)))
+      (λ h. all_from (covers ranges) (sightings x (shown (past_in ledger) job)) (λ s a.
       let m = Among-sightings x (shown (past_in ledger) job) s a in
       let d = shown_from (past_in ledger) job sorted reads m.0 m.1 in
       let i : x ≡ d.0.id.now = m.2 ∙ ap (λ (e : Entry). e.id) (sym d.2) in
-      let c : covers p.ranges.items d.0.sighting.now ≡ true = all_at (λ (e : ReadEntry). covers p.ranges.items e.sighting.now)
-      (timely parts (item_at x) (run_at x)) d.0 h (timely_from x d.0 d.1 i d.3) in
-      subst (λ t. covers p.ranges.items t ≡ true) (ap (λ (e : Entry). e.sighting) d.2 ∙ m.3) c))
-      (λ h. all_from (λ (e : ReadEntry). covers p.ranges.items e.sighting.now) (timely parts (item_at x) (run_at x)) (λ e a.
-      let t = timely_to x e a in
+      let c : covers ranges d.0.sighting.now ≡ true = all_at (covers ranges) (sightings_of (timely parts (item_at x) (run_at x))) d.0.sighting.now h
+      (Among-in_map (λ (e : ReadEntry). e.sighting.now) (timely parts (item_at x) (run_at x)) d.0 (timely_from x d.0 d.1 i d.3)) in
+      subst (λ t. covers ranges t ≡ true) (ap (λ (e : Entry). e.sighting) d.2 ∙ m.3) c))
+      (λ h. all_from (covers ranges) (sightings_of (timely parts (item_at x) (run_at x))) (λ z a.
+      let m = Among-map (λ (e : ReadEntry). e.sighting.now) (timely parts (item_at x) (run_at x)) z a in
+      let e : ReadEntry = m.0 in
+      let t = timely_to x e m.1 in
       let s : Among (shown (past_in ledger) job) (entry_fields e) = shown_to (past_in ledger) job sorted reads e t.0 t.2 in
       let w : Among (sightings x (shown (past_in ledger) job)) e.sighting.now =
       subst (λ y. Among (sightings y (shown (past_in ledger) job)) e.sighting.now) (sym t.1) (Among-in_sightings (shown (past_in ledger) job) (entry_fields e) s) in
-      all_at (covers p.ranges.items) (sightings x (shown (past_in ledger) job)) e.sighting.now h w))
+      subst (λ (y : Sighting). covers ranges y ≡ true) m.2 (all_at (covers ranges) (sightings x (shown (past_in ledger) job)) e.sighting.now h w)))
 
-  settled_part : (q : Option LedgerPart) (x : Identity) → part_covers_all q (timely parts (item_at x) (run_at x)) ≡ part_covers (option_map part_fields q) (sightings x (shown (past_in ledger) job))
+  settled_part : (q : Option LedgerPartFields) (x : Identity)
+      → part_covers q (sightings_of (timely parts (item_at x) (run_at x))) ≡ part_covers q (sightings x (shown (past_in ledger) job))
   settled_part None x = refl
-  settled_part (Some p) x = covered_is p x
+  settled_part (Some p) x = covered_is p.ranges x
 
-  settled_last : (o : Option ℕ) (x : Identity) → settled_in parts o (timely parts (item_at x) (run_at x)) ≡ last_covers (map part_fields parts) o (sightings x (shown (past_in ledger) job))
+  settled_last : (o : Option ℕ) (x : Identity)
+      → last_covers (map part_fields parts) o (sightings_of (timely parts (item_at x) (run_at x))) ≡ last_covers (map part_fields parts) o (sightings x (shown (past_in ledger) job))
   settled_last None x = refl
-  settled_last (Some r) x = settled_part (slice_get parts r) x ∙ ap (λ q. part_covers q (sightings x (shown (past_in ledger) job))) (sym (slice_is parts r))
+  settled_last (Some r) x = settled_part (slice_get (map part_fields parts) r) x
 
   -- what the definitions say of an identity
   abbrev pub member_for : Identity → Member
@@ -215,7 +226,7 @@ module _ (parts : List LedgerPart) (items : List LedgerItem) (job : Job) (sorted
   unfolding item_of past_in
   member_is x =
       let b : birth_or (length parts) (item_at x) ≡ birth_or (length (map part_fields parts)) (item_at x) = ap (λ n. birth_or n (item_at x)) (sym (length-map parts part_fields)) in
-      let s : settled_in parts (last_or_none (item_at x)) (timely parts (item_at x) (run_at x))
+      let s : last_covers (map part_fields parts) (last_or_none (item_at x)) (sightings_of (timely parts (item_at x) (run_at x)))
       ≡ last_covers (map part_fields parts) (last_or_none (item_at x)) (sightings x (shown (past_in ledger) job)) =
       settled_last (last_or_none (item_at x)) x in
       λ k. record { id = x; birth = b k; last = last_or_none (item_at x); settled = s k }
@@ -225,8 +236,8 @@ module _ (parts : List LedgerPart) (items : List LedgerItem) (job : Job) (sorted
   abbrev test : Identity → Bool
   test x = is_member_of parts (item_at x) (run_at x)
 
-  abbrev late_test : Identity → ReadEntry → Bool
-  late_test x e = not (lacked_in parts (birth_or (length parts) (item_at x)) e)
+  abbrev timely_test : Identity → ReadEntry → Bool
+  timely_test x e = is_timely parts (birth_or (length parts) (item_at x)) e
 
   abbrev accepted : List Identity
   accepted = accepted_with (past_in ledger) job
@@ -258,10 +269,10 @@ module _ (parts : List LedgerPart) (items : List LedgerItem) (job : Job) (sorted
       let f = Among-filter test (all_ids items sorted) z a in
       ⊎_elim (λ h. in_accepted z (inr (item_some z items h)))
       (λ h.
-      let e = found (late_test z) (run_at z) h in
-      let t = timely_to z e.0 (Among-in_filter (late_test z) (run_at z) e.0 e.1 e.2) in
+      let e = found (timely_test z) (run_at z) h in
+      let t = timely_to z e.0 (Among-in_filter (timely_test z) (run_at z) e.0 e.1 e.2) in
       in_accepted z (inl (shown_id z e.0 t.0 t.1 t.2)))
-      (or_cases (is_some (item_at z)) (list_any (late_test z) (run_at z)) f.1)
+      (or_cases (is_some (item_at z)) (list_any (timely_test z) (run_at z)) f.1)
 
   from_shown : (z : Identity) → Among (map (λ (e : Entry). e.id) (shown (past_in ledger) job)) z → Among (filter test (all_ids items sorted)) z
   from_shown z a =
@@ -272,12 +283,12 @@ module _ (parts : List LedgerPart) (items : List LedgerItem) (job : Job) (sorted
       Among-in_with_all (map (λ (e : ReadEntry). e.id.now) sorted) (item_ids items) z
       (inl (subst (λ y. Among (map (λ (e : ReadEntry). e.id.now) sorted) y) (sym i) (Among-in_map (λ (e : ReadEntry). e.id.now) sorted d.0 d.1))) in
       Among-in_filter test (all_ids items sorted) z u
-      (or_right (is_some (item_at z)) (list_any (late_test z) (run_at z)) (any_at (late_test z) (run_at z) d.0 (run_from z d.0 d.1 i) (timely_at z d.0 i d.3)))
+      (or_right (is_some (item_at z)) (list_any (timely_test z) (run_at z)) (any_at (timely_test z) (run_at z) d.0 (run_from z d.0 d.1 i) (timely_at z d.0 i d.3)))
 
   from_item : (z : Identity) → Among (item_ids items) z → Among (filter test (all_ids items sorted)) z
   from_item z a =
       Among-in_filter test (all_ids items sorted) z (Among-in_with_all (map (λ (e : ReadEntry). e.id.now) sorted) (item_ids items) z (inr a))
-      (or_left (is_some (item_at z)) (list_any (late_test z) (run_at z)) (some_item z items a))
+      (or_left (is_some (item_at z)) (list_any (timely_test z) (run_at z)) (some_item z items a))
 
   kept_is : IsStrictlySortedBy identity_cmp (item_ids items) → filter test (all_ids items sorted) ≡ accepted
   kept_is s =

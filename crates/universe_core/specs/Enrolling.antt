@@ -19,6 +19,15 @@ abbrev pub stale_issuer_if : ℕ → Option Crl → Option (List ℕ)
 stale_issuer_if moment None = None
 stale_issuer_if moment (Some c) = cond (is_stale moment c.next_update) (Some c.issuer) None
 
+-- whether the CRL is one of the issuer's, and whether it is and is out of date
+abbrev pub is_of : List ℕ → Option Crl → Bool
+is_of issuer None = false
+is_of issuer (Some c) = bytes_eq issuer c.issuer
+
+abbrev pub is_stale_of : ℕ → List ℕ → Option Crl → Bool
+is_stale_of moment issuer None = false
+is_stale_of moment issuer (Some c) = bytes_eq issuer c.issuer && is_stale moment c.next_update
+
 -- whether the CRL is one of the identity's issuer and holds its serial
 abbrev pub holds : Option Crl → Identity → Bool
 holds None x = false

@@ -1,14 +1,15 @@
 -- What becomes of an identity: its item and its entries.
-use Rattle.std.specs.Prelude.{ℕ, List, filter, take, length, Bool, false, cond, not, ◌&&◌, ◌||◌, Option, Some, None, is_some, slice_get}
-use Rattle.std.specs.List.{list_any, list_all}
+use Rattle.std.specs.Prelude.{ℕ, List, map, filter, take, length, Bool, cond, not, ◌||◌, Option, Some, None, is_some}
+use Rattle.std.specs.List.{list_any}
 use Rattle.std.specs.List.Sorted.{IsStrictlySortedBy}
 use Rattle.ident_core.specs.declared.identity.Identity.{Identity}
-use Rattle.sets_core.specs.Sets.{has_key}
-use Rattle.ident_core.specs.Coverage.{covers, AreRanges}
+use Rattle.ident_core.specs.declared.range.Sighting.{Sighting}
+use Rattle.ident_core.specs.Coverage.{AreRanges}
 use Rattle.ident_core.specs.Order.{octets_cmp}
 use Rattle.ledger_core.specs.declared.fields.LedgerPart.{LedgerPart}
 use Rattle.ledger_core.specs.declared.fields.LedgerItem.{LedgerItem}
-use Rattle.universe_core.specs.Ledgers.{birth_or, last_or_none}
+use Rattle.ledger_core.specs.LedgerFields.{part_fields}
+use Rattle.universe_core.specs.Ledgers.{birth_or, last_or_none, last_covers, lacked_by}
 use Rattle.universe_core.specs.declared.member.ReadEntry.{ReadEntry}
 use Rattle.universe_core.specs.declared.member.Member.{Member}
 
@@ -17,37 +18,26 @@ pub record IsSearchable (p : LedgerPart) : Type 0 where
   pub issuers : IsStrictlySortedBy octets_cmp p.issuers.items
   pub ranges : AreRanges p.ranges.items
 
--- whether a part covers the sighting and enrolls the issuer
-abbrev pub lacks : ReadEntry → LedgerPart → Bool
-lacks e p = covers p.ranges.items e.sighting.now && has_key p.issuers.items e.id.now.issuer
+-- whether an entry isn't late, of an identity that was born before so many of the parts
+abbrev pub is_timely : List LedgerPart → ℕ → ReadEntry → Bool
+is_timely parts birth e = not (lacked_by (take birth (map part_fields parts)) e.id.now e.sighting.now)
 
--- whether a part before the birth does
-abbrev pub lacked_in : List LedgerPart → ℕ → ReadEntry → Bool
-lacked_in parts birth e = list_any (lacks e) (take birth parts)
-
-abbrev pub part_covers_all : Option LedgerPart → List ReadEntry → Bool
-part_covers_all None now = false
-part_covers_all (Some p) now = list_all (λ (e : ReadEntry). covers p.ranges.items e.sighting.now) now
-
--- whether the part of the last covers the entries
-abbrev pub settled_in : List LedgerPart → Option ℕ → List ReadEntry → Bool
-settled_in parts None now = false
-settled_in parts (Some r) now = part_covers_all (slice_get parts r) now
-
--- the entries that aren't late
 abbrev pub timely : List LedgerPart → Option LedgerItem → List ReadEntry → List ReadEntry
-timely parts old run = filter (λ e. not (lacked_in parts (birth_or (length parts) old) e)) run
+timely parts old run = filter (is_timely parts (birth_or (length parts) old)) run
+
+abbrev pub sightings_of : List ReadEntry → List Sighting
+sightings_of run = map (λ e. e.sighting.now) run
 
 -- whether it has an item, or an entry that isn't late
 abbrev pub is_member_of : List LedgerPart → Option LedgerItem → List ReadEntry → Bool
-is_member_of parts old run = is_some old || list_any (λ e. not (lacked_in parts (birth_or (length parts) old) e)) run
+is_member_of parts old run = is_some old || list_any (is_timely parts (birth_or (length parts) old)) run
 
 abbrev pub member_of : List LedgerPart → Identity → Option LedgerItem → List ReadEntry → Member
 member_of parts x old run = record {
   id = x;
   birth = birth_or (length parts) old;
   last = last_or_none old;
-  settled = settled_in parts (last_or_none old) (timely parts old run);
+  settled = last_covers (map part_fields parts) (last_or_none old) (sightings_of (timely parts old run));
 }
 
 abbrev pub judge_of : List LedgerPart → Identity → Option LedgerItem → List ReadEntry → Option Member

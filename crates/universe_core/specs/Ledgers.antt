@@ -17,6 +17,10 @@ use Rattle.universe_core.specs.History.{Release, Past, covers_all, accepted_with
 abbrev pub no_ledger : LedgerFields
 no_ledger = record { parts = []; items = [] }
 
+abbrev pub ledger_or_none : Option LedgerFields → LedgerFields
+ledger_or_none None = no_ledger
+ledger_or_none (Some l) = l
+
 -- ---- what a ledger tells
 
 unfoldable pub item_of : LedgerFields → Identity → Option LedgerItem
@@ -34,6 +38,10 @@ last_or_none (Some i) = i.last
 unfoldable pub parts_before : LedgerFields → Identity → List LedgerPartFields
 parts_before ledger x = take (birth_or (length ledger.parts) (item_of ledger x)) ledger.parts
 
+-- whether one of the parts covers the sighting and enrolls the issuer
+abbrev pub lacked_by : List LedgerPartFields → Identity → Sighting → Bool
+lacked_by parts x s = list_any (λ p. covers p.ranges s && has_key p.issuers x.issuer) parts
+
 abbrev pub part_covers : Option LedgerPartFields → List Sighting → Bool
 part_covers None ss = false
 part_covers (Some p) ss = covers_all p.ranges ss
@@ -46,7 +54,7 @@ last_covers parts (Some r) ss = part_covers (slice_get parts r) ss
 unfoldable pub past_in : LedgerFields → Past
 past_in ledger = record {
   accepted = map (λ i. i.id) ledger.items;
-  lacked = λ x s. list_any (λ p. covers p.ranges s && has_key p.issuers x.issuer) (parts_before ledger x);
+  lacked = λ x s. lacked_by (parts_before ledger x) x s;
   was_listed = λ x. is_some (last_or_none (item_of ledger x));
   is_settled = λ x now. last_covers ledger.parts (last_or_none (item_of ledger x)) now;
 }

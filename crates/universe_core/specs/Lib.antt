@@ -1,14 +1,16 @@
+-- What a reader must believe: jobs and their formats, histories, groups, counts, ledgers and the step.
 pub mod Jobs
+pub mod Formats
 pub mod History
 pub mod Groups
 pub mod Counting
 pub mod Ledgers
 pub mod Step
-pub mod Formats
+-- Words that only the clauses of the code's own helpers need, in its types.
+pub mod Following
 pub mod Enrolling
 pub mod Reading
-pub mod Merging
 pub mod Placing
+pub mod Merging
 pub mod Judging
 pub mod Members
-pub mod Following

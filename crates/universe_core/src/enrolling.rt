@@ -1,9 +1,10 @@
 ghost use Rattle.std.specs.Prelude.{◌≡◌, IfOk, filter, filter_map, not};
+ghost use Rattle.std.specs.List.{list_any};
 ghost use Rattle.std.specs.List.Sorted.{IsStrictlySortedBy};
 ghost use Rattle.ident_core.specs.Order.{octets_cmp};
 ghost use Rattle.sets_core.specs.Sets.{has_key};
-ghost use Rattle.universe_core.specs.Jobs.{facts_of_job, is_stale, enrolled as enrolled_of};
-ghost use Rattle.universe_core.specs.Enrolling.{facts_of_crl, issuer_if, stale_issuer_if};
+ghost use Rattle.universe_core.specs.Jobs.{facts_of_job, is_stale, enrolled as enrolled_of, is_enrolled as is_enrolled_by};
+ghost use Rattle.universe_core.specs.Enrolling.{facts_of_crl, issuer_if, stale_issuer_if, is_of, is_stale_of};
 
 use job_core::{Job, JobCrl};
 use octets_core::Key32;
@@ -83,4 +84,44 @@ pub(crate) fn enrolled(alloc: Global, job: &Job) -> Result<Vec<Key32>, AllocErro
     sort_keys_once(&mut keys);
     let left = without(alloc, &keys, &stale)?;
     Ok(left)
+}
+
+/// Whether a CRL that is accepted is the issuer's.
+fn is_crl_of(crl: &JobCrl, issuer: &Key32) -> bool
+    ensures { result ≡ is_of issuer.now (facts_of_crl crl.now) }
+{
+    match &crl.outcome {
+        Ok(_) => *issuer == crl.issuer,
+        Err(_) => false,
+    }
+}
+
+/// Whether a CRL that is accepted is the issuer's, and out of date.
+fn is_stale_crl_of(crl: &JobCrl, issuer: &Key32, moment: u64) -> bool
+    ensures { result ≡ is_stale_of moment issuer.now (facts_of_crl crl.now) }
+{
+    match &crl.outcome {
+        Ok(list) => *issuer == crl.issuer && is_out_of_date(moment, list.next_update),
+        Err(_) => false,
+    }
+}
+
+fn has_crl(crls: &[JobCrl], issuer: &Key32) -> bool
+    ensures { result ≡ list_any (λ c. is_of issuer.now (facts_of_crl c)) crls.now }
+{
+    crls.iter().any(|c| is_crl_of(c, issuer))
+}
+
+fn has_stale_crl(crls: &[JobCrl], issuer: &Key32, moment: u64) -> bool
+    ensures { result ≡ list_any (λ c. is_stale_of moment issuer.now (facts_of_crl c)) crls.now }
+{
+    crls.iter().any(|c| is_stale_crl_of(c, issuer, moment))
+}
+
+/// Whether the job enrolls the issuer: it has a CRL of it that is accepted, and none of them is out of date. It takes
+/// no memory, and looks at each CRL of the job.
+pub fn is_enrolled(job: &Job, issuer: &Key32) -> bool
+    ensures { result ≡ is_enrolled_by (facts_of_job job.now) issuer.now }
+{
+    has_crl(&job.crls, issuer) && !has_stale_crl(&job.crls, issuer, job.moment)
 }

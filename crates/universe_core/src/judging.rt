@@ -1,39 +1,47 @@
-ghost use Rattle.std.specs.List.{list_any};
-ghost use Rattle.std.specs.Prelude.{◌≡◌, filter, length, ◌<◌, Some, All, not, is_some};
-ghost use Rattle.universe_core.specs.Ledgers.{birth_or, last_or_none};
-ghost use Rattle.universe_core.specs.Judging.{IsSearchable, judge_of, lacks, lacked_in, settled_in, is_member_of, part_covers_all};
+ghost use Rattle.std.specs.List.{list_any, list_all};
+ghost use Rattle.std.specs.Prelude.{◌≡◌, filter, length, map, take, ◌<◌, ◌&&◌, All, is_some};
+ghost use Rattle.universe_core.specs.Ledgers.{birth_or, last_or_none, last_covers, lacked_by};
+ghost use Rattle.ident_core.specs.Coverage.{covers};
+ghost use Rattle.sets_core.specs.Sets.{has_key};
+ghost use Rattle.ledger_core.specs.LedgerFields.{part_fields};
+ghost use Rattle.universe_core.specs.Judging.{IsSearchable, judge_of, is_timely, sightings_of, is_member_of};
 
 use crate::member::{Member, ReadEntry};
-use ident_core::Identity;
+use ident_core::{Identity, Sighting};
 use ledger_core::{LedgerItem, LedgerPart};
 use sets_core::{covers_sorted, holds_key};
 
-/// Whether a part covers the entry and enrolls its issuer.
-fn part_lacks(part: &LedgerPart, e: &ReadEntry<'_>) -> bool
+/// Whether a part covers the sighting and enrolls the issuer.
+fn part_lacks(part: &LedgerPart, id: &Identity, sighting: &Sighting) -> bool
     requires { IsSearchable part.now }
-    ensures { result ≡ lacks e.now part.now }
+    ensures { result ≡ (covers part.now.ranges.items sighting.now && has_key part.now.issuers.items id.now.issuer) }
 {
-    covers_sorted(&part.ranges, e.sighting) && holds_key(&part.issuers, &e.id.issuer)
+    covers_sorted(&part.ranges, sighting) && holds_key(&part.issuers, &id.issuer)
 }
 
-fn some_lacks(parts: &[LedgerPart], e: &ReadEntry<'_>) -> bool
+fn some_lacks(parts: &[LedgerPart], id: &Identity, sighting: &Sighting) -> bool
     requires { All IsSearchable parts.now }
-    ensures { result ≡ list_any (lacks e.now) parts.now }
+    ensures { result ≡ list_any (λ p. covers p.ranges.items sighting.now && has_key p.issuers.items id.now.issuer) parts.now }
 {
     for part in parts {
-        if part_lacks(part, e) {
+        if part_lacks(part, id, sighting) {
             return true;
         }
     }
     false
 }
 
-/// Whether a part before the birth lacks the entry.
-pub(crate) fn is_late(parts: &[LedgerPart], birth: usize, e: &ReadEntry<'_>) -> bool
+/// Whether a part before the identity's birth covers the sighting and enrolls the issuer.
+pub(crate) fn is_late(
+    parts: &[LedgerPart],
+    birth: usize,
+    id: &Identity,
+    sighting: &Sighting,
+) -> bool
     requires { All IsSearchable parts.now }
-    ensures { result ≡ lacked_in parts.now birth e.now }
+    ensures { result ≡ lacked_by (take birth (map part_fields parts.now)) id.now sighting.now }
 {
-    some_lacks(&parts[..birth.min(parts.len())], e)
+    some_lacks(&parts[..birth.min(parts.len())], id, sighting)
 }
 
 pub(crate) fn birth_of(parts: &[LedgerPart], old: &Option<LedgerItem>) -> u8
@@ -57,9 +65,9 @@ fn last_of(old: &Option<LedgerItem>) -> Option<u8>
 
 fn any_timely(parts: &[LedgerPart], birth: usize, run: &[ReadEntry<'_>]) -> bool
     requires { All IsSearchable parts.now }
-    ensures { result ≡ list_any (λ e. not (lacked_in parts.now birth e)) run.now }
+    ensures { result ≡ list_any (is_timely parts.now birth) run.now }
 {
-    run.iter().any(|e| !is_late(parts, birth, e))
+    run.iter().any(|e| !is_late(parts, birth, e.id, e.sighting))
 }
 
 fn part_settles(
@@ -70,17 +78,17 @@ fn part_settles(
 ) -> bool
     requires part { IsSearchable part.now }
     requires parts { All IsSearchable parts.now }
-    ensures { result ≡ part_covers_all (Some part.now) (filter (λ e. not (lacked_in parts.now birth e)) run.now) }
+    ensures { result ≡ list_all (λ e. covers part.now.ranges.items e.sighting.now) (filter (is_timely parts.now birth) run.now) }
 {
     run.iter()
-        .filter(|e| !is_late(parts, birth, e))
+        .filter(|e| !is_late(parts, birth, e.id, e.sighting))
         .all(|e| covers_sorted(&part.ranges, e.sighting))
 }
 
 /// Whether the part of the last covers the entries that aren't late.
 fn is_settled(parts: &[LedgerPart], last: Option<u8>, birth: usize, run: &[ReadEntry<'_>]) -> bool
     requires { All IsSearchable parts.now }
-    ensures { result ≡ settled_in parts.now last (filter (λ e. not (lacked_in parts.now birth e)) run.now) }
+    ensures { result ≡ last_covers (map part_fields parts.now) last (sightings_of (filter (is_timely parts.now birth) run.now)) }
 {
     match last {
         None => false,

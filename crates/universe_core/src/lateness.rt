@@ -4,11 +4,12 @@ ghost use Rattle.std.specs.List.Sorted.{IsStrictlySortedBy};
 ghost use Rattle.ident_core.specs.Order.{identity_cmp, is_same as same};
 ghost use Rattle.ledger_core.specs.LedgerFields.{ids, ledger_fields};
 ghost use Rattle.universe_core.specs.Judging.{IsSearchable};
+ghost use Rattle.universe_core.specs.Ledgers.{past_by};
 ghost use Rattle.universe_core.specs.Reading.{is_lacked, one_if};
 
 use crate::judging::{birth_of, is_late};
 use crate::member::ReadEntry;
-use ident_core::Identity;
+use ident_core::{Identity, Sighting};
 use ledger_core::{LedgerItem, LedgerPart};
 use std::cmp::Ordering;
 
@@ -35,16 +36,21 @@ fn item_of(items: &[LedgerItem], id: &Identity) -> Option<LedgerItem>
     }
 }
 
-/// Whether a part before its identity's birth covers the entry and enrolls its issuer.
-fn is_late_entry(parts: &[LedgerPart], items: &[LedgerItem], e: &ReadEntry<'_>) -> bool
+/// Whether a part before the identity's birth covers the sighting and enrolls the issuer.
+pub(crate) fn is_late_sighting(
+    parts: &[LedgerPart],
+    items: &[LedgerItem],
+    id: &Identity,
+    sighting: &Sighting,
+) -> bool
     requires few { length parts.now < 256 }
     requires parts { All IsSearchable parts.now }
     requires ascend { IsStrictlySortedBy identity_cmp (ids items.now) }
-    ensures { result ≡ is_lacked (ledger_fields parts.now items.now) e.now }
+    ensures { result ≡ (past_by parts.now items.now).lacked id.now sighting.now }
 {
-    let old = item_of(items, e.id);
+    let old = item_of(items, id);
     let birth = birth_of(parts, &old);
-    is_late(parts, birth as usize, e)
+    is_late(parts, birth as usize, id, sighting)
 }
 
 fn one(is: bool) -> usize
@@ -66,7 +72,7 @@ pub(crate) fn late_entries(
 {
     let mut late = 0;
     for e in entries {
-        let is = is_late_entry(parts, items, e);
+        let is = is_late_sighting(parts, items, e.id, e.sighting);
         late += one(is);
     }
     late
