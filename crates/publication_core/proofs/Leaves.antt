@@ -141,9 +141,9 @@ flagged_few (x ∷ xs) [] = omega arith
 flagged_few (x ∷ xs) (f ∷ fs) = parted f x (flagged xs fs) (flagged xs (map not fs)) (length xs) (flagged_few xs fs)
 
 -- and so has a block
-pub blocks_have_texts : (issuer : List ℕ) (universe : List Identity) (flags : List Bool) (block : Block) → length issuer ≡ 32 → length universe ≤ 4194304
-    → IsBlock sha256_row issuer universe flags block → BlockFits block
-blocks_have_texts issuer universe flags block key few h = record {
+pub blocks_have_texts : (shift : ℕ) (issuer : List ℕ) (universe : List Identity) (flags : List Bool) (block : Block) → length issuer ≡ 32 → length universe ≤ 4194304
+    → IsBlock sha256_row shift issuer universe flags block → BlockFits block
+blocks_have_texts shift issuer universe flags block key few h = record {
   issuer = ap length h.0 ∙ key;
-  body = leaves_have_texts (flagged universe flags) (flagged universe (map not flags)) (leaf_of block.body) (omega (arith, flagged_few universe flags)) h.1;
+  body = leaves_have_texts (flagged universe flags) (flagged universe (map not flags)) (leaf_of block.body) (omega (arith, flagged_few universe flags)) h.1.1;
 }

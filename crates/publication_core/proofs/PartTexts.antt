@@ -35,8 +35,10 @@ use Rattle.universe_core.specs.Ledgers.{part_from}
 use Rattle.universe_core.specs.Step.{kind_by, parent_by, head_after}
 use Rattle.universe_core.proofs.Beginning.{issuers_few}
 use Rattle.universe_core.proofs.Issuers.{enrolled_ascend}
-use Rattle.builder_core.specs.Building.{AreGroupBlocks}
+use Rattle.builder_core.specs.declared.format.Format.{Format}
+use Rattle.builder_core.specs.Building.{shift_in, AreGroupBlocks}
 use Rattle.builder_core.proofs.GroupBlocks.{blocks_length}
+use Rattle.publication_core.specs.Formats.{blocks_in}
 use Rattle.publication_core.specs.Histories.{newest_of, IsPartOf, IsAdmissible}
 use Rattle.publication_core.proofs.Leaves.{blocks_have_texts}
 
@@ -85,19 +87,19 @@ members_within : (k : List ℕ) (xs : List Identity) → length (members_of k xs
 members_within k xs = omega (arith, length-filter (λ (x : Identity). bytes_eq k x.issuer) xs, count_by-le-length (λ (x : Identity). bytes_eq k x.issuer) xs)
 
 -- blocks of the groups of ascending keys, each of few identities
-blocks_fit : (r : Release) (previous : Option (List ℕ)) (ks : List (List ℕ)) (blocks : List Block) → length r.accepted ≤ 4194304
+blocks_fit : (format : Format) (r : Release) (previous : Option (List ℕ)) (ks : List (List ℕ)) (blocks : List Block) → length r.accepted ≤ 4194304
     → Linked (λ previous k. is_after previous k ≡ true) (λ previous k. Some k) previous ks → ((k : List ℕ) → Among ks k → length k ≡ 32)
-    → AreGroupBlocks sha256_row (map (group_of r) ks) blocks → Linked FitsBlock (λ previous b. Some b.issuer) previous blocks
-blocks_fit r previous [] [] few linked wide are = tt
-blocks_fit r previous [] (b ∷ blocks) few linked wide are = absurd are
-blocks_fit r previous (k ∷ ks) [] few linked wide are = absurd are
-blocks_fit r previous (k ∷ ks) (b ∷ blocks) few linked wide are =
+    → AreGroupBlocks format sha256_row (map (group_of r) ks) blocks → Linked FitsBlock (λ previous b. Some b.issuer) previous blocks
+blocks_fit format r previous [] [] few linked wide are = tt
+blocks_fit format r previous [] (b ∷ blocks) few linked wide are = absurd are
+blocks_fit format r previous (k ∷ ks) [] few linked wide are = absurd are
+blocks_fit format r previous (k ∷ ks) (b ∷ blocks) few linked wide are =
     let members : List Identity = members_of k r.accepted in (
       (
         subst (λ (i : List ℕ). is_after previous i ≡ true) (sym are.0.0) linked.0,
-        blocks_have_texts k members (map (has r.revoked) members) b (wide k (inl refl)) (omega (arith, members_within k r.accepted, few)) are.0,
+        blocks_have_texts (shift_in format (group_of r k)) k members (map (has r.revoked) members) b (wide k (inl refl)) (omega (arith, members_within k r.accepted, few)) are.0,
       ),
-      blocks_fit r (Some b.issuer) ks blocks few
+      blocks_fit format r (Some b.issuer) ks blocks few
           (subst (λ (i : List ℕ). Linked (λ previous k. is_after previous k ≡ true) (λ previous k. Some k) (Some i) ks) (sym are.0.0) linked.1)
           (λ x a. wide x (inr a)) are.1,
     )
@@ -112,20 +114,20 @@ module _ (rs : List Release) (j : JobIn) (s : SealedFields) (admissible : IsAdmi
   abbrev made : Release
   made = released (past_of rs) (facts_of job) []
 
-  blocks_are : AreGroupBlocks sha256_row (map (group_of made) (enrolled (facts_of job))) s.part.blocks
+  blocks_are : AreGroupBlocks (blocks_in j.format) sha256_row (map (group_of made) (enrolled (facts_of job))) s.part.blocks
   unfolding groups
   blocks_are = is.blocks
 
   blocks_linked : Linked FitsBlock (λ previous b. Some b.issuer) None s.part.blocks
   blocks_linked =
-      blocks_fit made None (enrolled (facts_of job)) s.part.blocks admissible.few_identities (keys-linked (enrolled (facts_of job)) (enrolled_ascend (facts_of job)))
+      blocks_fit (blocks_in j.format) made None (enrolled (facts_of job)) s.part.blocks admissible.few_identities (keys-linked (enrolled (facts_of job)) (enrolled_ascend (facts_of job)))
       (enrolled_keys job admissible.fits.crls) blocks_are
 
   blocks_few : length s.part.blocks ≤ 65535
   blocks_few =
       omega (
         arith,
-        blocks_length sha256_row (map (group_of made) (enrolled (facts_of job))) s.part.blocks blocks_are,
+        blocks_length (blocks_in j.format) sha256_row (map (group_of made) (enrolled (facts_of job))) s.part.blocks blocks_are,
         length-map (enrolled (facts_of job)) (group_of made),
         issuers_few job,
         admissible.limits.crls,

@@ -21,7 +21,7 @@ use Rattle.history_core.specs.Facts.{IsSound}
 use Rattle.history_core.proofs.Ledger.{next_is, groups_are, counts_are}
 use Rattle.ledger_core.specs.LedgerFields.{LedgerFields}
 use Rattle.builder_core.specs.Building.{IsGroupBlock, AreGroupBlocks}
-use Rattle.publication_core.specs.Formats.{current}
+use Rattle.publication_core.specs.Formats.{current, blocks_in}
 use Rattle.publication_core.specs.Histories.{IsPartOf, IsAdmissible, History, members, with_job, IsHistory, history}
 use Rattle.publication_core.specs.Publishing.{CanBePublished, Published, IsPublication, Publishes}
 use Rattle.publication_core.proofs.Histories.{with_job_leaves, with_job_is, members_many, history_sound}
@@ -35,13 +35,13 @@ heads_same rs job = refl
 part_of_history : (rs : List Release) (job : JobFields) (p : Published) → IsSound rs → IsPublication (ledger_of rs) job p → IsPartOf rs (in_format current job) p.sealed
 part_of_history rs job p sound is = record {
   head_is = is.head ∙ heads_same rs job;
-  blocks = subst (λ (gs : List GroupFields). AreGroupBlocks sha256_row gs p.sealed.part.blocks) (groups_are rs sound (facts_of job) []) is.blocks;
+  blocks = subst (λ (gs : List GroupFields). AreGroupBlocks (blocks_in current) sha256_row gs p.sealed.part.blocks) (groups_are rs sound (facts_of job) []) is.blocks;
   trailer = is.trailer;
 }
 
 -- A job that is admitted behind a ledger, with a block for each group, is published.
 admitted_published : (ledger : LedgerFields) (job : JobFields) → refusal PUBLISHED ledger job ≡ None
-    → (blocks : List Block) → AreGroupBlocks sha256_row (groups_after ledger (facts_of job)) blocks
+    → (blocks : List Block) → AreGroupBlocks (blocks_in current) sha256_row (groups_after ledger (facts_of job)) blocks
     → (p : Published) × Publishes ledger job (Ok p)
 admitted_published ledger job none blocks are =
     let made : PartFields = record { head = head_after ledger.parts (facts_of job); blocks = blocks } in
@@ -56,8 +56,8 @@ admitted_published ledger job none blocks are =
     )
 
 -- a block for each of the groups, as a list
-blocks_of_each : (groups : List GroupFields) → ((g : GroupFields) → Contains groups g → (block : Block) × IsGroupBlock sha256_row g block)
-    → (blocks : List Block) × AreGroupBlocks sha256_row groups blocks
+blocks_of_each : (groups : List GroupFields) → ((g : GroupFields) → Contains groups g → (block : Block) × IsGroupBlock (blocks_in current) sha256_row g block)
+    → (blocks : List Block) × AreGroupBlocks (blocks_in current) sha256_row groups blocks
 blocks_of_each [] each = ([], tt)
 blocks_of_each (g ∷ groups) each =
     let first = each g (0, omega arith, refl) in
@@ -114,4 +114,4 @@ module _ (h : History) (parts : List SealedFields) (job : JobFields) (is : IsHis
       admitted_published (ledger_of rs) job
       (not_refused rs job sound (record { crls = a.crls; goes_on = a.goes_on; few_parts = a.few_parts; few_identities = a.few_identities }))
       a.blocks.0
-      (subst (λ (gs : List GroupFields). AreGroupBlocks sha256_row gs a.blocks.0) (sym (groups_are rs sound (facts_of job) [])) a.blocks.1)
+      (subst (λ (gs : List GroupFields). AreGroupBlocks (blocks_in current) sha256_row gs a.blocks.0) (sym (groups_are rs sound (facts_of job) [])) a.blocks.1)

@@ -24,12 +24,13 @@ use Rattle.builder_core.specs.Building.{AreGroupBlocks, IsFirstRefused, identiti
 use Rattle.builder_core.proofs.Admitted.{groups_few, identities_few}
 use Rattle.publication_core.specs.declared.fault.PublishFault.{PublishFault}
 use Rattle.publication_core.specs.declared.fault.PublishFault.TheVariants.{Admission, SeedsExhausted, NoMemory}
+use Rattle.publication_core.specs.Formats.{current, blocks_in}
 use Rattle.publication_core.specs.Faults.{of_admission}
 use Rattle.publication_core.specs.Building.{IsBuilt, Builds}
 use Rattle.publication_core.specs.Publishing.{Published, IsPublication, PublishesUnless}
 
 pub built_is : (place : ℕ) (head : HeadFields) (groups : List GroupFields) (next ledger : LedgerFields) (counts : Counts) (made : PartFields) (sealed : SealedFields) (trailer : List ℕ) (p : Published)
-    → made.head ≡ head → AreGroupBlocks sha256_row groups made.blocks → sealed ≡ record { part = made; trailer = sha256 (unsealed_text made) }
+    → made.head ≡ head → AreGroupBlocks (blocks_in current) sha256_row groups made.blocks → sealed ≡ record { part = made; trailer = sha256 (unsealed_text made) }
     → trailer ≡ sealed.trailer → ledger ≡ sealed_with next trailer
     → p ≡ record { place = place; sealed = sealed; ledger = ledger; counts = counts } → IsBuilt place head groups next counts p
 built_is place head groups next ledger counts made sealed trailer p head_is blocks sealed_is trailer_is ledger_is is =
@@ -37,7 +38,7 @@ built_is place head groups next ledger counts made sealed trailer p head_is bloc
     record {
       place_is = ap (λ (q : Published). q.place) is;
       head_is = ap (λ (s : SealedFields). s.part.head) sealed_of ∙ head_is;
-      blocks = subst (λ (bs : List Block). AreGroupBlocks sha256_row groups bs) (sym (ap (λ (s : SealedFields). s.part.blocks) sealed_of)) blocks;
+      blocks = subst (λ (bs : List Block). AreGroupBlocks (blocks_in current) sha256_row groups bs) (sym (ap (λ (s : SealedFields). s.part.blocks) sealed_of)) blocks;
       trailer = ap (λ (s : SealedFields). s.trailer) sealed_of ∙ sym (ap (λ (s : SealedFields). sha256 (unsealed_text s.part)) sealed_of);
       ledger = ap (λ (q : Published). q.ledger) is ∙ ledger_is ∙ ap (sealed_with next) (trailer_is ∙ sym (ap (λ (q : Published). q.sealed.trailer) is));
       counts_are = ap (λ (q : Published). q.counts) is;
@@ -53,7 +54,7 @@ publication_is : (ledger : LedgerFields) (job : JobFields) (place : ℕ) (head :
 publication_is ledger job place head groups next counts p pl hd gs ns seals b = record {
   place = b.place_is ∙ pl;
   head = b.head_is ∙ hd;
-  blocks = subst (λ (z : List GroupFields). AreGroupBlocks sha256_row z p.sealed.part.blocks) gs b.blocks;
+  blocks = subst (λ (z : List GroupFields). AreGroupBlocks (blocks_in current) sha256_row z p.sealed.part.blocks) gs b.blocks;
   trailer = b.trailer;
   next = b.ledger ∙ seals p.sealed.trailer;
   counts = b.counts_are ∙ ns;
@@ -67,7 +68,7 @@ pub publishes : (ledger : LedgerFields) (job : JobFields) (place : ℕ) (head : 
 publishes ledger job place head groups next counts (Ok p) none pl hd gs ns seals b = (none, publication_is ledger job place head groups next counts p pl hd gs ns seals b)
 publishes ledger job place head groups next counts (Err (Admission fault)) none pl hd gs ns seals b = absurd b
 publishes ledger job place head groups next counts (Err (SeedsExhausted issuer stage)) none pl hd gs ns seals b =
-    (none, subst (λ (z : List GroupFields). IsFirstRefused sha256_row z issuer stage) gs b)
+    (none, subst (λ (z : List GroupFields). IsFirstRefused (blocks_in current) sha256_row z issuer stage) gs b)
 publishes ledger job place head groups next counts (Err NoMemory) none pl hd gs ns seals b = tt
 
 -- What isn't admitted.

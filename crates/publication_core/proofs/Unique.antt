@@ -16,25 +16,26 @@ use Rattle.universe_core.specs.History.{Release}
 use Rattle.universe_core.specs.Groups.{GroupFields}
 use Rattle.universe_core.specs.Ledgers.{next_ledger}
 use Rattle.universe_core.specs.Step.{refusal, groups_after}
+use Rattle.builder_core.specs.declared.format.Format.{Format}
 use Rattle.builder_core.specs.Building.{AreGroupBlocks}
 use Rattle.builder_core.proofs.GroupBlocks.{blocks_unique}
 use Rattle.builder_core.proofs.FirstRefused.{refused_no_blocks, first_refused_once}
 use Rattle.publication_core.specs.declared.fault.PublishFault.{PublishFault}
 use Rattle.publication_core.specs.declared.fault.PublishFault.TheVariants.{Admission, SeedsExhausted, NoMemory}
-use Rattle.publication_core.specs.Formats.{facts_in}
+use Rattle.publication_core.specs.Formats.{current, blocks_in, facts_in}
 use Rattle.publication_core.specs.Histories.{groups_of, IsPartOf, release_of, AreAdmissible, History, of_jobs, IsHistory}
 use Rattle.publication_core.specs.Publishing.{Published, IsPublication, Publishes}
 
 -- parts with the same head, blocks of the same groups, and their digests
-sealed_same : (head : HeadFields) (gs : List GroupFields) (a b : SealedFields) → a.part.head ≡ head → b.part.head ≡ head → AreGroupBlocks sha256_row gs a.part.blocks
-    → AreGroupBlocks sha256_row gs b.part.blocks → a.trailer ≡ sha256 (unsealed_text a.part) → b.trailer ≡ sha256 (unsealed_text b.part) → a ≡ b
-sealed_same head gs a b ha hb ba bb ta tb =
-    let blocks : a.part.blocks ≡ b.part.blocks = blocks_unique sha256_row gs a.part.blocks b.part.blocks ba bb in
+sealed_same : (format : Format) (head : HeadFields) (gs : List GroupFields) (a b : SealedFields) → a.part.head ≡ head → b.part.head ≡ head → AreGroupBlocks format sha256_row gs a.part.blocks
+    → AreGroupBlocks format sha256_row gs b.part.blocks → a.trailer ≡ sha256 (unsealed_text a.part) → b.trailer ≡ sha256 (unsealed_text b.part) → a ≡ b
+sealed_same format head gs a b ha hb ba bb ta tb =
+    let blocks : a.part.blocks ≡ b.part.blocks = blocks_unique format sha256_row gs a.part.blocks b.part.blocks ba bb in
     let part : a.part ≡ b.part = λ i. record { head = (ha ∙ sym hb) i; blocks = blocks i } in
     λ i. record { part = part i; trailer = (ta ∙ ap (λ (p : PartFields). sha256 (unsealed_text p)) part ∙ sym tb) i }
 
 pub part_unique : (rs : List Release) (j : JobIn) (a b : SealedFields) → IsPartOf rs j a → IsPartOf rs j b → a ≡ b
-part_unique rs j a b x y = sealed_same _ (groups_of rs (facts_in j)) a b x.head_is y.head_is x.blocks y.blocks x.trailer y.trailer
+part_unique rs j a b x y = sealed_same (blocks_in j.format) _ (groups_of rs (facts_in j)) a b x.head_is y.head_is x.blocks y.blocks x.trailer y.trailer
 
 after_unique : (rs : List Release) (jobs : List JobIn) (a b : List SealedFields) → AreAdmissible rs jobs a → AreAdmissible rs jobs b → a ≡ b
 after_unique rs [] [] [] x y = refl
@@ -54,7 +55,7 @@ history_unique (of_jobs jobs) a b x y = after_unique [] jobs a b x y
 
 publication_unique : (ledger : LedgerFields) (job : JobFields) (p q : Published) → IsPublication ledger job p → IsPublication ledger job q → p ≡ q
 publication_unique ledger job p q x y =
-    let sealed : p.sealed ≡ q.sealed = sealed_same _ (groups_after ledger (facts_of job)) p.sealed q.sealed x.head y.head x.blocks y.blocks x.trailer y.trailer in
+    let sealed : p.sealed ≡ q.sealed = sealed_same (blocks_in current) _ (groups_after ledger (facts_of job)) p.sealed q.sealed x.head y.head x.blocks y.blocks x.trailer y.trailer in
     λ i. record {
       place = (x.place ∙ sym y.place) i;
       sealed = sealed i;
@@ -72,7 +73,7 @@ pub outcome_unique : (ledger : LedgerFields) (job : JobFields) (a b : Result Pub
 outcome_unique ledger job (Ok p) (Ok q) x y = ap (λ (r : Published). Ok r) (publication_unique ledger job p q x.1 y.1)
 outcome_unique ledger job (Ok p) (Err (Admission fault)) x y = not_both (refusal PUBLISHED ledger job) fault x.0 y
 outcome_unique ledger job (Ok p) (Err (SeedsExhausted issuer stage)) x y =
-    absurd (refused_no_blocks sha256_row (groups_after ledger (facts_of job)) issuer stage p.sealed.part.blocks y.1 x.1.blocks)
+    absurd (refused_no_blocks (blocks_in current) sha256_row (groups_after ledger (facts_of job)) issuer stage p.sealed.part.blocks y.1 x.1.blocks)
 outcome_unique ledger job (Ok p) (Err NoMemory) x y = absurd y
 outcome_unique ledger job (Err NoMemory) b x y = absurd x
 outcome_unique ledger job (Err (Admission fault)) (Ok q) x y = not_both (refusal PUBLISHED ledger job) fault y.0 x
@@ -80,9 +81,9 @@ outcome_unique ledger job (Err (Admission fault)) (Err (Admission other)) x y = 
 outcome_unique ledger job (Err (Admission fault)) (Err (SeedsExhausted issuer stage)) x y = not_both (refusal PUBLISHED ledger job) fault y.0 x
 outcome_unique ledger job (Err (Admission fault)) (Err NoMemory) x y = absurd y
 outcome_unique ledger job (Err (SeedsExhausted issuer stage)) (Ok q) x y =
-    absurd (refused_no_blocks sha256_row (groups_after ledger (facts_of job)) issuer stage q.sealed.part.blocks x.1 y.1.blocks)
+    absurd (refused_no_blocks (blocks_in current) sha256_row (groups_after ledger (facts_of job)) issuer stage q.sealed.part.blocks x.1 y.1.blocks)
 outcome_unique ledger job (Err (SeedsExhausted issuer stage)) (Err (Admission fault)) x y = not_both (refusal PUBLISHED ledger job) fault x.0 y
 outcome_unique ledger job (Err (SeedsExhausted issuer stage)) (Err (SeedsExhausted other at)) x y =
-    let same = first_refused_once sha256_row (groups_after ledger (facts_of job)) issuer other stage at x.1 y.1 in
+    let same = first_refused_once (blocks_in current) sha256_row (groups_after ledger (facts_of job)) issuer other stage at x.1 y.1 in
     λ i. Err (SeedsExhausted (same.0 i) (same.1 i))
 outcome_unique ledger job (Err (SeedsExhausted issuer stage)) (Err NoMemory) x y = absurd y

@@ -20,14 +20,14 @@ use Rattle.universe_core.specs.Ledgers.{part_from, ledger_of}
 use Rattle.universe_core.specs.Step.{head_after}
 use Rattle.builder_core.specs.Building.{AreGroupBlocks}
 use Rattle.store_core.specs.StoreLayout.{store_text}
-use Rattle.publication_core.specs.Formats.{current, facts_in}
+use Rattle.publication_core.specs.Formats.{current, blocks_in, facts_in}
 
 -- ---- one job
 
 -- A part with this head, a block for each of the groups in the format, by rows of SHA-256, and its digest.
 pub record IsSealedPart (format : JobFormat) (head : HeadFields) (groups : List GroupFields) (s : SealedFields) : Type 0 where
   pub head_is : s.part.head ≡ head
-  pub blocks : AreGroupBlocks sha256_row groups s.part.blocks
+  pub blocks : AreGroupBlocks (blocks_in format) sha256_row groups s.part.blocks
   pub trailer : s.trailer ≡ sha256 (unsealed_text s.part)
 
 -- what a job's blocks are built of, behind these releases
@@ -58,7 +58,7 @@ pub record IsAdmissible (rs : List Release) (j : JobIn) : Type 0 where
   pub few_parts : length rs < MAX_PARTS
   pub few_identities : length (accepted_with (past_of rs) (facts_in j)) ≤ PUBLISHED.identities
   -- each enrolled issuer has a block
-  pub blocks : (blocks : List Block) × AreGroupBlocks sha256_row (groups_of rs (facts_in j)) blocks
+  pub blocks : (blocks : List Block) × AreGroupBlocks (blocks_in j.format) sha256_row (groups_of rs (facts_in j)) blocks
 
 -- what a job with this part leaves
 abbrev pub release_of : List Release → JobIn → SealedFields → Release

@@ -16,6 +16,7 @@ use Rattle.universe_core.specs.Step.{refusal, head_after, groups_after, counts_a
 use Rattle.builder_core.specs.Building.{IsGroupBlock, AreGroupBlocks, IsFirstRefused}
 use Rattle.publication_core.specs.declared.fault.PublishFault.{PublishFault}
 use Rattle.publication_core.specs.declared.fault.PublishFault.TheVariants.{Admission, SeedsExhausted, NoMemory}
+use Rattle.publication_core.specs.Formats.{current, blocks_in}
 
 -- A part with its place in the chain, the ledger behind it, and how many the job has of each.
 pub record Published : Type 0 where
@@ -28,7 +29,7 @@ pub record Published : Type 0 where
 pub record IsPublication (ledger : LedgerFields) (job : JobFields) (p : Published) : Type 0 where
   pub place : p.place ≡ length ledger.parts
   pub head : p.sealed.part.head ≡ head_after ledger.parts (facts_of job)
-  pub blocks : AreGroupBlocks sha256_row (groups_after ledger (facts_of job)) p.sealed.part.blocks
+  pub blocks : AreGroupBlocks (blocks_in current) sha256_row (groups_after ledger (facts_of job)) p.sealed.part.blocks
   pub trailer : p.sealed.trailer ≡ sha256 (unsealed_text p.sealed.part)
   pub next : p.ledger ≡ next_ledger ledger (facts_of job) p.sealed.trailer
   pub counts : p.counts ≡ counts_after ledger (facts_of job)
@@ -38,7 +39,7 @@ abbrev pub Publishes : LedgerFields → JobFields → Result Published PublishFa
 Publishes ledger job (Ok p) = (refusal limits.PUBLISHED ledger job ≡ None) × IsPublication ledger job p
 Publishes ledger job (Err (Admission fault)) = refusal limits.PUBLISHED ledger job ≡ Some fault
 Publishes ledger job (Err (SeedsExhausted issuer stage)) =
-    (refusal limits.PUBLISHED ledger job ≡ None) × IsFirstRefused sha256_row (groups_after ledger (facts_of job)) issuer stage
+    (refusal limits.PUBLISHED ledger job ≡ None) × IsFirstRefused (blocks_in current) sha256_row (groups_after ledger (facts_of job)) issuer stage
 Publishes ledger job (Err NoMemory) = ⊥
 
 -- the same, or want of memory
@@ -50,4 +51,4 @@ PublishesUnless ledger job (Err fault) = Publishes ledger job (Err fault)
 -- Nothing refuses the job behind this ledger, and each enrolled issuer has a block.
 pub record CanBePublished (ledger : LedgerFields) (job : JobFields) : Type 0 where
   pub admitted : refusal limits.PUBLISHED ledger job ≡ None
-  pub blocks : (g : GroupFields) → Contains (groups_after ledger (facts_of job)) g → (block : Block) × IsGroupBlock sha256_row g block
+  pub blocks : (g : GroupFields) → Contains (groups_after ledger (facts_of job)) g → (block : Block) × IsGroupBlock (blocks_in current) sha256_row g block
