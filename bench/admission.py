@@ -16,7 +16,7 @@ import os
 import sys
 import tempfile
 
-from publishing import PROGRAM, T, best, crl, der, write
+from publishing import PROGRAM, T, best, crl, entry, serial, write
 
 ENTRIES = 200000
 PARTS = 4
@@ -46,11 +46,7 @@ def job(epoch, logs_covered, to, keys, sightings):
     for key in keys:
         out.append(b"\x02" + key + len(held).to_bytes(4, "big") + held)
     for i, (log, time) in enumerate(sightings):
-        serial = b"\x01" + hashlib.sha256(b"bench serial %d" % i).digest()[:15]
-        tbs = der(0x30, der(2, serial))
-        key = keys[i * 7919 % len(keys)]
-        leaf = b"\0\0" + (T + time).to_bytes(8, "big") + b"\0\1" + key + len(tbs).to_bytes(3, "big") + tbs + b"\0\0"
-        out.append(b"\x03" + log + len(leaf).to_bytes(3, "big") + leaf + bytes(3))
+        out.append(entry(log, keys[i * 7919 % len(keys)], serial(i), T + time))
     out.append(b"\0")
     return b"".join(out)
 

@@ -2,13 +2,15 @@
 """What each crate costs the gate: its proof, its tests, its must-fail edits and its programs, in minutes of a
 processor.
 
-    bench/gate.py run LOG      runs .ci/run, and notes in LOG what each of its processes took; ends with its status
-    bench/gate.py table LOG    prints the table of a log, the dearest crate first, and the ten dearest edits
+    bench/gate.py run LOG          runs .ci/run, and notes in LOG what each of its processes took; ends with its status
+    bench/gate.py watch LOG PID    notes the same of a gate that runs, from now on; PID is that of its `rt ci`
+    bench/gate.py table LOG        prints the table of a log, the dearest crate first, and the ten dearest edits
 
 The times are those that the system counts (/proc), looked at four times a second: a process that lives for less is
-missed. An edit's name is told by its place, since the gate tries a crate's edits in the order of their names; a first
-edit proves most of the crate, and after the last one the crate itself is checked over what the edits kept. A log that
-is whole tells how long the run took by the clock. For figures from nothing run it in a fresh clone on a quiet machine.
+missed. What `rt ci` prints has no times, and is no log. An edit is told by the texts that its check reads. Before a
+crate's edits the crate itself is checked, and again behind them, over what they kept; both count among its edits. A log
+that `run` has ended tells how long the run took by the clock. For figures from nothing run it in a fresh clone on a
+quiet machine, with `rt ci --anew` in .ci/run where an earlier run there has kept what it proved.
 """
 
 import json
@@ -34,32 +36,66 @@ def process(number):
     return text[text.index("(") + 1 : end], int(fields[1]), sum(map(int, fields[11:15])), int(fields[19])
 
 
-def purpose(number):
-    """Which crate a process works for, and at what; or None."""
+def contents(*path):
+    with open(os.path.join(*path), encoding="utf-8", errors="replace") as file:
+        return file.read()
+
+
+def edits_of(folder):
+    """The names of a crate's must-fail edits."""
+    folder = os.path.join(folder, "must-fail")
+    return sorted(it for it in os.listdir(folder) if it.endswith(".edit")) if os.path.isdir(folder) else []
+
+
+def texts_with(edit, folder):
+    """The texts of the files that an edit of the crate changes, by their paths in it."""
+    texts, path, old = {}, "", ""
+    for line in contents(folder, "must-fail", edit).split("\n"):
+        word, _, said = line.partition(":")
+        said = said.removeprefix(" ")
+        if word == "file":
+            path = said.strip()
+            texts.setdefault(path, contents(folder, path))
+        elif word == "old":
+            old = said
+        elif word == "new":
+            texts[path] = texts[path].replace(old, said)
+    return texts
+
+
+def edit_in(room, folder):
+    """The edit with which a copy of the crate was made."""
+    for edit in edits_of(folder):
+        if all(contents(room, path) == text for path, text in texts_with(edit, folder).items()):
+            return edit
+    return "the crate itself"
+
+
+def purpose(number, top):
+    """Which crate of the tree a process works for, at what, and by which edit; or None."""
     try:
         folder = os.readlink(f"/proc/{number}/cwd")
-        with open(f"/proc/{number}/cmdline", encoding="utf-8", errors="replace") as file:
-            words = file.read().split("\0")
+        words = contents(f"/proc/{number}/cmdline").split("\0")
+        if words[0].endswith("/bin/rattle") and "--crate-name" in words:
+            crate = words[words.index("--crate-name") + 1]
+            if "/rt-edit-" in folder:
+                return crate, "edits", edit_in(folder, os.path.join(top, "crates", crate))
+            if "--test" in words:
+                return crate, "tests", ""
+            return crate, "programs" if "--crate-checked" in words else "proof", ""
     except OSError:
         return None
-    if words[0].endswith("/bin/rattle") and "--crate-name" in words:
-        crate = words[words.index("--crate-name") + 1]
-        if "/rt-edit-" in folder:
-            return crate, "edits"
-        if "--test" in words:
-            return crate, "tests"
-        return crate, "programs" if "--crate-checked" in words else "proof"
     if words[0].startswith("/tmp/rt-run-"):
         crate = os.path.basename(words[0])
-        return (crate[: -len("_tests")], "tests") if crate.endswith("_tests") else (crate, "programs")
+        return (crate[: -len("_tests")], "tests", "") if crate.endswith("_tests") else (crate, "programs", "")
     return None
 
 
 class Watch:
-    """What the processes of a gate, those below its first one, took so far."""
+    """What the processes of a gate over a tree, those below its first one, took so far."""
 
-    def __init__(self, gate):
-        self.gate, self.began, self.seen = gate, time.time(), {}
+    def __init__(self, gate, top):
+        self.gate, self.top, self.began, self.seen = gate, top, time.time(), {}
 
     def look(self):
         found = {int(name): process(name) for name in os.listdir("/proc") if name.isdigit()}
@@ -79,11 +115,12 @@ class Watch:
             it = found[number]
             key = f"{number}.{it[3]}"
             if key not in self.seen:
-                at = purpose(number)
+                at = purpose(number, self.top)
                 above = found.get(it[1])
                 if not at or above and f"{it[1]}.{above[3]}" in self.seen:
                     continue
-                self.seen[key] = {"crate": at[0], "kind": at[1], "from": now - self.began, "seconds": 0}
+                told = dict(zip(("crate", "kind", "edit"), at))
+                self.seen[key] = {**told, "from": now - self.began, "seconds": 0}
             record = self.seen[key]
             record["to"] = now - self.began
             record["seconds"] = max(record["seconds"], whole(number) / TICKS)
@@ -94,56 +131,68 @@ class Watch:
         os.replace(f"{file}.new", file)
 
 
+def follow(gate, top, has_ended, file):
+    """Looks at the processes of a gate over a tree until it has ended, and notes what each took."""
+    watch, turn = Watch(gate, top), 0
+    while not has_ended():
+        watch.look()
+        turn += 1
+        if turn % 80 == 0:
+            watch.keep(file)
+        time.sleep(0.25)
+    watch.keep(file)
+    return watch
+
+
 def run(file):
     with subprocess.Popen([os.path.join(TOP, ".ci/run")]) as gate:
-        watch, turn = Watch(gate.pid), 0
-        while gate.poll() is None:
-            watch.look()
-            turn += 1
-            if turn % 80 == 0:
-                watch.keep(file)
-            time.sleep(0.25)
+        watch = follow(gate.pid, TOP, lambda: gate.poll() is not None, file)
         watch.keep(file, time.time() - watch.began)
         return gate.returncode
 
 
-def edits_of(crate):
-    folder = os.path.join(TOP, "crates", crate, "must-fail")
-    return sorted(it for it in os.listdir(folder) if it.endswith(".edit")) if os.path.isdir(folder) else []
+def watch(file, gate):
+    began = process(int(gate))
+    if began is None:
+        sys.exit(f"there is no process {gate}")
+    # The number may have been given to another process, which has another start.
+    follow(int(gate), os.readlink(f"/proc/{gate}/cwd"), lambda: (process(int(gate)) or [None])[-1] != began[-1], file)
+    return 0
+
+
+def read(file):
+    try:
+        return json.loads(contents(file))
+    except ValueError:
+        sys.exit(f"{file} is no log of `bench/gate.py run` or `watch`; what rt ci prints has no times")
 
 
 def table(file):
-    with open(file, encoding="utf-8") as it:
-        log = json.load(it)
-    cost, edits = {}, []
-    for record in sorted(log["processes"], key=lambda it: it["from"]):
-        row = cost.setdefault(record["crate"], dict.fromkeys(KINDS, 0))
-        row[record["kind"]] += record["seconds"]
-        if record["kind"] == "edits":
-            edits.append(record)
+    log = read(file)
+    cost, edits = {}, {}
+    for record in log["processes"]:
+        crate, kind, seconds = record["crate"], record["kind"], record["seconds"]
+        cost.setdefault(crate, dict.fromkeys(KINDS, 0))[kind] += seconds
+        if kind == "edits":
+            name = crate, record["edit"]
+            edits[name] = edits.get(name, 0) + seconds
     print("| crate | " + " | ".join(KINDS) + " | all |\n|---|" + "---|" * (len(KINDS) + 1))
     total = {kind: sum(row[kind] for row in cost.values()) for kind in KINDS}
     for crate, row in [*sorted(cost.items(), key=lambda it: -sum(it[1].values())), ("all", total)]:
         cells = [f"{row[kind] / 60:.1f}" if row[kind] >= 3 else "" for kind in KINDS]
         print(f"| {crate} | " + " | ".join(cells) + f" | {sum(row.values()) / 60:.1f} |")
-    places, named = {}, []
-    for record in edits:
-        crate = record["crate"]
-        places[crate] = places.get(crate, 0) + 1
-        names = [*edits_of(crate), "the crate itself, over what the edits kept"]
-        at = places[crate] - 1
-        named.append((record["seconds"], crate, names[at] if at < len(names) else "once more"))
-    for seconds, crate, name in sorted(named, reverse=True)[:10]:
-        print(f"- {seconds / 60:.1f}: {crate}, {name}")
+    for (crate, edit), seconds in sorted(edits.items(), key=lambda it: -it[1])[:10]:
+        print(f"- {seconds / 60:.1f}: {crate}, {edit}")
     if log["took"]:
         print(f"by the clock: {log['took'] / 60:.1f} minutes")
 
 
 def main():
-    calls = {"run": run, "table": table}
-    if len(sys.argv) != 3 or sys.argv[1] not in calls:
+    calls = {("run", 1): run, ("watch", 2): watch, ("table", 1): table}
+    call = calls.get((sys.argv[1] if len(sys.argv) > 1 else "", len(sys.argv) - 2))
+    if call is None:
         sys.exit(__doc__)
-    sys.exit(calls[sys.argv[1]](sys.argv[2]))
+    sys.exit(call(*sys.argv[2:]))
 
 
 if __name__ == "__main__":

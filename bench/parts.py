@@ -11,12 +11,12 @@ The second counts the instructions of a round by valgrind's callgrind in place o
 
 import hashlib
 import os
-import re
 import resource
-import shutil
 import subprocess
 import sys
 import tempfile
+
+from instructions import instructions
 
 BENCHES = "crates/benches/out/benches"
 T = 1700000000000
@@ -64,24 +64,16 @@ def a_round(what, path, rounds):
     return min(runs) / rounds * 1000
 
 
-def instructions(what, path, rounds):
-    """All that a run executes."""
-    command = ["valgrind", "--tool=callgrind", "--callgrind-out-file=/dev/null", BENCHES, "part", what, path, str(rounds)]
-    run = subprocess.run(command, stdout=subprocess.DEVNULL, stderr=subprocess.PIPE, text=True, check=True)
-    return int(re.search(r"Collected : (\d+)", run.stderr).group(1))
-
-
 def instructions_of_a_round(what, path):
     """In millions, without the program's start."""
-    return (instructions(what, path, 2) - instructions(what, path, 1)) / 1e6
+    once, twice = (instructions([BENCHES, "part", what, path, rounds])[0] for rounds in "12")
+    return (twice - once) / 1e6
 
 
 def main():
     if not os.access(BENCHES, os.X_OK):
         sys.exit("build the program first: (cd crates/benches && rt run)")
     counts = sys.argv[1:] == ["instructions"]
-    if counts and shutil.which("valgrind") is None:
-        sys.exit("valgrind is absent: its callgrind counts the instructions")
     unit = "million" if counts else "ms"
     parts = [("65,535 plain blocks", plain(65535)), ("400 mixed blocks, 1,200 starts", mixed(400, 1200))]
     parts += [("4 mixed blocks, 100,000 starts", mixed(4, 100000)), ("4,000 mixed blocks, 10 starts", mixed(4000, 10))]

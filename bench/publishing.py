@@ -27,11 +27,23 @@ ALGORITHM = bytes.fromhex("300a06082a8648ce3d040302")
 DATE = bytes.fromhex("170d3233313131343232313332305a")
 
 
-def crl(serials):
-    """A CRL that holds the serials (RFC 5280, 5.1), with no nextUpdate."""
-    listed = der(0x30, b"".join(der(0x30, der(2, s) + DATE) for s in serials)) if serials else b""
+def crl_of(entries):
+    """A CRL that holds the entries (RFC 5280, 5.1), with no nextUpdate."""
+    listed = der(0x30, entries) if entries else b""
     tbs = der(0x30, bytes.fromhex("020101") + ALGORITHM + der(0x30, b"") + DATE + listed)
     return der(0x30, tbs + ALGORITHM + bytes.fromhex("030100"))
+
+
+def crl(serials):
+    """A CRL that holds the serials."""
+    return crl_of(b"".join(der(0x30, der(2, s) + DATE) for s in serials))
+
+
+def entry(log, issuer, octets, time):
+    """The record of a precertificate entry with this serial."""
+    tbs = der(0x30, der(2, octets))
+    leaf = b"\0\0" + time.to_bytes(8, "big") + b"\0\1" + issuer + len(tbs).to_bytes(3, "big") + tbs + b"\0\0"
+    return b"\x03" + log + len(leaf).to_bytes(3, "big") + leaf + bytes(3)
 
 
 def serial(i):
@@ -54,10 +66,7 @@ def job(epoch, first, count, revoked):
     for j, issuer in enumerate(ISSUERS):
         held = crl([serial(i) for i in range(j, count, 4) if revoked(i)])
         out.append(b"\x02" + issuer + len(held).to_bytes(4, "big") + held)
-    for i in range(first, count):
-        tbs = der(0x30, der(2, serial(i)))
-        leaf = b"\0\0" + (T + i).to_bytes(8, "big") + b"\0\1" + ISSUERS[i % 4] + len(tbs).to_bytes(3, "big") + tbs + b"\0\0"
-        out.append(b"\x03" + LOG + len(leaf).to_bytes(3, "big") + leaf + bytes(3))
+    out += [entry(LOG, ISSUERS[i % 4], serial(i), T + i) for i in range(first, count)]
     out.append(b"\0")
     return b"".join(out)
 
