@@ -8,7 +8,7 @@ use Rattle.ident_core.specs.Order.{identity_cmp}
 use Rattle.ident_core.specs.Coverage.{covers}
 use Rattle.sets_core.specs.Among.{Among}
 use Rattle.sets_core.specs.Sets.{has, has_key}
-use Rattle.sets_core.proofs.Elements.{Among-left, Among-push, Among-push_cases, Among-cases}
+use Rattle.sets_core.proofs.Elements.{Among-left, Among-right, Among-push, Among-push_cases, Among-cases}
 use Rattle.sets_core.proofs.Sets.{identity_total}
 use Rattle.sets_core.proofs.Order.{sorted_none}
 use Rattle.universe_core.specs.Jobs.{Entry, Job, enrolled}
@@ -16,16 +16,17 @@ use Rattle.universe_core.specs.History.{Release, past_of, released, sightings, a
 use Rattle.history_core.specs.Facts.{Widens, IsFormed, IsSound, KeepsCoverage}
 use Rattle.history_core.proofs.Sightings.{Among-sightings}
 use Rattle.history_core.proofs.Coverage.{covers_next}
-use Rattle.history_core.proofs.Accepting.{shown_is, accepted_old, accepted_new, universe_is, universe_has, listed_is, revoked_is, revoked_listed, not_revoked, enrolled_ascend, accepted_ascend}
-use Rattle.history_core.proofs.Releases.{seen-push, sightings-append, accepted_by-has, Widens-push, is_listed_at, is_listed_by, IsSettled, settled_parts, settled_from, not_lacked, accepted_by-ascend}
+use Rattle.history_core.proofs.Accepting.{shown_is, accepted_cases, accepted_old, accepted_new, universe_is, universe_has, listed_is, revoked_is, revoked_listed, not_revoked, enrolled_ascend, accepted_ascend}
+use Rattle.history_core.proofs.Releases.{seen-push, sightings-append, accepted_by-push, accepted_by-has, Widens-push, is_listed_at, is_listed_by, IsSettled, settled_parts, settled_from, not_lacked, accepted_by-ascend}
 
 pub nothing_sound : IsSound []
-unfolding is_listed seen
+unfolding is_listed seen accepted_by
 nothing_sound = record {
   widens = tt;
   formed = λ r a. absurd a;
   covered = λ e a. absurd a;
   timely = λ e a. absurd a;
+  entered = λ x h. absurd (false≢true h);
   revoked = λ x r a. absurd a;
   settled = λ x h. absurd (false≢true h);
 }
@@ -35,6 +36,10 @@ nothing_sound = record {
 past_accepted : (rs : List Release) (x : Identity) → has (accepted_by [] rs) x ≡ true → has (past_of rs).accepted x ≡ true
 unfolding past_of
 past_accepted rs x h = h
+
+accepted_past : (rs : List Release) (x : Identity) → has (past_of rs).accepted x ≡ true → has (accepted_by [] rs) x ≡ true
+unfolding past_of
+accepted_past rs x h = h
 
 past_timely : (rs : List Release) (x : Identity) (s : Sighting) (r : Release) → (past_of rs).lacked x s ≡ false → Among rs r → covers r.ranges s ≡ true
     → has_key r.issuers x.issuer ≡ true → has r.accepted x ≡ true
@@ -108,6 +113,17 @@ module _ (rs : List Release) (job : Job) (trailer : List ℕ) (sound : IsSound r
   timely e a r i c k =
       ⊎_elim (λ old. timely_before e a r old c k) (λ (q : released (past_of rs) job trailer ≡ r). ap (λ (z : Release). has z.accepted e.id) (sym q) ∙ timely_now
       e a) (Among-push_cases rs (released (past_of rs) job trailer) r i)
+
+  from_old : (e : Entry) → Among (seen rs) e → Among (seen after) e
+  from_old e a = subst (λ (es : List Entry). Among es e) (sym (seen-push rs (released (past_of rs) job trailer))) (Among-left (seen rs) (shown (past_of rs) job) e a)
+
+  from_new : (e : Entry) → Among (shown (past_of rs) job) e → Among (seen after) e
+  from_new e a = subst (λ (es : List Entry). Among es e) (sym (seen-push rs (released (past_of rs) job trailer))) (Among-right (seen rs) (shown (past_of rs) job) e a)
+
+  entered : (x : Identity) → has (accepted_by [] after) x ≡ true → (e : Entry) × Among (seen after) e × (e.id ≡ x)
+  entered x h =
+      ⊎_elim (λ old. let e = sound.entered x (accepted_past rs x old) in (e.0, from_old e.0 e.1, e.2)) (λ n. (n.0, from_new n.0 n.1, n.2))
+      (accepted_cases (past_of rs) job x (ap (λ xs. has xs x) (sym (accepted_by-push [] rs (released (past_of rs) job trailer))) ∙ h))
 
   -- listed before or now is listed
   listed_before : (x : Identity) → is_listed rs x ≡ true → is_listed after x ≡ true
@@ -202,6 +218,7 @@ module _ (rs : List Release) (job : Job) (trailer : List ℕ) (sound : IsSound r
     formed = formed;
     covered = covered;
     timely = timely;
+    entered = entered;
     revoked = revoked_listed_after;
     settled = settled;
   }

@@ -142,6 +142,11 @@ zip_push R [] (w ∷ ys) x y z r = absurd z
 zip_push R (v ∷ xs) [] x y z r = absurd z
 zip_push R (v ∷ xs) (w ∷ ys) x y z r = (z.0, zip_push R xs ys x y z.1 r)
 
+-- a job more, and what it leaves
+pub leaves_more : (jobs : List Job) (job : Job) (rs : List Release) (trailer : List ℕ) → AllZip Leaves jobs rs
+    → AllZip Leaves (jobs ++ job ∷ []) (rs ++ released (past_of rs) job trailer ∷ [])
+leaves_more jobs job rs trailer z = zip_push Leaves jobs rs job (released (past_of rs) job trailer) z (leaves (past_of rs) job trailer)
+
 pub releases_leave : (trailer : List Release → Job → List ℕ) (jobs : List Job) (before : List Job) (rs : List Release) → AllZip Leaves before rs
     → AllZip Leaves (before ++ jobs) (releases trailer rs jobs)
 unfolding releases
@@ -149,7 +154,7 @@ releases_leave trailer [] before rs z = rw append-nil z
 releases_leave trailer (job ∷ jobs) before rs z =
     subst (λ (js : List Job). AllZip Leaves js (releases trailer (rs ++ released (past_of rs) job (trailer rs job) ∷ []) jobs)) (append_assoc before (job ∷ []) jobs)
     (releases_leave trailer jobs (before ++ job ∷ []) (rs ++ released (past_of rs) job (trailer rs job) ∷ [])
-    (zip_push Leaves before rs job (released (past_of rs) job (trailer rs job)) z (leaves (past_of rs) job (trailer rs job))))
+    (leaves_more before job rs (trailer rs job) z))
 
 -- listed by the jobs of a history
 pub listed_of_jobs : (trailer : List Release → Job → List ℕ) (jobs : List Job) (x : Identity) → AllKeepCoverage trailer [] jobs

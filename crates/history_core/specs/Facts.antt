@@ -8,7 +8,7 @@ use Rattle.ident_core.specs.Coverage.{covers}
 use Rattle.sets_core.specs.Among.{Among}
 use Rattle.sets_core.specs.Sets.{has, has_key}
 use Rattle.universe_core.specs.Jobs.{Entry, Job, enrolled, lists}
-use Rattle.universe_core.specs.History.{Release, seen, is_listed, is_settled_by, sightings, past_of, released, lie_within}
+use Rattle.universe_core.specs.History.{Release, accepted_by, seen, is_listed, is_settled_by, sightings, past_of, released, lie_within}
 
 -- q covers and has accepted all that r did
 pub record IsWider (r q : Release) : Type 0 where
@@ -38,6 +38,8 @@ pub record IsSound (rs : List Release) : Type 0 where
   -- and each such release has accepted the identity
   pub timely : (e : Entry) → Among (seen rs) e → (r : Release) → Among rs r → covers r.ranges e.sighting ≡ true
       → has_key r.issuers e.id.issuer ≡ true → has r.accepted e.id ≡ true
+  -- each accepted identity has an accepted entry
+  pub entered : (x : Identity) → has (accepted_by [] rs) x ≡ true → (e : Entry) × Among (seen rs) e × (e.id ≡ x)
   -- what is revoked is listed
   pub revoked : (x : Identity) (r : Release) → Among rs r → has r.revoked x ≡ true → is_listed rs x ≡ true
   -- what is listed is revoked by some release that covers all its sightings

@@ -20,10 +20,14 @@ ghost use Rattle.history_core.specs.Publishing.{IsExact, part_of};
 ghost use Rattle.history_core.specs.Beginnings.{sees};
 ghost use Rattle.history_core.specs.Example.{certificate, second_job, after_first};
 
-/// The facts hold of no release; a job whose coverage holds that of the newest release keeps them; so they hold after
-/// each job of a history; and a job that isn't refused has such a coverage.
+/// The facts hold of no release, and each job that isn't refused keeps them, from any state in which they hold
+/// (`nothing`, `next`). More is kept: any job does whose coverage holds that of the newest release (`kept`), as that of
+/// a job that isn't refused does (`admitted`). So the facts hold after each job of a history.
 pub fn facts_hold()
     ensures nothing { IsSound [] }
+    ensures next { (limits : Limits) (rs : List Release) (job : JobFields) (trailer : List ℕ) → IsSound rs
+        → refusal limits (ledger_of rs) job ≡ None
+        → IsSound (rs ++ released (past_of rs) (facts_of job) trailer ∷ []) }
     ensures kept { (rs : List Release) (job : Job) (trailer : List ℕ) → IsSound rs → KeepsCoverage rs job
         → IsSound (rs ++ released (past_of rs) job trailer ∷ []) }
     ensures history { (trailer : List Release → Job → List ℕ) (rs : List Release) (jobs : List Job) → IsSound rs
@@ -69,8 +73,9 @@ pub fn last_part_covers()
 
 /// The definitions in other words. The revoked set: of the universe, what is listed up to now, without what an earlier
 /// part revokes while it covers all its sightings. Listed: some job since the identity's birth enrolls its issuer and
-/// lists it; of any releases that leave what their jobs say, and so of those of a history. The five classes add up to
-/// the entries.
+/// lists it; of any releases that leave what their jobs say (`listed`). No releases and no jobs are so, and a job more
+/// with what it leaves keeps it (`leaves_none`, `leaves_more`), so those of a history are (`leaves`, `listed_by_jobs`).
+/// The five classes add up to the entries.
 pub fn words_hold()
     ensures revoked_set { (rs : List Release) (job : Job) (trailer : List ℕ) (x : Identity)
         → has (revoked (past_of rs) job) x
@@ -79,6 +84,9 @@ pub fn words_hold()
         && has (universe (past_of rs) job) x) }
     ensures listed { (x : Identity) (jobs : List Job) (rs : List Release) → AllZip Leaves jobs rs → Widens rs
         → is_listed rs x ≡ list_any (λ job. lists job x && has_key (enrolled job) x.issuer) (drop (birth x rs) jobs) }
+    ensures leaves_none { AllZip Leaves [] [] }
+    ensures leaves_more { (jobs : List Job) (job : Job) (rs : List Release) (trailer : List ℕ) → AllZip Leaves jobs rs
+        → AllZip Leaves (jobs ++ job ∷ []) (rs ++ released (past_of rs) job trailer ∷ []) }
     ensures listed_by_jobs { (trailer : List Release → Job → List ℕ) (jobs : List Job) (x : Identity) → AllKeepCoverage trailer [] jobs
         → is_listed (releases trailer [] jobs) x
         ≡ list_any (λ job. lists job x && has_key (enrolled job) x.issuer)
