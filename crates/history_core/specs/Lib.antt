@@ -1,4 +1,5 @@
 pub mod Facts
+pub mod Truth
 pub mod Showing
 pub mod Publishing
 pub mod Beginnings
