@@ -15,5 +15,6 @@ pub mod Gathering
 pub mod JobGiven
 pub mod Steps
 pub mod JobFacts
+pub mod ReadFacts
 pub mod JobStanding
 pub mod SliceFiles
