@@ -1,5 +1,6 @@
 pub mod LeafLaws
 pub mod ShardLaws
+pub mod Existing
 pub mod FilterLaws
 pub mod Cuts
 pub mod Joining

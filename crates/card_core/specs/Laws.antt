@@ -1,11 +1,21 @@
 -- What holds of every filter.
-use Rattle.std.specs.Prelude.{◌≡◌, ◌<◌, ℕ, Bool, true, false, List, length, slice_index_or, Contains}
+use Rattle.std.specs.Prelude.{◌≡◌, ◌<◌, ◌⊎◌, ℕ, Bool, true, false, List, length, slice_index_or, Contains}
 use Rattle.ident_core.specs.declared.identity.Identity.{Identity}
 use Rattle.equation_core.specs.Rows.{Rows}
 use Rattle.card_core.specs.declared.block.Block.{Block}
 use Rattle.card_core.specs.declared.leaf.Leaf.{Leaf}
 use Rattle.card_core.specs.Leaf.{IsLeaf, IsRefused, is_leaf_positive}
 use Rattle.card_core.specs.Filter.{Filter, IsBlock, IsBlockRefused, IsFilter, IsRefusedIn, IsRefusedShard, as_body, is_filtered, is_positive}
+
+-- each universe and its revoked part have a leaf, or a stage is refused
+abbrev pub LeafOrRefusal : Type 0
+LeafOrRefusal = (rows : Rows) (revoked others : List Identity)
+    → ((leaf : Leaf) × IsLeaf rows revoked others leaf) ⊎ ((stage : ℕ) × IsRefused rows revoked others stage)
+
+-- and a filter, however far it is cut, or a stage is refused for it
+abbrev pub FilterOrRefusal : Type 0
+FilterOrRefusal = (rows : Rows) (shift : ℕ) (revoked others : List Identity)
+    → ((f : Filter) × IsFilter rows shift revoked others f) ⊎ ((stage : ℕ) × IsRefusedIn rows shift revoked others stage)
 
 -- a test is positive for the revoked, and not for the others
 abbrev pub IsExactOn : List Identity → List Identity → (Identity → Bool) → Type 0
