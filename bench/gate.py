@@ -9,8 +9,8 @@ processor.
 The times are those that the system counts (/proc), looked at four times a second: a process that lives for less is
 missed. What `rt ci` prints has no times, and is no log. An edit is told by the texts that its check reads. Before a
 crate's edits the crate itself is checked, and again behind them, over what they kept; both count among its edits. A log
-that `run` has ended tells how long the run took by the clock. For figures from nothing run it in a fresh clone on a
-quiet machine, with `rt ci --anew` in .ci/run where an earlier run there has kept what it proved.
+of a gate that has ended tells how long it took by the clock. For figures from nothing run it in a fresh clone on a
+quiet machine; where an earlier run there has kept what it proved, begin `rt ci --anew` by hand and watch it at once.
 """
 
 import json
@@ -140,7 +140,6 @@ def follow(gate, top, has_ended, file):
         if turn % 80 == 0:
             watch.keep(file)
         time.sleep(0.25)
-    watch.keep(file)
     return watch
 
 
@@ -152,11 +151,19 @@ def run(file):
 
 
 def watch(file, gate):
-    began = process(int(gate))
+    number = int(gate)
+    began = process(number)
     if began is None:
         sys.exit(f"there is no process {gate}")
-    # The number may have been given to another process, which has another start.
-    follow(int(gate), os.readlink(f"/proc/{gate}/cwd"), lambda: (process(int(gate)) or [None])[-1] != began[-1], file)
+    age = float(contents("/proc/uptime").split()[0]) - began[3] / TICKS
+
+    def has_ended():
+        # The number may have been given to another process, which has another start.
+        now = process(number)
+        return now is None or now[3] != began[3]
+
+    seen = follow(number, os.readlink(f"/proc/{number}/cwd"), has_ended, file)
+    seen.keep(file, age + time.time() - seen.began)
     return 0
 
 

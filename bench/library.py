@@ -1,12 +1,13 @@
 #!/usr/bin/env python3
-"""Counts the instructions of a verdict by the library for C, and of the same calls in the program `clubcard`, which is
+"""Counts the instructions of a verdict by the library for C, and of the same work in the program `clubcard`, which is
 Rattle throughout, over a store of one part of the generator's 200,000 entries; and of many queries of it at once. It
 needs valgrind (with callgrind_annotate) and cc. Run it at the top of the repository; FOLDER holds libclubcard.a:
 
     python3 bench/library.py FOLDER
 
 Instructions, and not times, since they are the same on a machine that does other work. Of the program they are those of
-`store_in` without its reading of the file, and of `verdict_on`; of the library, those of the whole export.
+`store_in`, which reads the store part by part, without the reads of the file, and of `Store::verdict`; of the library,
+those of the whole export.
 """
 
 import os
@@ -14,6 +15,8 @@ import re
 import subprocess
 import sys
 import tempfile
+
+from instructions import callgrind, of_functions
 
 sys.path.insert(0, os.path.join(os.path.dirname(os.path.abspath(__file__)), "../tools"))
 
@@ -54,12 +57,8 @@ def said(command):
 def instructions(work, command):
     """The instructions of each function of a run, with those of what it calls, and what the run printed."""
     profile = os.path.join(work, "profile")
-    lines = said(["valgrind", "-q", "--tool=callgrind", "--callgrind-out-file=" + profile] + command)
-    listed = said(["callgrind_annotate", "--inclusive=yes", "--threshold=100", profile])
-    counts = {}
-    for count, name in re.findall(r"^ *([0-9,]+) \([^)]*\)  \S*?:(\S+)", listed, re.MULTILINE):
-        counts.setdefault(name.split("::<")[0], int(count.replace(",", "")))
-    return counts, lines
+    said_by_it, _ = callgrind(command, profile)
+    return of_functions(profile, True), said_by_it
 
 
 def main():
@@ -83,12 +82,12 @@ def main():
         by_program, line = instructions(work, [program, "query", path["store"], issuer, "05", log, MOMENT])
         assert words == line, (words, line)
         rattle = (
-            by_program["input_core::inputs::store_in"]
-            - by_program["input_core::input::read_up_to"]
-            + by_program["clubcard_top::commands::verdict_on"]
+            by_program["input_core::stores::store_in"]
+            - by_program["real_edge::files::FileDepotDepot::read_at"]
+            + by_program["store_core::store::Store::verdict"]
         )
         one, many = by_library["clubcard_query"], by_library["clubcard_query_each"]
-        print(f"a store of {os.path.getsize(path['store'])} bytes: {line.strip()}")
+        print(f"a store of {os.path.getsize(path['store'])} bytes: {line}")
         print(f"in the program: {rattle} instructions")
         print(f"clubcard_query: {one}, {one / rattle:.2f} of the program's")
         each = many / QUERIES
