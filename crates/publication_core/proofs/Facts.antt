@@ -10,16 +10,17 @@ use Rattle.part_codec.specs.SealedFields.{SealedFields}
 use Rattle.sets_core.specs.Among.{Among}
 use Rattle.sets_core.specs.Sets.{has_key}
 use Rattle.sets_core.proofs.Elements.{some_item}
-use Rattle.universe_core.specs.Jobs.{Job, enrolled, lists}
+use Rattle.universe_core.specs.Jobs.{Job, enrolled, is_enrolled, lists}
 use Rattle.universe_core.specs.Formats.{JobIn}
-use Rattle.universe_core.specs.History.{Release, past_of, seen, sightings, birth, is_listed}
+use Rattle.universe_core.specs.History.{Release, seen, sightings, birth, is_listed}
 use Rattle.universe_core.specs.Ledgers.{last}
+use Rattle.universe_core.proofs.Enrolled.{enrolled_test}
 use Rattle.history_core.specs.Facts.{Leaves}
 use Rattle.history_core.specs.Showing.{Shows}
-use Rattle.history_core.proofs.Words.{last_covers_sightings, leaves, listed_in_words}
+use Rattle.history_core.proofs.Words.{last_covers_sightings, leaves_more, listed_in_words}
 use Rattle.publication_core.specs.Formats.{facts_in}
 use Rattle.publication_core.specs.Histories.{release_of, history_after, AreAdmissible, History, of_jobs, jobs_of, IsHistory, history}
-use Rattle.publication_core.proofs.Histories.{zip_push, history_sound}
+use Rattle.publication_core.proofs.Histories.{history_sound}
 use Rattle.publication_core.proofs.Shown.{shown_by}
 use Rattle.publication_core.proofs.Verdicts.{parts_shown}
 
@@ -51,19 +52,23 @@ leaves_after before rs [] (s ∷ parts) z h = absurd h
 leaves_after before rs (j ∷ jobs) [] z h = absurd h
 leaves_after before rs (j ∷ jobs) (s ∷ parts) z h =
     let after : List Release = rs ++ release_of rs j s ∷ [] in
-    let pushed : AllZip Leaves (before ++ facts_in j ∷ []) after = zip_push Leaves before rs (facts_in j) (release_of rs j s) z (leaves (past_of rs) (facts_in j) s.trailer) in
+    let pushed : AllZip Leaves (before ++ facts_in j ∷ []) after = leaves_more before (facts_in j) rs s.trailer z in
     subst (λ (js : List Job). AllZip Leaves js (history_after after jobs parts)) (append_assoc before (facts_in j ∷ []) (map facts_in jobs))
     (leaves_after (before ++ facts_in j ∷ []) after jobs parts pushed h.2)
 
-any_map : {A B : Type 0} (p : B → Bool) (f : A → B) (xs : List A) → list_any p (map f xs) ≡ list_any (λ x. p (f x)) xs
-any_map p f [] = refl
-any_map p f (x ∷ xs) = ap (λ b. p (f x) || b) (any_map p f xs)
+-- whether some job enrolls the issuer and lists the identity, the enrolled told by a list or by a test
+any_lists : (x : Identity) (jobs : List JobIn) → list_any (λ (job : Job). lists job x && has_key (enrolled job) x.issuer) (map facts_in jobs)
+    ≡ list_any (λ j. lists (facts_in j) x && is_enrolled (facts_in j) x.issuer) jobs
+any_lists x [] = refl
+any_lists x (j ∷ jobs) =
+    ap (λ b. (lists (facts_in j) x && b) || list_any (λ (job : Job). lists job x && has_key (enrolled job) x.issuer) (map facts_in jobs)) (enrolled_test (facts_in j) x.issuer)
+    ∙ ap (λ b. (lists (facts_in j) x && is_enrolled (facts_in j) x.issuer) || b) (any_lists x jobs)
 
 pub listed_in_jobs : (h : History) (parts : List SealedFields) (x : Identity) → IsHistory h parts
     → is_listed (history h parts) x
-    ≡ list_any (λ j. lists (facts_in j) x && has_key (enrolled (facts_in j)) x.issuer) (drop (birth x (history h parts)) (jobs_of h))
+    ≡ list_any (λ j. lists (facts_in j) x && is_enrolled (facts_in j) x.issuer) (drop (birth x (history h parts)) (jobs_of h))
 listed_in_jobs (of_jobs jobs) parts x is =
     let born : ℕ = birth x (history (of_jobs jobs) parts) in
     let says : Job → Bool = λ job. lists job x && has_key (enrolled job) x.issuer in
     listed_in_words x (map facts_in jobs) (history (of_jobs jobs) parts) (leaves_after [] [] jobs parts tt is) (history_sound (of_jobs jobs) parts is).widens
-    ∙ ap (list_any says) (drop-map facts_in born jobs) ∙ any_map says facts_in (drop born jobs)
+    ∙ ap (list_any says) (drop-map facts_in born jobs) ∙ any_lists x (drop born jobs)

@@ -1,7 +1,7 @@
 -- Histories with one job more, and the facts that hold after each job.
 use Rattle.std.proofs.Common.{◌≡◌, suc, ◌+◌, List, [], ◌∷◌, ◌++◌, length, Bool, true, false, cond, not, Option, Some, refl, ap, arith}
 use Rattle.std.specs.Prelude.{IsNone, IfSome}
-use Rattle.std.specs.List.{find, AllZip}
+use Rattle.std.specs.List.{find}
 use Rattle.std.specs.Option.{option_map}
 use Rattle.std.proofs.lemmas.Bool.{and_from}
 use Rattle.ident_core.specs.declared.range.Range.{Range}
@@ -14,12 +14,6 @@ use Rattle.history_core.specs.Facts.{KeepsCoverage, IsSound}
 use Rattle.history_core.proofs.Sound.{nothing_sound, keeps_sound}
 use Rattle.publication_core.specs.Formats.{facts_in}
 use Rattle.publication_core.specs.Histories.{newest_of, GoesOn, IsAdmissible, IsPartOf, release_of, history_after, AreAdmissible, History, of_jobs, members, with_job, IsHistory, history}
-
-pub zip_push : {A B : Type 0} (R : A → B → Type 0) (xs : List A) (ys : List B) (x : A) (y : B) → AllZip R xs ys → R x y → AllZip R (xs ++ x ∷ []) (ys ++ y ∷ [])
-zip_push R [] [] x y z r = (r, tt)
-zip_push R [] (w ∷ ys) x y z r = absurd z
-zip_push R (v ∷ xs) [] x y z r = absurd z
-zip_push R (v ∷ xs) (w ∷ ys) x y z r = (z.0, zip_push R xs ys x y z.1 r)
 
 -- ---- one job more
 

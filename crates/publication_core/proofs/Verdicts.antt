@@ -19,7 +19,7 @@ use Rattle.card_core.specs.declared.verdict.Verdict.TheVariants.{Good, Revoked}
 use Rattle.card_core.specs.Verdict.{covering, answers, by_answers, by_covering, verdict}
 use Rattle.publication_core.specs.Histories.{release_of, history_after, AreAdmissible, History, of_jobs, IsHistory, history}
 use Rattle.publication_core.specs.Truth.{truth}
-use Rattle.publication_core.proofs.Histories.{zip_push, history_sound}
+use Rattle.publication_core.proofs.Histories.{history_sound}
 use Rattle.publication_core.proofs.Shown.{shown_by, part_shows}
 
 -- ---- the verdict, and the answers of the parts
@@ -48,6 +48,12 @@ verdict_is_truth parts rs x s ss sound shows asked =
 
 -- ---- the parts of a history show what its jobs leave
 
+shows_push : (views : List PartView) (rs : List Release) (v : PartView) (r : Release) → AllZip Shows views rs → Shows v r → AllZip Shows (views ++ v ∷ []) (rs ++ r ∷ [])
+shows_push [] [] v r z s = (s, tt)
+shows_push [] (q ∷ rs) v r z s = absurd z
+shows_push (w ∷ views) [] v r z s = absurd z
+shows_push (w ∷ views) (q ∷ rs) v r z s = (z.0, shows_push views rs v r z.1 s)
+
 -- behind views that show the releases before
 after_shown : (views : List PartView) (rs : List Release) (jobs : List JobIn) (parts : List SealedFields) → AllZip Shows views rs → AreAdmissible rs jobs parts
     → AllZip Shows (views ++ map shown_by (map (λ s. s.part) parts)) (history_after rs jobs parts)
@@ -56,7 +62,7 @@ after_shown views rs [] (s ∷ parts) z h = absurd h
 after_shown views rs (job ∷ jobs) [] z h = absurd h
 after_shown views rs (job ∷ jobs) (s ∷ parts) z h =
     let after : List Release = rs ++ release_of rs job s ∷ [] in
-    let pushed : AllZip Shows (views ++ shown_by s.part ∷ []) after = zip_push Shows views rs (shown_by s.part) (release_of rs job s) z (part_shows rs job s h.1) in
+    let pushed : AllZip Shows (views ++ shown_by s.part ∷ []) after = shows_push views rs (shown_by s.part) (release_of rs job s) z (part_shows rs job s h.1) in
     subst (λ (vs : List PartView). AllZip Shows vs (history_after after jobs parts)) (append_assoc views (shown_by s.part ∷ []) (map shown_by (map (λ t. t.part) parts)))
     (after_shown (views ++ shown_by s.part ∷ []) after jobs parts pushed h.2)
 

@@ -8,9 +8,9 @@ ghost use Rattle.ident_core.specs.Coverage.{covers};
 ghost use Rattle.part_codec.specs.SealedFields.{SealedFields};
 ghost use Rattle.sets_core.specs.Among.{Among};
 ghost use Rattle.sets_core.specs.Sets.{has, has_key};
-ghost use Rattle.universe_core.specs.Jobs.{Entry, enrolled, lists};
+ghost use Rattle.universe_core.specs.Jobs.{Entry, is_enrolled, lists};
 ghost use Rattle.universe_core.specs.Formats.{JobIn};
-ghost use Rattle.universe_core.specs.History.{Release, seen, sightings, birth, is_listed};
+ghost use Rattle.universe_core.specs.History.{Release, accepted_by, seen, sightings, birth, is_listed};
 ghost use Rattle.universe_core.specs.Ledgers.{last};
 ghost use Rattle.history_core.specs.Facts.{IsSound};
 ghost use Rattle.publication_core.specs.Formats.{facts_in};
@@ -23,6 +23,7 @@ ghost use Rattle.publication_core.specs.Histories.{IsAdmissible, release_of, His
 ///   is one exactly for the listed (`last_listed`);
 /// - each accepted sighting so far is covered by a job that enrolls the issuer (`covered`);
 /// - where a job covers one and enrolls its issuer, the identity was accepted by then (`timely`);
+/// - each accepted identity has an accepted entry (`entered`);
 /// - listed is what some job from the identity's birth on lists, and enrolls the issuer of (`listed`).
 pub fn histories_are_sound()
     ensures begun { IsSound (history (of_jobs []) []) }
@@ -39,8 +40,10 @@ pub fn histories_are_sound()
     ensures timely { (h : History) (parts : List SealedFields) (e : Entry) (r : Release) → IsHistory h parts
         → Among (seen (history h parts)) e → Among (history h parts) r → covers r.ranges e.sighting ≡ true
         → has_key r.issuers e.id.issuer ≡ true → has r.accepted e.id ≡ true }
+    ensures entered { (h : History) (parts : List SealedFields) (x : Identity) → IsHistory h parts
+        → has (accepted_by [] (history h parts)) x ≡ true → (e : Entry) × Among (seen (history h parts)) e × (e.id ≡ x) }
     ensures listed { (h : History) (parts : List SealedFields) (x : Identity) → IsHistory h parts
         → is_listed (history h parts) x
-        ≡ list_any (λ j. lists (facts_in j) x && has_key (enrolled (facts_in j)) x.issuer)
+        ≡ list_any (λ j. lists (facts_in j) x && is_enrolled (facts_in j) x.issuer)
         (drop (birth x (history h parts)) (jobs_of h)) }
 {}

@@ -14,5 +14,6 @@ returns c = record {
   last_listed = λ h parts x is. last_for_listed (history h parts) x (history_sound h parts is);
   covered = λ h parts e is a. (history_sound h parts is).covered e a;
   timely = λ h parts e r is a i c k. (history_sound h parts is).timely e a r i c k;
+  entered = λ h parts x is a. (history_sound h parts is).entered x a;
   listed = λ h parts x is. listed_in_jobs h parts x is;
 }
