@@ -5,7 +5,7 @@ callgrind counts) and prints which program it runs, the one that `./clubcard` ru
 
     python3 bench/worst_cases.py [INPUT..]
 
-Without words it takes all inputs, some ten minutes of a processor. Each input is a history of jobs, and queries behind
+Without words it takes all inputs, some five minutes of a processor. Each input is a history of jobs, and queries behind
 it: `snapshot` is of the first job, `delta` of the last one behind the ledger of those before it, `query` of the last
 query over the store of their parts, and `rehearse` of all queries over all jobs, each with one worker. A cell has the
 millions of instructions at 4n, and the ratios of 2n to n and of 4n to 2n; there is none for a command whose input
