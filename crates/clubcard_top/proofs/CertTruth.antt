@@ -1,5 +1,5 @@
 -- What a history tells of a certificate that is asked about by its file.
-use Rattle.std.proofs.Common.{◌≡◌, ℕ, ◌≤◌, Bool, true, false, cond, inl, inr, List, [], ◌∷◌, ◌++◌, map, length, Ok, refl, sym, ap, subst, ◌∙◌, arith}
+use Rattle.std.proofs.Common.{◌≡◌, ℕ, ◌≤◌, Bool, true, false, cond, inl, inr, List, [], ◌∷◌, map, length, Ok, refl, sym, ap, subst, ◌∙◌, arith}
 use Rattle.std.specs.Prelude.{nat_lt, filter, IsTrue}
 use Rattle.std.specs.List.{list_any}
 use Rattle.std.proofs.lemmas.Bool.{le-ltb}
@@ -7,7 +7,6 @@ use Rattle.sha2.specs.Sha256.{sha256}
 use Rattle.ident_core.specs.declared.identity.Identity.{Identity}
 use Rattle.ident_core.specs.declared.range.Sighting.{Sighting}
 use Rattle.ident_core.specs.Coverage.{covers}
-use Rattle.ident_core.specs.HeadFields.{HeadFields}
 use Rattle.log_core.specs.CertificateGrammar.{IsCertificate, HasKey}
 use Rattle.log_core.proofs.CertificateLaws.{certificate_serial-read, certificate_key-read}
 use Rattle.sct_core.specs.declared.bounds.TheConstants.{MAX_CERTIFICATE}
@@ -16,13 +15,11 @@ use Rattle.sct_core.proofs.SightingLaws.{sightings-read}
 use Rattle.card_core.specs.PartFields.{PartFields}
 use Rattle.card_core.specs.Consulting.{covers_some}
 use Rattle.part_codec.specs.SealedFields.{SealedFields}
-use Rattle.job_core.specs.JobFields.{JobFields}
 use Rattle.sets_core.specs.Among.{Among}
 use Rattle.sets_core.proofs.Elements.{Among-filter, Among-in_filter, Among-map, found, any_at, bool_same}
-use Rattle.universe_core.specs.Jobs.{facts_of}
-use Rattle.universe_core.specs.History.{Release, seen, sightings}
-use Rattle.store_core.specs.Verdict.{by_covering, verdict}
-use Rattle.publication_core.specs.Histories.{AreAdmissible, IsHistory, history, release_of}
+use Rattle.universe_core.specs.History.{seen, sightings}
+use Rattle.card_core.specs.Verdict.{by_covering, verdict}
+use Rattle.publication_core.specs.Histories.{History, IsHistory, history}
 use Rattle.publication_core.specs.Truth.{truth}
 use Rattle.input_core.specs.Certificates.{certificate_in, issuer_in}
 
@@ -74,48 +71,35 @@ module _ (parts : List PartFields) (ss : List Sighting) (a : Sighting) (here : A
 
 -- ---- the truth
 
--- a part of a history has the coverage of its job
-part_of_job : (rs : List Release) (jobs : List JobFields) (parts : List SealedFields) → AreAdmissible rs jobs parts → (s : SealedFields) → Among parts s
-    → (job : JobFields) × Among jobs job × (s.part.head.ranges ≡ job.ranges)
-part_of_job rs [] [] h s a = absurd a
-part_of_job rs [] (t ∷ parts) h s a = absurd h
-part_of_job rs (job ∷ jobs) [] h s a = absurd a
-part_of_job rs (job ∷ jobs) (t ∷ parts) h s (inl same) =
-    (job, inl refl, subst (λ (q : SealedFields). q.part.head.ranges ≡ job.ranges) same (ap (λ (k : HeadFields). k.ranges) h.1.head))
-part_of_job rs (job ∷ jobs) (t ∷ parts) h s (inr a) =
-    let n = part_of_job (rs ++ release_of rs (facts_of job) t ∷ []) jobs parts h.2 s a in (n.0, inr n.1, n.2)
-
 -- The verdict of the parts of a history is its truth, asked with accepted sightings.
 abbrev pub Truths : Type 0
 Truths =
-    (jobs : List JobFields) (parts : List SealedFields) (x : Identity) (ss : List Sighting) → IsHistory jobs parts → 1 ≤ length ss
-    → ((s : Sighting) → Among ss s → Among (sightings x (seen (history jobs parts))) s) → verdict (map (λ s. s.part) parts) x ss ≡ truth (history jobs parts) x
+    (h : History) (parts : List SealedFields) (x : Identity) (ss : List Sighting) → IsHistory h parts → 1 ≤ length ss
+    → ((s : Sighting) → Among ss s → Among (sightings x (seen (history h parts))) s) → verdict (map (λ s. s.part) parts) x ss ≡ truth (history h parts) x
 
-module _ (jobs : List JobFields) (parts : List SealedFields) (is : IsHistory jobs parts) (x : Identity) (ss : List Sighting)
-    (covered : (s : Sighting) (job : JobFields) → Among ss s → Among jobs job → IsTrue (covers job.ranges s) → Among (sightings x (seen (history jobs parts))) s)
-    (a : Sighting) (here : Among ss a) (accepted : Among (sightings x (seen (history jobs parts))) a) where
+module _ (h : History) (parts : List SealedFields) (is : IsHistory h parts) (x : Identity) (ss : List Sighting)
+    (covered : (s : Sighting) (t : SealedFields) → Among ss s → Among parts t → IsTrue (covers t.part.head.ranges s) → Among (sightings x (seen (history h parts))) s)
+    (a : Sighting) (here : Among ss a) (accepted : Among (sightings x (seen (history h parts))) a) where
   abbrev all_parts : List PartFields
   all_parts = map (λ (s : SealedFields). s.part) parts
 
   -- a sighting that is kept is of an accepted entry
-  kept_accepted : (s : Sighting) → Among (kept all_parts ss a here) s → Among (sightings x (seen (history jobs parts))) s
-  kept_accepted s (inl same) = subst (λ (t : Sighting). Among (sightings x (seen (history jobs parts))) t) same accepted
+  kept_accepted : (s : Sighting) → Among (kept all_parts ss a here) s → Among (sightings x (seen (history h parts))) s
+  kept_accepted s (inl same) = subst (λ (t : Sighting). Among (sightings x (seen (history h parts))) t) same accepted
   kept_accepted s (inr k) =
       let f = Among-filter (is_covered all_parts ss a here) ss s k in
       let part = found (λ (q : PartFields). covers q.head.ranges s) all_parts f.1 in
       let sealed = Among-map (λ (t : SealedFields). t.part) parts part.0 part.1 in
-      let job = part_of_job [] jobs parts is sealed.0 sealed.1 in
-      let by_part : covers sealed.0.part.head.ranges s ≡ true = ap (λ (q : PartFields). covers q.head.ranges s) sealed.2 ∙ part.2 in
-      covered s job.0 f.0 job.1 (ap (λ ranges. covers ranges s) (sym job.2) ∙ by_part)
+      covered s sealed.0 f.0 sealed.1 (ap (λ (q : PartFields). covers q.head.ranges s) sealed.2 ∙ part.2)
 
-  truth_kept : Truths → verdict all_parts x ss ≡ truth (history jobs parts) x
+  truth_kept : Truths → verdict all_parts x ss ≡ truth (history h parts) x
   truth_kept truths =
       let some : 1 ≤ length (a ∷ filter (is_covered all_parts ss a here) ss) = omega arith in
-      verdict_kept all_parts ss a here x ∙ truths jobs parts x (kept all_parts ss a here) is some kept_accepted
+      verdict_kept all_parts ss a here x ∙ truths h parts x (kept all_parts ss a here) is some kept_accepted
 
--- Asked with one accepted sighting, and no other that a job covers and that isn't accepted, the parts tell the truth.
-pub truth_of_covered : Truths → (jobs : List JobFields) (parts : List SealedFields) (x : Identity) (ss : List Sighting) → IsHistory jobs parts
-    → (s : Sighting) × Among ss s × Among (sightings x (seen (history jobs parts))) s
-    → ((s : Sighting) (job : JobFields) → Among ss s → Among jobs job → IsTrue (covers job.ranges s) → Among (sightings x (seen (history jobs parts))) s)
-    → verdict (map (λ s. s.part) parts) x ss ≡ truth (history jobs parts) x
-truth_of_covered truths jobs parts x ss is (a, here, accepted) covered = truth_kept jobs parts is x ss covered a here accepted truths
+-- Asked with one accepted sighting, and no other that a part covers and that isn't accepted, the parts tell the truth.
+pub truth_of_covered : Truths → (h : History) (parts : List SealedFields) (x : Identity) (ss : List Sighting) → IsHistory h parts
+    → (s : Sighting) × Among ss s × Among (sightings x (seen (history h parts))) s
+    → ((s : Sighting) (t : SealedFields) → Among ss s → Among parts t → IsTrue (covers t.part.head.ranges s) → Among (sightings x (seen (history h parts))) s)
+    → verdict (map (λ s. s.part) parts) x ss ≡ truth (history h parts) x
+truth_of_covered truths h parts x ss is (a, here, accepted) covered = truth_kept h parts is x ss covered a here accepted truths

@@ -1,5 +1,6 @@
 pub mod Checked
 pub mod CertTruth
+pub mod Chains
 pub mod Endings
 pub mod Files
 pub mod Made

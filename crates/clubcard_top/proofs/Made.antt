@@ -25,18 +25,20 @@ use Rattle.ledger_core.specs.LedgerText.{ledger_text}
 use Rattle.ledger_core.specs.LedgerReading.{ledger_of as ledger_of_bytes}
 use Rattle.ledger_core.specs.declared.fault.LedgerFault.{LedgerFault}
 use Rattle.sets_core.specs.Among.{Among}
+use Rattle.universe_core.specs.Formats.{in_format}
 use Rattle.universe_core.specs.Jobs.{facts_of}
 use Rattle.universe_core.specs.History.{past_of, seen, sightings}
 use Rattle.universe_core.specs.Counting.{counts}
 use Rattle.universe_core.specs.Ledgers.{no_ledger, ledger_of}
 use Rattle.store_core.specs.declared.chain.Refusal.{Refusal}
 use Rattle.store_core.specs.declared.fault.StoreFault.{StoreFault}
-use Rattle.store_core.specs.declared.verdict.Verdict.{Verdict}
+use Rattle.card_core.specs.declared.verdict.Verdict.{Verdict}
 use Rattle.store_core.specs.Chain.{newest_of, refusal_of, IsChain}
 use Rattle.store_core.specs.StoreLayout.{store, store_text}
-use Rattle.store_core.specs.Verdict.{verdict}
+use Rattle.card_core.specs.Verdict.{verdict}
 use Rattle.publication_core.specs.declared.fault.PublishFault.{PublishFault}
-use Rattle.publication_core.specs.Histories.{IsAdmissible, IsHistory, history, part_bytes, ledger_bytes, store_bytes}
+use Rattle.publication_core.specs.Formats.{current}
+use Rattle.publication_core.specs.Histories.{IsAdmissible, History, of_jobs, members, with_job, IsHistory, history, part_bytes, ledger_bytes, store_bytes}
 use Rattle.publication_core.specs.Publishing.{Published, Publishes}
 use Rattle.publication_core.specs.Truth.{truth}
 use Rattle.word_core.specs.declared.command.Command.{Command}
@@ -63,23 +65,24 @@ use Rattle.clubcard_top.proofs.Unique.{Publishing}
 -- What the layers promise of histories.
 pub record Layers : Type 0 where
   pub publishing : Publishing
-  pub none : ledger_of (history [] []) ≡ no_ledger
-  pub admissible : (jobs : List JobFields) (parts : List SealedFields) (job : JobFields) (p : Published) → IsHistory jobs parts → FitsPublishing job → IsWithinLimits PUBLISHED job
-      → Publishes (ledger_of (history jobs parts)) job (Ok p) → IsAdmissible (history jobs parts) job
-  pub next : (jobs : List JobFields) (parts : List SealedFields) (job : JobFields) (p : Published) → IsHistory jobs parts → FitsPublishing job → IsWithinLimits PUBLISHED job
-      → Publishes (ledger_of (history jobs parts)) job (Ok p) → IsHistory (jobs ++ job ∷ []) (parts ++ p.sealed ∷ [])
-  pub ledger : (jobs : List JobFields) (parts : List SealedFields) (job : JobFields) (p : Published) → IsHistory jobs parts
-      → Publishes (ledger_of (history jobs parts)) job (Ok p) → p.ledger ≡ ledger_of (history (jobs ++ job ∷ []) (parts ++ p.sealed ∷ []))
-  pub numbers : (jobs : List JobFields) (parts : List SealedFields) (job : JobFields) (p : Published) → IsHistory jobs parts
-      → Publishes (ledger_of (history jobs parts)) job (Ok p) → p.counts ≡ counts (past_of (history jobs parts)) (facts_of job)
-  pub place : (jobs : List JobFields) (parts : List SealedFields) (job : JobFields) (p : Published) → IsHistory jobs parts
-      → Publishes (ledger_of (history jobs parts)) job (Ok p) → p.place ≡ length jobs
-  pub ledger_read : (jobs : List JobFields) (parts : List SealedFields) → IsHistory jobs parts → 1 ≤ length jobs → ledger_of_bytes (ledger_bytes jobs parts) ≡ Ok (ledger_of (history jobs parts))
-  pub chain : (jobs : List JobFields) (parts : List SealedFields) → IsHistory jobs parts → IsChain parts
-  pub few : (jobs : List JobFields) (parts : List SealedFields) → IsHistory jobs parts → length parts ≤ 64
-  pub texts : (jobs : List JobFields) (parts : List SealedFields) → IsHistory jobs parts → All Fits parts
-  pub truths : (jobs : List JobFields) (parts : List SealedFields) (x : Identity) (ss : List Sighting) → IsHistory jobs parts → 1 ≤ length ss
-      → ((s : Sighting) → Among ss s → Among (sightings x (seen (history jobs parts))) s) → verdict (map (λ s. s.part) parts) x ss ≡ truth (history jobs parts) x
+  pub none : ledger_of (history (of_jobs []) []) ≡ no_ledger
+  pub admissible : (h : History) (parts : List SealedFields) (job : JobFields) (p : Published) → IsHistory h parts → FitsPublishing job → IsWithinLimits PUBLISHED job
+      → Publishes (ledger_of (history h parts)) job (Ok p) → IsAdmissible (history h parts) (in_format current job)
+  pub next : (h : History) (parts : List SealedFields) (job : JobFields) (p : Published) → IsHistory h parts → FitsPublishing job → IsWithinLimits PUBLISHED job
+      → Publishes (ledger_of (history h parts)) job (Ok p) → IsHistory (with_job h (in_format current job)) (parts ++ p.sealed ∷ [])
+  pub ledger : (h : History) (parts : List SealedFields) (job : JobFields) (p : Published) → IsHistory h parts
+      → Publishes (ledger_of (history h parts)) job (Ok p) → p.ledger ≡ ledger_of (history (with_job h (in_format current job)) (parts ++ p.sealed ∷ []))
+  pub numbers : (h : History) (parts : List SealedFields) (job : JobFields) (p : Published) → IsHistory h parts
+      → Publishes (ledger_of (history h parts)) job (Ok p) → p.counts ≡ counts (past_of (history h parts)) (facts_of job)
+  pub place : (h : History) (parts : List SealedFields) (job : JobFields) (p : Published) → IsHistory h parts
+      → Publishes (ledger_of (history h parts)) job (Ok p) → p.place ≡ members h
+  pub ledger_read : (h : History) (parts : List SealedFields) → IsHistory h parts → 1 ≤ members h → ledger_of_bytes (ledger_bytes h parts) ≡ Ok (ledger_of (history h parts))
+  pub chain : (h : History) (parts : List SealedFields) → IsHistory h parts → IsChain parts
+  pub many : (h : History) (parts : List SealedFields) → IsHistory h parts → length parts ≡ members h
+  pub few : (h : History) (parts : List SealedFields) → IsHistory h parts → length parts ≤ 64
+  pub texts : (h : History) (parts : List SealedFields) → IsHistory h parts → All Fits parts
+  pub truths : (h : History) (parts : List SealedFields) (x : Identity) (ss : List Sighting) → IsHistory h parts → 1 ≤ length ss
+      → ((s : Sighting) → Among ss s → Among (sightings x (seen (history h parts))) s) → verdict (map (λ s. s.part) parts) x ss ≡ truth (history h parts) x
   pub grown : (parts : List SealedFields) (p : SealedFields) → IsChain (parts ++ p ∷ []) → 1 ≤ length parts → length parts < 64 → IsChain parts × (refusal_of parts p ≡ None)
   pub store_read : (parts : List SealedFields) → IsChain parts → 1 ≤ length parts → length parts ≤ 64 → All Fits parts → value_of (store (store_text parts) 0) ≡ Ok parts
   pub part_read : (s : SealedFields) (rest : List ℕ) → Fits s → part (spelling s ++ rest) 0 ≡ Ok (s, length (spelling s))
@@ -94,80 +97,80 @@ job_input files name job h = rw h.1 (ap (named name) (read_job h.0 job h.2))
 
 module _ (layers : Layers) where
   -- what is published behind the ledger of a history
-  published_by : (asked : Command) (jobs : List JobFields) (parts : List SealedFields) (job : JobFields) (d : Done) (name part ledger : List ℕ) (before : LedgerFields) → IsHistory jobs parts
-      → before ≡ ledger_of (history jobs parts) → ((a b : List ℕ) → publishes_to asked a b ≡ record { name = part; bytes = a } ∷ record { name = ledger; bytes = b } ∷ [])
+  published_by : (asked : Command) (h : History) (parts : List SealedFields) (job : JobFields) (d : Done) (name part ledger : List ℕ) (before : LedgerFields) → IsHistory h parts
+      → before ≡ ledger_of (history h parts) → ((a b : List ℕ) → publishes_to asked a b ≡ record { name = part; bytes = a } ∷ record { name = ledger; bytes = b } ∷ [])
       → (fits : FitsFields job) (limits : IsWithinLimits PUBLISHED job) (r : Result Published PublishFault) → Publishes before job r
-      → Ok d ≡ published_as name part ledger r → IsPublished asked jobs parts job d
-  published_by asked jobs parts job d name part ledger before is ledger_is outputs fits limits (Ok p) pub_ is_done =
+      → Ok d ≡ published_as name part ledger r → IsPublished asked h parts job d
+  published_by asked h parts job d name part ledger before is ledger_is outputs fits limits (Ok p) pub_ is_done =
       let same : d ≡ publication_done part ledger p = ok_same {E = NamedFault} d (publication_done part ledger p) is_done in
-      let x : Publishes (ledger_of (history jobs parts)) job (Ok p) = subst (λ (l : LedgerFields). Publishes l job (Ok p)) ledger_is pub_ in
+      let x : Publishes (ledger_of (history h parts)) job (Ok p) = subst (λ (l : LedgerFields). Publishes l job (Ok p)) ledger_is pub_ in
       record {
         sealed = p.sealed;
         fits = fits;
-        admissible = layers.admissible jobs parts job p is fits.publishing limits x;
-        is_history = layers.next jobs parts job p is fits.publishing limits x;
+        admissible = layers.admissible h parts job p is fits.publishing limits x;
+        is_history = layers.next h parts job p is fits.publishing limits x;
         outputs = ap (λ (e : Done). e.outputs) same ∙ ap (λ (l : LedgerFields).
-            record { name = part; bytes = spelling p.sealed } ∷ record { name = ledger; bytes = ledger_text l } ∷ []) (layers.ledger jobs parts job p is x)
-            ∙ sym (outputs (part_bytes p.sealed) (ledger_bytes (jobs ++ job ∷ []) (parts ++ p.sealed ∷ [])));
-        report = ap (λ (e : Done). e.text) same ∙ ap (λ (h : HeadFields). report_line h.epoch p.place p.counts) x.1.head ∙ ap
-            (λ (n : ℕ). report_line job.epoch n p.counts) (layers.place jobs parts job p is x)
-            ∙ ap (report_line job.epoch (length jobs)) (layers.numbers jobs parts job p is x);
+            record { name = part; bytes = spelling p.sealed } ∷ record { name = ledger; bytes = ledger_text l } ∷ []) (layers.ledger h parts job p is x)
+            ∙ sym (outputs (part_bytes p.sealed) (ledger_bytes (with_job h (in_format current job)) (parts ++ p.sealed ∷ [])));
+        report = ap (λ (e : Done). e.text) same ∙ ap (λ (head : HeadFields). report_line head.epoch p.place p.counts) x.1.head ∙ ap
+            (λ (n : ℕ). report_line job.epoch n p.counts) (layers.place h parts job p is x)
+            ∙ ap (report_line job.epoch (members h)) (layers.numbers h parts job p is x);
       }
-  published_by asked jobs parts job d name part ledger before is ledger_is outputs fits limits (Err fault) pub_ is_done =
+  published_by asked h parts job d name part ledger before is ledger_is outputs fits limits (Err fault) pub_ is_done =
       absurd (let h : ◌≡◌ {A = Result Done NamedFault} (Ok d) (published_as name part ledger (Err fault)) = is_done in cc)
 
-  ledger_input : (files : Files) (name : List ℕ) (jobs : List JobFields) (parts : List SealedFields) → IsHistory jobs parts → 1 ≤ length jobs → get files name ≡ Some (ledger_bytes jobs parts)
-      → input name ledger_in (get files name) ≡ Ok (ledger_of (history jobs parts))
-  ledger_input files name jobs parts is some held = rw held (ap (λ (r : Result LedgerFields LedgerFault). named name (faulted of_ledger r)) (layers.ledger_read jobs parts is some))
+  ledger_input : (files : Files) (name : List ℕ) (h : History) (parts : List SealedFields) → IsHistory h parts → 1 ≤ members h → get files name ≡ Some (ledger_bytes h parts)
+      → input name ledger_in (get files name) ≡ Ok (ledger_of (history h parts))
+  ledger_input files name h parts is some held = rw held (ap (λ (r : Result LedgerFields LedgerFault). named name (faulted of_ledger r)) (layers.ledger_read h parts is some))
 
   -- what a command that publishes a job behind a history makes
-  pub record Behind (asked : Command) (jobs : List JobFields) (parts : List SealedFields) (job : JobFields) (o : Result Done NamedFault) : Type 0 where
+  pub record Behind (asked : Command) (h : History) (parts : List SealedFields) (job : JobFields) (o : Result Done NamedFault) : Type 0 where
     pub name : List ℕ
     pub part_name : List ℕ
     pub ledger_name : List ℕ
     pub before : LedgerFields
-    pub is_before : before ≡ ledger_of (history jobs parts)
+    pub is_before : before ≡ ledger_of (history h parts)
     pub outputs : (a b : List ℕ) → publishes_to asked a b ≡ record { name = part_name; bytes = a } ∷ record { name = ledger_name; bytes = b } ∷ []
     pub makes : MakesPart name part_name ledger_name before job o
 
-  behind : (asked : Command) (files : Files) (jobs : List JobFields) (parts : List SealedFields) (job : JobFields) (o : Result Done NamedFault)
-      → IsHistory jobs parts → PublishesJob asked files jobs parts job
-      → Makes asked (held_by asked files) o → Behind asked jobs parts job o
-  behind commands.Usage files jobs parts job o is p m = absurd p
-  behind (commands.Query q) files jobs parts job o is p m = absurd p
-  behind (commands.QueryCert q) files jobs parts job o is p m = absurd p
-  behind (commands.Check n) files jobs parts job o is p m = absurd p
-  behind (commands.Show n) files jobs parts job o is p m = absurd p
-  behind (commands.Rehearse r) files jobs parts job o is p m = absurd p
-  behind (commands.Sample t) files jobs parts job o is p m = absurd p
-  behind (commands.Gather g) files jobs parts job o is p m = absurd p
-  behind (commands.Start t) files jobs parts job o is p m = absurd p
-  behind (commands.Install i) files jobs parts job o is p m = absurd p
-  behind (commands.Snapshot s) files jobs parts job o is p m = record {
+  behind : (asked : Command) (files : Files) (h : History) (parts : List SealedFields) (job : JobFields) (o : Result Done NamedFault)
+      → IsHistory h parts → PublishesJob asked files h parts job
+      → Makes asked (held_by asked files) o → Behind asked h parts job o
+  behind commands.Usage files h parts job o is p m = absurd p
+  behind (commands.Query q) files h parts job o is p m = absurd p
+  behind (commands.QueryCert q) files h parts job o is p m = absurd p
+  behind (commands.Check n) files h parts job o is p m = absurd p
+  behind (commands.Show n) files h parts job o is p m = absurd p
+  behind (commands.Rehearse r) files h parts job o is p m = absurd p
+  behind (commands.Sample t) files h parts job o is p m = absurd p
+  behind (commands.Gather g) files h parts job o is p m = absurd p
+  behind (commands.Start t) files h parts job o is p m = absurd p
+  behind (commands.Install i) files h parts job o is p m = absurd p
+  behind (commands.Snapshot s) files h parts job o is p m = record {
     name = s.job;
     part_name = s.part;
     ledger_name = s.ledger;
     before = no_ledger;
-    is_before = sym layers.none ∙ ap (λ (js : List JobFields). ledger_of (history js [])) (sym p.0) ∙ ap (λ (ps : List SealedFields). ledger_of (history jobs ps)) (sym p.1);
+    is_before = sym layers.none ∙ ap (λ (k : History). ledger_of (history k [])) (sym p.0) ∙ ap (λ (ps : List SealedFields). ledger_of (history h ps)) (sym p.1);
     outputs = λ a b. refl;
     makes = subst (λ (r : Result JobFields NamedFault). MakesSnapshot s r o) (job_input files s.job job p.2) m;
   }
-  behind (commands.Delta t) files jobs parts job o is p m = record {
+  behind (commands.Delta t) files h parts job o is p m = record {
     name = t.job;
     part_name = t.part;
     ledger_name = t.new_ledger;
-    before = ledger_of (history jobs parts);
+    before = ledger_of (history h parts);
     is_before = refl;
     outputs = λ a b. refl;
-    makes = subst (λ (l : Result LedgerFields NamedFault). MakesDelta t (Ok job) l o) (ledger_input files t.ledger jobs parts is p.0 p.1)
+    makes = subst (λ (l : Result LedgerFields NamedFault). MakesDelta t (Ok job) l o) (ledger_input files t.ledger h parts is p.0 p.1)
         (subst (λ (r : Result JobFields NamedFault). MakesDelta t r (input t.ledger ledger_in (get files t.ledger)) o) (job_input files t.job job p.2) m);
   }
 
-  pub published : (asked : Command) (files : Files) (jobs : List JobFields) (parts : List SealedFields) (job : JobFields) (d : Done) → IsHistory jobs parts → PublishesJob asked files jobs parts job
-      → Makes asked (held_by asked files) (Ok d) → IsPublished asked jobs parts job d
-  published asked files jobs parts job d is p m =
-      let b = behind asked files jobs parts job (Ok d) is p m in
-      published_by asked jobs parts job d b.name b.part_name b.ledger_name b.before is b.is_before b.outputs b.makes.fits b.makes.limits b.makes.result b.makes.publishes b.makes.is
+  pub published : (asked : Command) (files : Files) (h : History) (parts : List SealedFields) (job : JobFields) (d : Done) → IsHistory h parts → PublishesJob asked files h parts job
+      → Makes asked (held_by asked files) (Ok d) → IsPublished asked h parts job d
+  published asked files h parts job d is p m =
+      let b = behind asked files h parts job (Ok d) is p m in
+      published_by asked h parts job d b.name b.part_name b.ledger_name b.before is b.is_before b.outputs b.makes.fits b.makes.limits b.makes.result b.makes.publishes b.makes.is
 
   done_by : (name part ledger : List ℕ) (before : LedgerFields) (job : JobFields) (o : Result Done NamedFault) (p : Published) → Publishes before job (Ok p) → (r : Result Published PublishFault)
       → Publishes before job r → o ≡ published_as name part ledger r → (d : Done) × (o ≡ Ok d)
@@ -175,12 +178,12 @@ module _ (layers : Layers) where
   done_by name part ledger before job o p x (Err fault) y is =
       absurd (let h : ◌≡◌ {A = Result Published PublishFault} (Ok p) (Err fault) = layers.publishing.one before job (Ok p) (Err fault) x y in cc)
 
-  pub admitted : (asked : Command) (files : Files) (jobs : List JobFields) (parts : List SealedFields) (job : JobFields) (o : Result Done NamedFault)
-      → IsHistory jobs parts → PublishesJob asked files jobs parts job
-      → IsAdmissible (history jobs parts) job → Makes asked (held_by asked files) o → (d : Done) × (o ≡ Ok d)
-  admitted asked files jobs parts job o is p a m =
-      let b = behind asked files jobs parts job o is p m in
-      let x = layers.publishing.complete jobs parts job is a in
+  pub admitted : (asked : Command) (files : Files) (h : History) (parts : List SealedFields) (job : JobFields) (o : Result Done NamedFault)
+      → IsHistory h parts → PublishesJob asked files h parts job
+      → IsAdmissible (history h parts) (in_format current job) → Makes asked (held_by asked files) o → (d : Done) × (o ≡ Ok d)
+  admitted asked files h parts job o is p a m =
+      let b = behind asked files h parts job o is p m in
+      let x = layers.publishing.complete h parts job is a in
       done_by b.name b.part_name b.ledger_name b.before job o x.0 (subst (λ (l : LedgerFields). Publishes l job (Ok x.0)) (sym b.is_before) x.1) b.makes.result b.makes.publishes b.makes.is
 
   -- ---- stores
@@ -230,21 +233,21 @@ module _ (layers : Layers) where
   begun_with s kinds.Snapshot h = refl
   begun_with s kinds.Delta h = absurd cc
 
-  start_stored : (t : StartFields) (files : Files) (jobs : List JobFields) (s : SealedFields) (o : Result Done NamedFault) → IsHistory jobs (s ∷ []) → get files t.part ≡ Some (part_bytes s)
+  start_stored : (t : StartFields) (files : Files) (h : History) (s : SealedFields) (o : Result Done NamedFault) → IsHistory h (s ∷ []) → get files t.part ≡ Some (part_bytes s)
       → o ≡ start_makes t (get files t.part) → o ≡ Ok (stored t.store (s ∷ []))
-  start_stored t files jobs s o is held m =
-      let fits : Fits s = All-head Fits s [] (layers.texts jobs (s ∷ []) is) in
+  start_stored t files h s o is held m =
+      let fits : Fits s = All-head Fits s [] (layers.texts h (s ∷ []) is) in
       m ∙ ap (λ (r : Result (SealedFields × ℕ) NamedFault). r >>= (λ x. named t.part (begun_by x.0 x.0.part.head.kind) >>= (λ parts. Ok (stored t.store parts)))) (part_input files t.part s fits held)
-      ∙ ap (λ (r : Result (List SealedFields) FileFault). named t.part r >>= (λ parts. Ok (stored t.store parts))) (begun_with s s.part.head.kind (layers.chain jobs (s ∷ []) is).0)
+      ∙ ap (λ (r : Result (List SealedFields) FileFault). named t.part r >>= (λ parts. Ok (stored t.store parts))) (begun_with s s.part.head.kind (layers.chain h (s ∷ []) is).0)
 
-  install_stored : (i : InstallFields) (files : Files) (jobs : List JobFields) (parts : List SealedFields) (s : SealedFields) (o : Result Done NamedFault)
-      → IsHistory jobs (parts ++ s ∷ []) → 1 ≤ length parts
+  install_stored : (i : InstallFields) (files : Files) (h : History) (parts : List SealedFields) (s : SealedFields) (o : Result Done NamedFault)
+      → IsHistory h (parts ++ s ∷ []) → 1 ≤ length parts
       → get files i.store ≡ Some (store_bytes parts) → get files i.part ≡ Some (part_bytes s) → o ≡ install_makes i (get files i.store) (get files i.part)
       → o ≡ Ok (stored i.new_store (parts ++ s ∷ []))
-  install_stored i files jobs parts s o is some store_held part_held m =
-      let few : length parts < 64 = omega (arith, layers.few jobs (parts ++ s ∷ []) is, length_push parts s) in
-      let grown = layers.grown parts s (layers.chain jobs (parts ++ s ∷ []) is) some few in
-      let all = layers.texts jobs (parts ++ s ∷ []) is in
+  install_stored i files h parts s o is some store_held part_held m =
+      let few : length parts < 64 = omega (arith, layers.few h (parts ++ s ∷ []) is, length_push parts s) in
+      let grown = layers.grown parts s (layers.chain h (parts ++ s ∷ []) is) some few in
+      let all = layers.texts h (parts ++ s ∷ []) is in
       m ∙ ap (λ (r : Result (List SealedFields) NamedFault). r >>=
       (λ ps. input i.part part_in (get files i.part) >>= (λ x. named i.part (installed_by (refusal_of ps x.0) ps x.0) >>=
       (λ more. Ok (stored i.new_store more)))))
@@ -254,43 +257,41 @@ module _ (layers : Layers) where
       (part_input files i.part s (last_fits parts s all) part_held)
       ∙ ap (λ (why : Option Refusal). named i.part (installed_by why parts s) >>= (λ more. Ok (stored i.new_store more))) grown.1
 
-  pub stored_law : (asked : Command) (files : Files) (jobs : List JobFields) (parts : List SealedFields) (s : SealedFields) (o : Result Done NamedFault) → IsHistory jobs (parts ++ s ∷ [])
+  pub stored_law : (asked : Command) (files : Files) (h : History) (parts : List SealedFields) (s : SealedFields) (o : Result Done NamedFault) → IsHistory h (parts ++ s ∷ [])
       → StoresPart asked files parts s → Makes asked (held_by asked files) o → (d : Done) × (o ≡ Ok d) × IsStored asked parts s d
-  stored_law commands.Usage files jobs parts s o is p m = absurd p
-  stored_law (commands.Query q) files jobs parts s o is p m = absurd p
-  stored_law (commands.QueryCert q) files jobs parts s o is p m = absurd p
-  stored_law (commands.Check n) files jobs parts s o is p m = absurd p
-  stored_law (commands.Show n) files jobs parts s o is p m = absurd p
-  stored_law (commands.Rehearse r) files jobs parts s o is p m = absurd p
-  stored_law (commands.Sample t) files jobs parts s o is p m = absurd p
-  stored_law (commands.Gather g) files jobs parts s o is p m = absurd p
-  stored_law (commands.Snapshot t) files jobs parts s o is p m = absurd p
-  stored_law (commands.Delta d) files jobs parts s o is p m = absurd p
-  stored_law (commands.Start t) files jobs [] s o is p m = stored_is (commands.Start t) t.store [] s o (λ b. refl) (start_stored t files jobs s o is p.1 m)
-  stored_law (commands.Start t) files jobs (q ∷ parts) s o is p m = absurd (let h : ◌≡◌ {A = List SealedFields} (q ∷ parts) [] = p.0 in cc)
-  stored_law (commands.Install i) files jobs parts s o is p m = stored_is (commands.Install i) i.new_store parts s o (λ b. refl) (install_stored i files jobs parts s o is p.0 p.1 p.2 m)
+  stored_law commands.Usage files h parts s o is p m = absurd p
+  stored_law (commands.Query q) files h parts s o is p m = absurd p
+  stored_law (commands.QueryCert q) files h parts s o is p m = absurd p
+  stored_law (commands.Check n) files h parts s o is p m = absurd p
+  stored_law (commands.Show n) files h parts s o is p m = absurd p
+  stored_law (commands.Rehearse r) files h parts s o is p m = absurd p
+  stored_law (commands.Sample t) files h parts s o is p m = absurd p
+  stored_law (commands.Gather g) files h parts s o is p m = absurd p
+  stored_law (commands.Snapshot t) files h parts s o is p m = absurd p
+  stored_law (commands.Delta d) files h parts s o is p m = absurd p
+  stored_law (commands.Start t) files h [] s o is p m = stored_is (commands.Start t) t.store [] s o (λ b. refl) (start_stored t files h s o is p.1 m)
+  stored_law (commands.Start t) files h (q ∷ parts) s o is p m = absurd (let h : ◌≡◌ {A = List SealedFields} (q ∷ parts) [] = p.0 in cc)
+  stored_law (commands.Install i) files h parts s o is p m = stored_is (commands.Install i) i.new_store parts s o (λ b. refl) (install_stored i files h parts s o is p.0 p.1 p.2 m)
 
   -- ---- asking
 
-  some_parts : (jobs : List JobFields) (parts : List SealedFields) → IsHistory jobs parts → 1 ≤ length jobs → 1 ≤ length parts
-  some_parts [] parts is some = absurd (omega (arith, some))
-  some_parts (j ∷ jobs) [] is some = absurd is
-  some_parts (j ∷ jobs) (s ∷ parts) is some = omega arith
+  some_parts : (h : History) (parts : List SealedFields) → IsHistory h parts → 1 ≤ members h → 1 ≤ length parts
+  some_parts h parts is some = omega (arith, layers.many h parts is, some)
 
-  query_asked : (q : QueryFields) (files : Files) (jobs : List JobFields) (parts : List SealedFields) (o : Result Done NamedFault) → IsHistory jobs parts
-      → 1 ≤ length jobs → get files q.store ≡ Some (store_bytes parts)
-      → 1 ≤ length q.sightings → ((s : Sighting) → Among q.sightings s → Among (sightings q.id (seen (history jobs parts))) s)
-      → o ≡ query_makes q (get files q.store) → o ≡ Ok (truth_done jobs parts q)
-  query_asked q files jobs parts o is some held asked accepted m =
+  query_asked : (q : QueryFields) (files : Files) (h : History) (parts : List SealedFields) (o : Result Done NamedFault) → IsHistory h parts
+      → 1 ≤ members h → get files q.store ≡ Some (store_bytes parts)
+      → 1 ≤ length q.sightings → ((s : Sighting) → Among q.sightings s → Among (sightings q.id (seen (history h parts))) s)
+      → o ≡ query_makes q (get files q.store) → o ≡ Ok (truth_done h parts q)
+  query_asked q files h parts o is some held asked accepted m =
       m ∙ ap (λ (r : Result (List SealedFields) NamedFault). r >>= (λ ps. Ok (query_done q ps)))
-      (store_input files q.store parts (layers.chain jobs parts is) (some_parts jobs parts is some) (layers.few jobs parts is) (layers.texts jobs parts is) held)
-      ∙ ap (λ (v : Verdict). Ok (only (line (verdict_word v)))) (layers.truths jobs parts q.id q.sightings is asked accepted)
+      (store_input files q.store parts (layers.chain h parts is) (some_parts h parts is some) (layers.few h parts is) (layers.texts h parts is) held)
+      ∙ ap (λ (v : Verdict). Ok (only (line (verdict_word v)))) (layers.truths h parts q.id q.sightings is asked accepted)
 
-  pub asked_law : (asked : Command) (files : Files) (q : QueryFields) (jobs : List JobFields) (parts : List SealedFields) (o : Result Done NamedFault)
-      → IsHistory jobs parts → AsksHistory asked files q jobs parts
-      → Makes asked (held_by asked files) o → o ≡ Ok (truth_done jobs parts q)
-  asked_law asked files q jobs parts o is p m =
-      query_asked q files jobs parts o is p.1 p.2 p.3 p.4 (subst (λ (c : Command). Makes c (held_by c files) o) p.0 m)
+  pub asked_law : (asked : Command) (files : Files) (q : QueryFields) (h : History) (parts : List SealedFields) (o : Result Done NamedFault)
+      → IsHistory h parts → AsksHistory asked files q h parts
+      → Makes asked (held_by asked files) o → o ≡ Ok (truth_done h parts q)
+  asked_law asked files q h parts o is p m =
+      query_asked q files h parts o is p.1 p.2 p.3 p.4 (subst (λ (c : Command). Makes c (held_by c files) o) p.0 m)
 
   -- ---- asking with a certificate
 
@@ -301,20 +302,20 @@ module _ (layers : Layers) where
   issuer_input : (files : Files) (name hash : List ℕ) → HoldsKey files name hash → input name issuer_in (get files name) ≡ Ok hash
   issuer_input files name hash (bytes, key, held, small, has, is) = rw held (ap (named name) (issuer_read bytes key hash small has is))
 
-  cert_asked : (files : Files) (q : QueryCertFields) (x : Identity) (ss : List Sighting) (jobs : List JobFields) (parts : List SealedFields) (o : Result Done NamedFault)
-      → IsHistory jobs parts → AsksCert (commands.QueryCert q) files q x ss jobs parts
-      → o ≡ query_cert_makes q (get files q.store) (get files q.cert) (get files q.issuer_cert) → o ≡ Ok (only (cert_truth_line jobs parts x))
-  cert_asked files q x ss jobs parts o is a m =
+  cert_asked : (files : Files) (q : QueryCertFields) (x : Identity) (ss : List Sighting) (h : History) (parts : List SealedFields) (o : Result Done NamedFault)
+      → IsHistory h parts → AsksCert (commands.QueryCert q) files q x ss h parts
+      → o ≡ query_cert_makes q (get files q.store) (get files q.cert) (get files q.issuer_cert) → o ≡ Ok (only (cert_truth_line h parts x))
+  cert_asked files q x ss h parts o is a m =
       let cert : Certificate = record { serial = x.serial; scts = ss } in
       m ∙ ap (λ (r : Result (List SealedFields) NamedFault). r >>= cert_after q (get files q.cert) (get files q.issuer_cert))
-      (store_input files q.store parts (layers.chain jobs parts is) (some_parts jobs parts is a.some_jobs) (layers.few jobs parts is) (layers.texts jobs parts is) a.store)
+      (store_input files q.store parts (layers.chain h parts is) (some_parts h parts is a.some) (layers.few h parts is) (layers.texts h parts is) a.store)
       ∙ ap (λ (r : Result Certificate NamedFault). r >>= cert_then q (get files q.issuer_cert) parts) (cert_input files q.cert x.serial ss a.cert)
       ∙ ap (λ (r : Result (List ℕ) NamedFault). r >>= cert_last parts cert) (issuer_input files q.issuer_cert x.issuer a.issuer)
-      ∙ ap (λ (v : Verdict). Ok (only (line (verdict_word v)))) (truth_of_covered layers.truths jobs parts x ss is a.one a.covered)
+      ∙ ap (λ (v : Verdict). Ok (only (line (verdict_word v)))) (truth_of_covered layers.truths h parts x ss is a.one a.covered)
 
-  pub cert_law : (asked : Command) (files : Files) (q : QueryCertFields) (x : Identity) (ss : List Sighting) (jobs : List JobFields) (parts : List SealedFields)
-      (o : Result Done NamedFault) → IsHistory jobs parts → AsksCert asked files q x ss jobs parts
-      → Makes asked (held_by asked files) o → o ≡ Ok (only (cert_truth_line jobs parts x))
-  cert_law asked files q x ss jobs parts o is a m =
-      let b : AsksCert (commands.QueryCert q) files q x ss jobs parts = subst (λ (c : Command). AsksCert c files q x ss jobs parts) a.is a in
-      cert_asked files q x ss jobs parts o is b (subst (λ (c : Command). Makes c (held_by c files) o) a.is m)
+  pub cert_law : (asked : Command) (files : Files) (q : QueryCertFields) (x : Identity) (ss : List Sighting) (h : History) (parts : List SealedFields)
+      (o : Result Done NamedFault) → IsHistory h parts → AsksCert asked files q x ss h parts
+      → Makes asked (held_by asked files) o → o ≡ Ok (only (cert_truth_line h parts x))
+  cert_law asked files q x ss h parts o is a m =
+      let b : AsksCert (commands.QueryCert q) files q x ss h parts = subst (λ (c : Command). AsksCert c files q x ss h parts) a.is a in
+      cert_asked files q x ss h parts o is b (subst (λ (c : Command). Makes c (held_by c files) o) a.is m)

@@ -46,6 +46,7 @@ use Rattle.store_core.specs.StoreLayout.{store}
 use Rattle.publication_core.specs.declared.fault.PublishFault.{PublishFault}
 use Rattle.publication_core.specs.declared.fault.PublishFault.TheVariants as publish
 use Rattle.publication_core.specs.Publishing.{Published}
+use Rattle.publication_core.specs.Histories.{History, chain}
 use Rattle.word_core.specs.declared.command.Command.{Command}
 use Rattle.word_core.specs.declared.command.Command.TheVariants as commands
 use Rattle.word_core.specs.CommandFields.{QueryCertFields, SnapshotFields, DeltaFields, StartFields, InstallFields, RehearseFields, GatherFields}
@@ -476,10 +477,10 @@ module _ (told : Option Files) (failed : Option (List ℕ) → Type 0) (e : Name
   delta_by t j l first second (inl h) = cause_of (t.job ∷ t.ledger ∷ []) t.job j (inl refl) first (input_unread t.job job_in j e job_read h u)
   delta_by t j l first second (inr h) = cause_of (t.job ∷ t.ledger ∷ []) t.ledger l (inr (inl refl)) second (input_unread t.ledger ledger_in l e ledger_read h u)
 
-  refused_by : (jobs : List JobFields) (parts : List SealedFields) (name : List ℕ) (given : Option (List ℕ)) (names : List (List ℕ))
-      → IsRead told failed name given → IsRefused jobs parts name given e → Cause (name ∷ names)
-  refused_by jobs parts name given names read (inl h) = cause_of (name ∷ names) name given (inl refl) read (input_unread name job_in given e job_read h u)
-  refused_by jobs parts name given names read (inr (job, fault, is, publishes, same)) = absurd (publish_fault_read fault (sym (ap (λ (k : NamedFault). k.fault) same) ∙ u))
+  refused_by : (h : History) (parts : List SealedFields) (name : List ℕ) (given : Option (List ℕ)) (names : List (List ℕ))
+      → IsRead told failed name given → IsRefused h parts name given e → Cause (name ∷ names)
+  refused_by h parts name given names read (inl is) = cause_of (name ∷ names) name given (inl refl) read (input_unread name job_in given e job_read is u)
+  refused_by h parts name given names read (inr (job, fault, is, publishes, same)) = absurd (publish_fault_read fault (sym (ap (λ (k : NamedFault). k.fault) same) ∙ u))
 
   rehearses_by : (queries : List Query) (jobs : List JobFields) (parts : List SealedFields) (names : List (List ℕ)) (inputs : List (Option (List ℕ))) → AreRead told failed names inputs
       → RehearsesOn queries jobs parts names inputs (Err e) → Cause names
@@ -487,7 +488,7 @@ module _ (told : Option Files) (failed : Option (List ℕ) → Type 0) (e : Name
   rehearses_by queries jobs parts [] (g ∷ inputs) read m = absurd m
   rehearses_by queries jobs parts (name ∷ names) [] read m = absurd m
   rehearses_by queries jobs parts (name ∷ names) (g ∷ inputs) read (inl (f, refused, is)) =
-      refused_by jobs parts name g names read.0 (subst (IsRefused jobs parts name g) (sym (err_same {A = Done} e f is)) refused)
+      refused_by (chain jobs) parts name g names read.0 (subst (IsRefused (chain jobs) parts name g) (sym (err_same {A = Done} e f is)) refused)
   rehearses_by queries jobs parts (name ∷ names) (g ∷ inputs) read (inr (job, more, is_read, is, rest)) =
       let c = rehearses_by queries (jobs ++ job ∷ []) more names inputs read.1 rest in (inr c.0, c.1)
 

@@ -8,6 +8,7 @@ use Rattle.job_core.specs.JobFields.{JobFields}
 use Rattle.gather_core.specs.Pages.{PageFields}
 use Rattle.ledger_core.specs.LedgerFields.{LedgerFields}
 use Rattle.part_codec.specs.SealedFields.{SealedFields}
+use Rattle.publication_core.specs.Histories.{History, chain}
 use Rattle.word_core.specs.declared.command.Command.{Command}
 use Rattle.word_core.specs.declared.command.Command.TheVariants as commands
 use Rattle.word_core.specs.CommandFields.{QueryCertFields, DeltaFields, InstallFields, RehearseFields, GatherFields}
@@ -18,7 +19,8 @@ use Rattle.clubcard_top.specs.ReplyFields.{Done, NamedFault}
 use Rattle.input_core.specs.Readings.{queries_in, job_in, ledger_in, store_in}
 use Rattle.input_core.specs.Certificates.{certificate_in, issuer_in}
 use Rattle.input_core.specs.Inputs.{IsRead, AreRead}
-use Rattle.clubcard_top.specs.Commands.{◌>>=◌, input, query_makes, query_cert_makes, check_makes, show_makes, start_makes, install_makes, MakesDelta, IsRefused, MakesRehearsal, head_in, page_in, room_for, pages_of, gather_done, gather_makes, Makes}
+use Rattle.clubcard_top.specs.Commands.{◌>>=◌, input, query_makes, query_cert_makes, check_makes, show_makes, start_makes, install_makes}
+use Rattle.clubcard_top.specs.Commands.{MakesDelta, IsRefused, MakesRehearsal, head_in, page_in, room_for, pages_of, gather_done, gather_makes, Makes}
 use Rattle.clubcard_top.specs.Steps.{RehearsesOn}
 use Rattle.clubcard_top.specs.Replies.{held_by}
 use Rattle.clubcard_top.proofs.Makings.{install_after, gather_after, page_last, page_then, cert_last, cert_then, cert_after}
@@ -102,11 +104,11 @@ query_cert_over files failed q s k i o seen first second third m =
     (λ cert. after_over files failed q.issuer_cert issuer_in i (cert_last parts cert) (cert_last parts cert) o seen third (λ x h. h))) m
 
 -- what is wrong with a job that isn't given is that it can't be read
-unread_job : (jobs : List JobFields) (parts : List SealedFields) (name : List ℕ) (e : NamedFault) → IsRefused jobs parts name None e → e.fault ≡ faults.Unread
-unread_job jobs parts name e (inl h) =
-    let same : unread name ≡ e = let g : ◌≡◌ {A = Result JobFields NamedFault} (Err (unread name)) (Err e) = h in cc in
+unread_job : (h : History) (parts : List SealedFields) (name : List ℕ) (e : NamedFault) → IsRefused h parts name None e → e.fault ≡ faults.Unread
+unread_job h parts name e (inl is) =
+    let same : unread name ≡ e = let g : ◌≡◌ {A = Result JobFields NamedFault} (Err (unread name)) (Err e) = is in cc in
     sym (ap (λ (k : NamedFault). k.fault) same)
-unread_job jobs parts name e (inr (job, fault, is, not, same)) = absurd (let g : ◌≡◌ {A = Result JobFields NamedFault} (Err (unread name)) (Ok job) = is in cc)
+unread_job h parts name e (inr (job, fault, is, not, same)) = absurd (let g : ◌≡◌ {A = Result JobFields NamedFault} (Err (unread name)) (Ok job) = is in cc)
 
 rehearses_over : (files : Files) (failed : Option (List ℕ) → Type 0) (queries : List Query) (jobs : List JobFields) (parts : List SealedFields) (names : List (List ℕ))
     (inputs : List (Option (List ℕ))) (o : Result Done NamedFault) → IsSeen o
@@ -114,11 +116,11 @@ rehearses_over : (files : Files) (failed : Option (List ℕ) → Type 0) (querie
 rehearses_over files failed queries jobs parts [] [] o seen read m = m
 rehearses_over files failed queries jobs parts [] (g ∷ inputs) o seen read m = absurd m
 rehearses_over files failed queries jobs parts (name ∷ names) [] o seen read m = absurd m
-rehearses_over files failed queries jobs parts (name ∷ names) (None ∷ inputs) o seen read (inl (e, refused, is)) = absurd (seen e is (unread_job jobs parts name e refused))
+rehearses_over files failed queries jobs parts (name ∷ names) (None ∷ inputs) o seen read (inl (e, refused, is)) = absurd (seen e is (unread_job (chain jobs) parts name e refused))
 rehearses_over files failed queries jobs parts (name ∷ names) (None ∷ inputs) o seen read (inr (job, more, is_job, is_more, rest)) =
     absurd (let g : ◌≡◌ {A = Result JobFields NamedFault} (Err (unread name)) (Ok job) = is_job in cc)
 rehearses_over files failed queries jobs parts (name ∷ names) (Some b ∷ inputs) o seen read (inl (e, refused, is)) =
-    inl (e, subst (λ (g : Option (List ℕ)). IsRefused jobs parts name g e) (sym read.0) refused, is)
+    inl (e, subst (λ (g : Option (List ℕ)). IsRefused (chain jobs) parts name g e) (sym read.0) refused, is)
 rehearses_over files failed queries jobs parts (name ∷ names) (Some b ∷ inputs) o seen read (inr (job, more, is_job, is_more, rest)) =
     inr (
       job,

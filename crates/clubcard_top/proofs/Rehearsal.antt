@@ -1,8 +1,8 @@
 -- Jobs that are rehearsed file by file, and the reply of `rehearse`.
-use Rattle.std.proofs.Common.{◌≡◌, ℕ, zero, suc, ◌+◌, ◌<◌, ◌≤◌, inl, inr, List, [], ◌∷◌, ◌++◌, flat_map, take, drop, get_or, length, append_assoc, Option, Some, None, Result, Ok}
+use Rattle.std.proofs.Common.{◌≡◌, ℕ, zero, suc, ◌+◌, ◌<◌, ◌≤◌, inl, inr, List, [], ◌∷◌, ◌++◌, map, flat_map, take, drop, get_or, length, append_assoc, Option, Some, None, Result, Ok}
 use Rattle.std.proofs.Common.{Err, IfOk, refl, sym, ap, ◌∙◌, subst, arith}
 use Rattle.std.specs.Prelude.{IsErr}
-use Rattle.std.proofs.lemmas.List.{append-nil, take_more, drop_more, take_all, drop_all, take-append-drop}
+use Rattle.std.proofs.lemmas.List.{append-nil, length_push, take_more, drop_more, take_all, drop_all, take-append-drop}
 use Rattle.octets_core.specs.declared.memory.NoMemory.{NoMemory}
 use Rattle.outside_core.specs.declared.depot.Depot.{Ghosts}
 use Rattle.outside_core.specs.Effects.{OnlyReads}
@@ -11,9 +11,9 @@ use Rattle.sets_core.specs.Among.{Among}
 use Rattle.query_core.specs.Queries.{Query}
 use Rattle.part_codec.specs.SealedFields.{SealedFields}
 use Rattle.job_core.specs.JobFields.{JobFields}
-use Rattle.universe_core.specs.Jobs.{facts_of}
-use Rattle.universe_core.specs.History.{Release}
-use Rattle.publication_core.specs.Histories.{AreAdmissible, release_of}
+use Rattle.universe_core.specs.Formats.{in_format}
+use Rattle.publication_core.specs.Formats.{current}
+use Rattle.publication_core.specs.Histories.{History, of_jobs, with_job, with_jobs, chain}
 use Rattle.rehearsal_core.specs.Rehearsing.{RehearsalFields, IsOf}
 use Rattle.word_core.specs.declared.command.Command.TheVariants as commands
 use Rattle.word_core.specs.CommandFields.{RehearseFields}
@@ -31,6 +31,7 @@ use Rattle.clubcard_top.specs.Answering.{reply_fields}
 use Rattle.clubcard_top.specs.Runs.{BlamesFile, IsReply}
 use Rattle.input_core.proofs.FilesRead.{some_read, later_read, failed_later, none_failed, blamed_later}
 use Rattle.clubcard_top.proofs.Replying.{read_well, read_named, blames_file, made, made_unless}
+use Rattle.clubcard_top.proofs.Chains.{chain_push}
 use Rattle.clubcard_top.proofs.Prefixes.{first_of}
 
 -- ---- files that were read
@@ -72,27 +73,18 @@ at_among (n ∷ names) (suc i) name rest is = inr (at_among names i name rest is
 
 -- ---- reports
 
-lengths : (rs : List Release) (jobs : List JobFields) (parts : List SealedFields) → AreAdmissible rs jobs parts → length jobs ≡ length parts
-lengths rs [] [] are = refl
-lengths rs [] (s ∷ parts) are = absurd are
-lengths rs (job ∷ jobs) [] are = absurd are
-lengths rs (job ∷ jobs) (s ∷ parts) are = ap (λ (n : ℕ). suc n) (lengths (rs ++ release_of rs (facts_of job) s ∷ []) jobs parts are.2)
-
-reports_more : (before : List JobFields) (parts_before : List SealedFields) (jobs : List JobFields) (parts : List SealedFields) (job : JobFields) (s : SealedFields) → length jobs ≡ length parts
-    → reports before parts_before (jobs ++ job ∷ []) (parts ++ s ∷ []) ≡ reports before parts_before jobs parts ++ report_behind (before ++ jobs) (parts_before ++ parts) job
-reports_more before parts_before [] [] job s same =
-    append-nil (report_behind before parts_before job) ∙ ap (λ (js : List JobFields). report_behind js parts_before job) (sym (append-nil before))
-    ∙ ap (λ (ps : List SealedFields). report_behind (before ++ []) ps job) (sym (append-nil parts_before))
-reports_more before parts_before [] (t ∷ parts) job s same = absurd (omega (arith, same))
-reports_more before parts_before (j ∷ jobs) [] job s same = absurd (omega (arith, same))
-reports_more before parts_before (j ∷ jobs) (t ∷ parts) job s same =
-    ap (λ (text : List ℕ). report_behind before parts_before j ++ text) (reports_more (before ++ j ∷ []) (parts_before ++ t ∷ []) jobs parts job s (omega (arith, same)))
-    ∙ sym (append_assoc (report_behind before parts_before j) (reports (before ++ j ∷ []) (parts_before ++ t ∷ []) jobs parts)
-    (report_behind ((before ++ j ∷ []) ++ jobs) ((parts_before ++ t ∷ []) ++ parts) job))
-    ∙ ap (λ (js : List JobFields). (report_behind before parts_before j ++ reports (before ++ j ∷ []) (parts_before ++ t ∷ []) jobs parts)
-    ++ report_behind js ((parts_before ++ t ∷ []) ++ parts) job) (append_assoc before (j ∷ []) jobs)
-    ∙ ap (λ (ps : List SealedFields). (report_behind before parts_before j ++ reports (before ++ j ∷ []) (parts_before ++ t ∷ []) jobs parts)
-    ++ report_behind (before ++ j ∷ jobs) ps job) (append_assoc parts_before (t ∷ []) parts)
+reports_more : (h : History) (before : List SealedFields) (jobs : List JobFields) (parts : List SealedFields) (job : JobFields) (s : SealedFields) → length jobs ≡ length parts
+    → reports h before (jobs ++ job ∷ []) (parts ++ s ∷ []) ≡ reports h before jobs parts ++ report_behind (with_jobs h (map (in_format current) jobs)) (before ++ parts) job
+reports_more h before [] [] job s same =
+    append-nil (report_behind h before job) ∙ ap (λ (ps : List SealedFields). report_behind h ps job) (sym (append-nil before))
+reports_more h before [] (t ∷ parts) job s same = absurd (omega (arith, same))
+reports_more h before (j ∷ jobs) [] job s same = absurd (omega (arith, same))
+reports_more h before (j ∷ jobs) (t ∷ parts) job s same =
+    let k : History = with_job h (in_format current j) in
+    let last : History = with_jobs k (map (in_format current) jobs) in
+    ap (λ (text : List ℕ). report_behind h before j ++ text) (reports_more k (before ++ t ∷ []) jobs parts job s (omega (arith, same)))
+    ∙ sym (append_assoc (report_behind h before j) (reports k (before ++ t ∷ []) jobs parts) (report_behind last ((before ++ t ∷ []) ++ parts) job))
+    ∙ ap (λ (ps : List SealedFields). (report_behind h before j ++ reports k (before ++ t ∷ []) jobs parts) ++ report_behind last ps job) (append_assoc before (t ∷ []) parts)
 
 -- ---- the first files
 
@@ -101,19 +93,21 @@ pub record Gone (told : Option Files) (names : List (List ℕ)) (i : ℕ) (r : R
   pub inputs : List (Option (List ℕ))
   pub read : AreRead told nothing (take i names) inputs
   pub jobs : List JobFields
-  pub is_of : IsOf jobs r
-  pub lines : text ≡ reports [] [] jobs r.parts
+  pub as_many : length jobs ≡ length r.parts
+  pub is_of : IsOf (chain jobs) r
+  pub lines : text ≡ reports (of_jobs []) [] jobs r.parts
   pub next : (queries : List Query) (rest : List (Option (List ℕ))) (o : Result Done NamedFault) → RehearsesOn queries jobs r.parts (drop i names) rest o
       → RehearsesOn queries [] [] names (inputs ++ rest) o
 
 module _ (told : Option Files) (names : List (List ℕ)) where
-  pub none_gone : (r : RehearsalFields) (text : List ℕ) → r.parts ≡ [] → IsOf [] r → text ≡ [] → Gone told names 0 r text
+  pub none_gone : (r : RehearsalFields) (text : List ℕ) → r.parts ≡ [] → IsOf (of_jobs []) r → text ≡ [] → Gone told names 0 r text
   none_gone r text none is_of empty = record {
     inputs = [];
     read = tt;
     jobs = [];
+    as_many = ap (λ (ps : List SealedFields). length ps) (sym none);
     is_of = is_of;
-    lines = empty ∙ ap (reports [] [] []) (sym none);
+    lines = empty ∙ ap (reports (of_jobs []) [] []) (sym none);
     next = λ queries rest o m. subst (λ (ps : List SealedFields). RehearsesOn queries [] ps names rest o) none m;
   }
 
@@ -136,28 +130,33 @@ module _ (told : Option Files) (names : List (List ℕ)) where
     job_was_read job gives =
         subst (λ (t : Option Files). IsRead t nothing name g) same (read_named mid here nothing name job_in g job gives read)
 
-    more_by : (after : RehearsalFields) (line : List ℕ) → AddsJob gone.jobs r (input name job_in g) after line → Gone told names (i + 1) after (text ++ line)
+    is_of_more : (after : RehearsalFields) (job : JobFields) → IsOf (with_job (chain gone.jobs) (in_format current job)) after → IsOf (chain (gone.jobs ++ job ∷ [])) after
+    is_of_more after job is_of = subst (λ (h : History). IsOf h after) (sym (chain_push gone.jobs job)) is_of
+
+    more_by : (after : RehearsalFields) (line : List ℕ) → AddsJob (chain gone.jobs) r (input name job_in g) after line → Gone told names (i + 1) after (text ++ line)
     more_by after line a = record {
       inputs = gone.inputs ++ g ∷ [];
       read = subst (λ (ns : List (List ℕ)). AreRead told nothing ns (gone.inputs ++ g ∷ [])) (sym up_to)
           (read_both told nothing (take i names) (name ∷ []) gone.inputs (g ∷ []) gone.read (job_was_read a.job a.is_read, tt));
       jobs = gone.jobs ++ a.job ∷ [];
-      is_of = a.is_of;
-      lines = ap (λ (t : List ℕ). t ++ line) gone.lines ∙ ap (λ (l : List ℕ). reports [] [] gone.jobs r.parts ++ l) a.report
-          ∙ sym (reports_more [] [] gone.jobs r.parts a.job a.sealed (lengths [] gone.jobs r.parts gone.is_of.is_history)) ∙ ap (reports [] [] (gone.jobs ++ a.job ∷ [])) (sym a.parts);
+      as_many =
+          omega (arith, length_push gone.jobs a.job, gone.as_many, length_push r.parts a.sealed, ap (λ (ps : List SealedFields). length ps) a.parts);
+      is_of = is_of_more after a.job a.is_of;
+      lines = ap (λ (t : List ℕ). t ++ line) gone.lines ∙ ap (λ (l : List ℕ). reports (of_jobs []) [] gone.jobs r.parts ++ l) a.report
+          ∙ sym (reports_more (of_jobs []) [] gone.jobs r.parts a.job a.sealed gone.as_many) ∙ ap (reports (of_jobs []) [] (gone.jobs ++ a.job ∷ [])) (sym a.parts);
       next = λ queries rest o m.
           subst (λ (gs : List (Option (List ℕ))). RehearsesOn queries [] [] names gs o) (sym (append_assoc gone.inputs (g ∷ []) rest))
-          (next_of queries (g ∷ rest) o (inr (a.job, after.parts, a.is_read, a.is_of.is_history, m)));
+          (next_of queries (g ∷ rest) o (inr (a.job, after.parts, a.is_read, (is_of_more after a.job a.is_of).is_history, m)));
     }
 
-    pub gone_more : (after : RehearsalFields) (line : List ℕ) → ((jobs : List JobFields) → IsOf jobs r → AddsJob jobs r (input name job_in g) after line)
+    pub gone_more : (after : RehearsalFields) (line : List ℕ) → ((h : History) → IsOf h r → AddsJob h r (input name job_in g) after line)
         → Gone told names (i + 1) after (text ++ line)
-    gone_more after line adds = more_by after line (adds gone.jobs gone.is_of)
+    gone_more after line adds = more_by after line (adds (chain gone.jobs) gone.is_of)
 
     -- what is wrong with it is what is wrong with all
     pub gone_refused : {A : Type 0} (later : Option (List ℕ) → Type 0) (fault : FileFault) → ((which : Option (List ℕ)) → here which → later which)
         → IsBlamed {A = A} here name faults.Unread (Err fault)
-        → ((jobs : List JobFields) → IsOf jobs r → IsRefused jobs r.parts name g (record { name = name; fault = fault }))
+        → ((h : History) → IsOf h r → IsRefused h r.parts name g (record { name = name; fault = fault }))
         → IsRefusedFrom told later names (record { name = name; fault = fault })
     gone_refused {A} later fault wider blamed refused =
         let rest = some_reads told later (drop (i + 1) names) in
@@ -169,7 +168,7 @@ module _ (told : Option Files) (names : List (List ℕ)) where
               (later_read told mid here later name g same wider read, rest.1));
           blames = blames_file {A = A} later names name fault (at_among names i name (drop (i + 1) names) from_place)
               (blamed_later {A = A} here later name faults.Unread (Err fault) wider blamed);
-          makes = λ queries. next_of queries (g ∷ rest.0) (Err (record { name = name; fault = fault })) (inl (record { name = name; fault = fault }, refused gone.jobs gone.is_of, refl));
+          makes = λ queries. next_of queries (g ∷ rest.0) (Err (record { name = name; fault = fault })) (inl (record { name = name; fault = fault }, refused (chain gone.jobs) gone.is_of, refl));
         }
 
   -- all files are gone

@@ -12,8 +12,8 @@ use Rattle.job_core.specs.declared.bounds.TheConstants.Limits.{PUBLISHED}
 use Rattle.job_core.specs.declared.fault.JobFault.{JobFault}
 use Rattle.job_core.specs.JobFields.{JobFields}
 use Rattle.job_core.specs.JobLayout.{job_of}
-use Rattle.store_core.specs.declared.verdict.Verdict.{Verdict}
-use Rattle.publication_core.specs.Histories.{IsHistory}
+use Rattle.card_core.specs.declared.verdict.Verdict.{Verdict}
+use Rattle.publication_core.specs.Histories.{chain, IsHistory}
 use Rattle.word_core.specs.declared.command.Command.{Command}
 use Rattle.word_core.specs.declared.command.Command.TheVariants as commands
 use Rattle.word_core.specs.CommandFields.{RehearseFields}
@@ -60,15 +60,15 @@ module _ (layers : Layers) (files : Files) where
     pub others : List JobFields
     pub parts : List SealedFields
     pub held : AllZip (HoldsJob files) names others
-    pub is_history : IsHistory (jobs ++ others) parts
+    pub is_history : IsHistory (chain (jobs ++ others)) parts
     pub done : d ≡ rehearsed queries (jobs ++ others) parts
 
-  follows_none : (queries : List Query) (jobs : List JobFields) (parts : List SealedFields) (d : Done) → IsHistory jobs parts → d ≡ rehearsed queries jobs parts → Follows queries jobs [] d
+  follows_none : (queries : List Query) (jobs : List JobFields) (parts : List SealedFields) (d : Done) → IsHistory (chain jobs) parts → d ≡ rehearsed queries jobs parts → Follows queries jobs [] d
   follows_none queries jobs parts d is same = record {
     others = [];
     parts = parts;
     held = tt;
-    is_history = subst (λ (js : List JobFields). IsHistory js parts) (sym (append-nil jobs)) is;
+    is_history = subst (λ (js : List JobFields). IsHistory (chain js) parts) (sym (append-nil jobs)) is;
     done = same ∙ ap (λ (js : List JobFields). rehearsed queries js parts) (sym (append-nil jobs));
   }
 
@@ -79,11 +79,11 @@ module _ (layers : Layers) (files : Files) where
     others = job ∷ f.others;
     parts = f.parts;
     held = (held, f.held);
-    is_history = subst (λ (js : List JobFields). IsHistory js f.parts) (append_assoc jobs (job ∷ []) f.others) f.is_history;
+    is_history = subst (λ (js : List JobFields). IsHistory (chain js) f.parts) (append_assoc jobs (job ∷ []) f.others) f.is_history;
     done = f.done ∙ ap (λ (js : List JobFields). rehearsed queries js f.parts) (append_assoc jobs (job ∷ []) f.others);
   }
 
-  follows : (queries : List Query) (jobs : List JobFields) (parts : List SealedFields) (names : List (List ℕ)) (d : Done) → IsHistory jobs parts
+  follows : (queries : List Query) (jobs : List JobFields) (parts : List SealedFields) (names : List (List ℕ)) (d : Done) → IsHistory (chain jobs) parts
       → RehearsesOn queries jobs parts names (map (get files) names) (Ok d) → Follows queries jobs names d
   follows queries jobs parts [] d is m = follows_none queries jobs parts d is (ok_same {E = NamedFault} d (rehearsed queries jobs parts) m)
   follows queries jobs parts (name ∷ names) d is (inl (e, refused, same)) = absurd (not_ok d e (sym same))
@@ -102,7 +102,7 @@ module _ (layers : Layers) (files : Files) where
     (held, f.held),
     record {
       is_history = f.is_history;
-      truths = λ q among asked. ap (λ (v : Verdict). line (verdict_word v)) (layers.truths f.others f.parts q.identity q.sightings f.is_history asked.0 asked.1);
+      truths = λ q among asked. ap (λ (v : Verdict). line (verdict_word v)) (layers.truths (chain f.others) f.parts q.identity q.sightings f.is_history asked.0 asked.1);
     },
     f.done,
   )
@@ -122,10 +122,10 @@ module _ (layers : Layers) (files : Files) where
   -- ---- histories are rehearsed
 
   goes_on : (queries : List Query) (jobs : List JobFields) (parts : List SealedFields) (names : List (List ℕ)) (others : List JobFields)
-      (all : List SealedFields) (o : Result Done NamedFault) → IsHistory jobs parts
-      → IsHistory (jobs ++ others) all → AllZip (HoldsJob files) names others → RehearsesOn queries jobs parts names (map (get files) names) o → o ≡ Ok (rehearsed queries (jobs ++ others) all)
+      (all : List SealedFields) (o : Result Done NamedFault) → IsHistory (chain jobs) parts
+      → IsHistory (chain (jobs ++ others)) all → AllZip (HoldsJob files) names others → RehearsesOn queries jobs parts names (map (get files) names) o → o ≡ Ok (rehearsed queries (jobs ++ others) all)
   goes_on queries jobs parts [] [] all o is is_all held m =
-      let same : parts ≡ all = layers.publishing.parts jobs parts all is (subst (λ (js : List JobFields). IsHistory js all) (append-nil jobs) is_all) in
+      let same : parts ≡ all = layers.publishing.parts (chain jobs) parts all is (subst (λ (js : List JobFields). IsHistory (chain js) all) (append-nil jobs) is_all) in
       m ∙ ap (λ (ps : List SealedFields). Ok (rehearsed queries jobs ps)) same ∙ ap (λ (js : List JobFields). Ok (rehearsed queries js all)) (sym (append-nil jobs))
   goes_on queries jobs parts [] (j ∷ others) all o is is_all held m = absurd held
   goes_on queries jobs parts (name ∷ names) [] all o is is_all held m = absurd held
@@ -133,13 +133,13 @@ module _ (layers : Layers) (files : Files) where
       absurd (refused_follows layers.publishing jobs parts name (get files name) e j others all is (job_input files name j held.0) is_all refused)
   goes_on queries jobs parts (name ∷ names) (j ∷ others) all o is is_all held (inr (job, more, is_job, is_more, rest)) =
       let same : job ≡ j = job_same layers.publishing job j (input name job_in (get files name)) is_job (job_input files name j held.0) in
-      goes_on queries (jobs ++ j ∷ []) more names others all o (subst (λ (k : JobFields). IsHistory (jobs ++ k ∷ []) more) same is_more)
-      (subst (λ (js : List JobFields). IsHistory js all) (sym (append_assoc jobs (j ∷ []) others)) is_all) held.1
+      goes_on queries (jobs ++ j ∷ []) more names others all o (subst (λ (k : JobFields). IsHistory (chain (jobs ++ k ∷ [])) more) same is_more)
+      (subst (λ (js : List JobFields). IsHistory (chain js) all) (sym (append_assoc jobs (j ∷ []) others)) is_all) held.1
       (subst (λ (k : JobFields). RehearsesOn queries (jobs ++ k ∷ []) more names (map (get files) names) o) same rest)
       ∙ ap (λ (js : List JobFields). Ok (rehearsed queries js all)) (append_assoc jobs (j ∷ []) others)
 
   pub done_law : (asked : Command) (queries : List Query) (jobs : List JobFields) (parts : List SealedFields) (o : Result Done NamedFault)
-      → IsHistory jobs parts → RehearsesJobs asked files queries jobs
+      → IsHistory (chain jobs) parts → RehearsesJobs asked files queries jobs
       → Makes asked (held_by asked files) o → o ≡ Ok (rehearsed queries jobs parts)
   done_law commands.Usage queries jobs parts o is p m = absurd p
   done_law (commands.Query q) queries jobs parts o is p m = absurd p

@@ -18,6 +18,7 @@ use Rattle.gather_core.specs.Pages.{PageFields}
 use Rattle.job_core.specs.declared.bounds.TheConstants.Limits as limits
 use Rattle.job_core.specs.declared.bounds.What.TheVariants as what
 use Rattle.job_core.specs.JobFields.{JobFields}
+use Rattle.universe_core.specs.Formats.{in_format}
 use Rattle.job_core.specs.JobText.{JobContents, spelling as job_text}
 use Rattle.ledger_core.specs.LedgerFields.{LedgerFields}
 use Rattle.ledger_core.specs.LedgerText.{ledger_text}
@@ -29,7 +30,8 @@ use Rattle.store_core.specs.Chain.{newest_of, refusal_of}
 use Rattle.store_core.specs.StoreLayout.{store_text}
 use Rattle.publication_core.specs.declared.fault.PublishFault.{PublishFault}
 use Rattle.publication_core.specs.Publishing.{Published as Publication, CanBePublished, Publishes}
-use Rattle.publication_core.specs.Histories.{IsAdmissible, IsHistory, history, part_bytes, store_bytes, ledger_bytes}
+use Rattle.publication_core.specs.Formats.{current}
+use Rattle.publication_core.specs.Histories.{IsAdmissible, History, with_job, chain, IsHistory, history, part_bytes, store_bytes, ledger_bytes}
 use Rattle.word_core.specs.declared.command.Command.{Command}
 use Rattle.word_core.specs.declared.command.Command.TheVariants as commands
 use Rattle.word_core.specs.CommandFields.{QueryFields, QueryCertFields, SnapshotFields, DeltaFields, StartFields, InstallFields, RehearseFields, SampleFields, GatherFields}
@@ -526,51 +528,51 @@ module _ (call : Call) where
 
   -- the laws of what comes of a command over files, as `histories_are_made` says them
   pub record Laws : Type 0 where
-    pub published : (files : Files) (jobs : List JobFields) (parts : List SealedFields) (job : JobFields) (d : Done)
-        → IsHistory jobs parts → PublishesJob call.asked files jobs parts job
-        → Makes call.asked (held_by call.asked files) (Ok d) → IsPublished call.asked jobs parts job d
-    pub admitted : (files : Files) (jobs : List JobFields) (parts : List SealedFields) (job : JobFields)
-        (o : Result Done NamedFault) → IsHistory jobs parts → PublishesJob call.asked files jobs parts job
-        → IsAdmissible (history jobs parts) job → Makes call.asked (held_by call.asked files) o → (d : Done)
+    pub published : (files : Files) (h : History) (parts : List SealedFields) (job : JobFields) (d : Done)
+        → IsHistory h parts → PublishesJob call.asked files h parts job
+        → Makes call.asked (held_by call.asked files) (Ok d) → IsPublished call.asked h parts job d
+    pub admitted : (files : Files) (h : History) (parts : List SealedFields) (job : JobFields)
+        (o : Result Done NamedFault) → IsHistory h parts → PublishesJob call.asked files h parts job
+        → IsAdmissible (history h parts) (in_format current job) → Makes call.asked (held_by call.asked files) o → (d : Done)
         × (o ≡ Ok d)
-    pub stored : (files : Files) (jobs : List JobFields) (parts : List SealedFields) (s : SealedFields)
-        (o : Result Done NamedFault) → IsHistory jobs (parts ++ s ∷ []) → StoresPart call.asked files parts s
+    pub stored : (files : Files) (h : History) (parts : List SealedFields) (s : SealedFields)
+        (o : Result Done NamedFault) → IsHistory h (parts ++ s ∷ []) → StoresPart call.asked files parts s
         → Makes call.asked (held_by call.asked files) o → (d : Done) × (o ≡ Ok d) × IsStored call.asked parts s d
-    pub asks : (files : Files) (q : QueryFields) (jobs : List JobFields) (parts : List SealedFields)
-        (o : Result Done NamedFault) → IsHistory jobs parts → AsksHistory call.asked files q jobs parts
-        → Makes call.asked (held_by call.asked files) o → o ≡ Ok (truth_done jobs parts q)
-    pub certifies : (files : Files) (q : QueryCertFields) (x : Identity) (ss : List Sighting) (jobs : List JobFields)
-        (parts : List SealedFields) (o : Result Done NamedFault) → IsHistory jobs parts
-        → AsksCert call.asked files q x ss jobs parts
-        → Makes call.asked (held_by call.asked files) o → o ≡ Ok (only (cert_truth_line jobs parts x))
+    pub asks : (files : Files) (q : QueryFields) (h : History) (parts : List SealedFields)
+        (o : Result Done NamedFault) → IsHistory h parts → AsksHistory call.asked files q h parts
+        → Makes call.asked (held_by call.asked files) o → o ≡ Ok (truth_done h parts q)
+    pub certifies : (files : Files) (q : QueryCertFields) (x : Identity) (ss : List Sighting) (h : History)
+        (parts : List SealedFields) (o : Result Done NamedFault) → IsHistory h parts
+        → AsksCert call.asked files q x ss h parts
+        → Makes call.asked (held_by call.asked files) o → o ≡ Ok (only (cert_truth_line h parts x))
     pub rehearses : (files : Files) (r : RehearseFields) (d : Done) → call.asked ≡ commands.Rehearse r
         → Makes call.asked (held_by call.asked files) (Ok d)
         → (queries : List Query) × (jobs : List JobFields) × (parts : List SealedFields)
         × RehearsesJobs call.asked files queries jobs × IsRehearsed queries jobs parts
         × (d ≡ rehearsed queries jobs parts)
     pub follows : (files : Files) (queries : List Query) (jobs : List JobFields) (parts : List SealedFields)
-        (o : Result Done NamedFault) → IsHistory jobs parts → RehearsesJobs call.asked files queries jobs
+        (o : Result Done NamedFault) → IsHistory (chain jobs) parts → RehearsesJobs call.asked files queries jobs
         → Makes call.asked (held_by call.asked files) o → o ≡ Ok (rehearsed queries jobs parts)
 
   -- both files of a publication, whichever command publishes it
-  both_held : (c : Command) (files : Files) (jobs : List JobFields) (parts : List SealedFields) (job : JobFields)
-      (x y : List ℕ) → PublishesJob c files jobs parts job → IsApart c
+  both_held : (c : Command) (files : Files) (h : History) (parts : List SealedFields) (job : JobFields)
+      (x y : List ℕ) → PublishesJob c files h parts job → IsApart c
       → call.files_after ≡ with_outputs (Some files) (publishes_to c x y) → Holds call (part_name c) x
       × Holds call (ledger_name c) y
-  both_held (commands.Snapshot s) files jobs parts job x y p apart is =
+  both_held (commands.Snapshot s) files h parts job x y p apart is =
       two_held files s.part s.ledger x y call.files_after apart is
-  both_held (commands.Delta t) files jobs parts job x y p apart is =
+  both_held (commands.Delta t) files h parts job x y p apart is =
       two_held files t.part t.new_ledger x y call.files_after apart is
-  both_held commands.Usage files jobs parts job x y p apart is = absurd p
-  both_held (commands.Query q) files jobs parts job x y p apart is = absurd p
-  both_held (commands.QueryCert q) files jobs parts job x y p apart is = absurd p
-  both_held (commands.Check n) files jobs parts job x y p apart is = absurd p
-  both_held (commands.Show n) files jobs parts job x y p apart is = absurd p
-  both_held (commands.Start t) files jobs parts job x y p apart is = absurd p
-  both_held (commands.Install i) files jobs parts job x y p apart is = absurd p
-  both_held (commands.Rehearse r) files jobs parts job x y p apart is = absurd p
-  both_held (commands.Sample s) files jobs parts job x y p apart is = absurd p
-  both_held (commands.Gather g) files jobs parts job x y p apart is = absurd p
+  both_held commands.Usage files h parts job x y p apart is = absurd p
+  both_held (commands.Query q) files h parts job x y p apart is = absurd p
+  both_held (commands.QueryCert q) files h parts job x y p apart is = absurd p
+  both_held (commands.Check n) files h parts job x y p apart is = absurd p
+  both_held (commands.Show n) files h parts job x y p apart is = absurd p
+  both_held (commands.Start t) files h parts job x y p apart is = absurd p
+  both_held (commands.Install i) files h parts job x y p apart is = absurd p
+  both_held (commands.Rehearse r) files h parts job x y p apart is = absurd p
+  both_held (commands.Sample s) files h parts job x y p apart is = absurd p
+  both_held (commands.Gather g) files h parts job x y p apart is = absurd p
 
   store_held : (c : Command) (files : Files) (parts : List SealedFields) (s : SealedFields) (x : List ℕ)
       → StoresPart c files parts s
@@ -595,15 +597,15 @@ module _ (call : Call) where
       is ∙ ap (with_outputs (Some files)) same ∙ ap (λ (t : Option Files). with_outputs t others) (sym told)
 
   module _ (laws : Laws) (ends : EndsOld call) where
-    published : IsApart call.asked → (jobs : List JobFields) (parts : List SealedFields) (job : JobFields)
-        → IsHistory jobs parts → AsksToPublish call jobs parts job → Succeeds call → Published call jobs parts job
-    published apart jobs parts job h (files, told, p) zero =
+    published : IsApart call.asked → (h : History) (parts : List SealedFields) (job : JobFields)
+        → IsHistory h parts → AsksToPublish call h parts job → Succeeds call → Published call h parts job
+    published apart h parts job is_history (files, told, p) zero =
         let a = answers call ends files told zero in
-        let l = laws.published files jobs parts job a.done h p a.makes in
+        let l = laws.published files h parts job a.done is_history p a.makes in
         let part = part_bytes l.sealed in
-        let ledger = ledger_bytes (jobs ++ job ∷ []) (parts ++ l.sealed ∷ []) in
+        let ledger = ledger_bytes (with_job h (in_format current job)) (parts ++ l.sealed ∷ []) in
         let kept = a.files_are ∙ ap (with_outputs (Some files)) l.outputs in
-        let two = both_held call.asked files jobs parts job part ledger p apart kept in
+        let two = both_held call.asked files h parts job part ledger p apart kept in
         record {
           sealed = l.sealed;
           fits = l.fits;
@@ -615,18 +617,18 @@ module _ (call : Call) where
           ledger_holds = two.1;
         }
 
-    admitted : (jobs : List JobFields) (parts : List SealedFields) (job : JobFields) → IsHistory jobs parts
-        → AsksToPublish call jobs parts job → IsAdmissible (history jobs parts) job → NoFault call
+    admitted : (h : History) (parts : List SealedFields) (job : JobFields) → IsHistory h parts
+        → AsksToPublish call h parts job → IsAdmissible (history h parts) (in_format current job) → NoFault call
         → Succeeds call ⊎ WantedMemory call
-    admitted jobs parts job h (files, told, p) may quiet =
-        sure call ends files told (λ none. subst (λ (c : Command). PublishesJob c files jobs parts job) none p)
-        (λ o m. laws.admitted files jobs parts job o h p may m) quiet
+    admitted h parts job is_history (files, told, p) may quiet =
+        sure call ends files told (λ none. subst (λ (c : Command). PublishesJob c files h parts job) none p)
+        (λ o m. laws.admitted files h parts job o is_history p may m) quiet
 
-    stored_clause : (jobs : List JobFields) (parts : List SealedFields) (s : SealedFields)
-        → IsHistory jobs (parts ++ s ∷ []) → AsksToStore call parts s → Succeeds call → Stored call parts s
-    stored_clause jobs parts s h (files, told, p) zero =
+    stored_clause : (h : History) (parts : List SealedFields) (s : SealedFields)
+        → IsHistory h (parts ++ s ∷ []) → AsksToStore call parts s → Succeeds call → Stored call parts s
+    stored_clause h parts s is_history (files, told, p) zero =
         let a = answers call ends files told zero in
-        let l = laws.stored files jobs parts s (Ok a.done) h p a.makes in
+        let l = laws.stored files h parts s (Ok a.done) is_history p a.makes in
         let is : IsStored call.asked parts s a.done = subst (IsStored call.asked parts s) (sym (ok_same {E = NamedFault} a.done l.0 l.1)) l.2 in
         record {
           prints = a.written ∙ ap (followed_by call.text_before) is.text;
@@ -634,46 +636,46 @@ module _ (call : Call) where
           store_holds = store_held call.asked files parts s (store_bytes (parts ++ s ∷ [])) p (a.files_are ∙ ap (with_outputs (Some files)) is.outputs);
         }
 
-    taken : (jobs : List JobFields) (parts : List SealedFields) (s : SealedFields) → IsHistory jobs (parts ++ s ∷ [])
+    taken : (h : History) (parts : List SealedFields) (s : SealedFields) → IsHistory h (parts ++ s ∷ [])
         → AsksToStore call parts s → NoFault call → Succeeds call ⊎ WantedMemory call
-    taken jobs parts s h (files, told, p) quiet =
+    taken h parts s is_history (files, told, p) quiet =
         sure call ends files told (λ none. subst (λ (c : Command). StoresPart c files parts s) none p)
-        (λ o m. let l = laws.stored files jobs parts s o h p m in (l.0, l.1)) quiet
+        (λ o m. let l = laws.stored files h parts s o is_history p m in (l.0, l.1)) quiet
 
-    truth_clause : (q : QueryFields) (jobs : List JobFields) (parts : List SealedFields) → IsHistory jobs parts
-        → AsksTruth call q jobs parts → Succeeds call → Prints call (truth_line jobs parts q)
-    truth_clause q jobs parts h (files, told, p) zero =
+    truth_clause : (q : QueryFields) (h : History) (parts : List SealedFields) → IsHistory h parts
+        → AsksTruth call q h parts → Succeeds call → Prints call (truth_line h parts q)
+    truth_clause q h parts is_history (files, told, p) zero =
         let a = answers call ends files told zero in
-        prints a.done (truth_done jobs parts q)
-        (ok_same {E = NamedFault} a.done (truth_done jobs parts q) (laws.asks files q jobs parts (Ok a.done) h p a.makes)) a.written
+        prints a.done (truth_done h parts q)
+        (ok_same {E = NamedFault} a.done (truth_done h parts q) (laws.asks files q h parts (Ok a.done) is_history p a.makes)) a.written
 
-    answered : (q : QueryFields) (jobs : List JobFields) (parts : List SealedFields) → IsHistory jobs parts
-        → AsksTruth call q jobs parts → NoFault call → Succeeds call ⊎ WantedMemory call
-    answered q jobs parts h (files, told, p) quiet =
+    answered : (q : QueryFields) (h : History) (parts : List SealedFields) → IsHistory h parts
+        → AsksTruth call q h parts → NoFault call → Succeeds call ⊎ WantedMemory call
+    answered q h parts is_history (files, told, p) quiet =
         sure call ends files told (λ none. let g : commands.Query q ≡ commands.Usage = sym p.0 ∙ none in cc)
-        (λ o m. (truth_done jobs parts q, laws.asks files q jobs parts o h p m)) quiet
+        (λ o m. (truth_done h parts q, laws.asks files q h parts o is_history p m)) quiet
 
-    cert_truth : (q : QueryCertFields) (x : Identity) (ss : List Sighting) (jobs : List JobFields)
-        (parts : List SealedFields) → IsHistory jobs parts → AsksCertTruth call q x ss jobs parts → Succeeds call
-        → Prints call (cert_truth_line jobs parts x)
-    cert_truth q x ss jobs parts h (files, told, p) zero =
+    cert_truth : (q : QueryCertFields) (x : Identity) (ss : List Sighting) (h : History)
+        (parts : List SealedFields) → IsHistory h parts → AsksCertTruth call q x ss h parts → Succeeds call
+        → Prints call (cert_truth_line h parts x)
+    cert_truth q x ss h parts is_history (files, told, p) zero =
         let a = answers call ends files told zero in
-        let said = only (cert_truth_line jobs parts x) in
+        let said = only (cert_truth_line h parts x) in
         prints a.done said
-        (ok_same {E = NamedFault} a.done said (laws.certifies files q x ss jobs parts (Ok a.done) h p a.makes)) a.written
+        (ok_same {E = NamedFault} a.done said (laws.certifies files q x ss h parts (Ok a.done) is_history p a.makes)) a.written
 
-    cert_answered : (q : QueryCertFields) (x : Identity) (ss : List Sighting) (jobs : List JobFields)
-        (parts : List SealedFields) → IsHistory jobs parts → AsksCertTruth call q x ss jobs parts → NoFault call
+    cert_answered : (q : QueryCertFields) (x : Identity) (ss : List Sighting) (h : History)
+        (parts : List SealedFields) → IsHistory h parts → AsksCertTruth call q x ss h parts → NoFault call
         → Succeeds call ⊎ WantedMemory call
-    cert_answered q x ss jobs parts h (files, told, p) quiet =
+    cert_answered q x ss h parts is_history (files, told, p) quiet =
         sure call ends files told (λ none. let g : commands.QueryCert q ≡ commands.Usage = sym p.is ∙ none in cc)
-        (λ o m. (only (cert_truth_line jobs parts x), laws.certifies files q x ss jobs parts o h p m)) quiet
+        (λ o m. (only (cert_truth_line h parts x), laws.certifies files q x ss h parts o is_history p m)) quiet
 
-    followed : (queries : List Query) (jobs : List JobFields) (parts : List SealedFields) → IsHistory jobs parts
+    followed : (queries : List Query) (jobs : List JobFields) (parts : List SealedFields) → IsHistory (chain jobs) parts
         → AsksToRehearse call queries jobs → NoFault call → Succeeds call ⊎ WantedMemory call
-    followed queries jobs parts h (files, told, p) quiet =
+    followed queries jobs parts is_history (files, told, p) quiet =
         sure call ends files told (λ none. subst (λ (c : Command). RehearsesJobs c files queries jobs) none p)
-        (λ o m. (rehearsed queries jobs parts, laws.follows files queries jobs parts o h p m)) quiet
+        (λ o m. (rehearsed queries jobs parts, laws.follows files queries jobs parts o is_history p m)) quiet
 
     pub histories : IsApart call.asked → Histories call
     histories apart = record {

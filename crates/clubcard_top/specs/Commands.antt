@@ -16,19 +16,21 @@ use Rattle.job_core.specs.JobFields.{JobFields}
 use Rattle.job_core.specs.JobFacts.{FitsFields, IsWithinLimits}
 use Rattle.ledger_core.specs.LedgerFields.{LedgerFields}
 use Rattle.ledger_core.specs.LedgerText.{ledger_text}
+use Rattle.universe_core.specs.Formats.{in_format}
 use Rattle.universe_core.specs.Jobs.{facts_of}
 use Rattle.universe_core.specs.History.{past_of}
 use Rattle.universe_core.specs.Counting.{counts}
 use Rattle.universe_core.specs.Ledgers.{no_ledger, ledger_of}
 use Rattle.store_core.specs.declared.chain.Refusal.{Refusal}
-use Rattle.store_core.specs.declared.verdict.Verdict.{Verdict}
-use Rattle.store_core.specs.declared.verdict.Verdict.TheVariants as verdicts
+use Rattle.card_core.specs.declared.verdict.Verdict.{Verdict}
+use Rattle.card_core.specs.declared.verdict.Verdict.TheVariants as verdicts
 use Rattle.store_core.specs.Chain.{newest_of, refusal_of}
 use Rattle.store_core.specs.StoreLayout.{store_text}
-use Rattle.store_core.specs.Verdict.{verdict}
+use Rattle.card_core.specs.Verdict.{verdict}
 use Rattle.publication_core.specs.declared.fault.PublishFault.{PublishFault}
 use Rattle.publication_core.specs.Publishing.{Published, Publishes}
-use Rattle.publication_core.specs.Histories.{IsHistory, history}
+use Rattle.publication_core.specs.Formats.{current}
+use Rattle.publication_core.specs.Histories.{History, of_jobs, members, with_job, chain, IsHistory, history}
 use Rattle.word_core.specs.declared.command.Command.{Command}
 use Rattle.word_core.specs.declared.command.Command.TheVariants as commands
 use Rattle.word_core.specs.CommandFields.{QueryFields, QueryCertFields, SnapshotFields, DeltaFields, StartFields}
@@ -193,15 +195,14 @@ MakesDelta d (Err e) l o = o ≡ Err e
 -- ---- rehearsing
 
 -- the report of a job behind a history
-abbrev pub report_behind : List JobFields → List SealedFields → JobFields → List ℕ
-report_behind jobs parts job = report_line job.epoch (length jobs) (counts (past_of (history jobs parts)) (facts_of job))
+abbrev pub report_behind : History → List SealedFields → JobFields → List ℕ
+report_behind h parts job = report_line job.epoch (members h) (counts (past_of (history h parts)) (facts_of job))
 
--- the reports of the jobs with these parts, behind others with theirs
-abbrev pub reports : (before : List JobFields) (parts_before : List SealedFields)
-    → List JobFields → List SealedFields → List ℕ
-reports before parts_before (job ∷ jobs) (s ∷ parts) =
-    report_behind before parts_before job ++ reports (before ++ job ∷ []) (parts_before ++ s ∷ []) jobs parts
-reports before parts_before jobs parts = []
+-- the reports of the jobs with these parts, behind a history with its parts
+abbrev pub reports : (h : History) (before : List SealedFields) → List JobFields → List SealedFields → List ℕ
+reports h before (job ∷ jobs) (s ∷ parts) =
+    report_behind h before job ++ reports (with_job h (in_format current job)) (before ++ s ∷ []) jobs parts
+reports h before jobs parts = []
 
 -- what the parts say of the certificate of a query
 abbrev pub verdict_line : List SealedFields → Query → List ℕ
@@ -209,15 +210,15 @@ verdict_line parts q = line (verdict_word (verdict (map (λ s. s.part) parts) q.
 
 -- the report of each job of a history, and then the verdict of its parts on each query; no file is written
 abbrev pub rehearsed : List Query → List JobFields → List SealedFields → Done
-rehearsed queries jobs parts = only (reports [] [] jobs parts ++ flat_map (verdict_line parts) queries)
+rehearsed queries jobs parts = only (reports (of_jobs []) [] jobs parts ++ flat_map (verdict_line parts) queries)
 
 -- what is wrong with the file of a job that doesn't follow a history: it isn't read as a job, or the job isn't
 -- published
-abbrev pub IsRefused : List JobFields → List SealedFields → List ℕ → Option (List ℕ) → NamedFault → Type 0
-IsRefused jobs parts name given e =
+abbrev pub IsRefused : History → List SealedFields → List ℕ → Option (List ℕ) → NamedFault → Type 0
+IsRefused h parts name given e =
     (input name job_in given ≡ Err e)
     ⊎ ((job : JobFields) × (fault : PublishFault) × (input name job_in given ≡ Ok job)
-    × Publishes (ledger_of (history jobs parts)) job (Err fault)
+    × Publishes (ledger_of (history h parts)) job (Err fault)
     × (e ≡ record { name = name; fault = of_publishing fault }))
 
 -- the inputs of these names were read as these jobs
@@ -235,11 +236,11 @@ pub record Rehearses
   pub jobs : List JobFields
   pub parts : List SealedFields
   pub hold : AreJobs (take n names) (take n inputs) jobs
-  pub is_history : IsHistory jobs parts
+  pub is_history : IsHistory (chain jobs) parts
   pub then : ((n ≡ length names) × (n ≡ length inputs) × (o ≡ Ok (rehearsed queries jobs parts)))
       ⊎ ((name : List ℕ) × (given : Option (List ℕ)) × (e : NamedFault)
       × (slice_get names n ≡ Some name) × (slice_get inputs n ≡ Some given)
-      × IsRefused jobs parts name given e × (o ≡ Err e))
+      × IsRefused (chain jobs) parts name given e × (o ≡ Err e))
 
 abbrev pub MakesRehearsal : RehearseFields → Result (List Query) NamedFault → List (Option (List ℕ))
     → Result Done NamedFault → Type 0

@@ -18,10 +18,13 @@ use Rattle.job_core.specs.JobFields.{JobFields}
 use Rattle.job_core.specs.JobFacts.{FitsFields}
 use Rattle.job_core.specs.JobLayout.{job_of}
 use Rattle.sets_core.specs.Among.{Among}
+use Rattle.universe_core.specs.Formats.{in_format}
 use Rattle.universe_core.specs.Jobs.{facts_of}
 use Rattle.universe_core.specs.History.{Release, past_of, seen, sightings}
 use Rattle.universe_core.specs.Counting.{counts}
-use Rattle.publication_core.specs.Histories.{IsAdmissible, IsHistory, history, part_bytes, store_bytes, ledger_bytes}
+use Rattle.publication_core.specs.Formats.{current}
+use Rattle.publication_core.specs.Histories.{IsAdmissible, History, of_jobs, members, with_job, chain, IsHistory, history}
+use Rattle.publication_core.specs.Histories.{part_bytes, store_bytes, ledger_bytes}
 use Rattle.publication_core.specs.Truth.{truth}
 use Rattle.word_core.specs.declared.command.Command.{Command}
 use Rattle.word_core.specs.declared.command.Command.TheVariants as commands
@@ -37,17 +40,17 @@ use Rattle.clubcard_top.specs.Calls.{Call, Found, Holds, Prints, Writes}
 abbrev pub HoldsJob : Files → List ℕ → JobFields → Type 0
 HoldsJob files name job = (bytes : List ℕ) × (get files name ≡ Some bytes) × (job_of limits.PUBLISHED bytes ≡ Ok job)
 
--- The command publishes a job behind a history: `snapshot` behind no job, and `delta` behind that whose ledger's bytes
--- LEDGER holds.
-abbrev pub PublishesJob : Command → Files → List JobFields → List SealedFields → JobFields → Type 0
-PublishesJob (commands.Snapshot s) files jobs parts job = (jobs ≡ []) × (parts ≡ []) × HoldsJob files s.job job
-PublishesJob (commands.Delta d) files jobs parts job =
-    (1 ≤ length jobs) × (get files d.ledger ≡ Some (ledger_bytes jobs parts)) × HoldsJob files d.job job
-PublishesJob command files jobs parts job = ⊥
+-- The command publishes a job behind a history: `snapshot` behind that of no jobs, and `delta` behind that whose
+-- ledger's bytes LEDGER holds.
+abbrev pub PublishesJob : Command → Files → History → List SealedFields → JobFields → Type 0
+PublishesJob (commands.Snapshot s) files h parts job = (h ≡ of_jobs []) × (parts ≡ []) × HoldsJob files s.job job
+PublishesJob (commands.Delta d) files h parts job =
+    (1 ≤ members h) × (get files d.ledger ≡ Some (ledger_bytes h parts)) × HoldsJob files d.job job
+PublishesJob command files h parts job = ⊥
 
--- the call asks to publish this job behind these, which have these parts
-abbrev pub AsksToPublish : Call → List JobFields → List SealedFields → JobFields → Type 0
-AsksToPublish call jobs parts job = Found call (λ files. PublishesJob call.asked files jobs parts job)
+-- the call asks to publish this job behind the history with these parts
+abbrev pub AsksToPublish : Call → History → List SealedFields → JobFields → Type 0
+AsksToPublish call h parts job = Found call (λ files. PublishesJob call.asked files h parts job)
 
 -- PART
 abbrev pub part_name : Command → List ℕ
@@ -71,30 +74,32 @@ publishes_to command part ledger = []
 
 -- The job may follow the history, and makes a history with it. Its report was printed, PART holds the bytes of its
 -- part, and LEDGER those of the ledger of them all.
-pub record Published (call : Call) (jobs : List JobFields) (parts : List SealedFields) (job : JobFields) : Type 0 where
+pub record Published (call : Call) (h : History) (parts : List SealedFields) (job : JobFields) : Type 0 where
   pub sealed : SealedFields
   -- keys, serials and times fit their fields, those of its CRLs too
   pub fits : FitsFields job
-  pub admissible : IsAdmissible (history jobs parts) job
-  pub is_history : IsHistory (jobs ++ job ∷ []) (parts ++ sealed ∷ [])
-  pub prints : Prints call (report_behind jobs parts job)
+  pub admissible : IsAdmissible (history h parts) (in_format current job)
+  pub is_history : IsHistory (with_job h (in_format current job)) (parts ++ sealed ∷ [])
+  pub prints : Prints call (report_behind h parts job)
   -- the two files in their order, and no other
   pub writes : Writes call
-      (publishes_to call.asked (part_bytes sealed) (ledger_bytes (jobs ++ job ∷ []) (parts ++ sealed ∷ [])))
+      (publishes_to call.asked (part_bytes sealed)
+      (ledger_bytes (with_job h (in_format current job)) (parts ++ sealed ∷ [])))
   pub part_holds : Holds call (part_name call.asked) (part_bytes sealed)
-  pub ledger_holds : Holds call (ledger_name call.asked) (ledger_bytes (jobs ++ job ∷ []) (parts ++ sealed ∷ []))
+  pub ledger_holds : Holds call (ledger_name call.asked)
+      (ledger_bytes (with_job h (in_format current job)) (parts ++ sealed ∷ []))
 
 -- The same of what the command makes, with no call.
 pub record IsPublished
-    (asked : Command) (jobs : List JobFields) (parts : List SealedFields) (job : JobFields) (d : Done)
+    (asked : Command) (h : History) (parts : List SealedFields) (job : JobFields) (d : Done)
     : Type 0 where
   pub sealed : SealedFields
   pub fits : FitsFields job
-  pub admissible : IsAdmissible (history jobs parts) job
-  pub is_history : IsHistory (jobs ++ job ∷ []) (parts ++ sealed ∷ [])
+  pub admissible : IsAdmissible (history h parts) (in_format current job)
+  pub is_history : IsHistory (with_job h (in_format current job)) (parts ++ sealed ∷ [])
   pub outputs : d.outputs
-      ≡ publishes_to asked (part_bytes sealed) (ledger_bytes (jobs ++ job ∷ []) (parts ++ sealed ∷ []))
-  pub report : d.text ≡ report_line job.epoch (length jobs) (counts (past_of (history jobs parts)) (facts_of job))
+      ≡ publishes_to asked (part_bytes sealed) (ledger_bytes (with_job h (in_format current job)) (parts ++ sealed ∷ []))
+  pub report : d.text ≡ report_line job.epoch (members h) (counts (past_of (history h parts)) (facts_of job))
 
 -- ---- stores
 
@@ -138,23 +143,23 @@ pub record IsStored (asked : Command) (parts : List SealedFields) (s : SealedFie
 -- ---- asking
 
 -- The command asks the store of a history about a certificate, with sightings of its accepted entries alone.
-abbrev pub AsksHistory : Command → Files → QueryFields → List JobFields → List SealedFields → Type 0
-AsksHistory asked files q jobs parts =
-    (asked ≡ commands.Query q) × (1 ≤ length jobs) × (get files q.store ≡ Some (store_bytes parts))
+abbrev pub AsksHistory : Command → Files → QueryFields → History → List SealedFields → Type 0
+AsksHistory asked files q h parts =
+    (asked ≡ commands.Query q) × (1 ≤ members h) × (get files q.store ≡ Some (store_bytes parts))
     × (1 ≤ length q.sightings)
-    × ((s : Sighting) → Among q.sightings s → Among (sightings q.id (seen (history jobs parts))) s)
+    × ((s : Sighting) → Among q.sightings s → Among (sightings q.id (seen (history h parts))) s)
 
 -- the call asks the store of this history so
-abbrev pub AsksTruth : Call → QueryFields → List JobFields → List SealedFields → Type 0
-AsksTruth call q jobs parts = Found call (λ files. AsksHistory call.asked files q jobs parts)
+abbrev pub AsksTruth : Call → QueryFields → History → List SealedFields → Type 0
+AsksTruth call q h parts = Found call (λ files. AsksHistory call.asked files q h parts)
 
 -- the line of what the history tells of the certificate, which is the truth
-abbrev pub truth_line : List JobFields → List SealedFields → QueryFields → List ℕ
-truth_line jobs parts q = line (verdict_word (truth (history jobs parts) q.id))
+abbrev pub truth_line : History → List SealedFields → QueryFields → List ℕ
+truth_line h parts q = line (verdict_word (truth (history h parts) q.id))
 
 -- that line alone
-abbrev pub truth_done : List JobFields → List SealedFields → QueryFields → Done
-truth_done jobs parts q = only (truth_line jobs parts q)
+abbrev pub truth_done : History → List SealedFields → QueryFields → Done
+truth_done h parts q = only (truth_line h parts q)
 
 -- ---- asking with a certificate
 
@@ -170,28 +175,27 @@ HoldsKey files name hash =
     × HasKey key bytes × (hash ≡ sha256 key)
 
 -- The command asks the store of a history about a certificate with these sightings, by its file and by its issuer's.
--- One of the sightings is of its accepted entries, and so is each that some job covers.
+-- One of the sightings is of its accepted entries, and so is each that some part covers.
 pub record AsksCert
     (asked : Command) (files : Files) (q : QueryCertFields) (x : Identity) (ss : List Sighting)
-    (jobs : List JobFields) (parts : List SealedFields)
+    (h : History) (parts : List SealedFields)
     : Type 0 where
   pub is : asked ≡ commands.QueryCert q
-  pub some_jobs : 1 ≤ length jobs
+  pub some : 1 ≤ members h
   pub store : get files q.store ≡ Some (store_bytes parts)
   pub cert : HoldsCert files q.cert x.serial ss
   pub issuer : HoldsKey files q.issuer_cert x.issuer
-  pub one : (s : Sighting) × Among ss s × Among (sightings x (seen (history jobs parts))) s
-  pub covered : (s : Sighting) (job : JobFields) → Among ss s → Among jobs job → IsTrue (covers job.ranges s)
-      → Among (sightings x (seen (history jobs parts))) s
+  pub one : (s : Sighting) × Among ss s × Among (sightings x (seen (history h parts))) s
+  pub covered : (s : Sighting) (t : SealedFields) → Among ss s → Among parts t → IsTrue (covers t.part.head.ranges s)
+      → Among (sightings x (seen (history h parts))) s
 
 -- the call asks the store of this history so
-abbrev pub AsksCertTruth : Call → QueryCertFields → Identity → List Sighting
-    → List JobFields → List SealedFields → Type 0
-AsksCertTruth call q x ss jobs parts = Found call (λ files. AsksCert call.asked files q x ss jobs parts)
+abbrev pub AsksCertTruth : Call → QueryCertFields → Identity → List Sighting → History → List SealedFields → Type 0
+AsksCertTruth call q x ss h parts = Found call (λ files. AsksCert call.asked files q x ss h parts)
 
 -- the line of what the history tells of the certificate, which is the truth
-abbrev pub cert_truth_line : List JobFields → List SealedFields → Identity → List ℕ
-cert_truth_line jobs parts x = line (verdict_word (truth (history jobs parts) x))
+abbrev pub cert_truth_line : History → List SealedFields → Identity → List ℕ
+cert_truth_line h parts x = line (verdict_word (truth (history h parts) x))
 
 -- ---- rehearsing
 
@@ -217,6 +221,6 @@ AsksAccepted rs q =
 -- The jobs are a history with these parts, and where a query asks with accepted sightings alone, its line is the truth
 -- of the history.
 pub record IsRehearsed (queries : List Query) (jobs : List JobFields) (parts : List SealedFields) : Type 0 where
-  pub is_history : IsHistory jobs parts
-  pub truths : (q : Query) → Among queries q → AsksAccepted (history jobs parts) q
-      → verdict_line parts q ≡ line (verdict_word (truth (history jobs parts) q.identity))
+  pub is_history : IsHistory (chain jobs) parts
+  pub truths : (q : Query) → Among queries q → AsksAccepted (history (chain jobs) parts) q
+      → verdict_line parts q ≡ line (verdict_word (truth (history (chain jobs) parts) q.identity))

@@ -16,12 +16,14 @@ use Rattle.job_core.specs.JobFields.{JobFields}
 use Rattle.job_core.specs.JobText.{JobContents, spelling as job_text}
 use Rattle.sample_core.specs.Sample.{sample_text, sample_revoked}
 use Rattle.ledger_core.specs.LedgerFields.{LedgerFields}
+use Rattle.universe_core.specs.Formats.{in_format}
 use Rattle.universe_core.specs.Ledgers.{no_ledger}
 use Rattle.sets_core.specs.Among.{Among}
 use Rattle.store_core.specs.declared.chain.Refusal.{Refusal}
 use Rattle.store_core.specs.Chain.{refusal_of}
-use Rattle.store_core.specs.Verdict.{verdict}
-use Rattle.publication_core.specs.Histories.{IsAdmissible, IsHistory, history}
+use Rattle.card_core.specs.Verdict.{verdict}
+use Rattle.publication_core.specs.Formats.{current}
+use Rattle.publication_core.specs.Histories.{IsAdmissible, History, chain, IsHistory, history}
 use Rattle.publication_core.specs.Publishing.{CanBePublished}
 use Rattle.word_core.specs.declared.command.Command.TheVariants as commands
 use Rattle.word_core.specs.CommandFields.{QueryFields, QueryCertFields, SnapshotFields, DeltaFields, StartFields}
@@ -114,29 +116,29 @@ pub record Successes (call : Call) : Type 0 where
 -- success of `rehearse` is stands above.
 pub record Histories (call : Call) : Type 0 where
   -- `snapshot` and `delta`
-  pub published : (jobs : List JobFields) (parts : List SealedFields) (job : JobFields) → IsHistory jobs parts
-      → AsksToPublish call jobs parts job → Succeeds call → Published call jobs parts job
-  pub admitted : (jobs : List JobFields) (parts : List SealedFields) (job : JobFields) → IsHistory jobs parts
-      → AsksToPublish call jobs parts job → IsAdmissible (history jobs parts) job → MustSucceed call
+  pub published : (h : History) (parts : List SealedFields) (job : JobFields) → IsHistory h parts
+      → AsksToPublish call h parts job → Succeeds call → Published call h parts job
+  pub admitted : (h : History) (parts : List SealedFields) (job : JobFields) → IsHistory h parts
+      → AsksToPublish call h parts job → IsAdmissible (history h parts) (in_format current job) → MustSucceed call
   -- `start` and `install`
-  pub stored : (jobs : List JobFields) (parts : List SealedFields) (s : SealedFields) → IsHistory jobs (parts ++ s ∷ [])
+  pub stored : (h : History) (parts : List SealedFields) (s : SealedFields) → IsHistory h (parts ++ s ∷ [])
       → AsksToStore call parts s → Succeeds call → Stored call parts s
-  pub taken : (jobs : List JobFields) (parts : List SealedFields) (s : SealedFields) → IsHistory jobs (parts ++ s ∷ [])
+  pub taken : (h : History) (parts : List SealedFields) (s : SealedFields) → IsHistory h (parts ++ s ∷ [])
       → AsksToStore call parts s → MustSucceed call
   -- `query`
-  pub truth : (q : QueryFields) (jobs : List JobFields) (parts : List SealedFields) → IsHistory jobs parts
-      → AsksTruth call q jobs parts → Succeeds call → Prints call (truth_line jobs parts q)
-  pub answered : (q : QueryFields) (jobs : List JobFields) (parts : List SealedFields) → IsHistory jobs parts
-      → AsksTruth call q jobs parts → MustSucceed call
+  pub truth : (q : QueryFields) (h : History) (parts : List SealedFields) → IsHistory h parts
+      → AsksTruth call q h parts → Succeeds call → Prints call (truth_line h parts q)
+  pub answered : (q : QueryFields) (h : History) (parts : List SealedFields) → IsHistory h parts
+      → AsksTruth call q h parts → MustSucceed call
   -- `query-cert`
   pub cert_truth : (q : QueryCertFields) (x : Identity) (ss : List Sighting)
-      (jobs : List JobFields) (parts : List SealedFields) → IsHistory jobs parts
-      → AsksCertTruth call q x ss jobs parts → Succeeds call → Prints call (cert_truth_line jobs parts x)
+      (h : History) (parts : List SealedFields) → IsHistory h parts
+      → AsksCertTruth call q x ss h parts → Succeeds call → Prints call (cert_truth_line h parts x)
   pub cert_answered : (q : QueryCertFields) (x : Identity) (ss : List Sighting)
-      (jobs : List JobFields) (parts : List SealedFields) → IsHistory jobs parts
-      → AsksCertTruth call q x ss jobs parts → MustSucceed call
+      (h : History) (parts : List SealedFields) → IsHistory h parts
+      → AsksCertTruth call q x ss h parts → MustSucceed call
   -- `rehearse`
-  pub followed : (queries : List Query) (jobs : List JobFields) (parts : List SealedFields) → IsHistory jobs parts
+  pub followed : (queries : List Query) (jobs : List JobFields) (parts : List SealedFields) → IsHistory (chain jobs) parts
       → AsksToRehearse call queries jobs → MustSucceed call
 
 -- What each refusal says of the files, where they are told; and that what is wrong with them must be said.

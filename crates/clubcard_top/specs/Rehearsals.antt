@@ -4,6 +4,9 @@ use Rattle.outside_core.specs.Files.{Files}
 use Rattle.query_core.specs.Queries.{Query}
 use Rattle.part_codec.specs.SealedFields.{SealedFields}
 use Rattle.job_core.specs.JobFields.{JobFields}
+use Rattle.universe_core.specs.Formats.{in_format}
+use Rattle.publication_core.specs.Formats.{current}
+use Rattle.publication_core.specs.Histories.{History, of_jobs, with_job}
 use Rattle.rehearsal_core.specs.Rehearsing.{RehearsalFields, IsOf}
 use Rattle.clubcard_top.specs.ReplyFields.{NamedFault}
 use Rattle.clubcard_top.specs.Commands.{report_behind, reports, rehearsed}
@@ -11,17 +14,17 @@ use Rattle.clubcard_top.specs.Steps.{RehearsesOn}
 use Rattle.input_core.specs.Inputs.{AreRead}
 use Rattle.clubcard_top.specs.Runs.{BlamesFile}
 
--- A job was read, and goes on with these jobs: the rehearsal holds one part more, and this is the line of its report.
+-- A job was read, and goes on with the history: the rehearsal holds one part more, and this is the line of its report.
 pub record AddsJob
-    (jobs : List JobFields) (before : RehearsalFields) (read : Result JobFields NamedFault) (after : RehearsalFields)
+    (h : History) (before : RehearsalFields) (read : Result JobFields NamedFault) (after : RehearsalFields)
     (text : List ℕ)
     : Type 0 where
   pub job : JobFields
   pub is_read : read ≡ Ok job
   pub sealed : SealedFields
   pub parts : after.parts ≡ before.parts ++ sealed ∷ []
-  pub is_of : IsOf (jobs ++ job ∷ []) after
-  pub report : text ≡ report_behind jobs before.parts job
+  pub is_of : IsOf (with_job h (in_format current job)) after
+  pub report : text ≡ report_behind h before.parts job
 
 -- The files of these names were read as jobs of a history, of which this is the rehearsal, and these are the reports.
 pub record IsRehearsedFrom
@@ -32,7 +35,7 @@ pub record IsRehearsedFrom
   pub read : AreRead told failed names inputs
   pub none_failed : failed None
   pub jobs : List JobFields
-  pub lines : text ≡ reports [] [] jobs r.parts
+  pub lines : text ≡ reports (of_jobs []) [] jobs r.parts
   pub makes : (queries : List Query) → RehearsesOn queries [] [] names inputs (Ok (rehearsed queries jobs r.parts))
 
 -- This is wrong with one of the files, and those before it were read as jobs of a history.

@@ -3,7 +3,7 @@ use Rattle.std.specs.Prelude.{◌≡◌, ◌⊎◌, ℕ, List, [], ◌∷◌, �
 use Rattle.query_core.specs.Queries.{Query}
 use Rattle.part_codec.specs.SealedFields.{SealedFields}
 use Rattle.job_core.specs.JobFields.{JobFields}
-use Rattle.publication_core.specs.Histories.{IsHistory}
+use Rattle.publication_core.specs.Histories.{chain, IsHistory}
 use Rattle.clubcard_top.specs.ReplyFields.{Done, NamedFault}
 use Rattle.input_core.specs.Readings.{job_in}
 use Rattle.clubcard_top.specs.Commands.{input, rehearsed, IsRefused}
@@ -14,8 +14,8 @@ abbrev pub RehearsesOn : List Query → List JobFields → List SealedFields
     → List (List ℕ) → List (Option (List ℕ)) → Result Done NamedFault → Type 0
 RehearsesOn queries jobs parts [] [] o = o ≡ Ok (rehearsed queries jobs parts)
 RehearsesOn queries jobs parts (name ∷ names) (given ∷ inputs) o =
-    ((e : NamedFault) × IsRefused jobs parts name given e × (o ≡ Err e))
+    ((e : NamedFault) × IsRefused (chain jobs) parts name given e × (o ≡ Err e))
     ⊎ ((job : JobFields) × (more : List SealedFields)
-    × (input name job_in given ≡ Ok job) × IsHistory (jobs ++ job ∷ []) more
+    × (input name job_in given ≡ Ok job) × IsHistory (chain (jobs ++ job ∷ [])) more
     × RehearsesOn queries (jobs ++ job ∷ []) more names inputs o)
 RehearsesOn queries jobs parts names inputs o = ⊥

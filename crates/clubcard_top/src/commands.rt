@@ -2,7 +2,7 @@
 
 ghost use Rattle.std.specs.Prelude.{◌≡◌, ◌<◌, IfOk, IsErr, map};
 ghost use Rattle.outside_core.specs.Effects.{OnlyReads};
-ghost use Rattle.store_core.specs.Verdict.{verdict as verdict_of};
+ghost use Rattle.card_core.specs.Verdict.{verdict as verdict_of};
 ghost use Rattle.word_core.specs.declared.command.Command.{Command};
 ghost use Rattle.clubcard_top.specs.Answering.{reply_fields, scan_reply as reply_of_scan};
 ghost use Rattle.clubcard_top.specs.Replies.{refusal};

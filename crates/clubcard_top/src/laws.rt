@@ -8,7 +8,9 @@ ghost use Rattle.query_core.specs.Queries.{Query};
 ghost use Rattle.part_codec.specs.SealedFields.{SealedFields};
 ghost use Rattle.job_core.specs.JobFields.{JobFields};
 ghost use Rattle.ledger_core.specs.LedgerFields.{LedgerFields};
-ghost use Rattle.publication_core.specs.Histories.{IsAdmissible, IsHistory, history};
+ghost use Rattle.universe_core.specs.Formats.{in_format};
+ghost use Rattle.publication_core.specs.Formats.{current};
+ghost use Rattle.publication_core.specs.Histories.{IsAdmissible, History, chain, IsHistory, history};
 ghost use Rattle.publication_core.specs.Publishing.{CanBePublished, Published, Publishes};
 ghost use Rattle.word_core.specs.declared.command.Command.{Command};
 ghost use Rattle.word_core.specs.CommandFields.{QueryFields, QueryCertFields, RehearseFields};
@@ -41,29 +43,29 @@ pub fn replies_are_unique()
 /// What comes of commands over the files of histories. A job that is published behind a history makes a history with
 /// it, whose part and ledger are written; each admissible job is published. A part of a history is added to the store
 /// of those before it. The store of a history, asked with accepted sightings, answers the truth; and so it does where
-/// it is asked with a certificate, one of whose sightings is accepted, and each that a job covers. Jobs that are
+/// it is asked with a certificate, one of whose sightings is accepted, and each that a part covers. Jobs that are
 /// rehearsed are a history, and each history is rehearsed. Behind any ledger, what can be published is.
 pub fn histories_are_made()
     ensures published { (command : Command) (files : Files)
-        (jobs : List JobFields) (parts : List SealedFields) (job : JobFields) (d : Done)
-        → IsHistory jobs parts → PublishesJob command files jobs parts job
-        → Makes command (held_by command files) (Ok d) → IsPublished command jobs parts job d }
+        (h : History) (parts : List SealedFields) (job : JobFields) (d : Done)
+        → IsHistory h parts → PublishesJob command files h parts job
+        → Makes command (held_by command files) (Ok d) → IsPublished command h parts job d }
     ensures admitted { (command : Command) (files : Files)
-        (jobs : List JobFields) (parts : List SealedFields) (job : JobFields) (o : Result Done NamedFault)
-        → IsHistory jobs parts → PublishesJob command files jobs parts job → IsAdmissible (history jobs parts) job
+        (h : History) (parts : List SealedFields) (job : JobFields) (o : Result Done NamedFault)
+        → IsHistory h parts → PublishesJob command files h parts job → IsAdmissible (history h parts) (in_format current job)
         → Makes command (held_by command files) o → (d : Done) × (o ≡ Ok d) }
     ensures stored { (command : Command) (files : Files)
-        (jobs : List JobFields) (parts : List SealedFields) (s : SealedFields) (o : Result Done NamedFault)
-        → IsHistory jobs (parts ++ s ∷ []) → StoresPart command files parts s
+        (h : History) (parts : List SealedFields) (s : SealedFields) (o : Result Done NamedFault)
+        → IsHistory h (parts ++ s ∷ []) → StoresPart command files parts s
         → Makes command (held_by command files) o → (d : Done) × (o ≡ Ok d) × IsStored command parts s d }
     ensures asked { (command : Command) (files : Files) (q : QueryFields)
-        (jobs : List JobFields) (parts : List SealedFields) (o : Result Done NamedFault)
-        → IsHistory jobs parts → AsksHistory command files q jobs parts
-        → Makes command (held_by command files) o → o ≡ Ok (truth_done jobs parts q) }
+        (h : History) (parts : List SealedFields) (o : Result Done NamedFault)
+        → IsHistory h parts → AsksHistory command files q h parts
+        → Makes command (held_by command files) o → o ≡ Ok (truth_done h parts q) }
     ensures certified { (command : Command) (files : Files) (q : QueryCertFields) (x : Identity) (ss : List Sighting)
-        (jobs : List JobFields) (parts : List SealedFields) (o : Result Done NamedFault)
-        → IsHistory jobs parts → AsksCert command files q x ss jobs parts
-        → Makes command (held_by command files) o → o ≡ Ok (only (cert_truth_line jobs parts x)) }
+        (h : History) (parts : List SealedFields) (o : Result Done NamedFault)
+        → IsHistory h parts → AsksCert command files q x ss h parts
+        → Makes command (held_by command files) o → o ≡ Ok (only (cert_truth_line h parts x)) }
     ensures rehearsed { (command : Command) (files : Files) (r : RehearseFields) (d : Done)
         → command ≡ Command.Rehearse r → Makes command (held_by command files) (Ok d)
         → (queries : List Query) × (jobs : List JobFields) × (parts : List SealedFields)
@@ -71,7 +73,7 @@ pub fn histories_are_made()
         × (d ≡ rehearsed queries jobs parts) }
     ensures followed { (command : Command) (files : Files) (queries : List Query)
         (jobs : List JobFields) (parts : List SealedFields) (o : Result Done NamedFault)
-        → IsHistory jobs parts → RehearsesJobs command files queries jobs
+        → IsHistory (chain jobs) parts → RehearsesJobs command files queries jobs
         → Makes command (held_by command files) o → o ≡ Ok (rehearsed queries jobs parts) }
     ensures publishable { (before : LedgerFields) (job : JobFields) → CanBePublished before job
         → (made : Published) × Publishes before job (Ok made) }

@@ -4,7 +4,7 @@ ghost use Rattle.std.specs.Prelude.{◌≡◌, ◌≢◌, ◌≤◌, ◌++◌, [
 ghost use Rattle.ident_core.specs.declared.bounds.TheConstants.{MAX_WORKERS};
 ghost use Rattle.outside_core.specs.Effects.{OnlyReads};
 ghost use Rattle.query_core.specs.Queries.{as_query};
-ghost use Rattle.job_core.specs.JobFields.{JobFields};
+ghost use Rattle.publication_core.specs.Histories.{History};
 ghost use Rattle.rehearsal_core.specs.Rehearsing.{IsOf};
 ghost use Rattle.word_core.specs.declared.command.Command.{Command};
 ghost use Rattle.input_core.specs.Readings.{job_in as job_of};
@@ -56,11 +56,11 @@ fn with_file<R: Threads + Sync, G: Gate + Sync, D: Depot>(
     requires few_workers { workers ≤ MAX_WORKERS }
     ensures added { IfOk result (λ x. (given : Option (List ℕ))
         × IsRead (D.files depot.old) (WhichFailed D.Depot depot.old depot.new) name.now given
-        × ((jobs : List JobFields) → IsOf jobs before → AddsJob jobs before (input name.now job_of given) x.0 x.1)) }
+        × ((h : History) → IsOf h before → AddsJob h before (input name.now job_of given) x.0 x.1)) }
     ensures refused { IfErr result (λ e. e ≢ FileFault.NoMemory → (given : Option (List ℕ))
         × IsRead (D.files depot.old) (WhichFailed D.Depot depot.old depot.new) name.now given
-        × ((jobs : List JobFields) → IsOf jobs before
-        → IsRefused jobs before.parts name.now given (record { name = name.now; fault = e }))) }
+        × ((h : History) → IsOf h before
+        → IsRefused h before.parts name.now given (record { name = name.now; fault = e }))) }
     ensures blamed { IsBlamed (WhichFailed D.Depot depot.old depot.new) name.now FileFault.Unread result }
     ensures only_reads { OnlyReads D.Depot depot.old depot.new }
 {

@@ -7,7 +7,7 @@ use Rattle.outside_core.specs.Files.{Files, IsMissing}
 use Rattle.part_codec.specs.SealedFields.{SealedFields}
 use Rattle.store_core.specs.declared.chain.Refusal.{Refusal}
 use Rattle.store_core.specs.Chain.{refusal_of}
-use Rattle.store_core.specs.Verdict.{verdict}
+use Rattle.card_core.specs.Verdict.{verdict}
 use Rattle.slot_core.specs.declared.fault.SlotFault.{SlotFault}
 use Rattle.slot_core.specs.declared.fault.SlotFault.TheVariants as slots
 use Rattle.slot_core.specs.Disk.{DiskState, Quiet}

@@ -10,16 +10,15 @@ use Rattle.outside_core.specs.Written.{followed_by}
 use Rattle.part_codec.specs.Fitting.{Fits}
 use Rattle.part_codec.specs.SealedFields.{SealedFields}
 use Rattle.store_core.specs.declared.chain.Refusal.{Refusal}
-use Rattle.store_core.specs.declared.verdict.Verdict.{Verdict}
+use Rattle.card_core.specs.declared.verdict.Verdict.{Verdict}
 use Rattle.store_core.specs.Chain.{IsChain, refusal_of}
 use Rattle.store_core.specs.StoreLayout.{store, store_text}
-use Rattle.store_core.specs.Verdict.{verdict}
+use Rattle.card_core.specs.Verdict.{verdict}
 use Rattle.slot_core.specs.Disk.{piece}
 use Rattle.slot_core.specs.Device.{IsDevice, StandsAt, picked_at}
-use Rattle.job_core.specs.JobFields.{JobFields}
 use Rattle.sets_core.specs.Among.{Among}
 use Rattle.universe_core.specs.History.{seen, sightings}
-use Rattle.publication_core.specs.Histories.{IsHistory, history, store_bytes}
+use Rattle.publication_core.specs.Histories.{History, members, IsHistory, history, store_bytes}
 use Rattle.publication_core.specs.Truth.{truth}
 use Rattle.input_core.specs.declared.fault.FileFault.{FileFault}
 use Rattle.input_core.specs.declared.fault.FileFault.TheVariants as faults
@@ -184,38 +183,34 @@ module _ (call : DeviceCall) (device : List ℕ) (told : call.before.told ≡ So
 
   -- what the layers promise of histories
   pub record Laws : Type 0 where
-    pub chain : (jobs : List JobFields) (parts : List SealedFields) → IsHistory jobs parts → IsChain parts
-    pub few : (jobs : List JobFields) (parts : List SealedFields) → IsHistory jobs parts → length parts ≤ 64
-    pub texts : (jobs : List JobFields) (parts : List SealedFields) → IsHistory jobs parts → All Fits parts
-    pub truths : (jobs : List JobFields) (parts : List SealedFields) (x : Identity) (ss : List Sighting) → IsHistory jobs parts → 1 ≤ length ss
-        → ((s : Sighting) → Among ss s → Among (sightings x (seen (history jobs parts))) s) → verdict (map (λ s. s.part) parts) x ss ≡ truth (history jobs parts) x
+    pub chain : (h : History) (parts : List SealedFields) → IsHistory h parts → IsChain parts
+    pub many : (h : History) (parts : List SealedFields) → IsHistory h parts → length parts ≡ members h
+    pub few : (h : History) (parts : List SealedFields) → IsHistory h parts → length parts ≤ 64
+    pub texts : (h : History) (parts : List SealedFields) → IsHistory h parts → All Fits parts
+    pub truths : (h : History) (parts : List SealedFields) (x : Identity) (ss : List Sighting) → IsHistory h parts → 1 ≤ length ss
+        → ((s : Sighting) → Among ss s → Among (sightings x (seen (history h parts))) s) → verdict (map (λ s. s.part) parts) x ss ≡ truth (history h parts) x
     pub store_read : (parts : List SealedFields) → IsChain parts → 1 ≤ length parts → length parts ≤ 64 → All Fits parts → value_of (store (store_text parts) 0) ≡ Ok parts
-
-  some_parts : (jobs : List JobFields) (parts : List SealedFields) → IsHistory jobs parts → 1 ≤ length jobs → 1 ≤ length parts
-  some_parts [] parts is some = absurd (omega (arith, some))
-  some_parts (j ∷ jobs) [] is some = absurd is
-  some_parts (j ∷ jobs) (s ∷ parts) is some = omega arith
 
   same_parts : (one other : List SealedFields) → ◌≡◌ {A = Result (List SealedFields) FileFault} (Ok one) (Ok other) → one ≡ other
   same_parts one other is = cc
 
-  truth_done : Laws → (q : QueryFields) (jobs : List JobFields) (parts : List SealedFields) (capacity : ℕ) → IsHistory jobs parts → 1 ≤ length jobs
-      → IsDevice capacity (store_bytes parts) device → 1 ≤ length q.sightings → ((s : Sighting) → Among q.sightings s → Among (sightings q.id (seen (history jobs parts))) s)
-      → Asked call device q → Prints call (verdict_line (truth (history jobs parts) q.id))
-  truth_done laws q jobs parts capacity is some holds asked accepted a =
+  truth_done : Laws → (q : QueryFields) (h : History) (parts : List SealedFields) (capacity : ℕ) → IsHistory h parts → 1 ≤ members h
+      → IsDevice capacity (store_bytes parts) device → 1 ≤ length q.sightings → ((s : Sighting) → Among q.sightings s → Among (sightings q.id (seen (history h parts))) s)
+      → Asked call device q → Prints call (verdict_line (truth (history h parts) q.id))
+  truth_done laws q h parts capacity is some holds asked accepted a =
       let held : a.held ≡ store_text parts = held_once a.capacity capacity a.held (store_text parts) device a.is_device holds in
       let read : store_in (store_text parts) ≡ Ok parts =
-      ap (faulted of_store) (laws.store_read parts (laws.chain jobs parts is) (some_parts jobs parts is some) (laws.few jobs parts is) (laws.texts jobs parts is)) in
+      ap (faulted of_store) (laws.store_read parts (laws.chain h parts is) (omega (arith, laws.many h parts is, some)) (laws.few h parts is) (laws.texts h parts is)) in
       let same : a.parts ≡ parts = same_parts a.parts parts (sym a.is_store ∙ ap store_in held ∙ read) in
       a.prints ∙ ap (λ (ps : List SealedFields). followed_by call.printed.text_before (verdict_line (verdict (map (λ s. s.part) ps) q.id q.sightings))) same
-      ∙ ap (λ (v : Verdict). followed_by call.printed.text_before (verdict_line v)) (laws.truths jobs parts q.id q.sightings is asked accepted)
+      ∙ ap (λ (v : Verdict). followed_by call.printed.text_before (verdict_line v)) (laws.truths h parts q.id q.sightings is asked accepted)
 
   pub promised : Laws → Ends call → Promises call device
   promised laws ends = record {
     format = λ f did. let d = done_by ends did.1 in format_done f d (as_asked d (commands.Format f) did.0);
     install = λ i did. let d = done_by ends did.1 in install_done i d (as_asked d (commands.Install i) did.0);
     query = λ q did. let d = done_by ends did.1 in query_done q d (as_asked d (commands.Query q) did.0);
-    truth = λ q jobs parts capacity is some holds asked accepted did.
-        let d = done_by ends did.1 in truth_done laws q jobs parts capacity is some holds asked accepted (query_done q d (as_asked d (commands.Query q) did.0));
+    truth = λ q h parts capacity is some holds asked accepted did.
+        let d = done_by ends did.1 in truth_done laws q h parts capacity is some holds asked accepted (query_done q d (as_asked d (commands.Query q) did.0));
     unchanged = unchanged ends;
   }

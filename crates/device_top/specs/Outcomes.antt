@@ -4,7 +4,7 @@ use Rattle.part_codec.specs.SealedFields.{SealedFields}
 use Rattle.store_core.specs.declared.chain.Refusal.{Refusal}
 use Rattle.store_core.specs.Chain.{newest_of, refusal_of}
 use Rattle.store_core.specs.StoreLayout.{store_text}
-use Rattle.store_core.specs.Verdict.{verdict}
+use Rattle.card_core.specs.Verdict.{verdict}
 use Rattle.line_core.specs.Lines.{store_line}
 use Rattle.input_core.specs.declared.fault.FileFault.{FileFault}
 use Rattle.input_core.specs.declared.fault.FileFault.TheVariants as faults

@@ -5,12 +5,11 @@ use Rattle.outside_core.specs.Written.{followed_by}
 use Rattle.part_codec.specs.SealedFields.{SealedFields}
 use Rattle.store_core.specs.Chain.{refusal_of}
 use Rattle.store_core.specs.StoreLayout.{store_text}
-use Rattle.store_core.specs.Verdict.{verdict}
+use Rattle.card_core.specs.Verdict.{verdict}
 use Rattle.slot_core.specs.Device.{IsDevice, picks_second}
-use Rattle.job_core.specs.JobFields.{JobFields}
 use Rattle.sets_core.specs.Among.{Among}
 use Rattle.universe_core.specs.History.{seen, sightings}
-use Rattle.publication_core.specs.Histories.{IsHistory, history, store_bytes}
+use Rattle.publication_core.specs.Histories.{History, members, IsHistory, history, store_bytes}
 use Rattle.publication_core.specs.Truth.{truth}
 use Rattle.input_core.specs.Readings.{part_in, store_in}
 use Rattle.input_core.specs.Inputs.{IsRead}
@@ -74,10 +73,10 @@ pub record Promises (call : DeviceCall) (device : List ℕ) : Type 0 where
   pub install : (i : InstallPartFields) → Did call (commands.Install i) → Installed call device i
   pub query : (q : QueryFields) → Did call (commands.Query q) → Asked call device q
   -- where the slot holds the bytes of a history's store, asked with accepted sightings of the certificate alone
-  pub truth : (q : QueryFields) (jobs : List JobFields) (parts : List SealedFields) (capacity : ℕ) → IsHistory jobs parts
-      → 1 ≤ length jobs → IsDevice capacity (store_bytes parts) device → 1 ≤ length q.sightings
-      → ((s : Sighting) → Among q.sightings s → Among (sightings q.id (seen (history jobs parts))) s)
-      → Did call (commands.Query q) → Prints call (verdict_line (truth (history jobs parts) q.id))
+  pub truth : (q : QueryFields) (h : History) (parts : List SealedFields) (capacity : ℕ) → IsHistory h parts
+      → 1 ≤ members h → IsDevice capacity (store_bytes parts) device → 1 ≤ length q.sightings
+      → ((s : Sighting) → Among q.sightings s → Among (sightings q.id (seen (history h parts))) s)
+      → Did call (commands.Query q) → Prints call (verdict_line (truth (history h parts) q.id))
   -- with each other status than these the disk reads as before
   pub unchanged : call.printed.status ≢ status.done → call.printed.status ≢ status.write_fault
       → call.printed.status ≢ status.disk_fault → call.after.told ≡ Some device

@@ -6,8 +6,8 @@ use Rattle.line_core.specs.Devices.{device_line, full_line}
 use Rattle.line_core.specs.Statuses as status
 use Rattle.store_core.specs.declared.chain.Refusal.{Refusal}
 use Rattle.store_core.specs.declared.chain.Refusal.TheVariants as refusals
-use Rattle.store_core.specs.declared.verdict.Verdict.{Verdict}
-use Rattle.store_core.specs.declared.verdict.Verdict.TheVariants as verdicts
+use Rattle.card_core.specs.declared.verdict.Verdict.{Verdict}
+use Rattle.card_core.specs.declared.verdict.Verdict.TheVariants as verdicts
 use Rattle.input_core.specs.declared.fault.FileFault.{FileFault}
 use Rattle.input_core.specs.declared.fault.FileFault.TheVariants as faults
 use Rattle.slot_core.specs.declared.fault.SlotFault.{SlotFault}

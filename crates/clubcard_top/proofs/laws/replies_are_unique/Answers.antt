@@ -5,7 +5,7 @@ pub returns : goal.returns
 returns c =
     let publishing : Publishing = record {
       one = c.publications_are_unique.ensures.outcome;
-      part = c.publications_are_unique.ensures.part;
+      front = c.histories_are_published.ensures.front;
       parts = c.publications_are_unique.ensures.parts;
       complete = c.histories_are_published.ensures.complete;
     } in
