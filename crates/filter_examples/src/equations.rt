@@ -1,6 +1,6 @@
-//! Rows of SHA-256, and the sizes of systems.
+//! Rows and shards of SHA-256, and the sizes of systems.
 
-use equation_core::{EquationHash, Row, Sha256Rows, starts_for, words_for};
+use equation_core::{EquationHash, Row, Sha256Rows, shard_of, starts_for, words_for};
 use ident_core::{Identity, Serial};
 use octets_core::Key32;
 use std::test::Fail;
@@ -89,6 +89,35 @@ fn rows_by_another_tool(rt: HostRuntime) -> Result<(), Fail> {
             Row { start, coeff, tag },
             "at stage {stage} and seed {seed}"
         );
+    }
+    Ok(())
+}
+
+// hashlib.sha256(b"CCSHARD" + issuer + bytes([len(serial)]) + serial).digest()[0] >> (8 - shift)
+#[test]
+fn shards_by_another_tool(rt: HostRuntime) -> Result<(), Fail> {
+    let mut ascending = [0u8; 32];
+    for i in 0..32u8 {
+        ascending[i as usize] = i + 1;
+    }
+    let table: [(u8, &[u8], [u8; 9]); 4] = [
+        (0x11, &[0x05], [0, 1, 3, 7, 14, 29, 59, 118, 236]),
+        (0x22, &[0x00, 0xc5], [0, 0, 0, 0, 0, 1, 3, 7, 14]),
+        (0xff, &ascending, [0, 0, 1, 3, 6, 12, 24, 48, 97]),
+        (0x00, &[0x80], [0, 0, 1, 2, 5, 10, 20, 40, 81]),
+    ];
+    for (issuer, serial, shards) in table {
+        let id = Identity {
+            issuer: Key32::new([issuer; 32]),
+            serial: Serial::new(serial)?,
+        };
+        for shift in 0..9u8 {
+            assert_eq!(rt;
+                shard_of(&id, shift),
+                shards[shift as usize],
+                "at shift {shift}"
+            );
+        }
     }
     Ok(())
 }

@@ -78,13 +78,13 @@ fn approximate_seeds_exhausted(rt: HostRuntime) -> Result<(), Fail> {
 }
 
 #[derive(Drop)]
-struct Universe {
-    ids: Vec<Identity>,
-    revoked: Vec<bool>,
+pub(crate) struct Universe {
+    pub(crate) ids: Vec<Identity>,
+    pub(crate) revoked: Vec<bool>,
 }
 
 // The serials of two octets below `count`, of which those below `end` that `step` divides are revoked.
-fn universe_of(alloc: Global, count: u16, step: u16, end: u16) -> Result<Universe, Fail>
+pub(crate) fn universe_of(alloc: Global, count: u16, step: u16, end: u16) -> Result<Universe, Fail>
     requires { 1 ≤ step }
 {
     let mut ids = Vec::new(alloc);
