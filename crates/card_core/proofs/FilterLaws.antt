@@ -4,36 +4,40 @@ use Rattle.std.specs.List.{Contains}
 use Rattle.std.proofs.lemmas.List.{get_or-map}
 use Rattle.ident_core.specs.declared.identity.Identity.{Identity}
 use Rattle.card_core.specs.declared.leaf.Leaf.{Leaf}
-use Rattle.card_core.specs.declared.leaf.Leaf.TheVariants as leaves
+use Rattle.card_core.specs.declared.leaf.Leaf.TheVariants as leafs
 use Rattle.card_core.specs.declared.block.Body.{Body}
 use Rattle.card_core.specs.declared.block.Body.TheVariants as bodies
 use Rattle.card_core.specs.Leaf.{flagged}
-use Rattle.card_core.specs.Filter.{Filter, alone, cut, as_body, filter_of, is_filtered, is_positive, leaf_of}
+use Rattle.card_core.specs.Filter.{Filter, alone, cut, as_body, filter_of, is_filtered, is_positive}
 use Rattle.card_core.specs.Laws.{BlockIsExact, BlockIsUnique, BodyIsOfOneLeaf, IsExactOn, RefusedHasNoBlock}
 use Rattle.card_core.proofs.ShardLaws.{filter_exact, filter_unique, refused_no_filter}
 
--- the leaf of a leaf's body is this leaf
-pub leaf_back : (leaf : Leaf) → leaf_of (as_body leaf) ≡ leaf
-leaf_back leaves.Clean = refl
-leaf_back leaves.Every = refl
-leaf_back (leaves.Mixed m) = refl
-
--- a body is that of its leaf
-pub body_back : (body : Body) → as_body (leaf_of body) ≡ body
-body_back bodies.Clean = refl
-body_back bodies.Every = refl
-body_back (bodies.Mixed m) = refl
-
-pub body_of_one : BodyIsOfOneLeaf
-body_of_one a b e = sym (leaf_back a) ∙ ap leaf_of e ∙ leaf_back b
+-- the filter of a leaf's body is this leaf
+pub leaf_back : (leaf : Leaf) → filter_of (as_body leaf) ≡ alone leaf
+leaf_back leafs.Clean = refl
+leaf_back leafs.Every = refl
+leaf_back (leafs.Mixed m) = refl
 
 abbrev leaf_in : Filter → Leaf
 leaf_in (alone leaf) = leaf
-leaf_in (cut shift all) = leaves.Clean
+leaf_in (cut shift leaves) = leafs.Clean
+
+pub body_of_one : BodyIsOfOneLeaf
+body_of_one a b e = ap leaf_in (sym (leaf_back a) ∙ ap filter_of e ∙ leaf_back b)
+
+abbrev body_with : Filter → Body
+body_with (alone leaf) = as_body leaf
+body_with (cut shift leaves) = bodies.Sharded (record { shift = shift; leaves = leaves })
+
+body_back : (body : Body) → body_with (filter_of body) ≡ body
+body_back bodies.Clean = refl
+body_back bodies.Every = refl
+body_back (bodies.Mixed m) = refl
+body_back (bodies.Sharded s) = refl
 
 -- a body is what its filter is
 pub body_same : (a b : Body) → filter_of a ≡ filter_of b → a ≡ b
-body_same a b e = sym (body_back a) ∙ ap as_body (ap leaf_in e) ∙ body_back b
+body_same a b e = sym (body_back a) ∙ ap body_with e ∙ body_back b
 
 contains_first : (x : Identity) (xs : List Identity) → Contains (x ∷ xs) x
 contains_first x xs = (0, omega arith, refl)

@@ -23,15 +23,12 @@ as_body leafs.Clean = bodies.Clean
 as_body leafs.Every = bodies.Every
 as_body (leafs.Mixed m) = bodies.Mixed m
 
--- the leaf of a body
-abbrev pub leaf_of : Body → Leaf
-leaf_of bodies.Clean = leafs.Clean
-leaf_of bodies.Every = leafs.Every
-leaf_of (bodies.Mixed m) = leafs.Mixed m
-
 -- the filter of a body
 abbrev pub filter_of : Body → Filter
-filter_of body = alone (leaf_of body)
+filter_of bodies.Clean = alone leafs.Clean
+filter_of bodies.Every = alone leafs.Every
+filter_of (bodies.Mixed m) = alone (leafs.Mixed m)
+filter_of (bodies.Sharded s) = cut s.shift s.leaves
 
 -- the greatest shift up to a bound that leaves 16,384 identities a shard on average, or 0
 abbrev pub greatest_shift : ℕ → ℕ → ℕ

@@ -1,5 +1,6 @@
 use crate::leaf::Leaf;
 use crate::mixed::Mixed;
+use crate::sharded::Sharded;
 use equation_core::EquationHash;
 use ident_core::Identity;
 use octets_core::{Key32, Steps};
@@ -14,6 +15,8 @@ pub enum Body {
     Every,
     /// Some are revoked (mode 2).
     Mixed(Mixed),
+    /// They are cut into shards (mode 3).
+    Sharded(Sharded),
 }
 
 impl Body {
@@ -35,6 +38,7 @@ impl Body {
             Body::Clean => false,
             Body::Every => true,
             Body::Mixed(mixed) => mixed.tests_positive(hash, id, words),
+            Body::Sharded(sharded) => sharded.tests_positive(hash, id, words),
         }
     }
 }
