@@ -1,14 +1,16 @@
 -- How many bytes texts have.
-use Rattle.std.proofs.Common.{◌≡◌, ℕ, suc, ◌+◌, ◌*◌, ◌<◌, List, [], ◌∷◌, ◌++◌, length, take, get_or, ap, length-append, arith}
+use Rattle.std.proofs.Math.Pow.{pow_mono}
+use Rattle.std.proofs.Common.{◌≡◌, ℕ, suc, ◌+◌, ◌*◌, ◌^◌, ◌<◌, ◌≤◌, List, [], ◌∷◌, ◌++◌, length, take, get_or, ap, length-append, arith}
 use Rattle.std.specs.Prelude.{flat_map}
 use Rattle.std.specs.Int.{w8, w32, to_be_bytes}
 use Rattle.octets_core.proofs.Loops.{flat_map-more}
 use Rattle.equation_core.specs.Sizes.{words_for}
-use Rattle.card_core.specs.declared.block.Block.{Block}
 use Rattle.card_core.specs.declared.stage.Stage.{Stage}
+use Rattle.card_core.specs.declared.leaf.Leaf.{Leaf}
 use Rattle.card_core.specs.MixedFields.{MixedFields}
+use Rattle.card_core.specs.ShardedFields.{ShardedFields, IsSharded}
 use Rattle.part_codec.specs.PlaneBytes.{bytes_of_columns}
-use Rattle.part_codec.specs.PartText.{planes_text, stage_text, width_of, approx_text, mixed_text, block_text}
+use Rattle.part_codec.specs.PartText.{planes_text, stage_text, width_of, approx_text, mixed_text, leaf_mode, leaf_text, shard_text, sharded_text}
 use Rattle.part_codec.proofs.PlaneBytes.{length-bytes}
 
 length-planes : (n : ℕ) (columns : List ℕ) → length (flat_map (bytes_of_columns n) columns) ≡ length columns * (8 * n)
@@ -33,8 +35,20 @@ unfolding mixed_text
 length_mixed m =
     omega (arith, length-append (to_be_bytes w8 (width_of m.approx) ++ approx_text m.approx) (stage_text m.exact), length-append (to_be_bytes w8 (width_of m.approx)) (approx_text m.approx))
 
--- one block more
-pub longer : (blocks : List Block) (i : ℕ) (block : Block) (len one : ℕ) → i < length blocks → block ≡ get_or blocks i block
-    → len ≡ length (flat_map block_text (take i blocks)) → one ≡ length (block_text block) → len + one ≡ length (flat_map block_text (take (i + 1) blocks))
-longer blocks i block len one lt is so_far more =
-    omega (arith, so_far, more, ap length (flat_map-more block_text blocks i block lt is), length-append (flat_map block_text (take i blocks)) (block_text block))
+pub length_shard : (l : Leaf) → length (shard_text l) ≡ 1 + length (leaf_text l)
+length_shard l = omega (arith, length-append (to_be_bytes w8 (leaf_mode l)) (leaf_text l))
+
+pub length_sharded : (s : ShardedFields) → length (sharded_text s) ≡ 1 + length (flat_map shard_text s.leaves)
+unfolding sharded_text
+length_sharded s = omega (arith, length-append (to_be_bytes w8 s.shift) (flat_map shard_text s.leaves))
+
+pub few_shards : (s : ShardedFields) → IsSharded s → length s.leaves ≤ 256
+few_shards s facts =
+    let most : 2 ^ s.shift ≤ 2 ^ 8 = pow_mono facts.few in
+    omega (arith, facts.count, most)
+
+-- one item more
+pub longer : {X : Type 0} (text : X → List ℕ) (xs : List X) (i : ℕ) (x : X) (len one : ℕ) → i < length xs → x ≡ get_or xs i x
+    → len ≡ length (flat_map text (take i xs)) → one ≡ length (text x) → len + one ≡ length (flat_map text (take (i + 1) xs))
+longer text xs i x len one lt is so_far more =
+    omega (arith, so_far, more, ap length (flat_map-more text xs i x lt is), length-append (flat_map text (take i xs)) (text x))

@@ -21,10 +21,10 @@ use Rattle.part_codec.specs.declared.fields.TheConstants.{TRAILER}
 use Rattle.part_codec.specs.declared.machine.Machine.{Machine}
 use Rattle.part_codec.specs.Remaining.{Seen, nothing_seen, sealed_of, Rest, rest}
 use Rattle.part_codec.specs.Stepping.{in_front, skips, tail_of, width_of, passes, passes_last, kept_after, open_after, seen_after, name_of, wrong_of}
-use Rattle.part_codec.specs.Stepping.{open_range, open_block, open_leaf, open_mode, open_approx, open_plane, AreLimits, Passed}
-use Rattle.part_codec.specs.Scanning.{Opened, IsWhole, Tested, Stands, Stays, Hashes, Moved, seen_when, hashed_to}
+use Rattle.part_codec.specs.Stepping.{open_range, open_block, open_leaf, open_mode, open_approx, open_plane, settled, AreLimits, Passed}
+use Rattle.part_codec.specs.Scanning.{Opened, IsWhole, Tested, Stands, Stays, Hashes, Passes, Moved, seen_when, hashed_to}
 use Rattle.part_codec.proofs.MachineLaws.{starts, rest-steps, rest-fails, rest-short}
-use Rattle.part_codec.proofs.FieldSteps.{width-parts, last-passes, kept-last, passed-of, counts-steps, opened-steps}
+use Rattle.part_codec.proofs.FieldSteps.{width-parts, last-passes, kept-last, passed-of, limits-whole, counts-steps, opened-steps, some-settled}
 
 -- ---- more bytes came
 
@@ -133,12 +133,12 @@ tested m s last b x answer o w h =
 pub field-fails : (m : Machine) (s : Seen) (last b x : List ℕ) → Opened m s b → IsWhole m last b → (m.field ≡ opens.Done → ⊥)
     → passes_last m.field m.kept (sha256 (take m.at b)) last ≡ false → sealed (b ++ x) 0 ≡ Err (fault_at (wrong_of m.field) (name_of m.field) m.at)
 field-fails m s last b x o w goes failed =
-    o.each x ∙ rest-fails m.field m.kept s (b ++ x) m.at goes (omega (arith, w.len, length-append b x)) (tested m s last b x false o w failed)
+    o.each x ∙ rest-fails m.field m.kept s (b ++ x) m.at o.counts goes (omega (arith, w.len, length-append b x)) (tested m s last b x false o w failed)
 
-pub field-goes : (m n : Machine) (s : Seen) (last b : List ℕ) → Opened m s b → IsWhole m last b → Tested m last b
+pub field-goes : (m n : Machine) (s : Seen) (last b : List ℕ) → Opened m s b → IsWhole m last b → AreLimits m.field last → Tested m last b
     → n.kept ≡ kept_after m.field m.kept last → n.field ≡ open_after m.field n.kept → n.at ≡ length b → n.passed ≡ 0 → n.filled ≡ 0
     → Stands n (seen_after m.field m.kept s (drop m.at b)) b
-field-goes m n s last b st w passes kept field end none empty =
+field-goes m n s last b st w limits passes kept field end none empty =
     let p : List ℕ = drop m.at b in
     let f = field-of m s last b st w in
     let k : n.kept ≡ kept_after m.field m.kept p = kept ∙ ap (kept_after m.field m.kept) (sym f.ends) ∙ kept-last m.field m.kept p in
@@ -148,10 +148,10 @@ field-goes m n s last b st w passes kept field end none empty =
         fits = st.fits;
         behind = omega (arith, end);
         counts = rw k (counts-steps m.field m.kept s p st.opened st.counts);
-        opened = rw (o, k) (opened-steps m.field m.kept p st.opened);
+        opened = rw (o, k) (opened-steps m.field m.kept p (limits-whole m.field m.kept p (rw f.ends limits)) st.opened);
         each = λ x.
             let at-is : m.at + width_of m.field m.kept ≡ n.at = omega (arith, end, w.len) in
-            let step = rest-steps m.field m.kept s (b ++ x) m.at st.opened (omega (arith, w.len, length-append b x)) (tested m s last b x true st w passes) in
+            let step = rest-steps m.field m.kept s (b ++ x) m.at st.opened st.counts (omega (arith, w.len, length-append b x)) (tested m s last b x true st w passes) in
             st.each x ∙ step
             ∙ ap (λ (q : List ℕ). rest (open_after m.field (kept_after m.field m.kept q)) (kept_after m.field m.kept q) (seen_after m.field m.kept s q) (b ++ x) (m.at + width_of m.field m.kept))
             (f.is x)
@@ -163,18 +163,25 @@ field-goes m n s last b st w passes kept field end none empty =
       held = drop-all (n.at + n.passed) b (omega (arith, end, none)) ∙ sym (ap (λ (q : ℕ). take q n.held) empty);
     }
 
-pub moved-of : (m n : Machine) (s : Seen) (last b : List ℕ) → Opened m s b → IsWhole m last b → AreLimits m.field last → Tested m last b
-    → n.kept ≡ kept_after m.field m.kept last → n.field ≡ open_after m.field n.kept → n.at ≡ length b → Moved true m n b
-moved-of m n s last b o w limits good kept field at =
+pub passes-of : (m n : Machine) (s : Seen) (last b : List ℕ) → Opened m s b → IsWhole m last b → AreLimits m.field last → Tested m last b
+    → n.kept ≡ kept_after m.field m.kept last → n.at ≡ length b → Passes m n b
+passes-of m n s last b o w limits good kept at =
     let p : List ℕ = drop m.at b in
     let f = field-of m s last b o w in
     let sum = sha256 (take m.at (b ++ [])) in
     record {
       passed = passed-of m.field m.kept sum p (rw f.ends limits) (ap (passes m.field m.kept sum) (sym (f.is [])) ∙ tested m s last b [] true o w good) f.size;
       kept = kept ∙ ap (kept_after m.field m.kept) (sym f.ends) ∙ kept-last m.field m.kept p;
-      field = field;
       at = at;
     }
+
+pub moved-of : (m l n : Machine) (b : List ℕ) → Passes m l b → l.field ≡ open_after m.field l.kept → n.field ≡ settled l.field → n.kept ≡ l.kept → n.at ≡ l.at → Moved true m n b
+moved-of m l n b p next field kept at = record {
+  passed = p.passed;
+  kept = kept ∙ p.kept;
+  field = field ∙ ap settled next ∙ ap (λ (k : Kept). settled (open_after m.field k)) (sym kept);
+  at = at ∙ p.at;
+}
 
 -- where the open field ends
 pub end-of : (m : Machine) (last b : List ℕ) → IsWhole m last b → length last ≡ tail_of m.field → m.passed ≡ skips m.field m.kept → m.at + (m.passed + length last) ≡ length b
@@ -202,13 +209,14 @@ unfolding rest
 field-done m s b st done = now m s b st ∙ ap (λ (o : Open). rest o m.kept s b m.at) done ∙ ap (λ (n : ℕ). Ok (sealed_of m.kept s, n)) (at-end m s b st done)
 
 pub stands-new : (m : Machine) → m.field ≡ opens.Magic → m.at ≡ 0 → m.passed ≡ 0 → m.filled ≡ 0 → m.kept.ranges ≡ 0 → m.kept.ranges_left ≡ 0 → m.kept.issuers ≡ 0 → m.kept.left ≡ 0
+    → m.kept.shift ≡ 0 → m.kept.sharded ≡ false
     → Stands m nothing_seen []
 unfolding rest
-stands-new m field at passed filled ranges ranges_left issuers left = record {
+stands-new m field at passed filled ranges ranges_left issuers left shift sharded = record {
   opens = record {
     fits = λ i. omega arith;
     behind = omega (arith, at);
-    counts = record { ranges = omega (arith, ranges, ranges_left); blocks = omega (arith, issuers, left) };
+    counts = record { ranges = omega (arith, ranges, ranges_left); blocks = omega (arith, issuers, left); leaves = λ some few. absurd (omega (arith, some, shift)); sharded = sharded };
     opened = rw field tt;
     each = λ x. rw (field, at) (ap (λ (l : Rest). l x 0) (starts m.kept nothing_seen));
   };
@@ -226,6 +234,26 @@ pub err-map : {A E : Type 0} (P Q : E → Type 0) (r : Result A E) → ((e : E) 
 err-map P Q (Ok x) f p = p
 err-map P Q (Err e) f p = f e p
 
+-- the field behind is settled
+pub moved-settled : {A E : Type 0} (r : Result A E) (m l n : Machine) (last : List ℕ) → OnOk r (n.field ≡ settled l.field) → OnOk r (n.kept ≡ l.kept) → OnOk r (n.at ≡ l.at)
+    → l.field ≡ open_after m.field l.kept → ((s : Seen) (b : List ℕ) → Opened m s b → IsWhole m last b → Passes m l b)
+    → OnOk r ((s : Seen) (b : List ℕ) → Opened m s b → IsWhole m last b → Moved true m n b)
+moved-settled (Ok x) m l n last field kept at next h = λ s b o w. moved-of m l n b (h s b o w) next field kept at
+moved-settled (Err e) m l n last field kept at next h = tt
+
+pub next-settled : {A E : Type 0} (r : Result A E) (m l n : Machine) → OnOk r (n.field ≡ settled l.field) → OnOk r (n.kept ≡ l.kept) → l.field ≡ open_after m.field l.kept
+    → OnOk r (n.field ≡ settled (open_after m.field n.kept))
+next-settled (Ok x) m l n field kept next = field ∙ ap settled next ∙ ap (λ (k : Kept). settled (open_after m.field k)) (sym kept)
+next-settled (Err e) m l n field kept next = tt
+
+pub partial-settled : {A E : Type 0} (r : Result A E) (n : Machine) (o : Open) → OnOk r (n.field ≡ settled o) → OnOk r (n.filled ≡ 0)
+    → OnOk r ((n.field ≡ opens.Done → ⊥) → n.filled < tail_of n.field)
+partial-settled (Ok x) n o field empty = λ goes.
+    let some : 0 < tail_of (settled o) = some-settled o (λ is. goes (field ∙ is)) in
+    let same : tail_of n.field ≡ tail_of (settled o) = ap tail_of field in
+    omega (arith, some, same, empty)
+partial-settled (Err e) n o field empty = tt
+
 -- ---- pieces
 
 pub moved-none : (m n : Machine) (b : List ℕ) → n.field ≡ m.field → n.kept ≡ m.kept → n.at ≡ m.at → Moved false m n b
@@ -235,7 +263,7 @@ pub moved-from : (w : Bool) (m l n : Machine) (b : List ℕ) → l.field ≡ m.f
 moved-from true m l n b field kept at v = record {
   passed = subst (λ (q : Open). Passed q m.kept (drop m.at b)) field (subst (λ (q : Kept). Passed l.field q (drop m.at b)) kept (subst (λ (q : ℕ). Passed l.field l.kept (drop q b)) at v.passed));
   kept = v.kept ∙ ap (λ (q : Open). kept_after q l.kept (drop l.at b)) field ∙ ap (λ (q : Kept). kept_after m.field q (drop l.at b)) kept ∙ ap (λ (q : ℕ). kept_after m.field m.kept (drop q b)) at;
-  field = v.field ∙ ap (λ (q : Open). open_after q n.kept) field;
+  field = v.field ∙ ap (λ (q : Open). settled (open_after q n.kept)) field;
   at = v.at;
 }
 moved-from false m l n b field kept at v = record { field = v.field ∙ field; kept = v.kept ∙ kept; at = v.at ∙ at }
@@ -288,7 +316,8 @@ hashed-plane (suc n) e = refl
 hashed-mode : (mode leaves left e : ℕ) → hashed_to (open_mode mode leaves left) e e ≡ e
 hashed-mode zero leaves left e = hashed-leaf leaves left e
 hashed-mode (suc zero) leaves left e = hashed-leaf leaves left e
-hashed-mode (suc (suc n)) leaves left e = refl
+hashed-mode (suc (suc zero)) leaves left e = refl
+hashed-mode (suc (suc (suc n))) leaves left e = refl
 
 -- behind a field before the trailer all is before the trailer
 hashed-next : (o : Open) (k : Kept) (e : ℕ) → in_front o ≡ true → hashed_to (open_after o k) e e ≡ e
@@ -296,6 +325,7 @@ hashed-next opens.Ranges k e front = hashed-range k.ranges_left e
 hashed-next opens.RangeTo k e front = hashed-range k.ranges_left e
 hashed-next opens.Issuers k e front = hashed-block k.left e
 hashed-next opens.BlockMode k e front = hashed-mode k.mode k.leaves k.left e
+hashed-next opens.ShardMode k e front = hashed-mode k.mode k.leaves k.left e
 hashed-next opens.BlockK k e front = hashed-approx k.planes e
 hashed-next opens.ApproxStarts k e front = hashed-plane k.planes e
 hashed-next opens.ApproxPlane k e front = hashed-plane k.planes e
@@ -303,6 +333,10 @@ hashed-next opens.ExactPlane k e front = hashed-leaf k.leaves k.left e
 hashed-next opens.Trailer k e front = absurd cc
 hashed-next opens.Done k e front = absurd cc
 hashed-next o k e front = refl
+
+hashed-settled : (o : Open) (e : ℕ) → hashed_to o e e ≡ e → hashed_to (settled o) e e ≡ e
+hashed-settled opens.Sharded e all = refl
+hashed-settled o e all = all
 
 hashed-front : (o : Open) (at e : ℕ) → in_front o ≡ true → hashed_to o at e ≡ e
 hashed-front opens.Trailer at e front = absurd cc
@@ -313,8 +347,8 @@ pub front-before : (m : Machine) (b : List ℕ) → in_front m.field ≡ true �
 front-before m b front = hashed-front m.field m.at (length b) front
 
 pub front-moved : (w : Bool) (m n : Machine) (b : List ℕ) → in_front m.field ≡ true → Moved w m n b → hashed_to n.field n.at (length b) ≡ length b
-front-moved true m n b front v = ap (λ (q : Open). hashed_to q n.at (length b)) v.field ∙ ap (λ (q : ℕ). hashed_to (open_after m.field n.kept) q (length b)) v.at
-    ∙ hashed-next m.field n.kept (length b) front
+front-moved true m n b front v = ap (λ (q : Open). hashed_to q n.at (length b)) v.field ∙ ap (λ (q : ℕ). hashed_to (settled (open_after m.field n.kept)) q (length b)) v.at
+    ∙ hashed-settled (open_after m.field n.kept) (length b) (hashed-next m.field n.kept (length b) front)
 front-moved false m n b front v = ap (λ (q : Open). hashed_to q n.at (length b)) v.field ∙ hashed-front m.field n.at (length b) front
 
 -- at the trailer all before it was hashed
@@ -342,6 +376,19 @@ hashed-on m n h g b t front next update hashed =
     let before : take (hashed_to m.field m.at (length b)) b ≡ b = ap (λ (k : ℕ). take k b) (front-before m b front) ∙ take_all (length b) b (omega arith) in
     let after : take (hashed_to n.field n.at (length (b ++ t))) (b ++ t) ≡ b ++ t = ap (λ (k : ℕ). take k (b ++ t)) next ∙ take_all (length (b ++ t)) (b ++ t) (omega arith) in
     subst (Holds256 g) (sym after) (update b (subst (Holds256 h) before hashed))
+
+-- ---- behind the last block
+
+-- no byte of the field came, since it has none
+pub at-sharded : (m : Machine) (s : Seen) (b : List ℕ) → m.field ≡ opens.Sharded → m.passed ≡ 0 → Stands m s b → IsWhole m [] b
+at-sharded m s b is none st =
+    let few : m.filled ≤ 0 = subst (λ (o : Open). m.filled ≤ tail_of o) is m.few in
+    let width : width_of m.field m.kept ≡ 0 = ap (λ (o : Open). width_of o m.kept) is in
+    let skipped : skips m.field m.kept ≡ 0 = ap (λ (o : Open). skips o m.kept) is in
+    record {
+      len = omega (arith, st.place, none, few, width);
+      held = drop-all (m.at + skips m.field m.kept) b (omega (arith, st.place, none, few, skipped));
+    }
 
 -- ---- the trailer
 

@@ -1,6 +1,6 @@
 -- What is read as a mixed body is spelled so, and what is spelled so is read, whatever follows.
-use Rattle.std.proofs.Common.{arith, true, ◌≡◌, ℕ, zero, suc, ◌*◌, ◌≤◌, ◌<◌, ◌^◌, List, [], ◌∷◌, length, Option, Some, None, refl, sym, ap, subst}
-use Rattle.std.specs.Prelude.{take, All}
+use Rattle.std.proofs.Common.{arith, true, ◌≡◌, ℕ, zero, suc, ◌*◌, ◌≤◌, ◌<◌, ◌^◌, List, [], ◌∷◌, ◌++◌, length, Option, Some, None, refl, sym, ap, subst}
+use Rattle.std.specs.Prelude.{take, All, flat_map}
 use Rattle.std.specs.Int.{w8, w32, to_be_bytes}
 use Rattle.std.proofs.Math.Pow.{pow_mono}
 use Rattle.std.proofs.lemmas.Bool.{ltb-true, lt-ltb}
@@ -13,22 +13,24 @@ use Rattle.octets_core.specs.declared.fault.Why.TheVariants as why
 use Rattle.octets_core.proofs.Fields.{bytes_field-ok}
 use Rattle.octets_core.proofs.Texts.{IsBytes, IsBytes-piece, Takes-as, repeated-read, repeated-leaves, whole-read, ends-read, IsRead, reads, done, from_front}
 use Rattle.octets_core.proofs.Texts.{bytes_field-read, number_field-read, Leaves, Takes, ◌>>>◌, ◌>>-◌, whole-leaves, bytes_field-leaves, number_field-leaves}
-use Rattle.octets_core.proofs.Texts.{wide8, wide32}
+use Rattle.octets_core.proofs.Texts.{wide8, wide32, then-read}
 use Rattle.equation_core.specs.Sizes.{columns_for, words_for}
 use Rattle.ribbon_core.specs.PlaneWords.{PlaneColumns}
 use Rattle.card_core.specs.declared.block.Body.{Body}
 use Rattle.card_core.specs.declared.block.Body.TheVariants as bodies
 use Rattle.card_core.specs.declared.leaf.Leaf.{Leaf}
 use Rattle.card_core.specs.declared.leaf.Leaf.TheVariants as leaves
-use Rattle.card_core.specs.Filter.{as_body, leaf_of}
+use Rattle.card_core.specs.Filter.{as_body}
 use Rattle.card_core.specs.declared.stage.Stage.{Stage}
 use Rattle.card_core.specs.MixedFields.{MixedFields}
+use Rattle.card_core.specs.ShardedFields.{ShardedFields}
+use Rattle.equation_core.specs.declared.shards.TheConstants.{MAX_SHIFT}
 use Rattle.equation_core.specs.declared.hash.TheConstants.{MAX_PLANES}
 use Rattle.equation_core.specs.declared.sizes.TheConstants.{MAX_STARTS}
 use Rattle.part_codec.specs.PlaneBytes.{columns_of_bytes, bytes_of_columns, is_padded}
-use Rattle.part_codec.specs.PartLayout.{plane_bytes, plane, planes, approx_stage, approx, exact, mixed, leaf, body_of}
-use Rattle.part_codec.specs.PartText.{leaf_mode, mode_of, planes_text, stage_text, width_of, approx_text, mixed_text, leaf_text, body_text}
-use Rattle.part_codec.specs.Fitting.{PlanesFit, StageFits, FirstFits, MixedFits, LeafFits, BodyFits}
+use Rattle.part_codec.specs.PartLayout.{plane_bytes, plane, planes, approx_stage, approx, exact, mixed, leaf, shard, shards, sharded, plain, body_of}
+use Rattle.part_codec.specs.PartText.{leaf_mode, mode_of, planes_text, stage_text, width_of, approx_text, mixed_text, leaf_text, shard_text, sharded_text, body_text}
+use Rattle.part_codec.specs.Fitting.{PlanesFit, StageFits, FirstFits, MixedFits, LeafFits, ShardsFit, BodyFits}
 use Rattle.part_codec.proofs.PlaneBytes.{length-bytes, columns-again, bytes-back}
 
 -- ---- planes
@@ -76,14 +78,14 @@ plane-leaves name starts bytes fits at =
       ltb-true _ _ a.passed,
     )
 
-abbrev step : Unit {0} → ℕ → Unit {0}
+abbrev step : {X : Type 0} → Unit {0} → X → Unit {0}
 step s Z = s
 
-linked-from_all : (P : ℕ → Type 0) (xs : List ℕ) → All P xs → Linked (λ (s : Unit {0}) x. P x) step tt xs
+linked-from_all : {X : Type 0} (P : X → Type 0) (xs : List X) → All P xs → Linked (λ (s : Unit {0}) x. P x) (step {X = X}) tt xs
 linked-from_all P [] all = tt
 linked-from_all P (x ∷ xs) all = (all 0 x (omega arith), linked-from_all P xs (λ k d lt. all (suc k) d (omega arith)))
 
-all-from_linked : (P : ℕ → Type 0) (xs : List ℕ) → Linked (λ (s : Unit {0}) x. P x) step tt xs → All P xs
+all-from_linked : {X : Type 0} (P : X → Type 0) (xs : List X) → Linked (λ (s : Unit {0}) x. P x) (step {X = X}) tt xs → All P xs
 all-from_linked P [] linked k d lt = absurd (omega arith)
 all-from_linked P (x ∷ xs) linked zero d lt = linked.0
 all-from_linked P (x ∷ xs) linked (suc k) d lt = all-from_linked P xs linked.1 k d (omega arith)
@@ -191,12 +193,12 @@ mixed-leaves bytes fits at =
       record { approx = b.1; exact = c.1; one = c.2 },
     )
 
-pub leaf-read : (before : List ℕ) (l : Leaf) → LeafFits l → IsRead (leaf (leaf_mode l)) before l (leaf_text l)
+leaf-read : (before : List ℕ) (l : Leaf) → LeafFits l → IsRead (leaf (leaf_mode l)) before l (leaf_text l)
 leaf-read before leaves.Clean fits = whole-read before leaves.Clean
 leaf-read before leaves.Every fits = whole-read before leaves.Every
 leaf-read before (leaves.Mixed m) fits = ends-read (λ (x : MixedFields). leaves.Mixed x) (mixed-read before m fits)
 
-pub leaf-leaves : (n : ℕ) (bytes : List ℕ) → IsBytes bytes → (at : ℕ) → n ≤ 2 → at ≤ length bytes
+leaf-leaves : (n : ℕ) (bytes : List ℕ) → IsBytes bytes → (at : ℕ) → n ≤ 2 → at ≤ length bytes
     → Leaves (leaf n) bytes at (λ l end. Takes bytes at (leaf_text l) end × LeafFits l × (leaf_mode l ≡ n))
 leaf-leaves zero bytes fits at few le = whole-leaves leaves.Clean bytes at _ (takes-nothing bytes at le, tt, refl)
 leaf-leaves (suc zero) bytes fits at few le = whole-leaves leaves.Every bytes at _ (takes-nothing bytes at le, tt, refl)
@@ -204,20 +206,79 @@ leaf-leaves (suc (suc n)) bytes fits at few le =
     mixed-leaves bytes fits at >>- λ m end a.
     whole-leaves (leaves.Mixed m) bytes end _ (a.0, a.1, omega arith)
 
--- ---- a block is one leaf
+-- ---- shards
+
+leaf_mode-few : (l : Leaf) → leaf_mode l ≤ 2
+leaf_mode-few leaves.Clean = omega arith
+leaf_mode-few leaves.Every = omega arith
+leaf_mode-few (leaves.Mixed m) = omega arith
+
+shard-read : (before : List ℕ) (l : Leaf) → LeafFits l → IsRead shard before l (shard_text l)
+unfolding shard
+shard-read before l fits =
+    then-read _ (λ mode. leaf mode) before (leaf_mode l) l _ (leaf_text l)
+    (number_field-read _ _ w8 (2 ^ 8) 0 2 wide8 before (leaf_mode l) (omega arith) (leaf_mode-few l) (omega (arith, leaf_mode-few l)))
+    (leaf-read (before ++ to_be_bytes w8 (leaf_mode l)) l fits)
+
+shard-leaves : (bytes : List ℕ) → IsBytes bytes → (at : ℕ) → Leaves shard bytes at (λ l end. Takes bytes at (shard_text l) end × LeafFits l)
+unfolding shard
+shard-leaves bytes fits at =
+    number_field-leaves _ _ w8 (2 ^ 8) 0 2 wide8 bytes fits at >>- λ mode q a. record {
+      each = λ x h.
+          let f = (leaf-leaves mode bytes fits q a.to_high a.takes.room).each x h in (
+            Takes-as (to_be_bytes w8 mode) (to_be_bytes w8 (leaf_mode x.0)) (ap (to_be_bytes w8) (sym f.2)) a.takes >>> f.0,
+            f.1,
+          );
+    }
+
+shards-read : (before : List ℕ) (n : ℕ) (list : List Leaf) → length list ≡ n → All LeafFits list → IsRead (shards n) before list (flat_map shard_text list)
+shards-read before n list count fits =
+    subst (λ (m : ℕ). IsRead (shards m) before list (flat_map shard_text list)) count
+    (repeated-read (λ (s : Unit {0}). shard) step (λ s. LeafFits) shard_text (λ s. shard-read) tt before list (linked-from_all LeafFits list fits))
+
+sharded-read : (before : List ℕ) (s : ShardedFields) → ShardsFit s → IsRead sharded before s (sharded_text s)
+unfolding sharded sharded_text
+sharded-read before s fits = from_front
+    (reads _ (number_field-read _ _ w8 (2 ^ 8) 1 MAX_SHIFT wide8 _ s.shift fits.facts.some fits.facts.few (omega (arith, fits.facts.few)))
+    (reads _ (shards-read _ (2 ^ s.shift) s.leaves fits.facts.count fits.leaves)
+    (done s)))
+
+sharded-leaves : (bytes : List ℕ) → IsBytes bytes → (at : ℕ) → Leaves sharded bytes at (λ s end. Takes bytes at (sharded_text s) end × ShardsFit s)
+unfolding sharded sharded_text
+sharded-leaves bytes fits at =
+    number_field-leaves _ _ w8 (2 ^ 8) 1 MAX_SHIFT wide8 bytes fits at >>- λ shift q a.
+    repeated-leaves (λ (s : Unit {0}). shard) step (λ s. LeafFits) shard_text bytes (λ s. shard-leaves bytes fits) (2 ^ shift) tt q a.takes.room >>- λ list end b.
+    whole-leaves _ bytes end _ (
+      a.takes >>> b.0,
+      record { facts = record { some = a.from_low; few = a.to_high; count = b.2 }; leaves = all-from_linked LeafFits list b.1 },
+    )
+
+-- ---- bodies of blocks
 
 pub body-read : (before : List ℕ) (b : Body) → BodyFits b → IsRead (body_of (mode_of b)) before b (body_text b)
 body-read before bodies.Clean fits = ends-read as_body (leaf-read before leaves.Clean fits)
 body-read before bodies.Every fits = ends-read as_body (leaf-read before leaves.Every fits)
 body-read before (bodies.Mixed m) fits = ends-read as_body (leaf-read before (leaves.Mixed m) fits)
+body-read before (bodies.Sharded s) fits = ends-read (λ (x : ShardedFields). bodies.Sharded x) (sharded-read before s fits)
 
-as_body-leaf : (l : Leaf) → leaf_of (as_body l) ≡ l
-as_body-leaf leaves.Clean = refl
-as_body-leaf leaves.Every = refl
-as_body-leaf (leaves.Mixed m) = refl
+abbrev LeftBody : List ℕ → ℕ → ℕ → Body → ℕ → Type 0
+LeftBody bytes at n b end = Takes bytes at (body_text b) end × BodyFits b × (mode_of b ≡ n)
 
-pub body-leaves : (n : ℕ) (bytes : List ℕ) → IsBytes bytes → (at : ℕ) → n ≤ 2 → at ≤ length bytes
-    → Leaves (body_of n) bytes at (λ b end. Takes bytes at (body_text b) end × BodyFits b × (mode_of b ≡ n))
-body-leaves n bytes fits at few le =
+alone : (bytes : List ℕ) (at n end : ℕ) (l : Leaf) → Takes bytes at (leaf_text l) end × LeafFits l × (leaf_mode l ≡ n) → LeftBody bytes at n (as_body l) end
+alone bytes at n end leaves.Clean a = a
+alone bytes at n end leaves.Every a = a
+alone bytes at n end (leaves.Mixed m) a = a
+
+plain-leaves : (n : ℕ) (bytes : List ℕ) → IsBytes bytes → (at : ℕ) → n ≤ 2 → at ≤ length bytes → Leaves (plain n) bytes at (LeftBody bytes at n)
+plain-leaves n bytes fits at few le =
     leaf-leaves n bytes fits at few le >>- λ l end a.
-    whole-leaves (as_body l) bytes end _ (subst (λ (k : Leaf). Takes bytes at (leaf_text k) end × LeafFits k × (leaf_mode k ≡ n)) (sym (as_body-leaf l)) a)
+    whole-leaves (as_body l) bytes end _ (alone bytes at n end l a)
+
+pub body-leaves : (n : ℕ) (bytes : List ℕ) → IsBytes bytes → (at : ℕ) → n ≤ 3 → at ≤ length bytes
+    → Leaves (body_of n) bytes at (λ b end. Takes bytes at (body_text b) end × BodyFits b × (mode_of b ≡ n))
+body-leaves zero bytes fits at few le = plain-leaves 0 bytes fits at (omega arith) le
+body-leaves (suc zero) bytes fits at few le = plain-leaves 1 bytes fits at (omega arith) le
+body-leaves (suc (suc zero)) bytes fits at few le = plain-leaves 2 bytes fits at (omega arith) le
+body-leaves (suc (suc (suc n))) bytes fits at few le =
+    sharded-leaves bytes fits at >>- λ s end a.
+    whole-leaves (bodies.Sharded s) bytes end _ (a.0, a.1, omega (arith, few))

@@ -13,17 +13,22 @@ use Rattle.part_codec.specs.PileFields.{PileFields}
 use Rattle.part_codec.specs.declared.fields.Kept.{Kept}
 use Rattle.part_codec.specs.declared.fields.Open.{Open}
 use Rattle.part_codec.specs.declared.fields.Open.TheVariants as opens
-use Rattle.part_codec.specs.Collecting.{CanCollect}
+use Rattle.part_codec.specs.Collecting.{IsLast, CanCollect}
 
 planes-once : (starts planes : ℕ) (words : List ℕ) → IsProp (AreStageWords starts planes words)
 planes-once starts planes words = Prim.hlevel props
 
-exact-once : (starts planes done : ℕ) (words : List ℕ) → IsProp (AreStageWords starts planes words × (done ≡ 0))
-exact-once starts planes done words = Prim.hlevel props
+last-once : (k : Kept) (p : PileFields) → IsProp (IsLast k p)
+last-once k p = Prim.hlevel props
+
+exact-once : (starts planes done : ℕ) (words : List ℕ) (k : Kept) (p : PileFields) → IsProp (AreStageWords starts planes words × (done ≡ 0) × IsLast k p)
+exact-once starts planes done words k p = Prim.hlevel props
 
 pub can-once : (o : Open) (k : Kept) (p : PileFields) → IsProp (CanCollect o k p)
 can-once opens.ApproxPlane k p = planes-once _ _ _
-can-once opens.ExactPlane k p = exact-once _ _ _ _
+can-once opens.ExactPlane k p = exact-once _ _ _ _ k p
+can-once opens.BlockMode k p = last-once k p
+can-once opens.ShardMode k p = last-once k p
 can-once o k p = λ a b. refl
 
 linked-once : {S X : Type 0} (P : S → X → Type 0) (next : S → X → S) → ((s : S) (x : X) → IsProp (P s x)) → (s : S) (xs : List X) → IsProp (Linked P next s xs)

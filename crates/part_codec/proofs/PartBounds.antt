@@ -11,6 +11,7 @@ use Rattle.octets_core.specs.declared.fault.Why.TheVariants as why
 use Rattle.octets_core.specs.declared.fault.LayoutFault.{LayoutFault}
 use Rattle.ident_core.specs.RangeLayout.{range}
 use Rattle.equation_core.specs.declared.hash.TheConstants.{MAX_PLANES}
+use Rattle.equation_core.specs.declared.shards.TheConstants.{MAX_SHIFT}
 use Rattle.equation_core.specs.declared.sizes.TheConstants.{MAX_STARTS}
 use Rattle.ident_core.specs.declared.bounds.TheConstants.{MAX_RANGES}
 use Rattle.card_core.specs.declared.part.TheConstants.{MAX_BLOCKS}
@@ -21,7 +22,7 @@ use Rattle.part_codec.specs.declared.fault.PartFault.TheVariants as faults
 use Rattle.part_codec.specs.Offsets.{offset_in_part}
 use Rattle.equation_core.specs.Sizes.{words_for}
 use Rattle.part_codec.specs.PlaneBytes.{is_padded}
-use Rattle.part_codec.specs.PartLayout.{fielded, head, plane, planes, approx_stage, approx, exact, mixed, block, leaf, body_of, unsealed, sealed, part}
+use Rattle.part_codec.specs.PartLayout.{fielded, head, plane, planes, approx_stage, approx, exact, mixed, leaf, shard, sharded, plain, body_of, greatest_mode, block, unsealed, sealed, part}
 
 abbrev offset : LayoutFault → ℕ
 offset f = f.at
@@ -47,7 +48,7 @@ pub head-bounded : IsBounded offset head
 unfolding head
 head-bounded =
     bytes-bounded fields.PartMagic 8 _ >>> λ begin.
-    number-bounded fields.PartVersion w8 1 1 >>> λ version.
+    number-bounded fields.PartVersion w8 1 2 >>> λ version.
     number-bounded fields.PartKind w8 0 1 >>> λ kind.
     number-bounded fields.PartEpoch w64 0 (2 ^ 64 - 1) >>> λ epoch.
     bytes-bounded fields.PartParent 32 _ >>> λ parent.
@@ -99,14 +100,31 @@ leaf-bounded zero = whole-bounded offset _
 leaf-bounded (suc zero) = whole-bounded offset _
 leaf-bounded (suc (suc n)) = mixed-bounded >>> λ m. whole-bounded offset _
 
-body-bounded : (n : ℕ) → IsBounded offset (body_of n)
-body-bounded n = leaf-bounded n >>> λ l. whole-bounded offset _
+shard-bounded : IsBounded offset shard
+unfolding shard
+shard-bounded = number-bounded fields.ShardMode w8 0 2 >>> λ mode. leaf-bounded mode
 
-pub block-bounded : (previous : Option (List ℕ)) → IsBounded offset (block previous)
+sharded-bounded : IsBounded offset sharded
+unfolding sharded
+sharded-bounded =
+    number-bounded fields.BlockShift w8 1 MAX_SHIFT >>> λ shift.
+    repeated-bounded offset (λ (s : Unit {0}). shard) _ (λ s. shard-bounded) (2 ^ shift) tt >>> λ list.
+    whole-bounded offset _
+
+plain-bounded : (n : ℕ) → IsBounded offset (plain n)
+plain-bounded n = leaf-bounded n >>> λ l. whole-bounded offset _
+
+body-bounded : (n : ℕ) → IsBounded offset (body_of n)
+body-bounded zero = plain-bounded 0
+body-bounded (suc zero) = plain-bounded 1
+body-bounded (suc (suc zero)) = plain-bounded 2
+body-bounded (suc (suc (suc n))) = sharded-bounded >>> λ s. whole-bounded offset _
+
+block-bounded : (version : ℕ) (previous : Option (List ℕ)) → IsBounded offset (block version previous)
 unfolding block
-block-bounded previous =
+block-bounded version previous =
     bytes-bounded fields.BlockIssuer 32 (is_after previous) >>> λ issuer.
-    number-bounded fields.BlockMode w8 0 2 >>> λ mode.
+    number-bounded fields.BlockMode w8 0 (greatest_mode version) >>> λ mode.
     body-bounded mode >>> λ body.
     whole-bounded offset _
 
@@ -115,7 +133,8 @@ unfolding unsealed
 unsealed-bounded =
     head-bounded >>> λ h.
     number-bounded fields.PartIssuers w32 0 MAX_BLOCKS >>> λ count.
-    repeated-bounded offset block _ block-bounded count None >>> λ list.
+    repeated-bounded offset (block h.0) _ (block-bounded h.0) count None >>> λ list.
+    bytes-bounded fields.PartSharded 0 _ >>> λ none.
     whole-bounded offset _
 
 pub sealed-bounded : IsBounded offset sealed

@@ -12,11 +12,12 @@ use Rattle.octets_core.specs.declared.fault.Why.TheVariants as why
 use Rattle.ident_core.specs.RangeLayout.{range}
 use Rattle.ident_core.specs.declared.bounds.TheConstants.{MAX_RANGES}
 use Rattle.equation_core.specs.declared.hash.TheConstants.{MAX_PLANES}
+use Rattle.equation_core.specs.declared.shards.TheConstants.{MAX_SHIFT}
 use Rattle.equation_core.specs.declared.sizes.TheConstants.{MAX_STARTS}
 use Rattle.equation_core.specs.Sizes.{words_for}
 use Rattle.card_core.specs.declared.part.TheConstants.{MAX_BLOCKS}
 use Rattle.part_codec.specs.PlaneBytes.{is_padded}
-use Rattle.part_codec.specs.PartLayout.{head, plane, planes, approx_stage, approx, exact, mixed, leaf, block, unsealed, sealed}
+use Rattle.part_codec.specs.PartLayout.{head, plane, planes, approx_stage, approx, exact, mixed, leaf, shard, sharded, plain, body_of, greatest_mode, block, unsealed, sealed}
 
 number-of : (name : Field) (w : Width) (low high : ℕ) → IsOfFields IsShort (number name w low high)
 number-of name w low high = number_field-of IsShort _ _ (λ at. refl) w low high
@@ -36,7 +37,7 @@ head-of : IsOfFields IsShort head
 unfolding head
 head-of =
     bytes-of fields.PartMagic 8 _ >>> λ begin.
-    number-of fields.PartVersion w8 1 1 >>> λ version.
+    number-of fields.PartVersion w8 1 2 >>> λ version.
     number-of fields.PartKind w8 0 1 >>> λ kind.
     number-of fields.PartEpoch w64 0 (2 ^ 64 - 1) >>> λ epoch.
     bytes-of fields.PartParent 32 _ >>> λ parent.
@@ -88,12 +89,32 @@ leaf-of zero = whole-of _
 leaf-of (suc zero) = whole-of _
 leaf-of (suc (suc n)) = mixed-of >>> λ m. whole-of _
 
-block-of : (previous : Option (List ℕ)) → IsOfFields IsShort (block previous)
+shard-of : IsOfFields IsShort shard
+unfolding shard
+shard-of = number-of fields.ShardMode w8 0 2 >>> λ mode. leaf-of mode
+
+sharded-of : IsOfFields IsShort sharded
+unfolding sharded
+sharded-of =
+    number-of fields.BlockShift w8 1 MAX_SHIFT >>> λ shift.
+    repeated-of (λ (s : Unit {0}). shard) _ (λ s. shard-of) (2 ^ shift) tt >>> λ list.
+    whole-of _
+
+plain-of : (n : ℕ) → IsOfFields IsShort (plain n)
+plain-of n = leaf-of n >>> λ l. whole-of _
+
+body-of : (n : ℕ) → IsOfFields IsShort (body_of n)
+body-of zero = plain-of 0
+body-of (suc zero) = plain-of 1
+body-of (suc (suc zero)) = plain-of 2
+body-of (suc (suc (suc n))) = sharded-of >>> λ s. whole-of _
+
+block-of : (version : ℕ) (previous : Option (List ℕ)) → IsOfFields IsShort (block version previous)
 unfolding block
-block-of previous =
+block-of version previous =
     bytes-of fields.BlockIssuer 32 (is_after previous) >>> λ issuer.
-    number-of fields.BlockMode w8 0 2 >>> λ mode.
-    (leaf-of mode >>> λ l. whole-of _) >>> λ body.
+    number-of fields.BlockMode w8 0 (greatest_mode version) >>> λ mode.
+    body-of mode >>> λ body.
     whole-of _
 
 unsealed-of : IsOfFields IsShort unsealed
@@ -101,7 +122,8 @@ unfolding unsealed
 unsealed-of =
     head-of >>> λ h.
     number-of fields.PartIssuers w32 0 MAX_BLOCKS >>> λ count.
-    repeated-of block _ block-of count None >>> λ list.
+    repeated-of (block h.0) _ (block-of h.0) count None >>> λ list.
+    bytes-of fields.PartSharded 0 _ >>> λ none.
     whole-of _
 
 pub sealed-of : IsOfFields IsShort sealed

@@ -69,7 +69,7 @@ read-new m p st first is = (
   nothing_seen,
   st,
   subst (λ (o : Open). Collects o m.kept nothing_seen p (drop m.at [])) (sym first)
-      (record { ranges = ap (λ (q : PileFields). q.ranges) (sym is); blocks = ap (λ (q : PileFields). q.blocks) (sym is); stage = tt }),
+      (record { ranges = ap (λ (q : PileFields). q.ranges) (sym is); blocks = ap (λ (q : PileFields). q.blocks) (sym is); leaves = ap (λ (q : PileFields). q.leaves) (sym is); stage = tt }),
 )
 
 pub given-ok : (bytes : List ℕ) (n : ℕ) (s : SealedFields) → n ≤ length bytes → part (take n bytes ++ drop n bytes) 0 ≡ Ok (s, length (take n bytes)) → part bytes 0 ≡ Ok (s, n)

@@ -59,7 +59,7 @@ whole-ends : (m : Machine) (b : List ℕ) (s : SealedFields) (end : ℕ) → Beh
 whole-ends m b s end t partial read =
     elim (cases_lt 0 (tail_of m.field)) [
       | inl some ↦ absurd (not-both b s end _ read (field-short m t.0 b t.1 (partial (some-left m.field some))))
-      | inr none ↦ same-end b s _ end (length b) read (field-done m t.0 b t.1 (none-left m.field none))
+      | inr none ↦ same-end b s _ end (length b) read (field-done m t.0 b t.1 (none-left m.field m.filled partial none))
     ]
 
 -- it takes what belongs to the part

@@ -1,10 +1,12 @@
 -- What a part that is read in pieces is collected into, and when that is what was seen.
-use Rattle.std.specs.Prelude.{◌≡◌, ℕ, zero, suc, ◌+◌, ◌/◌, ◌≤◌, List, [], ◌∷◌, ◌++◌, length, map, drop, Bool, true, false, Some, None}
+use Rattle.std.specs.Prelude.{◌≡◌, ℕ, zero, suc, ◌+◌, ◌/◌, ◌^◌, ◌≤◌, List, [], ◌∷◌, ◌++◌, length, map, drop, Bool, true, false, Some, None}
 use Rattle.std.specs.Int.{w64, from_be_bytes}
 use Rattle.std.specs.Simd.{first_chunks}
 use Rattle.sha2.specs.declared.Sha256.{Sha256}
 use Rattle.equation_core.specs.declared.hash.TheConstants.{MAX_PLANES}
 use Rattle.ribbon_core.specs.PlaneWords.{columns_of}
+use Rattle.equation_core.specs.declared.shards.TheConstants.{MAX_SHIFT}
+use Rattle.card_core.specs.declared.block.Body.{Body}
 use Rattle.card_core.specs.declared.leaf.Leaf.{Leaf}
 use Rattle.card_core.specs.declared.leaf.Leaf.TheVariants as leaves_of
 use Rattle.card_core.specs.Filter.{as_body}
@@ -15,11 +17,11 @@ use Rattle.part_codec.specs.declared.fields.Kept.{Kept}
 use Rattle.part_codec.specs.declared.fields.Open.{Open}
 use Rattle.part_codec.specs.declared.fields.Open.TheVariants as opens
 use Rattle.part_codec.specs.declared.machine.Machine.{Machine}
-use Rattle.part_codec.specs.Remaining.{Seen}
+use Rattle.part_codec.specs.Remaining.{Seen, shards_of}
 use Rattle.part_codec.specs.Scanning.{Stands, Hashes, hashed_to}
 
 abbrev pub nothing_piled : PileFields
-nothing_piled = record { ranges = []; blocks = []; approx = None; words = []; done = 0; plane = [] }
+nothing_piled = record { ranges = []; blocks = []; leaves = []; approx = None; words = []; done = 0; plane = [] }
 
 -- the words of the open plane behind those before it
 abbrev pub spelled_plane : PileFields → PileFields
@@ -35,8 +37,21 @@ cleared p = record p { words = []; done = 0; plane = [] }
 abbrev pub stage_by : Kept → PileFields → Stage
 stage_by k p = record { seed = k.seed; planes = record { starts = k.starts; columns = columns_of k.starts p.done p.words } }
 
+abbrev pub with_body : Kept → Body → PileFields → PileFields
+with_body k body p = record p { blocks = p.blocks ++ record { issuer = k.key; body = body } ∷ [] }
+
+-- the leaf of a shard, behind which so many are left
+abbrev pub with_shard : ℕ → Kept → Leaf → PileFields → PileFields
+with_shard zero k l p = with_body k (shards_of k.shift (p.leaves ++ l ∷ [])) (record p { leaves = [] })
+with_shard (suc n) k l p = record p { leaves = p.leaves ++ l ∷ [] }
+
+-- a leaf of a block that has this shift, 0 if it isn't sharded
+abbrev pub leaf_in : ℕ → Kept → Leaf → PileFields → PileFields
+leaf_in zero k l p = with_body k (as_body l) p
+leaf_in (suc m) k l p = with_shard k.leaves k l p
+
 abbrev pub with_leaf : Kept → Leaf → PileFields → PileFields
-with_leaf k l p = record p { blocks = p.blocks ++ record { issuer = k.key; body = as_body l } ∷ [] }
+with_leaf k l p = leaf_in k.shift k l p
 
 abbrev pub pile_mode : ℕ → Kept → PileFields → PileFields
 pile_mode zero k p = with_leaf k leaves_of.Clean p
@@ -60,6 +75,8 @@ pile_after opens.Ranges k p = record p { ranges = [] }
 pile_after opens.RangeTo k p = record p { ranges = p.ranges ++ record { log = k.key; from = k.from; to = k.to } ∷ [] }
 pile_after opens.Issuers k p = record p { blocks = [] }
 pile_after opens.BlockMode k p = pile_mode k.mode k p
+pile_after opens.BlockShift k p = record p { leaves = [] }
+pile_after opens.ShardMode k p = pile_mode k.mode k p
 pile_after opens.BlockK k p = record p { approx = None }
 pile_after opens.ApproxStarts k p = cleared p
 pile_after opens.ApproxPlane k p = pile_plane k.planes k (with_words p)
@@ -77,10 +94,16 @@ pile_passed opens.ApproxPlane p t = record p { plane = p.plane ++ t }
 pile_passed opens.ExactPlane p t = record p { plane = p.plane ++ t }
 pile_passed o p t = p
 
--- what a stage needs that is made whole
+-- with one leaf more, which is the last, the leaves are one for each shard
+abbrev pub IsLast : Kept → PileFields → Type 0
+IsLast k p = 1 ≤ k.shift → k.leaves ≡ 0 → (k.shift ≤ MAX_SHIFT) × (length p.leaves + 1 ≡ 2 ^ k.shift)
+
+-- what a stage and a block need that are made whole
 abbrev pub CanCollect : Open → Kept → PileFields → Type 0
+CanCollect opens.BlockMode k p = IsLast k p
+CanCollect opens.ShardMode k p = IsLast k p
 CanCollect opens.ApproxPlane k p = AreStageWords k.starts (p.done + 1) (with_words p).words
-CanCollect opens.ExactPlane k p = (AreStageWords k.starts (p.done + 1) (with_words p).words) × (p.done ≡ 0)
+CanCollect opens.ExactPlane k p = (AreStageWords k.starts (p.done + 1) (with_words p).words) × (p.done ≡ 0) × IsLast k p
 CanCollect o k p = Unit {0}
 
 abbrev pub FewPlanes : Kept → Type 0
@@ -113,6 +136,7 @@ Staged o k s p P = Unit {0}
 pub record Collects (o : Open) (k : Kept) (s : Seen) (p : PileFields) (P : List ℕ) : Type 0 where
   pub ranges : s.ranges ≡ p.ranges
   pub blocks : s.blocks ≡ p.blocks
+  pub leaves : s.leaves ≡ p.leaves
   pub stage : Staged o k s p P
 
 -- the machine stands for b behind what was collected

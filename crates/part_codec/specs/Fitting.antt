@@ -11,11 +11,12 @@ use Rattle.ident_core.specs.HeadFields.{HeadFields, IsHead}
 use Rattle.ident_core.specs.RangeText.{FitsRange}
 use Rattle.card_core.specs.declared.block.Block.{Block}
 use Rattle.card_core.specs.declared.block.Body.{Body}
+use Rattle.card_core.specs.declared.block.Body.TheVariants as bodies
 use Rattle.card_core.specs.declared.leaf.Leaf.{Leaf}
 use Rattle.card_core.specs.declared.leaf.Leaf.TheVariants as leaves
-use Rattle.card_core.specs.Filter.{leaf_of}
 use Rattle.card_core.specs.declared.stage.Stage.{Stage}
 use Rattle.card_core.specs.MixedFields.{MixedFields}
+use Rattle.card_core.specs.ShardedFields.{ShardedFields, IsSharded}
 use Rattle.card_core.specs.PartFields.{PartFields, IsPart}
 use Rattle.part_codec.specs.SealedFields.{SealedFields}
 use Rattle.part_codec.specs.PartText.{unsealed_text}
@@ -51,9 +52,15 @@ LeafFits leaves.Clean = Unit {0}
 LeafFits leaves.Every = Unit {0}
 LeafFits (leaves.Mixed m) = MixedFits m
 
--- a block is one leaf
+pub record ShardsFit (s : ShardedFields) : Type 0 where
+  pub facts : IsSharded s
+  pub leaves : All LeafFits s.leaves
+
 abbrev pub BodyFits : Body → Type 0
-BodyFits body = LeafFits (leaf_of body)
+BodyFits bodies.Clean = Unit {0}
+BodyFits bodies.Every = Unit {0}
+BodyFits (bodies.Mixed m) = MixedFits m
+BodyFits (bodies.Sharded s) = ShardsFit s
 
 -- the issuer is a key
 pub record BlockFits (b : Block) : Type 0 where

@@ -1,5 +1,5 @@
 -- The text of a part: the bytes that its layout reads as it.
-use Rattle.std.specs.Prelude.{ℕ, List, [], ◌++◌, length, Option, Some, None, codes, flat_map}
+use Rattle.std.specs.Prelude.{ℕ, List, [], ◌++◌, length, Option, Some, None, codes, flat_map, if◌then◌else◌}
 use Rattle.std.specs.Int.{w8, w16, w32, w64, to_be_bytes}
 use Rattle.equation_core.specs.Sizes.{words_for}
 use Rattle.ribbon_core.specs.PlaneWords.{PlaneColumns}
@@ -9,13 +9,15 @@ use Rattle.ident_core.specs.HeadFields.{HeadFields}
 use Rattle.ident_core.specs.RangeText.{range_text}
 use Rattle.card_core.specs.declared.block.Block.{Block}
 use Rattle.card_core.specs.declared.block.Body.{Body}
+use Rattle.card_core.specs.declared.block.Body.TheVariants as bodies
 use Rattle.card_core.specs.declared.leaf.Leaf.{Leaf}
 use Rattle.card_core.specs.declared.leaf.Leaf.TheVariants as leaves
-use Rattle.card_core.specs.Filter.{leaf_of}
 use Rattle.card_core.specs.declared.stage.Stage.{Stage}
 use Rattle.card_core.specs.MixedFields.{MixedFields}
+use Rattle.card_core.specs.ShardedFields.{ShardedFields}
 use Rattle.card_core.specs.PartFields.{PartFields}
 use Rattle.part_codec.specs.PlaneBytes.{bytes_of_columns}
+use Rattle.part_codec.specs.PartLayout.{some_sharded}
 use Rattle.part_codec.specs.SealedFields.{SealedFields}
 
 abbrev pub kind_number : Kind → ℕ
@@ -33,9 +35,15 @@ leaf_mode leaves.Clean = 0
 leaf_mode leaves.Every = 1
 leaf_mode (leaves.Mixed m) = 2
 
--- a block is one leaf
 abbrev pub mode_of : Body → ℕ
-mode_of body = leaf_mode (leaf_of body)
+mode_of bodies.Clean = 0
+mode_of bodies.Every = 1
+mode_of (bodies.Mixed m) = 2
+mode_of (bodies.Sharded s) = 3
+
+-- 2 exactly where a block is sharded
+abbrev pub version_of : List Block → ℕ
+version_of blocks = if some_sharded blocks then 2 else 1
 
 -- the starts, and plane after plane
 unfoldable pub planes_text : PlaneColumns → List ℕ
@@ -62,15 +70,24 @@ leaf_text leaves.Clean = []
 leaf_text leaves.Every = []
 leaf_text (leaves.Mixed m) = mixed_text m
 
+abbrev pub shard_text : Leaf → List ℕ
+shard_text l = to_be_bytes w8 (leaf_mode l) ++ leaf_text l
+
+unfoldable pub sharded_text : ShardedFields → List ℕ
+sharded_text s = to_be_bytes w8 s.shift ++ flat_map shard_text s.leaves
+
 abbrev pub body_text : Body → List ℕ
-body_text body = leaf_text (leaf_of body)
+body_text bodies.Clean = []
+body_text bodies.Every = []
+body_text (bodies.Mixed m) = mixed_text m
+body_text (bodies.Sharded s) = sharded_text s
 
 abbrev pub block_text : Block → List ℕ
 block_text b = b.issuer ++ to_be_bytes w8 (mode_of b.body) ++ body_text b.body
 
 -- all but the trailer
 unfoldable pub unsealed_text : PartFields → List ℕ
-unsealed_text p = head_text 1 p.head ++ to_be_bytes w32 (length p.blocks) ++ flat_map block_text p.blocks
+unsealed_text p = head_text (version_of p.blocks) p.head ++ to_be_bytes w32 (length p.blocks) ++ flat_map block_text p.blocks
 
 unfoldable pub spelling : SealedFields → List ℕ
 spelling s = unsealed_text s.part ++ s.trailer

@@ -9,7 +9,7 @@ use Rattle.part_codec.specs.declared.fields.Open.TheVariants as opens
 use Rattle.part_codec.specs.declared.fields.TheConstants.{TRAILER}
 use Rattle.part_codec.specs.declared.machine.Machine.{Machine}
 use Rattle.part_codec.specs.Remaining.{Seen, rest}
-use Rattle.part_codec.specs.Stepping.{Counts, IsOpen, Passed, passes_last, skips, width_of, kept_after, open_after, seen_after}
+use Rattle.part_codec.specs.Stepping.{Counts, IsOpen, Passed, passes_last, skips, width_of, kept_after, open_after, settled, seen_after}
 
 -- Behind what was seen the field is open at its offset in b: whatever follows, b reads as what is left to read from
 -- there on.
@@ -57,11 +57,17 @@ pub record Scans (m : Machine) (hasher : Sha256) (b : List ℕ) : Type 0 where
   pub stands : Stands m seen b
   pub hashed : Hashes m hasher b
 
--- the open field passed, and the next one is open
+-- the open field passed
+pub record Passes (m n : Machine) (b : List ℕ) : Type 0 where
+  pub passed : Passed m.field m.kept (drop m.at b)
+  pub kept : n.kept ≡ kept_after m.field m.kept (drop m.at b)
+  pub at : n.at ≡ length b
+
+-- the open field passed, and the next one that has a byte is open
 pub record Opens (m n : Machine) (b : List ℕ) : Type 0 where
   pub passed : Passed m.field m.kept (drop m.at b)
   pub kept : n.kept ≡ kept_after m.field m.kept (drop m.at b)
-  pub field : n.field ≡ open_after m.field n.kept
+  pub field : n.field ≡ settled (open_after m.field n.kept)
   pub at : n.at ≡ length b
 
 -- the same field is open

@@ -2,13 +2,13 @@
 
 ghost use Rattle.std.specs.Prelude.{◌≡◌, ◌≤◌, ◌+◌, ◌*◌, length, OnOk, IfOk, flat_map};
 ghost use Rattle.card_core.specs.declared.part.TheConstants.{MAX_BLOCKS};
-ghost use Rattle.part_codec.specs.declared.encode.TheConstants.{MAX_STAGE, MAX_BLOCK};
-ghost use Rattle.part_codec.specs.PartText.{stage_text, approx_text, body_text, block_text, spelling};
+ghost use Rattle.part_codec.specs.declared.encode.TheConstants.{MAX_STAGE, MAX_LEAF, MAX_BLOCK};
+ghost use Rattle.part_codec.specs.PartText.{stage_text, approx_text, mixed_text, shard_text, sharded_text, body_text, block_text, spelling};
 ghost use Rattle.part_codec.specs.Fitting.{Fits};
 
 use crate::sealed::Sealed;
 use crate::text::put_unsealed;
-use card_core::{Block, Body, Mixed, Stage};
+use card_core::{Block, Body, Leaf, Mixed, Sharded, Stage};
 use equation_core::words_for;
 use ident_core::RANGE_BYTES;
 use octets_core::{NoMemory, put_bytes};
@@ -23,8 +23,11 @@ const STAGE: usize = 5;
 /// No stage has more bytes.
 const MAX_STAGE: usize = 10_000_000;
 
-/// No block has more bytes: its issuer, its mode, a count of planes and two stages.
-pub(crate) const MAX_BLOCK: usize = 34 + 2 * MAX_STAGE;
+/// No leaf has more bytes: its mode, a count of planes and two stages.
+pub(crate) const MAX_LEAF: usize = 2 + 2 * MAX_STAGE;
+
+/// No block has more bytes: its issuer, its mode, its shift and 256 leaves.
+pub(crate) const MAX_BLOCK: usize = 34 + 256 * MAX_LEAF;
 
 #[tactic(auto, using(crate::proofs::Lengths::length_stage))]
 fn stage_len(stage: &Stage) -> usize
@@ -46,13 +49,53 @@ fn approx_len(mixed: &Mixed) -> usize
 }
 
 #[tactic(auto, using(crate::proofs::Lengths::length_mixed))]
+fn mixed_len(mixed: &Mixed) -> usize
+    ensures value { result ≡ length (mixed_text mixed.now) }
+    ensures few { result ≤ 1 + 2 * MAX_STAGE }
+{
+    1 + approx_len(mixed) + stage_len(mixed.exact())
+}
+
+#[tactic(auto, using(crate::proofs::Lengths::length_shard))]
+fn shard_len(leaf: &Leaf) -> usize
+    ensures value { result ≡ length (shard_text leaf.now) }
+    ensures few { result ≤ MAX_LEAF }
+{
+    match leaf {
+        Leaf::Clean | Leaf::Every => 1,
+        Leaf::Mixed(mixed) => 1 + mixed_len(mixed),
+    }
+}
+
+// The bytes of all shards.
+fn shards_len(leaves: &[Leaf]) -> usize
+    requires { length leaves.now ≤ 256 }
+    ensures value { result ≡ length (flat_map shard_text leaves.now) }
+    ensures few { result ≤ 256 * MAX_LEAF }
+{
+    let mut len = 0;
+    for leaf in leaves {
+        len += shard_len(leaf);
+    }
+    len
+}
+
+#[tactic(auto, using(crate::proofs::Lengths::length_sharded, crate::proofs::Lengths::few_shards))]
+fn sharded_len(sharded: &Sharded) -> usize
+    ensures value { result ≡ length (sharded_text sharded.now) }
+    ensures few { result ≤ 1 + 256 * MAX_LEAF }
+{
+    1 + shards_len(sharded.leaves())
+}
+
 fn body_len(body: &Body) -> usize
     ensures value { result ≡ length (body_text body.now) }
-    ensures few { result ≤ 1 + 2 * MAX_STAGE }
+    ensures few { result ≤ 1 + 256 * MAX_LEAF }
 {
     match body {
         Body::Clean | Body::Every => 0,
-        Body::Mixed(mixed) => 1 + approx_len(mixed) + stage_len(mixed.exact()),
+        Body::Mixed(mixed) => mixed_len(mixed),
+        Body::Sharded(sharded) => sharded_len(sharded),
     }
 }
 

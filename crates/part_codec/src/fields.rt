@@ -1,19 +1,21 @@
 //! The fields of a part one by one: how wide each is, its test, what is kept of it, and which one follows.
 
 ghost use Rattle.std.specs.Prelude.{◌≡◌, ◌≤◌, ◌↔◌, ℕ, List, length, true, IsTrue};
+ghost use Rattle.equation_core.specs.declared.shards.TheConstants.{MAX_SHIFT};
 ghost use Rattle.std.specs.Str.{bytes_eq};
 ghost use Rattle.std.specs.Int.{w8, w16, w32, w64, from_be_bytes};
 ghost use Rattle.sha2.specs.Sha256.{sha256};
 ghost use Rattle.sha2.specs.Hashers.{Holds256};
 ghost use Rattle.octets_core.specs.Linked.{is_after};
-ghost use Rattle.part_codec.specs.PartLayout.{kind_of, is_parent};
-ghost use Rattle.part_codec.specs.Remaining.{previous, kept_range, kept_leaf, kept_ranges, kept_issuers, kept_mode};
+ghost use Rattle.octets_core.specs.Layout.{within};
+ghost use Rattle.part_codec.specs.PartLayout.{kind_of, is_parent, greatest_mode};
+ghost use Rattle.part_codec.specs.Remaining.{previous, kept_range, kept_leaf, kept_ranges, kept_issuers, kept_shift, kept_leaf_mode, kept_mode};
 ghost use Rattle.part_codec.specs.Stepping.{in_front, skips as skips_of, tail_of, is_padded_last, passes_last};
-ghost use Rattle.part_codec.specs.Stepping.{AreStarts, AreLimits, kept_after, name_of};
+ghost use Rattle.part_codec.specs.Stepping.{AreStarts, IsShift, AreLimits, kept_after, name_of};
 ghost use Rattle.part_codec.specs.Stepping.{open_range, open_block, open_leaf, open_mode, open_approx, open_plane, open_after};
 
 use card_core::MAX_BLOCKS;
-use equation_core::{MAX_PLANES, MAX_STARTS, words_for};
+use equation_core::{MAX_PLANES, MAX_SHIFT, MAX_STARTS, words_for};
 use ident_core::{Kind, MAX_RANGES};
 use octets_core::{Field, Key32, key_of};
 use sha2::{Digest, Sha256};
@@ -40,6 +42,8 @@ pub(crate) enum Open {
     Issuers,
     BlockIssuer,
     BlockMode,
+    BlockShift,
+    ShardMode,
     BlockK,
     ApproxSeed,
     ApproxStarts,
@@ -47,6 +51,8 @@ pub(crate) enum Open {
     ExactSeed,
     ExactStarts,
     ExactPlane,
+    /// Behind the blocks. It has no byte, only a test.
+    Sharded,
     Trailer,
     Done,
 }
@@ -54,6 +60,7 @@ pub(crate) enum Open {
 /// What is kept of the fields before.
 #[derive(Clone, Copy, Debug)]
 pub(crate) struct Kept {
+    pub(crate) version: u8,
     pub(crate) kind: u8,
     pub(crate) epoch: u64,
     pub(crate) parent: Key32,
@@ -62,14 +69,19 @@ pub(crate) struct Kept {
     pub(crate) issuers: u32,
     /// Blocks that are left, the open one among them.
     pub(crate) left: u32,
+    /// The shift of the open block, 0 if it isn't sharded.
+    pub(crate) shift: u8,
     /// Leaves of the open block that are left, the open one among them.
     pub(crate) leaves: u16,
+    /// Whether a block before the open one is sharded.
+    pub(crate) sharded: bool,
     /// Whether an item stands before the open one.
     pub(crate) any: bool,
     /// The log or the issuer of the open item, or before it came that of the item before.
     pub(crate) key: Key32,
     pub(crate) from: u64,
     pub(crate) to: u64,
+    /// The mode of the open block, or of its open shard.
     pub(crate) mode: u8,
     /// Planes of the approximate stage that are left, the open one among them.
     pub(crate) planes: u8,
@@ -114,14 +126,15 @@ pub(crate) fn tail(field: Open) -> usize
     ensures few { result ≤ TRAILER }
 {
     match field {
-        Open::Version | Open::Kind | Open::BlockMode | Open::BlockK => 1,
+        Open::Version | Open::Kind | Open::BlockMode | Open::BlockShift => 1,
+        Open::ShardMode | Open::BlockK => 1,
         Open::ApproxSeed | Open::ExactSeed => 1,
         Open::Ranges => 2,
         Open::Issuers | Open::ApproxStarts | Open::ExactStarts => 4,
         Open::Magic | Open::Epoch | Open::RangeFrom | Open::RangeTo => 8,
         Open::ApproxPlane | Open::ExactPlane => 8,
         Open::Parent | Open::RangeLog | Open::BlockIssuer | Open::Trailer => 32,
-        Open::Done => 0,
+        Open::Sharded | Open::Done => 0,
     }
 }
 
@@ -141,6 +154,8 @@ pub(crate) fn name(field: Open) -> Field
         Open::Issuers => Field::PartIssuers,
         Open::BlockIssuer => Field::BlockIssuer,
         Open::BlockMode => Field::BlockMode,
+        Open::BlockShift => Field::BlockShift,
+        Open::ShardMode => Field::ShardMode,
         Open::BlockK => Field::BlockK,
         Open::ApproxSeed => Field::ApproxSeed,
         Open::ApproxStarts => Field::ApproxStarts,
@@ -148,6 +163,7 @@ pub(crate) fn name(field: Open) -> Field
         Open::ExactSeed => Field::ExactSeed,
         Open::ExactStarts => Field::ExactStarts,
         Open::ExactPlane => Field::ExactPlane,
+        Open::Sharded => Field::PartSharded,
         Open::Trailer => Field::PartTrailer,
         Open::Done => Field::End,
     }
@@ -238,6 +254,27 @@ fn are_starts(starts: u32) -> bool
     1 <= starts && starts <= MAX_STARTS
 }
 
+fn is_version(version: u8) -> bool
+    ensures { result ≡ within 1 2 version }
+{
+    1 <= version && version <= 2
+}
+
+/// Shards stand in version 2 alone.
+#[inline(always)]
+fn is_mode(version: u8, mode: u8) -> bool
+    ensures { result ≡ within 0 (greatest_mode version) mode }
+{
+    u16::from(mode) <= u16::from(version) + 1
+}
+
+fn is_shift(shift: u8) -> bool
+    ensures value { result ≡ within 1 MAX_SHIFT shift }
+    ensures limits { result ≡ true → IsShift shift }
+{
+    1 <= shift && shift <= MAX_SHIFT
+}
+
 /// Whether the open field passes its test, by those of its bytes that are held.
 #[inline(always)]
 pub(crate) fn passes(field: Open, kept: &Kept, last: &[u8]) -> bool
@@ -249,18 +286,21 @@ pub(crate) fn passes(field: Open, kept: &Kept, last: &[u8]) -> bool
 {
     match field {
         Open::Magic => b"CLUBCARD".as_slice() == last,
-        Open::Version => number8(last) == 1,
+        Open::Version => is_version(number8(last)),
         Open::Kind => number8(last) <= 1,
         Open::Parent => is_parent_of(kept.kind, key_of(last)),
         Open::Ranges => number16(last) <= MAX_RANGES as u16,
         Open::RangeTo => kept.from <= number64(last),
         Open::Issuers => number32(last) <= MAX_BLOCKS,
         Open::RangeLog | Open::BlockIssuer => is_above(kept, last),
-        Open::BlockMode => number8(last) <= 2,
+        Open::BlockMode => is_mode(kept.version, number8(last)),
+        Open::BlockShift => is_shift(number8(last)),
+        Open::ShardMode => number8(last) <= 2,
         Open::BlockK => number8(last) <= MAX_PLANES,
         Open::ApproxStarts | Open::ExactStarts => are_starts(number32(last)),
         Open::ApproxPlane | Open::ExactPlane => is_last_padded(kept.starts, last),
         Open::Epoch | Open::RangeFrom | Open::ApproxSeed | Open::ExactSeed => true,
+        Open::Sharded => kept.version == 1 || kept.sharded,
         Open::Trailer | Open::Done => false,
     }
 }
@@ -287,6 +327,7 @@ fn keep_issuers(kept: &mut Kept, count: u32)
     kept.issuers = count;
     kept.left = count;
     kept.any = false;
+    kept.sharded = false;
 }
 
 /// Behind the last leaf of a block the block is whole.
@@ -299,17 +340,17 @@ fn keep_leaf(kept: &mut Kept)
         0 => {
             kept.left = kept.left.saturating_sub(1);
             kept.any = true;
+            kept.sharded = kept.sharded || kept.shift > 0;
         }
         _ => {}
     }
 }
 
-/// A block is one leaf.
+/// The leaf of a shard, or the one of a block.
 #[inline(always)]
-fn keep_mode(kept: &mut Kept, mode: u8)
-    ensures { kept.new ≡ kept_mode mode kept.old }
+fn keep_leaf_mode(kept: &mut Kept, mode: u8)
+    ensures { kept.new ≡ kept_leaf_mode mode kept.old }
 {
-    kept.leaves = 1;
     match mode {
         0 => {
             kept.mode = 0;
@@ -323,13 +364,37 @@ fn keep_mode(kept: &mut Kept, mode: u8)
     }
 }
 
+#[inline(always)]
+fn keep_mode(kept: &mut Kept, mode: u8)
+    ensures { kept.new ≡ kept_mode mode kept.old }
+{
+    kept.shift = 0;
+    kept.leaves = 1;
+    match mode {
+        0 => keep_leaf_mode(kept, 0),
+        1 => keep_leaf_mode(kept, 1),
+        2 => keep_leaf_mode(kept, 2),
+        _ => kept.mode = 3,
+    }
+}
+
+fn keep_shift(kept: &mut Kept, shift: u8)
+    requires { shift ≤ MAX_SHIFT }
+    ensures { kept.new ≡ kept_shift kept.old shift }
+{
+    kept.shift = shift;
+    kept.leaves = 1 << shift;
+}
+
 /// Keeps what the open field tells of those behind it.
 #[inline(always)]
 pub(crate) fn keep(kept: &mut Kept, field: Open, last: &[u8])
-    requires { length last.now ≡ tail_of field }
+    requires len { length last.now ≡ tail_of field }
+    requires limits { AreLimits field last.now }
     ensures { kept.new ≡ kept_after field kept.old last.now }
 {
     match field {
+        Open::Version => kept.version = number8(last),
         Open::Kind => kept.kind = number8(last),
         Open::Epoch => kept.epoch = number64(last),
         Open::Parent => kept.parent = key_of(last),
@@ -339,13 +404,15 @@ pub(crate) fn keep(kept: &mut Kept, field: Open, last: &[u8])
         Open::RangeTo => keep_range(kept, number64(last)),
         Open::Issuers => keep_issuers(kept, number32(last)),
         Open::BlockMode => keep_mode(kept, number8(last)),
+        Open::BlockShift => keep_shift(kept, number8(last)),
+        Open::ShardMode => keep_leaf_mode(kept, number8(last)),
         Open::BlockK => kept.planes = number8(last),
         Open::ApproxSeed | Open::ExactSeed => kept.seed = number8(last),
         Open::ApproxStarts | Open::ExactStarts => kept.starts = number32(last),
         Open::ApproxPlane => kept.planes = kept.planes.saturating_sub(1),
         Open::ExactPlane => keep_leaf(kept),
         Open::Trailer => kept.trailer = key_of(last),
-        Open::Magic | Open::Version | Open::Done => {}
+        Open::Magic | Open::Sharded | Open::Done => {}
     }
 }
 
@@ -363,7 +430,7 @@ fn at_block(left: u32) -> Open
     ensures { result ≡ open_block left }
 {
     match left {
-        0 => Open::Trailer,
+        0 => Open::Sharded,
         _ => Open::BlockIssuer,
     }
 }
@@ -374,7 +441,7 @@ fn at_leaf(leaves: u16, left: u32) -> Open
 {
     match leaves {
         0 => at_block(left),
-        _ => Open::BlockMode,
+        _ => Open::ShardMode,
     }
 }
 
@@ -385,7 +452,8 @@ fn at_mode(kept: &Kept) -> Open
     match kept.mode {
         0 => at_leaf(kept.leaves, kept.left),
         1 => at_leaf(kept.leaves, kept.left),
-        _ => Open::BlockK,
+        2 => Open::BlockK,
+        _ => Open::BlockShift,
     }
 }
 
@@ -425,13 +493,15 @@ pub(crate) fn next_of(field: Open, kept: &Kept) -> Open
         Open::RangeFrom => Open::RangeTo,
         Open::Issuers => at_block(kept.left),
         Open::BlockIssuer => Open::BlockMode,
-        Open::BlockMode => at_mode(kept),
+        Open::BlockMode | Open::ShardMode => at_mode(kept),
+        Open::BlockShift => Open::ShardMode,
         Open::BlockK => at_approx(kept.planes),
         Open::ApproxSeed => Open::ApproxStarts,
         Open::ApproxStarts | Open::ApproxPlane => at_plane(kept.planes),
         Open::ExactSeed => Open::ExactStarts,
         Open::ExactStarts => Open::ExactPlane,
         Open::ExactPlane => at_leaf(kept.leaves, kept.left),
+        Open::Sharded => Open::Trailer,
         Open::Trailer | Open::Done => Open::Done,
     }
 }

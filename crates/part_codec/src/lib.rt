@@ -22,3 +22,4 @@ pub use laws::{a_text_is_read_back, bytes_behind_change_nothing};
 pub use reader::PartReader;
 pub use scan::{PartNote, PartScan};
 pub use sealed::{Sealed, seal};
+pub use text::version_of;

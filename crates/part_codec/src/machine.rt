@@ -8,7 +8,8 @@ ghost use Rattle.part_codec.specs.declared.fields.TheConstants.{LEAST_BLOCK};
 ghost use Rattle.part_codec.specs.declared.machine.TheConstants.{MAX_PART};
 ghost use Rattle.part_codec.specs.PartLayout.{sealed};
 ghost use Rattle.part_codec.specs.Remaining.{Seen, nothing_seen};
-ghost use Rattle.part_codec.specs.Stepping.{in_front, skips as skips_of, tail_of, seen_after, open_after, AreStarts, AreLimits, name_of, still};
+ghost use Rattle.part_codec.specs.Stepping.{in_front, skips as skips_of, tail_of, kept_after, seen_after, open_after, settled};
+ghost use Rattle.part_codec.specs.Stepping.{AreStarts, AreLimits, name_of, still};
 
 use crate::encode::MAX_BLOCK;
 use crate::fields::{
@@ -50,7 +51,7 @@ pub(crate) struct Machine {
 }
 
 impl Machine {
-    ghost use Rattle.part_codec.specs.Scanning.{Opened, IsWhole, Tested, Stands, StandsFront, Stays, Moved};
+    ghost use Rattle.part_codec.specs.Scanning.{Opened, IsWhole, Tested, Stands, StandsFront, Stays, Passes, Moved};
     ghost use Rattle.part_codec.specs.Taking.{IsFront, IsPartial, Advances, Takes, Closes, Fails, FailsAtEnd};
 
     /// At the first field.
@@ -63,6 +64,7 @@ impl Machine {
         Machine {
             field: Open::Magic,
             kept: Kept {
+                version: 1,
                 kind: 0,
                 epoch: 0,
                 parent: zero,
@@ -70,7 +72,9 @@ impl Machine {
                 ranges_left: 0,
                 issuers: 0,
                 left: 0,
+                shift: 0,
                 leaves: 0,
+                sharded: false,
                 any: false,
                 key: zero,
                 from: 0,
@@ -116,7 +120,9 @@ impl Machine {
         ensures ok { (s : Seen) (b : List ℕ) → Opened self.old s b → IsWhole self.old last.now b → Tested self.old last.now b
             → Stands self.new (seen_after self.old.field self.old.kept s (drop self.old.at b)) b }
         ensures moved { (s : Seen) (b : List ℕ) → Opened self.old s b → IsWhole self.old last.now b → Tested self.old last.now b
-            → Moved true self.old self.new b }
+            → Passes self.old self.new b }
+        ensures kept { self.new.kept ≡ kept_after self.old.field self.old.kept last.now }
+        ensures at { self.new.at ≡ self.old.at + self.old.passed + length last.now }
         ensures next { self.new.field ≡ open_after self.old.field self.new.kept }
         ensures passed { self.new.passed ≡ 0 }
         ensures empty { self.new.filled ≡ 0 }
@@ -126,6 +132,45 @@ impl Machine {
         self.field = next_of(self.field, &self.kept);
         self.passed = 0;
         self.filled = 0;
+    }
+
+    /// Behind the last block: tests whether one is sharded, and opens the trailer.
+    fn pass_sharded(&mut self) -> Result<(), LayoutFault>
+        requires field { self.old.field ≡ Open.Sharded }
+        requires passed { self.old.passed ≡ 0 }
+        ensures ok { OnOk result ((s : Seen) (b : List ℕ) → Stands self.old s b → Stands self.new s b) }
+        ensures err { IfErr result (λ e. (s : Seen) (b x : List ℕ) → Stands self.old s b → sealed (b ++ x) 0 ≡ Err e) }
+        ensures next { OnOk result (self.new.field ≡ Open.Trailer) }
+        ensures kept { OnOk result (self.new.kept ≡ self.old.kept) }
+        ensures at { OnOk result (self.new.at ≡ self.old.at) }
+        ensures passed { OnOk result (self.new.passed ≡ 0) }
+        ensures empty { OnOk result (self.new.filled ≡ 0) }
+    {
+        let none: [u8; 0] = [];
+        if !passes(self.field, &self.kept, &none) {
+            return Err(self.fault(Why::Value));
+        }
+        self.open_next(&none);
+        Ok(())
+    }
+
+    /// Passes the field that has no byte, if that is open.
+    #[inline(always)]
+    fn settle(&mut self) -> Result<(), LayoutFault>
+        requires passed { self.old.passed ≡ 0 }
+        requires empty { self.old.filled ≡ 0 }
+        ensures ok { OnOk result ((s : Seen) (b : List ℕ) → Stands self.old s b → Stands self.new s b) }
+        ensures err { IfErr result (λ e. (s : Seen) (b x : List ℕ) → Stands self.old s b → sealed (b ++ x) 0 ≡ Err e) }
+        ensures next { OnOk result (self.new.field ≡ settled self.old.field) }
+        ensures kept { OnOk result (self.new.kept ≡ self.old.kept) }
+        ensures at { OnOk result (self.new.at ≡ self.old.at) }
+        ensures passed { OnOk result (self.new.passed ≡ 0) }
+        ensures empty { OnOk result (self.new.filled ≡ 0) }
+    {
+        match self.field {
+            Open::Sharded => self.pass_sharded(),
+            _ => Ok(()),
+        }
     }
 
     /// The open field is whole, and these of its bytes are held: tests it, and opens the next one.
@@ -138,7 +183,8 @@ impl Machine {
             → Stands self.new (seen_after self.old.field self.old.kept s (drop self.old.at b)) b) }
         ensures moved { OnOk result ((s : Seen) (b : List ℕ) → Opened self.old s b → IsWhole self.old last.now b → Moved true self.old self.new b) }
         ensures err { IfErr result (λ e. (s : Seen) (b x : List ℕ) → Opened self.old s b → IsWhole self.old last.now b → sealed (b ++ x) 0 ≡ Err e) }
-        ensures next { OnOk result (self.new.field ≡ open_after self.old.field self.new.kept) }
+        ensures next { OnOk result (self.new.field ≡ settled (open_after self.old.field self.new.kept)) }
+        ensures partial { OnOk result (IsPartial self.new) }
         ensures passed { OnOk result (self.new.passed ≡ 0) }
         ensures empty { OnOk result (self.new.filled ≡ 0) }
     {
@@ -146,7 +192,7 @@ impl Machine {
             return Err(self.fault(Why::Value));
         }
         self.open_next(last);
-        Ok(())
+        self.settle()
     }
 
     /// Holds bytes of the open field.
@@ -172,6 +218,7 @@ impl Machine {
             → Stands self.new (seen_after self.old.field self.old.kept s (drop self.old.at (b ++ rest.now))) (b ++ rest.now)) }
         ensures moved { OnOk result ((s : Seen) (b : List ℕ) → Stands self.old s b → Moved true self.old self.new (b ++ rest.now)) }
         ensures err { IfErr result (λ e. (s : Seen) (b x : List ℕ) → Stands self.old s b → sealed (b ++ rest.now ++ x) 0 ≡ Err e) }
+        ensures partial { OnOk result (IsPartial self.new) }
         ensures empty { OnOk result (self.new.filled ≡ 0) }
     {
         if self.filled == 0 {
@@ -271,7 +318,7 @@ impl Machine {
         requires len { length piece.now ≡ LEAST_BLOCK }
         ensures ok { OnOk result ((s : Seen) (b : List ℕ) → Stands self.old s b → StandsFront self.new (b ++ piece.now)) }
         ensures err { IfErr result (Fails self.old piece.now) }
-        ensures empty { OnOk result (self.new.filled ≡ 0) }
+        ensures partial { OnOk result (IsPartial self.new) }
     {
         self.complete(&piece[..32])?;
         self.complete(&piece[32..])?;

@@ -1,25 +1,29 @@
 //! What a part that is read in pieces is collected into.
 
-ghost use Rattle.std.specs.Prelude.{◌≡◌, ◌<◌, ◌+◌, ◌++◌, ◌/◌, [], length, map, IfOk, OnOk, true};
+ghost use Rattle.std.specs.Prelude.{◌≡◌, ◌<◌, ◌≤◌, ◌+◌, ◌++◌, ◌/◌, [], length, map, IfOk, OnOk, true};
 ghost use Rattle.std.specs.Int.{w64, from_be_bytes};
 ghost use Rattle.std.specs.Simd.{first_chunks};
-ghost use Rattle.part_codec.specs.Collecting.{nothing_piled, spelled_plane, with_words, with_leaf, stage_by, cleared, pile_mode, pile_plane, pile_exact};
+ghost use Rattle.part_codec.specs.Collecting.{nothing_piled, spelled_plane, with_words, with_body, with_shard, with_leaf, IsLast};
+ghost use Rattle.part_codec.specs.Collecting.{stage_by, cleared, pile_mode, pile_plane, pile_exact};
 ghost use Rattle.part_codec.specs.Collecting.{pile_after, pile_when, pile_passed, CanCollect};
 ghost use Rattle.part_codec.specs.ReadWords.{AreStageWords};
 
 use crate::fields::{Kept, LEAST_BLOCK, Open};
-use card_core::{Block, Body, Leaf, Mixed, Stage};
+use card_core::{Block, Body, Leaf, Mixed, Sharded, Stage};
 use ident_core::{RANGE_BYTES, Range};
 use octets_core::NoMemory;
 use ribbon_core::Planes;
 use std::alloc::Global;
 use std::marker::Model;
+use std::mem;
 
-/// The ranges and blocks that came whole, and of the open block its stages.
+/// The ranges and blocks that came whole, and of the open block its shards and stages.
 #[derive(Drop)]
 pub(crate) struct Pile {
     ranges: Vec<Range>,
     blocks: Vec<Block>,
+    /// The leaves of the open block, where it is sharded.
+    leaves: Vec<Leaf>,
     approx: Option<Stage>,
     /// The words of the open stage, and of how many planes they are.
     words: Vec<u64>,
@@ -36,6 +40,7 @@ impl Model for Pile {
     ghost view = { λ p. record {
       ranges = p.ranges.items;
       blocks = p.blocks.items;
+      leaves = p.leaves.items;
       approx = p.approx;
       words = p.words.items;
       done = p.done;
@@ -61,6 +66,7 @@ impl Pile {
         Pile {
             ranges: Vec::new(alloc),
             blocks: Vec::new(alloc),
+            leaves: Vec::new(alloc),
             approx: None,
             words: Vec::new(alloc),
             done: 0,
@@ -115,14 +121,40 @@ impl Pile {
         })
     }
 
-    fn push_leaf(&mut self, kept: &Kept, leaf: Leaf) -> Result<(), NoMemory>
-        ensures { OnOk result (self.new ≡ with_leaf kept.now leaf self.old) }
+    fn push_body(&mut self, kept: &Kept, body: Body) -> Result<(), NoMemory>
+        ensures { OnOk result (self.new ≡ with_body kept.now body self.old) }
     {
         self.blocks.push(Block {
             issuer: kept.key,
-            body: Body::from(leaf),
+            body,
         })?;
         Ok(())
+    }
+
+    /// The leaf of a shard. With the last one the block is whole.
+    fn push_shard(&mut self, alloc: Global, kept: &Kept, leaf: Leaf) -> Result<(), NoMemory>
+        requires some { 1 ≤ kept.now.shift }
+        requires last { IsLast kept.now self.old }
+        ensures { OnOk result (self.new ≡ with_shard kept.now.leaves kept.now leaf self.old) }
+    {
+        self.leaves.push(leaf)?;
+        match kept.leaves {
+            0 => {
+                let leaves = mem::replace(&mut self.leaves, Vec::new(alloc));
+                self.push_body(kept, Body::Sharded(Sharded::new(kept.shift, leaves)))
+            }
+            _ => Ok(()),
+        }
+    }
+
+    fn push_leaf(&mut self, alloc: Global, kept: &Kept, leaf: Leaf) -> Result<(), NoMemory>
+        requires { IsLast kept.now self.old }
+        ensures { OnOk result (self.new ≡ with_leaf kept.now leaf self.old) }
+    {
+        match kept.shift {
+            0 => self.push_body(kept, Body::from(leaf)),
+            _ => self.push_shard(alloc, kept, leaf),
+        }
     }
 
     fn approx_plane(&mut self, alloc: Global, kept: &Kept, last: &[u8]) -> Result<(), NoMemory>
@@ -139,20 +171,22 @@ impl Pile {
     fn exact_plane(&mut self, alloc: Global, kept: &Kept, last: &[u8]) -> Result<(), NoMemory>
         requires planes { AreStageWords kept.now.starts (self.old.done + 1) (with_words (record self.old { plane = self.old.plane ++ last.now })).words }
         requires one { self.old.done ≡ 0 }
+        requires last { IsLast kept.now self.old }
         ensures { OnOk result (self.new ≡ pile_exact kept.now (record self.old { plane = self.old.plane ++ last.now })) }
     {
         self.close_plane(last)?;
         let exact = self.stage(alloc, kept)?;
         let approx = self.approx.take();
-        self.push_leaf(kept, Leaf::Mixed(Mixed::new(approx, exact)))
+        self.push_leaf(alloc, kept, Leaf::Mixed(Mixed::new(approx, exact)))
     }
 
-    fn plain(&mut self, kept: &Kept) -> Result<(), NoMemory>
+    fn plain(&mut self, alloc: Global, kept: &Kept) -> Result<(), NoMemory>
+        requires { IsLast kept.now self.old }
         ensures { OnOk result (self.new ≡ pile_mode kept.now.mode kept.now self.old) }
     {
         match kept.mode {
-            0 => self.push_leaf(kept, Leaf::Clean),
-            1 => self.push_leaf(kept, Leaf::Every),
+            0 => self.push_leaf(alloc, kept, Leaf::Clean),
+            1 => self.push_leaf(alloc, kept, Leaf::Every),
             _ => Ok(()),
         }
     }
@@ -174,6 +208,15 @@ impl Pile {
         self.blocks.clear();
         self.blocks
             .reserve((count as usize).min(bytes / LEAST_BLOCK))?;
+        Ok(())
+    }
+
+    /// Room for so many leaves, but for no more than so many bytes can hold.
+    fn clear_leaves(&mut self, count: u16, bytes: usize) -> Result<(), NoMemory>
+        ensures { OnOk result (self.new ≡ record self.old { leaves = [] }) }
+    {
+        self.leaves.clear();
+        self.leaves.reserve((count as usize).min(bytes))?;
         Ok(())
     }
 
@@ -205,7 +248,8 @@ impl Pile {
                 to: kept.to,
             })?,
             Open::Issuers => self.clear_blocks(kept.issuers, bytes)?,
-            Open::BlockMode => self.plain(kept)?,
+            Open::BlockMode | Open::ShardMode => self.plain(alloc, kept)?,
+            Open::BlockShift => self.clear_leaves(kept.leaves, bytes)?,
             Open::BlockK => self.approx = None,
             Open::ApproxStarts | Open::ExactStarts => self.clear_stage(),
             Open::ApproxPlane => self.approx_plane(alloc, kept, piece)?,

@@ -5,13 +5,14 @@ ghost use Rattle.std.specs.Int.{w8, to_be_bytes};
 ghost use Rattle.equation_core.specs.Sizes.{words_for as words_of};
 ghost use Rattle.ident_core.specs.RangeText.{range_text, RangeFits};
 ghost use Rattle.part_codec.specs.Output.{Wrote};
+ghost use Rattle.part_codec.specs.PartLayout.{is_sharded as is_sharded_body, some_sharded as some_sharded_of};
 ghost use Rattle.part_codec.specs.PartText.{kind_number, head_text, mode_of, planes_text, stage_text, width_of, approx_text};
-ghost use Rattle.part_codec.specs.PartText.{mixed_text, body_text, block_text, unsealed_text};
+ghost use Rattle.part_codec.specs.PartText.{mixed_text, leaf_mode, leaf_text, shard_text, sharded_text, body_text, block_text, version_of, unsealed_text};
 ghost use Rattle.part_codec.specs.PlaneBytes.{bytes_of_columns};
-ghost use Rattle.part_codec.specs.Fitting.{PlanesFit, StageFits, FirstFits, MixedFits, BodyFits, BlockFits, FitsHead, FitsPart};
+ghost use Rattle.part_codec.specs.Fitting.{PlanesFit, StageFits, FirstFits, MixedFits, LeafFits, ShardsFit, BodyFits, BlockFits, FitsHead, FitsPart};
 
 use crate::output::Output;
-use card_core::{Block, Body, Mixed, Part, Stage};
+use card_core::{Block, Body, Leaf, Mixed, Part, Sharded, Stage};
 use equation_core::words_for;
 use ident_core::{Head, Kind, Range};
 use octets_core::Steps;
@@ -37,6 +38,43 @@ fn mode_byte(body: &Body) -> u8
         Body::Clean => 0,
         Body::Every => 1,
         Body::Mixed(_) => 2,
+        Body::Sharded(_) => 3,
+    }
+}
+
+// The number of a shard's mode in its layout.
+fn leaf_mode_byte(leaf: &Leaf) -> u8
+    ensures { result ≡ leaf_mode leaf.now }
+{
+    match leaf {
+        Leaf::Clean => 0,
+        Leaf::Every => 1,
+        Leaf::Mixed(_) => 2,
+    }
+}
+
+fn is_sharded(body: &Body) -> bool
+    ensures { result ≡ is_sharded_body body.now }
+{
+    match body {
+        Body::Sharded(_) => true,
+        _ => false,
+    }
+}
+
+fn some_sharded(blocks: &[Block]) -> bool
+    ensures { result ≡ some_sharded_of blocks.now }
+{
+    blocks.iter().any(|block| is_sharded(&block.body))
+}
+
+/// The version in which a part with these blocks is written: 2 exactly where a block is sharded.
+pub fn version_of(blocks: &[Block]) -> u8
+    ensures { result ≡ version_of blocks.now }
+{
+    match some_sharded(blocks) {
+        true => 2,
+        false => 1,
     }
 }
 
@@ -153,6 +191,45 @@ fn put_mixed<O: Output>(out: &mut O, mixed: &Mixed) -> Result<(), O::Fault>
     Ok(())
 }
 
+fn put_leaf<O: Output>(out: &mut O, leaf: &Leaf) -> Result<(), O::Fault>
+    ensures text { OnOk result (Wrote O.given out.old out.new (leaf_text leaf.now)) }
+    ensures fits { OnOk result (LeafFits leaf.now) }
+{
+    match leaf {
+        Leaf::Clean | Leaf::Every => Ok(()),
+        Leaf::Mixed(mixed) => put_mixed(out, mixed),
+    }
+}
+
+fn put_shard<O: Output>(out: &mut O, leaf: &Leaf) -> Result<(), O::Fault>
+    ensures text { OnOk result (Wrote O.given out.old out.new (shard_text leaf.now)) }
+    ensures fits { OnOk result (LeafFits leaf.now) }
+{
+    put_u8(out, leaf_mode_byte(leaf))?;
+    put_leaf(out, leaf)?;
+    Ok(())
+}
+
+fn put_shards<O: Output>(out: &mut O, leaves: &[Leaf]) -> Result<(), O::Fault>
+    ensures text { OnOk result (Wrote O.given out.old out.new (flat_map shard_text leaves.now)) }
+    ensures fits { OnOk result (All LeafFits leaves.now) }
+{
+    for leaf in leaves {
+        put_shard(out, leaf)?;
+    }
+    Ok(())
+}
+
+#[tactic(auto, unfolding(crate::specs::PartText::sharded_text))]
+fn put_sharded<O: Output>(out: &mut O, sharded: &Sharded) -> Result<(), O::Fault>
+    ensures text { OnOk result (Wrote O.given out.old out.new (sharded_text sharded.now)) }
+    ensures fits { OnOk result (ShardsFit sharded.now) }
+{
+    put_u8(out, sharded.shift())?;
+    put_shards(out, sharded.leaves())?;
+    Ok(())
+}
+
 fn put_body<O: Output>(out: &mut O, body: &Body) -> Result<(), O::Fault>
     ensures text { OnOk result (Wrote O.given out.old out.new (body_text body.now)) }
     ensures fits { OnOk result (BodyFits body.now) }
@@ -160,6 +237,7 @@ fn put_body<O: Output>(out: &mut O, body: &Body) -> Result<(), O::Fault>
     match body {
         Body::Clean | Body::Every => Ok(()),
         Body::Mixed(mixed) => put_mixed(out, mixed),
+        Body::Sharded(sharded) => put_sharded(out, sharded),
     }
 }
 
@@ -189,8 +267,8 @@ pub(crate) fn put_unsealed<O: Output>(out: &mut O, part: &Part) -> Result<(), O:
     ensures text { OnOk result (Wrote O.given out.old out.new (unsealed_text part.now)) }
     ensures fits { OnOk result (FitsPart part.now) }
 {
-    put_head(out, 1, part.head())?;
     let blocks = part.blocks();
+    put_head(out, version_of(blocks), part.head())?;
     out.put(&(blocks.len() as u32).to_be_bytes())?;
     put_blocks(out, blocks)?;
     Ok(())

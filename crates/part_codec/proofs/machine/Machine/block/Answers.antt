@@ -6,7 +6,7 @@ use Rattle.part_codec.specs.declared.fields.Open.{Open}
 use Rattle.part_codec.specs.declared.fields.Open.TheVariants as opens
 use Rattle.part_codec.specs.declared.machine.Machine.{Machine}
 use Rattle.part_codec.specs.Remaining.{Seen}
-use Rattle.part_codec.specs.Stepping.{in_front, skips, tail_of, open_after}
+use Rattle.part_codec.specs.Stepping.{in_front, skips, tail_of, open_after, settled}
 use Rattle.part_codec.specs.Scanning.{Opened, IsWhole, Stands, StandsFront}
 use Rattle.part_codec.proofs.MachineStands.{bytes-front, bytes-behind, Opened-more, whole-alone, none-passed, piece-fails, rest-piece-fails, front-moved}
 use Rattle.part_codec.proofs.machine.Machine.block.Goals as goal
@@ -36,7 +36,7 @@ pub complete-requires-2 : goal.complete-requires-2
 complete-requires-2 c =
     let n = c.complete.new.self in
     let e = c.in_ok-complete.ensures in
-    let is : n.field ≡ opens.BlockMode = e.next ∙ ap (λ (o : Open). open_after o n.kept) c.requires.field in
+    let is : n.field ≡ opens.BlockMode = e.next ∙ ap (λ (o : Open). settled (open_after o n.kept)) c.requires.field in
     let tail : tail_of n.field ≡ 1 = ap tail_of is in
     record {
       front = ap in_front is;
@@ -68,7 +68,7 @@ returns-in_err-complete-2-clause-err c =
     let r : List ℕ = take (length piece - 32) (drop 32 piece) in
     let tail : tail_of m.field ≡ 32 = ap tail_of c.requires.field in
     let e = c.in_ok-complete.ensures in
-    let is : n.field ≡ opens.BlockMode = e.next ∙ ap (λ (o : Open). open_after o n.kept) c.requires.field in
+    let is : n.field ≡ opens.BlockMode = e.next ∙ ap (λ (o : Open). settled (open_after o n.kept)) c.requires.field in
     let one : tail_of n.field ≡ 1 = ap tail_of is in
     rw (p.1, p.2) (λ s b x st.
     let k = comes m s b t st (bytes-front 32 piece (λ i. omega (arith, c.type_inv.piece i))) (none-passed m opens.BlockIssuer c.requires.field refl) c.requires.empty
@@ -87,7 +87,7 @@ returns-clause-ok c = λ s b st.
     let r : List ℕ = take (length piece - 32) (drop 32 piece) in
     let tail : tail_of m.field ≡ 32 = ap tail_of c.requires.field in
     let e = c.in_ok-complete.ensures in
-    let is : n.field ≡ opens.BlockMode = e.next ∙ ap (λ (o : Open). open_after o n.kept) c.requires.field in
+    let is : n.field ≡ opens.BlockMode = e.next ∙ ap (λ (o : Open). settled (open_after o n.kept)) c.requires.field in
     let one : tail_of n.field ≡ 1 = ap tail_of is in
     let k = comes m s b t st (bytes-front 32 piece (λ i. omega (arith, c.type_inv.piece i))) (none-passed m opens.BlockIssuer c.requires.field refl) c.requires.empty
     (omega (arith, tail, c.requires.len, length-take 32 piece)) in

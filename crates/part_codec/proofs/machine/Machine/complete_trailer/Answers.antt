@@ -1,4 +1,4 @@
-use Rattle.std.proofs.Common.{◌≡◌, drop, take, Err, sym, ap, subst, ◌∙◌}
+use Rattle.std.proofs.Common.{◌≡◌, drop, take, Err, refl, sym, ap, subst, ◌∙◌}
 use Rattle.sha2.specs.Sha256.{sha256}
 use Rattle.octets_core.specs.Reading.{fault_at}
 use Rattle.octets_core.specs.declared.fault.LayoutFault.{LayoutFault}
@@ -6,8 +6,8 @@ use Rattle.part_codec.specs.declared.fields.Open.{Open}
 use Rattle.part_codec.specs.declared.fields.Open.TheVariants as opens
 use Rattle.part_codec.specs.Remaining.{Seen}
 use Rattle.part_codec.specs.Scanning.{Stands}
-use Rattle.part_codec.specs.Stepping.{name_of, wrong_of, passes_last, seen_after, open_after, AreLimits}
-use Rattle.part_codec.proofs.MachineStands.{field-fails}
+use Rattle.part_codec.specs.Stepping.{name_of, wrong_of, passes_last, seen_after, open_after, settled, AreLimits}
+use Rattle.part_codec.proofs.MachineStands.{field-fails, moved-of}
 use Rattle.part_codec.proofs.machine.Machine.complete_trailer.Goals as goal
 
 pub open_next-requires : goal.open_next-requires
@@ -37,8 +37,11 @@ returns-clause-ok c = λ s b o w h.
 pub returns-clause-moved : goal.returns-clause-moved
 returns-clause-moved c = λ s b o w h.
     let m = c.args.self.now in
-    c.open_next.ensures.moved s b o w
-    (ap (λ (q : Open). passes_last q m.kept (sha256 (take m.at b)) c.args.last.now) c.requires.last ∙ sym (c.is_digest.ensures _ h) ∙ c.if-not-is_digest.false)
+    let n = c.open_next.new.self in
+    let done : n.field ≡ opens.Done = c.open_next.ensures.next ∙ ap (λ (q : Open). open_after q n.kept) c.requires.last in
+    let p = c.open_next.ensures.moved s b o w
+    (ap (λ (q : Open). passes_last q m.kept (sha256 (take m.at b)) c.args.last.now) c.requires.last ∙ sym (c.is_digest.ensures _ h) ∙ c.if-not-is_digest.false) in
+    moved-of m n n b p c.open_next.ensures.next (done ∙ sym (ap settled done)) refl refl
 
 pub returns-clause-done : goal.returns-clause-done
 returns-clause-done c = c.open_next.ensures.next ∙ ap (λ (q : Open). open_after q c.open_next.new.self.kept) c.requires.last

@@ -43,7 +43,7 @@ returns-clause-ok c =
       moved = λ s b st.
           subst (λ (t : List ℕ). Moved true m q t) (joins b piece n (k - n) k whole)
           (moved-from true m l q ((b ++ take n piece) ++ take (k - n) (drop n piece)) h.stays.field h.stays.kept h.stays.at (e.moved s (b ++ take n piece) (h.stands s b st)));
-      partial = search rules;
+      partial = e.partial;
       count = search rules;
       progress = search rules;
     }
