@@ -3,3 +3,4 @@ pub mod OutcomesInOrder
 pub mod OutcomesInPlace
 pub mod FirstRefused
 pub mod Admitted
+pub mod Existing

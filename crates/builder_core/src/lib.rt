@@ -3,6 +3,7 @@
 
 mod building;
 mod claimed;
+mod existence;
 mod fault;
 mod format;
 mod gate;
@@ -11,6 +12,7 @@ mod outcomes;
 
 pub use building::build_part;
 pub use claimed::build_part_claimed;
+pub use existence::blocks_or_a_refusal;
 pub use fault::BuildFault;
 pub use format::Format;
 pub use gate::{Gate, Open};
