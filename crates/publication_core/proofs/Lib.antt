@@ -5,6 +5,7 @@ pub mod Unique
 pub mod Fronts
 pub mod Publications
 pub mod Publishing
+pub mod Existing
 pub mod Shown
 pub mod Verdicts
 pub mod Facts

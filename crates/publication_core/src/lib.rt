@@ -2,6 +2,7 @@
 #![tactic(auto)]
 
 mod chain_laws;
+mod existence;
 mod fault;
 mod laws;
 mod ledger_laws;
@@ -12,6 +13,7 @@ mod verdict_laws;
 
 pub use builder_core::{Gate, Open};
 pub use chain_laws::parts_are_chains;
+pub use existence::a_publication_or_a_refusal;
 pub use fault::PublishFault;
 pub use laws::{histories_are_published, publications_are_unique, what_can_be_is_published};
 pub use ledger_laws::ledgers_are_read_back;
