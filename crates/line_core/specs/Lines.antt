@@ -1,6 +1,6 @@
 -- The lines that the program prints (docs/FORMATS.md, "Lines and statuses"). Numbers are decimal, keys lower
 -- hexadecimal.
-use Rattle.std.specs.Prelude.{ℕ, List, [], ◌∷◌, ◌++◌, codes, decimal, flat_map, Option, Some, None}
+use Rattle.std.specs.Prelude.{ℕ, ◌+◌, List, [], ◌∷◌, ◌++◌, codes, decimal, flat_map, Option, Some, None}
 use Rattle.hex.specs.Hex.{encode_lower}
 use Rattle.octets_core.specs.FieldNames.{name_of}
 use Rattle.octets_core.specs.declared.fault.Why.{Why}
@@ -12,14 +12,14 @@ use Rattle.ident_core.specs.declared.range.Range.{Range}
 use Rattle.ident_core.specs.HeadFields.{HeadFields}
 use Rattle.card_core.specs.declared.block.Block.{Block}
 use Rattle.card_core.specs.declared.block.Body.{Body}
+use Rattle.card_core.specs.declared.block.Body.TheVariants as bodies
 use Rattle.card_core.specs.declared.leaf.Leaf.{Leaf}
 use Rattle.card_core.specs.declared.leaf.Leaf.TheVariants as leaves
-use Rattle.card_core.specs.Filter.{leaf_of}
 use Rattle.card_core.specs.declared.stage.Stage.{Stage}
 use Rattle.card_core.specs.MixedFields.{MixedFields}
 use Rattle.part_codec.specs.SealedFields.{SealedFields}
 use Rattle.part_codec.specs.Noting.{note_of}
-use Rattle.part_codec.specs.PartText.{width_of}
+use Rattle.part_codec.specs.PartText.{width_of, version_of}
 use Rattle.part_codec.specs.declared.scan.PartNote.{PartNote}
 use Rattle.crl_core.specs.declared.crl.CrlFault.{CrlFault}
 use Rattle.crl_core.specs.declared.crl.CrlFault.TheVariants as crl_faults
@@ -64,10 +64,10 @@ note_line n =
 abbrev pub check_line : SealedFields → ℕ → List ℕ
 check_line s size = note_line (note_of s size)
 
--- part KIND version 1 epoch E parent KEY
-abbrev pub head_line : HeadFields → List ℕ
-head_line h =
-    codes "part " ++ kind_word h.kind ++ codes " version 1 epoch " ++ decimal h.epoch
+-- part KIND version V epoch E parent KEY
+abbrev pub head_line : ℕ → HeadFields → List ℕ
+head_line version h =
+    codes "part " ++ kind_word h.kind ++ codes " version " ++ decimal version ++ codes " epoch " ++ decimal h.epoch
     ++ codes " parent " ++ encode_lower h.parent ++ 10 ∷ []
 
 -- range LOG FROM TO
@@ -94,22 +94,45 @@ leaf_words leaves.Clean = codes "none"
 leaf_words leaves.Every = codes "all"
 leaf_words (leaves.Mixed m) = mixed_words m
 
+-- one leaf, or sharded S, with the shift
 abbrev pub body_words : Body → List ℕ
-body_words body = leaf_words (leaf_of body)
+body_words bodies.Clean = codes "none"
+body_words bodies.Every = codes "all"
+body_words (bodies.Mixed m) = mixed_words m
+body_words (bodies.Sharded s) = codes "sharded " ++ decimal s.shift
 
 -- issuer KEY WORDS
 abbrev pub block_line : Block → List ℕ
 block_line b = codes "issuer " ++ encode_lower b.issuer ++ 32 ∷ [] ++ body_words b.body ++ 10 ∷ []
 
+-- shard I WORDS
+abbrev pub shard_line : ℕ → Leaf → List ℕ
+shard_line place l = codes "shard " ++ decimal place ++ 32 ∷ [] ++ leaf_words l ++ 10 ∷ []
+
+-- a line for each shard, from a place on
+abbrev pub shard_lines : ℕ → List Leaf → List ℕ
+shard_lines place [] = []
+shard_lines place (l ∷ leaves) = shard_line place l ++ shard_lines (place + 1) leaves
+
+-- the lines of a block's shards, if it is sharded
+abbrev pub body_lines : Body → List ℕ
+body_lines bodies.Clean = []
+body_lines bodies.Every = []
+body_lines (bodies.Mixed m) = []
+body_lines (bodies.Sharded s) = shard_lines 0 s.leaves
+
+abbrev pub block_lines : Block → List ℕ
+block_lines b = block_line b ++ body_lines b.body
+
 -- trailer KEY
 abbrev pub trailer_line : List ℕ → List ℕ
 trailer_line trailer = codes "trailer " ++ encode_lower trailer ++ 10 ∷ []
 
--- the head, the ranges, the blocks and the trailer, a line each
+-- the head, the ranges, the blocks with their shards, and the trailer, a line each
 abbrev pub show_text : SealedFields → List ℕ
 show_text s =
-    head_line s.part.head ++ flat_map range_line s.part.head.ranges
-    ++ flat_map block_line s.part.blocks ++ trailer_line s.trailer
+    head_line (version_of s.part.blocks) s.part.head ++ flat_map range_line s.part.head.ranges
+    ++ flat_map block_lines s.part.blocks ++ trailer_line s.trailer
 
 -- store parts N epoch E
 abbrev pub store_line : ℕ → ℕ → List ℕ

@@ -3,12 +3,12 @@
 ghost use Rattle.std.specs.Prelude.{◌≡◌, ◌+◌, ◌*◌, ◌≤◌, [], ◌∷◌, ◌++◌, length, codes, decimal};
 ghost use Rattle.hex.specs.Hex.{encode_lower};
 ghost use Rattle.part_codec.specs.PartText.{width_of};
-ghost use Rattle.line_core.specs.Lines.{stage_words, approx_words, mixed_words, body_words, note_line, report_line};
-ghost use Rattle.line_core.specs.Lines.{store_line, sample_line, gather_line, head_line, range_line, block_line, trailer_line};
+ghost use Rattle.line_core.specs.Lines.{stage_words, approx_words, mixed_words, leaf_words, body_words, note_line, report_line};
+ghost use Rattle.line_core.specs.Lines.{store_line, sample_line, gather_line, head_line, range_line, block_line, shard_line, trailer_line};
 ghost use Rattle.line_core.specs.Lines.{seeds_line};
 
 use crate::words::kind_text;
-use card_core::{Block, Body, Mixed, Stage};
+use card_core::{Block, Body, Leaf, Mixed, Stage};
 use ident_core::{Head, Range};
 use octets_core::Key32;
 use part_codec::PartNote;
@@ -123,6 +123,18 @@ impl Line {
         self.push_stage(mixed.exact());
     }
 
+    fn push_leaf(&mut self, leaf: &Leaf)
+        requires { length self.old + 125 ≤ 320 }
+        ensures value { self.new ≡ self.old ++ leaf_words leaf.now }
+        ensures len { length self.new ≤ length self.old + 125 }
+    {
+        match leaf {
+            Leaf::Clean => self.push(b"none"),
+            Leaf::Every => self.push(b"all"),
+            Leaf::Mixed(mixed) => self.push_mixed(mixed),
+        }
+    }
+
     fn push_body(&mut self, body: &Body)
         requires { length self.old + 125 ≤ 320 }
         ensures value { self.new ≡ self.old ++ body_words body.now }
@@ -132,6 +144,7 @@ impl Line {
             Body::Clean => self.push(b"none"),
             Body::Every => self.push(b"all"),
             Body::Mixed(mixed) => self.push_mixed(mixed),
+            Body::Sharded(sharded) => self.push_count(b"sharded ", sharded.shift() as u64),
         }
     }
 
@@ -225,15 +238,15 @@ pub fn seeds_line(issuer: &Key32, stage: u8) -> Line
     line
 }
 
-/// `part KIND version 1 epoch E parent KEY`
-pub(crate) fn head_shown(head: &Head) -> Line
-    ensures { result ≡ head_line head.now }
+/// `part KIND version V epoch E parent KEY`
+pub(crate) fn head_shown(version: u8, head: &Head) -> Line
+    ensures { result ≡ head_line version head.now }
 {
     let mut line = Line::new();
     line.push(b"part ");
     line.push(kind_text(head.kind()));
-    line.push(b" version 1 epoch ");
-    line.push_number(head.epoch());
+    line.push_count(b" version ", version as u64);
+    line.push_count(b" epoch ", head.epoch());
     line.push(b" parent ");
     line.push_key(&head.parent());
     line.push(b"\n");
@@ -253,7 +266,7 @@ pub(crate) fn range_shown(range: &Range) -> Line
     line
 }
 
-/// `issuer KEY none`, `all`, or `mixed k K approx SEED STARTS exact SEED STARTS`
+/// `issuer KEY none`, `all`, `mixed k K approx SEED STARTS exact SEED STARTS`, or `sharded S`
 pub(crate) fn block_shown(block: &Block) -> Line
     ensures { result ≡ block_line block.now }
 {
@@ -262,6 +275,18 @@ pub(crate) fn block_shown(block: &Block) -> Line
     line.push_key(&block.issuer);
     line.push(b" ");
     line.push_body(&block.body);
+    line.push(b"\n");
+    line
+}
+
+/// `shard I none`, `all`, or `mixed k K approx SEED STARTS exact SEED STARTS`
+pub(crate) fn shard_shown(place: usize, leaf: &Leaf) -> Line
+    ensures { result ≡ shard_line place leaf.now }
+{
+    let mut line = Line::new();
+    line.push_count(b"shard ", place as u64);
+    line.push(b" ");
+    line.push_leaf(leaf);
     line.push(b"\n");
     line
 }
