@@ -1,6 +1,6 @@
 -- A leaf and a block that the definitions allow fit the fields of a part's layout.
-use Rattle.std.proofs.Common.{◌≡◌, ℕ, suc, ◌+◌, ◌-◌, ◌/◌, ◌%◌, ◌^◌, ◌<◌, ◌≤◌, Bool, true, false, not, cond, List, [], ◌∷◌, length, map, get_or, Option, Some, None, sym, ap, ◌∙◌, arith}
-use Rattle.std.specs.Prelude.{bit_and}
+use Rattle.std.proofs.Common.{◌≡◌, ℕ, zero, suc, ◌+◌, ◌*◌, ◌-◌, ◌/◌, ◌%◌, ◌^◌, ◌<◌, ◌≤◌, Bool, true, false, not, cond, List, [], ◌∷◌, length, map, get_or, Option, Some, None, sym, ap, ◌∙◌, subst, arith}
+use Rattle.std.specs.Prelude.{bit_and, nat_le, ◌==◌}
 use Rattle.std.specs.List.{All, filter}
 use Rattle.std.proofs.lemmas.Nat.{div-mul-add, mod-pow-add, mod_below, pow_pos}
 use Rattle.std.proofs.Math.Pow.{mod-mod-pow}
@@ -9,6 +9,7 @@ use Rattle.std.proofs.lemmas.List.Sums.{count_by-le-length, length-filter}
 use Rattle.ident_core.specs.declared.identity.Identity.{Identity}
 use Rattle.equation_core.specs.Rows.{IsRow, Rows, sha256_row}
 use Rattle.equation_core.specs.RowLaws.{sha256_row-is}
+use Rattle.equation_core.specs.Shards.{shard}
 use Rattle.equation_core.specs.Sizes.{columns_for, starts_for}
 use Rattle.ribbon_core.specs.Equations.{Equation, Least, SolvesAll, parity, sum_of}
 use Rattle.ribbon_core.specs.Rows.{equation_with}
@@ -17,11 +18,18 @@ use Rattle.ribbon_core.proofs.Window.{parity_mod}
 use Rattle.card_core.specs.declared.stage.Stage.{Stage}
 use Rattle.card_core.specs.declared.block.Block.{Block}
 use Rattle.card_core.specs.declared.leaf.Leaf.{Leaf}
-use Rattle.card_core.specs.declared.leaf.Leaf.TheVariants.{Clean, Every, Mixed}
+use Rattle.card_core.specs.declared.leaf.Leaf.TheVariants as leafs
+use Rattle.card_core.specs.declared.block.Body.{Body}
+use Rattle.card_core.specs.declared.block.Body.TheVariants as bodies
 use Rattle.card_core.specs.MixedFields.{MixedFields}
 use Rattle.card_core.specs.Leaf.{IsStage, approx_equations, exact_equations, passes, IsApprox, false_positives, IsLeaf, IsMixed, flagged}
-use Rattle.card_core.specs.Filter.{IsBlock, leaf_of}
-use Rattle.part_codec.specs.Fitting.{StageFits, FirstFits, MixedFits, LeafFits, BlockFits}
+use Rattle.card_core.specs.ShardedFields.{ShardedFields}
+use Rattle.card_core.specs.Filter.{cut, filter_of, greatest_shift, shift_for, in_shard, IsFilter}
+use Rattle.part_codec.specs.Fitting.{StageFits, FirstFits, MixedFits, LeafFits, ShardsFit, BodyFits, BlockFits}
+use Rattle.universe_core.specs.Groups.{GroupFields}
+use Rattle.builder_core.specs.declared.format.Format.{Format}
+use Rattle.builder_core.specs.declared.format.Format.TheVariants.{Plain, Sharded}
+use Rattle.builder_core.specs.Building.{shift_in, IsGroupBlock}
 
 -- the 128 columns from one of the first columns on are the same in a remainder
 window_of_columns : (Z start columns : ℕ) → start + 128 ≤ columns → Z % 2 ^ columns / 2 ^ start % 2 ^ 128 ≡ Z / 2 ^ start % 2 ^ 128
@@ -122,12 +130,12 @@ module _ (rows : Rows) (formed : (stage seed : ℕ) (id : Identity) (starts : �
       }
 
   leaf_fits : (revoked others : List Identity) (leaf : Leaf) → length revoked + length others ≤ 4194304 → IsLeaf rows revoked others leaf → LeafFits leaf
-  leaf_fits revoked others Clean few h = tt
-  leaf_fits revoked others Every few h = tt
-  leaf_fits revoked others (Mixed m) few h = mixed_fits revoked others m few h
+  leaf_fits revoked others leafs.Clean few h = tt
+  leaf_fits revoked others leafs.Every few h = tt
+  leaf_fits revoked others (leafs.Mixed m) few h = mixed_fits revoked others m few h
 
 -- a leaf of at most 4,194,304 identities has a text
-pub leaves_have_texts : (revoked others : List Identity) (leaf : Leaf) → length revoked + length others ≤ 4194304 → IsLeaf sha256_row revoked others leaf → LeafFits leaf
+leaves_have_texts : (revoked others : List Identity) (leaf : Leaf) → length revoked + length others ≤ 4194304 → IsLeaf sha256_row revoked others leaf → LeafFits leaf
 leaves_have_texts = leaf_fits sha256_row rows_are_rows
 
 parted : (f : Bool) (x : Identity) (a b : List Identity) (n : ℕ) → length a + length b ≤ n → length (cond f (x ∷ a) a) + length (cond (not f) (x ∷ b) b) ≤ suc n
@@ -140,10 +148,53 @@ flagged_few [] fs = omega arith
 flagged_few (x ∷ xs) [] = omega arith
 flagged_few (x ∷ xs) (f ∷ fs) = parted f x (flagged xs fs) (flagged xs (map not fs)) (length xs) (flagged_few xs fs)
 
--- and so has a block
-pub blocks_have_texts : (shift : ℕ) (issuer : List ℕ) (universe : List Identity) (flags : List Bool) (block : Block) → length issuer ≡ 32 → length universe ≤ 4194304
-    → IsBlock sha256_row shift issuer universe flags block → BlockFits block
-blocks_have_texts shift issuer universe flags block key few h = record {
+-- ---- the body of a block
+
+-- a universe is cut by 8 bits at most
+one_more : (b : Bool) (s t : ℕ) → t ≤ s → cond b (suc s) t ≤ suc s
+one_more true s t h = omega arith
+one_more false s t h = omega (arith, h)
+
+greatest_few : (s identities : ℕ) → greatest_shift s identities ≤ s
+greatest_few zero identities = omega arith
+greatest_few (suc s) identities = one_more (nat_le (2 ^ suc s * 16384) identities) s (greatest_shift s identities) (greatest_few s identities)
+
+shift_few : (revoked others : ℕ) → shift_for revoked others ≤ 8
+shift_few zero others = omega arith
+shift_few (suc revoked) zero = omega arith
+shift_few (suc revoked) (suc others) = greatest_few 8 (suc revoked + suc others)
+
+cut_few : (format : Format) (g : GroupFields) → shift_in format g ≤ 8
+cut_few Plain g = omega arith
+cut_few Sharded g = shift_few (length (flagged g.universe g.revoked)) (length (flagged g.universe (map not g.revoked)))
+
+-- a shard has no more identities than all
+shards_fit : (shift : ℕ) (revoked others : List Identity) (s : ShardedFields) → shift ≤ 8 → length revoked + length others ≤ 4194304
+    → IsFilter sha256_row shift revoked others (cut s.shift s.leaves) → ShardsFit s
+shards_fit shift revoked others s bits few h = record {
+  facts = record {
+    some = subst (λ n. 1 ≤ n) (sym h.1) h.0;
+    few = subst (λ n. n ≤ 8) (sym h.1) bits;
+    count = h.2.count ∙ ap (λ n. 2 ^ n) (sym h.1);
+  };
+  leaves = All-from_get_or LeafFits s.leaves leafs.Clean
+      (λ k lt. leaves_have_texts (in_shard shift k revoked) (in_shard shift k others) (get_or s.leaves k leafs.Clean)
+      (omega (arith, few, filtered_few (λ x. shard x shift == k) revoked, filtered_few (λ x. shard x shift == k) others))
+      (h.2.each k leafs.Clean (subst (λ n. k < n) h.2.count lt)));
+}
+
+body_fits : (shift : ℕ) (revoked others : List Identity) (body : Body) → shift ≤ 8 → length revoked + length others ≤ 4194304
+    → IsFilter sha256_row shift revoked others (filter_of body) → BodyFits body
+body_fits shift revoked others bodies.Clean bits few h = tt
+body_fits shift revoked others bodies.Every bits few h = tt
+body_fits shift revoked others (bodies.Mixed m) bits few h = leaves_have_texts revoked others (leafs.Mixed m) few h.1
+body_fits shift revoked others (bodies.Sharded s) bits few h = shards_fit shift revoked others s bits few h
+
+-- and so has the block of a group
+pub blocks_have_texts : (format : Format) (g : GroupFields) (block : Block) → length g.issuer ≡ 32 → length g.universe ≤ 4194304
+    → IsGroupBlock format sha256_row g block → BlockFits block
+blocks_have_texts format g block key few h = record {
   issuer = ap length h.0 ∙ key;
-  body = leaves_have_texts (flagged universe flags) (flagged universe (map not flags)) (leaf_of block.body) (omega (arith, flagged_few universe flags)) h.1.1;
+  body = body_fits (shift_in format g) (flagged g.universe g.revoked) (flagged g.universe (map not g.revoked)) block.body (cut_few format g)
+      (omega (arith, few, flagged_few g.universe g.revoked)) h.1;
 }

@@ -23,7 +23,7 @@ use Rattle.job_core.specs.JobFacts.{FitsPublishing}
 use Rattle.ledger_core.specs.LedgerFields.{LedgerPartFields, newest}
 use Rattle.ledger_core.proofs.Orders.{keys-linked}
 use Rattle.sets_core.specs.Among.{Among}
-use Rattle.sets_core.specs.Sets.{has, key_set}
+use Rattle.sets_core.specs.Sets.{key_set}
 use Rattle.sets_core.proofs.Elements.{Among-filter, Among-map, Among-filter_map, some_item}
 use Rattle.sets_core.proofs.Sets.{Among-from_key_set}
 use Rattle.sets_core.proofs.Canonical.{Contains-from_Among}
@@ -36,7 +36,7 @@ use Rattle.universe_core.specs.Step.{kind_by, parent_by, head_after}
 use Rattle.universe_core.proofs.Beginning.{issuers_few}
 use Rattle.universe_core.proofs.Issuers.{enrolled_ascend}
 use Rattle.builder_core.specs.declared.format.Format.{Format}
-use Rattle.builder_core.specs.Building.{shift_in, AreGroupBlocks}
+use Rattle.builder_core.specs.Building.{AreGroupBlocks}
 use Rattle.builder_core.proofs.GroupBlocks.{blocks_length}
 use Rattle.publication_core.specs.Formats.{blocks_in}
 use Rattle.publication_core.specs.Histories.{newest_of, IsPartOf, IsAdmissible}
@@ -93,16 +93,15 @@ blocks_fit : (format : Format) (r : Release) (previous : Option (List ℕ)) (ks 
 blocks_fit format r previous [] [] few linked wide are = tt
 blocks_fit format r previous [] (b ∷ blocks) few linked wide are = absurd are
 blocks_fit format r previous (k ∷ ks) [] few linked wide are = absurd are
-blocks_fit format r previous (k ∷ ks) (b ∷ blocks) few linked wide are =
-    let members : List Identity = members_of k r.accepted in (
-      (
-        subst (λ (i : List ℕ). is_after previous i ≡ true) (sym are.0.0) linked.0,
-        blocks_have_texts (shift_in format (group_of r k)) k members (map (has r.revoked) members) b (wide k (inl refl)) (omega (arith, members_within k r.accepted, few)) are.0,
-      ),
-      blocks_fit format r (Some b.issuer) ks blocks few
-          (subst (λ (i : List ℕ). Linked (λ previous k. is_after previous k ≡ true) (λ previous k. Some k) (Some i) ks) (sym are.0.0) linked.1)
-          (λ x a. wide x (inr a)) are.1,
-    )
+blocks_fit format r previous (k ∷ ks) (b ∷ blocks) few linked wide are = (
+  (
+    subst (λ (i : List ℕ). is_after previous i ≡ true) (sym are.0.0) linked.0,
+    blocks_have_texts format (group_of r k) b (wide k (inl refl)) (omega (arith, members_within k r.accepted, few)) are.0,
+  ),
+  blocks_fit format r (Some b.issuer) ks blocks few
+      (subst (λ (i : List ℕ). Linked (λ previous k. is_after previous k ≡ true) (λ previous k. Some k) (Some i) ks) (sym are.0.0) linked.1)
+      (λ x a. wide x (inr a)) are.1,
+)
 
 block_after : (previous : Option (List ℕ)) (b : Block) → FitsBlock previous b → is_after previous b.issuer ≡ true
 block_after previous b fits = fits.0

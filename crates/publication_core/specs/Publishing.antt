@@ -1,4 +1,5 @@
--- What is published of a job behind a ledger, which need not be that of a history; and why nothing is.
+-- What is published of a job in the current format behind a ledger, which need not be that of a history; and why
+-- nothing is.
 use Rattle.std.specs.Prelude.{◌≡◌, ℕ, length, Some, None, Result, Ok, Err, Contains}
 use Rattle.sha2.specs.Sha256.{sha256}
 use Rattle.equation_core.specs.Rows.{sha256_row}
