@@ -8,7 +8,6 @@ use Rattle.card_core.specs.declared.block.Block.{Block}
 use Rattle.card_core.specs.Filter.{is_positive}
 use Rattle.universe_core.specs.Groups.{GroupFields}
 use Rattle.builder_core.specs.declared.format.Format.{Format}
-use Rattle.builder_core.specs.declared.format.Format.TheVariants.{Plain}
 use Rattle.builder_core.specs.declared.fault.BuildFault.{BuildFault}
 use Rattle.builder_core.specs.Building.{IsGroupBlock, AreGroupBlocks, BuildsBlocks, IsFirstRefused}
 use Rattle.builder_core.specs.Outcomes.{AreOutcomes, IsAssembled}
@@ -23,11 +22,11 @@ abbrev pub GroupBlocksAreUnique : Type 0
 GroupBlocksAreUnique = (format : Format) (rows : Rows) (groups : List GroupFields) (a b : List Block)
     → AreGroupBlocks format rows groups a → AreGroupBlocks format rows groups b → a ≡ b
 
--- groups have blocks, each of one leaf, or one of them is the first that is refused
+-- groups have blocks, or one of them is the first that is refused
 abbrev pub BlocksOrRefusal : Type 0
-BlocksOrRefusal = (rows : Rows) (groups : List GroupFields)
-    → ((blocks : List Block) × AreGroupBlocks Plain rows groups blocks)
-    ⊎ ((issuer : List ℕ) × (stage : ℕ) × IsFirstRefused Plain rows groups issuer stage)
+BlocksOrRefusal = (format : Format) (rows : Rows) (groups : List GroupFields)
+    → ((blocks : List Block) × AreGroupBlocks format rows groups blocks)
+    ⊎ ((issuer : List ℕ) × (stage : ℕ) × IsFirstRefused format rows groups issuer stage)
 
 -- where a group is refused there are no blocks of all groups
 abbrev pub RefusedHasNoBlocks : Type 0

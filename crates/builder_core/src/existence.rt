@@ -2,7 +2,7 @@
 
 ghost use Rattle.builder_core.specs.Laws.{BlocksOrRefusal};
 
-/// Groups whose blocks are of one leaf each have blocks, or one of them is the first that is refused, under any hash.
+/// In each format groups have blocks, or one of them is the first that is refused, under any hash.
 pub fn blocks_or_a_refusal()
     ensures { BlocksOrRefusal }
 {}
