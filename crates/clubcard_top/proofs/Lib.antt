@@ -2,6 +2,7 @@ pub mod Checked
 pub mod CertTruth
 pub mod Chains
 pub mod Endings
+pub mod Existing
 pub mod Files
 pub mod Made
 pub mod Makings

@@ -33,7 +33,7 @@ use Rattle.clubcard_top.proofs.Prefixes.{from_first}
 
 -- ---- what is read
 
-job_value : (name : List ℕ) (job : JobFields) (r : Result JobFields JobFault) → named name (faulted of_job r) ≡ Ok job → r ≡ Ok job
+pub job_value : (name : List ℕ) (job : JobFields) (r : Result JobFields JobFault) → named name (faulted of_job r) ≡ Ok job → r ≡ Ok job
 job_value name job (Ok x) h = ap (λ (j : JobFields). Ok j) (ok_same {E = NamedFault} x job h)
 job_value name job (Err e) h = absurd (not_ok job (record { name = name; fault = of_job e }) h)
 

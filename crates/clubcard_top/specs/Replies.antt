@@ -1,5 +1,5 @@
 -- How a call ends, and what it prints, by what comes of its command.
-use Rattle.std.specs.Prelude.{◌≡◌, ◌⊎◌, ℕ, List, [], map, Option, Result, Ok, Err, codes}
+use Rattle.std.specs.Prelude.{◌≡◌, ◌<◌, ◌⊎◌, ℕ, List, [], map, get_or, Option, IfSome, Result, Ok, Err, codes}
 use Rattle.std.specs.FinMap.{get}
 use Rattle.outside_core.specs.Files.{Files}
 use Rattle.store_core.specs.declared.chain.Refusal.{Refusal}
@@ -67,6 +67,10 @@ abbrev pub IsReplyOver : Command → List (Option (List ℕ)) → ReplyFields �
 IsReplyOver command inputs reply =
     ((command ≡ commands.Usage) × (reply ≡ usage))
     ⊎ ((o : Result Done NamedFault) × Makes command inputs o × (reply ≡ reply_of o))
+
+-- an input that can't be read, or that holds octets
+abbrev pub IsOctets : Option (List ℕ) → Type 0
+IsOctets given = IfSome given (λ bytes. (i : ℕ) → get_or bytes i 0 < 256)
 
 -- what the files hold under a command's inputs
 abbrev pub held_by : Command → Files → List (Option (List ℕ))

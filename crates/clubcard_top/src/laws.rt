@@ -1,6 +1,6 @@
 //! What follows for every command and every history, with no call.
 
-ghost use Rattle.std.specs.Prelude.{◌≡◌, ◌↔◌, ℕ, List, [], ◌∷◌, ◌++◌, Option, Result, Ok};
+ghost use Rattle.std.specs.Prelude.{◌≡◌, ◌≢◌, ◌↔◌, ℕ, List, [], ◌∷◌, ◌++◌, All, length, Option, Result, Ok};
 ghost use Rattle.ident_core.specs.declared.identity.Identity.{Identity};
 ghost use Rattle.ident_core.specs.declared.range.Sighting.{Sighting};
 ghost use Rattle.outside_core.specs.Files.{Files};
@@ -19,13 +19,13 @@ ghost use Rattle.clubcard_top.specs.ReplyFields.{Done, NamedFault, ReplyFields};
 ghost use Rattle.clubcard_top.specs.Commands.{Makes, Rehearses, only, rehearsed};
 ghost use Rattle.clubcard_top.specs.Workers.{with_workers};
 ghost use Rattle.clubcard_top.specs.Steps.{RehearsesOn};
-ghost use Rattle.clubcard_top.specs.Replies.{IsReplyTo, held_by};
+ghost use Rattle.clubcard_top.specs.Replies.{IsOctets, IsReplyOver, IsReplyTo, held_by};
 ghost use Rattle.clubcard_top.specs.Headline.{PublishesJob, IsPublished, StoresPart, IsStored, AsksHistory, truth_done};
 ghost use Rattle.clubcard_top.specs.Headline.{AsksCert, cert_truth_line, RehearsesJobs, IsRehearsed};
 
 use publication_core::{
-    histories_are_published, ledgers_are_read_back, parts_are_chains, publications_are_unique,
-    verdicts_are_the_truth, what_can_be_is_published,
+    a_publication_or_a_refusal, histories_are_published, ledgers_are_read_back, parts_are_chains,
+    publications_are_unique, verdicts_are_the_truth, what_can_be_is_published,
 };
 use store_core::{chains_grow, stores_are_read_back};
 
@@ -38,6 +38,21 @@ pub fn replies_are_unique()
 {
     publications_are_unique();
     histories_are_published();
+}
+
+/// Something comes of each command and its inputs, and so there is a reply to it, whatever octets the inputs hold and
+/// whether or not they can be read. So no definition is without a value at some input, which want of memory would hide.
+pub fn replies_exist()
+    ensures outcome { (command : Command) (inputs : List (Option (List ℕ))) → command ≢ Command.Usage
+        → length inputs ≡ length (inputs_of command) → All IsOctets inputs
+        → (o : Result Done NamedFault) × Makes command inputs o }
+    ensures reply { (command : Command) (inputs : List (Option (List ℕ)))
+        → length inputs ≡ length (inputs_of command) → All IsOctets inputs
+        → (reply : ReplyFields) × IsReplyOver command inputs reply }
+{
+    a_publication_or_a_refusal();
+    histories_are_published();
+    job_core::jobs_that_are_read_fit();
 }
 
 /// What comes of commands over the files of histories. A job that is published behind a history makes a history with

@@ -16,7 +16,8 @@ mod storing;
 mod top;
 
 pub use laws::{
-    histories_are_made, rehearsals_go_file_by_file, replies_are_unique, workers_are_free,
+    histories_are_made, rehearsals_go_file_by_file, replies_are_unique, replies_exist,
+    workers_are_free,
 };
 pub use line_core::Status;
 pub use publication_core::{Gate, Open};

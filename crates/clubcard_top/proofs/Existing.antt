@@ -1,0 +1,179 @@
+-- Something comes of each command, whatever its files hold.
+use Rattle.std.proofs.Common.{◌≡◌, ◌≢◌, ◌≤◌, ℕ, inl, inr, List, [], ◌∷◌, ◌++◌, length, Option, Some, None, Result, Ok, Err, refl, sym, subst, arith}
+use Rattle.std.specs.List.{All}
+use Rattle.std.proofs.lemmas.List.Elements.{All-head, All-tail}
+use Rattle.octets_core.proofs.Texts.{IsBytes}
+use Rattle.query_core.specs.Queries.{Query}
+use Rattle.part_codec.specs.SealedFields.{SealedFields}
+use Rattle.job_core.specs.declared.bounds.Limits.{Limits}
+use Rattle.job_core.specs.declared.bounds.TheConstants.Limits.{PUBLISHED}
+use Rattle.job_core.specs.JobFields.{JobFields}
+use Rattle.job_core.specs.JobFacts.{FitsFields, FitsPublishing, IsWithinLimits}
+use Rattle.job_core.specs.JobLayout.{job_of}
+use Rattle.ledger_core.specs.LedgerFields.{LedgerFields}
+use Rattle.universe_core.specs.Formats.{in_format}
+use Rattle.universe_core.specs.Ledgers.{no_ledger, ledger_of}
+use Rattle.publication_core.specs.declared.fault.PublishFault.{PublishFault}
+use Rattle.publication_core.specs.Formats.{current}
+use Rattle.publication_core.specs.Histories.{History, with_job, chain, IsHistory, history}
+use Rattle.publication_core.specs.Publishing.{Published, Publishes}
+use Rattle.word_core.specs.declared.command.Command.{Command}
+use Rattle.word_core.specs.declared.command.Command.TheVariants as commands
+use Rattle.word_core.specs.CommandFields.{SnapshotFields, DeltaFields, RehearseFields}
+use Rattle.word_core.specs.Names.{inputs_of}
+use Rattle.input_core.specs.Readings.{queries_in, job_in, ledger_in}
+use Rattle.clubcard_top.specs.ReplyFields.{Done, NamedFault, ReplyFields}
+use Rattle.clubcard_top.specs.Faults.{of_publishing}
+use Rattle.clubcard_top.specs.Commands.{input, query_makes, query_cert_makes, check_makes, show_makes, start_makes, install_makes, gather_makes, published_as, sample_done, rehearsed}
+use Rattle.clubcard_top.specs.Commands.{MakesPart, MakesSnapshot, MakesDelta, MakesRehearsal, Makes}
+use Rattle.clubcard_top.specs.Steps.{RehearsesOn}
+use Rattle.clubcard_top.specs.Replies.{usage, reply_of, IsReplyOver, IsOctets}
+use Rattle.clubcard_top.proofs.Chains.{chain_push}
+use Rattle.clubcard_top.proofs.Prefixes.{first_of}
+use Rattle.clubcard_top.proofs.Rehearsed.{job_value}
+
+-- What the layers promise: something comes of each job behind each ledger, a job that is read fits, and one that is
+-- published goes on with the history.
+pub record Existence : Type 0 where
+  pub something : (ledger : LedgerFields) (job : JobFields) → (o : Result Published PublishFault) × Publishes ledger job o
+  pub fits : (limits : Limits) (bytes : List ℕ) (job : JobFields) → IsBytes bytes → limits.ranges ≤ 1024 → job_of limits bytes ≡ Ok job → FitsFields job
+  pub within : (limits : Limits) (bytes : List ℕ) (job : JobFields) → IsBytes bytes → job_of limits bytes ≡ Ok job → IsWithinLimits limits job
+  pub next : (h : History) (parts : List SealedFields) (job : JobFields) (p : Published) → IsHistory h parts → FitsPublishing job → IsWithinLimits PUBLISHED job
+      → Publishes (ledger_of (history h parts)) job (Ok p) → IsHistory (with_job h (in_format current job)) (parts ++ p.sealed ∷ [])
+
+module _ (layers : Existence) where
+  job_fits : (name : List ℕ) (given : Option (List ℕ)) (job : JobFields) → IsOctets given → input name job_in given ≡ Ok job
+      → FitsFields job × IsWithinLimits PUBLISHED job
+  job_fits name None job octets is = absurd cc
+  job_fits name (Some bytes) job octets is =
+      let read = job_value name job (job_of PUBLISHED bytes) is in
+      (layers.fits PUBLISHED bytes job octets (omega arith) read, layers.within PUBLISHED bytes job octets read)
+
+  -- ---- publishing
+
+  part_made : (name part ledger : List ℕ) (before : LedgerFields) (job : JobFields) → FitsFields job × IsWithinLimits PUBLISHED job
+      → (o : Result Done NamedFault) × MakesPart name part ledger before job o
+  part_made name part ledger before job facts =
+      let r = layers.something before job in
+      (published_as name part ledger r.0, record { fits = facts.0; limits = facts.1; result = r.0; publishes = r.1; is = refl })
+
+  snapshot_made : (s : SnapshotFields) (r : Result JobFields NamedFault) → ((job : JobFields) → r ≡ Ok job → FitsFields job × IsWithinLimits PUBLISHED job)
+      → (o : Result Done NamedFault) × MakesSnapshot s r o
+  snapshot_made s (Ok job) facts = part_made s.job s.part s.ledger no_ledger job (facts job refl)
+  snapshot_made s (Err e) facts = (Err e, refl)
+
+  delta_made : (d : DeltaFields) (r : Result JobFields NamedFault) (l : Result LedgerFields NamedFault)
+      → ((job : JobFields) → r ≡ Ok job → FitsFields job × IsWithinLimits PUBLISHED job) → (o : Result Done NamedFault) × MakesDelta d r l o
+  delta_made d (Ok job) (Ok l) facts = part_made d.job d.part d.new_ledger l job (facts job refl)
+  delta_made d (Ok job) (Err e) facts = (Err e, refl)
+  delta_made d (Err e) l facts = (Err e, refl)
+
+  -- ---- rehearsing
+
+  abbrev On : List Query → List JobFields → List SealedFields → List (List ℕ) → List (Option (List ℕ)) → Type 0
+  On queries jobs parts names inputs = (o : Result Done NamedFault) × RehearsesOn queries jobs parts names inputs o
+
+  -- a job that was read goes on, or is refused
+  job_on : (queries : List Query) (jobs : List JobFields) (parts : List SealedFields) (name : List ℕ) (names : List (List ℕ)) (given : Option (List ℕ))
+      (inputs : List (Option (List ℕ))) (job : JobFields) → input name job_in given ≡ Ok job → FitsFields job × IsWithinLimits PUBLISHED job → IsHistory (chain jobs) parts
+      → ((more : List SealedFields) → IsHistory (chain (jobs ++ job ∷ [])) more → On queries (jobs ++ job ∷ []) more names inputs)
+      → (r : Result Published PublishFault) → Publishes (ledger_of (history (chain jobs) parts)) job r → On queries jobs parts (name ∷ names) (given ∷ inputs)
+  job_on queries jobs parts name names given inputs job is facts is_history rest (Err fault) publishes =
+      let e : NamedFault = record { name = name; fault = of_publishing fault } in
+      (Err e, inl (e, inr (job, fault, is, publishes, refl), refl))
+  job_on queries jobs parts name names given inputs job is facts is_history rest (Ok p) publishes =
+      let more : List SealedFields = parts ++ p.sealed ∷ [] in
+      let next : IsHistory (with_job (chain jobs) (in_format current job)) more = layers.next (chain jobs) parts job p is_history facts.0.publishing facts.1 publishes in
+      let next_is : IsHistory (chain (jobs ++ job ∷ [])) more = subst (λ (h : History). IsHistory h more) (sym (chain_push jobs job)) next in
+      let o = rest more next_is in
+      (o.0, inr (job, more, is, next_is, o.1))
+
+  file_on : (queries : List Query) (jobs : List JobFields) (parts : List SealedFields) (name : List ℕ) (names : List (List ℕ)) (given : Option (List ℕ))
+      (inputs : List (Option (List ℕ))) → IsOctets given → IsHistory (chain jobs) parts
+      → ((job : JobFields) (more : List SealedFields) → IsHistory (chain (jobs ++ job ∷ [])) more → On queries (jobs ++ job ∷ []) more names inputs)
+      → (r : Result JobFields NamedFault) → input name job_in given ≡ r → On queries jobs parts (name ∷ names) (given ∷ inputs)
+  file_on queries jobs parts name names given inputs octets is_history rest (Err e) is = (Err e, inl (e, inl is, refl))
+  file_on queries jobs parts name names given inputs octets is_history rest (Ok job) is =
+      let o = layers.something (ledger_of (history (chain jobs) parts)) job in
+      job_on queries jobs parts name names given inputs job is (job_fits name given job octets is) is_history (rest job) o.0 o.1
+
+  files_on : (queries : List Query) (jobs : List JobFields) (parts : List SealedFields) (names : List (List ℕ)) (inputs : List (Option (List ℕ)))
+      → length inputs ≡ length names → All IsOctets inputs → IsHistory (chain jobs) parts → On queries jobs parts names inputs
+  files_on queries jobs parts [] [] many octets is_history = (Ok (rehearsed queries jobs parts), refl)
+  files_on queries jobs parts [] (g ∷ inputs) many octets is_history = absurd (omega (arith, many))
+  files_on queries jobs parts (name ∷ names) [] many octets is_history = absurd (omega (arith, many))
+  files_on queries jobs parts (name ∷ names) (g ∷ inputs) many octets is_history =
+      file_on queries jobs parts name names g inputs (All-head IsOctets g inputs octets) is_history
+      (λ job more is_more. files_on queries (jobs ++ job ∷ []) more names inputs (omega (arith, many)) (All-tail IsOctets g inputs octets) is_more)
+      (input name job_in g) refl
+
+  rehearsal_made : (r : RehearseFields) (queries : Result (List Query) NamedFault) (inputs : List (Option (List ℕ))) → length inputs ≡ length r.jobs
+      → All IsOctets inputs → (o : Result Done NamedFault) × MakesRehearsal r queries inputs o
+  rehearsal_made r (Ok queries) inputs many octets =
+      let o = files_on queries [] [] r.jobs inputs many octets tt in
+      (o.0, first_of queries r.jobs inputs o.0 o.1)
+  rehearsal_made r (Err e) inputs many octets = (Err e, refl)
+
+  -- ---- commands
+
+  -- a job that was read of an input fits
+  read_fits : (name : List ℕ) (g : Option (List ℕ)) (inputs : List (Option (List ℕ))) → All IsOctets (g ∷ inputs)
+      → (job : JobFields) → input name job_in g ≡ Ok job → FitsFields job × IsWithinLimits PUBLISHED job
+  read_fits name g inputs octets job is = job_fits name g job (All-head IsOctets g inputs octets) is
+
+  pub outcome_exists : (c : Command) (inputs : List (Option (List ℕ))) → c ≢ commands.Usage → length inputs ≡ length (inputs_of c) → All IsOctets inputs
+      → (o : Result Done NamedFault) × Makes c inputs o
+  outcome_exists commands.Usage inputs some many octets = absurd (some refl)
+  outcome_exists (commands.Query q) (g ∷ []) some many octets = (query_makes q g, refl)
+  outcome_exists (commands.QueryCert q) (g ∷ h ∷ k ∷ []) some many octets = (query_cert_makes q g h k, refl)
+  outcome_exists (commands.Check name) (g ∷ []) some many octets = (check_makes name g, refl)
+  outcome_exists (commands.Show name) (g ∷ []) some many octets = (show_makes name g, refl)
+  outcome_exists (commands.Snapshot s) (g ∷ []) some many octets = snapshot_made s (input s.job job_in g) (read_fits s.job g [] octets)
+  outcome_exists (commands.Delta t) (g ∷ h ∷ []) some many octets =
+      delta_made t (input t.job job_in g) (input t.ledger ledger_in h) (read_fits t.job g (h ∷ []) octets)
+  outcome_exists (commands.Start t) (g ∷ []) some many octets = (start_makes t g, refl)
+  outcome_exists (commands.Install i) (g ∷ h ∷ []) some many octets = (install_makes i g h, refl)
+  outcome_exists (commands.Rehearse r) (g ∷ inputs) some many octets =
+      rehearsal_made r (input r.queries queries_in g) inputs (omega (arith, many)) (All-tail IsOctets g inputs octets)
+  outcome_exists (commands.Sample s) [] some many octets = (Ok (sample_done s), refl)
+  outcome_exists (commands.Gather f) (g ∷ inputs) some many octets = (gather_makes f g inputs, refl)
+  outcome_exists (commands.Gather f) [] some many octets = absurd (omega (arith, many))
+  outcome_exists (commands.Rehearse r) [] some many octets = absurd (omega (arith, many))
+  outcome_exists (commands.Sample s) (g ∷ cs) some many octets = absurd (omega (arith, many))
+  outcome_exists (commands.Query q) [] some many octets = absurd (omega (arith, many))
+  outcome_exists (commands.Query q) (g ∷ h ∷ cs) some many octets = absurd (omega (arith, many))
+  outcome_exists (commands.QueryCert q) [] some many octets = absurd (omega (arith, many))
+  outcome_exists (commands.QueryCert q) (g ∷ []) some many octets = absurd (omega (arith, many))
+  outcome_exists (commands.QueryCert q) (g ∷ h ∷ []) some many octets = absurd (omega (arith, many))
+  outcome_exists (commands.QueryCert q) (g ∷ h ∷ k ∷ l ∷ cs) some many octets = absurd (omega (arith, many))
+  outcome_exists (commands.Check name) [] some many octets = absurd (omega (arith, many))
+  outcome_exists (commands.Check name) (g ∷ h ∷ cs) some many octets = absurd (omega (arith, many))
+  outcome_exists (commands.Show name) [] some many octets = absurd (omega (arith, many))
+  outcome_exists (commands.Show name) (g ∷ h ∷ cs) some many octets = absurd (omega (arith, many))
+  outcome_exists (commands.Snapshot s) [] some many octets = absurd (omega (arith, many))
+  outcome_exists (commands.Snapshot s) (g ∷ h ∷ cs) some many octets = absurd (omega (arith, many))
+  outcome_exists (commands.Delta t) [] some many octets = absurd (omega (arith, many))
+  outcome_exists (commands.Delta t) (g ∷ []) some many octets = absurd (omega (arith, many))
+  outcome_exists (commands.Delta t) (g ∷ h ∷ k ∷ cs) some many octets = absurd (omega (arith, many))
+  outcome_exists (commands.Start t) [] some many octets = absurd (omega (arith, many))
+  outcome_exists (commands.Start t) (g ∷ h ∷ cs) some many octets = absurd (omega (arith, many))
+  outcome_exists (commands.Install i) [] some many octets = absurd (omega (arith, many))
+  outcome_exists (commands.Install i) (g ∷ []) some many octets = absurd (omega (arith, many))
+  outcome_exists (commands.Install i) (g ∷ h ∷ k ∷ cs) some many octets = absurd (omega (arith, many))
+
+  made_reply : (c : Command) (inputs : List (Option (List ℕ))) → (o : Result Done NamedFault) × Makes c inputs o → (r : ReplyFields) × IsReplyOver c inputs r
+  made_reply c inputs o = (reply_of o.0, inr (o.0, o.1, refl))
+
+  pub reply_exists : (c : Command) (inputs : List (Option (List ℕ))) → length inputs ≡ length (inputs_of c) → All IsOctets inputs → (r : ReplyFields) × IsReplyOver c inputs r
+  reply_exists commands.Usage inputs many octets = (usage, inl (refl, refl))
+  reply_exists (commands.Query q) inputs many octets = made_reply (commands.Query q) inputs (outcome_exists (commands.Query q) inputs (λ none. cc) many octets)
+  reply_exists (commands.QueryCert q) inputs many octets = made_reply (commands.QueryCert q) inputs (outcome_exists (commands.QueryCert q) inputs (λ none. cc) many octets)
+  reply_exists (commands.Check n) inputs many octets = made_reply (commands.Check n) inputs (outcome_exists (commands.Check n) inputs (λ none. cc) many octets)
+  reply_exists (commands.Show n) inputs many octets = made_reply (commands.Show n) inputs (outcome_exists (commands.Show n) inputs (λ none. cc) many octets)
+  reply_exists (commands.Snapshot s) inputs many octets = made_reply (commands.Snapshot s) inputs (outcome_exists (commands.Snapshot s) inputs (λ none. cc) many octets)
+  reply_exists (commands.Delta t) inputs many octets = made_reply (commands.Delta t) inputs (outcome_exists (commands.Delta t) inputs (λ none. cc) many octets)
+  reply_exists (commands.Start t) inputs many octets = made_reply (commands.Start t) inputs (outcome_exists (commands.Start t) inputs (λ none. cc) many octets)
+  reply_exists (commands.Install i) inputs many octets = made_reply (commands.Install i) inputs (outcome_exists (commands.Install i) inputs (λ none. cc) many octets)
+  reply_exists (commands.Rehearse r) inputs many octets = made_reply (commands.Rehearse r) inputs (outcome_exists (commands.Rehearse r) inputs (λ none. cc) many octets)
+  reply_exists (commands.Sample s) inputs many octets = made_reply (commands.Sample s) inputs (outcome_exists (commands.Sample s) inputs (λ none. cc) many octets)
+  reply_exists (commands.Gather f) inputs many octets = made_reply (commands.Gather f) inputs (outcome_exists (commands.Gather f) inputs (λ none. cc) many octets)

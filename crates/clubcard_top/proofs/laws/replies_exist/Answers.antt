@@ -1,0 +1,15 @@
+use Rattle.clubcard_top.proofs.Existing.{Existence, outcome_exists, reply_exists}
+use Rattle.clubcard_top.proofs.laws.replies_exist.Goals as goal
+
+pub returns : goal.returns
+returns c =
+    let layers : Existence = record {
+      something = c.a_publication_or_a_refusal.ensures;
+      fits = c.jobs_that_are_read_fit.ensures.fits;
+      within = c.jobs_that_are_read_fit.ensures.within;
+      next = c.histories_are_published.ensures.history;
+    } in
+    record {
+      outcome = λ command inputs some many octets. outcome_exists layers command inputs some many octets;
+      reply = λ command inputs many octets. reply_exists layers command inputs many octets;
+    }
