@@ -40,7 +40,7 @@ part_of_history rs job p sound is = record {
 }
 
 -- A job that is admitted behind a ledger, with a block for each group, is published.
-admitted_published : (ledger : LedgerFields) (job : JobFields) → refusal PUBLISHED ledger job ≡ None
+pub admitted_published : (ledger : LedgerFields) (job : JobFields) → refusal PUBLISHED ledger job ≡ None
     → (blocks : List Block) → AreGroupBlocks (blocks_in current) sha256_row (groups_after ledger (facts_of job)) blocks
     → (p : Published) × Publishes ledger job (Ok p)
 admitted_published ledger job none blocks are =

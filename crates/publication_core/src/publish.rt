@@ -1,6 +1,6 @@
 //! What is published of a job.
 
-ghost use Rattle.std.specs.Prelude.{◌≡◌, ◌≤◌, All, length, map};
+ghost use Rattle.std.specs.Prelude.{◌≤◌, All, length, map};
 ghost use Rattle.std.specs.List.Sorted.{IsStrictlySortedBy};
 ghost use Rattle.ident_core.specs.declared.bounds.TheConstants.{MAX_WORKERS};
 ghost use Rattle.ident_core.specs.Order.{octets_cmp};
