@@ -23,10 +23,10 @@ use Rattle.universe_core.specs.Groups.{GroupFields, members_of}
 use Rattle.universe_core.specs.Members.{group_with}
 use Rattle.sets_core.proofs.Keyed.{get_map}
 
-abbrev is_below : List ℕ → Identity → Bool
+abbrev pub is_below : List ℕ → Identity → Bool
 is_below k x = is_lt (octets_cmp x.issuer k)
 
-earlier : (k : List ℕ) (x y : Identity) → identity_cmp x y ≡ Less → is_below k y ≡ true → is_below k x ≡ true
+pub earlier : (k : List ℕ) (x y : Identity) → identity_cmp x y ≡ Less → is_below k y ≡ true → is_below k x ≡ true
 earlier k x y l b =
     let m : octets_cmp y.issuer k ≡ Less = lt_less (octets_cmp y.issuer k) b in
     ⊎_elim (λ (o : octets_cmp x.issuer y.issuer ≡ Less). ap is_lt (nat_list_cmp_total.trans x.issuer y.issuer k o m))
@@ -39,17 +39,22 @@ place_cases zero (suc j) h = inr (omega arith)
 place_cases (suc i) zero h = absurd (omega arith)
 place_cases (suc i) (suc j) h = ⊎_elim (λ (e : i ≡ j). inl (ap suc e)) (λ l. inr (omega arith)) (place_cases i j (omega arith))
 
-partitioned : (k : List ℕ) (xs : List Identity) → IsStrictlySortedBy identity_cmp xs → IsPartitionedBy (λ (x : Identity). is_lt (octets_cmp x.issuer k)) xs
-partitioned k xs s i j d le lt h =
-    ⊎_elim (λ (e : i ≡ j). subst (λ n. is_below k (get_or xs n d) ≡ true) (sym e) h)
-    (λ (l : i < j). earlier k (get_or xs i d) (get_or xs j d) (below_later identity_cmp identity_total identity_exact xs s i j d l lt) h)
+-- a test that holds of each identity below one that it holds of
+partitioned : (p : Identity → Bool) → ((x y : Identity) → identity_cmp x y ≡ Less → p y ≡ true → p x ≡ true) → (xs : List Identity) → IsStrictlySortedBy identity_cmp xs → IsPartitionedBy p xs
+partitioned p below xs s i j d le lt h =
+    ⊎_elim (λ (e : i ≡ j). subst (λ n. p (get_or xs n d) ≡ true) (sym e) h)
+    (λ (l : i < j). below (get_or xs i d) (get_or xs j d) (below_later identity_cmp identity_total identity_exact xs s i j d l lt) h)
     (place_cases i j le)
 
+pub keyed_partitioned : {A : Type 0} (key : A → Identity) (p : Identity → Bool) → ((x y : Identity) → identity_cmp x y ≡ Less → p y ≡ true → p x ≡ true)
+    → (xs : List A) → IsStrictlySortedBy identity_cmp (map key xs) → IsPartitionedBy (λ (x : A). p (key x)) xs
+keyed_partitioned key p below xs s i j d le lt h =
+    let n = length-map xs key in
+    subst (λ y. p y ≡ true) (get_map key xs i d)
+    (partitioned p below (map key xs) s i j (key d) le (omega arith) (subst (λ y. p y ≡ true) (sym (get_map key xs j d)) h))
+
 pub items_partitioned : (k : List ℕ) (xs : List LedgerItem) → IsStrictlySortedBy identity_cmp (ids xs) → IsPartitionedBy (λ (x : LedgerItem). is_lt (octets_cmp x.id.issuer k)) xs
-items_partitioned k xs s i j d le lt h =
-    let n = length-map xs (λ (x : LedgerItem). x.id) in
-    subst (λ y. is_below k y ≡ true) (get_map (λ (x : LedgerItem). x.id) xs i d)
-    (partitioned k (ids xs) s i j d.id le (omega arith) (subst (λ y. is_below k y ≡ true) (sym (get_map (λ (x : LedgerItem). x.id) xs j d)) h))
+items_partitioned k = keyed_partitioned (λ (x : LedgerItem). x.id) (is_below k) (earlier k)
 
 pub dropped : (k : List ℕ) (xs : List LedgerItem) (n : ℕ) → n ≤ length xs
     → IsPartitionPoint (λ (x : LedgerItem). is_lt (octets_cmp x.id.issuer k) ≡ true) (λ (x : LedgerItem). is_lt (octets_cmp x.id.issuer k) ≡ false) xs n
@@ -99,7 +104,7 @@ group_from h k xs universe flags u f = λ i. record { issuer = k; universe = u i
 
 -- ---- as slices cut them
 
-rest_is : {A : Type 0} (xs : List A) (start : ℕ) → take (length xs - start) (drop start xs) ≡ drop start xs
+pub rest_is : {A : Type 0} (xs : List A) (start : ℕ) → take (length xs - start) (drop start xs) ≡ drop start xs
 rest_is xs start = take_all (length xs - start) (drop start xs) (omega (arith, length-drop start xs))
 
 ids_rest : (xs : List LedgerItem) (start : ℕ) → ids (take (length xs - start) (drop start xs)) ≡ drop start (ids xs)

@@ -2,6 +2,7 @@ pub mod Merge
 pub mod Classes
 pub mod Members
 pub mod Placing
+pub mod IssuerRuns
 pub mod Sorting
 pub mod Searching
 pub mod Issuers

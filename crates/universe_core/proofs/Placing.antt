@@ -19,13 +19,14 @@ use Rattle.sets_core.proofs.Canonical.{Contains-from_Among}
 use Rattle.sets_core.proofs.Elements.{Among-from_place, some_item}
 use Rattle.sets_core.proofs.Order.{sorted_head, sorted_tail}
 use Rattle.universe_core.specs.declared.member.ReadEntry.{ReadEntry}
-use Rattle.universe_core.specs.Placing.{IsPlaced, ArePlaced, placed_cmp, head_of}
+use Rattle.universe_core.specs.declared.serial_key.SerialKey.{SerialKey}
+use Rattle.universe_core.specs.Placing.{IsKeyOf, IsPlaced, ArePlaced, keyed_cmp, placed_cmp, head_of}
 
 placed_total : IsTotalOrder placed_cmp
 placed_total =
     then_total (on_total (λ (e : ReadEntry). e.place) nat_cmp_total)
-    (then_total (on_total (λ (e : ReadEntry). e.length) nat_cmp_total)
-    (then_total (on_total (λ (e : ReadEntry). e.head) nat_cmp_total)
+    (then_total (on_total (λ (e : ReadEntry). e.key.length) nat_cmp_total)
+    (then_total (on_total (λ (e : ReadEntry). e.key.head) nat_cmp_total)
     (on_total (λ (e : ReadEntry). e.id.now.serial) (then_total (on_total (λ (s : List ℕ). length s) nat_cmp_total) nat_list_cmp_total))))
 
 pub placed_ranks : IsStrictWeakOrder (λ (a b : ReadEntry). is_lt (placed_cmp a b))
@@ -89,13 +90,16 @@ serial_by Less a b e x y = refl
 serial_by Greater a b e x y = refl
 serial_by Equal a b e x y = sym (head_cmp a b (exact_unsigned (length a) (length b) e) x y)
 
+-- keys order serials as the whole ones are ordered
+pub keyed_is : (a b : List ℕ) (j k : SerialKey) → IsKeyOf a j → IsKeyOf b k → keyed_cmp a j b k ≡ serial_cmp a b
+keyed_is a b j k p q =
+    (λ i. ordering_then (nat_cmp (p.length i) (q.length i)) (ordering_then (nat_cmp (p.head i) (q.head i)) (serial_cmp a b)))
+    ∙ serial_by (nat_cmp (length a) (length b)) a b refl p.octets q.octets
+
 placed_at : (issuers : List (List ℕ)) (d e : ReadEntry) → IsStrictlySortedBy octets_cmp issuers → IsPlaced issuers d → IsPlaced issuers e → placed_cmp d e ≡ identity_cmp d.id.now e.id.now
 placed_at issuers d e s p q =
-    let a = d.id.now.serial in
-    let b = e.id.now.serial in
     (λ i. ordering_then (place_cmp issuers s d.place e.place d.id.now.issuer e.id.now.issuer p.place q.place i)
-    (ordering_then (nat_cmp (p.length i) (q.length i)) (ordering_then (nat_cmp (p.head i) (q.head i)) (serial_cmp a b))))
-    ∙ ap (ordering_then (octets_cmp d.id.now.issuer e.id.now.issuer)) (serial_by (nat_cmp (length a) (length b)) a b refl p.octets q.octets)
+    (keyed_is d.id.now.serial e.id.now.serial d.key e.key p.key q.key i))
 
 all_at : (P : ReadEntry → Type 0) (es : List ReadEntry) (d : ReadEntry) → All P es → Among es d → P d
 all_at P es d h a = let k = Contains-from_Among es d a in subst P k.2 (h k.0 d k.1)

@@ -11,6 +11,7 @@ pub mod Following
 pub mod Enrolling
 pub mod Reading
 pub mod Placing
+pub mod Marking
 pub mod Merging
 pub mod Judging
 pub mod Members

@@ -15,10 +15,12 @@ mod grouping;
 mod judging;
 mod lateness;
 mod laws;
+mod listing;
 mod marking;
 mod member;
 mod merging;
 mod reading;
+mod serial_key;
 
 pub use admission::{admit, first};
 pub use admitted::{Admitted, Group};

@@ -1,91 +1,165 @@
 ghost use Rattle.std.specs.List.Sorted.{IsStrictlySortedBy};
 ghost use Rattle.std.specs.List.{list_any};
 ghost use Rattle.std.specs.Str.{bytes_eq};
-ghost use Rattle.std.specs.Prelude.{◌≡◌, ◌<◌, ◌||◌, ◌&&◌, length, map, slice_get, Bool, IfOk, IfSome, IsNone, Some, false};
-ghost use Rattle.ident_core.specs.Order.{identity_cmp, is_same as same};
+ghost use Rattle.std.specs.Prelude.{◌≡◌, ◌<◌, ◌||◌, ◌&&◌, All, length, map, slice_get, Bool, IfOk, OnOk, IfSome, IsNone, Some, false};
+ghost use Rattle.ident_core.specs.Order.{identity_cmp, serial_cmp, is_same as same};
 ghost use Rattle.ident_core.specs.declared.identity.Identity.{Identity as IdentityFields};
-ghost use Rattle.sets_core.specs.Sets.{has, has_key};
+ghost use Rattle.sets_core.specs.Sets.{has_key};
 ghost use Rattle.universe_core.specs.Enrolling.{facts_of_crl, holds};
+ghost use Rattle.universe_core.specs.Marking.{IsListed, IsRunOf, listed_in, serials_of};
 ghost use Rattle.universe_core.specs.Members.{ids_of};
 
+use crate::listing::{Listed, sorted};
 use crate::member::Member;
-use ident_core::{Identity, Serial};
+use crate::serial_key::{key_of, order_serials};
+use ident_core::Serial;
 use job_core::JobCrl;
 use octets_core::Key32;
 use std::alloc::{AllocError, Global};
 use std::cmp::Ordering;
 
-fn order(member: &Member, id: &Identity) -> Ordering
-    ensures { result ≡ identity_cmp member.now.id id.now }
-{
-    member.id.cmp(id)
+/// Where an issuer's members stand among ascending members.
+#[derive(Clone, Copy)]
+pub(crate) struct Run {
+    pub(crate) start: usize,
+    pub(crate) end: usize,
 }
 
-/// The place of the member of an identity, counted from 0. A binary search.
-fn place_of(members: &[Member], id: &Identity) -> Option<usize>
-    requires sorted { IsStrictlySortedBy identity_cmp (ids_of members.now) }
-    ensures some { IfSome result (λ i. slice_get (ids_of members.now) i ≡ Some id.now) }
-    ensures within { IfSome result (λ i. i < length members.now) }
-    ensures none { IsNone result → has (ids_of members.now) id.now ≡ false }
+/// The run of the issuer's members. Two binary searches.
+fn run_of(members: &[Member], issuer: &Key32) -> Run
+    requires { IsStrictlySortedBy identity_cmp (ids_of members.now) }
+    ensures { IsRunOf issuer.now members.now result }
 {
-    match members.binary_search_by(|m| order(m, id)) {
+    let start = members.partition_point(|m| m.id.issuer.cmp(issuer).is_lt());
+    let own = members[start..].partition_point(|m| !issuer.cmp(&m.id.issuer).is_lt());
+    Run {
+        start,
+        end: start + own,
+    }
+}
+
+/// How the serial of a member and a listed one are ordered.
+fn order(member: &Member, listed: &Listed<'_>) -> Ordering
+    requires { IsListed listed.now }
+    ensures { result ≡ serial_cmp member.now.id.serial listed.now.serial.now }
+{
+    let serial = &member.id.serial;
+    order_serials(serial, key_of(serial), listed.serial, listed.key)
+}
+
+/// The place of the member of a serial among those of one issuer, counted from 0. A binary search.
+fn place_of(run: &[Member], listed: &Listed<'_>) -> Option<usize>
+    requires sorted { IsStrictlySortedBy serial_cmp (serials_of run.now) }
+    requires key { IsListed listed.now }
+    ensures some { IfSome result (λ i. slice_get (serials_of run.now) i ≡ Some listed.now.serial.now) }
+    ensures within { IfSome result (λ i. i < length run.now) }
+    ensures none { IsNone result → has_key (serials_of run.now) listed.now.serial.now ≡ false }
+{
+    match run.binary_search_by(|m| order(m, listed)) {
         Ok(place) => Some(place),
         Err(_) => None,
     }
 }
 
-/// Marks the member of an identity, if there is one.
-fn mark_identity(flags: &mut [bool], members: &[Member], id: &Identity)
+/// Marks the member of an issuer's serial, if there is one.
+fn mark_serial(
+    flags: &mut [bool],
+    members: &[Member],
+    issuer: &Key32,
+    run: Run,
+    listed: &Listed<'_>,
+)
     requires sorted { IsStrictlySortedBy identity_cmp (ids_of members.now) }
     requires beside { length flags.old ≡ length members.now }
-    ensures { (q : IdentityFields → Bool) → flags.old ≡ map q (ids_of members.now) → flags.new ≡ map (λ x. q x || same x id.now) (ids_of members.now) }
+    requires run { IsRunOf issuer.now members.now run }
+    requires key { IsListed listed.now }
+    ensures { (q : IdentityFields → Bool) → flags.old ≡ map q (ids_of members.now)
+        → flags.new ≡ map (λ x. q x || same x (record { issuer = issuer.now; serial = listed.now.serial.now })) (ids_of members.now) }
 {
-    match place_of(members, id) {
-        Some(place) => flags[place] = true,
+    match place_of(&members[run.start..run.end], listed) {
+        Some(place) => flags[run.start + place] = true,
         None => {}
     }
 }
 
 /// Marks the members of these serials of an issuer, beside those that were marked.
-fn mark_serials(flags: &mut [bool], members: &[Member], issuer: &Key32, serials: &[Serial])
+fn mark_serials(
+    flags: &mut [bool],
+    members: &[Member],
+    issuer: &Key32,
+    run: Run,
+    listed: &[Listed<'_>],
+)
     requires sorted { IsStrictlySortedBy identity_cmp (ids_of members.now) }
     requires beside { length flags.old ≡ length members.now }
+    requires run { IsRunOf issuer.now members.now run }
+    requires keys { All IsListed listed.now }
     ensures { (p : IdentityFields → Bool) → flags.old ≡ map p (ids_of members.now)
         → flags.new
-        ≡ map (λ x. p x || (bytes_eq x.issuer issuer.now && has_key serials.now x.serial)) (ids_of members.now) }
+        ≡ map (λ x. p x || (bytes_eq x.issuer issuer.now && has_key (listed_in listed.now) x.serial)) (ids_of members.now) }
 {
-    for serial in serials {
-        let id = Identity {
-            issuer: *issuer,
-            serial: *serial,
-        };
-        mark_identity(flags, members, &id);
+    for one in listed {
+        mark_serial(flags, members, issuer, run, one);
     }
 }
 
-/// Marks the members that a CRL holds, if it is accepted, beside those that were marked.
-fn mark_crl(flags: &mut [bool], members: &[Member], crl: &JobCrl)
+/// Marks the members that an issuer's CRL lists, beside those that were marked.
+fn mark_list(
+    alloc: Global,
+    flags: &mut [bool],
+    members: &[Member],
+    issuer: &Key32,
+    serials: &[Serial],
+) -> Result<(), AllocError>
     requires sorted { IsStrictlySortedBy identity_cmp (ids_of members.now) }
     requires beside { length flags.old ≡ length members.now }
     ensures { (p : IdentityFields → Bool) → flags.old ≡ map p (ids_of members.now)
-        → flags.new ≡ map (λ x. p x || holds (facts_of_crl crl.now) x) (ids_of members.now) }
+        → OnOk result (flags.new
+        ≡ map (λ x. p x || (bytes_eq x.issuer issuer.now && has_key serials.now x.serial)) (ids_of members.now)) }
+{
+    let run = run_of(members, issuer);
+    if run.start == run.end {
+        return Ok(());
+    }
+    let listed = sorted(alloc, serials)?;
+    mark_serials(flags, members, issuer, run, &listed);
+    Ok(())
+}
+
+/// Marks the members that a CRL holds, if it is accepted, beside those that were marked.
+fn mark_crl(
+    alloc: Global,
+    flags: &mut [bool],
+    members: &[Member],
+    crl: &JobCrl,
+) -> Result<(), AllocError>
+    requires sorted { IsStrictlySortedBy identity_cmp (ids_of members.now) }
+    requires beside { length flags.old ≡ length members.now }
+    ensures { (p : IdentityFields → Bool) → flags.old ≡ map p (ids_of members.now)
+        → OnOk result (flags.new ≡ map (λ x. p x || holds (facts_of_crl crl.now) x) (ids_of members.now)) }
 {
     match &crl.outcome {
-        Ok(list) => mark_serials(flags, members, &crl.issuer, &list.serials),
-        Err(_) => {}
+        Ok(list) => mark_list(alloc, flags, members, &crl.issuer, &list.serials),
+        Err(_) => Ok(()),
     }
 }
 
 /// Marks the members that CRLs hold, beside those that were marked.
-fn mark_all(flags: &mut [bool], members: &[Member], crls: &[JobCrl])
+fn mark_all(
+    alloc: Global,
+    flags: &mut [bool],
+    members: &[Member],
+    crls: &[JobCrl],
+) -> Result<(), AllocError>
     requires sorted { IsStrictlySortedBy identity_cmp (ids_of members.now) }
     requires beside { length flags.old ≡ length members.now }
     ensures { (p : IdentityFields → Bool) → flags.old ≡ map p (ids_of members.now)
-        → flags.new ≡ map (λ x. p x || list_any (λ c. holds (facts_of_crl c) x) crls.now) (ids_of members.now) }
+        → OnOk result (flags.new ≡ map (λ x. p x || list_any (λ c. holds (facts_of_crl c) x) crls.now) (ids_of members.now)) }
 {
     for crl in crls {
-        mark_crl(flags, members, crl);
+        mark_crl(alloc, flags, members, crl)?;
     }
+    Ok(())
 }
 
 fn unmarked(alloc: Global, members: &[Member]) -> Result<Vec<bool>, AllocError>
@@ -104,6 +178,6 @@ pub(crate) fn listed_now(
     ensures { IfOk result (λ flags. flags.items ≡ map (λ x. list_any (λ c. holds (facts_of_crl c) x) crls.now) (ids_of members.now)) }
 {
     let mut flags = unmarked(alloc, members)?;
-    mark_all(&mut flags, members, crls);
+    mark_all(alloc, &mut flags, members, crls)?;
     Ok(flags)
 }

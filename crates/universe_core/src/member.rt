@@ -1,3 +1,4 @@
+use crate::serial_key::SerialKey;
 use ident_core::{Identity, Sighting};
 
 /// An entry that is read. Its identity and sighting stay where the job has them; beside them stands what entries are
@@ -8,10 +9,7 @@ pub(crate) struct ReadEntry<'a> {
     pub(crate) sighting: &'a Sighting,
     /// The place of its issuer among the enrolled ones, which ascend.
     pub(crate) place: usize,
-    /// The first eight octets of its serial, as a number.
-    pub(crate) head: u64,
-    /// How many octets its serial has.
-    pub(crate) length: u8,
+    pub(crate) key: SerialKey,
 }
 
 /// An identity accepted so far, and what its item and its entries say.

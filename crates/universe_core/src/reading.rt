@@ -1,17 +1,18 @@
 ghost use Rattle.std.specs.List.Sorted.{IsStrictlySortedBy};
 ghost use Rattle.std.specs.List.{filter_map, cons_option, count_by};
-ghost use Rattle.std.specs.Prelude.{◌≡◌, ◌≤◌, ◌<◌, ℕ, List, Some, IfOk, OnOk, All, [], ◌++◌, ◌&&◌, IsPermutation, length, map, get_or, slice_get};
+ghost use Rattle.std.specs.Prelude.{◌≡◌, ◌≤◌, ◌<◌, ℕ, List, Some, IfOk, OnOk, All, [], ◌++◌, ◌&&◌, IsPermutation, length, map, slice_get};
 ghost use Rattle.ident_core.specs.Coverage.{AreRanges};
 ghost use Rattle.ident_core.specs.Order.{octets_cmp};
 ghost use Rattle.universe_core.specs.Reading.{if_read, entry_fields, class_alone, with_class};
 ghost use Rattle.universe_core.specs.History.{if_accepted};
 ghost use Rattle.universe_core.specs.Counting.{is_class};
 ghost use Rattle.universe_core.specs.Merging.{IsRising};
-ghost use Rattle.universe_core.specs.Placing.{HasPlace, IsPlaced, ArePlaced, head_of, placed_cmp};
+ghost use Rattle.universe_core.specs.Placing.{HasPlace, IsPlaced, ArePlaced, placed_cmp};
 ghost use Rattle.universe_core.specs.declared.class.Class.TheVariants as class;
 
 use crate::class::Class;
 use crate::member::ReadEntry;
+use crate::serial_key::{key_of, order_serials};
 use ident_core::Range;
 use log_core::Entry;
 use octets_core::Key32;
@@ -74,31 +75,16 @@ fn classify(ranges: &[Range], issuers: &[Key32], entry: &Option<Entry>) -> Told
     }
 }
 
-/// The number that the first eight octets spell, greatest first, and 0 for fewer.
-fn head(octets: &[u8]) -> u64
-    ensures value { result ≡ head_of octets.now }
-    ensures octets { (i : ℕ) → get_or octets.now i 0 < 256 }
-{
-    if octets.len() < 8 {
-        return 0;
-    }
-    let mut first = [0u8; 8];
-    first.copy_from_slice(&octets[..8]);
-    u64::from_be_bytes(first)
-}
-
 /// The entry of these, whose issuer has this place.
 fn read_entry(entry: &Entry, place: usize) -> ReadEntry<'_>
     ensures entry { entry_fields result ≡ entry.now }
     ensures placed { (issuers : List (List ℕ)) → slice_get issuers place ≡ Some entry.now.id.issuer → IsPlaced issuers result }
 {
-    let octets = entry.id.serial.bytes();
     ReadEntry {
         id: &entry.id,
         sighting: &entry.sighting,
         place,
-        head: head(octets),
-        length: octets.len() as u8,
+        key: key_of(&entry.id.serial),
     }
 }
 
@@ -185,21 +171,14 @@ pub(crate) fn read<'a>(
     })
 }
 
-/// How entries are ordered: by the places of their issuers, then as serials are, of which the whole one is looked at
-/// only where both have as many octets and begin with the same eight.
+/// How entries are ordered: by the places of their issuers, then as serials are.
 fn order(x: &ReadEntry<'_>, y: &ReadEntry<'_>) -> Ordering
     ensures { result ≡ placed_cmp x.now y.now }
 {
     if x.place != y.place {
         return x.place.cmp(&y.place);
     }
-    if x.length != y.length {
-        return x.length.cmp(&y.length);
-    }
-    if x.head != y.head {
-        return x.head.cmp(&y.head);
-    }
-    x.id.serial.cmp(&y.id.serial)
+    order_serials(&x.id.serial, x.key, &y.id.serial, y.key)
 }
 
 /// Sorts the entries by their identities.

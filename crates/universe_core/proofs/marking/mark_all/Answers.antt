@@ -9,5 +9,5 @@ use Rattle.universe_core.proofs.marking.mark_all.Goals as goal
 
 pub loop-crl-preserved : goal.loop-crl-preserved
 loop-crl-preserved c = λ p e.
-    c.mark_crl.ensures (λ (x : Identity). p x || list_any (λ (d : JobCrl). holds (facts_of_crl d) x) (take c.loop-crl.crl-index c.args.crls.now)) (c.loop-crl.invariant p e)
+    c.in_ok-mark_crl.ensures (λ (x : Identity). p x || list_any (λ (d : JobCrl). holds (facts_of_crl d) x) (take c.loop-crl.crl-index c.args.crls.now)) (c.loop-crl.invariant p e)
     ∙ all_step p (λ (x : Identity) (d : JobCrl). holds (facts_of_crl d) x) c.args.crls.now c.loop-crl.crl-index c.crl-item.result (ids_of c.args.members.now) c.loop-crl-test.true c.crl-item.is

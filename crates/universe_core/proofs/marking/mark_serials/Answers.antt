@@ -1,12 +1,21 @@
 use Rattle.std.specs.Str.{bytes_eq}
-use Rattle.std.proofs.Common.{◌∙◌, take, ◌||◌, ◌&&◌}
+use Rattle.std.proofs.Common.{◌∙◌, take, ◌||◌, ◌&&◌, ap, sym, arith}
+use Rattle.std.proofs.lemmas.List.{length-map}
 use Rattle.ident_core.specs.declared.identity.Identity.{Identity}
 use Rattle.sets_core.specs.Sets.{has_key}
+use Rattle.sets_core.proofs.Keyed.{get_map}
 use Rattle.sets_core.proofs.Marks.{marks_step}
+use Rattle.universe_core.specs.Marking.{listed_in}
 use Rattle.universe_core.specs.Members.{ids_of}
+use Rattle.universe_core.specs.declared.listing.Listed.{Listed}
 use Rattle.universe_core.proofs.marking.mark_serials.Goals as goal
 
-pub loop-serial-preserved : goal.loop-serial-preserved
-loop-serial-preserved c = λ p e.
-    c.mark_identity.ensures (λ (x : Identity). p x || (bytes_eq x.issuer c.args.issuer.now && has_key (take c.loop-serial.serial-index c.args.serials.now) x.serial)) (c.loop-serial.invariant p e)
-    ∙ marks_step p c.args.issuer.now c.args.serials.now c.loop-serial.serial-index c.serial-item.result (ids_of c.args.members.now) c.loop-serial-test.true c.serial-item.is
+pub loop-one-preserved : goal.loop-one-preserved
+loop-one-preserved c = λ p e.
+    let i = c.loop-one.one-index in
+    let ls = c.args.listed.now in
+    let n = length-map ls (λ (l : Listed). l.serial.now) in
+    c.mark_serial.ensures (λ (x : Identity). p x || (bytes_eq x.issuer c.args.issuer.now && has_key (take i (listed_in ls)) x.serial)) (c.loop-one.invariant p e)
+    ∙ marks_step p c.args.issuer.now (listed_in ls) i c.one-item.result.serial.now (ids_of c.args.members.now)
+    (let t = c.loop-one-test.true in omega arith)
+    (ap (λ (l : Listed). l.serial.now) c.one-item.is ∙ sym (get_map (λ (l : Listed). l.serial.now) ls i c.one-item.result))

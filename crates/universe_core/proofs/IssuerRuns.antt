@@ -1,0 +1,258 @@
+-- The run of an issuer's members, and the serials that a CRL lists.
+use Rattle.std.specs.List.{slice_get}
+use Rattle.std.specs.List.Sorted.{IsStrictlySortedBy, IsBinarySearchResult, IsPartitionedBy, IsPartitionPoint}
+use Rattle.std.specs.Str.{bytes_eq}
+use Rattle.std.specs.Prelude.{IsPermutation, not}
+use Rattle.std.specs.Cmp.{IsTotalOrder}
+use Rattle.std.specs.declared.cmp.Ordering.{Ordering}
+use Rattle.std.specs.declared.cmp.Ordering.TheVariants.{Less, Equal, Greater}
+use Rattle.std.specs.Ordering.{nat_cmp, is_lt, is_gt, ordering_then}
+use Rattle.std.proofs.Common.{◌≡◌, ℕ, zero, suc, ◌+◌, ◌-◌, ◌≤◌, ◌<◌, ◌||◌, ◌&&◌, List, [], ◌∷◌, map, length, get_or, take, drop, Bool, true, false, cond}
+use Rattle.std.proofs.Common.{Some, Err, refl, sym, ap, ◌∙◌, subst, arith}
+use Rattle.std.proofs.lemmas.Bool.{true≢false, false_from_ne_true}
+use Rattle.std.proofs.lemmas.Cmp.{nat_cmp_total, nat_list_cmp_total, on_total, then_total, tied_itself}
+use Rattle.std.proofs.lemmas.List.{take-map, drop-map, length-drop}
+use Rattle.std.proofs.lemmas.List.Sorted.{Contains-permutation, IsPermutation-sym}
+use Rattle.std.proofs.lemmas.Map.Lookups.{exact_bytes}
+use Rattle.ident_core.specs.declared.identity.Identity.{Identity}
+use Rattle.ident_core.specs.Order.{octets_cmp, serial_cmp, identity_cmp, is_same}
+use Rattle.sets_core.specs.Among.{Among}
+use Rattle.sets_core.specs.Sets.{has_key}
+use Rattle.sets_core.proofs.Canonical.{Among-from_Contains, Contains-from_Among, sorted_cons}
+use Rattle.sets_core.proofs.Elements.{Among-from_place, Among-filter, Among-in_filter, Among-map, Among-in_map, bool_same, map_agree, some_item}
+use Rattle.sets_core.proofs.Groups.{lt_less, no_gt}
+use Rattle.sets_core.proofs.Keyed as keyed
+use Rattle.sets_core.proofs.Keys.{has_none, not_has}
+use Rattle.sets_core.proofs.Order.{sorted_head, sorted_tail, not_below_itself}
+use Rattle.sets_core.proofs.Runs.{above, other_issuer}
+use Rattle.sets_core.proofs.Sets.{bytes_same, bytes_refl, then_equal, Among-from_has_key, has_key-from_Among}
+use Rattle.universe_core.specs.declared.listing.Listed.{Listed}
+use Rattle.universe_core.specs.declared.marking.Run.{Run}
+use Rattle.universe_core.specs.declared.member.Member.{Member}
+use Rattle.universe_core.specs.Groups.{members_of}
+use Rattle.universe_core.specs.Marking.{IsRunOf, listed_in, serials_of}
+use Rattle.universe_core.specs.Members.{ids_of}
+use Rattle.universe_core.proofs.Cutting.{is_below, earlier, keyed_partitioned, rest_is}
+use Rattle.universe_core.proofs.Revoking.{map_map}
+use Rattle.universe_core.proofs.Searching.{bare}
+
+-- ---- a search by serial
+
+serial_total : IsTotalOrder serial_cmp
+serial_total = then_total (on_total (λ (s : List ℕ). length s) nat_cmp_total) nat_list_cmp_total
+
+serial_exact : (a b : List ℕ) → serial_cmp a b ≡ Equal → a ≡ b
+serial_exact a b h = exact_bytes a b (then_equal (nat_cmp (length a) (length b)) (octets_cmp a b) h).1
+
+abbrev bare_serial : List ℕ → Member
+bare_serial s = bare (record { issuer = []; serial = s })
+
+pub found : (ms : List Member) (x : List ℕ) (i : ℕ) → i < length ms → ((d : Member) → serial_cmp (get_or ms i d).id.serial x ≡ Equal) → slice_get (serials_of ms) i ≡ Some x
+found = keyed.found serial_cmp serial_total serial_exact (λ (m : Member). m.id.serial) bare_serial (λ x. refl)
+
+pub missed : (ms : List Member) (x : List ℕ) (i : ℕ) → IsStrictlySortedBy serial_cmp (serials_of ms) → IsBinarySearchResult (λ (m : Member). serial_cmp m.id.serial x) ms (Err i)
+    → has_key (serials_of ms) x ≡ false
+missed ms x i s h =
+    false_from_ne_true (has_key (serials_of ms) x)
+    (λ t. keyed.missed serial_cmp serial_total serial_exact (λ (m : Member). m.id.serial) bare_serial (λ y. refl) ms x i s h (Among-from_has_key (serials_of ms) x t))
+
+-- ---- the run
+
+abbrev pub is_upto : List ℕ → Identity → Bool
+is_upto k x = not (is_lt (octets_cmp k x.issuer))
+
+upto_earlier : (k : List ℕ) (x y : Identity) → identity_cmp x y ≡ Less → is_upto k y ≡ true → is_upto k x ≡ true
+upto_earlier k x y l h = by (is_lt (octets_cmp k x.issuer)) refl
+  where
+    by : (b : Bool) → is_lt (octets_cmp k x.issuer) ≡ b → not b ≡ true
+    by false e = refl
+    by true e = absurd (true≢false (sym h ∙ ap (λ o. not (is_lt o)) (above k x y (lt_less (octets_cmp k x.issuer) e) l)))
+
+sorted_drop : (n : ℕ) (xs : List Identity) → IsStrictlySortedBy identity_cmp xs → IsStrictlySortedBy identity_cmp (drop n xs)
+sorted_drop zero xs s = s
+sorted_drop (suc n) [] s = s
+sorted_drop (suc n) (x ∷ xs) s = sorted_drop n xs (sorted_tail identity_cmp x xs s)
+
+pub start_partitioned : (k : List ℕ) (ms : List Member) → IsStrictlySortedBy identity_cmp (ids_of ms) → IsPartitionedBy (λ (m : Member). is_lt (octets_cmp m.id.issuer k)) ms
+start_partitioned k = keyed_partitioned (λ (m : Member). m.id) (is_below k) (earlier k)
+
+pub end_partitioned : (k : List ℕ) (ms : List Member) (start : ℕ) → IsStrictlySortedBy identity_cmp (ids_of ms)
+    → IsPartitionedBy (λ (m : Member). not (is_lt (octets_cmp k m.id.issuer))) (take (length ms - start) (drop start ms))
+end_partitioned k ms start s =
+    keyed_partitioned (λ (m : Member). m.id) (is_upto k) (upto_earlier k) (take (length ms - start) (drop start ms))
+    (subst (λ xs. IsStrictlySortedBy identity_cmp xs) (drop-map (λ (m : Member). m.id) start ms ∙ sym (ap ids_of (rest_is ms start))) (sorted_drop start (ids_of ms) s))
+
+below_other : (k a : List ℕ) → is_lt (octets_cmp a k) ≡ true → bytes_eq k a ≡ false
+below_other k a h =
+    false_from_ne_true (bytes_eq k a) (λ q. not_below_itself octets_cmp nat_list_cmp_total a k (lt_less (octets_cmp a k) h) (sym (bytes_same k a q)))
+
+beyond_other : (k a : List ℕ) → not (is_lt (octets_cmp k a)) ≡ false → bytes_eq k a ≡ false
+beyond_other k a h = by (octets_cmp k a) refl h
+  where
+    by : (o : Ordering) → octets_cmp k a ≡ o → not (is_lt o) ≡ false → bytes_eq k a ≡ false
+    by Less e g = other_issuer k a e
+    by Equal e g = absurd (true≢false g)
+    by Greater e g = absurd (true≢false g)
+
+between_same : (k a : List ℕ) → is_lt (octets_cmp a k) ≡ false → not (is_lt (octets_cmp k a)) ≡ true → bytes_eq k a ≡ true
+between_same k a h g = by (octets_cmp k a) refl g (no_gt a k h)
+  where
+    by : (o : Ordering) → octets_cmp k a ≡ o → not (is_lt o) ≡ true → is_gt o ≡ false → bytes_eq k a ≡ true
+    by Less e p q = absurd (true≢false (sym p))
+    by Equal e p q = subst (λ z. bytes_eq k z ≡ true) (exact_bytes k a e) (bytes_refl k)
+    by Greater e p q = absurd (true≢false q)
+
+one_more : (k : List ℕ) (x : Identity) (xs ys : List Identity) → bytes_eq k x.issuer ≡ true → ys ≡ members_of k xs → x ∷ ys ≡ members_of k (x ∷ xs)
+one_more k x xs ys b e = ap (λ z. x ∷ z) e ∙ ap (λ c. cond c (x ∷ members_of k xs) (members_of k xs)) (sym b)
+
+no_more : (k : List ℕ) (x : Identity) (xs ys : List Identity) → bytes_eq k x.issuer ≡ false → ys ≡ members_of k xs → ys ≡ members_of k (x ∷ xs)
+no_more k x xs ys b e = e ∙ ap (λ c. cond c (x ∷ members_of k xs) (members_of k xs)) (sym b)
+
+abbrev Starts : List ℕ → List Member → ℕ → Type 0
+Starts k = IsPartitionPoint (λ (m : Member). is_lt (octets_cmp m.id.issuer k) ≡ true) (λ (m : Member). is_lt (octets_cmp m.id.issuer k) ≡ false)
+
+abbrev Ends : List ℕ → List Member → ℕ → Type 0
+Ends k = IsPartitionPoint (λ (m : Member). not (is_lt (octets_cmp k m.id.issuer)) ≡ true) (λ (m : Member). not (is_lt (octets_cmp k m.id.issuer)) ≡ false)
+
+own_first : (k : List ℕ) (ms : List Member) (n : ℕ) → ((i : ℕ) (d : Member) → 0 ≤ i → i < length ms → is_lt (octets_cmp (get_or ms i d).id.issuer k) ≡ false)
+    → n ≤ length ms → Ends k ms n → take n (ids_of ms) ≡ members_of k (ids_of ms)
+own_first k [] zero f le e = refl
+own_first k [] (suc n) f le e = absurd (omega arith)
+own_first k (m ∷ ms) zero f le e =
+    no_more k m.id (ids_of ms) [] (beyond_other k m.id.issuer (e.1 0 m (omega arith) (omega arith)))
+    (own_first k ms zero (λ i d l h. f (suc i) d (omega arith) (omega arith)) (omega arith)
+    (λ i d l h. absurd (omega arith), λ i d l h. e.1 (suc i) d (omega arith) (omega arith)))
+own_first k (m ∷ ms) (suc n) f le e =
+    one_more k m.id (ids_of ms) (take n (ids_of ms)) (between_same k m.id.issuer (f 0 m (omega arith) (omega arith)) (e.0 0 m (omega arith) (omega arith)))
+    (own_first k ms n (λ i d l h. f (suc i) d (omega arith) (omega arith)) (omega arith)
+    (λ i d l h. e.0 (suc i) d (omega arith) (omega arith), λ i d l h. e.1 (suc i) d (omega arith) (omega arith)))
+
+own_at : (k : List ℕ) (ms : List Member) (start n : ℕ) → start ≤ length ms → Starts k ms start → n ≤ length (drop start ms) → Ends k (drop start ms) n
+    → take n (drop start (ids_of ms)) ≡ members_of k (ids_of ms)
+own_at k ms zero n a s b e = own_first k ms n s.1 b e
+own_at k [] (suc start) n a s b e = absurd (omega arith)
+own_at k (m ∷ ms) (suc start) n a s b e =
+    no_more k m.id (ids_of ms) (take n (drop start (ids_of ms))) (below_other k m.id.issuer (s.0 0 m (omega arith) (omega arith)))
+    (own_at k ms start n (omega arith) (λ i d l h. s.0 (suc i) d (omega arith) (omega arith), λ i d l h. s.1 (suc i) d (omega arith) (omega arith)) b e)
+
+pub run_is : (k : List ℕ) (ms : List Member) (start n : ℕ) → start ≤ length ms → Starts k ms start → n ≤ length (take (length ms - start) (drop start ms))
+    → Ends k (take (length ms - start) (drop start ms)) n → IsRunOf k ms (record { start = start; end = start + n })
+run_is k ms start n a s b e =
+    let r = rest_is ms start in
+    let c : n ≤ length (drop start ms) = subst (λ xs. n ≤ length xs) r b in
+    let m : (start + n) - start ≡ n = omega arith in
+    record {
+      order = omega arith;
+      within = omega (arith, length-drop start ms, c, a);
+      own = ap (λ j. take j (drop start (ids_of ms))) m ∙ own_at k ms start n a s c (subst (λ xs. Ends k xs n) r e);
+    }
+
+-- ---- the members of the run
+
+abbrev cut_run : List Member → Run → List Member
+cut_run ms run = take (run.end - run.start) (drop run.start ms)
+
+ids_run : (k : List ℕ) (ms : List Member) (run : Run) → IsRunOf k ms run → ids_of (cut_run ms run) ≡ members_of k (ids_of ms)
+ids_run k ms run r =
+    sym (take-map (λ (m : Member). m.id) (run.end - run.start) (drop run.start ms)) ∙ ap (take (run.end - run.start)) (sym (drop-map (λ (m : Member). m.id) run.start ms)) ∙ r.own
+
+serials_run : (k : List ℕ) (ms : List Member) (run : Run) → IsRunOf k ms run → serials_of (cut_run ms run) ≡ map (λ x. x.serial) (members_of k (ids_of ms))
+serials_run k ms run r =
+    sym (map_map (λ (m : Member). m.id) (λ (x : Identity). x.serial) (cut_run ms run)) ∙ ap (map (λ (x : Identity). x.serial)) (ids_run k ms run r)
+
+serial_less : (x y : Identity) → x.issuer ≡ y.issuer → identity_cmp x y ≡ Less → serial_cmp x.serial y.serial ≡ Less
+serial_less x y e l =
+    let t : octets_cmp x.issuer y.issuer ≡ Equal = ap (octets_cmp x.issuer) (sym e) ∙ tied_itself nat_list_cmp_total x.issuer in
+    sym (ap (λ o. ordering_then o (serial_cmp x.serial y.serial)) t) ∙ l
+
+sorted_none : IsStrictlySortedBy serial_cmp []
+unfolding IsStrictlySortedBy
+sorted_none = tt
+
+own_sorted : (k : List ℕ) (xs : List Identity) → IsStrictlySortedBy identity_cmp xs → IsStrictlySortedBy serial_cmp (map (λ x. x.serial) (members_of k xs))
+own_sorted k [] s = sorted_none
+own_sorted k (x ∷ xs) s = by (own_sorted k xs (sorted_tail identity_cmp x xs s)) (bytes_eq k x.issuer) refl
+  where
+    below : bytes_eq k x.issuer ≡ true → (z : List ℕ) → Among (map (λ (y : Identity). y.serial) (members_of k xs)) z → serial_cmp x.serial z ≡ Less
+    below b z a =
+        let w = Among-map (λ (y : Identity). y.serial) (members_of k xs) z a in
+        let f = Among-filter (λ (y : Identity). bytes_eq k y.issuer) xs w.0 w.1 in
+        subst (λ q. serial_cmp x.serial q ≡ Less) w.2
+        (serial_less x w.0 (sym (bytes_same k x.issuer b) ∙ bytes_same k w.0.issuer f.1) (sorted_head identity_cmp x xs w.0 s f.0))
+
+    by : IsStrictlySortedBy serial_cmp (map (λ (y : Identity). y.serial) (members_of k xs))
+        → (b : Bool) → bytes_eq k x.issuer ≡ b → IsStrictlySortedBy serial_cmp (map (λ (y : Identity). y.serial) (cond b (x ∷ members_of k xs) (members_of k xs)))
+    by rest true e = sorted_cons serial_cmp x.serial (map (λ (y : Identity). y.serial) (members_of k xs)) (below e) rest
+    by rest false e = rest
+
+pub run_sorted : (k : List ℕ) (ms : List Member) (run : Run) → IsStrictlySortedBy identity_cmp (ids_of ms) → IsRunOf k ms run → IsStrictlySortedBy serial_cmp (serials_of (cut_run ms run))
+run_sorted k ms run s r = subst (λ xs. IsStrictlySortedBy serial_cmp xs) (sym (serials_run k ms run r)) (own_sorted k (ids_of ms) s)
+
+at_take : {A : Type 0} (xs : List A) (n i : ℕ) (x : A) → slice_get (take n xs) i ≡ Some x → slice_get xs i ≡ Some x
+at_take xs zero i x h = absurd cc
+at_take [] (suc n) i x h = absurd cc
+at_take (y ∷ xs) (suc n) zero x h = h
+at_take (y ∷ xs) (suc n) (suc i) x h = at_take xs n i x h
+
+at_drop : {A : Type 0} (xs : List A) (n i : ℕ) (x : A) → slice_get (drop n xs) i ≡ Some x → slice_get xs (n + i) ≡ Some x
+at_drop xs zero i x h = let e : 0 + i ≡ i = omega arith in ap (λ j. slice_get xs j) e ∙ h
+at_drop [] (suc n) i x h = absurd cc
+at_drop (y ∷ xs) (suc n) i x h = let e : suc n + i ≡ suc (n + i) = omega arith in ap (λ j. slice_get (y ∷ xs) j) e ∙ at_drop xs n i x h
+
+at_map : (xs : List Identity) (i : ℕ) (z : List ℕ) → slice_get (map (λ x. x.serial) xs) i ≡ Some z → (x : Identity) × (slice_get xs i ≡ Some x) × (x.serial ≡ z)
+at_map [] i z h = absurd cc
+at_map (x ∷ xs) zero z h = (x, refl, some_item x.serial z h)
+at_map (x ∷ xs) (suc i) z h = at_map xs i z h
+
+abbrev pub of_issuer : List ℕ → List ℕ → Identity
+of_issuer k z = record { issuer = k; serial = z }
+
+pub run_place : (k : List ℕ) (ms : List Member) (run : Run) (i : ℕ) (z : List ℕ) → IsRunOf k ms run → slice_get (serials_of (cut_run ms run)) i ≡ Some z
+    → slice_get (ids_of ms) (run.start + i) ≡ Some (of_issuer k z)
+run_place k ms run i z r h =
+    let q = at_map (members_of k (ids_of ms)) i z (subst (λ xs. slice_get xs i ≡ Some z) (serials_run k ms run r) h) in
+    let f = Among-filter (λ (y : Identity). bytes_eq k y.issuer) (ids_of ms) q.0 (Among-from_place (members_of k (ids_of ms)) i q.0 q.1) in
+    let e : q.0.issuer ≡ k = sym (bytes_same k q.0.issuer f.1) in
+    let t = subst (λ xs. slice_get xs i ≡ Some q.0) (sym r.own) q.1 in
+    at_drop (ids_of ms) run.start i q.0 (at_take (drop run.start (ids_of ms)) (run.end - run.start) i q.0 t)
+    ∙ (λ j. Some (of_issuer (e j) (q.2 j)))
+
+pub run_none : (k : List ℕ) (ms : List Member) (run : Run) (z : List ℕ) → IsRunOf k ms run → has_key (serials_of (cut_run ms run)) z ≡ false
+    → (x : Identity) → Among (ids_of ms) x → is_same x (of_issuer k z) ≡ false
+run_none k ms run z r h =
+    not_has (ids_of ms) (of_issuer k z) (has_none (ids_of ms) (of_issuer k z) (λ a.
+    let f = Among-in_filter (λ (y : Identity). bytes_eq k y.issuer) (ids_of ms) (of_issuer k z) a (bytes_refl k) in
+    let m = Among-in_map (λ (y : Identity). y.serial) (members_of k (ids_of ms)) (of_issuer k z) f in
+    true≢false (sym (has_key-from_Among (serials_of (cut_run ms run)) z (subst (λ xs. Among xs z) (sym (serials_run k ms run r)) m)) ∙ h)))
+
+-- where there are none of the issuer, no list of its marks any
+no_own : (k : List ℕ) (ms : List Member) (run : Run) → IsRunOf k ms run → run.start ≡ run.end → members_of k (ids_of ms) ≡ []
+no_own k ms run r e = let z : run.end - run.start ≡ 0 = omega arith in sym r.own ∙ ap (λ n. take n (drop run.start (ids_of ms))) z
+
+pub none_marked : (p : Identity → Bool) (k : List ℕ) (ss : List (List ℕ)) (ms : List Member) (run : Run) → IsRunOf k ms run → run.start ≡ run.end
+    → map p (ids_of ms) ≡ map (λ x. p x || (bytes_eq x.issuer k && has_key ss x.serial)) (ids_of ms)
+none_marked p k ss ms run r e =
+    map_agree p (λ (x : Identity). p x || (bytes_eq x.issuer k && has_key ss x.serial)) (ids_of ms) (λ x a.
+    let b : bytes_eq x.issuer k ≡ false =
+    false_from_ne_true (bytes_eq x.issuer k) (λ t.
+    let u : bytes_eq k x.issuer ≡ true = subst (λ y. bytes_eq k y ≡ true) (sym (bytes_same x.issuer k t)) (bytes_refl k) in
+    subst (λ xs. Among xs x) (no_own k ms run r e) (Among-in_filter (λ (y : Identity). bytes_eq k y.issuer) (ids_of ms) x a u)) in
+    rw b (unmarked_is (p x)))
+  where
+    unmarked_is : (b : Bool) → b ≡ (b || false)
+    unmarked_is true = refl
+    unmarked_is false = refl
+
+-- ---- listed serials
+
+permuted : (old new : List Listed) → IsPermutation old new → (l : Listed) → Among old l → Among new l
+permuted old new p l a = Among-from_Contains new l (Contains-permutation old new l p (Contains-from_Among old l a))
+
+has_kept : (old new : List Listed) → IsPermutation old new → (x : List ℕ) → has_key (listed_in old) x ≡ true → has_key (listed_in new) x ≡ true
+has_kept old new p x h =
+    let w = Among-map (λ (l : Listed). l.serial.now) old x (Among-from_has_key (listed_in old) x h) in
+    has_key-from_Among (listed_in new) x (subst (λ z. Among (listed_in new) z) w.2 (Among-in_map (λ (l : Listed). l.serial.now) new w.0 (permuted old new p w.0 w.1)))
+
+pub same_listed : (old new : List Listed) → IsPermutation old new → (x : List ℕ) → has_key (listed_in new) x ≡ has_key (listed_in old) x
+same_listed old new p x =
+    bool_same (has_key (listed_in new) x) (has_key (listed_in old) x) (has_kept new old (IsPermutation-sym old new p) x) (has_kept old new p x)

@@ -1,0 +1,23 @@
+-- The serials that a CRL lists, and the run of its issuer among ascending members.
+use Rattle.std.specs.Prelude.{◌≡◌, ℕ, ◌≤◌, ◌-◌, List, length, map, take, drop}
+use Rattle.universe_core.specs.Groups.{members_of}
+use Rattle.universe_core.specs.Members.{ids_of}
+use Rattle.universe_core.specs.Placing.{IsKeyOf}
+use Rattle.universe_core.specs.declared.listing.Listed.{Listed}
+use Rattle.universe_core.specs.declared.marking.Run.{Run}
+use Rattle.universe_core.specs.declared.member.Member.{Member}
+
+abbrev pub serials_of : List Member → List (List ℕ)
+serials_of members = map (λ m. m.id.serial) members
+
+abbrev pub listed_in : List Listed → List (List ℕ)
+listed_in listed = map (λ l. l.serial.now) listed
+
+abbrev pub IsListed : Listed → Type 0
+IsListed l = IsKeyOf l.serial.now l.key
+
+-- the run holds the members of the issuer
+pub record IsRunOf (issuer : List ℕ) (members : List Member) (run : Run) : Type 0 where
+  pub order : run.start ≤ run.end
+  pub within : run.end ≤ length members
+  pub own : take (run.end - run.start) (drop run.start (ids_of members)) ≡ members_of issuer (ids_of members)
