@@ -72,8 +72,8 @@ no-fault : (f : Option PartFault) (reader : PartReader) (s : SealedFields × Boo
 no-fault None reader s is again = is
 no-fault (Some e) reader s is again = absurd (let h : ◌≡◌ {A = Result (SealedFields × Bool) FileFault} (Ok s) (Err (of_part e)) = again e is in cc)
 
--- a part has less than 2^41 bytes
-pub few-bytes : (reader : PartReader) (b : List ℕ) → reader.fault ≡ None → ReadsFor reader b → length b < 2 ^ 41
+-- a part has less than 2^49 bytes
+pub few-bytes : (reader : PartReader) (b : List ℕ) → reader.fault ≡ None → ReadsFor reader b → length b < 2 ^ 49
 few-bytes reader b is st =
     let reads = subst (λ (f : Option PartFault). ReadsBy f reader.machine reader.pile reader.hasher b) is st in
     let m = reader.machine in
@@ -122,7 +122,7 @@ end-fits (Err e) reader b from at st place fits within = let le = within b st in
 
 -- the end of a part
 pub end-near : (r : Result (SealedFields × Bool) FileFault) (reader : PartReader) (b : List ℕ) (from at : ℕ) → ReadsFor reader b → at ≡ from + length b
-    → ((e : PartFault) → reader.fault ≡ Some e → r ≡ Err (of_part e)) → OnOk r (at ≤ from + 2 ^ 41)
+    → ((e : PartFault) → reader.fault ≡ Some e → r ≡ Err (of_part e)) → OnOk r (at ≤ from + 2 ^ 49)
 end-near (Ok s) reader b from at st place again = let few = few-bytes reader b (no-fault reader.fault reader s refl again) st in omega (arith, few, place)
 end-near (Err e) reader b from at st place again = tt
 

@@ -22,10 +22,10 @@ pub record AreTaken (told : Option Files) (name bytes : List ℕ) (at : ℕ) : T
 abbrev pub CouldNotRead : Option Files → (Option (List ℕ) → Type 0) → List ℕ → Type 0
 CouldNotRead told failed name = failed (Some name) ⊎ (IsMissing told name × failed None)
 
--- the bytes that were taken, with those of the part, which has less than 2^41
+-- the bytes that were taken, with those of the part, which has less than 2^49
 pub record PartFollows (told : Option Files) (name before : List ℕ) (s : SealedFields) (at : ℕ) : Type 0 where
   pub bytes : List ℕ
-  pub few : length bytes < 2 ^ 41
+  pub few : length bytes < 2 ^ 49
   pub place : length (before ++ bytes) ≡ at
   pub front : IsHeld told name (λ file. before ++ bytes ≡ take at file)
   pub is : (x : List ℕ) → part (bytes ++ x) 0 ≡ Ok (s, length bytes)

@@ -44,8 +44,8 @@ pub fn next_part<D: Depot>(
     ensures comes { (b : List ℕ) → AreTaken (D.files (depot_of feed.old)) (name_of feed.old) b (place_of feed.old)
         → ComesOfPart (D.files (depot_of feed.old)) (WhichFailed D.Depot (depot_of feed.old) (depot_of feed.new))
         (name_of feed.old) b (place_of feed.new) result }
-    // A part has less than 2^41 bytes.
-    ensures near { OnOk result (place_of feed.new ≤ place_of feed.old + 2 ^ 41) }
+    // A part has less than 2^49 bytes.
+    ensures near { OnOk result (place_of feed.new ≤ place_of feed.old + 2 ^ 49) }
     ensures offset { IfErr result (λ e. place_of feed.old + offset_in e < 2 ^ 64) }
     ensures same_reference { reference_of feed.new ≡ reference_of feed.old }
     ensures name { name_of feed.new ≡ name_of feed.old }

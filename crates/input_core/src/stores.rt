@@ -112,7 +112,7 @@ fn part_at<D: Depot>(alloc: Global, feed: &mut Feed<'_, D>) -> Result<(Sealed, b
     ensures comes { (b : List ℕ) → AreTaken (D.files (depot_of feed.old)) (name_of feed.old) b (place_of feed.old)
         → ComesOfPartAt (D.files (depot_of feed.old)) (WhichFailed D.Depot (depot_of feed.old) (depot_of feed.new))
         (name_of feed.old) b (place_of feed.new) result }
-    ensures near { OnOk result (place_of feed.new ≤ place_of feed.old + 2 ^ 41) }
+    ensures near { OnOk result (place_of feed.new ≤ place_of feed.old + 2 ^ 49) }
     ensures same_reference { reference_of feed.new ≡ reference_of feed.old }
     ensures name { name_of feed.new ≡ name_of feed.old }
     ensures in_order { IsInOrder D.Depot feed.new }
@@ -132,7 +132,7 @@ fn begun<D: Depot>(alloc: Global, feed: &mut Feed<'_, D>) -> Result<(Store, bool
     ensures comes { (count : ℕ) → HasOpening (D.files (depot_of feed.old)) (name_of feed.old) (place_of feed.old) count
         → ComesOfStore (D.files (depot_of feed.old)) (WhichFailed D.Depot (depot_of feed.old) (depot_of feed.new))
         (name_of feed.old) (place_of feed.new) (count - 1) result }
-    ensures near { OnOk result (place_of feed.new ≤ place_of feed.old + 2 ^ 41) }
+    ensures near { OnOk result (place_of feed.new ≤ place_of feed.old + 2 ^ 49) }
     ensures same_reference { reference_of feed.new ≡ reference_of feed.old }
     ensures name { name_of feed.new ≡ name_of feed.old }
     ensures in_order { IsInOrder D.Depot feed.new }
@@ -157,7 +157,7 @@ fn install_next<D: Depot>(
         → HasParts (D.files (depot_of feed.old)) (name_of feed.old) (place_of feed.old) (suc left) store.old ended
         → ComesOfNext (D.files (depot_of feed.old)) (WhichFailed D.Depot (depot_of feed.old) (depot_of feed.new))
         (name_of feed.old) (place_of feed.new) left store.new result }
-    ensures near { OnOk result (place_of feed.new ≤ place_of feed.old + 2 ^ 41) }
+    ensures near { OnOk result (place_of feed.new ≤ place_of feed.old + 2 ^ 49) }
     ensures same_reference { reference_of feed.new ≡ reference_of feed.old }
     ensures name { name_of feed.new ≡ name_of feed.old }
     ensures in_order { IsInOrder D.Depot feed.new }
@@ -178,7 +178,7 @@ fn continued<D: Depot>(
     count: u8,
 ) -> Result<(Store, bool), FileFault>
     requires in_order { IsInOrder D.Depot feed.old }
-    requires near { place_of feed.old ≤ 2 ^ 42 }
+    requires near { place_of feed.old ≤ 2 ^ 50 }
     ensures comes { HasParts (D.files (depot_of feed.old)) (name_of feed.old) (place_of feed.old) count begun.0 begun.1
         → ComesOfStore (D.files (depot_of feed.old)) (WhichFailed D.Depot (depot_of feed.old) (depot_of feed.new))
         (name_of feed.old) (place_of feed.new) 0 result }
