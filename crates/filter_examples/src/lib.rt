@@ -10,6 +10,8 @@ mod parts;
 #[cfg(test)]
 mod pieces;
 #[cfg(test)]
+mod sharded_parts;
+#[cfg(test)]
 mod shards;
 #[cfg(test)]
 mod stages;

@@ -178,7 +178,7 @@ pub(crate) fn changed(
 }
 
 // A text cut to a length, with one byte set, and the field that then fails, with its offset.
-const DAMAGED: [(&str, usize, usize, u8, u64, Field, Why); 20] = [
+const DAMAGED: [(&str, usize, usize, u8, u64, Field, Why); 21] = [
     (
         ONE_REVOKED,
         100,
@@ -198,7 +198,8 @@ const DAMAGED: [(&str, usize, usize, u8, u64, Field, Why); 20] = [
         Why::Short,
     ),
     (ONE_REVOKED, 169, 0, 0x63, 0, Field::PartMagic, Why::Value),
-    (ONE_REVOKED, 169, 8, 2, 8, Field::PartVersion, Why::Value),
+    (ONE_REVOKED, 169, 8, 3, 8, Field::PartVersion, Why::Value),
+    (ONE_REVOKED, 169, 8, 2, 137, Field::PartSharded, Why::Value),
     (ONE_REVOKED, 169, 9, 2, 9, Field::PartKind, Why::Value),
     (
         ONE_REVOKED,

@@ -64,7 +64,7 @@ const FIELDS: [(Field, usize); 17] = [
 ];
 
 // A scan of these bytes in pieces of a length.
-fn scanned(piece: usize, bytes: &[u8]) -> Result<(usize, PartNote), LayoutFault>
+pub(crate) fn scanned(piece: usize, bytes: &[u8]) -> Result<(usize, PartNote), LayoutFault>
     requires { 1 ≤ piece }
 {
     let mut scan = PartScan::new();
@@ -77,7 +77,11 @@ fn scanned(piece: usize, bytes: &[u8]) -> Result<(usize, PartNote), LayoutFault>
 }
 
 // The part of these bytes, read in pieces of a length.
-fn read_in(alloc: Global, piece: usize, bytes: &[u8]) -> Result<(usize, Sealed), PartFault>
+pub(crate) fn read_in(
+    alloc: Global,
+    piece: usize,
+    bytes: &[u8],
+) -> Result<(usize, Sealed), PartFault>
     requires { 1 ≤ piece }
 {
     let mut reader = PartReader::new(alloc);
@@ -90,7 +94,7 @@ fn read_in(alloc: Global, piece: usize, bytes: &[u8]) -> Result<(usize, Sealed),
 }
 
 // Both give this fault, in pieces of 1, 2 and 4,096 bytes.
-fn refuse(rt: &impl Abort, alloc: Global, bytes: &[u8], fault: LayoutFault) {
+pub(crate) fn refuse(rt: &impl Abort, alloc: Global, bytes: &[u8], fault: LayoutFault) {
     for piece in [1, 2, 4096] {
         assert_eq!(rt;
             scanned(piece, bytes).err(),

@@ -3,6 +3,7 @@
 
 ghost use Rattle.std.specs.Prelude.{◌≡◌, ◌<◌};
 
+use crate::sharded_parts::TWO_SHARDS;
 use card_core::Part;
 use ident_core::{Head, Identity, Kind, Serial, Sighting};
 use octets_core::{Field, Key32, LayoutFault, Steps, Why};
@@ -33,6 +34,17 @@ const DELTA: &str = "\
     2222222222222222222222222222222222222222222222220133333333333333\
     333333333333333333333333333333333333333333333333330089858c93bca9\
     2ed756d11eb7aa0aeef7ce2d97b610541bd0d4b8c8e2276523c1";
+
+// The same of version 2, with a block of two shards, of mode all, in place of the one of mode all.
+const SHARDED_DELTA: &str = "\
+    434c55424341524402010000000000000002d81f7491ee81db3212aa1014a863\
+    03aa7cfc57bf68bc06acd452dd0a5bacd30d0002aaaaaaaaaaaaaaaaaaaaaaaa\
+    aaaaaaaaaaaaaaaaaaaaaaaaaaaaaaaaaaaaaaaa0000018bcfe568000000018b\
+    cfe56fd0bbbbbbbbbbbbbbbbbbbbbbbbbbbbbbbbbbbbbbbbbbbbbbbbbbbbbbbb\
+    bbbbbbbb00000000000000000000000000000009000000022222222222222222\
+    2222222222222222222222222222222222222222222222220301010133333333\
+    333333333333333333333333333333333333333333333333333333330000f48c\
+    8daaf26de1288bc85411c766c1a7ab7ad52455b1c650346ec70877151d";
 
 // The bytes of a store that says that it has so many parts, which have these texts.
 fn store_bytes(alloc: Global, count: u8, parts: &[&str]) -> Result<Vec<u8>, Fail> {
@@ -104,9 +116,14 @@ fn verdict_of<L: Ledger, M: Ledger>(
 
 // What the store says of a certificate of the issuer that the log saw at the time.
 fn ask(store: &Store, issuer: u8, log: u8, time: u64) -> Result<Verdict, Fail> {
+    ask_serial(store, issuer, 5, log, time)
+}
+
+// The same of a serial.
+fn ask_serial(store: &Store, issuer: u8, serial: u8, log: u8, time: u64) -> Result<Verdict, Fail> {
     let id = Identity {
         issuer: Key32::new([issuer; 32]),
-        serial: Serial::new(&[5])?,
+        serial: Serial::new(&[serial])?,
     };
     let sighting = Sighting {
         log: Key32::new([log; 32]),
@@ -145,6 +162,34 @@ fn asks_each_part_that_covers(rt: HostRuntime) -> Result<(), Fail> {
             verdict,
             "issuer {issuer} at {time}"
         );
+    }
+    Ok(())
+}
+
+#[test]
+fn shards_answer_for_their_certificates(rt: HostRuntime) -> Result<(), Fail> {
+    let store = begun(rt.alloc(), decoded(rt.alloc(), TWO_SHARDS)?)?;
+    for serial in [5, 7] {
+        let verdict = ask_serial(&store, 0x11, serial, 0xaa, 1_700_000_000_000)?;
+        assert_eq!(rt; verdict, Verdict::Revoked, "serial {serial}");
+    }
+    Ok(())
+}
+
+#[test]
+fn both_versions_stand_in_one_store(rt: HostRuntime) -> Result<(), Fail> {
+    let bytes = store_bytes(rt.alloc(), 2, &[SNAPSHOT, SHARDED_DELTA])?;
+    let store = decode_store(rt.alloc(), &bytes)?;
+    assert_eq!(rt; encode_store(rt.alloc(), &store)?, bytes);
+    let rows = [
+        (0x11, Verdict::Revoked),
+        (0x22, Verdict::Revoked),
+        (0x33, Verdict::Good),
+        (0x44, Verdict::NotEnrolled),
+    ];
+    for (issuer, verdict) in rows {
+        let said = ask(&store, issuer, 0xaa, 1_700_000_000_000)?;
+        assert_eq!(rt; said, verdict, "issuer {issuer}");
     }
     Ok(())
 }

@@ -1,4 +1,4 @@
-use Rattle.filter_examples.proofs.stores.ask.Given as goal
+use Rattle.filter_examples.proofs.stores.ask_serial.Given as goal
 
 abbrev pub ghosts-verdict_of-L-Ledger : goal.ghosts-verdict_of-L-Ledger
 ghosts-verdict_of-L-Ledger a = record { name = a.probes.name; parts = a.probes.parts }
