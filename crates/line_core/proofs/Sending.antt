@@ -111,7 +111,8 @@ shards-written i leaves l told mid new lt is before more =
     let same : suc i ≡ i + 1 = omega arith in
     let front : i ≡ 0 + i = omega arith in
     more ∙ ap (λ (t : Option (List ℕ)). followed_by t (shard_line i l)) before ∙ followed_by-twice told (shard_lines 0 (take i leaves)) (shard_line i l)
-    ∙ ap (λ (n : ℕ). followed_by told (shard_lines 0 (take i leaves) ++ shard_line n l)) front ∙ ap (followed_by told) (sym (shards-more 0 i leaves l lt is)) ∙ ap (λ (n : ℕ). followed_by told (shard_lines 0 (take n leaves))) same
+    ∙ ap (λ (n : ℕ). followed_by told (shard_lines 0 (take i leaves) ++ shard_line n l)) front
+    ∙ ap (followed_by told) (sym (shards-more 0 i leaves l lt is)) ∙ ap (λ (n : ℕ). followed_by told (shard_lines 0 (take n leaves))) same
 
 -- the sink failed at a line
 pub shards-fail : (i : ℕ) (leaves : List Leaf) (l : Leaf) (told mid new : Option (List ℕ)) (first then last : ℕ) (e : Failed) → i < length leaves → l ≡ get_or leaves i l
