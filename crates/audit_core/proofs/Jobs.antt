@@ -1,0 +1,91 @@
+-- The history of jobs, one job after the other.
+use Rattle.std.specs.List.{slice_get}
+use Rattle.std.proofs.Common.{◌≡◌, ℕ, zero, suc, ◌+◌, ◌≤◌, List, [], ◌∷◌, ◌++◌, map, length, take, drop, Some, refl, sym, ap, ◌∙◌, subst, append_assoc, length-append, arith}
+use Rattle.std.proofs.lemmas.List.{map-append, append-nil, length-map}
+use Rattle.ident_core.specs.HeadFields.{zero_key}
+use Rattle.job_core.specs.declared.bounds.TheConstants.Limits.{PUBLISHED}
+use Rattle.job_core.specs.JobFields.{JobFields}
+use Rattle.universe_core.specs.Jobs.{Job, facts_of}
+use Rattle.universe_core.specs.History.{Release, past_of, released, releases}
+use Rattle.history_core.specs.Facts.{IsSound}
+use Rattle.history_core.proofs.Sound.{nothing_sound, keeps_sound}
+use Rattle.history_core.proofs.Following.{admitted_follows}
+use Rattle.audit_core.specs.Auditing.{history, AreAdmitted}
+use Rattle.audit_core.proofs.Lists.{at_place, cut_at, take_at}
+
+abbrev zeros : List Release → Job → List ℕ
+zeros rs job = zero_key
+
+-- ---- releases
+
+releases-append : (trailer : List Release → Job → List ℕ) (rs : List Release) (xs ys : List Job) → releases trailer rs (xs ++ ys) ≡ releases trailer (releases trailer rs xs) ys
+unfolding releases
+releases-append t rs [] ys = refl
+releases-append t rs (x ∷ xs) ys = releases-append t (rs ++ released (past_of rs) x (t rs x) ∷ []) xs ys
+
+-- they begin with those that were there
+releases-rest : (trailer : List Release → Job → List ℕ) (rs : List Release) (jobs : List Job) → (rest : List Release) × (releases trailer rs jobs ≡ rs ++ rest)
+unfolding releases
+releases-rest t rs [] = ([], sym (append-nil rs))
+releases-rest t rs (job ∷ jobs) =
+    let r = released (past_of rs) job (t rs job) in
+    let n = releases-rest t (rs ++ r ∷ []) jobs in
+    (r ∷ n.0, n.1 ∙ append_assoc rs (r ∷ []) n.0)
+
+releases-length : (trailer : List Release → Job → List ℕ) (rs : List Release) (jobs : List Job) → length (releases trailer rs jobs) ≡ length rs + length jobs
+unfolding releases
+releases-length t rs [] = omega arith
+releases-length t rs (job ∷ jobs) =
+    let r = released (past_of rs) job (t rs job) in
+    let n = releases-length t (rs ++ r ∷ []) jobs in
+    let m = length-append rs (r ∷ []) in
+    omega arith
+
+-- ---- the history
+
+-- what a job leaves behind others
+abbrev pub release_behind : List JobFields → JobFields → Release
+release_behind jobs job = released (past_of (history jobs)) (facts_of job) zero_key
+
+history-append : (xs ys : List JobFields) → history (xs ++ ys) ≡ releases zeros (history xs) (map facts_of ys)
+unfolding history
+history-append xs ys = ap (releases zeros []) (map-append facts_of xs ys) ∙ releases-append zeros [] (map facts_of xs) (map facts_of ys)
+
+pub history-push : (jobs : List JobFields) (job : JobFields) → history (jobs ++ job ∷ []) ≡ history jobs ++ release_behind jobs job ∷ []
+unfolding releases
+history-push jobs job = history-append jobs (job ∷ [])
+
+-- the history up to a job, with it
+pub history_at : (jobs : List JobFields) (j : ℕ) (job : JobFields) → slice_get jobs j ≡ Some job
+    → history (take (j + 1) jobs) ≡ history (take j jobs) ++ release_behind (take j jobs) job ∷ []
+history_at jobs j job h = ap history (take_at jobs j job h) ∙ history-push (take j jobs) job
+
+-- the whole history, cut at a job
+pub history_cut : (jobs : List JobFields) (j : ℕ) (job : JobFields) → slice_get jobs j ≡ Some job
+    → (after : List Release) × (history jobs ≡ history (take j jobs) ++ release_behind (take j jobs) job ∷ after)
+unfolding releases
+history_cut jobs j job h =
+    let rest = releases-rest zeros (history (take j jobs) ++ release_behind (take j jobs) job ∷ []) (map facts_of (drop (suc j) jobs)) in (
+      rest.0,
+      ap history (cut_at jobs j job h) ∙ history-append (take j jobs) (job ∷ drop (suc j) jobs) ∙ rest.1
+          ∙ append_assoc (history (take j jobs)) (release_behind (take j jobs) job ∷ []) rest.0,
+    )
+
+pub history-length : (jobs : List JobFields) → length (history jobs) ≡ length jobs
+unfolding history
+history-length jobs = let a = releases-length zeros [] (map facts_of jobs) in let b = length-map jobs facts_of in omega arith
+
+pub history-none : history [] ≡ []
+unfolding history releases
+history-none = refl
+
+-- the facts hold after admitted jobs
+pub history_sound : (jobs : List JobFields) (n : ℕ) → n ≤ length jobs → AreAdmitted jobs n → IsSound (history (take n jobs))
+history_sound jobs zero le a = subst IsSound (sym history-none) nothing_sound
+history_sound jobs (suc n) le a =
+    let at = at_place jobs n (omega arith) in
+    let before = history_sound jobs n (omega arith) (λ j job lt h. a j job (omega arith) h) in
+    let follows = admitted_follows PUBLISHED (history (take n jobs)) at.0 (a n at.0 (omega arith) at.1) in
+    let longer : suc n ≡ n + 1 = omega arith in
+    subst IsSound (sym (ap (λ k. history (take k jobs)) longer ∙ history_at jobs n at.0 at.1))
+    (keeps_sound (history (take n jobs)) (facts_of at.0) zero_key before follows)

@@ -1,0 +1,11 @@
+pub mod Lists
+pub mod Verdicts
+pub mod Telling
+pub mod Checks
+pub mod Jobs
+pub mod Accepting
+pub mod Judging
+pub mod Knowing
+pub mod Causes
+pub mod Sightings
+pub mod Findings
