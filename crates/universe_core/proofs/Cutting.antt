@@ -33,7 +33,7 @@ earlier k x y l b =
     (λ (o : octets_cmp x.issuer y.issuer ≡ Equal). subst (λ (z : List ℕ). is_lt (octets_cmp z k) ≡ true) (sym (exact_bytes x.issuer y.issuer o)) b)
     (then_less (octets_cmp x.issuer y.issuer) (ordering_then (nat_cmp (length x.serial) (length y.serial)) (octets_cmp x.serial y.serial)) l)
 
-place_cases : (i j : ℕ) → i ≤ j → (i ≡ j) ⊎ (i < j)
+pub place_cases : (i j : ℕ) → i ≤ j → (i ≡ j) ⊎ (i < j)
 place_cases zero zero h = inl refl
 place_cases zero (suc j) h = inr (omega arith)
 place_cases (suc i) zero h = absurd (omega arith)

@@ -7,11 +7,11 @@ use Rattle.std.specs.Cmp.{IsTotalOrder}
 use Rattle.std.specs.declared.cmp.Ordering.{Ordering}
 use Rattle.std.specs.declared.cmp.Ordering.TheVariants.{Less, Equal, Greater}
 use Rattle.std.specs.Ordering.{nat_cmp, is_lt, is_gt, ordering_then}
-use Rattle.std.proofs.Common.{◌≡◌, ℕ, zero, suc, ◌+◌, ◌-◌, ◌≤◌, ◌<◌, ◌||◌, ◌&&◌, List, [], ◌∷◌, map, length, get_or, take, drop, Bool, true, false, cond}
+use Rattle.std.proofs.Common.{◌≡◌, ℕ, zero, suc, ◌+◌, ◌-◌, ◌≤◌, ◌<◌, inl, inr, ⊎_elim, ◌||◌, ◌&&◌, List, [], ◌∷◌, map, length, get_or, take, drop, Bool, true, false, cond}
 use Rattle.std.proofs.Common.{Some, Err, refl, sym, ap, ◌∙◌, subst, arith}
-use Rattle.std.proofs.lemmas.Bool.{true≢false, false_from_ne_true}
+use Rattle.std.proofs.lemmas.Bool.{true≢false, false_from_ne_true, cases_lt}
 use Rattle.std.proofs.lemmas.Cmp.{nat_cmp_total, nat_list_cmp_total, on_total, then_total, tied_itself}
-use Rattle.std.proofs.lemmas.List.{take-map, drop-map, length-drop}
+use Rattle.std.proofs.lemmas.List.{take-map, drop-map, length-drop, length-map}
 use Rattle.std.proofs.lemmas.List.Sorted.{Contains-permutation, IsPermutation-sym}
 use Rattle.std.proofs.lemmas.Map.Lookups.{exact_bytes}
 use Rattle.ident_core.specs.declared.identity.Identity.{Identity}
@@ -22,7 +22,7 @@ use Rattle.sets_core.proofs.Canonical.{Among-from_Contains, Contains-from_Among,
 use Rattle.sets_core.proofs.Elements.{Among-from_place, Among-filter, Among-in_filter, Among-map, Among-in_map, bool_same, map_agree, some_item}
 use Rattle.sets_core.proofs.Groups.{lt_less, no_gt}
 use Rattle.sets_core.proofs.Keyed as keyed
-use Rattle.sets_core.proofs.Keys.{has_none, not_has}
+use Rattle.sets_core.proofs.Keys.{below_later, has_none, not_greater, not_has}
 use Rattle.sets_core.proofs.Order.{sorted_head, sorted_tail, not_below_itself}
 use Rattle.sets_core.proofs.Runs.{above, other_issuer}
 use Rattle.sets_core.proofs.Sets.{bytes_same, bytes_refl, then_equal, Among-from_has_key, has_key-from_Among}
@@ -30,9 +30,9 @@ use Rattle.universe_core.specs.declared.listing.Listed.{Listed}
 use Rattle.universe_core.specs.declared.marking.Run.{Run}
 use Rattle.universe_core.specs.declared.member.Member.{Member}
 use Rattle.universe_core.specs.Groups.{members_of}
-use Rattle.universe_core.specs.Marking.{IsRunOf, listed_in, serials_of}
+use Rattle.universe_core.specs.Marking.{IsRunOf, IsWindow, listed_in, serials_of}
 use Rattle.universe_core.specs.Members.{ids_of}
-use Rattle.universe_core.proofs.Cutting.{is_below, earlier, keyed_partitioned, rest_is}
+use Rattle.universe_core.proofs.Cutting.{is_below, earlier, keyed_partitioned, place_cases, rest_is}
 use Rattle.universe_core.proofs.Revoking.{map_map}
 use Rattle.universe_core.proofs.Searching.{bare}
 
@@ -149,7 +149,7 @@ run_is k ms start n a s b e =
 
 -- ---- the members of the run
 
-abbrev cut_run : List Member → Run → List Member
+abbrev pub cut_run : List Member → Run → List Member
 cut_run ms run = take (run.end - run.start) (drop run.start ms)
 
 ids_run : (k : List ℕ) (ms : List Member) (run : Run) → IsRunOf k ms run → ids_of (cut_run ms run) ≡ members_of k (ids_of ms)
@@ -224,6 +224,96 @@ run_none k ms run z r h =
     let f = Among-in_filter (λ (y : Identity). bytes_eq k y.issuer) (ids_of ms) (of_issuer k z) a (bytes_refl k) in
     let m = Among-in_map (λ (y : Identity). y.serial) (members_of k (ids_of ms)) (of_issuer k z) f in
     true≢false (sym (has_key-from_Among (serials_of (cut_run ms run)) z (subst (λ xs. Among xs z) (sym (serials_run k ms run r)) m)) ∙ h)))
+
+-- ---- a window of the run
+
+sorted_drop_by : (n : ℕ) (xs : List (List ℕ)) → IsStrictlySortedBy serial_cmp xs → IsStrictlySortedBy serial_cmp (drop n xs)
+sorted_drop_by zero xs s = s
+sorted_drop_by (suc n) [] s = s
+sorted_drop_by (suc n) (x ∷ xs) s = sorted_drop_by n xs (sorted_tail serial_cmp x xs s)
+
+back_take : (n : ℕ) (xs : List (List ℕ)) (z : List ℕ) → Among (take n xs) z → Among xs z
+back_take zero xs z a = absurd a
+back_take (suc n) [] z a = absurd a
+back_take (suc n) (x ∷ xs) z (inl e) = inl e
+back_take (suc n) (x ∷ xs) z (inr a) = inr (back_take n xs z a)
+
+sorted_take : (n : ℕ) (xs : List (List ℕ)) → IsStrictlySortedBy serial_cmp xs → IsStrictlySortedBy serial_cmp (take n xs)
+sorted_take zero xs s = sorted_none
+sorted_take (suc n) [] s = sorted_none
+sorted_take (suc n) (x ∷ xs) s =
+    sorted_cons serial_cmp x (take n xs) (λ z a. sorted_head serial_cmp x xs z s (back_take n xs z a)) (sorted_take n xs (sorted_tail serial_cmp x xs s))
+
+serials_cut : (ms : List Member) (w : Run) → serials_of (cut_run ms w) ≡ take (w.end - w.start) (drop w.start (serials_of ms))
+serials_cut ms w =
+    sym (take-map (λ (m : Member). m.id.serial) (w.end - w.start) (drop w.start ms)) ∙ ap (take (w.end - w.start)) (sym (drop-map (λ (m : Member). m.id.serial) w.start ms))
+
+pub cut_sorted : (ms : List Member) (w : Run) → IsStrictlySortedBy serial_cmp (serials_of ms) → IsStrictlySortedBy serial_cmp (serials_of (cut_run ms w))
+cut_sorted ms w s =
+    subst (λ xs. IsStrictlySortedBy serial_cmp xs) (sym (serials_cut ms w)) (sorted_take (w.end - w.start) (drop w.start (serials_of ms)) (sorted_drop_by w.start (serials_of ms) s))
+
+pub cut_place : (ms : List Member) (w : Run) (i : ℕ) (z : List ℕ) → slice_get (serials_of (cut_run ms w)) i ≡ Some z → slice_get (serials_of ms) (w.start + i) ≡ Some z
+cut_place ms w i z h =
+    at_drop (serials_of ms) w.start i z (at_take (drop w.start (serials_of ms)) (w.end - w.start) i z (subst (λ xs. slice_get xs i ≡ Some z) (serials_cut ms w) h))
+
+among_cut : (xs : List (List ℕ)) (start n k : ℕ) (z : List ℕ) → start ≤ k → k < start + n → k < length xs → get_or xs k z ≡ z → Among (take n (drop start xs)) z
+among_cut [] start n k z a b c e = absurd (omega arith)
+among_cut (x ∷ xs) zero zero k z a b c e = absurd (omega arith)
+among_cut (x ∷ xs) zero (suc n) zero z a b c e = inl e
+among_cut (x ∷ xs) zero (suc n) (suc k) z a b c e = inr (among_cut xs zero n k z (omega arith) (omega arith) (omega arith) e)
+among_cut (x ∷ xs) (suc start) n zero z a b c e = absurd (omega arith)
+among_cut (x ∷ xs) (suc start) n (suc k) z a b c e = among_cut xs start n k z (omega arith) (omega arith) (omega arith) e
+
+not_itself : (x y : List ℕ) → serial_cmp x y ≡ Less → x ≡ y → ⊥
+not_itself x y l e = not_below_itself serial_cmp serial_total x y l e
+
+-- a place up to one whose serial is below z isn't z's
+not_upto : (xs : List (List ℕ)) (z : List ℕ) (k i : ℕ) → IsStrictlySortedBy serial_cmp xs → i < length xs → serial_cmp (get_or xs i z) z ≡ Less → get_or xs k z ≡ z → k ≤ i → ⊥
+not_upto xs z k i s b l e le =
+    ⊎_elim (λ (q : k ≡ i). not_itself (get_or xs i z) z l (sym (ap (λ j. get_or xs j z) q) ∙ e))
+    (λ (q : k < i). not_itself (get_or xs k z) z (serial_total.trans (get_or xs k z) (get_or xs i z) z (below_later serial_cmp serial_total serial_exact xs s k i z q b) l) e)
+    (place_cases k i le)
+
+-- nor is one from a place on whose serial is above z
+not_from : (xs : List (List ℕ)) (z : List ℕ) (k i : ℕ) → IsStrictlySortedBy serial_cmp xs → k < length xs → serial_cmp (get_or xs i z) z ≡ Greater → get_or xs k z ≡ z → i ≤ k → ⊥
+not_from xs z k i s b g e le =
+    ⊎_elim (λ (q : i ≡ k). not_greater _ (ap (λ y. serial_cmp y z) (ap (λ j. get_or xs j z) q ∙ e) ∙ tied_itself serial_total z) g)
+    (λ (q : i < k). less_greater _ (subst (λ y. serial_cmp (get_or xs i z) y ≡ Less) e (below_later serial_cmp serial_total serial_exact xs s i k z q b)) g)
+    (place_cases i k le)
+  where
+    less_greater : (o : Ordering) → o ≡ Less → o ≡ Greater → ⊥
+    less_greater o l h = let bad : Less ≡ Greater = sym l ∙ h in cc
+
+in_window : (xs : List (List ℕ)) (z : List ℕ) (start n : ℕ) → IsStrictlySortedBy serial_cmp xs → (0 < start → serial_cmp (get_or xs (start - 1) z) z ≡ Less)
+    → serial_cmp (get_or xs (start + n) z) z ≡ Greater → start + n < length xs → Among xs z → Among (take n (drop start xs)) z
+in_window xs z start n s a g b h =
+    let k = Contains-from_Among xs z h in
+    ⊎_elim (λ (q : k.0 < start). absurd (not_upto xs z k.0 (start - 1) s (omega arith) (a (omega arith)) k.2 (omega arith)))
+    (λ (q : start ≤ k.0). ⊎_elim (λ (r : k.0 < start + n). among_cut xs start n k.0 z q r k.1 k.2)
+    (λ (r : start + n ≤ k.0). absurd (not_from xs z k.0 (start + n) s k.1 g k.2 r))
+    (cases_lt k.0 (start + n)))
+    (cases_lt k.0 start)
+
+serial_at : (ms : List Member) (i : ℕ) (z : List ℕ) → get_or (serials_of ms) i z ≡ (get_or ms i (bare_serial z)).id.serial
+serial_at ms i z = keyed.get_map (λ (m : Member). m.id.serial) ms i (bare_serial z)
+
+pub near_window : (ms : List Member) (z : List ℕ) (start end : ℕ) → IsStrictlySortedBy serial_cmp (serials_of ms) → start ≤ end → end < length ms
+    → (0 < start → (d : Member) → serial_cmp (get_or ms (start - 1) d).id.serial z ≡ Less) → ((d : Member) → serial_cmp (get_or ms end d).id.serial z ≡ Greater)
+    → IsWindow z ms (record { start = start; end = end })
+near_window ms z start end s o b above below =
+    let n = length-map ms (λ (m : Member). m.id.serial) in
+    let e : start + (end - start) ≡ end = omega arith in
+    let g : serial_cmp (get_or (serials_of ms) (start + (end - start)) z) z ≡ Greater =
+    ap (λ j. serial_cmp (get_or (serials_of ms) j z) z) e ∙ ap (λ y. serial_cmp y z) (serial_at ms end z) ∙ below (bare_serial z) in
+    record {
+      order = o;
+      within = omega arith;
+      none = λ h. false_from_ne_true (has_key (serials_of ms) z) (λ t.
+          true≢false (sym (has_key-from_Among (serials_of (cut_run ms (record { start = start; end = end }))) z
+          (subst (λ xs. Among xs z) (sym (serials_cut ms (record { start = start; end = end })))
+          (in_window (serials_of ms) z start (end - start) s (λ p. ap (λ y. serial_cmp y z) (serial_at ms (start - 1) z) ∙ above p (bare_serial z)) g (omega arith)
+          (Among-from_has_key (serials_of ms) z t)))) ∙ h));
+    }
 
 -- where there are none of the issuer, no list of its marks any
 no_own : (k : List ℕ) (ms : List Member) (run : Run) → IsRunOf k ms run → run.start ≡ run.end → members_of k (ids_of ms) ≡ []

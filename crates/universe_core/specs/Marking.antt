@@ -1,5 +1,6 @@
 -- The serials that a CRL lists, and the run of its issuer among ascending members.
-use Rattle.std.specs.Prelude.{◌≡◌, ℕ, ◌≤◌, ◌-◌, List, length, map, take, drop}
+use Rattle.std.specs.Prelude.{◌≡◌, ℕ, ◌≤◌, ◌-◌, List, length, map, take, drop, false}
+use Rattle.sets_core.specs.Sets.{has_key}
 use Rattle.universe_core.specs.Groups.{members_of}
 use Rattle.universe_core.specs.Members.{ids_of}
 use Rattle.universe_core.specs.Placing.{IsKeyOf}
@@ -21,3 +22,9 @@ pub record IsRunOf (issuer : List ℕ) (members : List Member) (run : Run) : Typ
   pub order : run.start ≤ run.end
   pub within : run.end ≤ length members
   pub own : take (run.end - run.start) (drop run.start (ids_of members)) ≡ members_of issuer (ids_of members)
+
+-- where the window doesn't have the serial, the run doesn't
+pub record IsWindow (serial : List ℕ) (run : List Member) (window : Run) : Type 0 where
+  pub order : window.start ≤ window.end
+  pub within : window.end ≤ length run
+  pub none : has_key (serials_of (take (window.end - window.start) (drop window.start run))) serial ≡ false → has_key (serials_of run) serial ≡ false

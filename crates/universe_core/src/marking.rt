@@ -1,13 +1,14 @@
 ghost use Rattle.std.specs.List.Sorted.{IsStrictlySortedBy};
 ghost use Rattle.std.specs.List.{list_any};
 ghost use Rattle.std.specs.Str.{bytes_eq};
-ghost use Rattle.std.specs.Prelude.{◌≡◌, ◌<◌, ◌||◌, ◌&&◌, All, length, map, slice_get, Bool, IfOk, OnOk, IfSome, IsNone, Some, false};
+ghost use Rattle.std.specs.Prelude.{◌≡◌, ◌<◌, ◌-◌, ◌||◌, ◌&&◌, All, length, map, get_or, slice_get, Bool, IfOk, OnOk, IsErr, Some, true, false};
 ghost use Rattle.ident_core.specs.Order.{identity_cmp, serial_cmp, is_same as same};
 ghost use Rattle.ident_core.specs.declared.identity.Identity.{Identity as IdentityFields};
 ghost use Rattle.sets_core.specs.Sets.{has_key};
 ghost use Rattle.universe_core.specs.Enrolling.{facts_of_crl, holds};
-ghost use Rattle.universe_core.specs.Marking.{IsListed, IsRunOf, listed_in, serials_of};
+ghost use Rattle.universe_core.specs.Marking.{IsListed, IsRunOf, IsWindow, listed_in, serials_of};
 ghost use Rattle.universe_core.specs.Members.{ids_of};
+ghost use Rattle.std.specs.declared.cmp.Ordering.TheVariants.{Less, Greater};
 
 use crate::listing::{Listed, sorted};
 use crate::member::Member;
@@ -17,6 +18,9 @@ use job_core::JobCrl;
 use octets_core::Key32;
 use std::alloc::{AllocError, Global};
 use std::cmp::Ordering;
+
+/// How many members are looked at near the place of the serial before.
+const WINDOW: usize = 16;
 
 /// Where an issuer's members stand among ascending members.
 #[derive(Clone, Copy)]
@@ -47,28 +51,62 @@ fn order(member: &Member, listed: &Listed<'_>) -> Ordering
     order_serials(serial, key_of(serial), listed.serial, listed.key)
 }
 
-/// The place of the member of a serial among those of one issuer, counted from 0. A binary search.
-fn place_of(run: &[Member], listed: &Listed<'_>) -> Option<usize>
+/// Whether the serial is above the members before the first place and below those from the second on.
+fn is_between(run: &[Member], start: usize, end: usize, listed: &Listed<'_>) -> bool
+    requires start { start < length run.now }
+    requires end { end < length run.now }
+    requires key { IsListed listed.now }
+    ensures above { result ≡ true → 0 < start → (d : Member) → serial_cmp (get_or run.now (start - 1) d).id.serial listed.now.serial.now ≡ Less }
+    ensures below { result ≡ true → (d : Member) → serial_cmp (get_or run.now end d).id.serial listed.now.serial.now ≡ Greater }
+{
+    if start > 0 && !order(&run[start - 1], listed).is_lt() {
+        return false;
+    }
+    order(&run[end], listed).is_gt()
+}
+
+/// A part of the run that has the serial's member, if there is one: the few members near a place where these are seen
+/// to suffice, or all.
+fn window_of(run: &[Member], near: usize, listed: &Listed<'_>) -> Run
     requires sorted { IsStrictlySortedBy serial_cmp (serials_of run.now) }
     requires key { IsListed listed.now }
-    ensures some { IfSome result (λ i. slice_get (serials_of run.now) i ≡ Some listed.now.serial.now) }
-    ensures within { IfSome result (λ i. i < length run.now) }
-    ensures none { IsNone result → has_key (serials_of run.now) listed.now.serial.now ≡ false }
+    ensures { IsWindow listed.now.serial.now run.now result }
 {
-    match run.binary_search_by(|m| order(m, listed)) {
-        Ok(place) => Some(place),
-        Err(_) => None,
+    let end = near.saturating_add(WINDOW);
+    if end < run.len() && is_between(run, near, end, listed) {
+        return Run { start: near, end };
+    }
+    Run {
+        start: 0,
+        end: run.len(),
     }
 }
 
-/// Marks the member of an issuer's serial, if there is one.
+/// The place of the member of a serial among those of one issuer, counted from 0, or where it would stand. A binary
+/// search, which is shorter where that is near.
+fn place_of(run: &[Member], near: usize, listed: &Listed<'_>) -> Result<usize, usize>
+    requires sorted { IsStrictlySortedBy serial_cmp (serials_of run.now) }
+    requires key { IsListed listed.now }
+    ensures some { IfOk result (λ i. slice_get (serials_of run.now) i ≡ Some listed.now.serial.now) }
+    ensures within { IfOk result (λ i. i < length run.now) }
+    ensures none { IsErr result → has_key (serials_of run.now) listed.now.serial.now ≡ false }
+{
+    let window = window_of(run, near, listed);
+    match run[window.start..window.end].binary_search_by(|m| order(m, listed)) {
+        Ok(place) => Ok(window.start + place),
+        Err(place) => Err(window.start + place),
+    }
+}
+
+/// Marks the member of an issuer's serial, if there is one, and tells where in the run it is or would stand.
 fn mark_serial(
     flags: &mut [bool],
     members: &[Member],
     issuer: &Key32,
     run: Run,
+    near: usize,
     listed: &Listed<'_>,
-)
+) -> usize
     requires sorted { IsStrictlySortedBy identity_cmp (ids_of members.now) }
     requires beside { length flags.old ≡ length members.now }
     requires run { IsRunOf issuer.now members.now run }
@@ -76,9 +114,12 @@ fn mark_serial(
     ensures { (q : IdentityFields → Bool) → flags.old ≡ map q (ids_of members.now)
         → flags.new ≡ map (λ x. q x || same x (record { issuer = issuer.now; serial = listed.now.serial.now })) (ids_of members.now) }
 {
-    match place_of(&members[run.start..run.end], listed) {
-        Some(place) => flags[run.start + place] = true,
-        None => {}
+    match place_of(&members[run.start..run.end], near, listed) {
+        Ok(place) => {
+            flags[run.start + place] = true;
+            place
+        }
+        Err(place) => place,
     }
 }
 
@@ -98,8 +139,9 @@ fn mark_serials(
         → flags.new
         ≡ map (λ x. p x || (bytes_eq x.issuer issuer.now && has_key (listed_in listed.now) x.serial)) (ids_of members.now) }
 {
+    let mut near = 0;
     for one in listed {
-        mark_serial(flags, members, issuer, run, one);
+        near = mark_serial(flags, members, issuer, run, near, one);
     }
 }
 

@@ -7,16 +7,16 @@ use Rattle.universe_core.proofs.marking.mark_serial.Goals as goal
 pub place_of-requires-clause-sorted : goal.place_of-requires-clause-sorted
 place_of-requires-clause-sorted c = run_sorted c.args.issuer.now c.args.members.now c.args.run c.requires.sorted c.requires.run
 
-pub returns-in-Some : goal.returns-in-Some
-returns-in-Some c = λ q e.
+pub returns-in-Ok : goal.returns-in-Ok
+returns-in-Ok c = λ q e.
     let k = c.args.issuer.now in
     let ms = c.args.members.now in
     let z = c.args.listed.now.serial.now in
-    rw e (marked q (ids_of ms) (c.args.run.start + c.in-Some.place) (of_issuer k z) c.requires.sorted (run_place k ms c.args.run c.in-Some.place z c.requires.run c.in-Some.ensures.some))
+    rw e (marked q (ids_of ms) (c.args.run.start + c.in-Ok.place) (of_issuer k z) c.requires.sorted (run_place k ms c.args.run c.in-Ok.place z c.requires.run c.in-Ok.ensures.some))
 
-pub returns-in-None : goal.returns-in-None
-returns-in-None c = λ q e.
+pub returns-in-Err : goal.returns-in-Err
+returns-in-Err c = λ q e.
     let k = c.args.issuer.now in
     let ms = c.args.members.now in
     let z = c.args.listed.now.serial.now in
-    e ∙ unmarked q (ids_of ms) (of_issuer k z) (run_none k ms c.args.run z c.requires.run (c.in-None.ensures.none refl))
+    e ∙ unmarked q (ids_of ms) (of_issuer k z) (run_none k ms c.args.run z c.requires.run ((c.in-Err.ensures.none refl)))

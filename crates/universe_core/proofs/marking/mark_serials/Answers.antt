@@ -15,7 +15,7 @@ loop-one-preserved c = λ p e.
     let i = c.loop-one.one-index in
     let ls = c.args.listed.now in
     let n = length-map ls (λ (l : Listed). l.serial.now) in
-    c.mark_serial.ensures (λ (x : Identity). p x || (bytes_eq x.issuer c.args.issuer.now && has_key (take i (listed_in ls)) x.serial)) (c.loop-one.invariant p e)
+    c.mark_serial-near.ensures (λ (x : Identity). p x || (bytes_eq x.issuer c.args.issuer.now && has_key (take i (listed_in ls)) x.serial)) (c.loop-one.invariant p e)
     ∙ marks_step p c.args.issuer.now (listed_in ls) i c.one-item.result.serial.now (ids_of c.args.members.now)
     (let t = c.loop-one-test.true in omega arith)
     (ap (λ (l : Listed). l.serial.now) c.one-item.is ∙ sym (get_map (λ (l : Listed). l.serial.now) ls i c.one-item.result))
