@@ -8,4 +8,6 @@ mod certificates;
 #[cfg(test)]
 mod scans;
 #[cfg(test)]
+mod shards;
+#[cfg(test)]
 mod usages;
