@@ -4,7 +4,8 @@
 Written from the rules and layouts (docs/ARCHITECTURE.md, docs/FORMATS.md) and not from the program. The sets of a
 history are worked out by their definitions over all its jobs (not from a birth and a last part), systems are solved by
 plain elimination over GF(2) with whole numbers as rows, and the least solution is found by its definition: from the
-highest column down, a column is zero where that leaves a solution. It is slow: for histories of some hundred entries.
+highest column down, a column is zero where that leaves a solution. It is slow: for histories of some ten thousand
+entries.
 """
 
 import functools
@@ -13,6 +14,10 @@ import hashlib
 from sample_reference import sample as sample_text
 
 T = 1700000000000
+
+# The formats of jobs: whether the blocks of large issuers are cut into shards. And the one in which jobs are taken.
+PLAIN, SHARDED = "plain", "sharded"
+CURRENT = PLAIN
 
 
 def sha(*xs):
@@ -42,6 +47,7 @@ class Crl:
 
     def __init__(self, serials, next_update=None, cut=False):
         self.serials = serials
+        self.listed = frozenset(serials)
         self.cut = cut
         self.next_ms = {None: None, "at": T, "before": T - 1000}[next_update]
         up = {None: b"", "at": D, "before": D_BEFORE}[next_update]
@@ -66,8 +72,11 @@ class Entry:
 
 
 class Job:
-    def __init__(self, epoch, moment, ranges, crls, entries):
+    """A job, with the format in which it is taken. Its bytes don't tell the format."""
+
+    def __init__(self, epoch, moment, ranges, crls, entries, taken=CURRENT):
         self.epoch, self.moment, self.ranges, self.crls, self.entries = epoch, moment, ranges, crls, entries
+        self.taken = taken
 
     def records(self):
         head = b"CLUBJOB1" + be(self.epoch, 8) + be(self.moment, 8)
@@ -95,7 +104,7 @@ class Job:
 
     def lists(self, identity):
         issuer, _, serial = identity
-        return any(i == issuer and serial in c.serials for i, c in self.crls)
+        return any(i == issuer and serial in c.listed for i, c in self.crls)
 
 
 # ---------- rows and systems ----------
@@ -155,22 +164,89 @@ def solve(equations, starts):
     return x
 
 
+def words_for(starts):
+    return (starts + 127 + 63) // 64
+
+
 def words_of(x, starts):
-    n = (starts + 127 + 63) // 64
-    return b"".join(be((x >> (64 * i)) & (2**64 - 1), 8) for i in range(n))
+    return b"".join(be((x >> (64 * i)) & (2**64 - 1), 8) for i in range(words_for(starts)))
+
+
+def columns_of(words):
+    """The number whose bits are the columns that words hold."""
+    return int.from_bytes(b"".join(words[at : at + 8] for at in range(len(words) - 8, -1, -8)), "big")
 
 
 def parity(x, start, coeff):
     return bin((coeff << start) & x).count("1") % 2
 
 
+class Refused(Exception):
+    """Why a command isn't done: its status, and its line up to the name of the file."""
+
+    def __init__(self, status, why):
+        super().__init__(why)
+        self.status, self.why = status, why
+
+    def line(self, name):
+        return f"{self.why} {name}\n"
+
+
+class SeedsExhausted(Refused):
+    """A stage of an issuer that is unsolvable at each seed. Its line names no file."""
+
+    def __init__(self, issuer, stage):
+        super().__init__(7, f"seeds {issuer.hex()} {stage}")
+
+    def line(self, name):
+        return f"{self.why}\n"
+
+
 class Mixed:
+    """A mixed leaf."""
+
     def __init__(self, k, approx, exact):
         self.k, self.approx, self.exact = k, approx, exact
 
 
-def build_block(issuer, universe, revoked):
-    """universe: sorted identities; revoked: set of identities. Gives ('none'|'all'|Mixed)."""
+class Sharded:
+    """A block of several leaves, one for each of its 2^shift shards."""
+
+    def __init__(self, shift, leaves):
+        self.shift, self.leaves = shift, leaves
+
+
+def shard(identity, shift):
+    """The number that the first bits of a digest spell, as many as the shift says."""
+    issuer, length, serial = identity
+    return int.from_bytes(sha(b"CCSHARD", issuer, bytes([length]), serial), "big") >> (256 - shift)
+
+
+def shift_in(taken, universe, revoked):
+    """How many bits tell the shards of so many identities, of which so many are revoked, in a format."""
+    if taken == PLAIN or revoked in (0, universe) or universe < 32768:
+        return 0
+    return max(shift for shift in range(9) if 2**shift * 16384 <= universe)
+
+
+def build_sharded(issuer, universe, revoked, shift):
+    shards = [[] for _ in range(2**shift)]
+    for x in universe:
+        shards[shard(x, shift)].append(x)
+    return Sharded(shift, [build_leaf(issuer, members, revoked) for members in shards])
+
+
+def build_block(issuer, universe, revoked, taken=CURRENT):
+    """universe: sorted identities of the issuer; revoked: set of some of them. Gives a leaf or Sharded. Of several
+    leaves that there aren't, the first one decides, and in it the first stage."""
+    shift = shift_in(taken, len(universe), len(revoked))
+    if shift == 0:
+        return build_leaf(issuer, universe, revoked)
+    return build_sharded(issuer, universe, revoked, shift)
+
+
+def build_leaf(issuer, universe, revoked):
+    """universe: sorted identities, all or those of a shard; revoked: a set. Gives ('none'|'all'|Mixed)."""
     rs = [x for x in universe if x in revoked]
     others = [x for x in universe if x not in revoked]
     r, n = len(rs), len(others)
@@ -197,7 +273,7 @@ def build_block(issuer, universe, revoked):
             if all(p is not None for p in planes):
                 break
         else:
-            raise Exception("seeds", issuer, 1)
+            raise SeedsExhausted(issuer, 1)
         approx = (seed, a, planes)
         fps = [x for x in others if accepts(approx, x)]
     a = starts_for(r + len(fps))
@@ -210,7 +286,7 @@ def build_block(issuer, universe, revoked):
         if plane is not None:
             break
     else:
-        raise Exception("seeds", issuer, 2)
+        raise SeedsExhausted(issuer, 2)
     return Mixed(k, approx, (seed, a, plane))
 
 
@@ -221,6 +297,8 @@ def accepts(approx, x):
 
 
 def positive(block, x):
+    if isinstance(block, Sharded):
+        return positive(block.leaves[shard(x, block.shift)], x)
     if block == "none":
         return False
     if block == "all":
@@ -236,42 +314,70 @@ def ranges_bytes(ranges):
     return be(len(ranges), 2) + b"".join(l + be(a, 8) + be(b, 8) for l, a, b in ranges)
 
 
+def leaf_bytes(leaf):
+    """Its mode, and its fields where it is mixed."""
+    if leaf in ("none", "all"):
+        return b"\0" if leaf == "none" else b"\1"
+    out = b"\2" + bytes([leaf.k])
+    if leaf.k:
+        seed, a, planes = leaf.approx
+        out += bytes([seed]) + be(a, 4) + b"".join(words_of(p, a) for p in planes)
+    seed, a, plane = leaf.exact
+    return out + bytes([seed]) + be(a, 4) + words_of(plane, a)
+
+
+def block_bytes(block):
+    if isinstance(block, Sharded):
+        return b"\3" + bytes([block.shift]) + b"".join(leaf_bytes(leaf) for leaf in block.leaves)
+    return leaf_bytes(block)
+
+
+def has_shards(blocks):
+    return any(isinstance(block, Sharded) for _, block in blocks)
+
+
 class Part:
+    """A part. It is written in version 2 exactly where a block is cut into shards."""
+
     def __init__(self, kind, epoch, parent, ranges, blocks):
         self.kind, self.epoch, self.parent, self.ranges, self.blocks = kind, epoch, parent, ranges, blocks
-        out = b"CLUBCARD" + b"\1" + bytes([kind]) + be(epoch, 8) + parent + ranges_bytes(ranges)
-        out += be(len(blocks), 4)
-        for issuer, block in blocks:
-            out += issuer
-            if block == "none":
-                out += b"\0"
-            elif block == "all":
-                out += b"\1"
-            else:
-                out += b"\2" + bytes([block.k])
-                if block.k:
-                    seed, a, planes = block.approx
-                    out += bytes([seed]) + be(a, 4) + b"".join(words_of(p, a) for p in planes)
-                seed, a, plane = block.exact
-                out += bytes([seed]) + be(a, 4) + words_of(plane, a)
+        self.version = 2 if has_shards(blocks) else 1
+        out = b"CLUBCARD" + bytes([self.version, kind]) + be(epoch, 8) + parent + ranges_bytes(ranges)
+        out += be(len(blocks), 4) + b"".join(issuer + block_bytes(block) for issuer, block in blocks)
         self.trailer = sha(out)
         self.bytes = out + self.trailer
 
+    def kind_word(self):
+        return "delta" if self.kind else "snapshot"
+
+    def checked(self):
+        """What `check` prints."""
+        counts = f"ranges {len(self.ranges)} issuers {len(self.blocks)} bytes {len(self.bytes)}"
+        return f"part {self.kind_word()} epoch {self.epoch} {counts}\n"
+
     def shown(self):
         """What `show` prints."""
-        kind = "delta" if self.kind else "snapshot"
-        lines = [f"part {kind} version 1 epoch {self.epoch} parent {self.parent.hex()}"]
-        lines += [f"range {log.hex()} {first} {last}" for log, first, last in self.ranges]
-        lines += [f"issuer {issuer.hex()} {shown_block(block)}" for issuer, block in self.blocks]
+        head = f"part {self.kind_word()} version {self.version} epoch {self.epoch} parent {self.parent.hex()}"
+        lines = [head] + [f"range {log.hex()} {first} {last}" for log, first, last in self.ranges]
+        for issuer, block in self.blocks:
+            lines += shown_block(issuer, block)
         return text_of(lines + [f"trailer {self.trailer.hex()}"])
 
 
-def shown_block(block):
-    if block in ("none", "all"):
-        return block
-    stages = [("approx", block.approx)] if block.k else []
-    stages.append(("exact", block.exact))
-    return f"mixed k {block.k}" + "".join(f" {name} {stage[0]} {stage[1]}" for name, stage in stages)
+def shown_block(issuer, block):
+    """The line of a block, and behind that of one that is sharded a line for each shard."""
+    if not isinstance(block, Sharded):
+        return [f"issuer {issuer.hex()} {shown_leaf(block)}"]
+    shards = [f"shard {place} {shown_leaf(leaf)}" for place, leaf in enumerate(block.leaves)]
+    return [f"issuer {issuer.hex()} sharded {block.shift}"] + shards
+
+
+def shown_leaf(leaf):
+    if leaf in ("none", "all"):
+        return leaf
+    stages = [("approx", leaf.approx)] if leaf.k else []
+    stages.append(("exact", leaf.exact))
+    return f"mixed k {leaf.k}" + "".join(f" {name} {stage[0]} {stage[1]}" for name, stage in stages)
 
 
 def text_of(lines):
@@ -283,8 +389,8 @@ class History:
 
     def __init__(self, jobs):
         self.jobs = jobs
-        self.accepted = []  # per job: list of (identity, (log, time))
-        self.named = []  # per job: the identities among them
+        self.named = []  # per job: the identities of its accepted entries
+        self.seen = {}  # per identity: (job, (log, time)) of each of its accepted entries
         self.counts = []
         for i, job in enumerate(jobs):
             here, n = [], dict(unread=0, uncovered=0, unenrolled=0, late=0)
@@ -304,7 +410,8 @@ class History:
                     n["late"] += 1
                 else:
                     here.append((e.id, (e.log, e.time)))
-            self.accepted.append(here)
+            for x, s in here:
+                self.seen.setdefault(x, []).append((i, s))
             self.named.append({x for x, _ in here})
             n["accepted"] = len(here)
             self.counts.append(n)
@@ -317,7 +424,7 @@ class History:
         return next(i for i, named in enumerate(self.named) if x in named)
 
     def sightings(self, x, i):
-        return [s for job in self.accepted[: i + 1] for y, s in job if y == x]
+        return [s for j, s in self.seen.get(x, []) if j <= i]
 
     @functools.lru_cache(maxsize=None)
     def universe(self, i):
@@ -349,7 +456,7 @@ class History:
         for i, job in enumerate(self.jobs):
             revoked, universe = self.revoked(i), self.universe(i)
             blocks = [
-                (k, build_block(k, [x for x in universe if x[0] == k], {x for x in revoked if x[0] == k}))
+                (k, build_block(k, [x for x in universe if x[0] == k], {x for x in revoked if x[0] == k}, job.taken))
                 for k in sorted(job.enrolled())
             ]
             parent = out[-1].trailer if out else bytes(32)
@@ -397,14 +504,6 @@ def ident(k, s):
 
 
 # ---------- files that are read ----------
-class Refused(Exception):
-    """Why a command isn't done: its status, and its line up to the name of the file."""
-
-    def __init__(self, status, why):
-        super().__init__(why)
-        self.status, self.why = status, why
-
-
 class Fields:
     """The fields of a file, one behind the other."""
 
@@ -429,6 +528,14 @@ class Fields:
     def number(self, field, width, passes=lambda number: True):
         octets = self.take(field, width, lambda octets: passes(int.from_bytes(octets, "big")))
         return int.from_bytes(octets, "big")
+
+    def digest(self, field, first):
+        """The digest of the octets from the first one on."""
+        wanted = sha(self.data[first : self.at])
+        given = self.data[self.at : self.at + len(wanted)]
+        if given != wanted:
+            self.refuse(field, "short" if len(given) < len(wanted) else "digest")
+        self.at += len(wanted)
 
     def end(self):
         if self.at < len(self.data):
@@ -461,8 +568,83 @@ def read_queries(data):
 def read_range(fields, log_before):
     log = fields.take("range.log", 32, lambda log: log_before is None or log > log_before)
     first = fields.number("range.from", 8)
-    fields.number("range.to", 8, lambda last: last >= first)
-    return log
+    return log, first, fields.number("range.to", 8, lambda last: last >= first)
+
+
+def read_ranges(fields, count_field):
+    ranges = []
+    for _ in range(fields.number(count_field, 2, lambda count: count <= 1024)):
+        ranges.append(read_range(fields, ranges[-1][0] if ranges else None))
+    return ranges
+
+
+def read_stage(fields, name, planes):
+    """The seed, the starts and the planes of a stage."""
+    seed = fields.number(f"{name}.seed", 1)
+    starts = fields.number(f"{name}.starts", 4, lambda starts: 1 <= starts <= 4718593)
+
+    def is_padded(words):
+        return columns_of(words) < 2 ** (starts + 127)
+
+    words = [fields.take(f"{name}.plane", 8 * words_for(starts), is_padded) for _ in range(planes)]
+    return seed, starts, [columns_of(plane) for plane in words]
+
+
+def read_mixed(fields):
+    k = fields.number("block.k", 1, lambda k: k <= 16)
+    approx = read_stage(fields, "approx", k) if k else None
+    seed, starts, planes = read_stage(fields, "exact", 1)
+    return Mixed(k, approx, (seed, starts, planes[0]))
+
+
+def read_leaf(fields, mode):
+    return read_mixed(fields) if mode == 2 else ("none", "all")[mode]
+
+
+def read_block(fields, version):
+    mode = fields.number("block.mode", 1, lambda mode: mode <= 2 or mode == 3 and version == 2)
+    if mode < 3:
+        return read_leaf(fields, mode)
+    shift = fields.number("block.shift", 1, lambda shift: 1 <= shift <= 8)
+    modes = (fields.number("shard.mode", 1, lambda mode: mode <= 2) for _ in range(2**shift))
+    return Sharded(shift, [read_leaf(fields, mode) for mode in modes])
+
+
+def read_part(data):
+    """The part of a file that holds one."""
+    fields = Fields(data)
+    fields.magic("part.magic", b"CLUBCARD")
+    version = fields.number("part.version", 1, lambda version: version in (1, 2))
+    kind = fields.number("part.kind", 1, lambda kind: kind <= 1)
+    epoch = fields.number("part.epoch", 8)
+    parent = fields.take("part.parent", 32, lambda parent: kind == 1 or parent == bytes(32))
+    ranges, blocks = read_ranges(fields, "part.ranges"), []
+    for _ in range(fields.number("part.issuers", 4, lambda count: count <= 65535)):
+        issuer = fields.take("block.issuer", 32, lambda issuer: not blocks or issuer > blocks[-1][0])
+        blocks.append((issuer, read_block(fields, version)))
+    fields.take("part.sharded", 0, lambda _: version == 1 or has_shards(blocks))
+    fields.digest("part.trailer", 0)
+    fields.end()
+    part = Part(kind, epoch, parent, ranges, blocks)
+    assert part.bytes == data, "a part has one text"
+    return part
+
+
+def of_part(name, data, told):
+    """The status and the text of a command that reads a part and tells something of it."""
+    try:
+        return 0, told(read_part(data))
+    except Refused as refused:
+        return refused.status, refused.line(name)
+
+
+def check(name, data):
+    """Of a part's name and bytes."""
+    return of_part(name, data, Part.checked)
+
+
+def show(name, data):
+    return of_part(name, data, Part.shown)
 
 
 def read_job_fields(data):
@@ -478,7 +660,7 @@ def read_job_fields(data):
             return fields.end()
         before = kind
         if kind == 1:
-            log = read_range(fields, log)
+            log, _, _ = read_range(fields, log)
         elif kind == 2:
             fields.take("crl.issuer", 32)
             fields.take("crl.bytes", fields.number("crl.length", 4, lambda length: length <= 67108864))
@@ -522,7 +704,7 @@ class JobFile:
         return self.job
 
 
-@functools.lru_cache(maxsize=1)
+@functools.lru_cache(maxsize=8)
 def history_of(jobs):
     """The history of a tuple of jobs."""
     return History(list(jobs))
@@ -536,8 +718,9 @@ def rehearse(name, data, files):
         for file in files:
             name = file.name
             jobs.append(file.admitted(jobs))
+            history_of(tuple(jobs)).parts()
     except Refused as refused:
-        return refused.status, f"{refused.why} {name}\n"
+        return refused.status, refused.line(name)
     history = history_of(tuple(jobs))
     parts = history.parts()
     reports = [history.report(i) for i in range(len(jobs))]
@@ -545,7 +728,7 @@ def rehearse(name, data, files):
 
 
 # ---------- the generator ----------
-def sample_job(number, count):
+def sample_job(number, count, taken=CURRENT):
     """The job of `sample`, with what it means. Its bytes are those of tools/sample_reference.py."""
     n = be(number, 8)
     log = sha(b"CCLOG", n)
@@ -553,7 +736,7 @@ def sample_job(number, count):
     serials = [b"\1" + sha(b"CCSAMPLE", n, be(i, 4))[:15] for i in range(count)]
     crls = [(issuers[j], Crl([serials[i] for i in range(j, count, 4) if i // 4 % 100 == 0])) for j in range(4)]
     entries = [Entry(issuers[i % 4], serials[i], log, T + i) for i in range(count)]
-    job = Job(1, T, [(log, T, T + count - 1)], crls, entries)
+    job = Job(1, T, [(log, T, T + count - 1)], crls, entries, taken)
     assert job.bytes() == sample_text(number, count)[0]
     return job
 
