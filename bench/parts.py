@@ -22,9 +22,9 @@ BENCHES = "crates/benches/out/benches"
 T = 1700000000000
 
 
-def front(ranges, issuers):
+def front(ranges, issuers, version=1):
     """The fields of a snapshot up to its blocks."""
-    part = b"CLUBCARD" + bytes([1, 0]) + (1).to_bytes(8, "big") + bytes(32) + ranges.to_bytes(2, "big")
+    part = b"CLUBCARD" + bytes([version, 0]) + (1).to_bytes(8, "big") + bytes(32) + ranges.to_bytes(2, "big")
     for log in range(1, ranges + 1):
         part += log.to_bytes(32, "big") + T.to_bytes(8, "big") + (T + 1000).to_bytes(8, "big")
     return part + issuers.to_bytes(4, "big")
@@ -43,12 +43,22 @@ def plain(count):
     return sealed(front(1024, count) + b"".join(key + b"\x01" for key in issuers(count)))
 
 
-def mixed(count, starts):
-    """Mixed blocks with six planes in their approximate stages."""
+def mixed_leaf(starts):
+    """The mode and the fields of a mixed leaf with six planes in its approximate stage."""
     plane = bytes(8 * ((starts + 127 + 63) // 64))
     stage = bytes(1) + starts.to_bytes(4, "big")
-    blocks = [key + bytes([2, 6]) + stage + 6 * plane + stage + plane for key in issuers(count)]
-    return sealed(front(1, count) + b"".join(blocks))
+    return bytes([2, 6]) + stage + 6 * plane + stage + plane
+
+
+def mixed(count, starts):
+    """Blocks of one mixed leaf."""
+    return sealed(front(1, count) + b"".join(key + mixed_leaf(starts) for key in issuers(count)))
+
+
+def sharded(count, shift, starts):
+    """Blocks that are cut into 2^shift shards, each a mixed leaf, in a part of version 2."""
+    shards = 2**shift * mixed_leaf(starts)
+    return sealed(front(1, count, version=2) + b"".join(key + bytes([3, shift]) + shards for key in issuers(count)))
 
 
 def processor_time(what, path, rounds):
@@ -77,6 +87,7 @@ def main():
     unit = "million" if counts else "ms"
     parts = [("65,535 plain blocks", plain(65535)), ("400 mixed blocks, 1,200 starts", mixed(400, 1200))]
     parts += [("4 mixed blocks, 100,000 starts", mixed(4, 100000)), ("4,000 mixed blocks, 10 starts", mixed(4000, 10))]
+    parts += [("4 blocks of 128 shards, 1,200 starts", sharded(4, 7, 1200))]
     with tempfile.TemporaryDirectory() as folder:
         for name, part in parts:
             path = os.path.join(folder, "part")
@@ -85,7 +96,7 @@ def main():
             whats = ("hash", "scan", "decode")
             costs = [instructions_of_a_round(what, path) if counts else a_round(what, path, 20) for what in whats]
             ratios = " ".join(f"{cost:7.3f} {unit} ({cost / costs[0]:.2f})" for cost in costs)
-            print(f"{name:32} {len(part):8} {ratios}", flush=True)
+            print(f"{name:36} {len(part):8} {ratios}", flush=True)
 
 
 if __name__ == "__main__":
