@@ -1,7 +1,7 @@
 //! Entries of a log, and a certificate that OpenSSL made.
 
 use ident_core::Sighting;
-use log_core::{Unread, issuer_hash, read_entry};
+use log_core::{Entry, Unread, issuer_hash, read_entry};
 use octets_core::Key32;
 
 // A certificate that OpenSSL 3.0 made: `openssl genpkey -algorithm ed25519 -out k.pem`, and then
@@ -42,12 +42,9 @@ const EMPTY_KEY_HASH: [u8; 32] = [
 
 /// What an entry of the log `aa..` gives: the issuer, whether the serial is this one, and the sighting.
 fn gives(leaf: &[u8], extra: &[u8], serial: &[u8]) -> Result<(Key32, bool, Sighting), Unread> {
-    let entry = read_entry(Key32::new([0xaa; 32]), leaf, extra)?;
-    Ok((
-        entry.id.issuer,
-        entry.id.serial.bytes() == serial,
-        entry.sighting,
-    ))
+    let Entry { id, sighting } = read_entry(Key32::new([0xaa; 32]), leaf, extra)?;
+    let is_serial = id.serial.bytes() == serial;
+    Ok((id.issuer, is_serial, sighting))
 }
 
 /// What is wanted of an entry that is read.
