@@ -1,9 +1,10 @@
 ghost use Rattle.std.specs.Prelude.{◌≡◌, ◌↔◌, IsTrue, IsNone};
-ghost use Rattle.ident_core.specs.Coverage.{Covers, covers as covers_of, LiesWithin, lies_in_some, first_outside};
+ghost use Rattle.ident_core.specs.Coverage.{Covers, covers as covers_of, LiesWithin, first_outside};
+ghost use Rattle.ident_core.specs.Coverage.{lies_in as lies, lies_in_some};
 ghost use Rattle.ident_core.specs.Coverage.{AreRanges, RangesFit};
 
 use crate::bounds::MAX_RANGES;
-use octets_core::{Key32, is_after};
+use octets_core::{Key32, is_after, key_order};
 
 /// When a log saw a certificate.
 #[derive(Clone, Copy, Debug, PartialEq, Eq)]
@@ -31,10 +32,27 @@ pub fn covers(ranges: &[Range], s: &Sighting) -> bool
         .any(|r| r.log == s.log && r.from <= s.time && s.time <= r.to)
 }
 
+fn lies_in(r: &Range, outer: &Range) -> bool
+    ensures { result ≡ lies r.now outer.now }
+{
+    outer.log == r.log && outer.from <= r.from && r.to <= outer.to
+}
+
+/// Whether the range lies in the one that a binary search by its log finds. Where the logs ascend there is no other.
+fn lies_in_found(new: &[Range], r: &Range) -> bool
+    ensures { IsTrue result → IsTrue (lies_in_some new.now r.now) }
+{
+    match new.binary_search_by(|outer| key_order(&outer.log, &r.log)) {
+        Ok(place) => lies_in(r, &new[place]),
+        Err(_) => false,
+    }
+}
+
 fn lies_in_one(new: &[Range], r: &Range) -> bool
     ensures { result ≡ lies_in_some new.now r.now }
 {
-    new.iter().any(|outer| outer.log == r.log && outer.from <= r.from && r.to <= outer.to)
+    // Where the logs ascend, a range that lies in none is the only one compared with each, and none is asked after it.
+    lies_in_found(new, r) || new.iter().any(|outer| lies_in(r, outer))
 }
 
 fn first_log_outside(old: &[Range], new: &[Range]) -> Option<Key32>

@@ -7,3 +7,4 @@ pub mod Powers
 pub mod Texts
 pub mod Loops
 pub mod ThreeBytes
+pub mod Heads

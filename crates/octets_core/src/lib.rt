@@ -15,7 +15,7 @@ pub mod vectors;
 pub use cursor::{Cursor, Short};
 pub use fault::{LayoutFault, Why};
 pub use field::Field;
-pub use key::{Key32, is_after, key_of};
+pub use key::{Key32, is_after, key_of, key_order};
 pub use memory::NoMemory;
 pub use put::{put_bytes, put_u8, put_u16, put_u24, put_u32, put_u64};
 pub use reading::{

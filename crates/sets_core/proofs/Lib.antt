@@ -8,4 +8,3 @@ pub mod Runs
 pub mod Groups
 pub mod Keyed
 pub mod Ranges
-pub mod Heads

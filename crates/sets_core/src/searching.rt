@@ -1,35 +1,12 @@
-ghost use Rattle.std.specs.Prelude.{◌≡◌, ◌<◌, ◌&&◌, ℕ, IfSome, IsNone, get_or, slice_get, take, nat_le, false};
+ghost use Rattle.std.specs.Prelude.{◌≡◌, ◌&&◌, IfSome, IsNone, slice_get, nat_le, false};
 ghost use Rattle.std.specs.List.Sorted.{IsStrictlySortedBy};
-ghost use Rattle.octets_core.specs.Numbers.{number};
 ghost use Rattle.ident_core.specs.Coverage.{AreRanges, covers};
 ghost use Rattle.ident_core.specs.Order.{identity_cmp, octets_cmp};
 ghost use Rattle.sets_core.specs.Sets.{has, has_key};
 
 use ident_core::{Identity, Range, Sighting};
-use octets_core::Key32;
+use octets_core::{Key32, key_order};
 use std::cmp::Ordering;
-
-/// The number that the first eight octets spell, greatest first.
-fn first_eight(octets: &[u8; 32]) -> u64
-    ensures value { result ≡ number (take 8 octets.now) }
-    ensures octets { (i : ℕ) → get_or octets.now i 0 < 256 }
-{
-    u64::from_be_bytes([
-        octets[0], octets[1], octets[2], octets[3], octets[4], octets[5], octets[6], octets[7],
-    ])
-}
-
-/// How keys are ordered: by their first eight octets as a number, which tells most digests apart in one step.
-fn key_order(x: &Key32, y: &Key32) -> Ordering
-    ensures { result ≡ octets_cmp x.now y.now }
-{
-    let first = first_eight(x.bytes());
-    let other = first_eight(y.bytes());
-    if first != other {
-        return first.cmp(&other);
-    }
-    x.cmp(y)
-}
 
 /// The place of the key among ascending keys, counted from 0. A binary search.
 pub fn place_of_key(keys: &[Key32], key: &Key32) -> Option<usize>

@@ -13,7 +13,7 @@ use Rattle.std.proofs.lemmas.List.Sorted.{ranks_by}
 use Rattle.std.proofs.lemmas.Map.Lookups.{exact_unsigned}
 use Rattle.octets_core.specs.Numbers.{number}
 use Rattle.ident_core.specs.Order.{octets_cmp, serial_cmp, identity_cmp}
-use Rattle.sets_core.proofs.Heads.{first_cmp}
+use Rattle.octets_core.proofs.Heads.{first_cmp}
 use Rattle.sets_core.specs.Among.{Among}
 use Rattle.sets_core.proofs.Canonical.{Contains-from_Among}
 use Rattle.sets_core.proofs.Elements.{Among-from_place, some_item}

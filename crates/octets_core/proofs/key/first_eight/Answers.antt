@@ -1,4 +1,4 @@
-use Rattle.sets_core.proofs.searching.first_eight.Goals as goal
+use Rattle.octets_core.proofs.key.first_eight.Goals as goal
 
 pub returns-clause-octets : goal.returns-clause-octets
 returns-clause-octets c = c.fits-octets
