@@ -1,3 +1,5 @@
+use ident_core::{MAX_IDENTITIES, MAX_RANGES};
+
 /// What a job has a limited number of.
 #[derive(Clone, Copy, Debug, PartialEq, Eq)]
 pub enum What {
@@ -23,10 +25,10 @@ pub struct Limits {
 impl Limits {
     /// The limits that a published chain keeps.
     pub const PUBLISHED: Limits = Limits {
-        ranges: 1024,
+        ranges: MAX_RANGES as u32,
         crls: 65_535,
         serials: 16_777_216,
         entries: 4_194_304,
-        identities: 4_194_304,
+        identities: MAX_IDENTITIES as u32,
     };
 }

@@ -26,4 +26,5 @@ pub use read_facts::jobs_that_are_read_fit;
 pub use reader::{JobReader, Record};
 pub use reading::read_job;
 pub use reading_from::read_job_from;
+pub use slice::SliceDepot;
 pub use writing::{job_fits, write_job};

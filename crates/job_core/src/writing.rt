@@ -32,7 +32,7 @@ fn entries_fit(entries: &[RawEntry]) -> bool
 }
 
 /// Whether the job can be written: its ranges fit a part, CRLs and entries keep the published limits, and each length
-/// fits its field. For the commands that make jobs from the files of CRLs and from the pages of logs.
+/// fits its field. For a command that makes jobs from the files of CRLs; none does yet.
 pub fn job_fits(job: &RawJob) -> bool
     ensures { IsTrue result ↔ JobFits job.now }
 {
@@ -133,8 +133,8 @@ fn bytes_of(alloc: Global, job: &RawJob) -> Result<Vec<u8>, NoMemory>
     Ok(out)
 }
 
-/// The bytes of the job, whose records are the raw job's in their order. For the commands that make jobs from the files
-/// of CRLs and from the pages of logs.
+/// The bytes of the job, whose records are the raw job's in their order. For a command that makes jobs from the files of
+/// CRLs; none does yet.
 pub fn write_job(alloc: Global, job: &RawJob) -> Result<Vec<u8>, NoMemory>
     requires { JobFits job.now }
     ensures text { IfOk result (λ out. out.items ≡ spelling (contents_of job.now)) }
