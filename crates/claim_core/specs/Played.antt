@@ -22,7 +22,8 @@ played views (w ∷ later) = played (after_draw views w) later
 abbrev pub drawn_by : ℕ → List Draw → List ℕ
 drawn_by worker ds = map (λ d. d.number) (filter (λ d. d.worker == worker) ds)
 
--- However the seats take turns, the rule holds after all their draws, and each has the remainders of what the schedule gives to it
+-- However the seats take turns, the rule holds after all their draws, and each has the remainders of what the schedule
+-- gives to it
 abbrev pub SeatsDrawTheSchedule : Type 0
 SeatsDrawTheSchedule = (seats : ℕ) (schedule : List ℕ) → All (λ w. w < seats) schedule
     → IsCounted (length schedule % 2 ^ 64 ∷ []) (played (replicate seats fresh) schedule)

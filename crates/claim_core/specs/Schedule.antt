@@ -15,7 +15,8 @@ draws schedule = draws_from 0 schedule
 abbrev pub IsEachOnceBelow : ℕ → List ℕ → Type 0
 IsEachOnceBelow n numbers = (x : ℕ) → times x numbers ≡ once_below x n
 
--- each worker of a schedule gets one draw for each time that it stands there, and the numbers drawn are those below the schedule's length, each once
+-- each worker of a schedule gets one draw for each time that it stands there, and the numbers drawn are those below the
+-- schedule's length, each once
 abbrev pub DrawsAreEachOnce : Type 0
 DrawsAreEachOnce = (schedule : List ℕ) →
     (map (λ d. d.worker) (draws schedule) ≡ schedule) × IsEachOnceBelow (length schedule) (map (λ d. d.number) (draws schedule))
