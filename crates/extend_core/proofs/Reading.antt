@@ -3,7 +3,6 @@ use Rattle.std.proofs.Common.{◌≡◌, ◌≢◌, ℕ, ◌+◌, ◌-◌, ◌�
 use Rattle.std.specs.Int.{w8, to_be_bytes}
 use Rattle.std.proofs.lemmas.List.{take_all}
 use Rattle.outside_core.specs.declared.feed.Feed.{Feed}
-use Rattle.outside_core.specs.declared.depot.Depot.{Ghosts}
 use Rattle.outside_core.specs.Standing.{place_of, depot_of, name_of, file_in, StandsIn}
 use Rattle.job_core.specs.declared.bounds.TheConstants.Limits as limits
 use Rattle.job_core.specs.declared.fault.JobFault.{JobFault}
@@ -20,17 +19,13 @@ use Rattle.job_core.specs.JobText.{opening_text}
 use Rattle.job_core.specs.Partial.{held_in}
 use Rattle.job_core.specs.Pulling.{Blames}
 use Rattle.job_core.specs.Reader.{no_serials, StandsAt, StandsFor, fault_of, limits_of, HasEnded, text_of, GivesNext, ReadsNext}
-use Rattle.extend_core.specs.declared.slice.SliceDepot.{SliceDepot}
+use Rattle.job_core.specs.declared.slice.SliceDepot.{SliceDepot}
 use Rattle.extend_core.specs.Raw.{raw_by}
 use Rattle.extend_core.specs.Opened.{Counts}
 use Rattle.extend_core.specs.Fitting.{IsCounted}
-use Rattle.job_core.proofs.SliceFiles.{only, file-there, never-fails}
+use Rattle.job_core.proofs.SliceFiles.{only, file-there, never-fails, slice_ghosts}
 use Rattle.extend_core.proofs.Records.{some_text}
 use Rattle.extend_core.proofs.Fronts.{Front, front-begun, front-more, front-few, front-whole, further}
-
--- what the depot says of itself
-abbrev pub slice_ghosts : Ghosts SliceDepot
-slice_ghosts = record { files = λ d. Some (only d.bytes.now); read_faults = λ d. 0; failed_reads = λ d. None; write_faults = λ d. d.refused }
 
 -- the reader goes on, and what it read is the opening and records, of which so many are entries
 pub record Going (bytes : List ℕ) (reader : JobReader) (feed : Feed SliceDepot) (n : ℕ) : Type 0 where

@@ -6,9 +6,8 @@ ghost use Rattle.job_core.specs.JobText.{crl_held, entry_held};
 ghost use Rattle.extend_core.specs.Opened.{Counts};
 ghost use Rattle.extend_core.specs.Fitting.{Fits, IsCounted};
 
-use crate::slice::SliceDepot;
 use ident_core::Range;
-use job_core::{JobFault, JobReader, Limits, RawCrl, RawEntry, Record};
+use job_core::{JobFault, JobReader, Limits, RawCrl, RawEntry, Record, SliceDepot};
 use outside_core::Feed;
 use std::alloc::Global;
 

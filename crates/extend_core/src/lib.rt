@@ -3,6 +3,5 @@
 
 mod counting;
 mod job;
-mod slice;
 
 pub use job::OpenJob;

@@ -78,7 +78,8 @@ loop-given-smaller c =
     let g = c.loop-given.invariant in
     let gives = gives-of c.args.bytes.now c.loop-given.reader c.next-in-loop-given.new.self c.loop-given.feed c.next-in-loop-given.new.feed c.loop-given.entries (Ok c.in_ok-given.given) g
     c.in_ok-given.ensures.next in
-    nearer c.args.bytes.now c.loop-given.reader c.next-in-loop-given.new.self (place_of c.loop-given.feed) (place_of c.next-in-loop-given.new.feed) c.in_ok-given.given c.in-Some.more c.in-Some.ensures gives
+    nearer c.args.bytes.now c.loop-given.reader c.next-in-loop-given.new.self (place_of c.loop-given.feed) (place_of c.next-in-loop-given.new.feed)
+    c.in_ok-given.given c.in-Some.more c.in-Some.ensures gives
 
 pub loop-given-preserved-in-Some : goal.loop-given-preserved-in-Some
 loop-given-preserved-in-Some c =
@@ -103,11 +104,13 @@ loop-given-smaller-in-Some c =
     let g = c.loop-given.invariant in
     let gives = gives-of c.args.bytes.now c.loop-given.reader c.next-in-loop-given.new.self c.loop-given.feed c.next-in-loop-given.new.feed c.loop-given.entries (Ok c.in_ok-given.given) g
     c.in_ok-given.ensures.next in
-    nearer c.args.bytes.now c.loop-given.reader c.next-in-loop-given.new.self (place_of c.loop-given.feed) (place_of c.next-in-loop-given.new.feed) c.in_ok-given.given c.in-Some.more c.in-Some.ensures gives
+    nearer c.args.bytes.now c.loop-given.reader c.next-in-loop-given.new.self (place_of c.loop-given.feed) (place_of c.next-in-loop-given.new.feed)
+    c.in_ok-given.given c.in-Some.more c.in-Some.ensures gives
 
 pub loop-given-smaller-in-Some-2 : goal.loop-given-smaller-in-Some-2
 loop-given-smaller-in-Some-2 c =
     let g = c.loop-given.invariant in
     let gives = gives-of c.args.bytes.now c.loop-given.reader c.next-in-loop-given.new.self c.loop-given.feed c.next-in-loop-given.new.feed c.loop-given.entries (Ok c.in_ok-given.given) g
     c.in_ok-given.ensures.next in
-    nearer c.args.bytes.now c.loop-given.reader c.next-in-loop-given.new.self (place_of c.loop-given.feed) (place_of c.next-in-loop-given.new.feed) c.in_ok-given.given c.in-Some.more c.in-Some.ensures gives
+    nearer c.args.bytes.now c.loop-given.reader c.next-in-loop-given.new.self (place_of c.loop-given.feed) (place_of c.next-in-loop-given.new.feed)
+    c.in_ok-given.given c.in-Some.more c.in-Some.ensures gives

@@ -8,5 +8,6 @@ put_entry-requires c = fits-at c.args.entries.now c.loop-entry.entry-index c.ent
 
 pub returns : goal.returns
 returns c =
-    put-all c.args.self.now c.loop-entry.self c.args.log.now c.args.entries.now c.loop-entry.entry-index (first_of (omega (arith, c.bytes.ensures), assumption c.bytes.ensures, grind (arith, c.bytes.ensures))) c.requires.fits c.requires.room c.loop-entry.invariant
+    put-all c.args.self.now c.loop-entry.self c.args.log.now c.args.entries.now c.loop-entry.entry-index
+    (first_of (omega (arith, c.bytes.ensures), assumption c.bytes.ensures, grind (arith, c.bytes.ensures))) c.requires.fits c.requires.room c.loop-entry.invariant
     (take_all c.loop-entry.entry-index c.args.entries.now (omega (arith, c.loop-entry-test.false))) (omega (arith, c.loop-entry-test.false, c.loop-entry.auto.entry-index-end))
