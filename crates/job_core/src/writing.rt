@@ -133,8 +133,8 @@ fn bytes_of(alloc: Global, job: &RawJob) -> Result<Vec<u8>, NoMemory>
     Ok(out)
 }
 
-/// The bytes of the job, whose records are the raw job's in their order. For a command that makes jobs from the files of
-/// CRLs; none does yet.
+/// The bytes of the job, whose records are the raw job's in their order. For a command that makes jobs from the files
+/// of CRLs; none does yet.
 pub fn write_job(alloc: Global, job: &RawJob) -> Result<Vec<u8>, NoMemory>
     requires { JobFits job.now }
     ensures text { IfOk result (λ out. out.items ≡ spelling (contents_of job.now)) }
