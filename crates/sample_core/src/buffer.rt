@@ -4,6 +4,7 @@ ghost use Rattle.std.specs.Prelude.{◌≡◌, ◌+◌, ◌≤◌, ◌<◌, ◌+
 ghost use Rattle.outside_core.specs.Files.{extending, Torn, KeepsOthers, Rose};
 ghost use Rattle.outside_core.specs.Effects.{OnlyWrites};
 ghost use Rattle.sample_core.specs.Writing.{Moved};
+ghost use Rattle.sample_core.specs.declared.buffer.TheConstants.{ROOM};
 
 use octets_core::NoMemory;
 use outside_core::{Depot, Failed, append_all};
@@ -22,12 +23,13 @@ pub struct Buffer {
 
 impl Model for Buffer {
     ghost use Rattle.std.specs.Prelude.{List, ℕ, ◌<◌, ◌≤◌, vec_len, vec_capacity};
+    ghost use Rattle.sample_core.specs.declared.buffer.TheConstants.{ROOM};
 
     ghost Value = { List ℕ };
 
     ghost view = { λ b. b.held.items };
 
-    ghost invariant = { λ b. (vec_len b.held < 65536) × (65536 ≤ vec_capacity b.held) };
+    ghost invariant = { λ b. (vec_len b.held < ROOM) × (ROOM ≤ vec_capacity b.held) };
 }
 
 /// Appends the bytes, for which there is room.
@@ -43,7 +45,7 @@ fn put_within(out: &mut Vec<u8>, bytes: &[u8])
 impl Buffer {
     /// A buffer that holds the bytes.
     pub fn new(alloc: Global, bytes: &[u8]) -> Result<Buffer, NoMemory>
-        requires { length bytes.now < 65536 }
+        requires { length bytes.now < ROOM }
         ensures { IfOk result (λ b. b ≡ bytes.now) }
     {
         let mut held = Vec::with_capacity(alloc, ROOM)?;
@@ -53,7 +55,7 @@ impl Buffer {
 
     /// Takes bytes behind those that it holds, and writes those that make it full.
     pub fn put<D: Depot>(&mut self, depot: &mut D, name: &str, bytes: &[u8]) -> Result<(), Failed>
-        requires { length bytes.now ≤ 65536 }
+        requires { length bytes.now ≤ ROOM }
         ensures ok { OnOk result (Moved (D.files depot.old) (D.files depot.new) name.now self.old bytes.now self.new) }
         ensures err { OnErr result (Torn (D.files depot.old) (D.files depot.new) name.now (self.old ++ bytes.now)) }
         ensures others { KeepsOthers (D.files depot.old) (D.files depot.new) name.now }
