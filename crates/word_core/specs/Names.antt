@@ -1,7 +1,8 @@
 -- The files that a command reads and writes.
 use Rattle.std.specs.Prelude.{ℕ, List, [], ◌∷◌}
 use Rattle.word_core.specs.declared.command.Command.{Command}
-use Rattle.word_core.specs.declared.command.Command.TheVariants.{Usage, Query, QueryCert, Check, Show, Snapshot, Delta, Start, Install, Rehearse, Sample, Gather}
+use Rattle.word_core.specs.declared.command.Command.TheVariants.{Usage, Query, QueryCert, Check, Show, Snapshot}
+use Rattle.word_core.specs.declared.command.Command.TheVariants.{Delta, Start, Install, Rehearse, Sample, Gather}
 
 -- the names of the files that a command reads, in the order of reading
 abbrev pub inputs_of : Command → List (List ℕ)
