@@ -16,8 +16,10 @@ use Rattle.universe_core.specs.History.{Release, past_of, released, sightings, a
 use Rattle.history_core.specs.Facts.{Widens, IsFormed, IsSound, KeepsCoverage}
 use Rattle.history_core.proofs.Sightings.{Among-sightings}
 use Rattle.history_core.proofs.Coverage.{covers_next}
-use Rattle.history_core.proofs.Accepting.{shown_is, accepted_cases, accepted_old, accepted_new, universe_is, universe_has, listed_is, revoked_is, revoked_listed, not_revoked, enrolled_ascend, accepted_ascend}
-use Rattle.history_core.proofs.Releases.{seen-push, sightings-append, accepted_by-push, accepted_by-has, Widens-push, is_listed_at, is_listed_by, IsSettled, settled_parts, settled_from, not_lacked, accepted_by-ascend}
+use Rattle.history_core.proofs.Accepting.{shown_is, accepted_cases, accepted_old, accepted_new, universe_is, universe_has, listed_is, revoked_is}
+use Rattle.history_core.proofs.Accepting.{revoked_listed, not_revoked, enrolled_ascend, accepted_ascend}
+use Rattle.history_core.proofs.Releases.{seen-push, sightings-append, accepted_by-push, accepted_by-has, Widens-push, is_listed_at, is_listed_by}
+use Rattle.history_core.proofs.Releases.{IsSettled, settled_parts, settled_from, not_lacked, accepted_by-ascend}
 
 pub nothing_sound : IsSound []
 unfolding is_listed seen accepted_by
