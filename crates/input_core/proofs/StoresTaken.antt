@@ -276,10 +276,12 @@ no-part told failed name b at e is (inr (none, falls)) = inr (
 pub no-first : (told : Option Files) (failed : Option (List ℕ) → Type 0) (name : List ℕ) (at to count left : ℕ) (e : FileFault) → (o : HasOpening told name at count)
     → ComesOfPartAt told failed name o.bytes to (Err e) → ComesOfStore told failed name to left (Err e)
 no-first told failed name at to count left e o comes =
-    no-part told failed name o.bytes to e (λ rest f is. o.is rest ∙ fails first_part (chain (count - 1)) (o.bytes ++ rest) (length o.bytes) f (first-fault (o.bytes ++ rest) (length o.bytes) f is)) comes
+    no-part told failed name o.bytes to e
+    (λ rest f is. o.is rest ∙ fails first_part (chain (count - 1)) (o.bytes ++ rest) (length o.bytes) f (first-fault (o.bytes ++ rest) (length o.bytes) f is)) comes
 
-pub is-first : (told : Option Files) (failed : Option (List ℕ) → Type 0) (name : List ℕ) (at to count : ℕ) (s : SealedFields) (ended : Bool) (parts : List SealedFields) → (o : HasOpening told name at count)
-    → s.part.head.kind ≡ kinds.Snapshot → parts ≡ s ∷ [] → ComesOfPartAt told failed name o.bytes to (Ok (s, ended)) → ComesOfStore told failed name to (count - 1) (Ok (parts, ended))
+pub is-first : (told : Option Files) (failed : Option (List ℕ) → Type 0) (name : List ℕ) (at to count : ℕ) (s : SealedFields) (ended : Bool) (parts : List SealedFields)
+    → (o : HasOpening told name at count) → s.part.head.kind ≡ kinds.Snapshot → parts ≡ s ∷ []
+    → ComesOfPartAt told failed name o.bytes to (Ok (s, ended)) → ComesOfStore told failed name to (count - 1) (Ok (parts, ended))
 is-first told failed name at to count s ended parts o kind are (none, p, ends) = (
   none,
   record {
@@ -294,8 +296,8 @@ is-first told failed name at to count s ended parts o kind are (none, p, ends) =
   },
 )
 
-pub not-first : (told : Option Files) (failed : Option (List ℕ) → Type 0) (name : List ℕ) (at to count left : ℕ) (s : SealedFields) (ended : Bool) (f : StartFault) → (o : HasOpening told name at count)
-    → IsNotBegun s f → ComesOfPartAt told failed name o.bytes to (Ok (s, ended)) → ComesOfStore told failed name to left (Err (of_store (fault_of_start f)))
+pub not-first : (told : Option Files) (failed : Option (List ℕ) → Type 0) (name : List ℕ) (at to count left : ℕ) (s : SealedFields) (ended : Bool) (f : StartFault)
+    → (o : HasOpening told name at count) → IsNotBegun s f → ComesOfPartAt told failed name o.bytes to (Ok (s, ended)) → ComesOfStore told failed name to left (Err (of_store (fault_of_start f)))
 not-first told failed name at to count left s ended f o is (none, p, ends) = inr (
   none,
   λ some.
@@ -373,8 +375,8 @@ fails-input {B} told failed name e view (inr (none, falls)) = elim (memory_or_no
 ]
 
 -- a byte stands behind the last part, or a read failed there
-pub goes-further : {B : Type 0} (told : Option Files) (failed : Option (List ℕ) → Type 0) (name : List ℕ) (at : ℕ) (parts : List SealedFields) (ended : Bool) (e : FileFault) (view : B → List SealedFields)
-    → HasParts told name at 0 parts ended → ComesOfEnd told failed name at (Err e) → IsInput told failed name store_in view (Err e)
+pub goes-further : {B : Type 0} (told : Option Files) (failed : Option (List ℕ) → Type 0) (name : List ℕ) (at : ℕ) (parts : List SealedFields) (ended : Bool) (e : FileFault)
+    (view : B → List SealedFields) → HasParts told name at 0 parts ended → ComesOfEnd told failed name at (Err e) → IsInput told failed name store_in view (Err e)
 goes-further told failed name at parts seen e view h (inl (is, why)) = could_not told failed name store_in view e is why
 goes-further told failed name at parts seen e view h (inr (none, is, (w, some, offers))) =
     let b = begins told failed name (h.bytes ++ w) (held_piece told name h.bytes w at h.taken.place h.taken.front offers) in

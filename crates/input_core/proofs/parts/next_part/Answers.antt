@@ -130,7 +130,8 @@ returns-then-taken-len-clause-offset g c =
     let e = c.in-Ok-feed.ensures in
     let m = some-more c.pieces.reader c.feed.new.self c.buffered-piece.result.now (place_of c.args.feed.now) (place_of c.pieces.feed) c.in-Ok-feed.taken (place_of c.take.new.self) s
     e.count (omega (arith, c.take.ensures.at, c.refill.ensures.at)) e.ok in
-    end-fits c.finished-then-taken-len.result c.feed.new.self m.0 (place_of c.args.feed.now) (place_of c.take.new.self) m.1 m.2 (omega (arith, c.take.new.self.reach)) c.finished-then-taken-len.ensures.offset
+    end-fits c.finished-then-taken-len.result c.feed.new.self m.0 (place_of c.args.feed.now) (place_of c.take.new.self) m.1 m.2 (omega (arith, c.take.new.self.reach))
+    c.finished-then-taken-len.ensures.offset
 
 pub returns-then-taken-len-clause-in_order : goal.returns-then-taken-len-clause-in_order
 returns-then-taken-len-clause-in_order g c = c.take.ensures.in_order (c.refill.ensures.in_order c.pieces.invariant.in_order)

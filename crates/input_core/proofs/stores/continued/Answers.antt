@@ -28,7 +28,8 @@ returns-in_err-ended-clause-comes g c = λ has.
     let held = inv.parts has in
     let left = c.args.count - (c.parts.counter + 1) in
     let comes = c.in_err-ended.ensures.comes left c.parts.ended
-    (one-more told (g.D.Depot.files mid) name (name_of c.parts.feed) (place_of c.parts.feed) c.args.count c.parts.counter c.parts.store c.parts.ended inv.only_reads.same_files inv.name c.parts-test.true held.1) in
+    (one-more told (g.D.Depot.files mid) name (name_of c.parts.feed) (place_of c.parts.feed) c.args.count c.parts.counter c.parts.store c.parts.ended
+    inv.only_reads.same_files inv.name c.parts-test.true held.1) in
     rw (p.1, p.2)
     (fails-later told (WhichFailed g.D.Depot mid new) (WhichFailed g.D.Depot old new) name c.in_err-ended.field-0.0
     (failed_later g.D.Depot old mid new inv.only_reads held.0)
@@ -64,5 +65,8 @@ parts-preserved g c =
 
 pub returns-clause-comes : goal.returns-clause-comes
 returns-clause-comes g c = λ has.
-    let held = c.parts.invariant.parts has in
-    (held.0, all-taken (g.D.Depot.files (depot_of c.args.feed.now)) (name_of c.args.feed.now) (place_of c.parts.feed) c.args.count c.parts.counter c.parts.store c.parts.ended (omega (arith, c.parts-test.false)) held.1)
+    let held = c.parts.invariant.parts has in (
+      held.0,
+      all-taken (g.D.Depot.files (depot_of c.args.feed.now)) (name_of c.args.feed.now) (place_of c.parts.feed) c.args.count c.parts.counter c.parts.store c.parts.ended
+          (omega (arith, c.parts-test.false)) held.1,
+    )

@@ -46,4 +46,5 @@ returns-clause-comes g c =
     store-later told (WhichFailed g.D.Depot mid new) (WhichFailed g.D.Depot old new) name (place_of c.continued.new.feed) 0 c.continued.result
     (failed_later g.D.Depot old mid new reads (begun.0 ∙ o.comes.0))
     (store-before told (g.D.Depot.files mid) (WhichFailed g.D.Depot mid new) name (name_of c.begun.new.feed) (place_of c.continued.new.feed) 0 c.continued.result reads.same_files is
-    (c.continued.ensures.comes (parts-now told (g.D.Depot.files mid) name (name_of c.begun.new.feed) (place_of c.begun.new.feed) (c.in_ok-count.count - 1) c.in_ok-store.store.0 c.in_ok-store.store.1 reads.same_files is begun.1)))
+    (c.continued.ensures.comes (parts-now told (g.D.Depot.files mid) name (name_of c.begun.new.feed) (place_of c.begun.new.feed) (c.in_ok-count.count - 1)
+    c.in_ok-store.store.0 c.in_ok-store.store.1 reads.same_files is begun.1)))
