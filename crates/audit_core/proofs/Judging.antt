@@ -22,10 +22,10 @@ use Rattle.universe_core.specs.declared.class.Class.TheVariants.{Unread, Uncover
 use Rattle.history_core.specs.Facts.{IsSound}
 use Rattle.history_core.proofs.Releases.{seen-push}
 use Rattle.audit_core.specs.declared.fault.AuditFault.{AuditFault}
-use Rattle.audit_core.specs.declared.checking.Asked.{Asked}
-use Rattle.audit_core.specs.declared.checking.Asked.TheVariants as asked
+use Rattle.audit_core.specs.declared.checking.Agreement.{Agreement}
+use Rattle.audit_core.specs.declared.checking.Agreement.TheVariants as agreements
 use Rattle.audit_core.specs.Auditing.{history, entries_of, IsAccepted, Agrees}
-use Rattle.audit_core.specs.Checking.{listing, is_truth, truth_by, asked_by, asked_of, IsFine, AreFine, is_told, IsFirstOf, IsFirstIn}
+use Rattle.audit_core.specs.Checking.{listing, is_truth, truth_by, agreement_by, agreement_of, IsFine, AreFine, is_told, IsFirstOf, IsFirstIn}
 use Rattle.audit_core.proofs.Lists.{take_at, length-filter_map, count_agree, length_take}
 use Rattle.audit_core.proofs.Verdicts.{truth_is, truth_is_not}
 use Rattle.audit_core.proofs.Jobs.{release_behind, history_at, history_cut, history-length}
@@ -41,24 +41,24 @@ parts_are rs = refl
 
 -- ---- what an answer tells
 
-fine_truth : (b : Bool) (v : Verdict) (t : Bool) → IsFine (cond b asked.Agrees (asked.Disagrees v t)) → b ≡ true
+fine_truth : (b : Bool) (v : Verdict) (t : Bool) → IsFine (cond b agreements.Agrees (agreements.Disagrees v t)) → b ≡ true
 fine_truth true v t f = refl
 fine_truth false v t f = absurd f
 
-abbrev held_of : Asked → Verdict
-held_of asked.Skipped = NotCovered
-held_of asked.Agrees = NotCovered
-held_of (asked.Disagrees v t) = v
+abbrev held_of : Agreement → Verdict
+held_of agreements.Skipped = NotCovered
+held_of agreements.Agrees = NotCovered
+held_of (agreements.Disagrees v t) = v
 
-abbrev listed_of : Asked → Bool
-listed_of asked.Skipped = false
-listed_of asked.Agrees = false
-listed_of (asked.Disagrees v t) = t
+abbrev listed_of : Agreement → Bool
+listed_of agreements.Skipped = false
+listed_of agreements.Agrees = false
+listed_of (agreements.Disagrees v t) = t
 
 abbrev Differs : Class → Verdict → Bool → Verdict → Bool → Type 0
 Differs c v t held listed = (c ≡ Accepted) × (held ≡ v) × (listed ≡ t) × (held ≢ truth_by listed)
 
-differs_by : (b : Bool) (v : Verdict) (t : Bool) (held : Verdict) (listed : Bool) → is_truth v t ≡ b → cond b asked.Agrees (asked.Disagrees v t) ≡ asked.Disagrees held listed
+differs_by : (b : Bool) (v : Verdict) (t : Bool) (held : Verdict) (listed : Bool) → is_truth v t ≡ b → cond b agreements.Agrees (agreements.Disagrees v t) ≡ agreements.Disagrees held listed
     → Differs Accepted v t held listed
 differs_by true v t held listed e h = absurd cc
 differs_by false v t held listed e h =
@@ -66,7 +66,7 @@ differs_by false v t held listed e h =
     let t_is : listed ≡ t = sym (ap listed_of h) in
     (refl, v_is, t_is, λ q. truth_is_not v t e (sym v_is ∙ q ∙ ap truth_by t_is))
 
-disagrees_by : (parts : List PartFields) (e : Entry) (c : Class) (t : Bool) (held : Verdict) (listed : Bool) → asked_by parts e (told_by c t) ≡ asked.Disagrees held listed
+disagrees_by : (parts : List PartFields) (e : Entry) (c : Class) (t : Bool) (held : Verdict) (listed : Bool) → agreement_by parts e (told_by c t) ≡ agreements.Disagrees held listed
     → Differs c (verdict parts e.id (e.sighting ∷ [])) t held listed
 disagrees_by parts e Unread t held listed h = absurd cc
 disagrees_by parts e Uncovered t held listed h = absurd cc
@@ -123,7 +123,7 @@ module _ (jobs : List JobFields) (j : ℕ) (job : JobFields) (at : slice_get job
       let v = verdict parts e.id (e.sighting ∷ []) in
       let among = Among-from_place job.entries n (Some e) (entry_at n e a) in
       let tells : listing ledger part e ≡ Some t = told e among ∙ ap (λ c. told_by c t) (accepted_at n e a) in
-      let fine : IsFine (cond (is_truth v t) asked.Agrees (asked.Disagrees v t)) = subst (λ o. IsFine (asked_by parts e o)) tells (f n (Some e) lt (entry_at n e a)) in
+      let fine : IsFine (cond (is_truth v t) agreements.Agrees (agreements.Disagrees v t)) = subst (λ o. IsFine (agreement_by parts e o)) tells (f n (Some e) lt (entry_at n e a)) in
       truth_is v t (fine_truth (is_truth v t) v t fine)
 
   pub agrees_all : (parts : List PartFields) → AreFine parts (listing ledger part) job.entries (length job.entries) → (n : ℕ) (e : Entry) → IsAccepted jobs j n e → Agrees parts jobs e
@@ -150,16 +150,16 @@ module _ (jobs : List JobFields) (j : ℕ) (job : JobFields) (at : slice_get job
       omega (arith, a, b, h)
 
   first_at : (parts : List PartFields) (fault : AuditFault) (f : IsFirstOf parts (listing ledger part) j job.entries fault) (o : Option Entry) → f.entry ≡ o → IsFirstIn parts jobs j fault
-  first_at parts fault f None h = absurd (not_disagrees (sym (ap (asked_of parts (listing ledger part)) h) ∙ f.asked))
+  first_at parts fault f None h = absurd (not_disagrees (sym (ap (agreement_of parts (listing ledger part)) h) ∙ f.asked))
     where
-      not_disagrees : asked.Skipped ≡ asked.Disagrees f.held f.listed → ⊥
+      not_disagrees : agreements.Skipped ≡ agreements.Disagrees f.held f.listed → ⊥
       not_disagrees e = absurd cc
   first_at parts fault f (Some e) h =
       let t = is_listed (history jobs) e.id in
       let entry : slice_get job.entries f.place ≡ Some (Some e) = f.at ∙ ap (λ z. Some z) h in
       let among = Among-from_place job.entries f.place (Some e) entry in
       let c = class_of (past_of (history (take j jobs))) (facts_of job) (Some e) in
-      let d = disagrees_by parts e c t f.held f.listed (ap (asked_by parts e) (sym (told e among)) ∙ sym (ap (asked_of parts (listing ledger part)) h) ∙ f.asked) in
+      let d = disagrees_by parts e c t f.held f.listed (ap (agreement_by parts e) (sym (told e among)) ∙ sym (ap (agreement_of parts (listing ledger part)) h) ∙ f.asked) in
       record {
         place = f.place;
         held = f.held;

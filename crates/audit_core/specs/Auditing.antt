@@ -7,7 +7,8 @@ use Rattle.card_core.specs.declared.verdict.Verdict.{Verdict}
 use Rattle.card_core.specs.Verdict.{verdict}
 use Rattle.log_core.specs.declared.Entry.{Entry}
 use Rattle.job_core.specs.declared.bounds.TheConstants.Limits.{PUBLISHED}
-use Rattle.job_core.specs.JobFields.{JobFields}
+use Rattle.job_core.specs.JobFields.{JobFields, fields_of_job}
+use Rattle.job_core.specs.declared.meaning.Job.{Job}
 use Rattle.universe_core.specs.Jobs.{facts_of}
 use Rattle.universe_core.specs.History.{Release, past_of, releases, seen, is_listed, class_of}
 use Rattle.universe_core.specs.Ledgers.{ledger_of}
@@ -28,6 +29,10 @@ pub record IsAuditable (job : JobFields) : Type 0 where
   pub ranges : RangesFit job.ranges
   pub limits : KeepsLimits PUBLISHED job
   pub crls : All (λ c. IsOk c.outcome) job.crls
+
+-- what the jobs of the code say
+abbrev pub fields_of_jobs : List Job → List JobFields
+fields_of_jobs jobs = map fields_of_job jobs
 
 -- the entries of all jobs together
 abbrev pub entries_of : List JobFields → ℕ

@@ -14,8 +14,8 @@ use Rattle.universe_core.specs.History.{is_listed}
 use Rattle.audit_core.specs.Auditing.{history, IsAccepted, Agrees}
 use Rattle.audit_core.specs.declared.fault.AuditFault.{AuditFault}
 use Rattle.audit_core.specs.declared.fault.AuditFault.TheVariants as faults
-use Rattle.audit_core.specs.declared.checking.Asked.{Asked}
-use Rattle.audit_core.specs.declared.checking.Asked.TheVariants as asked
+use Rattle.audit_core.specs.declared.checking.Agreement.{Agreement}
+use Rattle.audit_core.specs.declared.checking.Agreement.TheVariants as agreements
 
 -- whether a part covers the entry and enrolls its issuer
 abbrev pub is_seen : LedgerPartFields → Entry → Bool
@@ -39,26 +39,26 @@ is_truth Revoked true = true
 is_truth Good false = true
 is_truth held listed = false
 
-abbrev pub asked_by : List PartFields → Entry → Option Bool → Asked
-asked_by parts e None = asked.Skipped
-asked_by parts e (Some listed) =
-    if is_truth (verdict parts e.id (e.sighting ∷ [])) listed then asked.Agrees
-    else asked.Disagrees (verdict parts e.id (e.sighting ∷ [])) listed
+abbrev pub agreement_by : List PartFields → Entry → Option Bool → Agreement
+agreement_by parts e None = agreements.Skipped
+agreement_by parts e (Some listed) =
+    if is_truth (verdict parts e.id (e.sighting ∷ [])) listed then agreements.Agrees
+    else agreements.Disagrees (verdict parts e.id (e.sighting ∷ [])) listed
 
 -- what comes of an entry, by what is told of the entries
-abbrev pub asked_of : List PartFields → (Entry → Option Bool) → Option Entry → Asked
-asked_of parts tells None = asked.Skipped
-asked_of parts tells (Some e) = asked_by parts e (tells e)
+abbrev pub agreement_of : List PartFields → (Entry → Option Bool) → Option Entry → Agreement
+agreement_of parts tells None = agreements.Skipped
+agreement_of parts tells (Some e) = agreement_by parts e (tells e)
 
 -- it isn't a disagreement
-abbrev pub IsFine : Asked → Type 0
-IsFine asked.Skipped = Unit {0}
-IsFine asked.Agrees = Unit {0}
-IsFine (asked.Disagrees held listed) = ⊥
+abbrev pub IsFine : Agreement → Type 0
+IsFine agreements.Skipped = Unit {0}
+IsFine agreements.Agrees = Unit {0}
+IsFine (agreements.Disagrees held listed) = ⊥
 
 -- none of the first n entries is a disagreement
 abbrev pub AreFine : List PartFields → (Entry → Option Bool) → List (Option Entry) → ℕ → Type 0
-AreFine parts tells entries n = (m : ℕ) (o : Option Entry) → m < n → slice_get entries m ≡ Some o → IsFine (asked_of parts tells o)
+AreFine parts tells entries n = (m : ℕ) (o : Option Entry) → m < n → slice_get entries m ≡ Some o → IsFine (agreement_of parts tells o)
 
 -- whether an entry is accepted, by what is told of the entries
 abbrev pub is_told : (Entry → Option Bool) → Option Entry → Bool
@@ -73,7 +73,7 @@ pub record IsFirstOf (parts : List PartFields) (tells : Entry → Option Bool) (
   pub entry : Option Entry
   pub fault : e ≡ faults.Disagrees j place held listed
   pub at : slice_get entries place ≡ Some entry
-  pub asked : asked_of parts tells entry ≡ asked.Disagrees held listed
+  pub asked : agreement_of parts tells entry ≡ agreements.Disagrees held listed
   pub before : AreFine parts tells entries place
 
 -- the fault is that of the first accepted entry of the job at place j of which the parts don't say the truth

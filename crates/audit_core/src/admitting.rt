@@ -3,13 +3,13 @@
 ghost use Rattle.std.specs.Prelude.{◌≡◌, ◌≢◌, ◌≤◌, length, map, All, None, Some, IfOk, IfErr, OnOk};
 ghost use Rattle.ident_core.specs.Coverage.{RangesFit};
 ghost use Rattle.ident_core.specs.HeadFields.{zero_key};
-ghost use Rattle.ident_core.specs.declared.bounds.TheConstants.{MAX_PARTS};
+ghost use Rattle.ident_core.specs.declared.bounds.TheConstants.{MAX_IDENTITIES, MAX_PARTS};
 ghost use Rattle.job_core.specs.JobFields.{fields_of_job};
 ghost use Rattle.universe_core.specs.Jobs.{facts_of_job};
 ghost use Rattle.universe_core.specs.Ledgers.{ledger_or_none, ledger_of, next_ledger};
 ghost use Rattle.universe_core.specs.Step.{KeepsLimits, refusal};
 ghost use Rattle.audit_core.specs.Admitting.{IsCause, as_audit_fault, IsRefusal};
-ghost use Rattle.audit_core.specs.Auditing.{IsAuditable, entries_of, history, AreAdmitted};
+ghost use Rattle.audit_core.specs.Auditing.{IsAuditable, fields_of_jobs, entries_of, history, AreAdmitted};
 
 use crate::fault::AuditFault;
 use job_core::{Job, Limits};
@@ -52,11 +52,11 @@ fn fault_at(job: u32, fault: AdmitFault) -> AuditFault
 /// The ledger after the jobs, which are admitted in order; none is that of no job.
 pub(crate) fn ledger_after_all(alloc: Global, jobs: &[Job]) -> Result<Option<Ledger>, AuditFault>
     requires few { length jobs.now ≤ MAX_PARTS }
-    requires jobs { All IsAuditable (map fields_of_job jobs.now) }
-    requires entries { entries_of (map fields_of_job jobs.now) ≤ 4194304 }
-    ensures admitted { OnOk result (AreAdmitted (map fields_of_job jobs.now) (length jobs.now)) }
-    ensures ledger { IfOk result (λ l. ledger_or_none l ≡ ledger_of (history (map fields_of_job jobs.now))) }
-    ensures refused { IfErr result (λ e. IsRefusal (map fields_of_job jobs.now) e) }
+    requires jobs { All IsAuditable (fields_of_jobs jobs.now) }
+    requires entries { entries_of (fields_of_jobs jobs.now) ≤ MAX_IDENTITIES }
+    ensures admitted { OnOk result (AreAdmitted (fields_of_jobs jobs.now) (length jobs.now)) }
+    ensures ledger { IfOk result (λ l. ledger_or_none l ≡ ledger_of (history (fields_of_jobs jobs.now))) }
+    ensures refused { IfErr result (λ e. IsRefusal (fields_of_jobs jobs.now) e) }
 {
     let mut ledger = None;
     let mut place = 0;

@@ -1,9 +1,10 @@
 //! What parts say of the entries that a job accepts.
 
 ghost use Rattle.std.specs.Prelude.{◌≡◌, ◌≤◌, ◌<◌, length, map, count_by, slice_get, IfOk, IfErr, Some, All, OnOk};
+ghost use Rattle.job_core.specs.declared.bounds.TheConstants.Limits.{PUBLISHED};
 ghost use Rattle.ledger_core.specs.LedgerFields.{part_fields};
 ghost use Rattle.universe_core.specs.Judging.{IsSearchable};
-ghost use Rattle.audit_core.specs.Checking.{is_truth as is_truth_of, listing as listing_of, asked_of, AreFine, is_told, IsFirstOf};
+ghost use Rattle.audit_core.specs.Checking.{is_truth as is_truth_of, listing as listing_of, agreement_of, AreFine, is_told, IsFirstOf};
 
 use crate::asking::verdict_on;
 use crate::fault::AuditFault;
@@ -13,9 +14,9 @@ use ledger_core::{Ledger, LedgerPart};
 use log_core::Entry;
 use part_codec::Sealed;
 
-/// What comes of an entry.
+/// Whether the parts say the truth of an entry.
 #[derive(Clone, Copy, Debug, PartialEq, Eq)]
-pub(crate) enum Asked {
+pub(crate) enum Agreement {
     /// It isn't accepted.
     Skipped,
     /// The parts say the truth of it.
@@ -34,21 +35,21 @@ fn is_truth(held: Verdict, listed: bool) -> bool
     }
 }
 
-fn ask(store: &[Sealed], ledger: &Ledger, part: &LedgerPart, entry: &Option<Entry>) -> Asked
+fn ask(store: &[Sealed], ledger: &Ledger, part: &LedgerPart, entry: &Option<Entry>) -> Agreement
     requires { IsSearchable part.now }
-    ensures { result ≡ asked_of (map (λ s. s.part) store.now) (listing_of ledger.now (part_fields part.now)) entry.now }
+    ensures { result ≡ agreement_of (map (λ s. s.part) store.now) (listing_of ledger.now (part_fields part.now)) entry.now }
 {
     let Some(entry) = entry else {
-        return Asked::Skipped;
+        return Agreement::Skipped;
     };
     let Some(listed) = listing(ledger, part, entry) else {
-        return Asked::Skipped;
+        return Agreement::Skipped;
     };
     let held = verdict_on(store, entry);
     if is_truth(held, listed) {
-        Asked::Agrees
+        Agreement::Agrees
     } else {
-        Asked::Disagrees { held, listed }
+        Agreement::Disagrees { held, listed }
     }
 }
 
@@ -62,7 +63,7 @@ pub(crate) fn check_entries(
     entries: &[Option<Entry>],
 ) -> Result<u32, AuditFault>
     requires part { IsSearchable part.now }
-    requires few { length entries.now ≤ 4194304 }
+    requires few { length entries.now ≤ PUBLISHED.entries }
     ensures fine { OnOk result (AreFine (map (λ s. s.part) store.now) (listing_of ledger.now (part_fields part.now)) entries.now (length entries.now)) }
     ensures count { IfOk result (λ n. n ≡ count_by (is_told (listing_of ledger.now (part_fields part.now))) entries.now) }
     ensures first { IfErr result (λ e. IsFirstOf (map (λ s. s.part) store.now) (listing_of ledger.now (part_fields part.now)) job entries.now e) }
@@ -71,9 +72,9 @@ pub(crate) fn check_entries(
     let mut place = 0;
     for entry in entries {
         match ask(store, ledger, part, entry) {
-            Asked::Skipped => {}
-            Asked::Agrees => accepted += 1,
-            Asked::Disagrees { held, listed } => {
+            Agreement::Skipped => {}
+            Agreement::Agrees => accepted += 1,
+            Agreement::Disagrees { held, listed } => {
                 return Err(AuditFault::Disagrees {
                     job,
                     entry: place,
