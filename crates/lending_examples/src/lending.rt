@@ -26,8 +26,8 @@ const SEEN: LentSighting = LentSighting {
     time: T,
 };
 
-// A part of epoch 1 that covers the log AA from T to T + 1000 and holds every certificate of the issuer as good, and one
-// of epoch 2 that covers it to T + 2000 and holds each as revoked.
+// A part of epoch 1 that covers the log AA from T to T + 1000 and holds every certificate of the issuer as good, and
+// one of epoch 2 that covers it to T + 2000 and holds each as revoked.
 const FIRST: &str = "\
     434c554243415244010000000000000000010000000000000000000000000000\
     0000000000000000000000000000000000000001aaaaaaaaaaaaaaaaaaaaaaaa\

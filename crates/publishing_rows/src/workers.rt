@@ -51,8 +51,8 @@ impl Gate for Holds {
     }
 }
 
-// Whether two workers publish the first job of these issuers, each with a revoked certificate, with this report, and the
-// gate passes.
+// Whether two workers publish the first job of these issuers, each with a revoked certificate, with this report, and
+// the gate passes.
 fn is_published<R: Threads + Sync>(
     rt: &R,
     alloc: Global,
