@@ -5,9 +5,10 @@ use Rattle.std.specs.Str.{bytes_eq}
 use Rattle.std.specs.declared.cmp.Ordering.{Ordering}
 use Rattle.std.specs.declared.cmp.Ordering.TheVariants.{Less, Equal, Greater}
 use Rattle.std.specs.Ordering.{is_lt}
-use Rattle.std.proofs.Common.{◌≡◌, ℕ, zero, suc, ◌&&◌, ◌||◌, List, [], ◌∷◌, map, Bool, true, false, Some, nat_le, inl, inr, refl, ap, ◌∙◌, subst}
+use Rattle.std.proofs.Common.{◌≡◌, ℕ, zero, suc, ◌&&◌, ◌||◌, List, [], ◌∷◌, map, Bool, true, false, Some, nat_le, inl, inr, get_or, refl, ap, ◌∙◌, subst}
 use Rattle.std.proofs.lemmas.Bool.{false_from_ne_true}
 use Rattle.std.proofs.lemmas.Cmp.{nat_list_cmp_total}
+use Rattle.std.proofs.lemmas.Map.Lookups.{exact_bytes}
 use Rattle.octets_core.specs.Linked.{Linked}
 use Rattle.ident_core.specs.declared.range.Range.{Range}
 use Rattle.ident_core.specs.declared.range.Sighting.{Sighting}
@@ -62,6 +63,14 @@ another_log : (s : Sighting) (r : Range) → (r.log ≡ s.log → ⊥) → is_wi
 another_log s r h =
     and_none (bytes_eq r.log s.log) (nat_le r.from s.time) (nat_le s.time r.to) (false_from_ne_true (bytes_eq r.log s.log) (λ e. h (bytes_same r.log s.log e)))
 
+-- a range of the sighting's log covers it by its ends alone
+pub within_log : (s : Sighting) (r : Range) → r.log ≡ s.log → is_within s r ≡ (nat_le r.from s.time && nat_le s.time r.to)
+within_log s r log = and_last (bytes_eq r.log s.log) (nat_le r.from s.time) (nat_le s.time r.to) (subst (λ k. bytes_eq r.log k ≡ true) log (bytes_refl r.log))
+
+-- the log of the range that a search finds
+pub log_found : (ranges : List Range) (log : List ℕ) (i : ℕ) (r : Range) → r ≡ get_or ranges i r → ((d : Range) → octets_cmp (get_or ranges i d).log log ≡ Equal) → r.log ≡ log
+log_found ranges log i r is found = exact_bytes r.log log (ap (λ (q : Range). octets_cmp q.log log) is ∙ found r)
+
 -- no range has the sighting's log
 pub none_covers : (ranges : List Range) (s : Sighting) → (Among (logs ranges) s.log → ⊥) → covers ranges s ≡ false
 none_covers [] s h = refl
@@ -81,7 +90,7 @@ one_covers (q ∷ ranges) s r zero sorted at log =
     or_last (is_within s q) (covers ranges s)
     (none_covers ranges s (λ a. not_below_itself octets_cmp nat_list_cmp_total q.log s.log (sorted_head octets_cmp q.log (logs ranges) s.log sorted a) (ap log_of is ∙ log)))
     ∙ ap (is_within s) is
-    ∙ and_last (bytes_eq r.log s.log) (nat_le r.from s.time) (nat_le s.time r.to) (subst (λ k. bytes_eq r.log k ≡ true) log (bytes_refl r.log))
+    ∙ within_log s r log
 one_covers (q ∷ ranges) s r (suc i) sorted at log =
     let f : is_within s q ≡ false = another_log s q
     (λ e. not_below_itself octets_cmp nat_list_cmp_total q.log s.log (sorted_head octets_cmp q.log (logs ranges) s.log sorted (among_log ranges s r i at log)) e) in

@@ -6,5 +6,7 @@ mod searching;
 mod sorting;
 
 pub use laws::sets_are_canonical;
-pub use searching::{covers_sorted, holds_key, place_of, place_of_key};
+pub use searching::{
+    covers_near, covers_sorted, holds_key, place_covering, place_of, place_of_key,
+};
 pub use sorting::{sort_identities_once, sort_keys_once, sort_once};

@@ -1,6 +1,7 @@
-ghost use Rattle.std.specs.Prelude.{◌≡◌, ◌&&◌, IfSome, IsNone, slice_get, nat_le, false};
+ghost use Rattle.std.specs.Prelude.{◌≡◌, ◌&&◌, Some, IfSome, IsNone, is_some, slice_get, nat_le, true, false};
+ghost use Rattle.std.specs.Option.{option_map};
 ghost use Rattle.std.specs.List.Sorted.{IsStrictlySortedBy};
-ghost use Rattle.ident_core.specs.Coverage.{AreRanges, covers};
+ghost use Rattle.ident_core.specs.Coverage.{AreRanges, covers, is_within};
 ghost use Rattle.ident_core.specs.Order.{identity_cmp, octets_cmp};
 ghost use Rattle.sets_core.specs.Sets.{has, has_key};
 
@@ -49,14 +50,39 @@ fn holds_time(range: &Range, time: u64) -> bool
     range.from <= time && time <= range.to
 }
 
-/// Whether one of ranges whose logs ascend covers the sighting. A binary search by the log, of which there is at most
-/// one range.
+/// The place of the range that covers the sighting, counted from 0, among ranges whose logs ascend. A binary search by
+/// the log, of which there is at most one range.
+pub fn place_covering(ranges: &[Range], s: &Sighting) -> Option<usize>
+    requires sorted { AreRanges ranges.now }
+    ensures covers { is_some result ≡ covers ranges.now s.now }
+    ensures some { IfSome result (λ i. option_map (is_within s.now) (slice_get ranges.now i) ≡ Some true) }
+{
+    match ranges.binary_search_by(|r| order(r, &s.log)) {
+        Ok(place) => if holds_time(&ranges[place], s.time) {
+            Some(place)
+        } else {
+            None
+        },
+        Err(_) => None,
+    }
+}
+
+/// Whether one of ranges whose logs ascend covers the sighting. A binary search.
 pub fn covers_sorted(ranges: &[Range], s: &Sighting) -> bool
     requires sorted { AreRanges ranges.now }
     ensures { result ≡ covers ranges.now s.now }
 {
-    match ranges.binary_search_by(|r| order(r, &s.log)) {
-        Ok(place) => holds_time(&ranges[place], s.time),
-        Err(_) => false,
+    place_covering(ranges, s).is_some()
+}
+
+/// The same, where a guess tells the place of the log's range, as other ranges of the same logs have it. A search is made
+/// only where another log has that place.
+pub fn covers_near(ranges: &[Range], guess: usize, s: &Sighting) -> bool
+    requires sorted { AreRanges ranges.now }
+    ensures { result ≡ covers ranges.now s.now }
+{
+    match ranges.get(guess) {
+        Some(range) if range.log == s.log => holds_time(range, s.time),
+        _ => covers_sorted(ranges, s),
     }
 }

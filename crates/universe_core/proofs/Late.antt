@@ -1,9 +1,7 @@
 -- How many entries are late, and how many are accepted.
 use Rattle.std.specs.List.{count_by, filter_map, cons_option}
-use Rattle.std.specs.Prelude.{IsPermutation}
 use Rattle.std.proofs.Common.{◌≡◌, ℕ, suc, ◌+◌, ◌-◌, ◌≤◌, List, [], ◌∷◌, map, filter, length, Bool, true, false, cond, not, ◌&&◌, Option, Some, None, refl, sym, ap, ◌∙◌, arith}
 use Rattle.std.proofs.lemmas.Bool.{true≢false}
-use Rattle.std.proofs.lemmas.List.Sorted.{sum_by-IsPermutation}
 use Rattle.std.proofs.lemmas.List.Sums.{length-filter, count_by-le-length}
 use Rattle.ident_core.specs.Coverage.{covers}
 use Rattle.ledger_core.specs.LedgerFields.{LedgerFields}
@@ -38,12 +36,10 @@ late_read past job (Some e ∷ es) =
     late_step (covers job.ranges e.sighting) (has_key (enrolled job) e.id.issuer) (past.lacked e.id e.sighting) e (Some e) (filter_map (if_read job.ranges (enrolled job)) es)
     (filter (λ o. is_class Late (class_of past job o)) es) (λ (d : Entry). past.lacked d.id d.sighting) refl (late_read past job es)
 
-pub late_is : (ledger : LedgerFields) (job : Job) (left sorted shown : List ReadEntry) (n : ℕ)
-    → map entry_fields left ≡ filter_map (if_read job.ranges (enrolled job)) job.entries → IsPermutation left sorted → shown ≡ sorted
-    → n ≡ count_by (is_lacked ledger) shown → n ≡ count Late (past_in ledger) job
-late_is ledger job left sorted shown n l p s h =
-    h ∙ ap (count_by (is_lacked ledger)) s ∙ sum_by-IsPermutation (λ (e : ReadEntry). cond (is_lacked ledger e) 1 0) left sorted p
-    ∙ sym (count_by-map (λ (e : Entry). (past_in ledger).lacked e.id e.sighting) entry_fields left) ∙ ap (count_by (λ (e : Entry). (past_in ledger).lacked e.id e.sighting)) l
+pub late_is : (ledger : LedgerFields) (job : Job) (left : List ReadEntry) (n : ℕ)
+    → map entry_fields left ≡ filter_map (if_read job.ranges (enrolled job)) job.entries → n ≡ count_by (is_lacked ledger) left → n ≡ count Late (past_in ledger) job
+late_is ledger job left n l h =
+    h ∙ sym (count_by-map (λ (e : Entry). (past_in ledger).lacked e.id e.sighting) entry_fields left) ∙ ap (count_by (λ (e : Entry). (past_in ledger).lacked e.id e.sighting)) l
     ∙ sym (length-filter (λ (e : Entry). (past_in ledger).lacked e.id e.sighting) (filter_map (if_read job.ranges (enrolled job)) job.entries)) ∙ late_read (past_in ledger) job job.entries
     ∙ length-filter (λ o. is_class Late (class_of (past_in ledger) job o)) job.entries
 

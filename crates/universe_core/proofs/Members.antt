@@ -1,12 +1,15 @@
 -- What the merge gives is what the definitions say.
 use Rattle.std.proofs.Common.{◌≡◌, ℕ, zero, suc, ◌⊎◌, inl, inr, ⊎_elim, List, [], ◌∷◌, map, filter, find, length, Bool, true, false, cond, not, Option, Some}
-use Rattle.std.proofs.Common.{None, refl, sym, ap, ◌∙◌, subst, ◌&&◌, ◌||◌, take}
-use Rattle.std.specs.Prelude.{is_some}
-use Rattle.std.specs.List.{list_any, list_all, filter_map, cons_option, slice_get}
+use Rattle.std.proofs.Common.{None, arith, refl, sym, ap, ◌∙◌, subst, ◌&&◌, ◌||◌, take}
+use Rattle.std.specs.Prelude.{is_some, nat_lt, ◌+◌, ◌≤◌}
+use Rattle.std.specs.List.{list_any, list_all, count_by, filter_map, cons_option, slice_get}
 use Rattle.std.specs.Option.{option_map}
+use Rattle.std.specs.Bool.{then_some}
 use Rattle.std.specs.List.Sorted.{IsStrictlySortedBy}
+use Rattle.std.proofs.lemmas.Bool.Decides.{nat_tests}
 use Rattle.std.proofs.lemmas.Bool.{true≢false, or_cases, or_left, or_right}
 use Rattle.std.proofs.lemmas.List.{length-map}
+use Rattle.std.proofs.lemmas.List.Sums.{sum_by-cons, count_by-le-length}
 use Rattle.std.proofs.lemmas.List.Folds.{list_all-map}
 use Rattle.std.proofs.lemmas.Option.{slice_get-map}
 use Rattle.std.proofs.lemmas.List.Kept.{IsStrictlySortedBy-filter}
@@ -29,9 +32,9 @@ use Rattle.sets_core.proofs.Sets.{same_is, same_refl, identity_total, Among-with
 use Rattle.sets_core.proofs.Order.{sorted_unique, sorted_all_inserted}
 use Rattle.universe_core.specs.declared.member.ReadEntry.{ReadEntry}
 use Rattle.universe_core.specs.declared.member.Member.{Member}
-use Rattle.universe_core.specs.Reading.{entry_fields}
-use Rattle.universe_core.specs.Merging.{all_ids, merged}
-use Rattle.universe_core.specs.Judging.{is_timely, timely, sightings_of, is_member_of, member_of, judge_of}
+use Rattle.universe_core.specs.Reading.{entry_fields, is_lacked}
+use Rattle.universe_core.specs.Merging.{all_ids, count_told, merged}
+use Rattle.universe_core.specs.Judging.{is_late_beside, is_timely, timely, sightings_of, is_member_of, member_of, judge_of}
 use Rattle.universe_core.proofs.Merge.{item_ids}
 
 -- ---- lists
@@ -129,6 +132,35 @@ settled_there parts last place part run h at =
     sym (list_all-map (covers part.ranges.items) (λ (e : ReadEntry). e.sighting.now) run)
     ∙ sym (ap (λ o. last_covers (map part_fields parts) o (sightings_of run)) h
     ∙ ap (λ q. part_covers q (sightings_of run)) (slice_get-map part_fields parts place ∙ ap (option_map part_fields) at))
+
+-- some entry doesn't pass where not all of them do
+other_step : (b any : Bool) (n m : ℕ) → n ≤ m → nat_lt n m ≡ any → nat_lt (cond b 1 0 + n) (suc m) ≡ (not b || any)
+other_step true any n m le rest = grind (arith, nat_tests) ∙ rest
+other_step false any n m le rest = grind (arith, nat_tests)
+
+pub some_other : {A : Type 0} (p : A → Bool) (xs : List A) → nat_lt (count_by p xs) (length xs) ≡ list_any (λ x. not (p x)) xs
+some_other p [] = refl
+some_other p (x ∷ xs) =
+    ap (λ n. nat_lt n (suc (length xs))) (sum_by-cons (λ y. cond (p y) 1 0) x xs)
+    ∙ other_step (p x) (list_any (λ y. not (p y)) xs) (count_by p xs) (length xs) (count_by-le-length p xs) (some_other p xs)
+
+some_if : {A : Type 0} (b : Bool) (x : A) → then_some b x ≡ cond b (Some x) None
+some_if true x = refl
+some_if false x = refl
+
+-- what the code makes of an identity, from how many of its entries are late
+pub judged_is : (parts : List LedgerPart) (x : Identity) (old : Option LedgerItem) (run : List ReadEntry) (accepted : Bool) (birth : ℕ) (last : Option ℕ) (settled : Bool)
+    → accepted ≡ is_member_of parts old run → birth ≡ birth_or (length parts) old → last ≡ last_or_none old
+    → settled ≡ last_covers (map part_fields parts) last (sightings_of (filter (is_timely parts birth) run))
+    → then_some accepted (record { id = x; birth = birth; last = last; settled = settled }) ≡ judge_of parts x old run
+judged_is parts x old run accepted birth last settled a b l s =
+    let covered = s ∙ (λ k. last_covers (map part_fields parts) (l k) (sightings_of (filter (is_timely parts (b k)) run))) in
+    some_if accepted (record { id = x; birth = birth; last = last; settled = settled })
+    ∙ (λ k. cond (a k) (Some (record { id = x; birth = b k; last = l k; settled = covered k })) None)
+
+-- with the item of each entry, late is what a part before the birth of its identity lacks
+pub told_lacked : (parts : List LedgerPart) (items : List LedgerItem) (es : List ReadEntry) → count_told (is_late_beside parts) items es ≡ count_by (is_lacked (ledger_fields parts items)) es
+told_lacked parts items es = ap (λ f. count_by f es) (λ i. λ (e : ReadEntry). sym (lacked_is parts items e.id.now e.sighting.now) i)
 
 item_step : (x : Identity) (i : LedgerItem) (is : List LedgerItem) (b : Bool) → is_same x i.id ≡ b → (Among (item_ids is) x → is_some (find (λ (j : LedgerItem). is_same x j.id) is) ≡ true)
     → Among (item_ids (i ∷ is)) x → is_some (cond b (Some i) (find (λ (j : LedgerItem). is_same x j.id) is)) ≡ true

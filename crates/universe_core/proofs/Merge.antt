@@ -1,7 +1,7 @@
 -- One step of the merge.
 use Rattle.std.proofs.Common.{◌≡◌, ℕ, suc, ◌+◌, ◌<◌, ◌≤◌, ◌⊎◌, inl, inr, ⊎_elim, List, [], ◌∷◌, ◌++◌, map, length, take, drop, Bool, true, false, cond, Option}
 use Rattle.std.proofs.Common.{Some, None, refl, sym, ap, ◌∙◌, subst, arith, append_assoc}
-use Rattle.std.specs.List.{AllByRecursion, take_while, filter, filter_map, find, cons_option}
+use Rattle.std.specs.List.{AllByRecursion, count_by, take_while, filter, filter_map, find, cons_option}
 use Rattle.std.specs.List.Sorted.{IsStrictlySortedBy}
 use Rattle.std.specs.declared.cmp.Ordering.{Ordering}
 use Rattle.std.specs.declared.cmp.Ordering.TheVariants.{Less, Equal, Greater}
@@ -9,7 +9,7 @@ use Rattle.std.specs.Ordering.{is_lt, is_gt, ordering_reverse}
 use Rattle.std.proofs.lemmas.Cmp.{tied_itself}
 use Rattle.std.proofs.lemmas.Bool.{true≢false}
 use Rattle.std.proofs.lemmas.List.{append-nil}
-use Rattle.std.proofs.lemmas.List.Sums.{take_while-cons}
+use Rattle.std.proofs.lemmas.List.Sums.{sum_by-cons, count_by-le-length, take_while-cons}
 use Rattle.sets_core.specs.Among.{Among}
 use Rattle.ident_core.specs.declared.identity.Identity.{Identity}
 use Rattle.ident_core.specs.Order.{is_same, identity_cmp}
@@ -18,7 +18,7 @@ use Rattle.ledger_core.specs.declared.fields.LedgerItem.{LedgerItem}
 use Rattle.sets_core.proofs.Sets.{same_is, same_refl, identity_exact, identity_total, Among-with_all, Among-in_with_all}
 use Rattle.sets_core.proofs.Order.{sorted_unique, sorted_all_inserted, sorted_head, sorted_tail}
 use Rattle.universe_core.specs.declared.member.ReadEntry.{ReadEntry}
-use Rattle.universe_core.specs.Merging.{IsRising, lower, least_of, run_of, after_run, first_of, after_first, all_ids, merged}
+use Rattle.universe_core.specs.Merging.{IsRising, lower, least_of, run_of, after_run, first_of, after_first, count_told, all_ids, merged}
 use Rattle.sets_core.proofs.Canonical.{sorted_cons, all_from}
 use Rattle.sets_core.proofs.Keys.{same_other, less_other}
 
@@ -285,6 +285,46 @@ merged_step {M} judge x items entries s r h =
     (judge y (find (λ (i : LedgerItem). is_same y i.id) (after_first x items))) (others_behind x y entries n)) in
     ap (filter_map f) ids ∙ ap (λ o. cons_option o (filter_map f rest)) here ∙ ap (cons_option (judge x (first_of x items) (run_of x entries))) there
 
+-- ---- entries counted, each told the item of its identity
+
+told_both : (test : Option LedgerItem → ReadEntry → Bool) (x : Identity) (items : List LedgerItem) (e : ReadEntry) (es : List ReadEntry) (b : Bool) → is_same x e.id.now ≡ b
+    → count_told test items es ≡ count_by (test (find (λ (i : LedgerItem). is_same x i.id) items)) (run_of x es) + count_told test items (after_run x es)
+    → count_told test items (e ∷ es) ≡ count_by (test (find (λ (i : LedgerItem). is_same x i.id) items)) (cond b (e ∷ run_of x es) []) + count_told test items (cond b (after_run x es) (e ∷ es))
+told_both test x items e es false same rest = omega arith
+told_both test x items e es true same rest =
+    let one : Identity → ℕ = λ y. cond (test (find (λ (i : LedgerItem). is_same y i.id) items) e) 1 0 in
+    let here : one e.id.now ≡ one x = ap one (sym (same_is x e.id.now same)) in
+    let a = sum_by-cons (λ (d : ReadEntry). cond (test (find (λ (i : LedgerItem). is_same d.id.now i.id) items) d) 1 0) e es in
+    let b = sum_by-cons (λ (d : ReadEntry). cond (test (find (λ (i : LedgerItem). is_same x i.id) items) d) 1 0) e (run_of x es) in
+    omega arith
+
+told_run : (test : Option LedgerItem → ReadEntry → Bool) (x : Identity) (items : List LedgerItem) (es : List ReadEntry)
+    → count_told test items es ≡ count_by (test (find (λ (i : LedgerItem). is_same x i.id) items)) (run_of x es) + count_told test items (after_run x es)
+told_run test x items [] = omega arith
+told_run test x items (e ∷ es) = told_both test x items e es (is_same x e.id.now) refl (told_run test x items es)
+
+told_passed : (test : Option LedgerItem → ReadEntry → Bool) (x : Identity) (items : List LedgerItem) (ds : List ReadEntry) → After x ds
+    → count_told test items ds ≡ count_told test (after_first x items) ds
+told_passed test x items [] h = refl
+told_passed test x items (d ∷ ds) h =
+    let one : Option LedgerItem → ℕ = λ o. cond (test o d) 1 0 in
+    let here : one (find (λ (i : LedgerItem). is_same d.id.now i.id) items) ≡ one (find (λ (i : LedgerItem). is_same d.id.now i.id) (after_first x items)) =
+    ap one (first_passed x d.id.now items (less_other x d.id.now h.0)) in
+    let a = sum_by-cons (λ (e : ReadEntry). cond (test (find (λ (i : LedgerItem). is_same e.id.now i.id) items) e) 1 0) d ds in
+    let b = sum_by-cons (λ (e : ReadEntry). cond (test (find (λ (i : LedgerItem). is_same e.id.now i.id) (after_first x items)) e) 1 0) d ds in
+    let rest = told_passed test x items ds h.1 in
+    omega arith
+
+pub told_step : (test : Option LedgerItem → ReadEntry → Bool) (x : Identity) (items : List LedgerItem) (entries : List ReadEntry)
+    → IsStrictlySortedBy identity_cmp (item_ids items) → IsRising entries → least_of items entries ≡ Some x
+    → count_told test items entries ≡ count_by (test (first_of x items)) (run_of x entries) + count_told test (after_first x items) (after_run x entries)
+told_step test x items entries s r h =
+    let l = least_is x items entries s r h in
+    let run = told_run test x items entries in
+    let here = ap (λ o. count_by (test o) (run_of x entries)) (first_found x items (first_less x items l.items_not_below s)) in
+    let rest = told_passed test x items (after_run x entries) (after_is x entries l.entries_not_below r) in
+    omega arith
+
 -- ---- what the loop keeps
 
 cons_more : {M : Type 0} (out rest : List M) (m : Option M) → (out ++ cons_option m []) ++ rest ≡ out ++ cons_option m rest
@@ -314,6 +354,31 @@ merged_none judge (i ∷ is) (e ∷ es) h = absurd cc
 pub all_done : {M : Type 0} (judge : Identity → Option LedgerItem → List ReadEntry → Option M) (items : List LedgerItem) (entries : List ReadEntry) (out whole : List M) → least_of items entries ≡ None
     → out ++ merged judge items entries ≡ whole → out ≡ whole
 all_done judge items entries out whole h w = sym (append-nil out) ∙ ap (λ z. out ++ z) (sym (merged_none judge items entries h)) ∙ w
+
+-- the count goes on over a step of the loop
+pub told_on : (test : Option LedgerItem → ReadEntry → Bool) (x : Identity) (items left : List LedgerItem) (entries after : List ReadEntry) (late more n whole : ℕ)
+    → IsStrictlySortedBy identity_cmp (item_ids items) → IsRising entries → least_of items entries ≡ Some x
+    → left ≡ after_first x items → after ≡ after_run x entries → n ≡ count_by (test (first_of x items)) (run_of x entries)
+    → late + count_told test items entries ≡ whole → more ≡ late + n → more + count_told test left after ≡ whole
+told_on test x items left entries after late more n whole s r h l a k w m =
+    let step = told_step test x items entries s r h in
+    let rest = ap (λ is. count_told test is after) l ∙ ap (count_told test (after_first x items)) a in
+    omega arith
+
+pub told_within : (test : Option LedgerItem → ReadEntry → Bool) (x : Identity) (items all : List LedgerItem) (entries whole : List ReadEntry) (late n : ℕ)
+    → IsStrictlySortedBy identity_cmp (item_ids items) → IsRising entries → least_of items entries ≡ Some x → n ≡ count_by (test (first_of x items)) (run_of x entries)
+    → late + count_told test items entries ≡ count_told test all whole → late + n ≤ length whole
+told_within test x items all entries whole late n s r h k w =
+    let step = told_step test x items entries s r h in
+    let most = count_by-le-length (λ (e : ReadEntry). test (find (λ (i : LedgerItem). is_same e.id.now i.id) all) e) whole in
+    omega arith
+
+-- and ends where both are empty
+pub told_done : (test : Option LedgerItem → ReadEntry → Bool) (items : List LedgerItem) (entries : List ReadEntry) (late whole : ℕ) → least_of items entries ≡ None
+    → late + count_told test items entries ≡ whole → late ≡ whole
+told_done test items [] late whole h w = omega arith
+told_done test [] (e ∷ es) late whole h w = absurd cc
+told_done test (i ∷ is) (e ∷ es) late whole h w = absurd cc
 
 take_run : (x : Identity) (es : List ReadEntry) → take (length (run_of x es)) es ≡ run_of x es
 take_run x [] = refl

@@ -18,9 +18,16 @@ pub record IsSearchable (p : LedgerPart) : Type 0 where
   pub issuers : IsStrictlySortedBy octets_cmp p.issuers.items
   pub ranges : AreRanges p.ranges.items
 
--- whether an entry isn't late, of an identity that was born before so many of the parts
+-- whether an entry is late, of an identity that was born before so many of the parts
+abbrev pub is_late_by : List LedgerPart → ℕ → ReadEntry → Bool
+is_late_by parts birth e = lacked_by (take birth (map part_fields parts)) e.id.now e.sighting.now
+
+-- the same of an identity with this item
+abbrev pub is_late_beside : List LedgerPart → Option LedgerItem → ReadEntry → Bool
+is_late_beside parts old e = is_late_by parts (birth_or (length parts) old) e
+
 abbrev pub is_timely : List LedgerPart → ℕ → ReadEntry → Bool
-is_timely parts birth e = not (lacked_by (take birth (map part_fields parts)) e.id.now e.sighting.now)
+is_timely parts birth e = not (is_late_by parts birth e)
 
 abbrev pub timely : List LedgerPart → Option LedgerItem → List ReadEntry → List ReadEntry
 timely parts old run = filter (is_timely parts (birth_or (length parts) old)) run

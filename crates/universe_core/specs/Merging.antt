@@ -1,6 +1,6 @@
 -- Items of a ledger and entries of a job, merged.
-use Rattle.std.specs.Prelude.{◌≡◌, List, [], ◌∷◌, map, filter, filter_map, find, false, cond, Option, Some, None}
-use Rattle.std.specs.List.{AllByRecursion}
+use Rattle.std.specs.Prelude.{◌≡◌, ℕ, Bool, List, [], ◌∷◌, map, filter, filter_map, find, false, cond, Option, Some, None}
+use Rattle.std.specs.List.{AllByRecursion, count_by}
 use Rattle.std.specs.Ordering.{is_lt, is_gt}
 use Rattle.ident_core.specs.declared.identity.Identity.{Identity}
 use Rattle.ident_core.specs.Order.{is_same, identity_cmp}
@@ -40,6 +40,10 @@ first_of x (i ∷ is) = cond (is_same x i.id) (Some i) None
 abbrev pub after_first : Identity → List LedgerItem → List LedgerItem
 after_first x [] = []
 after_first x (i ∷ is) = cond (is_same x i.id) is (i ∷ is)
+
+-- how many of the entries pass a test that is told the item of each one's identity
+abbrev pub count_told : (Option LedgerItem → ReadEntry → Bool) → List LedgerItem → List ReadEntry → ℕ
+count_told test items entries = count_by (λ e. test (find (λ (i : LedgerItem). is_same e.id.now i.id) items) e) entries
 
 -- the identities of items and entries
 abbrev pub all_ids : List LedgerItem → List ReadEntry → List Identity

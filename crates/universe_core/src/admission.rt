@@ -3,7 +3,7 @@
 ghost use Rattle.std.specs.Prelude.{◌≡◌, ◌≢◌, ◌≤◌, ◌<◌, ℕ, List, [], ◌∷◌, length, map, None, Some, IfOk, IfErr, OnOk, All};
 ghost use Rattle.std.specs.List.Sorted.{IsStrictlySortedBy};
 ghost use Rattle.ident_core.specs.Order.{identity_cmp};
-ghost use Rattle.ident_core.specs.Coverage.{AreRanges, RangesFit};
+ghost use Rattle.ident_core.specs.Coverage.{RangesFit};
 ghost use Rattle.job_core.specs.JobFields.{AreWithin, fields_of_job};
 ghost use Rattle.ident_core.specs.declared.bounds.TheConstants.{MAX_PARTS};
 ghost use Rattle.ledger_core.specs.LedgerFields.{LedgerFields, ledger_fields, sealed_with};
@@ -26,7 +26,6 @@ use crate::fault::AdmitFault;
 use crate::flagging::{next_items, revoked_now};
 use crate::following::{early_fault, next_draft, next_head};
 use crate::grouping::groups;
-use crate::lateness::late_entries;
 use crate::member::Member;
 use crate::merging::members;
 use crate::reading::{Tally, read};
@@ -64,7 +63,8 @@ fn accept(
 ) -> Result<Acceptance, AllocError>
     requires few_parts { length parts.now < 256 }
     requires parts { All IsSearchable parts.now }
-    requires ranges { AreRanges job.now.ranges.items }
+    requires ranges { RangesFit job.now.ranges.items }
+    requires few_crls { length job.now.crls.items ≤ 65535 }
     requires ascend { IsStrictlySortedBy identity_cmp (map (λ i. i.id) items.now) }
     requires few_entries { length job.now.entries.items ≤ 4294967295 }
     ensures issuers { IfOk result (λ a. a.issuers.items ≡ enrolled_of (facts_of_job job.now)) }
@@ -79,11 +79,11 @@ fn accept(
     let reading = read(alloc, &job.ranges, &issuers, &job.entries)?;
     let tally = reading.tally;
     let mut entries = reading.entries;
-    let members = members(alloc, parts, items, &mut entries)?;
-    let late = late_entries(parts, items, &entries) as u32;
+    let merged = members(alloc, parts, items, &mut entries)?;
+    let late = merged.late as u32;
     Ok(Acceptance {
         issuers,
-        members,
+        members: merged.members,
         tally,
         late,
         accepted: tally.read - late,

@@ -15,7 +15,7 @@ use crate::lateness::is_late_sighting;
 use job_core::Job;
 use ledger_core::{Ledger, LedgerItem, LedgerPart};
 use log_core::Entry;
-use sets_core::covers_sorted;
+use sets_core::place_covering;
 
 /// What an entry that is read is, behind these parts and items.
 fn class_read(parts: &[LedgerPart], items: &[LedgerItem], job: &Job, entry: &Entry) -> Class
@@ -25,13 +25,13 @@ fn class_read(parts: &[LedgerPart], items: &[LedgerItem], job: &Job, entry: &Ent
     requires ranges { AreRanges job.now.ranges.items }
     ensures { result ≡ class_told (past_by parts.now items.now) (facts_of_job job.now) (Some entry.now) }
 {
-    if !covers_sorted(&job.ranges, &entry.sighting) {
+    let Some(near) = place_covering(&job.ranges, &entry.sighting) else {
         return Class::Uncovered;
-    }
+    };
     if !is_enrolled(job, &entry.id.issuer) {
         return Class::Unenrolled;
     }
-    if is_late_sighting(parts, items, &entry.id, &entry.sighting) {
+    if is_late_sighting(parts, items, &entry.id, &entry.sighting, near) {
         return Class::Late;
     }
     Class::Accepted

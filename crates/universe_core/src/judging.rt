@@ -1,47 +1,56 @@
-ghost use Rattle.std.specs.List.{list_any, list_all};
-ghost use Rattle.std.specs.Prelude.{◌≡◌, filter, length, map, take, ◌<◌, ◌&&◌, All, is_some};
+ghost use Rattle.std.specs.List.{list_any, list_all, count_by};
+ghost use Rattle.std.specs.Prelude.{◌≡◌, filter, length, map, take, ◌<◌, ◌&&◌, All, false};
 ghost use Rattle.universe_core.specs.Ledgers.{birth_or, last_or_none, last_covers, lacked_by};
 ghost use Rattle.ident_core.specs.Coverage.{covers};
 ghost use Rattle.sets_core.specs.Sets.{has_key};
 ghost use Rattle.ledger_core.specs.LedgerFields.{part_fields};
-ghost use Rattle.universe_core.specs.Judging.{IsSearchable, judge_of, is_timely, sightings_of, is_member_of};
+ghost use Rattle.universe_core.specs.Judging.{IsSearchable, judge_of, is_late_by, is_late_beside, is_timely, sightings_of};
 
 use crate::member::{Member, ReadEntry};
 use ident_core::{Identity, Sighting};
 use ledger_core::{LedgerItem, LedgerPart};
-use sets_core::{covers_sorted, holds_key};
+use sets_core::{covers_near, holds_key};
 
-/// Whether a part covers the sighting and enrolls the issuer.
-fn part_lacks(part: &LedgerPart, id: &Identity, sighting: &Sighting) -> bool
+/// Whether a part covers the sighting and enrolls the issuer. The place of the log's range is guessed.
+fn part_lacks(part: &LedgerPart, id: &Identity, sighting: &Sighting, near: usize) -> bool
     requires { IsSearchable part.now }
     ensures { result ≡ (covers part.now.ranges.items sighting.now && has_key part.now.issuers.items id.now.issuer) }
 {
-    covers_sorted(&part.ranges, sighting) && holds_key(&part.issuers, &id.issuer)
+    covers_near(&part.ranges, near, sighting) && holds_key(&part.issuers, &id.issuer)
 }
 
-fn some_lacks(parts: &[LedgerPart], id: &Identity, sighting: &Sighting) -> bool
+fn some_lacks(parts: &[LedgerPart], id: &Identity, sighting: &Sighting, near: usize) -> bool
     requires { All IsSearchable parts.now }
     ensures { result ≡ list_any (λ p. covers p.ranges.items sighting.now && has_key p.issuers.items id.now.issuer) parts.now }
 {
     for part in parts {
-        if part_lacks(part, id, sighting) {
+        if part_lacks(part, id, sighting, near) {
             return true;
         }
     }
     false
 }
 
-/// Whether a part before the identity's birth covers the sighting and enrolls the issuer.
+/// Whether a part before the identity's birth covers the sighting and enrolls the issuer. The place of the log's range
+/// is guessed.
 pub(crate) fn is_late(
     parts: &[LedgerPart],
     birth: usize,
     id: &Identity,
     sighting: &Sighting,
+    near: usize,
 ) -> bool
     requires { All IsSearchable parts.now }
     ensures { result ≡ lacked_by (take birth (map part_fields parts.now)) id.now sighting.now }
 {
-    some_lacks(&parts[..birth.min(parts.len())], id, sighting)
+    some_lacks(&parts[..birth.min(parts.len())], id, sighting, near)
+}
+
+fn comes_late(parts: &[LedgerPart], birth: usize, e: &ReadEntry<'_>) -> bool
+    requires { All IsSearchable parts.now }
+    ensures { result ≡ is_late_by parts.now birth e.now }
+{
+    is_late(parts, birth, e.id, e.sighting, e.near as usize)
 }
 
 pub(crate) fn birth_of(parts: &[LedgerPart], old: &Option<LedgerItem>) -> u8
@@ -63,77 +72,104 @@ fn last_of(old: &Option<LedgerItem>) -> Option<u8>
     }
 }
 
-fn any_timely(parts: &[LedgerPart], birth: usize, run: &[ReadEntry<'_>]) -> bool
-    requires { All IsSearchable parts.now }
-    ensures { result ≡ list_any (is_timely parts.now birth) run.now }
-{
-    run.iter().any(|e| !is_late(parts, birth, e.id, e.sighting))
+/// What an identity's entries say: how many are late, and whether the part of its last covers the others.
+#[derive(Clone, Copy)]
+struct RunFacts {
+    late: usize,
+    settled: bool,
 }
 
-fn part_settles(
+fn count_late(parts: &[LedgerPart], birth: usize, run: &[ReadEntry<'_>]) -> usize
+    requires { All IsSearchable parts.now }
+    ensures { result ≡ count_by (is_late_by parts.now birth) run.now }
+{
+    run.iter().filter(|e| comes_late(parts, birth, e)).count()
+}
+
+/// Where there is no part of a last.
+fn facts_alone(parts: &[LedgerPart], birth: usize, run: &[ReadEntry<'_>]) -> RunFacts
+    requires { All IsSearchable parts.now }
+    ensures late { result.late ≡ count_by (is_late_by parts.now birth) run.now }
+    ensures settled { result.settled ≡ false }
+{
+    RunFacts {
+        late: count_late(parts, birth, run),
+        settled: false,
+    }
+}
+
+/// Where this is the part of the last.
+fn facts_beside(
     part: &LedgerPart,
     parts: &[LedgerPart],
     birth: usize,
     run: &[ReadEntry<'_>],
-) -> bool
+) -> RunFacts
     requires part { IsSearchable part.now }
     requires parts { All IsSearchable parts.now }
-    ensures { result ≡ list_all (λ e. covers part.now.ranges.items e.sighting.now) (filter (is_timely parts.now birth) run.now) }
+    ensures late { result.late ≡ count_by (is_late_by parts.now birth) run.now }
+    ensures settled { result.settled ≡ list_all (λ e. covers part.now.ranges.items e.sighting.now) (filter (is_timely parts.now birth) run.now) }
 {
-    run.iter()
-        .filter(|e| !is_late(parts, birth, e.id, e.sighting))
-        .all(|e| covers_sorted(&part.ranges, e.sighting))
+    let mut facts = RunFacts {
+        late: 0,
+        settled: true,
+    };
+    for e in run {
+        if comes_late(parts, birth, e) {
+            facts.late += 1;
+        } else if !covers_near(&part.ranges, e.near as usize, e.sighting) {
+            facts.settled = false;
+        }
+    }
+    facts
 }
 
-/// Whether the part of the last covers the entries that aren't late.
-fn is_settled(parts: &[LedgerPart], last: Option<u8>, birth: usize, run: &[ReadEntry<'_>]) -> bool
+/// What the entries say of an identity that was born before so many of the parts, and has this last.
+fn facts_of(parts: &[LedgerPart], last: Option<u8>, birth: usize, run: &[ReadEntry<'_>]) -> RunFacts
     requires { All IsSearchable parts.now }
-    ensures { result ≡ last_covers (map part_fields parts.now) last (sightings_of (filter (is_timely parts.now birth) run.now)) }
+    ensures late { result.late ≡ count_by (is_late_by parts.now birth) run.now }
+    ensures settled { result.settled ≡ last_covers (map part_fields parts.now) last (sightings_of (filter (is_timely parts.now birth) run.now)) }
 {
     match last {
-        None => false,
+        None => facts_alone(parts, birth, run),
         Some(place) => match parts.get(place as usize) {
-            None => false,
-            Some(part) => part_settles(part, parts, birth, run),
+            None => facts_alone(parts, birth, run),
+            Some(part) => facts_beside(part, parts, birth, run),
         },
     }
 }
 
-/// Whether it has an item, or an entry that isn't late.
-fn is_member(
-    parts: &[LedgerPart],
-    old: &Option<LedgerItem>,
-    birth: u8,
-    run: &[ReadEntry<'_>],
-) -> bool
-    requires birth { birth ≡ birth_or (length parts.now) old.now }
-    requires parts { All IsSearchable parts.now }
-    ensures { result ≡ is_member_of parts.now old.now run.now }
-{
-    old.is_some() || any_timely(parts, birth as usize, run)
+/// What becomes of an identity, and how many of its entries are late.
+#[derive(Clone, Copy)]
+pub(crate) struct Judged {
+    pub(crate) member: Option<Member>,
+    pub(crate) late: usize,
 }
 
-/// What becomes of an identity.
+/// What becomes of an identity. It is accepted if it has an item, or an entry that isn't late.
 pub(crate) fn judge(
     parts: &[LedgerPart],
     id: &Identity,
     old: &Option<LedgerItem>,
     run: &[ReadEntry<'_>],
-) -> Option<Member>
+) -> Judged
     requires few { length parts.now < 256 }
     requires parts { All IsSearchable parts.now }
-    ensures { result ≡ judge_of parts.now id.now old.now run.now }
+    ensures member { result.member ≡ judge_of parts.now id.now old.now run.now }
+    ensures late { result.late ≡ count_by (is_late_beside parts.now old.now) run.now }
 {
     let birth = birth_of(parts, old);
     let last = last_of(old);
-    if is_member(parts, old, birth, run) {
-        Some(Member {
-            id: *id,
-            birth,
-            last,
-            settled: is_settled(parts, last, birth as usize, run),
-        })
-    } else {
-        None
+    let facts = facts_of(parts, last, birth as usize, run);
+    let accepted = old.is_some() || facts.late < run.len();
+    let member = Member {
+        id: *id,
+        birth,
+        last,
+        settled: facts.settled,
+    };
+    Judged {
+        member: accepted.then_some(member),
+        late: facts.late,
     }
 }

@@ -8,7 +8,9 @@ pub(crate) struct ReadEntry<'a> {
     pub(crate) id: &'a Identity,
     pub(crate) sighting: &'a Sighting,
     /// The place of its issuer among the enrolled ones, which ascend.
-    pub(crate) place: usize,
+    pub(crate) place: u32,
+    /// The place of the job's range that covers it. Parts have the range of the same log there, or not far off.
+    pub(crate) near: u32,
     pub(crate) key: SerialKey,
 }
 

@@ -1,13 +1,14 @@
 ghost use Rattle.std.specs.List.Sorted.{IsStrictlySortedBy};
-ghost use Rattle.std.specs.List.{cons_option, take_while, filter_map};
-ghost use Rattle.std.specs.Prelude.{◌≡◌, ◌≤◌, ◌++◌, [], length, map, OnOk, IfOk, ◌<◌, IsPermutation, All};
+ghost use Rattle.std.specs.List.{cons_option, count_by, take_while, filter_map};
+ghost use Rattle.std.specs.Prelude.{◌≡◌, ◌≤◌, ◌++◌, [], length, map, take, drop, OnOk, IfOk, ◌<◌, All};
 ghost use Rattle.ident_core.specs.Order.{identity_cmp, is_same as same};
 ghost use Rattle.universe_core.specs.Merging.{IsRising, least_of, run_of, after_run, first_of, after_first, merged, lower};
-ghost use Rattle.universe_core.specs.Judging.{IsSearchable, judge_of};
+ghost use Rattle.universe_core.specs.Merging.{count_told};
+ghost use Rattle.universe_core.specs.Judging.{IsSearchable, judge_of, is_late_beside};
 ghost use Rattle.ledger_core.specs.LedgerFields.{ledger_fields};
 ghost use Rattle.universe_core.specs.Jobs.{Job as JobMeaning, enrolled};
 ghost use Rattle.universe_core.specs.Placing.{ArePlaced};
-ghost use Rattle.universe_core.specs.Reading.{if_read, entry_fields};
+ghost use Rattle.universe_core.specs.Reading.{if_read, entry_fields, is_lacked};
 ghost use Rattle.universe_core.specs.Members.{members_in};
 
 use crate::judging::judge;
@@ -54,19 +55,17 @@ fn run_length(entries: &[ReadEntry<'_>], id: &Identity) -> usize
     count
 }
 
-/// The first entries, if they are the identity's.
-fn run<'a, 'b>(entries: &'a [ReadEntry<'b>], id: &Identity) -> &'a [ReadEntry<'b>]
-    ensures { result.now ≡ run_of id.now entries.now }
+fn first_entries<'a, 'b>(entries: &'a [ReadEntry<'b>], count: usize) -> &'a [ReadEntry<'b>]
+    requires { count ≤ length entries.now }
+    ensures { result.now ≡ take count entries.now }
 {
-    let count = run_length(entries, id);
     &entries[..count]
 }
 
-/// The entries behind them.
-fn after_entries<'a, 'b>(entries: &'a [ReadEntry<'b>], id: &Identity) -> &'a [ReadEntry<'b>]
-    ensures { result.now ≡ after_run id.now entries.now }
+fn entries_behind<'a, 'b>(entries: &'a [ReadEntry<'b>], count: usize) -> &'a [ReadEntry<'b>]
+    requires { count ≤ length entries.now }
+    ensures { result.now ≡ drop count entries.now }
 {
-    let count = run_length(entries, id);
     &entries[count..]
 }
 
@@ -105,49 +104,59 @@ fn keep(out: &mut Vec<Member>, member: Option<Member>) -> Result<(), AllocError>
     Ok(())
 }
 
-/// The identities of items and entries that are accepted, ascending.
+/// What a merge of items and entries gives: the identities that are accepted, ascending, and how many entries are late.
+#[derive(Drop)]
+pub(crate) struct Merged {
+    pub(crate) members: Vec<Member>,
+    pub(crate) late: usize,
+}
+
 fn merge(
     alloc: Global,
     parts: &[LedgerPart],
     items: &[LedgerItem],
     entries: &[ReadEntry<'_>],
-) -> Result<Vec<Member>, AllocError>
+) -> Result<Merged, AllocError>
     requires few { length parts.now < 256 }
     requires parts { All IsSearchable parts.now }
     requires ascend { IsStrictlySortedBy identity_cmp (map (λ i. i.id) items.now) }
     requires rise { IsRising entries.now }
-    ensures { IfOk result (λ members. members.items ≡ merged (judge_of parts.now) items.now entries.now) }
+    ensures members { IfOk result (λ m. m.members.items ≡ merged (judge_of parts.now) items.now entries.now) }
+    ensures late { IfOk result (λ m. m.late ≡ count_told (is_late_beside parts.now) items.now entries.now) }
 {
-    let mut out = Vec::with_capacity(alloc, items.len().saturating_add(entries.len()))?;
+    let mut members = Vec::with_capacity(alloc, items.len().saturating_add(entries.len()))?;
+    let mut late = 0;
     let mut items_left = items;
     let mut entries_left = entries;
     while let Some(id) = least(items_left, entries_left) {
         let old = first_item(items_left, &id);
-        let member = judge(parts, &id, &old, run(entries_left, &id));
-        keep(&mut out, member)?;
+        let count = run_length(entries_left, &id);
+        let judged = judge(parts, &id, &old, first_entries(entries_left, count));
+        keep(&mut members, judged.member)?;
+        late += judged.late;
         items_left = after_item(items_left, &id);
-        entries_left = after_entries(entries_left, &id);
+        entries_left = entries_behind(entries_left, count);
     }
-    Ok(out)
+    Ok(Merged { members, late })
 }
 
 /// The identities accepted so far, ascending, where these entries are those that a job's ranges cover and whose issuers
-/// it enrolls. The entries are left sorted.
+/// it enrolls, and how many of these are late. The entries are left sorted.
 pub(crate) fn members(
     alloc: Global,
     parts: &[LedgerPart],
     items: &[LedgerItem],
     entries: &mut Vec<ReadEntry<'_>>,
-) -> Result<Vec<Member>, AllocError>
+) -> Result<Merged, AllocError>
     requires few { length parts.now < 256 }
     requires parts { All IsSearchable parts.now }
     requires ascend { IsStrictlySortedBy identity_cmp (map (λ i. i.id) items.now) }
     requires placed { ArePlaced entries.old.items }
-    ensures same { IsPermutation entries.old.items entries.new.items }
     ensures members { (job : JobMeaning) → map entry_fields entries.old.items ≡ filter_map (if_read job.ranges (enrolled job)) job.entries
-        → IfOk result (λ members. members.items ≡ members_in (ledger_fields parts.now items.now) job) }
+        → IfOk result (λ m. m.members.items ≡ members_in (ledger_fields parts.now items.now) job) }
+    ensures late { IfOk result (λ m. m.late ≡ count_by (is_lacked (ledger_fields parts.now items.now)) entries.old.items) }
 {
     sort_entries(entries);
-    let members = merge(alloc, parts, items, entries)?;
-    Ok(members)
+    let merged = merge(alloc, parts, items, entries)?;
+    Ok(merged)
 }

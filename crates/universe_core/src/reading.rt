@@ -1,7 +1,7 @@
 ghost use Rattle.std.specs.List.Sorted.{IsStrictlySortedBy};
 ghost use Rattle.std.specs.List.{filter_map, cons_option, count_by};
 ghost use Rattle.std.specs.Prelude.{◌≡◌, ◌≤◌, ◌<◌, ℕ, List, Some, IfOk, OnOk, All, [], ◌++◌, ◌&&◌, IsPermutation, length, map, slice_get};
-ghost use Rattle.ident_core.specs.Coverage.{AreRanges};
+ghost use Rattle.ident_core.specs.Coverage.{RangesFit};
 ghost use Rattle.ident_core.specs.Order.{octets_cmp};
 ghost use Rattle.universe_core.specs.Reading.{if_read, entry_fields, class_alone, with_class};
 ghost use Rattle.universe_core.specs.History.{if_accepted};
@@ -16,7 +16,7 @@ use crate::serial_key::{key_of, order_serials};
 use ident_core::Range;
 use log_core::Entry;
 use octets_core::Key32;
-use sets_core::{covers_sorted, place_of_key};
+use sets_core::{place_covering, place_of_key};
 use std::alloc::{AllocError, Global};
 use std::cmp::Ordering;
 
@@ -36,54 +36,61 @@ pub(crate) struct Reading<'a> {
     pub(crate) tally: Tally,
 }
 
-/// What an entry is where no part lacks it, and the place of its issuer among the enrolled ones, or 0.
+/// What an entry is where no part lacks it. Of one that is read, the place of its issuer among the enrolled ones, and of
+/// the range that covers it.
 #[derive(Clone, Copy)]
 struct Told {
     class: Class,
-    place: usize,
+    place: u32,
+    near: u32,
+}
+
+/// Of an entry that isn't read.
+fn passed_over(class: Class) -> Told
+    ensures { result.class ≡ class }
+{
+    Told {
+        class,
+        place: 0,
+        near: 0,
+    }
 }
 
 /// What is told of an entry.
 #[tactic(auto, using(crate::proofs::Classes::class_unread))]
 fn classify(ranges: &[Range], issuers: &[Key32], entry: &Option<Entry>) -> Told
-    requires ranges { AreRanges ranges.now }
+    requires ranges { RangesFit ranges.now }
     requires sorted { IsStrictlySortedBy octets_cmp issuers.now }
+    requires few { length issuers.now ≤ 65535 }
     ensures class { result.class ≡ class_alone ranges.now issuers.now entry.now }
     ensures place { result.class ≡ class.Accepted → HasPlace issuers.now result.place entry.now }
 {
     let Some(entry) = entry else {
-        return Told {
-            class: Class::Unread,
-            place: 0,
-        };
+        return passed_over(Class::Unread);
     };
-    if !covers_sorted(ranges, &entry.sighting) {
-        return Told {
-            class: Class::Uncovered,
-            place: 0,
-        };
-    }
-    match place_of_key(issuers, &entry.id.issuer) {
-        Some(place) => Told {
-            class: Class::Accepted,
-            place,
-        },
-        None => Told {
-            class: Class::Unenrolled,
-            place: 0,
-        },
+    let Some(near) = place_covering(ranges, &entry.sighting) else {
+        return passed_over(Class::Uncovered);
+    };
+    let Some(place) = place_of_key(issuers, &entry.id.issuer) else {
+        return passed_over(Class::Unenrolled);
+    };
+    Told {
+        class: Class::Accepted,
+        place: place as u32,
+        near: near as u32,
     }
 }
 
-/// The entry of these, whose issuer has this place.
-fn read_entry(entry: &Entry, place: usize) -> ReadEntry<'_>
+/// The entry of these, with what is told of it.
+fn read_entry(entry: &Entry, told: Told) -> ReadEntry<'_>
     ensures entry { entry_fields result ≡ entry.now }
-    ensures placed { (issuers : List (List ℕ)) → slice_get issuers place ≡ Some entry.now.id.issuer → IsPlaced issuers result }
+    ensures placed { (issuers : List (List ℕ)) → slice_get issuers told.place ≡ Some entry.now.id.issuer → IsPlaced issuers result }
 {
     ReadEntry {
         id: &entry.id,
         sighting: &entry.sighting,
-        place,
+        place: told.place,
+        near: told.near,
         key: key_of(&entry.id.serial),
     }
 }
@@ -102,7 +109,7 @@ fn keep_entry<'a>(
     match told.class {
         Class::Accepted => match entry {
             Some(entry) => {
-                let one = read_entry(entry, told.place);
+                let one = read_entry(entry, told);
                 match out.push(one) {
                     Ok(()) => Ok(()),
                     Err(_) => Err(AllocError),
@@ -139,8 +146,9 @@ pub(crate) fn read<'a>(
     issuers: &[Key32],
     entries: &'a [Option<Entry>],
 ) -> Result<Reading<'a>, AllocError>
-    requires ranges { AreRanges ranges.now }
+    requires ranges { RangesFit ranges.now }
     requires sorted { IsStrictlySortedBy octets_cmp issuers.now }
+    requires few_issuers { length issuers.now ≤ 65535 }
     requires few { length entries.now ≤ 4294967295 }
     ensures entries { IfOk result (λ r. map entry_fields r.entries.items ≡ filter_map (λ e. if_read ranges.now issuers.now e) entries.now) }
     ensures placed { IfOk result (λ r. ArePlaced r.entries.items) }

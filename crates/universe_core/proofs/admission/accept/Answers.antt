@@ -1,4 +1,4 @@
-use Rattle.std.proofs.Common.{◌∙◌, refl, sym, subst, map, arith}
+use Rattle.std.proofs.Common.{◌∙◌, refl, sym, ap, subst, map, length, arith}
 use Rattle.std.specs.List.Sorted.{IsStrictlySortedBy}
 use Rattle.ident_core.specs.Order.{octets_cmp}
 use Rattle.ledger_core.specs.LedgerFields.{ledger_fields}
@@ -6,6 +6,7 @@ use Rattle.universe_core.specs.Jobs.{facts_of_job}
 use Rattle.universe_core.specs.Ledgers.{no_ledger, past_in}
 use Rattle.universe_core.specs.Reading.{entry_fields}
 use Rattle.universe_core.specs.declared.class.Class.TheVariants.{Unread, Uncovered, Unenrolled, Accepted}
+use Rattle.universe_core.proofs.Beginning.{job_issuers_few}
 use Rattle.universe_core.proofs.Issuers.{enrolled_ascend}
 use Rattle.universe_core.proofs.Tallies.{read_job, count_job}
 use Rattle.universe_core.proofs.Late.{count_alone, late_is, late_fits, late_within, accepted_rest}
@@ -14,9 +15,15 @@ use Rattle.universe_core.proofs.admission.accept.Goals as goal
 pub read-requires-clause-sorted : goal.read-requires-clause-sorted
 read-requires-clause-sorted c = subst (λ ks. IsStrictlySortedBy octets_cmp ks) (sym (c.deref-2.ensures.value ∙ c.in_ok-issuers.ensures)) (enrolled_ascend (facts_of_job c.args.job.now))
 
+pub read-requires-clause-few_issuers : goal.read-requires-clause-few_issuers
+read-requires-clause-few_issuers c =
+    let few = job_issuers_few c.args.job.now c.requires.few_crls in
+    let k = ap length (c.deref-2.ensures.value ∙ c.in_ok-issuers.ensures) in
+    omega arith
+
 pub returns-clause-members : goal.returns-clause-members
 returns-clause-members c =
-    c.in_ok-members.ensures.members (facts_of_job c.args.job.now)
+    c.in_ok-merged.ensures.members (facts_of_job c.args.job.now)
     (read_job c.args.job.now c.deref.result.now c.deref-2.result.now c.deref-3.result.now (map entry_fields c.in_ok-reading.reading.entries.items)
     c.deref.ensures.value (c.deref-2.ensures.value ∙ c.in_ok-issuers.ensures) c.deref-3.ensures.value c.in_ok-reading.ensures.entries)
 
@@ -40,40 +47,36 @@ returns-clause-unenrolled c =
 
 pub overflow_cast-late : goal.overflow_cast-late
 overflow_cast-late c =
-    let n = late_fits (ledger_fields c.args.parts.now c.args.items.now) c.args.job.now c.late_entries-late.result
-    (late_is (ledger_fields c.args.parts.now c.args.items.now) (facts_of_job c.args.job.now) c.in_ok-reading.reading.entries.items c.members.new.entries.items
-    c.deref-4.result.now c.late_entries-late.result
+    let n = late_fits (ledger_fields c.args.parts.now c.args.items.now) c.args.job.now c.in_ok-merged.merged.late
+    (late_is (ledger_fields c.args.parts.now c.args.items.now) (facts_of_job c.args.job.now) c.in_ok-reading.reading.entries.items c.in_ok-merged.merged.late
     (read_job c.args.job.now c.deref.result.now c.deref-2.result.now c.deref-3.result.now (map entry_fields c.in_ok-reading.reading.entries.items)
     c.deref.ensures.value (c.deref-2.ensures.value ∙ c.in_ok-issuers.ensures) c.deref-3.ensures.value c.in_ok-reading.ensures.entries)
-    c.in_ok-members.ensures.same c.deref-4.ensures.value c.late_entries-late.ensures) c.requires.few_entries in
+    c.in_ok-merged.ensures.late) c.requires.few_entries in
     omega arith
 
 pub overflow_sub-result : goal.overflow_sub-result
 overflow_sub-result c =
-    late_within (past_in (ledger_fields c.args.parts.now c.args.items.now)) (facts_of_job c.args.job.now) c.in_ok-reading.reading.tally.read c.late_entries-late.result
+    late_within (past_in (ledger_fields c.args.parts.now c.args.items.now)) (facts_of_job c.args.job.now) c.in_ok-reading.reading.tally.read c.in_ok-merged.merged.late
     (count_job Accepted c.args.job.now c.deref.result.now c.deref-2.result.now c.deref-3.result.now c.in_ok-reading.reading.tally.read c.deref.ensures.value
     (c.deref-2.ensures.value ∙ c.in_ok-issuers.ensures) c.deref-3.ensures.value c.in_ok-reading.ensures.read)
-    (late_is (ledger_fields c.args.parts.now c.args.items.now) (facts_of_job c.args.job.now) c.in_ok-reading.reading.entries.items c.members.new.entries.items
-    c.deref-4.result.now c.late_entries-late.result
+    (late_is (ledger_fields c.args.parts.now c.args.items.now) (facts_of_job c.args.job.now) c.in_ok-reading.reading.entries.items c.in_ok-merged.merged.late
     (read_job c.args.job.now c.deref.result.now c.deref-2.result.now c.deref-3.result.now (map entry_fields c.in_ok-reading.reading.entries.items)
     c.deref.ensures.value (c.deref-2.ensures.value ∙ c.in_ok-issuers.ensures) c.deref-3.ensures.value c.in_ok-reading.ensures.entries)
-    c.in_ok-members.ensures.same c.deref-4.ensures.value c.late_entries-late.ensures)
+    c.in_ok-merged.ensures.late)
 
 pub returns-clause-late : goal.returns-clause-late
 returns-clause-late c =
-    (late_is (ledger_fields c.args.parts.now c.args.items.now) (facts_of_job c.args.job.now) c.in_ok-reading.reading.entries.items c.members.new.entries.items
-    c.deref-4.result.now c.late_entries-late.result
+    (late_is (ledger_fields c.args.parts.now c.args.items.now) (facts_of_job c.args.job.now) c.in_ok-reading.reading.entries.items c.in_ok-merged.merged.late
     (read_job c.args.job.now c.deref.result.now c.deref-2.result.now c.deref-3.result.now (map entry_fields c.in_ok-reading.reading.entries.items)
     c.deref.ensures.value (c.deref-2.ensures.value ∙ c.in_ok-issuers.ensures) c.deref-3.ensures.value c.in_ok-reading.ensures.entries)
-    c.in_ok-members.ensures.same c.deref-4.ensures.value c.late_entries-late.ensures)
+    c.in_ok-merged.ensures.late)
 
 pub returns-clause-accepted : goal.returns-clause-accepted
 returns-clause-accepted c =
-    accepted_rest (past_in (ledger_fields c.args.parts.now c.args.items.now)) (facts_of_job c.args.job.now) c.in_ok-reading.reading.tally.read c.late_entries-late.result
+    accepted_rest (past_in (ledger_fields c.args.parts.now c.args.items.now)) (facts_of_job c.args.job.now) c.in_ok-reading.reading.tally.read c.in_ok-merged.merged.late
     (count_job Accepted c.args.job.now c.deref.result.now c.deref-2.result.now c.deref-3.result.now c.in_ok-reading.reading.tally.read c.deref.ensures.value
     (c.deref-2.ensures.value ∙ c.in_ok-issuers.ensures) c.deref-3.ensures.value c.in_ok-reading.ensures.read)
-    (late_is (ledger_fields c.args.parts.now c.args.items.now) (facts_of_job c.args.job.now) c.in_ok-reading.reading.entries.items c.members.new.entries.items
-    c.deref-4.result.now c.late_entries-late.result
+    (late_is (ledger_fields c.args.parts.now c.args.items.now) (facts_of_job c.args.job.now) c.in_ok-reading.reading.entries.items c.in_ok-merged.merged.late
     (read_job c.args.job.now c.deref.result.now c.deref-2.result.now c.deref-3.result.now (map entry_fields c.in_ok-reading.reading.entries.items)
     c.deref.ensures.value (c.deref-2.ensures.value ∙ c.in_ok-issuers.ensures) c.deref-3.ensures.value c.in_ok-reading.ensures.entries)
-    c.in_ok-members.ensures.same c.deref-4.ensures.value c.late_entries-late.ensures)
+    c.in_ok-merged.ensures.late)

@@ -17,7 +17,10 @@ pub accept-requires-clause-parts : goal.accept-requires-clause-parts
 accept-requires-clause-parts c = parts_searchable None c.args.parts.now c.requires.before.parts
 
 pub accept-requires-clause-ranges : goal.accept-requires-clause-ranges
-accept-requires-clause-ranges c = c.requires.ranges.ascending
+accept-requires-clause-ranges c = c.requires.ranges
+
+pub accept-requires-clause-few_crls : goal.accept-requires-clause-few_crls
+accept-requires-clause-few_crls c = crls_few c.args.limits.now c.args.job.now c.requires.few.crls c.requires.published.crls
 
 pub accept-requires-clause-ascend : goal.accept-requires-clause-ascend
 accept-requires-clause-ascend c = c.requires.before.items_ascend

@@ -1,15 +1,16 @@
 use Rattle.std.proofs.Common.{◌≡◌, ◌+◌, ◌++◌, map, length}
 use Rattle.std.specs.List.Sorted.{IsStrictlySortedBy}
 use Rattle.ident_core.specs.Order.{identity_cmp}
-use Rattle.universe_core.specs.Merging.{IsRising, merged}
-use Rattle.universe_core.specs.Judging.{judge_of}
+use Rattle.universe_core.specs.Merging.{IsRising, count_told, merged}
+use Rattle.universe_core.specs.Judging.{is_late_beside, judge_of}
 use Rattle.universe_core.proofs.merging.merge.Given as goal
 
 abbrev pub invariant-loop-id : goal.invariant-loop-id
 invariant-loop-id l = record {
   ascend : IsStrictlySortedBy identity_cmp (map (λ i. i.id) l.items_left);
   rise : IsRising l.entries_left;
-  done : l.out.items ++ merged (judge_of l.parts) l.items_left l.entries_left ≡ merged (judge_of l.parts) l.items l.entries;
+  done : l.members.items ++ merged (judge_of l.parts) l.items_left l.entries_left ≡ merged (judge_of l.parts) l.items l.entries;
+  late : l.late + count_told (is_late_beside l.parts) l.items_left l.entries_left ≡ count_told (is_late_beside l.parts) l.items l.entries;
 }
 
 abbrev pub decreases-loop-id : goal.decreases-loop-id

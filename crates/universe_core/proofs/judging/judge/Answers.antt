@@ -1,0 +1,25 @@
+use Rattle.std.proofs.Common.{◌≡◌, ◌∙◌, ◌||◌, length, sym, ap}
+use Rattle.std.specs.Prelude.{is_some, nat_lt, count_by}
+use Rattle.std.specs.List.{list_any}
+use Rattle.std.proofs.lemmas.Bool.{or_left}
+use Rattle.universe_core.specs.Judging.{is_late_by, is_late_beside, is_timely, is_member_of}
+use Rattle.universe_core.specs.Ledgers.{birth_or}
+use Rattle.universe_core.proofs.Members.{some_other, judged_is}
+use Rattle.universe_core.proofs.judging.judge.Goals as goal
+use Rattle.universe_core.proofs.judging.judge.Goals.{then-is_some, else-is_some}
+
+pub returns-clause-member : goal.returns-clause-member
+returns-clause-member c =
+    let parts = c.args.parts.now in
+    let old = c.args.old.now in
+    let run = c.args.run.now in
+    let any = list_any (is_timely parts (birth_or (length parts) old)) run in
+    let late = c.facts_of-facts.ensures.late ∙ ap (λ n. count_by (is_late_by parts n) run) c.birth_of-birth.ensures in
+    let accepted : c.if-is_some.accepted ≡ is_member_of parts old run = elim c.if-is_some.branch [
+      | then-is_some w ↦ w.accepted-is ∙ w.if-is_some.true ∙ sym (or_left (is_some old) any (sym c.is_some.ensures ∙ w.if-is_some.true))
+      | else-is_some w ↦ w.accepted-is ∙ ap (λ n. nat_lt n (length run)) late ∙ some_other (is_late_beside parts old) run
+          ∙ sym (ap (λ b. b || any) (sym c.is_some.ensures ∙ w.if-is_some.false))
+    ] in
+    c.then_some.ensures
+    ∙ judged_is parts c.args.id.now old run c.if-is_some.accepted c.birth_of-birth.result c.last_of-last.result c.facts_of-facts.result.settled accepted
+    c.birth_of-birth.ensures c.last_of-last.ensures c.facts_of-facts.ensures.settled
