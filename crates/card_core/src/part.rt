@@ -1,11 +1,14 @@
 ghost use Rattle.std.specs.Prelude.{◌≡◌, ◌≤◌, ◌+◌, ◌-◌, ◌*◌, ◌^◌, length};
+ghost use Rattle.std.specs.List.{list_any};
+ghost use Rattle.ident_core.specs.Coverage.{AreRanges, covers};
 ghost use Rattle.card_core.specs.PartFields.{IsPart, AreBlocks};
 ghost use Rattle.card_core.specs.Consulting.{IsPlaceOf, consulted, covers_some};
 
 use crate::block::Block;
 use equation_core::EquationHash;
-use ident_core::{Head, Identity, Sighting, covers};
+use ident_core::{Head, Identity, Range, Sighting};
 use octets_core::{Key32, Steps};
+use sets_core::covers_sorted;
 use std::cmp::Ordering;
 use std::marker::Model;
 use std::sync::ledger::Ledger;
@@ -55,12 +58,11 @@ impl Part {
         self.blocks.as_slice()
     }
 
-    /// Whether the part covers one of the sightings.
+    /// Whether the part covers one of the sightings: a binary search among its ranges for each.
     pub fn covers(&self, sightings: &[Sighting]) -> bool
         ensures { result ≡ covers_some sightings.now self.now }
     {
-        let ranges = self.head.ranges();
-        sightings.iter().any(|s| covers(ranges, s))
+        covers_one(self.head.ranges(), sightings)
     }
 
     /// What the block of the certificate's issuer says, if there is one. Each comparison of issuers is one probe, and
@@ -83,6 +85,13 @@ impl Part {
             Some(place) => Some(self.blocks[place].body.tests_positive(hash, id, words)),
         }
     }
+}
+
+fn covers_one(ranges: &[Range], sightings: &[Sighting]) -> bool
+    requires { AreRanges ranges.now }
+    ensures { result ≡ list_any (covers ranges.now) sightings.now }
+{
+    sightings.iter().any(|s| covers_sorted(ranges, s))
 }
 
 // Where the block of an issuer stands, by halves.
