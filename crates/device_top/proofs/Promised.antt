@@ -35,7 +35,7 @@ use Rattle.device_top.specs.Outcomes.{Outcome, Deed, Formats, Replaces, keeps, s
 use Rattle.device_top.specs.Comes.{Comes, Queried}
 use Rattle.device_top.specs.Holding.{Leaves}
 use Rattle.device_top.specs.Calls.{DeviceCall, Ends}
-use Rattle.device_top.specs.Promises.{Prints, Formatted, Installed, Asked, Promises}
+use Rattle.device_top.specs.Promises.{Prints, Formatted, Installed, Answered, Promises}
 use Rattle.device_top.proofs.Answering.{status_of}
 use Rattle.device_top.proofs.Plain.{plain, not_done}
 
@@ -167,7 +167,7 @@ module _ (call : DeviceCall) (device : List ℕ) (told : call.before.told ≡ So
 
   -- ---- device-query
 
-  query_done : (q : QueryFields) (d : Done) → Queried q device d.o → Asked call device q
+  query_done : (q : QueryFields) (d : Done) → Queried q device d.o → Answered call device q
   query_done q d (inl (at, breaks, is)) = let s = shown d (keeps (bad_device at q.store)) is in absurd (let z : 14 ≡ 0 = s.0 in omega (arith, z))
   query_done q d (inr (capacity, bytes, holds, inl (fault, bad, is))) = absurd (not_done q.store fault (shown d (keeps (refusal q.store fault)) is).0)
   query_done q d (inr (capacity, bytes, holds, inr (parts, good, is))) = record {
@@ -196,7 +196,7 @@ module _ (call : DeviceCall) (device : List ℕ) (told : call.before.told ≡ So
 
   truth_done : Laws → (q : QueryFields) (h : History) (parts : List SealedFields) (capacity : ℕ) → IsHistory h parts → 1 ≤ members h
       → IsDevice capacity (store_bytes parts) device → 1 ≤ length q.sightings → ((s : Sighting) → Among q.sightings s → Among (sightings q.id (seen (history h parts))) s)
-      → Asked call device q → Prints call (verdict_line (truth (history h parts) q.id))
+      → Answered call device q → Prints call (verdict_line (truth (history h parts) q.id))
   truth_done laws q h parts capacity is some holds asked accepted a =
       let held : a.held ≡ store_text parts = held_once a.capacity capacity a.held (store_text parts) device a.is_device holds in
       let read : store_in (store_text parts) ≡ Ok parts =

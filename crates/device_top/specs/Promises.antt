@@ -60,7 +60,7 @@ pub record Installed (call : DeviceCall) (device : List ℕ) (i : InstallPartFie
       × (picks_second after ≡ not (picks_second device)))
 
 -- The device held this store, and what its parts say was printed.
-pub record Asked (call : DeviceCall) (device : List ℕ) (q : QueryFields) : Type 0 where
+pub record Answered (call : DeviceCall) (device : List ℕ) (q : QueryFields) : Type 0 where
   pub capacity : ℕ
   pub held : List ℕ
   pub parts : List SealedFields
@@ -71,7 +71,7 @@ pub record Asked (call : DeviceCall) (device : List ℕ) (q : QueryFields) : Typ
 pub record Promises (call : DeviceCall) (device : List ℕ) : Type 0 where
   pub format : (f : FormatFields) → Did call (commands.Format f) → Formatted call f
   pub install : (i : InstallPartFields) → Did call (commands.Install i) → Installed call device i
-  pub query : (q : QueryFields) → Did call (commands.Query q) → Asked call device q
+  pub query : (q : QueryFields) → Did call (commands.Query q) → Answered call device q
   -- where the slot holds the bytes of a history's store, asked with accepted sightings of the certificate alone
   pub truth : (q : QueryFields) (h : History) (parts : List SealedFields) (capacity : ℕ) → IsHistory h parts
       → 1 ≤ members h → IsDevice capacity (store_bytes parts) device → 1 ≤ length q.sightings
