@@ -62,7 +62,8 @@ use Rattle.input_core.specs.Certificates.{certificate_of, issuer_of, certificate
 use Rattle.clubcard_top.specs.ReplyFields.{Done, NamedFault}
 use Rattle.clubcard_top.specs.Statuses.{is_one_of}
 use Rattle.clubcard_top.specs.Commands.{◌>>=◌, named, input, begun_by, begun, installed_by, installed, stored, query_done, query_cert_done, check_done, show_done}
-use Rattle.clubcard_top.specs.Commands.{publication_done, published_as, MakesSnapshot, MakesDelta, rehearsed, IsRefused, MakesRehearsal, sample_done, head_in, page_in, room_for, pages_of, gather_done, Makes}
+use Rattle.clubcard_top.specs.Commands.{publication_done, published_as, MakesSnapshot, MakesDelta, rehearsed, IsRefused, MakesRehearsal}
+use Rattle.clubcard_top.specs.Commands.{sample_done, head_in, page_in, room_for, pages_of, gather_done, Makes}
 use Rattle.clubcard_top.specs.Steps.{RehearsesOn}
 use Rattle.clubcard_top.specs.Replies.{refusal, reply_of}
 use Rattle.input_core.specs.Inputs.{IsRead, AreRead}
@@ -514,7 +515,8 @@ module _ (told : Option Files) (failed : Option (List ℕ) → Type 0) (e : Name
       → IsRead told failed name g → ((n : ℕ) → Err e ≡ pages_of job n names inputs → Cause names)
       → (input name page_in g ≡ Err e) ⊎ ((read : List PageFields) × (input name page_in g ≡ Ok read) × (Err e ≡ page_then job before names inputs read)) → Cause (name ∷ names)
   page_by job before name names g inputs read rest (inl h) = cause_of (name ∷ names) name g (inl refl) read (input_unread name page_in g e page_read h u)
-  page_by job before name names g inputs read rest (inr (page, is, h)) = room_by job before name names inputs page rest (after_err_of (room_for job before page) (page_last job before names inputs) e h)
+  page_by job before name names g inputs read rest (inr (page, is, h)) =
+      room_by job before name names inputs page rest (after_err_of (room_for job before page) (page_last job before names inputs) e h)
 
   pages_by : (job : List ℕ) (before : ℕ) (names : List (List ℕ)) (inputs : List (Option (List ℕ))) → AreRead told failed names inputs
       → Err e ≡ pages_of job before names inputs → Cause names

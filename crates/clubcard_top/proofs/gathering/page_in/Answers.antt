@@ -26,7 +26,8 @@ returns-in_err-read_page-clause-input g c =
     (input_front (g.D.Depot.files c.args.depot.now) (WhichFailed g.D.Depot c.args.depot.now _) c.args.name.now c.in_ok-bytes.bytes.items (MAX_PAGE + 1) page_in
     (λ (v : Vec PageEntry Global). map fields_of v.items) (Err (of_page c.in_err-read_page.field-0.0)) c.in_ok-bytes.bytes page_front c.in_ok-bytes.ensures.bytes c.in_ok-bytes.ensures.unblamed
     (λ refute. page_short c.in_ok-bytes.bytes.items (omega (arith, c.if-len-gt-MAX_PAGE.false, c.len.ensures, c.in_ok-bytes.bytes.ok))
-    ∙ faulted_err of_page page.NoMemory c.in_err-read_page.field-0.0 (λ (v : Vec PageEntry Global). map fields_of v.items) _ refl (rw c.deref.ensures.value at c.in_err-read_page.ensures.exact) refute))
+    ∙ faulted_err of_page page.NoMemory c.in_err-read_page.field-0.0 (λ (v : Vec PageEntry Global). map fields_of v.items) _ refl
+    (rw c.deref.ensures.value at c.in_err-read_page.ensures.exact) refute))
 
 pub returns-clause-input : goal.returns-clause-input
 returns-clause-input g c =
