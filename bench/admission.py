@@ -1,9 +1,11 @@
 #!/usr/bin/env python3
 """Times `clubcard delta` on jobs that a hostile log or publisher could make, each beside the same job without what
-could make it slow: processor time, the least of so many runs (3). It prints which program it runs, the one that
-`./clubcard` runs. Run it at the top of the repository:
+could make it slow: processor time, the least of so many runs (3); or, beside other work, the millions of instructions
+(valgrind's callgrind), which takes some minutes. It prints which program it runs, the one that `./clubcard` runs. Run
+it at the top of the repository:
 
     python3 bench/admission.py [RUNS]
+    python3 bench/admission.py counted
 
 *Late entries*: 200,000 entries behind a ledger of four parts, each with 50,000 issuers, whose timestamps those parts
 cover; beside them the same entries with timestamps that they don't cover. *Ranges*: 200,000 entries behind a ledger of
@@ -16,6 +18,7 @@ import os
 import sys
 import tempfile
 
+from instructions import instructions
 from publishing import PROGRAM, T, best, crl, entry, serial, write
 
 ENTRIES = 200000
@@ -63,12 +66,17 @@ def chain(at, name, logs_covered, keys):
 
 
 def delta(at, runs, ledger, data, word):
-    """The time of a delta of this job, in whose line each entry is counted behind the word."""
+    """The time of a delta of this job, or with no runs its instructions; each entry is counted behind the word."""
     write(at("job"), data)
-    took, line = best([PROGRAM, "delta", at("job"), ledger, at("part"), at("ledger"), "1"], runs)
+    command = [PROGRAM, "delta", at("job"), ledger, at("part"), at("ledger"), "1"]
+    took, line = best(command, runs) if runs else instructions(command)
     if f" {word} {ENTRIES}" not in line:
         sys.exit(f"not each entry is {word}: {line}")
     return took
+
+
+def shown(runs, took):
+    return f"{took:.3f} s" if runs else f"{took / 1e6:.0f} million"
 
 
 def late_entries(at, runs):
@@ -78,7 +86,7 @@ def late_entries(at, runs):
     for word, begin in (("late", 0), ("accepted", COVERED + 1)):
         sightings = [(held[0], begin + i) for i in range(ENTRIES)]
         took[word] = delta(at, runs, ledger, job(PARTS + 1, held, 2 * COVERED, keys, sightings), word)
-    print(f"late entries: {took['late']:.3f} s, the same not late: {took['accepted']:.3f} s,"
+    print(f"late entries: {shown(runs, took['late'])}, the same not late: {shown(runs, took['accepted'])},"
           f" {took['late'] / took['accepted']:.2f} of it", flush=True)
 
 
@@ -89,13 +97,14 @@ def ranges(at, runs):
         ledger = chain(at, f"ranges {count}", held, keys)
         sightings = [(held[i * 7919 % count], COVERED + 1 + i) for i in range(ENTRIES)]
         took[count] = delta(at, runs, ledger, job(PARTS + 1, held, 2 * COVERED, keys, sightings), "accepted")
-    print(f"{MANY_RANGES} ranges a part: {took[MANY_RANGES]:.3f} s, one range: {took[1]:.3f} s,"
+    print(f"{MANY_RANGES} ranges a part: {shown(runs, took[MANY_RANGES])}, one range: {shown(runs, took[1])},"
           f" {took[MANY_RANGES] / took[1]:.2f} of it", flush=True)
 
 
 def main():
     print(f"program {PROGRAM}", flush=True)
-    runs = int(sys.argv[1]) if len(sys.argv) > 1 else 3
+    word = sys.argv[1] if len(sys.argv) > 1 else "3"
+    runs = 0 if word == "counted" else int(word)
     with tempfile.TemporaryDirectory() as folder:
         for part in (late_entries, ranges):
             part(lambda name: os.path.join(folder, name), runs)
