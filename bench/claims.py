@@ -1,6 +1,6 @@
 #!/usr/bin/env python3
-"""Times the builder whose workers draw the groups from one counter beside the one that cuts them into shares before the
-work, by the clock, for groups of very different sizes and for equal ones. Run it at the top of the repository once
+"""Times the builder whose workers draw the leaves from one counter beside the one that cuts them into shares before the
+work, by the clock, in both formats, for groups of very different sizes and for equal ones. Run it at the top of the repository once
 `rt run` in crates/builder_benches has built the program, on a machine that does nothing else:
 
     python3 bench/claims.py [RUNS [ROUNDS [WORKERS]]]
@@ -16,6 +16,7 @@ import time
 
 PROGRAM = "crates/builder_benches/out/builder_benches"
 SHARINGS = ("cut", "claimed")
+FORMATS = ("plain", "sharded")
 
 # The first group's identities, how many groups there are besides, and how many identities each of those has.
 SIZES = {
@@ -24,22 +25,22 @@ SIZES = {
 }
 
 
-def run(sharing, workers, rounds, sizes):
+def run(sharing, cutting, workers, rounds, sizes):
     """The seconds of a run by the clock, and what it prints."""
-    command = [PROGRAM, sharing, *map(str, (workers, rounds, *sizes))]
+    command = [PROGRAM, sharing, cutting, *map(str, (workers, rounds, *sizes))]
     start = time.monotonic()
     done = subprocess.run(command, stdout=subprocess.PIPE, text=True, check=True)
     return time.monotonic() - start, done.stdout.strip()
 
 
-def compare(name, sizes, runs, rounds, workers):
+def compare(name, cutting, sizes, runs, rounds, workers):
     """Both builders in turn, and the ratio of their least times."""
     least = {}
     said = set()
     for _ in range(runs):
         for sharing in SHARINGS:
-            start, _ = run(sharing, workers, 0, sizes)
-            took, line = run(sharing, workers, rounds, sizes)
+            start, _ = run(sharing, cutting, workers, 0, sizes)
+            took, line = run(sharing, cutting, workers, rounds, sizes)
             said.add(line)
             took = (took - start) / rounds
             least[sharing] = min(took, least.get(sharing, took))
@@ -54,7 +55,8 @@ def main():
         sys.exit("build the program first: (cd crates/builder_benches && rt run)")
     runs, rounds, workers = (list(map(int, sys.argv[1:])) + [9, 3, 4][len(sys.argv) - 1 :])[:3]
     for name, sizes in SIZES.items():
-        compare(name, sizes, runs, rounds, workers)
+        for cutting in FORMATS:
+            compare(f"{name}, {cutting}", cutting, sizes, runs, rounds, workers)
 
 
 if __name__ == "__main__":

@@ -1,6 +1,6 @@
-//! A program to be timed from outside: `builder_benches SHARING WORKERS ROUNDS LARGE MANY SMALL` builds, ROUNDS times
-//! over, the part of one group of LARGE identities and MANY groups of SMALL. SHARING is `cut` (`build_part`) or
-//! `claimed` (`build_part_claimed`).
+//! A program to be timed from outside: `builder_benches SHARING FORMAT WORKERS ROUNDS LARGE MANY SMALL` builds, ROUNDS
+//! times over, the part of one group of LARGE identities and MANY groups of SMALL. SHARING is `cut` (`build_part`) or
+//! `claimed` (`build_part_claimed`), and FORMAT is `plain` or `sharded`.
 #![tactic(auto)]
 
 mod job;
@@ -8,12 +8,17 @@ mod parts;
 
 use crate::job::{Sizes, job_of};
 use crate::parts::{Plan, last_part};
+use builder_core::Format;
 use part_codec::seal;
 use std::{env, io};
 
 fn main(rt: HostRuntime) -> io::Result<()> {
     let mut words = env::args(&rt)?.skip(1);
     let claimed = words.next().as_deref() == Some("claimed");
+    let format = match words.next().as_deref() {
+        Some("sharded") => Format::Sharded,
+        _ => Format::Plain,
+    };
     let mut numbers = [0u32; 5];
     for (place, word) in words.take(5).enumerate() {
         numbers[place] = word.parse::<u32>().unwrap_or(0);
@@ -22,6 +27,7 @@ fn main(rt: HostRuntime) -> io::Result<()> {
     let sizes = Sizes { large, many, small };
     let plan = Plan {
         claimed,
+        format,
         workers: workers.clamp(1, 64),
         rounds,
     };

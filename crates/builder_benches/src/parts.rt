@@ -7,7 +7,7 @@ ghost use Rattle.ident_core.specs.Order.{octets_cmp};
 ghost use Rattle.universe_core.specs.Groups.{group_fields, IsGroup};
 ghost use Rattle.builder_core.specs.Building.{identities_in, issuers_of};
 
-use builder_core::{BuildFault, Open, build_part, build_part_claimed};
+use builder_core::{BuildFault, Format, Open, build_part, build_part_claimed};
 use card_core::Part;
 use equation_core::Sha256Rows;
 use ident_core::{Head, Kind, MAX_IDENTITIES, MAX_ISSUERS, MAX_RANGES, ranges_fit};
@@ -17,11 +17,12 @@ use std::alloc::Global;
 use std::thread::Threads;
 use universe_core::{Admitted, Group, first};
 
-/// Whether workers draw the groups from one counter or get shares of them, how many workers there are, and how often
-/// the part is built.
+/// Whether workers draw the leaves from one counter or get shares of them, how blocks are cut, how many workers there
+/// are, and how often the part is built.
 #[derive(Clone, Copy)]
 pub struct Plan {
     pub claimed: bool,
+    pub format: Format,
     pub workers: u32,
     pub rounds: u32,
 }
@@ -44,14 +45,18 @@ fn built<R: Threads + Sync>(
     requires some_workers { 1 ≤ plan.workers }
     requires few_workers { plan.workers ≤ MAX_WORKERS }
 {
-    let workers = plan.workers;
+    let Plan {
+        workers,
+        format,
+        ..
+    } = plan;
     let mut last = None;
     for _ in 0..plan.rounds {
         let head = head_of(alloc);
         let part = if plan.claimed {
-            build_part_claimed(rt, alloc, &Sha256Rows, &Open, groups, head, workers)?
+            build_part_claimed(rt, alloc, &Sha256Rows, &Open, groups, head, workers, format)?
         } else {
-            build_part(rt, alloc, &Sha256Rows, &Open, groups, head, workers)?
+            build_part(rt, alloc, &Sha256Rows, &Open, groups, head, workers, format)?
         };
         last = Some(part);
     }

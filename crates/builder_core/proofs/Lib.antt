@@ -1,6 +1,11 @@
 pub mod GroupBlocks
-pub mod OutcomesInOrder
+pub mod TaskLists
+pub mod Assembly
+pub mod OutcomeLaws
+pub mod Faults
 pub mod OutcomesInPlace
+pub mod ShardMembers
+pub mod ShareLists
 pub mod FirstRefused
 pub mod Admitted
 pub mod Existing

@@ -1,7 +1,5 @@
 -- What holds of the blocks of all groups, and of a refusal.
-use Rattle.std.specs.Prelude.{◌≡◌, ◌<◌, ◌⊎◌, ℕ, false, List, length, slice_index_or, Result}
-use Rattle.std.specs.declared.alloc.Global.{Global}
-use Rattle.std.specs.declared.vec.Vec.{Vec}
+use Rattle.std.specs.Prelude.{◌≡◌, ◌<◌, ◌⊎◌, ℕ, false, List, length, map, slice_index_or, Result, Ok}
 use Rattle.ident_core.specs.declared.identity.Identity.{Identity}
 use Rattle.equation_core.specs.Rows.{Rows}
 use Rattle.card_core.specs.declared.block.Block.{Block}
@@ -9,8 +7,11 @@ use Rattle.card_core.specs.Filter.{is_positive}
 use Rattle.universe_core.specs.Groups.{GroupFields}
 use Rattle.builder_core.specs.declared.format.Format.{Format}
 use Rattle.builder_core.specs.declared.fault.BuildFault.{BuildFault}
-use Rattle.builder_core.specs.Building.{IsGroupBlock, AreGroupBlocks, BuildsBlocks, IsFirstRefused}
-use Rattle.builder_core.specs.Outcomes.{AreOutcomes, IsAssembled}
+use Rattle.builder_core.specs.declared.fault.BuildFault.TheVariants.{SeedsExhausted}
+use Rattle.builder_core.specs.declared.built.Built.{Built}
+use Rattle.builder_core.specs.Building.{IsGroupBlock, AreGroupBlocks, IsFirstRefused}
+use Rattle.builder_core.specs.Tasks.{tasks_in}
+use Rattle.builder_core.specs.Outcomes.{AreOutcomes, IsFirstFault}
 
 -- in each format the test of each identity of a group is its flag
 abbrev pub GroupBlockIsExact : Type 0
@@ -41,8 +42,10 @@ OneIsFirstRefused =
     → IsFirstRefused format rows groups issuer stage → IsFirstRefused format rows groups other_issuer other_stage
     → (issuer ≡ other_issuer) × (stage ≡ other_stage)
 
--- outcomes in order give the blocks of the groups, or the first refusal
+-- The outcomes of the leaves, in order: where all are built there are blocks of all groups, and the first that is
+-- refused makes its group the first that is refused.
 abbrev pub OutcomesGiveBlocks : Type 0
 OutcomesGiveBlocks =
-    (format : Format) (rows : Rows) (groups : List GroupFields) (outcomes : List (Result Block BuildFault)) (result : Result (Vec Block Global) BuildFault)
-    → AreOutcomes format rows groups outcomes → IsAssembled outcomes result → BuildsBlocks format rows groups result
+    (format : Format) (rows : Rows) (groups : List GroupFields) (outcomes : List (Result Built BuildFault)) → AreOutcomes rows (tasks_in format groups) outcomes
+    → ((built : List Built) → outcomes ≡ map Ok built → (blocks : List Block) × AreGroupBlocks format rows groups blocks)
+    × ((issuer : List ℕ) (stage : ℕ) → IsFirstFault outcomes (SeedsExhausted issuer stage) → IsFirstRefused format rows groups issuer stage)

@@ -1,3 +1,6 @@
 pub mod Building
+pub mod Cutting
+pub mod Tasks
 pub mod Outcomes
+pub mod Shares
 pub mod Laws

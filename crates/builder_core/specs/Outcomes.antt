@@ -1,62 +1,65 @@
--- What comes of each group, built by itself, and what is made of it.
-use Rattle.std.specs.Prelude.{◌≡◌, ◌≤◌, ◌⊎◌, ℕ, List, [], ◌∷◌, ◌++◌, map, length, Some, Result, Ok, Err}
+-- What comes of each leaf, built by itself, and what is made of it.
+use Rattle.std.specs.Prelude.{◌≡◌, ◌≤◌, ℕ, zero, suc, List, [], ◌∷◌, ◌++◌, map, not, Some, Result, Ok, Err}
 use Rattle.std.specs.List.{slice_get}
 use Rattle.std.specs.declared.alloc.Global.{Global}
 use Rattle.std.specs.declared.vec.Vec.{Vec}
-use Rattle.ident_core.specs.declared.bounds.TheConstants.{MAX_IDENTITIES}
 use Rattle.equation_core.specs.Rows.{Rows}
 use Rattle.card_core.specs.declared.block.Block.{Block}
-use Rattle.card_core.specs.Filter.{IsBlockRefused}
-use Rattle.universe_core.specs.declared.admitted.Group.{Group}
+use Rattle.card_core.specs.Leaf.{flagged, IsLeaf, IsRefused}
+use Rattle.card_core.specs.Filter.{in_shard, IsBlock, IsBlockRefused}
+use Rattle.stage_core.specs.declared.fault.BlockFault.{BlockFault}
+use Rattle.stage_core.specs.declared.fault.BlockFault.TheVariants as block
 use Rattle.universe_core.specs.Groups.{GroupFields}
 use Rattle.builder_core.specs.declared.format.Format.{Format}
 use Rattle.builder_core.specs.declared.fault.BuildFault.{BuildFault}
 use Rattle.builder_core.specs.declared.fault.BuildFault.TheVariants.{SeedsExhausted, NoMemory}
-use Rattle.builder_core.specs.Building.{shift_in, IsGroupBlock}
+use Rattle.builder_core.specs.declared.built.Built.{Built}
+use Rattle.builder_core.specs.declared.built.Built.TheVariants as builts
+use Rattle.builder_core.specs.Building.{BuildsBlocks}
+use Rattle.builder_core.specs.Tasks.{TaskFields, tasks_in, revoked_of, others_of}
 
--- what building a group asks of it
-pub record IsReady (g : Group) : Type 0 where
-  pub beside : length g.revoked.items ≡ length g.universe.items
-  pub few : length g.universe.items ≤ MAX_IDENTITIES
+-- the block of a group that isn't cut, or the leaf of a shard
+abbrev pub IsBuilt : Rows → TaskFields → Built → Type 0
+IsBuilt rows t (builts.Block block) = (t.shift ≡ 0) × IsBlock rows 0 t.group.issuer t.group.universe t.group.revoked block
+IsBuilt rows t (builts.Leaf s) =
+    (1 ≤ t.shift) × (s.issuer ≡ t.group.issuer) × (s.shift ≡ t.shift) × IsLeaf rows (revoked_of t) (others_of t) s.leaf
 
--- the block of a group, or why there is none
-abbrev pub IsOutcome : Format → Rows → GroupFields → Result Block BuildFault → Type 0
-IsOutcome format rows g (Ok block) = IsGroupBlock format rows g block
-IsOutcome format rows g (Err NoMemory) = Unit {0}
-IsOutcome format rows g (Err (SeedsExhausted issuer stage)) = (g.issuer ≡ issuer) × IsBlockRefused rows (shift_in format g) g.universe g.revoked stage
+-- the stage for which there is no leaf
+abbrev pub IsTaskRefused : Rows → GroupFields → ℕ → ℕ → ℕ → Type 0
+IsTaskRefused rows g zero shard stage = IsBlockRefused rows 0 g.universe g.revoked stage
+IsTaskRefused rows g (suc s) shard stage =
+    IsRefused rows (in_shard (suc s) shard (flagged g.universe g.revoked)) (in_shard (suc s) shard (flagged g.universe (map not g.revoked))) stage
 
--- the same of the group at a place
-abbrev pub IsOutcomeAt : Format → Rows → List GroupFields → ℕ → Result Block BuildFault → Type 0
-IsOutcomeAt format rows groups place outcome = (g : GroupFields) → slice_get groups place ≡ Some g → IsOutcome format rows g outcome
+-- a leaf, or the refusal, or want of memory
+abbrev pub BuildsTask : Rows → TaskFields → Result Built BlockFault → Type 0
+BuildsTask rows t (Ok built) = IsBuilt rows t built
+BuildsTask rows t (Err block.NoMemory) = Unit {0}
+BuildsTask rows t (Err (block.SeedsExhausted stage)) = IsTaskRefused rows t.group t.shift t.shard stage
 
--- an outcome for each group, in order; behind a fault there may be any, or none
-abbrev pub AreOutcomes : Format → Rows → List GroupFields → List (Result Block BuildFault) → Type 0
-AreOutcomes format rows [] [] = Unit {0}
-AreOutcomes format rows [] (o ∷ outcomes) = ⊥
-AreOutcomes format rows (g ∷ groups) [] = ⊥
-AreOutcomes format rows (g ∷ groups) (Ok block ∷ outcomes) = IsOutcome format rows g (Ok block) × AreOutcomes format rows groups outcomes
-AreOutcomes format rows (g ∷ groups) (Err fault ∷ outcomes) = IsOutcome format rows g (Err fault)
+-- the same, where a refusal has its issuer
+abbrev pub IsOutcome : Rows → TaskFields → Result Built BuildFault → Type 0
+IsOutcome rows t (Ok built) = IsBuilt rows t built
+IsOutcome rows t (Err NoMemory) = Unit {0}
+IsOutcome rows t (Err (SeedsExhausted issuer stage)) = (t.group.issuer ≡ issuer) × IsTaskRefused rows t.group t.shift t.shard stage
 
--- the same, or want of memory
-abbrev pub BuildsOutcomes : Format → Rows → List GroupFields → Result (Vec (Result Block BuildFault) Global) BuildFault → Type 0
-BuildsOutcomes format rows groups (Ok outcomes) = AreOutcomes format rows groups outcomes.items
-BuildsOutcomes format rows groups (Err fault) = fault ≡ NoMemory
+-- the same of the leaf at a place
+abbrev pub IsOutcomeAt : Rows → List TaskFields → ℕ → Result Built BuildFault → Type 0
+IsOutcomeAt rows tasks place outcome = (t : TaskFields) → slice_get tasks place ≡ Some t → IsOutcome rows t outcome
 
--- the second outcomes behind the first, or want of memory
-abbrev pub IsJoined : Result (Vec (Result Block BuildFault) Global) BuildFault → Result (Vec (Result Block BuildFault) Global) BuildFault
-    → Result (Vec (Result Block BuildFault) Global) BuildFault → Type 0
-IsJoined (Err e) second result = result ≡ Err e
-IsJoined (Ok first) (Err e) result = result ≡ Err e
-IsJoined (Ok first) (Ok second) (Ok all) = all.items ≡ first.items ++ second.items
-IsJoined (Ok first) (Ok second) (Err e) = e ≡ NoMemory
+-- an outcome for each leaf, in order
+abbrev pub AreOutcomes : Rows → List TaskFields → List (Result Built BuildFault) → Type 0
+AreOutcomes rows [] [] = Unit {0}
+AreOutcomes rows [] (o ∷ outcomes) = ⊥
+AreOutcomes rows (t ∷ tasks) [] = ⊥
+AreOutcomes rows (t ∷ tasks) (o ∷ outcomes) = IsOutcome rows t o × AreOutcomes rows tasks outcomes
 
--- a fault behind blocks
-pub record IsFirstFault (outcomes : List (Result Block BuildFault)) (fault : BuildFault) : Type 0 where
-  pub before : List Block
-  pub after : List (Result Block BuildFault)
+-- a fault behind leaves
+pub record IsFirstFault (outcomes : List (Result Built BuildFault)) (fault : BuildFault) : Type 0 where
+  pub before : List Built
+  pub after : List (Result Built BuildFault)
   pub whole : outcomes ≡ map Ok before ++ (Err fault ∷ after)
 
--- the blocks of the outcomes, or the first fault, or want of memory
-abbrev pub IsAssembled : List (Result Block BuildFault) → Result (Vec Block Global) BuildFault → Type 0
-IsAssembled outcomes (Ok blocks) = outcomes ≡ map Ok blocks.items
-IsAssembled outcomes (Err fault) = (fault ≡ NoMemory) ⊎ IsFirstFault outcomes fault
+-- the blocks of whatever groups these outcomes are of, or their first refusal, or want of memory
+abbrev pub IsAssembled : List (Result Built BuildFault) → Result (Vec Block Global) BuildFault → Type 0
+IsAssembled outcomes result = (format : Format) (rows : Rows) (groups : List GroupFields)
+    → AreOutcomes rows (tasks_in format groups) outcomes → BuildsBlocks format rows groups result

@@ -1,7 +1,7 @@
 ghost use Rattle.std.specs.Prelude.{◌≡◌};
 ghost use Rattle.builder_core.specs.Building.{fault_of};
 
-use octets_core::Key32;
+use octets_core::{Key32, NoMemory};
 use stage_core::BlockFault;
 use std::alloc::{AllocError, AllocFailed};
 use thiserror::Error;
@@ -27,6 +27,16 @@ impl BuildFault {
             BlockFault::SeedsExhausted { stage } => BuildFault::SeedsExhausted { issuer, stage },
             BlockFault::NoMemory => BuildFault::NoMemory,
         }
+    }
+}
+
+impl From<NoMemory> for BuildFault {
+    ghost use Rattle.builder_core.specs.declared.fault.BuildFault.TheVariants.{NoMemory};
+
+    ghost from_gives = { λ _ e. e ≡ NoMemory };
+
+    fn from(_: NoMemory) -> BuildFault {
+        BuildFault::NoMemory
     }
 }
 

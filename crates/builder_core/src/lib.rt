@@ -1,17 +1,23 @@
 //! Building a part: the block of each group, in the order of their issuers.
 #![tactic(auto)]
 
+mod assembling;
 mod building;
-mod claimed;
+mod built;
+mod cuts;
 mod existence;
 mod fault;
 mod format;
 mod gate;
 mod laws;
+mod members;
+mod outcome;
 mod outcomes;
+mod shares;
+mod task;
+mod tasks;
 
-pub use building::build_part;
-pub use claimed::build_part_claimed;
+pub use building::{build_part, build_part_claimed};
 pub use existence::blocks_or_a_refusal;
 pub use fault::BuildFault;
 pub use format::Format;

@@ -14,7 +14,7 @@ ghost use Rattle.publication_core.specs.Publishing.{PublishesUnless};
 
 use crate::fault::{PublishFault, admission_fault, building_fault};
 use crate::publication::Publication;
-use builder_core::{Gate, build_part_claimed};
+use builder_core::{Format, Gate, build_part_claimed};
 use equation_core::Sha256Rows;
 use job_core::{Job, Limits};
 use ledger_core::Ledger;
@@ -46,7 +46,9 @@ fn built<R: Threads + Sync, G: Gate + Sync>(
         counts,
         next,
     } = admitted;
-    let part = match build_part_claimed(rt, alloc, &Sha256Rows, gate, &groups, head, workers) {
+    let format = Format::Plain;
+    let built = build_part_claimed(rt, alloc, &Sha256Rows, gate, &groups, head, workers, format);
+    let part = match built {
         Ok(part) => part,
         Err(fault) => return Err(building_fault(fault)),
     };

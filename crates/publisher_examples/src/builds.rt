@@ -2,14 +2,16 @@
 
 ghost use Rattle.std.specs.Prelude.{◌≡◌, ◌<◌, ◌≤◌};
 
-use builder_core::{BuildFault, Gate, Open, build_part, build_part_claimed};
-use card_core::Part;
+use builder_core::{BuildFault, Format, Gate, Open, build_part, build_part_claimed};
+use card_core::{Body, Part};
 use crl_core::Crl;
 use equation_core::{EquationHash, Row, Sha256Rows};
 use ident_core::{Identity, Range, Serial, Sighting, ranges_fit};
-use job_core::{Job, JobCrl, Limits};
+use job_core::{Job, JobCrl, Limits, read_job};
 use log_core::Entry;
 use octets_core::{Key32, Steps};
+use outside_core::MemoryDepot;
+use sample_core::SampleJob;
 use std::alloc::Global;
 use std::marker::Brand;
 use std::process::Abort;
@@ -26,7 +28,7 @@ enum Revoked {
     All,
 }
 
-// How the groups are shared among workers: cut into shares before the work, or drawn from one counter.
+// How the leaves are shared among workers: cut into shares before the work, or drawn from one counter.
 #[derive(Clone, Copy, Debug)]
 enum Sharing {
     Cut,
@@ -135,9 +137,12 @@ fn part_of<R: Threads + Sync, H: EquationHash + Sync, G: Gate + Sync>(
         return Err(Fail::from(BuildFault::NoMemory));
     }
     let groups = groups.as_slice();
+    let format = Format::Sharded;
     Ok(match sharing {
-        Sharing::Cut => build_part(rt, alloc, hash, gate, groups, head, workers),
-        Sharing::Claimed => build_part_claimed(rt, alloc, hash, gate, groups, head, workers),
+        Sharing::Cut => build_part(rt, alloc, hash, gate, groups, head, workers, format),
+        Sharing::Claimed => build_part_claimed(
+            rt, alloc, hash, gate, groups, head, workers, format,
+        ),
     })
 }
 
@@ -162,6 +167,17 @@ fn consulted<L: Ledger, M: Ledger>(
 
 fn says(part: &Part, id: &Identity) -> Option<bool> {
     consulted::<Brand, Brand>(part, id, Blank::new(1), Blank::new(1))
+}
+
+// How many leaves the only block has.
+fn leaves_of(part: &Part) -> Option<usize> {
+    match part.blocks() {
+        [block] => match &block.body {
+            Body::Sharded(sharded) => Some(sharded.leaves().len()),
+            _ => Some(1),
+        },
+        _ => None,
+    }
 }
 
 fn ask_each(rt: &impl Abort, part: &Part, authority: Authority) -> Result<(), Fail> {
@@ -291,11 +307,20 @@ fn refusals_are_the_same_for_any_workers(rt: HostRuntime) -> Result<(), Fail> {
     Ok(())
 }
 
-// Counts the groups that enter, and those of them that enter in order.
+// Counts the leaves that enter, and those of them that enter in order.
 #[derive(Drop)]
 struct InOrder {
     calls: AtomicU32,
     entered: AtomicU32,
+}
+
+impl InOrder {
+    fn new() -> InOrder {
+        InOrder {
+            calls: AtomicU32::new(0),
+            entered: AtomicU32::new(0),
+        }
+    }
 }
 
 impl Gate for InOrder {
@@ -341,10 +366,7 @@ impl<'a> EquationHash for Watching<'a> {
 fn each_group_enters(rt: HostRuntime) -> Result<(), Fail> {
     let job = job_of(rt.alloc(), &[TWO, SOME, MANY])?;
     for sharing in BOTH {
-        let gate = InOrder {
-            calls: AtomicU32::new(0),
-            entered: AtomicU32::new(0),
-        };
+        let gate = InOrder::new();
         let hash = Watching {
             gate: &gate,
             strange: AtomicU32::new(0),
@@ -428,6 +450,59 @@ fn a_kept_group_holds_up_no_other(rt: HostRuntime) -> Result<(), Fail> {
             2,
         )??;
         assert_eq!(&rt; gate.passed.load(Ordering::SeqCst), 1, "place {place}");
+    }
+    Ok(())
+}
+
+// It is cut into two shards.
+const CUT: Authority = Authority {
+    issuer: 0x22,
+    count: 40_000,
+    revoked: Revoked::EachFiftieth,
+};
+
+#[test]
+fn each_member_of_two_shards_is_consulted(rt: HostRuntime) -> Result<(), Fail> {
+    let job = job_of(rt.alloc(), &[CUT])?;
+    let sharing = Sharing::Claimed;
+    let part = part_of(&rt, rt.alloc(), &Sha256Rows, &Open, &job, sharing, 1)??;
+    assert_eq!(&rt; leaves_of(&part), Some(2));
+    ask_each(&rt, &part, CUT)
+}
+
+// With one worker each shard enters once, and no other group is between them.
+#[test]
+fn each_shard_enters(rt: HostRuntime) -> Result<(), Fail> {
+    let job = job_of(rt.alloc(), &[CUT, OTHER])?;
+    for sharing in BOTH {
+        let gate = InOrder::new();
+        let _ = part_of(&rt, rt.alloc(), &Sha256Rows, &gate, &job, sharing, 1)??;
+        assert_eq!(&rt; gate.calls.load(Ordering::SeqCst), 3, "{sharing:?}");
+        assert_eq!(&rt; gate.entered.load(Ordering::SeqCst), 3, "{sharing:?}");
+    }
+    Ok(())
+}
+
+// The generator's job, but for the CRLs of all issuers but one, so that there is one group.
+fn sample_of_one_issuer(alloc: Global) -> Result<Job, Fail> {
+    let mut depot = MemoryDepot::new(alloc);
+    SampleJob::new(alloc, 7, 200_000)?.write(&mut depot, "J")?;
+    let bytes = depot.bytes_of("J").unwrap_or_default();
+    let mut job = read_job(alloc, bytes, &Limits::PUBLISHED)?;
+    job.crls.truncate(1);
+    Ok(job)
+}
+
+// One thread alone would wait at the first shard to the end of the turns.
+#[test]
+fn two_workers_build_two_shards_side_by_side(rt: HostRuntime) -> Result<(), Fail> {
+    let job = sample_of_one_issuer(rt.alloc())?;
+    for sharing in BOTH {
+        let gate = Holds::new(0, 1);
+        let part = part_of(&rt, rt.alloc(), &Sha256Rows, &gate, &job, sharing, 2)??;
+        assert_eq!(&rt; leaves_of(&part), Some(2), "{sharing:?}");
+        assert_eq!(&rt; gate.entered.load(Ordering::SeqCst), 1, "{sharing:?}");
+        assert_eq!(&rt; gate.passed.load(Ordering::SeqCst), 1, "{sharing:?}");
     }
     Ok(())
 }
