@@ -7,13 +7,16 @@
 //!
 //! It reads what the generator's jobs have: a rehearsal is of one job, an x509 entry counts as unread, and a CRL with
 //! extensions as malformed. It hashes message after message by the steps of the standard, with no instructions that
-//! only some processors have. With WORKERS the issuers' filters are built in as many threads of the standard library,
-//! each of which takes neighbouring issuers; all else is done by one.
+//! only some processors have. With WORKERS as many threads of the standard library sort the issuers' members, each those
+//! of neighbouring issuers, draw the shards of large issuers, and build the leaves of their filters, which they draw from
+//! one counter; all else is done by one.
 
+use std::borrow::Cow;
 use std::collections::BTreeMap;
 use std::fs::{self, File};
 use std::io::{self, BufWriter, Write};
 use std::process::exit;
+use std::sync::atomic::{AtomicUsize, Ordering};
 use std::thread;
 
 fn main() {
@@ -952,10 +955,16 @@ struct Stage {
     planes: Planes,
 }
 
-enum Filter {
+enum Leaf {
     Clean,
     Every,
     Mixed { approx: Option<Stage>, exact: Stage },
+}
+
+/// One leaf, or a leaf for each of 2^shift shards.
+enum Filter {
+    Alone(Leaf),
+    Cut { shift: u8, leaves: Vec<Leaf> },
 }
 
 /// The stage of the least seed at which there is a solution: the sums over the revoked are their targets, and those
@@ -1004,30 +1013,54 @@ fn accepts(approx: &Option<Stage>, serial: &Serial) -> bool {
     })
 }
 
-impl Filter {
-    fn new(issuer: &Key, revoked: &[Serial], others: &[Serial]) -> Result<Filter, Refusal> {
+impl Leaf {
+    fn new(issuer: &Key, revoked: &[Serial], others: &[Serial]) -> Result<Leaf, Refusal> {
         if revoked.is_empty() {
-            return Ok(Filter::Clean);
+            return Ok(Leaf::Clean);
         }
         if others.is_empty() {
-            return Ok(Filter::Every);
+            return Ok(Leaf::Every);
         }
         let approx = approx_of(issuer, revoked, others.len())?;
         let passed = others.iter().filter(|serial| accepts(&approx, serial));
         let passed: Vec<Serial> = passed.copied().collect();
         let exact = stage_of(2, issuer, 1, revoked, |_| 1, &passed)?;
-        Ok(Filter::Mixed { approx, exact })
+        Ok(Leaf::Mixed { approx, exact })
     }
 
     fn is_revoked(&self, serial: &Serial) -> bool {
         match self {
-            Filter::Clean => false,
-            Filter::Every => true,
-            Filter::Mixed { approx, exact } => {
+            Leaf::Clean => false,
+            Leaf::Every => true,
+            Leaf::Mixed { approx, exact } => {
                 accepts(approx, serial) && exact.planes.meets(&exact.rows.row(serial), 1)
             }
         }
     }
+}
+
+impl Filter {
+    fn is_revoked(&self, issuer: &Key, serial: &Serial) -> bool {
+        match self {
+            Filter::Alone(leaf) => leaf.is_revoked(serial),
+            Filter::Cut { shift, leaves } => leaves[usize::from(shard(issuer, serial, *shift))].is_revoked(serial),
+        }
+    }
+}
+
+/// The number that the first bits of a digest spell.
+fn shard(issuer: &Key, serial: &Serial, shift: u8) -> u8 {
+    let octets = &serial.padded()[..usize::from(serial.length)];
+    let words = Message::new(&[b"CCSHARD", issuer, &[serial.length], octets]).state();
+    (words[0] >> 24 >> (8 - shift)) as u8
+}
+
+/// How many bits tell the shards of so many members.
+fn shift_for(listed: usize, others: usize) -> u8 {
+    if listed == 0 || others == 0 {
+        return 0;
+    }
+    (1..=8).rev().find(|shift| 16_384 << shift <= listed + others).unwrap_or(0)
 }
 
 /// The members that are listed, and the others, ascending.
@@ -1041,29 +1074,26 @@ fn parted(mut members: Vec<Serial>, listed: &[Serial]) -> (Vec<Serial>, Vec<Seri
     })
 }
 
-/// An issuer's filter, and its members.
-struct Built {
+/// An issuer's members.
+struct Members {
     issuer: Key,
-    filter: Filter,
     listed: Vec<Serial>,
     others: Vec<Serial>,
 }
 
-fn built(group: Group) -> Result<Built, Refusal> {
+fn members_of(group: Group) -> Members {
     let (listed, others) = parted(group.members, &group.listed);
-    let filter = Filter::new(&group.issuer, &listed, &others)?;
-    Ok(Built {
+    Members {
         issuer: group.issuer,
-        filter,
         listed,
         others,
-    })
+    }
 }
 
-/// The filters of all groups, in order, built by so many threads.
-fn build_all(groups: Vec<Group>, workers: usize) -> Result<Vec<Built>, Refusal> {
+/// The members of all groups, in order, sorted by so many threads.
+fn all_members(groups: Vec<Group>, workers: usize) -> Vec<Members> {
     if workers < 2 {
-        return groups.into_iter().map(built).collect();
+        return groups.into_iter().map(members_of).collect();
     }
     let share = groups.len().div_ceil(workers).max(1);
     let mut groups = groups.into_iter();
@@ -1074,12 +1104,130 @@ fn build_all(groups: Vec<Group>, workers: usize) -> Result<Vec<Built>, Refusal> 
             if groups.is_empty() {
                 break;
             }
-            let build = move || groups.into_iter().map(built).collect::<Vec<_>>();
-            handles.push(scope.spawn(build));
+            let sort = move || groups.into_iter().map(members_of).collect::<Vec<_>>();
+            handles.push(scope.spawn(sort));
         }
         let all = handles.into_iter().flat_map(|handle| handle.join().unwrap());
         all.collect()
     })
+}
+
+/// The shard of each serial, drawn by so many threads.
+fn shards_of(issuer: &Key, serials: &[Serial], shift: u8, workers: usize) -> Vec<u8> {
+    let draw = |serial: &Serial| shard(issuer, serial, shift);
+    if workers < 2 {
+        return serials.iter().map(draw).collect();
+    }
+    let share = serials.len().div_ceil(workers).max(1);
+    thread::scope(|scope| {
+        let shares = serials.chunks(share);
+        let draw_all = |share: &[Serial]| share.iter().map(draw).collect::<Vec<u8>>();
+        let handles: Vec<_> = shares.map(|share| scope.spawn(move || draw_all(share))).collect();
+        handles.into_iter().flat_map(|handle| handle.join().unwrap()).collect()
+    })
+}
+
+/// The serials of each shard, ascending.
+fn cut(issuer: &Key, serials: &[Serial], shift: u8, workers: usize) -> Vec<Vec<Serial>> {
+    let shards = shards_of(issuer, serials, shift, workers);
+    let mut sizes = vec![0; 1 << shift];
+    for shard in &shards {
+        sizes[usize::from(*shard)] += 1;
+    }
+    let mut cuts: Vec<Vec<Serial>> = sizes.into_iter().map(Vec::with_capacity).collect();
+    for (shard, serial) in shards.iter().zip(serials) {
+        cuts[usize::from(*shard)].push(*serial);
+    }
+    cuts
+}
+
+/// What a leaf is built from.
+struct Task<'a> {
+    issuer: &'a Key,
+    listed: Cow<'a, [Serial]>,
+    others: Cow<'a, [Serial]>,
+}
+
+/// The leaves of an issuer's filter, and how many bits tell them.
+fn tasks_of(members: &Members, workers: usize) -> (u8, Vec<Task<'_>>) {
+    let Members {
+        issuer,
+        listed,
+        others,
+    } = members;
+    let shift = shift_for(listed.len(), others.len());
+    if shift == 0 {
+        let (listed, others) = (Cow::Borrowed(&listed[..]), Cow::Borrowed(&others[..]));
+        return (shift, vec![Task { issuer, listed, others }]);
+    }
+    let listed = cut(issuer, listed, shift, workers);
+    let others = cut(issuer, others, shift, workers);
+    let tasks = listed.into_iter().zip(others).map(|(listed, others)| Task {
+        issuer,
+        listed: Cow::Owned(listed),
+        others: Cow::Owned(others),
+    });
+    (shift, tasks.collect())
+}
+
+/// The leaves, in order, built by so many threads that draw them from one counter.
+fn leaves_of(tasks: &[Task<'_>], workers: usize) -> Result<Vec<Leaf>, Refusal> {
+    let build = |task: &Task<'_>| Leaf::new(task.issuer, &task.listed, &task.others);
+    if workers < 2 {
+        return tasks.iter().map(build).collect();
+    }
+    let next = AtomicUsize::new(0);
+    let work = || {
+        let places = std::iter::repeat_with(|| next.fetch_add(1, Ordering::Relaxed));
+        let drawn = places.map_while(|place| Some((place, build(tasks.get(place)?))));
+        drawn.collect::<Vec<_>>()
+    };
+    let mut done: Vec<_> = thread::scope(|scope| {
+        let handles: Vec<_> = (0..workers).map(|_| scope.spawn(&work)).collect();
+        handles.into_iter().flat_map(|handle| handle.join().unwrap()).collect()
+    });
+    done.sort_unstable_by_key(|(place, _)| *place);
+    done.into_iter().map(|(_, leaf)| leaf).collect()
+}
+
+/// An issuer's filter, and its members.
+struct Built {
+    issuer: Key,
+    filter: Filter,
+    listed: Vec<Serial>,
+    others: Vec<Serial>,
+}
+
+fn built(members: Members, shift: u8, mut leaves: impl Iterator<Item = Leaf>) -> Built {
+    let filter = match shift {
+        0 => Filter::Alone(leaves.next().expect("a leaf")),
+        _ => Filter::Cut {
+            shift,
+            leaves: leaves.take(1 << shift).collect(),
+        },
+    };
+    Built {
+        issuer: members.issuer,
+        filter,
+        listed: members.listed,
+        others: members.others,
+    }
+}
+
+/// The filters of all groups, in order, built by so many threads.
+fn build_all(groups: Vec<Group>, workers: usize) -> Result<Vec<Built>, Refusal> {
+    let members = all_members(groups, workers);
+    let mut shifts = Vec::with_capacity(members.len());
+    let mut tasks = Vec::with_capacity(members.len());
+    for members in &members {
+        let (shift, more) = tasks_of(members, workers);
+        shifts.push(shift);
+        tasks.extend(more);
+    }
+    let mut leaves = leaves_of(&tasks, workers)?.into_iter();
+    drop(tasks);
+    let both = members.into_iter().zip(shifts);
+    Ok(both.map(|(members, shift)| built(members, shift, leaves.by_ref())).collect())
 }
 
 fn report_of(epoch: u64, counts: &Counts, built: &[Built]) -> String {
@@ -1127,7 +1275,7 @@ impl Part {
             .binary_search_by(|block| block.0.cmp(query.issuer));
         match found {
             Err(_) => "not-enrolled",
-            Ok(place) if self.blocks[place].1.is_revoked(&query.serial) => "revoked",
+            Ok(place) if self.blocks[place].1.is_revoked(query.issuer, &query.serial) => "revoked",
             Ok(_) => "good",
         }
     }
@@ -1152,12 +1300,11 @@ fn put_stage(text: &mut Vec<u8>, stage: &Stage) {
     }
 }
 
-fn put_block(text: &mut Vec<u8>, group: &Built) {
-    text.extend(group.issuer);
-    match &group.filter {
-        Filter::Clean => text.push(0),
-        Filter::Every => text.push(1),
-        Filter::Mixed { approx, exact } => {
+fn put_leaf(text: &mut Vec<u8>, leaf: &Leaf) {
+    match leaf {
+        Leaf::Clean => text.push(0),
+        Leaf::Every => text.push(1),
+        Leaf::Mixed { approx, exact } => {
             text.push(2);
             match approx {
                 None => text.push(0),
@@ -1171,6 +1318,19 @@ fn put_block(text: &mut Vec<u8>, group: &Built) {
     }
 }
 
+fn put_block(text: &mut Vec<u8>, group: &Built) {
+    text.extend(group.issuer);
+    match &group.filter {
+        Filter::Alone(leaf) => put_leaf(text, leaf),
+        Filter::Cut { shift, leaves } => {
+            text.extend([3, *shift]);
+            for leaf in leaves {
+                put_leaf(text, leaf);
+            }
+        }
+    }
+}
+
 fn seal(text: &mut Vec<u8>) -> Key {
     let digest = sha256(text);
     text.extend(digest);
@@ -1178,7 +1338,10 @@ fn seal(text: &mut Vec<u8>) -> Key {
 }
 
 fn part_text(epoch: u64, ranges: &[Range], built: &[Built]) -> (Vec<u8>, Key) {
-    let mut text = b"CLUBCARD\x01\x00".to_vec();
+    let is_cut = |group: &Built| matches!(group.filter, Filter::Cut { .. });
+    let version = if built.iter().any(is_cut) { 2 } else { 1 };
+    let mut text = b"CLUBCARD".to_vec();
+    text.extend([version, 0]);
     text.extend(epoch.to_be_bytes());
     text.extend([0; 32]);
     put_ranges(&mut text, ranges);

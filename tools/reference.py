@@ -17,7 +17,7 @@ T = 1700000000000
 
 # The formats of jobs: whether the blocks of large issuers are cut into shards. And the one in which jobs are taken.
 PLAIN, SHARDED = "plain", "sharded"
-CURRENT = PLAIN
+CURRENT = SHARDED
 
 
 def sha(*xs):

@@ -104,8 +104,8 @@ fn run_words<R: Threads + Sync, G: Gate + Sync, D: Depot, K: Sink>(
     }
 }
 
-/// What `run` does, with a gate that each worker enters before it builds an issuer's block: so a test can see how the
-/// words reach the builder.
+/// What `run` does, with a gate that each worker enters before it builds a leaf of an issuer's block: so a test can see
+/// how the words reach the builder.
 pub fn run_gated<R: Threads + Sync, D: Depot, K: Sink, G: Gate + Sync>(
     rt: &R,
     alloc: Global,

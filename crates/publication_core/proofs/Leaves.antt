@@ -1,7 +1,7 @@
 -- A leaf and a block that the definitions allow fit the fields of a part's layout.
-use Rattle.std.proofs.Common.{◌≡◌, ℕ, zero, suc, ◌+◌, ◌*◌, ◌-◌, ◌/◌, ◌%◌, ◌^◌, ◌<◌, ◌≤◌, Bool, true, false, not, cond, List, [], ◌∷◌}
+use Rattle.std.proofs.Common.{◌≡◌, ℕ, suc, ◌+◌, ◌-◌, ◌/◌, ◌%◌, ◌^◌, ◌<◌, ◌≤◌, Bool, true, false, not, cond, List, [], ◌∷◌}
 use Rattle.std.proofs.Common.{length, map, get_or, Option, Some, None, sym, ap, ◌∙◌, subst, arith}
-use Rattle.std.specs.Prelude.{bit_and, nat_le, ◌==◌}
+use Rattle.std.specs.Prelude.{bit_and, ◌==◌}
 use Rattle.std.specs.List.{All, filter}
 use Rattle.std.proofs.lemmas.Nat.{div-mul-add, mod-pow-add, mod_below, pow_pos}
 use Rattle.std.proofs.Math.Pow.{mod-mod-pow}
@@ -25,12 +25,12 @@ use Rattle.card_core.specs.declared.block.Body.TheVariants as bodies
 use Rattle.card_core.specs.MixedFields.{MixedFields}
 use Rattle.card_core.specs.Leaf.{IsStage, approx_equations, exact_equations, passes, IsApprox, false_positives, IsLeaf, IsMixed, flagged}
 use Rattle.card_core.specs.ShardedFields.{ShardedFields}
-use Rattle.card_core.specs.Filter.{cut, filter_of, greatest_shift, shift_for, in_shard, IsFilter}
+use Rattle.card_core.specs.Filter.{cut, filter_of, in_shard, IsFilter}
 use Rattle.part_codec.specs.Fitting.{StageFits, FirstFits, MixedFits, LeafFits, ShardsFit, BodyFits, BlockFits}
 use Rattle.universe_core.specs.Groups.{GroupFields}
 use Rattle.builder_core.specs.declared.format.Format.{Format}
-use Rattle.builder_core.specs.declared.format.Format.TheVariants.{Plain, Sharded}
 use Rattle.builder_core.specs.Building.{shift_in, IsGroupBlock}
+use Rattle.builder_core.proofs.TaskLists.{cut_few}
 
 -- the 128 columns from one of the first columns on are the same in a remainder
 window_of_columns : (Z start columns : ℕ) → start + 128 ≤ columns → Z % 2 ^ columns / 2 ^ start % 2 ^ 128 ≡ Z / 2 ^ start % 2 ^ 128
@@ -150,24 +150,6 @@ flagged_few (x ∷ xs) [] = omega arith
 flagged_few (x ∷ xs) (f ∷ fs) = parted f x (flagged xs fs) (flagged xs (map not fs)) (length xs) (flagged_few xs fs)
 
 -- ---- the body of a block
-
--- a universe is cut by 8 bits at most
-one_more : (b : Bool) (s t : ℕ) → t ≤ s → cond b (suc s) t ≤ suc s
-one_more true s t h = omega arith
-one_more false s t h = omega (arith, h)
-
-greatest_few : (s identities : ℕ) → greatest_shift s identities ≤ s
-greatest_few zero identities = omega arith
-greatest_few (suc s) identities = one_more (nat_le (2 ^ suc s * 16384) identities) s (greatest_shift s identities) (greatest_few s identities)
-
-shift_few : (revoked others : ℕ) → shift_for revoked others ≤ 8
-shift_few zero others = omega arith
-shift_few (suc revoked) zero = omega arith
-shift_few (suc revoked) (suc others) = greatest_few 8 (suc revoked + suc others)
-
-cut_few : (format : Format) (g : GroupFields) → shift_in format g ≤ 8
-cut_few Plain g = omega arith
-cut_few Sharded g = shift_few (length (flagged g.universe g.revoked)) (length (flagged g.universe (map not g.revoked)))
 
 -- a shard has no more identities than all
 shards_fit : (shift : ℕ) (revoked others : List Identity) (s : ShardedFields) → shift ≤ 8 → length revoked + length others ≤ 4194304

@@ -20,12 +20,14 @@ use Rattle.universe_core.specs.Jobs.{facts_of}
 use Rattle.universe_core.specs.Groups.{GroupFields, group_fields}
 use Rattle.universe_core.specs.Ledgers.{next_ledger}
 use Rattle.universe_core.specs.Step.{refusal, head_after, groups_after, counts_after}
-use Rattle.builder_core.specs.Building.{AreGroupBlocks, IsFirstRefused, identities_in}
+use Rattle.builder_core.specs.declared.fault.BuildFault.{BuildFault}
+use Rattle.builder_core.specs.declared.fault.BuildFault.TheVariants as build
+use Rattle.builder_core.specs.Building.{AreGroupBlocks, IsFirstRefused, IsBuildFault, identities_in}
 use Rattle.builder_core.proofs.Admitted.{groups_few, identities_few}
 use Rattle.publication_core.specs.declared.fault.PublishFault.{PublishFault}
 use Rattle.publication_core.specs.declared.fault.PublishFault.TheVariants.{Admission, SeedsExhausted, NoMemory}
 use Rattle.publication_core.specs.Formats.{current, blocks_in}
-use Rattle.publication_core.specs.Faults.{of_admission}
+use Rattle.publication_core.specs.Faults.{of_admission, of_building}
 use Rattle.publication_core.specs.Building.{IsBuilt, Builds}
 use Rattle.publication_core.specs.Publishing.{Published, IsPublication, PublishesUnless}
 
@@ -43,6 +45,12 @@ built_is place head groups next ledger counts made sealed trailer p head_is bloc
       ledger = ap (λ (q : Published). q.ledger) is ∙ ledger_is ∙ ap (sealed_with next) (trailer_is ∙ sym (ap (λ (q : Published). q.sealed.trailer) is));
       counts_are = ap (λ (q : Published). q.counts) is;
     }
+
+-- and what isn't built is refused
+pub refused_is : (place : ℕ) (head : HeadFields) (groups : List GroupFields) (next : LedgerFields) (counts : Counts) (fault : BuildFault)
+    → IsBuildFault (blocks_in current) sha256_row groups fault → Builds place head groups next counts (Err (of_building fault))
+refused_is place head groups next counts (build.SeedsExhausted issuer stage) refused = refused
+refused_is place head groups next counts build.NoMemory refused = refused
 
 -- for every trailer that the part may have
 abbrev pub Seals : LedgerFields → JobFields → LedgerFields → Type 0

@@ -6,7 +6,7 @@ use Rattle.builder_core.specs.declared.format.Format.TheVariants.{Plain, Sharded
 
 -- the format in which `run` takes jobs
 abbrev pub current : JobFormat
-current = plain
+current = sharded
 
 -- how the blocks of a part are built
 abbrev pub blocks_in : JobFormat → Format

@@ -46,7 +46,7 @@ fn built<R: Threads + Sync, G: Gate + Sync>(
         counts,
         next,
     } = admitted;
-    let format = Format::Plain;
+    let format = Format::Sharded;
     let built = build_part_claimed(rt, alloc, &Sha256Rows, gate, &groups, head, workers, format);
     let part = match built {
         Ok(part) => part,
@@ -58,7 +58,7 @@ fn built<R: Threads + Sync, G: Gate + Sync>(
 }
 
 /// What is published of a job as the first of a chain, by 1 to 64 workers, each of which enters the gate before it
-/// builds an issuer's block. The job is dropped once it is admitted.
+/// builds a leaf of an issuer's block. The job is dropped once it is admitted.
 pub fn publish_first<R: Threads + Sync, G: Gate + Sync>(
     rt: &R,
     alloc: Global,
@@ -80,8 +80,8 @@ pub fn publish_first<R: Threads + Sync, G: Gate + Sync>(
     built(rt, alloc, gate, 0, admitted, workers)
 }
 
-/// What is published of a job behind a ledger, by 1 to 64 workers, each of which enters the gate before it builds an
-/// issuer's block. The ledger and the job are dropped once the job is admitted.
+/// What is published of a job behind a ledger, by 1 to 64 workers, each of which enters the gate before it builds a leaf
+/// of an issuer's block. The ledger and the job are dropped once the job is admitted.
 pub fn publish_after<R: Threads + Sync, G: Gate + Sync>(
     rt: &R,
     alloc: Global,

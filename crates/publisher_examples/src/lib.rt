@@ -1,4 +1,5 @@
-//! Worked examples of the layers of the publisher: ledgers, admission, building a part, made jobs, and printed lines.
+//! Worked examples of the layers of the publisher: ledgers, admission, building a part, parts of both versions,
+//! made jobs, and printed lines.
 #![tactic(auto)]
 
 #[cfg(test)]
@@ -13,3 +14,5 @@ mod lines;
 mod samples;
 #[cfg(test)]
 mod slow;
+#[cfg(test)]
+mod versions;

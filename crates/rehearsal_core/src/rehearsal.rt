@@ -139,7 +139,7 @@ impl Rehearsal {
     }
 
     /// The rehearsal with a job behind the others, built by 1 to 64 workers, each of which enters the gate before it
-    /// builds an issuer's block; and what is reported of the job. An `Err` says why the job isn't published.
+    /// builds a leaf of an issuer's block; and what is reported of the job. An `Err` says why the job isn't published.
     pub fn with_job<R: Threads + Sync, G: Gate + Sync>(
         self,
         rt: &R,

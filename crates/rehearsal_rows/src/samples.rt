@@ -42,20 +42,23 @@ const BY_EIGHT: &[&str] = &["snapshot", "J", "O", "M", "8"];
 const PUBLISHED: &str =
     "epoch 1 part 0 issuers 4 universe 200000 revoked 2000 unread 0 uncovered 0 unenrolled 0 late 0 accepted 200000\n";
 
-/// By tools/reference.py: `History([sample_job(7, 200000)]).parts()[0].shown()`.
+/// By tools/reference.py: `History([sample_job(7, 200000)]).parts()[0].shown()`. Each block is cut into two shards.
 const SHOWN: &str = "\
-    part snapshot version 1 epoch 1 parent \
-    0000000000000000000000000000000000000000000000000000000000000000\n\
+    part snapshot version 2 epoch 1 parent 0000000000000000000000000000000000000000000000000000000000000000\n\
     range caca4e6dbacda8cdd660ebf1462d71ab4f01d79c61f83555dd5f425f94d0b4d5 1700000000000 1700000199999\n\
-    issuer 3d3473e32d43886a4b0eee33ec8626d6f3d619738ed9a546a4016018f3488b26 mixed k 6 approx 0 563 \
-    exact 0 1479\n\
-    issuer c7ada04a9b22a564d0bf776d237fefd452df9c97c92fc9ff2fc290a95cdbeb9e mixed k 6 approx 0 563 \
-    exact 0 1455\n\
-    issuer c8577869fafb9265e08a6129f75a5ae4b736a53c6047649a888a5ce64ad52e29 mixed k 6 approx 0 563 \
-    exact 0 1490\n\
-    issuer d738042f0c9619dd5358ff7139d475e3a6c2629190a432fc895c352ea9922139 mixed k 6 approx 0 563 \
-    exact 0 1454\n\
-    trailer c9dc9279acada1d434f88659784f107f520830c0b89ad547b1d0b395a170799c\n";
+    issuer 3d3473e32d43886a4b0eee33ec8626d6f3d619738ed9a546a4016018f3488b26 sharded 1\n\
+    shard 0 mixed k 6 approx 0 296 exact 0 704\n\
+    shard 1 mixed k 6 approx 0 267 exact 0 688\n\
+    issuer c7ada04a9b22a564d0bf776d237fefd452df9c97c92fc9ff2fc290a95cdbeb9e sharded 1\n\
+    shard 0 mixed k 6 approx 0 292 exact 0 732\n\
+    shard 1 mixed k 6 approx 0 272 exact 0 715\n\
+    issuer c8577869fafb9265e08a6129f75a5ae4b736a53c6047649a888a5ce64ad52e29 sharded 1\n\
+    shard 0 mixed k 6 approx 0 284 exact 0 745\n\
+    shard 1 mixed k 6 approx 0 280 exact 0 696\n\
+    issuer d738042f0c9619dd5358ff7139d475e3a6c2629190a432fc895c352ea9922139 sharded 1\n\
+    shard 0 mixed k 6 approx 0 278 exact 0 689\n\
+    shard 1 mixed k 6 approx 0 285 exact 0 722\n\
+    trailer bf7473715e0181a9398385190b0dad268af663e703144f1f58368492b1e6b86c\n";
 
 // The trailer that is shown is the digest of the whole part that the other program made.
 #[test]
