@@ -1,6 +1,7 @@
 -- What accepted identities make.
 use Rattle.std.proofs.Common.{◌≡◌, ℕ, List, [], ◌∷◌, map, length, Bool, refl, sym, ap, ◌∙◌}
 use Rattle.ident_core.specs.declared.identity.Identity.{Identity}
+use Rattle.job_core.specs.declared.meaning.JobCrl.{JobCrl}
 use Rattle.ledger_core.specs.declared.fields.LedgerItem.{LedgerItem}
 use Rattle.ledger_core.specs.LedgerFields.{LedgerFields}
 use Rattle.sets_core.specs.Sets.{has}
@@ -8,7 +9,7 @@ use Rattle.universe_core.specs.Jobs.{Job, enrolled}
 use Rattle.universe_core.specs.History.{accepted_with, revoked}
 use Rattle.universe_core.specs.Ledgers.{past_in, next_item}
 use Rattle.universe_core.specs.Groups.{GroupFields, groups}
-use Rattle.universe_core.specs.Members.{member_in, next_of, group_with}
+use Rattle.universe_core.specs.Members.{AreOf, member_in, next_of, group_with}
 use Rattle.universe_core.specs.Step.{groups_after}
 use Rattle.universe_core.specs.declared.member.Member.{Member}
 use Rattle.universe_core.proofs.Revoking.{map_map, items_are}
@@ -38,3 +39,8 @@ module _ (ledger : LedgerFields) (job : Job) (members : List Member) (m : member
       (accepted_with (past_in ledger) job)) ∙ ap (map (λ (d : Member). has (revoked (past_in ledger) job) d.id)) (sym m))
       ∙ ap (λ z. map (λ d. next_of z (has (revoked (past_in ledger) job) d.id) d) members) p
       ∙ ap (map (λ d. next_of (length ledger.parts) (has (revoked (past_in ledger) job) d.id) d)) m ∙ items_are ledger job
+
+-- the same, of the members as a slice shows them
+pub shown_of : {ledger : LedgerFields} {job : Job} {crls : List JobCrl} {issuers : List (List ℕ)} {members shown : List Member} → AreOf ledger job crls issuers members
+    → shown ≡ members → AreOf ledger job crls issuers shown
+shown_of of e = record { crls = of.crls; issuers = of.issuers; members = e ∙ of.members }

@@ -15,3 +15,4 @@ pub mod Building
 pub mod Late
 pub mod Continuing
 pub mod Searchable
+pub mod Holding

@@ -15,3 +15,4 @@ pub mod Marking
 pub mod Merging
 pub mod Judging
 pub mod Members
+pub mod Held

@@ -1,12 +1,14 @@
 -- What is said of an identity that is accepted.
-use Rattle.std.specs.Prelude.{ℕ, List, [], ◌∷◌, ◌++◌, map, length, Bool, cond, Some}
+use Rattle.std.specs.Prelude.{◌≡◌, ℕ, List, [], ◌∷◌, ◌++◌, map, filter_map, length, Bool, cond, Some}
 use Rattle.ident_core.specs.declared.identity.Identity.{Identity}
 use Rattle.ident_core.specs.declared.range.Range.{Range}
 use Rattle.ident_core.specs.HeadFields.{zero_key}
 use Rattle.ledger_core.specs.declared.fields.LedgerItem.{LedgerItem}
 use Rattle.ledger_core.specs.declared.fields.LedgerPart.{LedgerPart}
 use Rattle.ledger_core.specs.LedgerFields.{LedgerFields, LedgerPartFields, part_fields}
-use Rattle.universe_core.specs.Jobs.{Job}
+use Rattle.job_core.specs.declared.meaning.JobCrl.{JobCrl}
+use Rattle.job_core.specs.JobFields.{crl_view}
+use Rattle.universe_core.specs.Jobs.{Crl, Job, accepted_crl, enrolled}
 use Rattle.universe_core.specs.History.{shown, sightings, accepted_with}
 use Rattle.universe_core.specs.Ledgers.{past_in, item_of, birth_or, last_or_none}
 use Rattle.universe_core.specs.Groups.{GroupFields, members_of}
@@ -26,6 +28,16 @@ member_in ledger job x = record {
 -- the identities accepted so far, each with what is said of it
 abbrev pub members_in : LedgerFields → Job → List Member
 members_in ledger job = map (member_in ledger job) (accepted_with (past_in ledger) job)
+
+-- the CRLs that are accepted, of those that the code has
+abbrev pub accepted_of : List JobCrl → List Crl
+accepted_of crls = filter_map accepted_crl (map crl_view crls)
+
+-- the CRLs, the enrolled issuers and the accepted identities are the job's
+pub record AreOf (ledger : LedgerFields) (job : Job) (cs : List JobCrl) (ks : List (List ℕ)) (ms : List Member) : Type 0 where
+  pub crls : job.crls ≡ accepted_of cs
+  pub issuers : ks ≡ enrolled job
+  pub members : ms ≡ members_in ledger job
 
 abbrev pub next_of : ℕ → Bool → Member → LedgerItem
 next_of place revoked m = record { id = m.id; birth = m.birth; last = cond revoked (Some place) m.last }

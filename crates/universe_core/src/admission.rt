@@ -2,17 +2,18 @@
 
 ghost use Rattle.std.specs.Prelude.{◌≡◌, ◌≢◌, ◌≤◌, ◌<◌, ℕ, List, [], ◌∷◌, length, map, None, Some, IfOk, IfErr, OnOk, All};
 ghost use Rattle.std.specs.List.Sorted.{IsStrictlySortedBy};
-ghost use Rattle.ident_core.specs.Order.{identity_cmp};
+ghost use Rattle.ident_core.specs.Order.{identity_cmp, octets_cmp};
 ghost use Rattle.ident_core.specs.Coverage.{RangesFit};
 ghost use Rattle.job_core.specs.JobFields.{AreWithin, fields_of_job};
 ghost use Rattle.ident_core.specs.declared.bounds.TheConstants.{MAX_PARTS};
 ghost use Rattle.ledger_core.specs.LedgerFields.{LedgerFields, ledger_fields, sealed_with};
-ghost use Rattle.universe_core.specs.Jobs.{facts_of_job, enrolled as enrolled_of};
+ghost use Rattle.universe_core.specs.Jobs.{Job as JobMeaning, facts_of_job, enrolled as enrolled_of};
+ghost use Rattle.universe_core.specs.Held.{job_of};
 ghost use Rattle.universe_core.specs.History.{accepted_with, universe, revoked};
 ghost use Rattle.universe_core.specs.Counting.{count};
 ghost use Rattle.universe_core.specs.Groups.{group_fields, IsGroup};
 ghost use Rattle.universe_core.specs.Ledgers.{no_ledger, past_in, past_by, next_item, next_ledger};
-ghost use Rattle.universe_core.specs.Members.{ids_of, members_in};
+ghost use Rattle.universe_core.specs.Members.{AreOf, ids_of, members_in};
 ghost use Rattle.universe_core.specs.Following.{IsBefore};
 ghost use Rattle.universe_core.specs.Judging.{IsSearchable};
 ghost use Rattle.universe_core.specs.Step.{KeepsLimits, refusal, head_after, groups_after, counts_after};
@@ -26,10 +27,11 @@ use crate::fault::AdmitFault;
 use crate::flagging::{next_items, revoked_now};
 use crate::following::{early_fault, next_draft, next_head};
 use crate::grouping::groups;
+use crate::held::Held;
 use crate::member::Member;
 use crate::merging::members;
 use crate::reading::{Tally, read};
-use job_core::{Job, Limits, What};
+use job_core::{Job, JobCrl, Limits, What};
 use ledger_core::{Ledger, LedgerItem, LedgerPart};
 use octets_core::Key32;
 use std::alloc::{AllocError, Global};
@@ -90,29 +92,29 @@ fn accept(
     })
 }
 
-/// Makes the next items and the groups of accepted identities, for a part at this place. The members are let go before
-/// the groups are made.
+/// Makes the next items and the groups of accepted identities, for a part at this place, by the job's CRLs. The members
+/// are let go before the groups are made.
 fn build(
     alloc: Global,
-    job: &Job,
+    crls: &[JobCrl],
     issuers: &[Key32],
     members: Vec<Member>,
     place: u8,
 ) -> Result<Built, AllocError>
-    requires issuers { issuers.now ≡ enrolled_of (facts_of_job job.now) }
+    requires issuers { IsStrictlySortedBy octets_cmp issuers.now }
     requires ascend { IsStrictlySortedBy identity_cmp (ids_of members.items) }
     requires few { length members.items ≤ 4294967295 }
-    ensures groups { (ledger : LedgerFields) → members.items ≡ members_in ledger (facts_of_job job.now)
-        → IfOk result (λ b. map group_fields b.groups.items ≡ groups_after ledger (facts_of_job job.now)) }
-    ensures items { (ledger : LedgerFields) → members.items ≡ members_in ledger (facts_of_job job.now) → place ≡ length ledger.parts
-        → IfOk result (λ b. b.items.items ≡ map (next_item (past_in ledger) ledger (facts_of_job job.now))
-        (accepted_with (past_in ledger) (facts_of_job job.now))) }
-    ensures universe { (ledger : LedgerFields) → members.items ≡ members_in ledger (facts_of_job job.now)
-        → IfOk result (λ b. b.universe ≡ length (universe (past_in ledger) (facts_of_job job.now))) }
-    ensures revoked { (ledger : LedgerFields) → members.items ≡ members_in ledger (facts_of_job job.now)
-        → IfOk result (λ b. b.revoked ≡ length (revoked (past_in ledger) (facts_of_job job.now))) }
+    ensures groups { (ledger : LedgerFields) (job : JobMeaning) → AreOf ledger job crls.now issuers.now members.items
+        → IfOk result (λ b. map group_fields b.groups.items ≡ groups_after ledger job) }
+    ensures items { (ledger : LedgerFields) (job : JobMeaning) → AreOf ledger job crls.now issuers.now members.items
+        → place ≡ length ledger.parts
+        → IfOk result (λ b. b.items.items ≡ map (next_item (past_in ledger) ledger job) (accepted_with (past_in ledger) job)) }
+    ensures universe { (ledger : LedgerFields) (job : JobMeaning) → AreOf ledger job crls.now issuers.now members.items
+        → IfOk result (λ b. b.universe ≡ length (universe (past_in ledger) job)) }
+    ensures revoked { (ledger : LedgerFields) (job : JobMeaning) → AreOf ledger job crls.now issuers.now members.items
+        → IfOk result (λ b. b.revoked ≡ length (revoked (past_in ledger) job)) }
 {
-    let flags = revoked_now(alloc, job, issuers, &members)?;
+    let flags = revoked_now(alloc, crls, issuers, &members)?;
     let items = next_items(alloc, &members, &flags.revoked, place)?;
     drop(members);
     let groups = groups(alloc, issuers, &items, &flags.revoked)?;
@@ -130,27 +132,28 @@ fn step(
     alloc: Global,
     parts: &[LedgerPart],
     items: &[LedgerItem],
-    job: &Job,
+    job: Held<'_>,
     limits: &Limits,
 ) -> Result<Admitted, AdmitFault>
     requires published { AreWithin limits.now Limits.PUBLISHED }
-    requires ranges { RangesFit job.now.ranges.items }
-    requires few { KeepsLimits limits.now (fields_of_job job.now) }
+    requires ranges { RangesFit (job_of job).ranges.items }
+    requires few { KeepsLimits limits.now (fields_of_job (job_of job)) }
     requires few_parts { length parts.now ≤ MAX_PARTS }
     requires before { IsBefore (ledger_fields parts.now items.now) }
-    ensures admitted { OnOk result (refusal limits.now (ledger_fields parts.now items.now) (fields_of_job job.now) ≡ None) }
-    ensures refused { IfErr result (λ e. e ≢ AdmitFault.NoMemory → refusal limits.now (ledger_fields parts.now items.now) (fields_of_job job.now) ≡ Some e) }
-    ensures head { IfOk result (λ a. a.head ≡ head_after (ledger_fields parts.now items.now).parts (facts_of_job job.now)) }
-    ensures groups { IfOk result (λ a. map group_fields a.groups.items ≡ groups_after (ledger_fields parts.now items.now) (facts_of_job job.now)) }
+    ensures admitted { OnOk result (refusal limits.now (ledger_fields parts.now items.now) (fields_of_job (job_of job.entry)) ≡ None) }
+    ensures refused { IfErr result (λ e. e ≢ AdmitFault.NoMemory → refusal limits.now (ledger_fields parts.now items.now) (fields_of_job (job_of job.entry)) ≡ Some e) }
+    ensures head { IfOk result (λ a. a.head ≡ head_after (ledger_fields parts.now items.now).parts (facts_of_job (job_of job.entry))) }
+    ensures groups { IfOk result (λ a. map group_fields a.groups.items ≡ groups_after (ledger_fields parts.now items.now) (facts_of_job (job_of job.entry))) }
     ensures facts { IfOk result (λ a. All IsGroup (map group_fields a.groups.items)) }
-    ensures counts { IfOk result (λ a. a.counts ≡ counts_after (ledger_fields parts.now items.now) (facts_of_job job.now)) }
+    ensures counts { IfOk result (λ a. a.counts ≡ counts_after (ledger_fields parts.now items.now) (facts_of_job (job_of job.entry))) }
     ensures next { IfOk result (λ a. (trailer : List ℕ)
-        → sealed_with a.next trailer ≡ next_ledger (ledger_fields parts.now items.now) (facts_of_job job.now) trailer) }
+        → sealed_with a.next trailer ≡ next_ledger (ledger_fields parts.now items.now) (facts_of_job (job_of job.entry)) trailer) }
 {
-    if let Some(fault) = early_fault(parts, job) {
+    let whole = job.job();
+    if let Some(fault) = early_fault(parts, whole) {
         return Err(fault);
     }
-    let accepted = accept(alloc, parts, items, job)?;
+    let accepted = accept(alloc, parts, items, whole)?;
     if accepted.members.len() > limits.identities as usize {
         return Err(AdmitFault::TooMany {
             what: What::Identities,
@@ -162,8 +165,10 @@ fn step(
     let timely = accepted.accepted;
     let members = accepted.members;
     let issuers = accepted.issuers;
+    let held = job.without_entries(alloc);
+    let rest = held.job();
     let place = parts.len() as u8;
-    let built = build(alloc, job, &issuers, members, place)?;
+    let built = build(alloc, &rest.crls, &issuers, members, place)?;
     let counts = Counts {
         issuers: issuers.len() as u32,
         universe: built.universe,
@@ -174,8 +179,8 @@ fn step(
         late,
         accepted: timely,
     };
-    let head = next_head(alloc, parts, job)?;
-    let next = next_draft(alloc, parts, job, issuers, built.items)?;
+    let head = next_head(alloc, parts, rest)?;
+    let next = next_draft(alloc, parts, rest, issuers, built.items)?;
     Ok(Admitted {
         head,
         groups: built.groups,
@@ -199,7 +204,7 @@ pub fn first(alloc: Global, job: &Job, limits: &Limits) -> Result<Admitted, Admi
     // For every trailer that the next part may have.
     ensures next { IfOk result (λ a. (trailer : List ℕ) → sealed_with a.next trailer ≡ next_ledger no_ledger (facts_of_job job.now) trailer) }
 {
-    step(alloc, &[], &[], job, limits)
+    step(alloc, &[], &[], Held::Lent(job), limits)
 }
 
 /// Admits a job behind a ledger. Its ranges fit, and its numbers of ranges, CRLs and entries keep the limits. The
@@ -222,5 +227,56 @@ pub fn admit(
     // For every trailer that the next part may have.
     ensures next { IfOk result (λ a. (trailer : List ℕ) → sealed_with a.next trailer ≡ next_ledger ledger.now (facts_of_job job.now) trailer) }
 {
-    step(alloc, ledger.parts(), ledger.items(), job, limits)
+    step(
+        alloc,
+        ledger.parts(),
+        ledger.items(),
+        Held::Lent(job),
+        limits,
+    )
+}
+
+/// As `first`, of a job that is given: its entries are let go once they are accepted.
+pub fn first_of(alloc: Global, job: Job, limits: &Limits) -> Result<Admitted, AdmitFault>
+    requires published { AreWithin limits.now Limits.PUBLISHED }
+    requires ranges { RangesFit job.ranges.items }
+    requires few { KeepsLimits limits.now (fields_of_job job) }
+    ensures admitted { OnOk result (refusal limits.now no_ledger (fields_of_job job) ≡ None) }
+    ensures refused { IfErr result (λ e. e ≢ AdmitFault.NoMemory → refusal limits.now no_ledger (fields_of_job job) ≡ Some e) }
+    ensures head { IfOk result (λ a. a.head ≡ head_after no_ledger.parts (facts_of_job job)) }
+    ensures groups { IfOk result (λ a. map group_fields a.groups.items ≡ groups_after no_ledger (facts_of_job job)) }
+    ensures facts { IfOk result (λ a. All IsGroup (map group_fields a.groups.items)) }
+    ensures counts { IfOk result (λ a. a.counts ≡ counts_after no_ledger (facts_of_job job)) }
+    // For every trailer that the next part may have.
+    ensures next { IfOk result (λ a. (trailer : List ℕ) → sealed_with a.next trailer ≡ next_ledger no_ledger (facts_of_job job) trailer) }
+{
+    step(alloc, &[], &[], Held::Given(job), limits)
+}
+
+/// As `admit`, of a job that is given: its entries are let go once they are accepted.
+pub fn admit_of(
+    alloc: Global,
+    ledger: &Ledger,
+    job: Job,
+    limits: &Limits,
+) -> Result<Admitted, AdmitFault>
+    requires published { AreWithin limits.now Limits.PUBLISHED }
+    requires ranges { RangesFit job.ranges.items }
+    requires few { KeepsLimits limits.now (fields_of_job job) }
+    ensures admitted { OnOk result (refusal limits.now ledger.now (fields_of_job job) ≡ None) }
+    ensures refused { IfErr result (λ e. e ≢ AdmitFault.NoMemory → refusal limits.now ledger.now (fields_of_job job) ≡ Some e) }
+    ensures head { IfOk result (λ a. a.head ≡ head_after ledger.now.parts (facts_of_job job)) }
+    ensures groups { IfOk result (λ a. map group_fields a.groups.items ≡ groups_after ledger.now (facts_of_job job)) }
+    ensures facts { IfOk result (λ a. All IsGroup (map group_fields a.groups.items)) }
+    ensures counts { IfOk result (λ a. a.counts ≡ counts_after ledger.now (facts_of_job job)) }
+    // For every trailer that the next part may have.
+    ensures next { IfOk result (λ a. (trailer : List ℕ) → sealed_with a.next trailer ≡ next_ledger ledger.now (facts_of_job job) trailer) }
+{
+    step(
+        alloc,
+        ledger.parts(),
+        ledger.items(),
+        Held::Given(job),
+        limits,
+    )
 }

@@ -5,15 +5,15 @@ ghost use Rattle.ident_core.specs.Order.{octets_cmp, identity_cmp};
 ghost use Rattle.ident_core.specs.declared.identity.Identity.{Identity as IdentityFields};
 ghost use Rattle.ledger_core.specs.LedgerFields.{LedgerFields, ids};
 ghost use Rattle.sets_core.specs.Sets.{has, has_key};
-ghost use Rattle.universe_core.specs.Jobs.{facts_of_job, enrolled};
+ghost use Rattle.universe_core.specs.Jobs.{Job as JobMeaning};
 ghost use Rattle.universe_core.specs.History.{accepted_with, revoked as revoked_of};
 ghost use Rattle.universe_core.specs.Ledgers.{past_in};
-ghost use Rattle.universe_core.specs.Members.{ids_of, members_in, next_of};
+ghost use Rattle.universe_core.specs.Members.{AreOf, ids_of, next_of};
 ghost use Rattle.universe_core.specs.Reading.{one_if};
 
 use crate::marking::listed_now;
 use crate::member::Member;
-use job_core::Job;
+use job_core::JobCrl;
 use ledger_core::LedgerItem;
 use octets_core::Key32;
 use sets_core::holds_key;
@@ -77,23 +77,22 @@ fn flag(
     Ok(Flags { revoked, universe })
 }
 
-/// Which members of a job are revoked.
+/// Which members of a job are revoked, by its CRLs and the issuers that it enrolls.
 pub(crate) fn revoked_now(
     alloc: Global,
-    job: &Job,
+    crls: &[JobCrl],
     issuers: &[Key32],
     members: &[Member],
 ) -> Result<Flags, AllocError>
-    requires issuers { issuers.now ≡ enrolled (facts_of_job job.now) }
+    requires issuers { IsStrictlySortedBy octets_cmp issuers.now }
     requires ascend { IsStrictlySortedBy identity_cmp (ids_of members.now) }
     requires few { length members.now ≤ 4294967295 }
-    ensures revoked { (ledger : LedgerFields) → members.now ≡ members_in ledger (facts_of_job job.now)
-        → IfOk result (λ f. f.revoked.items ≡ map (has (revoked_of (past_in ledger) (facts_of_job job.now)))
-        (accepted_with (past_in ledger) (facts_of_job job.now))) }
+    ensures revoked { (ledger : LedgerFields) (job : JobMeaning) → AreOf ledger job crls.now issuers.now members.now
+        → IfOk result (λ f. f.revoked.items ≡ map (has (revoked_of (past_in ledger) job)) (accepted_with (past_in ledger) job)) }
     ensures beside { IfOk result (λ f. length f.revoked.items ≡ length members.now) }
     ensures universe { IfOk result (λ f. f.universe ≡ count_by (λ m. has_key issuers.now m.id.issuer) members.now) }
 {
-    let listed = listed_now(alloc, members, &job.crls)?;
+    let listed = listed_now(alloc, members, crls)?;
     let flags = flag(alloc, issuers, members, &listed)?;
     Ok(flags)
 }

@@ -12,6 +12,7 @@ mod fault;
 mod flagging;
 mod following;
 mod grouping;
+mod held;
 mod judging;
 mod lateness;
 mod laws;
@@ -22,7 +23,7 @@ mod merging;
 mod reading;
 mod serial_key;
 
-pub use admission::{admit, first};
+pub use admission::{admit, admit_of, first, first_of};
 pub use admitted::{Admitted, Group};
 pub use class::Class;
 pub use classing::class_of;

@@ -2,11 +2,10 @@ use Rattle.std.proofs.Common.{◌∙◌, ap, sym, subst, map}
 use Rattle.std.specs.List.Sorted.{IsStrictlySortedBy}
 use Rattle.ident_core.specs.Order.{identity_cmp}
 use Rattle.ledger_core.specs.LedgerFields.{ids}
-use Rattle.universe_core.specs.Jobs.{facts_of_job}
 use Rattle.universe_core.specs.Groups.{group_fields}
 use Rattle.universe_core.specs.Ledgers.{past_in}
 use Rattle.universe_core.specs.Members.{ids_of}
-use Rattle.universe_core.proofs.Building.{groups_in, items_in}
+use Rattle.universe_core.proofs.Building.{groups_in, items_in, shown_of}
 use Rattle.universe_core.proofs.Tallies.{universe_count, revoked_count}
 use Rattle.universe_core.proofs.admission.build.Goals as goal
 
@@ -15,22 +14,22 @@ groups-requires-clause-ascend c = subst (λ xs. IsStrictlySortedBy identity_cmp 
     (sym (ap ids c.deref-4.ensures.value ∙ c.in_ok-items.ensures.same ∙ ap ids_of c.deref-2.ensures.value)) c.requires.ascend
 
 pub returns-clause-groups : goal.returns-clause-groups
-returns-clause-groups c = λ ledger m.
-    groups_in ledger (facts_of_job c.args.job.now) c.args.members.items m c.args.issuers.now (ids c.deref-4.result.now) c.deref-5.result.now
-    (map group_fields c.in_ok-groups.groups.items) c.requires.issuers
+returns-clause-groups c = λ ledger job of.
+    groups_in ledger job c.args.members.items of.members c.args.issuers.now (ids c.deref-4.result.now) c.deref-5.result.now
+    (map group_fields c.in_ok-groups.groups.items) of.issuers
     (ap ids c.deref-4.ensures.value ∙ c.in_ok-items.ensures.same ∙ ap ids_of c.deref-2.ensures.value)
-    (c.deref-5.ensures.value ∙ c.in_ok-flags.ensures.revoked ledger (c.deref.ensures.value ∙ m)) c.in_ok-groups.ensures
+    (c.deref-5.ensures.value ∙ c.in_ok-flags.ensures.revoked ledger job (shown_of of c.deref.ensures.value)) c.in_ok-groups.ensures
 
 pub returns-clause-items : goal.returns-clause-items
-returns-clause-items c = λ ledger m p.
-    items_in ledger (facts_of_job c.args.job.now) c.deref-2.result.now (c.deref-2.ensures.value ∙ m) c.deref-3.result.now c.args.place c.in_ok-items.items.items
-    (c.deref-3.ensures.value ∙ c.in_ok-flags.ensures.revoked ledger (c.deref.ensures.value ∙ m)) p c.in_ok-items.ensures.items
+returns-clause-items c = λ ledger job of p.
+    items_in ledger job c.deref-2.result.now (c.deref-2.ensures.value ∙ of.members) c.deref-3.result.now c.args.place c.in_ok-items.items.items
+    (c.deref-3.ensures.value ∙ c.in_ok-flags.ensures.revoked ledger job (shown_of of c.deref.ensures.value)) p c.in_ok-items.ensures.items
 
 pub returns-clause-universe : goal.returns-clause-universe
-returns-clause-universe c = λ ledger m. c.in_ok-flags.ensures.universe ∙ universe_count ledger (facts_of_job c.args.job.now) c.args.issuers.now
-    c.deref.result.now c.requires.issuers (c.deref.ensures.value ∙ m)
+returns-clause-universe c = λ ledger job of. c.in_ok-flags.ensures.universe ∙ universe_count ledger job c.args.issuers.now
+    c.deref.result.now of.issuers (c.deref.ensures.value ∙ of.members)
 
 pub returns-clause-revoked : goal.returns-clause-revoked
-returns-clause-revoked c = λ ledger m.
-    c.set_flags-revoked.ensures ∙ revoked_count (past_in ledger) (facts_of_job c.args.job.now) c.deref-6.result.now
-    (c.deref-6.ensures.value ∙ c.in_ok-flags.ensures.revoked ledger (c.deref.ensures.value ∙ m))
+returns-clause-revoked c = λ ledger job of.
+    c.set_flags-revoked.ensures ∙ revoked_count (past_in ledger) job c.deref-6.result.now
+    (c.deref-6.ensures.value ∙ c.in_ok-flags.ensures.revoked ledger job (shown_of of c.deref.ensures.value))
