@@ -21,7 +21,7 @@ use ledger_core::Ledger;
 use part_codec::seal;
 use std::alloc::Global;
 use std::thread::Threads;
-use universe_core::{Admitted, admit, first};
+use universe_core::{Admitted, admit_of, first_of};
 
 /// Builds and seals the part of an admitted job.
 fn built<R: Threads + Sync, G: Gate + Sync>(
@@ -58,7 +58,8 @@ fn built<R: Threads + Sync, G: Gate + Sync>(
 }
 
 /// What is published of a job as the first of a chain, by 1 to 64 workers, each of which enters the gate before it
-/// builds a leaf of an issuer's block. The job is dropped once it is admitted.
+/// builds a leaf of an issuer's block. The job's entries are let go once they are accepted, and the rest once it is
+/// admitted.
 pub fn publish_first<R: Threads + Sync, G: Gate + Sync>(
     rt: &R,
     alloc: Global,
@@ -72,16 +73,16 @@ pub fn publish_first<R: Threads + Sync, G: Gate + Sync>(
     requires few_workers { workers ≤ MAX_WORKERS }
     ensures { PublishesUnless no_ledger (fields_of_job job) result }
 {
-    let admitted = match first(alloc, &job, &Limits::PUBLISHED) {
+    let admitted = match first_of(alloc, job, &Limits::PUBLISHED) {
         Ok(admitted) => admitted,
         Err(fault) => return Err(admission_fault(fault)),
     };
-    drop(job);
     built(rt, alloc, gate, 0, admitted, workers)
 }
 
 /// What is published of a job behind a ledger, by 1 to 64 workers, each of which enters the gate before it builds a leaf
-/// of an issuer's block. The ledger and the job are dropped once the job is admitted.
+/// of an issuer's block. The job's entries are let go once they are accepted, and the ledger and the rest of the job once
+/// it is admitted.
 pub fn publish_after<R: Threads + Sync, G: Gate + Sync>(
     rt: &R,
     alloc: Global,
@@ -97,11 +98,10 @@ pub fn publish_after<R: Threads + Sync, G: Gate + Sync>(
     ensures { PublishesUnless ledger (fields_of_job job) result }
 {
     let place = ledger.parts().len() as u32;
-    let admitted = match admit(alloc, &ledger, &job, &Limits::PUBLISHED) {
+    let admitted = match admit_of(alloc, &ledger, job, &Limits::PUBLISHED) {
         Ok(admitted) => admitted,
         Err(fault) => return Err(admission_fault(fault)),
     };
     drop(ledger);
-    drop(job);
     built(rt, alloc, gate, place, admitted, workers)
 }
