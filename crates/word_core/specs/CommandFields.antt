@@ -47,6 +47,11 @@ pub record RehearseFields : Type 0 where
   pub workers : ℕ
   pub jobs : List (List ℕ)
 
+-- a store that is audited by jobs
+pub record AuditFields : Type 0 where
+  pub store : List ℕ
+  pub jobs : List (List ℕ)
+
 -- a job that is made from a number
 pub record SampleFields : Type 0 where
   pub number : ℕ

@@ -2,7 +2,7 @@
 use Rattle.std.specs.Prelude.{ℕ, List, [], ◌∷◌}
 use Rattle.word_core.specs.declared.command.Command.{Command}
 use Rattle.word_core.specs.declared.command.Command.TheVariants.{Usage, Query, QueryCert, Check, Show, Snapshot}
-use Rattle.word_core.specs.declared.command.Command.TheVariants.{Delta, Start, Install, Rehearse, Sample, Gather}
+use Rattle.word_core.specs.declared.command.Command.TheVariants.{Delta, Start, Install, Rehearse, Sample, Gather, Audit}
 
 -- the names of the files that a command reads, in the order of reading
 abbrev pub inputs_of : Command → List (List ℕ)
@@ -18,6 +18,7 @@ inputs_of (Install install) = install.store ∷ install.part ∷ []
 inputs_of (Rehearse rehearse) = rehearse.queries ∷ rehearse.jobs
 inputs_of (Sample sample) = []
 inputs_of (Gather gather) = gather.head ∷ gather.pages
+inputs_of (Audit audit) = audit.store ∷ audit.jobs
 
 -- the names of the files that a command writes, in the order of writing
 abbrev pub outputs_of : Command → List (List ℕ)
@@ -33,3 +34,4 @@ outputs_of (Install install) = install.new_store ∷ []
 outputs_of (Rehearse rehearse) = []
 outputs_of (Sample sample) = sample.job ∷ []
 outputs_of (Gather gather) = gather.job ∷ []
+outputs_of (Audit audit) = []

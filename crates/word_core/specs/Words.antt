@@ -11,7 +11,7 @@ use Rattle.octets_core.specs.Layout.{within}
 use Rattle.ident_core.specs.declared.bounds.TheConstants.{MAX_PARTS, MAX_WORKERS, MAX_SAMPLE}
 use Rattle.ident_core.specs.declared.range.Sighting.{Sighting}
 use Rattle.word_core.specs.CommandFields.{QueryFields, QueryCertFields, SnapshotFields, DeltaFields}
-use Rattle.word_core.specs.CommandFields.{StartFields, InstallFields, RehearseFields, SampleFields, GatherFields}
+use Rattle.word_core.specs.CommandFields.{StartFields, InstallFields, RehearseFields, AuditFields, SampleFields, GatherFields}
 use Rattle.word_core.specs.declared.publishing.TheConstants.{MAX_PAGES}
 use Rattle.word_core.specs.declared.command.Command.{Command}
 use Rattle.word_core.specs.declared.command.Command.TheVariants as commands
@@ -168,6 +168,14 @@ rehearse_of (queries ∷ workers ∷ jobs) = do
   Some (record { queries = q; workers = n; jobs = names })
 rehearse_of words = None
 
+-- STORE, and the jobs
+abbrev pub audit_of : List (List ℕ) → Option AuditFields
+audit_of (store ∷ jobs) = do
+  s ← name_of store
+  names ← jobs_of jobs
+  Some (record { store = s; jobs = names })
+audit_of words = None
+
 -- one or more, and no more than a sample may have
 abbrev pub count_of : List ℕ → Option ℕ
 count_of word = do
@@ -220,4 +228,5 @@ command_of (command ∷ words) =
     else if bytes_eq command (codes "rehearse") then asks commands.Rehearse (rehearse_of words)
     else if bytes_eq command (codes "sample") then asks commands.Sample (sample_of words)
     else if bytes_eq command (codes "gather") then asks commands.Gather (gather_of words)
+    else if bytes_eq command (codes "audit") then asks commands.Audit (audit_of words)
     else commands.Usage

@@ -2,7 +2,7 @@
 
 use crate::publishing::{Delta, Gather, Snapshot};
 use crate::storing::{Install, Start};
-use crate::trying::{Rehearse, Sample};
+use crate::trying::{Audit, Rehearse, Sample};
 use ident_core::{Identity, Sighting};
 use std::marker::Model;
 
@@ -169,4 +169,6 @@ pub enum Command<'a> {
     Sample(Sample<'a>),
     /// To write a job with the entries of a log's pages behind its own.
     Gather(Gather<'a>),
+    /// Whether a store, whoever built it, says the truth of what jobs accept.
+    Audit(Audit<'a>),
 }

@@ -14,4 +14,4 @@ pub use device::{DeviceCommand, Format, InstallPart, read_device_words};
 pub use publishing::{Delta, Gather, MAX_PAGES, Snapshot};
 pub use reading::read_words;
 pub use storing::{Install, Start};
-pub use trying::{Rehearse, Sample};
+pub use trying::{Audit, Rehearse, Sample};

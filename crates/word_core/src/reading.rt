@@ -1,14 +1,15 @@
 //! The commands that words spell together (docs/FORMATS.md, "Words").
 
-ghost use Rattle.std.specs.Prelude.{◌≡◌, ◌≤◌, ℕ, List, ◌∷◌, IfOk, IsOk, map, string_bytes};
-ghost use Rattle.ident_core.specs.declared.bounds.TheConstants.{MAX_WORKERS};
+ghost use Rattle.std.specs.Prelude.{◌≡◌, ◌≤◌, ℕ, List, ◌∷◌, length, IfOk, IfSome, IsOk, map, string_bytes};
+ghost use Rattle.std.specs.Option.{option_map};
+ghost use Rattle.ident_core.specs.declared.bounds.TheConstants.{MAX_PARTS, MAX_WORKERS};
 ghost use Rattle.word_core.specs.Words.{command_of, query_of, query_cert_of, name_alone, snapshot_of};
-ghost use Rattle.word_core.specs.Words.{named_delta, delta_of, start_of, install_of, rehearse_of, sample_of, gather_of, named_gather};
+ghost use Rattle.word_core.specs.Words.{named_delta, delta_of, start_of, install_of, jobs_of, rehearse_of, audit_of, sample_of, gather_of, named_gather};
 
 use crate::command::{Command, FileName, Query, QueryCert};
 use crate::publishing::{Delta, Gather, MAX_PAGES, Snapshot};
 use crate::storing::{Install, Start};
-use crate::trying::{Rehearse, Sample};
+use crate::trying::{Audit, Rehearse, Sample};
 use crate::words::{
     are_apart, count_word, key_word, number_word, read_name, read_names, read_pairs,
     read_two_names, serial_word, workers_word,
@@ -149,6 +150,18 @@ fn read_install(words: &[String]) -> Option<Install<'_>>
     Some(Install::new(store, part, new_store))
 }
 
+/// The names of jobs that words spell, if they spell some and not too many.
+fn read_jobs(alloc: Global, words: &[String]) -> Result<Option<Vec<FileName<'_>>>, NoMemory>
+    ensures value { IfOk result (λ o. option_map (λ v. v.items) o ≡ jobs_of (map string_bytes words.now)) }
+    ensures some { IfOk result (λ o. IfSome o (λ v. 1 ≤ length v.items)) }
+    ensures few { IfOk result (λ o. IfSome o (λ v. length v.items ≤ MAX_PARTS)) }
+{
+    if words.is_empty() || words.len() > MAX_PARTS {
+        return Ok(None);
+    }
+    read_names(alloc, words)
+}
+
 /// The rehearsal with these names of files that words spell, if they spell one.
 fn rehearse_named<'a>(
     alloc: Global,
@@ -161,10 +174,7 @@ fn rehearse_named<'a>(
     let Some(workers) = workers_word(workers) else {
         return Ok(None);
     };
-    if jobs.is_empty() || jobs.len() > MAX_PARTS {
-        return Ok(None);
-    }
-    let Some(jobs) = read_names(alloc, jobs)? else {
+    let Some(jobs) = read_jobs(alloc, jobs)? else {
         return Ok(None);
     };
     let Some(queries) = read_name(queries) else {
@@ -186,6 +196,22 @@ fn read_rehearse(alloc: Global, words: &[String]) -> Result<Option<Rehearse<'_>>
         ),
         _ => Ok(None),
     }
+}
+
+/// The audit that words spell, if they spell one.
+fn read_audit(alloc: Global, words: &[String]) -> Result<Option<Audit<'_>>, NoMemory>
+    ensures { IfOk result (λ a. a ≡ audit_of (map string_bytes words.now)) }
+{
+    let [store, jobs @ ..] = words else {
+        return Ok(None);
+    };
+    let Some(jobs) = read_jobs(alloc, jobs)? else {
+        return Ok(None);
+    };
+    let Some(store) = read_name(store.as_str()) else {
+        return Ok(None);
+    };
+    Ok(Some(Audit::new(store, jobs)))
 }
 
 /// The job made from a number that words spell, if they spell one.
@@ -264,12 +290,13 @@ fn read_command<'a>(
         "rehearse" => Ok(read_rehearse(alloc, rest)?.map_or(Command::Usage, Command::Rehearse)),
         "sample" => Ok(read_sample(rest).map_or(Command::Usage, Command::Sample)),
         "gather" => Ok(read_gather(alloc, rest)?.map_or(Command::Usage, Command::Gather)),
+        "audit" => Ok(read_audit(alloc, rest)?.map_or(Command::Usage, Command::Audit)),
         _ => Ok(Command::Usage),
     }
 }
 
 /// What words ask for. The words lend the names; room is taken for the sightings of a query, for the list of the jobs
-/// of a rehearsal and for that of pages that are gathered, and for nothing else.
+/// of a rehearsal or of an audit and for that of pages that are gathered, and for nothing else.
 pub fn read_words(alloc: Global, words: &[String]) -> Result<Command<'_>, NoMemory>
     ensures value { IfOk result (λ c. c ≡ command_of (map string_bytes words.now)) }
     // Words that ask for `check` are read without memory.

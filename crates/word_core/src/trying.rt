@@ -1,4 +1,4 @@
-//! The commands for trials: a history is rehearsed, and a job is made from a number.
+//! The commands for trials: a history is rehearsed, a store is audited, and a job is made from a number.
 
 use crate::command::FileName;
 use std::marker::Model;
@@ -59,6 +59,56 @@ impl<'a> Rehearse<'a> {
     }
 
     /// The names of the files that hold the jobs, in the order in which they are published.
+    pub fn jobs(&self) -> &[FileName<'a>]
+        ensures value { result.now ≡ self.now.jobs }
+        ensures some { 1 ≤ length result.now }
+        ensures few { length result.now ≤ MAX_PARTS }
+    {
+        self.jobs.as_slice()
+    }
+}
+
+/// Jobs by which a store is audited, whoever built it.
+#[derive(Debug, Drop)]
+pub struct Audit<'a> {
+    store: FileName<'a>,
+    jobs: Vec<FileName<'a>>,
+}
+
+impl<'a> Model for Audit<'a> {
+    ghost use Rattle.std.specs.Prelude.{◌≤◌, length};
+    ghost use Rattle.word_core.specs.CommandFields.{AuditFields};
+    ghost use Rattle.ident_core.specs.declared.bounds.TheConstants.{MAX_PARTS};
+
+    ghost Value = { AuditFields };
+
+    ghost view = { λ a. record { store = a.store; jobs = a.jobs.items } };
+
+    ghost invariant = { λ a. (1 ≤ length a.jobs.items) × (length a.jobs.items ≤ MAX_PARTS) };
+}
+
+impl<'a> Audit<'a> {
+    ghost use Rattle.std.specs.Prelude.{◌≡◌, ◌≤◌, length};
+    ghost use Rattle.ident_core.specs.declared.bounds.TheConstants.{MAX_PARTS};
+
+    /// The store in the file `store`, and the jobs in the files `jobs`, in the order in which they are admitted. Names
+    /// may be equal.
+    pub fn new(store: FileName<'a>, jobs: Vec<FileName<'a>>) -> Audit<'a>
+        requires some { 1 ≤ length jobs.items }
+        requires few { length jobs.items ≤ MAX_PARTS }
+        ensures { result ≡ record { store = store.entry; jobs = jobs.entry.items } }
+    {
+        Audit { store, jobs }
+    }
+
+    /// The name of the file that holds the store.
+    pub fn store(&self) -> &'a str
+        ensures { result.now ≡ self.now.store }
+    {
+        self.store.as_str()
+    }
+
+    /// The names of the files that hold the jobs, in the order in which they are admitted.
     pub fn jobs(&self) -> &[FileName<'a>]
         ensures value { result.now ≡ self.now.jobs }
         ensures some { 1 ≤ length result.now }
