@@ -17,6 +17,8 @@ use Rattle.card_core.specs.declared.leaf.Leaf.{Leaf}
 use Rattle.card_core.specs.declared.leaf.Leaf.TheVariants as leaves
 use Rattle.card_core.specs.declared.stage.Stage.{Stage}
 use Rattle.card_core.specs.MixedFields.{MixedFields}
+use Rattle.card_core.specs.declared.verdict.Verdict.{Verdict}
+use Rattle.card_core.specs.declared.verdict.Verdict.TheVariants as verdicts
 use Rattle.part_codec.specs.SealedFields.{SealedFields}
 use Rattle.part_codec.specs.Noting.{note_of}
 use Rattle.part_codec.specs.PartText.{width_of, version_of}
@@ -158,6 +160,22 @@ abbrev pub gather_line : (pages entries bytes : ℕ) → List ℕ
 gather_line pages entries bytes =
     codes "gather pages " ++ decimal pages ++ codes " entries " ++ decimal entries
     ++ codes " bytes " ++ decimal bytes ++ 10 ∷ []
+
+abbrev pub verdict_word : Verdict → List ℕ
+verdict_word verdicts.NotCovered = codes "not-covered"
+verdict_word verdicts.NotEnrolled = codes "not-enrolled"
+verdict_word verdicts.Good = codes "good"
+verdict_word verdicts.Revoked = codes "revoked"
+
+-- audit jobs J entries N agree
+abbrev pub audit_line : (jobs entries : ℕ) → List ℕ
+audit_line jobs entries = codes "audit jobs " ++ decimal jobs ++ codes " entries " ++ decimal entries ++ codes " agree" ++ 10 ∷ []
+
+-- audit job J entry E held V truth W
+abbrev pub disagreement_line : (job entry : ℕ) (held truth : Verdict) → List ℕ
+disagreement_line job entry held truth =
+    codes "audit job " ++ decimal job ++ codes " entry " ++ decimal entry ++ codes " held " ++ verdict_word held
+    ++ codes " truth " ++ verdict_word truth ++ 10 ∷ []
 
 abbrev pub crl_word : CrlFault → List ℕ
 crl_word crl_faults.Malformed = codes "malformed"

@@ -57,6 +57,10 @@ too_long = 15
 abbrev pub bad_page : ℕ
 bad_page = 16
 
+-- a store doesn't say the truth of an accepted entry
+abbrev pub disagrees : ℕ
+disagrees = 17
+
 -- memory was wanted
 abbrev pub no_memory : ℕ
 no_memory = 70

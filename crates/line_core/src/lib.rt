@@ -13,6 +13,8 @@ pub use about::{
     line_of, page_line, parent_line,
 };
 pub use device::{device_line, full_line};
-pub use line::{Line, checked, gathered, reported, sampled, seeds_line, stored};
+pub use line::{
+    Line, audited, checked, disagreement_line, gathered, reported, sampled, seeds_line, stored,
+};
 pub use show::write_sealed;
 pub use status::Status;

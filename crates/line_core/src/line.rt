@@ -4,11 +4,12 @@ ghost use Rattle.std.specs.Prelude.{◌≡◌, ◌+◌, ◌*◌, ◌≤◌, [], 
 ghost use Rattle.hex.specs.Hex.{encode_lower};
 ghost use Rattle.part_codec.specs.PartText.{width_of};
 ghost use Rattle.line_core.specs.Lines.{stage_words, approx_words, mixed_words, leaf_words, body_words, note_line, report_line};
-ghost use Rattle.line_core.specs.Lines.{store_line, sample_line, gather_line, head_line, range_line, block_line, shard_line, trailer_line};
+ghost use Rattle.line_core.specs.Lines.{store_line, sample_line, gather_line, audit_line, disagreement_line};
+ghost use Rattle.line_core.specs.Lines.{head_line, range_line, block_line, shard_line, trailer_line};
 ghost use Rattle.line_core.specs.Lines.{seeds_line};
 
-use crate::words::kind_text;
-use card_core::{Block, Body, Leaf, Mixed, Stage};
+use crate::words::{kind_text, verdict_text};
+use card_core::{Block, Body, Leaf, Mixed, Stage, Verdict};
 use ident_core::{Head, Range};
 use octets_core::Key32;
 use part_codec::PartNote;
@@ -222,6 +223,32 @@ pub fn gathered(pages: usize, entries: u64, bytes: u64) -> Line
     line.push_count(b"gather pages ", pages as u64);
     line.push_count(b" entries ", entries);
     line.push_count(b" bytes ", bytes);
+    line.push(b"\n");
+    line
+}
+
+/// `audit jobs J entries N agree`
+pub fn audited(jobs: usize, entries: u32) -> Line
+    ensures { result ≡ audit_line jobs entries }
+{
+    let mut line = Line::new();
+    line.push_count(b"audit jobs ", jobs as u64);
+    line.push_count(b" entries ", entries as u64);
+    line.push(b" agree\n");
+    line
+}
+
+/// `audit job J entry E held V truth W`
+pub fn disagreement_line(job: u32, entry: u32, held: Verdict, truth: Verdict) -> Line
+    ensures { result ≡ disagreement_line job entry held truth }
+{
+    let mut line = Line::new();
+    line.push_count(b"audit job ", job as u64);
+    line.push_count(b" entry ", entry as u64);
+    line.push(b" held ");
+    line.push(verdict_text(held));
+    line.push(b" truth ");
+    line.push(verdict_text(truth));
     line.push(b"\n");
     line
 }

@@ -31,6 +31,8 @@ impl Status {
     pub const TOO_LONG: Status = Status(15);
     /// A page of a log isn't read.
     pub const BAD_PAGE: Status = Status(16);
+    /// A store doesn't say the truth of an accepted entry.
+    pub const DISAGREES: Status = Status(17);
     /// Memory was wanted.
     pub const NO_MEMORY: Status = Status(70);
 }

@@ -2,8 +2,9 @@
 
 ghost use Rattle.std.specs.Prelude.{◌≡◌, ◌≤◌, length};
 ghost use Rattle.octets_core.specs.FieldNames.{name_of};
-ghost use Rattle.line_core.specs.Lines.{kind_word, why_word, crl_word, cert_word, page_word, what_word};
+ghost use Rattle.line_core.specs.Lines.{kind_word, why_word, verdict_word, crl_word, cert_word, page_word, what_word};
 
+use card_core::Verdict;
 use crl_core::CrlFault;
 use gather_core::PageFault;
 use ident_core::Kind;
@@ -36,6 +37,18 @@ pub fn why_text(why: Why) -> &'static [u8]
         Why::Short => b"short",
         Why::Value => b"value",
         Why::Digest => b"digest",
+    }
+}
+
+pub fn verdict_text(verdict: Verdict) -> &'static [u8]
+    ensures value { result.now ≡ verdict_word verdict }
+    ensures len { length result.now ≤ 12 }
+{
+    match verdict {
+        Verdict::NotCovered => b"not-covered",
+        Verdict::NotEnrolled => b"not-enrolled",
+        Verdict::Good => b"good",
+        Verdict::Revoked => b"revoked",
     }
 }
 
