@@ -287,6 +287,7 @@ memory_or_not (faults.TooMany thing limit) = inr (λ h. let k : ◌≡◌ {A = F
 memory_or_not (faults.Seeds issuer stage) = inr (λ h. let k : ◌≡◌ {A = FileFault} (faults.Seeds issuer stage) faults.NoMemory = h in cc)
 memory_or_not (faults.BadCert fault) = inr (λ h. let k : ◌≡◌ {A = FileFault} (faults.BadCert fault) faults.NoMemory = h in cc)
 memory_or_not (faults.BadPage fault) = inr (λ h. let k : ◌≡◌ {A = FileFault} (faults.BadPage fault) faults.NoMemory = h in cc)
+memory_or_not (faults.Disagrees job entry held truth) = inr (λ h. let k : ◌≡◌ {A = FileFault} (faults.Disagrees job entry held truth) faults.NoMemory = h in cc)
 
 pub could_not : {A B : Type 0} (told : Option Files) (failed : Option (List ℕ) → Type 0) (name : List ℕ) (read : List ℕ → Result A FileFault) (view : B → A) (e : FileFault)
     → e ≡ faults.Unread → CouldNotRead told failed name → IsInput {B = B} told failed name read view (Err e)

@@ -40,6 +40,7 @@ offset_in (faults.TooMany thing limit) = 0
 offset_in (faults.Seeds issuer stage) = 0
 offset_in (faults.BadCert fault) = 0
 offset_in (faults.BadPage fault) = 0
+offset_in (faults.Disagrees job entry held truth) = 0
 offset_in faults.NoMemory = 0
 
 -- a fault of what lies from this place of a file on
@@ -53,6 +54,7 @@ shifted at (faults.TooMany thing limit) = faults.TooMany thing limit
 shifted at (faults.Seeds issuer stage) = faults.Seeds issuer stage
 shifted at (faults.BadCert fault) = faults.BadCert fault
 shifted at (faults.BadPage fault) = faults.BadPage fault
+shifted at (faults.Disagrees job entry held truth) = faults.Disagrees job entry held truth
 shifted at faults.NoMemory = faults.NoMemory
 
 -- the file's bytes are as given, and as a store they have this fault

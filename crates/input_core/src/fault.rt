@@ -1,5 +1,6 @@
 ghost use Rattle.std.specs.Prelude.{◌≡◌};
 
+use card_core::Verdict;
 use crl_core::CrlFault;
 use gather_core::PageFault;
 use job_core::{JobFault, What};
@@ -22,15 +23,31 @@ pub enum FileFault {
     /// A chain doesn't take a part, or the part of a job.
     Chain(Refusal),
     /// A CRL of a job isn't accepted. Its place counts the job's CRLs from 0.
-    BadCrl { place: u32, fault: CrlFault },
+    BadCrl {
+        place: u32,
+        fault: CrlFault,
+    },
     /// There is one more than the limit.
-    TooMany { what: What, limit: u32 },
+    TooMany {
+        what: What,
+        limit: u32,
+    },
     /// The equations of this issuer's approximate stage (1) or exact stage (2) are unsolvable at each of the 256 seeds.
-    Seeds { issuer: Key32, stage: u8 },
+    Seeds {
+        issuer: Key32,
+        stage: u8,
+    },
     /// A certificate isn't read, or its timestamps aren't.
     BadCert(CertFault),
     /// A page of a log isn't read, for this item of it.
     BadPage(PageFault),
+    /// A store doesn't say the truth of an entry that a job accepts. The jobs and the entries of each are counted from 0.
+    Disagrees {
+        job: u32,
+        entry: u32,
+        held: Verdict,
+        truth: Verdict,
+    },
     /// Want of memory.
     NoMemory,
 }
