@@ -34,9 +34,26 @@ use Rattle.audit_core.proofs.Lists.{at_place, take_at, length-filter_map, length
 use Rattle.audit_core.proofs.Jobs.{release_behind, history_at, history-none, history_sound}
 use Rattle.audit_core.proofs.Knowing.{parts_length}
 
+-- the fault is one that an audit names
+abbrev pub IsNamed : AdmitFault → Type 0
+IsNamed (faults.BadCrl place f) = ⊥
+IsNamed (faults.OldEpoch held given) = Unit {0}
+IsNamed (faults.CoverageShrinks log) = Unit {0}
+IsNamed faults.ChainFull = ⊥
+IsNamed (faults.TooMany what limit) = ⊥
+IsNamed faults.NoMemory = ⊥
+
+named_cause : (f : AdmitFault) → IsNamed f → IsCause f
+named_cause (faults.BadCrl place f) h = h
+named_cause (faults.OldEpoch held given) h = tt
+named_cause (faults.CoverageShrinks log) h = tt
+named_cause faults.ChainFull h = h
+named_cause (faults.TooMany what limit) h = h
+named_cause faults.NoMemory h = tt
+
 abbrev Causes : Option AdmitFault → Type 0
 Causes None = Unit {0}
-Causes (Some f) = IsCause f
+Causes (Some f) = IsNamed f
 
 cause_or : (a b : Option AdmitFault) → Causes a → Causes b → Causes (option_or a b)
 cause_or None b h k = k
@@ -64,8 +81,8 @@ never : (b : Bool) (f : AdmitFault) → b ≡ false → Causes (cond b (Some f) 
 never false f h = tt
 never true f h = absurd cc
 
-pub cause_is : (ledger : LedgerFields) (job : JobFields) (fault : AdmitFault) → All (λ (c : CrlMeaning). IsOk c.outcome) job.crls → length ledger.parts < 64
-    → length (accepted_with (past_in ledger) (facts_of job)) ≤ 4194304 → refusal PUBLISHED ledger job ≡ Some fault → IsCause fault
+cause_is : (ledger : LedgerFields) (job : JobFields) (fault : AdmitFault) → All (λ (c : CrlMeaning). IsOk c.outcome) job.crls → length ledger.parts < 64
+    → length (accepted_with (past_in ledger) (facts_of job)) ≤ 4194304 → refusal PUBLISHED ledger job ≡ Some fault → IsNamed fault
 unfolding refusal
 cause_is ledger job fault crls few ids h =
     subst Causes h
@@ -137,10 +154,10 @@ cause_unless faults.ChainFull o c h = c faults.ChainFull (h (λ e. absurd cc))
 cause_unless (faults.TooMany what limit) o c h = c (faults.TooMany what limit) (h (λ e. absurd cc))
 cause_unless faults.NoMemory o c h = tt
 
-pub refused_cause : (jobs : List JobFields) (i : ℕ) (job : JobFields) → slice_get jobs i ≡ Some job → AreAdmitted jobs i → length jobs ≤ 64 → entries_of jobs ≤ 4194304
+pub refused_named : (jobs : List JobFields) (i : ℕ) (job : JobFields) → slice_get jobs i ≡ Some job → AreAdmitted jobs i → length jobs ≤ 64 → entries_of jobs ≤ 4194304
     → All (λ (c : CrlMeaning). IsOk c.outcome) job.crls → (ledger : LedgerFields) → ledger ≡ ledger_of (history (take i jobs))
-    → (fault : AdmitFault) → (fault ≢ faults.NoMemory → refusal PUBLISHED ledger job ≡ Some fault) → IsCause fault
-refused_cause jobs i job at admitted few entries crls ledger is fault h =
+    → (fault : AdmitFault) → refusal PUBLISHED ledger job ≡ Some fault → IsNamed fault
+refused_named jobs i job at admitted few entries crls ledger is fault h =
     let lt = slice_get_within jobs i job at in
     let parts = parts_length ledger (take i jobs) is in
     let many = length_take jobs i (omega (arith, lt)) in
@@ -150,8 +167,14 @@ refused_cause jobs i job at admitted few entries crls ledger is fault h =
     let before = all_few jobs i (omega (arith, lt)) in
     let all = accepted_few (past_in ledger) (facts_of job) in
     let to = entries_to jobs i job at in
+    cause_is ledger job fault crls (omega (arith, lt, parts, many, few)) (omega (arith, past, before, all, to, entries)) h
+
+pub refused_cause : (jobs : List JobFields) (i : ℕ) (job : JobFields) → slice_get jobs i ≡ Some job → AreAdmitted jobs i → length jobs ≤ 64 → entries_of jobs ≤ 4194304
+    → All (λ (c : CrlMeaning). IsOk c.outcome) job.crls → (ledger : LedgerFields) → ledger ≡ ledger_of (history (take i jobs))
+    → (fault : AdmitFault) → (fault ≢ faults.NoMemory → refusal PUBLISHED ledger job ≡ Some fault) → IsCause fault
+refused_cause jobs i job at admitted few entries crls ledger is fault h =
     cause_unless fault (refusal PUBLISHED ledger job)
-    (λ f e. cause_is ledger job f crls (omega (arith, lt, parts, many, few)) (omega (arith, past, before, all, to, entries)) e) h
+    (λ f e. named_cause f (refused_named jobs i job at admitted few entries crls ledger is f e)) h
 
 refused_as : (jobs : List JobFields) (i : ℕ) (job : JobFields) → slice_get jobs i ≡ Some job → AreAdmitted jobs i
     → (fault : AdmitFault) → (fault ≢ faults.NoMemory → refusal_behind (take i jobs) job ≡ Some fault) → IsRefusal jobs (as_audit_fault i fault)

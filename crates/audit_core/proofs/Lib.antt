@@ -9,3 +9,5 @@ pub mod Knowing
 pub mod Causes
 pub mod Sightings
 pub mod Findings
+pub mod Unique
+pub mod Existing

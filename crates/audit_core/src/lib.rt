@@ -12,4 +12,4 @@ mod listing;
 
 pub use auditing::{Audited, audit};
 pub use fault::AuditFault;
-pub use laws::one_sighting_is_enough;
+pub use laws::{agreement_is_enough, audits_are_unique, audits_exist, one_sighting_is_enough};
