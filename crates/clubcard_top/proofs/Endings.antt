@@ -46,6 +46,7 @@ refusal_unread name (faults.TooMany thing limit) eight = absurd (omega (arith, e
 refusal_unread name (faults.Seeds issuer stage) eight = absurd (omega (arith, eight))
 refusal_unread name (faults.BadCert fault) eight = absurd (omega (arith, eight))
 refusal_unread name (faults.BadPage fault) eight = absurd (omega (arith, eight))
+refusal_unread name (faults.Disagrees job entry held truth) eight = absurd (omega (arith, eight))
 refusal_unread name faults.NoMemory eight = absurd (omega (arith, eight))
 
 -- ---- outputs of a reply

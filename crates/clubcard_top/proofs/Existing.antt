@@ -1,13 +1,15 @@
 -- Something comes of each command, whatever its files hold.
-use Rattle.std.proofs.Common.{◌≡◌, ◌≢◌, ◌≤◌, ℕ, inl, inr, List, [], ◌∷◌, ◌++◌, length, Option, Some, None, Result, Ok, Err, refl, sym, subst, arith}
+use Rattle.std.proofs.Common.{◌≡◌, ◌≢◌, ◌≤◌, ℕ, inl, inr, List, [], ◌∷◌, ◌++◌, map, length, Option, Some, None, Result, Ok, Err, refl, sym, subst, arith}
 use Rattle.std.specs.List.{All}
-use Rattle.std.proofs.lemmas.List.Elements.{All-head, All-tail}
+use Rattle.std.specs.Prelude.{IsOk}
+use Rattle.std.proofs.lemmas.List.Elements.{All-nil, All-cons, All-head, All-tail}
 use Rattle.octets_core.proofs.Texts.{IsBytes}
 use Rattle.query_core.specs.Queries.{Query}
+use Rattle.card_core.specs.PartFields.{PartFields}
 use Rattle.part_codec.specs.SealedFields.{SealedFields}
 use Rattle.job_core.specs.declared.bounds.Limits.{Limits}
 use Rattle.job_core.specs.declared.bounds.TheConstants.Limits.{PUBLISHED}
-use Rattle.job_core.specs.JobFields.{JobFields}
+use Rattle.job_core.specs.JobFields.{CrlMeaning, JobFields}
 use Rattle.job_core.specs.JobFacts.{FitsFields, FitsPublishing, IsWithinLimits}
 use Rattle.job_core.specs.JobLayout.{job_of}
 use Rattle.ledger_core.specs.LedgerFields.{LedgerFields}
@@ -19,15 +21,22 @@ use Rattle.publication_core.specs.Histories.{History, with_job, chain, IsHistory
 use Rattle.publication_core.specs.Publishing.{Published, Publishes}
 use Rattle.word_core.specs.declared.command.Command.{Command}
 use Rattle.word_core.specs.declared.command.Command.TheVariants as commands
-use Rattle.word_core.specs.CommandFields.{SnapshotFields, DeltaFields, RehearseFields}
+use Rattle.audit_core.specs.declared.auditing.Audited.{Audited}
+use Rattle.audit_core.specs.declared.fault.AuditFault.{AuditFault}
+use Rattle.audit_core.specs.declared.fault.AuditFault.TheVariants.{NoMemory}
+use Rattle.audit_core.specs.Auditing.{IsAuditable, entries_of, IsFound}
+use Rattle.word_core.specs.CommandFields.{SnapshotFields, DeltaFields, RehearseFields, AuditFields}
 use Rattle.word_core.specs.Names.{inputs_of}
-use Rattle.input_core.specs.Readings.{queries_in, job_in, ledger_in}
+use Rattle.input_core.specs.Readings.{queries_in, job_in, ledger_in, store_in}
 use Rattle.clubcard_top.specs.ReplyFields.{Done, NamedFault, ReplyFields}
 use Rattle.clubcard_top.specs.Faults.{of_publishing}
 use Rattle.clubcard_top.specs.Commands.{input, query_makes, query_cert_makes, check_makes, show_makes, start_makes, install_makes, gather_makes, published_as, sample_done, rehearsed}
 use Rattle.clubcard_top.specs.Commands.{MakesPart, MakesSnapshot, MakesDelta, MakesRehearsal, Makes}
+use Rattle.clubcard_top.specs.Commands.{AreJobs}
+use Rattle.clubcard_top.specs.Audits.{audit_jobs, audited_as, MakesAudit}
 use Rattle.clubcard_top.specs.Steps.{RehearsesOn}
-use Rattle.clubcard_top.specs.Replies.{usage, reply_of, IsReplyOver, IsOctets}
+use Rattle.clubcard_top.specs.Replies.{usage, reply_of, IsReplyOver, IsOctets, HasFewJobs}
+use Rattle.clubcard_top.proofs.AuditsMade.{AreAccepted, audit_jobs_are}
 use Rattle.clubcard_top.proofs.Chains.{chain_push}
 use Rattle.clubcard_top.proofs.Prefixes.{first_of}
 use Rattle.clubcard_top.proofs.Rehearsed.{job_value}
@@ -40,6 +49,8 @@ pub record Existence : Type 0 where
   pub within : (limits : Limits) (bytes : List ℕ) (job : JobFields) → IsBytes bytes → job_of limits bytes ≡ Ok job → IsWithinLimits limits job
   pub next : (h : History) (parts : List SealedFields) (job : JobFields) (p : Published) → IsHistory h parts → FitsPublishing job → IsWithinLimits PUBLISHED job
       → Publishes (ledger_of (history h parts)) job (Ok p) → IsHistory (with_job h (in_format current job)) (parts ++ p.sealed ∷ [])
+  pub found : (parts : List PartFields) (jobs : List JobFields) → length jobs ≤ 64 → All IsAuditable jobs → entries_of jobs ≤ 4194304
+      → (r : Result Audited AuditFault) × IsFound parts jobs r × (r ≢ Err NoMemory)
 
 module _ (layers : Existence) where
   job_fits : (name : List ℕ) (given : Option (List ℕ)) (job : JobFields) → IsOctets given → input name job_in given ≡ Ok job
@@ -114,6 +125,42 @@ module _ (layers : Existence) where
       (o.0, first_of queries r.jobs inputs o.0 o.1)
   rehearsal_made r (Err e) inputs many octets = (Err e, refl)
 
+  -- ---- auditing
+
+  abbrev CrlsAccepted : JobFields → Type 0
+  CrlsAccepted job = All (λ (c : CrlMeaning). IsOk c.outcome) job.crls
+
+  -- jobs that were read can be audited, where their CRLs are accepted
+  auditable : (names : List (List ℕ)) (inputs : List (Option (List ℕ))) (jobs : List JobFields) → AreJobs names inputs jobs → All IsOctets inputs → AreAccepted jobs → All IsAuditable jobs
+  auditable [] [] [] are octets accepted = All-nil IsAuditable
+  auditable [] [] (job ∷ jobs) are octets accepted = absurd are
+  auditable [] (g ∷ inputs) jobs are octets accepted = absurd are
+  auditable (name ∷ names) [] jobs are octets accepted = absurd are
+  auditable (name ∷ names) (g ∷ inputs) [] are octets accepted = absurd are
+  auditable (name ∷ names) (g ∷ inputs) (job ∷ jobs) are octets accepted =
+      let facts = job_fits name g job (All-head IsOctets g inputs octets) are.0 in
+      let limits = facts.1 in
+      let one : IsAuditable job = record {
+        ranges = facts.0.publishing.ranges_fit;
+        limits = record { ranges = limits.ranges; crls = limits.crls; entries = limits.entries };
+        crls = All-head CrlsAccepted job jobs accepted;
+      } in
+      All-cons IsAuditable job jobs one (auditable names inputs jobs are.1 (All-tail IsOctets g inputs octets) (All-tail CrlsAccepted job jobs accepted))
+
+  audit_by : (a : AuditFields) (parts : List SealedFields) (inputs : List (Option (List ℕ))) → length a.jobs ≤ 64 → length inputs ≡ length a.jobs → All IsOctets inputs
+      → (jobs : Result (List JobFields) NamedFault) → audit_jobs a.jobs inputs ≡ jobs → (o : Result Done NamedFault) × MakesAudit a (Ok parts) jobs o
+  audit_by a parts inputs few many octets (Err e) is = (Err e, refl)
+  audit_by a parts inputs few many octets (Ok jobs) is =
+      let f = audit_jobs_are a.jobs inputs jobs many is in
+      let same = f.many in
+      let r = layers.found (map (λ (s : SealedFields). s.part) parts) jobs (omega (arith, few, same)) (auditable a.jobs inputs jobs f.are octets f.accepted) f.within.entries in
+      (audited_as a jobs r.0, record { result = r.0; found = r.1; settled = r.2; is = refl })
+
+  audit_made : (a : AuditFields) (store : Result (List SealedFields) NamedFault) (inputs : List (Option (List ℕ))) → length a.jobs ≤ 64 → length inputs ≡ length a.jobs → All IsOctets inputs
+      → (o : Result Done NamedFault) × MakesAudit a store (audit_jobs a.jobs inputs) o
+  audit_made a (Ok parts) inputs few many octets = audit_by a parts inputs few many octets (audit_jobs a.jobs inputs) refl
+  audit_made a (Err e) inputs few many octets = (Err e, refl)
+
   -- ---- commands
 
   -- a job that was read of an input fits
@@ -121,59 +168,63 @@ module _ (layers : Existence) where
       → (job : JobFields) → input name job_in g ≡ Ok job → FitsFields job × IsWithinLimits PUBLISHED job
   read_fits name g inputs octets job is = job_fits name g job (All-head IsOctets g inputs octets) is
 
-  pub outcome_exists : (c : Command) (inputs : List (Option (List ℕ))) → c ≢ commands.Usage → length inputs ≡ length (inputs_of c) → All IsOctets inputs
+  pub outcome_exists : (c : Command) (inputs : List (Option (List ℕ))) → c ≢ commands.Usage → HasFewJobs c → length inputs ≡ length (inputs_of c) → All IsOctets inputs
       → (o : Result Done NamedFault) × Makes c inputs o
-  outcome_exists commands.Usage inputs some many octets = absurd (some refl)
-  outcome_exists (commands.Query q) (g ∷ []) some many octets = (query_makes q g, refl)
-  outcome_exists (commands.QueryCert q) (g ∷ h ∷ k ∷ []) some many octets = (query_cert_makes q g h k, refl)
-  outcome_exists (commands.Check name) (g ∷ []) some many octets = (check_makes name g, refl)
-  outcome_exists (commands.Show name) (g ∷ []) some many octets = (show_makes name g, refl)
-  outcome_exists (commands.Snapshot s) (g ∷ []) some many octets = snapshot_made s (input s.job job_in g) (read_fits s.job g [] octets)
-  outcome_exists (commands.Delta t) (g ∷ h ∷ []) some many octets =
+  outcome_exists commands.Usage inputs some few many octets = absurd (some refl)
+  outcome_exists (commands.Query q) (g ∷ []) some few many octets = (query_makes q g, refl)
+  outcome_exists (commands.QueryCert q) (g ∷ h ∷ k ∷ []) some few many octets = (query_cert_makes q g h k, refl)
+  outcome_exists (commands.Check name) (g ∷ []) some few many octets = (check_makes name g, refl)
+  outcome_exists (commands.Show name) (g ∷ []) some few many octets = (show_makes name g, refl)
+  outcome_exists (commands.Snapshot s) (g ∷ []) some few many octets = snapshot_made s (input s.job job_in g) (read_fits s.job g [] octets)
+  outcome_exists (commands.Delta t) (g ∷ h ∷ []) some few many octets =
       delta_made t (input t.job job_in g) (input t.ledger ledger_in h) (read_fits t.job g (h ∷ []) octets)
-  outcome_exists (commands.Start t) (g ∷ []) some many octets = (start_makes t g, refl)
-  outcome_exists (commands.Install i) (g ∷ h ∷ []) some many octets = (install_makes i g h, refl)
-  outcome_exists (commands.Rehearse r) (g ∷ inputs) some many octets =
+  outcome_exists (commands.Start t) (g ∷ []) some few many octets = (start_makes t g, refl)
+  outcome_exists (commands.Install i) (g ∷ h ∷ []) some few many octets = (install_makes i g h, refl)
+  outcome_exists (commands.Rehearse r) (g ∷ inputs) some few many octets =
       rehearsal_made r (input r.queries queries_in g) inputs (omega (arith, many)) (All-tail IsOctets g inputs octets)
-  outcome_exists (commands.Sample s) [] some many octets = (Ok (sample_done s), refl)
-  outcome_exists (commands.Gather f) (g ∷ inputs) some many octets = (gather_makes f g inputs, refl)
-  outcome_exists (commands.Gather f) [] some many octets = absurd (omega (arith, many))
-  outcome_exists (commands.Rehearse r) [] some many octets = absurd (omega (arith, many))
-  outcome_exists (commands.Sample s) (g ∷ cs) some many octets = absurd (omega (arith, many))
-  outcome_exists (commands.Query q) [] some many octets = absurd (omega (arith, many))
-  outcome_exists (commands.Query q) (g ∷ h ∷ cs) some many octets = absurd (omega (arith, many))
-  outcome_exists (commands.QueryCert q) [] some many octets = absurd (omega (arith, many))
-  outcome_exists (commands.QueryCert q) (g ∷ []) some many octets = absurd (omega (arith, many))
-  outcome_exists (commands.QueryCert q) (g ∷ h ∷ []) some many octets = absurd (omega (arith, many))
-  outcome_exists (commands.QueryCert q) (g ∷ h ∷ k ∷ l ∷ cs) some many octets = absurd (omega (arith, many))
-  outcome_exists (commands.Check name) [] some many octets = absurd (omega (arith, many))
-  outcome_exists (commands.Check name) (g ∷ h ∷ cs) some many octets = absurd (omega (arith, many))
-  outcome_exists (commands.Show name) [] some many octets = absurd (omega (arith, many))
-  outcome_exists (commands.Show name) (g ∷ h ∷ cs) some many octets = absurd (omega (arith, many))
-  outcome_exists (commands.Snapshot s) [] some many octets = absurd (omega (arith, many))
-  outcome_exists (commands.Snapshot s) (g ∷ h ∷ cs) some many octets = absurd (omega (arith, many))
-  outcome_exists (commands.Delta t) [] some many octets = absurd (omega (arith, many))
-  outcome_exists (commands.Delta t) (g ∷ []) some many octets = absurd (omega (arith, many))
-  outcome_exists (commands.Delta t) (g ∷ h ∷ k ∷ cs) some many octets = absurd (omega (arith, many))
-  outcome_exists (commands.Start t) [] some many octets = absurd (omega (arith, many))
-  outcome_exists (commands.Start t) (g ∷ h ∷ cs) some many octets = absurd (omega (arith, many))
-  outcome_exists (commands.Install i) [] some many octets = absurd (omega (arith, many))
-  outcome_exists (commands.Install i) (g ∷ []) some many octets = absurd (omega (arith, many))
-  outcome_exists (commands.Install i) (g ∷ h ∷ k ∷ cs) some many octets = absurd (omega (arith, many))
+  outcome_exists (commands.Sample s) [] some few many octets = (Ok (sample_done s), refl)
+  outcome_exists (commands.Gather f) (g ∷ inputs) some few many octets = (gather_makes f g inputs, refl)
+  outcome_exists (commands.Gather f) [] some few many octets = absurd (omega (arith, many))
+  outcome_exists (commands.Audit a) (g ∷ inputs) some few many octets =
+      audit_made a (input a.store store_in g) inputs few (omega (arith, many)) (All-tail IsOctets g inputs octets)
+  outcome_exists (commands.Audit a) [] some few many octets = absurd (omega (arith, many))
+  outcome_exists (commands.Rehearse r) [] some few many octets = absurd (omega (arith, many))
+  outcome_exists (commands.Sample s) (g ∷ cs) some few many octets = absurd (omega (arith, many))
+  outcome_exists (commands.Query q) [] some few many octets = absurd (omega (arith, many))
+  outcome_exists (commands.Query q) (g ∷ h ∷ cs) some few many octets = absurd (omega (arith, many))
+  outcome_exists (commands.QueryCert q) [] some few many octets = absurd (omega (arith, many))
+  outcome_exists (commands.QueryCert q) (g ∷ []) some few many octets = absurd (omega (arith, many))
+  outcome_exists (commands.QueryCert q) (g ∷ h ∷ []) some few many octets = absurd (omega (arith, many))
+  outcome_exists (commands.QueryCert q) (g ∷ h ∷ k ∷ l ∷ cs) some few many octets = absurd (omega (arith, many))
+  outcome_exists (commands.Check name) [] some few many octets = absurd (omega (arith, many))
+  outcome_exists (commands.Check name) (g ∷ h ∷ cs) some few many octets = absurd (omega (arith, many))
+  outcome_exists (commands.Show name) [] some few many octets = absurd (omega (arith, many))
+  outcome_exists (commands.Show name) (g ∷ h ∷ cs) some few many octets = absurd (omega (arith, many))
+  outcome_exists (commands.Snapshot s) [] some few many octets = absurd (omega (arith, many))
+  outcome_exists (commands.Snapshot s) (g ∷ h ∷ cs) some few many octets = absurd (omega (arith, many))
+  outcome_exists (commands.Delta t) [] some few many octets = absurd (omega (arith, many))
+  outcome_exists (commands.Delta t) (g ∷ []) some few many octets = absurd (omega (arith, many))
+  outcome_exists (commands.Delta t) (g ∷ h ∷ k ∷ cs) some few many octets = absurd (omega (arith, many))
+  outcome_exists (commands.Start t) [] some few many octets = absurd (omega (arith, many))
+  outcome_exists (commands.Start t) (g ∷ h ∷ cs) some few many octets = absurd (omega (arith, many))
+  outcome_exists (commands.Install i) [] some few many octets = absurd (omega (arith, many))
+  outcome_exists (commands.Install i) (g ∷ []) some few many octets = absurd (omega (arith, many))
+  outcome_exists (commands.Install i) (g ∷ h ∷ k ∷ cs) some few many octets = absurd (omega (arith, many))
 
   made_reply : (c : Command) (inputs : List (Option (List ℕ))) → (o : Result Done NamedFault) × Makes c inputs o → (r : ReplyFields) × IsReplyOver c inputs r
   made_reply c inputs o = (reply_of o.0, inr (o.0, o.1, refl))
 
-  pub reply_exists : (c : Command) (inputs : List (Option (List ℕ))) → length inputs ≡ length (inputs_of c) → All IsOctets inputs → (r : ReplyFields) × IsReplyOver c inputs r
-  reply_exists commands.Usage inputs many octets = (usage, inl (refl, refl))
-  reply_exists (commands.Query q) inputs many octets = made_reply (commands.Query q) inputs (outcome_exists (commands.Query q) inputs (λ none. cc) many octets)
-  reply_exists (commands.QueryCert q) inputs many octets = made_reply (commands.QueryCert q) inputs (outcome_exists (commands.QueryCert q) inputs (λ none. cc) many octets)
-  reply_exists (commands.Check n) inputs many octets = made_reply (commands.Check n) inputs (outcome_exists (commands.Check n) inputs (λ none. cc) many octets)
-  reply_exists (commands.Show n) inputs many octets = made_reply (commands.Show n) inputs (outcome_exists (commands.Show n) inputs (λ none. cc) many octets)
-  reply_exists (commands.Snapshot s) inputs many octets = made_reply (commands.Snapshot s) inputs (outcome_exists (commands.Snapshot s) inputs (λ none. cc) many octets)
-  reply_exists (commands.Delta t) inputs many octets = made_reply (commands.Delta t) inputs (outcome_exists (commands.Delta t) inputs (λ none. cc) many octets)
-  reply_exists (commands.Start t) inputs many octets = made_reply (commands.Start t) inputs (outcome_exists (commands.Start t) inputs (λ none. cc) many octets)
-  reply_exists (commands.Install i) inputs many octets = made_reply (commands.Install i) inputs (outcome_exists (commands.Install i) inputs (λ none. cc) many octets)
-  reply_exists (commands.Rehearse r) inputs many octets = made_reply (commands.Rehearse r) inputs (outcome_exists (commands.Rehearse r) inputs (λ none. cc) many octets)
-  reply_exists (commands.Sample s) inputs many octets = made_reply (commands.Sample s) inputs (outcome_exists (commands.Sample s) inputs (λ none. cc) many octets)
-  reply_exists (commands.Gather f) inputs many octets = made_reply (commands.Gather f) inputs (outcome_exists (commands.Gather f) inputs (λ none. cc) many octets)
+  pub reply_exists : (c : Command) (inputs : List (Option (List ℕ))) → HasFewJobs c → length inputs ≡ length (inputs_of c) → All IsOctets inputs → (r : ReplyFields) × IsReplyOver c inputs r
+  reply_exists commands.Usage inputs few many octets = (usage, inl (refl, refl))
+  reply_exists (commands.Query q) inputs few many octets = made_reply (commands.Query q) inputs (outcome_exists (commands.Query q) inputs (λ none. cc) few many octets)
+  reply_exists (commands.QueryCert q) inputs few many octets = made_reply (commands.QueryCert q) inputs (outcome_exists (commands.QueryCert q) inputs (λ none. cc) few many octets)
+  reply_exists (commands.Check n) inputs few many octets = made_reply (commands.Check n) inputs (outcome_exists (commands.Check n) inputs (λ none. cc) few many octets)
+  reply_exists (commands.Show n) inputs few many octets = made_reply (commands.Show n) inputs (outcome_exists (commands.Show n) inputs (λ none. cc) few many octets)
+  reply_exists (commands.Snapshot s) inputs few many octets = made_reply (commands.Snapshot s) inputs (outcome_exists (commands.Snapshot s) inputs (λ none. cc) few many octets)
+  reply_exists (commands.Delta t) inputs few many octets = made_reply (commands.Delta t) inputs (outcome_exists (commands.Delta t) inputs (λ none. cc) few many octets)
+  reply_exists (commands.Start t) inputs few many octets = made_reply (commands.Start t) inputs (outcome_exists (commands.Start t) inputs (λ none. cc) few many octets)
+  reply_exists (commands.Install i) inputs few many octets = made_reply (commands.Install i) inputs (outcome_exists (commands.Install i) inputs (λ none. cc) few many octets)
+  reply_exists (commands.Rehearse r) inputs few many octets = made_reply (commands.Rehearse r) inputs (outcome_exists (commands.Rehearse r) inputs (λ none. cc) few many octets)
+  reply_exists (commands.Sample s) inputs few many octets = made_reply (commands.Sample s) inputs (outcome_exists (commands.Sample s) inputs (λ none. cc) few many octets)
+  reply_exists (commands.Gather f) inputs few many octets = made_reply (commands.Gather f) inputs (outcome_exists (commands.Gather f) inputs (λ none. cc) few many octets)
+  reply_exists (commands.Audit a) inputs few many octets = made_reply (commands.Audit a) inputs (outcome_exists (commands.Audit a) inputs (λ none. cc) few many octets)

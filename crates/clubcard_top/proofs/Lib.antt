@@ -1,3 +1,7 @@
+pub mod AuditCode
+pub mod AuditFaults
+pub mod AuditReplies
+pub mod AuditsMade
 pub mod Checked
 pub mod CertTruth
 pub mod Chains

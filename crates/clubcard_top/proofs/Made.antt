@@ -144,6 +144,7 @@ module _ (layers : Layers) where
   behind (commands.Rehearse r) files h parts job o is p m = absurd p
   behind (commands.Sample t) files h parts job o is p m = absurd p
   behind (commands.Gather g) files h parts job o is p m = absurd p
+  behind (commands.Audit a) files h parts job o is p m = absurd p
   behind (commands.Start t) files h parts job o is p m = absurd p
   behind (commands.Install i) files h parts job o is p m = absurd p
   behind (commands.Snapshot s) files h parts job o is p m = record {
@@ -267,6 +268,7 @@ module _ (layers : Layers) where
   stored_law (commands.Rehearse r) files h parts s o is p m = absurd p
   stored_law (commands.Sample t) files h parts s o is p m = absurd p
   stored_law (commands.Gather g) files h parts s o is p m = absurd p
+  stored_law (commands.Audit a) files h parts s o is p m = absurd p
   stored_law (commands.Snapshot t) files h parts s o is p m = absurd p
   stored_law (commands.Delta d) files h parts s o is p m = absurd p
   stored_law (commands.Start t) files h [] s o is p m = stored_is (commands.Start t) t.store [] s o (λ b. refl) (start_stored t files h s o is p.1 m)

@@ -49,7 +49,7 @@ use Rattle.publication_core.specs.Publishing.{Published}
 use Rattle.publication_core.specs.Histories.{History, chain}
 use Rattle.word_core.specs.declared.command.Command.{Command}
 use Rattle.word_core.specs.declared.command.Command.TheVariants as commands
-use Rattle.word_core.specs.CommandFields.{QueryCertFields, SnapshotFields, DeltaFields, StartFields, InstallFields, RehearseFields, GatherFields}
+use Rattle.word_core.specs.CommandFields.{QueryCertFields, SnapshotFields, DeltaFields, StartFields, InstallFields, RehearseFields, GatherFields, AuditFields}
 use Rattle.word_core.specs.Names.{inputs_of, outputs_of}
 use Rattle.input_core.specs.declared.certificates.Certificate.{Certificate}
 use Rattle.input_core.specs.declared.fault.FileFault.{FileFault}
@@ -64,11 +64,13 @@ use Rattle.clubcard_top.specs.Statuses.{is_one_of}
 use Rattle.clubcard_top.specs.Commands.{◌>>=◌, named, input, begun_by, begun, installed_by, installed, stored, query_done, query_cert_done, check_done, show_done}
 use Rattle.clubcard_top.specs.Commands.{publication_done, published_as, MakesSnapshot, MakesDelta, rehearsed, IsRefused, MakesRehearsal}
 use Rattle.clubcard_top.specs.Commands.{sample_done, head_in, page_in, room_for, pages_of, gather_done, Makes}
+use Rattle.clubcard_top.specs.Audits.{job_behind, jobs_behind, audit_jobs}
 use Rattle.clubcard_top.specs.Steps.{RehearsesOn}
 use Rattle.clubcard_top.specs.Replies.{refusal, reply_of}
 use Rattle.input_core.specs.Inputs.{IsRead, AreRead}
 use Rattle.clubcard_top.proofs.Outputs.{names_of}
-use Rattle.clubcard_top.proofs.Results.{ok_same, not_ok}
+use Rattle.clubcard_top.proofs.Results.{ok_same, not_ok, not_err}
+use Rattle.clubcard_top.proofs.AuditFaults.{audit_names, store_or_jobs, job_behind_read, jobs_stop}
 use Rattle.clubcard_top.proofs.Prefixes.{from_first}
 
 -- ---- replies of refusals
@@ -83,11 +85,12 @@ refusal_quiet name (faults.TooMany thing limit) = refl
 refusal_quiet name (faults.Seeds issuer stage) = refl
 refusal_quiet name (faults.BadCert fault) = refl
 refusal_quiet name (faults.BadPage fault) = refl
+refusal_quiet name (faults.Disagrees job entry held truth) = refl
 refusal_quiet name faults.NoMemory = refl
 
 -- the statuses of a command that isn't `Usage`
 abbrev pub of_commands : List ℕ
-of_commands = 0 ∷ 3 ∷ 4 ∷ 5 ∷ 6 ∷ 7 ∷ 8 ∷ 12 ∷ 16 ∷ 70 ∷ []
+of_commands = 0 ∷ 3 ∷ 4 ∷ 5 ∷ 6 ∷ 7 ∷ 8 ∷ 12 ∷ 16 ∷ 17 ∷ 70 ∷ []
 
 pub fault_status : (name : List ℕ) (fault : FileFault) → IsTrue (is_one_of of_commands (refusal name fault).status)
 fault_status name faults.Unread = refl
@@ -99,6 +102,7 @@ fault_status name (faults.TooMany thing limit) = refl
 fault_status name (faults.Seeds issuer stage) = refl
 fault_status name (faults.BadCert fault) = refl
 fault_status name (faults.BadPage fault) = refl
+fault_status name (faults.Disagrees job entry held truth) = refl
 fault_status name faults.NoMemory = refl
 
 pub outcome_status : (o : Result Done NamedFault) → IsTrue (is_one_of of_commands (reply_of o).status)
@@ -133,9 +137,6 @@ published_names : (of part_name ledger_name : List ℕ) (r : Result Published Pu
     → names_of d.outputs ≡ part_name ∷ ledger_name ∷ []
 published_names of part_name ledger_name (Ok p) d h = ap (λ (e : Done). names_of e.outputs) (ok_same {E = NamedFault} d (publication_done part_name ledger_name p) h)
 published_names of part_name ledger_name (Err fault) d h = absurd (let g : ◌≡◌ {A = Result Done NamedFault} (Ok d) (Err (record { name = of; fault = of_publishing fault })) = h in cc)
-
-not_err : {A E : Type 0} (x : A) (e : E) → ◌≡◌ {A = Result A E} (Ok x) (Err e) → ⊥
-not_err {A} {E} x e h = cc
 
 snapshot_names : (s : SnapshotFields) (r : Result JobFields NamedFault) (d : Done) → MakesSnapshot s r (Ok d) → names_of d.outputs ≡ outputs_of (commands.Snapshot s)
 snapshot_names s (Ok j) d m = published_names s.job s.part s.ledger m.result d m.is
@@ -208,6 +209,8 @@ done_names (commands.Gather f) (h ∷ inputs) d m =
     let x = after_ok (input f.head head_in h) (gather_after f inputs) d m in
     names_after (f.job ∷ []) (gather_done f x.0) (λ y. refl) (pages_of f.job (length x.0.entries) f.pages inputs) d x.2
 done_names (commands.Gather f) [] d m = absurd m
+done_names (commands.Audit a) (s ∷ inputs) d m = audit_names a (input a.store store_in s) (audit_jobs a.jobs inputs) d m
+done_names (commands.Audit a) [] d m = absurd m
 done_names (commands.Sample s) (a ∷ cs) d m = absurd m
 done_names (commands.Query q) [] d m = absurd m
 done_names (commands.Query q) (a ∷ b ∷ cs) d m = absurd m
@@ -532,6 +535,29 @@ module _ (told : Option Files) (failed : Option (List ℕ) → Type 0) (e : Name
   gather_by f h inputs first others (inr (j, is, m)) =
       let c = pages_by f.job (length j.entries) f.pages inputs others (done_err (gather_done f j) (pages_of f.job (length j.entries) f.pages inputs) e m) in (inr c.0, c.1)
 
+  -- a job behind others
+  job_by : (before : List JobFields) (name : List ℕ) (names : List (List ℕ)) (g : Option (List ℕ)) (inputs : List (Option (List ℕ))) → IsRead told failed name g
+      → ((js : List JobFields) → Err e ≡ jobs_behind js names inputs → Cause names)
+      → (input name (job_behind before) g ≡ Err e) ⊎ ((j : JobFields) × (input name (job_behind before) g ≡ Ok j) × (Err e ≡ jobs_behind (before ++ j ∷ []) names inputs))
+      → Cause (name ∷ names)
+  job_by before name names g inputs read rest (inl h) =
+      cause_of (name ∷ names) name g (inl refl) read (input_unread name (job_behind before) g e (job_behind_read before job_read) h u)
+  job_by before name names g inputs read rest (inr (j, is, h)) = let c = rest (before ++ j ∷ []) h in (inr c.0, c.1)
+
+  jobs_by : (before : List JobFields) (names : List (List ℕ)) (inputs : List (Option (List ℕ))) → AreRead told failed names inputs
+      → Err e ≡ jobs_behind before names inputs → Cause names
+  jobs_by before [] [] read m = absurd (not_ok before e m)
+  jobs_by before [] (g ∷ inputs) read m = absurd read
+  jobs_by before (name ∷ names) [] read m = absurd read
+  jobs_by before (name ∷ names) (g ∷ inputs) read m =
+      job_by before name names g inputs read.0 (λ js h. jobs_by js names inputs read.1 h)
+      (after_err_of (input name (job_behind before) g) (λ j. jobs_behind (before ++ j ∷ []) names inputs) e m)
+
+  audit_by : (a : AuditFields) (s : Option (List ℕ)) (inputs : List (Option (List ℕ))) → IsRead told failed a.store s → AreRead told failed a.jobs inputs
+      → (input a.store store_in s ≡ Err e) ⊎ (audit_jobs a.jobs inputs ≡ Err e) → Cause (a.store ∷ a.jobs)
+  audit_by a s inputs first others (inl is) = cause_of (a.store ∷ a.jobs) a.store s (inl refl) first (input_unread a.store store_in s e store_read is u)
+  audit_by a s inputs first others (inr is) = let c = jobs_by [] a.jobs inputs others (jobs_stop a.jobs inputs e is u) in (inr c.0, c.1)
+
   -- An input that can't be read has its cause.
   pub unread_cause : (c : Command) (inputs : List (Option (List ℕ))) → AreRead told failed (inputs_of c) inputs → Makes c inputs (Err e) → Cause (inputs_of c)
   unread_cause commands.Usage inputs read m = absurd m
@@ -561,6 +587,9 @@ module _ (told : Option Files) (failed : Option (List ℕ) → Type 0) (e : Name
   unread_cause (commands.Gather f) (h ∷ inputs) read m =
       gather_by f h inputs read.0 read.1 (after_err (input f.head head_in h) (gather_after f inputs) e m)
   unread_cause (commands.Gather f) [] read m = absurd m
+  unread_cause (commands.Audit a) (s ∷ inputs) read m =
+      audit_by a s inputs read.0 read.1 (store_or_jobs a (input a.store store_in s) (audit_jobs a.jobs inputs) e m u)
+  unread_cause (commands.Audit a) [] read m = absurd m
   unread_cause (commands.Query q) [] read m = absurd m
   unread_cause (commands.Query q) (a ∷ b ∷ cs) read m = absurd m
   unread_cause (commands.QueryCert q) [] read m = absurd m

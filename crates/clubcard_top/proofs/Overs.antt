@@ -1,5 +1,5 @@
 -- What comes of a command over what the files hold, from what was read of them.
-use Rattle.std.proofs.Common.{◌≡◌, ℕ, inl, inr, List, [], ◌∷◌, ◌++◌, map, Option, Some, None, Result, Ok, Err, refl, sym, ap, subst}
+use Rattle.std.proofs.Common.{◌≡◌, ℕ, ◌⊎◌, inl, inr, List, [], ◌∷◌, ◌++◌, map, Option, Some, None, Result, Ok, Err, refl, sym, ap, subst}
 use Rattle.std.specs.Prelude.{◌+◌, length}
 use Rattle.std.specs.FinMap.{get}
 use Rattle.outside_core.specs.Files.{Files}
@@ -11,7 +11,7 @@ use Rattle.part_codec.specs.SealedFields.{SealedFields}
 use Rattle.publication_core.specs.Histories.{History, chain}
 use Rattle.word_core.specs.declared.command.Command.{Command}
 use Rattle.word_core.specs.declared.command.Command.TheVariants as commands
-use Rattle.word_core.specs.CommandFields.{QueryCertFields, DeltaFields, InstallFields, RehearseFields, GatherFields}
+use Rattle.word_core.specs.CommandFields.{QueryCertFields, DeltaFields, InstallFields, RehearseFields, GatherFields, AuditFields}
 use Rattle.word_core.specs.Names.{inputs_of}
 use Rattle.input_core.specs.declared.fault.FileFault.{FileFault}
 use Rattle.input_core.specs.declared.fault.FileFault.TheVariants as faults
@@ -21,6 +21,7 @@ use Rattle.input_core.specs.Certificates.{certificate_in, issuer_in}
 use Rattle.input_core.specs.Inputs.{IsRead, AreRead}
 use Rattle.clubcard_top.specs.Commands.{◌>>=◌, input, query_makes, query_cert_makes, check_makes, show_makes, start_makes, install_makes}
 use Rattle.clubcard_top.specs.Commands.{MakesDelta, IsRefused, MakesRehearsal, head_in, page_in, room_for, pages_of, gather_done, gather_makes, Makes}
+use Rattle.clubcard_top.specs.Audits.{unless, job_behind, jobs_behind, bad_crl, audit_jobs, MakesAudit}
 use Rattle.clubcard_top.specs.Steps.{RehearsesOn}
 use Rattle.clubcard_top.specs.Replies.{held_by}
 use Rattle.clubcard_top.proofs.Makings.{install_after, gather_after, page_last, page_then, cert_last, cert_then, cert_after}
@@ -182,6 +183,43 @@ gather_over files failed f h inputs o seen first others m =
     after_over files failed f.head head_in h (gather_after f inputs) (gather_after f (map (get files) f.pages)) o seen first
     (λ j. pages_over files failed o seen f.job (length j.entries) f.pages inputs others (λ entries. Ok (gather_done f j entries))) m
 
+-- jobs of an audit: they are those that the files hold, or one can't be read
+abbrev SameJobs : Files → List JobFields → List (List ℕ) → List (Option (List ℕ)) → Type 0
+SameJobs files before names inputs =
+    (jobs_behind before names inputs ≡ jobs_behind before names (map (get files) names))
+    ⊎ ((name : List ℕ) × (jobs_behind before names inputs ≡ Err (unread name)))
+
+job_over : (files : Files) (names : List (List ℕ)) (inputs : List (Option (List ℕ))) (before : List JobFields) (r : Result JobFields NamedFault)
+    → ((js : List JobFields) → SameJobs files js names inputs)
+    → ((r >>= (λ j. jobs_behind (before ++ j ∷ []) names inputs)) ≡ (r >>= (λ j. jobs_behind (before ++ j ∷ []) names (map (get files) names))))
+    ⊎ ((name : List ℕ) × ((r >>= (λ j. jobs_behind (before ++ j ∷ []) names inputs)) ≡ Err (unread name)))
+job_over files names inputs before (Ok j) rest = rest (before ++ j ∷ [])
+job_over files names inputs before (Err e) rest = inl refl
+
+jobs_over : (files : Files) (failed : Option (List ℕ) → Type 0) (before : List JobFields) (names : List (List ℕ)) (inputs : List (Option (List ℕ)))
+    → AreRead (Some files) failed names inputs → SameJobs files before names inputs
+jobs_over files failed before [] [] read = inl refl
+jobs_over files failed before [] (g ∷ inputs) read = absurd read
+jobs_over files failed before (name ∷ names) [] read = absurd read
+jobs_over files failed before (name ∷ names) (None ∷ inputs) read = inr (name, refl)
+jobs_over files failed before (name ∷ names) (Some b ∷ inputs) read =
+    rw read.0 (job_over files names inputs before (input name (job_behind before) (Some b)) (λ js. jobs_over files failed js names inputs read.1))
+
+audit_by : (a : AuditFields) (files : Files) (inputs : List (Option (List ℕ))) (store : Result (List SealedFields) NamedFault) (o : Result Done NamedFault) → IsSeen o
+    → SameJobs files [] a.jobs inputs → MakesAudit a store (audit_jobs a.jobs inputs) o → MakesAudit a store (audit_jobs a.jobs (map (get files) a.jobs)) o
+audit_by a files inputs (Err e) o seen same m = m
+audit_by a files inputs (Ok parts) o seen (inl same) m =
+    subst (λ (r : Result (List JobFields) NamedFault). MakesAudit a (Ok parts) (r >>= (λ js. unless (bad_crl a.jobs js) js)) o) same m
+audit_by a files inputs (Ok parts) o seen (inr (name, is)) m =
+    absurd (seen (unread name) (subst (λ (r : Result (List JobFields) NamedFault). MakesAudit a (Ok parts) (r >>= (λ js. unless (bad_crl a.jobs js) js)) o) is m) refl)
+
+audit_over : (files : Files) (failed : Option (List ℕ) → Type 0) (a : AuditFields) (s : Option (List ℕ)) (inputs : List (Option (List ℕ))) (o : Result Done NamedFault) → IsSeen o
+    → IsRead (Some files) failed a.store s → AreRead (Some files) failed a.jobs inputs → MakesAudit a (input a.store store_in s) (audit_jobs a.jobs inputs) o
+    → MakesAudit a (input a.store store_in (get files a.store)) (audit_jobs a.jobs (map (get files) a.jobs)) o
+audit_over files failed a None inputs o seen first others m = absurd (seen (unread a.store) m refl)
+audit_over files failed a (Some b) inputs o seen first others m =
+    rw first (audit_by a files inputs (input a.store store_in (Some b)) o seen (jobs_over files failed [] a.jobs inputs others) m)
+
 -- of one input
 one_over : (files : Files) (failed : Option (List ℕ) → Type 0) (name : List ℕ) (P : Option (List ℕ) → Type 0) (given : Option (List ℕ)) → (P None → ⊥)
     → IsRead (Some files) failed name given → P given → P (get files name)
@@ -206,6 +244,8 @@ over_files files failed (commands.Rehearse r) [] o seen read m = absurd m
 over_files files failed (commands.Sample s) (a ∷ cs) o seen read m = absurd m
 over_files files failed (commands.Gather f) (h ∷ inputs) o seen read m = gather_over files failed f h inputs o seen read.0 read.1 m
 over_files files failed (commands.Gather f) [] o seen read m = absurd m
+over_files files failed (commands.Audit a) (s ∷ inputs) o seen read m = audit_over files failed a s inputs o seen read.0 read.1 m
+over_files files failed (commands.Audit a) [] o seen read m = absurd m
 over_files files failed (commands.Query q) [] o seen read m = absurd m
 over_files files failed (commands.Query q) (a ∷ b ∷ cs) o seen read m = absurd m
 over_files files failed (commands.QueryCert q) [] o seen read m = absurd m

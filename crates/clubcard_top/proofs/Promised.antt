@@ -3,6 +3,7 @@ use Rattle.std.proofs.Common.{◌≡◌, ℕ, ◌⊎◌, inl, inr, List, [], Opt
 use Rattle.std.specs.Prelude.{◌≢◌, IsTrue}
 use Rattle.outside_core.specs.Files.{Files, Rose}
 use Rattle.octets_core.specs.declared.fault.LayoutFault.{LayoutFault}
+use Rattle.card_core.specs.declared.verdict.Verdict.{Verdict}
 use Rattle.crl_core.specs.declared.crl.CrlFault.{CrlFault}
 use Rattle.sct_core.specs.declared.fault.CertFault.{CertFault}
 use Rattle.gather_core.specs.declared.fault.PageFault.{PageFault}
@@ -236,6 +237,13 @@ module _ (call : Call) where
       let r = refused_of files is (faults.BadPage x.0) x.1 in
       (r.0, x.0, r.1)
 
+  disagrees : EndsOld call → call.status ≡ 17 → FilesAreTold call → (name : List ℕ) × (job : ℕ) × (entry : ℕ)
+      × (held : Verdict) × (truth : Verdict) × Refused call name (faults.Disagrees job entry held truth)
+  disagrees ends st (files, is) =
+      let x = tellings.disagreement call.asked (WhichFailedIn call) _ _ _ _ _ _ (Some files) (at files is ends) st in
+      let r = refused_of files is (faults.Disagrees x.0 x.1 x.2 x.3) x.4 in
+      (r.0, x.0, x.1, x.2, x.3, r.1)
+
   usage_reply : call.asked ≡ commands.Usage → (reply : ReplyFields) → IsAnswer call reply → Gives call reply
       → Gives call usage
   usage_reply none reply (inputs, read, inl (asked, same), says) g = subst (λ (r : ReplyFields). Gives call r) same g
@@ -266,6 +274,7 @@ module _ (call : Call) where
     seeds = seeds ends;
     bad_cert = bad_cert ends;
     bad_page = bad_page ends;
+    disagrees = disagrees ends;
     bad_words = endings.usage_line _ _ (WhichFailedIn call) _ _ _ _ _ _ ends;
     no_command = no_command (ways ends);
     refused = refused unique (ways ends);

@@ -152,6 +152,7 @@ module _ (layers : Layers) (files : Files) where
   done_law (commands.Install i) queries jobs parts o is p m = absurd p
   done_law (commands.Sample s) queries jobs parts o is p m = absurd p
   done_law (commands.Gather g) queries jobs parts o is p m = absurd p
+  done_law (commands.Audit a) queries jobs parts o is p m = absurd p
   done_law (commands.Rehearse r) queries jobs parts o is p m =
       goes_on queries [] [] r.jobs jobs parts o tt is p.1
       (from_first queries r.jobs (map (get files) r.jobs) o (subst (λ (q : Result (List Query) NamedFault). MakesRehearsal r q (map (get files) r.jobs) o)

@@ -6,3 +6,6 @@ ok_same {A} {E} x y h = cc
 
 pub not_ok : {A E : Type 0} (x : A) (e : E) → ◌≡◌ {A = Result A E} (Err e) (Ok x) → ⊥
 not_ok {A} {E} x e h = cc
+
+pub not_err : {A E : Type 0} (x : A) (e : E) → ◌≡◌ {A = Result A E} (Ok x) (Err e) → ⊥
+not_err {A} {E} x e h = cc

@@ -4,6 +4,7 @@ use Rattle.std.proofs.Common.{◌+◌, ◌≤◌, Bool, true, false, map, length
 use Rattle.std.specs.Prelude.{nat_le, if◌then◌else◌}
 use Rattle.std.specs.Cmp.Lexicographic.{nat_list_cmp_total}
 use Rattle.std.specs.FinMap.{get, insert, get-insert}
+use Rattle.std.proofs.lemmas.List.{length-map}
 use Rattle.std.proofs.lemmas.Map.Text.{is_eq-slice_cmp}
 use Rattle.std.proofs.lemmas.Slice.Eq.{bytes_eq-Decides}
 use Rattle.outside_core.specs.Files.{Files}
@@ -18,6 +19,8 @@ use Rattle.gather_core.specs.Pages.{PageFields}
 use Rattle.job_core.specs.declared.bounds.TheConstants.Limits as limits
 use Rattle.job_core.specs.declared.bounds.What.TheVariants as what
 use Rattle.job_core.specs.JobFields.{JobFields}
+use Rattle.universe_core.specs.History.{seen}
+use Rattle.audit_core.specs.Auditing.{history as audited_history, AllAgree}
 use Rattle.universe_core.specs.Formats.{in_format}
 use Rattle.job_core.specs.JobText.{JobContents, spelling as job_text}
 use Rattle.ledger_core.specs.LedgerFields.{LedgerFields}
@@ -34,7 +37,7 @@ use Rattle.publication_core.specs.Formats.{current}
 use Rattle.publication_core.specs.Histories.{IsAdmissible, History, with_job, chain, IsHistory, history, part_bytes, store_bytes, ledger_bytes}
 use Rattle.word_core.specs.declared.command.Command.{Command}
 use Rattle.word_core.specs.declared.command.Command.TheVariants as commands
-use Rattle.word_core.specs.CommandFields.{QueryFields, QueryCertFields, SnapshotFields, DeltaFields, StartFields, InstallFields, RehearseFields, SampleFields, GatherFields}
+use Rattle.word_core.specs.CommandFields.{QueryFields, QueryCertFields, SnapshotFields, DeltaFields, StartFields, InstallFields, RehearseFields, SampleFields, GatherFields, AuditFields}
 use Rattle.line_core.specs.Lines.{store_line}
 use Rattle.input_core.specs.declared.certificates.Certificate.{Certificate}
 use Rattle.input_core.specs.declared.fault.FileFault.{FileFault}
@@ -44,18 +47,20 @@ use Rattle.clubcard_top.specs.ReplyFields.{OutputFields, Done, NamedFault}
 use Rattle.input_core.specs.Readings.{job_in, ledger_in, part_in, store_in}
 use Rattle.input_core.specs.Certificates.{certificate_in, issuer_in}
 use Rattle.clubcard_top.specs.Commands.{◌>>=◌, named, input, only, query_done, query_cert_done, check_done, show_done, epoch_of, stored, begun_by, begun, installed_by, installed}
-use Rattle.clubcard_top.specs.Commands.{publication_done, published_as, MakesPart, MakesSnapshot, MakesDelta, sample_done, head_in, page_in, room_for, pages_of, longer, gather_done, rehearsed, Makes}
+use Rattle.clubcard_top.specs.Commands.{publication_done, published_as, MakesPart, MakesSnapshot, MakesDelta, sample_done, head_in, page_in, room_for, pages_of, longer, gather_done, rehearsed, AreJobs, Makes}
 use Rattle.clubcard_top.specs.Replies.{held_by}
 use Rattle.clubcard_top.specs.Runs.{with_outputs}
 use Rattle.clubcard_top.specs.Calls.{Call, Reads, Holds, Writes, ChangesNoFile, Prints, NoFault}
 use Rattle.clubcard_top.specs.Endings.{Succeeds, Did, WantedMemory}
-use Rattle.clubcard_top.specs.Successes.{PublishesFile, ReadsPages}
+use Rattle.clubcard_top.specs.Audits.{audit_jobs, audit_done, MakesAudit}
+use Rattle.clubcard_top.specs.Successes.{PublishesFile, ReadsPages, ReadsJobs, AreWithinLimits, IsAudited, SaysTheTruth}
 use Rattle.clubcard_top.specs.Headline.{AsksHistory, IsPublished, IsRehearsed, IsStored, PublishesJob, RehearsesJobs}
 use Rattle.clubcard_top.specs.Headline.{StoresPart, publishes_to, stores_to, truth_line, truth_done, Published, Stored}
 use Rattle.clubcard_top.specs.Headline.{AsksToPublish, AsksToStore, AsksTruth, AsksToRehearse}
 use Rattle.clubcard_top.specs.Headline.{AsksCert, AsksCertTruth, cert_truth_line}
 use Rattle.clubcard_top.specs.Headline.{part_name, ledger_name, store_name}
 use Rattle.clubcard_top.specs.Promises.{Successes, Histories}
+use Rattle.clubcard_top.proofs.AuditsMade.{audit_done_is, audit_jobs_back, audit_makes}
 use Rattle.clubcard_top.proofs.Files.{get-other}
 use Rattle.clubcard_top.proofs.Makings.{gather_after, page_last, page_then, cert_last, cert_then, cert_after}
 use Rattle.clubcard_top.proofs.PagesPut.{behind_these, page_put}
@@ -187,6 +192,10 @@ abbrev pub OneOutcome : Type 0
 OneOutcome =
     (command : Command) (inputs : List (Option (List ℕ))) (a b : Result Done NamedFault) → Makes command inputs a
     → Makes command inputs b → a ≡ b
+
+-- parts that say the truth of accepted entries say the truth
+abbrev pub Truthful : Type 0
+Truthful = (parts : List SealedFields) (jobs : List JobFields) → AllAgree (map (λ (s : SealedFields). s.part) parts) jobs → SaysTheTruth parts jobs
 
 abbrev pub Publishable : Type 0
 Publishable = (before : LedgerFields) (job : JobFields) → CanBePublished before job → (made : Publication) × Publishes before job (Ok made)
@@ -429,6 +438,29 @@ module _ (call : Call) where
         one_held did.files g.job (job_text (longer g one.0 two.0)) call.files_after (left did.files c.d (gather_done g one.0 two.0) same c.files_are),
       )
 
+  jobs_read : (files : Files) → call.files_before ≡ Some files → (names : List (List ℕ)) (jobs : List JobFields) → AreJobs names (map (get files) names) jobs → ReadsJobs call names jobs
+  jobs_read files told [] [] are = tt
+  jobs_read files told [] (j ∷ jobs) are = absurd are
+  jobs_read files told (name ∷ names) [] are = absurd are
+  jobs_read files told (name ∷ names) (j ∷ jobs) are = (reads files told name job_in j are.0, jobs_read files told names jobs are.1)
+
+  audit : Truthful → EndsOld call → (a : AuditFields) → (did : Did call (commands.Audit a)) → (parts : List SealedFields) × (jobs : List JobFields)
+      × Reads call a.store store_in parts × ReadsJobs call a.jobs jobs × IsAudited parts jobs × SaysTheTruth parts jobs
+      × Prints call (audit_done jobs (record { entries = length (seen (audited_history jobs)) })).text × ChangesNoFile call
+  audit truthful ends a did =
+      let c = came ends (commands.Audit a) did in
+      let x = audit_done_is a (input a.store store_in (get did.files a.store)) (map (get did.files) a.jobs) c.d (length-map a.jobs (get did.files)) c.makes in
+      let said = audit_done x.jobs (record { entries = length (seen (audited_history x.jobs)) }) in (
+        x.parts,
+        x.jobs,
+        reads did.files did.told a.store store_in x.parts x.store,
+        jobs_read did.files did.told a.jobs x.jobs x.are,
+        x.audited,
+        truthful x.parts x.jobs x.audited.agree,
+        prints c.d said x.said c.text,
+        left did.files c.d said x.said c.files_are ∙ sym did.told,
+      )
+
   -- ---- what can be published
 
   read_in : {A : Type 0} (files : Files) → call.files_before ≡ Some files
@@ -446,6 +478,12 @@ module _ (call : Call) where
       page_put job name names before (get files name) (map (get files) names) page (read_in files told name page_in page page_reads) (omega (arith, few, size))
       ∙ ap (behind_these page) (pages_back files told job (before + length page) names others rest (omega (arith, few, size)))
       ∙ ap (λ (l : List PageFields). Ok l) (sym is)
+
+  jobs_back : (files : Files) → call.files_before ≡ Some files → (names : List (List ℕ)) (jobs : List JobFields) → ReadsJobs call names jobs → AreJobs names (map (get files) names) jobs
+  jobs_back files told [] [] are = tt
+  jobs_back files told [] (j ∷ jobs) are = absurd are
+  jobs_back files told (name ∷ names) [] are = absurd are
+  jobs_back files told (name ∷ names) (j ∷ jobs) are = (read_in files told name job_in j are.0, jobs_back files told names jobs are.1)
 
   module _ (one : OneOutcome) (publishable : Publishable) (ends : EndsOld call) where
     -- what is sure to come of the command that was asked
@@ -524,6 +562,20 @@ module _ (call : Call) where
         ∙ ap (λ (r : Result (List PageFields) NamedFault). r >>= (λ es. Ok (gather_done g head es))) pages_are))
         quiet
 
+    -- a store that says the truth of the accepted entries of jobs that are admitted is found to do so
+    pub audit_complete : (a : AuditFields) (parts : List SealedFields) (jobs : List JobFields) → call.asked ≡ commands.Audit a
+        → Reads call a.store store_in parts → ReadsJobs call a.jobs jobs → AreWithinLimits jobs → IsAudited parts jobs
+        → NoFault call → Succeeds call ⊎ WantedMemory call
+    audit_complete a parts jobs asked (bytes, (files, told, held), is) job_reads few audited quiet =
+        let store_is = read_in files told a.store store_in parts (bytes, (files, told, held), is) in
+        let jobs_are = audit_jobs_back a.jobs (map (get files) a.jobs) jobs (jobs_back files told a.jobs jobs job_reads) few audited.crls in
+        let d = audit_done jobs (record { entries = length (seen (audited_history jobs)) }) in
+        sure_of (commands.Audit a) files d told asked
+        (λ none. cc)
+        (λ o m. subst (λ (r : Result (List SealedFields) NamedFault). MakesAudit a r (audit_jobs a.jobs (map (get files) a.jobs)) (Ok d)) (sym store_is)
+        (subst (λ (js : Result (List JobFields) NamedFault). MakesAudit a (Ok parts) js (Ok d)) (sym jobs_are) (audit_makes a parts jobs audited)))
+        quiet
+
   -- ---- histories
 
   -- the laws of what comes of a command over files, as `histories_are_made` says them
@@ -573,6 +625,7 @@ module _ (call : Call) where
   both_held (commands.Rehearse r) files h parts job x y p apart is = absurd p
   both_held (commands.Sample s) files h parts job x y p apart is = absurd p
   both_held (commands.Gather g) files h parts job x y p apart is = absurd p
+  both_held (commands.Audit a) files h parts job x y p apart is = absurd p
 
   store_held : (c : Command) (files : Files) (parts : List SealedFields) (s : SealedFields) (x : List ℕ)
       → StoresPart c files parts s
@@ -589,6 +642,7 @@ module _ (call : Call) where
   store_held (commands.Rehearse r) files parts s x p is = absurd p
   store_held (commands.Sample t) files parts s x p is = absurd p
   store_held (commands.Gather g) files parts s x p is = absurd p
+  store_held (commands.Audit a) files parts s x p is = absurd p
 
   -- what was written, over the files as they are told
   writes_as : (files : Files) → call.files_before ≡ Some files → (outputs others : List OutputFields) → outputs ≡ others
@@ -705,8 +759,8 @@ module _ (call : Call) where
           left did.files a.done (rehearsed l.0 l.1 l.2) l.5 a.files_are ∙ sym did.told,
         )
 
-    pub successes : OneOutcome → Publishable → IsApart call.asked → Successes call
-    successes one publishable apart = record {
+    pub successes : OneOutcome → Publishable → Truthful → IsApart call.asked → Successes call
+    successes one publishable truthful apart = record {
       query = query ends;
       query_cert = query_cert ends;
       query_cert_complete = query_cert_complete one publishable ends;
@@ -736,4 +790,6 @@ module _ (call : Call) where
       sample = sample ends;
       gather = gather ends;
       gather_complete = gather_complete one publishable ends;
+      audit = audit truthful ends;
+      audit_complete = audit_complete one publishable ends;
     }

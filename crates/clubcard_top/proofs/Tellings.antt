@@ -4,6 +4,7 @@ use Rattle.std.specs.Prelude.{◌≢◌, IfSome}
 use Rattle.outside_core.specs.Files.{Files}
 use Rattle.outside_core.specs.Written.{followed_by}
 use Rattle.octets_core.specs.declared.fault.LayoutFault.{LayoutFault}
+use Rattle.card_core.specs.declared.verdict.Verdict.{Verdict}
 use Rattle.crl_core.specs.declared.crl.CrlFault.{CrlFault}
 use Rattle.sct_core.specs.declared.fault.CertFault.{CertFault}
 use Rattle.gather_core.specs.declared.fault.PageFault.{PageFault}
@@ -73,6 +74,7 @@ layout_of name (faults.TooMany thing limit) h = absurd (omega (arith, h))
 layout_of name (faults.Seeds issuer stage) h = absurd (omega (arith, h))
 layout_of name (faults.BadCert fault) h = absurd (omega (arith, h))
 layout_of name (faults.BadPage fault) h = absurd (omega (arith, h))
+layout_of name (faults.Disagrees job entry held truth) h = absurd (omega (arith, h))
 layout_of name faults.NoMemory h = absurd (omega (arith, h))
 
 crl_of : (name : List ℕ) (fault : FileFault) → (refusal name fault).status ≡ 4 → (place : ℕ) × (f : CrlFault) × (fault ≡ faults.BadCrl place f)
@@ -85,6 +87,7 @@ crl_of name (faults.TooMany thing limit) h = absurd (omega (arith, h))
 crl_of name (faults.Seeds issuer stage) h = absurd (omega (arith, h))
 crl_of name (faults.BadCert fault) h = absurd (omega (arith, h))
 crl_of name (faults.BadPage fault) h = absurd (omega (arith, h))
+crl_of name (faults.Disagrees job entry held truth) h = absurd (omega (arith, h))
 crl_of name faults.NoMemory h = absurd (omega (arith, h))
 
 chain_of : (name : List ℕ) (fault : FileFault) → (refusal name fault).status ≡ 5 → (fault ≡ faults.NotSnapshot) ⊎ ((why : Refusal) × (fault ≡ faults.Chain why))
@@ -97,6 +100,7 @@ chain_of name (faults.TooMany thing limit) h = absurd (omega (arith, h))
 chain_of name (faults.Seeds issuer stage) h = absurd (omega (arith, h))
 chain_of name (faults.BadCert fault) h = absurd (omega (arith, h))
 chain_of name (faults.BadPage fault) h = absurd (omega (arith, h))
+chain_of name (faults.Disagrees job entry held truth) h = absurd (omega (arith, h))
 chain_of name faults.NoMemory h = absurd (omega (arith, h))
 
 limit_of : (name : List ℕ) (fault : FileFault) → (refusal name fault).status ≡ 6 → (thing : What) × (n : ℕ) × (fault ≡ faults.TooMany thing n)
@@ -109,6 +113,7 @@ limit_of name (faults.TooMany thing limit) h = (thing, limit, refl)
 limit_of name (faults.Seeds issuer stage) h = absurd (omega (arith, h))
 limit_of name (faults.BadCert fault) h = absurd (omega (arith, h))
 limit_of name (faults.BadPage fault) h = absurd (omega (arith, h))
+limit_of name (faults.Disagrees job entry held truth) h = absurd (omega (arith, h))
 limit_of name faults.NoMemory h = absurd (omega (arith, h))
 
 seeds_of : (name : List ℕ) (fault : FileFault) → (refusal name fault).status ≡ 7 → (issuer : List ℕ) × (stage : ℕ) × (fault ≡ faults.Seeds issuer stage)
@@ -121,6 +126,7 @@ seeds_of name (faults.TooMany thing limit) h = absurd (omega (arith, h))
 seeds_of name (faults.Seeds issuer stage) h = (issuer, stage, refl)
 seeds_of name (faults.BadCert fault) h = absurd (omega (arith, h))
 seeds_of name (faults.BadPage fault) h = absurd (omega (arith, h))
+seeds_of name (faults.Disagrees job entry held truth) h = absurd (omega (arith, h))
 seeds_of name faults.NoMemory h = absurd (omega (arith, h))
 
 cert_of : (name : List ℕ) (fault : FileFault) → (refusal name fault).status ≡ 12 → (f : CertFault) × (fault ≡ faults.BadCert f)
@@ -133,6 +139,7 @@ cert_of name (faults.TooMany thing limit) h = absurd (omega (arith, h))
 cert_of name (faults.Seeds issuer stage) h = absurd (omega (arith, h))
 cert_of name (faults.BadCert fault) h = (fault, refl)
 cert_of name (faults.BadPage fault) h = absurd (omega (arith, h))
+cert_of name (faults.Disagrees job entry held truth) h = absurd (omega (arith, h))
 cert_of name faults.NoMemory h = absurd (omega (arith, h))
 
 page_of : (name : List ℕ) (fault : FileFault) → (refusal name fault).status ≡ 16 → (f : PageFault) × (fault ≡ faults.BadPage f)
@@ -145,7 +152,25 @@ page_of name (faults.TooMany thing limit) h = absurd (omega (arith, h))
 page_of name (faults.Seeds issuer stage) h = absurd (omega (arith, h))
 page_of name (faults.BadCert fault) h = absurd (omega (arith, h))
 page_of name (faults.BadPage fault) h = (fault, refl)
+page_of name (faults.Disagrees job entry held truth) h = absurd (omega (arith, h))
 page_of name faults.NoMemory h = absurd (omega (arith, h))
+
+-- what an audit disagrees on
+abbrev pub Disagreement : (ℕ → ℕ → Verdict → Verdict → Type 0) → Type 0
+Disagreement P = (job : ℕ) × (entry : ℕ) × (held : Verdict) × (truth : Verdict) × P job entry held truth
+
+audit_of : (name : List ℕ) (fault : FileFault) → (refusal name fault).status ≡ 17 → Disagreement (λ job entry held truth. fault ≡ faults.Disagrees job entry held truth)
+audit_of name faults.Unread h = absurd (omega (arith, h))
+audit_of name (faults.Layout f) h = absurd (omega (arith, h))
+audit_of name faults.NotSnapshot h = absurd (omega (arith, h))
+audit_of name (faults.Chain why) h = absurd (omega (arith, h))
+audit_of name (faults.BadCrl place fault) h = absurd (omega (arith, h))
+audit_of name (faults.TooMany thing limit) h = absurd (omega (arith, h))
+audit_of name (faults.Seeds issuer stage) h = absurd (omega (arith, h))
+audit_of name (faults.BadCert fault) h = absurd (omega (arith, h))
+audit_of name (faults.BadPage fault) h = absurd (omega (arith, h))
+audit_of name (faults.Disagrees job entry held truth) h = (job, entry, held, truth, refl)
+audit_of name faults.NoMemory h = absurd (omega (arith, h))
 
 done_of : (name : List ℕ) (fault : FileFault) → (refusal name fault).status ≡ 0 → ⊥
 done_of name faults.Unread h = omega (arith, h)
@@ -157,6 +182,7 @@ done_of name (faults.TooMany thing limit) h = omega (arith, h)
 done_of name (faults.Seeds issuer stage) h = omega (arith, h)
 done_of name (faults.BadCert fault) h = omega (arith, h)
 done_of name (faults.BadPage fault) h = omega (arith, h)
+done_of name (faults.Disagrees job entry held truth) h = omega (arith, h)
 done_of name faults.NoMemory h = omega (arith, h)
 
 module _ (asked : Command) (files : Files) (ended : ℕ) (old new : Option (List ℕ)) (after : Option Files) where
@@ -239,6 +265,12 @@ module _ (asked : Command) (files : Files) (ended : ℕ) (old new : Option (List
   pub page_case : Came → ended ≡ 16 → (f : PageFault) × Refuses asked files (faults.BadPage f) old new after
   page_case c is = let x = fails_case c (λ z. omega (arith, z, is)) in let f = page_of x.name x.fault (x.status ∙ is) in (f.0, refuses_as x (faults.BadPage f.0) f.1)
 
+  pub audit_case : Came → ended ≡ 17 → Disagreement (λ job entry held truth. Refuses asked files (faults.Disagrees job entry held truth) old new after)
+  audit_case c is =
+      let x = fails_case c (λ z. omega (arith, z, is)) in
+      let f = audit_of x.name x.fault (x.status ∙ is) in
+      (f.0, f.1, f.2, f.3, refuses_as x (faults.Disagrees f.0 f.1 f.2 f.3) f.4)
+
 -- ---- a call by its status
 
 module _ (asked : Command) (failed : Option (List ℕ) → Type 0) (ended : ℕ) (old new : Option (List ℕ)) (unsent : Type 0) (after : Option Files) (wrong : Type 0) where
@@ -297,3 +329,8 @@ module _ (asked : Command) (failed : Option (List ℕ) → Type 0) (ended : ℕ)
       → IfSome told (λ files. ended ≡ 16 → (f : PageFault) × Refuses asked files (faults.BadPage f) old new after)
   page None ends = tt
   page (Some files) ends = λ is. page_case asked files ended old new after (came_told files 16 ends is (λ z. omega arith) (λ z. omega arith) (λ z. omega arith) (λ z. omega arith)) is
+
+  pub disagreement : (told : Option Files) → Ends asked told failed ended old new unsent after wrong
+      → IfSome told (λ files. ended ≡ 17 → Disagreement (λ job entry held truth. Refuses asked files (faults.Disagrees job entry held truth) old new after))
+  disagreement None ends = tt
+  disagreement (Some files) ends = λ is. audit_case asked files ended old new after (came_told files 17 ends is (λ z. omega arith) (λ z. omega arith) (λ z. omega arith) (λ z. omega arith)) is

@@ -1,7 +1,8 @@
 -- One thing comes of a command and its inputs, and there is one reply to it over files.
-use Rattle.std.proofs.Common.{◌≡◌, ℕ, inl, inr, List, [], ◌∷◌, ◌++◌, map, Option, Result, Ok, Err, sym, ap, ◌∙◌, subst}
+use Rattle.std.proofs.Common.{◌≡◌, ◌≢◌, ℕ, inl, inr, List, [], ◌∷◌, ◌++◌, map, Option, Result, Ok, Err, sym, ap, ◌∙◌, subst}
 use Rattle.outside_core.specs.Files.{Files}
 use Rattle.query_core.specs.Queries.{Query}
+use Rattle.card_core.specs.PartFields.{PartFields}
 use Rattle.part_codec.specs.SealedFields.{SealedFields}
 use Rattle.job_core.specs.JobFields.{JobFields}
 use Rattle.ledger_core.specs.LedgerFields.{LedgerFields}
@@ -13,10 +14,15 @@ use Rattle.publication_core.specs.Histories.{IsAdmissible, History, with_jobs, c
 use Rattle.publication_core.specs.Publishing.{Published, Publishes}
 use Rattle.word_core.specs.declared.command.Command.{Command}
 use Rattle.word_core.specs.declared.command.Command.TheVariants as commands
-use Rattle.word_core.specs.CommandFields.{SnapshotFields, DeltaFields, RehearseFields}
+use Rattle.audit_core.specs.declared.auditing.Audited.{Audited}
+use Rattle.audit_core.specs.declared.fault.AuditFault.{AuditFault}
+use Rattle.audit_core.specs.declared.fault.AuditFault.TheVariants.{NoMemory}
+use Rattle.audit_core.specs.Auditing.{IsFound}
+use Rattle.word_core.specs.CommandFields.{SnapshotFields, DeltaFields, RehearseFields, AuditFields}
 use Rattle.clubcard_top.specs.ReplyFields.{Done, NamedFault, ReplyFields}
-use Rattle.input_core.specs.Readings.{queries_in, job_in, ledger_in}
+use Rattle.input_core.specs.Readings.{queries_in, job_in, ledger_in, store_in}
 use Rattle.clubcard_top.specs.Commands.{input, published_as, MakesPart, MakesSnapshot, MakesDelta, IsRefused, MakesRehearsal, Makes}
+use Rattle.clubcard_top.specs.Audits.{audit_jobs, audited_as, MakesAudit}
 use Rattle.clubcard_top.specs.Steps.{RehearsesOn}
 use Rattle.clubcard_top.specs.Faults.{of_publishing}
 use Rattle.clubcard_top.specs.Replies.{reply_of, IsReplyOver, IsReplyTo, held_by}
@@ -36,6 +42,10 @@ pub record Publishing : Type 0 where
   pub parts : (h : History) (a b : List SealedFields) → IsHistory h a → IsHistory h b → a ≡ b
   pub complete : (h : History) (parts : List SealedFields) (job : JobFields) → IsHistory h parts → IsAdmissible (history h parts) (in_format current job)
       → (p : Published) × Publishes (ledger_of (history h parts)) job (Ok p)
+
+-- An audit finds one thing.
+abbrev pub OneAudit : Type 0
+OneAudit = (parts : List PartFields) (jobs : List JobFields) (a b : Result Audited AuditFault) → IsFound parts jobs a → IsFound parts jobs b → a ≢ Err NoMemory → b ≢ Err NoMemory → a ≡ b
 
 module _ (publishing : Publishing) where
   one : OnePublication
@@ -122,53 +132,64 @@ module _ (publishing : Publishing) where
   rehearsal_unique r (Ok queries) inputs a b x y = rehearses_unique queries [] [] r.jobs inputs a b tt (from_first queries r.jobs inputs a x) (from_first queries r.jobs inputs b y)
   rehearsal_unique r (Err e) inputs a b x y = x ∙ sym y
 
+  -- ---- audits
+
+  audit_unique : OneAudit → (a : AuditFields) (store : Result (List SealedFields) NamedFault) (jobs : Result (List JobFields) NamedFault) (o p : Result Done NamedFault)
+      → MakesAudit a store jobs o → MakesAudit a store jobs p → o ≡ p
+  audit_unique audits a (Ok parts) (Ok jobs) o p x y =
+      x.is ∙ ap (audited_as a jobs) (audits (map (λ (s : SealedFields). s.part) parts) jobs x.result y.result x.found y.found x.settled y.settled) ∙ sym y.is
+  audit_unique audits a (Ok parts) (Err e) o p x y = x ∙ sym y
+  audit_unique audits a (Err e) jobs o p x y = x ∙ sym y
+
   -- ---- commands
 
-  pub outcome_unique : (c : Command) (inputs : List (Option (List ℕ))) (a b : Result Done NamedFault) → Makes c inputs a → Makes c inputs b → a ≡ b
-  outcome_unique commands.Usage inputs a b x y = absurd x
-  outcome_unique (commands.Query q) (g ∷ []) a b x y = x ∙ sym y
-  outcome_unique (commands.QueryCert q) (g ∷ h ∷ k ∷ []) a b x y = x ∙ sym y
-  outcome_unique (commands.Check name) (g ∷ []) a b x y = x ∙ sym y
-  outcome_unique (commands.Show name) (g ∷ []) a b x y = x ∙ sym y
-  outcome_unique (commands.Snapshot s) (g ∷ []) a b x y = snapshot_unique s (input s.job job_in g) a b x y
-  outcome_unique (commands.Delta t) (g ∷ h ∷ []) a b x y = delta_unique t (input t.job job_in g) (input t.ledger ledger_in h) a b x y
-  outcome_unique (commands.Start t) (g ∷ []) a b x y = x ∙ sym y
-  outcome_unique (commands.Install i) (g ∷ h ∷ []) a b x y = x ∙ sym y
-  outcome_unique (commands.Rehearse r) (g ∷ inputs) a b x y = rehearsal_unique r (input r.queries queries_in g) inputs a b x y
-  outcome_unique (commands.Sample s) [] a b x y = x ∙ sym y
-  outcome_unique (commands.Gather f) (g ∷ inputs) a b x y = x ∙ sym y
-  outcome_unique (commands.Gather f) [] a b x y = absurd x
-  outcome_unique (commands.Rehearse r) [] a b x y = absurd x
-  outcome_unique (commands.Sample s) (g ∷ cs) a b x y = absurd x
-  outcome_unique (commands.Query q) [] a b x y = absurd x
-  outcome_unique (commands.Query q) (g ∷ h ∷ cs) a b x y = absurd x
-  outcome_unique (commands.QueryCert q) [] a b x y = absurd x
-  outcome_unique (commands.QueryCert q) (g ∷ []) a b x y = absurd x
-  outcome_unique (commands.QueryCert q) (g ∷ h ∷ []) a b x y = absurd x
-  outcome_unique (commands.QueryCert q) (g ∷ h ∷ k ∷ l ∷ cs) a b x y = absurd x
-  outcome_unique (commands.Check name) [] a b x y = absurd x
-  outcome_unique (commands.Check name) (g ∷ h ∷ cs) a b x y = absurd x
-  outcome_unique (commands.Show name) [] a b x y = absurd x
-  outcome_unique (commands.Show name) (g ∷ h ∷ cs) a b x y = absurd x
-  outcome_unique (commands.Snapshot s) [] a b x y = absurd x
-  outcome_unique (commands.Snapshot s) (g ∷ h ∷ cs) a b x y = absurd x
-  outcome_unique (commands.Delta t) [] a b x y = absurd x
-  outcome_unique (commands.Delta t) (g ∷ []) a b x y = absurd x
-  outcome_unique (commands.Delta t) (g ∷ h ∷ k ∷ cs) a b x y = absurd x
-  outcome_unique (commands.Start t) [] a b x y = absurd x
-  outcome_unique (commands.Start t) (g ∷ h ∷ cs) a b x y = absurd x
-  outcome_unique (commands.Install i) [] a b x y = absurd x
-  outcome_unique (commands.Install i) (g ∷ []) a b x y = absurd x
-  outcome_unique (commands.Install i) (g ∷ h ∷ k ∷ cs) a b x y = absurd x
+  pub outcome_unique : OneAudit → (c : Command) (inputs : List (Option (List ℕ))) (a b : Result Done NamedFault) → Makes c inputs a → Makes c inputs b → a ≡ b
+  outcome_unique audits commands.Usage inputs a b x y = absurd x
+  outcome_unique audits (commands.Query q) (g ∷ []) a b x y = x ∙ sym y
+  outcome_unique audits (commands.QueryCert q) (g ∷ h ∷ k ∷ []) a b x y = x ∙ sym y
+  outcome_unique audits (commands.Check name) (g ∷ []) a b x y = x ∙ sym y
+  outcome_unique audits (commands.Show name) (g ∷ []) a b x y = x ∙ sym y
+  outcome_unique audits (commands.Snapshot s) (g ∷ []) a b x y = snapshot_unique s (input s.job job_in g) a b x y
+  outcome_unique audits (commands.Delta t) (g ∷ h ∷ []) a b x y = delta_unique t (input t.job job_in g) (input t.ledger ledger_in h) a b x y
+  outcome_unique audits (commands.Start t) (g ∷ []) a b x y = x ∙ sym y
+  outcome_unique audits (commands.Install i) (g ∷ h ∷ []) a b x y = x ∙ sym y
+  outcome_unique audits (commands.Rehearse r) (g ∷ inputs) a b x y = rehearsal_unique r (input r.queries queries_in g) inputs a b x y
+  outcome_unique audits (commands.Sample s) [] a b x y = x ∙ sym y
+  outcome_unique audits (commands.Gather f) (g ∷ inputs) a b x y = x ∙ sym y
+  outcome_unique audits (commands.Gather f) [] a b x y = absurd x
+  outcome_unique audits (commands.Audit f) (g ∷ inputs) a b x y = audit_unique audits f (input f.store store_in g) (audit_jobs f.jobs inputs) a b x y
+  outcome_unique audits (commands.Audit f) [] a b x y = absurd x
+  outcome_unique audits (commands.Rehearse r) [] a b x y = absurd x
+  outcome_unique audits (commands.Sample s) (g ∷ cs) a b x y = absurd x
+  outcome_unique audits (commands.Query q) [] a b x y = absurd x
+  outcome_unique audits (commands.Query q) (g ∷ h ∷ cs) a b x y = absurd x
+  outcome_unique audits (commands.QueryCert q) [] a b x y = absurd x
+  outcome_unique audits (commands.QueryCert q) (g ∷ []) a b x y = absurd x
+  outcome_unique audits (commands.QueryCert q) (g ∷ h ∷ []) a b x y = absurd x
+  outcome_unique audits (commands.QueryCert q) (g ∷ h ∷ k ∷ l ∷ cs) a b x y = absurd x
+  outcome_unique audits (commands.Check name) [] a b x y = absurd x
+  outcome_unique audits (commands.Check name) (g ∷ h ∷ cs) a b x y = absurd x
+  outcome_unique audits (commands.Show name) [] a b x y = absurd x
+  outcome_unique audits (commands.Show name) (g ∷ h ∷ cs) a b x y = absurd x
+  outcome_unique audits (commands.Snapshot s) [] a b x y = absurd x
+  outcome_unique audits (commands.Snapshot s) (g ∷ h ∷ cs) a b x y = absurd x
+  outcome_unique audits (commands.Delta t) [] a b x y = absurd x
+  outcome_unique audits (commands.Delta t) (g ∷ []) a b x y = absurd x
+  outcome_unique audits (commands.Delta t) (g ∷ h ∷ k ∷ cs) a b x y = absurd x
+  outcome_unique audits (commands.Start t) [] a b x y = absurd x
+  outcome_unique audits (commands.Start t) (g ∷ h ∷ cs) a b x y = absurd x
+  outcome_unique audits (commands.Install i) [] a b x y = absurd x
+  outcome_unique audits (commands.Install i) (g ∷ []) a b x y = absurd x
+  outcome_unique audits (commands.Install i) (g ∷ h ∷ k ∷ cs) a b x y = absurd x
 
   usage_makes : (c : Command) (inputs : List (Option (List ℕ))) (o : Result Done NamedFault) → c ≡ commands.Usage → Makes c inputs o → ⊥
   usage_makes c inputs o is m = subst (λ (k : Command). Makes k inputs o) is m
 
-  over_unique : (c : Command) (inputs : List (Option (List ℕ))) (a b : ReplyFields) → IsReplyOver c inputs a → IsReplyOver c inputs b → a ≡ b
-  over_unique c inputs a b (inl (u, x)) (inl (v, y)) = x ∙ sym y
-  over_unique c inputs a b (inl (u, x)) (inr (o, m, y)) = absurd (usage_makes c inputs o u m)
-  over_unique c inputs a b (inr (o, m, x)) (inl (v, y)) = absurd (usage_makes c inputs o v m)
-  over_unique c inputs a b (inr (o, m, x)) (inr (k, n, y)) = x ∙ ap reply_of (outcome_unique c inputs o k m n) ∙ sym y
+  over_unique : OneAudit → (c : Command) (inputs : List (Option (List ℕ))) (a b : ReplyFields) → IsReplyOver c inputs a → IsReplyOver c inputs b → a ≡ b
+  over_unique audits c inputs a b (inl (u, x)) (inl (v, y)) = x ∙ sym y
+  over_unique audits c inputs a b (inl (u, x)) (inr (o, m, y)) = absurd (usage_makes c inputs o u m)
+  over_unique audits c inputs a b (inr (o, m, x)) (inl (v, y)) = absurd (usage_makes c inputs o v m)
+  over_unique audits c inputs a b (inr (o, m, x)) (inr (k, n, y)) = x ∙ ap reply_of (outcome_unique audits c inputs o k m n) ∙ sym y
 
-  pub reply_unique : (c : Command) (files : Files) (a b : ReplyFields) → IsReplyTo c files a → IsReplyTo c files b → a ≡ b
-  reply_unique c files a b x y = over_unique c (held_by c files) a b x y
+  pub reply_unique : OneAudit → (c : Command) (files : Files) (a b : ReplyFields) → IsReplyTo c files a → IsReplyTo c files b → a ≡ b
+  reply_unique audits c files a b x y = over_unique audits c (held_by c files) a b x y

@@ -1,14 +1,18 @@
--- The two files that a command writes have different names.
-use Rattle.std.proofs.Common.{◌≡◌, ◌≢◌, ℕ, Bool, true, false, ◌&&◌, ◌||◌, not, List, [], ◌∷◌, Option, Some, None, refl, sym, subst, ◌∙◌}
-use Rattle.std.specs.Prelude.{if◌then◌else◌, IfSome, codes}
+-- The two files that a command writes have different names, and an audit has no more jobs than a chain may have parts.
+use Rattle.std.proofs.Common.{◌≡◌, ◌≢◌, ◌≤◌, ℕ, suc, Bool, true, false, ◌&&◌, ◌||◌, not, List, [], ◌∷◌, length, Option, Some, None, refl, sym, ap, subst, ◌∙◌, arith}
+use Rattle.std.specs.Prelude.{if◌then◌else◌, IfSome, codes, nat_le}
 use Rattle.std.specs.Str.{bytes_eq}
 use Rattle.std.proofs.lemmas.Slice.Eq.{bytes_eq-Decides}
 use Rattle.std.proofs.lemmas.Bool.{false≢true}
-use Rattle.word_core.specs.CommandFields.{SnapshotFields, DeltaFields}
+use Rattle.std.proofs.lemmas.Bool.Decides.{nat_tests}
+use Rattle.octets_core.specs.Layout.{within}
+use Rattle.ident_core.specs.declared.bounds.TheConstants.{MAX_PARTS}
+use Rattle.word_core.specs.CommandFields.{SnapshotFields, DeltaFields, AuditFields}
 use Rattle.word_core.specs.declared.command.Command.{Command}
 use Rattle.word_core.specs.declared.command.Command.TheVariants as commands
 use Rattle.word_core.specs.Words.{◌>>=◌, is_name, name_of, workers_of, two_names_of, named_delta, is_among, are_apart, snapshot_of, delta_of, query_of, query_cert_of}
-use Rattle.word_core.specs.Words.{name_alone, start_of, install_of, rehearse_of, sample_of, gather_of, asks, command_of}
+use Rattle.word_core.specs.Words.{name_alone, start_of, install_of, rehearse_of, sample_of, gather_of, audit_of, names_of, jobs_of, asks, command_of}
+use Rattle.clubcard_top.specs.Replies.{HasFewJobs}
 
 -- the names that two outputs go to differ
 abbrev pub IsApart : Command → Type 0
@@ -130,9 +134,13 @@ delta_keeps (a ∷ b ∷ c ∷ d ∷ []) = tt
 delta_keeps (a ∷ b ∷ c ∷ d ∷ e ∷ f ∷ fs) = tt
 
 -- what is asked by a word that is none of the first few
+abbrev from_audit : List ℕ → List (List ℕ) → Command
+from_audit command words =
+    if bytes_eq command (codes "audit") then asks commands.Audit (audit_of words) else commands.Usage
+
 abbrev from_gather : List ℕ → List (List ℕ) → Command
 from_gather command words =
-    if bytes_eq command (codes "gather") then asks commands.Gather (gather_of words) else commands.Usage
+    if bytes_eq command (codes "gather") then asks commands.Gather (gather_of words) else from_audit command words
 
 abbrev from_sample : List ℕ → List (List ℕ) → Command
 from_sample command words =
@@ -174,10 +182,15 @@ abbrev from_query : List ℕ → List (List ℕ) → Command
 from_query command words =
     if bytes_eq command (codes "query") then asks commands.Query (query_of words) else from_query_cert command words
 
+audit_apart : (command : List ℕ) (words : List (List ℕ)) → IsApart (from_audit command words)
+audit_apart command words =
+    if_keeps IsApart (bytes_eq command (codes "audit")) (asks commands.Audit (audit_of words)) (commands.Usage)
+    (asks_free IsApart commands.Audit (audit_of words) (λ x. tt) tt) tt
+
 gather_apart : (command : List ℕ) (words : List (List ℕ)) → IsApart (from_gather command words)
 gather_apart command words =
-    if_keeps IsApart (bytes_eq command (codes "gather")) (asks commands.Gather (gather_of words)) (commands.Usage)
-    (asks_free IsApart commands.Gather (gather_of words) (λ x. tt) tt) tt
+    if_keeps IsApart (bytes_eq command (codes "gather")) (asks commands.Gather (gather_of words)) (from_audit command words)
+    (asks_free IsApart commands.Gather (gather_of words) (λ x. tt) tt) (audit_apart command words)
 
 sample_apart : (command : List ℕ) (words : List (List ℕ)) → IsApart (from_sample command words)
 sample_apart command words =
@@ -241,3 +254,55 @@ query_apart command words =
 pub words_apart : (words : List (List ℕ)) → IsApart (command_of words)
 words_apart [] = tt
 words_apart (command ∷ words) = query_apart command words
+
+-- ---- how many jobs an audit has
+
+few_within : (n : ℕ) → nat_le n MAX_PARTS ≡ true → n ≤ MAX_PARTS
+few_within n h = grind (arith, nat_tests)
+
+names_many : (words : List (List ℕ)) → IfSome (names_of words) (λ names. length names ≡ length words)
+names_many [] = refl
+names_many (word ∷ rest) =
+    step_keeps (λ (names : List (List ℕ)). length names ≡ length (word ∷ rest)) (name_of word) _ (λ name is_name.
+    step_keeps (λ (names : List (List ℕ)). length names ≡ length (word ∷ rest)) (names_of rest) _
+    (λ others are. ap suc (if_some_at (λ (names : List (List ℕ)). length names ≡ length rest) (names_of rest) others are (names_many rest))))
+
+few_of : (o : Option (List (List ℕ))) (words : List (List ℕ)) → length words ≤ MAX_PARTS → IfSome o (λ names. length names ≡ length words) → IfSome o (λ names. length names ≤ MAX_PARTS)
+few_of None words le h = tt
+few_of (Some names) words le h = omega (arith, le, h)
+
+few_by : (b : Bool) (words : List (List ℕ)) → within 1 MAX_PARTS (length words) ≡ b → IfSome (if b then names_of words else None) (λ names. length names ≤ MAX_PARTS)
+few_by true words h =
+    few_of (names_of words) words (few_within (length words) (and_right (nat_le 1 (length words)) (nat_le (length words) MAX_PARTS) h)) (names_many words)
+few_by false words h = tt
+
+few_names : (words : List (List ℕ)) → IfSome (jobs_of words) (λ names. length names ≤ MAX_PARTS)
+few_names words = few_by (within 1 MAX_PARTS (length words)) words refl
+
+few_audit : (words : List (List ℕ)) → IfSome (audit_of words) (λ a. length a.jobs ≤ MAX_PARTS)
+few_audit [] = tt
+few_audit (store ∷ jobs) =
+    step_keeps (λ (a : AuditFields). length a.jobs ≤ MAX_PARTS) (name_of store) _ (λ s is_store.
+    step_keeps (λ (a : AuditFields). length a.jobs ≤ MAX_PARTS) (jobs_of jobs) _
+    (λ names are. if_some_at (λ (ns : List (List ℕ)). length ns ≤ MAX_PARTS) (jobs_of jobs) names are (few_names jobs)))
+
+few_else : {A : Type 0} (word command : List ℕ) (make : A → Command) (o : Option A) (rest : Command) → ((x : A) → HasFewJobs (make x)) → HasFewJobs rest
+    → HasFewJobs (if bytes_eq command word then asks make o else rest)
+few_else word command make o rest each others = if_keeps HasFewJobs (bytes_eq command word) (asks make o) rest (asks_free HasFewJobs make o each tt) others
+
+pub few_jobs : (words : List (List ℕ)) → HasFewJobs (command_of words)
+few_jobs [] = tt
+few_jobs (command ∷ words) =
+    few_else (codes "query") command commands.Query (query_of words) _ (λ x. tt)
+    (few_else (codes "query-cert") command commands.QueryCert (query_cert_of words) _ (λ x. tt)
+    (few_else (codes "check") command commands.Check (name_alone words) _ (λ x. tt)
+    (few_else (codes "show") command commands.Show (name_alone words) _ (λ x. tt)
+    (few_else (codes "snapshot") command commands.Snapshot (snapshot_of words) _ (λ x. tt)
+    (few_else (codes "delta") command commands.Delta (delta_of words) _ (λ x. tt)
+    (few_else (codes "start") command commands.Start (start_of words) _ (λ x. tt)
+    (few_else (codes "install") command commands.Install (install_of words) _ (λ x. tt)
+    (few_else (codes "rehearse") command commands.Rehearse (rehearse_of words) _ (λ x. tt)
+    (few_else (codes "sample") command commands.Sample (sample_of words) _ (λ x. tt)
+    (few_else (codes "gather") command commands.Gather (gather_of words) _ (λ x. tt)
+    (if_keeps HasFewJobs (bytes_eq command (codes "audit")) (asks commands.Audit (audit_of words)) commands.Usage
+    (asks_keeps HasFewJobs commands.Audit (audit_of words) (few_audit words) tt) tt)))))))))))

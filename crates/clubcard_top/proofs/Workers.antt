@@ -54,6 +54,7 @@ makes_same n (commands.Start t) inputs o = both (Makes (commands.Start t) inputs
 makes_same n (commands.Install i) inputs o = both (Makes (commands.Install i) inputs o)
 makes_same n (commands.Sample s) inputs o = both (Makes (commands.Sample s) inputs o)
 makes_same n (commands.Gather g) inputs o = both (Makes (commands.Gather g) inputs o)
+makes_same n (commands.Audit a) inputs o = both (Makes (commands.Audit a) inputs o)
 
 pub inputs_same : (n : ℕ) (c : Command) → inputs_of (with_workers n c) ≡ inputs_of c
 inputs_same n (commands.Snapshot s) = refl
@@ -68,6 +69,7 @@ inputs_same n (commands.Start t) = refl
 inputs_same n (commands.Install i) = refl
 inputs_same n (commands.Sample s) = refl
 inputs_same n (commands.Gather g) = refl
+inputs_same n (commands.Audit a) = refl
 
 pub outputs_same : (n : ℕ) (c : Command) → outputs_of (with_workers n c) ≡ outputs_of c
 outputs_same n (commands.Snapshot s) = refl
@@ -82,6 +84,7 @@ outputs_same n (commands.Start t) = refl
 outputs_same n (commands.Install i) = refl
 outputs_same n (commands.Sample s) = refl
 outputs_same n (commands.Gather g) = refl
+outputs_same n (commands.Audit a) = refl
 
 -- ---- replies
 
@@ -133,3 +136,4 @@ replies_same n (commands.Start t) files reply = both (IsReplyTo (commands.Start 
 replies_same n (commands.Install i) files reply = both (IsReplyTo (commands.Install i) files reply)
 replies_same n (commands.Sample s) files reply = both (IsReplyTo (commands.Sample s) files reply)
 replies_same n (commands.Gather g) files reply = both (IsReplyTo (commands.Gather g) files reply)
+replies_same n (commands.Audit a) files reply = both (IsReplyTo (commands.Audit a) files reply)

@@ -1,6 +1,6 @@
 -- What each command makes of its inputs.
 use Rattle.std.specs.Prelude.{◌≡◌, ℕ, ◌+◌, List, [], ◌∷◌, ◌++◌, ◌⊎◌, map, flat_map, length, take, slice_get}
-use Rattle.std.specs.Prelude.{Option, Some, None, Result, Ok, Err, codes}
+use Rattle.std.specs.Prelude.{Option, Some, None, Result, Ok, Err}
 use Rattle.ident_core.specs.declared.identity.Identity.{Identity}
 use Rattle.ident_core.specs.declared.kind.Kind.{Kind}
 use Rattle.ident_core.specs.declared.kind.Kind.TheVariants as kinds
@@ -22,8 +22,6 @@ use Rattle.universe_core.specs.History.{past_of}
 use Rattle.universe_core.specs.Counting.{counts}
 use Rattle.universe_core.specs.Ledgers.{no_ledger, ledger_of}
 use Rattle.store_core.specs.declared.chain.Refusal.{Refusal}
-use Rattle.card_core.specs.declared.verdict.Verdict.{Verdict}
-use Rattle.card_core.specs.declared.verdict.Verdict.TheVariants as verdicts
 use Rattle.store_core.specs.Chain.{newest_of, refusal_of}
 use Rattle.store_core.specs.StoreLayout.{store_text}
 use Rattle.card_core.specs.Verdict.{verdict}
@@ -36,42 +34,19 @@ use Rattle.word_core.specs.declared.command.Command.TheVariants as commands
 use Rattle.word_core.specs.CommandFields.{QueryFields, QueryCertFields, SnapshotFields, DeltaFields, StartFields}
 use Rattle.word_core.specs.CommandFields.{InstallFields, RehearseFields, SampleFields, GatherFields}
 use Rattle.line_core.specs.Lines.{line, check_line, show_text, store_line, report_line, sample_line, gather_line}
+pub use Rattle.line_core.specs.Lines.{verdict_word}
 use Rattle.input_core.specs.declared.certificates.Certificate.{Certificate}
 use Rattle.input_core.specs.declared.fault.FileFault.{FileFault}
 use Rattle.input_core.specs.declared.fault.FileFault.TheVariants as faults
 use Rattle.clubcard_top.specs.Faults.{of_publishing}
 use Rattle.clubcard_top.specs.ReplyFields.{Done, NamedFault}
-use Rattle.input_core.specs.Readings.{queries_in, job_in, ledger_in, part_in, store_in, input_as}
+use Rattle.input_core.specs.Readings.{queries_in, job_in, ledger_in, part_in, store_in}
 use Rattle.input_core.specs.Certificates.{certificate_in, issuer_in}
 pub use Rattle.clubcard_top.specs.PageFiles.{head_in, page_in, room_for}
-
--- ---- steps
-
-infixl 10 ◌>>=◌
-abbrev pub ◌>>=◌ : {A B : Type 0} → Result A NamedFault → (A → Result B NamedFault) → Result B NamedFault
-(Ok x) >>= next = next x
-(Err e) >>= next = Err e
-
--- a fault is that of the file of this name
-abbrev pub named : {A : Type 0} → List ℕ → Result A FileFault → Result A NamedFault
-named name (Ok x) = Ok x
-named name (Err fault) = Err (record { name = name; fault = fault })
-
--- an input of this name, as it is read
-abbrev pub input : {A : Type 0} → List ℕ → (List ℕ → Result A FileFault) → Option (List ℕ) → Result A NamedFault
-input name read given = named name (input_as read given)
-
--- lines alone
-abbrev pub only : List ℕ → Done
-only text = record { text = text; outputs = [] }
+pub use Rattle.clubcard_top.specs.Outcomes.{◌>>=◌, named, input, only}
+use Rattle.clubcard_top.specs.Audits.{audit_jobs, MakesAudit}
 
 -- ---- asking
-
-abbrev pub verdict_word : Verdict → List ℕ
-verdict_word verdicts.NotCovered = codes "not-covered"
-verdict_word verdicts.NotEnrolled = codes "not-enrolled"
-verdict_word verdicts.Good = codes "good"
-verdict_word verdicts.Revoked = codes "revoked"
 
 -- the verdict of the store's parts
 abbrev pub query_done : QueryFields → List SealedFields → Done
@@ -300,4 +275,5 @@ Makes (commands.Install i) (store ∷ part ∷ []) o = o ≡ install_makes i sto
 Makes (commands.Rehearse r) (queries ∷ jobs) o = MakesRehearsal r (input r.queries queries_in queries) jobs o
 Makes (commands.Sample s) [] o = o ≡ Ok (sample_done s)
 Makes (commands.Gather g) (head ∷ inputs) o = o ≡ gather_makes g head inputs
+Makes (commands.Audit a) (store ∷ inputs) o = MakesAudit a (input a.store store_in store) (audit_jobs a.jobs inputs) o
 Makes command inputs o = ⊥

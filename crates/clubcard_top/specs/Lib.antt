@@ -3,6 +3,9 @@ pub mod ReplyFields
 pub mod Faults
 pub mod Gathers
 pub mod PageFiles
+pub mod Outcomes
+pub mod Audits
+pub mod AuditJobs
 pub mod Commands
 pub mod Replies
 pub mod Runs

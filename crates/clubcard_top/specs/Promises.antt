@@ -21,15 +21,18 @@ use Rattle.universe_core.specs.Ledgers.{no_ledger}
 use Rattle.sets_core.specs.Among.{Among}
 use Rattle.store_core.specs.declared.chain.Refusal.{Refusal}
 use Rattle.store_core.specs.Chain.{refusal_of}
+use Rattle.card_core.specs.declared.verdict.Verdict.{Verdict}
 use Rattle.card_core.specs.Verdict.{verdict}
+use Rattle.universe_core.specs.History.{seen}
+use Rattle.audit_core.specs.Auditing.{history as audited_history}
 use Rattle.publication_core.specs.Formats.{current}
 use Rattle.publication_core.specs.Histories.{IsAdmissible, History, chain, IsHistory, history}
 use Rattle.publication_core.specs.Publishing.{CanBePublished}
 use Rattle.word_core.specs.declared.command.Command.TheVariants as commands
 use Rattle.word_core.specs.CommandFields.{QueryFields, QueryCertFields, SnapshotFields, DeltaFields, StartFields}
-use Rattle.word_core.specs.CommandFields.{InstallFields, RehearseFields, SampleFields, GatherFields}
+use Rattle.word_core.specs.CommandFields.{InstallFields, RehearseFields, SampleFields, GatherFields, AuditFields}
 use Rattle.word_core.specs.Names.{inputs_of, outputs_of}
-use Rattle.line_core.specs.Lines.{line, check_line, show_text, sample_line, gather_line}
+use Rattle.line_core.specs.Lines.{line, check_line, show_text, sample_line, gather_line, audit_line}
 use Rattle.input_core.specs.declared.certificates.Certificate.{Certificate}
 use Rattle.input_core.specs.declared.fault.FileFault.TheVariants as faults
 use Rattle.clubcard_top.specs.ReplyFields.{ReplyFields, NamedFault}
@@ -43,7 +46,8 @@ use Rattle.clubcard_top.specs.Calls.{Call, FilesAreTold, Reads, Holds, Writes, C
 use Rattle.clubcard_top.specs.Calls.{NoReadFailed, CouldNotRead}
 use Rattle.clubcard_top.specs.Endings.{Succeeds, Did, GivesTheReply, WantedMemory, SinkFailed, Torn, IsAnswer, Ends}
 use Rattle.clubcard_top.specs.Endings.{MustSucceed, MustGive}
-use Rattle.clubcard_top.specs.Successes.{ReadsPart, PublishesFile, NewStore, ReadsPages}
+use Rattle.clubcard_top.specs.Successes.{ReadsPart, PublishesFile, NewStore, ReadsPages, ReadsJobs}
+use Rattle.clubcard_top.specs.Successes.{AreWithinLimits, IsAudited, SaysTheTruth}
 use Rattle.clubcard_top.specs.Headline.{AsksToPublish, AsksToStore, AsksTruth, AsksCertTruth, AsksToRehearse}
 use Rattle.clubcard_top.specs.Headline.{truth_line, cert_truth_line}
 use Rattle.clubcard_top.specs.Headline.{Published, Stored, IsRehearsed}
@@ -111,6 +115,15 @@ pub record Successes (call : Call) : Type 0 where
   pub gather_complete : (g : GatherFields) (head : JobContents) (entries : List PageFields)
       → call.asked ≡ commands.Gather g → Reads call g.head head_in head → ReadsPages call g.pages entries
       → length head.entries + length entries ≤ limits.PUBLISHED.entries → MustSucceed call
+  -- the jobs are admitted in order, and of each entry that they accept the parts of STORE say the truth: so they do of
+  -- each certificate of the jobs' history, whoever built them; and where the files are read, the jobs together are
+  -- within the limits of one, their CRLs are accepted, and all that is so, the call must succeed
+  pub audit : (a : AuditFields) → Did call (commands.Audit a) → (parts : List SealedFields) × (jobs : List JobFields)
+      × Reads call a.store store_in parts × ReadsJobs call a.jobs jobs × IsAudited parts jobs × SaysTheTruth parts jobs
+      × Prints call (audit_line (length jobs) (length (seen (audited_history jobs)))) × ChangesNoFile call
+  pub audit_complete : (a : AuditFields) (parts : List SealedFields) (jobs : List JobFields)
+      → call.asked ≡ commands.Audit a → Reads call a.store store_in parts → ReadsJobs call a.jobs jobs
+      → AreWithinLimits jobs → IsAudited parts jobs → MustSucceed call
 
 -- What a call does for a history of admitted jobs, in pairs: what its success is, and when it must succeed. What the
 -- success of `rehearse` is stands above.
@@ -162,6 +175,10 @@ pub record Refusals (call : Call) : Type 0 where
   -- a page of a log
   pub bad_page : call.status ≡ status.bad_page → FilesAreTold call
       → (name : List ℕ) × (fault : PageFault) × Refused call name (faults.BadPage fault)
+  -- STORE doesn't say the truth of the entry at this place of the job at this place
+  pub disagrees : call.status ≡ status.disagrees → FilesAreTold call
+      → (name : List ℕ) × (job : ℕ) × (entry : ℕ) × (held : Verdict) × (truth : Verdict)
+      × Refused call name (faults.Disagrees job entry held truth)
   -- what is wrong with a file, also that it can't be read, must be said
   pub refused : (e : NamedFault) → Comes call (Err e) → MustGive call (refusal e.name e.fault)
   -- words that are no command

@@ -1,6 +1,7 @@
 -- How a call ends, and what it prints, by what comes of its command.
-use Rattle.std.specs.Prelude.{◌≡◌, ◌<◌, ◌⊎◌, ℕ, List, [], map, get_or, Option, IfSome, Result, Ok, Err, codes}
+use Rattle.std.specs.Prelude.{◌≡◌, ◌<◌, ◌≤◌, ◌⊎◌, ℕ, List, [], map, length, get_or, Option, IfSome, Result, Ok, Err, codes}
 use Rattle.std.specs.FinMap.{get}
+use Rattle.ident_core.specs.declared.bounds.TheConstants.{MAX_PARTS}
 use Rattle.outside_core.specs.Files.{Files}
 use Rattle.store_core.specs.declared.chain.Refusal.{Refusal}
 use Rattle.store_core.specs.declared.chain.Refusal.TheVariants as refusals
@@ -8,7 +9,7 @@ use Rattle.word_core.specs.declared.command.Command.{Command}
 use Rattle.word_core.specs.declared.command.Command.TheVariants as commands
 use Rattle.word_core.specs.Names.{inputs_of}
 use Rattle.line_core.specs.Lines.{line, line_about, layout_line, crl_line, limit_line}
-use Rattle.line_core.specs.Lines.{parent_line, epoch_line, coverage_line, seeds_line, cert_line, page_line}
+use Rattle.line_core.specs.Lines.{parent_line, epoch_line, coverage_line, seeds_line, cert_line, page_line, disagreement_line}
 use Rattle.input_core.specs.declared.fault.FileFault.{FileFault}
 use Rattle.input_core.specs.declared.fault.FileFault.TheVariants as faults
 use Rattle.clubcard_top.specs.ReplyFields.{ReplyFields, Done, NamedFault}
@@ -53,6 +54,7 @@ refusal name (faults.TooMany thing limit) = says status.too_many (limit_line thi
 refusal name (faults.Seeds issuer stage) = says status.seeds (seeds_line issuer stage)
 refusal name (faults.BadCert fault) = says status.bad_cert (cert_line fault name)
 refusal name (faults.BadPage fault) = says status.bad_page (page_line fault name)
+refusal name (faults.Disagrees job entry held truth) = says status.disagrees (disagreement_line job entry held truth)
 refusal name faults.NoMemory = no_memory
 
 abbrev pub done : Done → ReplyFields
@@ -71,6 +73,11 @@ IsReplyOver command inputs reply =
 -- an input that can't be read, or that holds octets
 abbrev pub IsOctets : Option (List ℕ) → Type 0
 IsOctets given = IfSome given (λ bytes. (i : ℕ) → get_or bytes i 0 < 256)
+
+-- of an audit: no more jobs than a chain may have parts, as of each command that words spell
+abbrev pub HasFewJobs : Command → Type 0
+HasFewJobs (commands.Audit a) = length a.jobs ≤ MAX_PARTS
+HasFewJobs command = Unit {0}
 
 -- what the files hold under a command's inputs
 abbrev pub held_by : Command → Files → List (Option (List ℕ))

@@ -1,14 +1,14 @@
 -- How a call of the program may end.
 use Rattle.std.specs.Prelude.{ℕ, List, [], ◌∷◌, Bool, nat_eq}
 use Rattle.std.specs.List.{list_any}
-pub use Rattle.line_core.specs.Statuses.{done, usage, bad_layout, bad_crl, chain, too_many, seeds, read_fault, write_fault, bad_cert, bad_page, no_memory}
+pub use Rattle.line_core.specs.Statuses.{done, usage, bad_layout, bad_crl, chain, too_many, seeds, read_fault, write_fault, bad_cert, bad_page, disagrees, no_memory}
 
 abbrev pub is_one_of : List ℕ → ℕ → Bool
 is_one_of statuses n = list_any (λ m. nat_eq m n) statuses
 
 -- the statuses that a reply has: all but that of a failed write and that of want of memory
 abbrev pub of_replies : List ℕ
-of_replies = done ∷ usage ∷ bad_layout ∷ bad_crl ∷ chain ∷ too_many ∷ seeds ∷ read_fault ∷ bad_cert ∷ bad_page ∷ []
+of_replies = done ∷ usage ∷ bad_layout ∷ bad_crl ∷ chain ∷ too_many ∷ seeds ∷ read_fault ∷ bad_cert ∷ bad_page ∷ disagrees ∷ []
 
 -- all statuses
 abbrev pub all : List ℕ

@@ -17,3 +17,4 @@ with_workers n (commands.Start t) = commands.Start t
 with_workers n (commands.Install i) = commands.Install i
 with_workers n (commands.Sample s) = commands.Sample s
 with_workers n (commands.Gather g) = commands.Gather g
+with_workers n (commands.Audit a) = commands.Audit a

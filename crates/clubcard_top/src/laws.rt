@@ -15,14 +15,16 @@ ghost use Rattle.publication_core.specs.Publishing.{CanBePublished, Published, P
 ghost use Rattle.word_core.specs.declared.command.Command.{Command};
 ghost use Rattle.word_core.specs.CommandFields.{QueryFields, QueryCertFields, RehearseFields};
 ghost use Rattle.word_core.specs.Names.{inputs_of, outputs_of};
+ghost use Rattle.word_core.specs.Words.{command_of};
 ghost use Rattle.clubcard_top.specs.ReplyFields.{Done, NamedFault, ReplyFields};
 ghost use Rattle.clubcard_top.specs.Commands.{Makes, Rehearses, only, rehearsed};
 ghost use Rattle.clubcard_top.specs.Workers.{with_workers};
 ghost use Rattle.clubcard_top.specs.Steps.{RehearsesOn};
-ghost use Rattle.clubcard_top.specs.Replies.{IsOctets, IsReplyOver, IsReplyTo, held_by};
+ghost use Rattle.clubcard_top.specs.Replies.{HasFewJobs, IsOctets, IsReplyOver, IsReplyTo, held_by};
 ghost use Rattle.clubcard_top.specs.Headline.{PublishesJob, IsPublished, StoresPart, IsStored, AsksHistory, truth_done};
 ghost use Rattle.clubcard_top.specs.Headline.{AsksCert, cert_truth_line, RehearsesJobs, IsRehearsed};
 
+use audit_core::{audits_are_unique, audits_exist};
 use publication_core::{
     a_publication_or_a_refusal, histories_are_published, ledgers_are_read_back, parts_are_chains,
     publications_are_unique, verdicts_are_the_truth, what_can_be_is_published,
@@ -38,20 +40,24 @@ pub fn replies_are_unique()
 {
     publications_are_unique();
     histories_are_published();
+    audits_are_unique();
 }
 
 /// Something comes of each command and its inputs, and so there is a reply to it, whatever octets the inputs hold and
 /// whether or not they can be read. So no definition is without a value at some input, which want of memory would hide.
+/// An audit has as few jobs as words name.
 pub fn replies_exist()
     ensures outcome { (command : Command) (inputs : List (Option (List ℕ))) → command ≢ Command.Usage
-        → length inputs ≡ length (inputs_of command) → All IsOctets inputs
+        → HasFewJobs command → length inputs ≡ length (inputs_of command) → All IsOctets inputs
         → (o : Result Done NamedFault) × Makes command inputs o }
     ensures reply { (command : Command) (inputs : List (Option (List ℕ)))
-        → length inputs ≡ length (inputs_of command) → All IsOctets inputs
+        → HasFewJobs command → length inputs ≡ length (inputs_of command) → All IsOctets inputs
         → (reply : ReplyFields) × IsReplyOver command inputs reply }
+    ensures words { (words : List (List ℕ)) → HasFewJobs (command_of words) }
 {
     a_publication_or_a_refusal();
     histories_are_published();
+    audits_exist();
     job_core::jobs_that_are_read_fit();
 }
 

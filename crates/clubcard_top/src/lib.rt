@@ -3,6 +3,7 @@
 #![tactic(auto)]
 
 mod answer;
+mod auditing;
 mod commands;
 mod fault;
 mod gathering;

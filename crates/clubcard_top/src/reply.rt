@@ -3,14 +3,14 @@
 
 ghost use Rattle.std.specs.Prelude.{◌≡◌, ◌≤◌, [], length, IfOk, IsErr, IsTrue};
 ghost use Rattle.clubcard_top.specs.Statuses as statuses;
-ghost use Rattle.line_core.specs.Lines.{line as line_of_words};
-ghost use Rattle.clubcard_top.specs.Commands.{only, verdict_word};
+ghost use Rattle.line_core.specs.Lines.{line as line_of_words, verdict_word};
+ghost use Rattle.clubcard_top.specs.Commands.{only};
 ghost use Rattle.clubcard_top.specs.Replies.{chain_text, done, read_fault, refusal, says, usage};
 
 use input_core::FileFault;
 use line_core::{
-    Line, Message, Status, about_file, cert_line, coverage_line, crl_line, epoch_line, layout_line,
-    limit_line, line_of, page_line, parent_line, seeds_line,
+    Line, Message, Status, about_file, cert_line, coverage_line, crl_line, disagreement_line,
+    epoch_line, layout_line, limit_line, line_of, page_line, parent_line, seeds_line,
 };
 use octets_core::{LayoutFault, NoMemory};
 use std::marker::Model;
@@ -136,6 +136,15 @@ impl<'a> Reply<'a> {
             }
             FileFault::BadCert(fault) => Ok(Reply::of(Status::BAD_CERT, cert_line(fault, name))),
             FileFault::BadPage(fault) => Ok(Reply::of(Status::BAD_PAGE, page_line(fault, name))),
+            FileFault::Disagrees {
+                job,
+                entry,
+                held,
+                truth,
+            } => Ok(Reply::alone(
+                Status::DISAGREES,
+                disagreement_line(job, entry, held, truth),
+            )),
             FileFault::NoMemory => Err(NoMemory),
         }
     }

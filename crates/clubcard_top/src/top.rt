@@ -13,6 +13,7 @@ ghost use Rattle.clubcard_top.specs.Endings.{Ends};
 ghost use Rattle.clubcard_top.specs.Promises.{Ending, Frame, Histories, Outside, Refusals, Successes};
 
 use crate::answer::{Answer, send};
+use crate::auditing::answer_audit;
 use crate::commands::{answer_check, answer_query, answer_query_cert, answer_show};
 use crate::gathering::answer_gather;
 use crate::laws::{histories_are_made, replies_are_unique};
@@ -21,6 +22,7 @@ use crate::rehearsing::answer_rehearse;
 use crate::reply::Reply;
 use crate::sampling::answer_sample;
 use crate::storing::{answer_install, answer_start};
+use audit_core::agreement_is_enough;
 use line_core::Status;
 use octets_core::NoMemory;
 use outside_core::{Depot, Sink};
@@ -55,6 +57,7 @@ fn answer_for<'a, R: Threads + Sync, G: Gate + Sync, D: Depot>(
         Command::Rehearse(asked) => answer_rehearse(rt, alloc, gate, asked, depot),
         Command::Sample(asked) => answer_sample(alloc, asked),
         Command::Gather(asked) => answer_gather(alloc, asked, depot),
+        Command::Audit(asked) => answer_audit(alloc, asked, depot),
     }
 }
 
@@ -121,9 +124,10 @@ pub fn run_gated<R: Threads + Sync, D: Depot, K: Sink, G: Gate + Sync>(
     ensures frame { Frame (call D.Depot K.Sink words.now depot.old depot.new out.old out.new result.0) }
     ensures ending { Ending (call D.Depot K.Sink words.now depot.old depot.new out.old out.new result.0) }
 {
-    // What the promises on histories and on refusals stand on.
+    // What the promises on histories, on refusals and on audits stand on.
     histories_are_made();
     replies_are_unique();
+    agreement_is_enough();
     run_words(rt, alloc, gate, words, depot, out)
 }
 

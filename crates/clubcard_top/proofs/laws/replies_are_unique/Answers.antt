@@ -10,6 +10,6 @@ returns c =
       complete = c.histories_are_published.ensures.complete;
     } in
     record {
-      outcome = λ command inputs a b x y. outcome_unique publishing command inputs a b x y;
-      reply = λ command files a b x y. reply_unique publishing command files a b x y;
+      outcome = λ command inputs a b x y. outcome_unique publishing c.audits_are_unique.ensures command inputs a b x y;
+      reply = λ command files a b x y. reply_unique publishing c.audits_are_unique.ensures command files a b x y;
     }

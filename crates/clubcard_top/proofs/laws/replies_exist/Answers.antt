@@ -1,4 +1,5 @@
 use Rattle.clubcard_top.proofs.Existing.{Existence, outcome_exists, reply_exists}
+use Rattle.clubcard_top.proofs.WordsApart.{few_jobs}
 use Rattle.clubcard_top.proofs.laws.replies_exist.Goals as goal
 
 pub returns : goal.returns
@@ -8,8 +9,10 @@ returns c =
       fits = c.jobs_that_are_read_fit.ensures.fits;
       within = c.jobs_that_are_read_fit.ensures.within;
       next = c.histories_are_published.ensures.history;
+      found = c.audits_exist.ensures;
     } in
     record {
-      outcome = λ command inputs some many octets. outcome_exists layers command inputs some many octets;
-      reply = λ command inputs many octets. reply_exists layers command inputs many octets;
+      outcome = λ command inputs some few many octets. outcome_exists layers command inputs some few many octets;
+      reply = λ command inputs few many octets. reply_exists layers command inputs few many octets;
+      words = few_jobs;
     }

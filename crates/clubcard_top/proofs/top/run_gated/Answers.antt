@@ -1,5 +1,6 @@
 use Rattle.std.proofs.Common.{map}
 use Rattle.std.specs.Prelude.{string_bytes}
+use Rattle.part_codec.specs.SealedFields.{SealedFields}
 use Rattle.clubcard_top.proofs.Promised as promised
 use Rattle.clubcard_top.proofs.WordsApart as apart
 use Rattle.clubcard_top.proofs.Succeeded as succeeded
@@ -38,6 +39,7 @@ returns-clause-successes g c =
     })
     (promised.parts _ c.run_words.ensures.ends) (λ command inputs a b x y. c.replies_are_unique.ensures.outcome command inputs a b x y)
     (λ before job can. c.histories_are_made.ensures.publishable before job can)
+    (λ parts jobs agree. c.agreement_is_enough.ensures (map (λ (s : SealedFields). s.part) parts) jobs agree)
     (apart.words_apart (map string_bytes c.args.words.now))
 
 pub returns-clause-histories : goal.returns-clause-histories

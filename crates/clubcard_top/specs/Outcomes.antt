@@ -1,0 +1,23 @@
+-- How what comes of a command is put together: inputs that are read one after the other, each of which may be at fault.
+use Rattle.std.specs.Prelude.{ℕ, List, [], Option, Result, Ok, Err}
+use Rattle.input_core.specs.declared.fault.FileFault.{FileFault}
+use Rattle.input_core.specs.Readings.{input_as}
+use Rattle.clubcard_top.specs.ReplyFields.{Done, NamedFault}
+
+infixl 10 ◌>>=◌
+abbrev pub ◌>>=◌ : {A B : Type 0} → Result A NamedFault → (A → Result B NamedFault) → Result B NamedFault
+(Ok x) >>= next = next x
+(Err e) >>= next = Err e
+
+-- a fault is that of the file of this name
+abbrev pub named : {A : Type 0} → List ℕ → Result A FileFault → Result A NamedFault
+named name (Ok x) = Ok x
+named name (Err fault) = Err (record { name = name; fault = fault })
+
+-- an input of this name, as it is read
+abbrev pub input : {A : Type 0} → List ℕ → (List ℕ → Result A FileFault) → Option (List ℕ) → Result A NamedFault
+input name read given = named name (input_as read given)
+
+-- lines alone
+abbrev pub only : List ℕ → Done
+only text = record { text = text; outputs = [] }
