@@ -48,6 +48,7 @@ not_disk name (faults.TooMany thing limit) is = omega (arith, is)
 not_disk name (faults.Seeds issuer stage) is = omega (arith, is)
 not_disk name (faults.BadCert fault) is = omega (arith, is)
 not_disk name (faults.BadPage fault) is = omega (arith, is)
+not_disk name (faults.Disagrees job entry held truth) is = omega (arith, is)
 not_disk name faults.NoMemory is = omega (arith, is)
 
 pub not_disk_as : (name : List ℕ) (fault : FileFault) (said : Said) → said ≡ refusal name fault → said.status ≢ 13

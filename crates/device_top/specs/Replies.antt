@@ -1,7 +1,7 @@
 -- What is said of a file, of a device and of a store that it holds (docs/FORMATS.md, "Lines and statuses").
 use Rattle.std.specs.Prelude.{ℕ, List, [], codes}
 use Rattle.line_core.specs.Lines.{line, line_about, layout_line, crl_line, limit_line}
-use Rattle.line_core.specs.Lines.{parent_line, epoch_line, coverage_line, seeds_line, cert_line, page_line}
+use Rattle.line_core.specs.Lines.{parent_line, epoch_line, coverage_line, seeds_line, cert_line, page_line, disagreement_line}
 use Rattle.line_core.specs.Devices.{device_line, full_line}
 use Rattle.line_core.specs.Statuses as status
 use Rattle.store_core.specs.declared.chain.Refusal.{Refusal}
@@ -53,6 +53,7 @@ refusal name (faults.TooMany thing limit) = says status.too_many (limit_line thi
 refusal name (faults.Seeds issuer stage) = says status.seeds (seeds_line issuer stage)
 refusal name (faults.BadCert fault) = says status.bad_cert (cert_line fault name)
 refusal name (faults.BadPage fault) = says status.bad_page (page_line fault name)
+refusal name (faults.Disagrees job entry held truth) = says status.disagrees (disagreement_line job entry held truth)
 refusal name faults.NoMemory = no_memory
 
 -- the disk of the device of this name failed

@@ -8,8 +8,9 @@ ghost use Rattle.device_top.specs.Calls.{IsPrinted, printing};
 
 use input_core::FileFault;
 use line_core::{
-    Line, Message, Status, about_file, cert_line, coverage_line, crl_line, device_line, epoch_line,
-    full_line, layout_line, limit_line, line_of, page_line, parent_line, seeds_line,
+    Line, Message, Status, about_file, cert_line, coverage_line, crl_line, device_line,
+    disagreement_line, epoch_line, full_line, layout_line, limit_line, line_of, page_line,
+    parent_line, seeds_line,
 };
 use octets_core::NoMemory;
 use outside_core::{Failed, Sink};
@@ -103,6 +104,15 @@ impl<'a> Reply<'a> {
             }
             FileFault::BadCert(fault) => (Status::BAD_CERT, cert_line(fault, name)),
             FileFault::BadPage(fault) => (Status::BAD_PAGE, page_line(fault, name)),
+            FileFault::Disagrees {
+                job,
+                entry,
+                held,
+                truth,
+            } => (
+                Status::DISAGREES,
+                Message::alone(disagreement_line(job, entry, held, truth)),
+            ),
             FileFault::NoMemory => return Err(NoMemory),
         };
         Ok(Reply::new(status, message))
