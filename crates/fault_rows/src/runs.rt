@@ -56,7 +56,7 @@ pub struct Run<'a> {
     pub prints: &'a [&'a str],
 }
 
-pub const DONE: [Run<'static>; 9] = [
+pub const DONE: [Run<'static>; 10] = [
     Run {
         words: &["query", "R", K1, "05", LA, "1700000000000"],
         status: Status::DONE,
@@ -114,6 +114,13 @@ pub const DONE: [Run<'static>; 9] = [
         prints: &[REHEARSED],
     },
     Run {
+        words: &["audit", "S", "J0"],
+        status: Status::DONE,
+        reads: &["S", "S", "J0", "J0"],
+        outputs: &[],
+        prints: &["audit jobs 1 entries 1 agree\n"],
+    },
+    Run {
         words: &["sample", "7", "1", "X"],
         status: Status::DONE,
         reads: &[],
@@ -124,7 +131,7 @@ pub const DONE: [Run<'static>; 9] = [
 
 /// Words that are no command, inputs that aren't held, and inputs that are refused: for the first of several in a run,
 /// and for the last.
-pub const REFUSED: [Run<'static>; 9] = [
+pub const REFUSED: [Run<'static>; 10] = [
     Run {
         words: &[],
         status: Status::USAGE,
@@ -159,6 +166,13 @@ pub const REFUSED: [Run<'static>; 9] = [
         reads: &["Q", "Q", "J0", "J0"],
         outputs: &[],
         prints: &["read-fault ", "N", "\n"],
+    },
+    Run {
+        words: &["audit", "S", "J0", "J1"],
+        status: Status::DISAGREES,
+        reads: &["S", "S", "J0", "J0", "J1", "J1"],
+        outputs: &[],
+        prints: &["audit job 0 entry 0 held good truth revoked\n"],
     },
     Run {
         words: &["check", "L"],

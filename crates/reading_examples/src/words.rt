@@ -39,12 +39,13 @@ fn name_of(alloc: Global, words: &[&str]) -> Result<&'static str, NoMemory> {
         Command::Rehearse(_) => Ok("rehearse"),
         Command::Sample(_) => Ok("sample"),
         Command::Gather(_) => Ok("gather"),
+        Command::Audit(_) => Ok("audit"),
     }
 }
 
 #[test]
 fn reads_each_command(rt: HostRuntime) -> Result<(), Fail> {
-    let cases: [&[&str]; 18] = [
+    let cases: [&[&str]; 20] = [
         &["query", "S", KEY, "05", LOG, "00000000000000000001"],
         &[
             "query",
@@ -69,6 +70,8 @@ fn reads_each_command(rt: HostRuntime) -> Result<(), Fail> {
         &["rehearse", "Q", "1", "J"],
         &["rehearse", "Q", "064", "J", "K", "J"],
         &["rehearse", "-", "2", "-"],
+        &["audit", "S", "J"],
+        &["audit", "J", "J", "K", "J"],
         &["sample", "0", "1", "J"],
         &["sample", "18446744073709551615", "1000000", "J"],
         &["sample", "00000000000000000001", "0001000000", "-"],
@@ -81,7 +84,7 @@ fn reads_each_command(rt: HostRuntime) -> Result<(), Fail> {
 
 #[test]
 fn refuses_what_is_no_command(rt: HostRuntime) -> Result<(), Fail> {
-    let cases: [&[&str]; 48] = [
+    let cases: [&[&str]; 52] = [
         &[],
         &["--help"],
         &["Query", "S", KEY, "05", LOG, "1"],
@@ -122,6 +125,10 @@ fn refuses_what_is_no_command(rt: HostRuntime) -> Result<(), Fail> {
         &["rehearse", "Q", "1", "J", ""],
         &["rehearse", "Q", "1"],
         &["rehearse"],
+        &["audit"],
+        &["audit", "S"],
+        &["audit", "", "J"],
+        &["audit", "S", "J", ""],
         &["sample", "1", "0", "J"],
         &["sample", "1", "1000001", "J"],
         &["sample", "18446744073709551616", "1", "J"],
@@ -143,6 +150,15 @@ fn rehearses_64_jobs_and_no_more(rt: HostRuntime) -> Result<(), Fail> {
     words[0] = "rehearse";
     words[2] = "64";
     assert_eq!(rt; name_of(rt.alloc(), &words[..67]), Ok("rehearse"));
+    assert_eq!(rt; name_of(rt.alloc(), &words), Ok("usage"));
+    Ok(())
+}
+
+#[test]
+fn audits_by_64_jobs_and_no_more(rt: HostRuntime) -> Result<(), Fail> {
+    let mut words = ["J"; 67];
+    words[0] = "audit";
+    assert_eq!(rt; name_of(rt.alloc(), &words[..66]), Ok("audit"));
     assert_eq!(rt; name_of(rt.alloc(), &words), Ok("usage"));
     Ok(())
 }

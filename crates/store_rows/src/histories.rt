@@ -174,6 +174,20 @@ fn stored(alloc: Global) -> Result<MemoryDepot, Fail> {
     Ok(depot)
 }
 
+#[test]
+fn the_store_says_the_truth_of_its_jobs(rt: HostRuntime) -> Result<(), Fail> {
+    let alloc = rt.alloc();
+    let depot = &mut stored(alloc)?;
+    depot.put("J0", &first(alloc)?)?;
+    depot.put("J1", &second(alloc)?)?;
+    depot.put("J2", &third(alloc)?)?;
+    depot.put("J3", &fourth(alloc)?)?;
+    depot.put("J4", &fifth(alloc)?)?;
+    let words = &["audit", "S", "J0", "J1", "J2", "J3", "J4"];
+    assert!(rt; does(&rt, alloc, depot, words, "audit jobs 5 entries 14 agree\n")?);
+    Ok(())
+}
+
 // 05 was listed in the first job and dropped later. 06 was listed only while its issuer wasn't enrolled.
 #[test]
 fn certificates_of_the_first_issuer(rt: HostRuntime) -> Result<(), Fail> {
