@@ -10,7 +10,7 @@ _clubcard() {
     COMPREPLY=()
     if ((COMP_CWORD == 1)); then
         mapfile -t COMPREPLY < <(compgen -W "snapshot delta start install query query-cert check show rehearse sample \
-            gather device-format device-install device-query" -- "$word")
+            gather audit device-format device-install device-query" -- "$word")
         return
     fi
     # A command, and the places of the words behind it that name files.
@@ -19,6 +19,7 @@ _clubcard() {
     device-format:[24] | device-install:[23] | device-query:2) ;;
     gather:2 | gather:[4-9] | gather:[1-9][0-9] | gather:[1-9][0-9][0-9] | gather:10[01][0-9] | gather:102[0-7]) ;;
     rehearse:2 | rehearse:[4-9] | rehearse:[1-5][0-9] | rehearse:6[0-7]) ;;
+    audit:[2-9] | audit:[1-5][0-9] | audit:6[0-6]) ;;
     *) return ;;
     esac
     mapfile -t COMPREPLY < <(compgen -f -- "$word")

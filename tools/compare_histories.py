@@ -6,9 +6,10 @@
 For each history: the part, the ledger and the store of each job byte for byte, the lines of `snapshot`, `delta`,
 `start` and `install`, and `query` on accepted certificates (the answer must be the history's truth) and on others (it
 must be the verdict of the parts). Then all jobs in one `rehearse`, with queries of both kinds; in some histories with a
-job that is refused among them, or with a damaged query file, and then the line and the status of the refusal. And a job
-of `sample`. It runs the program that `./clubcard` runs, prints a line, and ends with status 0 exactly where nothing
-differs; where something does, it says which history and what.
+job that is refused among them, or with a damaged query file, and then the line and the status of the refusal. Then an
+`audit` of one of the stores by all jobs, or with one among them that is refused. And a job of `sample`. It runs the
+program that `./clubcard` runs, prints a line, and ends with status 0 exactly where nothing differs; where something
+does, it says which history and what.
 """
 
 import functools
@@ -25,6 +26,7 @@ from reference import (
     Job,
     JobFile,
     T,
+    audit,
     be,
     history_of,
     queries_bytes,
@@ -227,6 +229,23 @@ def compare_rehearsal(rng, history, parts, at):
     return len(asked) if status == 0 else 0
 
 
+def compare_audit(rng, history, parts, at):
+    """Audits the store of all parts, or of the first ones, by all jobs. Gives whether it agrees."""
+    last = rng.choice([len(parts) - 1] * 2 + list(range(len(parts))))
+    texts = [(job, job.bytes()) for job in history.jobs]
+    if rng.random() < 0.2:
+        place = rng.randint(0, len(texts))
+        texts.insert(place, misfit(rng, history.jobs, place))
+    files = [JobFile(at(f"audited{i}"), data, job) for i, (job, data) in enumerate(texts)]
+    for file in files:
+        if file.data is not None:
+            put(file.name, file.data)
+    told = run("audit", at(f"store{last}"), *(file.name for file in files))
+    status, text = audit(parts[: last + 1], files)
+    same("audit", told, (status, text))
+    return status == 0
+
+
 def compare_sample(rng, at):
     """Makes a job from a number."""
     number, count = rng.randrange(2**64), rng.randint(1, 1000)
@@ -238,7 +257,7 @@ def compare_sample(rng, at):
 def main():
     count = int(sys.argv[1]) if len(sys.argv) > 1 else 20
     seed = int(sys.argv[2]) if len(sys.argv) > 2 else 1
-    jobs, asked, refused = 0, 0, 0
+    jobs, asked, refused, agreed = 0, 0, 0, 0
     for number in range(count):
         rng = random.Random(seed * 1_000_003 + number)
         history = history_of(tuple(random_history(rng)))
@@ -249,13 +268,17 @@ def main():
                 compare_files(rng, history, parts, at)
                 asked += compare_answers(rng, history, parts, at(f"store{len(parts) - 1}"))
                 rehearsed = compare_rehearsal(rng, history, parts, at)
+                agreed += compare_audit(rng, history, parts, at)
                 compare_sample(rng, at)
             except AssertionError as differs:
                 sys.exit(f"history {number} of seed {seed} differs: {differs}")
         jobs += len(parts)
         asked += rehearsed
         refused += rehearsed == 0
-    print(f"{count} histories, {jobs} jobs, {asked} queries, {refused} refused rehearsals: nothing differs")
+    print(
+        f"{count} histories, {jobs} jobs, {asked} queries, {refused} refused rehearsals, {agreed} audits that agree: "
+        "nothing differs"
+    )
 
 
 if __name__ == "__main__":

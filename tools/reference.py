@@ -1,5 +1,6 @@
 #!/usr/bin/env python3
-"""An independent reference of the rules: parts, ledgers, stores, verdicts and rehearsals from jobs, and generated jobs.
+"""An independent reference of the rules: parts, ledgers, stores, verdicts, rehearsals and audits from jobs, and jobs of
+the generator.
 
 Written from the rules and layouts (docs/ARCHITECTURE.md, docs/FORMATS.md) and not from the program. The sets of a
 history are worked out by their definitions over all its jobs (not from a birth and a last part), systems are solved by
@@ -391,10 +392,11 @@ class History:
         self.jobs = jobs
         self.named = []  # per job: the identities of its accepted entries
         self.seen = {}  # per identity: (job, (log, time)) of each of its accepted entries
+        self.accepted = []  # per job: the places of its accepted entries, among all of its own
         self.counts = []
         for i, job in enumerate(jobs):
-            here, n = [], dict(unread=0, uncovered=0, unenrolled=0, late=0)
-            for e in job.entries:
+            here, places, n = [], [], dict(unread=0, uncovered=0, unenrolled=0, late=0)
+            for place, e in enumerate(job.entries):
                 if e.id is None:
                     n["unread"] += 1
                 elif not job.covers(e.log, e.time):
@@ -410,6 +412,8 @@ class History:
                     n["late"] += 1
                 else:
                     here.append((e.id, (e.log, e.time)))
+                    places.append(place)
+            self.accepted.append(places)
             for x, s in here:
                 self.seen.setdefault(x, []).append((i, s))
             self.named.append({x for x, _ in here})
@@ -671,11 +675,15 @@ def read_job_fields(data):
 
 
 # ---------- rehearsals ----------
-def admit(job, before):
-    """Refuses a job that doesn't follow those before it. The limits are out of reach of short jobs."""
+def test_crls(job):
+    """Refuses a job with a CRL that isn't accepted."""
     for place, (_, crl) in enumerate(job.crls):
         if crl.cut:
             raise Refused(4, f"crl {place} malformed")
+
+
+def follow(job, before):
+    """Refuses a job that doesn't follow those before it. The limits are out of reach of short jobs."""
     if not before:
         return
     newest = before[-1]
@@ -695,13 +703,18 @@ class JobFile:
     def __init__(self, name, data, job):
         self.name, self.data, self.job = name, data, job
 
-    def admitted(self, before):
+    def read(self):
         if self.data is None:
             raise Refused(8, "read-fault")
         read_job_fields(self.data)
         assert self.data == self.job.bytes(), f"{self.name} holds another job"
-        admit(self.job, before)
         return self.job
+
+    def admitted(self, before):
+        job = self.read()
+        test_crls(job)
+        follow(job, before)
+        return job
 
 
 @functools.lru_cache(maxsize=8)
@@ -725,6 +738,50 @@ def rehearse(name, data, files):
     parts = history.parts()
     reports = [history.report(i) for i in range(len(jobs))]
     return 0, text_of(reports + [verdict(parts, identity, sightings) for identity, sightings in queries])
+
+
+# ---------- audits ----------
+class Disagrees(Refused):
+    """An accepted entry of which a store doesn't say the truth. Its line names no file."""
+
+    def __init__(self, job, entry, held, truth):
+        super().__init__(17, f"audit job {job} entry {entry} held {held} truth {truth}")
+
+    def line(self, name):
+        return f"{self.why}\n"
+
+
+def agreed(parts, history):
+    """How many entries a history accepts, if the parts say the truth of each."""
+    last = len(history.jobs) - 1
+    for i, (job, places) in enumerate(zip(history.jobs, history.accepted)):
+        for place in places:
+            entry = job.entries[place]
+            truth = "revoked" if history.listed(entry.id, last) else "good"
+            held = verdict(parts, entry.id, [(entry.log, entry.time)])
+            if held != truth:
+                raise Disagrees(i, place, held, truth)
+    return sum(len(places) for places in history.accepted)
+
+
+def audit(parts, files):
+    """The status and the text of `audit`, of the parts of a store and of the files of jobs. The limits are out of reach
+    of short jobs."""
+    name, jobs = None, []
+    try:
+        for file in files:
+            name = file.name
+            jobs.append(file.read())
+        for file, job in zip(files, jobs):
+            name = file.name
+            test_crls(job)
+        for i, file in enumerate(files):
+            name = file.name
+            follow(jobs[i], jobs[:i])
+        entries = agreed(parts, history_of(tuple(jobs)))
+    except Refused as refused:
+        return refused.status, refused.line(name)
+    return 0, f"audit jobs {len(jobs)} entries {entries} agree\n"
 
 
 # ---------- the generator ----------
