@@ -1,7 +1,7 @@
 #!/usr/bin/env python3
 """Times the builder whose workers draw the leaves from one counter beside the one that cuts them into shares before the
-work, by the clock, in both formats, for groups of very different sizes and for equal ones. Run it at the top of the repository once
-`rt run` in crates/builder_benches has built the program, on a machine that does nothing else:
+work, by the clock, in both formats, for groups of very different sizes and for equal ones. Run it at the top of the
+repository once `rt run` in crates/builder_benches has built the program, on a machine that does nothing else:
 
     python3 bench/claims.py [RUNS [ROUNDS [WORKERS]]]
 

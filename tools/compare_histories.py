@@ -89,7 +89,8 @@ def random_octets(rng, length):
 def random_history(rng):
     logs = sorted({bytes([rng.randrange(256)]) * 32 for _ in range(rng.randint(1, 3))})
     issuers = [bytes([x]) * 32 for x in rng.sample(range(256), rng.randint(1, 4))]
-    serials = [random_octets(rng, rng.choice([1, 1, 2, 5, 16, 32])) for _ in range(rng.randint(3, rng.choice([6, 20, 60])))]
+    count = rng.randint(3, rng.choice([6, 20, 60]))
+    serials = [random_octets(rng, rng.choice([1, 1, 2, 5, 16, 32])) for _ in range(count)]
     weight = rng.choice([0.02, 0.1, 0.3, 0.7, 1.0])
     jobs, ranges, epoch = [], {}, 0
     for _ in range(rng.randint(1, 6)):

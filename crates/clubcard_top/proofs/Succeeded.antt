@@ -47,7 +47,8 @@ use Rattle.clubcard_top.specs.ReplyFields.{OutputFields, Done, NamedFault}
 use Rattle.input_core.specs.Readings.{job_in, ledger_in, part_in, store_in}
 use Rattle.input_core.specs.Certificates.{certificate_in, issuer_in}
 use Rattle.clubcard_top.specs.Commands.{◌>>=◌, named, input, only, query_done, query_cert_done, check_done, show_done, epoch_of, stored, begun_by, begun, installed_by, installed}
-use Rattle.clubcard_top.specs.Commands.{publication_done, published_as, MakesPart, MakesSnapshot, MakesDelta, sample_done, head_in, page_in, room_for, pages_of, longer, gather_done, rehearsed, AreJobs, Makes}
+use Rattle.clubcard_top.specs.Commands.{publication_done, published_as, MakesPart, MakesSnapshot, MakesDelta, sample_done}
+use Rattle.clubcard_top.specs.Commands.{head_in, page_in, room_for, pages_of, longer, gather_done, rehearsed, AreJobs, Makes}
 use Rattle.clubcard_top.specs.Replies.{held_by}
 use Rattle.clubcard_top.specs.Runs.{with_outputs}
 use Rattle.clubcard_top.specs.Calls.{Call, Reads, Holds, Writes, ChangesNoFile, Prints, NoFault}
