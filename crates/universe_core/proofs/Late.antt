@@ -14,7 +14,7 @@ use Rattle.universe_core.specs.Counting.{is_class, count}
 use Rattle.universe_core.specs.Reading.{entry_fields, if_read, is_lacked}
 use Rattle.universe_core.specs.declared.class.Class.{Class}
 use Rattle.universe_core.specs.declared.class.Class.TheVariants.{Uncovered, Unenrolled, Late, Accepted}
-use Rattle.universe_core.specs.declared.member.ReadEntry.{ReadEntry}
+use Rattle.universe_core.specs.declared.member.KeyedEntry.{KeyedEntry}
 use Rattle.universe_core.proofs.Classes.{none_late}
 use Rattle.universe_core.proofs.Tallies.{count_by-map}
 
@@ -36,7 +36,7 @@ late_read past job (Some e ∷ es) =
     late_step (covers job.ranges e.sighting) (has_key (enrolled job) e.id.issuer) (past.lacked e.id e.sighting) e (Some e) (filter_map (if_read job.ranges (enrolled job)) es)
     (filter (λ o. is_class Late (class_of past job o)) es) (λ (d : Entry). past.lacked d.id d.sighting) refl (late_read past job es)
 
-pub late_is : (ledger : LedgerFields) (job : Job) (left : List ReadEntry) (n : ℕ)
+pub late_is : (ledger : LedgerFields) (job : Job) (left : List KeyedEntry) (n : ℕ)
     → map entry_fields left ≡ filter_map (if_read job.ranges (enrolled job)) job.entries → n ≡ count_by (is_lacked ledger) left → n ≡ count Late (past_in ledger) job
 late_is ledger job left n l h =
     h ∙ sym (count_by-map (λ (e : Entry). (past_in ledger).lacked e.id e.sighting) entry_fields left) ∙ ap (count_by (λ (e : Entry). (past_in ledger).lacked e.id e.sighting)) l

@@ -18,19 +18,19 @@ use Rattle.sets_core.specs.Among.{Among}
 use Rattle.sets_core.proofs.Canonical.{Contains-from_Among}
 use Rattle.sets_core.proofs.Elements.{Among-from_place, some_item}
 use Rattle.sets_core.proofs.Order.{sorted_head, sorted_tail}
-use Rattle.universe_core.specs.declared.member.ReadEntry.{ReadEntry}
+use Rattle.universe_core.specs.declared.member.KeyedEntry.{KeyedEntry}
 use Rattle.universe_core.specs.declared.serial_key.SerialKey.{SerialKey}
 use Rattle.universe_core.specs.Placing.{IsKeyOf, IsPlaced, ArePlaced, keyed_cmp, placed_cmp, head_of}
 
 placed_total : IsTotalOrder placed_cmp
 placed_total =
-    then_total (on_total (λ (e : ReadEntry). e.place) nat_cmp_total)
-    (then_total (on_total (λ (e : ReadEntry). e.key.length) nat_cmp_total)
-    (then_total (on_total (λ (e : ReadEntry). e.key.head) nat_cmp_total)
-    (on_total (λ (e : ReadEntry). e.id.now.serial) (then_total (on_total (λ (s : List ℕ). length s) nat_cmp_total) nat_list_cmp_total))))
+    then_total (on_total (λ (e : KeyedEntry). e.place) nat_cmp_total)
+    (then_total (on_total (λ (e : KeyedEntry). e.key.length) nat_cmp_total)
+    (then_total (on_total (λ (e : KeyedEntry). e.key.head) nat_cmp_total)
+    (on_total (λ (e : KeyedEntry). e.entry.now.id.serial) (then_total (on_total (λ (s : List ℕ). length s) nat_cmp_total) nat_list_cmp_total))))
 
-pub placed_ranks : IsStrictWeakOrder (λ (a b : ReadEntry). is_lt (placed_cmp a b))
-placed_ranks = ranks_by placed_total (λ (e : ReadEntry). e)
+pub placed_ranks : IsStrictWeakOrder (λ (a b : KeyedEntry). is_lt (placed_cmp a b))
+placed_ranks = ranks_by placed_total (λ (e : KeyedEntry). e)
 
 -- ---- the steps of the code
 
@@ -96,14 +96,14 @@ keyed_is a b j k p q =
     (λ i. ordering_then (nat_cmp (p.length i) (q.length i)) (ordering_then (nat_cmp (p.head i) (q.head i)) (serial_cmp a b)))
     ∙ serial_by (nat_cmp (length a) (length b)) a b refl p.octets q.octets
 
-placed_at : (issuers : List (List ℕ)) (d e : ReadEntry) → IsStrictlySortedBy octets_cmp issuers → IsPlaced issuers d → IsPlaced issuers e → placed_cmp d e ≡ identity_cmp d.id.now e.id.now
+placed_at : (issuers : List (List ℕ)) (d e : KeyedEntry) → IsStrictlySortedBy octets_cmp issuers → IsPlaced issuers d → IsPlaced issuers e → placed_cmp d e ≡ identity_cmp d.entry.now.id e.entry.now.id
 placed_at issuers d e s p q =
-    (λ i. ordering_then (place_cmp issuers s d.place e.place d.id.now.issuer e.id.now.issuer p.place q.place i)
-    (keyed_is d.id.now.serial e.id.now.serial d.key e.key p.key q.key i))
+    (λ i. ordering_then (place_cmp issuers s d.place e.place d.entry.now.id.issuer e.entry.now.id.issuer p.place q.place i)
+    (keyed_is d.entry.now.id.serial e.entry.now.id.serial d.key e.key p.key q.key i))
 
-all_at : (P : ReadEntry → Type 0) (es : List ReadEntry) (d : ReadEntry) → All P es → Among es d → P d
+all_at : (P : KeyedEntry → Type 0) (es : List KeyedEntry) (d : KeyedEntry) → All P es → Among es d → P d
 all_at P es d h a = let k = Contains-from_Among es d a in subst P k.2 (h k.0 d k.1)
 
 -- entries whose places, lengths and heads are their identities'
-pub are_placed : (issuers : List (List ℕ)) (es : List ReadEntry) → IsStrictlySortedBy octets_cmp issuers → All (IsPlaced issuers) es → ArePlaced es
+pub are_placed : (issuers : List (List ℕ)) (es : List KeyedEntry) → IsStrictlySortedBy octets_cmp issuers → All (IsPlaced issuers) es → ArePlaced es
 are_placed issuers es s h d e a b = placed_at issuers d e s (all_at (IsPlaced issuers) es d h a) (all_at (IsPlaced issuers) es e h b)

@@ -6,31 +6,32 @@ use Rattle.ident_core.specs.declared.identity.Identity.{Identity}
 use Rattle.ident_core.specs.Order.{is_same, identity_cmp}
 use Rattle.sets_core.specs.Sets.{with_all}
 use Rattle.ledger_core.specs.declared.fields.LedgerItem.{LedgerItem}
-use Rattle.universe_core.specs.declared.member.ReadEntry.{ReadEntry}
+use Rattle.std.specs.Borrow.{Bor}
+use Rattle.universe_core.specs.Jobs.{Entry}
 
 -- no entry is above a later one
-abbrev pub IsRising : List ReadEntry → Type 0
+abbrev pub IsRising : List (Bor Entry) → Type 0
 IsRising [] = Unit {0}
-IsRising (e ∷ es) = AllByRecursion (λ d. is_gt (identity_cmp e.id.now d.id.now) ≡ false) es × IsRising es
+IsRising (e ∷ es) = AllByRecursion (λ d. is_gt (identity_cmp e.now.id d.now.id) ≡ false) es × IsRising es
 
 abbrev pub lower : Identity → Identity → Identity
 lower x y = cond (is_lt (identity_cmp x y)) x y
 
 -- the least identity of both
-abbrev pub least_of : List LedgerItem → List ReadEntry → Option Identity
+abbrev pub least_of : List LedgerItem → List (Bor Entry) → Option Identity
 least_of [] [] = None
 least_of (i ∷ is) [] = Some i.id
-least_of [] (e ∷ es) = Some e.id.now
-least_of (i ∷ is) (e ∷ es) = Some (lower i.id e.id.now)
+least_of [] (e ∷ es) = Some e.now.id
+least_of (i ∷ is) (e ∷ es) = Some (lower i.id e.now.id)
 
 -- the first entries, of one identity
-abbrev pub run_of : Identity → List ReadEntry → List ReadEntry
+abbrev pub run_of : Identity → List (Bor Entry) → List (Bor Entry)
 run_of x [] = []
-run_of x (e ∷ es) = cond (is_same x e.id.now) (e ∷ run_of x es) []
+run_of x (e ∷ es) = cond (is_same x e.now.id) (e ∷ run_of x es) []
 
-abbrev pub after_run : Identity → List ReadEntry → List ReadEntry
+abbrev pub after_run : Identity → List (Bor Entry) → List (Bor Entry)
 after_run x [] = []
-after_run x (e ∷ es) = cond (is_same x e.id.now) (after_run x es) (e ∷ es)
+after_run x (e ∷ es) = cond (is_same x e.now.id) (after_run x es) (e ∷ es)
 
 -- the first item, if it is the identity's
 abbrev pub first_of : Identity → List LedgerItem → Option LedgerItem
@@ -42,16 +43,16 @@ after_first x [] = []
 after_first x (i ∷ is) = cond (is_same x i.id) is (i ∷ is)
 
 -- how many of the entries pass a test that is told the item of each one's identity
-abbrev pub count_told : (Option LedgerItem → ReadEntry → Bool) → List LedgerItem → List ReadEntry → ℕ
-count_told test items entries = count_by (λ e. test (find (λ (i : LedgerItem). is_same e.id.now i.id) items) e) entries
+abbrev pub count_told : (Option LedgerItem → Bor Entry → Bool) → List LedgerItem → List (Bor Entry) → ℕ
+count_told test items entries = count_by (λ e. test (find (λ (i : LedgerItem). is_same e.now.id i.id) items) e) entries
 
 -- the identities of items and entries
-abbrev pub all_ids : List LedgerItem → List ReadEntry → List Identity
-all_ids items entries = with_all (map (λ (e : ReadEntry). e.id.now) entries) (map (λ (i : LedgerItem). i.id) items)
+abbrev pub all_ids : List LedgerItem → List (Bor Entry) → List Identity
+all_ids items entries = with_all (map (λ (e : Bor Entry). e.now.id) entries) (map (λ (i : LedgerItem). i.id) items)
 
 -- what a judge makes of the identities of both, each from its item and its entries
-unfoldable pub merged : {M : Type 0} → (Identity → Option LedgerItem → List ReadEntry → Option M) → List LedgerItem → List ReadEntry → List M
+unfoldable pub merged : {M : Type 0} → (Identity → Option LedgerItem → List (Bor Entry) → Option M) → List LedgerItem → List (Bor Entry) → List M
 merged judge items entries =
     filter_map
-    (λ x. judge x (find (λ (i : LedgerItem). is_same x i.id) items) (filter (λ (e : ReadEntry). is_same x e.id.now) entries))
+    (λ x. judge x (find (λ (i : LedgerItem). is_same x i.id) items) (filter (λ (e : Bor Entry). is_same x e.now.id) entries))
     (all_ids items entries)

@@ -8,7 +8,7 @@ use Rattle.octets_core.specs.Numbers.{number}
 use Rattle.ident_core.specs.Order.{serial_cmp, identity_cmp}
 use Rattle.sets_core.specs.Among.{Among}
 use Rattle.universe_core.specs.Jobs.{Entry}
-use Rattle.universe_core.specs.declared.member.ReadEntry.{ReadEntry}
+use Rattle.universe_core.specs.declared.member.KeyedEntry.{KeyedEntry}
 use Rattle.universe_core.specs.declared.serial_key.SerialKey.{SerialKey}
 
 -- the number that the first eight octets of a serial spell, and 0 for one with fewer
@@ -30,13 +30,13 @@ abbrev pub HasPlace : List (List ℕ) → ℕ → Option Entry → Type 0
 HasPlace issuers place entry = IfSome entry (λ e. slice_get issuers place ≡ Some e.id.issuer)
 
 -- what stands beside an entry is told by its identity
-pub record IsPlaced (issuers : List (List ℕ)) (e : ReadEntry) : Type 0 where
-  pub place : slice_get issuers e.place ≡ Some e.id.now.issuer
-  pub key : IsKeyOf e.id.now.serial e.key
+pub record IsPlaced (issuers : List (List ℕ)) (e : KeyedEntry) : Type 0 where
+  pub place : slice_get issuers e.place ≡ Some e.entry.now.id.issuer
+  pub key : IsKeyOf e.entry.now.id.serial e.key
 
-abbrev pub placed_cmp : ReadEntry → ReadEntry → Ordering
-placed_cmp d e = ordering_then (nat_cmp d.place e.place) (keyed_cmp d.id.now.serial d.key e.id.now.serial e.key)
+abbrev pub placed_cmp : KeyedEntry → KeyedEntry → Ordering
+placed_cmp d e = ordering_then (nat_cmp d.place e.place) (keyed_cmp d.entry.now.id.serial d.key e.entry.now.id.serial e.key)
 
 -- of these entries the order is that of their identities
-abbrev pub ArePlaced : List ReadEntry → Type 0
-ArePlaced entries = (d e : ReadEntry) → Among entries d → Among entries e → placed_cmp d e ≡ identity_cmp d.id.now e.id.now
+abbrev pub ArePlaced : List KeyedEntry → Type 0
+ArePlaced entries = (d e : KeyedEntry) → Among entries d → Among entries e → placed_cmp d e ≡ identity_cmp d.entry.now.id e.entry.now.id

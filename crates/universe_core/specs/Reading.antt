@@ -1,5 +1,6 @@
 -- Which of a job's entries are read.
-use Rattle.std.specs.Prelude.{ℕ, ◌+◌, List, ◌&&◌, Bool, cond, Option, Some, None}
+use Rattle.std.specs.Borrow.{Bor}
+use Rattle.std.specs.Prelude.{ℕ, ◌+◌, List, map, ◌&&◌, Bool, cond, Option, Some, None}
 use Rattle.ident_core.specs.declared.range.Range.{Range}
 use Rattle.ident_core.specs.Coverage.{covers}
 use Rattle.ledger_core.specs.LedgerFields.{LedgerFields}
@@ -10,11 +11,15 @@ use Rattle.universe_core.specs.Ledgers.{no_ledger, past_in}
 use Rattle.universe_core.specs.Counting.{is_class}
 use Rattle.universe_core.specs.declared.class.Class.{Class}
 use Rattle.universe_core.specs.declared.class.Class.TheVariants.{Unread, Uncovered, Unenrolled, Accepted}
-use Rattle.universe_core.specs.declared.member.ReadEntry.{ReadEntry}
+use Rattle.universe_core.specs.declared.member.KeyedEntry.{KeyedEntry}
 use Rattle.universe_core.specs.declared.reading.Tally.{Tally}
 
-abbrev pub entry_fields : ReadEntry → Entry
-entry_fields e = record { id = e.id.now; sighting = e.sighting.now }
+abbrev pub entry_fields : KeyedEntry → Entry
+entry_fields e = e.entry.now
+
+-- the entries without what they are sorted by
+abbrev pub entries_of : List KeyedEntry → List (Bor Entry)
+entries_of es = map (λ e. e.entry) es
 
 -- the entry, if the ranges cover it and its issuer is enrolled
 abbrev pub if_read : List Range → List (List ℕ) → Option Entry → Option Entry
@@ -38,5 +43,5 @@ with_class c t = record {
 }
 
 -- whether a part before its identity's birth covers the entry and enrolls its issuer
-abbrev pub is_lacked : LedgerFields → ReadEntry → Bool
-is_lacked ledger e = (past_in ledger).lacked e.id.now e.sighting.now
+abbrev pub is_lacked : LedgerFields → KeyedEntry → Bool
+is_lacked ledger e = (past_in ledger).lacked e.entry.now.id e.entry.now.sighting

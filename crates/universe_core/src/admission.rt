@@ -28,6 +28,7 @@ use crate::flagging::{next_items, revoked_now};
 use crate::following::{early_fault, next_draft, next_head};
 use crate::grouping::groups;
 use crate::held::Held;
+use crate::log_places::LogPlaces;
 use crate::member::Member;
 use crate::merging::members;
 use crate::reading::{Tally, read};
@@ -78,10 +79,10 @@ fn accept(
     ensures accepted { IfOk result (λ a. a.accepted ≡ count class.Accepted (past_by parts.now items.now) (facts_of_job job.now)) }
 {
     let issuers = enrolled(alloc, job)?;
-    let reading = read(alloc, &job.ranges, &issuers, &job.entries)?;
+    let logs = LogPlaces::of(alloc, &job.ranges)?;
+    let reading = read(alloc, &job.ranges, &logs, &issuers, &job.entries)?;
     let tally = reading.tally;
-    let mut entries = reading.entries;
-    let merged = members(alloc, parts, items, &mut entries)?;
+    let merged = members(alloc, parts, items, &logs, reading.entries)?;
     let late = merged.late as u32;
     Ok(Acceptance {
         issuers,

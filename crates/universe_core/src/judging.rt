@@ -6,9 +6,11 @@ ghost use Rattle.sets_core.specs.Sets.{has_key};
 ghost use Rattle.ledger_core.specs.LedgerFields.{part_fields};
 ghost use Rattle.universe_core.specs.Judging.{IsSearchable, judge_of, is_late_by, is_late_beside, is_timely, sightings_of};
 
-use crate::member::{Member, ReadEntry};
+use crate::log_places::LogPlaces;
+use crate::member::Member;
 use ident_core::{Identity, Sighting};
 use ledger_core::{LedgerItem, LedgerPart};
+use log_core::Entry;
 use sets_core::{covers_near, holds_key};
 
 /// Whether a part covers the sighting and enrolls the issuer. The place of the log's range is guessed.
@@ -46,11 +48,11 @@ pub(crate) fn is_late(
     some_lacks(&parts[..birth.min(parts.len())], id, sighting, near)
 }
 
-fn comes_late(parts: &[LedgerPart], birth: usize, e: &ReadEntry<'_>) -> bool
+fn comes_late(parts: &[LedgerPart], birth: usize, logs: &LogPlaces, e: &Entry) -> bool
     requires { All IsSearchable parts.now }
-    ensures { result ≡ is_late_by parts.now birth e.now }
+    ensures { result ≡ lacked_by (take birth (map part_fields parts.now)) e.now.id e.now.sighting }
 {
-    is_late(parts, birth, e.id, e.sighting, e.near as usize)
+    birth > 0 && is_late(parts, birth, &e.id, &e.sighting, logs.near(&e.sighting))
 }
 
 pub(crate) fn birth_of(parts: &[LedgerPart], old: &Option<LedgerItem>) -> u8
@@ -79,21 +81,23 @@ struct RunFacts {
     settled: bool,
 }
 
-fn count_late(parts: &[LedgerPart], birth: usize, run: &[ReadEntry<'_>]) -> usize
+fn count_late(parts: &[LedgerPart], birth: usize, logs: &LogPlaces, run: &[&Entry]) -> usize
     requires { All IsSearchable parts.now }
     ensures { result ≡ count_by (is_late_by parts.now birth) run.now }
 {
-    run.iter().filter(|e| comes_late(parts, birth, e)).count()
+    run.iter()
+        .filter(|e| comes_late(parts, birth, logs, e))
+        .count()
 }
 
 /// Where there is no part of a last.
-fn facts_alone(parts: &[LedgerPart], birth: usize, run: &[ReadEntry<'_>]) -> RunFacts
+fn facts_alone(parts: &[LedgerPart], birth: usize, logs: &LogPlaces, run: &[&Entry]) -> RunFacts
     requires { All IsSearchable parts.now }
     ensures late { result.late ≡ count_by (is_late_by parts.now birth) run.now }
     ensures settled { result.settled ≡ false }
 {
     RunFacts {
-        late: count_late(parts, birth, run),
+        late: count_late(parts, birth, logs, run),
         settled: false,
     }
 }
@@ -103,21 +107,22 @@ fn facts_beside(
     part: &LedgerPart,
     parts: &[LedgerPart],
     birth: usize,
-    run: &[ReadEntry<'_>],
+    logs: &LogPlaces,
+    run: &[&Entry],
 ) -> RunFacts
     requires part { IsSearchable part.now }
     requires parts { All IsSearchable parts.now }
     ensures late { result.late ≡ count_by (is_late_by parts.now birth) run.now }
-    ensures settled { result.settled ≡ list_all (λ e. covers part.now.ranges.items e.sighting.now) (filter (is_timely parts.now birth) run.now) }
+    ensures settled { result.settled ≡ list_all (λ e. covers part.now.ranges.items e.now.sighting) (filter (is_timely parts.now birth) run.now) }
 {
     let mut facts = RunFacts {
         late: 0,
         settled: true,
     };
     for e in run {
-        if comes_late(parts, birth, e) {
+        if comes_late(parts, birth, logs, e) {
             facts.late += 1;
-        } else if !covers_near(&part.ranges, e.near as usize, e.sighting) {
+        } else if !covers_near(&part.ranges, logs.near(&e.sighting), &e.sighting) {
             facts.settled = false;
         }
     }
@@ -125,16 +130,22 @@ fn facts_beside(
 }
 
 /// What the entries say of an identity that was born before so many of the parts, and has this last.
-fn facts_of(parts: &[LedgerPart], last: Option<u8>, birth: usize, run: &[ReadEntry<'_>]) -> RunFacts
+fn facts_of(
+    parts: &[LedgerPart],
+    last: Option<u8>,
+    birth: usize,
+    logs: &LogPlaces,
+    run: &[&Entry],
+) -> RunFacts
     requires { All IsSearchable parts.now }
     ensures late { result.late ≡ count_by (is_late_by parts.now birth) run.now }
     ensures settled { result.settled ≡ last_covers (map part_fields parts.now) last (sightings_of (filter (is_timely parts.now birth) run.now)) }
 {
     match last {
-        None => facts_alone(parts, birth, run),
+        None => facts_alone(parts, birth, logs, run),
         Some(place) => match parts.get(place as usize) {
-            None => facts_alone(parts, birth, run),
-            Some(part) => facts_beside(part, parts, birth, run),
+            None => facts_alone(parts, birth, logs, run),
+            Some(part) => facts_beside(part, parts, birth, logs, run),
         },
     }
 }
@@ -151,7 +162,8 @@ pub(crate) fn judge(
     parts: &[LedgerPart],
     id: &Identity,
     old: &Option<LedgerItem>,
-    run: &[ReadEntry<'_>],
+    logs: &LogPlaces,
+    run: &[&Entry],
 ) -> Judged
     requires few { length parts.now < 256 }
     requires parts { All IsSearchable parts.now }
@@ -160,7 +172,7 @@ pub(crate) fn judge(
 {
     let birth = birth_of(parts, old);
     let last = last_of(old);
-    let facts = facts_of(parts, last, birth as usize, run);
+    let facts = facts_of(parts, last, birth as usize, logs, run);
     let accepted = old.is_some() || facts.late < run.len();
     let member = Member {
         id: *id,

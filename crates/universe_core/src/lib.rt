@@ -17,6 +17,7 @@ mod judging;
 mod lateness;
 mod laws;
 mod listing;
+mod log_places;
 mod marking;
 mod member;
 mod merging;

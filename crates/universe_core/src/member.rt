@@ -1,16 +1,13 @@
 use crate::serial_key::SerialKey;
-use ident_core::{Identity, Sighting};
+use ident_core::Identity;
+use log_core::Entry;
 
-/// An entry that is read. Its identity and sighting stay where the job has them; beside them stands what entries are
-/// sorted by.
+/// An entry that is read. It stays where the job has it; beside it stands what entries are sorted by.
 #[derive(Clone, Copy)]
-pub(crate) struct ReadEntry<'a> {
-    pub(crate) id: &'a Identity,
-    pub(crate) sighting: &'a Sighting,
+pub(crate) struct KeyedEntry<'a> {
+    pub(crate) entry: &'a Entry,
     /// The place of its issuer among the enrolled ones, which ascend.
     pub(crate) place: u32,
-    /// The place of the job's range that covers it. Parts have the range of the same log there, or not far off.
-    pub(crate) near: u32,
     pub(crate) key: SerialKey,
 }
 

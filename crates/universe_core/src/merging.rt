@@ -12,10 +12,12 @@ ghost use Rattle.universe_core.specs.Reading.{if_read, entry_fields, is_lacked};
 ghost use Rattle.universe_core.specs.Members.{members_in};
 
 use crate::judging::judge;
-use crate::member::{Member, ReadEntry};
-use crate::reading::sort_entries;
+use crate::log_places::LogPlaces;
+use crate::member::{KeyedEntry, Member};
+use crate::reading::{bare_entries, sort_entries};
 use ident_core::{Identity, is_same};
 use ledger_core::{LedgerItem, LedgerPart};
+use log_core::Entry;
 use std::alloc::{AllocError, Global};
 
 fn lower_of(x: &Identity, y: &Identity) -> Identity
@@ -25,29 +27,29 @@ fn lower_of(x: &Identity, y: &Identity) -> Identity
 }
 
 /// The least identity of both.
-fn least(items: &[LedgerItem], entries: &[ReadEntry<'_>]) -> Option<Identity>
+fn least(items: &[LedgerItem], entries: &[&Entry]) -> Option<Identity>
     ensures { result ≡ least_of items.now entries.now }
 {
     match items.first() {
         None => match entries.first() {
             None => None,
-            Some(entry) => Some(*entry.id),
+            Some(entry) => Some(entry.id),
         },
         Some(item) => match entries.first() {
             None => Some(item.id),
-            Some(entry) => Some(lower_of(&item.id, entry.id)),
+            Some(entry) => Some(lower_of(&item.id, &entry.id)),
         },
     }
 }
 
-fn first_same(entries: &[ReadEntry<'_>], id: &Identity) -> usize
-    ensures { result ≡ length (take_while (λ e. same id.now e.id.now) entries.now) }
+fn first_same(entries: &[&Entry], id: &Identity) -> usize
+    ensures { result ≡ length (take_while (λ e. same id.now e.now.id) entries.now) }
 {
-    entries.iter().take_while(|e| is_same(id, e.id)).count()
+    entries.iter().take_while(|e| is_same(id, &e.id)).count()
 }
 
 /// How many entries from the first on are the identity's.
-fn run_length(entries: &[ReadEntry<'_>], id: &Identity) -> usize
+fn run_length(entries: &[&Entry], id: &Identity) -> usize
     ensures value { result ≡ length (run_of id.now entries.now) }
     ensures within { result ≤ length entries.now }
 {
@@ -55,14 +57,14 @@ fn run_length(entries: &[ReadEntry<'_>], id: &Identity) -> usize
     count
 }
 
-fn first_entries<'a, 'b>(entries: &'a [ReadEntry<'b>], count: usize) -> &'a [ReadEntry<'b>]
+fn first_entries<'a, 'b>(entries: &'a [&'b Entry], count: usize) -> &'a [&'b Entry]
     requires { count ≤ length entries.now }
     ensures { result.now ≡ take count entries.now }
 {
     &entries[..count]
 }
 
-fn entries_behind<'a, 'b>(entries: &'a [ReadEntry<'b>], count: usize) -> &'a [ReadEntry<'b>]
+fn entries_behind<'a, 'b>(entries: &'a [&'b Entry], count: usize) -> &'a [&'b Entry]
     requires { count ≤ length entries.now }
     ensures { result.now ≡ drop count entries.now }
 {
@@ -115,7 +117,8 @@ fn merge(
     alloc: Global,
     parts: &[LedgerPart],
     items: &[LedgerItem],
-    entries: &[ReadEntry<'_>],
+    logs: &LogPlaces,
+    entries: &[&Entry],
 ) -> Result<Merged, AllocError>
     requires few { length parts.now < 256 }
     requires parts { All IsSearchable parts.now }
@@ -131,7 +134,7 @@ fn merge(
     while let Some(id) = least(items_left, entries_left) {
         let old = first_item(items_left, &id);
         let count = run_length(entries_left, &id);
-        let judged = judge(parts, &id, &old, first_entries(entries_left, count));
+        let judged = judge(parts, &id, &old, logs, first_entries(entries_left, count));
         keep(&mut members, judged.member)?;
         late += judged.late;
         items_left = after_item(items_left, &id);
@@ -141,22 +144,26 @@ fn merge(
 }
 
 /// The identities accepted so far, ascending, where these entries are those that a job's ranges cover and whose issuers
-/// it enrolls, and how many of these are late. The entries are left sorted.
+/// it enrolls, and how many of these are late. What the entries are sorted by is let go before members are made.
 pub(crate) fn members(
     alloc: Global,
     parts: &[LedgerPart],
     items: &[LedgerItem],
-    entries: &mut Vec<ReadEntry<'_>>,
+    logs: &LogPlaces,
+    entries: Vec<KeyedEntry<'_>>,
 ) -> Result<Merged, AllocError>
     requires few { length parts.now < 256 }
     requires parts { All IsSearchable parts.now }
     requires ascend { IsStrictlySortedBy identity_cmp (map (λ i. i.id) items.now) }
-    requires placed { ArePlaced entries.old.items }
-    ensures members { (job : JobMeaning) → map entry_fields entries.old.items ≡ filter_map (if_read job.ranges (enrolled job)) job.entries
+    requires placed { ArePlaced entries.items }
+    ensures members { (job : JobMeaning) → map entry_fields entries.entry.items ≡ filter_map (if_read job.ranges (enrolled job)) job.entries
         → IfOk result (λ m. m.members.items ≡ members_in (ledger_fields parts.now items.now) job) }
-    ensures late { IfOk result (λ m. m.late ≡ count_by (is_lacked (ledger_fields parts.now items.now)) entries.old.items) }
+    ensures late { IfOk result (λ m. m.late ≡ count_by (is_lacked (ledger_fields parts.now items.now)) entries.entry.items) }
 {
-    sort_entries(entries);
-    let merged = merge(alloc, parts, items, entries)?;
+    let mut keyed = entries;
+    sort_entries(&mut keyed);
+    let sorted = bare_entries(alloc, &keyed)?;
+    drop(keyed);
+    let merged = merge(alloc, parts, items, logs, &sorted)?;
     Ok(merged)
 }

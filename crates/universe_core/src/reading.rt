@@ -3,7 +3,7 @@ ghost use Rattle.std.specs.List.{filter_map, cons_option, count_by};
 ghost use Rattle.std.specs.Prelude.{◌≡◌, ◌≤◌, ◌<◌, ℕ, List, Some, IfOk, OnOk, All, [], ◌++◌, ◌&&◌, IsPermutation, length, map, slice_get};
 ghost use Rattle.ident_core.specs.Coverage.{RangesFit};
 ghost use Rattle.ident_core.specs.Order.{octets_cmp};
-ghost use Rattle.universe_core.specs.Reading.{if_read, entry_fields, class_alone, with_class};
+ghost use Rattle.universe_core.specs.Reading.{if_read, entry_fields, entries_of, class_alone, with_class};
 ghost use Rattle.universe_core.specs.History.{if_accepted};
 ghost use Rattle.universe_core.specs.Counting.{is_class};
 ghost use Rattle.universe_core.specs.Merging.{IsRising};
@@ -11,12 +11,13 @@ ghost use Rattle.universe_core.specs.Placing.{HasPlace, IsPlaced, ArePlaced, pla
 ghost use Rattle.universe_core.specs.declared.class.Class.TheVariants as class;
 
 use crate::class::Class;
-use crate::member::ReadEntry;
+use crate::log_places::LogPlaces;
+use crate::member::KeyedEntry;
 use crate::serial_key::{key_of, order_serials};
 use ident_core::Range;
 use log_core::Entry;
 use octets_core::Key32;
-use sets_core::{place_covering, place_of_key};
+use sets_core::{covers_near, place_of_key};
 use std::alloc::{AllocError, Global};
 use std::cmp::Ordering;
 
@@ -32,33 +33,27 @@ pub(crate) struct Tally {
 /// The entries that are read, and how many others there are.
 #[derive(Drop)]
 pub(crate) struct Reading<'a> {
-    pub(crate) entries: Vec<ReadEntry<'a>>,
+    pub(crate) entries: Vec<KeyedEntry<'a>>,
     pub(crate) tally: Tally,
 }
 
-/// What an entry is where no part lacks it. Of one that is read, the place of its issuer among the enrolled ones, and of
-/// the range that covers it.
+/// What an entry is where no part lacks it. Of one that is read, the place of its issuer among the enrolled ones.
 #[derive(Clone, Copy)]
 struct Told {
     class: Class,
     place: u32,
-    near: u32,
 }
 
 /// Of an entry that isn't read.
 fn passed_over(class: Class) -> Told
     ensures { result.class ≡ class }
 {
-    Told {
-        class,
-        place: 0,
-        near: 0,
-    }
+    Told { class, place: 0 }
 }
 
 /// What is told of an entry.
 #[tactic(auto, using(crate::proofs::Classes::class_unread))]
-fn classify(ranges: &[Range], issuers: &[Key32], entry: &Option<Entry>) -> Told
+fn classify(ranges: &[Range], logs: &LogPlaces, issuers: &[Key32], entry: &Option<Entry>) -> Told
     requires ranges { RangesFit ranges.now }
     requires sorted { IsStrictlySortedBy octets_cmp issuers.now }
     requires few { length issuers.now ≤ 65535 }
@@ -68,36 +63,33 @@ fn classify(ranges: &[Range], issuers: &[Key32], entry: &Option<Entry>) -> Told
     let Some(entry) = entry else {
         return passed_over(Class::Unread);
     };
-    let Some(near) = place_covering(ranges, &entry.sighting) else {
+    if !covers_near(ranges, logs.near(&entry.sighting), &entry.sighting) {
         return passed_over(Class::Uncovered);
-    };
+    }
     let Some(place) = place_of_key(issuers, &entry.id.issuer) else {
         return passed_over(Class::Unenrolled);
     };
     Told {
         class: Class::Accepted,
         place: place as u32,
-        near: near as u32,
     }
 }
 
 /// The entry of these, with what is told of it.
-fn read_entry(entry: &Entry, told: Told) -> ReadEntry<'_>
+fn read_entry(entry: &Entry, told: Told) -> KeyedEntry<'_>
     ensures entry { entry_fields result ≡ entry.now }
     ensures placed { (issuers : List (List ℕ)) → slice_get issuers told.place ≡ Some entry.now.id.issuer → IsPlaced issuers result }
 {
-    ReadEntry {
-        id: &entry.id,
-        sighting: &entry.sighting,
+    KeyedEntry {
+        entry,
         place: told.place,
-        near: told.near,
         key: key_of(&entry.id.serial),
     }
 }
 
 /// Keeps an entry that is read.
 fn keep_entry<'a>(
-    out: &mut Vec<ReadEntry<'a>>,
+    out: &mut Vec<KeyedEntry<'a>>,
     told: Told,
     entry: &'a Option<Entry>,
 ) -> Result<(), AllocError>
@@ -143,6 +135,7 @@ fn counted(tally: Tally, class: Class) -> Tally
 pub(crate) fn read<'a>(
     alloc: Global,
     ranges: &[Range],
+    logs: &LogPlaces,
     issuers: &[Key32],
     entries: &'a [Option<Entry>],
 ) -> Result<Reading<'a>, AllocError>
@@ -169,7 +162,7 @@ pub(crate) fn read<'a>(
         read: 0,
     };
     for entry in entries {
-        let told = classify(ranges, issuers, entry);
+        let told = classify(ranges, logs, issuers, entry);
         keep_entry(&mut left, told, entry)?;
         tally = counted(tally, told.class);
     }
@@ -180,20 +173,30 @@ pub(crate) fn read<'a>(
 }
 
 /// How entries are ordered: by the places of their issuers, then as serials are.
-fn order(x: &ReadEntry<'_>, y: &ReadEntry<'_>) -> Ordering
+fn order(x: &KeyedEntry<'_>, y: &KeyedEntry<'_>) -> Ordering
     ensures { result ≡ placed_cmp x.now y.now }
 {
     if x.place != y.place {
         return x.place.cmp(&y.place);
     }
-    order_serials(&x.id.serial, x.key, &y.id.serial, y.key)
+    order_serials(&x.entry.id.serial, x.key, &y.entry.id.serial, y.key)
 }
 
 /// Sorts the entries by their identities.
-pub(crate) fn sort_entries(entries: &mut Vec<ReadEntry<'_>>)
+pub(crate) fn sort_entries(entries: &mut Vec<KeyedEntry<'_>>)
     requires { ArePlaced entries.old.items }
     ensures same { IsPermutation entries.old.items entries.new.items }
-    ensures rising { IsRising entries.new.items }
+    ensures rising { IsRising (entries_of entries.new.items) }
 {
     entries.sort_unstable_by(|x, y| order(x, y));
+}
+
+/// The entries without what they are sorted by.
+pub(crate) fn bare_entries<'a>(
+    alloc: Global,
+    entries: &[KeyedEntry<'a>],
+) -> Result<Vec<&'a Entry>, AllocError>
+    ensures { IfOk result (λ out. out.items ≡ entries_of entries.now) }
+{
+    entries.iter().map(|e| e.entry).collect(alloc)
 }
