@@ -1,18 +1,24 @@
 -- What an entry is by its job alone, and what is read and counted of it.
 use Rattle.std.specs.List.{filter_map, cons_option, count_by}
-use Rattle.std.proofs.Common.{◌≡◌, ℕ, ◌+◌, ◌<◌, List, [], ◌∷◌, ◌++◌, length, get_or, take, Bool, true, false, cond, not, ◌&&◌, Option, Some, None, refl, sym, ap, ◌∙◌, arith}
-use Rattle.std.proofs.lemmas.List.Elements.{filter_map-append}
+use Rattle.std.specs.Option.{option_map, option_map_or}
+use Rattle.std.specs.Prelude.{All, IfSome, nat_le, slice_get, unwrap_or}
+use Rattle.std.specs.Str.{bytes_eq}
+use Rattle.std.proofs.Common.{map, subst, ◌≡◌, ℕ, ◌+◌, ◌<◌, List, [], ◌∷◌, ◌++◌, length, get_or, take, Bool, true, false, cond, not, ◌&&◌, Option, Some, None, refl, sym, ap, ◌∙◌, arith}
+use Rattle.std.proofs.lemmas.Bool.{and_parts}
+use Rattle.std.proofs.lemmas.List.{append-nil}
+use Rattle.std.proofs.lemmas.List.Elements.{All-push, filter_map-append}
 use Rattle.std.proofs.lemmas.List.Sums.{count_by_more_yes, count_by_more_no}
 use Rattle.ident_core.specs.declared.identity.Identity.{Identity}
 use Rattle.ident_core.specs.declared.range.Sighting.{Sighting}
 use Rattle.ident_core.specs.declared.range.Range.{Range}
-use Rattle.ident_core.specs.Coverage.{covers}
+use Rattle.ident_core.specs.Coverage.{covers, is_within}
 use Rattle.sets_core.specs.Sets.{has_key}
 use Rattle.sets_core.proofs.Keys.{take_is}
+use Rattle.sets_core.proofs.Sets.{bytes_same}
 use Rattle.universe_core.specs.Jobs.{Entry}
 use Rattle.universe_core.specs.History.{Past, class_by, if_accepted}
 use Rattle.universe_core.specs.Ledgers.{no_ledger, past_in, parts_before, item_of}
-use Rattle.universe_core.specs.Reading.{if_read, class_alone, one_if}
+use Rattle.universe_core.specs.Reading.{if_read, entry_fields, class_alone, one_if}
 use Rattle.universe_core.specs.declared.class.Class.TheVariants.{Unread, Uncovered, Unenrolled, Late, Accepted}
 
 -- without parts nothing is late
@@ -78,3 +84,42 @@ pub count_more : {A : Type 0} (p : A → Bool) (xs : List A) (i : ℕ) (x : A) (
     → n ≡ count_by p (take i xs) → b ≡ p x → m ≡ n + one_if b → m ≡ count_by p (take (i + 1) xs)
 count_more p xs i x n m true l e a b c = c ∙ ap (λ k. k + 1) a ∙ sym (count_by_more_yes p xs i x l (ap p (sym e) ∙ sym b))
 count_more p xs i x n m false l e a b c = let k = count_by_more_no p xs i x l (ap p (sym e) ∙ sym b) in omega arith
+
+-- what is kept beside what was
+pub kept_more : {A B : Type 0} (f : A → B) (old : List A) (o : Option A) (x : Option B) → option_map f o ≡ x → map f (old ++ cons_option o []) ≡ map f old ++ cons_option x []
+kept_more f [] None x e = ap (λ z. cons_option z []) e
+kept_more f [] (Some a) x e = ap (λ z. cons_option z []) e
+kept_more f (b ∷ old) o x e = ap (λ z. f b ∷ z) (kept_more f old o x e)
+
+pub kept_all : {A : Type 0} (P : A → Type 0) (old : List A) (o : Option A) → All P old → IfSome o P → All P (old ++ cons_option o [])
+kept_all P old None a h = subst (All P) (sym (append-nil old)) a
+kept_all P old (Some x) a h = All-push P old x a h
+
+-- ---- what the places of a read entry stand for
+
+log_of : (o : Option Range) (s : Sighting) → option_map (is_within s) o ≡ Some true → option_map_or (λ (r : Range). r.log) o [] ≡ s.log
+log_of None s h = absurd cc
+log_of (Some r) s h =
+    let t : is_within s r ≡ true = cc in
+    bytes_same r.log s.log (and_parts (bytes_eq r.log s.log) (nat_le r.from s.time) (and_parts (bytes_eq r.log s.log && nat_le r.from s.time) (nat_le s.time r.to) t).0).0
+
+pub told_is : (ranges : List Range) (issuers : List (List ℕ)) (e : Entry) (near place : ℕ) → option_map (is_within e.sighting) (slice_get ranges near) ≡ Some true
+    → slice_get issuers place ≡ Some e.id.issuer
+    → entry_fields issuers ranges (record { time = e.sighting.time; place = place; near = near; serial = e.id.serial }) ≡ e
+told_is ranges issuers e near place r k =
+    let log = log_of (slice_get ranges near) e.sighting r in
+    let issuer = ap (λ (o : Option (List ℕ)). unwrap_or o []) k in
+    λ i. record { id = record { issuer = issuer i; serial = e.id.serial }; sighting = record { log = log i; time = e.sighting.time } }
+
+pub read_is : (ranges : List Range) (issuers : List (List ℕ)) (e : Entry) → covers ranges e.sighting ≡ true → has_key issuers e.id.issuer ≡ true → Some e ≡ if_read ranges issuers (Some e)
+read_is ranges issuers e c n = rw (c, n) refl
+
+pub not_covered : (ranges : List Range) (issuers : List (List ℕ)) (e : Entry) → covers ranges e.sighting ≡ false → None ≡ if_read ranges issuers (Some e)
+not_covered ranges issuers e c = rw c refl
+
+pub not_enrolled : (ranges : List Range) (issuers : List (List ℕ)) (e : Entry) → has_key issuers e.id.issuer ≡ false → None ≡ if_read ranges issuers (Some e)
+not_enrolled ranges issuers e n = by (covers ranges e.sighting)
+  where
+    by : (b : Bool) → None ≡ cond (b && has_key issuers e.id.issuer) (Some e) None
+    by true = rw n refl
+    by false = refl

@@ -11,16 +11,16 @@ use Rattle.universe_core.specs.declared.member.Member.{Member}
 abbrev pub frame : CodeJob → ℕ × List Range
 frame job = (job.epoch, job.ranges.items)
 
-module _ (whole given left rest : CodeJob) (w : whole ≡ given) (r : rest ≡ left) where
+module _ (given left rest : CodeJob) (r : rest ≡ left) where
   -- the epoch and the ranges
-  pub frame_left : left.epoch ≡ given.epoch → left.ranges.items ≡ given.ranges.items → frame rest ≡ frame whole
-  frame_left e s = ap frame r ∙ (λ k. (e k, s k)) ∙ ap frame (sym w)
+  pub frame_left : left.epoch ≡ given.epoch → left.ranges.items ≡ given.ranges.items → frame rest ≡ frame given
+  frame_left e s = ap frame r ∙ (λ k. (e k, s k))
 
   -- and the CRLs, beside what was accepted of the whole job
   pub are_of : (ledger : LedgerFields) (crls : List JobCrl) (shown issuers : List (List ℕ)) (members : List Member) → left.crls.items ≡ given.crls.items → crls ≡ rest.crls.items
-      → shown ≡ issuers → issuers ≡ enrolled (facts_of_job whole) → members ≡ members_in ledger (facts_of_job whole) → AreOf ledger (facts_of_job whole) crls shown members
+      → shown ≡ issuers → issuers ≡ enrolled (facts_of_job given) → members ≡ members_in ledger (facts_of_job given) → AreOf ledger (facts_of_job given) crls shown members
   are_of ledger crls shown issuers members c d i k m = record {
-    crls = ap (λ (j : CodeJob). accepted_of j.crls.items) w ∙ ap accepted_of (sym c) ∙ ap (λ (j : CodeJob). accepted_of j.crls.items) (sym r) ∙ ap accepted_of (sym d);
+    crls = ap accepted_of (sym c) ∙ ap (λ (j : CodeJob). accepted_of j.crls.items) (sym r) ∙ ap accepted_of (sym d);
     issuers = i ∙ k;
     members = m;
   }

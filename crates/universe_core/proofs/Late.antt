@@ -1,6 +1,6 @@
 -- How many entries are late, and how many are accepted.
 use Rattle.std.specs.List.{count_by, filter_map, cons_option}
-use Rattle.std.proofs.Common.{◌≡◌, ℕ, suc, ◌+◌, ◌-◌, ◌≤◌, List, [], ◌∷◌, map, filter, length, Bool, true, false, cond, not, ◌&&◌, Option, Some, None, refl, sym, ap, ◌∙◌, arith}
+use Rattle.std.proofs.Common.{◌≡◌, ℕ, suc, ◌+◌, ◌-◌, ◌≤◌, List, [], ◌∷◌, filter, length, Bool, true, false, cond, not, ◌&&◌, Option, Some, None, refl, sym, ap, ◌∙◌, arith}
 use Rattle.std.proofs.lemmas.Bool.{true≢false}
 use Rattle.std.proofs.lemmas.List.Sums.{length-filter, count_by-le-length}
 use Rattle.ident_core.specs.Coverage.{covers}
@@ -11,12 +11,10 @@ use Rattle.universe_core.specs.Jobs.{Entry, Job, facts_of_job, enrolled}
 use Rattle.universe_core.specs.History.{Past, class_by, class_of}
 use Rattle.universe_core.specs.Ledgers.{no_ledger, past_in}
 use Rattle.universe_core.specs.Counting.{is_class, count}
-use Rattle.universe_core.specs.Reading.{entry_fields, if_read, is_lacked}
+use Rattle.universe_core.specs.Reading.{if_read, is_lacked}
 use Rattle.universe_core.specs.declared.class.Class.{Class}
 use Rattle.universe_core.specs.declared.class.Class.TheVariants.{Uncovered, Unenrolled, Late, Accepted}
-use Rattle.universe_core.specs.declared.member.KeyedEntry.{KeyedEntry}
 use Rattle.universe_core.proofs.Classes.{none_late}
-use Rattle.universe_core.proofs.Tallies.{count_by-map}
 
 late_step : (c n l : Bool) (e : Entry) (o : Option Entry) (rest : List Entry) (others : List (Option Entry)) (t : Entry → Bool) → t e ≡ l → length (filter t rest) ≡ length others
     → length (filter t (cons_option (cond (c && n) (Some e) None) rest)) ≡ length (cond (is_class Late (cond (not c) Uncovered (cond (not n) Unenrolled (cond l Late Accepted)))) (o ∷ others) others)
@@ -36,10 +34,10 @@ late_read past job (Some e ∷ es) =
     late_step (covers job.ranges e.sighting) (has_key (enrolled job) e.id.issuer) (past.lacked e.id e.sighting) e (Some e) (filter_map (if_read job.ranges (enrolled job)) es)
     (filter (λ o. is_class Late (class_of past job o)) es) (λ (d : Entry). past.lacked d.id d.sighting) refl (late_read past job es)
 
-pub late_is : (ledger : LedgerFields) (job : Job) (left : List KeyedEntry) (n : ℕ)
-    → map entry_fields left ≡ filter_map (if_read job.ranges (enrolled job)) job.entries → n ≡ count_by (is_lacked ledger) left → n ≡ count Late (past_in ledger) job
+pub late_is : (ledger : LedgerFields) (job : Job) (left : List Entry) (n : ℕ)
+    → left ≡ filter_map (if_read job.ranges (enrolled job)) job.entries → n ≡ count_by (is_lacked ledger) left → n ≡ count Late (past_in ledger) job
 late_is ledger job left n l h =
-    h ∙ sym (count_by-map (λ (e : Entry). (past_in ledger).lacked e.id e.sighting) entry_fields left) ∙ ap (count_by (λ (e : Entry). (past_in ledger).lacked e.id e.sighting)) l
+    h ∙ ap (count_by (λ (e : Entry). (past_in ledger).lacked e.id e.sighting)) l
     ∙ sym (length-filter (λ (e : Entry). (past_in ledger).lacked e.id e.sighting) (filter_map (if_read job.ranges (enrolled job)) job.entries)) ∙ late_read (past_in ledger) job job.entries
     ∙ length-filter (λ o. is_class Late (class_of (past_in ledger) job o)) job.entries
 

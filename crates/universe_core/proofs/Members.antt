@@ -30,7 +30,6 @@ use Rattle.ledger_core.specs.declared.fields.LedgerItem.{LedgerItem}
 use Rattle.sets_core.proofs.Elements.{Among-filter, Among-in_filter, Among-map, Among-in_map, Among-filter_map, Among-in_filter_map, found, any_at, all_at, all_from, bool_same, map_agree}
 use Rattle.sets_core.proofs.Sets.{same_is, same_refl, identity_total, Among-with_all, Among-in_with_all}
 use Rattle.sets_core.proofs.Order.{sorted_unique, sorted_all_inserted}
-use Rattle.std.specs.Borrow.{Bor}
 use Rattle.universe_core.specs.declared.member.Member.{Member}
 use Rattle.universe_core.specs.Merging.{all_ids, count_told, merged}
 use Rattle.universe_core.specs.Judging.{is_late_beside, is_timely, timely, sightings_of, is_member_of, member_of, judge_of}
@@ -62,28 +61,27 @@ accept_is true false l d e h = absurd cc
 accept_is false n l d e h = absurd cc
 
 -- the sorted entries of a job are those that its ranges cover and whose issuers are enrolled
-pub record AreRead (job : Job) (sorted : List (Bor Entry)) : Type 0 where
-  pub among : (e : Bor Entry) → Among sorted e → Among job.entries (Some e.now) × (covers job.ranges e.now.sighting ≡ true) × (has_key (enrolled job) e.now.id.issuer ≡ true)
-  pub all : (e : Entry) → Among job.entries (Some e) → covers job.ranges e.sighting ≡ true → has_key (enrolled job) e.id.issuer ≡ true → (d : Bor Entry) × Among sorted d × (d.now ≡ e)
+pub record AreRead (job : Job) (sorted : List Entry) : Type 0 where
+  pub among : (e : Entry) → Among sorted e → Among job.entries (Some e) × (covers job.ranges e.sighting ≡ true) × (has_key (enrolled job) e.id.issuer ≡ true)
+  pub all : (e : Entry) → Among job.entries (Some e) → covers job.ranges e.sighting ≡ true → has_key (enrolled job) e.id.issuer ≡ true → Among sorted e
 
-module _ (past : Past) (job : Job) (sorted : List (Bor Entry)) (reads : AreRead job sorted) where
-  shown_to : (d : Bor Entry) → Among sorted d → past.lacked d.now.id d.now.sighting ≡ false → Among (shown past job) d.now
+module _ (past : Past) (job : Job) (sorted : List Entry) (reads : AreRead job sorted) where
+  shown_to : (d : Entry) → Among sorted d → past.lacked d.id d.sighting ≡ false → Among (shown past job) d
   unfolding shown class_by
   shown_to d a l =
       let r = reads.among d a in
-      Among-in_filter_map (λ o. if_accepted (class_of past job o) o) job.entries (Some d.now) d.now r.0
-      (accept_yes (covers job.ranges d.now.sighting) (has_key (enrolled job) d.now.id.issuer) (past.lacked d.now.id d.now.sighting) d.now r.1 r.2 l)
+      Among-in_filter_map (λ o. if_accepted (class_of past job o) o) job.entries (Some d) d r.0
+      (accept_yes (covers job.ranges d.sighting) (has_key (enrolled job) d.id.issuer) (past.lacked d.id d.sighting) d r.1 r.2 l)
 
   from_entry : (o : Option Entry) (e : Entry) → Among job.entries o → if_accepted (class_of past job o) o ≡ Some e
-      → (d : Bor Entry) × Among sorted d × (d.now ≡ e) × (past.lacked d.now.id d.now.sighting ≡ false)
+      → Among sorted e × (past.lacked e.id e.sighting ≡ false)
   unfolding class_by
   from_entry None e a h = absurd cc
   from_entry (Some d) e a h =
       let t = accept_is (covers job.ranges d.sighting) (has_key (enrolled job) d.id.issuer) (past.lacked d.id d.sighting) d e h in
-      let r = reads.all d a t.1 t.2 in
-      (r.0, r.1, r.2 ∙ t.0, subst (λ (z : Entry). past.lacked z.id z.sighting ≡ false) (sym r.2) t.3)
+      (subst (λ z. Among sorted z) t.0 (reads.all d a t.1 t.2), subst (λ (z : Entry). past.lacked z.id z.sighting ≡ false) t.0 t.3)
 
-  shown_from : (e : Entry) → Among (shown past job) e → (d : Bor Entry) × Among sorted d × (d.now ≡ e) × (past.lacked d.now.id d.now.sighting ≡ false)
+  shown_from : (e : Entry) → Among (shown past job) e → Among sorted e × (past.lacked e.id e.sighting ≡ false)
   unfolding shown
   shown_from e a =
       let f = Among-filter_map (λ o. if_accepted (class_of past job o) o) job.entries e a in
@@ -124,13 +122,22 @@ unfolding past_in parts_before item_of
 lacked_is parts items x s =
     ap (λ n. lacked_by (take (birth_or n (find (λ (i : LedgerItem). is_same x i.id) items)) (map part_fields parts)) x s) (length-map parts part_fields)
 
--- where the part of the last is there, it covers the entries or not
-pub settled_there : (parts : List LedgerPart) (last : Option ℕ) (place : ℕ) (part : LedgerPart) (run : List (Bor Entry)) → last ≡ Some place → slice_get parts place ≡ Some part
-    → list_all (λ e. covers part.ranges.items e.now.sighting) run ≡ last_covers (map part_fields parts) last (sightings_of run)
-settled_there parts last place part run h at =
-    sym (list_all-map (covers part.ranges.items) (λ (e : Bor Entry). e.now.sighting) run)
-    ∙ sym (ap (λ o. last_covers (map part_fields parts) o (sightings_of run)) h
-    ∙ ap (λ q. part_covers q (sightings_of run)) (slice_get-map part_fields parts place ∙ ap (option_map part_fields) at))
+kept_of : {A B : Type 0} (f : A → B) (p : B → Bool) (xs : List A) → map f (filter (λ x. p (f x)) xs) ≡ filter p (map f xs)
+kept_of f p [] = refl
+kept_of f p (x ∷ xs) =
+    (elim (p (f x)) as (λ b. map f (cond b (x ∷ filter (λ y. p (f y)) xs) (filter (λ y. p (f y)) xs)) ≡ cond b (f x ∷ filter p (map f xs)) (filter p (map f xs)))
+    [ true ↦ ap (λ z. f x ∷ z) (kept_of f p xs) | false ↦ kept_of f p xs ])
+
+-- where the part of the last is there, it covers the entries that pass a test or not
+pub settled_there : {A : Type 0} (f : A → Entry) (test : Entry → Bool) (parts : List LedgerPart) (last : Option ℕ) (place : ℕ) (part : LedgerPart) (run : List A)
+    → last ≡ Some place → slice_get parts place ≡ Some part
+    → list_all (λ e. covers part.ranges.items (f e).sighting) (filter (λ e. test (f e)) run) ≡ last_covers (map part_fields parts) last (sightings_of (filter test (map f run)))
+settled_there f test parts last place part run h at =
+    sym (list_all-map (λ (e : Entry). covers part.ranges.items e.sighting) f (filter (λ e. test (f e)) run))
+    ∙ ap (list_all (λ (e : Entry). covers part.ranges.items e.sighting)) (kept_of f test run)
+    ∙ sym (list_all-map (covers part.ranges.items) (λ (e : Entry). e.sighting) (filter test (map f run)))
+    ∙ sym (ap (λ o. last_covers (map part_fields parts) o (sightings_of (filter test (map f run)))) h
+    ∙ ap (λ q. part_covers q (sightings_of (filter test (map f run)))) (slice_get-map part_fields parts place ∙ ap (option_map part_fields) at))
 
 -- some entry doesn't pass where not all of them do
 other_step : (b any : Bool) (n m : ℕ) → n ≤ m → nat_lt n m ≡ any → nat_lt (cond b 1 0 + n) (suc m) ≡ (not b || any)
@@ -148,7 +155,7 @@ some_if true x = refl
 some_if false x = refl
 
 -- what the code makes of an identity, from how many of its entries are late
-pub judged_is : (parts : List LedgerPart) (x : Identity) (old : Option LedgerItem) (run : List (Bor Entry)) (accepted : Bool) (birth : ℕ) (last : Option ℕ) (settled : Bool)
+pub judged_is : (parts : List LedgerPart) (x : Identity) (old : Option LedgerItem) (run : List Entry) (accepted : Bool) (birth : ℕ) (last : Option ℕ) (settled : Bool)
     → accepted ≡ is_member_of parts old run → birth ≡ birth_or (length parts) old → last ≡ last_or_none old
     → settled ≡ last_covers (map part_fields parts) last (sightings_of (filter (is_timely parts birth) run))
     → then_some accepted (record { id = x; birth = birth; last = last; settled = settled }) ≡ judge_of parts x old run
@@ -158,8 +165,9 @@ judged_is parts x old run accepted birth last settled a b l s =
     ∙ (λ k. cond (a k) (Some (record { id = x; birth = b k; last = l k; settled = covered k })) None)
 
 -- with the item of each entry, late is what a part before the birth of its identity lacks
-pub told_lacked : (parts : List LedgerPart) (items : List LedgerItem) (es : List (Bor Entry)) → count_told (is_late_beside parts) items es ≡ count_by (λ (e : Bor Entry). (past_in (ledger_fields parts items)).lacked e.now.id e.now.sighting) es
-told_lacked parts items es = ap (λ f. count_by f es) (λ i. λ (e : Bor Entry). sym (lacked_is parts items e.now.id e.now.sighting) i)
+pub told_lacked : (parts : List LedgerPart) (items : List LedgerItem) (es : List Entry)
+    → count_told (is_late_beside parts) items es ≡ count_by (λ (e : Entry). (past_in (ledger_fields parts items)).lacked e.id e.sighting) es
+told_lacked parts items es = ap (λ f. count_by f es) (λ i. λ (e : Entry). sym (lacked_is parts items e.id e.sighting) i)
 
 item_step : (x : Identity) (i : LedgerItem) (is : List LedgerItem) (b : Bool) → is_same x i.id ≡ b → (Among (item_ids is) x → is_some (find (λ (j : LedgerItem). is_same x j.id) is) ≡ true)
     → Among (item_ids (i ∷ is)) x → is_some (cond b (Some i) (find (λ (j : LedgerItem). is_same x j.id) is)) ≡ true
@@ -180,37 +188,37 @@ item_some : (x : Identity) (is : List LedgerItem) → is_some (find (λ (j : Led
 item_some x [] h = absurd (true≢false (sym h))
 item_some x (i ∷ is) h = back_step x i is (is_same x i.id) refl (item_some x is) h
 
-module _ (parts : List LedgerPart) (items : List LedgerItem) (job : Job) (sorted : List (Bor Entry)) (reads : AreRead job sorted) where
+module _ (parts : List LedgerPart) (items : List LedgerItem) (job : Job) (sorted : List Entry) (reads : AreRead job sorted) where
   abbrev ledger : LedgerFields
   ledger = ledger_fields parts items
 
   abbrev item_at : Identity → Option LedgerItem
   item_at x = find (λ (i : LedgerItem). is_same x i.id) items
 
-  abbrev run_at : Identity → List (Bor Entry)
-  run_at x = filter (λ (e : Bor Entry). is_same x e.now.id) sorted
+  abbrev run_at : Identity → List Entry
+  run_at x = filter (λ (e : Entry). is_same x e.id) sorted
 
-  abbrev late_in : Identity → Bor Entry → Bool
-  late_in x e = lacked_by (take (birth_or (length parts) (item_at x)) (map part_fields parts)) e.now.id e.now.sighting
+  abbrev late_in : Identity → Entry → Bool
+  late_in x e = lacked_by (take (birth_or (length parts) (item_at x)) (map part_fields parts)) e.id e.sighting
 
-  late_is : (x : Identity) (e : Bor Entry) → x ≡ e.now.id → late_in x e ≡ (past_in ledger).lacked e.now.id e.now.sighting
+  late_is : (x : Identity) (e : Entry) → x ≡ e.id → late_in x e ≡ (past_in ledger).lacked e.id e.sighting
   late_is x e h =
-      subst (λ y. late_in y e ≡ (past_in ledger).lacked e.now.id e.now.sighting) (sym h) (sym (lacked_is parts items e.now.id e.now.sighting))
+      subst (λ y. late_in y e ≡ (past_in ledger).lacked e.id e.sighting) (sym h) (sym (lacked_is parts items e.id e.sighting))
 
-  timely_to : (x : Identity) (e : Bor Entry) → Among (timely parts (item_at x) (run_at x)) e → Among sorted e × (x ≡ e.now.id) × ((past_in ledger).lacked e.now.id e.now.sighting ≡ false)
+  timely_to : (x : Identity) (e : Entry) → Among (timely parts (item_at x) (run_at x)) e → Among sorted e × (x ≡ e.id) × ((past_in ledger).lacked e.id e.sighting ≡ false)
   timely_to x e a =
       let f = Among-filter (is_timely parts (birth_or (length parts) (item_at x))) (run_at x) e a in
-      let g = Among-filter (λ (d : Bor Entry). is_same x d.now.id) sorted e f.0 in
-      let i = same_is x e.now.id g.1 in
+      let g = Among-filter (λ (d : Entry). is_same x d.id) sorted e f.0 in
+      let i = same_is x e.id g.1 in
       (g.0, i, sym (late_is x e i) ∙ not_yes (late_in x e) f.1)
 
-  run_from : (x : Identity) (e : Bor Entry) → Among sorted e → x ≡ e.now.id → Among (run_at x) e
-  run_from x e a i = Among-in_filter (λ (d : Bor Entry). is_same x d.now.id) sorted e a (subst (λ y. is_same x y ≡ true) i (same_refl x))
+  run_from : (x : Identity) (e : Entry) → Among sorted e → x ≡ e.id → Among (run_at x) e
+  run_from x e a i = Among-in_filter (λ (d : Entry). is_same x d.id) sorted e a (subst (λ y. is_same x y ≡ true) i (same_refl x))
 
-  timely_at : (x : Identity) (e : Bor Entry) → x ≡ e.now.id → (past_in ledger).lacked e.now.id e.now.sighting ≡ false → is_timely parts (birth_or (length parts) (item_at x)) e ≡ true
+  timely_at : (x : Identity) (e : Entry) → x ≡ e.id → (past_in ledger).lacked e.id e.sighting ≡ false → is_timely parts (birth_or (length parts) (item_at x)) e ≡ true
   timely_at x e i l = not_no (late_in x e) (late_is x e i ∙ l)
 
-  timely_from : (x : Identity) (e : Bor Entry) → Among sorted e → x ≡ e.now.id → (past_in ledger).lacked e.now.id e.now.sighting ≡ false → Among (timely parts (item_at x) (run_at x)) e
+  timely_from : (x : Identity) (e : Entry) → Among sorted e → x ≡ e.id → (past_in ledger).lacked e.id e.sighting ≡ false → Among (timely parts (item_at x) (run_at x)) e
   timely_from x e a i l = Among-in_filter (is_timely parts (birth_or (length parts) (item_at x))) (run_at x) e (run_from x e a i) (timely_at x e i l)
 
   -- ---- the fields of a member
@@ -220,19 +228,19 @@ module _ (parts : List LedgerPart) (items : List LedgerItem) (job : Job) (sorted
       bool_same (covers_all ranges (sightings_of (timely parts (item_at x) (run_at x)))) (covers_all ranges (sightings x (shown (past_in ledger) job)))
       (λ h. all_from (covers ranges) (sightings x (shown (past_in ledger) job)) (λ s a.
       let m = Among-sightings x (shown (past_in ledger) job) s a in
-      let d = shown_from (past_in ledger) job sorted reads m.0 m.1 in
-      let i : x ≡ d.0.now.id = m.2 ∙ ap (λ (e : Entry). e.id) (sym d.2) in
-      let c : covers ranges d.0.now.sighting ≡ true = all_at (covers ranges) (sightings_of (timely parts (item_at x) (run_at x))) d.0.now.sighting h
-      (Among-in_map (λ (e : Bor Entry). e.now.sighting) (timely parts (item_at x) (run_at x)) d.0 (timely_from x d.0 d.1 i d.3)) in
-      subst (λ t. covers ranges t ≡ true) (ap (λ (e : Entry). e.sighting) d.2 ∙ m.3) c))
+      let e : Entry = m.0 in
+      let d = shown_from (past_in ledger) job sorted reads e m.1 in
+      let c : covers ranges e.sighting ≡ true = all_at (covers ranges) (sightings_of (timely parts (item_at x) (run_at x))) e.sighting h
+      (Among-in_map (λ (z : Entry). z.sighting) (timely parts (item_at x) (run_at x)) e (timely_from x e d.0 m.2 d.1)) in
+      subst (λ t. covers ranges t ≡ true) m.3 c))
       (λ h. all_from (covers ranges) (sightings_of (timely parts (item_at x) (run_at x))) (λ z a.
-      let m = Among-map (λ (e : Bor Entry). e.now.sighting) (timely parts (item_at x) (run_at x)) z a in
-      let e : Bor Entry = m.0 in
+      let m = Among-map (λ (e : Entry). e.sighting) (timely parts (item_at x) (run_at x)) z a in
+      let e : Entry = m.0 in
       let t = timely_to x e m.1 in
-      let s : Among (shown (past_in ledger) job) e.now = shown_to (past_in ledger) job sorted reads e t.0 t.2 in
-      let w : Among (sightings x (shown (past_in ledger) job)) e.now.sighting =
-      subst (λ y. Among (sightings y (shown (past_in ledger) job)) e.now.sighting) (sym t.1) (Among-in_sightings (shown (past_in ledger) job) e.now s) in
-      subst (λ (y : Sighting). covers ranges y ≡ true) m.2 (all_at (covers ranges) (sightings x (shown (past_in ledger) job)) e.now.sighting h w)))
+      let s : Among (shown (past_in ledger) job) e = shown_to (past_in ledger) job sorted reads e t.0 t.2 in
+      let w : Among (sightings x (shown (past_in ledger) job)) e.sighting =
+      subst (λ y. Among (sightings y (shown (past_in ledger) job)) e.sighting) (sym t.1) (Among-in_sightings (shown (past_in ledger) job) e s) in
+      subst (λ (y : Sighting). covers ranges y ≡ true) m.2 (all_at (covers ranges) (sightings x (shown (past_in ledger) job)) e.sighting h w)))
 
   settled_part : (q : Option LedgerPartFields) (x : Identity)
       → part_covers q (sightings_of (timely parts (item_at x) (run_at x))) ≡ part_covers q (sightings x (shown (past_in ledger) job))
@@ -267,7 +275,7 @@ module _ (parts : List LedgerPart) (items : List LedgerItem) (job : Job) (sorted
   abbrev test : Identity → Bool
   test x = is_member_of parts (item_at x) (run_at x)
 
-  abbrev timely_test : Identity → Bor Entry → Bool
+  abbrev timely_test : Identity → Entry → Bool
   timely_test x e = is_timely parts (birth_or (length parts) (item_at x)) e
 
   abbrev accepted : List Identity
@@ -290,10 +298,10 @@ module _ (parts : List LedgerPart) (items : List LedgerItem) (job : Job) (sorted
       sorted_all_inserted identity_cmp identity_total (map (λ (e : Entry). e.id) (shown (past_in ledger) job)) (item_ids items)
       s
 
-  shown_id : (z : Identity) (e : Bor Entry) → Among sorted e → z ≡ e.now.id → (past_in ledger).lacked e.now.id e.now.sighting ≡ false → Among (map (λ (d : Entry). d.id) (shown (past_in ledger) job)) z
+  shown_id : (z : Identity) (e : Entry) → Among sorted e → z ≡ e.id → (past_in ledger).lacked e.id e.sighting ≡ false → Among (map (λ (d : Entry). d.id) (shown (past_in ledger) job)) z
   shown_id z e a i l =
       subst (λ y. Among (map (λ (d : Entry). d.id) (shown (past_in ledger) job)) y) (sym i)
-      (Among-in_map (λ (d : Entry). d.id) (shown (past_in ledger) job) e.now (shown_to (past_in ledger) job sorted reads e a l))
+      (Among-in_map (λ (d : Entry). d.id) (shown (past_in ledger) job) e (shown_to (past_in ledger) job sorted reads e a l))
 
   kept_to : (z : Identity) → Among (filter test (all_ids items sorted)) z → Among accepted z
   kept_to z a =
@@ -308,23 +316,24 @@ module _ (parts : List LedgerPart) (items : List LedgerItem) (job : Job) (sorted
   from_shown : (z : Identity) → Among (map (λ (e : Entry). e.id) (shown (past_in ledger) job)) z → Among (filter test (all_ids items sorted)) z
   from_shown z a =
       let m = Among-map (λ (e : Entry). e.id) (shown (past_in ledger) job) z a in
-      let d = shown_from (past_in ledger) job sorted reads m.0 m.1 in
-      let i : z ≡ d.0.now.id = sym m.2 ∙ ap (λ (e : Entry). e.id) (sym d.2) in
+      let e : Entry = m.0 in
+      let d = shown_from (past_in ledger) job sorted reads e m.1 in
+      let i : z ≡ e.id = sym m.2 in
       let u : Among (all_ids items sorted) z =
-      Among-in_with_all (map (λ (e : Bor Entry). e.now.id) sorted) (item_ids items) z
-      (inl (subst (λ y. Among (map (λ (e : Bor Entry). e.now.id) sorted) y) (sym i) (Among-in_map (λ (e : Bor Entry). e.now.id) sorted d.0 d.1))) in
+      Among-in_with_all (map (λ (e : Entry). e.id) sorted) (item_ids items) z
+      (inl (subst (λ y. Among (map (λ (e : Entry). e.id) sorted) y) (sym i) (Among-in_map (λ (e : Entry). e.id) sorted e d.0))) in
       Among-in_filter test (all_ids items sorted) z u
-      (or_right (is_some (item_at z)) (list_any (timely_test z) (run_at z)) (any_at (timely_test z) (run_at z) d.0 (run_from z d.0 d.1 i) (timely_at z d.0 i d.3)))
+      (or_right (is_some (item_at z)) (list_any (timely_test z) (run_at z)) (any_at (timely_test z) (run_at z) e (run_from z e d.0 i) (timely_at z e i d.1)))
 
   from_item : (z : Identity) → Among (item_ids items) z → Among (filter test (all_ids items sorted)) z
   from_item z a =
-      Among-in_filter test (all_ids items sorted) z (Among-in_with_all (map (λ (e : Bor Entry). e.now.id) sorted) (item_ids items) z (inr a))
+      Among-in_filter test (all_ids items sorted) z (Among-in_with_all (map (λ (e : Entry). e.id) sorted) (item_ids items) z (inr a))
       (or_left (is_some (item_at z)) (list_any (timely_test z) (run_at z)) (some_item z items a))
 
   kept_is : IsStrictlySortedBy identity_cmp (item_ids items) → filter test (all_ids items sorted) ≡ accepted
   kept_is s =
       sorted_unique identity_cmp identity_total (filter test (all_ids items sorted)) accepted
-      (IsStrictlySortedBy-filter identity_cmp test (all_ids items sorted) (sorted_all_inserted identity_cmp identity_total (map (λ (e : Bor Entry). e.now.id) sorted) (item_ids items) s))
+      (IsStrictlySortedBy-filter identity_cmp test (all_ids items sorted) (sorted_all_inserted identity_cmp identity_total (map (λ (e : Entry). e.id) sorted) (item_ids items) s))
       (accepted_sorted s) kept_to (λ z a. ⊎_elim (λ p. from_shown z p) (λ q. from_item z q) (of_accepted z a))
 
   -- the merge gives the accepted identities, each with its birth, its last and whether its sightings are settled

@@ -1,36 +1,34 @@
--- What stands beside entries orders them as their identities do.
+-- What read entries are sorted by orders them as their identities do.
 use Rattle.std.specs.List.{slice_get}
 use Rattle.std.specs.List.Sorted.{IsStrictlySortedBy}
-use Rattle.std.specs.Prelude.{All, nat_lt}
+use Rattle.std.specs.Prelude.{nat_lt}
 use Rattle.std.specs.Cmp.{IsTotalOrder, IsStrictWeakOrder}
 use Rattle.std.specs.declared.cmp.Ordering.{Ordering}
 use Rattle.std.specs.declared.cmp.Ordering.TheVariants.{Less, Equal, Greater}
 use Rattle.std.specs.Ordering.{is_lt, nat_cmp, ordering_then, ordering_reverse}
-use Rattle.std.proofs.Common.{◌≡◌, ℕ, zero, suc, ◌<◌, List, [], ◌∷◌, length, get_or, take, cond, Bool, true, false, Some, refl, sym, ap, ◌∙◌, subst, arith}
+use Rattle.std.proofs.Common.{◌≡◌, ℕ, zero, suc, ◌<◌, List, [], ◌∷◌, length, get_or, take, cond, Bool, true, false, Some, refl, sym, ap, ◌∙◌, arith}
 use Rattle.std.proofs.lemmas.Bool.Decides.{nat_tests}
 use Rattle.std.proofs.lemmas.Cmp.{nat_cmp_total, nat_list_cmp_total, on_total, then_total, tied_itself}
 use Rattle.std.proofs.lemmas.List.Sorted.{ranks_by}
 use Rattle.std.proofs.lemmas.Map.Lookups.{exact_unsigned}
+use Rattle.std.proofs.lemmas.Option.{slice_get-get_or, unwrap_or-slice_get}
 use Rattle.octets_core.specs.Numbers.{number}
 use Rattle.ident_core.specs.Order.{octets_cmp, serial_cmp, identity_cmp}
 use Rattle.octets_core.proofs.Heads.{first_cmp}
-use Rattle.sets_core.specs.Among.{Among}
-use Rattle.sets_core.proofs.Canonical.{Contains-from_Among}
 use Rattle.sets_core.proofs.Elements.{Among-from_place, some_item}
 use Rattle.sets_core.proofs.Order.{sorted_head, sorted_tail}
-use Rattle.universe_core.specs.declared.member.KeyedEntry.{KeyedEntry}
+use Rattle.universe_core.specs.declared.read_entry.ReadEntry.{ReadEntry}
 use Rattle.universe_core.specs.declared.serial_key.SerialKey.{SerialKey}
-use Rattle.universe_core.specs.Placing.{IsKeyOf, IsPlaced, ArePlaced, keyed_cmp, placed_cmp, head_of}
+use Rattle.universe_core.specs.Placing.{IsKeyOf, keyed_cmp, placed_cmp, head_of}
+use Rattle.universe_core.specs.Reading.{id_in}
 
 placed_total : IsTotalOrder placed_cmp
 placed_total =
-    then_total (on_total (λ (e : KeyedEntry). e.place) nat_cmp_total)
-    (then_total (on_total (λ (e : KeyedEntry). e.key.length) nat_cmp_total)
-    (then_total (on_total (λ (e : KeyedEntry). e.key.head) nat_cmp_total)
-    (on_total (λ (e : KeyedEntry). e.entry.now.id.serial) (then_total (on_total (λ (s : List ℕ). length s) nat_cmp_total) nat_list_cmp_total))))
+    then_total (on_total (λ (e : ReadEntry). e.place) nat_cmp_total)
+    (on_total (λ (e : ReadEntry). e.serial) (then_total (on_total (λ (s : List ℕ). length s) nat_cmp_total) nat_list_cmp_total))
 
-pub placed_ranks : IsStrictWeakOrder (λ (a b : KeyedEntry). is_lt (placed_cmp a b))
-placed_ranks = ranks_by placed_total (λ (e : KeyedEntry). e)
+pub placed_ranks : IsStrictWeakOrder (λ (a b : ReadEntry). is_lt (placed_cmp a b))
+placed_ranks = ranks_by placed_total (λ (e : ReadEntry). e)
 
 -- ---- the steps of the code
 
@@ -96,14 +94,14 @@ keyed_is a b j k p q =
     (λ i. ordering_then (nat_cmp (p.length i) (q.length i)) (ordering_then (nat_cmp (p.head i) (q.head i)) (serial_cmp a b)))
     ∙ serial_by (nat_cmp (length a) (length b)) a b refl p.octets q.octets
 
-placed_at : (issuers : List (List ℕ)) (d e : KeyedEntry) → IsStrictlySortedBy octets_cmp issuers → IsPlaced issuers d → IsPlaced issuers e → placed_cmp d e ≡ identity_cmp d.entry.now.id e.entry.now.id
-placed_at issuers d e s p q =
-    (λ i. ordering_then (place_cmp issuers s d.place e.place d.entry.now.id.issuer e.entry.now.id.issuer p.place q.place i)
-    (keyed_is d.entry.now.id.serial e.entry.now.id.serial d.key e.key p.key q.key i))
+-- ---- read entries
 
-all_at : (P : KeyedEntry → Type 0) (es : List KeyedEntry) (d : KeyedEntry) → All P es → Among es d → P d
-all_at P es d h a = let k = Contains-from_Among es d a in subst P k.2 (h k.0 d k.1)
+issuer_there : (issuers : List (List ℕ)) (e : ReadEntry) → e.place < length issuers → slice_get issuers e.place ≡ Some (id_in issuers e).issuer
+issuer_there issuers e h = slice_get-get_or issuers e.place [] h ∙ ap Some (sym (unwrap_or-slice_get issuers e.place []))
 
--- entries whose places, lengths and heads are their identities'
-pub are_placed : (issuers : List (List ℕ)) (es : List KeyedEntry) → IsStrictlySortedBy octets_cmp issuers → All (IsPlaced issuers) es → ArePlaced es
-are_placed issuers es s h d e a b = placed_at issuers d e s (all_at (IsPlaced issuers) es d h a) (all_at (IsPlaced issuers) es e h b)
+-- places and serials order read entries as their identities are ordered
+pub placed_is : (issuers : List (List ℕ)) (d e : ReadEntry) → IsStrictlySortedBy octets_cmp issuers → d.place < length issuers → e.place < length issuers
+    → placed_cmp d e ≡ identity_cmp (id_in issuers d) (id_in issuers e)
+placed_is issuers d e s p q =
+    ap (λ o. ordering_then o (serial_cmp d.serial e.serial))
+    (place_cmp issuers s d.place e.place (id_in issuers d).issuer (id_in issuers e).issuer (issuer_there issuers d p) (issuer_there issuers e q))

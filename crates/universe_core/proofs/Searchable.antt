@@ -1,5 +1,7 @@
 -- The parts of a ledger can be searched.
-use Rattle.std.proofs.Common.{◌≡◌, ℕ, zero, suc, List, [], ◌∷◌, map, length, take, min, All, Option, Some, ap, ◌∙◌, arith}
+use Rattle.std.proofs.Common.{◌≡◌, ℕ, zero, suc, ◌<◌, Bool, true, List, [], ◌∷◌, map, length, take, min, All, Option, Some, ap, ◌∙◌, arith}
+use Rattle.std.specs.List.{slice_get}
+use Rattle.std.specs.Option.{option_map}
 use Rattle.octets_core.specs.Linked.{Linked}
 use Rattle.ledger_core.specs.declared.fields.LedgerPart.{LedgerPart}
 use Rattle.ledger_core.specs.LedgerFields.{LedgerPartFields, IsPartAfter, part_fields}
@@ -21,3 +23,9 @@ first_few (suc n) [] = let e : min (suc n) 0 ≡ 0 = omega arith in ap (λ m. ta
 first_few (suc n) (x ∷ xs) =
     let e : min (suc n) (length (x ∷ xs)) ≡ suc (min n (length xs)) = omega arith in
     ap (λ m. take m (x ∷ xs)) e ∙ ap (λ ys. x ∷ ys) (first_few n xs)
+
+-- a place where an element passes a test lies within
+pub place_within : {A : Type 0} (p : A → Bool) (xs : List A) (i : ℕ) → option_map p (slice_get xs i) ≡ Some true → i < length xs
+place_within p [] i h = absurd cc
+place_within p (x ∷ xs) zero h = omega arith
+place_within p (x ∷ xs) (suc i) h = let l = place_within p xs i h in omega arith

@@ -1,6 +1,6 @@
 -- The counts of a job.
 use Rattle.std.specs.List.{count_by, filter_map}
-use Rattle.std.proofs.Common.{◌≡◌, ℕ, suc, inl, inr, List, [], ◌∷◌, map, filter, length, Bool, true, false, cond, not, ◌&&◌, Option, Some, None, refl, sym, ap, ◌∙◌}
+use Rattle.std.proofs.Common.{◌≡◌, ℕ, suc, inl, inr, List, [], ◌∷◌, map, filter, length, Bool, true, false, cond, not, ◌&&◌, Option, Some, None, refl, sym, ap, ◌∙◌, subst, All}
 use Rattle.std.proofs.lemmas.Bool.{false_from_ne_true, true≢false}
 use Rattle.std.proofs.lemmas.List.Sums.{length-filter}
 use Rattle.ident_core.specs.declared.identity.Identity.{Identity}
@@ -17,11 +17,12 @@ use Rattle.universe_core.specs.Jobs.{Entry, Job, facts_of_job, enrolled}
 use Rattle.universe_core.specs.History.{Past, class_by, class_of, accepted_with, universe, is_revoked, revoked}
 use Rattle.universe_core.specs.Ledgers.{no_ledger, past_in}
 use Rattle.universe_core.specs.Counting.{is_class, count}
-use Rattle.universe_core.specs.Reading.{class_alone, if_read}
+use Rattle.universe_core.specs.Reading.{class_alone, if_read, IsTold, entries_of}
 use Rattle.universe_core.specs.Members.{member_in}
 use Rattle.universe_core.specs.declared.class.Class.{Class}
 use Rattle.universe_core.specs.declared.class.Class.TheVariants.{Uncovered, Unenrolled, Late, Accepted}
 use Rattle.universe_core.specs.declared.member.Member.{Member}
+use Rattle.universe_core.specs.declared.read_entry.ReadEntry.{ReadEntry}
 use Rattle.universe_core.proofs.Classes.{none_late}
 use Rattle.universe_core.proofs.Revoking.{universe_is, universe_has, revoked_is, revoked_has}
 
@@ -50,6 +51,15 @@ pub read_job : (job : CodeJob) (ranges : List Range) (issuers : List (List ℕ))
 read_job job ranges issuers es left r i e h =
     h ∙ ap (λ z. filter_map (λ d. if_read z issuers d) es) r ∙ ap (λ z. filter_map (λ d. if_read job.ranges.items z d) es) i
     ∙ ap (filter_map (λ d. if_read job.ranges.items (enrolled (facts_of_job job)) d)) e
+
+-- the same, where the issuers and the ranges are shown once more
+pub read_again : (issuers keys : List (List ℕ)) (ranges shown : List Range) (left : List ReadEntry) (whole : List Entry) → keys ≡ issuers → shown ≡ ranges
+    → entries_of issuers ranges left ≡ whole → entries_of keys shown left ≡ whole
+read_again issuers keys ranges shown left whole k s h = (λ i. entries_of (k i) (s i) left) ∙ h
+
+pub told_again : (issuers keys : List (List ℕ)) (ranges shown : List Range) (left : List ReadEntry) → keys ≡ issuers → shown ≡ ranges
+    → All (IsTold issuers ranges) left → All (IsTold keys shown) left
+told_again issuers keys ranges shown left k s h = subst (λ is. All (IsTold is shown) left) (sym k) (subst (λ rs. All (IsTold issuers rs) left) (sym s) h)
 
 count_none : {A : Type 0} (p : A → Bool) (xs : List A) → ((x : A) → p x ≡ false) → count_by p xs ≡ 0
 count_none p xs f = sym (length-filter p xs) ∙ ap length (filter_none p xs (λ x a. f x))

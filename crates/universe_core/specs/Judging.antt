@@ -10,7 +10,6 @@ use Rattle.ledger_core.specs.declared.fields.LedgerPart.{LedgerPart}
 use Rattle.ledger_core.specs.declared.fields.LedgerItem.{LedgerItem}
 use Rattle.ledger_core.specs.LedgerFields.{part_fields}
 use Rattle.universe_core.specs.Ledgers.{birth_or, last_or_none, last_covers, lacked_by}
-use Rattle.std.specs.Borrow.{Bor}
 use Rattle.universe_core.specs.Jobs.{Entry}
 use Rattle.universe_core.specs.declared.member.Member.{Member}
 
@@ -20,27 +19,27 @@ pub record IsSearchable (p : LedgerPart) : Type 0 where
   pub ranges : AreRanges p.ranges.items
 
 -- whether an entry is late, of an identity that was born before so many of the parts
-abbrev pub is_late_by : List LedgerPart → ℕ → Bor Entry → Bool
-is_late_by parts birth e = lacked_by (take birth (map part_fields parts)) e.now.id e.now.sighting
+abbrev pub is_late_by : List LedgerPart → ℕ → Entry → Bool
+is_late_by parts birth e = lacked_by (take birth (map part_fields parts)) e.id e.sighting
 
 -- the same of an identity with this item
-abbrev pub is_late_beside : List LedgerPart → Option LedgerItem → Bor Entry → Bool
+abbrev pub is_late_beside : List LedgerPart → Option LedgerItem → Entry → Bool
 is_late_beside parts old e = is_late_by parts (birth_or (length parts) old) e
 
-abbrev pub is_timely : List LedgerPart → ℕ → Bor Entry → Bool
+abbrev pub is_timely : List LedgerPart → ℕ → Entry → Bool
 is_timely parts birth e = not (is_late_by parts birth e)
 
-abbrev pub timely : List LedgerPart → Option LedgerItem → List (Bor Entry) → List (Bor Entry)
+abbrev pub timely : List LedgerPart → Option LedgerItem → List Entry → List Entry
 timely parts old run = filter (is_timely parts (birth_or (length parts) old)) run
 
-abbrev pub sightings_of : List (Bor Entry) → List Sighting
-sightings_of run = map (λ e. e.now.sighting) run
+abbrev pub sightings_of : List Entry → List Sighting
+sightings_of run = map (λ e. e.sighting) run
 
 -- whether it has an item, or an entry that isn't late
-abbrev pub is_member_of : List LedgerPart → Option LedgerItem → List (Bor Entry) → Bool
+abbrev pub is_member_of : List LedgerPart → Option LedgerItem → List Entry → Bool
 is_member_of parts old run = is_some old || list_any (is_timely parts (birth_or (length parts) old)) run
 
-abbrev pub member_of : List LedgerPart → Identity → Option LedgerItem → List (Bor Entry) → Member
+abbrev pub member_of : List LedgerPart → Identity → Option LedgerItem → List Entry → Member
 member_of parts x old run = record {
   id = x;
   birth = birth_or (length parts) old;
@@ -48,5 +47,5 @@ member_of parts x old run = record {
   settled = last_covers (map part_fields parts) (last_or_none old) (sightings_of (timely parts old run));
 }
 
-abbrev pub judge_of : List LedgerPart → Identity → Option LedgerItem → List (Bor Entry) → Option Member
+abbrev pub judge_of : List LedgerPart → Identity → Option LedgerItem → List Entry → Option Member
 judge_of parts x old run = cond (is_member_of parts old run) (Some (member_of parts x old run)) None

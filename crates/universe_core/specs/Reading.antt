@@ -1,7 +1,10 @@
 -- Which of a job's entries are read.
-use Rattle.std.specs.Borrow.{Bor}
-use Rattle.std.specs.Prelude.{ℕ, ◌+◌, List, map, ◌&&◌, Bool, cond, Option, Some, None}
+use Rattle.std.specs.Prelude.{ℕ, ◌+◌, ◌<◌, List, [], map, length, ◌&&◌, Bool, cond, Option, Some, None, unwrap_or}
+use Rattle.std.specs.List.{slice_get}
+use Rattle.std.specs.Option.{option_map_or}
+use Rattle.ident_core.specs.declared.identity.Identity.{Identity}
 use Rattle.ident_core.specs.declared.range.Range.{Range}
+use Rattle.ident_core.specs.declared.range.Sighting.{Sighting}
 use Rattle.ident_core.specs.Coverage.{covers}
 use Rattle.ledger_core.specs.LedgerFields.{LedgerFields}
 use Rattle.sets_core.specs.Sets.{has_key}
@@ -11,15 +14,27 @@ use Rattle.universe_core.specs.Ledgers.{no_ledger, past_in}
 use Rattle.universe_core.specs.Counting.{is_class}
 use Rattle.universe_core.specs.declared.class.Class.{Class}
 use Rattle.universe_core.specs.declared.class.Class.TheVariants.{Unread, Uncovered, Unenrolled, Accepted}
-use Rattle.universe_core.specs.declared.member.KeyedEntry.{KeyedEntry}
+use Rattle.universe_core.specs.declared.read_entry.ReadEntry.{ReadEntry}
 use Rattle.universe_core.specs.declared.reading.Tally.{Tally}
 
-abbrev pub entry_fields : KeyedEntry → Entry
-entry_fields e = e.entry.now
+-- the identity of a read entry, by the enrolled issuers
+abbrev pub id_in : List (List ℕ) → ReadEntry → Identity
+id_in issuers e = record { issuer = unwrap_or (slice_get issuers e.place) []; serial = e.serial }
 
--- the entries without what they are sorted by
-abbrev pub entries_of : List KeyedEntry → List (Bor Entry)
-entries_of es = map (λ e. e.entry) es
+-- its sighting, by the ranges of its job
+abbrev pub sighting_in : List Range → ReadEntry → Sighting
+sighting_in ranges e = record { log = option_map_or (λ r. r.log) (slice_get ranges e.near) []; time = e.time }
+
+abbrev pub entry_fields : List (List ℕ) → List Range → ReadEntry → Entry
+entry_fields issuers ranges e = record { id = id_in issuers e; sighting = sighting_in ranges e }
+
+abbrev pub entries_of : List (List ℕ) → List Range → List ReadEntry → List Entry
+entries_of issuers ranges es = map (entry_fields issuers ranges) es
+
+-- its issuer and its range are there
+pub record IsTold (issuers : List (List ℕ)) (ranges : List Range) (e : ReadEntry) : Type 0 where
+  pub issuer : e.place < length issuers
+  pub range : e.near < length ranges
 
 -- the entry, if the ranges cover it and its issuer is enrolled
 abbrev pub if_read : List Range → List (List ℕ) → Option Entry → Option Entry
@@ -43,5 +58,5 @@ with_class c t = record {
 }
 
 -- whether a part before its identity's birth covers the entry and enrolls its issuer
-abbrev pub is_lacked : LedgerFields → KeyedEntry → Bool
-is_lacked ledger e = (past_in ledger).lacked e.entry.now.id e.entry.now.sighting
+abbrev pub is_lacked : LedgerFields → Entry → Bool
+is_lacked ledger e = (past_in ledger).lacked e.id e.sighting

@@ -28,7 +28,6 @@ use crate::flagging::{next_items, revoked_now};
 use crate::following::{early_fault, next_draft, next_head};
 use crate::grouping::groups;
 use crate::held::Held;
-use crate::log_places::LogPlaces;
 use crate::member::Member;
 use crate::merging::members;
 use crate::reading::{Tally, read};
@@ -37,9 +36,11 @@ use ledger_core::{Ledger, LedgerItem, LedgerPart};
 use octets_core::Key32;
 use std::alloc::{AllocError, Global};
 
-/// What is accepted: the enrolled issuers, the identities, and how many entries there are of each class.
+/// What is accepted: the enrolled issuers, the identities, and how many entries there are of each class. The rest of
+/// the job is beside it.
 #[derive(Drop)]
-struct Acceptance {
+struct Acceptance<'a> {
+    rest: Held<'a>,
     issuers: Vec<Key32>,
     members: Vec<Member>,
     tally: Tally,
@@ -57,34 +58,40 @@ struct Built {
     revoked: u32,
 }
 
-/// Accepts a job's entries, beside a ledger.
-fn accept(
+/// Accepts a job's entries, beside a ledger. They are let go once they are read.
+fn accept<'a>(
     alloc: Global,
     parts: &[LedgerPart],
     items: &[LedgerItem],
-    job: &Job,
-) -> Result<Acceptance, AllocError>
+    job: Held<'a>,
+) -> Result<Acceptance<'a>, AllocError>
     requires few_parts { length parts.now < 256 }
     requires parts { All IsSearchable parts.now }
-    requires ranges { RangesFit job.now.ranges.items }
-    requires few_crls { length job.now.crls.items ≤ 65535 }
+    requires ranges { RangesFit (job_of job).ranges.items }
+    requires few_crls { length (job_of job).crls.items ≤ 65535 }
     requires ascend { IsStrictlySortedBy identity_cmp (map (λ i. i.id) items.now) }
-    requires few_entries { length job.now.entries.items ≤ 4294967295 }
-    ensures issuers { IfOk result (λ a. a.issuers.items ≡ enrolled_of (facts_of_job job.now)) }
-    ensures members { IfOk result (λ a. a.members.items ≡ members_in (ledger_fields parts.now items.now) (facts_of_job job.now)) }
-    ensures unread { IfOk result (λ a. a.tally.unread ≡ count class.Unread (past_by parts.now items.now) (facts_of_job job.now)) }
-    ensures uncovered { IfOk result (λ a. a.tally.uncovered ≡ count class.Uncovered (past_by parts.now items.now) (facts_of_job job.now)) }
-    ensures unenrolled { IfOk result (λ a. a.tally.unenrolled ≡ count class.Unenrolled (past_by parts.now items.now) (facts_of_job job.now)) }
-    ensures late { IfOk result (λ a. a.late ≡ count class.Late (past_by parts.now items.now) (facts_of_job job.now)) }
-    ensures accepted { IfOk result (λ a. a.accepted ≡ count class.Accepted (past_by parts.now items.now) (facts_of_job job.now)) }
+    requires few_entries { length (job_of job).entries.items ≤ 4294967295 }
+    ensures epoch { IfOk result (λ a. (job_of a.rest).epoch ≡ (job_of job.entry).epoch) }
+    ensures ranges { IfOk result (λ a. (job_of a.rest).ranges.items ≡ (job_of job.entry).ranges.items) }
+    ensures crls { IfOk result (λ a. (job_of a.rest).crls.items ≡ (job_of job.entry).crls.items) }
+    ensures issuers { IfOk result (λ a. a.issuers.items ≡ enrolled_of (facts_of_job (job_of job.entry))) }
+    ensures members { IfOk result (λ a. a.members.items ≡ members_in (ledger_fields parts.now items.now) (facts_of_job (job_of job.entry))) }
+    ensures unread { IfOk result (λ a. a.tally.unread ≡ count class.Unread (past_by parts.now items.now) (facts_of_job (job_of job.entry))) }
+    ensures uncovered { IfOk result (λ a. a.tally.uncovered ≡ count class.Uncovered (past_by parts.now items.now) (facts_of_job (job_of job.entry))) }
+    ensures unenrolled { IfOk result (λ a. a.tally.unenrolled ≡ count class.Unenrolled (past_by parts.now items.now) (facts_of_job (job_of job.entry))) }
+    ensures late { IfOk result (λ a. a.late ≡ count class.Late (past_by parts.now items.now) (facts_of_job (job_of job.entry))) }
+    ensures accepted { IfOk result (λ a. a.accepted ≡ count class.Accepted (past_by parts.now items.now) (facts_of_job (job_of job.entry))) }
 {
-    let issuers = enrolled(alloc, job)?;
-    let logs = LogPlaces::of(alloc, &job.ranges)?;
-    let reading = read(alloc, &job.ranges, &logs, &issuers, &job.entries)?;
+    let whole = job.job();
+    let issuers = enrolled(alloc, whole)?;
+    let reading = read(alloc, &whole.ranges, &issuers, &whole.entries)?;
     let tally = reading.tally;
-    let merged = members(alloc, parts, items, &logs, reading.entries)?;
+    let rest = job.without_entries(alloc);
+    let left = rest.job();
+    let merged = members(alloc, parts, items, &issuers, &left.ranges, reading.entries)?;
     let late = merged.late as u32;
     Ok(Acceptance {
+        rest,
         issuers,
         members: merged.members,
         tally,
@@ -150,11 +157,10 @@ fn step(
     ensures next { IfOk result (λ a. (trailer : List ℕ)
         → sealed_with a.next trailer ≡ next_ledger (ledger_fields parts.now items.now) (facts_of_job (job_of job.entry)) trailer) }
 {
-    let whole = job.job();
-    if let Some(fault) = early_fault(parts, whole) {
+    if let Some(fault) = early_fault(parts, job.job()) {
         return Err(fault);
     }
-    let accepted = accept(alloc, parts, items, whole)?;
+    let accepted = accept(alloc, parts, items, job)?;
     if accepted.members.len() > limits.identities as usize {
         return Err(AdmitFault::TooMany {
             what: What::Identities,
@@ -166,7 +172,7 @@ fn step(
     let timely = accepted.accepted;
     let members = accepted.members;
     let issuers = accepted.issuers;
-    let held = job.without_entries(alloc);
+    let held = accepted.rest;
     let rest = held.job();
     let place = parts.len() as u8;
     let built = build(alloc, &rest.crls, &issuers, members, place)?;
@@ -237,7 +243,7 @@ pub fn admit(
     )
 }
 
-/// As `first`, of a job that is given: its entries are let go once they are accepted.
+/// As `first`, of a job that is given: its entries are let go once they are read.
 pub fn first_of(alloc: Global, job: Job, limits: &Limits) -> Result<Admitted, AdmitFault>
     requires published { AreWithin limits.now Limits.PUBLISHED }
     requires ranges { RangesFit job.ranges.items }
@@ -254,7 +260,7 @@ pub fn first_of(alloc: Global, job: Job, limits: &Limits) -> Result<Admitted, Ad
     step(alloc, &[], &[], Held::Given(job), limits)
 }
 
-/// As `admit`, of a job that is given: its entries are let go once they are accepted.
+/// As `admit`, of a job that is given: its entries are let go once they are read.
 pub fn admit_of(
     alloc: Global,
     ledger: &Ledger,

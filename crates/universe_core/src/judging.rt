@@ -1,58 +1,67 @@
 ghost use Rattle.std.specs.List.{list_any, list_all, count_by};
 ghost use Rattle.std.specs.Prelude.{◌≡◌, filter, length, map, take, ◌<◌, ◌&&◌, All, false};
-ghost use Rattle.universe_core.specs.Ledgers.{birth_or, last_or_none, last_covers, lacked_by};
+ghost use Rattle.universe_core.specs.Ledgers.{birth_or, last_or_none, last_covers};
 ghost use Rattle.ident_core.specs.Coverage.{covers};
 ghost use Rattle.sets_core.specs.Sets.{has_key};
 ghost use Rattle.ledger_core.specs.LedgerFields.{part_fields};
 ghost use Rattle.universe_core.specs.Judging.{IsSearchable, judge_of, is_late_by, is_late_beside, is_timely, sightings_of};
+ghost use Rattle.universe_core.specs.Reading.{IsTold, entry_fields, entries_of, sighting_in};
 
-use crate::log_places::LogPlaces;
 use crate::member::Member;
-use ident_core::{Identity, Sighting};
+use crate::read_entry::ReadEntry;
+use ident_core::{Identity, Range, Sighting};
 use ledger_core::{LedgerItem, LedgerPart};
-use log_core::Entry;
+use octets_core::Key32;
 use sets_core::{covers_near, holds_key};
 
 /// Whether a part covers the sighting and enrolls the issuer. The place of the log's range is guessed.
-fn part_lacks(part: &LedgerPart, id: &Identity, sighting: &Sighting, near: usize) -> bool
+fn part_lacks(part: &LedgerPart, issuer: &Key32, sighting: &Sighting, near: usize) -> bool
     requires { IsSearchable part.now }
-    ensures { result ≡ (covers part.now.ranges.items sighting.now && has_key part.now.issuers.items id.now.issuer) }
+    ensures { result ≡ (covers part.now.ranges.items sighting.now && has_key part.now.issuers.items issuer.now) }
 {
-    covers_near(&part.ranges, near, sighting) && holds_key(&part.issuers, &id.issuer)
+    covers_near(&part.ranges, near, sighting) && holds_key(&part.issuers, issuer)
 }
 
-fn some_lacks(parts: &[LedgerPart], id: &Identity, sighting: &Sighting, near: usize) -> bool
+fn some_lacks(parts: &[LedgerPart], issuer: &Key32, sighting: &Sighting, near: usize) -> bool
     requires { All IsSearchable parts.now }
-    ensures { result ≡ list_any (λ p. covers p.ranges.items sighting.now && has_key p.issuers.items id.now.issuer) parts.now }
+    ensures { result ≡ list_any (λ p. covers p.ranges.items sighting.now && has_key p.issuers.items issuer.now) parts.now }
 {
     for part in parts {
-        if part_lacks(part, id, sighting, near) {
+        if part_lacks(part, issuer, sighting, near) {
             return true;
         }
     }
     false
 }
 
-/// Whether a part before the identity's birth covers the sighting and enrolls the issuer. The place of the log's range
-/// is guessed.
+/// Whether one of so many of the parts covers the sighting and enrolls the issuer. The place of the log's range is
+/// guessed.
 pub(crate) fn is_late(
     parts: &[LedgerPart],
     birth: usize,
-    id: &Identity,
+    issuer: &Key32,
     sighting: &Sighting,
     near: usize,
 ) -> bool
     requires { All IsSearchable parts.now }
-    ensures { result ≡ lacked_by (take birth (map part_fields parts.now)) id.now sighting.now }
+    ensures { result ≡ list_any (λ p. covers p.ranges sighting.now && has_key p.issuers issuer.now) (take birth (map part_fields parts.now)) }
 {
-    some_lacks(&parts[..birth.min(parts.len())], id, sighting, near)
+    some_lacks(&parts[..birth.min(parts.len())], issuer, sighting, near)
 }
 
-fn comes_late(parts: &[LedgerPart], birth: usize, logs: &LogPlaces, e: &Entry) -> bool
-    requires { All IsSearchable parts.now }
-    ensures { result ≡ lacked_by (take birth (map part_fields parts.now)) e.now.id e.now.sighting }
+fn comes_late(
+    parts: &[LedgerPart],
+    birth: usize,
+    issuers: &[Key32],
+    ranges: &[Range],
+    e: &ReadEntry,
+) -> bool
+    requires parts { All IsSearchable parts.now }
+    requires told { IsTold issuers.now ranges.now e.now }
+    ensures { result ≡ is_late_by parts.now birth (entry_fields issuers.now ranges.now e.now) }
 {
-    birth > 0 && is_late(parts, birth, &e.id, &e.sighting, logs.near(&e.sighting))
+    let issuer = &issuers[e.place as usize];
+    birth > 0 && is_late(parts, birth, issuer, &e.sighting(ranges), e.near as usize)
 }
 
 pub(crate) fn birth_of(parts: &[LedgerPart], old: &Option<LedgerItem>) -> u8
@@ -81,23 +90,27 @@ struct RunFacts {
     settled: bool,
 }
 
-fn count_late(parts: &[LedgerPart], birth: usize, logs: &LogPlaces, run: &[&Entry]) -> usize
-    requires { All IsSearchable parts.now }
-    ensures { result ≡ count_by (is_late_by parts.now birth) run.now }
-{
-    run.iter()
-        .filter(|e| comes_late(parts, birth, logs, e))
-        .count()
-}
-
 /// Where there is no part of a last.
-fn facts_alone(parts: &[LedgerPart], birth: usize, logs: &LogPlaces, run: &[&Entry]) -> RunFacts
-    requires { All IsSearchable parts.now }
-    ensures late { result.late ≡ count_by (is_late_by parts.now birth) run.now }
+fn facts_alone(
+    parts: &[LedgerPart],
+    birth: usize,
+    issuers: &[Key32],
+    ranges: &[Range],
+    run: &[ReadEntry],
+) -> RunFacts
+    requires parts { All IsSearchable parts.now }
+    requires told { All (IsTold issuers.now ranges.now) run.now }
+    ensures late { result.late ≡ count_by (λ e. is_late_by parts.now birth (entry_fields issuers.now ranges.now e)) run.now }
     ensures settled { result.settled ≡ false }
 {
+    let mut late = 0;
+    for e in run {
+        if comes_late(parts, birth, issuers, ranges, e) {
+            late += 1;
+        }
+    }
     RunFacts {
-        late: count_late(parts, birth, logs, run),
+        late,
         settled: false,
     }
 }
@@ -107,22 +120,25 @@ fn facts_beside(
     part: &LedgerPart,
     parts: &[LedgerPart],
     birth: usize,
-    logs: &LogPlaces,
-    run: &[&Entry],
+    issuers: &[Key32],
+    ranges: &[Range],
+    run: &[ReadEntry],
 ) -> RunFacts
     requires part { IsSearchable part.now }
     requires parts { All IsSearchable parts.now }
-    ensures late { result.late ≡ count_by (is_late_by parts.now birth) run.now }
-    ensures settled { result.settled ≡ list_all (λ e. covers part.now.ranges.items e.now.sighting) (filter (is_timely parts.now birth) run.now) }
+    requires told { All (IsTold issuers.now ranges.now) run.now }
+    ensures late { result.late ≡ count_by (λ e. is_late_by parts.now birth (entry_fields issuers.now ranges.now e)) run.now }
+    ensures settled { result.settled ≡ list_all (λ e. covers part.now.ranges.items (sighting_in ranges.now e))
+        (filter (λ e. is_timely parts.now birth (entry_fields issuers.now ranges.now e)) run.now) }
 {
     let mut facts = RunFacts {
         late: 0,
         settled: true,
     };
     for e in run {
-        if comes_late(parts, birth, logs, e) {
+        if comes_late(parts, birth, issuers, ranges, e) {
             facts.late += 1;
-        } else if !covers_near(&part.ranges, logs.near(&e.sighting), &e.sighting) {
+        } else if !covers_near(&part.ranges, e.near as usize, &e.sighting(ranges)) {
             facts.settled = false;
         }
     }
@@ -134,18 +150,21 @@ fn facts_of(
     parts: &[LedgerPart],
     last: Option<u8>,
     birth: usize,
-    logs: &LogPlaces,
-    run: &[&Entry],
+    issuers: &[Key32],
+    ranges: &[Range],
+    run: &[ReadEntry],
 ) -> RunFacts
-    requires { All IsSearchable parts.now }
-    ensures late { result.late ≡ count_by (is_late_by parts.now birth) run.now }
-    ensures settled { result.settled ≡ last_covers (map part_fields parts.now) last (sightings_of (filter (is_timely parts.now birth) run.now)) }
+    requires parts { All IsSearchable parts.now }
+    requires told { All (IsTold issuers.now ranges.now) run.now }
+    ensures late { result.late ≡ count_by (λ e. is_late_by parts.now birth (entry_fields issuers.now ranges.now e)) run.now }
+    ensures settled { result.settled ≡ last_covers (map part_fields parts.now) last
+        (sightings_of (filter (is_timely parts.now birth) (entries_of issuers.now ranges.now run.now))) }
 {
     match last {
-        None => facts_alone(parts, birth, logs, run),
+        None => facts_alone(parts, birth, issuers, ranges, run),
         Some(place) => match parts.get(place as usize) {
-            None => facts_alone(parts, birth, logs, run),
-            Some(part) => facts_beside(part, parts, birth, logs, run),
+            None => facts_alone(parts, birth, issuers, ranges, run),
+            Some(part) => facts_beside(part, parts, birth, issuers, ranges, run),
         },
     }
 }
@@ -162,17 +181,19 @@ pub(crate) fn judge(
     parts: &[LedgerPart],
     id: &Identity,
     old: &Option<LedgerItem>,
-    logs: &LogPlaces,
-    run: &[&Entry],
+    issuers: &[Key32],
+    ranges: &[Range],
+    run: &[ReadEntry],
 ) -> Judged
     requires few { length parts.now < 256 }
     requires parts { All IsSearchable parts.now }
-    ensures member { result.member ≡ judge_of parts.now id.now old.now run.now }
-    ensures late { result.late ≡ count_by (is_late_beside parts.now old.now) run.now }
+    requires told { All (IsTold issuers.now ranges.now) run.now }
+    ensures member { result.member ≡ judge_of parts.now id.now old.now (entries_of issuers.now ranges.now run.now) }
+    ensures late { result.late ≡ count_by (is_late_beside parts.now old.now) (entries_of issuers.now ranges.now run.now) }
 {
     let birth = birth_of(parts, old);
     let last = last_of(old);
-    let facts = facts_of(parts, last, birth as usize, logs, run);
+    let facts = facts_of(parts, last, birth as usize, issuers, ranges, run);
     let accepted = old.is_some() || facts.late < run.len();
     let member = Member {
         id: *id,

@@ -49,5 +49,5 @@ pub(crate) fn is_late_sighting(
 {
     let old = item_of(items, id);
     let birth = birth_of(parts, &old);
-    is_late(parts, birth as usize, id, sighting, near)
+    is_late(parts, birth as usize, &id.issuer, sighting, near)
 }

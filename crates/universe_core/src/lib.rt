@@ -17,10 +17,10 @@ mod judging;
 mod lateness;
 mod laws;
 mod listing;
-mod log_places;
 mod marking;
 mod member;
 mod merging;
+mod read_entry;
 mod reading;
 mod serial_key;
 

@@ -1,15 +1,4 @@
-use crate::serial_key::SerialKey;
 use ident_core::Identity;
-use log_core::Entry;
-
-/// An entry that is read. It stays where the job has it; beside it stands what entries are sorted by.
-#[derive(Clone, Copy)]
-pub(crate) struct KeyedEntry<'a> {
-    pub(crate) entry: &'a Entry,
-    /// The place of its issuer among the enrolled ones, which ascend.
-    pub(crate) place: u32,
-    pub(crate) key: SerialKey,
-}
 
 /// An identity accepted so far, and what its item and its entries say.
 #[derive(Clone, Copy)]

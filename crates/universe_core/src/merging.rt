@@ -1,23 +1,23 @@
 ghost use Rattle.std.specs.List.Sorted.{IsStrictlySortedBy};
-ghost use Rattle.std.specs.List.{cons_option, count_by, take_while, filter_map};
-ghost use Rattle.std.specs.Prelude.{◌≡◌, ◌≤◌, ◌++◌, [], length, map, take, drop, OnOk, IfOk, ◌<◌, All};
-ghost use Rattle.ident_core.specs.Order.{identity_cmp, is_same as same};
-ghost use Rattle.universe_core.specs.Merging.{IsRising, least_of, run_of, after_run, first_of, after_first, merged, lower};
+ghost use Rattle.std.specs.List.{cons_option, count_by, filter_map};
+ghost use Rattle.std.specs.Prelude.{◌≡◌, ◌≤◌, ◌++◌, List, [], length, map, OnOk, IfOk, ◌<◌, All};
+ghost use Rattle.ident_core.specs.Order.{identity_cmp, octets_cmp};
+ghost use Rattle.ident_core.specs.declared.range.Range.{Range as RangeFields};
+ghost use Rattle.universe_core.specs.Merging.{IsRising, least_of, run_of, first_of, after_first, merged, lower};
 ghost use Rattle.universe_core.specs.Merging.{count_told};
 ghost use Rattle.universe_core.specs.Judging.{IsSearchable, judge_of, is_late_beside};
 ghost use Rattle.ledger_core.specs.LedgerFields.{ledger_fields};
 ghost use Rattle.universe_core.specs.Jobs.{Job as JobMeaning, enrolled};
-ghost use Rattle.universe_core.specs.Placing.{ArePlaced};
-ghost use Rattle.universe_core.specs.Reading.{if_read, entry_fields, is_lacked};
+ghost use Rattle.universe_core.specs.Reading.{if_read, IsTold, entries_of, is_lacked};
 ghost use Rattle.universe_core.specs.Members.{members_in};
 
 use crate::judging::judge;
-use crate::log_places::LogPlaces;
-use crate::member::{KeyedEntry, Member};
-use crate::reading::{bare_entries, sort_entries};
-use ident_core::{Identity, is_same};
+use crate::member::Member;
+use crate::read_entry::ReadEntry;
+use crate::reading::sort_entries;
+use ident_core::{Identity, Range, is_same};
 use ledger_core::{LedgerItem, LedgerPart};
-use log_core::Entry;
+use octets_core::Key32;
 use std::alloc::{AllocError, Global};
 
 fn lower_of(x: &Identity, y: &Identity) -> Identity
@@ -27,48 +27,34 @@ fn lower_of(x: &Identity, y: &Identity) -> Identity
 }
 
 /// The least identity of both.
-fn least(items: &[LedgerItem], entries: &[&Entry]) -> Option<Identity>
-    ensures { result ≡ least_of items.now entries.now }
+fn least(issuers: &[Key32], items: &[LedgerItem], entries: &[ReadEntry]) -> Option<Identity>
+    requires { All (λ e. e.place < length issuers.now) entries.now }
+    ensures { (ranges : List RangeFields) → result ≡ least_of items.now (entries_of issuers.now ranges entries.now) }
 {
     match items.first() {
         None => match entries.first() {
             None => None,
-            Some(entry) => Some(entry.id),
+            Some(entry) => Some(entry.id(issuers)),
         },
         Some(item) => match entries.first() {
             None => Some(item.id),
-            Some(entry) => Some(lower_of(&item.id, &entry.id)),
+            Some(entry) => Some(lower_of(&item.id, &entry.id(issuers))),
         },
     }
 }
 
-fn first_same(entries: &[&Entry], id: &Identity) -> usize
-    ensures { result ≡ length (take_while (λ e. same id.now e.now.id) entries.now) }
-{
-    entries.iter().take_while(|e| is_same(id, &e.id)).count()
-}
-
 /// How many entries from the first on are the identity's.
-fn run_length(entries: &[&Entry], id: &Identity) -> usize
-    ensures value { result ≡ length (run_of id.now entries.now) }
+fn run_length(issuers: &[Key32], entries: &[ReadEntry], id: &Identity) -> usize
+    requires { All (λ e. e.place < length issuers.now) entries.now }
+    ensures value { (ranges : List RangeFields) → result ≡ length (run_of id.now (entries_of issuers.now ranges entries.now)) }
     ensures within { result ≤ length entries.now }
 {
-    let count = first_same(entries, id);
-    count
-}
-
-fn first_entries<'a, 'b>(entries: &'a [&'b Entry], count: usize) -> &'a [&'b Entry]
-    requires { count ≤ length entries.now }
-    ensures { result.now ≡ take count entries.now }
-{
-    &entries[..count]
-}
-
-fn entries_behind<'a, 'b>(entries: &'a [&'b Entry], count: usize) -> &'a [&'b Entry]
-    requires { count ≤ length entries.now }
-    ensures { result.now ≡ drop count entries.now }
-{
-    &entries[count..]
+    for (i, e) in entries.iter().enumerate() {
+        if !is_same(id, &e.id(issuers)) {
+            return i;
+        }
+    }
+    entries.len()
 }
 
 /// The first item, if it is the identity's.
@@ -117,53 +103,57 @@ fn merge(
     alloc: Global,
     parts: &[LedgerPart],
     items: &[LedgerItem],
-    logs: &LogPlaces,
-    entries: &[&Entry],
+    issuers: &[Key32],
+    ranges: &[Range],
+    entries: &[ReadEntry],
 ) -> Result<Merged, AllocError>
     requires few { length parts.now < 256 }
     requires parts { All IsSearchable parts.now }
     requires ascend { IsStrictlySortedBy identity_cmp (map (λ i. i.id) items.now) }
-    requires rise { IsRising entries.now }
-    ensures members { IfOk result (λ m. m.members.items ≡ merged (judge_of parts.now) items.now entries.now) }
-    ensures late { IfOk result (λ m. m.late ≡ count_told (is_late_beside parts.now) items.now entries.now) }
+    requires told { All (IsTold issuers.now ranges.now) entries.now }
+    requires rise { IsRising (entries_of issuers.now ranges.now entries.now) }
+    ensures members { IfOk result (λ m. m.members.items ≡ merged (judge_of parts.now) items.now (entries_of issuers.now ranges.now entries.now)) }
+    ensures late { IfOk result (λ m. m.late
+        ≡ count_told (is_late_beside parts.now) items.now (entries_of issuers.now ranges.now entries.now)) }
 {
     let mut members = Vec::with_capacity(alloc, items.len().saturating_add(entries.len()))?;
     let mut late = 0;
     let mut items_left = items;
     let mut entries_left = entries;
-    while let Some(id) = least(items_left, entries_left) {
+    while let Some(id) = least(issuers, items_left, entries_left) {
         let old = first_item(items_left, &id);
-        let count = run_length(entries_left, &id);
-        let judged = judge(parts, &id, &old, logs, first_entries(entries_left, count));
+        let (run, behind) = entries_left.split_at(run_length(issuers, entries_left, &id));
+        let judged = judge(parts, &id, &old, issuers, ranges, run);
         keep(&mut members, judged.member)?;
         late += judged.late;
         items_left = after_item(items_left, &id);
-        entries_left = entries_behind(entries_left, count);
+        entries_left = behind;
     }
     Ok(Merged { members, late })
 }
 
 /// The identities accepted so far, ascending, where these entries are those that a job's ranges cover and whose issuers
-/// it enrolls, and how many of these are late. What the entries are sorted by is let go before members are made.
+/// it enrolls, and how many of these are late.
 pub(crate) fn members(
     alloc: Global,
     parts: &[LedgerPart],
     items: &[LedgerItem],
-    logs: &LogPlaces,
-    entries: Vec<KeyedEntry<'_>>,
+    issuers: &[Key32],
+    ranges: &[Range],
+    entries: Vec<ReadEntry>,
 ) -> Result<Merged, AllocError>
     requires few { length parts.now < 256 }
     requires parts { All IsSearchable parts.now }
     requires ascend { IsStrictlySortedBy identity_cmp (map (λ i. i.id) items.now) }
-    requires placed { ArePlaced entries.items }
-    ensures members { (job : JobMeaning) → map entry_fields entries.entry.items ≡ filter_map (if_read job.ranges (enrolled job)) job.entries
+    requires issuers { IsStrictlySortedBy octets_cmp issuers.now }
+    requires told { All (IsTold issuers.now ranges.now) entries.items }
+    ensures members { (job : JobMeaning) → entries_of issuers.now ranges.now entries.items ≡ filter_map (if_read job.ranges (enrolled job)) job.entries
         → IfOk result (λ m. m.members.items ≡ members_in (ledger_fields parts.now items.now) job) }
-    ensures late { IfOk result (λ m. m.late ≡ count_by (is_lacked (ledger_fields parts.now items.now)) entries.entry.items) }
+    ensures late { IfOk result (λ m. m.late
+        ≡ count_by (is_lacked (ledger_fields parts.now items.now)) (entries_of issuers.now ranges.now entries.items)) }
 {
-    let mut keyed = entries;
-    sort_entries(&mut keyed);
-    let sorted = bare_entries(alloc, &keyed)?;
-    drop(keyed);
-    let merged = merge(alloc, parts, items, logs, &sorted)?;
+    let mut sorted = entries;
+    sort_entries(&mut sorted);
+    let merged = merge(alloc, parts, items, issuers, ranges, &sorted)?;
     Ok(merged)
 }

@@ -1,20 +1,17 @@
-use Rattle.std.proofs.Common.{◌≡◌, ◌≤◌, ◌∙◌, ◌++◌, ◌∷◌, [], ℕ, List, Some, None, ap, sym, subst, map, length, arith}
+use Rattle.std.proofs.Common.{◌≡◌, ◌≤◌, ◌∙◌, ◌++◌, ◌∷◌, [], ℕ, List, None, ap, sym, subst, map, length, arith}
 use Rattle.std.specs.List.Sorted.{IsStrictlySortedBy}
 use Rattle.std.proofs.lemmas.List.{length-map}
-use Rattle.ident_core.specs.Coverage.{RangesFit}
 use Rattle.ident_core.specs.Order.{octets_cmp}
 use Rattle.ident_core.specs.declared.range.Range.{Range}
 use Rattle.job_core.specs.JobFields.{fields_of_job}
 use Rattle.job_core.specs.declared.meaning.Job.{Job as CodeJob}
 use Rattle.ledger_core.specs.LedgerFields.{IsLedger, ledger_fields, newest, part_fields, sealed_with}
 use Rattle.universe_core.specs.Jobs.{facts_of_job, enrolled}
+use Rattle.universe_core.specs.Following.{early}
 use Rattle.universe_core.specs.Groups.{group_fields}
 use Rattle.universe_core.specs.Held.{job_of}
-use Rattle.universe_core.specs.Ledgers.{next_ledger}
 use Rattle.universe_core.specs.Members.{first_part}
-use Rattle.universe_core.specs.Step.{refusal, kind_by, parent_by, head_after, groups_after, counts_after}
-use Rattle.universe_core.specs.declared.fault.AdmitFault.TheVariants as faults
-use Rattle.job_core.specs.declared.bounds.What.TheVariants as what
+use Rattle.universe_core.specs.Step.{kind_by, parent_by}
 use Rattle.universe_core.proofs.Beginning.{job_issuers_few}
 use Rattle.universe_core.proofs.Continuing.{refusal_early, refusal_many, refusal_none, members_many, ids_ascend, groups_facts, is_next, next_is, counts_are, crls_few}
 use Rattle.universe_core.proofs.Holding.{frame_left, are_of}
@@ -24,128 +21,122 @@ use Rattle.universe_core.proofs.admission.step.Goals as goal
 
 pub returns-in-Some-clause-refused : goal.returns-in-Some-clause-refused
 returns-in-Some-clause-refused c = λ n.
-    subst (λ (j : CodeJob). refusal c.args.limits.now (ledger_fields c.args.parts.now c.args.items.now) (fields_of_job j) ≡ Some c.in-Some.fault) c.job-whole.ensures
-    (refusal_early c.args.limits.now (ledger_fields c.args.parts.now c.args.items.now) (fields_of_job c.job-whole.result.now) c.in-Some.fault (sym c.early_fault.ensures ∙ c.in-Some.is))
+    refusal_early c.args.limits.now (ledger_fields c.args.parts.now c.args.items.now) (fields_of_job (job_of c.args.job)) c.in-Some.fault
+    (ap (λ (j : CodeJob). early (map part_fields c.args.parts.now) (fields_of_job j)) (sym c.job.ensures) ∙ sym c.early_fault.ensures ∙ c.in-Some.is)
 
 pub accept-requires-clause-parts : goal.accept-requires-clause-parts
 accept-requires-clause-parts c = parts_searchable None c.args.parts.now c.requires.before.parts
 
-pub accept-requires-clause-ranges : goal.accept-requires-clause-ranges
-accept-requires-clause-ranges c = subst (λ (j : CodeJob). RangesFit j.ranges.items) (sym c.job-whole.ensures) c.requires.ranges
-
 pub accept-requires-clause-few_crls : goal.accept-requires-clause-few_crls
-accept-requires-clause-few_crls c =
-    subst (λ (j : CodeJob). length j.crls.items ≤ 65535) (sym c.job-whole.ensures) (crls_few c.args.limits.now (job_of c.args.job) c.requires.few.crls c.requires.published.crls)
+accept-requires-clause-few_crls c = crls_few c.args.limits.now (job_of c.args.job) c.requires.few.crls c.requires.published.crls
 
 pub accept-requires-clause-ascend : goal.accept-requires-clause-ascend
 accept-requires-clause-ascend c = c.requires.before.items_ascend
 
 pub returns-then-len-limits-clause-refused : goal.returns-then-len-limits-clause-refused
 returns-then-len-limits-clause-refused c = λ n.
-    let many = members_many (ledger_fields c.args.parts.now c.args.items.now) (facts_of_job c.job-whole.result.now) c.in_ok-accepted.accepted.members.items c.in_ok-accepted.ensures.members in
+    let many = members_many (ledger_fields c.args.parts.now c.args.items.now) (facts_of_job (job_of c.args.job)) c.in_ok-accepted.accepted.members.items c.in_ok-accepted.ensures.members in
     let len = c.len.ensures in
     let above = c.if-len-limits.true in
-    subst (λ (j : CodeJob). refusal c.args.limits.now (ledger_fields c.args.parts.now c.args.items.now) (fields_of_job j) ≡ Some (faults.TooMany what.Identities c.args.limits.now.identities)) c.job-whole.ensures
-    (refusal_many c.args.limits.now (ledger_fields c.args.parts.now c.args.items.now) (fields_of_job c.job-whole.result.now) (sym c.early_fault.ensures ∙ c.in_default.is) (omega arith))
+    refusal_many c.args.limits.now (ledger_fields c.args.parts.now c.args.items.now) (fields_of_job (job_of c.args.job))
+    (ap (λ (j : CodeJob). early (map part_fields c.args.parts.now) (fields_of_job j)) (sym c.job.ensures) ∙ sym c.early_fault.ensures ∙ c.in_default.is) (omega arith)
 
 pub build-requires-clause-issuers : goal.build-requires-clause-issuers
 build-requires-clause-issuers c =
-    subst (λ ks. IsStrictlySortedBy octets_cmp ks) (sym (c.deref-2.ensures.value ∙ c.in_ok-accepted.ensures.issuers)) (enrolled_ascend (facts_of_job c.job-whole.result.now))
+    subst (λ ks. IsStrictlySortedBy octets_cmp ks) (sym (c.deref-2.ensures.value ∙ c.in_ok-accepted.ensures.issuers)) (enrolled_ascend (facts_of_job (job_of c.args.job)))
 
 pub build-requires-clause-ascend : goal.build-requires-clause-ascend
 build-requires-clause-ascend c =
-    ids_ascend (ledger_fields c.args.parts.now c.args.items.now) (facts_of_job c.job-whole.result.now) c.requires.before c.in_ok-accepted.accepted.members.items c.in_ok-accepted.ensures.members
+    ids_ascend (ledger_fields c.args.parts.now c.args.items.now) (facts_of_job (job_of c.args.job)) c.requires.before c.in_ok-accepted.accepted.members.items c.in_ok-accepted.ensures.members
 
 pub returns-clause-admitted : goal.returns-clause-admitted
 returns-clause-admitted c =
-    let many = members_many (ledger_fields c.args.parts.now c.args.items.now) (facts_of_job c.job-whole.result.now) c.in_ok-accepted.accepted.members.items c.in_ok-accepted.ensures.members in
+    let many = members_many (ledger_fields c.args.parts.now c.args.items.now) (facts_of_job (job_of c.args.job)) c.in_ok-accepted.accepted.members.items c.in_ok-accepted.ensures.members in
     let len = c.len.ensures in
     let below = c.if-len-limits.false in
-    subst (λ (j : CodeJob). refusal c.args.limits.now (ledger_fields c.args.parts.now c.args.items.now) (fields_of_job j) ≡ None) c.job-whole.ensures
-    (refusal_none c.args.limits.now (ledger_fields c.args.parts.now c.args.items.now) (fields_of_job c.job-whole.result.now) (sym c.early_fault.ensures ∙ c.in_default.is) (omega arith))
+    refusal_none c.args.limits.now (ledger_fields c.args.parts.now c.args.items.now) (fields_of_job (job_of c.args.job))
+    (ap (λ (j : CodeJob). early (map part_fields c.args.parts.now) (fields_of_job j)) (sym c.job.ensures) ∙ sym c.early_fault.ensures ∙ c.in_default.is) (omega arith)
 
 pub returns-clause-head : goal.returns-clause-head
 returns-clause-head c =
-    let frame = frame_left c.job-whole.result.now (job_of c.args.job) (job_of c.without_entries-held.result) c.job-rest.result.now c.job-whole.ensures c.job-rest.ensures
-    c.without_entries-held.ensures.epoch c.without_entries-held.ensures.ranges in
+    let frame = frame_left (job_of c.args.job) (job_of c.in_ok-accepted.accepted.rest) c.job-rest.result.now c.job-rest.ensures
+    c.in_ok-accepted.ensures.epoch c.in_ok-accepted.ensures.ranges in
     c.in_ok-head.ensures
     ∙ ap (λ (x : ℕ × List Range). record { kind = kind_by (map part_fields c.args.parts.now); epoch = x.0; parent = parent_by (newest (map part_fields c.args.parts.now)); ranges = x.1 }) frame
-    ∙ ap (λ (j : CodeJob). head_after (map part_fields c.args.parts.now) (facts_of_job j)) c.job-whole.ensures
 
 pub returns-clause-groups : goal.returns-clause-groups
 returns-clause-groups c =
-    let of = are_of c.job-whole.result.now (job_of c.args.job) (job_of c.without_entries-held.result) c.job-rest.result.now c.job-whole.ensures c.job-rest.ensures
+    let of = are_of (job_of c.args.job) (job_of c.in_ok-accepted.accepted.rest) c.job-rest.result.now c.job-rest.ensures
     (ledger_fields c.args.parts.now c.args.items.now) c.deref.result.now c.deref-2.result.now c.in_ok-accepted.accepted.issuers.items c.in_ok-accepted.accepted.members.items
-    c.without_entries-held.ensures.crls c.deref.ensures.value c.deref-2.ensures.value c.in_ok-accepted.ensures.issuers c.in_ok-accepted.ensures.members in
-    subst (λ (j : CodeJob). map group_fields c.in_ok-built.built.groups.items ≡ groups_after (ledger_fields c.args.parts.now c.args.items.now) (facts_of_job j)) c.job-whole.ensures
-    (c.in_ok-built.ensures.groups (ledger_fields c.args.parts.now c.args.items.now) (facts_of_job c.job-whole.result.now) of)
+    c.in_ok-accepted.ensures.crls c.deref.ensures.value c.deref-2.ensures.value c.in_ok-accepted.ensures.issuers c.in_ok-accepted.ensures.members in
+    c.in_ok-built.ensures.groups (ledger_fields c.args.parts.now c.args.items.now) (facts_of_job (job_of c.args.job)) of
 
 pub returns-clause-facts : goal.returns-clause-facts
 returns-clause-facts c =
-    let of = are_of c.job-whole.result.now (job_of c.args.job) (job_of c.without_entries-held.result) c.job-rest.result.now c.job-whole.ensures c.job-rest.ensures
+    let of = are_of (job_of c.args.job) (job_of c.in_ok-accepted.accepted.rest) c.job-rest.result.now c.job-rest.ensures
     (ledger_fields c.args.parts.now c.args.items.now) c.deref.result.now c.deref-2.result.now c.in_ok-accepted.accepted.issuers.items c.in_ok-accepted.accepted.members.items
-    c.without_entries-held.ensures.crls c.deref.ensures.value c.deref-2.ensures.value c.in_ok-accepted.ensures.issuers c.in_ok-accepted.ensures.members in
-    groups_facts (ledger_fields c.args.parts.now c.args.items.now) (facts_of_job c.job-whole.result.now) c.requires.before (map group_fields c.in_ok-built.built.groups.items)
-    (c.in_ok-built.ensures.groups (ledger_fields c.args.parts.now c.args.items.now) (facts_of_job c.job-whole.result.now) of)
+    c.in_ok-accepted.ensures.crls c.deref.ensures.value c.deref-2.ensures.value c.in_ok-accepted.ensures.issuers c.in_ok-accepted.ensures.members in
+    groups_facts (ledger_fields c.args.parts.now c.args.items.now) (facts_of_job (job_of c.args.job)) c.requires.before (map group_fields c.in_ok-built.built.groups.items)
+    (c.in_ok-built.ensures.groups (ledger_fields c.args.parts.now c.args.items.now) (facts_of_job (job_of c.args.job)) of)
 
 pub overflow_cast-counts : goal.overflow_cast-counts
 overflow_cast-counts c =
-    let crls = subst (λ (j : CodeJob). length j.crls.items ≤ 65535) (sym c.job-whole.ensures) (crls_few c.args.limits.now (job_of c.args.job) c.requires.few.crls c.requires.published.crls) in
-    let few = job_issuers_few c.job-whole.result.now crls in
+    let crls = crls_few c.args.limits.now (job_of c.args.job) c.requires.few.crls c.requires.published.crls in
+    let few = job_issuers_few (job_of c.args.job) crls in
     let k = ap length c.in_ok-accepted.ensures.issuers in
     let n = c.len-2.ensures in
     omega arith
 
 pub next_draft-requires : goal.next_draft-requires
 next_draft-requires c =
-    let many = members_many (ledger_fields c.args.parts.now c.args.items.now) (facts_of_job c.job-whole.result.now) c.in_ok-accepted.accepted.members.items c.in_ok-accepted.ensures.members in
+    let many = members_many (ledger_fields c.args.parts.now c.args.items.now) (facts_of_job (job_of c.args.job)) c.in_ok-accepted.accepted.members.items c.in_ok-accepted.ensures.members in
     let len = c.len.ensures in
     let below = c.if-len-limits.false in
     let most : c.args.limits.now.identities ≤ 4194304 = c.requires.published.identities in
-    let crls = subst (λ (j : CodeJob). length j.crls.items ≤ 65535) (sym c.job-whole.ensures) (crls_few c.args.limits.now (job_of c.args.job) c.requires.few.crls c.requires.published.crls) in
-    let of = are_of c.job-whole.result.now (job_of c.args.job) (job_of c.without_entries-held.result) c.job-rest.result.now c.job-whole.ensures c.job-rest.ensures
+    let crls = crls_few c.args.limits.now (job_of c.args.job) c.requires.few.crls c.requires.published.crls in
+    let of = are_of (job_of c.args.job) (job_of c.in_ok-accepted.accepted.rest) c.job-rest.result.now c.job-rest.ensures
     (ledger_fields c.args.parts.now c.args.items.now) c.deref.result.now c.deref-2.result.now c.in_ok-accepted.accepted.issuers.items c.in_ok-accepted.accepted.members.items
-    c.without_entries-held.ensures.crls c.deref.ensures.value c.deref-2.ensures.value c.in_ok-accepted.ensures.issuers c.in_ok-accepted.ensures.members in
-    let frame = frame_left c.job-whole.result.now (job_of c.args.job) (job_of c.without_entries-held.result) c.job-rest.result.now c.job-whole.ensures c.job-rest.ensures
-    c.without_entries-held.ensures.epoch c.without_entries-held.ensures.ranges in
+    c.in_ok-accepted.ensures.crls c.deref.ensures.value c.deref-2.ensures.value c.in_ok-accepted.ensures.issuers c.in_ok-accepted.ensures.members in
+    let frame = frame_left (job_of c.args.job) (job_of c.in_ok-accepted.accepted.rest) c.job-rest.result.now c.job-rest.ensures
+    c.in_ok-accepted.ensures.epoch c.in_ok-accepted.ensures.ranges in
     subst (λ (x : ℕ × List Range). IsLedger (record {
       parts = map part_fields c.args.parts.now ++ first_part x.0 x.1 c.in_ok-accepted.accepted.issuers.items ∷ [];
       items = c.in_ok-built.built.items.items;
     })) (sym frame)
-    (is_next (ledger_fields c.args.parts.now c.args.items.now) (fields_of_job c.job-whole.result.now) c.in_ok-accepted.accepted.issuers.items
-    c.in_ok-built.built.items.items c.requires.before (sym c.early_fault.ensures ∙ c.in_default.is)
-    (subst (λ (j : CodeJob). RangesFit j.ranges.items) (sym c.job-whole.ensures) c.requires.ranges)
-    c.in_ok-accepted.ensures.issuers (c.in_ok-built.ensures.items (ledger_fields c.args.parts.now c.args.items.now) (facts_of_job c.job-whole.result.now) of (sym (length-map c.args.parts.now part_fields)))
-    (job_issuers_few c.job-whole.result.now crls) (omega arith))
+    (is_next (ledger_fields c.args.parts.now c.args.items.now) (fields_of_job (job_of c.args.job)) c.in_ok-accepted.accepted.issuers.items
+    c.in_ok-built.built.items.items c.requires.before
+    (ap (λ (j : CodeJob). early (map part_fields c.args.parts.now) (fields_of_job j)) (sym c.job.ensures) ∙ sym c.early_fault.ensures ∙ c.in_default.is)
+    c.requires.ranges
+    c.in_ok-accepted.ensures.issuers
+    (c.in_ok-built.ensures.items (ledger_fields c.args.parts.now c.args.items.now) (facts_of_job (job_of c.args.job)) of (sym (length-map c.args.parts.now part_fields)))
+    (job_issuers_few (job_of c.args.job) crls) (omega arith))
 
 pub returns-clause-counts : goal.returns-clause-counts
 returns-clause-counts c =
     let k = ap length c.in_ok-accepted.ensures.issuers in
     let n = c.len-2.ensures in
-    let issuers : c.len-2.result ≡ length (enrolled (facts_of_job c.job-whole.result.now)) = omega arith in
-    let of = are_of c.job-whole.result.now (job_of c.args.job) (job_of c.without_entries-held.result) c.job-rest.result.now c.job-whole.ensures c.job-rest.ensures
+    let issuers : c.len-2.result ≡ length (enrolled (facts_of_job (job_of c.args.job))) = omega arith in
+    let of = are_of (job_of c.args.job) (job_of c.in_ok-accepted.accepted.rest) c.job-rest.result.now c.job-rest.ensures
     (ledger_fields c.args.parts.now c.args.items.now) c.deref.result.now c.deref-2.result.now c.in_ok-accepted.accepted.issuers.items c.in_ok-accepted.accepted.members.items
-    c.without_entries-held.ensures.crls c.deref.ensures.value c.deref-2.ensures.value c.in_ok-accepted.ensures.issuers c.in_ok-accepted.ensures.members in
-    counts_are (ledger_fields c.args.parts.now c.args.items.now) (facts_of_job c.job-whole.result.now) _ issuers
-    (c.in_ok-built.ensures.universe (ledger_fields c.args.parts.now c.args.items.now) (facts_of_job c.job-whole.result.now) of)
-    (c.in_ok-built.ensures.revoked (ledger_fields c.args.parts.now c.args.items.now) (facts_of_job c.job-whole.result.now) of) c.in_ok-accepted.ensures.unread
+    c.in_ok-accepted.ensures.crls c.deref.ensures.value c.deref-2.ensures.value c.in_ok-accepted.ensures.issuers c.in_ok-accepted.ensures.members in
+    counts_are (ledger_fields c.args.parts.now c.args.items.now) (facts_of_job (job_of c.args.job)) _ issuers
+    (c.in_ok-built.ensures.universe (ledger_fields c.args.parts.now c.args.items.now) (facts_of_job (job_of c.args.job)) of)
+    (c.in_ok-built.ensures.revoked (ledger_fields c.args.parts.now c.args.items.now) (facts_of_job (job_of c.args.job)) of) c.in_ok-accepted.ensures.unread
     c.in_ok-accepted.ensures.uncovered c.in_ok-accepted.ensures.unenrolled c.in_ok-accepted.ensures.late
     c.in_ok-accepted.ensures.accepted
-    ∙ ap (λ (j : CodeJob). counts_after (ledger_fields c.args.parts.now c.args.items.now) (facts_of_job j)) c.job-whole.ensures
 
 pub returns-clause-next : goal.returns-clause-next
 returns-clause-next c = λ trailer.
-    let of = are_of c.job-whole.result.now (job_of c.args.job) (job_of c.without_entries-held.result) c.job-rest.result.now c.job-whole.ensures c.job-rest.ensures
+    let of = are_of (job_of c.args.job) (job_of c.in_ok-accepted.accepted.rest) c.job-rest.result.now c.job-rest.ensures
     (ledger_fields c.args.parts.now c.args.items.now) c.deref.result.now c.deref-2.result.now c.in_ok-accepted.accepted.issuers.items c.in_ok-accepted.accepted.members.items
-    c.without_entries-held.ensures.crls c.deref.ensures.value c.deref-2.ensures.value c.in_ok-accepted.ensures.issuers c.in_ok-accepted.ensures.members in
-    let frame = frame_left c.job-whole.result.now (job_of c.args.job) (job_of c.without_entries-held.result) c.job-rest.result.now c.job-whole.ensures c.job-rest.ensures
-    c.without_entries-held.ensures.epoch c.without_entries-held.ensures.ranges in
+    c.in_ok-accepted.ensures.crls c.deref.ensures.value c.deref-2.ensures.value c.in_ok-accepted.ensures.issuers c.in_ok-accepted.ensures.members in
+    let frame = frame_left (job_of c.args.job) (job_of c.in_ok-accepted.accepted.rest) c.job-rest.result.now c.job-rest.ensures
+    c.in_ok-accepted.ensures.epoch c.in_ok-accepted.ensures.ranges in
     ap (λ d. sealed_with d trailer) c.in_ok-next.ensures
     ∙ ap (λ (x : ℕ × List Range). sealed_with (record {
       parts = map part_fields c.args.parts.now ++ first_part x.0 x.1 c.in_ok-accepted.accepted.issuers.items ∷ [];
       items = c.in_ok-built.built.items.items;
     }) trailer) frame
-    ∙ next_is (ledger_fields c.args.parts.now c.args.items.now) (facts_of_job c.job-whole.result.now) c.in_ok-accepted.accepted.issuers.items
+    ∙ next_is (ledger_fields c.args.parts.now c.args.items.now) (facts_of_job (job_of c.args.job)) c.in_ok-accepted.accepted.issuers.items
     c.in_ok-built.built.items.items trailer c.in_ok-accepted.ensures.issuers
-    (c.in_ok-built.ensures.items (ledger_fields c.args.parts.now c.args.items.now) (facts_of_job c.job-whole.result.now) of (sym (length-map c.args.parts.now part_fields)))
-    ∙ ap (λ (j : CodeJob). next_ledger (ledger_fields c.args.parts.now c.args.items.now) (facts_of_job j) trailer) c.job-whole.ensures
+    (c.in_ok-built.ensures.items (ledger_fields c.args.parts.now c.args.items.now) (facts_of_job (job_of c.args.job)) of (sym (length-map c.args.parts.now part_fields)))

@@ -1,5 +1,5 @@
 use Rattle.std.specs.List.{list_any}
-use Rattle.std.proofs.Common.{◌∙◌, Bool, ◌&&◌, ap, sym, take}
+use Rattle.std.proofs.Common.{[], ◌∙◌, Bool, ◌&&◌, ap, sym, take}
 use Rattle.std.proofs.lemmas.List.Elements.{All-take}
 use Rattle.ident_core.specs.Coverage.{covers}
 use Rattle.sets_core.specs.Sets.{has_key}
@@ -14,7 +14,7 @@ some_lacks-requires c = All-take IsSearchable c.min.result c.args.parts.now c.re
 
 pub returns : goal.returns
 returns c =
-    let lacks : LedgerPart → Bool = λ p. covers p.ranges.items c.args.sighting.now && has_key p.issuers.items c.args.id.now.issuer in
+    let lacks : LedgerPart → Bool = λ p. covers p.ranges.items c.args.sighting.now && has_key p.issuers.items c.args.issuer.now in
     c.some_lacks.ensures ∙ ap (λ n. list_any lacks (take n c.args.parts.now)) c.min.ensures
     ∙ ap (list_any lacks) (first_few c.args.birth c.args.parts.now)
-    ∙ sym (any_parts c.args.id.now c.args.sighting.now c.args.birth c.args.parts.now)
+    ∙ sym (any_parts (record { issuer = c.args.issuer.now; serial = [] }) c.args.sighting.now c.args.birth c.args.parts.now)

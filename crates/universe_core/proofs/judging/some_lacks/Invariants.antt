@@ -7,5 +7,5 @@ use Rattle.universe_core.proofs.judging.some_lacks.Given as goal
 
 abbrev pub invariant-loop-part : goal.invariant-loop-part
 invariant-loop-part l =
-    list_any (λ (p : LedgerPart). covers p.ranges.items l.sighting && has_key p.issuers.items l.id.issuer) (drop l.part-index l.parts)
-    ≡ list_any (λ (p : LedgerPart). covers p.ranges.items l.sighting && has_key p.issuers.items l.id.issuer) l.parts
+    list_any (λ (p : LedgerPart). covers p.ranges.items l.sighting && has_key p.issuers.items l.issuer) (drop l.part-index l.parts)
+    ≡ list_any (λ (p : LedgerPart). covers p.ranges.items l.sighting && has_key p.issuers.items l.issuer) l.parts

@@ -1,31 +1,43 @@
-use Rattle.std.proofs.Common.{◌∙◌, cond, ap}
-use Rattle.std.specs.Borrow.{Bor}
-use Rattle.std.proofs.lemmas.List.Sorted.{sum_by-IsPermutation}
+use Rattle.std.proofs.Common.{◌∙◌, cond, ap, sym, subst, All}
+use Rattle.std.proofs.lemmas.List.Sorted.{All-permutation, IsPermutation-map, sum_by-IsPermutation}
 use Rattle.ledger_core.specs.LedgerFields.{ledger_fields}
-use Rattle.universe_core.specs.Jobs.{Entry}
 use Rattle.universe_core.specs.Judging.{is_late_beside, judge_of}
-use Rattle.universe_core.specs.Ledgers.{past_in}
-use Rattle.universe_core.specs.Merging.{count_told, merged}
-use Rattle.universe_core.specs.Reading.{entries_of, is_lacked}
-use Rattle.universe_core.specs.declared.member.KeyedEntry.{KeyedEntry}
+use Rattle.universe_core.specs.Merging.{IsRising, count_told, merged}
+use Rattle.universe_core.specs.Reading.{IsTold, entry_fields, entries_of, is_lacked}
 use Rattle.universe_core.proofs.Members.{members_are, told_lacked}
 use Rattle.universe_core.proofs.Sorting.{are_read}
-use Rattle.universe_core.proofs.Tallies.{count_by-map}
 use Rattle.universe_core.proofs.merging.members.Goals as goal
+
+pub merge-requires-clause-told : goal.merge-requires-clause-told
+merge-requires-clause-told c =
+    let told = IsTold c.args.issuers.now c.args.ranges.now in
+    subst (All told) (sym c.deref.ensures.value)
+    (All-permutation told c.args.entries.items c.sort_entries.new.entries.items c.sort_entries.ensures.same c.requires.told)
+
+pub merge-requires-clause-rise : goal.merge-requires-clause-rise
+merge-requires-clause-rise c =
+    let issuers = c.args.issuers.now in
+    let ranges = c.args.ranges.now in
+    subst (λ es. IsRising (entries_of issuers ranges es)) (sym c.deref.ensures.value)
+    (c.sort_entries.ensures.rising issuers ranges c.requires.issuers c.requires.told)
 
 pub returns-clause-members : goal.returns-clause-members
 returns-clause-members c = λ job e.
-    let bare = c.deref-2.ensures.value ∙ c.in_ok-sorted.ensures ∙ ap entries_of c.deref.ensures.value in
-    c.in_ok-merged.ensures.members ∙ ap (merged (judge_of c.args.parts.now) c.args.items.now) bare
-    ∙ members_are c.args.parts.now c.args.items.now job (entries_of c.sort_entries.new.entries.items)
-    (are_read job c.args.entries.items c.sort_entries.new.entries.items e c.sort_entries.ensures.same) c.requires.ascend
+    let issuers = c.args.issuers.now in
+    let ranges = c.args.ranges.now in
+    let sorted = entries_of issuers ranges c.sort_entries.new.entries.items in
+    c.in_ok-merged.ensures.members ∙ ap (λ es. merged (judge_of c.args.parts.now) c.args.items.now (entries_of issuers ranges es)) c.deref.ensures.value
+    ∙ members_are c.args.parts.now c.args.items.now job sorted
+    (are_read job (entries_of issuers ranges c.args.entries.items) sorted e
+    (IsPermutation-map (entry_fields issuers ranges) c.args.entries.items c.sort_entries.new.entries.items c.sort_entries.ensures.same)) c.requires.ascend
 
 pub returns-clause-late : goal.returns-clause-late
 returns-clause-late c =
+    let issuers = c.args.issuers.now in
+    let ranges = c.args.ranges.now in
     let ledger = ledger_fields c.args.parts.now c.args.items.now in
-    let keyed = c.sort_entries.new.entries.items in
-    let bare = c.deref-2.ensures.value ∙ c.in_ok-sorted.ensures ∙ ap entries_of c.deref.ensures.value in
-    c.in_ok-merged.ensures.late ∙ ap (count_told (is_late_beside c.args.parts.now) c.args.items.now) bare
-    ∙ told_lacked c.args.parts.now c.args.items.now (entries_of keyed)
-    ∙ count_by-map (λ (e : Bor Entry). (past_in ledger).lacked e.now.id e.now.sighting) (λ (e : KeyedEntry). e.entry) keyed
-    ∙ sum_by-IsPermutation (λ e. cond (is_lacked ledger e) 1 0) c.args.entries.items keyed c.sort_entries.ensures.same
+    let sorted = entries_of issuers ranges c.sort_entries.new.entries.items in
+    c.in_ok-merged.ensures.late ∙ ap (λ es. count_told (is_late_beside c.args.parts.now) c.args.items.now (entries_of issuers ranges es)) c.deref.ensures.value
+    ∙ told_lacked c.args.parts.now c.args.items.now sorted
+    ∙ sum_by-IsPermutation (λ e. cond (is_lacked ledger e) 1 0) (entries_of issuers ranges c.args.entries.items) sorted
+    (IsPermutation-map (entry_fields issuers ranges) c.args.entries.items c.sort_entries.new.entries.items c.sort_entries.ensures.same)

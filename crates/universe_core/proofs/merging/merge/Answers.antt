@@ -1,42 +1,69 @@
-use Rattle.std.proofs.Common.{◌∙◌, refl, ap, sym, length, arith}
+use Rattle.std.proofs.Common.{◌≡◌, ◌∙◌, refl, ap, sym, subst, length, arith, All}
 use Rattle.std.specs.List.{count_by}
+use Rattle.std.proofs.lemmas.List.{take-map, drop-map, length-map}
+use Rattle.std.proofs.lemmas.List.Elements.{All-take, All-drop}
 use Rattle.universe_core.specs.Judging.{is_late_beside, judge_of}
-use Rattle.universe_core.specs.Merging.{first_of}
+use Rattle.universe_core.specs.Merging.{IsRising, first_of, run_of, after_run}
+use Rattle.universe_core.specs.Reading.{IsTold, entry_fields, entries_of}
 use Rattle.universe_core.proofs.Merge.{step_done, all_done, told_on, told_within, told_done, smaller, first_sorted, rising_after, run_taken, run_dropped}
 use Rattle.universe_core.proofs.merging.merge.Goals as goal
+
+pub least-requires : goal.least-requires
+least-requires c = λ k d lt. (c.loop-id.invariant.told k d lt).issuer
+
+pub run_length-requires : goal.run_length-requires
+run_length-requires c = λ k d lt. (c.loop-id.invariant.told k d lt).issuer
+
+pub judge-judged-requires-clause-told : goal.judge-judged-requires-clause-told
+judge-judged-requires-clause-told c =
+    let told = IsTold c.args.issuers.now c.args.ranges.now in
+    subst (All told) (sym c.split_at.ensures.front) (All-take told c.run_length.result c.loop-id.entries_left.now c.loop-id.invariant.told)
 
 pub loop-id-preserved : goal.loop-id-preserved
 loop-id-preserved c =
     let id = c.in-Some.id in
     let parts = c.args.parts.now in
     let items = c.loop-id.items_left.now in
-    let entries = c.loop-id.entries_left.now in
-    let least = sym c.least.ensures ∙ c.in-Some.is in
-    let run = c.first_entries.ensures ∙ run_taken c.run_length-count.result id entries c.run_length-count.ensures.value in
-    let behind = c.entries_behind-entries_left.ensures ∙ run_dropped c.run_length-count.result id entries c.run_length-count.ensures.value in
+    let fields = entry_fields c.args.issuers.now c.args.ranges.now in
+    let of = entries_of c.args.issuers.now c.args.ranges.now in
+    let told = IsTold c.args.issuers.now c.args.ranges.now in
+    let left = c.loop-id.entries_left.now in
+    let n = c.run_length.result in
+    let least = sym (c.least.ensures c.args.ranges.now) ∙ c.in-Some.is in
+    let run : of c.split_at.result.0.now ≡ run_of id (of left) =
+    ap of c.split_at.ensures.front ∙ sym (take-map fields n left) ∙ run_taken n id (of left) (c.run_length.ensures.value c.args.ranges.now) in
+    let behind : of c.split_at.result.1.now ≡ after_run id (of left) =
+    ap of c.split_at.ensures.back ∙ sym (drop-map fields n left) ∙ run_dropped n id (of left) (c.run_length.ensures.value c.args.ranges.now) in
     record {
       ascend = rw c.after_item-items_left.ensures (first_sorted id items c.loop-id.invariant.ascend);
-      rise = rw behind (rising_after id entries c.loop-id.invariant.rise);
+      told = subst (All told) (sym c.split_at.ensures.back) (All-drop told n left c.loop-id.invariant.told);
+      rise = subst IsRising (sym behind) (rising_after id (of left) c.loop-id.invariant.rise);
       done =
-          step_done (judge_of parts) id items c.after_item-items_left.result.now entries c.entries_behind-entries_left.result.now
+          step_done (judge_of parts) id items c.after_item-items_left.result.now (of left) (of c.split_at.result.1.now)
           c.judge-judged.result.member c.loop-id.members.items c.keep.new.out.items _
           c.loop-id.invariant.ascend c.loop-id.invariant.rise least c.after_item-items_left.ensures behind
-          (c.judge-judged.ensures.member ∙ ap (λ o. judge_of parts id o c.first_entries.result.now) c.first_item-old.ensures
+          (c.judge-judged.ensures.member ∙ ap (λ o. judge_of parts id o (of c.split_at.result.0.now)) c.first_item-old.ensures
           ∙ ap (λ r. judge_of parts id (first_of id items) r) run)
           c.in_ok-keep.ensures c.loop-id.invariant.done;
       late =
-          told_on (is_late_beside parts) id items c.after_item-items_left.result.now entries c.entries_behind-entries_left.result.now c.loop-id.late _
+          told_on (is_late_beside parts) id items c.after_item-items_left.result.now (of left) (of c.split_at.result.1.now) c.loop-id.late _
           c.judge-judged.result.late _ c.loop-id.invariant.ascend c.loop-id.invariant.rise least c.after_item-items_left.ensures behind
-          (c.judge-judged.ensures.late ∙ ap (λ o. count_by (is_late_beside parts o) c.first_entries.result.now) c.first_item-old.ensures
+          (c.judge-judged.ensures.late ∙ ap (λ o. count_by (is_late_beside parts o) (of c.split_at.result.0.now)) c.first_item-old.ensures
           ∙ ap (count_by (is_late_beside parts (first_of id items))) run)
           c.loop-id.invariant.late refl;
     }
 
 pub loop-id-smaller : goal.loop-id-smaller
 loop-id-smaller c =
-    let s = smaller c.in-Some.id c.loop-id.items_left.now c.loop-id.entries_left.now (sym c.least.ensures ∙ c.in-Some.is) in
+    let fields = entry_fields c.args.issuers.now c.args.ranges.now in
+    let of = entries_of c.args.issuers.now c.args.ranges.now in
+    let left = c.loop-id.entries_left.now in
+    let n = c.run_length.result in
+    let s = smaller c.in-Some.id c.loop-id.items_left.now (of left) (sym (c.least.ensures c.args.ranges.now) ∙ c.in-Some.is) in
     let a = ap length c.after_item-items_left.ensures in
-    let b = ap length (c.entries_behind-entries_left.ensures ∙ run_dropped c.run_length-count.result c.in-Some.id c.loop-id.entries_left.now c.run_length-count.ensures.value) in
+    let b = ap length (ap of c.split_at.ensures.back ∙ sym (drop-map fields n left) ∙ run_dropped n c.in-Some.id (of left) (c.run_length.ensures.value c.args.ranges.now)) in
+    let d = length-map left fields in
+    let e = length-map c.split_at.result.1.now fields in
     omega arith
 
 pub overflow_add-late : goal.overflow_add-late
@@ -44,16 +71,24 @@ overflow_add-late c =
     let parts = c.args.parts.now in
     let id = c.in-Some.id in
     let items = c.loop-id.items_left.now in
-    let run = c.first_entries.ensures ∙ run_taken c.run_length-count.result id c.loop-id.entries_left.now c.run_length-count.ensures.value in
-    let late = c.judge-judged.ensures.late ∙ ap (λ o. count_by (is_late_beside parts o) c.first_entries.result.now) c.first_item-old.ensures
+    let fields = entry_fields c.args.issuers.now c.args.ranges.now in
+    let of = entries_of c.args.issuers.now c.args.ranges.now in
+    let left = c.loop-id.entries_left.now in
+    let n = c.run_length.result in
+    let run : of c.split_at.result.0.now ≡ run_of id (of left) =
+    ap of c.split_at.ensures.front ∙ sym (take-map fields n left) ∙ run_taken n id (of left) (c.run_length.ensures.value c.args.ranges.now) in
+    let late = c.judge-judged.ensures.late ∙ ap (λ o. count_by (is_late_beside parts o) (of c.split_at.result.0.now)) c.first_item-old.ensures
     ∙ ap (count_by (is_late_beside parts (first_of id items))) run in
     let within =
-    told_within (is_late_beside parts) id items c.args.items.now c.loop-id.entries_left.now c.args.entries.now c.loop-id.late c.judge-judged.result.late
-    c.loop-id.invariant.ascend c.loop-id.invariant.rise (sym c.least.ensures ∙ c.in-Some.is) late c.loop-id.invariant.late in
+    told_within (is_late_beside parts) id items c.args.items.now (of left) (of c.args.entries.now) c.loop-id.late c.judge-judged.result.late
+    c.loop-id.invariant.ascend c.loop-id.invariant.rise (sym (c.least.ensures c.args.ranges.now) ∙ c.in-Some.is) late c.loop-id.invariant.late in
+    let d = length-map c.args.entries.now fields in
     omega arith
 
 pub returns-clause-members : goal.returns-clause-members
-returns-clause-members c = all_done (judge_of c.args.parts.now) c.loop-id.items_left.now c.loop-id.entries_left.now c.loop-id.members.items _ (sym c.least.ensures ∙ c.in_default.is) c.loop-id.invariant.done
+returns-clause-members c = all_done (judge_of c.args.parts.now) c.loop-id.items_left.now (entries_of c.args.issuers.now c.args.ranges.now c.loop-id.entries_left.now) c.loop-id.members.items _
+    (sym (c.least.ensures c.args.ranges.now) ∙ c.in_default.is) c.loop-id.invariant.done
 
 pub returns-clause-late : goal.returns-clause-late
-returns-clause-late c = told_done (is_late_beside c.args.parts.now) c.loop-id.items_left.now c.loop-id.entries_left.now c.loop-id.late _ (sym c.least.ensures ∙ c.in_default.is) c.loop-id.invariant.late
+returns-clause-late c = told_done (is_late_beside c.args.parts.now) c.loop-id.items_left.now (entries_of c.args.issuers.now c.args.ranges.now c.loop-id.entries_left.now) c.loop-id.late _
+    (sym (c.least.ensures c.args.ranges.now) ∙ c.in_default.is) c.loop-id.invariant.late

@@ -1,17 +1,25 @@
-use Rattle.std.proofs.Common.{◌≡◌, ◌+◌, ◌++◌, map, length}
+use Rattle.std.proofs.Common.{◌≡◌, ◌+◌, ◌++◌, map, length, All}
 use Rattle.std.specs.List.Sorted.{IsStrictlySortedBy}
 use Rattle.ident_core.specs.Order.{identity_cmp}
 use Rattle.universe_core.specs.Merging.{IsRising, count_told, merged}
 use Rattle.universe_core.specs.Judging.{is_late_beside, judge_of}
+use Rattle.universe_core.specs.Reading.{IsTold, entries_of}
 use Rattle.universe_core.proofs.merging.merge.Given as goal
 
 abbrev pub invariant-loop-id : goal.invariant-loop-id
-invariant-loop-id l = record {
-  ascend : IsStrictlySortedBy identity_cmp (map (λ i. i.id) l.items_left);
-  rise : IsRising l.entries_left;
-  done : l.members.items ++ merged (judge_of l.parts) l.items_left l.entries_left ≡ merged (judge_of l.parts) l.items l.entries;
-  late : l.late + count_told (is_late_beside l.parts) l.items_left l.entries_left ≡ count_told (is_late_beside l.parts) l.items l.entries;
-}
+invariant-loop-id l =
+    let issuers = l.issuers in
+    let ranges = l.ranges in record {
+      ascend : IsStrictlySortedBy identity_cmp (map (λ i. i.id) l.items_left);
+      told : All (IsTold issuers ranges) l.entries_left;
+      rise : IsRising (entries_of issuers ranges l.entries_left);
+      done :
+          l.members.items ++ merged (judge_of l.parts) l.items_left (entries_of issuers ranges l.entries_left)
+          ≡ merged (judge_of l.parts) l.items (entries_of issuers ranges l.entries);
+      late :
+          l.late + count_told (is_late_beside l.parts) l.items_left (entries_of issuers ranges l.entries_left)
+          ≡ count_told (is_late_beside l.parts) l.items (entries_of issuers ranges l.entries);
+    }
 
 abbrev pub decreases-loop-id : goal.decreases-loop-id
 decreases-loop-id l = length l.items_left + length l.entries_left

@@ -1,27 +1,62 @@
-use Rattle.std.proofs.Common.{◌∙◌, refl, sym, arith}
+use Rattle.std.proofs.Common.{◌∙◌, Some, refl, sym, ap, arith}
+use Rattle.std.specs.Option.{option_map}
+use Rattle.std.specs.Prelude.{is_some}
 use Rattle.std.proofs.lemmas.Option.{slice_get_within}
+use Rattle.ident_core.specs.Coverage.{is_within}
 use Rattle.sets_core.proofs.Elements.{Among-from_place}
 use Rattle.sets_core.proofs.Sets.{has_key-from_Among}
-use Rattle.universe_core.proofs.Classes.{class_uncovered, class_unenrolled, class_accepted}
+use Rattle.universe_core.specs.Reading.{entry_fields}
+use Rattle.universe_core.specs.declared.reading.Told.{Told}
+use Rattle.universe_core.proofs.Classes.{class_uncovered, class_unenrolled, class_accepted, told_is, read_is, not_covered, not_enrolled}
+use Rattle.universe_core.proofs.Searchable.{place_within}
 use Rattle.universe_core.proofs.reading.classify.Goals as goal
 
-pub overflow_cast-result : goal.overflow_cast-result
-overflow_cast-result c =
+pub returns-in_default-place_covering-clause-class : goal.returns-in_default-place_covering-clause-class
+returns-in_default-place_covering-clause-class c =
+    ap (λ (t : Told). t.class) c.passed_over-in_default-place_covering.ensures
+    ∙ rw c.in-Some.is (class_uncovered c.args.ranges.now c.args.issuers.now c.in-Some.entry (sym c.place_covering.ensures.covers ∙ ap is_some c.in_default-place_covering.is))
+
+pub returns-in_default-place_covering-clause-entry : goal.returns-in_default-place_covering-clause-entry
+returns-in_default-place_covering-clause-entry c =
+    ap (λ (t : Told). option_map (entry_fields c.args.issuers.now c.args.ranges.now) t.entry) c.passed_over-in_default-place_covering.ensures
+    ∙ rw c.in-Some.is (not_covered c.args.ranges.now c.args.issuers.now c.in-Some.entry (sym c.place_covering.ensures.covers ∙ ap is_some c.in_default-place_covering.is))
+
+pub returns-in_default-place_of_key-clause-class : goal.returns-in_default-place_of_key-clause-class
+returns-in_default-place_of_key-clause-class c =
+    ap (λ (t : Told). t.class) c.passed_over-in_default-place_of_key.ensures
+    ∙ rw c.in-Some.is (class_unenrolled c.args.ranges.now c.args.issuers.now c.in-Some.entry (sym c.in-Some-place_covering.ensures.covers) (c.in_default-place_of_key.ensures.none refl))
+
+pub returns-in_default-place_of_key-clause-entry : goal.returns-in_default-place_of_key-clause-entry
+returns-in_default-place_of_key-clause-entry c =
+    ap (λ (t : Told). option_map (entry_fields c.args.issuers.now c.args.ranges.now) t.entry) c.passed_over-in_default-place_of_key.ensures
+    ∙ rw c.in-Some.is (not_enrolled c.args.ranges.now c.args.issuers.now c.in-Some.entry (c.in_default-place_of_key.ensures.none refl))
+
+pub overflow_cast-one : goal.overflow_cast-one
+overflow_cast-one c =
     let within = slice_get_within c.args.issuers.now c.in-Some-place_of_key.place c.in-Some.entry.id.issuer c.in-Some-place_of_key.ensures.some in
     let few = c.requires.few in
     omega arith
 
-pub returns-then-not-covers_near-clause-class : goal.returns-then-not-covers_near-clause-class
-returns-then-not-covers_near-clause-class c =
-    c.passed_over-then-not-covers_near.ensures
-    ∙ rw c.in-Some.is (class_uncovered c.args.ranges.now c.args.issuers.now c.in-Some.entry (sym c.covers_near.ensures ∙ c.if-not-covers_near.true))
-
-pub returns-in_default-place_of_key-clause-class : goal.returns-in_default-place_of_key-clause-class
-returns-in_default-place_of_key-clause-class c =
-    c.passed_over-in_default-place_of_key.ensures
-    ∙ rw c.in-Some.is (class_unenrolled c.args.ranges.now c.args.issuers.now c.in-Some.entry (sym c.covers_near.ensures ∙ c.if-not-covers_near.false) (c.in_default-place_of_key.ensures.none refl))
+pub overflow_cast-one-2 : goal.overflow_cast-one-2
+overflow_cast-one-2 c =
+    let within = place_within (is_within c.in-Some.entry.sighting) c.args.ranges.now c.in-Some-place_covering.near c.in-Some-place_covering.ensures.some in
+    let few = c.requires.ranges.few in
+    omega arith
 
 pub returns-clause-class : goal.returns-clause-class
 returns-clause-class c =
-    rw c.in-Some.is (class_accepted c.args.ranges.now c.args.issuers.now c.in-Some.entry (sym c.covers_near.ensures ∙ c.if-not-covers_near.false)
+    rw c.in-Some.is (class_accepted c.args.ranges.now c.args.issuers.now c.in-Some.entry (sym c.in-Some-place_covering.ensures.covers)
     (has_key-from_Among c.args.issuers.now c.in-Some.entry.id.issuer (Among-from_place c.args.issuers.now c.in-Some-place_of_key.place c.in-Some.entry.id.issuer c.in-Some-place_of_key.ensures.some)))
+
+pub returns-clause-entry : goal.returns-clause-entry
+returns-clause-entry c =
+    ap Some
+    (told_is c.args.ranges.now c.args.issuers.now c.in-Some.entry c.in-Some-place_covering.near c.in-Some-place_of_key.place c.in-Some-place_covering.ensures.some c.in-Some-place_of_key.ensures.some)
+    ∙ rw c.in-Some.is (read_is c.args.ranges.now c.args.issuers.now c.in-Some.entry (sym c.in-Some-place_covering.ensures.covers)
+    (has_key-from_Among c.args.issuers.now c.in-Some.entry.id.issuer (Among-from_place c.args.issuers.now c.in-Some-place_of_key.place c.in-Some.entry.id.issuer c.in-Some-place_of_key.ensures.some)))
+
+pub returns-clause-told : goal.returns-clause-told
+returns-clause-told c = record {
+  issuer = slice_get_within c.args.issuers.now c.in-Some-place_of_key.place c.in-Some.entry.id.issuer c.in-Some-place_of_key.ensures.some;
+  range = place_within (is_within c.in-Some.entry.sighting) c.args.ranges.now c.in-Some-place_covering.near c.in-Some-place_covering.ensures.some;
+}

@@ -1,11 +1,9 @@
-use Rattle.std.proofs.Common.{◌∙◌, ap, map}
+use Rattle.std.proofs.Common.{◌∙◌, refl, sym, ap, subst, All}
 use Rattle.universe_core.specs.Counting.{is_class}
-use Rattle.universe_core.specs.History.{if_accepted}
-use Rattle.universe_core.specs.Reading.{if_read, entry_fields, class_alone}
+use Rattle.universe_core.specs.Reading.{if_read, IsTold, entry_fields, entries_of, class_alone}
 use Rattle.universe_core.specs.declared.class.Class.TheVariants.{Unread, Uncovered, Unenrolled, Accepted}
 use Rattle.universe_core.specs.declared.reading.Tally.{Tally}
-use Rattle.universe_core.proofs.Classes.{read_more, count_more, taken_is}
-use Rattle.universe_core.proofs.Placing.{are_placed}
+use Rattle.universe_core.proofs.Classes.{read_more, count_more, kept_more, kept_all}
 use Rattle.universe_core.proofs.reading.read.Goals as goal
 
 pub loop-entry-preserved : goal.loop-entry-preserved
@@ -16,10 +14,11 @@ loop-entry-preserved c =
     let i = c.loop-entry.entry-index in
     let e = c.entry-item.result in
     record {
-      entries = read_more (λ d. if_read R I d) es i e (map entry_fields c.loop-entry.left.items) (map entry_fields c.keep_entry.new.out.items)
-          (if_accepted c.classify-told.result.class e) c.loop-entry-test.true c.entry-item.is
-          c.loop-entry.invariant.entries (ap (λ k. if_accepted k e) c.classify-told.ensures.class ∙ taken_is R I e) c.in_ok-keep_entry.ensures.kept;
-      placed = c.in_ok-keep_entry.ensures.placed I c.classify-told.ensures.place c.loop-entry.invariant.placed;
+      entries = read_more (λ d. if_read R I d) es i e (entries_of I R c.loop-entry.left.items) (entries_of I R c.keep_entry.new.out.items)
+          (if_read R I e) c.loop-entry-test.true c.entry-item.is c.loop-entry.invariant.entries refl
+          (ap (entries_of I R) c.in_ok-keep_entry.ensures ∙ kept_more (entry_fields I R) c.loop-entry.left.items c.classify-told.result.entry (if_read R I e) c.classify-told.ensures.entry);
+      told = subst (All (IsTold I R)) (sym c.in_ok-keep_entry.ensures)
+          (kept_all (IsTold I R) c.loop-entry.left.items c.classify-told.result.entry c.loop-entry.invariant.told c.classify-told.ensures.told);
       unread = count_more (λ d. is_class Unread (class_alone R I d)) es i e c.loop-entry.tally.unread c.counted-tally.result.unread
           (is_class Unread c.classify-told.result.class) c.loop-entry-test.true c.entry-item.is c.loop-entry.invariant.unread
           (ap (is_class Unread) c.classify-told.ensures.class) (ap (λ (t : Tally). t.unread) c.counted-tally.ensures);
@@ -34,6 +33,3 @@ loop-entry-preserved c =
           (is_class Accepted c.classify-told.result.class) c.loop-entry-test.true c.entry-item.is c.loop-entry.invariant.read
           (ap (is_class Accepted) c.classify-told.ensures.class) (ap (λ (t : Tally). t.read) c.counted-tally.ensures);
     }
-
-pub returns-clause-placed : goal.returns-clause-placed
-returns-clause-placed c = are_placed c.args.issuers.now c.loop-entry.left.items c.requires.sorted c.loop-entry.invariant.placed
