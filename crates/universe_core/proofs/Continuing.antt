@@ -26,7 +26,6 @@ use Rattle.ledger_core.proofs.Seals.{sealed-append}
 use Rattle.sets_core.specs.Among.{Among}
 use Rattle.sets_core.specs.Sets.{has}
 use Rattle.sets_core.proofs.Canonical.{Contains-from_Among}
-use Rattle.sets_core.proofs.Elements.{map_back}
 use Rattle.sets_core.proofs.Order.{sorted_none}
 use Rattle.sets_core.proofs.Sets.{identity_total, with_all_ascends}
 use Rattle.universe_core.specs.Jobs.{Job, facts_of, enrolled}
@@ -34,7 +33,7 @@ use Rattle.universe_core.specs.History.{shown, accepted_with, universe, revoked,
 use Rattle.universe_core.specs.Ledgers.{no_ledger, past_in, item_of, birth_or, last_or_none, next_item, next_ledger}
 use Rattle.universe_core.specs.Groups.{GroupFields, IsGroup, group_of, groups}
 use Rattle.universe_core.specs.Counting.{count, counts}
-use Rattle.universe_core.specs.Members.{ids_of, first_part, member_in}
+use Rattle.universe_core.specs.Members.{AreMembers, as_item, first_part, members_in}
 use Rattle.universe_core.specs.Following.{IsBefore, early}
 use Rattle.universe_core.specs.Step.{bad_crl_from, old_epoch, shrunk, chain_full, too_many, refusal, kind_by, parent_by, head_after, groups_after, counts_after}
 use Rattle.universe_core.specs.declared.class.Class.TheVariants.{Unread, Uncovered, Unenrolled, Late, Accepted}
@@ -43,6 +42,7 @@ use Rattle.universe_core.specs.declared.member.Member.{Member}
 use Rattle.universe_core.specs.declared.fault.AdmitFault.{AdmitFault}
 use Rattle.universe_core.specs.declared.fault.AdmitFault.TheVariants as faults
 use Rattle.universe_core.proofs.Issuers.{enrolled_ascend}
+use Rattle.universe_core.proofs.Building.{ids_in}
 use Rattle.universe_core.proofs.Beginning.{many_by, few_by, ids_are, every, group_facts}
 
 pub before_none : IsBefore no_ledger
@@ -169,14 +169,15 @@ module _ (ledger : LedgerFields) (job : Job) (before : IsBefore ledger) where
       let r = released (past_in ledger) job [] in
       subst (λ z. All IsGroup z) (sym g) (All-map IsGroup (group_of r) r.issuers (every (λ k. IsGroup (group_of r k)) r.issuers (λ k. group_facts r k accepted_ascends)))
 
-  pub ids_ascend : (members : List Member) → members ≡ map (member_in ledger job) (accepted_with (past_in ledger) job) → IsStrictlySortedBy identity_cmp (ids_of members)
-  ids_ascend members m =
-      subst (λ z. IsStrictlySortedBy identity_cmp z) (sym (ap (map (λ (d : Member). d.id)) m ∙ map_back (member_in ledger job) (λ (d : Member). d.id)
-      (accepted_with (past_in ledger) job) (λ x. refl))) accepted_ascends
+  pub ids_ascend : (items : List LedgerItem) (settled : List Bool) → AreMembers (members_in ledger job) items settled → IsStrictlySortedBy identity_cmp (ids items)
+  ids_ascend items settled ms = subst (λ z. IsStrictlySortedBy identity_cmp z) (sym (ids_in ledger job items settled ms)) accepted_ascends
 
-pub members_many : (ledger : LedgerFields) (job : Job) (members : List Member) → members ≡ map (member_in ledger job) (accepted_with (past_in ledger) job)
-    → length members ≡ length (accepted_with (past_in ledger) job)
-members_many ledger job members m = ap length m ∙ length-map (accepted_with (past_in ledger) job) (member_in ledger job)
+pub members_many : (ledger : LedgerFields) (job : Job) (items : List LedgerItem) (settled : List Bool) → AreMembers (members_in ledger job) items settled
+    → length items ≡ length (accepted_with (past_in ledger) job)
+members_many ledger job items settled ms = sym (length-map items (λ (i : LedgerItem). i.id)) ∙ ap length (ids_in ledger job items settled ms)
+
+pub settled_many : (ms : List Member) (items : List LedgerItem) (settled : List Bool) → AreMembers ms items settled → length settled ≡ length items
+settled_many ms items settled of = ap length of.settled ∙ length-map ms (λ (m : Member). m.settled) ∙ sym (ap length of.items ∙ length-map ms as_item)
 
 pub is_next : (ledger : LedgerFields) (job : JobFields) (issuers : List (List ℕ)) (items : List LedgerItem) → IsBefore ledger → early ledger.parts job ≡ None
     → RangesFit job.ranges → issuers ≡ enrolled (facts_of job)

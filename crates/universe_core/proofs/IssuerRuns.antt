@@ -16,6 +16,8 @@ use Rattle.std.proofs.lemmas.List.Sorted.{Contains-permutation, IsPermutation-sy
 use Rattle.std.proofs.lemmas.Map.Lookups.{exact_bytes}
 use Rattle.ident_core.specs.declared.identity.Identity.{Identity}
 use Rattle.ident_core.specs.Order.{octets_cmp, serial_cmp, identity_cmp, is_same}
+use Rattle.ledger_core.specs.LedgerFields.{ids}
+use Rattle.ledger_core.specs.declared.fields.LedgerItem.{LedgerItem}
 use Rattle.sets_core.specs.Among.{Among}
 use Rattle.sets_core.specs.Sets.{has_key}
 use Rattle.sets_core.proofs.Canonical.{Among-from_Contains, Contains-from_Among, sorted_cons}
@@ -28,13 +30,11 @@ use Rattle.sets_core.proofs.Runs.{above, other_issuer}
 use Rattle.sets_core.proofs.Sets.{bytes_same, bytes_refl, then_equal, Among-from_has_key, has_key-from_Among}
 use Rattle.universe_core.specs.declared.listing.Listed.{Listed}
 use Rattle.universe_core.specs.declared.marking.Run.{Run}
-use Rattle.universe_core.specs.declared.member.Member.{Member}
 use Rattle.universe_core.specs.Groups.{members_of}
 use Rattle.universe_core.specs.Marking.{IsRunOf, IsWindow, listed_in, serials_of}
-use Rattle.universe_core.specs.Members.{ids_of}
 use Rattle.universe_core.proofs.Cutting.{is_below, earlier, keyed_partitioned, place_cases, rest_is}
 use Rattle.universe_core.proofs.Revoking.{map_map}
-use Rattle.universe_core.proofs.Searching.{bare}
+use Rattle.universe_core.proofs.Searching.{bare_item}
 
 -- ---- a search by serial
 
@@ -44,17 +44,17 @@ serial_total = then_total (on_total (λ (s : List ℕ). length s) nat_cmp_total)
 serial_exact : (a b : List ℕ) → serial_cmp a b ≡ Equal → a ≡ b
 serial_exact a b h = exact_bytes a b (then_equal (nat_cmp (length a) (length b)) (octets_cmp a b) h).1
 
-abbrev bare_serial : List ℕ → Member
-bare_serial s = bare (record { issuer = []; serial = s })
+abbrev bare_serial : List ℕ → LedgerItem
+bare_serial s = bare_item (record { issuer = []; serial = s })
 
-pub found : (ms : List Member) (x : List ℕ) (i : ℕ) → i < length ms → ((d : Member) → serial_cmp (get_or ms i d).id.serial x ≡ Equal) → slice_get (serials_of ms) i ≡ Some x
-found = keyed.found serial_cmp serial_total serial_exact (λ (m : Member). m.id.serial) bare_serial (λ x. refl)
+pub found : (ms : List LedgerItem) (x : List ℕ) (i : ℕ) → i < length ms → ((d : LedgerItem) → serial_cmp (get_or ms i d).id.serial x ≡ Equal) → slice_get (serials_of ms) i ≡ Some x
+found = keyed.found serial_cmp serial_total serial_exact (λ (m : LedgerItem). m.id.serial) bare_serial (λ x. refl)
 
-pub missed : (ms : List Member) (x : List ℕ) (i : ℕ) → IsStrictlySortedBy serial_cmp (serials_of ms) → IsBinarySearchResult (λ (m : Member). serial_cmp m.id.serial x) ms (Err i)
+pub missed : (ms : List LedgerItem) (x : List ℕ) (i : ℕ) → IsStrictlySortedBy serial_cmp (serials_of ms) → IsBinarySearchResult (λ (m : LedgerItem). serial_cmp m.id.serial x) ms (Err i)
     → has_key (serials_of ms) x ≡ false
 missed ms x i s h =
     false_from_ne_true (has_key (serials_of ms) x)
-    (λ t. keyed.missed serial_cmp serial_total serial_exact (λ (m : Member). m.id.serial) bare_serial (λ y. refl) ms x i s h (Among-from_has_key (serials_of ms) x t))
+    (λ t. keyed.missed serial_cmp serial_total serial_exact (λ (m : LedgerItem). m.id.serial) bare_serial (λ y. refl) ms x i s h (Among-from_has_key (serials_of ms) x t))
 
 -- ---- the run
 
@@ -73,14 +73,14 @@ sorted_drop zero xs s = s
 sorted_drop (suc n) [] s = s
 sorted_drop (suc n) (x ∷ xs) s = sorted_drop n xs (sorted_tail identity_cmp x xs s)
 
-pub start_partitioned : (k : List ℕ) (ms : List Member) → IsStrictlySortedBy identity_cmp (ids_of ms) → IsPartitionedBy (λ (m : Member). is_lt (octets_cmp m.id.issuer k)) ms
-start_partitioned k = keyed_partitioned (λ (m : Member). m.id) (is_below k) (earlier k)
+pub start_partitioned : (k : List ℕ) (ms : List LedgerItem) → IsStrictlySortedBy identity_cmp (ids ms) → IsPartitionedBy (λ (m : LedgerItem). is_lt (octets_cmp m.id.issuer k)) ms
+start_partitioned k = keyed_partitioned (λ (m : LedgerItem). m.id) (is_below k) (earlier k)
 
-pub end_partitioned : (k : List ℕ) (ms : List Member) (start : ℕ) → IsStrictlySortedBy identity_cmp (ids_of ms)
-    → IsPartitionedBy (λ (m : Member). not (is_lt (octets_cmp k m.id.issuer))) (take (length ms - start) (drop start ms))
+pub end_partitioned : (k : List ℕ) (ms : List LedgerItem) (start : ℕ) → IsStrictlySortedBy identity_cmp (ids ms)
+    → IsPartitionedBy (λ (m : LedgerItem). not (is_lt (octets_cmp k m.id.issuer))) (take (length ms - start) (drop start ms))
 end_partitioned k ms start s =
-    keyed_partitioned (λ (m : Member). m.id) (is_upto k) (upto_earlier k) (take (length ms - start) (drop start ms))
-    (subst (λ xs. IsStrictlySortedBy identity_cmp xs) (drop-map (λ (m : Member). m.id) start ms ∙ sym (ap ids_of (rest_is ms start))) (sorted_drop start (ids_of ms) s))
+    keyed_partitioned (λ (m : LedgerItem). m.id) (is_upto k) (upto_earlier k) (take (length ms - start) (drop start ms))
+    (subst (λ xs. IsStrictlySortedBy identity_cmp xs) (drop-map (λ (m : LedgerItem). m.id) start ms ∙ sym (ap ids (rest_is ms start))) (sorted_drop start (ids ms) s))
 
 below_other : (k a : List ℕ) → is_lt (octets_cmp a k) ≡ true → bytes_eq k a ≡ false
 below_other k a h =
@@ -108,34 +108,34 @@ one_more k x xs ys b e = ap (λ z. x ∷ z) e ∙ ap (λ c. cond c (x ∷ member
 no_more : (k : List ℕ) (x : Identity) (xs ys : List Identity) → bytes_eq k x.issuer ≡ false → ys ≡ members_of k xs → ys ≡ members_of k (x ∷ xs)
 no_more k x xs ys b e = e ∙ ap (λ c. cond c (x ∷ members_of k xs) (members_of k xs)) (sym b)
 
-abbrev Starts : List ℕ → List Member → ℕ → Type 0
-Starts k = IsPartitionPoint (λ (m : Member). is_lt (octets_cmp m.id.issuer k) ≡ true) (λ (m : Member). is_lt (octets_cmp m.id.issuer k) ≡ false)
+abbrev Starts : List ℕ → List LedgerItem → ℕ → Type 0
+Starts k = IsPartitionPoint (λ (m : LedgerItem). is_lt (octets_cmp m.id.issuer k) ≡ true) (λ (m : LedgerItem). is_lt (octets_cmp m.id.issuer k) ≡ false)
 
-abbrev Ends : List ℕ → List Member → ℕ → Type 0
-Ends k = IsPartitionPoint (λ (m : Member). not (is_lt (octets_cmp k m.id.issuer)) ≡ true) (λ (m : Member). not (is_lt (octets_cmp k m.id.issuer)) ≡ false)
+abbrev Ends : List ℕ → List LedgerItem → ℕ → Type 0
+Ends k = IsPartitionPoint (λ (m : LedgerItem). not (is_lt (octets_cmp k m.id.issuer)) ≡ true) (λ (m : LedgerItem). not (is_lt (octets_cmp k m.id.issuer)) ≡ false)
 
-own_first : (k : List ℕ) (ms : List Member) (n : ℕ) → ((i : ℕ) (d : Member) → 0 ≤ i → i < length ms → is_lt (octets_cmp (get_or ms i d).id.issuer k) ≡ false)
-    → n ≤ length ms → Ends k ms n → take n (ids_of ms) ≡ members_of k (ids_of ms)
+own_first : (k : List ℕ) (ms : List LedgerItem) (n : ℕ) → ((i : ℕ) (d : LedgerItem) → 0 ≤ i → i < length ms → is_lt (octets_cmp (get_or ms i d).id.issuer k) ≡ false)
+    → n ≤ length ms → Ends k ms n → take n (ids ms) ≡ members_of k (ids ms)
 own_first k [] zero f le e = refl
 own_first k [] (suc n) f le e = absurd (omega arith)
 own_first k (m ∷ ms) zero f le e =
-    no_more k m.id (ids_of ms) [] (beyond_other k m.id.issuer (e.1 0 m (omega arith) (omega arith)))
+    no_more k m.id (ids ms) [] (beyond_other k m.id.issuer (e.1 0 m (omega arith) (omega arith)))
     (own_first k ms zero (λ i d l h. f (suc i) d (omega arith) (omega arith)) (omega arith)
     (λ i d l h. absurd (omega arith), λ i d l h. e.1 (suc i) d (omega arith) (omega arith)))
 own_first k (m ∷ ms) (suc n) f le e =
-    one_more k m.id (ids_of ms) (take n (ids_of ms)) (between_same k m.id.issuer (f 0 m (omega arith) (omega arith)) (e.0 0 m (omega arith) (omega arith)))
+    one_more k m.id (ids ms) (take n (ids ms)) (between_same k m.id.issuer (f 0 m (omega arith) (omega arith)) (e.0 0 m (omega arith) (omega arith)))
     (own_first k ms n (λ i d l h. f (suc i) d (omega arith) (omega arith)) (omega arith)
     (λ i d l h. e.0 (suc i) d (omega arith) (omega arith), λ i d l h. e.1 (suc i) d (omega arith) (omega arith)))
 
-own_at : (k : List ℕ) (ms : List Member) (start n : ℕ) → start ≤ length ms → Starts k ms start → n ≤ length (drop start ms) → Ends k (drop start ms) n
-    → take n (drop start (ids_of ms)) ≡ members_of k (ids_of ms)
+own_at : (k : List ℕ) (ms : List LedgerItem) (start n : ℕ) → start ≤ length ms → Starts k ms start → n ≤ length (drop start ms) → Ends k (drop start ms) n
+    → take n (drop start (ids ms)) ≡ members_of k (ids ms)
 own_at k ms zero n a s b e = own_first k ms n s.1 b e
 own_at k [] (suc start) n a s b e = absurd (omega arith)
 own_at k (m ∷ ms) (suc start) n a s b e =
-    no_more k m.id (ids_of ms) (take n (drop start (ids_of ms))) (below_other k m.id.issuer (s.0 0 m (omega arith) (omega arith)))
+    no_more k m.id (ids ms) (take n (drop start (ids ms))) (below_other k m.id.issuer (s.0 0 m (omega arith) (omega arith)))
     (own_at k ms start n (omega arith) (λ i d l h. s.0 (suc i) d (omega arith) (omega arith), λ i d l h. s.1 (suc i) d (omega arith) (omega arith)) b e)
 
-pub run_is : (k : List ℕ) (ms : List Member) (start n : ℕ) → start ≤ length ms → Starts k ms start → n ≤ length (take (length ms - start) (drop start ms))
+pub run_is : (k : List ℕ) (ms : List LedgerItem) (start n : ℕ) → start ≤ length ms → Starts k ms start → n ≤ length (take (length ms - start) (drop start ms))
     → Ends k (take (length ms - start) (drop start ms)) n → IsRunOf k ms (record { start = start; end = start + n })
 run_is k ms start n a s b e =
     let r = rest_is ms start in
@@ -144,21 +144,21 @@ run_is k ms start n a s b e =
     record {
       order = omega arith;
       within = omega (arith, length-drop start ms, c, a);
-      own = ap (λ j. take j (drop start (ids_of ms))) m ∙ own_at k ms start n a s c (subst (λ xs. Ends k xs n) r e);
+      own = ap (λ j. take j (drop start (ids ms))) m ∙ own_at k ms start n a s c (subst (λ xs. Ends k xs n) r e);
     }
 
 -- ---- the members of the run
 
-abbrev pub cut_run : List Member → Run → List Member
+abbrev pub cut_run : List LedgerItem → Run → List LedgerItem
 cut_run ms run = take (run.end - run.start) (drop run.start ms)
 
-ids_run : (k : List ℕ) (ms : List Member) (run : Run) → IsRunOf k ms run → ids_of (cut_run ms run) ≡ members_of k (ids_of ms)
+ids_run : (k : List ℕ) (ms : List LedgerItem) (run : Run) → IsRunOf k ms run → ids (cut_run ms run) ≡ members_of k (ids ms)
 ids_run k ms run r =
-    sym (take-map (λ (m : Member). m.id) (run.end - run.start) (drop run.start ms)) ∙ ap (take (run.end - run.start)) (sym (drop-map (λ (m : Member). m.id) run.start ms)) ∙ r.own
+    sym (take-map (λ (m : LedgerItem). m.id) (run.end - run.start) (drop run.start ms)) ∙ ap (take (run.end - run.start)) (sym (drop-map (λ (m : LedgerItem). m.id) run.start ms)) ∙ r.own
 
-serials_run : (k : List ℕ) (ms : List Member) (run : Run) → IsRunOf k ms run → serials_of (cut_run ms run) ≡ map (λ x. x.serial) (members_of k (ids_of ms))
+serials_run : (k : List ℕ) (ms : List LedgerItem) (run : Run) → IsRunOf k ms run → serials_of (cut_run ms run) ≡ map (λ x. x.serial) (members_of k (ids ms))
 serials_run k ms run r =
-    sym (map_map (λ (m : Member). m.id) (λ (x : Identity). x.serial) (cut_run ms run)) ∙ ap (map (λ (x : Identity). x.serial)) (ids_run k ms run r)
+    sym (map_map (λ (m : LedgerItem). m.id) (λ (x : Identity). x.serial) (cut_run ms run)) ∙ ap (map (λ (x : Identity). x.serial)) (ids_run k ms run r)
 
 serial_less : (x y : Identity) → x.issuer ≡ y.issuer → identity_cmp x y ≡ Less → serial_cmp x.serial y.serial ≡ Less
 serial_less x y e l =
@@ -185,8 +185,8 @@ own_sorted k (x ∷ xs) s = by (own_sorted k xs (sorted_tail identity_cmp x xs s
     by rest true e = sorted_cons serial_cmp x.serial (map (λ (y : Identity). y.serial) (members_of k xs)) (below e) rest
     by rest false e = rest
 
-pub run_sorted : (k : List ℕ) (ms : List Member) (run : Run) → IsStrictlySortedBy identity_cmp (ids_of ms) → IsRunOf k ms run → IsStrictlySortedBy serial_cmp (serials_of (cut_run ms run))
-run_sorted k ms run s r = subst (λ xs. IsStrictlySortedBy serial_cmp xs) (sym (serials_run k ms run r)) (own_sorted k (ids_of ms) s)
+pub run_sorted : (k : List ℕ) (ms : List LedgerItem) (run : Run) → IsStrictlySortedBy identity_cmp (ids ms) → IsRunOf k ms run → IsStrictlySortedBy serial_cmp (serials_of (cut_run ms run))
+run_sorted k ms run s r = subst (λ xs. IsStrictlySortedBy serial_cmp xs) (sym (serials_run k ms run r)) (own_sorted k (ids ms) s)
 
 at_take : {A : Type 0} (xs : List A) (n i : ℕ) (x : A) → slice_get (take n xs) i ≡ Some x → slice_get xs i ≡ Some x
 at_take xs zero i x h = absurd cc
@@ -207,22 +207,22 @@ at_map (x ∷ xs) (suc i) z h = at_map xs i z h
 abbrev pub of_issuer : List ℕ → List ℕ → Identity
 of_issuer k z = record { issuer = k; serial = z }
 
-pub run_place : (k : List ℕ) (ms : List Member) (run : Run) (i : ℕ) (z : List ℕ) → IsRunOf k ms run → slice_get (serials_of (cut_run ms run)) i ≡ Some z
-    → slice_get (ids_of ms) (run.start + i) ≡ Some (of_issuer k z)
+pub run_place : (k : List ℕ) (ms : List LedgerItem) (run : Run) (i : ℕ) (z : List ℕ) → IsRunOf k ms run → slice_get (serials_of (cut_run ms run)) i ≡ Some z
+    → slice_get (ids ms) (run.start + i) ≡ Some (of_issuer k z)
 run_place k ms run i z r h =
-    let q = at_map (members_of k (ids_of ms)) i z (subst (λ xs. slice_get xs i ≡ Some z) (serials_run k ms run r) h) in
-    let f = Among-filter (λ (y : Identity). bytes_eq k y.issuer) (ids_of ms) q.0 (Among-from_place (members_of k (ids_of ms)) i q.0 q.1) in
+    let q = at_map (members_of k (ids ms)) i z (subst (λ xs. slice_get xs i ≡ Some z) (serials_run k ms run r) h) in
+    let f = Among-filter (λ (y : Identity). bytes_eq k y.issuer) (ids ms) q.0 (Among-from_place (members_of k (ids ms)) i q.0 q.1) in
     let e : q.0.issuer ≡ k = sym (bytes_same k q.0.issuer f.1) in
     let t = subst (λ xs. slice_get xs i ≡ Some q.0) (sym r.own) q.1 in
-    at_drop (ids_of ms) run.start i q.0 (at_take (drop run.start (ids_of ms)) (run.end - run.start) i q.0 t)
+    at_drop (ids ms) run.start i q.0 (at_take (drop run.start (ids ms)) (run.end - run.start) i q.0 t)
     ∙ (λ j. Some (of_issuer (e j) (q.2 j)))
 
-pub run_none : (k : List ℕ) (ms : List Member) (run : Run) (z : List ℕ) → IsRunOf k ms run → has_key (serials_of (cut_run ms run)) z ≡ false
-    → (x : Identity) → Among (ids_of ms) x → is_same x (of_issuer k z) ≡ false
+pub run_none : (k : List ℕ) (ms : List LedgerItem) (run : Run) (z : List ℕ) → IsRunOf k ms run → has_key (serials_of (cut_run ms run)) z ≡ false
+    → (x : Identity) → Among (ids ms) x → is_same x (of_issuer k z) ≡ false
 run_none k ms run z r h =
-    not_has (ids_of ms) (of_issuer k z) (has_none (ids_of ms) (of_issuer k z) (λ a.
-    let f = Among-in_filter (λ (y : Identity). bytes_eq k y.issuer) (ids_of ms) (of_issuer k z) a (bytes_refl k) in
-    let m = Among-in_map (λ (y : Identity). y.serial) (members_of k (ids_of ms)) (of_issuer k z) f in
+    not_has (ids ms) (of_issuer k z) (has_none (ids ms) (of_issuer k z) (λ a.
+    let f = Among-in_filter (λ (y : Identity). bytes_eq k y.issuer) (ids ms) (of_issuer k z) a (bytes_refl k) in
+    let m = Among-in_map (λ (y : Identity). y.serial) (members_of k (ids ms)) (of_issuer k z) f in
     true≢false (sym (has_key-from_Among (serials_of (cut_run ms run)) z (subst (λ xs. Among xs z) (sym (serials_run k ms run r)) m)) ∙ h)))
 
 -- ---- a window of the run
@@ -244,15 +244,15 @@ sorted_take (suc n) [] s = sorted_none
 sorted_take (suc n) (x ∷ xs) s =
     sorted_cons serial_cmp x (take n xs) (λ z a. sorted_head serial_cmp x xs z s (back_take n xs z a)) (sorted_take n xs (sorted_tail serial_cmp x xs s))
 
-serials_cut : (ms : List Member) (w : Run) → serials_of (cut_run ms w) ≡ take (w.end - w.start) (drop w.start (serials_of ms))
+serials_cut : (ms : List LedgerItem) (w : Run) → serials_of (cut_run ms w) ≡ take (w.end - w.start) (drop w.start (serials_of ms))
 serials_cut ms w =
-    sym (take-map (λ (m : Member). m.id.serial) (w.end - w.start) (drop w.start ms)) ∙ ap (take (w.end - w.start)) (sym (drop-map (λ (m : Member). m.id.serial) w.start ms))
+    sym (take-map (λ (m : LedgerItem). m.id.serial) (w.end - w.start) (drop w.start ms)) ∙ ap (take (w.end - w.start)) (sym (drop-map (λ (m : LedgerItem). m.id.serial) w.start ms))
 
-pub cut_sorted : (ms : List Member) (w : Run) → IsStrictlySortedBy serial_cmp (serials_of ms) → IsStrictlySortedBy serial_cmp (serials_of (cut_run ms w))
+pub cut_sorted : (ms : List LedgerItem) (w : Run) → IsStrictlySortedBy serial_cmp (serials_of ms) → IsStrictlySortedBy serial_cmp (serials_of (cut_run ms w))
 cut_sorted ms w s =
     subst (λ xs. IsStrictlySortedBy serial_cmp xs) (sym (serials_cut ms w)) (sorted_take (w.end - w.start) (drop w.start (serials_of ms)) (sorted_drop_by w.start (serials_of ms) s))
 
-pub cut_place : (ms : List Member) (w : Run) (i : ℕ) (z : List ℕ) → slice_get (serials_of (cut_run ms w)) i ≡ Some z → slice_get (serials_of ms) (w.start + i) ≡ Some z
+pub cut_place : (ms : List LedgerItem) (w : Run) (i : ℕ) (z : List ℕ) → slice_get (serials_of (cut_run ms w)) i ≡ Some z → slice_get (serials_of ms) (w.start + i) ≡ Some z
 cut_place ms w i z h =
     at_drop (serials_of ms) w.start i z (at_take (drop w.start (serials_of ms)) (w.end - w.start) i z (subst (λ xs. slice_get xs i ≡ Some z) (serials_cut ms w) h))
 
@@ -294,14 +294,14 @@ in_window xs z start n s a g b h =
     (cases_lt k.0 (start + n)))
     (cases_lt k.0 start)
 
-serial_at : (ms : List Member) (i : ℕ) (z : List ℕ) → get_or (serials_of ms) i z ≡ (get_or ms i (bare_serial z)).id.serial
-serial_at ms i z = keyed.get_map (λ (m : Member). m.id.serial) ms i (bare_serial z)
+serial_at : (ms : List LedgerItem) (i : ℕ) (z : List ℕ) → get_or (serials_of ms) i z ≡ (get_or ms i (bare_serial z)).id.serial
+serial_at ms i z = keyed.get_map (λ (m : LedgerItem). m.id.serial) ms i (bare_serial z)
 
-pub near_window : (ms : List Member) (z : List ℕ) (start end : ℕ) → IsStrictlySortedBy serial_cmp (serials_of ms) → start ≤ end → end < length ms
-    → (0 < start → (d : Member) → serial_cmp (get_or ms (start - 1) d).id.serial z ≡ Less) → ((d : Member) → serial_cmp (get_or ms end d).id.serial z ≡ Greater)
+pub near_window : (ms : List LedgerItem) (z : List ℕ) (start end : ℕ) → IsStrictlySortedBy serial_cmp (serials_of ms) → start ≤ end → end < length ms
+    → (0 < start → (d : LedgerItem) → serial_cmp (get_or ms (start - 1) d).id.serial z ≡ Less) → ((d : LedgerItem) → serial_cmp (get_or ms end d).id.serial z ≡ Greater)
     → IsWindow z ms (record { start = start; end = end })
 near_window ms z start end s o b above below =
-    let n = length-map ms (λ (m : Member). m.id.serial) in
+    let n = length-map ms (λ (m : LedgerItem). m.id.serial) in
     let e : start + (end - start) ≡ end = omega arith in
     let g : serial_cmp (get_or (serials_of ms) (start + (end - start)) z) z ≡ Greater =
     ap (λ j. serial_cmp (get_or (serials_of ms) j z) z) e ∙ ap (λ y. serial_cmp y z) (serial_at ms end z) ∙ below (bare_serial z) in
@@ -316,17 +316,17 @@ near_window ms z start end s o b above below =
     }
 
 -- where there are none of the issuer, no list of its marks any
-no_own : (k : List ℕ) (ms : List Member) (run : Run) → IsRunOf k ms run → run.start ≡ run.end → members_of k (ids_of ms) ≡ []
-no_own k ms run r e = let z : run.end - run.start ≡ 0 = omega arith in sym r.own ∙ ap (λ n. take n (drop run.start (ids_of ms))) z
+no_own : (k : List ℕ) (ms : List LedgerItem) (run : Run) → IsRunOf k ms run → run.start ≡ run.end → members_of k (ids ms) ≡ []
+no_own k ms run r e = let z : run.end - run.start ≡ 0 = omega arith in sym r.own ∙ ap (λ n. take n (drop run.start (ids ms))) z
 
-pub none_marked : (p : Identity → Bool) (k : List ℕ) (ss : List (List ℕ)) (ms : List Member) (run : Run) → IsRunOf k ms run → run.start ≡ run.end
-    → map p (ids_of ms) ≡ map (λ x. p x || (bytes_eq x.issuer k && has_key ss x.serial)) (ids_of ms)
+pub none_marked : (p : Identity → Bool) (k : List ℕ) (ss : List (List ℕ)) (ms : List LedgerItem) (run : Run) → IsRunOf k ms run → run.start ≡ run.end
+    → map p (ids ms) ≡ map (λ x. p x || (bytes_eq x.issuer k && has_key ss x.serial)) (ids ms)
 none_marked p k ss ms run r e =
-    map_agree p (λ (x : Identity). p x || (bytes_eq x.issuer k && has_key ss x.serial)) (ids_of ms) (λ x a.
+    map_agree p (λ (x : Identity). p x || (bytes_eq x.issuer k && has_key ss x.serial)) (ids ms) (λ x a.
     let b : bytes_eq x.issuer k ≡ false =
     false_from_ne_true (bytes_eq x.issuer k) (λ t.
     let u : bytes_eq k x.issuer ≡ true = subst (λ y. bytes_eq k y ≡ true) (sym (bytes_same x.issuer k t)) (bytes_refl k) in
-    subst (λ xs. Among xs x) (no_own k ms run r e) (Among-in_filter (λ (y : Identity). bytes_eq k y.issuer) (ids_of ms) x a u)) in
+    subst (λ xs. Among xs x) (no_own k ms run r e) (Among-in_filter (λ (y : Identity). bytes_eq k y.issuer) (ids ms) x a u)) in
     rw b (unmarked_is (p x)))
   where
     unmarked_is : (b : Bool) → b ≡ (b || false)

@@ -3,6 +3,7 @@ use Rattle.std.proofs.Common.{◌≡◌, ℕ, suc, ◌+◌, ◌<◌, ◌≤◌, 
 use Rattle.std.proofs.Common.{Some, None, refl, sym, ap, ◌∙◌, subst, arith, append_assoc, get_or, drop-cons}
 use Rattle.std.specs.List.{AllByRecursion, count_by, filter, filter_map, find, cons_option}
 use Rattle.std.specs.List.Sorted.{IsStrictlySortedBy}
+use Rattle.std.specs.Option.{option_map}
 use Rattle.std.specs.declared.cmp.Ordering.{Ordering}
 use Rattle.std.specs.declared.cmp.Ordering.TheVariants.{Less, Equal, Greater}
 use Rattle.std.specs.Ordering.{is_lt, is_gt, ordering_reverse}
@@ -464,3 +465,19 @@ pub left_at : {A B : Type 0} (f : A → B) (xs : List A) (i : ℕ) (x : A) → i
 left_at f xs i x l e =
     let one : suc i ≡ i + 1 = omega arith in
     drop-map f i xs ∙ ap (map f) (drop-cons xs i x l) ∙ (λ k. f (sym e k) ∷ map f (drop (suc i) xs)) ∙ ap (λ z. f x ∷ z) (sym (drop-map f (suc i) xs)) ∙ ap (λ n. f x ∷ drop n (map f xs)) one
+
+-- ---- what is made of members
+
+made_step : {M N : Type 0} (f : M → N) (o : Option M) (xs : List M) (ys : List N) → ys ≡ map f xs → cons_option (option_map f o) ys ≡ map f (cons_option o xs)
+made_step f None xs ys h = h
+made_step f (Some m) xs ys h = ap (λ z. f m ∷ z) h
+
+made : {A M N : Type 0} (f : M → N) (h : A → Option M) (xs : List A) → filter_map (λ x. option_map f (h x)) xs ≡ map f (filter_map h xs)
+made f h [] = refl
+made f h (x ∷ xs) = made_step f (h x) (filter_map h xs) (filter_map (λ y. option_map f (h y)) xs) (made f h xs)
+
+pub merged_made : {M N : Type 0} (f : M → N) (judge : Identity → Option LedgerItem → List Entry → Option M) (items : List LedgerItem) (entries : List Entry)
+    → merged (λ x o es. option_map f (judge x o es)) items entries ≡ map f (merged judge items entries)
+unfolding merged
+merged_made f judge items entries =
+    made f (λ x. judge x (find (λ (i : LedgerItem). is_same x i.id) items) (filter (λ (e : Entry). is_same x e.id) entries)) (all_ids items entries)

@@ -2,13 +2,15 @@
 use Rattle.std.specs.List.{list_any, filter_map, cons_option}
 use Rattle.std.specs.Prelude.{is_some}
 use Rattle.std.specs.Str.{bytes_eq}
-use Rattle.std.proofs.Common.{◌≡◌, ℕ, List, [], ◌∷◌, map, filter, length, Bool, true, false, cond, not, ◌&&◌, ◌||◌, Option, Some, None, refl, sym, ap, ◌∙◌}
+use Rattle.std.proofs.Common.{◌≡◌, ℕ, ◌+◌, ◌-◌, ◌<◌, ◌++◌, List, [], ◌∷◌, map, filter, length, get_or, take, drop, set, arith, Bool, true, false, cond, not, ◌&&◌, ◌||◌, Option, Some, None, refl, sym, ap, ◌∙◌}
 use Rattle.std.proofs.lemmas.Bool.{false_from_ne_true, true≢false}
-use Rattle.std.proofs.lemmas.List.{length-map}
+use Rattle.std.proofs.lemmas.List.{length-map, length-take, map_more, get_or-map, get_or-drop, get_or-append_right, get_or_default}
+use Rattle.std.proofs.lemmas.List.Edits.{map_over_more}
 use Rattle.ident_core.specs.declared.identity.Identity.{Identity}
 use Rattle.job_core.specs.declared.meaning.JobCrl.{JobCrl}
 use Rattle.job_core.specs.JobFields.{crl_view}
-use Rattle.ledger_core.specs.LedgerFields.{LedgerFields}
+use Rattle.ledger_core.specs.LedgerFields.{LedgerFields, ids}
+use Rattle.ledger_core.specs.declared.fields.LedgerItem.{LedgerItem}
 use Rattle.sets_core.specs.Sets.{has, has_key}
 use Rattle.sets_core.proofs.Elements.{Among-filter, Among-in_filter, bool_same, map_agree}
 use Rattle.sets_core.proofs.Sets.{Among-from_has, has-from_Among}
@@ -16,7 +18,7 @@ use Rattle.universe_core.specs.Jobs.{Crl, Job, accepted_crl, enrolled, lists}
 use Rattle.universe_core.specs.Enrolling.{facts_of_crl, holds}
 use Rattle.universe_core.specs.History.{Past, shown, sightings, accepted_with, universe, listed_now, is_revoked, revoked}
 use Rattle.universe_core.specs.Ledgers.{past_in, item_of, last_or_none, next_item}
-use Rattle.universe_core.specs.Members.{member_in, next_of}
+use Rattle.universe_core.specs.Members.{AreMembers, AreOf, as_item, member_in, members_in, next_of}
 use Rattle.universe_core.specs.declared.member.Member.{Member}
 
 pub universe_is : (past : Past) (job : Job) (x : Identity) → has (universe past job) x ≡ true → (has (accepted_with past job) x ≡ true) × (has_key (enrolled job) x.issuer ≡ true)
@@ -105,47 +107,91 @@ module _ (ledger : LedgerFields) (job : Job) where
   was_is x = refl
 
   -- the flags of the members are those of the revoked set
-  pub flags_are : map (λ m. has_key (enrolled job) m.id.issuer && ((is_some m.last || lists job m.id) && not m.settled))
-      (map (member_in ledger job) (accepted_with past job)) ≡ map (has (revoked past job)) (accepted_with past job)
+  pub flags_are : map (λ x. has_key (enrolled job) x.issuer && ((is_some (last_or_none (item_of ledger x)) || lists job x) && not (past.is_settled x (sightings x (shown past job)))))
+      (accepted_with past job) ≡ map (has (revoked past job)) (accepted_with past job)
   flags_are =
-      map_map (member_in ledger job) (λ m. has_key (enrolled job) m.id.issuer && ((is_some m.last || lists job m.id) && not m.settled)) (accepted_with past job)
-      ∙ map_agree (λ x. has_key (enrolled job) x.issuer && ((is_some (last_or_none (item_of ledger x)) || lists job x) && not
+      map_agree (λ x. has_key (enrolled job) x.issuer && ((is_some (last_or_none (item_of ledger x)) || lists job x) && not
       (past.is_settled x (sightings x (shown past job))))) (has (revoked past job)) (accepted_with past job)
       (λ x a. ap (λ b. has_key (enrolled job) x.issuer && ((b || lists job x) && not (past.is_settled x (sightings x (shown past job))))) (was_is x) ∙ sym
       (flag_is past job x (has-from_Among (accepted_with past job) x a)))
 
+-- ---- what is said of members, by their items and what stands beside them
+
+module _ (ledger : LedgerFields) (job : Job) (items : List LedgerItem) (settled : List Bool) (ms : AreMembers (members_in ledger job) items settled) where
+  pub of_items : {A : Type 0} (f : LedgerItem → A) → map f items ≡ map (λ x. f (as_item (member_in ledger job x))) (accepted_with (past_in ledger) job)
+  of_items f =
+      ap (map f) ms.items ∙ map_map as_item f (members_in ledger job)
+      ∙ map_map (member_in ledger job) (λ (m : Member). f (as_item m)) (accepted_with (past_in ledger) job)
+
+  settled_by : settled ≡ map (λ (i : LedgerItem). (past_in ledger).is_settled i.id (sightings i.id (shown (past_in ledger) job))) items
+  settled_by =
+      ms.settled ∙ map_map (member_in ledger job) (λ (m : Member). m.settled) (accepted_with (past_in ledger) job)
+      ∙ sym (of_items (λ (i : LedgerItem). (past_in ledger).is_settled i.id (sightings i.id (shown (past_in ledger) job))))
+
   -- the items are those of the next ledger
-  pub items_are : map (λ m. next_of (length ledger.parts) (has (revoked past job) m.id) m) (map (member_in ledger job) (accepted_with past job))
-      ≡ map (next_item past ledger job) (accepted_with past job)
-  items_are = map_map (member_in ledger job) (λ m. next_of (length ledger.parts) (has (revoked past job) m.id) m) (accepted_with past job)
+  pub items_are : map (λ (i : LedgerItem). next_of (length ledger.parts) (has (revoked (past_in ledger) job) i.id) i) items
+      ≡ map (next_item (past_in ledger) ledger job) (accepted_with (past_in ledger) job)
+  items_are = of_items (λ (i : LedgerItem). next_of (length ledger.parts) (has (revoked (past_in ledger) job) i.id) i)
+
+  pub flags_by : (issuers : List (List ℕ)) (listed flags : List Bool) → issuers ≡ enrolled job → listed ≡ map (λ (i : LedgerItem). lists job i.id) items
+      → ((s g : Identity → Bool) → settled ≡ map (λ i. s i.id) items → listed ≡ map (λ i. g i.id) items
+      → flags ≡ map (λ i. has_key issuers i.id.issuer && ((is_some i.last || g i.id) && not (s i.id))) items)
+      → flags ≡ map (has (revoked (past_in ledger) job)) (accepted_with (past_in ledger) job)
+  flags_by issuers listed flags k l f =
+      let s : Identity → Bool = λ x. (past_in ledger).is_settled x (sightings x (shown (past_in ledger) job)) in
+      f s (lists job) settled_by l
+      ∙ ap (λ ks. map (λ (i : LedgerItem). has_key ks i.id.issuer && ((is_some i.last || lists job i.id) && not (s i.id))) items) k
+      ∙ of_items (λ (i : LedgerItem). has_key (enrolled job) i.id.issuer && ((is_some i.last || lists job i.id) && not (s i.id)))
+      ∙ flags_are ledger job
 
 -- ---- from the marks to the revoked set
 
-pub told_flags : (ledger : LedgerFields) (job : Job) (crls : List JobCrl) (issuers : List (List ℕ)) (ids : List Identity) (members : List Member)
-    (listed flags : List Bool) → job.crls ≡ filter_map accepted_crl (map crl_view crls)
-    → issuers ≡ enrolled job → ids ≡ map (λ m. m.id) members → members ≡ map (member_in ledger job) (accepted_with (past_in ledger) job)
-    → listed ≡ map (λ x. list_any (λ c. holds (facts_of_crl c) x) crls) ids
-    → ((g : Identity → Bool) → listed ≡ map (λ m. g m.id) members → flags ≡ map (λ m. has_key issuers m.id.issuer && ((is_some m.last || g m.id) && not m.settled)) members)
+pub told_flags : (ledger : LedgerFields) (job : Job) (crls : List JobCrl) (issuers : List (List ℕ)) (items : List LedgerItem) (settled listed flags : List Bool)
+    → AreOf ledger job crls issuers items settled → listed ≡ map (λ x. list_any (λ c. holds (facts_of_crl c) x) crls) (ids items)
+    → ((s g : Identity → Bool) → settled ≡ map (λ i. s i.id) items → listed ≡ map (λ i. g i.id) items
+    → flags ≡ map (λ i. has_key issuers i.id.issuer && ((is_some i.last || g i.id) && not (s i.id))) items)
     → flags ≡ map (has (revoked (past_in ledger) job)) (accepted_with (past_in ledger) job)
-told_flags ledger job crls issuers ids members listed flags t k i m l f =
-    f (lists job) (l ∙ ap (map (λ x. list_any (λ c. holds (facts_of_crl c) x) crls)) i ∙ map_map (λ (d : Member). d.id) (λ x. list_any (λ c. holds (facts_of_crl c) x) crls) members
-    ∙ map_agree (λ (d : Member). list_any (λ c. holds (facts_of_crl c) d.id) crls) (λ (d : Member). lists job d.id) members (λ d a. sym (lists_is job crls d.id t)))
-    ∙ ap (λ ks. map (λ d. has_key ks d.id.issuer && ((is_some d.last || lists job d.id) && not d.settled)) members) k
-    ∙ ap (map (λ d. has_key (enrolled job) d.id.issuer && ((is_some d.last || lists job d.id) && not d.settled))) m
-    ∙ flags_are ledger job
+told_flags ledger job crls issuers items settled listed flags of l f =
+    flags_by ledger job items settled of.members issuers listed flags of.issuers
+    (l ∙ map_map (λ (i : LedgerItem). i.id) (λ x. list_any (λ c. holds (facts_of_crl c) x) crls) items
+    ∙ map_agree (λ (i : LedgerItem). list_any (λ c. holds (facts_of_crl c) i.id) crls) (λ (i : LedgerItem). lists job i.id) items
+    (λ i a. sym (lists_is job crls i.id of.crls))) f
 
--- a mark and a flag beside each member
+-- a mark beside each member
+pub beside_marks : (crls : List JobCrl) (xs : List Identity) (members : List LedgerItem) (listed : List Bool) → xs ≡ ids members
+    → listed ≡ map (λ x. list_any (λ c. holds (facts_of_crl c) x) crls) xs → length listed ≡ length members
+beside_marks crls xs members listed i l = ap length l ∙ length-map xs (λ x. list_any (λ c. holds (facts_of_crl c) x) crls) ∙ ap length i ∙ length-map members (λ (d : LedgerItem). d.id)
 
-pub beside_marks : (crls : List JobCrl) (ids : List Identity) (members : List Member) (listed : List Bool) → ids ≡ map (λ m. m.id) members
-    → listed ≡ map (λ x. list_any (λ c. holds (facts_of_crl c) x) crls) ids → length listed ≡ length members
-beside_marks crls ids members listed i l = ap length l ∙ length-map ids (λ x. list_any (λ c. holds (facts_of_crl c) x) crls) ∙ ap length i ∙ length-map members (λ (d : Member). d.id)
+-- ---- one more of each
 
-pub beside_flags : (crls : List JobCrl) (issuers : List (List ℕ)) (ids : List Identity) (members : List Member) (listed flags : List Bool) → ids ≡ map (λ m. m.id) members
-    → listed ≡ map (λ x. list_any (λ c. holds (facts_of_crl c) x) crls) ids
-    → ((g : Identity → Bool) → listed ≡ map (λ m. g m.id) members → flags ≡ map (λ m. has_key issuers m.id.issuer && ((is_some m.last || g m.id) && not m.settled)) members)
-    → length flags ≡ length members
-beside_flags crls issuers ids members listed flags i l f =
-    ap length (f (λ x. list_any (λ c. holds (facts_of_crl c) x) crls)
-    (l ∙ ap (map (λ x. list_any (λ c. holds (facts_of_crl c) x) crls)) i ∙ map_map (λ (d : Member). d.id)
-    (λ x. list_any (λ c. holds (facts_of_crl c) x) crls) members))
-    ∙ length-map members (λ (d : Member). has_key issuers d.id.issuer && ((is_some d.last || list_any (λ c. holds (facts_of_crl c) d.id) crls) && not d.settled))
+pub flags_more : (issuers : List (List ℕ)) (members : List LedgerItem) (settled listed old new : List Bool) (i : ℕ) (x y : LedgerItem) (c d r : Bool) (s g : Identity → Bool)
+    → i < length members → x ≡ get_or members i x → y ≡ get_or members i y → settled ≡ map (λ m. s m.id) members → listed ≡ map (λ m. g m.id) members
+    → r ≡ (has_key issuers x.id.issuer && ((is_some y.last || get_or listed i c) && not (get_or settled i d)))
+    → old ≡ map (λ m. has_key issuers m.id.issuer && ((is_some m.last || g m.id) && not (s m.id))) (take i members) → new ≡ old ++ r ∷ []
+    → new ≡ map (λ m. has_key issuers m.id.issuer && ((is_some m.last || g m.id) && not (s m.id))) (take (i + 1) members)
+flags_more issuers members settled listed old new i x y c d r s g lt ex ey es eg er eo en =
+    let at : y ≡ x = ey ∙ get_or_default members i y x lt ∙ sym ex in
+    let l : get_or listed i c ≡ g x.id = ap (λ z. get_or z i c) eg ∙ get_or-map (λ (m : LedgerItem). g m.id) members i x c lt ∙ ap (λ (m : LedgerItem). g m.id) (sym ex) in
+    let t : get_or settled i d ≡ s x.id = ap (λ z. get_or z i d) es ∙ get_or-map (λ (m : LedgerItem). s m.id) members i x d lt ∙ ap (λ (m : LedgerItem). s m.id) (sym ex) in
+    let value = er ∙ (λ k. has_key issuers x.id.issuer && ((is_some (at k).last || l k) && not (t k)))
+    ∙ ap (λ (m : LedgerItem). has_key issuers m.id.issuer && ((is_some m.last || g m.id) && not (s m.id))) ex in
+    en ∙ (λ k. eo k ++ value k ∷ []) ∙ sym (map_more (λ (m : LedgerItem). has_key issuers m.id.issuer && ((is_some m.last || g m.id) && not (s m.id))) members i x lt)
+
+at_over : {A : Type 0} (f : A → A) (xs : List A) (i : ℕ) (d : A) → i < length xs → get_or (map f (take i xs) ++ drop i xs) i d ≡ get_or xs i d
+at_over f xs i d lt =
+    let front : length (map f (take i xs)) ≡ i = length-map (take i xs) f ∙ omega (arith, length-take i xs) in
+    let place : i + (i - i) ≡ i = omega arith in
+    get_or-append_right (map f (take i xs)) (drop i xs) i i d front (omega arith) ∙ get_or-drop i xs (i - i) d ∙ ap (λ k. get_or xs k d) place
+
+pub lasts_more : (place : ℕ) (h : Identity → Bool) (xs ys : List LedgerItem) (flags : List Bool) (i : ℕ) (x y : LedgerItem) (d : Bool) (last : Option ℕ)
+    → i < length xs → flags ≡ map (λ m. h m.id) xs → ys ≡ map (λ m. next_of place (h m.id) m) (take i xs) ++ drop i xs → x ≡ get_or ys i x → y ≡ get_or ys i y
+    → last ≡ cond (get_or flags i d) (Some place) (get_or ys i y).last
+    → set ys i (record { id = (get_or ys i x).id; birth = (get_or ys i x).birth; last = last }) ≡ map (λ m. next_of place (h m.id) m) (take (i + 1) xs) ++ drop (i + 1) xs
+lasts_more place h xs ys flags i x y d last lt ef eo ex ey el =
+    let f : LedgerItem → LedgerItem = λ m. next_of place (h m.id) m in
+    let read : (e : LedgerItem) → get_or ys i e ≡ get_or xs i e = λ e. ap (λ z. get_or z i e) eo ∙ at_over f xs i e lt in
+    let x-is : x ≡ get_or xs i x = ex ∙ read x in
+    let y-is : y ≡ x = ey ∙ read y ∙ get_or_default xs i y x lt ∙ sym x-is in
+    let flag : get_or flags i d ≡ h x.id = ap (λ z. get_or z i d) ef ∙ get_or-map (λ (m : LedgerItem). h m.id) xs i x d lt ∙ ap (λ (m : LedgerItem). h m.id) (sym x-is) in
+    let next : last ≡ cond (h x.id) (Some place) x.last = el ∙ (λ k. cond (flag k) (Some place) ((sym ey ∙ y-is) k).last) in
+    (λ k. set ys i (record { id = (sym ex k).id; birth = (sym ex k).birth; last = next k })) ∙ map_over_more f xs ys i x lt eo ex

@@ -14,10 +14,6 @@ use Rattle.sets_core.proofs.Order.{sorted_head, sorted_tail}
 use Rattle.sets_core.proofs.Sets.{identity_total, identity_exact, same_refl}
 use Rattle.sets_core.proofs.Keyed as keyed
 use Rattle.sets_core.proofs.Keys.{has_none, same_other, less_other}
-use Rattle.universe_core.specs.declared.member.Member.{Member}
-
-abbrev pub bare : Identity → Member
-bare x = record { id = x; birth = 0; last = None; settled = false }
 
 abbrev pub bare_item : Identity → LedgerItem
 bare_item x = record { id = x; birth = 0; last = None }

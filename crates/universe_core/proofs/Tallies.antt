@@ -7,6 +7,7 @@ use Rattle.ident_core.specs.declared.identity.Identity.{Identity}
 use Rattle.ident_core.specs.declared.range.Range.{Range}
 use Rattle.job_core.specs.declared.meaning.Job.{Job as CodeJob}
 use Rattle.ledger_core.specs.LedgerFields.{LedgerFields}
+use Rattle.ledger_core.specs.declared.fields.LedgerItem.{LedgerItem}
 use Rattle.ident_core.specs.Coverage.{covers}
 use Rattle.sets_core.specs.Among.{Among}
 use Rattle.sets_core.specs.Sets.{has, has_key}
@@ -18,7 +19,7 @@ use Rattle.universe_core.specs.History.{Past, class_by, class_of, accepted_with,
 use Rattle.universe_core.specs.Ledgers.{no_ledger, past_in}
 use Rattle.universe_core.specs.Counting.{is_class, count}
 use Rattle.universe_core.specs.Reading.{class_alone, if_read, IsTold, entries_of}
-use Rattle.universe_core.specs.Members.{member_in}
+use Rattle.universe_core.specs.Members.{as_item, member_in, members_in}
 use Rattle.universe_core.specs.declared.class.Class.{Class}
 use Rattle.universe_core.specs.declared.class.Class.TheVariants.{Uncovered, Unenrolled, Late, Accepted}
 use Rattle.universe_core.specs.declared.member.Member.{Member}
@@ -80,12 +81,13 @@ late_none job = sym (count_none (λ e. is_class Late (class_of (past_in no_ledge
 
 -- ---- the universe and the revoked set
 
-pub universe_count : (ledger : LedgerFields) (job : Job) (issuers : List (List ℕ)) (members : List Member) → issuers ≡ enrolled job
-    → members ≡ map (member_in ledger job) (accepted_with (past_in ledger) job)
-    → count_by (λ m. has_key issuers m.id.issuer) members ≡ length (universe (past_in ledger) job)
+pub universe_count : (ledger : LedgerFields) (job : Job) (issuers : List (List ℕ)) (items : List LedgerItem) → issuers ≡ enrolled job
+    → items ≡ map as_item (members_in ledger job)
+    → count_by (λ i. has_key issuers i.id.issuer) items ≡ length (universe (past_in ledger) job)
 unfolding universe
-universe_count ledger job issuers members k m =
-    ap (λ ks. count_by (λ (d : Member). has_key ks d.id.issuer) members) k ∙ ap (count_by (λ (d : Member). has_key (enrolled job) d.id.issuer)) m
+universe_count ledger job issuers items k m =
+    ap (λ ks. count_by (λ (d : LedgerItem). has_key ks d.id.issuer) items) k ∙ ap (count_by (λ (d : LedgerItem). has_key (enrolled job) d.id.issuer)) m
+    ∙ count_by-map (λ (d : LedgerItem). has_key (enrolled job) d.id.issuer) as_item (members_in ledger job)
     ∙ count_by-map (λ (d : Member). has_key (enrolled job) d.id.issuer) (member_in ledger job) (accepted_with (past_in ledger) job)
     ∙ sym (length-filter (λ x. has_key (enrolled job) x.issuer) (accepted_with (past_in ledger) job))
 

@@ -1,6 +1,7 @@
 -- What becomes of an identity: its item and its entries.
 use Rattle.std.specs.Prelude.{ℕ, List, map, filter, take, length, Bool, cond, not, ◌||◌, Option, Some, None, is_some}
 use Rattle.std.specs.List.{list_any}
+use Rattle.std.specs.Option.{option_map}
 use Rattle.std.specs.List.Sorted.{IsStrictlySortedBy}
 use Rattle.ident_core.specs.declared.identity.Identity.{Identity}
 use Rattle.ident_core.specs.declared.range.Sighting.{Sighting}
@@ -49,3 +50,7 @@ member_of parts x old run = record {
 
 abbrev pub judge_of : List LedgerPart → Identity → Option LedgerItem → List Entry → Option Member
 judge_of parts x old run = cond (is_member_of parts old run) (Some (member_of parts x old run)) None
+
+-- what is made of a member, of an identity that is one
+abbrev pub made_of : {M : Type 0} → (Member → M) → List LedgerPart → Identity → Option LedgerItem → List Entry → Option M
+made_of f parts x old run = option_map f (judge_of parts x old run)

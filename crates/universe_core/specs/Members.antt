@@ -14,9 +14,6 @@ use Rattle.universe_core.specs.Ledgers.{past_in, item_of, birth_or, last_or_none
 use Rattle.universe_core.specs.Groups.{GroupFields, members_of}
 use Rattle.universe_core.specs.declared.member.Member.{Member}
 
-abbrev pub ids_of : List Member → List Identity
-ids_of members = map (λ m. m.id) members
-
 abbrev pub member_in : LedgerFields → Job → Identity → Member
 member_in ledger job x = record {
   id = x;
@@ -29,18 +26,27 @@ member_in ledger job x = record {
 abbrev pub members_in : LedgerFields → Job → List Member
 members_in ledger job = map (member_in ledger job) (accepted_with (past_in ledger) job)
 
+abbrev pub as_item : Member → LedgerItem
+as_item m = record { id = m.id; birth = m.birth; last = m.last }
+
+-- items and flags say together what is said of the members
+pub record AreMembers (ms : List Member) (is : List LedgerItem) (flags : List Bool) : Type 0 where
+  pub items : is ≡ map as_item ms
+  pub settled : flags ≡ map (λ m. m.settled) ms
+
 -- the CRLs that are accepted, of those that the code has
 abbrev pub accepted_of : List JobCrl → List Crl
 accepted_of crls = filter_map accepted_crl (map crl_view crls)
 
 -- the CRLs, the enrolled issuers and the accepted identities are the job's
-pub record AreOf (ledger : LedgerFields) (job : Job) (cs : List JobCrl) (ks : List (List ℕ)) (ms : List Member) : Type 0 where
+pub record AreOf (ledger : LedgerFields) (job : Job) (cs : List JobCrl) (ks : List (List ℕ)) (is : List LedgerItem) (flags : List Bool) : Type 0 where
   pub crls : job.crls ≡ accepted_of cs
   pub issuers : ks ≡ enrolled job
-  pub members : ms ≡ members_in ledger job
+  pub members : AreMembers (members_in ledger job) is flags
 
-abbrev pub next_of : ℕ → Bool → Member → LedgerItem
-next_of place revoked m = record { id = m.id; birth = m.birth; last = cond revoked (Some place) m.last }
+-- the item of the next ledger, where this part has the place
+abbrev pub next_of : ℕ → Bool → LedgerItem → LedgerItem
+next_of place revoked i = record { id = i.id; birth = i.birth; last = cond revoked (Some place) i.last }
 
 -- the group of an issuer, where a test says what is revoked
 abbrev pub group_with : (Identity → Bool) → List Identity → List ℕ → GroupFields

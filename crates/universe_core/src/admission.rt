@@ -6,14 +6,14 @@ ghost use Rattle.ident_core.specs.Order.{identity_cmp, octets_cmp};
 ghost use Rattle.ident_core.specs.Coverage.{RangesFit};
 ghost use Rattle.job_core.specs.JobFields.{AreWithin, fields_of_job};
 ghost use Rattle.ident_core.specs.declared.bounds.TheConstants.{MAX_PARTS};
-ghost use Rattle.ledger_core.specs.LedgerFields.{LedgerFields, ledger_fields, sealed_with};
+ghost use Rattle.ledger_core.specs.LedgerFields.{LedgerFields, ids, ledger_fields, sealed_with};
 ghost use Rattle.universe_core.specs.Jobs.{Job as JobMeaning, facts_of_job, enrolled as enrolled_of};
 ghost use Rattle.universe_core.specs.Held.{job_of};
 ghost use Rattle.universe_core.specs.History.{accepted_with, universe, revoked};
 ghost use Rattle.universe_core.specs.Counting.{count};
 ghost use Rattle.universe_core.specs.Groups.{group_fields, IsGroup};
 ghost use Rattle.universe_core.specs.Ledgers.{no_ledger, past_in, past_by, next_item, next_ledger};
-ghost use Rattle.universe_core.specs.Members.{AreOf, ids_of, members_in};
+ghost use Rattle.universe_core.specs.Members.{AreMembers, AreOf, members_in};
 ghost use Rattle.universe_core.specs.Following.{IsBefore};
 ghost use Rattle.universe_core.specs.Judging.{IsSearchable};
 ghost use Rattle.universe_core.specs.Step.{KeepsLimits, refusal, head_after, groups_after, counts_after};
@@ -24,11 +24,11 @@ use crate::counting::set_flags;
 use crate::counts::Counts;
 use crate::enrolling::enrolled;
 use crate::fault::AdmitFault;
-use crate::flagging::{next_items, revoked_now};
+use crate::flagging::{revoked_now, set_lasts};
 use crate::following::{early_fault, next_draft, next_head};
 use crate::grouping::groups;
 use crate::held::Held;
-use crate::member::Member;
+use crate::member::Members;
 use crate::merging::members;
 use crate::reading::{Tally, read};
 use job_core::{Job, JobCrl, Limits, What};
@@ -42,7 +42,7 @@ use std::alloc::{AllocError, Global};
 struct Acceptance<'a> {
     rest: Held<'a>,
     issuers: Vec<Key32>,
-    members: Vec<Member>,
+    members: Members,
     tally: Tally,
     late: u32,
     accepted: u32,
@@ -75,7 +75,8 @@ fn accept<'a>(
     ensures ranges { IfOk result (λ a. (job_of a.rest).ranges.items ≡ (job_of job.entry).ranges.items) }
     ensures crls { IfOk result (λ a. (job_of a.rest).crls.items ≡ (job_of job.entry).crls.items) }
     ensures issuers { IfOk result (λ a. a.issuers.items ≡ enrolled_of (facts_of_job (job_of job.entry))) }
-    ensures members { IfOk result (λ a. a.members.items ≡ members_in (ledger_fields parts.now items.now) (facts_of_job (job_of job.entry))) }
+    ensures members { IfOk result (λ a.
+        AreMembers (members_in (ledger_fields parts.now items.now) (facts_of_job (job_of job.entry))) a.members.items.items a.members.settled.items) }
     ensures unread { IfOk result (λ a. a.tally.unread ≡ count class.Unread (past_by parts.now items.now) (facts_of_job (job_of job.entry))) }
     ensures uncovered { IfOk result (λ a. a.tally.uncovered ≡ count class.Uncovered (past_by parts.now items.now) (facts_of_job (job_of job.entry))) }
     ensures unenrolled { IfOk result (λ a. a.tally.unenrolled ≡ count class.Unenrolled (past_by parts.now items.now) (facts_of_job (job_of job.entry))) }
@@ -100,31 +101,32 @@ fn accept<'a>(
     })
 }
 
-/// Makes the next items and the groups of accepted identities, for a part at this place, by the job's CRLs. The members
-/// are let go before the groups are made.
+/// Makes the next items and the groups of accepted identities, for a part at this place, by the job's CRLs.
 fn build(
     alloc: Global,
     crls: &[JobCrl],
     issuers: &[Key32],
-    members: Vec<Member>,
+    members: Members,
     place: u8,
 ) -> Result<Built, AllocError>
     requires issuers { IsStrictlySortedBy octets_cmp issuers.now }
-    requires ascend { IsStrictlySortedBy identity_cmp (ids_of members.items) }
-    requires few { length members.items ≤ 4294967295 }
-    ensures groups { (ledger : LedgerFields) (job : JobMeaning) → AreOf ledger job crls.now issuers.now members.items
+    requires ascend { IsStrictlySortedBy identity_cmp (ids members.items.items) }
+    requires beside { length members.settled.items ≡ length members.items.items }
+    requires few { length members.items.items ≤ 4294967295 }
+    ensures groups { (ledger : LedgerFields) (job : JobMeaning) → AreOf ledger job crls.now issuers.now members.items.items members.settled.items
         → IfOk result (λ b. map group_fields b.groups.items ≡ groups_after ledger job) }
-    ensures items { (ledger : LedgerFields) (job : JobMeaning) → AreOf ledger job crls.now issuers.now members.items
+    ensures items { (ledger : LedgerFields) (job : JobMeaning) → AreOf ledger job crls.now issuers.now members.items.items members.settled.items
         → place ≡ length ledger.parts
         → IfOk result (λ b. b.items.items ≡ map (next_item (past_in ledger) ledger job) (accepted_with (past_in ledger) job)) }
-    ensures universe { (ledger : LedgerFields) (job : JobMeaning) → AreOf ledger job crls.now issuers.now members.items
+    ensures universe { (ledger : LedgerFields) (job : JobMeaning) → AreOf ledger job crls.now issuers.now members.items.items members.settled.items
         → IfOk result (λ b. b.universe ≡ length (universe (past_in ledger) job)) }
-    ensures revoked { (ledger : LedgerFields) (job : JobMeaning) → AreOf ledger job crls.now issuers.now members.items
+    ensures revoked { (ledger : LedgerFields) (job : JobMeaning) → AreOf ledger job crls.now issuers.now members.items.items members.settled.items
         → IfOk result (λ b. b.revoked ≡ length (revoked (past_in ledger) job)) }
 {
-    let flags = revoked_now(alloc, crls, issuers, &members)?;
-    let items = next_items(alloc, &members, &flags.revoked, place)?;
-    drop(members);
+    let flags = revoked_now(alloc, crls, issuers, &members.items, &members.settled)?;
+    drop(members.settled);
+    let mut items = members.items;
+    set_lasts(&mut items, &flags.revoked, place);
     let groups = groups(alloc, issuers, &items, &flags.revoked)?;
     let revoked = set_flags(&flags.revoked);
     Ok(Built {
@@ -161,7 +163,7 @@ fn step(
         return Err(fault);
     }
     let accepted = accept(alloc, parts, items, job)?;
-    if accepted.members.len() > limits.identities as usize {
+    if accepted.members.items.len() > limits.identities as usize {
         return Err(AdmitFault::TooMany {
             what: What::Identities,
             limit: limits.identities,

@@ -1,4 +1,4 @@
-ghost use Rattle.std.specs.Prelude.{◌≡◌, ◌≤◌, ◌&&◌, ◌||◌, IfOk, map, not, Bool, length, is_some};
+ghost use Rattle.std.specs.Prelude.{◌≡◌, ◌≤◌, ◌&&◌, ◌||◌, IfOk, Some, map, not, cond, Bool, length, is_some};
 ghost use Rattle.std.specs.List.{count_by};
 ghost use Rattle.std.specs.List.Sorted.{IsStrictlySortedBy};
 ghost use Rattle.ident_core.specs.Order.{octets_cmp, identity_cmp};
@@ -8,11 +8,10 @@ ghost use Rattle.sets_core.specs.Sets.{has, has_key};
 ghost use Rattle.universe_core.specs.Jobs.{Job as JobMeaning};
 ghost use Rattle.universe_core.specs.History.{accepted_with, revoked as revoked_of};
 ghost use Rattle.universe_core.specs.Ledgers.{past_in};
-ghost use Rattle.universe_core.specs.Members.{AreOf, ids_of, next_of};
+ghost use Rattle.universe_core.specs.Members.{AreOf, next_of};
 ghost use Rattle.universe_core.specs.Reading.{one_if};
 
 use crate::marking::listed_now;
-use crate::member::Member;
 use job_core::JobCrl;
 use ledger_core::LedgerItem;
 use octets_core::Key32;
@@ -26,14 +25,14 @@ pub(crate) struct Flags {
     pub(crate) universe: u32,
 }
 
-fn is_flagged(member: &Member, listed: bool) -> bool
-    ensures { result ≡ ((is_some member.now.last || listed) && not member.now.settled) }
+fn is_flagged(member: &LedgerItem, settled: bool, listed: bool) -> bool
+    ensures { result ≡ ((is_some member.now.last || listed) && not settled) }
 {
     let was = member.last.is_some();
-    (was || listed) && !member.settled
+    (was || listed) && !settled
 }
 
-fn is_enrolled(issuers: &[Key32], member: &Member) -> bool
+fn is_enrolled(issuers: &[Key32], member: &LedgerItem) -> bool
     requires { IsStrictlySortedBy octets_cmp issuers.now }
     ensures { result ≡ has_key issuers.now member.now.id.issuer }
 {
@@ -52,25 +51,29 @@ fn one(is: bool) -> u32
     if is { 1 } else { 0 }
 }
 
-/// Which members are revoked, where it is known which a job lists.
+/// Which members are revoked, where it is known which are settled and which a job lists.
 fn flag(
     alloc: Global,
     issuers: &[Key32],
-    members: &[Member],
+    members: &[LedgerItem],
+    settled: &[bool],
     listed: &[bool],
 ) -> Result<Flags, AllocError>
-    requires beside { length listed.now ≡ length members.now }
+    requires settled { length settled.now ≡ length members.now }
+    requires listed { length listed.now ≡ length members.now }
     requires ascend { IsStrictlySortedBy octets_cmp issuers.now }
     requires few { length members.now ≤ 4294967295 }
-    ensures revoked { (g : IdentityFields → Bool) → listed.now ≡ map (λ m. g m.id) members.now
-        → IfOk result (λ f. f.revoked.items ≡ map (λ m. has_key issuers.now m.id.issuer && ((is_some m.last || g m.id) && not m.settled)) members.now) }
+    ensures revoked { (s g : IdentityFields → Bool) → settled.now ≡ map (λ m. s m.id) members.now → listed.now ≡ map (λ m. g m.id) members.now
+        → IfOk result (λ f. f.revoked.items
+        ≡ map (λ m. has_key issuers.now m.id.issuer && ((is_some m.last || g m.id) && not (s m.id))) members.now) }
+    ensures beside { IfOk result (λ f. length f.revoked.items ≡ length members.now) }
     ensures universe { IfOk result (λ f. f.universe ≡ count_by (λ m. has_key issuers.now m.id.issuer) members.now) }
 {
     let mut revoked = Vec::with_capacity(alloc, members.len())?;
     let mut universe = 0;
     for i in 0..members.len() {
         let enrolled = is_enrolled(issuers, &members[i]);
-        let flagged = is_flagged(&members[i], listed[i]);
+        let flagged = is_flagged(&members[i], settled[i], listed[i]);
         revoked.push(both(enrolled, flagged))?;
         universe += one(enrolled);
     }
@@ -82,49 +85,38 @@ pub(crate) fn revoked_now(
     alloc: Global,
     crls: &[JobCrl],
     issuers: &[Key32],
-    members: &[Member],
+    members: &[LedgerItem],
+    settled: &[bool],
 ) -> Result<Flags, AllocError>
     requires issuers { IsStrictlySortedBy octets_cmp issuers.now }
-    requires ascend { IsStrictlySortedBy identity_cmp (ids_of members.now) }
+    requires ascend { IsStrictlySortedBy identity_cmp (ids members.now) }
+    requires beside { length settled.now ≡ length members.now }
     requires few { length members.now ≤ 4294967295 }
-    ensures revoked { (ledger : LedgerFields) (job : JobMeaning) → AreOf ledger job crls.now issuers.now members.now
+    ensures revoked { (ledger : LedgerFields) (job : JobMeaning) → AreOf ledger job crls.now issuers.now members.now settled.now
         → IfOk result (λ f. f.revoked.items ≡ map (has (revoked_of (past_in ledger) job)) (accepted_with (past_in ledger) job)) }
     ensures beside { IfOk result (λ f. length f.revoked.items ≡ length members.now) }
     ensures universe { IfOk result (λ f. f.universe ≡ count_by (λ m. has_key issuers.now m.id.issuer) members.now) }
 {
     let listed = listed_now(alloc, members, crls)?;
-    let flags = flag(alloc, issuers, members, &listed)?;
+    let flags = flag(alloc, issuers, members, settled, &listed)?;
     Ok(flags)
 }
 
-/// The item of a member, where it is known whether it is revoked.
-fn next_item(member: &Member, revoked: bool, place: u8) -> LedgerItem
-    ensures { result ≡ next_of place revoked member.now }
+/// The last of a member, where it is known whether it is revoked.
+fn next_last(last: Option<u8>, revoked: bool, place: u8) -> Option<u8>
+    ensures { result ≡ cond revoked (Some place) last }
 {
-    let last = if revoked { Some(place) } else { member.last };
-    LedgerItem {
-        id: member.id,
-        birth: member.birth,
-        last,
-    }
+    if revoked { Some(place) } else { last }
 }
 
-/// The items of the next ledger, where it is known which members are revoked.
-pub(crate) fn next_items(
-    alloc: Global,
-    members: &[Member],
-    revoked: &[bool],
-    place: u8,
-) -> Result<Vec<LedgerItem>, AllocError>
-    requires { length revoked.now ≡ length members.now }
-    ensures items { (h : IdentityFields → Bool) → revoked.now ≡ map (λ m. h m.id) members.now
-        → IfOk result (λ items. items.items ≡ map (λ m. next_of place (h m.id) m) members.now) }
-    ensures same { IfOk result (λ items. ids items.items ≡ ids_of members.now) }
+/// Makes the items of the next ledger of those that members have, where it is known which are revoked.
+pub(crate) fn set_lasts(items: &mut [LedgerItem], revoked: &[bool], place: u8)
+    requires { length revoked.now ≡ length items.old }
+    ensures items { (h : IdentityFields → Bool) → revoked.now ≡ map (λ m. h m.id) items.old
+        → items.new ≡ map (λ m. next_of place (h m.id) m) items.old }
+    ensures same { ids items.new ≡ ids items.old }
 {
-    let mut out = Vec::with_capacity(alloc, members.len())?;
-    for i in 0..members.len() {
-        let item = next_item(&members[i], revoked[i], place);
-        out.push(item)?;
+    for i in 0..items.len() {
+        items[i].last = next_last(items[i].last, revoked[i], place);
     }
-    Ok(out)
 }

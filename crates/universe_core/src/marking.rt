@@ -4,17 +4,17 @@ ghost use Rattle.std.specs.Str.{bytes_eq};
 ghost use Rattle.std.specs.Prelude.{◌≡◌, ◌<◌, ◌-◌, ◌||◌, ◌&&◌, All, length, map, get_or, slice_get, Bool, IfOk, OnOk, IsErr, Some, true, false};
 ghost use Rattle.ident_core.specs.Order.{identity_cmp, serial_cmp, is_same as same};
 ghost use Rattle.ident_core.specs.declared.identity.Identity.{Identity as IdentityFields};
+ghost use Rattle.ledger_core.specs.LedgerFields.{ids};
 ghost use Rattle.sets_core.specs.Sets.{has_key};
 ghost use Rattle.universe_core.specs.Enrolling.{facts_of_crl, holds};
 ghost use Rattle.universe_core.specs.Marking.{IsListed, IsRunOf, IsWindow, listed_in, serials_of};
-ghost use Rattle.universe_core.specs.Members.{ids_of};
 ghost use Rattle.std.specs.declared.cmp.Ordering.TheVariants.{Less, Greater};
 
 use crate::listing::{Listed, sorted};
-use crate::member::Member;
 use crate::serial_key::{key_of, order_serials};
 use ident_core::Serial;
 use job_core::JobCrl;
+use ledger_core::LedgerItem;
 use octets_core::Key32;
 use std::alloc::{AllocError, Global};
 use std::cmp::Ordering;
@@ -30,8 +30,8 @@ pub(crate) struct Run {
 }
 
 /// The run of the issuer's members. Two binary searches.
-fn run_of(members: &[Member], issuer: &Key32) -> Run
-    requires { IsStrictlySortedBy identity_cmp (ids_of members.now) }
+fn run_of(members: &[LedgerItem], issuer: &Key32) -> Run
+    requires { IsStrictlySortedBy identity_cmp (ids members.now) }
     ensures { IsRunOf issuer.now members.now result }
 {
     let start = members.partition_point(|m| m.id.issuer.cmp(issuer).is_lt());
@@ -43,7 +43,7 @@ fn run_of(members: &[Member], issuer: &Key32) -> Run
 }
 
 /// How the serial of a member and a listed one are ordered.
-fn order(member: &Member, listed: &Listed<'_>) -> Ordering
+fn order(member: &LedgerItem, listed: &Listed<'_>) -> Ordering
     requires { IsListed listed.now }
     ensures { result ≡ serial_cmp member.now.id.serial listed.now.serial.now }
 {
@@ -52,12 +52,12 @@ fn order(member: &Member, listed: &Listed<'_>) -> Ordering
 }
 
 /// Whether the serial is above the members before the first place and below those from the second on.
-fn is_between(run: &[Member], start: usize, end: usize, listed: &Listed<'_>) -> bool
+fn is_between(run: &[LedgerItem], start: usize, end: usize, listed: &Listed<'_>) -> bool
     requires start { start < length run.now }
     requires end { end < length run.now }
     requires key { IsListed listed.now }
-    ensures above { result ≡ true → 0 < start → (d : Member) → serial_cmp (get_or run.now (start - 1) d).id.serial listed.now.serial.now ≡ Less }
-    ensures below { result ≡ true → (d : Member) → serial_cmp (get_or run.now end d).id.serial listed.now.serial.now ≡ Greater }
+    ensures above { result ≡ true → 0 < start → (d : LedgerItem) → serial_cmp (get_or run.now (start - 1) d).id.serial listed.now.serial.now ≡ Less }
+    ensures below { result ≡ true → (d : LedgerItem) → serial_cmp (get_or run.now end d).id.serial listed.now.serial.now ≡ Greater }
 {
     if start > 0 && !order(&run[start - 1], listed).is_lt() {
         return false;
@@ -67,7 +67,7 @@ fn is_between(run: &[Member], start: usize, end: usize, listed: &Listed<'_>) -> 
 
 /// A part of the run that has the serial's member, if there is one: the few members near a place where these are seen
 /// to suffice, or all.
-fn window_of(run: &[Member], near: usize, listed: &Listed<'_>) -> Run
+fn window_of(run: &[LedgerItem], near: usize, listed: &Listed<'_>) -> Run
     requires sorted { IsStrictlySortedBy serial_cmp (serials_of run.now) }
     requires key { IsListed listed.now }
     ensures { IsWindow listed.now.serial.now run.now result }
@@ -84,7 +84,7 @@ fn window_of(run: &[Member], near: usize, listed: &Listed<'_>) -> Run
 
 /// The place of the member of a serial among those of one issuer, counted from 0, or where it would stand. A binary
 /// search, which is shorter where that is near.
-fn place_of(run: &[Member], near: usize, listed: &Listed<'_>) -> Result<usize, usize>
+fn place_of(run: &[LedgerItem], near: usize, listed: &Listed<'_>) -> Result<usize, usize>
     requires sorted { IsStrictlySortedBy serial_cmp (serials_of run.now) }
     requires key { IsListed listed.now }
     ensures some { IfOk result (λ i. slice_get (serials_of run.now) i ≡ Some listed.now.serial.now) }
@@ -101,18 +101,18 @@ fn place_of(run: &[Member], near: usize, listed: &Listed<'_>) -> Result<usize, u
 /// Marks the member of an issuer's serial, if there is one, and tells where in the run it is or would stand.
 fn mark_serial(
     flags: &mut [bool],
-    members: &[Member],
+    members: &[LedgerItem],
     issuer: &Key32,
     run: Run,
     near: usize,
     listed: &Listed<'_>,
 ) -> usize
-    requires sorted { IsStrictlySortedBy identity_cmp (ids_of members.now) }
+    requires sorted { IsStrictlySortedBy identity_cmp (ids members.now) }
     requires beside { length flags.old ≡ length members.now }
     requires run { IsRunOf issuer.now members.now run }
     requires key { IsListed listed.now }
-    ensures { (q : IdentityFields → Bool) → flags.old ≡ map q (ids_of members.now)
-        → flags.new ≡ map (λ x. q x || same x (record { issuer = issuer.now; serial = listed.now.serial.now })) (ids_of members.now) }
+    ensures { (q : IdentityFields → Bool) → flags.old ≡ map q (ids members.now)
+        → flags.new ≡ map (λ x. q x || same x (record { issuer = issuer.now; serial = listed.now.serial.now })) (ids members.now) }
 {
     match place_of(&members[run.start..run.end], near, listed) {
         Ok(place) => {
@@ -126,18 +126,18 @@ fn mark_serial(
 /// Marks the members of these serials of an issuer, beside those that were marked.
 fn mark_serials(
     flags: &mut [bool],
-    members: &[Member],
+    members: &[LedgerItem],
     issuer: &Key32,
     run: Run,
     listed: &[Listed<'_>],
 )
-    requires sorted { IsStrictlySortedBy identity_cmp (ids_of members.now) }
+    requires sorted { IsStrictlySortedBy identity_cmp (ids members.now) }
     requires beside { length flags.old ≡ length members.now }
     requires run { IsRunOf issuer.now members.now run }
     requires keys { All IsListed listed.now }
-    ensures { (p : IdentityFields → Bool) → flags.old ≡ map p (ids_of members.now)
+    ensures { (p : IdentityFields → Bool) → flags.old ≡ map p (ids members.now)
         → flags.new
-        ≡ map (λ x. p x || (bytes_eq x.issuer issuer.now && has_key (listed_in listed.now) x.serial)) (ids_of members.now) }
+        ≡ map (λ x. p x || (bytes_eq x.issuer issuer.now && has_key (listed_in listed.now) x.serial)) (ids members.now) }
 {
     let mut near = 0;
     for one in listed {
@@ -149,15 +149,15 @@ fn mark_serials(
 fn mark_list(
     alloc: Global,
     flags: &mut [bool],
-    members: &[Member],
+    members: &[LedgerItem],
     issuer: &Key32,
     serials: &[Serial],
 ) -> Result<(), AllocError>
-    requires sorted { IsStrictlySortedBy identity_cmp (ids_of members.now) }
+    requires sorted { IsStrictlySortedBy identity_cmp (ids members.now) }
     requires beside { length flags.old ≡ length members.now }
-    ensures { (p : IdentityFields → Bool) → flags.old ≡ map p (ids_of members.now)
+    ensures { (p : IdentityFields → Bool) → flags.old ≡ map p (ids members.now)
         → OnOk result (flags.new
-        ≡ map (λ x. p x || (bytes_eq x.issuer issuer.now && has_key serials.now x.serial)) (ids_of members.now)) }
+        ≡ map (λ x. p x || (bytes_eq x.issuer issuer.now && has_key serials.now x.serial)) (ids members.now)) }
 {
     let run = run_of(members, issuer);
     if run.start == run.end {
@@ -172,13 +172,13 @@ fn mark_list(
 fn mark_crl(
     alloc: Global,
     flags: &mut [bool],
-    members: &[Member],
+    members: &[LedgerItem],
     crl: &JobCrl,
 ) -> Result<(), AllocError>
-    requires sorted { IsStrictlySortedBy identity_cmp (ids_of members.now) }
+    requires sorted { IsStrictlySortedBy identity_cmp (ids members.now) }
     requires beside { length flags.old ≡ length members.now }
-    ensures { (p : IdentityFields → Bool) → flags.old ≡ map p (ids_of members.now)
-        → OnOk result (flags.new ≡ map (λ x. p x || holds (facts_of_crl crl.now) x) (ids_of members.now)) }
+    ensures { (p : IdentityFields → Bool) → flags.old ≡ map p (ids members.now)
+        → OnOk result (flags.new ≡ map (λ x. p x || holds (facts_of_crl crl.now) x) (ids members.now)) }
 {
     match &crl.outcome {
         Ok(list) => mark_list(alloc, flags, members, &crl.issuer, &list.serials),
@@ -190,13 +190,13 @@ fn mark_crl(
 fn mark_all(
     alloc: Global,
     flags: &mut [bool],
-    members: &[Member],
+    members: &[LedgerItem],
     crls: &[JobCrl],
 ) -> Result<(), AllocError>
-    requires sorted { IsStrictlySortedBy identity_cmp (ids_of members.now) }
+    requires sorted { IsStrictlySortedBy identity_cmp (ids members.now) }
     requires beside { length flags.old ≡ length members.now }
-    ensures { (p : IdentityFields → Bool) → flags.old ≡ map p (ids_of members.now)
-        → OnOk result (flags.new ≡ map (λ x. p x || list_any (λ c. holds (facts_of_crl c) x) crls.now) (ids_of members.now)) }
+    ensures { (p : IdentityFields → Bool) → flags.old ≡ map p (ids members.now)
+        → OnOk result (flags.new ≡ map (λ x. p x || list_any (λ c. holds (facts_of_crl c) x) crls.now) (ids members.now)) }
 {
     for crl in crls {
         mark_crl(alloc, flags, members, crl)?;
@@ -204,7 +204,7 @@ fn mark_all(
     Ok(())
 }
 
-fn unmarked(alloc: Global, members: &[Member]) -> Result<Vec<bool>, AllocError>
+fn unmarked(alloc: Global, members: &[LedgerItem]) -> Result<Vec<bool>, AllocError>
     ensures { IfOk result (λ flags. flags.items ≡ map (λ m. false) members.now) }
 {
     members.iter().map(|_| false).collect(alloc)
@@ -213,11 +213,11 @@ fn unmarked(alloc: Global, members: &[Member]) -> Result<Vec<bool>, AllocError>
 /// Which of ascending members CRLs hold.
 pub(crate) fn listed_now(
     alloc: Global,
-    members: &[Member],
+    members: &[LedgerItem],
     crls: &[JobCrl],
 ) -> Result<Vec<bool>, AllocError>
-    requires sorted { IsStrictlySortedBy identity_cmp (ids_of members.now) }
-    ensures { IfOk result (λ flags. flags.items ≡ map (λ x. list_any (λ c. holds (facts_of_crl c) x) crls.now) (ids_of members.now)) }
+    requires sorted { IsStrictlySortedBy identity_cmp (ids members.now) }
+    ensures { IfOk result (λ flags. flags.items ≡ map (λ x. list_any (λ c. holds (facts_of_crl c) x) crls.now) (ids members.now)) }
 {
     let mut flags = unmarked(alloc, members)?;
     mark_all(alloc, &mut flags, members, crls)?;

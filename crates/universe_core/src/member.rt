@@ -1,4 +1,5 @@
 use ident_core::Identity;
+use ledger_core::LedgerItem;
 
 /// An identity accepted so far, and what its item and its entries say.
 #[derive(Clone, Copy)]
@@ -8,4 +9,12 @@ pub(crate) struct Member {
     pub(crate) last: Option<u8>,
     /// Whether the part of its last covers the sightings that are accepted now.
     pub(crate) settled: bool,
+}
+
+/// The identities accepted so far, ascending, as items that become those of the next ledger.
+#[derive(Drop)]
+pub(crate) struct Members {
+    pub(crate) items: Vec<LedgerItem>,
+    /// Beside each item, whether the part of its last covers the sightings that are accepted now.
+    pub(crate) settled: Vec<bool>,
 }

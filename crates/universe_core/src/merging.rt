@@ -1,6 +1,7 @@
 ghost use Rattle.std.specs.List.Sorted.{IsStrictlySortedBy};
 ghost use Rattle.std.specs.List.{cons_option, count_by, filter_map};
-ghost use Rattle.std.specs.Prelude.{◌≡◌, ◌≤◌, ◌++◌, List, [], length, map, OnOk, IfOk, ◌<◌, All};
+ghost use Rattle.std.specs.Option.{option_map};
+ghost use Rattle.std.specs.Prelude.{◌≡◌, ◌≤◌, ◌++◌, Bool, List, [], length, map, OnOk, IfOk, ◌<◌, All};
 ghost use Rattle.ident_core.specs.Order.{identity_cmp, octets_cmp};
 ghost use Rattle.ident_core.specs.declared.range.Range.{Range as RangeFields};
 ghost use Rattle.universe_core.specs.Merging.{IsRising, least_of, run_of, first_of, after_first, merged, lower};
@@ -9,10 +10,10 @@ ghost use Rattle.universe_core.specs.Judging.{IsSearchable, judge_of, is_late_be
 ghost use Rattle.ledger_core.specs.LedgerFields.{ledger_fields};
 ghost use Rattle.universe_core.specs.Jobs.{Job as JobMeaning, enrolled};
 ghost use Rattle.universe_core.specs.Reading.{if_read, IsTold, entries_of, is_lacked};
-ghost use Rattle.universe_core.specs.Members.{members_in};
+ghost use Rattle.universe_core.specs.Members.{AreMembers, as_item, members_in};
 
 use crate::judging::judge;
-use crate::member::Member;
+use crate::member::{Member, Members};
 use crate::read_entry::ReadEntry;
 use crate::reading::sort_entries;
 use ident_core::{Identity, Range, is_same};
@@ -83,19 +84,35 @@ fn after_item<'a>(items: &'a [LedgerItem], id: &Identity) -> &'a [LedgerItem]
     }
 }
 
-fn keep(out: &mut Vec<Member>, member: Option<Member>) -> Result<(), AllocError>
-    ensures { OnOk result (out.new.items ≡ out.old.items ++ cons_option member []) }
+fn item(member: &Member) -> LedgerItem
+    ensures { result ≡ as_item member.now }
+{
+    LedgerItem {
+        id: member.id,
+        birth: member.birth,
+        last: member.last,
+    }
+}
+
+fn keep(
+    items: &mut Vec<LedgerItem>,
+    settled: &mut Vec<bool>,
+    member: Option<Member>,
+) -> Result<(), AllocError>
+    ensures items { OnOk result (items.new.items ≡ items.old.items ++ cons_option (option_map as_item member) []) }
+    ensures settled { OnOk result (settled.new.items ≡ settled.old.items ++ cons_option (option_map {U = Bool} (λ m. m.settled) member) []) }
 {
     if let Some(member) = member {
-        out.push(member)?;
+        items.push(item(&member))?;
+        settled.push(member.settled)?;
     }
     Ok(())
 }
 
-/// What a merge of items and entries gives: the identities that are accepted, ascending, and how many entries are late.
+/// What a merge of items and entries gives: the identities that are accepted, and how many entries are late.
 #[derive(Drop)]
 pub(crate) struct Merged {
-    pub(crate) members: Vec<Member>,
+    pub(crate) members: Members,
     pub(crate) late: usize,
 }
 
@@ -112,11 +129,14 @@ fn merge(
     requires ascend { IsStrictlySortedBy identity_cmp (map (λ i. i.id) items.now) }
     requires told { All (IsTold issuers.now ranges.now) entries.now }
     requires rise { IsRising (entries_of issuers.now ranges.now entries.now) }
-    ensures members { IfOk result (λ m. m.members.items ≡ merged (judge_of parts.now) items.now (entries_of issuers.now ranges.now entries.now)) }
+    ensures members { IfOk result (λ m.
+        AreMembers (merged (judge_of parts.now) items.now (entries_of issuers.now ranges.now entries.now)) m.members.items.items m.members.settled.items) }
     ensures late { IfOk result (λ m. m.late
         ≡ count_told (is_late_beside parts.now) items.now (entries_of issuers.now ranges.now entries.now)) }
 {
-    let mut members = Vec::with_capacity(alloc, items.len().saturating_add(entries.len()))?;
+    let most = items.len().saturating_add(entries.len());
+    let mut kept = Vec::with_capacity(alloc, most)?;
+    let mut settled = Vec::with_capacity(alloc, most)?;
     let mut late = 0;
     let mut items_left = items;
     let mut entries_left = entries;
@@ -124,11 +144,15 @@ fn merge(
         let old = first_item(items_left, &id);
         let (run, behind) = entries_left.split_at(run_length(issuers, entries_left, &id));
         let judged = judge(parts, &id, &old, issuers, ranges, run);
-        keep(&mut members, judged.member)?;
+        keep(&mut kept, &mut settled, judged.member)?;
         late += judged.late;
         items_left = after_item(items_left, &id);
         entries_left = behind;
     }
+    let members = Members {
+        items: kept,
+        settled,
+    };
     Ok(Merged { members, late })
 }
 
@@ -148,7 +172,7 @@ pub(crate) fn members(
     requires issuers { IsStrictlySortedBy octets_cmp issuers.now }
     requires told { All (IsTold issuers.now ranges.now) entries.items }
     ensures members { (job : JobMeaning) → entries_of issuers.now ranges.now entries.items ≡ filter_map (if_read job.ranges (enrolled job)) job.entries
-        → IfOk result (λ m. m.members.items ≡ members_in (ledger_fields parts.now items.now) job) }
+        → IfOk result (λ m. AreMembers (members_in (ledger_fields parts.now items.now) job) m.members.items.items m.members.settled.items) }
     ensures late { IfOk result (λ m. m.late
         ≡ count_by (is_lacked (ledger_fields parts.now items.now)) (entries_of issuers.now ranges.now entries.items)) }
 {

@@ -10,10 +10,10 @@ use Rattle.universe_core.specs.Jobs.{facts_of_job, enrolled}
 use Rattle.universe_core.specs.Following.{early}
 use Rattle.universe_core.specs.Groups.{group_fields}
 use Rattle.universe_core.specs.Held.{job_of}
-use Rattle.universe_core.specs.Members.{first_part}
+use Rattle.universe_core.specs.Members.{first_part, members_in}
 use Rattle.universe_core.specs.Step.{kind_by, parent_by}
 use Rattle.universe_core.proofs.Beginning.{job_issuers_few}
-use Rattle.universe_core.proofs.Continuing.{refusal_early, refusal_many, refusal_none, members_many, ids_ascend, groups_facts, is_next, next_is, counts_are, crls_few}
+use Rattle.universe_core.proofs.Continuing.{refusal_early, refusal_many, refusal_none, members_many, settled_many, ids_ascend, groups_facts, is_next, next_is, counts_are, crls_few}
 use Rattle.universe_core.proofs.Holding.{frame_left, are_of}
 use Rattle.universe_core.proofs.Issuers.{enrolled_ascend}
 use Rattle.universe_core.proofs.Searchable.{parts_searchable}
@@ -35,7 +35,7 @@ accept-requires-clause-ascend c = c.requires.before.items_ascend
 
 pub returns-then-len-limits-clause-refused : goal.returns-then-len-limits-clause-refused
 returns-then-len-limits-clause-refused c = λ n.
-    let many = members_many (ledger_fields c.args.parts.now c.args.items.now) (facts_of_job (job_of c.args.job)) c.in_ok-accepted.accepted.members.items c.in_ok-accepted.ensures.members in
+    let many = members_many (ledger_fields c.args.parts.now c.args.items.now) (facts_of_job (job_of c.args.job)) c.in_ok-accepted.accepted.members.items.items c.in_ok-accepted.accepted.members.settled.items c.in_ok-accepted.ensures.members in
     let len = c.len.ensures in
     let above = c.if-len-limits.true in
     refusal_many c.args.limits.now (ledger_fields c.args.parts.now c.args.items.now) (fields_of_job (job_of c.args.job))
@@ -47,11 +47,17 @@ build-requires-clause-issuers c =
 
 pub build-requires-clause-ascend : goal.build-requires-clause-ascend
 build-requires-clause-ascend c =
-    ids_ascend (ledger_fields c.args.parts.now c.args.items.now) (facts_of_job (job_of c.args.job)) c.requires.before c.in_ok-accepted.accepted.members.items c.in_ok-accepted.ensures.members
+    ids_ascend (ledger_fields c.args.parts.now c.args.items.now) (facts_of_job (job_of c.args.job)) c.requires.before
+    c.in_ok-accepted.accepted.members.items.items c.in_ok-accepted.accepted.members.settled.items c.in_ok-accepted.ensures.members
+
+pub build-requires-clause-beside : goal.build-requires-clause-beside
+build-requires-clause-beside c =
+    settled_many (members_in (ledger_fields c.args.parts.now c.args.items.now) (facts_of_job (job_of c.args.job)))
+    c.in_ok-accepted.accepted.members.items.items c.in_ok-accepted.accepted.members.settled.items c.in_ok-accepted.ensures.members
 
 pub returns-clause-admitted : goal.returns-clause-admitted
 returns-clause-admitted c =
-    let many = members_many (ledger_fields c.args.parts.now c.args.items.now) (facts_of_job (job_of c.args.job)) c.in_ok-accepted.accepted.members.items c.in_ok-accepted.ensures.members in
+    let many = members_many (ledger_fields c.args.parts.now c.args.items.now) (facts_of_job (job_of c.args.job)) c.in_ok-accepted.accepted.members.items.items c.in_ok-accepted.accepted.members.settled.items c.in_ok-accepted.ensures.members in
     let len = c.len.ensures in
     let below = c.if-len-limits.false in
     refusal_none c.args.limits.now (ledger_fields c.args.parts.now c.args.items.now) (fields_of_job (job_of c.args.job))
@@ -67,14 +73,16 @@ returns-clause-head c =
 pub returns-clause-groups : goal.returns-clause-groups
 returns-clause-groups c =
     let of = are_of (job_of c.args.job) (job_of c.in_ok-accepted.accepted.rest) c.job-rest.result.now c.job-rest.ensures
-    (ledger_fields c.args.parts.now c.args.items.now) c.deref.result.now c.deref-2.result.now c.in_ok-accepted.accepted.issuers.items c.in_ok-accepted.accepted.members.items
+    (ledger_fields c.args.parts.now c.args.items.now) c.deref.result.now c.deref-2.result.now c.in_ok-accepted.accepted.issuers.items
+    c.in_ok-accepted.accepted.members.items.items c.in_ok-accepted.accepted.members.settled.items
     c.in_ok-accepted.ensures.crls c.deref.ensures.value c.deref-2.ensures.value c.in_ok-accepted.ensures.issuers c.in_ok-accepted.ensures.members in
     c.in_ok-built.ensures.groups (ledger_fields c.args.parts.now c.args.items.now) (facts_of_job (job_of c.args.job)) of
 
 pub returns-clause-facts : goal.returns-clause-facts
 returns-clause-facts c =
     let of = are_of (job_of c.args.job) (job_of c.in_ok-accepted.accepted.rest) c.job-rest.result.now c.job-rest.ensures
-    (ledger_fields c.args.parts.now c.args.items.now) c.deref.result.now c.deref-2.result.now c.in_ok-accepted.accepted.issuers.items c.in_ok-accepted.accepted.members.items
+    (ledger_fields c.args.parts.now c.args.items.now) c.deref.result.now c.deref-2.result.now c.in_ok-accepted.accepted.issuers.items
+    c.in_ok-accepted.accepted.members.items.items c.in_ok-accepted.accepted.members.settled.items
     c.in_ok-accepted.ensures.crls c.deref.ensures.value c.deref-2.ensures.value c.in_ok-accepted.ensures.issuers c.in_ok-accepted.ensures.members in
     groups_facts (ledger_fields c.args.parts.now c.args.items.now) (facts_of_job (job_of c.args.job)) c.requires.before (map group_fields c.in_ok-built.built.groups.items)
     (c.in_ok-built.ensures.groups (ledger_fields c.args.parts.now c.args.items.now) (facts_of_job (job_of c.args.job)) of)
@@ -89,13 +97,14 @@ overflow_cast-counts c =
 
 pub next_draft-requires : goal.next_draft-requires
 next_draft-requires c =
-    let many = members_many (ledger_fields c.args.parts.now c.args.items.now) (facts_of_job (job_of c.args.job)) c.in_ok-accepted.accepted.members.items c.in_ok-accepted.ensures.members in
+    let many = members_many (ledger_fields c.args.parts.now c.args.items.now) (facts_of_job (job_of c.args.job)) c.in_ok-accepted.accepted.members.items.items c.in_ok-accepted.accepted.members.settled.items c.in_ok-accepted.ensures.members in
     let len = c.len.ensures in
     let below = c.if-len-limits.false in
     let most : c.args.limits.now.identities ≤ 4194304 = c.requires.published.identities in
     let crls = crls_few c.args.limits.now (job_of c.args.job) c.requires.few.crls c.requires.published.crls in
     let of = are_of (job_of c.args.job) (job_of c.in_ok-accepted.accepted.rest) c.job-rest.result.now c.job-rest.ensures
-    (ledger_fields c.args.parts.now c.args.items.now) c.deref.result.now c.deref-2.result.now c.in_ok-accepted.accepted.issuers.items c.in_ok-accepted.accepted.members.items
+    (ledger_fields c.args.parts.now c.args.items.now) c.deref.result.now c.deref-2.result.now c.in_ok-accepted.accepted.issuers.items
+    c.in_ok-accepted.accepted.members.items.items c.in_ok-accepted.accepted.members.settled.items
     c.in_ok-accepted.ensures.crls c.deref.ensures.value c.deref-2.ensures.value c.in_ok-accepted.ensures.issuers c.in_ok-accepted.ensures.members in
     let frame = frame_left (job_of c.args.job) (job_of c.in_ok-accepted.accepted.rest) c.job-rest.result.now c.job-rest.ensures
     c.in_ok-accepted.ensures.epoch c.in_ok-accepted.ensures.ranges in
@@ -117,7 +126,8 @@ returns-clause-counts c =
     let n = c.len-2.ensures in
     let issuers : c.len-2.result ≡ length (enrolled (facts_of_job (job_of c.args.job))) = omega arith in
     let of = are_of (job_of c.args.job) (job_of c.in_ok-accepted.accepted.rest) c.job-rest.result.now c.job-rest.ensures
-    (ledger_fields c.args.parts.now c.args.items.now) c.deref.result.now c.deref-2.result.now c.in_ok-accepted.accepted.issuers.items c.in_ok-accepted.accepted.members.items
+    (ledger_fields c.args.parts.now c.args.items.now) c.deref.result.now c.deref-2.result.now c.in_ok-accepted.accepted.issuers.items
+    c.in_ok-accepted.accepted.members.items.items c.in_ok-accepted.accepted.members.settled.items
     c.in_ok-accepted.ensures.crls c.deref.ensures.value c.deref-2.ensures.value c.in_ok-accepted.ensures.issuers c.in_ok-accepted.ensures.members in
     counts_are (ledger_fields c.args.parts.now c.args.items.now) (facts_of_job (job_of c.args.job)) _ issuers
     (c.in_ok-built.ensures.universe (ledger_fields c.args.parts.now c.args.items.now) (facts_of_job (job_of c.args.job)) of)
@@ -128,7 +138,8 @@ returns-clause-counts c =
 pub returns-clause-next : goal.returns-clause-next
 returns-clause-next c = λ trailer.
     let of = are_of (job_of c.args.job) (job_of c.in_ok-accepted.accepted.rest) c.job-rest.result.now c.job-rest.ensures
-    (ledger_fields c.args.parts.now c.args.items.now) c.deref.result.now c.deref-2.result.now c.in_ok-accepted.accepted.issuers.items c.in_ok-accepted.accepted.members.items
+    (ledger_fields c.args.parts.now c.args.items.now) c.deref.result.now c.deref-2.result.now c.in_ok-accepted.accepted.issuers.items
+    c.in_ok-accepted.accepted.members.items.items c.in_ok-accepted.accepted.members.settled.items
     c.in_ok-accepted.ensures.crls c.deref.ensures.value c.deref-2.ensures.value c.in_ok-accepted.ensures.issuers c.in_ok-accepted.ensures.members in
     let frame = frame_left (job_of c.args.job) (job_of c.in_ok-accepted.accepted.rest) c.job-rest.result.now c.job-rest.ensures
     c.in_ok-accepted.ensures.epoch c.in_ok-accepted.ensures.ranges in

@@ -6,7 +6,7 @@ use Rattle.sets_core.specs.Sets.{has_key}
 use Rattle.sets_core.proofs.Keyed.{get_map}
 use Rattle.sets_core.proofs.Marks.{marks_step}
 use Rattle.universe_core.specs.Marking.{listed_in}
-use Rattle.universe_core.specs.Members.{ids_of}
+use Rattle.ledger_core.specs.LedgerFields.{ids}
 use Rattle.universe_core.specs.declared.listing.Listed.{Listed}
 use Rattle.universe_core.proofs.marking.mark_serials.Goals as goal
 
@@ -16,6 +16,6 @@ loop-one-preserved c = λ p e.
     let ls = c.args.listed.now in
     let n = length-map ls (λ (l : Listed). l.serial.now) in
     c.mark_serial-near.ensures (λ (x : Identity). p x || (bytes_eq x.issuer c.args.issuer.now && has_key (take i (listed_in ls)) x.serial)) (c.loop-one.invariant p e)
-    ∙ marks_step p c.args.issuer.now (listed_in ls) i c.one-item.result.serial.now (ids_of c.args.members.now)
+    ∙ marks_step p c.args.issuer.now (listed_in ls) i c.one-item.result.serial.now (ids c.args.members.now)
     (let t = c.loop-one-test.true in omega arith)
     (ap (λ (l : Listed). l.serial.now) c.one-item.is ∙ sym (get_map (λ (l : Listed). l.serial.now) ls i c.one-item.result))

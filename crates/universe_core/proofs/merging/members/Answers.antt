@@ -1,7 +1,9 @@
-use Rattle.std.proofs.Common.{◌∙◌, cond, ap, sym, subst, All}
+use Rattle.std.proofs.Common.{◌∙◌, cond, map, ap, sym, subst, All}
 use Rattle.std.proofs.lemmas.List.Sorted.{All-permutation, IsPermutation-map, sum_by-IsPermutation}
 use Rattle.ledger_core.specs.LedgerFields.{ledger_fields}
 use Rattle.universe_core.specs.Judging.{is_late_beside, judge_of}
+use Rattle.universe_core.specs.Members.{as_item}
+use Rattle.universe_core.specs.declared.member.Member.{Member}
 use Rattle.universe_core.specs.Merging.{IsRising, count_told, merged}
 use Rattle.universe_core.specs.Reading.{IsTold, entry_fields, entries_of, is_lacked}
 use Rattle.universe_core.proofs.Members.{members_are, told_lacked}
@@ -26,10 +28,14 @@ returns-clause-members c = λ job e.
     let issuers = c.args.issuers.now in
     let ranges = c.args.ranges.now in
     let sorted = entries_of issuers ranges c.sort_entries.new.entries.items in
-    c.in_ok-merged.ensures.members ∙ ap (λ es. merged (judge_of c.args.parts.now) c.args.items.now (entries_of issuers ranges es)) c.deref.ensures.value
+    let are = ap (λ es. merged (judge_of c.args.parts.now) c.args.items.now (entries_of issuers ranges es)) c.deref.ensures.value
     ∙ members_are c.args.parts.now c.args.items.now job sorted
     (are_read job (entries_of issuers ranges c.args.entries.items) sorted e
-    (IsPermutation-map (entry_fields issuers ranges) c.args.entries.items c.sort_entries.new.entries.items c.sort_entries.ensures.same)) c.requires.ascend
+    (IsPermutation-map (entry_fields issuers ranges) c.args.entries.items c.sort_entries.new.entries.items c.sort_entries.ensures.same)) c.requires.ascend in
+    record {
+      items = c.in_ok-merged.ensures.members.items ∙ ap (map as_item) are;
+      settled = c.in_ok-merged.ensures.members.settled ∙ ap (map (λ (m : Member). m.settled)) are;
+    }
 
 pub returns-clause-late : goal.returns-clause-late
 returns-clause-late c =

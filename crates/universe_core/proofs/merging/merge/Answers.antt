@@ -1,11 +1,14 @@
-use Rattle.std.proofs.Common.{◌≡◌, ◌∙◌, refl, ap, sym, subst, length, arith, All}
+use Rattle.std.specs.Option.{option_map}
+use Rattle.std.proofs.Common.{◌≡◌, ◌∙◌, Bool, refl, ap, sym, subst, length, arith, All}
 use Rattle.std.specs.List.{count_by}
 use Rattle.std.proofs.lemmas.List.{take-map, drop-map, length-map}
 use Rattle.std.proofs.lemmas.List.Elements.{All-take, All-drop}
-use Rattle.universe_core.specs.Judging.{is_late_beside, judge_of}
+use Rattle.universe_core.specs.Judging.{is_late_beside, judge_of, made_of}
+use Rattle.universe_core.specs.Members.{as_item}
 use Rattle.universe_core.specs.Merging.{IsRising, first_of, run_of, after_run}
 use Rattle.universe_core.specs.Reading.{IsTold, entry_fields, entries_of}
-use Rattle.universe_core.proofs.Merge.{step_done, all_done, told_on, told_within, told_done, smaller, first_sorted, rising_after, run_taken, run_dropped}
+use Rattle.universe_core.specs.declared.member.Member.{Member}
+use Rattle.universe_core.proofs.Merge.{merged_made, step_done, all_done, told_on, told_within, told_done, smaller, first_sorted, rising_after, run_taken, run_dropped}
 use Rattle.universe_core.proofs.merging.merge.Goals as goal
 
 pub least-requires : goal.least-requires
@@ -34,17 +37,24 @@ loop-id-preserved c =
     ap of c.split_at.ensures.front ∙ sym (take-map fields n left) ∙ run_taken n id (of left) (c.run_length.ensures.value c.args.ranges.now) in
     let behind : of c.split_at.result.1.now ≡ after_run id (of left) =
     ap of c.split_at.ensures.back ∙ sym (drop-map fields n left) ∙ run_dropped n id (of left) (c.run_length.ensures.value c.args.ranges.now) in
+    let judged : c.judge-judged.result.member ≡ judge_of parts id (first_of id items) (run_of id (of left)) =
+    c.judge-judged.ensures.member ∙ ap (λ o. judge_of parts id o (of c.split_at.result.0.now)) c.first_item-old.ensures
+    ∙ ap (λ r. judge_of parts id (first_of id items) r) run in
+    let settled : Member → Bool = λ m. m.settled in
     record {
       ascend = rw c.after_item-items_left.ensures (first_sorted id items c.loop-id.invariant.ascend);
       told = subst (All told) (sym c.split_at.ensures.back) (All-drop told n left c.loop-id.invariant.told);
       rise = subst IsRising (sym behind) (rising_after id (of left) c.loop-id.invariant.rise);
-      done =
-          step_done (judge_of parts) id items c.after_item-items_left.result.now (of left) (of c.split_at.result.1.now)
-          c.judge-judged.result.member c.loop-id.members.items c.keep.new.out.items _
+      kept =
+          step_done (made_of as_item parts) id items c.after_item-items_left.result.now (of left) (of c.split_at.result.1.now)
+          (option_map as_item c.judge-judged.result.member) c.loop-id.kept.items c.keep.new.items.items _
           c.loop-id.invariant.ascend c.loop-id.invariant.rise least c.after_item-items_left.ensures behind
-          (c.judge-judged.ensures.member ∙ ap (λ o. judge_of parts id o (of c.split_at.result.0.now)) c.first_item-old.ensures
-          ∙ ap (λ r. judge_of parts id (first_of id items) r) run)
-          c.in_ok-keep.ensures c.loop-id.invariant.done;
+          (ap (option_map as_item) judged) c.in_ok-keep.ensures.items c.loop-id.invariant.kept;
+      settled =
+          step_done (made_of settled parts) id items c.after_item-items_left.result.now (of left) (of c.split_at.result.1.now)
+          (option_map settled c.judge-judged.result.member) c.loop-id.settled.items c.keep.new.settled.items _
+          c.loop-id.invariant.ascend c.loop-id.invariant.rise least c.after_item-items_left.ensures behind
+          (ap (option_map settled) judged) c.in_ok-keep.ensures.settled c.loop-id.invariant.settled;
       late =
           told_on (is_late_beside parts) id items c.after_item-items_left.result.now (of left) (of c.split_at.result.1.now) c.loop-id.late _
           c.judge-judged.result.late _ c.loop-id.invariant.ascend c.loop-id.invariant.rise least c.after_item-items_left.ensures behind
@@ -86,8 +96,19 @@ overflow_add-late c =
     omega arith
 
 pub returns-clause-members : goal.returns-clause-members
-returns-clause-members c = all_done (judge_of c.args.parts.now) c.loop-id.items_left.now (entries_of c.args.issuers.now c.args.ranges.now c.loop-id.entries_left.now) c.loop-id.members.items _
-    (sym (c.least.ensures c.args.ranges.now) ∙ c.in_default.is) c.loop-id.invariant.done
+returns-clause-members c =
+    let of = entries_of c.args.issuers.now c.args.ranges.now in
+    let parts = c.args.parts.now in
+    let items = c.args.items.now in
+    let left = c.loop-id.items_left.now in
+    let settled : Member → Bool = λ m. m.settled in
+    let none = sym (c.least.ensures c.args.ranges.now) ∙ c.in_default.is in
+    record {
+      items = all_done (made_of as_item parts) left (of c.loop-id.entries_left.now) c.loop-id.kept.items _ none c.loop-id.invariant.kept
+          ∙ merged_made as_item (judge_of parts) items (of c.args.entries.now);
+      settled = all_done (made_of settled parts) left (of c.loop-id.entries_left.now) c.loop-id.settled.items _ none c.loop-id.invariant.settled
+          ∙ merged_made settled (judge_of parts) items (of c.args.entries.now);
+    }
 
 pub returns-clause-late : goal.returns-clause-late
 returns-clause-late c = told_done (is_late_beside c.args.parts.now) c.loop-id.items_left.now (entries_of c.args.issuers.now c.args.ranges.now c.loop-id.entries_left.now) c.loop-id.late _

@@ -2,8 +2,10 @@ use Rattle.std.proofs.Common.{◌≡◌, ◌+◌, ◌++◌, map, length, All}
 use Rattle.std.specs.List.Sorted.{IsStrictlySortedBy}
 use Rattle.ident_core.specs.Order.{identity_cmp}
 use Rattle.universe_core.specs.Merging.{IsRising, count_told, merged}
-use Rattle.universe_core.specs.Judging.{is_late_beside, judge_of}
+use Rattle.universe_core.specs.Judging.{is_late_beside, made_of}
+use Rattle.universe_core.specs.Members.{as_item}
 use Rattle.universe_core.specs.Reading.{IsTold, entries_of}
+use Rattle.universe_core.specs.declared.member.Member.{Member}
 use Rattle.universe_core.proofs.merging.merge.Given as goal
 
 abbrev pub invariant-loop-id : goal.invariant-loop-id
@@ -13,9 +15,12 @@ invariant-loop-id l =
       ascend : IsStrictlySortedBy identity_cmp (map (λ i. i.id) l.items_left);
       told : All (IsTold issuers ranges) l.entries_left;
       rise : IsRising (entries_of issuers ranges l.entries_left);
-      done :
-          l.members.items ++ merged (judge_of l.parts) l.items_left (entries_of issuers ranges l.entries_left)
-          ≡ merged (judge_of l.parts) l.items (entries_of issuers ranges l.entries);
+      kept :
+          l.kept.items ++ merged (made_of as_item l.parts) l.items_left (entries_of issuers ranges l.entries_left)
+          ≡ merged (made_of as_item l.parts) l.items (entries_of issuers ranges l.entries);
+      settled :
+          l.settled.items ++ merged (made_of (λ (m : Member). m.settled) l.parts) l.items_left (entries_of issuers ranges l.entries_left)
+          ≡ merged (made_of (λ (m : Member). m.settled) l.parts) l.items (entries_of issuers ranges l.entries);
       late :
           l.late + count_told (is_late_beside l.parts) l.items_left (entries_of issuers ranges l.entries_left)
           ≡ count_told (is_late_beside l.parts) l.items (entries_of issuers ranges l.entries);
