@@ -1,24 +1,18 @@
 -- The group of an issuer, cut from an ascending list.
-use Rattle.std.specs.List.{take_while}
-use Rattle.std.specs.Str.{bytes_eq}
-use Rattle.std.specs.List.Sorted.{IsStrictlySortedBy, IsPartitionedBy, IsPartitionPoint}
+use Rattle.std.specs.List.Sorted.{IsStrictlySortedBy, IsPartitionedBy}
 use Rattle.std.specs.declared.cmp.Ordering.TheVariants.{Less, Equal}
 use Rattle.std.specs.Ordering.{nat_cmp, is_lt, ordering_then}
 use Rattle.std.proofs.Common.{◌≡◌, ℕ, zero, suc, ◌+◌, ◌-◌, ◌≤◌, ◌<◌, ◌⊎◌, inl, inr, ⊎_elim, List, [], ◌∷◌, ◌++◌, map, length, get_or, take, drop, Bool, true}
-use Rattle.std.proofs.Common.{false, cond, refl, sym, ap, ◌∙◌, subst, arith}
+use Rattle.std.proofs.Common.{refl, sym, ap, ◌∙◌, subst, arith}
 use Rattle.std.proofs.lemmas.Cmp.{nat_list_cmp_total}
-use Rattle.std.proofs.lemmas.List.{take-map, drop-map, take_all, length-drop, length-map, map-append}
-use Rattle.std.proofs.lemmas.List.Sums.{take_while-cons}
+use Rattle.std.proofs.lemmas.List.{take_all, length-drop, length-map, map-append}
 use Rattle.std.proofs.lemmas.Map.Lookups.{exact_bytes}
 use Rattle.ident_core.specs.declared.identity.Identity.{Identity}
 use Rattle.ident_core.specs.Order.{octets_cmp, identity_cmp}
-use Rattle.ledger_core.specs.LedgerFields.{ids}
-use Rattle.ledger_core.specs.declared.fields.LedgerItem.{LedgerItem}
-use Rattle.sets_core.specs.Grouping.{behind, front}
 use Rattle.sets_core.proofs.Sets.{identity_total, identity_exact}
 use Rattle.sets_core.proofs.Keys.{below_later, take_is}
 use Rattle.sets_core.proofs.Runs.{then_less}
-use Rattle.sets_core.proofs.Groups.{group_is, lt_less}
+use Rattle.sets_core.proofs.Groups.{lt_less}
 use Rattle.universe_core.specs.Groups.{GroupFields, members_of}
 use Rattle.universe_core.specs.Members.{group_with}
 use Rattle.sets_core.proofs.Keyed.{get_map}
@@ -53,50 +47,7 @@ keyed_partitioned key p below xs s i j d le lt h =
     subst (λ y. p y ≡ true) (get_map key xs i d)
     (partitioned p below (map key xs) s i j (key d) le (omega arith) (subst (λ y. p y ≡ true) (sym (get_map key xs j d)) h))
 
-pub items_partitioned : (k : List ℕ) (xs : List LedgerItem) → IsStrictlySortedBy identity_cmp (ids xs) → IsPartitionedBy (λ (x : LedgerItem). is_lt (octets_cmp x.id.issuer k)) xs
-items_partitioned k = keyed_partitioned (λ (x : LedgerItem). x.id) (is_below k) (earlier k)
-
-pub dropped : (k : List ℕ) (xs : List LedgerItem) (n : ℕ) → n ≤ length xs
-    → IsPartitionPoint (λ (x : LedgerItem). is_lt (octets_cmp x.id.issuer k) ≡ true) (λ (x : LedgerItem). is_lt (octets_cmp x.id.issuer k) ≡ false) xs n
-    → drop n (ids xs) ≡ behind k (ids xs)
-dropped k [] zero le p = refl
-dropped k [] (suc n) le p = absurd (omega arith)
-dropped k (x ∷ xs) zero le p =
-    let b : is_below k x.id ≡ false = p.1 0 x (omega arith) (omega arith) in
-    rw b refl
-dropped k (x ∷ xs) (suc n) le p =
-    let b : is_below k x.id ≡ true = p.0 0 x (omega arith) (omega arith) in
-    rw b (dropped k xs n (omega arith) (λ i d l m. p.0 (suc i) d (omega arith) (omega arith), λ i d l m. p.1 (suc i) d (omega arith) (omega arith)))
-
--- ---- the first of an issuer
-
-own_counted : (k : List ℕ) (xs : List LedgerItem) → length (take_while (λ (x : LedgerItem). bytes_eq k x.id.issuer) xs) ≡ length (front k (ids xs))
-own_counted k [] = refl
-own_counted k (x ∷ xs) =
-    ap length (take_while-cons (λ (y : LedgerItem). bytes_eq k y.id.issuer) x xs)
-    ∙ (elim (bytes_eq k x.id.issuer) as (λ b. length (cond b (x ∷ take_while (λ (y : LedgerItem). bytes_eq k y.id.issuer) xs) [])
-    ≡ length (cond b (x.id ∷ front k (ids xs)) [])) [ true ↦ ap suc (own_counted k xs) | false ↦ refl ])
-
-pub own_is : (n : ℕ) (k : List ℕ) (xs : List LedgerItem) → n ≡ length (take_while (λ (x : LedgerItem). bytes_eq k x.id.issuer) xs) → n ≡ length (front k (ids xs))
-own_is n k xs h = h ∙ own_counted k xs
-
-take_front : (k : List ℕ) (xs : List Identity) → take (length (front k xs)) xs ≡ front k xs
-take_front k [] = refl
-take_front k (x ∷ xs) = elim (bytes_eq k x.issuer) as (λ b. take (length (cond b (x ∷ front k xs) [])) (x ∷ xs) ≡ cond b (x ∷ front k xs) [])
-    [ true ↦ ap (λ (z : List Identity). x ∷ z) (take_front k xs) | false ↦ refl ]
-
 -- ---- the group
-
--- the identities that are cut out are those of the issuer
-pub cut_is : (k : List ℕ) (xs left : List Identity) (n : ℕ) → IsStrictlySortedBy identity_cmp xs → left ≡ behind k xs → n ≡ length (front k left) → take n left ≡ members_of k xs
-cut_is k xs left n s l c = ap (λ m. take m left) c ∙ take_front k left ∙ ap (front k) l ∙ sym (group_is k xs s)
-
--- and so their flags
-pub flags_cut : (h : Identity → Bool) (k : List ℕ) (xs left : List Identity) (flags : List Bool) (start n : ℕ) → IsStrictlySortedBy identity_cmp xs
-    → left ≡ drop start xs → left ≡ behind k xs → n ≡ length (front k left)
-    → flags ≡ map h xs → take n (drop start flags) ≡ map h (members_of k xs)
-flags_cut h k xs left flags start n s d l c f =
-    ap (λ z. take n (drop start z)) f ∙ ap (take n) (drop-map h start xs) ∙ take-map h n (drop start xs) ∙ ap (λ z. map h (take n z)) (sym d) ∙ ap (map h) (cut_is k xs left n s l c)
 
 pub group_from : (h : Identity → Bool) (k : List ℕ) (xs universe : List Identity) (flags : List Bool) → universe ≡ members_of k xs → flags ≡ map h (members_of k xs)
     → ◌≡◌ {A = GroupFields} (record { issuer = k; universe = universe; revoked = flags }) (group_with h xs k)
@@ -106,22 +57,6 @@ group_from h k xs universe flags u f = λ i. record { issuer = k; universe = u i
 
 pub rest_is : {A : Type 0} (xs : List A) (start : ℕ) → take (length xs - start) (drop start xs) ≡ drop start xs
 rest_is xs start = take_all (length xs - start) (drop start xs) (omega (arith, length-drop start xs))
-
-ids_rest : (xs : List LedgerItem) (start : ℕ) → ids (take (length xs - start) (drop start xs)) ≡ drop start (ids xs)
-ids_rest xs start = ap ids (rest_is xs start) ∙ sym (drop-map (λ (x : LedgerItem). x.id) start xs)
-
-pub ids_cut : (k : List ℕ) (xs : List LedgerItem) (out : List Identity) (start n : ℕ) → IsStrictlySortedBy identity_cmp (ids xs) → drop start (ids xs) ≡ behind k (ids xs)
-    → n ≡ length (front k (ids (take (length xs - start) (drop start xs)))) → out ≡ ids (take ((start + n) - start) (drop start xs)) → out ≡ members_of k (ids xs)
-ids_cut k xs out start n s b c o =
-    let m : (start + n) - start ≡ n = omega arith in
-    o ∙ ap (λ j. ids (take j (drop start xs))) m ∙ sym (take-map (λ (x : LedgerItem). x.id) n (drop start xs)) ∙ ap (take n) (sym (drop-map (λ (x : LedgerItem). x.id) start xs))
-    ∙ cut_is k (ids xs) (drop start (ids xs)) n s b (c ∙ ap (λ z. length (front k z)) (ids_rest xs start))
-
-pub revoked_cut : (h : Identity → Bool) (k : List ℕ) (xs : List LedgerItem) (flags out : List Bool) (start n : ℕ) → IsStrictlySortedBy identity_cmp (ids xs) → drop start (ids xs) ≡ behind k (ids xs)
-    → n ≡ length (front k (ids (take (length xs - start) (drop start xs)))) → flags ≡ map h (ids xs) → out ≡ take ((start + n) - start) (drop start flags) → out ≡ map h (members_of k (ids xs))
-revoked_cut h k xs flags out start n s b c f o =
-    let m : (start + n) - start ≡ n = omega arith in
-    o ∙ ap (λ j. take j (drop start flags)) m ∙ flags_cut h k (ids xs) (drop start (ids xs)) flags start n s refl b (c ∙ ap (λ z. length (front k z)) (ids_rest xs start)) f
 
 -- one more of what is made of each
 pub made_more : {A B C : Type 0} (g : A → C) (f : B → C) (xs : List A) (i : ℕ) (x : A) (old new : List B) (y : B) → i < length xs → x ≡ get_or xs i x

@@ -152,9 +152,16 @@ run_is k ms start n a s b e =
 abbrev pub cut_run : List LedgerItem → Run → List LedgerItem
 cut_run ms run = take (run.end - run.start) (drop run.start ms)
 
-ids_run : (k : List ℕ) (ms : List LedgerItem) (run : Run) → IsRunOf k ms run → ids (cut_run ms run) ≡ members_of k (ids ms)
+pub ids_run : (k : List ℕ) (ms : List LedgerItem) (run : Run) → IsRunOf k ms run → ids (cut_run ms run) ≡ members_of k (ids ms)
 ids_run k ms run r =
     sym (take-map (λ (m : LedgerItem). m.id) (run.end - run.start) (drop run.start ms)) ∙ ap (take (run.end - run.start)) (sym (drop-map (λ (m : LedgerItem). m.id) run.start ms)) ∙ r.own
+
+-- and the flags beside them
+pub flags_run : (h : Identity → Bool) (k : List ℕ) (ms : List LedgerItem) (run : Run) (flags : List Bool) → IsRunOf k ms run → flags ≡ map h (ids ms)
+    → take (run.end - run.start) (drop run.start flags) ≡ map h (members_of k (ids ms))
+flags_run h k ms run flags r f =
+    ap (λ z. take (run.end - run.start) (drop run.start z)) f ∙ ap (take (run.end - run.start)) (drop-map h run.start (ids ms))
+    ∙ take-map h (run.end - run.start) (drop run.start (ids ms)) ∙ ap (map h) r.own
 
 serials_run : (k : List ℕ) (ms : List LedgerItem) (run : Run) → IsRunOf k ms run → serials_of (cut_run ms run) ≡ map (λ x. x.serial) (members_of k (ids ms))
 serials_run k ms run r =

@@ -30,7 +30,7 @@ pub(crate) struct Run {
 }
 
 /// The run of the issuer's members. Two binary searches.
-fn run_of(members: &[LedgerItem], issuer: &Key32) -> Run
+pub(crate) fn run_of(members: &[LedgerItem], issuer: &Key32) -> Run
     requires { IsStrictlySortedBy identity_cmp (ids members.now) }
     ensures { IsRunOf issuer.now members.now result }
 {
