@@ -103,10 +103,10 @@ log_of (Some r) s h =
     let t : is_within s r ≡ true = cc in
     bytes_same r.log s.log (and_parts (bytes_eq r.log s.log) (nat_le r.from s.time) (and_parts (bytes_eq r.log s.log && nat_le r.from s.time) (nat_le s.time r.to) t).0).0
 
-pub told_is : (ranges : List Range) (issuers : List (List ℕ)) (e : Entry) (near place : ℕ) → option_map (is_within e.sighting) (slice_get ranges near) ≡ Some true
+pub entry_is : (ranges : List Range) (issuers : List (List ℕ)) (e : Entry) (near place : ℕ) → option_map (is_within e.sighting) (slice_get ranges near) ≡ Some true
     → slice_get issuers place ≡ Some e.id.issuer
     → entry_fields issuers ranges (record { time = e.sighting.time; place = place; near = near; serial = e.id.serial }) ≡ e
-told_is ranges issuers e near place r k =
+entry_is ranges issuers e near place r k =
     let log = log_of (slice_get ranges near) e.sighting r in
     let issuer = ap (λ (o : Option (List ℕ)). unwrap_or o []) k in
     λ i. record { id = record { issuer = issuer i; serial = e.id.serial }; sighting = record { log = log i; time = e.sighting.time } }

@@ -18,7 +18,7 @@ use Rattle.sets_core.proofs.Elements.{Among-filter_map, Among-in_filter_map, Amo
 use Rattle.universe_core.specs.declared.read_entry.ReadEntry.{ReadEntry}
 use Rattle.universe_core.specs.Merging.{IsRising}
 use Rattle.universe_core.specs.Placing.{placed_cmp}
-use Rattle.universe_core.specs.Reading.{if_read, IsTold, id_in, entry_fields, entries_of}
+use Rattle.universe_core.specs.Reading.{if_read, IsPlaced, id_in, entry_fields, entries_of}
 use Rattle.sets_core.proofs.Canonical.{all_from, Among-from_Contains, Contains-from_Among}
 use Rattle.universe_core.proofs.Members.{AreRead}
 use Rattle.universe_core.proofs.Placing.{placed_is, placed_ranks}
@@ -49,11 +49,11 @@ module _ (issuers : List (List ℕ)) (ranges : List Range) where
   )
 
   -- what is sorted by places and serials rises
-  pub rising_sorted : (old es : List ReadEntry) → IsStrictlySortedBy octets_cmp issuers → All (IsTold issuers ranges) old → IsPermutation old es
+  pub rising_sorted : (old es : List ReadEntry) → IsStrictlySortedBy octets_cmp issuers → All (IsPlaced issuers ranges) old → IsPermutation old es
       → IsSortedBy (λ (a b : ReadEntry). is_lt (placed_cmp a b)) es → IsRising (entries_of issuers ranges es)
-  rising_sorted old es ascend told p s =
+  rising_sorted old es ascend placed p s =
       rising_from es (λ i j d l m.
-      let there : All (IsTold issuers ranges) es = All-permutation (IsTold issuers ranges) old es p told in
+      let there : All (IsPlaced issuers ranges) es = All-permutation (IsPlaced issuers ranges) old es p placed in
       ap is_lt (sym (placed_is issuers (get_or es j d) (get_or es i d) ascend (there j d m).issuer (there i d (omega arith)).issuer))
       ∙ sorted_far (λ (a b : ReadEntry). is_lt (placed_cmp a b)) placed_ranks es s i j d l m)
 

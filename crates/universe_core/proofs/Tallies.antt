@@ -18,7 +18,7 @@ use Rattle.universe_core.specs.Jobs.{Entry, Job, facts_of_job, enrolled}
 use Rattle.universe_core.specs.History.{Past, class_by, class_of, accepted_with, universe, is_revoked, revoked}
 use Rattle.universe_core.specs.Ledgers.{no_ledger, past_in}
 use Rattle.universe_core.specs.Counting.{is_class, count}
-use Rattle.universe_core.specs.Reading.{class_alone, if_read, IsTold, entries_of}
+use Rattle.universe_core.specs.Reading.{class_alone, if_read, IsPlaced, entries_of}
 use Rattle.universe_core.specs.Members.{as_item, member_in, members_in}
 use Rattle.universe_core.specs.declared.class.Class.{Class}
 use Rattle.universe_core.specs.declared.class.Class.TheVariants.{Uncovered, Unenrolled, Late, Accepted}
@@ -58,9 +58,9 @@ pub read_again : (issuers keys : List (List ℕ)) (ranges shown : List Range) (l
     → entries_of issuers ranges left ≡ whole → entries_of keys shown left ≡ whole
 read_again issuers keys ranges shown left whole k s h = (λ i. entries_of (k i) (s i) left) ∙ h
 
-pub told_again : (issuers keys : List (List ℕ)) (ranges shown : List Range) (left : List ReadEntry) → keys ≡ issuers → shown ≡ ranges
-    → All (IsTold issuers ranges) left → All (IsTold keys shown) left
-told_again issuers keys ranges shown left k s h = subst (λ is. All (IsTold is shown) left) (sym k) (subst (λ rs. All (IsTold issuers rs) left) (sym s) h)
+pub placed_again : (issuers keys : List (List ℕ)) (ranges shown : List Range) (left : List ReadEntry) → keys ≡ issuers → shown ≡ ranges
+    → All (IsPlaced issuers ranges) left → All (IsPlaced keys shown) left
+placed_again issuers keys ranges shown left k s h = subst (λ is. All (IsPlaced is shown) left) (sym k) (subst (λ rs. All (IsPlaced issuers rs) left) (sym s) h)
 
 count_none : {A : Type 0} (p : A → Bool) (xs : List A) → ((x : A) → p x ≡ false) → count_by p xs ≡ 0
 count_none p xs f = sym (length-filter p xs) ∙ ap length (filter_none p xs (λ x a. f x))

@@ -31,8 +31,8 @@ entry_fields issuers ranges e = record { id = id_in issuers e; sighting = sighti
 abbrev pub entries_of : List (List ℕ) → List Range → List ReadEntry → List Entry
 entries_of issuers ranges es = map (entry_fields issuers ranges) es
 
--- its issuer and its range are there
-pub record IsTold (issuers : List (List ℕ)) (ranges : List Range) (e : ReadEntry) : Type 0 where
+-- its places are those of an issuer and of a range
+pub record IsPlaced (issuers : List (List ℕ)) (ranges : List Range) (e : ReadEntry) : Type 0 where
   pub issuer : e.place < length issuers
   pub range : e.near < length ranges
 

@@ -5,7 +5,7 @@ ghost use Rattle.ident_core.specs.Coverage.{covers};
 ghost use Rattle.sets_core.specs.Sets.{has_key};
 ghost use Rattle.ledger_core.specs.LedgerFields.{part_fields};
 ghost use Rattle.universe_core.specs.Judging.{IsSearchable, judge_of, is_late_by, is_late_beside, is_timely, sightings_of};
-ghost use Rattle.universe_core.specs.Reading.{IsTold, entry_fields, entries_of, sighting_in};
+ghost use Rattle.universe_core.specs.Reading.{IsPlaced, entry_fields, entries_of, sighting_in};
 
 use crate::member::Member;
 use crate::read_entry::ReadEntry;
@@ -57,7 +57,7 @@ fn comes_late(
     e: &ReadEntry,
 ) -> bool
     requires parts { All IsSearchable parts.now }
-    requires told { IsTold issuers.now ranges.now e.now }
+    requires placed { IsPlaced issuers.now ranges.now e.now }
     ensures { result ≡ is_late_by parts.now birth (entry_fields issuers.now ranges.now e.now) }
 {
     let issuer = &issuers[e.place as usize];
@@ -99,7 +99,7 @@ fn facts_alone(
     run: &[ReadEntry],
 ) -> RunFacts
     requires parts { All IsSearchable parts.now }
-    requires told { All (IsTold issuers.now ranges.now) run.now }
+    requires placed { All (IsPlaced issuers.now ranges.now) run.now }
     ensures late { result.late ≡ count_by (λ e. is_late_by parts.now birth (entry_fields issuers.now ranges.now e)) run.now }
     ensures settled { result.settled ≡ false }
 {
@@ -126,7 +126,7 @@ fn facts_beside(
 ) -> RunFacts
     requires part { IsSearchable part.now }
     requires parts { All IsSearchable parts.now }
-    requires told { All (IsTold issuers.now ranges.now) run.now }
+    requires placed { All (IsPlaced issuers.now ranges.now) run.now }
     ensures late { result.late ≡ count_by (λ e. is_late_by parts.now birth (entry_fields issuers.now ranges.now e)) run.now }
     ensures settled { result.settled ≡ list_all (λ e. covers part.now.ranges.items (sighting_in ranges.now e))
         (filter (λ e. is_timely parts.now birth (entry_fields issuers.now ranges.now e)) run.now) }
@@ -155,7 +155,7 @@ fn facts_of(
     run: &[ReadEntry],
 ) -> RunFacts
     requires parts { All IsSearchable parts.now }
-    requires told { All (IsTold issuers.now ranges.now) run.now }
+    requires placed { All (IsPlaced issuers.now ranges.now) run.now }
     ensures late { result.late ≡ count_by (λ e. is_late_by parts.now birth (entry_fields issuers.now ranges.now e)) run.now }
     ensures settled { result.settled ≡ last_covers (map part_fields parts.now) last
         (sightings_of (filter (is_timely parts.now birth) (entries_of issuers.now ranges.now run.now))) }
@@ -187,7 +187,7 @@ pub(crate) fn judge(
 ) -> Judged
     requires few { length parts.now < 256 }
     requires parts { All IsSearchable parts.now }
-    requires told { All (IsTold issuers.now ranges.now) run.now }
+    requires placed { All (IsPlaced issuers.now ranges.now) run.now }
     ensures member { result.member ≡ judge_of parts.now id.now old.now (entries_of issuers.now ranges.now run.now) }
     ensures late { result.late ≡ count_by (is_late_beside parts.now old.now) (entries_of issuers.now ranges.now run.now) }
 {

@@ -9,7 +9,7 @@ ghost use Rattle.universe_core.specs.Merging.{count_told};
 ghost use Rattle.universe_core.specs.Judging.{IsSearchable, judge_of, is_late_beside};
 ghost use Rattle.ledger_core.specs.LedgerFields.{ledger_fields};
 ghost use Rattle.universe_core.specs.Jobs.{Job as JobMeaning, enrolled};
-ghost use Rattle.universe_core.specs.Reading.{if_read, IsTold, entries_of, is_lacked};
+ghost use Rattle.universe_core.specs.Reading.{if_read, IsPlaced, entries_of, is_lacked};
 ghost use Rattle.universe_core.specs.Members.{AreMembers, as_item, members_in};
 
 use crate::judging::judge;
@@ -127,7 +127,7 @@ fn merge(
     requires few { length parts.now < 256 }
     requires parts { All IsSearchable parts.now }
     requires ascend { IsStrictlySortedBy identity_cmp (map (λ i. i.id) items.now) }
-    requires told { All (IsTold issuers.now ranges.now) entries.now }
+    requires placed { All (IsPlaced issuers.now ranges.now) entries.now }
     requires rise { IsRising (entries_of issuers.now ranges.now entries.now) }
     ensures members { IfOk result (λ m.
         AreMembers (merged (judge_of parts.now) items.now (entries_of issuers.now ranges.now entries.now)) m.members.items.items m.members.settled.items) }
@@ -170,7 +170,7 @@ pub(crate) fn members(
     requires parts { All IsSearchable parts.now }
     requires ascend { IsStrictlySortedBy identity_cmp (map (λ i. i.id) items.now) }
     requires issuers { IsStrictlySortedBy octets_cmp issuers.now }
-    requires told { All (IsTold issuers.now ranges.now) entries.items }
+    requires placed { All (IsPlaced issuers.now ranges.now) entries.items }
     ensures members { (job : JobMeaning) → entries_of issuers.now ranges.now entries.items ≡ filter_map (if_read job.ranges (enrolled job)) job.entries
         → IfOk result (λ m. AreMembers (members_in (ledger_fields parts.now items.now) job) m.members.items.items m.members.settled.items) }
     ensures late { IfOk result (λ m. m.late

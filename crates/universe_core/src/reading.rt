@@ -5,7 +5,7 @@ ghost use Rattle.std.specs.Prelude.{◌≡◌, ◌≤◌, ◌<◌, ℕ, List, No
 ghost use Rattle.ident_core.specs.Coverage.{RangesFit};
 ghost use Rattle.ident_core.specs.Order.{octets_cmp};
 ghost use Rattle.ident_core.specs.declared.range.Range.{Range as RangeFields};
-ghost use Rattle.universe_core.specs.Reading.{if_read, IsTold, entry_fields, entries_of, class_alone, with_class};
+ghost use Rattle.universe_core.specs.Reading.{if_read, IsPlaced, entry_fields, entries_of, class_alone, with_class};
 ghost use Rattle.universe_core.specs.Counting.{is_class};
 ghost use Rattle.universe_core.specs.Merging.{IsRising};
 ghost use Rattle.universe_core.specs.Placing.{placed_cmp};
@@ -59,7 +59,7 @@ fn classify(ranges: &[Range], issuers: &[Key32], entry: &Option<Entry>) -> Told
     requires few { length issuers.now ≤ 65535 }
     ensures class { result.class ≡ class_alone ranges.now issuers.now entry.now }
     ensures entry { option_map (entry_fields issuers.now ranges.now) result.entry ≡ if_read ranges.now issuers.now entry.now }
-    ensures told { IfSome result.entry (IsTold issuers.now ranges.now) }
+    ensures placed { IfSome result.entry (IsPlaced issuers.now ranges.now) }
 {
     let Some(entry) = entry else {
         return passed_over(Class::Unread);
@@ -122,7 +122,7 @@ pub(crate) fn read(
     requires few_issuers { length issuers.now ≤ 65535 }
     requires few { length entries.now ≤ 4294967295 }
     ensures entries { IfOk result (λ r. entries_of issuers.now ranges.now r.entries.items ≡ filter_map (λ e. if_read ranges.now issuers.now e) entries.now) }
-    ensures told { IfOk result (λ r. All (IsTold issuers.now ranges.now) r.entries.items) }
+    ensures placed { IfOk result (λ r. All (IsPlaced issuers.now ranges.now) r.entries.items) }
     ensures unread { IfOk result (λ r. r.tally.unread
         ≡ count_by (λ e. is_class class.Unread (class_alone ranges.now issuers.now e)) entries.now) }
     ensures uncovered { IfOk result (λ r. r.tally.uncovered
@@ -164,7 +164,7 @@ fn order(x: &ReadEntry, y: &ReadEntry) -> Ordering
 pub(crate) fn sort_entries(entries: &mut Vec<ReadEntry>)
     ensures same { IsPermutation entries.old.items entries.new.items }
     ensures rising { (issuers : List (List ℕ)) (ranges : List RangeFields) → IsStrictlySortedBy octets_cmp issuers
-        → All (IsTold issuers ranges) entries.old.items → IsRising (entries_of issuers ranges entries.new.items) }
+        → All (IsPlaced issuers ranges) entries.old.items → IsRising (entries_of issuers ranges entries.new.items) }
 {
     entries.sort_unstable_by(|x, y| order(x, y));
 }

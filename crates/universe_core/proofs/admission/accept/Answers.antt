@@ -11,7 +11,7 @@ use Rattle.universe_core.specs.Reading.{entries_of}
 use Rattle.universe_core.specs.declared.class.Class.TheVariants.{Unread, Uncovered, Unenrolled, Accepted}
 use Rattle.universe_core.proofs.Beginning.{job_issuers_few}
 use Rattle.universe_core.proofs.Issuers.{enrolled_ascend}
-use Rattle.universe_core.proofs.Tallies.{read_job, count_job, read_again, told_again}
+use Rattle.universe_core.proofs.Tallies.{read_job, count_job, read_again, placed_again}
 use Rattle.universe_core.proofs.Late.{count_alone, late_is, late_fits, late_within, accepted_rest}
 use Rattle.universe_core.proofs.admission.accept.Goals as goal
 
@@ -37,14 +37,14 @@ pub members-requires-clause-issuers : goal.members-requires-clause-issuers
 members-requires-clause-issuers c =
     subst (λ ks. IsStrictlySortedBy octets_cmp ks) (sym (c.deref-4.ensures.value ∙ c.in_ok-issuers.ensures)) (enrolled_ascend (facts_of_job c.job-whole.result.now))
 
-pub members-requires-clause-told : goal.members-requires-clause-told
-members-requires-clause-told c =
+pub members-requires-clause-placed : goal.members-requires-clause-placed
+members-requires-clause-placed c =
     let job = job_of c.args.job in
     let ranges : c.deref.result.now ≡ job.ranges.items = c.deref.ensures.value ∙ ap (λ (j : CodeJob). j.ranges.items) c.job-whole.ensures in
     let keys : c.deref-4.result.now ≡ c.deref-2.result.now = c.deref-4.ensures.value ∙ sym c.deref-2.ensures.value in
     let shown : c.deref-5.result.now ≡ c.deref.result.now =
     c.deref-5.ensures.value ∙ ap (λ (j : CodeJob). j.ranges.items) c.job-left.ensures ∙ c.without_entries-rest.ensures.ranges ∙ sym ranges in
-    told_again c.deref-2.result.now c.deref-4.result.now c.deref.result.now c.deref-5.result.now c.in_ok-reading.reading.entries.items keys shown c.in_ok-reading.ensures.told
+    placed_again c.deref-2.result.now c.deref-4.result.now c.deref.result.now c.deref-5.result.now c.in_ok-reading.reading.entries.items keys shown c.in_ok-reading.ensures.placed
 
 pub returns-clause-issuers : goal.returns-clause-issuers
 returns-clause-issuers c = c.in_ok-issuers.ensures ∙ ap (λ (j : CodeJob). enrolled (facts_of_job j)) c.job-whole.ensures

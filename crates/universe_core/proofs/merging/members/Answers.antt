@@ -5,23 +5,23 @@ use Rattle.universe_core.specs.Judging.{is_late_beside, judge_of}
 use Rattle.universe_core.specs.Members.{as_item}
 use Rattle.universe_core.specs.declared.member.Member.{Member}
 use Rattle.universe_core.specs.Merging.{IsRising, count_told, merged}
-use Rattle.universe_core.specs.Reading.{IsTold, entry_fields, entries_of, is_lacked}
+use Rattle.universe_core.specs.Reading.{IsPlaced, entry_fields, entries_of, is_lacked}
 use Rattle.universe_core.proofs.Members.{members_are, told_lacked}
 use Rattle.universe_core.proofs.Sorting.{are_read}
 use Rattle.universe_core.proofs.merging.members.Goals as goal
 
-pub merge-requires-clause-told : goal.merge-requires-clause-told
-merge-requires-clause-told c =
-    let told = IsTold c.args.issuers.now c.args.ranges.now in
-    subst (All told) (sym c.deref.ensures.value)
-    (All-permutation told c.args.entries.items c.sort_entries.new.entries.items c.sort_entries.ensures.same c.requires.told)
+pub merge-requires-clause-placed : goal.merge-requires-clause-placed
+merge-requires-clause-placed c =
+    let placed = IsPlaced c.args.issuers.now c.args.ranges.now in
+    subst (All placed) (sym c.deref.ensures.value)
+    (All-permutation placed c.args.entries.items c.sort_entries.new.entries.items c.sort_entries.ensures.same c.requires.placed)
 
 pub merge-requires-clause-rise : goal.merge-requires-clause-rise
 merge-requires-clause-rise c =
     let issuers = c.args.issuers.now in
     let ranges = c.args.ranges.now in
     subst (λ es. IsRising (entries_of issuers ranges es)) (sym c.deref.ensures.value)
-    (c.sort_entries.ensures.rising issuers ranges c.requires.issuers c.requires.told)
+    (c.sort_entries.ensures.rising issuers ranges c.requires.issuers c.requires.placed)
 
 pub returns-clause-members : goal.returns-clause-members
 returns-clause-members c = λ job e.

@@ -6,21 +6,21 @@ use Rattle.std.proofs.lemmas.List.Elements.{All-take, All-drop}
 use Rattle.universe_core.specs.Judging.{is_late_beside, judge_of, made_of}
 use Rattle.universe_core.specs.Members.{as_item}
 use Rattle.universe_core.specs.Merging.{IsRising, first_of, run_of, after_run}
-use Rattle.universe_core.specs.Reading.{IsTold, entry_fields, entries_of}
+use Rattle.universe_core.specs.Reading.{IsPlaced, entry_fields, entries_of}
 use Rattle.universe_core.specs.declared.member.Member.{Member}
 use Rattle.universe_core.proofs.Merge.{merged_made, step_done, all_done, told_on, told_within, told_done, smaller, first_sorted, rising_after, run_taken, run_dropped}
 use Rattle.universe_core.proofs.merging.merge.Goals as goal
 
 pub least-requires : goal.least-requires
-least-requires c = λ k d lt. (c.loop-id.invariant.told k d lt).issuer
+least-requires c = λ k d lt. (c.loop-id.invariant.placed k d lt).issuer
 
 pub run_length-requires : goal.run_length-requires
-run_length-requires c = λ k d lt. (c.loop-id.invariant.told k d lt).issuer
+run_length-requires c = λ k d lt. (c.loop-id.invariant.placed k d lt).issuer
 
-pub judge-judged-requires-clause-told : goal.judge-judged-requires-clause-told
-judge-judged-requires-clause-told c =
-    let told = IsTold c.args.issuers.now c.args.ranges.now in
-    subst (All told) (sym c.split_at.ensures.front) (All-take told c.run_length.result c.loop-id.entries_left.now c.loop-id.invariant.told)
+pub judge-judged-requires-clause-placed : goal.judge-judged-requires-clause-placed
+judge-judged-requires-clause-placed c =
+    let placed = IsPlaced c.args.issuers.now c.args.ranges.now in
+    subst (All placed) (sym c.split_at.ensures.front) (All-take placed c.run_length.result c.loop-id.entries_left.now c.loop-id.invariant.placed)
 
 pub loop-id-preserved : goal.loop-id-preserved
 loop-id-preserved c =
@@ -29,7 +29,7 @@ loop-id-preserved c =
     let items = c.loop-id.items_left.now in
     let fields = entry_fields c.args.issuers.now c.args.ranges.now in
     let of = entries_of c.args.issuers.now c.args.ranges.now in
-    let told = IsTold c.args.issuers.now c.args.ranges.now in
+    let placed = IsPlaced c.args.issuers.now c.args.ranges.now in
     let left = c.loop-id.entries_left.now in
     let n = c.run_length.result in
     let least = sym (c.least.ensures c.args.ranges.now) ∙ c.in-Some.is in
@@ -43,7 +43,7 @@ loop-id-preserved c =
     let settled : Member → Bool = λ m. m.settled in
     record {
       ascend = rw c.after_item-items_left.ensures (first_sorted id items c.loop-id.invariant.ascend);
-      told = subst (All told) (sym c.split_at.ensures.back) (All-drop told n left c.loop-id.invariant.told);
+      placed = subst (All placed) (sym c.split_at.ensures.back) (All-drop placed n left c.loop-id.invariant.placed);
       rise = subst IsRising (sym behind) (rising_after id (of left) c.loop-id.invariant.rise);
       kept =
           step_done (made_of as_item parts) id items c.after_item-items_left.result.now (of left) (of c.split_at.result.1.now)

@@ -4,7 +4,7 @@ use Rattle.ident_core.specs.Order.{identity_cmp}
 use Rattle.universe_core.specs.Merging.{IsRising, count_told, merged}
 use Rattle.universe_core.specs.Judging.{is_late_beside, made_of}
 use Rattle.universe_core.specs.Members.{as_item}
-use Rattle.universe_core.specs.Reading.{IsTold, entries_of}
+use Rattle.universe_core.specs.Reading.{IsPlaced, entries_of}
 use Rattle.universe_core.specs.declared.member.Member.{Member}
 use Rattle.universe_core.proofs.merging.merge.Given as goal
 
@@ -13,7 +13,7 @@ invariant-loop-id l =
     let issuers = l.issuers in
     let ranges = l.ranges in record {
       ascend : IsStrictlySortedBy identity_cmp (map (λ i. i.id) l.items_left);
-      told : All (IsTold issuers ranges) l.entries_left;
+      placed : All (IsPlaced issuers ranges) l.entries_left;
       rise : IsRising (entries_of issuers ranges l.entries_left);
       kept :
           l.kept.items ++ merged (made_of as_item l.parts) l.items_left (entries_of issuers ranges l.entries_left)

@@ -7,7 +7,7 @@ use Rattle.sets_core.proofs.Elements.{Among-from_place}
 use Rattle.sets_core.proofs.Sets.{has_key-from_Among}
 use Rattle.universe_core.specs.Reading.{entry_fields}
 use Rattle.universe_core.specs.declared.reading.Told.{Told}
-use Rattle.universe_core.proofs.Classes.{class_uncovered, class_unenrolled, class_accepted, told_is, read_is, not_covered, not_enrolled}
+use Rattle.universe_core.proofs.Classes.{class_uncovered, class_unenrolled, class_accepted, entry_is, read_is, not_covered, not_enrolled}
 use Rattle.universe_core.proofs.Searchable.{place_within}
 use Rattle.universe_core.proofs.reading.classify.Goals as goal
 
@@ -51,12 +51,12 @@ returns-clause-class c =
 pub returns-clause-entry : goal.returns-clause-entry
 returns-clause-entry c =
     ap Some
-    (told_is c.args.ranges.now c.args.issuers.now c.in-Some.entry c.in-Some-place_covering.near c.in-Some-place_of_key.place c.in-Some-place_covering.ensures.some c.in-Some-place_of_key.ensures.some)
+    (entry_is c.args.ranges.now c.args.issuers.now c.in-Some.entry c.in-Some-place_covering.near c.in-Some-place_of_key.place c.in-Some-place_covering.ensures.some c.in-Some-place_of_key.ensures.some)
     ∙ rw c.in-Some.is (read_is c.args.ranges.now c.args.issuers.now c.in-Some.entry (sym c.in-Some-place_covering.ensures.covers)
     (has_key-from_Among c.args.issuers.now c.in-Some.entry.id.issuer (Among-from_place c.args.issuers.now c.in-Some-place_of_key.place c.in-Some.entry.id.issuer c.in-Some-place_of_key.ensures.some)))
 
-pub returns-clause-told : goal.returns-clause-told
-returns-clause-told c = record {
+pub returns-clause-placed : goal.returns-clause-placed
+returns-clause-placed c = record {
   issuer = slice_get_within c.args.issuers.now c.in-Some-place_of_key.place c.in-Some.entry.id.issuer c.in-Some-place_of_key.ensures.some;
   range = place_within (is_within c.in-Some.entry.sighting) c.args.ranges.now c.in-Some-place_covering.near c.in-Some-place_covering.ensures.some;
 }
