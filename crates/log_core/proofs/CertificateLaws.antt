@@ -69,7 +69,7 @@ serial-taken contents x h =
     }
 
 -- the first of some elements is passed, whatever follows them
-any-read : (e : Der) (es : List Der) (bytes tail : List ℕ) (h : AreElements (e ∷ es) bytes) → element_where any (bytes ++ tail) ≡ Some (e, h.1 ++ tail)
+pub any-read : (e : Der) (es : List Der) (bytes tail : List ℕ) (h : AreElements (e ∷ es) bytes) → element_where any (bytes ++ tail) ≡ Some (e, h.1 ++ tail)
 any-read e es bytes tail h =
     element_where-read any e h.0 (bytes ++ tail) (h.1 ++ tail) refl h.2 (ap (λ (bs : List ℕ). bs ++ tail) h.3 ∙ append_assoc h.0 h.1 tail)
 
@@ -89,7 +89,7 @@ key-read key octets contents behind begins h =
     let end : four.1 ++ tail ≡ key ++ h.rest = ap (λ (bs : List ℕ). bs ++ tail) four.4 in
     rw (serial-read octets contents behind begins, signature, issuer, validity, subject) (whole_field-read 0x30 h.contents key (four.1 ++ tail) h.rest h.is_key end)
 
-grow : (bytes front rest middle tail : List ℕ) → bytes ≡ front ++ rest → rest ≡ middle ++ tail → bytes ≡ (front ++ middle) ++ tail
+pub grow : (bytes front rest middle tail : List ℕ) → bytes ≡ front ++ rest → rest ≡ middle ++ tail → bytes ≡ (front ++ middle) ++ tail
 grow bytes front rest middle tail h k = join bytes front rest (middle ++ tail) h k ∙ sym (append_assoc front middle tail)
 
 four-are : (a b c d : Der) (one two three four : List ℕ) → IsElement a one → IsElement b two → IsElement c three → IsElement d four
@@ -97,16 +97,16 @@ four-are : (a b c d : Der) (one two three four : List ℕ) → IsElement a one �
 four-are a b c d one two three four h i j k = (one, two ++ (three ++ (four ++ [])), h, refl, (two, three ++ (four ++ []), i, refl, (three, four ++ [], j, refl, (four, [], k, refl, refl))))
 
 -- Two elements stand before the rest.
-record TakesTwo (bytes rest : List ℕ) : Type 0 where
-  first : Der
-  second : Der
-  one : List ℕ
-  two : List ℕ
-  is_first : IsElement first one
-  is_second : IsElement second two
-  same : bytes ≡ one ++ (two ++ rest)
+pub record TakesTwo (bytes rest : List ℕ) : Type 0 where
+  pub first : Der
+  pub second : Der
+  pub one : List ℕ
+  pub two : List ℕ
+  pub is_first : IsElement first one
+  pub is_second : IsElement second two
+  pub same : bytes ≡ one ++ (two ++ rest)
 
-two-taken : (bytes : List ℕ) (x : Unit {0} × List ℕ) → signature_and_issuer bytes ≡ Some x → TakesTwo bytes x.1
+pub two-taken : (bytes : List ℕ) (x : Unit {0} × List ℕ) → signature_and_issuer bytes ≡ Some x → TakesTwo bytes x.1
 unfolding signature_and_issuer
 two-taken bytes x h =
     let signature = step (element_where any bytes) _ x h in
@@ -167,7 +167,7 @@ key-taken contents x h =
       same = refl;
     }
 
-within-read : {A : Type 0} (walk : Walk A) (r : Option (List ℕ)) (contents : List ℕ) (x : A) (rest : List ℕ) → r ≡ Some contents → walk contents ≡ Some (x, rest) → within walk r ≡ Some x
+pub within-read : {A : Type 0} (walk : Walk A) (r : Option (List ℕ)) (contents : List ℕ) (x : A) (rest : List ℕ) → r ≡ Some contents → walk contents ≡ Some (x, rest) → within walk r ≡ Some x
 within-read walk r contents x rest h k = rw (h, k) refl
 
 -- The contents that a walk within some contents was in, and what it left.
@@ -177,13 +177,13 @@ pub record Within {A : Type 0} (walk : Walk A) (r : Option (List ℕ)) (x : A) :
   pub some : r ≡ Some contents
   pub walked : walk contents ≡ Some (x, rest)
 
-within-taken : {A : Type 0} (walk : Walk A) (r : Option (List ℕ)) (x : A) → within walk r ≡ Some x → Within walk r x
+pub within-taken : {A : Type 0} (walk : Walk A) (r : Option (List ℕ)) (x : A) → within walk r ≡ Some x → Within walk r x
 within-taken walk None x h = cc
 within-taken walk (Some contents) x h =
     let w = value-step (walk contents) x h in
     record { contents = contents; rest = w.0; some = refl; walked = w.1 }
 
-tbs-read : (contents bytes : List ℕ) → IsElement (record { tag = 0x30; contents = contents }) bytes → tbs_contents bytes ≡ Some contents
+pub tbs-read : (contents bytes : List ℕ) → IsElement (record { tag = 0x30; contents = contents }) bytes → tbs_contents bytes ≡ Some contents
 tbs-read contents bytes h = ap value_of (alone-read 0x30 contents bytes h)
 
 pub tbs_serial-read : (octets bytes : List ℕ) → IsTbs octets bytes → tbs_serial bytes ≡ Some octets
@@ -199,10 +199,10 @@ tbs_serial-taken octets bytes h =
       begins = serial-taken w.contents (octets, w.rest) w.walked;
     }
 
-has_tbs-read : (tbs bytes : List ℕ) → HasTbs tbs bytes → certificate_contents bytes ≡ Some tbs
+pub has_tbs-read : (tbs bytes : List ℕ) → HasTbs tbs bytes → certificate_contents bytes ≡ Some tbs
 has_tbs-read tbs bytes h = within-read (field 0x30) (tbs_contents bytes) h.contents tbs h.rest (tbs-read h.contents bytes h.is) (field-read 0x30 tbs h.contents h.rest h.first)
 
-has_tbs-taken : (tbs bytes : List ℕ) → certificate_contents bytes ≡ Some tbs → HasTbs tbs bytes
+pub has_tbs-taken : (tbs bytes : List ℕ) → certificate_contents bytes ≡ Some tbs → HasTbs tbs bytes
 has_tbs-taken tbs bytes h =
     let w = within-taken (field 0x30) (tbs_contents bytes) tbs h in
     record {

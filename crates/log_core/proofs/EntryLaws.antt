@@ -1,5 +1,5 @@
 -- What is read of an entry is what stands in its bytes.
-use Rattle.std.proofs.Common.{◌≡◌, ℕ, List, [], ◌∷◌, ◌++◌, length, Bool, true, false, cond, ◌&&◌, nat_eq, Option, Some, None, Result, Ok, Err, refl, sym, ap, ◌∙◌, subst, arith, append-nil, lit<}
+use Rattle.std.proofs.Common.{◌≡◌, ℕ, ℤ, List, [], ◌∷◌, ◌++◌, length, Bool, true, false, cond, ◌&&◌, nat_eq, Option, Some, None, Result, Ok, Err, refl, sym, ap, ◌∙◌, subst, arith, append-nil, lit<}
 use Rattle.std.proofs.lemmas.Bool.Decides.{nat_tests}
 use Rattle.std.specs.Option.{option_map, option_and_then}
 use Rattle.sha2.specs.Sha256.{sha256}
@@ -8,16 +8,17 @@ use Rattle.octets_core.specs.Vectors.{bytes_field, number_field, vector, some_ve
 use Rattle.der_core.proofs.WalkLaws.{step, given-step, ends-step, ends-read, value-step}
 use Rattle.log_core.specs.Certificates.{tbs_serial, certificate_serial, certificate_key}
 use Rattle.log_core.specs.declared.Entry.{Entry}
-use Rattle.log_core.specs.Entries.{LeafFields, if_zero, key, issuer_of, leaf, first_in, chain, chain_hash, identified, identity_by, sighted, entry_by, entry_of}
+use Rattle.log_core.specs.Entries.{LeafFields, if_zero, key, issuer_of, leaf, first_in, chain, chain_hash, identified, identity_by, until_by, sighted, entry_by, entry_of}
 use Rattle.log_core.specs.VectorGrammar.{IsNumber, IsVector, IsSomeVector}
 use Rattle.log_core.specs.CertificateGrammar.{HasKey}
-use Rattle.log_core.specs.EntryGrammar.{IsIssuer, IsLeaf, IsChain, IsIssuedBy, IsSigned, ReadsEntry}
+use Rattle.log_core.specs.EntryGrammar.{IsIssuer, IsLeaf, IsChain, IsIssuedBy, IsSigned, SignedEndsAt, IsDated, ReadsEntry}
 use Rattle.std.specs.Prelude.{IfOk}
 use Rattle.ident_core.specs.declared.identity.Identity.{Identity}
 use Rattle.log_core.specs.declared.Unread.{Unread}
 use Rattle.log_core.specs.Leaves.{GivesEntry, GivesHash}
 use Rattle.log_core.proofs.VectorLaws.{join, bytes-read, bytes-taken, number-read, number-taken, vector-read, vector-taken, some_vector-read, some_vector-taken, vectors-read, vectors-taken}
 use Rattle.log_core.proofs.CertificateLaws.{tbs_serial-read, tbs_serial-taken, certificate_serial-read, certificate_serial-taken, certificate_key-read, certificate_key-taken}
+use Rattle.log_core.proofs.DateLaws.{tbs_until-read, tbs_until-taken, certificate_until-read, certificate_until-taken}
 
 -- The entry type of an issuer, and that the key hash is read behind it.
 record ReadsIssuer (issuer : Option (List ℕ)) (entry hash rest : List ℕ) : Type 0 where
@@ -309,28 +310,67 @@ signed-taken (Some k) signed extra x h =
     let parts = identified-taken (Some k) (tbs_serial signed) x h in
     (tbs_serial-taken x.serial signed parts.1, cc (parts.0))
 
+until-read : (by : Option (List ℕ)) (signed : List ℕ) (until : ℤ) → SignedEndsAt by signed until → until_by by signed ≡ Some until
+until-read None signed until h = certificate_until-read until signed h
+until-read (Some k) signed until h = tbs_until-read until signed h
+
+until-taken : (by : Option (List ℕ)) (signed : List ℕ) (until : ℤ) → until_by by signed ≡ Some until → SignedEndsAt by signed until
+until-taken None signed until h = certificate_until-taken until signed h
+until-taken (Some k) signed until h = tbs_until-taken until signed h
+
+undated : (by : Option (List ℕ)) (signed : List ℕ) (r : Option ℤ) → until_by by signed ≡ r → IsDated by signed None → r ≡ None
+undated by signed None e h = refl
+undated by signed (Some until) e h = absurd (h until (until-taken by signed until e))
+
+dated-read : (by : Option (List ℕ)) (signed : List ℕ) (date : Option ℤ) → IsDated by signed date → until_by by signed ≡ date
+dated-read by signed None h = undated by signed (until_by by signed) refl h
+dated-read by signed (Some until) h = until-read by signed until h
+
+dated-taken : (by : Option (List ℕ)) (signed : List ℕ) (date : Option ℤ) → until_by by signed ≡ date → IsDated by signed date
+dated-taken by signed None h = λ until ends. let told = until-read by signed until ends in cc
+dated-taken by signed (Some until) h = until-taken by signed until h
+
 pub entry-read : (log bytes extra : List ℕ) (x : Entry) → ReadsEntry log bytes extra x → entry_of log bytes extra ≡ Some x
 entry-read log bytes extra x h =
-    rw (leaf-read h.fields bytes h.is_leaf, signed-read h.fields.issuer h.fields.signed extra x.id.issuer x.id.serial h.signed, ← h.at_time, ← h.in_log) refl
+    rw (
+      leaf-read h.fields bytes h.is_leaf,
+      dated-read h.fields.issuer h.fields.signed x.until h.dated,
+      signed-read h.fields.issuer h.fields.signed extra x.id.issuer x.id.serial h.signed,
+      ← h.at_time,
+      ← h.in_log,
+    ) refl
 
-sighted-taken : (log : List ℕ) (time : ℕ) (r : Option Identity) (x : Entry) → sighted log time r ≡ Some x → (r ≡ Some x.id) × (x.sighting.time ≡ time) × (x.sighting.log ≡ log)
-sighted-taken log time None x h = cc
-sighted-taken log time (Some y) x h =
-    let made : Entry = record { id = y; sighting = record { log = log; time = time } } in
+-- The parts of an entry that was put together.
+record Sighted (log : List ℕ) (time : ℕ) (until : Option ℤ) (r : Option Identity) (x : Entry) : Type 0 where
+  identity : r ≡ Some x.id
+  at_time : x.sighting.time ≡ time
+  in_log : x.sighting.log ≡ log
+  dated : until ≡ x.until
+
+sighted-taken : (log : List ℕ) (time : ℕ) (until : Option ℤ) (r : Option Identity) (x : Entry) → sighted log time until r ≡ Some x → Sighted log time until r x
+sighted-taken log time until None x h = cc
+sighted-taken log time until (Some y) x h =
+    let made : Entry = record { id = y; sighting = record { log = log; time = time }; until = until } in
     let same : made ≡ x = cc in
-    (ap (λ (z : Entry). Some z.id) same, sym (ap (λ (z : Entry). z.sighting.time) same), sym (ap (λ (z : Entry). z.sighting.log) same))
+    record {
+      identity = ap (λ (z : Entry). Some z.id) same;
+      at_time = sym (ap (λ (z : Entry). z.sighting.time) same);
+      in_log = sym (ap (λ (z : Entry). z.sighting.log) same);
+      dated = ap (λ (z : Entry). z.until) same;
+    }
 
 by-taken : (log bytes extra : List ℕ) (r : Option LeafFields) (x : Entry) → value_of (leaf bytes) ≡ r → entry_by log extra r ≡ Some x → ReadsEntry log bytes extra x
 by-taken log bytes extra None x e h = cc
 by-taken log bytes extra (Some l) x e h =
     let v = value-step (leaf bytes) l e in
-    let s = sighted-taken log l.time (identity_by l.issuer l.signed extra) x h in
+    let s = sighted-taken log l.time (until_by l.issuer l.signed) (identity_by l.issuer l.signed extra) x h in
     record {
       fields = l;
       is_leaf = leaf-taken bytes (l, v.0) v.1;
-      signed = signed-taken l.issuer l.signed extra x.id s.0;
-      at_time = s.1;
-      in_log = s.2;
+      signed = signed-taken l.issuer l.signed extra x.id s.identity;
+      dated = dated-taken l.issuer l.signed x.until s.dated;
+      at_time = s.at_time;
+      in_log = s.in_log;
     }
 
 pub entry-taken : (log bytes extra : List ℕ) (x : Entry) → entry_of log bytes extra ≡ Some x → ReadsEntry log bytes extra x

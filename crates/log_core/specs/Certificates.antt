@@ -2,8 +2,10 @@
 --   Certificate ::= SEQUENCE { tbsCertificate TBSCertificate, .. }
 --   TBSCertificate ::= SEQUENCE { version [0] OPTIONAL, serialNumber INTEGER, signature, issuer, validity, subject,
 --   subjectPublicKeyInfo SEQUENCE, .. }
-use Rattle.std.specs.Prelude.{ℕ, List, length, ◌&&◌, nat_le, if◌then◌else◌, Option, Some, None}
-use Rattle.octets_core.specs.Walk.{Walk, ◌>>=◌, whole, given, value_of, within}
+--   Validity ::= SEQUENCE { notBefore Time, notAfter Time }
+use Rattle.std.specs.Prelude.{ℕ, ℤ, List, length, ◌&&◌, nat_le, if◌then◌else◌, Option, Some, None}
+use Rattle.octets_core.specs.Walk.{Walk, ◌>>=◌, whole, given, ends, value_of, within}
+use Rattle.der_core.specs.Times.{time_of}
 use Rattle.der_core.specs.Walk.{any, field, whole_field, optional, element_where, alone}
 
 -- 1 to 32 octets
@@ -23,6 +25,27 @@ signature_and_issuer = do
   signature ← element_where any
   issuer ← element_where any
   whole tt
+
+-- the second element of a validity, which has two, if it is a time
+unfoldable pub second_time : Walk ℤ
+second_time = do
+  first ← element_where any
+  second ← element_where any
+  end ← ends
+  given (time_of second)
+
+-- the notAfter, behind the serial, in seconds since 1970
+unfoldable pub expiry : Walk ℤ
+expiry = do
+  passed ← signature_and_issuer
+  validity ← field 0x30
+  given (value_of (second_time validity))
+
+-- the same, of the contents of a TBS
+unfoldable pub not_after : Walk ℤ
+not_after = do
+  number ← serial
+  expiry
 
 -- the subjectPublicKeyInfo, with its tag and length
 unfoldable pub public_key : Walk (List ℕ)
@@ -45,6 +68,13 @@ tbs_serial bytes = within serial (tbs_contents bytes)
 
 abbrev pub certificate_serial : List ℕ → Option (List ℕ)
 certificate_serial bytes = within serial (certificate_contents bytes)
+
+-- the notAfter, or nothing where the validity hasn't the form of one
+abbrev pub tbs_until : List ℕ → Option ℤ
+tbs_until bytes = within not_after (tbs_contents bytes)
+
+abbrev pub certificate_until : List ℕ → Option ℤ
+certificate_until bytes = within not_after (certificate_contents bytes)
 
 abbrev pub certificate_key : List ℕ → Option (List ℕ)
 certificate_key bytes = within public_key (certificate_contents bytes)

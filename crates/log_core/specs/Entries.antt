@@ -1,12 +1,12 @@
 -- Entries of a log (RFC 6962, 3.1, 3.2, 3.4 and 4.6).
-use Rattle.std.specs.Prelude.{ℕ, List, [], ◌∷◌, Bool, true, false, ◌&&◌, nat_eq, if◌then◌else◌, Option, Some, None}
+use Rattle.std.specs.Prelude.{ℕ, ℤ, List, [], ◌∷◌, Bool, true, false, ◌&&◌, nat_eq, if◌then◌else◌, Option, Some, None}
 use Rattle.std.specs.Option.{option_map, option_and_then}
 use Rattle.sha2.specs.Sha256.{sha256}
 use Rattle.ident_core.specs.declared.identity.Identity.{Identity}
 use Rattle.octets_core.specs.Walk.{Walk, ◌>>=◌, whole, given, value_of, ends, all_of}
 use Rattle.octets_core.specs.Vectors.{bytes_field, number_field, vector, some_vector}
 use Rattle.log_core.specs.declared.Entry.{Entry}
-use Rattle.log_core.specs.Certificates.{tbs_serial, certificate_serial, certificate_key}
+use Rattle.log_core.specs.Certificates.{tbs_serial, certificate_serial, certificate_key, tbs_until, certificate_until}
 
 -- What a leaf says: when, and a certificate, or the key hash of its issuer and the TBS of a precertificate.
 pub record LeafFields : Type 0 where
@@ -67,13 +67,18 @@ abbrev pub identity_by : Option (List ℕ) → List ℕ → List ℕ → Option 
 identity_by (Some key) signed extra = identified (Some key) (tbs_serial signed)
 identity_by None signed extra = identified (chain_hash extra) (certificate_serial signed)
 
-abbrev pub sighted : List ℕ → ℕ → Option Identity → Option Entry
-sighted log time None = None
-sighted log time (Some x) = Some (record { id = x; sighting = record { log = log; time = time } })
+-- the end of the validity of what is signed, if it is told
+abbrev pub until_by : Option (List ℕ) → List ℕ → Option ℤ
+until_by (Some issuer) signed = tbs_until signed
+until_by None signed = certificate_until signed
+
+abbrev pub sighted : List ℕ → ℕ → Option ℤ → Option Identity → Option Entry
+sighted log time until None = None
+sighted log time until (Some x) = Some (record { id = x; sighting = record { log = log; time = time }; until = until })
 
 abbrev pub entry_by : List ℕ → List ℕ → Option LeafFields → Option Entry
 entry_by log extra None = None
-entry_by log extra (Some l) = sighted log l.time (identity_by l.issuer l.signed extra)
+entry_by log extra (Some l) = sighted log l.time (until_by l.issuer l.signed) (identity_by l.issuer l.signed extra)
 
 -- what an entry of this log gives, if it is read
 abbrev pub entry_of : List ℕ → List ℕ → List ℕ → Option Entry

@@ -1,8 +1,8 @@
 -- Log entries as whole lists of bytes, apart from how they are read (RFC 6962, 3.1, 3.2, 3.4 and 4.6).
-use Rattle.std.specs.Prelude.{◌≡◌, ℕ, List, [], ◌∷◌, ◌++◌, length, Option, Some, None}
+use Rattle.std.specs.Prelude.{◌≡◌, ℕ, ℤ, List, [], ◌∷◌, ◌++◌, length, Option, Some, None}
 use Rattle.sha2.specs.Sha256.{sha256}
 use Rattle.log_core.specs.VectorGrammar.{IsNumber, IsVector, IsSomeVector, AreVectors}
-use Rattle.log_core.specs.CertificateGrammar.{IsTbs, IsCertificate, HasKey}
+use Rattle.log_core.specs.CertificateGrammar.{IsTbs, IsCertificate, HasKey, TbsEndsAt, CertificateEndsAt}
 use Rattle.log_core.specs.declared.Entry.{Entry}
 use Rattle.log_core.specs.Entries.{LeafFields}
 
@@ -49,14 +49,25 @@ abbrev pub IsSigned : Option (List ℕ) → List ℕ → List ℕ → List ℕ �
 IsSigned None signed extra issuer serial = IsCertificate serial signed × IsIssuedBy issuer extra
 IsSigned (Some key) signed extra issuer serial = IsTbs serial signed × (issuer ≡ key)
 
--- a leaf of this log and its extra data give this identity and this sighting
+-- the validity of what is signed ends at this time
+abbrev pub SignedEndsAt : Option (List ℕ) → List ℕ → ℤ → Type 0
+SignedEndsAt None signed until = CertificateEndsAt until signed
+SignedEndsAt (Some issuer) signed until = TbsEndsAt until signed
+
+-- what is signed has this date: the end of its validity, or none where no time stands there
+abbrev pub IsDated : Option (List ℕ) → List ℕ → Option ℤ → Type 0
+IsDated issuer signed (Some until) = SignedEndsAt issuer signed until
+IsDated issuer signed None = (until : ℤ) → SignedEndsAt issuer signed until → ⊥
+
+-- a leaf of this log and its extra data give this identity, this sighting and this date
 pub record ReadsEntry (log bytes extra : List ℕ) (x : Entry) : Type 0 where
   pub fields : LeafFields
   pub is_leaf : IsLeaf fields bytes
   pub signed : IsSigned fields.issuer fields.signed extra x.id.issuer x.id.serial
+  pub dated : IsDated fields.issuer fields.signed x.until
   pub at_time : x.sighting.time ≡ fields.time
   pub in_log : x.sighting.log ≡ log
 
--- an entry gives at most one identity with a sighting
+-- an entry gives at most one identity with a sighting and a date
 abbrev pub GivesAtMostOne : List ℕ → List ℕ → List ℕ → Type 0
 GivesAtMostOne log bytes extra = (x y : Entry) → ReadsEntry log bytes extra x → ReadsEntry log bytes extra y → x ≡ y

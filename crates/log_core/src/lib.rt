@@ -19,4 +19,9 @@ pub struct Unread;
 pub struct Entry {
     pub id: Identity,
     pub sighting: Sighting,
+    /// The certificate's notAfter, in seconds since 1970, where its validity has the form of one.
+    pub until: Option<i64>,
 }
+
+// A job holds up to 4,194,304 entries in memory.
+const _: () = prove!(size_of::<Option<Entry>>() <= 136);

@@ -2,13 +2,13 @@ ghost use Rattle.std.specs.Prelude.{◌≡◌, ◌<◌, ◌≤◌, MatchOption, 
 ghost use Rattle.std.specs.Option.{option_map};
 ghost use Rattle.octets_core.specs.Walk.{value_of, ends, all_of};
 ghost use Rattle.octets_core.specs.Vectors.{some_vector};
-ghost use Rattle.log_core.specs.Certificates.{tbs_serial, certificate_serial};
+ghost use Rattle.log_core.specs.Certificates.{tbs_serial, certificate_serial, tbs_until, certificate_until};
 ghost use Rattle.log_core.specs.EntryGrammar.{ReadsEntry, GivesAtMostOne};
 ghost use Rattle.log_core.specs.declared.Entry.{Entry as EntryRead};
-ghost use Rattle.log_core.specs.Entries.{leaf, if_zero, issuer_of, key, first_in, chain, chain_hash, identified, identity_by, entry_of, is_cut};
+ghost use Rattle.log_core.specs.Entries.{leaf, if_zero, issuer_of, key, first_in, chain, chain_hash, identified, identity_by, sighted, entry_of, is_cut};
 ghost use Rattle.log_core.specs.Leaves.{leaf_of, GivesEntry};
 
-use crate::certificate::{certificate_serial_of, issuer_hash, tbs_serial_of};
+use crate::certificate::{Tbs, certificate_tbs_of, issuer_hash, tbs_of};
 use crate::leaf::Leaf;
 use crate::{Entry, Unread};
 use ident_core::{Identity, Sighting};
@@ -110,19 +110,27 @@ fn chain_hash_of(extra: &[u8]) -> Option<Key32>
     issuer_hash(first_in_chain(extra)?).ok()
 }
 
-fn precertificate_of(issuer: Key32, tbs: &[u8]) -> Option<Identity>
-    ensures { result ≡ identified (Some issuer) (tbs_serial tbs.now) }
+fn precertificate_of(issuer: Key32, sighting: Sighting, tbs: &[u8]) -> Option<Entry>
+    ensures { result ≡ sighted sighting.log sighting.time (tbs_until tbs.now) (identified (Some issuer) (tbs_serial tbs.now)) }
 {
-    let serial = tbs_serial_of(tbs)?;
-    Some(Identity { issuer, serial })
+    let Tbs { serial, until } = tbs_of(tbs)?;
+    Some(Entry {
+        id: Identity { issuer, serial },
+        sighting,
+        until,
+    })
 }
 
-fn certificate_of(cert: &[u8], extra: &[u8]) -> Option<Identity>
-    ensures { result ≡ identified (chain_hash extra.now) (certificate_serial cert.now) }
+fn certificate_of(sighting: Sighting, cert: &[u8], extra: &[u8]) -> Option<Entry>
+    ensures { result ≡ sighted sighting.log sighting.time (certificate_until cert.now) (identified (chain_hash extra.now) (certificate_serial cert.now)) }
 {
-    let serial = certificate_serial_of(cert)?;
+    let Tbs { serial, until } = certificate_tbs_of(cert)?;
     let issuer = chain_hash_of(extra)?;
-    Some(Identity { issuer, serial })
+    Some(Entry {
+        id: Identity { issuer, serial },
+        sighting,
+        until,
+    })
 }
 
 fn entry_in(log: Key32, leaf: &[u8], extra: &[u8]) -> Result<Entry, Unread>
@@ -131,24 +139,19 @@ fn entry_in(log: Key32, leaf: &[u8], extra: &[u8]) -> Result<Entry, Unread>
     let Some(fields) = read_leaf(leaf) else {
         return Err(Unread);
     };
-    let found = match fields.issuer {
-        Some(key) => precertificate_of(key, fields.signed),
-        None => certificate_of(fields.signed, extra),
+    let sighting = Sighting {
+        log,
+        time: fields.time,
     };
-    match found {
-        Some(id) => Ok(Entry {
-            id,
-            sighting: Sighting {
-                log,
-                time: fields.time,
-            },
-        }),
-        None => Err(Unread),
-    }
+    let found = match fields.issuer {
+        Some(key) => precertificate_of(key, sighting, fields.signed),
+        None => certificate_of(sighting, fields.signed, extra),
+    };
+    found.ok_or(Unread)
 }
 
-/// The identity and the sighting that an entry of this log gives: a leaf, and its extra data (RFC 6962, 4.6). The
-/// extra data of a precertificate isn't read.
+/// The identity, the sighting and the date that an entry of this log gives: a leaf, and its extra data (RFC 6962,
+/// 4.6). The extra data of a precertificate isn't read. An entry whose certificate tells no notAfter is read too.
 pub fn read_entry(log: Key32, leaf: &[u8], extra: &[u8]) -> Result<Entry, Unread>
     // What is given is what the entry says, what an entry says is given, and no entry says two things.
     ensures found { IfOk result (λ x. ReadsEntry log leaf.now extra.now x) }
