@@ -1,7 +1,7 @@
 -- A ledger's faults lie within its bytes.
-use Rattle.std.proofs.Common.{◌≡◌, ℕ, ◌≤◌, ◌-◌, ◌^◌, Bool, true, false, cond, ltb, List, length, Option, None, Result, Ok, Err, refl, subst, arith, IfErr}
+use Rattle.std.proofs.Common.{◌≡◌, ℕ, ◌≤◌, ◌-◌, ◌^◌, Bool, true, false, cond, ltb, eqb, List, length, Option, None, Result, Ok, Err, refl, subst, arith, IfErr}
 use Rattle.std.specs.Int.{Width, w8, w16, w32, w64}
-use Rattle.octets_core.specs.Layout.{bytes_field}
+use Rattle.octets_core.specs.Layout.{bytes_field, whole}
 use Rattle.octets_core.specs.Linked.{is_after}
 use Rattle.octets_core.specs.Reading.{fault_at, number, end, value_of, GivesUnless}
 use Rattle.octets_core.proofs.Bounds.{IsWithin, IsBounded, bytes_field-bounded, number_field-bounded, sum_field-bounded, whole-bounded, repeated-bounded, mapped-bounded, ◌>>>◌}
@@ -15,7 +15,7 @@ use Rattle.ident_core.specs.RangeLayout.{range}
 use Rattle.ledger_core.specs.declared.fault.LedgerFault.{LedgerFault}
 use Rattle.ledger_core.specs.declared.fault.LedgerFault.TheVariants as faults
 use Rattle.ledger_core.specs.LedgerFields.{LedgerPartFields, LedgerFields}
-use Rattle.ledger_core.specs.LedgerLayout.{ledger_part, last_place, item, body, digested, ledger}
+use Rattle.ledger_core.specs.LedgerLayout.{ledger_part, last_place, until_field, some_until, date, item, body, digested, ledger}
 use Rattle.ledger_core.specs.LedgerReading.{fielded, ledger_of, offset_in_ledger}
 
 abbrev offset : LayoutFault → ℕ
@@ -53,25 +53,52 @@ last-bounded parts birth =
     bytes-bounded fields.IdentityLast 1 _ >>> λ byte.
     whole-bounded offset _
 
-item-bounded : (parts : ℕ) (previous : Option Identity) → IsBounded offset (item parts previous)
+until-bounded : IsBounded offset until_field
+unfolding until_field
+until-bounded =
+    number-bounded fields.IdentityUntil w64 0 (2 ^ 64 - 1) >>> λ bits.
+    whole-bounded offset _
+
+some_until-bounded : IsBounded offset some_until
+unfolding some_until
+some_until-bounded =
+    until-bounded >>> λ until.
+    whole-bounded offset _
+
+dated-bounded : (b : Bool) → IsBounded offset (cond b (whole None) some_until)
+dated-bounded true = whole-bounded offset _
+dated-bounded false = some_until-bounded
+
+date-bounded : IsBounded offset date
+unfolding date
+date-bounded =
+    number-bounded fields.IdentityDated w8 0 1 >>> λ dated.
+    dated-bounded (eqb dated 0)
+
+date_in-by : (b : Bool) → IsBounded offset (cond b (whole None) date)
+date_in-by true = whole-bounded offset _
+date_in-by false = date-bounded
+
+item-bounded : (version parts : ℕ) (previous : Option Identity) → IsBounded offset (item version parts previous)
 unfolding item
-item-bounded parts previous =
+item-bounded version parts previous =
     bytes-bounded fields.IdentityIssuer 32 _ >>> λ issuer.
     number-bounded fields.IdentityLength w8 1 MAX_SERIAL >>> λ width.
     bytes-bounded fields.IdentitySerial width _ >>> λ serial.
     number-bounded fields.IdentityBirth w8 0 (parts - 1) >>> λ birth.
     last-bounded parts birth >>> λ last.
+    date_in-by (eqb version 1) >>> λ until.
     whole-bounded offset _
 
 body-bounded : IsBounded offset body
 unfolding body
 body-bounded =
     bytes-bounded fields.LedgerMagic 8 _ >>> λ begin.
-    number-bounded fields.LedgerVersion w8 1 1 >>> λ version.
+    number-bounded fields.LedgerVersion w8 1 2 >>> λ version.
     number-bounded fields.LedgerParts w8 1 MAX_PARTS >>> λ count.
     repeated-bounded offset ledger_part _ part-bounded count None >>> λ parts.
     number-bounded fields.LedgerIdentities w32 0 MAX_IDENTITIES >>> λ accepted.
-    repeated-bounded offset (item count) _ (item-bounded count) accepted None >>> λ identities.
+    repeated-bounded offset (item version count) _ (item-bounded version count) accepted None >>> λ identities.
     whole-bounded offset _
 
 digested-bounded : IsBounded offset digested

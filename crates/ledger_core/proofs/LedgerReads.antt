@@ -1,6 +1,6 @@
 -- What is read as a ledger is spelled so.
 use Rattle.std.proofs.Common.{◌≡◌, ℕ, zero, suc, ◌+◌, ◌-◌, ◌<◌, ◌≤◌, ◌^◌, Bool, true, false, ◌&&◌, cond, eqb, ltb, leb, List, [], ◌∷◌, ◌++◌, length, map, take}
-use Rattle.std.proofs.Common.{Option, Some, None, Result, Ok, Err, get_or, drop, refl, sym, ap, ◌∙◌, subst, arith}
+use Rattle.std.proofs.Common.{Option, Some, None, Result, Ok, Err, inl, inr, get_or, drop, refl, sym, ap, ◌∙◌, subst, arith}
 use Rattle.std.specs.Prelude.{All, codes, is_none, IsNone, IfSome, flat_map}
 use Rattle.std.specs.Int.{w8, w16, w32, w64, to_be_bytes, from_be_bytes}
 use Rattle.std.specs.Str.{bytes_eq}
@@ -31,11 +31,12 @@ use Rattle.ident_core.proofs.RangeTexts.{ranges-leaves, ranges-ascend}
 use Rattle.ident_core.proofs.Within.{within-iff}
 use Rattle.ledger_core.specs.declared.fields.LedgerItem.{LedgerItem}
 use Rattle.ledger_core.specs.LedgerFields.{LedgerPartFields, LedgerFields, Continues, IsPartAfter, IsItemOf, ids}
-use Rattle.ledger_core.specs.LedgerText.{part_text, last_number, item_text, body_text, ledger_text}
+use Rattle.ledger_core.specs.LedgerText.{part_text, last_number, item_text, body_text, text_in, IsText}
 use Rattle.ledger_core.specs.LedgerLayout.{least_epoch, coverage_before, ledger_part, is_from, is_behind, tested, is_last, last_of, last_place, item, body, digested, ledger}
 use Rattle.ledger_core.specs.Fitting.{IsKey, PartFits, ItemFits, Fits}
 use Rattle.ledger_core.proofs.Orders.{lt-less}
-use Rattle.ledger_core.proofs.LedgerTexts.{FitsIssuer, FitsPart, FitsItem}
+use Rattle.ledger_core.proofs.LedgerTexts.{FitsIssuer, FitsPart, FitsItem, IsVersionOf}
+use Rattle.ledger_core.proofs.Dates.{FitsVersion, date_in-leaves}
 
 -- ---- each behind the one before it: each below those after it
 
@@ -166,80 +167,103 @@ last-leaves parts birth some bytes fits at =
     let facts = last-facts parts birth n some a.1.1 in
     whole-leaves _ bytes end _ (Takes-as byte (to_be_bytes w8 (last_number (last_of n))) (sym (a.1.0) ∙ ap (to_be_bytes w8) (sym facts.0)) a.0, facts.1)
 
-item-leaves : (parts : ℕ) → 1 ≤ parts → (bytes : List ℕ) → IsBytes bytes → (previous : Option Identity) (at : ℕ)
-    → Leaves (item parts previous) bytes at (λ x end. Takes bytes at (item_text x) end × FitsItem parts previous x)
+item-leaves : (version parts : ℕ) → 1 ≤ parts → (bytes : List ℕ) → IsBytes bytes → (previous : Option Identity) (at : ℕ)
+    → Leaves (item version parts previous) bytes at (λ x end. Takes bytes at (item_text version x) end × FitsItem version parts previous x)
 unfolding item item_text
-item-leaves parts some bytes fits previous at =
+item-leaves version parts some bytes fits previous at =
     bytes_field-leaves _ _ 32 (is_from previous) bytes at >>- λ issuer p a.
     number_field-leaves _ _ w8 (2 ^ 8) 1 MAX_SERIAL wide8 bytes fits p >>- λ width q b.
     bytes_field-leaves _ _ width (λ serial. is_behind previous (record { issuer = issuer; serial = serial })) bytes q >>- λ serial r c.
     number_field-leaves _ _ w8 (2 ^ 8) 0 (parts - 1) wide8 bytes fits r >>- λ birth s d.
-    last-leaves parts birth some bytes fits s >>- λ last end e.
+    last-leaves parts birth some bytes fits s >>- λ last t e.
+    date_in-leaves version bytes fits t e.0.room >>- λ until end f.
     whole-leaves _ bytes end _ (
-      a.takes >>> Takes-as (to_be_bytes w8 width) (to_be_bytes w8 (length serial)) (ap (to_be_bytes w8) (sym c.len)) b.takes >>> c.takes >>> d.takes >>> e.0,
+      a.takes >>> Takes-as (to_be_bytes w8 width) (to_be_bytes w8 (length serial)) (ap (to_be_bytes w8) (sym c.len)) b.takes >>> c.takes >>> d.takes >>> e.0 >>> f.0,
       (
         c.passed,
         (
-          record { issuer = a.len; some_octets = omega (arith, c.len, b.from_low); few_octets = omega (arith, c.len, b.to_high) },
-          record { birth = omega (arith, d.to_high); last = e.1 },
+          record { issuer = a.len; some_octets = omega (arith, c.len, b.from_low); few_octets = omega (arith, c.len, b.to_high); until = f.1.0 },
+          (record { birth = omega (arith, d.to_high); last = e.1 }, f.1.1),
         ),
       ),
     )
 
 -- ---- ledgers
 
-is-one : (n : ℕ) → 1 ≤ n → n ≤ 1 → n ≡ 1
-is-one n low high = omega arith
+-- What is read is a text of the ledger in some version, up to the digest or with it.
+pub record IsSpelled (text : ℕ → LedgerFields → List ℕ) (bytes : List ℕ) (l : LedgerFields) (end : ℕ) : Type 0 where
+  pub version : ℕ
+  pub is_version : IsVersionOf l version
+  pub takes : Takes bytes 0 (text version l) end
+  pub fits : Fits l
 
-pub body-leaves : (bytes : List ℕ) → IsBytes bytes → Leaves body bytes 0 (λ l end. Takes bytes 0 (body_text l) end × Fits l)
+pub body-leaves : (bytes : List ℕ) → IsBytes bytes → Leaves body bytes 0 (IsSpelled body_text bytes)
 unfolding body body_text
 body-leaves bytes fits =
     bytes_field-leaves _ _ 8 (bytes_eq (codes "CLUBLEDG")) bytes 0 >>- λ begin p a.
-    number_field-leaves _ _ w8 (2 ^ 8) 1 1 wide8 bytes fits p >>- λ version q b.
+    number_field-leaves _ _ w8 (2 ^ 8) 1 2 wide8 bytes fits p >>- λ version q b.
     number_field-leaves _ _ w8 (2 ^ 8) 1 MAX_PARTS wide8 bytes fits q >>- λ count r c.
     repeated-leaves ledger_part (λ previous p. Some p) FitsPart part_text bytes (part-leaves bytes fits) count None r c.takes.room >>- λ parts s d.
     number_field-leaves _ _ w32 (2 ^ 32) 0 MAX_IDENTITIES wide32 bytes fits s >>- λ accepted t e.
-    repeated-leaves (item count) (λ previous x. Some x.id) (FitsItem count) item_text bytes (item-leaves count c.from_low bytes fits) accepted None t e.takes.room >>- λ identities end f.
-    whole-leaves _ bytes end _ (
-      Takes-as begin (codes "CLUBLEDG") (sym ((bytes_eq-Decides (codes "CLUBLEDG") begin).0 a.passed)) a.takes
-          >>> Takes-as (to_be_bytes w8 version) (to_be_bytes w8 1) (ap (to_be_bytes w8) (is-one version b.from_low b.to_high)) b.takes
+    repeated-leaves (item version count) (λ previous x. Some x.id) (FitsItem version count) (item_text version) bytes
+    (item-leaves version count c.from_low bytes fits) accepted None t e.takes.room >>- λ identities end f.
+    whole-leaves _ bytes end _ (record {
+      version = version;
+      is_version = record {
+        low = b.from_low;
+        high = b.to_high;
+        old = λ one.
+            let none = linked-all (FitsItem version count) (λ x. FitsVersion version x.until) (λ previous x. Some x.id) (λ s x h. h.1.1.1) None identities f.1 in
+            λ k d lt. none k d lt one;
+      };
+      takes = Takes-as begin (codes "CLUBLEDG") (sym ((bytes_eq-Decides (codes "CLUBLEDG") begin).0 a.passed)) a.takes
+          >>> b.takes
           >>> Takes-as (to_be_bytes w8 count) (to_be_bytes w8 (length parts)) (ap (to_be_bytes w8) (sym d.2)) c.takes
           >>> d.0
           >>> Takes-as (to_be_bytes w32 accepted) (to_be_bytes w32 (length identities)) (ap (to_be_bytes w32) (sym f.2)) e.takes
-          >>> f.0,
-      record {
+          >>> f.0;
+      fits = record {
         facts = record {
           some_parts = omega (arith, d.2, c.from_low);
           few_parts = omega (arith, d.2, c.to_high);
           parts = Linked-weaken FitsPart IsPartAfter (λ previous p. Some p) (λ s x h. h.0) None parts d.1;
           few_items = omega (arith, f.2, e.to_high);
-          items_ascend = ids-sorted identities (Linked-weaken (FitsItem count) (λ previous x. is_behind previous x.id ≡ true) (λ previous x. Some x.id) (λ s x h. h.0) None identities f.1);
-          items = subst (λ (n : ℕ). All (IsItemOf n) identities) (sym d.2) (linked-all (FitsItem count) (IsItemOf count) (λ previous x. Some x.id) (λ s x h. h.1.1) None identities f.1);
+          items_ascend = ids-sorted identities (Linked-weaken (FitsItem version count) (λ previous x. is_behind previous x.id ≡ true) (λ previous x. Some x.id) (λ s x h. h.0) None identities f.1);
+          items = subst (λ (n : ℕ). All (IsItemOf n) identities) (sym d.2) (linked-all (FitsItem version count) (IsItemOf count) (λ previous x. Some x.id) (λ s x h. h.1.1.0) None identities f.1);
         };
         parts = linked-all FitsPart PartFits (λ previous p. Some p) (λ s x h. h.1) None parts d.1;
-        items = linked-all (FitsItem count) ItemFits (λ previous x. Some x.id) (λ s x h. h.1.0) None identities f.1;
-      },
-    )
+        items = linked-all (FitsItem version count) ItemFits (λ previous x. Some x.id) (λ s x h. h.1.0) None identities f.1;
+      };
+    })
 
-digested-leaves : (bytes : List ℕ) → IsBytes bytes → Leaves digested bytes 0 (λ l end. Takes bytes 0 (ledger_text l) end × Fits l)
-unfolding digested ledger_text
+digested-leaves : (bytes : List ℕ) → IsBytes bytes → Leaves digested bytes 0 (IsSpelled text_in bytes)
+unfolding digested text_in
 digested-leaves bytes fits =
     body-leaves bytes fits >>- λ l p a.
     sum_field-leaves _ _ 32 sha256 bytes p >>- λ sum end b.
-    let is : sum ≡ sha256 (body_text l) = sym ((bytes_eq-Decides (sha256 (take p bytes)) sum).0 b.passed) ∙ ap sha256 a.0.parts in
-    whole-leaves _ bytes end _ (a.0 >>> Takes-as sum (sha256 (body_text l)) is b.takes, a.1)
+    let body : List ℕ = body_text a.version l in
+    let is : sum ≡ sha256 body = sym ((bytes_eq-Decides (sha256 (take p bytes)) sum).0 b.passed) ∙ ap sha256 a.takes.parts in
+    whole-leaves _ bytes end _ (record { version = a.version; is_version = a.is_version; takes = a.takes >>> Takes-as sum (sha256 body) is b.takes; fits = a.fits })
 
 end-by : (b : Bool) (bytes : List ℕ) (at : ℕ) (x : Unit {0} × ℕ) (e : LayoutFault) → ltb at (length bytes) ≡ b → ◌≡◌ {A = Result (Unit {0} × ℕ) LayoutFault} (cond b (Err e) (Ok (tt, at))) (Ok x)
     → length bytes ≤ at
 end-by true bytes at x e is h = absurd cc
 end-by false bytes at x e is h = ltb-false at (length bytes) is
 
--- what is read as a ledger is its text, from the first byte to the last
-pub ledger-found : (bytes : List ℕ) (l : LedgerFields) (n : ℕ) → IsBytes bytes → ledger bytes 0 ≡ Ok (l, n) → (bytes ≡ ledger_text l) × Fits l
+-- a version is 1 or 2
+is-text : (bytes : List ℕ) (l : LedgerFields) (version : ℕ) → IsVersionOf l version → bytes ≡ text_in version l → IsText l bytes
+is-text bytes l zero is same = absurd (omega (arith, is.low))
+is-text bytes l (suc zero) is same = inr (same, is.old refl)
+is-text bytes l (suc (suc zero)) is same = inl same
+is-text bytes l (suc (suc (suc n))) is same = absurd (omega (arith, is.high))
+
+-- what is read as a ledger is a text of it, from the first byte to the last
+pub ledger-found : (bytes : List ℕ) (l : LedgerFields) (n : ℕ) → IsBytes bytes → ledger bytes 0 ≡ Ok (l, n) → IsText l bytes × Fits l
 unfolding ledger
 ledger-found bytes l n fits h =
     let a = then_read-ok (digested bytes 0) (λ x. end >>= λ rest. whole x) bytes (l, n) h in
     let b = then_read-ok (end bytes a.0.1) (λ rest. whole a.0.0) bytes (l, n) a.2 in
     let read = (digested-leaves bytes fits).each a.0 a.1 in
     let all : take a.0.1 bytes ≡ bytes = take_all a.0.1 bytes (end-by (ltb a.0.1 (length bytes)) bytes a.0.1 b.0 _ refl b.1) in
-    subst (λ (y : LedgerFields × ℕ). (bytes ≡ ledger_text y.0) × Fits y.0) (ok_is {E = LayoutFault} (a.0.0, b.0.1) (l, n) b.2) (sym all ∙ read.0.parts, read.1)
+    subst (λ (y : LedgerFields × ℕ). IsText y.0 bytes × Fits y.0) (ok_is {E = LayoutFault} (a.0.0, b.0.1) (l, n) b.2)
+    (is-text bytes a.0.0 read.version read.is_version (sym all ∙ read.takes.parts), read.fits)

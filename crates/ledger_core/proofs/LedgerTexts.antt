@@ -1,5 +1,5 @@
 -- What is spelled as a ledger is read as it.
-use Rattle.std.proofs.Common.{◌≡◌, ℕ, ◌-◌, ◌<◌, ◌≤◌, ◌^◌, true, not, List, [], ◌++◌, length, Option, Some, None, Result, Ok, refl, sym, ap, ◌∙◌, subst, arith}
+use Rattle.std.proofs.Common.{◌≡◌, ℕ, ◌-◌, ◌<◌, ◌≤◌, ◌^◌, true, not, List, [], ◌++◌, length, Option, Some, None, Result, Ok, inl, inr, refl, sym, ap, ◌∙◌, subst, arith}
 use Rattle.std.specs.Prelude.{codes, is_none, IsNone, IfSome, flat_map}
 use Rattle.std.specs.Int.{w8, w16, w32, w64, to_be_bytes, from_be_bytes}
 use Rattle.std.specs.Str.{bytes_eq}
@@ -22,10 +22,11 @@ use Rattle.ident_core.proofs.RangeTexts.{below_limit, ranges-read, ranges-fit}
 use Rattle.ident_core.proofs.Within.{within-iff}
 use Rattle.ledger_core.specs.declared.fields.LedgerItem.{LedgerItem}
 use Rattle.ledger_core.specs.LedgerFields.{LedgerPartFields, LedgerFields, Continues, IsPartAfter, IsItemOf}
-use Rattle.ledger_core.specs.LedgerText.{part_text, last_number, item_text, body_text, ledger_text}
+use Rattle.ledger_core.specs.LedgerText.{part_text, last_number, item_text, body_text, text_in, ledger_text, old_ledger_text, HasNoDates, IsText}
 use Rattle.ledger_core.specs.LedgerLayout.{least_epoch, coverage_before, issuers, ledger_part, is_from, is_behind, is_last, last_of, last_place, item, body, digested, ledger}
 use Rattle.ledger_core.specs.Fitting.{IsKey, PartFits, ItemFits, Fits}
 use Rattle.ledger_core.proofs.Orders.{keys-linked, ids-linked, behind-from}
+use Rattle.ledger_core.proofs.Dates.{FitsVersion, date_in-read}
 
 -- a field without bytes
 reads-nothing : {E A B : Type 0} {first : Layout E A} (next : A → Layout E B) {before sofar : List ℕ} {x : A} {y : B} {text : List ℕ}
@@ -97,45 +98,57 @@ last-read parts birth before last few h =
     (ends-read (λ byte. last_of (from_be_bytes w8 byte))
     (bytes_field-read _ _ 1 (λ b. is_last parts birth (from_be_bytes w8 b)) before (to_be_bytes w8 n) (wide8.len n) (ap (is_last parts birth) again ∙ last-passes parts birth last few h)))
 
-abbrev pub FitsItem : ℕ → Option Identity → LedgerItem → Type 0
-FitsItem parts previous x = (is_behind previous x.id ≡ true) × (ItemFits x × IsItemOf parts x)
+-- what an item keeps behind no other
+abbrev pub FitsPlaces : ℕ → ℕ → LedgerItem → Type 0
+FitsPlaces version parts x = ItemFits x × (IsItemOf parts x × FitsVersion version x.until)
 
-item-read : (parts : ℕ) → parts ≤ MAX_PARTS → (previous : Option Identity) (before : List ℕ) (x : LedgerItem) → FitsItem parts previous x → IsRead (item parts previous) before x (item_text x)
+abbrev pub FitsItem : ℕ → ℕ → Option Identity → LedgerItem → Type 0
+FitsItem version parts previous x = (is_behind previous x.id ≡ true) × FitsPlaces version parts x
+
+item-read : (version parts : ℕ) → parts ≤ MAX_PARTS → (previous : Option Identity) (before : List ℕ) (x : LedgerItem) → FitsItem version parts previous x
+    → IsRead (item version parts previous) before x (item_text version x)
 unfolding item item_text
-item-read parts few previous before x (behind, (fits, facts)) = from_front
+item-read version parts few previous before x (behind, (fits, (facts, dated))) = from_front
     (reads _ (bytes_field-read _ _ 32 (is_from previous) _ x.id.issuer fits.issuer (behind-from previous x.id behind))
     (reads _ (number_field-read _ _ w8 (2 ^ 8) 1 MAX_SERIAL wide8 _ (length x.id.serial) fits.some_octets fits.few_octets (omega (arith, fits.few_octets)))
     (reads _ (bytes_field-read _ _ (length x.id.serial) (λ serial. is_behind previous (record { issuer = x.id.issuer; serial = serial })) _ x.id.serial refl behind)
     (reads _ (number_field-read _ _ w8 (2 ^ 8) 0 (parts - 1) wide8 _ x.birth (omega arith) (omega (arith, facts.birth)) (omega (arith, facts.birth, few)))
     (reads _ (last-read parts x.birth _ x.last few facts.last)
-    (done x))))))
+    (reads _ (date_in-read version _ x.until fits.until dated)
+    (done x)))))))
 
 -- ---- ledgers
 
 parts-linked : (l : LedgerFields) → Fits l → Linked FitsPart (λ previous p. Some p) None l.parts
 parts-linked l fits = Linked-with IsPartAfter PartFits (λ previous p. Some p) None l.parts fits.facts.parts fits.parts
 
-items-linked : (l : LedgerFields) → Fits l → Linked (FitsItem (length l.parts)) (λ previous x. Some x.id) None l.items
-items-linked l fits =
-    Linked-with (λ previous x. is_behind previous x.id ≡ true) (λ x. ItemFits x × IsItemOf (length l.parts) x) (λ previous x. Some x.id) None l.items
-    (ids-linked l.items fits.facts.items_ascend) (λ k d lt. (fits.items k d lt, fits.facts.items k d lt))
+-- a version that has a text of the ledger
+pub record IsVersionOf (l : LedgerFields) (version : ℕ) : Type 0 where
+  pub low : 1 ≤ version
+  pub high : version ≤ 2
+  pub old : version ≡ 1 → HasNoDates l
 
-body-read : (l : LedgerFields) → Fits l → IsRead body [] l (body_text l)
+items-linked : (version : ℕ) (l : LedgerFields) → IsVersionOf l version → Fits l → Linked (FitsItem version (length l.parts)) (λ previous x. Some x.id) None l.items
+items-linked version l is fits =
+    Linked-with (λ previous x. is_behind previous x.id ≡ true) (FitsPlaces version (length l.parts)) (λ previous x. Some x.id) None l.items
+    (ids-linked l.items fits.facts.items_ascend) (λ k d lt. (fits.items k d lt, (fits.facts.items k d lt, λ one. is.old one k d lt)))
+
+body-read : (version : ℕ) (l : LedgerFields) → IsVersionOf l version → Fits l → IsRead body [] l (body_text version l)
 unfolding body body_text
-body-read l fits = from_front
+body-read version l is fits = from_front
     (reads _ (bytes_field-read _ _ 8 (bytes_eq (codes "CLUBLEDG")) _ (codes "CLUBLEDG") refl refl)
-    (reads _ (number_field-read _ _ w8 (2 ^ 8) 1 1 wide8 _ 1 (omega arith) (omega arith) (omega arith))
+    (reads _ (number_field-read _ _ w8 (2 ^ 8) 1 2 wide8 _ version is.low is.high (omega (arith, is.high)))
     (reads _ (number_field-read _ _ w8 (2 ^ 8) 1 MAX_PARTS wide8 _ (length l.parts) fits.facts.some_parts fits.facts.few_parts (omega (arith, fits.facts.few_parts)))
     (reads _ (repeated-read ledger_part (λ previous p. Some p) FitsPart part_text part-read None _ l.parts (parts-linked l fits))
     (reads _ (number_field-read _ _ w32 (2 ^ 32) 0 MAX_IDENTITIES wide32 _ (length l.items) (omega arith) fits.facts.few_items (omega (arith, fits.facts.few_items)))
-    (reads _ (repeated-read (item (length l.parts)) (λ previous x. Some x.id) (FitsItem (length l.parts)) item_text
-    (item-read (length l.parts) fits.facts.few_parts) None _ l.items (items-linked l fits))
+    (reads _ (repeated-read (item version (length l.parts)) (λ previous x. Some x.id) (FitsItem version (length l.parts)) (item_text version)
+    (item-read version (length l.parts) fits.facts.few_parts) None _ l.items (items-linked version l is fits))
     (done l)))))))
 
-digested-read : (l : LedgerFields) → Fits l → IsRead digested [] l (ledger_text l)
-unfolding digested ledger_text
-digested-read l fits = from_front
-    (reads _ (body-read l fits)
+digested-read : (version : ℕ) (l : LedgerFields) → IsVersionOf l version → Fits l → IsRead digested [] l (text_in version l)
+unfolding digested text_in
+digested-read version l is fits = from_front
+    (reads _ (body-read version l is fits)
     (reads _ (sum_field-read _ _ 32 sha256 length-sha256 _)
     (done l)))
 
@@ -143,18 +156,29 @@ at-end : (bytes : List ℕ) → end bytes (length bytes) ≡ Ok (tt, length byte
 at-end bytes = rw (le-ltb (length bytes) (length bytes) (omega arith)) refl
 
 -- the text of a ledger is read as it, and nothing follows
-pub ledger-again : (l : LedgerFields) → Fits l → ledger (ledger_text l) 0 ≡ Ok (l, length (ledger_text l))
+version-again : (version : ℕ) (l : LedgerFields) → IsVersionOf l version → Fits l → ledger (text_in version l) 0 ≡ Ok (l, length (text_in version l))
 unfolding ledger
-ledger-again l fits =
-    let text : List ℕ = ledger_text l in
-    let front : digested text 0 ≡ Ok (l, length text) = ap (λ (b : List ℕ). digested b 0) (sym (append-nil text)) ∙ (digested-read l fits).each [] ∙ ap (λ (n : ℕ). Ok (l, n)) (omega arith) in
+version-again version l is fits =
+    let text : List ℕ = text_in version l in
+    let front : digested text 0 ≡ Ok (l, length text)
+    = ap (λ (b : List ℕ). digested b 0) (sym (append-nil text)) ∙ (digested-read version l is fits).each [] ∙ ap (λ (n : ℕ). Ok (l, n)) (omega arith) in
     ap (λ (r : Result (LedgerFields × ℕ) LayoutFault). then_read r (λ x. end >>= λ rest. whole x) text) front
     ∙ ap (λ (r : Result (Unit {0} × ℕ) LayoutFault). then_read r (λ rest. whole l) text) (at-end text)
 
+pub ledger-again : (l : LedgerFields) → Fits l → ledger (ledger_text l) 0 ≡ Ok (l, length (ledger_text l))
+ledger-again l fits = version-again 2 l (record { low = omega arith; high = omega arith; old = λ one. absurd (omega (arith, one)) }) fits
+
+pub old-again : (l : LedgerFields) → Fits l → HasNoDates l → ledger (old_ledger_text l) 0 ≡ Ok (l, length (old_ledger_text l))
+old-again l fits none = version-again 1 l (record { low = omega arith; high = omega arith; old = λ one. none }) fits
+
+pub text-again : (l : LedgerFields) (bytes : List ℕ) → Fits l → IsText l bytes → ledger bytes 0 ≡ Ok (l, length bytes)
+text-again l bytes fits (inl is) = subst (λ (b : List ℕ). ledger b 0 ≡ Ok (l, length b)) (sym is) (ledger-again l fits)
+text-again l bytes fits (inr is) = subst (λ (b : List ℕ). ledger b 0 ≡ Ok (l, length b)) (sym is.0) (old-again l fits is.1)
+
 -- what was written: the text before the digest, and the digest of it
-pub again-of : (l : LedgerFields) (none front seen sum bytes : List ℕ) → Fits l → none ≡ [] → front ≡ none ++ body_text l → seen ≡ front → sum ≡ sha256 seen → bytes ≡ front ++ sum
+pub again-of : (l : LedgerFields) (none front seen sum bytes : List ℕ) → Fits l → none ≡ [] → front ≡ none ++ body_text 2 l → seen ≡ front → sum ≡ sha256 seen → bytes ≡ front ++ sum
     → ledger bytes 0 ≡ Ok (l, length bytes)
-unfolding ledger_text
+unfolding text_in
 again-of l none front seen sum bytes fits h0 h1 h2 h3 h4 =
     let is : bytes ≡ ledger_text l = rw (h4, h3, h2, h1, h0) refl in
     subst (λ (b : List ℕ). ledger b 0 ≡ Ok (l, length b)) (sym is) (ledger-again l fits)

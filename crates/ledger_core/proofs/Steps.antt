@@ -16,19 +16,19 @@ use Rattle.ledger_core.specs.declared.fault.LedgerFault.{LedgerFault}
 use Rattle.ledger_core.specs.declared.fault.LedgerFault.TheVariants as faults
 use Rattle.ledger_core.specs.declared.fields.LedgerPart.{LedgerPart}
 use Rattle.ledger_core.specs.LedgerFields.{LedgerPartFields, part_fields, newest}
-use Rattle.ledger_core.specs.LedgerLayout.{ledger_part, is_from, is_behind, tested, last_place, item}
+use Rattle.ledger_core.specs.LedgerLayout.{ledger_part, is_from, is_behind, tested, last_place, date_in, item}
 use Rattle.ledger_core.specs.LedgerReading.{fielded}
 
 -- an identity, once its issuer and its serial were read
-pub item-from_birth : (parts : ℕ) (previous : Option Identity) (old a b c : Position) (issuer : List ℕ) (width : ℕ) (serial : List ℕ)
+pub item-from_birth : (version parts : ℕ) (previous : Option Identity) (old a b c : Position) (issuer : List ℕ) (width : ℕ) (serial : List ℕ)
     → (key fields.IdentityIssuer (is_from previous) old.bytes old.at ≡ Ok (issuer, a.at)) × (a.bytes ≡ old.bytes)
     → (number fields.IdentityLength w8 1 MAX_SERIAL a.bytes a.at ≡ Ok (width, b.at)) × (b.bytes ≡ a.bytes)
     → (tested fields.IdentitySerial width (λ serial. is_behind previous (record { issuer = issuer; serial = serial })) b.bytes b.at ≡ Ok (serial, c.at)) × (c.bytes ≡ b.bytes)
-    → item parts previous old.bytes old.at
-    ≡ (number fields.IdentityBirth w8 0 (parts - 1) >>= λ birth. last_place parts birth >>= λ last. whole
-    (record { id = record { issuer = issuer; serial = serial }; birth = birth; last = last })) c.bytes c.at
+    → item version parts previous old.bytes old.at
+    ≡ (number fields.IdentityBirth w8 0 (parts - 1) >>= λ birth. last_place parts birth >>= λ last. date_in version >>= λ until. whole
+    (record { id = record { issuer = issuer; serial = serial }; birth = birth; last = last; until = until })) c.bytes c.at
 unfolding item
-item-from_birth parts previous old a b c issuer width serial h1 h2 h3 =
+item-from_birth version parts previous old a b c issuer width serial h1 h2 h3 =
     let same : c.bytes ≡ old.bytes = h3.1 ∙ h2.1 ∙ h1.1 in
     let two : number fields.IdentityLength w8 1 MAX_SERIAL old.bytes a.at ≡ Ok (width, b.at) = rw h1.1 at h2.0 in
     let three : tested fields.IdentitySerial width (λ serial. is_behind previous (record { issuer = issuer; serial = serial })) old.bytes b.at ≡ Ok (serial, c.at) = rw (h2.1 ∙ h1.1) at h3.0 in

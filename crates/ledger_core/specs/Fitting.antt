@@ -1,5 +1,7 @@
 -- The ledgers that have a text: their facts hold, and numbers and keys fit their fields.
-use Rattle.std.specs.Prelude.{◌≡◌, ℕ, ◌<◌, ◌≤◌, ◌^◌, List, length, All}
+use Rattle.std.specs.Prelude.{◌≡◌, ℕ, ◌<◌, ◌≤◌, ◌^◌, List, length, All, IfSome}
+use Rattle.std.specs.Int.{w64}
+use Rattle.std.specs.Int.RustNames.{FitsSigned}
 use Rattle.ident_core.specs.declared.bounds.TheConstants.{MAX_RANGES, MAX_ISSUERS, MAX_SERIAL}
 use Rattle.ident_core.specs.RangeText.{RangeFits}
 use Rattle.ledger_core.specs.declared.fields.LedgerItem.{LedgerItem}
@@ -22,6 +24,7 @@ pub record ItemFits (x : LedgerItem) : Type 0 where
   pub issuer : IsKey x.id.issuer
   pub some_octets : 1 ≤ length x.id.serial
   pub few_octets : length x.id.serial ≤ MAX_SERIAL
+  pub until : IfSome x.until (FitsSigned w64)
 
 pub record Fits (l : LedgerFields) : Type 0 where
   pub facts : IsLedger l

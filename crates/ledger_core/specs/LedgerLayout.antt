@@ -1,6 +1,6 @@
 -- The layout of a ledger, line by line as in docs/FORMATS.md.
-use Rattle.std.specs.Prelude.{ℕ, ◌+◌, ◌-◌, ◌^◌, List, [], Bool, true, not, ◌||◌, ◌==◌, is_none, if◌then◌else◌, Option, Some, None, codes}
-use Rattle.std.specs.Int.{w8, w16, w32, w64, from_be_bytes}
+use Rattle.std.specs.Prelude.{ℕ, ℤ, ◌+◌, ◌-◌, ◌^◌, List, [], Bool, true, not, ◌||◌, ◌==◌, is_none, if◌then◌else◌, Option, Some, None, codes}
+use Rattle.std.specs.Int.{w8, w16, w32, w64, from_be_bytes, cast_signed}
 use Rattle.std.specs.Ordering.{is_lt}
 use Rattle.octets_core.specs.Linked.{is_after}
 use Rattle.octets_core.specs.Layout.{Layout, ◌>>=◌, whole, repeated, within, bytes_field}
@@ -79,29 +79,51 @@ last_place parts birth = do
   byte ← tested fields.IdentityLast 1 (λ b. is_last parts birth (from_be_bytes w8 b))
   whole (last_of (from_be_bytes w8 byte))
 
--- of a chain of so many parts, behind the identity before it, if there is one
-unfoldable pub item : ℕ → Option Identity → Layout LayoutFault LedgerItem
-item parts previous = do
+-- a number in two's complement
+unfoldable pub until_field : Layout LayoutFault ℤ
+until_field = do
+  bits ← number fields.IdentityUntil w64 0 (2 ^ 64 - 1)
+  whole (cast_signed w64 bits)
+
+unfoldable pub some_until : Layout LayoutFault (Option ℤ)
+some_until = do
+  until ← until_field
+  whole (Some until)
+
+-- whether there is a date, and then the date
+unfoldable pub date : Layout LayoutFault (Option ℤ)
+date = do
+  dated ← number fields.IdentityDated w8 0 1
+  if dated == 0 then whole None else some_until
+
+-- in version 1 there is none
+abbrev pub date_in : ℕ → Layout LayoutFault (Option ℤ)
+date_in version = if version == 1 then whole None else date
+
+-- in a ledger of this version, of a chain of so many parts, behind the identity before it, if there is one
+unfoldable pub item : ℕ → ℕ → Option Identity → Layout LayoutFault LedgerItem
+item version parts previous = do
   issuer ← key fields.IdentityIssuer (is_from previous)
   width ← number fields.IdentityLength w8 1 MAX_SERIAL
   serial ← tested fields.IdentitySerial width (λ serial. is_behind previous (record { issuer = issuer; serial = serial }))
   birth ← number fields.IdentityBirth w8 0 (parts - 1)
   last ← last_place parts birth
-  whole (record { id = record { issuer = issuer; serial = serial }; birth = birth; last = last })
+  until ← date_in version
+  whole (record { id = record { issuer = issuer; serial = serial }; birth = birth; last = last; until = until })
 
 -- so many identities
-abbrev pub items : ℕ → ℕ → Layout LayoutFault (List LedgerItem)
-items parts count = repeated (item parts) (λ previous x. Some x.id) count None
+abbrev pub items : ℕ → ℕ → ℕ → Layout LayoutFault (List LedgerItem)
+items version parts count = repeated (item version parts) (λ previous x. Some x.id) count None
 
 -- all but the digest
 unfoldable pub body : Layout LayoutFault LedgerFields
 body = do
   begin ← magic fields.LedgerMagic (codes "CLUBLEDG")
-  version ← number fields.LedgerVersion w8 1 1
+  version ← number fields.LedgerVersion w8 1 2
   count ← number fields.LedgerParts w8 1 MAX_PARTS
   list ← ledger_parts count
   accepted ← number fields.LedgerIdentities w32 0 MAX_IDENTITIES
-  identities ← items count accepted
+  identities ← items version count accepted
   whole (record { parts = list; items = identities })
 
 -- a ledger, whatever follows

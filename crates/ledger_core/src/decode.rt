@@ -7,10 +7,11 @@ ghost use Rattle.octets_core.specs.Reading.{ReadsField, GivesUnless, number, key
 ghost use Rattle.ident_core.specs.Coverage.{first_outside};
 ghost use Rattle.ident_core.specs.declared.bounds.TheConstants.{MAX_SERIAL};
 ghost use Rattle.ledger_core.specs.LedgerFields.{LedgerFields, part_fields, ledger_fields};
-ghost use Rattle.ledger_core.specs.LedgerText.{ledger_text};
+ghost use Rattle.ledger_core.specs.LedgerText.{IsText};
 ghost use Rattle.ledger_core.specs.LedgerLayout.{tested, least_epoch, coverage_before, coverage, ledger_part};
 ghost use Rattle.ledger_core.specs.LedgerLayout.{issuers as issuers_layout, ledger_parts, is_from, is_behind};
-ghost use Rattle.ledger_core.specs.LedgerLayout.{last_place, item, items as items_layout, body};
+ghost use Rattle.ledger_core.specs.LedgerLayout.{last_place, until_field, date as date_layout, date_in, item};
+ghost use Rattle.ledger_core.specs.LedgerLayout.{items as items_layout, body};
 ghost use Rattle.ledger_core.specs.LedgerReading.{Reads, before, ledger_of, offset_in_ledger};
 ghost use Rattle.ledger_core.specs.Fitting.{Fits};
 
@@ -24,7 +25,7 @@ use ident_core::{
 };
 use octets_core::{
     Cursor, Field, Key32, LayoutFault, Short, Why, read_digest, read_end, read_key, read_key_after,
-    read_magic, read_u8, read_u16, read_u32,
+    read_magic, read_u8, read_u16, read_u32, read_u64,
 };
 use std::alloc::Global;
 
@@ -195,37 +196,75 @@ fn last_of(cursor: &mut Cursor<'_>, parts: u8, birth: u8) -> Result<Option<u8>, 
     }
 }
 
+/// A number in two's complement.
+#[tactic(auto, unfolding(crate::specs::LedgerLayout::until_field))]
+fn until_of(cursor: &mut Cursor<'_>) -> Result<i64, LayoutFault>
+    ensures { ReadsField (λ x. x) until_field cursor.old cursor.new result }
+{
+    let bits = read_u64(cursor, Field::IdentityUntil, 0, u64::MAX)?;
+    Ok(bits.cast_signed())
+}
+
+#[tactic(auto, unfolding(crate::specs::LedgerLayout::date, crate::specs::LedgerLayout::some_until))]
+fn date_of(cursor: &mut Cursor<'_>) -> Result<Option<i64>, LayoutFault>
+    ensures { ReadsField (λ x. x) date_layout cursor.old cursor.new result }
+{
+    let dated = read_u8(cursor, Field::IdentityDated, 0, 1)?;
+    if dated == 0 {
+        return Ok(None);
+    }
+    Ok(Some(until_of(cursor)?))
+}
+
+/// The date of an identity, in a ledger of this version.
+fn date_in_version(cursor: &mut Cursor<'_>, version: u8) -> Result<Option<i64>, LayoutFault>
+    ensures { ReadsField (λ x. x) (date_in version) cursor.old cursor.new result }
+{
+    if version == 1 {
+        return Ok(None);
+    }
+    date_of(cursor)
+}
+
 #[tactic(auto, unfolding(crate::specs::LedgerLayout::item))]
 fn item_of(
     cursor: &mut Cursor<'_>,
+    version: u8,
     parts: u8,
     previous: &Option<Identity>,
 ) -> Result<LedgerItem, LayoutFault>
     requires { 1 ≤ parts }
-    ensures { ReadsField (λ x. x) (item parts previous.now) cursor.old cursor.new result }
+    ensures { ReadsField (λ x. x) (item version parts previous.now) cursor.old cursor.new result }
 {
     let issuer = issuer_of(cursor, previous)?;
     let width = read_u8(cursor, Field::IdentityLength, 1, MAX_SERIAL as u8)?;
     let serial = serial_of(cursor, previous, issuer, width)?;
     let birth = read_u8(cursor, Field::IdentityBirth, 0, parts - 1)?;
     let last = last_of(cursor, parts, birth)?;
+    let until = date_in_version(cursor, version)?;
     let id = Identity { issuer, serial };
-    Ok(LedgerItem { id, birth, last })
+    Ok(LedgerItem {
+        id,
+        birth,
+        last,
+        until,
+    })
 }
 
 fn items_of(
     alloc: Global,
     cursor: &mut Cursor<'_>,
+    version: u8,
     parts: u8,
     count: u32,
 ) -> Result<Vec<LedgerItem>, LedgerFault>
     requires { 1 ≤ parts }
-    ensures { Reads (λ v. v.items) (items_layout parts count) cursor.old cursor.new result }
+    ensures { Reads (λ v. v.items) (items_layout version parts count) cursor.old cursor.new result }
 {
     let mut items = Vec::with_capacity(alloc, (count as usize).min(cursor.left() / ITEM))?;
     let mut previous = None;
     for _ in 0..count {
-        let item = item_of(cursor, parts, &previous)?;
+        let item = item_of(cursor, version, parts, &previous)?;
         previous = Some(item.id);
         items.push(item)?;
     }
@@ -240,11 +279,11 @@ fn body_of(
     ensures { Reads (λ x. ledger_fields x.0.items x.1.items) body cursor.old cursor.new result }
 {
     read_magic(cursor, Field::LedgerMagic, b"CLUBLEDG")?;
-    read_u8(cursor, Field::LedgerVersion, 1, 1)?;
+    let version = read_u8(cursor, Field::LedgerVersion, 1, 2)?;
     let count = read_u8(cursor, Field::LedgerParts, 1, MAX_PARTS as u8)?;
     let parts = parts_of(alloc, cursor, count)?;
     let accepted = read_u32(cursor, Field::LedgerIdentities, 0, MAX_IDENTITIES as u32)?;
-    let items = items_of(alloc, cursor, count, accepted)?;
+    let items = items_of(alloc, cursor, version, count, accepted)?;
     Ok((parts, items))
 }
 
@@ -259,17 +298,17 @@ fn ledger_in(alloc: Global, bytes: &[u8]) -> Result<Ledger, LedgerFault>
     Ok(Ledger::new(parts, items))
 }
 
-/// The ledger of the bytes, all of them. An `Err` is the first field that is short or fails its test, with its offset;
-/// a byte behind the digest is a fault of `end`. However great a count is, no more memory is asked for than the bytes
-/// behind it could fill.
+/// The ledger of the bytes, all of them. Versions 1 and 2 are read; in version 1 no identity has a date. An `Err` is
+/// the first field that is short or fails its test, with its offset; a byte behind the digest is a fault of `end`.
+/// However great a count is, no more memory is asked for than the bytes behind it could fill.
 pub fn decode_ledger(alloc: Global, bytes: &[u8]) -> Result<Ledger, LedgerFault>
     // Which ledger or fault it is.
     ensures exact { GivesUnless LedgerFault.NoMemory (λ l. l) result (ledger_of bytes.now) }
-    // What is read is spelled so, each byte of it.
-    ensures spelled { IfOk result (λ l. bytes.now ≡ ledger_text l) }
+    // What is read is spelled so, each byte of it, in one of the versions.
+    ensures spelled { IfOk result (λ l. IsText l bytes.now) }
     ensures fits { IfOk result (λ l. Fits l) }
-    // The text of a ledger is read as it, unless memory is wanted.
-    ensures only { (l : LedgerFields) → Fits l → bytes.now ≡ ledger_text l → GivesUnless LedgerFault.NoMemory (λ l. l) result (Ok l) }
+    // A text of a ledger, in either version, is read as it, unless memory is wanted.
+    ensures only { (l : LedgerFields) → Fits l → IsText l bytes.now → GivesUnless LedgerFault.NoMemory (λ l. l) result (Ok l) }
     ensures at { IfErr result (λ e. offset_in_ledger e ≤ length bytes.now) }
 {
     ledger_in(alloc, bytes)

@@ -1,12 +1,16 @@
 //! Ledgers as bytes.
 
 ghost use Rattle.std.specs.Prelude.{◌≡◌, ◌≤◌, ◌+◌, ◌*◌, ◌++◌, length, map, flat_map, All, Ok, OnOk, IfOk};
+ghost use Rattle.std.specs.Prelude.{IfSome};
+ghost use Rattle.std.specs.Int.{w64};
+ghost use Rattle.std.specs.Int.RustNames.{FitsSigned};
 ghost use Rattle.ident_core.specs.declared.bounds.TheConstants.{MAX_RANGES, MAX_ISSUERS, MAX_SERIAL};
 ghost use Rattle.ident_core.specs.declared.bounds.TheConstants.{MAX_PARTS, MAX_IDENTITIES};
 ghost use Rattle.ident_core.specs.declared.layout.TheConstants.{RANGE_BYTES};
-ghost use Rattle.ledger_core.specs.declared.encode.TheConstants.{PART, ISSUER, ITEM};
+ghost use Rattle.ledger_core.specs.declared.encode.TheConstants.{PART, ISSUER, ITEM, DATE};
 ghost use Rattle.ledger_core.specs.LedgerFields.{part_fields};
-ghost use Rattle.ledger_core.specs.LedgerText.{last_number, part_text, item_text, body_text, ledger_text};
+ghost use Rattle.ledger_core.specs.LedgerText.{last_number, part_text, date_text, item_text, body_text};
+ghost use Rattle.ledger_core.specs.LedgerText.{ledger_text};
 ghost use Rattle.ledger_core.specs.LedgerLayout.{ledger as layout};
 ghost use Rattle.ledger_core.specs.Fitting.{IsKey, IsSmall, PartFits, ItemFits, Fits};
 
@@ -26,8 +30,11 @@ const PART: usize = 46;
 /// The bytes of an issuer.
 pub(crate) const ISSUER: usize = 32;
 
-/// The bytes of an identity without its serial.
+/// The bytes of an identity without its serial and its date.
 pub(crate) const ITEM: usize = 35;
+
+/// The bytes of a date, where there is one.
+const DATE: usize = 9;
 
 /// The number that stands for no last place.
 pub(crate) const NONE: u8 = 255;
@@ -51,13 +58,22 @@ fn parts_len(parts: &[LedgerPart]) -> usize
     total
 }
 
+fn date_len(until: Option<i64>) -> usize
+    ensures { result ≤ DATE }
+{
+    match until {
+        None => 1,
+        Some(_) => DATE,
+    }
+}
+
 fn items_len(items: &[LedgerItem]) -> usize
     requires { length items.now ≤ MAX_IDENTITIES }
-    ensures { result ≤ length items.now * (ITEM + MAX_SERIAL) }
+    ensures { result ≤ length items.now * (ITEM + MAX_SERIAL + DATE) }
 {
     let mut total = 0;
     for item in items {
-        total += ITEM + item.id.serial.bytes().len();
+        total += ITEM + item.id.serial.bytes().len() + date_len(item.until);
     }
     total
 }
@@ -111,9 +127,21 @@ fn last_byte(last: Option<u8>) -> u8
     last.unwrap_or(NONE)
 }
 
+#[tactic(auto, unfolding(crate::specs::LedgerText::date_text))]
+fn put_date(out: &mut Vec<u8>, until: Option<i64>) -> Result<(), NoMemory>
+    ensures text { OnOk result (out.new.items ≡ out.old.items ++ date_text until) }
+    ensures fits { IfSome until (FitsSigned w64) }
+{
+    let Some(until) = until else {
+        return put_u8(out, 0);
+    };
+    put_u8(out, 1)?;
+    put_u64(out, until.cast_unsigned())
+}
+
 #[tactic(auto, unfolding(crate::specs::LedgerText::item_text))]
 fn put_item(out: &mut Vec<u8>, item: &LedgerItem) -> Result<(), NoMemory>
-    ensures text { OnOk result (out.new.items ≡ out.old.items ++ item_text item.now) }
+    ensures text { OnOk result (out.new.items ≡ out.old.items ++ item_text 2 item.now) }
     ensures fits { OnOk result (ItemFits item.now) }
 {
     put_bytes(out, item.id.issuer.bytes())?;
@@ -122,11 +150,11 @@ fn put_item(out: &mut Vec<u8>, item: &LedgerItem) -> Result<(), NoMemory>
     put_bytes(out, serial)?;
     put_u8(out, item.birth)?;
     put_u8(out, last_byte(item.last))?;
-    Ok(())
+    put_date(out, item.until)
 }
 
 fn put_items(out: &mut Vec<u8>, items: &[LedgerItem]) -> Result<(), NoMemory>
-    ensures text { OnOk result (out.new.items ≡ out.old.items ++ flat_map item_text items.now) }
+    ensures text { OnOk result (out.new.items ≡ out.old.items ++ flat_map (item_text 2) items.now) }
     ensures fits { OnOk result (All ItemFits items.now) }
 {
     for item in items {
@@ -137,13 +165,13 @@ fn put_items(out: &mut Vec<u8>, items: &[LedgerItem]) -> Result<(), NoMemory>
 
 #[tactic(auto, unfolding(crate::specs::LedgerText::body_text))]
 fn put_body(out: &mut Vec<u8>, ledger: &Ledger) -> Result<(), NoMemory>
-    ensures text { OnOk result (out.new.items ≡ out.old.items ++ body_text ledger.now) }
+    ensures text { OnOk result (out.new.items ≡ out.old.items ++ body_text 2 ledger.now) }
     ensures fits { OnOk result (Fits ledger.now) }
 {
     let parts = ledger.parts();
     let items = ledger.items();
     put_bytes(out, b"CLUBLEDG")?;
-    put_u8(out, 1)?;
+    put_u8(out, 2)?;
     put_u8(out, parts.len() as u8)?;
     put_parts(out, parts)?;
     put_u32(out, items.len() as u32)?;
@@ -151,9 +179,9 @@ fn put_body(out: &mut Vec<u8>, ledger: &Ledger) -> Result<(), NoMemory>
     Ok(())
 }
 
-/// The text of the ledger, of which the last 32 bytes are the SHA-256 (FIPS 180-4) of those before them. Memory is
-/// asked for once, for the whole text.
-#[tactic(auto, unfolding(crate::specs::LedgerText::ledger_text))]
+/// The text of the ledger in version 2, of which the last 32 bytes are the SHA-256 (FIPS 180-4) of those before them.
+/// Memory is asked for once, for the whole text.
+#[tactic(auto, unfolding(crate::specs::LedgerText::text_in))]
 pub fn encode_ledger(alloc: Global, ledger: &Ledger) -> Result<Vec<u8>, NoMemory>
     ensures text { IfOk result (λ text. text.items ≡ ledger_text ledger.now) }
     ensures fits { OnOk result (Fits ledger.now) }

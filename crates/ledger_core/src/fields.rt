@@ -22,4 +22,9 @@ pub struct LedgerItem {
     pub birth: u8,
     /// The place of the last part whose filter was built with the identity as revoked, if there is one.
     pub last: Option<u8>,
+    /// The certificate's notAfter, in seconds since 1970, if it is told.
+    pub until: Option<i64>,
 }
+
+// A ledger holds up to 4,194,304 of them in memory.
+const _: () = prove!(size_of::<LedgerItem>() <= 88);
