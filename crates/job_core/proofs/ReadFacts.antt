@@ -15,6 +15,7 @@ use Rattle.crl_core.proofs.CrlLaws.{crl-only}
 use Rattle.crl_core.proofs.FitLaws.{comes-fits}
 use Rattle.log_core.specs.declared.Entry.{Entry}
 use Rattle.log_core.specs.EntryGrammar.{IsIssuer, IsSigned, ReadsEntry}
+use Rattle.log_core.proofs.DateLaws.{dated-fits}
 use Rattle.log_core.proofs.EntryLaws.{entry-taken}
 use Rattle.job_core.specs.declared.bounds.Limits.{Limits}
 use Rattle.job_core.specs.declared.fault.JobFault.{JobFault}
@@ -75,6 +76,7 @@ entry-fits e x fits bytes r =
       short_serial = id.2;
       log = ap (λ (k : List ℕ). length k) r.in_log ∙ fits.0;
       time = rw (r.at_time, ← r.is_leaf.is_time.value) (eight r.is_leaf.time r.is_leaf.is_time.size time);
+      until = dated-fits r.fields.issuer r.fields.signed x.until r.dated;
     }
 
 meaning-fits : (e : EntryText) (m : Option Entry) → FitsEntry e → IsBytes e.leaf → entry_meaning e ≡ m → IfSome m EntryFieldsFit

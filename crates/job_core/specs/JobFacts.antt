@@ -1,5 +1,7 @@
 -- What holds of each job that was read.
 use Rattle.std.specs.Prelude.{◌≡◌, ◌<◌, ◌≤◌, ◌^◌, ℕ, List, length, Some, None, All, IfSome, IfOk}
+use Rattle.std.specs.Int.{w64}
+use Rattle.std.specs.Int.RustNames.{FitsSigned}
 use Rattle.octets_core.specs.Linked.{Linked}
 use Rattle.ident_core.specs.declared.bounds.TheConstants.{MAX_SERIAL}
 use Rattle.ident_core.specs.Coverage.{RangesFit}
@@ -10,13 +12,14 @@ use Rattle.job_core.specs.declared.bounds.Limits.{Limits}
 use Rattle.job_core.specs.JobFields.{JobFields}
 use Rattle.job_core.specs.JobMeaning.{kept_in}
 
--- keys of 32 bytes, a serial of 1 to the most octets, and a time of 64 bits
+-- keys of 32 bytes, a serial of 1 to the most octets, a time of 64 bits, and a date of 64 bits, where there is one
 pub record EntryFieldsFit (e : Entry) : Type 0 where
   pub issuer : length e.id.issuer ≡ 32
   pub some_serial : 1 ≤ length e.id.serial
   pub short_serial : length e.id.serial ≤ MAX_SERIAL
   pub log : length e.sighting.log ≡ 32
   pub time : e.sighting.time < 2 ^ 64
+  pub until : IfSome e.until (FitsSigned w64)
 
 -- one octet or more, and the most or fewer
 abbrev pub SerialFits : List ℕ → Type 0

@@ -99,13 +99,26 @@ pub fn put_entry(job: &mut Job, log: Key32, leaf: &[u8], extra: &[u8]) -> Result
     Ok(())
 }
 
+fn date_facts(seconds: i64)
+    ensures { FitsSigned w64 seconds }
+{}
+
+fn date_facts_if(seconds: Option<i64>)
+    ensures { IfSome seconds (FitsSigned w64) }
+{
+    if let Some(seconds) = seconds {
+        date_facts(seconds);
+    }
+}
+
 /// What the types of an entry's fields say of them; the calls do no more than bring it.
-fn field_facts(id: &Identity, log: &Key32, time: u64)
-    ensures { EntryFieldsFit (record { id = id.now; sighting = record { log = log.now; time = time } }) }
+fn field_facts(id: &Identity, log: &Key32, time: u64, until: Option<i64>)
+    ensures { EntryFieldsFit (record { id = id.now; sighting = record { log = log.now; time = time }; until = until }) }
 {
     let _ = id.issuer.bytes();
     let _ = id.serial.bytes();
     let _ = log.bytes();
+    date_facts_if(until);
 }
 
 fn entry_facts(entry: &Option<Entry>)
@@ -113,7 +126,7 @@ fn entry_facts(entry: &Option<Entry>)
 {
     if let Some(entry) = entry {
         let sighting = &entry.sighting;
-        field_facts(&entry.id, &sighting.log, sighting.time);
+        field_facts(&entry.id, &sighting.log, sighting.time, entry.until);
     }
 }
 
@@ -140,24 +153,12 @@ fn serials_facts(serials: &[Serial])
     }
 }
 
-fn date_facts(seconds: i64)
-    ensures { FitsSigned w64 seconds }
-{}
-
-fn next_date_facts(seconds: Option<i64>)
-    ensures { IfSome seconds (FitsSigned w64) }
-{
-    if let Some(seconds) = seconds {
-        date_facts(seconds);
-    }
-}
-
 fn crl_facts(crl: &JobCrl)
     ensures { IfOk (crl_view crl.now).outcome CrlFieldsFit }
 {
     if let Ok(list) = &crl.outcome {
         date_facts(list.this_update);
-        next_date_facts(list.next_update);
+        date_facts_if(list.next_update);
         serials_facts(&list.serials);
     }
 }
