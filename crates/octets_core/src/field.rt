@@ -1,8 +1,7 @@
 ghost use Rattle.std.specs.Prelude.{◌≡◌};
 ghost use Rattle.octets_core.specs.FieldNames.{name_of};
 
-/// A field of one of this project's layouts: part, store, ledger, job and query file. `IdentityDated` and
-/// `IdentityUntil` wait for the readers of dated ledgers; no call names them yet.
+/// A field of one of this project's layouts: part, store, ledger, job and query file.
 #[derive(Clone, Copy, Debug, PartialEq, Eq)]
 pub enum Field {
     PartMagic,
