@@ -105,11 +105,11 @@ log_of (Some r) s h =
 
 pub entry_is : (ranges : List Range) (issuers : List (List ℕ)) (e : Entry) (near place : ℕ) → option_map (is_within e.sighting) (slice_get ranges near) ≡ Some true
     → slice_get issuers place ≡ Some e.id.issuer
-    → entry_fields issuers ranges (record { time = e.sighting.time; place = place; near = near; serial = e.id.serial }) ≡ e
+    → entry_fields issuers ranges (record { time = e.sighting.time; until = e.until; place = place; near = near; serial = e.id.serial }) ≡ e
 entry_is ranges issuers e near place r k =
     let log = log_of (slice_get ranges near) e.sighting r in
     let issuer = ap (λ (o : Option (List ℕ)). unwrap_or o []) k in
-    λ i. record { id = record { issuer = issuer i; serial = e.id.serial }; sighting = record { log = log i; time = e.sighting.time } }
+    λ i. record { id = record { issuer = issuer i; serial = e.id.serial }; sighting = record { log = log i; time = e.sighting.time }; until = e.until }
 
 pub read_is : (ranges : List Range) (issuers : List (List ℕ)) (e : Entry) → covers ranges e.sighting ≡ true → has_key issuers e.id.issuer ≡ true → Some e ≡ if_read ranges issuers (Some e)
 read_is ranges issuers e c n = rw (c, n) refl

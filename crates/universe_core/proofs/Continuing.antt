@@ -3,7 +3,7 @@ use Rattle.std.specs.Prelude.{IfSome, IsNone, nat_le}
 use Rattle.std.specs.List.{find, slice_get}
 use Rattle.std.specs.List.Sorted.{IsStrictlySortedBy}
 use Rattle.std.specs.Option.{option_map, option_or}
-use Rattle.std.proofs.Common.{◌≡◌, ℕ, suc, ◌+◌, ◌-◌, ◌<◌, ◌≤◌, inl, inr, List, [], ◌∷◌, ◌++◌, map, length, All, Bool, true, false, cond, Option, Some, None, refl, sym, ap, ◌∙◌, subst, arith}
+use Rattle.std.proofs.Common.{◌≡◌, ℕ, ℤ, suc, ◌+◌, ◌-◌, ◌<◌, ◌≤◌, inl, inr, List, [], ◌∷◌, ◌++◌, map, length, All, Bool, true, false, cond, Option, Some, None, refl, sym, ap, ◌∙◌, subst, arith}
 use Rattle.std.proofs.lemmas.Bool.{leb-false}
 use Rattle.std.proofs.lemmas.List.{length-map}
 use Rattle.std.proofs.lemmas.List.Elements.{All-map}
@@ -134,18 +134,19 @@ find_step : (P : LedgerItem → Type 0) (x : LedgerItem) (o : Option LedgerItem)
 find_step P x o true one rest = one
 find_step P x o false one rest = rest
 
-find_all : (P : LedgerItem → Type 0) (t : LedgerItem → Bool) (xs : List LedgerItem) → ((x : LedgerItem) → Among xs x → P x) → IfSome (find t xs) P
+pub find_all : (P : LedgerItem → Type 0) (t : LedgerItem → Bool) (xs : List LedgerItem) → ((x : LedgerItem) → Among xs x → P x) → IfSome (find t xs) P
 find_all P t [] f = tt
 find_all P t (x ∷ xs) f = find_step P x (find t xs) (t x) (f x (inl refl)) (find_all P t xs (λ y a. f y (inr a)))
 
 all_among : (P : LedgerItem → Type 0) (xs : List LedgerItem) → All P xs → (x : LedgerItem) → Among xs x → P x
 all_among P xs h x a = let k = Contains-from_Among xs x a in subst P k.2 (h k.0 x k.1)
 
-item_by : (n : ℕ) (x : Identity) (o : Option LedgerItem) (b : Bool) → IfSome o (IsItemOf n) → IsItemOf (n + 1) (record { id = x; birth = birth_or n o; last = cond b (Some n) (last_or_none o) })
-item_by n x None true h = record { birth = omega arith; last = (omega arith, omega arith) }
-item_by n x None false h = record { birth = omega arith; last = tt }
-item_by n x (Some i) true h = let b = h.birth in record { birth = omega arith; last = (omega arith, omega arith) }
-item_by n x (Some i) false h = let m = IsItemOf-more n (n + 1) i (omega arith) h in record { birth = m.birth; last = m.last }
+item_by : (n : ℕ) (x : Identity) (until : Option ℤ) (o : Option LedgerItem) (b : Bool) → IfSome o (IsItemOf n)
+    → IsItemOf (n + 1) (record { id = x; birth = birth_or n o; last = cond b (Some n) (last_or_none o); until = until })
+item_by n x until None true h = record { birth = omega arith; last = (omega arith, omega arith) }
+item_by n x until None false h = record { birth = omega arith; last = tt }
+item_by n x until (Some i) true h = let b = h.birth in record { birth = omega arith; last = (omega arith, omega arith) }
+item_by n x until (Some i) false h = let m = IsItemOf-more n (n + 1) i (omega arith) h in record { birth = m.birth; last = m.last }
 
 module _ (ledger : LedgerFields) (job : Job) (before : IsBefore ledger) where
   pub accepted_ascends : IsStrictlySortedBy identity_cmp (accepted_with (past_in ledger) job)
@@ -155,7 +156,7 @@ module _ (ledger : LedgerFields) (job : Job) (before : IsBefore ledger) where
   item_is : (x : Identity) → IsItemOf (length ledger.parts + 1) (next_item (past_in ledger) ledger job x)
   unfolding item_of
   item_is x =
-      item_by (length ledger.parts) x (find (λ (i : LedgerItem). is_same x i.id) ledger.items) (has (revoked (past_in ledger) job) x)
+      item_by (length ledger.parts) x (next_item (past_in ledger) ledger job x).until (find (λ (i : LedgerItem). is_same x i.id) ledger.items) (has (revoked (past_in ledger) job) x)
       (find_all (IsItemOf (length ledger.parts)) (λ (i : LedgerItem). is_same x i.id) ledger.items (all_among (IsItemOf (length ledger.parts)) ledger.items before.items))
 
   next_items : All (IsItemOf (length ledger.parts + 1)) (map (next_item (past_in ledger) ledger job) (accepted_with (past_in ledger) job))

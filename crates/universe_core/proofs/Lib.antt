@@ -1,5 +1,6 @@
 pub mod Merge
 pub mod Classes
+pub mod Greatest
 pub mod Members
 pub mod Placing
 pub mod IssuerRuns

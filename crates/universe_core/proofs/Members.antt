@@ -1,7 +1,7 @@
 -- What the merge gives is what the definitions say.
 use Rattle.std.proofs.Common.{◌≡◌, ℕ, zero, suc, ◌⊎◌, inl, inr, ⊎_elim, List, [], ◌∷◌, map, filter, find, length, Bool, true, false, cond, not, Option, Some}
 use Rattle.std.proofs.Common.{None, arith, refl, sym, ap, ◌∙◌, subst, ◌&&◌, ◌||◌, take}
-use Rattle.std.specs.Prelude.{is_some, nat_lt, ◌+◌, ◌≤◌}
+use Rattle.std.specs.Prelude.{ℤ, is_some, nat_lt, ◌+◌, ◌≤◌, ◌++◌}
 use Rattle.std.specs.List.{list_any, list_all, count_by, filter_map, cons_option, slice_get}
 use Rattle.std.specs.Option.{option_map}
 use Rattle.std.specs.Bool.{then_some}
@@ -23,7 +23,8 @@ use Rattle.sets_core.specs.Sets.{has_key}
 use Rattle.ident_core.specs.Coverage.{covers}
 use Rattle.universe_core.specs.declared.class.Class.TheVariants.{Uncovered, Unenrolled, Late, Accepted}
 use Rattle.universe_core.specs.History.{Past, class_by, class_of, if_accepted, shown, sightings, accepted_with, covers_all}
-use Rattle.universe_core.specs.Ledgers.{past_in, parts_before, item_of, birth_or, last_or_none, last_covers, part_covers, lacked_by}
+use Rattle.universe_core.specs.Dates.{greatest, dates}
+use Rattle.universe_core.specs.Ledgers.{past_in, parts_before, item_of, birth_or, last_or_none, last_covers, part_covers, lacked_by, old_dates}
 use Rattle.ledger_core.specs.LedgerFields.{LedgerFields, LedgerPartFields, part_fields, ledger_fields}
 use Rattle.ledger_core.specs.declared.fields.LedgerPart.{LedgerPart}
 use Rattle.ledger_core.specs.declared.fields.LedgerItem.{LedgerItem}
@@ -32,8 +33,10 @@ use Rattle.sets_core.proofs.Sets.{same_is, same_refl, identity_total, Among-with
 use Rattle.sets_core.proofs.Order.{sorted_unique, sorted_all_inserted}
 use Rattle.universe_core.specs.declared.member.Member.{Member}
 use Rattle.universe_core.specs.Merging.{all_ids, count_told, merged}
-use Rattle.universe_core.specs.Judging.{is_late_beside, is_timely, timely, sightings_of, is_member_of, member_of, judge_of}
+use Rattle.universe_core.specs.Judging.{is_late_beside, is_timely, timely, sightings_of, dates_of, is_member_of, member_of, judge_of}
+use Rattle.universe_core.proofs.Greatest.{greatest_behind}
 use Rattle.universe_core.proofs.Merge.{item_ids}
+use Rattle.universe_core.proofs.Revoking.{map_map}
 
 -- ---- lists
 
@@ -101,6 +104,20 @@ unfolding sightings
 Among-in_sightings entries e a = Among-in_map (λ (d : Entry). d.sighting) (filter (λ (d : Entry). is_same e.id d.id) entries) e
     (Among-in_filter (λ (d : Entry). is_same e.id d.id) entries e a (same_refl e.id))
 
+-- ---- the dates of an identity
+
+pub Among-dates : (x : Identity) (entries : List Entry) (d : Option ℤ) → Among (dates x entries) d → (e : Entry) × Among entries e × (x ≡ e.id) × (e.until ≡ d)
+unfolding dates
+Among-dates x entries d a =
+    let m = Among-map (λ (e : Entry). e.until) (filter (λ (e : Entry). is_same x e.id) entries) d a in
+    let f = Among-filter (λ (e : Entry). is_same x e.id) entries m.0 m.1 in
+    (m.0, f.0, same_is x m.0.id f.1, m.2)
+
+Among-in_dates : (entries : List Entry) (e : Entry) → Among entries e → Among (dates e.id entries) e.until
+unfolding dates
+Among-in_dates entries e a = Among-in_map (λ (d : Entry). d.until) (filter (λ (d : Entry). is_same e.id d.id) entries) e
+    (Among-in_filter (λ (d : Entry). is_same e.id d.id) entries e a (same_refl e.id))
+
 not_yes : (b : Bool) → not b ≡ true → b ≡ false
 not_yes false h = refl
 not_yes true h = absurd (true≢false (sym h))
@@ -139,6 +156,10 @@ settled_there f test parts last place part run h at =
     ∙ sym (ap (λ o. last_covers (map part_fields parts) o (sightings_of (filter test (map f run)))) h
     ∙ ap (λ q. part_covers q (sightings_of (filter test (map f run)))) (slice_get-map part_fields parts place ∙ ap (option_map part_fields) at))
 
+-- the dates of the entries that pass a test
+pub dates_kept : {A : Type 0} (f : A → Entry) (test : Entry → Bool) (run : List A) → map (λ e. (f e).until) (filter (λ e. test (f e)) run) ≡ dates_of (filter test (map f run))
+dates_kept f test run = sym (map_map f (λ (e : Entry). e.until) (filter (λ e. test (f e)) run)) ∙ ap dates_of (kept_of f test run)
+
 -- some entry doesn't pass where not all of them do
 other_step : (b any : Bool) (n m : ℕ) → n ≤ m → nat_lt n m ≡ any → nat_lt (cond b 1 0 + n) (suc m) ≡ (not b || any)
 other_step true any n m le rest = grind (arith, nat_tests) ∙ rest
@@ -155,14 +176,16 @@ some_if true x = refl
 some_if false x = refl
 
 -- what the code makes of an identity, from how many of its entries are late
-pub judged_is : (parts : List LedgerPart) (x : Identity) (old : Option LedgerItem) (run : List Entry) (accepted : Bool) (birth : ℕ) (last : Option ℕ) (settled : Bool)
+pub judged_is : (parts : List LedgerPart) (x : Identity) (old : Option LedgerItem) (run : List Entry) (accepted : Bool) (birth : ℕ) (last : Option ℕ) (settled : Bool) (until : Option ℤ)
     → accepted ≡ is_member_of parts old run → birth ≡ birth_or (length parts) old → last ≡ last_or_none old
     → settled ≡ last_covers (map part_fields parts) last (sightings_of (filter (is_timely parts birth) run))
-    → then_some accepted (record { id = x; birth = birth; last = last; settled = settled }) ≡ judge_of parts x old run
-judged_is parts x old run accepted birth last settled a b l s =
+    → until ≡ greatest (old_dates old ++ dates_of (filter (is_timely parts birth) run))
+    → then_some accepted (record { id = x; birth = birth; last = last; settled = settled; until = until }) ≡ judge_of parts x old run
+judged_is parts x old run accepted birth last settled until a b l s u =
     let covered = s ∙ (λ k. last_covers (map part_fields parts) (l k) (sightings_of (filter (is_timely parts (b k)) run))) in
-    some_if accepted (record { id = x; birth = birth; last = last; settled = settled })
-    ∙ (λ k. cond (a k) (Some (record { id = x; birth = b k; last = l k; settled = covered k })) None)
+    let told = u ∙ (λ k. greatest (old_dates old ++ dates_of (filter (is_timely parts (b k)) run))) in
+    some_if accepted (record { id = x; birth = birth; last = last; settled = settled; until = until })
+    ∙ (λ k. cond (a k) (Some (record { id = x; birth = b k; last = l k; settled = covered k; until = told k })) None)
 
 -- with the item of each entry, late is what a part before the birth of its identity lacks
 pub told_lacked : (parts : List LedgerPart) (items : List LedgerItem) (es : List Entry)
@@ -252,6 +275,29 @@ module _ (parts : List LedgerPart) (items : List LedgerItem) (job : Job) (sorted
   settled_last None x = refl
   settled_last (Some r) x = settled_part (slice_get (map part_fields parts) r) x
 
+  date_to : (x : Identity) (d : Option ℤ) → Among (dates_of (timely parts (item_at x) (run_at x))) d → Among (dates x (shown (past_in ledger) job)) d
+  date_to x d a =
+      let m = Among-map (λ (e : Entry). e.until) (timely parts (item_at x) (run_at x)) d a in
+      let e : Entry = m.0 in
+      let t = timely_to x e m.1 in
+      let s : Among (shown (past_in ledger) job) e = shown_to (past_in ledger) job sorted reads e t.0 t.2 in
+      let w : Among (dates x (shown (past_in ledger) job)) e.until =
+      subst (λ y. Among (dates y (shown (past_in ledger) job)) e.until) (sym t.1) (Among-in_dates (shown (past_in ledger) job) e s) in
+      subst (λ (o : Option ℤ). Among (dates x (shown (past_in ledger) job)) o) m.2 w
+
+  date_from : (x : Identity) (d : Option ℤ) → Among (dates x (shown (past_in ledger) job)) d → Among (dates_of (timely parts (item_at x) (run_at x))) d
+  date_from x d a =
+      let m = Among-dates x (shown (past_in ledger) job) d a in
+      let e : Entry = m.0 in
+      let r = shown_from (past_in ledger) job sorted reads e m.1 in
+      subst (λ (o : Option ℤ). Among (dates_of (timely parts (item_at x) (run_at x))) o) m.3
+      (Among-in_map (λ (z : Entry). z.until) (timely parts (item_at x) (run_at x)) e (timely_from x e r.0 m.2 r.1))
+
+  date_is : (x : Identity) → greatest (old_dates (item_at x) ++ dates_of (timely parts (item_at x) (run_at x))) ≡ greatest (old_dates (item_at x) ++ dates x (shown (past_in ledger) job))
+  date_is x =
+      greatest_behind (old_dates (item_at x)) (dates_of (timely parts (item_at x) (run_at x))) (dates x (shown (past_in ledger) job))
+      (date_to x) (date_from x)
+
   -- what the definitions say of an identity
   abbrev pub member_for : Identity → Member
   member_for x = record {
@@ -259,6 +305,7 @@ module _ (parts : List LedgerPart) (items : List LedgerItem) (job : Job) (sorted
     birth = birth_or (length ledger.parts) (item_of ledger x);
     last = last_or_none (item_of ledger x);
     settled = (past_in ledger).is_settled x (sightings x (shown (past_in ledger) job));
+    until = greatest (old_dates (item_of ledger x) ++ dates x (shown (past_in ledger) job));
   }
 
   member_is : (x : Identity) → member_of parts x (item_at x) (run_at x) ≡ member_for x
@@ -268,7 +315,7 @@ module _ (parts : List LedgerPart) (items : List LedgerItem) (job : Job) (sorted
       let s : last_covers (map part_fields parts) (last_or_none (item_at x)) (sightings_of (timely parts (item_at x) (run_at x)))
       ≡ last_covers (map part_fields parts) (last_or_none (item_at x)) (sightings x (shown (past_in ledger) job)) =
       settled_last (last_or_none (item_at x)) x in
-      λ k. record { id = x; birth = b k; last = last_or_none (item_at x); settled = s k }
+      λ k. record { id = x; birth = b k; last = last_or_none (item_at x); settled = s k; until = date_is x k }
 
   -- ---- the members
 

@@ -186,7 +186,8 @@ at_over f xs i d lt =
 pub lasts_more : (place : ℕ) (h : Identity → Bool) (xs ys : List LedgerItem) (flags : List Bool) (i : ℕ) (x y : LedgerItem) (d : Bool) (last : Option ℕ)
     → i < length xs → flags ≡ map (λ m. h m.id) xs → ys ≡ map (λ m. next_of place (h m.id) m) (take i xs) ++ drop i xs → x ≡ get_or ys i x → y ≡ get_or ys i y
     → last ≡ cond (get_or flags i d) (Some place) (get_or ys i y).last
-    → set ys i (record { id = (get_or ys i x).id; birth = (get_or ys i x).birth; last = last }) ≡ map (λ m. next_of place (h m.id) m) (take (i + 1) xs) ++ drop (i + 1) xs
+    → set ys i (record { id = (get_or ys i x).id; birth = (get_or ys i x).birth; last = last; until = (get_or ys i x).until })
+    ≡ map (λ m. next_of place (h m.id) m) (take (i + 1) xs) ++ drop (i + 1) xs
 lasts_more place h xs ys flags i x y d last lt ef eo ex ey el =
     let f : LedgerItem → LedgerItem = λ m. next_of place (h m.id) m in
     let read : (e : LedgerItem) → get_or ys i e ≡ get_or xs i e = λ e. ap (λ z. get_or z i e) eo ∙ at_over f xs i e lt in
@@ -194,4 +195,4 @@ lasts_more place h xs ys flags i x y d last lt ef eo ex ey el =
     let y-is : y ≡ x = ey ∙ read y ∙ get_or_default xs i y x lt ∙ sym x-is in
     let flag : get_or flags i d ≡ h x.id = ap (λ z. get_or z i d) ef ∙ get_or-map (λ (m : LedgerItem). h m.id) xs i x d lt ∙ ap (λ (m : LedgerItem). h m.id) (sym x-is) in
     let next : last ≡ cond (h x.id) (Some place) x.last = el ∙ (λ k. cond (flag k) (Some place) ((sym ey ∙ y-is) k).last) in
-    (λ k. set ys i (record { id = (sym ex k).id; birth = (sym ex k).birth; last = next k })) ∙ map_over_more f xs ys i x lt eo ex
+    (λ k. set ys i (record { id = (sym ex k).id; birth = (sym ex k).birth; last = next k; until = (sym ex k).until })) ∙ map_over_more f xs ys i x lt eo ex

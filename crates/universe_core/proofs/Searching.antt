@@ -16,7 +16,7 @@ use Rattle.sets_core.proofs.Keyed as keyed
 use Rattle.sets_core.proofs.Keys.{has_none, same_other, less_other}
 
 abbrev pub bare_item : Identity → LedgerItem
-bare_item x = record { id = x; birth = 0; last = None }
+bare_item x = record { id = x; birth = 0; last = None; until = None }
 
 -- a search among what has identities
 module _ {A : Type 0} (key : A → Identity) (make : Identity → A) (back : (x : Identity) → key (make x) ≡ x) where

@@ -1,5 +1,5 @@
 -- What becomes of an identity: its item and its entries.
-use Rattle.std.specs.Prelude.{ℕ, List, map, filter, take, length, Bool, cond, not, ◌||◌, Option, Some, None, is_some}
+use Rattle.std.specs.Prelude.{ℕ, ℤ, List, ◌++◌, map, filter, take, length, Bool, cond, not, ◌||◌, Option, Some, None, is_some}
 use Rattle.std.specs.List.{list_any}
 use Rattle.std.specs.Option.{option_map}
 use Rattle.std.specs.List.Sorted.{IsStrictlySortedBy}
@@ -10,7 +10,8 @@ use Rattle.ident_core.specs.Order.{octets_cmp}
 use Rattle.ledger_core.specs.declared.fields.LedgerPart.{LedgerPart}
 use Rattle.ledger_core.specs.declared.fields.LedgerItem.{LedgerItem}
 use Rattle.ledger_core.specs.LedgerFields.{part_fields}
-use Rattle.universe_core.specs.Ledgers.{birth_or, last_or_none, last_covers, lacked_by}
+use Rattle.universe_core.specs.Dates.{later_of, greatest}
+use Rattle.universe_core.specs.Ledgers.{birth_or, last_or_none, last_covers, lacked_by, old_dates}
 use Rattle.universe_core.specs.Jobs.{Entry}
 use Rattle.universe_core.specs.declared.member.Member.{Member}
 
@@ -36,6 +37,14 @@ timely parts old run = filter (is_timely parts (birth_or (length parts) old)) ru
 abbrev pub sightings_of : List Entry → List Sighting
 sightings_of run = map (λ e. e.sighting) run
 
+abbrev pub dates_of : List Entry → List (Option ℤ)
+dates_of run = map (λ e. e.until) run
+
+-- the greatest date so far with one more, where there is none at first
+abbrev pub with_date : Option (Option ℤ) → Option ℤ → Option (Option ℤ)
+with_date None date = Some date
+with_date (Some so_far) date = Some (later_of so_far date)
+
 -- whether it has an item, or an entry that isn't late
 abbrev pub is_member_of : List LedgerPart → Option LedgerItem → List Entry → Bool
 is_member_of parts old run = is_some old || list_any (is_timely parts (birth_or (length parts) old)) run
@@ -46,6 +55,7 @@ member_of parts x old run = record {
   birth = birth_or (length parts) old;
   last = last_or_none old;
   settled = last_covers (map part_fields parts) (last_or_none old) (sightings_of (timely parts old run));
+  until = greatest (old_dates old ++ dates_of (timely parts old run));
 }
 
 abbrev pub judge_of : List LedgerPart → Identity → Option LedgerItem → List Entry → Option Member

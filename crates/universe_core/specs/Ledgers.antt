@@ -1,6 +1,6 @@
--- The ledger: two numbers an identity in place of the history. What it tells a job, the next one, and that of a
--- history.
-use Rattle.std.specs.Prelude.{ℕ, suc, List, [], ◌∷◌, ◌++◌, map, find, take, length, Bool, true, false, ◌&&◌, if◌then◌else◌, Option, Some, None, is_some}
+-- The ledger: two numbers and a date an identity in place of the history. What it tells a job, the next one, and that of
+-- a history.
+use Rattle.std.specs.Prelude.{ℕ, ℤ, suc, List, [], ◌∷◌, ◌++◌, map, find, take, length, Bool, true, false, ◌&&◌, if◌then◌else◌, Option, Some, None, is_some}
 use Rattle.std.specs.List.{list_any, slice_get}
 use Rattle.ident_core.specs.declared.identity.Identity.{Identity}
 use Rattle.ident_core.specs.declared.range.Sighting.{Sighting}
@@ -11,7 +11,8 @@ use Rattle.ledger_core.specs.declared.fields.LedgerPart.{LedgerPart}
 use Rattle.ledger_core.specs.LedgerFields.{LedgerPartFields, LedgerFields, ledger_fields}
 use Rattle.sets_core.specs.Sets.{has, has_key}
 use Rattle.universe_core.specs.Jobs.{Job, enrolled}
-use Rattle.universe_core.specs.History.{Release, Past, covers_all, accepted_with, revoked, birth, accepted_by}
+use Rattle.universe_core.specs.History.{Release, Past, covers_all, shown, accepted_with, revoked, birth, accepted_by}
+use Rattle.universe_core.specs.Dates.{greatest, dates, until}
 
 -- the ledger before the first job
 abbrev pub no_ledger : LedgerFields
@@ -33,6 +34,11 @@ birth_or none (Some i) = i.birth
 abbrev pub last_or_none : Option LedgerItem → Option ℕ
 last_or_none None = None
 last_or_none (Some i) = i.last
+
+-- the date that an identity has so far, as the one date told, if it has an item
+abbrev pub old_dates : Option LedgerItem → List (Option ℤ)
+old_dates None = []
+old_dates (Some i) = i.until ∷ []
 
 -- the parts before the identity's birth; all of them if it has no item
 unfoldable pub parts_before : LedgerFields → Identity → List LedgerPartFields
@@ -65,12 +71,14 @@ past_by parts items = past_in (ledger_fields parts items)
 
 -- ---- the next ledger
 
--- an identity keeps its birth, and a new one is born now; a revoked one has this part as its last
+-- an identity keeps its birth, and a new one is born now; a revoked one has this part as its last; the date is the
+-- greatest of the item's and of those that the job's accepted entries tell, and none where one of these isn't told
 abbrev pub next_item : Past → LedgerFields → Job → Identity → LedgerItem
 next_item past ledger job x = record {
   id = x;
   birth = birth_or (length ledger.parts) (item_of ledger x);
   last = if has (revoked past job) x then Some (length ledger.parts) else last_or_none (item_of ledger x);
+  until = greatest (old_dates (item_of ledger x) ++ dates x (shown past job));
 }
 
 abbrev pub part_after : Job → List ℕ → LedgerPartFields
@@ -102,7 +110,7 @@ unfoldable pub last : Identity → List Release → Option ℕ
 last x rs = last_place (λ r. has r.revoked x) rs
 
 abbrev pub item_from : List Release → Identity → LedgerItem
-item_from rs x = record { id = x; birth = birth x rs; last = last x rs }
+item_from rs x = record { id = x; birth = birth x rs; last = last x rs; until = until x rs }
 
 abbrev pub part_from : Release → LedgerPartFields
 part_from r = record { epoch = r.epoch; trailer = r.trailer; ranges = r.ranges; issuers = r.issuers }

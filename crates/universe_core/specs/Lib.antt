@@ -2,6 +2,7 @@
 pub mod Jobs
 pub mod Formats
 pub mod History
+pub mod Dates
 pub mod Groups
 pub mod Counting
 pub mod Ledgers

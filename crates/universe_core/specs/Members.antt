@@ -10,7 +10,8 @@ use Rattle.job_core.specs.declared.meaning.JobCrl.{JobCrl}
 use Rattle.job_core.specs.JobFields.{crl_view}
 use Rattle.universe_core.specs.Jobs.{Crl, Job, accepted_crl, enrolled}
 use Rattle.universe_core.specs.History.{shown, sightings, accepted_with}
-use Rattle.universe_core.specs.Ledgers.{past_in, item_of, birth_or, last_or_none}
+use Rattle.universe_core.specs.Dates.{greatest, dates}
+use Rattle.universe_core.specs.Ledgers.{past_in, item_of, birth_or, last_or_none, old_dates}
 use Rattle.universe_core.specs.Groups.{GroupFields, members_of}
 use Rattle.universe_core.specs.declared.member.Member.{Member}
 
@@ -20,6 +21,7 @@ member_in ledger job x = record {
   birth = birth_or (length ledger.parts) (item_of ledger x);
   last = last_or_none (item_of ledger x);
   settled = (past_in ledger).is_settled x (sightings x (shown (past_in ledger) job));
+  until = greatest (old_dates (item_of ledger x) ++ dates x (shown (past_in ledger) job));
 }
 
 -- the identities accepted so far, each with what is said of it
@@ -27,7 +29,7 @@ abbrev pub members_in : LedgerFields → Job → List Member
 members_in ledger job = map (member_in ledger job) (accepted_with (past_in ledger) job)
 
 abbrev pub as_item : Member → LedgerItem
-as_item m = record { id = m.id; birth = m.birth; last = m.last }
+as_item m = record { id = m.id; birth = m.birth; last = m.last; until = m.until }
 
 -- items and flags say together what is said of the members
 pub record AreMembers (ms : List Member) (is : List LedgerItem) (flags : List Bool) : Type 0 where
@@ -46,7 +48,7 @@ pub record AreOf (ledger : LedgerFields) (job : Job) (cs : List JobCrl) (ks : Li
 
 -- the item of the next ledger, where this part has the place
 abbrev pub next_of : ℕ → Bool → LedgerItem → LedgerItem
-next_of place revoked i = record { id = i.id; birth = i.birth; last = cond revoked (Some place) i.last }
+next_of place revoked i = record { id = i.id; birth = i.birth; last = cond revoked (Some place) i.last; until = i.until }
 
 -- the group of an issuer, where a test says what is revoked
 abbrev pub group_with : (Identity → Bool) → List Identity → List ℕ → GroupFields

@@ -26,7 +26,7 @@ abbrev pub sighting_in : List Range → ReadEntry → Sighting
 sighting_in ranges e = record { log = option_map_or (λ r. r.log) (slice_get ranges e.near) []; time = e.time }
 
 abbrev pub entry_fields : List (List ℕ) → List Range → ReadEntry → Entry
-entry_fields issuers ranges e = record { id = id_in issuers e; sighting = sighting_in ranges e }
+entry_fields issuers ranges e = record { id = id_in issuers e; sighting = sighting_in ranges e; until = e.until }
 
 abbrev pub entries_of : List (List ℕ) → List Range → List ReadEntry → List Entry
 entries_of issuers ranges es = map (entry_fields issuers ranges) es

@@ -1,10 +1,13 @@
 ghost use Rattle.std.specs.List.{list_any, list_all, count_by};
-ghost use Rattle.std.specs.Prelude.{◌≡◌, filter, length, map, take, ◌<◌, ◌&&◌, All, false};
+ghost use Rattle.std.specs.Prelude.{◌≡◌, filter, length, map, take, fold, ◌<◌, ◌&&◌, All, false};
+ghost use Rattle.std.specs.Option.{option_map};
 ghost use Rattle.universe_core.specs.Ledgers.{birth_or, last_or_none, last_covers};
 ghost use Rattle.ident_core.specs.Coverage.{covers};
 ghost use Rattle.sets_core.specs.Sets.{has_key};
 ghost use Rattle.ledger_core.specs.LedgerFields.{part_fields};
 ghost use Rattle.universe_core.specs.Judging.{IsSearchable, judge_of, is_late_by, is_late_beside, is_timely, sightings_of};
+ghost use Rattle.universe_core.specs.Judging.{dates_of, with_date as date_with};
+ghost use Rattle.universe_core.specs.Dates.{later_of as later};
 ghost use Rattle.universe_core.specs.Reading.{IsPlaced, entry_fields, entries_of, sighting_in};
 
 use crate::member::Member;
@@ -83,11 +86,43 @@ fn last_of(old: &Option<LedgerItem>) -> Option<u8>
     }
 }
 
-/// What an identity's entries say: how many are late, and whether the part of its last covers the others.
+/// The date of an item, if there is one.
+fn date_of(old: &Option<LedgerItem>) -> Option<Option<i64>>
+    ensures { result ≡ option_map (λ i. i.until) old.now }
+{
+    match old {
+        Some(item) => Some(item.until),
+        None => None,
+    }
+}
+
+/// The later of two dates; none where one of them isn't told.
+fn later_of(x: Option<i64>, y: Option<i64>) -> Option<i64>
+    ensures { result ≡ later x y }
+{
+    match (x, y) {
+        (Some(x), Some(y)) => Some(x.max(y)),
+        _ => None,
+    }
+}
+
+/// The greatest date so far with one more, where there is none at first.
+fn with_date(so_far: Option<Option<i64>>, date: Option<i64>) -> Option<Option<i64>>
+    ensures { result ≡ date_with so_far date }
+{
+    match so_far {
+        Some(until) => Some(later_of(until, date)),
+        None => Some(date),
+    }
+}
+
+/// What an identity's entries say: how many are late, and of the others whether the part of its last covers them, and
+/// the greatest of their dates and of the item's, if there is any.
 #[derive(Clone, Copy)]
 struct RunFacts {
     late: usize,
     settled: bool,
+    date: Option<Option<i64>>,
 }
 
 /// Where there is no part of a last.
@@ -97,22 +132,28 @@ fn facts_alone(
     issuers: &[Key32],
     ranges: &[Range],
     run: &[ReadEntry],
+    date: Option<Option<i64>>,
 ) -> RunFacts
     requires parts { All IsSearchable parts.now }
     requires placed { All (IsPlaced issuers.now ranges.now) run.now }
     ensures late { result.late ≡ count_by (λ e. is_late_by parts.now birth (entry_fields issuers.now ranges.now e)) run.now }
     ensures settled { result.settled ≡ false }
+    ensures date { result.date ≡ fold date_with date
+        (map (λ e. e.until) (filter (λ e. is_timely parts.now birth (entry_fields issuers.now ranges.now e)) run.now)) }
 {
-    let mut late = 0;
+    let mut facts = RunFacts {
+        late: 0,
+        settled: false,
+        date,
+    };
     for e in run {
         if comes_late(parts, birth, issuers, ranges, e) {
-            late += 1;
+            facts.late += 1;
+        } else {
+            facts.date = with_date(facts.date, e.until);
         }
     }
-    RunFacts {
-        late,
-        settled: false,
-    }
+    facts
 }
 
 /// Where this is the part of the last.
@@ -123,6 +164,7 @@ fn facts_beside(
     issuers: &[Key32],
     ranges: &[Range],
     run: &[ReadEntry],
+    date: Option<Option<i64>>,
 ) -> RunFacts
     requires part { IsSearchable part.now }
     requires parts { All IsSearchable parts.now }
@@ -130,22 +172,28 @@ fn facts_beside(
     ensures late { result.late ≡ count_by (λ e. is_late_by parts.now birth (entry_fields issuers.now ranges.now e)) run.now }
     ensures settled { result.settled ≡ list_all (λ e. covers part.now.ranges.items (sighting_in ranges.now e))
         (filter (λ e. is_timely parts.now birth (entry_fields issuers.now ranges.now e)) run.now) }
+    ensures date { result.date ≡ fold date_with date
+        (map (λ e. e.until) (filter (λ e. is_timely parts.now birth (entry_fields issuers.now ranges.now e)) run.now)) }
 {
     let mut facts = RunFacts {
         late: 0,
         settled: true,
+        date,
     };
     for e in run {
         if comes_late(parts, birth, issuers, ranges, e) {
             facts.late += 1;
-        } else if !covers_near(&part.ranges, e.near as usize, &e.sighting(ranges)) {
-            facts.settled = false;
+        } else {
+            facts.date = with_date(facts.date, e.until);
+            if !covers_near(&part.ranges, e.near as usize, &e.sighting(ranges)) {
+                facts.settled = false;
+            }
         }
     }
     facts
 }
 
-/// What the entries say of an identity that was born before so many of the parts, and has this last.
+/// What the entries say of an identity that was born before so many of the parts, and has this last and this date.
 fn facts_of(
     parts: &[LedgerPart],
     last: Option<u8>,
@@ -153,18 +201,21 @@ fn facts_of(
     issuers: &[Key32],
     ranges: &[Range],
     run: &[ReadEntry],
+    date: Option<Option<i64>>,
 ) -> RunFacts
     requires parts { All IsSearchable parts.now }
     requires placed { All (IsPlaced issuers.now ranges.now) run.now }
     ensures late { result.late ≡ count_by (λ e. is_late_by parts.now birth (entry_fields issuers.now ranges.now e)) run.now }
     ensures settled { result.settled ≡ last_covers (map part_fields parts.now) last
         (sightings_of (filter (is_timely parts.now birth) (entries_of issuers.now ranges.now run.now))) }
+    ensures date { result.date ≡ fold date_with date
+        (map (λ e. e.until) (filter (λ e. is_timely parts.now birth (entry_fields issuers.now ranges.now e)) run.now)) }
 {
     match last {
-        None => facts_alone(parts, birth, issuers, ranges, run),
+        None => facts_alone(parts, birth, issuers, ranges, run, date),
         Some(place) => match parts.get(place as usize) {
-            None => facts_alone(parts, birth, issuers, ranges, run),
-            Some(part) => facts_beside(part, parts, birth, issuers, ranges, run),
+            None => facts_alone(parts, birth, issuers, ranges, run, date),
+            Some(part) => facts_beside(part, parts, birth, issuers, ranges, run, date),
         },
     }
 }
@@ -193,13 +244,16 @@ pub(crate) fn judge(
 {
     let birth = birth_of(parts, old);
     let last = last_of(old);
-    let facts = facts_of(parts, last, birth as usize, issuers, ranges, run);
+    let date = date_of(old);
+    let facts = facts_of(parts, last, birth as usize, issuers, ranges, run, date);
     let accepted = old.is_some() || facts.late < run.len();
+    let until = facts.date.flatten();
     let member = Member {
         id: *id,
         birth,
         last,
         settled: facts.settled,
+        until,
     };
     Judged {
         member: accepted.then_some(member),

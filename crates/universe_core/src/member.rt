@@ -9,6 +9,8 @@ pub(crate) struct Member {
     pub(crate) last: Option<u8>,
     /// Whether the part of its last covers the sightings that are accepted now.
     pub(crate) settled: bool,
+    /// The greatest date, of the item and of the entries that are accepted now; none where one of these has none.
+    pub(crate) until: Option<i64>,
 }
 
 /// The identities accepted so far, ascending, as items that become those of the next ledger.

@@ -91,6 +91,7 @@ fn item(member: &Member) -> LedgerItem
         id: member.id,
         birth: member.birth,
         last: member.last,
+        until: member.until,
     }
 }
 

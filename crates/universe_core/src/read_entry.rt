@@ -4,17 +4,21 @@ ghost use Rattle.universe_core.specs.Reading.{id_in, sighting_in};
 use ident_core::{Identity, Range, Serial, Sighting};
 use octets_core::Key32;
 
-/// An entry that is read. What its issuer and its log are is told by their places, so that it has 48 bytes, and a job
+/// An entry that is read. What its issuer and its log are is told by their places, so that it has 64 bytes, and a job
 /// can let its own entries go.
 #[derive(Clone, Copy)]
 pub(crate) struct ReadEntry {
     pub(crate) time: u64,
+    /// Its certificate's notAfter, if it is told.
+    pub(crate) until: Option<i64>,
     /// The place of its issuer among the enrolled ones, which ascend.
     pub(crate) place: u16,
     /// The place of the job's range that covers it. Parts have the range of the same log there, or not far off.
     pub(crate) near: u16,
     pub(crate) serial: Serial,
 }
+
+const _: () = prove!(size_of::<ReadEntry>() <= 64);
 
 impl ReadEntry {
     pub(crate) fn id(&self, issuers: &[Key32]) -> Identity

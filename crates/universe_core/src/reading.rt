@@ -72,6 +72,7 @@ fn classify(ranges: &[Range], issuers: &[Key32], entry: &Option<Entry>) -> Told
     };
     let one = ReadEntry {
         time: entry.sighting.time,
+        until: entry.until,
         place: place as u16,
         near: near as u16,
         serial: entry.id.serial,
