@@ -18,7 +18,7 @@ use Rattle.job_core.specs.declared.raw.RawCrl.{RawCrl}
 use Rattle.job_core.specs.declared.raw.RawEntry.{RawEntry}
 use Rattle.job_core.specs.declared.records.Item.{Item as Taken}
 use Rattle.job_core.specs.declared.records.Item.TheVariants as takens
-use Rattle.job_core.specs.JobLayout.{fielded, is_kind, record_kind, crl, entry, opening, Held, Item, OneRange, OneCrl, OneEntry}
+use Rattle.job_core.specs.JobLayout.{fielded, is_kind, record_kind, crl, entry, opening, Held, EntryText, Item, OneRange, OneCrl, OneEntry}
 use Rattle.job_core.specs.JobLayout.{range_item, crl_item, entry_item, item_of, some_of, next_item}
 use Rattle.job_core.specs.JobText.{crl_held, entry_held}
 use Rattle.job_core.specs.Records.{item_of_record, some_record}
@@ -77,86 +77,91 @@ crl-width g old f0 x0 f1 e h0 h1 =
     fielded-then g (λ (x : List ℕ). x) crl_held _ _ old f0 f1 x0 (Err e) h0
     (fielded-err g (λ (x : ℕ). x) crl_held _ _ f0 f1 e h1)
 
-pub crl-bytes : {D : Type 0} (g : Ghosts D) (old : Feed D) (f0 : Feed D) (x0 : List ℕ) (f1 : Feed D) (x1 : ℕ) (f2 : Feed D) (e : JobFault)
+pub crl-bytes : {D : Type 0} (g : Ghosts D) (old : Feed D) (f0 : Feed D) (x0 : List ℕ) (f1 : Feed D) (x1 : ℕ) (f2 : Feed D) (b : List ℕ) (e : JobFault)
     → Fetches g (λ (x : List ℕ). x) (fielded (key fields.CrlIssuer any_key)) old f0 (Ok x0) → Fetches g (λ (x : ℕ). x) (fielded (number fields.CrlLength w32 0 67108864)) f0 f1 (Ok x1)
-    → Fetches g (λ (v : Vec ℕ Global). v.items) (fielded (octets fields.CrlBytes x1)) f1 f2 (Err e) → Fetches g crl_held (fielded (crl)) old f2 (Err e)
+    → Fetches g (λ (u : Unit {0}). b) (fielded (octets fields.CrlBytes x1)) f1 f2 (Err e) → Fetches g crl_held (fielded (crl)) old f2 (Err e)
 unfolding crl
-crl-bytes g old f0 x0 f1 x1 f2 e h0 h1 h2 =
+crl-bytes g old f0 x0 f1 x1 f2 b e h0 h1 h2 =
     fielded-then g (λ (x : List ℕ). x) crl_held _ _ old f0 f2 x0 (Err e) h0
     (fielded-then g (λ (x : ℕ). x) crl_held _ _ f0 f1 f2 x1 (Err e) h1
-    (fielded-err g (λ (v : Vec ℕ Global). v.items) crl_held _ _ f1 f2 e h2))
+    (fielded-err g (λ (u : Unit {0}). b) crl_held _ _ f1 f2 e h2))
 
-pub crl-fetched : {D : Type 0} (g : Ghosts D) (old : Feed D) (f0 : Feed D) (x0 : List ℕ) (f1 : Feed D) (x1 : ℕ) (f2 : Feed D) (x2 : Vec ℕ Global)
+pub crl-fetched : {D : Type 0} (g : Ghosts D) (old : Feed D) (f0 : Feed D) (x0 : List ℕ) (f1 : Feed D) (x1 : ℕ) (f2 : Feed D) (u : Unit {0}) (x2 : Vec ℕ Global)
     → Fetches g (λ (x : List ℕ). x) (fielded (key fields.CrlIssuer any_key)) old f0 (Ok x0) → Fetches g (λ (x : ℕ). x) (fielded (number fields.CrlLength w32 0 67108864)) f0 f1 (Ok x1)
-    → Fetches g (λ (v : Vec ℕ Global). v.items) (fielded (octets fields.CrlBytes x1)) f1 f2 (Ok x2) → Fetches g crl_held (fielded (crl)) old f2 (Ok (record { issuer = x0; bytes = x2 }))
+    → Fetches g (λ (u : Unit {0}). x2.items) (fielded (octets fields.CrlBytes x1)) f1 f2 (Ok u) → Fetches g crl_held (fielded (crl)) old f2 (Ok (record { issuer = x0; bytes = x2 }))
 unfolding crl
-crl-fetched g old f0 x0 f1 x1 f2 x2 h0 h1 h2 =
+crl-fetched g old f0 x0 f1 x1 f2 u x2 h0 h1 h2 =
     fielded-then g (λ (x : List ℕ). x) crl_held _ _ old f0 f2 x0 (Ok (record { issuer = x0; bytes = x2 })) h0
     (fielded-then g (λ (x : ℕ). x) crl_held _ _ f0 f1 f2 x1 (Ok (record { issuer = x0; bytes = x2 })) h1
-    (fielded-then g (λ (v : Vec ℕ Global). v.items) crl_held _ _ f1 f2 f2 x2 (Ok (record { issuer = x0; bytes = x2 })) h2
+    (fielded-then g (λ (u : Unit {0}). x2.items) crl_held _ _ f1 f2 f2 u (Ok (record { issuer = x0; bytes = x2 })) h2
     (fetched-whole g crl_held _ f2 (record { issuer = x0; bytes = x2 }) refl)))
 
 -- ---- entry
 
-pub entry-log : {D : Type 0} (g : Ghosts D) (old : Feed D) (f0 : Feed D) (e : JobFault) → Fetches g (λ (x : List ℕ). x) (fielded (key fields.EntryLog any_key)) old f0 (Err e)
-    → Fetches g entry_held (fielded (entry)) old f0 (Err e)
+pub entry-log : {D : Type 0} (g : Ghosts D) (w : Unit {0} → EntryText) (old : Feed D) (f0 : Feed D) (e : JobFault)
+    → Fetches g (λ (x : List ℕ). x) (fielded (key fields.EntryLog any_key)) old f0 (Err e)
+    → Fetches g w (fielded (entry)) old f0 (Err e)
 unfolding entry
-entry-log g old f0 e h0 =
-    fielded-err g (λ (x : List ℕ). x) entry_held _ _ old f0 e h0
+entry-log g w old f0 e h0 =
+    fielded-err g (λ (x : List ℕ). x) w _ _ old f0 e h0
 
-pub entry-leaf_width : {D : Type 0} (g : Ghosts D) (old : Feed D) (f0 : Feed D) (x0 : List ℕ) (f1 : Feed D) (e : JobFault)
+pub entry-leaf_width : {D : Type 0} (g : Ghosts D) (w : Unit {0} → EntryText) (old : Feed D) (f0 : Feed D) (x0 : List ℕ) (f1 : Feed D) (e : JobFault)
     → Fetches g (λ (x : List ℕ). x) (fielded (key fields.EntryLog any_key)) old f0 (Ok x0) → Fetches g (λ (x : ℕ). x) (fielded (length_of_three fields.EntryLeafLength)) f0 f1 (Err e)
-    → Fetches g entry_held (fielded (entry)) old f1 (Err e)
+    → Fetches g w (fielded (entry)) old f1 (Err e)
 unfolding entry
-entry-leaf_width g old f0 x0 f1 e h0 h1 =
-    fielded-then g (λ (x : List ℕ). x) entry_held _ _ old f0 f1 x0 (Err e) h0
-    (fielded-err g (λ (x : ℕ). x) entry_held _ _ f0 f1 e h1)
+entry-leaf_width g w old f0 x0 f1 e h0 h1 =
+    fielded-then g (λ (x : List ℕ). x) w _ _ old f0 f1 x0 (Err e) h0
+    (fielded-err g (λ (x : ℕ). x) w _ _ f0 f1 e h1)
 
-pub entry-leaf : {D : Type 0} (g : Ghosts D) (old : Feed D) (f0 : Feed D) (x0 : List ℕ) (f1 : Feed D) (x1 : ℕ) (f2 : Feed D) (e : JobFault)
+pub entry-leaf : {D : Type 0} (g : Ghosts D) (w : Unit {0} → EntryText) (old : Feed D) (f0 : Feed D) (x0 : List ℕ) (f1 : Feed D) (x1 : ℕ) (f2 : Feed D) (leaf : List ℕ) (e : JobFault)
     → Fetches g (λ (x : List ℕ). x) (fielded (key fields.EntryLog any_key)) old f0 (Ok x0) → Fetches g (λ (x : ℕ). x) (fielded (length_of_three fields.EntryLeafLength)) f0 f1 (Ok x1)
-    → Fetches g (λ (v : Vec ℕ Global). v.items) (fielded (octets fields.EntryLeaf x1)) f1 f2 (Err e) → Fetches g entry_held (fielded (entry)) old f2 (Err e)
+    → Fetches g (λ (u : Unit {0}). leaf) (fielded (octets fields.EntryLeaf x1)) f1 f2 (Err e) → Fetches g w (fielded (entry)) old f2 (Err e)
 unfolding entry
-entry-leaf g old f0 x0 f1 x1 f2 e h0 h1 h2 =
-    fielded-then g (λ (x : List ℕ). x) entry_held _ _ old f0 f2 x0 (Err e) h0
-    (fielded-then g (λ (x : ℕ). x) entry_held _ _ f0 f1 f2 x1 (Err e) h1
-    (fielded-err g (λ (v : Vec ℕ Global). v.items) entry_held _ _ f1 f2 e h2))
+entry-leaf g w old f0 x0 f1 x1 f2 leaf e h0 h1 h2 =
+    fielded-then g (λ (x : List ℕ). x) w _ _ old f0 f2 x0 (Err e) h0
+    (fielded-then g (λ (x : ℕ). x) w _ _ f0 f1 f2 x1 (Err e) h1
+    (fielded-err g (λ (u : Unit {0}). leaf) w _ _ f1 f2 e h2))
 
-pub entry-extra_width : {D : Type 0} (g : Ghosts D) (old : Feed D) (f0 : Feed D) (x0 : List ℕ) (f1 : Feed D) (x1 : ℕ) (f2 : Feed D) (x2 : Vec ℕ Global) (f3 : Feed D) (e : JobFault)
+pub entry-extra_width : {D : Type 0} (g : Ghosts D) (w : Unit {0} → EntryText) (old : Feed D) (f0 : Feed D) (x0 : List ℕ) (f1 : Feed D) (x1 : ℕ) (f2 : Feed D) (leaf : List ℕ) (x2 : Unit {0})
+    (f3 : Feed D) (e : JobFault)
     → Fetches g (λ (x : List ℕ). x) (fielded (key fields.EntryLog any_key)) old f0 (Ok x0) → Fetches g (λ (x : ℕ). x) (fielded (length_of_three fields.EntryLeafLength)) f0 f1 (Ok x1)
-    → Fetches g (λ (v : Vec ℕ Global). v.items) (fielded (octets fields.EntryLeaf x1)) f1 f2 (Ok x2) → Fetches g (λ (x : ℕ). x) (fielded (length_of_three fields.EntryExtraLength)) f2 f3 (Err e)
-    → Fetches g entry_held (fielded (entry)) old f3 (Err e)
+    → Fetches g (λ (u : Unit {0}). leaf) (fielded (octets fields.EntryLeaf x1)) f1 f2 (Ok x2) → Fetches g (λ (x : ℕ). x) (fielded (length_of_three fields.EntryExtraLength)) f2 f3 (Err e)
+    → Fetches g w (fielded (entry)) old f3 (Err e)
 unfolding entry
-entry-extra_width g old f0 x0 f1 x1 f2 x2 f3 e h0 h1 h2 h3 =
-    fielded-then g (λ (x : List ℕ). x) entry_held _ _ old f0 f3 x0 (Err e) h0
-    (fielded-then g (λ (x : ℕ). x) entry_held _ _ f0 f1 f3 x1 (Err e) h1
-    (fielded-then g (λ (v : Vec ℕ Global). v.items) entry_held _ _ f1 f2 f3 x2 (Err e) h2
-    (fielded-err g (λ (x : ℕ). x) entry_held _ _ f2 f3 e h3)))
+entry-extra_width g w old f0 x0 f1 x1 f2 leaf x2 f3 e h0 h1 h2 h3 =
+    fielded-then g (λ (x : List ℕ). x) w _ _ old f0 f3 x0 (Err e) h0
+    (fielded-then g (λ (x : ℕ). x) w _ _ f0 f1 f3 x1 (Err e) h1
+    (fielded-then g (λ (u : Unit {0}). leaf) w _ _ f1 f2 f3 x2 (Err e) h2
+    (fielded-err g (λ (x : ℕ). x) w _ _ f2 f3 e h3)))
 
-pub entry-extra : {D : Type 0} (g : Ghosts D) (old : Feed D) (f0 : Feed D) (x0 : List ℕ) (f1 : Feed D) (x1 : ℕ) (f2 : Feed D) (x2 : Vec ℕ Global) (f3 : Feed D) (x3 : ℕ) (f4 : Feed D) (e : JobFault)
+pub entry-extra : {D : Type 0} (g : Ghosts D) (w : Unit {0} → EntryText) (old : Feed D) (f0 : Feed D) (x0 : List ℕ) (f1 : Feed D) (x1 : ℕ) (f2 : Feed D) (leaf : List ℕ) (x2 : Unit {0})
+    (f3 : Feed D) (x3 : ℕ) (f4 : Feed D) (extra : List ℕ) (e : JobFault)
     → Fetches g (λ (x : List ℕ). x) (fielded (key fields.EntryLog any_key)) old f0 (Ok x0) → Fetches g (λ (x : ℕ). x) (fielded (length_of_three fields.EntryLeafLength)) f0 f1 (Ok x1)
-    → Fetches g (λ (v : Vec ℕ Global). v.items) (fielded (octets fields.EntryLeaf x1)) f1 f2 (Ok x2) → Fetches g (λ (x : ℕ). x) (fielded (length_of_three fields.EntryExtraLength)) f2 f3 (Ok x3)
-    → Fetches g (λ (v : Vec ℕ Global). v.items) (fielded (octets fields.EntryExtra x3)) f3 f4 (Err e) → Fetches g entry_held (fielded (entry)) old f4 (Err e)
+    → Fetches g (λ (u : Unit {0}). leaf) (fielded (octets fields.EntryLeaf x1)) f1 f2 (Ok x2) → Fetches g (λ (x : ℕ). x) (fielded (length_of_three fields.EntryExtraLength)) f2 f3 (Ok x3)
+    → Fetches g (λ (u : Unit {0}). extra) (fielded (octets fields.EntryExtra x3)) f3 f4 (Err e) → Fetches g w (fielded (entry)) old f4 (Err e)
 unfolding entry
-entry-extra g old f0 x0 f1 x1 f2 x2 f3 x3 f4 e h0 h1 h2 h3 h4 =
-    fielded-then g (λ (x : List ℕ). x) entry_held _ _ old f0 f4 x0 (Err e) h0
-    (fielded-then g (λ (x : ℕ). x) entry_held _ _ f0 f1 f4 x1 (Err e) h1
-    (fielded-then g (λ (v : Vec ℕ Global). v.items) entry_held _ _ f1 f2 f4 x2 (Err e) h2
-    (fielded-then g (λ (x : ℕ). x) entry_held _ _ f2 f3 f4 x3 (Err e) h3
-    (fielded-err g (λ (v : Vec ℕ Global). v.items) entry_held _ _ f3 f4 e h4))))
+entry-extra g w old f0 x0 f1 x1 f2 leaf x2 f3 x3 f4 extra e h0 h1 h2 h3 h4 =
+    fielded-then g (λ (x : List ℕ). x) w _ _ old f0 f4 x0 (Err e) h0
+    (fielded-then g (λ (x : ℕ). x) w _ _ f0 f1 f4 x1 (Err e) h1
+    (fielded-then g (λ (u : Unit {0}). leaf) w _ _ f1 f2 f4 x2 (Err e) h2
+    (fielded-then g (λ (x : ℕ). x) w _ _ f2 f3 f4 x3 (Err e) h3
+    (fielded-err g (λ (u : Unit {0}). extra) w _ _ f3 f4 e h4))))
 
-pub entry-fetched : {D : Type 0} (g : Ghosts D) (old : Feed D) (f0 : Feed D) (x0 : List ℕ) (f1 : Feed D) (x1 : ℕ) (f2 : Feed D) (x2 : Vec ℕ Global) (f3 : Feed D) (x3 : ℕ) (f4 : Feed D)
-    (x4 : Vec ℕ Global) → Fetches g (λ (x : List ℕ). x) (fielded (key fields.EntryLog any_key)) old f0 (Ok x0)
-    → Fetches g (λ (x : ℕ). x) (fielded (length_of_three fields.EntryLeafLength)) f0 f1 (Ok x1) → Fetches g (λ (v : Vec ℕ Global). v.items) (fielded (octets fields.EntryLeaf x1)) f1 f2 (Ok x2)
-    → Fetches g (λ (x : ℕ). x) (fielded (length_of_three fields.EntryExtraLength)) f2 f3 (Ok x3) → Fetches g (λ (v : Vec ℕ Global). v.items) (fielded (octets fields.EntryExtra x3)) f3 f4 (Ok x4)
-    → Fetches g entry_held (fielded (entry)) old f4 (Ok (record { log = x0; leaf = x2; extra = x4 }))
+pub entry-fetched : {D : Type 0} (g : Ghosts D) (w : Unit {0} → EntryText) (old : Feed D) (f0 : Feed D) (x0 : List ℕ) (f1 : Feed D) (x1 : ℕ) (f2 : Feed D) (leaf : List ℕ) (x2 : Unit {0})
+    (f3 : Feed D) (x3 : ℕ) (f4 : Feed D)
+    (extra : List ℕ) (x4 y : Unit {0})
+    → w y ≡ record { log = x0; leaf = leaf; extra = extra } → Fetches g (λ (x : List ℕ). x) (fielded (key fields.EntryLog any_key)) old f0 (Ok x0)
+    → Fetches g (λ (x : ℕ). x) (fielded (length_of_three fields.EntryLeafLength)) f0 f1 (Ok x1) → Fetches g (λ (u : Unit {0}). leaf) (fielded (octets fields.EntryLeaf x1)) f1 f2 (Ok x2)
+    → Fetches g (λ (x : ℕ). x) (fielded (length_of_three fields.EntryExtraLength)) f2 f3 (Ok x3) → Fetches g (λ (u : Unit {0}). extra) (fielded (octets fields.EntryExtra x3)) f3 f4 (Ok x4)
+    → Fetches g w (fielded (entry)) old f4 (Ok y)
 unfolding entry
-entry-fetched g old f0 x0 f1 x1 f2 x2 f3 x3 f4 x4 h0 h1 h2 h3 h4 =
-    fielded-then g (λ (x : List ℕ). x) entry_held _ _ old f0 f4 x0 (Ok (record { log = x0; leaf = x2; extra = x4 })) h0
-    (fielded-then g (λ (x : ℕ). x) entry_held _ _ f0 f1 f4 x1 (Ok (record { log = x0; leaf = x2; extra = x4 })) h1
-    (fielded-then g (λ (v : Vec ℕ Global). v.items) entry_held _ _ f1 f2 f4 x2 (Ok (record { log = x0; leaf = x2; extra = x4 })) h2
-    (fielded-then g (λ (x : ℕ). x) entry_held _ _ f2 f3 f4 x3 (Ok (record { log = x0; leaf = x2; extra = x4 })) h3
-    (fielded-then g (λ (v : Vec ℕ Global). v.items) entry_held _ _ f3 f4 f4 x4 (Ok (record { log = x0; leaf = x2; extra = x4 })) h4
-    (fetched-whole g entry_held _ f4 (record { log = x0; leaf = x2; extra = x4 }) refl)))))
+entry-fetched g w old f0 x0 f1 x1 f2 leaf x2 f3 x3 f4 extra x4 y same h0 h1 h2 h3 h4 =
+    fielded-then g (λ (x : List ℕ). x) w _ _ old f0 f4 x0 (Ok y) h0
+    (fielded-then g (λ (x : ℕ). x) w _ _ f0 f1 f4 x1 (Ok y) h1
+    (fielded-then g (λ (u : Unit {0}). leaf) w _ _ f1 f2 f4 x2 (Ok y) h2
+    (fielded-then g (λ (x : ℕ). x) w _ _ f2 f3 f4 x3 (Ok y) h3
+    (fielded-then g (λ (u : Unit {0}). extra) w _ _ f3 f4 f4 x4 (Ok y) h4
+    (fetched-whole g w _ f4 y same)))))
 
 -- ---- opening
 
@@ -207,95 +212,95 @@ range_item-room : (limits : Limits) (h : Held) → nat_le (h.ranges + 1) limits.
 unfolding range_item
 range_item-room limits h room file at = rw room refl
 
-pub range_item-over : {D : Type 0} (g : Ghosts D) (limits : Limits) (h : Held) (feed : Feed D) → nat_le (h.ranges + 1) limits.ranges ≡ false
-    → Fetches g item_of_record (range_item limits h) feed feed (Err (faults.TooMany what.Ranges limits.ranges))
+pub range_item-over : {D : Type 0} (g : Ghosts D) (n : RawEntry) (limits : Limits) (h : Held) (feed : Feed D) → nat_le (h.ranges + 1) limits.ranges ≡ false
+    → Fetches g (item_of_record n) (range_item limits h) feed feed (Err (faults.TooMany what.Ranges limits.ranges))
 unfolding range_item
-range_item-over g limits h feed over = fetched-refused g item_of_record (range_item limits h) feed _ (λ same. absurd cc) (λ of file. rw over refl)
+range_item-over g n limits h feed over = fetched-refused g (item_of_record n) (range_item limits h) feed _ (λ same. absurd cc) (λ of file. rw over refl)
 
-pub range_item-err : {D : Type 0} (g : Ghosts D) (limits : Limits) (h : Held) (old new : Feed D) (e : JobFault) → nat_le (h.ranges + 1) limits.ranges ≡ true
-    → Fetches g (λ (r : Range). r) (fielded (range h.log)) old new (Err e) → Fetches g item_of_record (range_item limits h) old new (Err e)
-range_item-err g limits h old new e room one =
-    fetched-same g item_of_record (fielded (range h.log) >>= λ x. whole (OneRange x)) (range_item limits h) old new (Err e) (range_item-room limits h room)
-    (fetched-err g (λ (r : Range). r) item_of_record (fielded (range h.log)) (λ x. whole (OneRange x)) old new e one)
+pub range_item-err : {D : Type 0} (g : Ghosts D) (n : RawEntry) (limits : Limits) (h : Held) (old new : Feed D) (e : JobFault) → nat_le (h.ranges + 1) limits.ranges ≡ true
+    → Fetches g (λ (r : Range). r) (fielded (range h.log)) old new (Err e) → Fetches g (item_of_record n) (range_item limits h) old new (Err e)
+range_item-err g n limits h old new e room one =
+    fetched-same g (item_of_record n) (fielded (range h.log) >>= λ x. whole (OneRange x)) (range_item limits h) old new (Err e) (range_item-room limits h room)
+    (fetched-err g (λ (r : Range). r) (item_of_record n) (fielded (range h.log)) (λ x. whole (OneRange x)) old new e one)
 
-pub range_item-fetched : {D : Type 0} (g : Ghosts D) (limits : Limits) (h : Held) (old new : Feed D) (x : Range) → nat_le (h.ranges + 1) limits.ranges ≡ true
-    → Fetches g (λ (r : Range). r) (fielded (range h.log)) old new (Ok x) → Fetches g item_of_record (range_item limits h) old new (Ok (takens.Range x))
-range_item-fetched g limits h old new x room one =
-    fetched-same g item_of_record (fielded (range h.log) >>= λ x. whole (OneRange x)) (range_item limits h) old new _ (range_item-room limits h room)
-    (fetched-then g (λ (r : Range). r) item_of_record (fielded (range h.log)) (λ x. whole (OneRange x)) old new new x _ one (fetched-whole g item_of_record _ new (takens.Range x) refl))
+pub range_item-fetched : {D : Type 0} (g : Ghosts D) (n : RawEntry) (limits : Limits) (h : Held) (old new : Feed D) (x : Range) → nat_le (h.ranges + 1) limits.ranges ≡ true
+    → Fetches g (λ (r : Range). r) (fielded (range h.log)) old new (Ok x) → Fetches g (item_of_record n) (range_item limits h) old new (Ok (takens.Range x))
+range_item-fetched g n limits h old new x room one =
+    fetched-same g (item_of_record n) (fielded (range h.log) >>= λ x. whole (OneRange x)) (range_item limits h) old new _ (range_item-room limits h room)
+    (fetched-then g (λ (r : Range). r) (item_of_record n) (fielded (range h.log)) (λ x. whole (OneRange x)) old new new x _ one (fetched-whole g (item_of_record n) _ new (takens.Range x) refl))
 
 crl_item-room : (limits : Limits) (h : Held) → nat_le (h.crls + 1) limits.crls ≡ true → (file : List ℕ) (at : ℕ)
     → crl_item limits h file at ≡ (fielded (crl) >>= λ x. whole (OneCrl x)) file at
 unfolding crl_item
 crl_item-room limits h room file at = rw room refl
 
-pub crl_item-over : {D : Type 0} (g : Ghosts D) (limits : Limits) (h : Held) (feed : Feed D) → nat_le (h.crls + 1) limits.crls ≡ false
-    → Fetches g item_of_record (crl_item limits h) feed feed (Err (faults.TooMany what.Crls limits.crls))
+pub crl_item-over : {D : Type 0} (g : Ghosts D) (n : RawEntry) (limits : Limits) (h : Held) (feed : Feed D) → nat_le (h.crls + 1) limits.crls ≡ false
+    → Fetches g (item_of_record n) (crl_item limits h) feed feed (Err (faults.TooMany what.Crls limits.crls))
 unfolding crl_item
-crl_item-over g limits h feed over = fetched-refused g item_of_record (crl_item limits h) feed _ (λ same. absurd cc) (λ of file. rw over refl)
+crl_item-over g n limits h feed over = fetched-refused g (item_of_record n) (crl_item limits h) feed _ (λ same. absurd cc) (λ of file. rw over refl)
 
-pub crl_item-err : {D : Type 0} (g : Ghosts D) (limits : Limits) (h : Held) (old new : Feed D) (e : JobFault) → nat_le (h.crls + 1) limits.crls ≡ true
-    → Fetches g crl_held (fielded (crl)) old new (Err e) → Fetches g item_of_record (crl_item limits h) old new (Err e)
-crl_item-err g limits h old new e room one =
-    fetched-same g item_of_record (fielded (crl) >>= λ x. whole (OneCrl x)) (crl_item limits h) old new (Err e) (crl_item-room limits h room)
-    (fetched-err g crl_held item_of_record (fielded (crl)) (λ x. whole (OneCrl x)) old new e one)
+pub crl_item-err : {D : Type 0} (g : Ghosts D) (n : RawEntry) (limits : Limits) (h : Held) (old new : Feed D) (e : JobFault) → nat_le (h.crls + 1) limits.crls ≡ true
+    → Fetches g crl_held (fielded (crl)) old new (Err e) → Fetches g (item_of_record n) (crl_item limits h) old new (Err e)
+crl_item-err g n limits h old new e room one =
+    fetched-same g (item_of_record n) (fielded (crl) >>= λ x. whole (OneCrl x)) (crl_item limits h) old new (Err e) (crl_item-room limits h room)
+    (fetched-err g crl_held (item_of_record n) (fielded (crl)) (λ x. whole (OneCrl x)) old new e one)
 
-pub crl_item-fetched : {D : Type 0} (g : Ghosts D) (limits : Limits) (h : Held) (old new : Feed D) (x : RawCrl) → nat_le (h.crls + 1) limits.crls ≡ true
-    → Fetches g crl_held (fielded (crl)) old new (Ok x) → Fetches g item_of_record (crl_item limits h) old new (Ok (takens.Crl x))
-crl_item-fetched g limits h old new x room one =
-    fetched-same g item_of_record (fielded (crl) >>= λ x. whole (OneCrl x)) (crl_item limits h) old new _ (crl_item-room limits h room)
-    (fetched-then g crl_held item_of_record (fielded (crl)) (λ x. whole (OneCrl x)) old new new x _ one (fetched-whole g item_of_record _ new (takens.Crl x) refl))
+pub crl_item-fetched : {D : Type 0} (g : Ghosts D) (n : RawEntry) (limits : Limits) (h : Held) (old new : Feed D) (x : RawCrl) → nat_le (h.crls + 1) limits.crls ≡ true
+    → Fetches g crl_held (fielded (crl)) old new (Ok x) → Fetches g (item_of_record n) (crl_item limits h) old new (Ok (takens.Crl x))
+crl_item-fetched g n limits h old new x room one =
+    fetched-same g (item_of_record n) (fielded (crl) >>= λ x. whole (OneCrl x)) (crl_item limits h) old new _ (crl_item-room limits h room)
+    (fetched-then g crl_held (item_of_record n) (fielded (crl)) (λ x. whole (OneCrl x)) old new new x _ one (fetched-whole g (item_of_record n) _ new (takens.Crl x) refl))
 
 entry_item-room : (limits : Limits) (h : Held) → nat_le (h.entries + 1) limits.entries ≡ true → (file : List ℕ) (at : ℕ)
     → entry_item limits h file at ≡ (fielded (entry) >>= λ x. whole (OneEntry x)) file at
 unfolding entry_item
 entry_item-room limits h room file at = rw room refl
 
-pub entry_item-over : {D : Type 0} (g : Ghosts D) (limits : Limits) (h : Held) (feed : Feed D) → nat_le (h.entries + 1) limits.entries ≡ false
-    → Fetches g item_of_record (entry_item limits h) feed feed (Err (faults.TooMany what.Entries limits.entries))
+pub entry_item-over : {D : Type 0} (g : Ghosts D) (n : RawEntry) (limits : Limits) (h : Held) (feed : Feed D) → nat_le (h.entries + 1) limits.entries ≡ false
+    → Fetches g (item_of_record n) (entry_item limits h) feed feed (Err (faults.TooMany what.Entries limits.entries))
 unfolding entry_item
-entry_item-over g limits h feed over = fetched-refused g item_of_record (entry_item limits h) feed _ (λ same. absurd cc) (λ of file. rw over refl)
+entry_item-over g n limits h feed over = fetched-refused g (item_of_record n) (entry_item limits h) feed _ (λ same. absurd cc) (λ of file. rw over refl)
 
-pub entry_item-err : {D : Type 0} (g : Ghosts D) (limits : Limits) (h : Held) (old new : Feed D) (e : JobFault) → nat_le (h.entries + 1) limits.entries ≡ true
-    → Fetches g entry_held (fielded (entry)) old new (Err e) → Fetches g item_of_record (entry_item limits h) old new (Err e)
-entry_item-err g limits h old new e room one =
-    fetched-same g item_of_record (fielded (entry) >>= λ x. whole (OneEntry x)) (entry_item limits h) old new (Err e) (entry_item-room limits h room)
-    (fetched-err g entry_held item_of_record (fielded (entry)) (λ x. whole (OneEntry x)) old new e one)
+pub entry_item-err : {D : Type 0} (g : Ghosts D) (n : RawEntry) (limits : Limits) (h : Held) (old new : Feed D) (e : JobFault) → nat_le (h.entries + 1) limits.entries ≡ true
+    → Fetches g (λ (u : Unit {0}). entry_held n) (fielded (entry)) old new (Err e) → Fetches g (item_of_record n) (entry_item limits h) old new (Err e)
+entry_item-err g n limits h old new e room one =
+    fetched-same g (item_of_record n) (fielded (entry) >>= λ x. whole (OneEntry x)) (entry_item limits h) old new (Err e) (entry_item-room limits h room)
+    (fetched-err g (λ (u : Unit {0}). entry_held n) (item_of_record n) (fielded (entry)) (λ x. whole (OneEntry x)) old new e one)
 
-pub entry_item-fetched : {D : Type 0} (g : Ghosts D) (limits : Limits) (h : Held) (old new : Feed D) (x : RawEntry) → nat_le (h.entries + 1) limits.entries ≡ true
-    → Fetches g entry_held (fielded (entry)) old new (Ok x) → Fetches g item_of_record (entry_item limits h) old new (Ok (takens.Entry x))
-entry_item-fetched g limits h old new x room one =
-    fetched-same g item_of_record (fielded (entry) >>= λ x. whole (OneEntry x)) (entry_item limits h) old new _ (entry_item-room limits h room)
-    (fetched-then g entry_held item_of_record (fielded (entry)) (λ x. whole (OneEntry x)) old new new x _ one (fetched-whole g item_of_record _ new (takens.Entry x) refl))
+pub entry_item-fetched : {D : Type 0} (g : Ghosts D) (n : RawEntry) (limits : Limits) (h : Held) (old new : Feed D) (x : Unit {0}) → nat_le (h.entries + 1) limits.entries ≡ true
+    → Fetches g (λ (u : Unit {0}). entry_held n) (fielded (entry)) old new (Ok x) → Fetches g (item_of_record n) (entry_item limits h) old new (Ok takens.Entry)
+entry_item-fetched g n limits h old new x room one =
+    fetched-same g (item_of_record n) (fielded (entry) >>= λ x. whole (OneEntry x)) (entry_item limits h) old new _ (entry_item-room limits h room)
+    (fetched-then g (λ (u : Unit {0}). entry_held n) (item_of_record n) (fielded (entry)) (λ x. whole (OneEntry x)) old new new x _ one (fetched-whole g (item_of_record n) _ new takens.Entry refl))
 
 -- ---- the next record
 
 abbrev behind_kind : Limits → Held → ℕ → Layout JobFault (Option Item)
 behind_kind limits h kind = if kind == 0 then whole None else some_of (item_of kind limits h)
 
-pub next-err : {D : Type 0} (g : Ghosts D) (limits : Limits) (h : Held) (old new : Feed D) (e : JobFault)
-    → Fetches g (λ (k : ℕ). k) (fielded (record_kind h.kind)) old new (Err e) → Fetches g some_record (next_item limits h) old new (Err e)
+pub next-err : {D : Type 0} (g : Ghosts D) (n : RawEntry) (limits : Limits) (h : Held) (old new : Feed D) (e : JobFault)
+    → Fetches g (λ (k : ℕ). k) (fielded (record_kind h.kind)) old new (Err e) → Fetches g (some_record n) (next_item limits h) old new (Err e)
 unfolding next_item
-next-err g limits h old new e one = fetched-err g (λ (k : ℕ). k) some_record (fielded (record_kind h.kind)) (behind_kind limits h) old new e one
+next-err g n limits h old new e one = fetched-err g (λ (k : ℕ). k) (some_record n) (fielded (record_kind h.kind)) (behind_kind limits h) old new e one
 
-pub next-over : {D : Type 0} (g : Ghosts D) (limits : Limits) (h : Held) (old new : Feed D) (kind : ℕ) → kind ≡ 0
-    → Fetches g (λ (k : ℕ). k) (fielded (record_kind h.kind)) old new (Ok kind) → Fetches g some_record (next_item limits h) old new (Ok None)
+pub next-over : {D : Type 0} (g : Ghosts D) (n : RawEntry) (limits : Limits) (h : Held) (old new : Feed D) (kind : ℕ) → kind ≡ 0
+    → Fetches g (λ (k : ℕ). k) (fielded (record_kind h.kind)) old new (Ok kind) → Fetches g (some_record n) (next_item limits h) old new (Ok None)
 unfolding next_item
-next-over g limits h old new kind is one =
-    fetched-then g (λ (k : ℕ). k) some_record (fielded (record_kind h.kind)) (behind_kind limits h) old new new kind (Ok None) one (rw is (fetched-whole g some_record None new None refl))
+next-over g n limits h old new kind is one =
+    fetched-then g (λ (k : ℕ). k) (some_record n) (fielded (record_kind h.kind)) (behind_kind limits h) old new new kind (Ok None) one (rw is (fetched-whole g (some_record n) None new None refl))
 
-pub next-one-err : {D : Type 0} (g : Ghosts D) (limits : Limits) (h : Held) (old mid new : Feed D) (kind : ℕ) (e : JobFault) → (kind == 0) ≡ false
-    → Fetches g (λ (k : ℕ). k) (fielded (record_kind h.kind)) old mid (Ok kind) → Fetches g item_of_record (item_of kind limits h) mid new (Err e)
-    → Fetches g some_record (next_item limits h) old new (Err e)
+pub next-one-err : {D : Type 0} (g : Ghosts D) (n : RawEntry) (limits : Limits) (h : Held) (old mid new : Feed D) (kind : ℕ) (e : JobFault) → (kind == 0) ≡ false
+    → Fetches g (λ (k : ℕ). k) (fielded (record_kind h.kind)) old mid (Ok kind) → Fetches g (item_of_record n) (item_of kind limits h) mid new (Err e)
+    → Fetches g (some_record n) (next_item limits h) old new (Err e)
 unfolding next_item
-next-one-err g limits h old mid new kind e some one two =
-    fetched-then g (λ (k : ℕ). k) some_record (fielded (record_kind h.kind)) (behind_kind limits h) old mid new kind (Err e) one
-    (rw some (fetched-err g item_of_record some_record (item_of kind limits h) (λ x. whole (Some x)) mid new e two))
+next-one-err g n limits h old mid new kind e some one two =
+    fetched-then g (λ (k : ℕ). k) (some_record n) (fielded (record_kind h.kind)) (behind_kind limits h) old mid new kind (Err e) one
+    (rw some (fetched-err g (item_of_record n) (some_record n) (item_of kind limits h) (λ x. whole (Some x)) mid new e two))
 
-pub next-one : {D : Type 0} (g : Ghosts D) (limits : Limits) (h : Held) (old mid new : Feed D) (kind : ℕ) (x : Taken) → (kind == 0) ≡ false
-    → Fetches g (λ (k : ℕ). k) (fielded (record_kind h.kind)) old mid (Ok kind) → Fetches g item_of_record (item_of kind limits h) mid new (Ok x)
-    → Fetches g some_record (next_item limits h) old new (Ok (Some x))
+pub next-one : {D : Type 0} (g : Ghosts D) (n : RawEntry) (limits : Limits) (h : Held) (old mid new : Feed D) (kind : ℕ) (x : Taken) → (kind == 0) ≡ false
+    → Fetches g (λ (k : ℕ). k) (fielded (record_kind h.kind)) old mid (Ok kind) → Fetches g (item_of_record n) (item_of kind limits h) mid new (Ok x)
+    → Fetches g (some_record n) (next_item limits h) old new (Ok (Some x))
 unfolding next_item
-next-one g limits h old mid new kind x some one two =
-    fetched-then g (λ (k : ℕ). k) some_record (fielded (record_kind h.kind)) (behind_kind limits h) old mid new kind (Ok (Some x)) one
-    (rw some (fetched-then g item_of_record some_record (item_of kind limits h) (λ x. whole (Some x)) mid new new x (Ok (Some x)) two (fetched-whole g some_record _ new (Some x) refl)))
+next-one g n limits h old mid new kind x some one two =
+    fetched-then g (λ (k : ℕ). k) (some_record n) (fielded (record_kind h.kind)) (behind_kind limits h) old mid new kind (Ok (Some x)) one
+    (rw some (fetched-then g (item_of_record n) (some_record n) (item_of kind limits h) (λ x. whole (Some x)) mid new new x (Ok (Some x)) two (fetched-whole g (some_record n) _ new (Some x) refl)))

@@ -13,7 +13,6 @@ use Rattle.job_core.specs.JobFields.{JobFields}
 use Rattle.job_core.specs.JobLayout.{Item, OneRange, OneCrl, OneEntry, Held, nothing_held, with_item, serials_of, with_serials, next_item, records, saying_one}
 use Rattle.job_core.specs.Partial.{held_in, said_behind, records_saying}
 use Rattle.job_core.specs.Pulling.{Pulled, AreBytes, NoneFailed, Lies, Fetches}
-use Rattle.job_core.specs.Records.{some_record}
 use Rattle.job_core.proofs.Pulling.{pulled-then}
 use Rattle.job_core.proofs.Given.{lies-none, lies-first, lies-second, lies-both}
 use Rattle.job_core.proofs.Fetching.{bytes-none, bytes-both, blames-then}
@@ -55,16 +54,16 @@ module _ {D : Type 0} (g : Ghosts D) (limits : Limits) (first f : JobFields) (h 
   further : (more : List ℕ) → place_of new ≡ place_of mid + length more → place_of new ≡ place_of old + length (s.given ++ more)
   further more is = omega (arith, is, s.place, length-append s.given more)
 
-  module _ (o : Option Taken) (e : Fetches g some_record (next_item limits h) mid new (Ok o)) where
+  module _ (view : Option Taken → Option Item) (o : Option Taken) (e : Fetches g view (next_item limits h) mid new (Ok o)) where
     next-lies : (file : List ℕ) → StandsIn g mid file → Lies false file (place_of mid) e.given
     next-lies file stands = subst (λ (b : Bool). Lies b file (place_of mid) e.given) e.going.1 (e.lies file stands)
 
-    next-reads : (file : List ℕ) → Lies false file (place_of old) (s.given ++ e.given) → (x : Option Item) → some_record o ≡ x → next_item limits h file (place_of mid) ≡ Ok (x, place_of new)
+    next-reads : (file : List ℕ) → Lies false file (place_of old) (s.given ++ e.given) → (x : Option Item) → view o ≡ x → next_item limits h file (place_of mid) ≡ Ok (x, place_of new)
     next-reads file lies x is =
         e.reads file (subst (λ (b : Bool). Lies b file (place_of mid) e.given) (sym e.going.1) (behind e.given false file lies)) ∙ ap (λ (y : Option Item). Ok (y, place_of new)) is
 
     -- a record more
-    pub gathers-more : (x : Item) (k : Held) (n : ℕ) (next : JobFields) → some_record o ≡ Some x → next ≡ saying_one f x → k ≡ with_item h x
+    pub gathers-more : (x : Item) (k : Held) (n : ℕ) (next : JobFields) → view o ≡ Some x → next ≡ saying_one f x → k ≡ with_item h x
         → n ≡ with_serials serials_of serials x → n ≤ limits.serials → Gathers g limits first next k n old new
     gathers-more x k n next is says holds counts few = record {
       given = s.given ++ e.given;
@@ -76,7 +75,7 @@ module _ {D : Type 0} (g : Ghosts D) (limits : Limits) (first f : JobFields) (h 
     }
 
     -- the job ends
-    pub gathered-all : {U : Type 0} (v : U → JobFields) (u : U) → v u ≡ f → NoneFailed g old mid → some_record o ≡ None → Fetches g v (records_saying limits first) old new (Ok u)
+    pub gathered-all : {U : Type 0} (v : U → JobFields) (u : U) → v u ≡ f → NoneFailed g old mid → view o ≡ None → Fetches g v (records_saying limits first) old new (Ok u)
     gathered-all v u same none is = record {
       pulled = pulled-then g old mid new pulled e.pulled;
       blames = e.blames ∙ none;
@@ -90,7 +89,7 @@ module _ {D : Type 0} (g : Ghosts D) (limits : Limits) (first f : JobFields) (h 
     }
 
     -- a record that isn't added
-    pub gathered-refused : {U : Type 0} (v : U → JobFields) (x : Item) (fault : JobFault) → some_record o ≡ Some x → NoneFailed g old mid → (fault ≡ faults.ReadFault → ⊥)
+    pub gathered-refused : {U : Type 0} (v : U → JobFields) (x : Item) (fault : JobFault) → view o ≡ Some x → NoneFailed g old mid → (fault ≡ faults.ReadFault → ⊥)
         → ((fault ≡ faults.NoMemory → ⊥) → (fault ≡ faults.TooMany what.Serials limits.serials) × (limits.serials < with_serials serials_of serials x))
         → Fetches g v (records_saying limits first) old new (Err fault)
     gathered-refused v x fault is none not_read over = record {
@@ -108,9 +107,9 @@ module _ {D : Type 0} (g : Ghosts D) (limits : Limits) (first f : JobFields) (h 
     }
 
   -- the next record has a fault
-  pub gathered-fault : {U : Type 0} (v : U → JobFields) (fault : JobFault) → NoneFailed g old mid → Fetches g some_record (next_item limits h) mid new (Err fault)
+  pub gathered-fault : {U : Type 0} (view : Option Taken → Option Item) (v : U → JobFields) (fault : JobFault) → NoneFailed g old mid → Fetches g view (next_item limits h) mid new (Err fault)
       → Fetches g v (records_saying limits first) old new (Err fault)
-  gathered-fault {U} v fault none e = record {
+  gathered-fault {U} view v fault none e = record {
     pulled = pulled-then g old mid new pulled e.pulled;
     blames = blames-then {X = U} g old mid new (Err fault) pulled none e.blames;
     given = s.given ++ e.given;

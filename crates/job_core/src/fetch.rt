@@ -12,7 +12,6 @@ use crate::fault::JobFault;
 use crate::pull::pull;
 use octets_core::{Field, Key32, LayoutFault, Why, is_after};
 use outside_core::{Depot, Failed, Feed};
-use std::alloc::Global;
 
 /// The fault of a field whose first byte has this offset.
 pub fn wrong(at: u64, field: Field, why: Why) -> JobFault
@@ -36,20 +35,19 @@ pub fn fetch<D: Depot>(feed: &mut Feed<'_, D>, field: Field, out: &mut [u8]) -> 
     }
 }
 
-/// So many bytes.
+/// So many bytes, in place of those that the vector holds. Its memory is used again.
 pub fn fetch_octets<D: Depot>(
-    alloc: Global,
     feed: &mut Feed<'_, D>,
     field: Field,
     width: u32,
-) -> Result<Vec<u8>, JobFault>
-    ensures exact { Fetches D.Depot (λ v. v.items) (fielded (octets field width)) feed.old feed.new result }
+    out: &mut Vec<u8>,
+) -> Result<(), JobFault>
+    ensures exact { Fetches D.Depot (λ u. out.new.items) (fielded (octets field width)) feed.old feed.new result }
     ensures near { place_of feed.new ≤ place_of feed.old + width }
 {
-    let mut out = Vec::new(alloc);
     out.resize(width as usize, 0)?;
-    fetch(feed, field, &mut out)?;
-    Ok(out)
+    fetch(feed, field, out)?;
+    Ok(())
 }
 
 /// A key of 32 bytes.

@@ -1,5 +1,8 @@
+ghost use Rattle.std.specs.Prelude.{◌≡◌, []};
+
 use ident_core::Range;
 use octets_core::Key32;
+use std::alloc::Global;
 
 /// A CRL of a job, not yet read.
 #[derive(Debug, Drop)]
@@ -14,6 +17,18 @@ pub struct RawEntry {
     pub log: Key32,
     pub leaf: Vec<u8>,
     pub extra: Vec<u8>,
+}
+
+/// An entry without bytes, of no log, for one that is read into it.
+pub fn no_entry(alloc: Global) -> RawEntry
+    ensures leaf { result.leaf.items ≡ [] }
+    ensures extra { result.extra.items ≡ [] }
+{
+    RawEntry {
+        log: Key32::new([0; 32]),
+        leaf: Vec::new(alloc),
+        extra: Vec::new(alloc),
+    }
 }
 
 /// What the records of a job hold, in their order.

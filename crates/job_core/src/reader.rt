@@ -10,7 +10,7 @@ use crate::bounds::Limits;
 use crate::fault::JobFault;
 use crate::fetch::fetch_end;
 use crate::partial::{Numbers, no_numbers};
-use crate::raw::{RawCrl, RawEntry};
+use crate::raw::{RawCrl, RawEntry, no_entry};
 use crate::records::{Item, fetch_opening, next_item_from};
 use ident_core::Range;
 use outside_core::{Depot, Feed};
@@ -84,7 +84,14 @@ impl JobReader {
         ensures next { ReadsNext D.Depot self.old self.new feed.old feed.new result }
         ensures stage { IfOk result (λ r. (fault_of self.new ≡ None) × (r ≡ Record.End ↔ self.new.stage ≡ Stage.Ended)) }
     {
-        match next_item_from(self.alloc, &mut self.numbers, feed, &self.limits)? {
+        let mut entry = no_entry(self.alloc);
+        match next_item_from(
+            self.alloc,
+            &mut self.numbers,
+            feed,
+            &self.limits,
+            &mut entry,
+        )? {
             None => {
                 fetch_end(feed)?;
                 self.stage = Stage::Ended;
@@ -92,7 +99,7 @@ impl JobReader {
             }
             Some(Item::Range(range)) => Ok(Record::Range(range)),
             Some(Item::Crl(crl)) => Ok(Record::Crl(crl)),
-            Some(Item::Entry(entry)) => Ok(Record::Entry(entry)),
+            Some(Item::Entry) => Ok(Record::Entry(entry)),
         }
     }
 

@@ -1,12 +1,13 @@
 //! Jobs from a feed.
 
-ghost use Rattle.std.specs.Prelude.{◌≡◌, ◌≢◌, ◌+◌, ◌-◌, ◌≤◌, ◌<◌, ◌^◌, ℕ, List, map, All, Err, IfSome, IfOk};
+ghost use Rattle.std.specs.Prelude.{◌≡◌, ◌≢◌, ◌+◌, ◌-◌, ◌≤◌, ◌<◌, ◌^◌, ℕ, List, map, All, Err, IfSome, IfOk, IfErr, OnOk};
 ghost use Rattle.outside_core.specs.Filling.{IsInOrder};
 ghost use Rattle.outside_core.specs.Standing.{place_of, StandsIn};
 ghost use Rattle.crl_core.specs.Outcome.{CrlFieldsFit};
 ghost use Rattle.job_core.specs.JobFields.{crl_view, fields_of_job, AreWithin};
 ghost use Rattle.job_core.specs.JobFacts.{EntryFieldsFit, FitsFields, IsWithinLimits};
-ghost use Rattle.job_core.specs.JobLayout.{begun, job_of};
+ghost use Rattle.job_core.specs.JobLayout.{OneEntry, begun, job_of, saying_one};
+ghost use Rattle.job_core.specs.JobText.{entry_held};
 ghost use Rattle.job_core.specs.Partial.{records_saying};
 ghost use Rattle.job_core.specs.Pulling.{Pulled, Blames, Comes, Fetches, IsGiven, ReadsJob};
 
@@ -15,6 +16,7 @@ use crate::fault::JobFault;
 use crate::fetch::fetch_end;
 use crate::meaning::Job;
 use crate::partial::{no_numbers, numbers_facts};
+use crate::raw::{RawEntry, no_entry};
 use crate::reading::{crls_facts, entries_facts, put_crl, put_entry, put_range};
 use crate::records::{Item, fetch_opening, next_item_from};
 use outside_core::{Depot, Feed};
@@ -33,12 +35,21 @@ fn begun_job(alloc: Global, epoch: u64, moment: u64) -> Job
     }
 }
 
-/// Adds what the records say, up to the one that ends the job.
+/// Adds what an entry gives.
+fn put_entry_in(job: &mut Job, entry: &RawEntry) -> Result<(), JobFault>
+    ensures ok { OnOk result (fields_of_job job.new ≡ saying_one (fields_of_job job.old) (OneEntry (entry_held entry.now))) }
+    ensures wanted { IfErr result (λ e. e ≡ JobFault.NoMemory) }
+{
+    put_entry(job, entry.log, &entry.leaf, &entry.extra)
+}
+
+/// Adds what the records say, up to the one that ends the job. The entries are read one after another into `entry`.
 fn put_items<D: Depot>(
     job: &mut Job,
     alloc: Global,
     feed: &mut Feed<'_, D>,
     limits: &Limits,
+    entry: &mut RawEntry,
 ) -> Result<(), JobFault>
     ensures exact { Fetches D.Depot (λ u. fields_of_job job.new) (records_saying limits.now (fields_of_job job.old)) feed.old feed.new result }
     ensures near { place_of feed.new ≤ place_of feed.old + 2 ^ 62 }
@@ -47,13 +58,13 @@ fn put_items<D: Depot>(
     let mut serials = 0;
     'records: loop {
         numbers_facts(&numbers);
-        match next_item_from(alloc, &mut numbers, feed, limits) {
+        match next_item_from(alloc, &mut numbers, feed, limits, entry) {
             Ok(None) => return Ok(()),
             Ok(Some(Item::Range(range))) => put_range(job, range)?,
             Ok(Some(Item::Crl(crl))) => {
                 serials = put_crl(job, alloc, crl.issuer, &crl.bytes, serials, limits)?;
             }
-            Ok(Some(Item::Entry(entry))) => put_entry(job, entry.log, &entry.leaf, &entry.extra)?,
+            Ok(Some(Item::Entry)) => put_entry_in(job, entry)?,
             Err(fault) => return Err(fault),
         }
     }
@@ -72,7 +83,8 @@ fn job_from<D: Depot>(
 {
     let (epoch, moment) = fetch_opening(feed)?;
     let mut job = begun_job(alloc, epoch, moment);
-    put_items(&mut job, alloc, feed, limits)?;
+    let mut entry = no_entry(alloc);
+    put_items(&mut job, alloc, feed, limits, &mut entry)?;
     fetch_end(feed)?;
     Ok(job)
 }

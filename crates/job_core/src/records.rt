@@ -26,12 +26,12 @@ use std::alloc::Global;
 /// The most bytes of a CRL.
 pub const MAX_CRL: u32 = 67_108_864;
 
-/// A record that was read.
+/// A record that was read. An entry stands where the reader was told to put it, so that one's memory serves the next.
 #[derive(Debug, Drop)]
 pub enum Item {
     Range(Range),
     Crl(RawCrl),
-    Entry(RawEntry),
+    Entry,
 }
 
 fn is_kind_after(previous: u8, kind: u8) -> bool
@@ -76,21 +76,22 @@ fn fetch_crl<D: Depot>(alloc: Global, feed: &mut Feed<'_, D>) -> Result<RawCrl, 
 {
     let issuer = fetch_key(feed, Field::CrlIssuer)?;
     let width = fetch_u32(feed, Field::CrlLength, MAX_CRL)?;
-    let bytes = fetch_octets(alloc, feed, Field::CrlBytes, width)?;
+    let mut bytes = Vec::new(alloc);
+    fetch_octets(feed, Field::CrlBytes, width, &mut bytes)?;
     Ok(RawCrl { issuer, bytes })
 }
 
 /// The entry behind the kind of its record.
-fn fetch_entry<D: Depot>(alloc: Global, feed: &mut Feed<'_, D>) -> Result<RawEntry, JobFault>
-    ensures exact { Fetches D.Depot entry_held (fielded entry) feed.old feed.new result }
+fn fetch_entry<D: Depot>(feed: &mut Feed<'_, D>, into: &mut RawEntry) -> Result<(), JobFault>
+    ensures exact { Fetches D.Depot (λ u. entry_held into.new) (fielded entry) feed.old feed.new result }
     ensures near { place_of feed.new ≤ place_of feed.old + 2 ^ 25 + 38 }
 {
-    let log = fetch_key(feed, Field::EntryLog)?;
+    into.log = fetch_key(feed, Field::EntryLog)?;
     let leaf_width = fetch_u24(feed, Field::EntryLeafLength)?;
-    let leaf = fetch_octets(alloc, feed, Field::EntryLeaf, leaf_width)?;
+    fetch_octets(feed, Field::EntryLeaf, leaf_width, &mut into.leaf)?;
     let extra_width = fetch_u24(feed, Field::EntryExtraLength)?;
-    let extra = fetch_octets(alloc, feed, Field::EntryExtra, extra_width)?;
-    Ok(RawEntry { log, leaf, extra })
+    fetch_octets(feed, Field::EntryExtra, extra_width, &mut into.extra)?;
+    Ok(())
 }
 
 /// The epoch and the moment, which stand before the records.
@@ -109,9 +110,9 @@ fn range_from<D: Depot>(
     feed: &mut Feed<'_, D>,
     limits: &Limits,
 ) -> Result<Item, JobFault>
-    ensures exact { Fetches D.Depot item_of_record (range_item limits.now (held_in numbers.old)) feed.old feed.new result }
+    ensures exact { (e : RawEntry) → Fetches D.Depot (item_of_record e) (range_item limits.now (held_in numbers.old)) feed.old feed.new result }
     ensures near { place_of feed.new ≤ place_of feed.old + 2 ^ 27 }
-    ensures behind { IfOk result (λ x. held_in numbers.new ≡ with_item (held_in numbers.old) (item_of_record x)) }
+    ensures behind { (e : RawEntry) → IfOk result (λ x. held_in numbers.new ≡ with_item (held_in numbers.old) (item_of_record e x)) }
 {
     if !is_room(limits.ranges, numbers.ranges) {
         return Err(JobFault::TooMany {
@@ -132,9 +133,9 @@ fn crl_from<D: Depot>(
     feed: &mut Feed<'_, D>,
     limits: &Limits,
 ) -> Result<Item, JobFault>
-    ensures exact { Fetches D.Depot item_of_record (crl_item limits.now (held_in numbers.old)) feed.old feed.new result }
+    ensures exact { (e : RawEntry) → Fetches D.Depot (item_of_record e) (crl_item limits.now (held_in numbers.old)) feed.old feed.new result }
     ensures near { place_of feed.new ≤ place_of feed.old + 2 ^ 27 }
-    ensures behind { IfOk result (λ x. held_in numbers.new ≡ with_item (held_in numbers.old) (item_of_record x)) }
+    ensures behind { (e : RawEntry) → IfOk result (λ x. held_in numbers.new ≡ with_item (held_in numbers.old) (item_of_record e x)) }
 {
     if !is_room(limits.crls, numbers.crls) {
         return Err(JobFault::TooMany {
@@ -149,14 +150,14 @@ fn crl_from<D: Depot>(
 }
 
 fn entry_from<D: Depot>(
-    alloc: Global,
     numbers: &mut Numbers,
     feed: &mut Feed<'_, D>,
     limits: &Limits,
+    into: &mut RawEntry,
 ) -> Result<Item, JobFault>
-    ensures exact { Fetches D.Depot item_of_record (entry_item limits.now (held_in numbers.old)) feed.old feed.new result }
+    ensures exact { Fetches D.Depot (item_of_record into.new) (entry_item limits.now (held_in numbers.old)) feed.old feed.new result }
     ensures near { place_of feed.new ≤ place_of feed.old + 2 ^ 27 }
-    ensures behind { IfOk result (λ x. held_in numbers.new ≡ with_item (held_in numbers.old) (item_of_record x)) }
+    ensures behind { IfOk result (λ x. held_in numbers.new ≡ with_item (held_in numbers.old) (item_of_record into.new x)) }
 {
     if !is_room(limits.entries, numbers.entries) {
         return Err(JobFault::TooMany {
@@ -164,10 +165,10 @@ fn entry_from<D: Depot>(
             limit: limits.entries,
         });
     }
-    let entry = fetch_entry(alloc, feed)?;
+    fetch_entry(feed, into)?;
     numbers.kind = 3;
     numbers.entries += 1;
-    Ok(Item::Entry(entry))
+    Ok(Item::Entry)
 }
 
 fn item_from<D: Depot>(
@@ -175,35 +176,37 @@ fn item_from<D: Depot>(
     numbers: &mut Numbers,
     feed: &mut Feed<'_, D>,
     limits: &Limits,
+    into: &mut RawEntry,
     kind: u8,
 ) -> Result<Item, JobFault>
-    ensures exact { Fetches D.Depot item_of_record (item_of kind limits.now (held_in numbers.old)) feed.old feed.new result }
+    ensures exact { Fetches D.Depot (item_of_record into.new) (item_of kind limits.now (held_in numbers.old)) feed.old feed.new result }
     ensures near { place_of feed.new ≤ place_of feed.old + 2 ^ 27 }
-    ensures behind { IfOk result (λ x. held_in numbers.new ≡ with_item (held_in numbers.old) (item_of_record x)) }
+    ensures behind { IfOk result (λ x. held_in numbers.new ≡ with_item (held_in numbers.old) (item_of_record into.new x)) }
 {
     match kind {
         1 => range_from(numbers, feed, limits),
         2 => crl_from(alloc, numbers, feed, limits),
-        _ => entry_from(alloc, numbers, feed, limits),
+        _ => entry_from(numbers, feed, limits, into),
     }
 }
 
-/// The next record, or none where the job ends.
+/// The next record, or none where the job ends. An entry is put in place of the one that is passed, in its memory.
 pub fn next_item_from<D: Depot>(
     alloc: Global,
     numbers: &mut Numbers,
     feed: &mut Feed<'_, D>,
     limits: &Limits,
+    into: &mut RawEntry,
 ) -> Result<Option<Item>, JobFault>
-    ensures exact { Fetches D.Depot some_record (next_item limits.now (held_in numbers.old)) feed.old feed.new result }
+    ensures exact { Fetches D.Depot (some_record into.new) (next_item limits.now (held_in numbers.old)) feed.old feed.new result }
     ensures near { place_of feed.new ≤ place_of feed.old + 2 ^ 27 + 1 }
-    ensures behind { IfOk result (λ x. IfSome x (λ taken. held_in numbers.new ≡ with_item (held_in numbers.old) (item_of_record taken))) }
+    ensures behind { IfOk result (λ x. IfSome x (λ taken. held_in numbers.new ≡ with_item (held_in numbers.old) (item_of_record into.new taken))) }
     ensures further { OnOk result (place_of feed.old < place_of feed.new) }
 {
     let kind = fetch_kind(feed, numbers.kind)?;
     if kind == 0 {
         return Ok(None);
     }
-    let item = item_from(alloc, numbers, feed, limits, kind)?;
+    let item = item_from(alloc, numbers, feed, limits, into, kind)?;
     Ok(Some(item))
 }

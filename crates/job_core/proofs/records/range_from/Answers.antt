@@ -5,13 +5,14 @@ use Rattle.job_core.proofs.Fetched.{range_item-fetched, range_item-err, range_it
 use Rattle.job_core.proofs.records.range_from.Goals as goal
 
 pub returns-then-not-is_room-clause-exact : goal.returns-then-not-is_room-clause-exact
-returns-then-not-is_room-clause-exact g c =
-    range_item-over g.D.Depot c.args.limits.now (held_in c.args.numbers.now) c.args.feed.now (sym c.is_room.ensures ∙ c.if-not-is_room.true)
+returns-then-not-is_room-clause-exact g c = λ n.
+    range_item-over g.D.Depot n c.args.limits.now (held_in c.args.numbers.now) c.args.feed.now (sym c.is_room.ensures ∙ c.if-not-is_room.true)
 
 pub returns-in_err-range-clause-exact : goal.returns-in_err-range-clause-exact
 returns-in_err-range-clause-exact g c =
     let p = err_from_is_err_and c.from_residual.result c.from_residual.ensures.1 in
-    rw (p.1, p.2) (range_item-err g.D.Depot c.args.limits.now (held_in c.args.numbers.now) c.args.feed.now _ _ (sym c.is_room.ensures ∙ c.if-not-is_room.false) c.in_err-range.ensures.exact)
+    rw (p.1, p.2) (λ n. range_item-err g.D.Depot n c.args.limits.now (held_in c.args.numbers.now) c.args.feed.now _ _ (sym c.is_room.ensures ∙ c.if-not-is_room.false) c.in_err-range.ensures.exact)
 
 pub returns-clause-exact : goal.returns-clause-exact
-returns-clause-exact g c = range_item-fetched g.D.Depot c.args.limits.now (held_in c.args.numbers.now) c.args.feed.now _ _ (sym c.is_room.ensures ∙ c.if-not-is_room.false) c.in_ok-range.ensures.exact
+returns-clause-exact g c =
+    λ n. range_item-fetched g.D.Depot n c.args.limits.now (held_in c.args.numbers.now) c.args.feed.now _ _ (sym c.is_room.ensures ∙ c.if-not-is_room.false) c.in_ok-range.ensures.exact

@@ -8,6 +8,7 @@ use Rattle.job_core.specs.JobLayout.{Item, OneRange, OneCrl, OneEntry}
 use Rattle.job_core.specs.JobText.{crl_held, entry_held}
 use Rattle.std.specs.Prelude.{IfSome}
 use Rattle.job_core.specs.declared.reader.Stage.TheVariants as stages
+use Rattle.job_core.specs.declared.raw.RawEntry.{RawEntry}
 use Rattle.job_core.specs.declared.records.Item.{Item as Taken}
 use Rattle.job_core.specs.JobLayout.{with_item}
 use Rattle.job_core.specs.Partial.{held_in}
@@ -18,11 +19,11 @@ use Rattle.job_core.proofs.Fetching.{blames-then, told, end-ok}
 use Rattle.job_core.proofs.JobStanding.{gives-one, gives-end, gives-fault, gives-more}
 use Rattle.job_core.proofs.reader.JobReader.record.Goals as goal
 
-abbrev told_as : ℕ → Option Taken → Result (Option Item × ℕ) JobFault
-told_as end o = Ok (some_record o, end)
+abbrev told_as : RawEntry → ℕ → Option Taken → Result (Option Item × ℕ) JobFault
+told_as entry end o = Ok (some_record entry o, end)
 
-abbrev Behind : Numbers → Numbers → Option Taken → Type 0
-Behind old new o = IfSome o (λ taken. held_in new ≡ with_item (held_in old) (item_of_record taken))
+abbrev Behind : RawEntry → Numbers → Numbers → Option Taken → Type 0
+Behind entry old new o = IfSome o (λ taken. held_in new ≡ with_item (held_in old) (item_of_record entry taken))
 
 pub returns-in_err-next_item_from-clause-next : goal.returns-in_err-next_item_from-clause-next
 returns-in_err-next_item_from-clause-next g c =
@@ -48,7 +49,8 @@ returns-in_ok-fetch_end-in-None-clause-next g c = λ file stands has.
     let t = told e file stands in
     gives-end c.args.self.now (record c.args.self.now { numbers = c.next_item_from.new.numbers; stage = stages.Ended }) file (place_of c.args.feed.now) (place_of c.fetch_end.new.feed)
     (omega (arith, e.pulled.further, f.pulled.further)) (omega (arith, later.window.within)) refl has (place_of c.next_item_from.new.feed) _ c.requires refl (sym f.place)
-    (t.0 ∙ ap (told_as (place_of c.next_item_from.new.feed)) c.in-None.is, t.1) (end-ok file (place_of c.next_item_from.new.feed) (place_of c.fetch_end.new.feed) (f.ended file mid) f.place)
+    (t.0 ∙ ap (told_as c.next_item_from.new.into (place_of c.next_item_from.new.feed)) c.in-None.is, t.1) (end-ok file (place_of c.next_item_from.new.feed) (place_of c.fetch_end.new.feed)
+    (f.ended file mid) f.place)
 
 pub returns-in_ok-fetch_end-in-None-clause-pulled : goal.returns-in_ok-fetch_end-in-None-clause-pulled
 returns-in_ok-fetch_end-in-None-clause-pulled g c = pulled-then g.D.Depot c.args.feed.now c.next_item_from.new.feed c.fetch_end.new.feed
@@ -66,7 +68,7 @@ returns-in_err-fetch_end-in-None-clause-next g c =
     rw (p.1, p.2) (λ file stands has.
     let t = told e file stands in
     gives-more c.args.self.now c.args.self.now file (place_of c.args.feed.now) (place_of c.fetch_end.new.feed) (omega (arith, stands.window.within)) has _ (place_of c.next_item_from.new.feed)
-    c.requires (t.0 ∙ ap (told_as (place_of c.next_item_from.new.feed)) c.in-None.is) (λ of.
+    c.requires (t.0 ∙ ap (told_as c.next_item_from.new.into (place_of c.next_item_from.new.feed)) c.in-None.is) (λ of.
     let (x, next, wrong) = f.more of in wrong file (omega (arith, (next file (e.pulled.stands file stands)).within))))
 
 pub returns-in_err-fetch_end-in-None-clause-pulled : goal.returns-in_err-fetch_end-in-None-clause-pulled
@@ -88,8 +90,8 @@ returns-in-Some-Range-clause-next g c = λ file stands has.
     let t = told e file stands in
     gives-one c.args.self.now (record c.args.self.now { numbers = c.next_item_from.new.numbers }) file (place_of c.args.feed.now) (place_of c.next_item_from.new.feed) e.pulled.further
     (omega (arith, later.window.within)) refl has (OneRange c.in-Some-Range.range) (gives.Range c.in-Some-Range.range) c.requires c.requires
-    (subst (Behind c.args.self.now.numbers c.next_item_from.new.numbers) is c.in_ok-next_item_from.ensures.behind) refl (λ same. absurd cc)
-    (t.0 ∙ ap (told_as (place_of c.next_item_from.new.feed)) is, t.1)
+    (subst (Behind c.next_item_from.new.into c.args.self.now.numbers c.next_item_from.new.numbers) is c.in_ok-next_item_from.ensures.behind) refl (λ same. absurd cc)
+    (t.0 ∙ ap (told_as c.next_item_from.new.into (place_of c.next_item_from.new.feed)) is, t.1)
 
 pub returns-in-Some-Range-clause-pulled : goal.returns-in-Some-Range-clause-pulled
 returns-in-Some-Range-clause-pulled g c = c.in_ok-next_item_from.ensures.exact.pulled
@@ -105,8 +107,8 @@ returns-in-Some-Crl-clause-next g c = λ file stands has.
     let t = told e file stands in
     gives-one c.args.self.now (record c.args.self.now { numbers = c.next_item_from.new.numbers }) file (place_of c.args.feed.now) (place_of c.next_item_from.new.feed) e.pulled.further
     (omega (arith, later.window.within)) refl has (OneCrl (crl_held c.in-Some-Crl.crl)) (gives.Crl c.in-Some-Crl.crl) c.requires c.requires
-    (subst (Behind c.args.self.now.numbers c.next_item_from.new.numbers) is c.in_ok-next_item_from.ensures.behind) refl (λ same. absurd cc)
-    (t.0 ∙ ap (told_as (place_of c.next_item_from.new.feed)) is, t.1)
+    (subst (Behind c.next_item_from.new.into c.args.self.now.numbers c.next_item_from.new.numbers) is c.in_ok-next_item_from.ensures.behind) refl (λ same. absurd cc)
+    (t.0 ∙ ap (told_as c.next_item_from.new.into (place_of c.next_item_from.new.feed)) is, t.1)
 
 pub returns-in-Some-Crl-clause-pulled : goal.returns-in-Some-Crl-clause-pulled
 returns-in-Some-Crl-clause-pulled g c = c.in_ok-next_item_from.ensures.exact.pulled
@@ -121,9 +123,9 @@ returns-in-Some-Entry-clause-next g c = λ file stands has.
     let is = c.in-Some-Entry.is ∙ ap Some c.in-Some-Entry.field-0-is in
     let t = told e file stands in
     gives-one c.args.self.now (record c.args.self.now { numbers = c.next_item_from.new.numbers }) file (place_of c.args.feed.now) (place_of c.next_item_from.new.feed) e.pulled.further
-    (omega (arith, later.window.within)) refl has (OneEntry (entry_held c.in-Some-Entry.entry)) (gives.Entry c.in-Some-Entry.entry) c.requires c.requires
-    (subst (Behind c.args.self.now.numbers c.next_item_from.new.numbers) is c.in_ok-next_item_from.ensures.behind) refl (λ same. absurd cc)
-    (t.0 ∙ ap (told_as (place_of c.next_item_from.new.feed)) is, t.1)
+    (omega (arith, later.window.within)) refl has (OneEntry (entry_held c.next_item_from.new.into)) (gives.Entry c.next_item_from.new.into) c.requires c.requires
+    (subst (Behind c.next_item_from.new.into c.args.self.now.numbers c.next_item_from.new.numbers) is c.in_ok-next_item_from.ensures.behind) refl (λ same. absurd cc)
+    (t.0 ∙ ap (told_as c.next_item_from.new.into (place_of c.next_item_from.new.feed)) is, t.1)
 
 pub returns-in-Some-Entry-clause-pulled : goal.returns-in-Some-Entry-clause-pulled
 returns-in-Some-Entry-clause-pulled g c = c.in_ok-next_item_from.ensures.exact.pulled
