@@ -17,12 +17,14 @@ use Rattle.sets_core.specs.Sets.{has, has_key}
 use Rattle.sets_core.proofs.Elements.{Among-cases, Among-right, all_at, all_from, bool_same, map_agree, map_back}
 use Rattle.sets_core.proofs.Sets.{same_is, has-from_Among}
 use Rattle.universe_core.specs.Jobs.{Job}
-use Rattle.universe_core.specs.History.{Release, past_of, released, revoked, accepted_with, accepted_by, seen, sightings, is_listed, is_settled_by, birth, covers_all}
-use Rattle.universe_core.specs.Ledgers.{item_of, birth_or, last_or_none, parts_before, part_covers, last_covers, past_in, next_item, next_with, next_ledger, last, item_from, part_from, ledger_of}
+use Rattle.universe_core.specs.History.{Release, past_of, released, shown, revoked, accepted_with, accepted_by, seen, sightings, is_listed, is_settled_by, birth, covers_all}
+use Rattle.universe_core.specs.Dates.{greatest, dates, until}
+use Rattle.universe_core.specs.Ledgers.{item_of, birth_or, last_or_none, old_dates, parts_before, part_covers, last_covers, past_in, next_item, next_with, next_ledger, last, item_from, part_from, ledger_of}
 use Rattle.universe_core.specs.Groups.{groups}
 use Rattle.universe_core.specs.Counting.{counts}
 use Rattle.universe_core.specs.Step.{groups_after, counts_after}
 use Rattle.history_core.specs.Facts.{IsSound}
+use Rattle.history_core.proofs.Dates.{until_next}
 use Rattle.history_core.proofs.Releases.{accepted_by-has, accepted_by-push, settled_parts, settled_from}
 use Rattle.history_core.proofs.Places.{birth-push, birth-none, lacked_before_birth, last-push, IsLast, last_is}
 
@@ -145,12 +147,23 @@ module _ (rs : List Release) (sound : IsSound rs) where
       ap (λ n. cond (has (revoked (past_of rs) job) x) (Some n) (last_or_none (item_of (ledger_of rs) x))) (ap length (parts_are rs) ∙ length-map rs part_from)
       ∙ ap (λ o. cond (has (revoked (past_of rs) job) x) (Some (length rs)) o) (last_in x)
 
+  old_case : (x : Identity) (b : Bool) → old_dates (cond b (Some (item_from rs x)) None) ≡ cond b (until x rs ∷ []) []
+  old_case x true = refl
+  old_case x false = refl
+
+  date_next : (job : Job) (trailer : List ℕ) (x : Identity)
+      → greatest (old_dates (item_of (ledger_of rs) x) ++ dates x (shown (past_of rs) job)) ≡ until x (rs ++ released (past_of rs) job trailer ∷ [])
+  date_next job trailer x =
+      ap (λ ds. greatest (ds ++ dates x (shown (past_of rs) job))) (ap old_dates (item_is rs x) ∙ old_case x (has (accepted_by [] rs) x))
+      ∙ until_next rs sound x job trailer
+
   item_next : (job : Job) (trailer : List ℕ) (x : Identity) → has (accepted_with (past_of rs) job) x ≡ true
       → next_item (past_of rs) (ledger_of rs) job x ≡ item_from (rs ++ released (past_of rs) job trailer ∷ []) x
   item_next job trailer x h = λ i. record {
     id = x;
     birth = (birth_in x ∙ sym (birth-push x rs (released (past_of rs) job trailer) h)) i;
     last = (last_next job x ∙ sym (last-push x rs (released (past_of rs) job trailer))) i;
+    until = date_next job trailer x i;
   }
 
   next_items : (job : Job) (trailer : List ℕ) → map (next_item (past_of rs) (ledger_of rs) job) (accepted_with (past_of rs) job)

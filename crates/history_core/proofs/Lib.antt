@@ -6,6 +6,7 @@ pub mod Releases
 pub mod Sound
 pub mod Histories
 pub mod Places
+pub mod Dates
 pub mod Ledger
 pub mod Publishing
 pub mod Answers

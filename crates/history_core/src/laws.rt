@@ -1,4 +1,5 @@
 ghost use Rattle.std.specs.Prelude.{◌≡◌, ℕ, List, [], ◌∷◌, ◌++◌, ◌+◌, ◌&&◌, not, Bool, true, map, drop, length, Some, None, is_some};
+ghost use Rattle.std.specs.Prelude.{ℤ, pos, Option};
 ghost use Rattle.std.specs.List.{AllZip, list_any, slice_get};
 ghost use Rattle.ident_core.specs.declared.identity.Identity.{Identity};
 ghost use Rattle.ident_core.specs.declared.range.Sighting.{Sighting};
@@ -9,6 +10,7 @@ ghost use Rattle.sets_core.specs.Among.{Among};
 ghost use Rattle.sets_core.specs.Sets.{has, has_key};
 ghost use Rattle.universe_core.specs.Jobs.{Job, facts_of, enrolled, lists};
 ghost use Rattle.universe_core.specs.History.{Release, Past, past_of, released, releases, seen, sightings, birth, is_listed, is_settled_by, revoked, universe};
+ghost use Rattle.universe_core.specs.Dates.{IsGreatest, greatest as greatest_of};
 ghost use Rattle.universe_core.specs.Groups.{GroupFields, groups};
 ghost use Rattle.universe_core.specs.Counting.{count, counts};
 ghost use Rattle.universe_core.specs.declared.class.Class.TheVariants.{Unread, Uncovered, Unenrolled, Late, Accepted};
@@ -75,7 +77,8 @@ pub fn last_part_covers()
 /// part revokes while it covers all its sightings. Listed: some job since the identity's birth enrolls its issuer and
 /// lists it; of any releases that leave what their jobs say (`listed`). No releases and no jobs are so, and a job more
 /// with what it leaves keeps it (`leaves_none`, `leaves_more`), so those of a history are (`leaves`, `listed_by_jobs`).
-/// The five classes add up to the entries.
+/// The five classes add up to the entries. The greatest of some dates is none where there is none or one isn't told,
+/// and else one of them that no other is above (`greatest`).
 pub fn words_hold()
     ensures revoked_set { (rs : List Release) (job : Job) (trailer : List ℕ) (x : Identity)
         → has (revoked (past_of rs) job) x
@@ -96,6 +99,7 @@ pub fn words_hold()
     ensures classes { (past : Past) (job : Job)
         → count Unread past job + count Uncovered past job + count Unenrolled past job + count Late past job
         + count Accepted past job ≡ length job.entries }
+    ensures greatest { (ds : List (Option ℤ)) → IsGreatest ds (greatest_of ds) }
 {}
 
 /// A history of one job: the facts hold after it, with nothing asked of the job. The empty ledger tells it what no
@@ -118,7 +122,8 @@ pub fn first_job_in_words()
         → has (revoked (past_of []) job) x ≡ is_listed (releases trailer [] (job ∷ [])) x }
 {}
 
-/// By example: of five entries of a second job one is late, and a serial that its CRL drops stays revoked.
+/// By example: of five entries of a second job one is late, and a serial that its CRL drops stays revoked. An identity
+/// keeps the later of its dates, and none where one isn't told.
 pub fn two_jobs_computed()
     ensures counts { counts (past_of after_first) second_job
         ≡ record {
@@ -132,8 +137,8 @@ pub fn two_jobs_computed()
           accepted = 2;
         } }
     ensures items { (next_ledger (ledger_of after_first) second_job []).items
-        ≡ record { id = certificate 5; birth = 0; last = Some 1 }
-        ∷ record { id = certificate 6; birth = 0; last = None }
-        ∷ record { id = certificate 8; birth = 1; last = None }
+        ≡ record { id = certificate 5; birth = 0; last = Some 1; until = Some (pos 30) }
+        ∷ record { id = certificate 6; birth = 0; last = None; until = Some (pos 20) }
+        ∷ record { id = certificate 8; birth = 1; last = None; until = None }
         ∷ [] }
 {}

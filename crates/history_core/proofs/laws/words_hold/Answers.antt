@@ -1,3 +1,4 @@
+use Rattle.universe_core.proofs.Greatest.{greatest_is}
 use Rattle.history_core.proofs.Words.{revoked_in_words, listed_in_words, listed_of_jobs, leaves_more, releases_leave, classes_add_up}
 use Rattle.history_core.proofs.laws.words_hold.Goals as goal
 
@@ -10,4 +11,5 @@ returns c = record {
   listed_by_jobs = λ trailer jobs x f. listed_of_jobs trailer jobs x f;
   leaves = λ trailer jobs before rs z. releases_leave trailer jobs before rs z;
   classes = λ past job. classes_add_up past job;
+  greatest = λ ds. greatest_is ds;
 }
