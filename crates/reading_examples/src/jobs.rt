@@ -345,7 +345,11 @@ fn reads_an_entry(rt: HostRuntime) -> Result<(), Fail> {
     };
     assert_eq!(rt;
         job.entries.first().copied(),
-        Some(Some(Entry { id, sighting }))
+        Some(Some(Entry {
+            id,
+            sighting,
+            until: None,
+        }))
     );
     Ok(())
 }

@@ -6,7 +6,7 @@ use octets_core::Key32;
 
 // A certificate that OpenSSL 3.0 made: `openssl genpkey -algorithm ed25519 -out k.pem`, and then
 // `openssl req -new -x509 -key k.pem -subj /CN=a -days 90 -set_serial 0x00d1e8a3f0c5b27946 -outform der`.
-const CERTIFICATE: [u8; 293] = [
+pub(crate) const CERTIFICATE: [u8; 293] = [
     0x30, 0x82, 0x01, 0x21, 0x30, 0x81, 0xd4, 0xa0, 0x03, 0x02, 0x01, 0x02, 0x02, 0x09, 0x00, 0xd1,
     0xe8, 0xa3, 0xf0, 0xc5, 0xb2, 0x79, 0x46, 0x30, 0x05, 0x06, 0x03, 0x2b, 0x65, 0x70, 0x30, 0x0c,
     0x31, 0x0a, 0x30, 0x08, 0x06, 0x03, 0x55, 0x04, 0x03, 0x0c, 0x01, 0x61, 0x30, 0x1e, 0x17, 0x0d,
@@ -42,7 +42,7 @@ const EMPTY_KEY_HASH: [u8; 32] = [
 
 /// What an entry of the log `aa..` gives: the issuer, whether the serial is this one, and the sighting.
 fn gives(leaf: &[u8], extra: &[u8], serial: &[u8]) -> Result<(Key32, bool, Sighting), Unread> {
-    let Entry { id, sighting } = read_entry(Key32::new([0xaa; 32]), leaf, extra)?;
+    let Entry { id, sighting, .. } = read_entry(Key32::new([0xaa; 32]), leaf, extra)?;
     let is_serial = id.serial.bytes() == serial;
     Ok((id.issuer, is_serial, sighting))
 }
