@@ -5,10 +5,10 @@ use Rattle.card_core.specs.PartFields.{PartFields}
 use Rattle.part_codec.specs.SealedFields.{SealedFields}
 use Rattle.part_codec.specs.PartText.{unsealed_text}
 use Rattle.job_core.specs.JobFields.{JobFields}
-use Rattle.universe_core.specs.Formats.{JobIn, in_format}
+use Rattle.universe_core.specs.Formats.{JobIn, in_format, facts_in}
 use Rattle.universe_core.specs.Ledgers.{part_from}
 use Rattle.universe_core.specs.Step.{head_after}
-use Rattle.publication_core.specs.Formats.{current, facts_in}
+use Rattle.publication_core.specs.Formats.{current}
 use Rattle.publication_core.specs.Histories.{IsAdmissible, History, of_jobs, with_job, with_jobs, chain, IsHistory, history}
 use Rattle.publication_core.proofs.Histories.{with_job_is}
 use Rattle.publication_core.proofs.Fronts.{admissible_front}

@@ -11,14 +11,13 @@ use Rattle.sets_core.specs.Among.{Among}
 use Rattle.sets_core.specs.Sets.{has_key}
 use Rattle.sets_core.proofs.Elements.{some_item}
 use Rattle.universe_core.specs.Jobs.{Job, enrolled, is_enrolled, lists}
-use Rattle.universe_core.specs.Formats.{JobIn}
+use Rattle.universe_core.specs.Formats.{JobIn, facts_in}
 use Rattle.universe_core.specs.History.{Release, seen, sightings, birth, is_listed}
 use Rattle.universe_core.specs.Ledgers.{last}
 use Rattle.universe_core.proofs.Enrolled.{enrolled_test}
 use Rattle.history_core.specs.Facts.{Leaves}
 use Rattle.history_core.specs.Showing.{Shows}
 use Rattle.history_core.proofs.Words.{last_covers_sightings, leaves_more, listed_in_words}
-use Rattle.publication_core.specs.Formats.{facts_in}
 use Rattle.publication_core.specs.Histories.{release_of, history_after, AreAdmissible, History, of_jobs, jobs_of, IsHistory, history}
 use Rattle.publication_core.proofs.Histories.{history_sound}
 use Rattle.publication_core.proofs.Shown.{shown_by}

@@ -8,11 +8,10 @@ use Rattle.ident_core.specs.declared.range.Range.{Range}
 use Rattle.ident_core.specs.Coverage.{lies_in_some, first_outside}
 use Rattle.ident_core.proofs.Within.{within-iff}
 use Rattle.part_codec.specs.SealedFields.{SealedFields}
-use Rattle.universe_core.specs.Formats.{JobIn}
+use Rattle.universe_core.specs.Formats.{JobIn, facts_in}
 use Rattle.universe_core.specs.History.{Release, lie_within}
 use Rattle.history_core.specs.Facts.{KeepsCoverage, IsSound}
 use Rattle.history_core.proofs.Sound.{nothing_sound, keeps_sound}
-use Rattle.publication_core.specs.Formats.{facts_in}
 use Rattle.publication_core.specs.Histories.{newest_of, GoesOn, IsAdmissible, IsPartOf, release_of, history_after, AreAdmissible, History, of_jobs, members, with_job, IsHistory, history}
 
 -- ---- one job more

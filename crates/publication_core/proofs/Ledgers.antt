@@ -1,6 +1,8 @@
 -- The ledger of a history has a text, from which it is read back.
-use Rattle.std.proofs.Common.{◌≡◌, ℕ, ◌≤◌, ⊎_elim, List, [], ◌∷◌, ◌++◌, map, length, true, Option, Some, None, Result, Ok, Err, refl, sym, ap, ◌∙◌, subst, arith}
-use Rattle.std.specs.Prelude.{All, IfSome, not}
+use Rattle.std.proofs.Common.{◌≡◌, ℕ, ◌≤◌, inl, inr, ⊎_elim, List, [], ◌∷◌, ◌++◌, map, length, true, Option, Some, None, Result, Ok, Err, refl, sym, ap, ◌∙◌, subst, arith}
+use Rattle.std.specs.Prelude.{ℤ, All, IfSome, not}
+use Rattle.std.specs.Int.{w64}
+use Rattle.std.specs.Int.RustNames.{FitsSigned}
 use Rattle.std.specs.List.{list_all}
 use Rattle.std.specs.Option.{option_or}
 use Rattle.std.proofs.lemmas.List.{length-map}
@@ -11,6 +13,7 @@ use Rattle.octets_core.specs.Layout.{with_fault}
 use Rattle.octets_core.specs.Reading.{value_of}
 use Rattle.ident_core.specs.declared.identity.Identity.{Identity}
 use Rattle.ident_core.specs.declared.range.Range.{Range}
+use Rattle.ident_core.specs.Order.{is_same}
 use Rattle.ident_core.specs.RangeText.{RangeFits, FitsRange}
 use Rattle.crl_core.specs.declared.crl.CrlFault.{CrlFault}
 use Rattle.crl_core.specs.Outcome.{CrlFields}
@@ -25,29 +28,35 @@ use Rattle.ledger_core.specs.LedgerFields.{LedgerFields, IsLedger, ids, newest}
 use Rattle.ledger_core.specs.Fitting.{IsKey, PartFits, ItemFits, Fits}
 use Rattle.ledger_core.specs.LedgerLayout.{ledger}
 use Rattle.ledger_core.specs.LedgerReading.{ledger_of as read_ledger}
-use Rattle.ledger_core.proofs.LedgerTexts.{ledger-again}
+use Rattle.ledger_core.specs.LedgerText.{HasNoDates}
+use Rattle.ledger_core.proofs.LedgerTexts.{ledger-again, old-again}
 use Rattle.ledger_core.proofs.Seals.{IsLedger-sealed}
 use Rattle.sets_core.specs.Among.{Among}
 use Rattle.sets_core.specs.Sets.{has, key_set}
-use Rattle.sets_core.proofs.Elements.{Among-filter, Among-map, Among-filter_map, some_item}
+use Rattle.sets_core.proofs.Elements.{Among-filter, Among-map, Among-filter_map, Among-cases, some_item}
 use Rattle.sets_core.proofs.Sets.{Among-from_has, has-from_Among, Among-from_key_set}
 use Rattle.sets_core.proofs.Canonical.{Contains-from_Among, all_from}
 use Rattle.universe_core.specs.Jobs.{Crl, Entry, crl_by, accepted_crl, facts_of, is_stale, crls_of, enrolled}
-use Rattle.universe_core.specs.Formats.{JobIn}
-use Rattle.universe_core.specs.History.{Release, past_of, accepted_with}
-use Rattle.universe_core.specs.Ledgers.{no_ledger, past_in, next_item, part_after, next_ledger, part_from, ledger_of}
+use Rattle.universe_core.specs.Formats.{JobIn, read_in}
+use Rattle.universe_core.specs.History.{Release, past_of, shown, accepted_with}
+use Rattle.universe_core.specs.Dates.{greatest, dates}
+use Rattle.universe_core.specs.Ledgers.{no_ledger, past_in, item_of, old_dates, next_item, part_after, next_ledger, part_from, ledger_of}
 use Rattle.universe_core.specs.Members.{first_part}
 use Rattle.universe_core.specs.Step.{bad_crl_from, old_epoch, shrunk, chain_full, too_many, refusal}
 use Rattle.universe_core.specs.Following.{IsBefore, early}
 use Rattle.universe_core.specs.declared.fault.AdmitFault.{AdmitFault}
 use Rattle.universe_core.proofs.Beginning.{issuers_few}
-use Rattle.universe_core.proofs.Continuing.{before_none, before_ledger, is_next, next_is}
+use Rattle.universe_core.proofs.Continuing.{before_none, before_ledger, find_all, is_next, next_is}
+use Rattle.universe_core.proofs.Greatest.{greatest_is, greatest_keeps}
+use Rattle.universe_core.proofs.Members.{Among-dates}
 use Rattle.history_core.specs.Facts.{IsSound}
 use Rattle.history_core.proofs.Accepting.{accepted_cases, shown_entry}
 use Rattle.history_core.proofs.Beginnings.{ledger_of_none}
 use Rattle.history_core.proofs.Ledger as histories
 use Rattle.history_core.proofs.Sound.{nothing_sound}
-use Rattle.publication_core.specs.Histories.{IsAdmissible, IsPartOf, release_of, history_after, AreAdmissible, History, of_jobs, members, IsHistory, history, ledger_bytes}
+use Rattle.publication_core.specs.Histories.{newest_of, IsAdmissible, IsPartOf, release_of, history_after, AreAdmissible, History, of_jobs, members, IsHistory, history}
+use Rattle.publication_core.specs.Histories.{ledger_bytes, old_ledger_bytes, IsUndated}
+use Rattle.publication_core.proofs.Reading.{fits_in, goes_on_in, none_dated, after_undated, items_undated}
 use Rattle.publication_core.proofs.Admitting.{not_refused}
 use Rattle.publication_core.proofs.Histories.{job_sound, members_many}
 
@@ -87,10 +96,22 @@ pub record IdentityFits (x : Identity) : Type 0 where
   pub some_octets : 1 ≤ length x.serial
   pub few_octets : length x.serial ≤ 32
 
+entry_fits : (job : JobFields) (e : Entry) → All (λ o. IfSome o EntryFieldsFit) job.entries → Among (facts_of job).entries (Some e) → EntryFieldsFit e
+entry_fits job e fits a = all_among (λ (o : Option Entry). IfSome o EntryFieldsFit) job.entries (Some e) fits a
+
 entries_fit : (job : JobFields) (e : Entry) → All (λ o. IfSome o EntryFieldsFit) job.entries → Among (facts_of job).entries (Some e) → IdentityFits e.id
 entries_fit job e fits a =
-    let f : EntryFieldsFit e = all_among (λ (o : Option Entry). IfSome o EntryFieldsFit) job.entries (Some e) fits a in
+    let f : EntryFieldsFit e = entry_fits job e fits a in
     record { issuer = f.issuer; some_octets = f.some_serial; few_octets = f.short_serial }
+
+-- a date fits 64 bits
+abbrev DateFits : Option ℤ → Type 0
+DateFits d = IfSome d (FitsSigned w64)
+
+old_date_fits : (o : Option LedgerItem) (d : Option ℤ) → IfSome o ItemFits → Among (old_dates o) d → DateFits d
+old_date_fits None d h a = absurd a
+old_date_fits (Some i) d h (inl is) = subst DateFits is h.until
+old_date_fits (Some i) d h (inr a) = absurd a
 
 -- ---- one job more
 
@@ -133,8 +154,29 @@ module _ (l : LedgerFields) (job : JobFields) (kept : FitsBefore l) (fits : Fits
       ⊎_elim (λ old. old_fits x old) (λ new. subst IdentityFits new.2 (entries_fit job new.0 fits.entries (shown_entry (past_in l) (facts_of job) new.0 new.1)))
       (accepted_cases (past_in l) (facts_of job) x (has-from_Among (accepted_with (past_in l) (facts_of job)) x a))
 
+  -- each date of its item and of its entries fits
+  item_of_fits : (x : Identity) → IfSome (item_of l x) ItemFits
+  unfolding item_of
+  item_of_fits x = find_all ItemFits (λ (i : LedgerItem). is_same x i.id) l.items (λ i a. all_among ItemFits l.items i kept.items a)
+
+  dates_fit : (x : Identity) (d : Option ℤ) → Among (old_dates (item_of l x) ++ dates x (shown (past_in l) (facts_of job))) d → DateFits d
+  dates_fit x d a =
+      ⊎_elim (λ old. old_date_fits (item_of l x) d (item_of_fits x) old)
+      (λ new.
+      let m = Among-dates x (shown (past_in l) (facts_of job)) d new in
+      subst DateFits m.3 (entry_fits job m.0 fits.entries (shown_entry (past_in l) (facts_of job) m.0 m.1)).until)
+      (Among-cases (old_dates (item_of l x)) (dates x (shown (past_in l) (facts_of job))) d a)
+
   item_fits : (x : Identity) → Among (accepted_with (past_in l) (facts_of job)) x → ItemFits (next_item (past_in l) l (facts_of job) x)
-  item_fits x a = let f = accepted_fits x a in record { issuer = f.issuer; some_octets = f.some_octets; few_octets = f.few_octets }
+  item_fits x a =
+      let f = accepted_fits x a in
+      let ds : List (Option ℤ) = old_dates (item_of l x) ++ dates x (shown (past_in l) (facts_of job)) in
+      record {
+        issuer = f.issuer;
+        some_octets = f.some_octets;
+        few_octets = f.few_octets;
+        until = greatest_keeps (FitsSigned w64) ds (greatest ds) (greatest_is ds) (dates_fit x);
+      }
 
   items_fit : All ItemFits (map (next_item (past_in l) l (facts_of job)) (accepted_with (past_in l) (facts_of job)))
   items_fit =
@@ -165,14 +207,14 @@ module _ (l : LedgerFields) (job : JobFields) (kept : FitsBefore l) (fits : Fits
 step_fits : (rs : List Release) (j : JobIn) (s : SealedFields) → IsSound rs → FitsBefore (ledger_of rs) → IsAdmissible rs j → IsPartOf rs j s
     → FitsBefore (ledger_of (rs ++ release_of rs j s ∷ []))
 step_fits rs j s sound kept a part =
-    let job : JobFields = j.job in
-    let none = not_early (ledger_of rs) job (not_refused rs job sound (record { crls = a.crls; goes_on = a.goes_on; few_parts = a.few_parts; few_identities = a.few_identities })) in
+    let job : JobFields = read_in j in
+    let none = not_early (ledger_of rs) job (not_refused rs job sound (record { crls = a.crls; goes_on = goes_on_in j (newest_of rs) a.goes_on; few_parts = a.few_parts; few_identities = a.few_identities })) in
     let same : length (accepted_with (past_in (ledger_of rs)) (facts_of job)) ≡ length (accepted_with (past_of rs) (facts_of job))
     = ap (λ past. length (accepted_with past (facts_of job))) (histories.past_in_ledger rs sound) in
     let few : length (accepted_with (past_in (ledger_of rs)) (facts_of job)) ≤ 4194304 = omega (arith, same, a.few_identities) in
     let key : IsKey s.trailer = ap length part.trailer ∙ length-sha256 (unsealed_text s.part) in
     subst FitsBefore (histories.next_is rs sound (facts_of job) s.trailer)
-    (fits_before (next_ledger (ledger_of rs) (facts_of job) s.trailer) (next_fits (ledger_of rs) job kept a.fits s.trailer key none a.limits.crls few))
+    (fits_before (next_ledger (ledger_of rs) (facts_of job) s.trailer) (next_fits (ledger_of rs) job kept (fits_in j a.fits) s.trailer key none a.limits.crls few))
 
 after_fits : (rs : List Release) (jobs : List JobIn) (parts : List SealedFields) → IsSound rs → FitsBefore (ledger_of rs) → AreAdmissible rs jobs parts
     → FitsBefore (ledger_of (history_after rs jobs parts))
@@ -188,6 +230,10 @@ releases_many rs = length-map rs part_from
 
 history_fits : (h : History) (parts : List SealedFields) → IsHistory h parts → FitsBefore (ledger_of (history h parts))
 history_fits (of_jobs jobs) parts is = after_fits [] jobs parts nothing_sound (subst FitsBefore (sym ledger_of_none) none_fits) is
+
+-- where no job reads dates, the ledger has none
+undated_by : (h : History) (parts : List SealedFields) → IsUndated h → HasNoDates (ledger_of (history h parts))
+undated_by (of_jobs jobs) parts none = items_undated (history_after [] jobs parts) (after_undated [] jobs parts none none_dated)
 
 module _ (h : History) (parts : List SealedFields) (is : IsHistory h parts) (some : 1 ≤ members h) where
   pub history_ledger_fits : Fits (ledger_of (history h parts))
@@ -208,6 +254,15 @@ module _ (h : History) (parts : List SealedFields) (is : IsHistory h parts) (som
 
   pub history_ledger_read : ledger (ledger_bytes h parts) 0 ≡ Ok (ledger_of (history h parts), length (ledger_bytes h parts))
   history_ledger_read = ledger-again (ledger_of (history h parts)) history_ledger_fits
+
+  pub history_undated : IsUndated h → HasNoDates (ledger_of (history h parts))
+  history_undated none = undated_by h parts none
+
+  pub history_old_read : IsUndated h → ledger (old_ledger_bytes h parts) 0 ≡ Ok (ledger_of (history h parts), length (old_ledger_bytes h parts))
+  history_old_read none = old-again (ledger_of (history h parts)) history_ledger_fits (history_undated none)
+
+  pub history_old_value : IsUndated h → read_ledger (old_ledger_bytes h parts) ≡ Ok (ledger_of (history h parts))
+  history_old_value none = ap (λ r. value_of (with_fault ledger_faults.Layout r)) (history_old_read none)
 
   pub history_ledger_value : read_ledger (ledger_bytes h parts) ≡ Ok (ledger_of (history h parts))
   history_ledger_value = ap (λ r. value_of (with_fault ledger_faults.Layout r)) history_ledger_read

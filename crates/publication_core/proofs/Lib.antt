@@ -9,6 +9,7 @@ pub mod Existing
 pub mod Shown
 pub mod Verdicts
 pub mod Facts
+pub mod Reading
 pub mod Ledgers
 pub mod PartTexts
 pub mod Chains

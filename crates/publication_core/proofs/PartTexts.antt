@@ -28,7 +28,7 @@ use Rattle.sets_core.proofs.Elements.{Among-filter, Among-map, Among-filter_map,
 use Rattle.sets_core.proofs.Sets.{Among-from_key_set}
 use Rattle.sets_core.proofs.Canonical.{Contains-from_Among}
 use Rattle.universe_core.specs.Jobs.{Crl, accepted_crl, crl_by, crls_of, enrolled, is_stale, facts_of}
-use Rattle.universe_core.specs.Formats.{JobIn}
+use Rattle.universe_core.specs.Formats.{JobIn, read_in}
 use Rattle.universe_core.specs.History.{Release, past_of, released}
 use Rattle.universe_core.specs.Groups.{members_of, group_of, groups}
 use Rattle.universe_core.specs.Ledgers.{part_from}
@@ -40,6 +40,7 @@ use Rattle.builder_core.specs.Building.{AreGroupBlocks}
 use Rattle.builder_core.proofs.GroupBlocks.{blocks_length}
 use Rattle.publication_core.specs.Formats.{blocks_in}
 use Rattle.publication_core.specs.Histories.{newest_of, IsPartOf, IsAdmissible}
+use Rattle.publication_core.proofs.Reading.{fits_in}
 use Rattle.publication_core.proofs.Leaves.{blocks_have_texts}
 
 -- ---- the head
@@ -108,7 +109,7 @@ block_after previous b fits = fits.0
 
 module _ (rs : List Release) (j : JobIn) (s : SealedFields) (admissible : IsAdmissible rs j) (is : IsPartOf rs j s) where
   abbrev job : JobFields
-  job = j.job
+  job = read_in j
 
   abbrev made : Release
   made = released (past_of rs) (facts_of job) []
@@ -140,7 +141,7 @@ module _ (rs : List Release) (j : JobIn) (s : SealedFields) (admissible : IsAdmi
         few = blocks_few;
         ascending = Linked-weaken FitsBlock (λ previous b. is_after previous b.issuer ≡ true) (λ previous b. Some b.issuer) block_after None s.part.blocks blocks_linked;
       };
-      head = subst FitsHead (sym is.head_is) (head_fits rs job admissible.fits digest);
+      head = subst FitsHead (sym is.head_is) (head_fits rs job (fits_in j admissible.fits) digest);
       blocks = blocks_linked;
     };
     trailer = is.trailer;

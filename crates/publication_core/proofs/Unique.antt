@@ -11,7 +11,7 @@ use Rattle.job_core.specs.JobFields.{JobFields}
 use Rattle.ledger_core.specs.LedgerFields.{LedgerFields}
 use Rattle.universe_core.specs.declared.fault.AdmitFault.{AdmitFault}
 use Rattle.universe_core.specs.Jobs.{facts_of}
-use Rattle.universe_core.specs.Formats.{JobIn}
+use Rattle.universe_core.specs.Formats.{JobIn, facts_in}
 use Rattle.universe_core.specs.History.{Release}
 use Rattle.universe_core.specs.Groups.{GroupFields}
 use Rattle.universe_core.specs.Ledgers.{next_ledger}
@@ -22,7 +22,7 @@ use Rattle.builder_core.proofs.GroupBlocks.{blocks_unique}
 use Rattle.builder_core.proofs.FirstRefused.{refused_no_blocks, first_refused_once}
 use Rattle.publication_core.specs.declared.fault.PublishFault.{PublishFault}
 use Rattle.publication_core.specs.declared.fault.PublishFault.TheVariants.{Admission, SeedsExhausted, NoMemory}
-use Rattle.publication_core.specs.Formats.{current, blocks_in, facts_in}
+use Rattle.publication_core.specs.Formats.{current, blocks_in}
 use Rattle.publication_core.specs.Histories.{groups_of, IsPartOf, release_of, AreAdmissible, History, of_jobs, IsHistory}
 use Rattle.publication_core.specs.Publishing.{Published, IsPublication, Publishes}
 

@@ -1,5 +1,5 @@
 -- Histories of admitted jobs: which job may follow, which part is published of it, and the bytes of what is published.
-use Rattle.std.specs.Prelude.{◌≡◌, ℕ, ◌<◌, ◌≤◌, List, [], ◌∷◌, ◌++◌, map, length, Option, Some, None, All, IfSome, IsOk}
+use Rattle.std.specs.Prelude.{◌≡◌, false, ℕ, ◌<◌, ◌≤◌, List, [], ◌∷◌, ◌++◌, map, length, Option, Some, None, All, IfSome, IsOk}
 use Rattle.sha2.specs.Sha256.{sha256}
 use Rattle.ident_core.specs.Coverage.{LiesWithin}
 use Rattle.ident_core.specs.HeadFields.{HeadFields}
@@ -11,16 +11,16 @@ use Rattle.job_core.specs.declared.bounds.TheConstants.Limits.{PUBLISHED}
 use Rattle.job_core.specs.JobFields.{JobFields}
 use Rattle.job_core.specs.JobFacts.{FitsPublishing, IsWithinLimits}
 use Rattle.ident_core.specs.declared.bounds.TheConstants.{MAX_PARTS}
-use Rattle.ledger_core.specs.LedgerText.{ledger_text}
+use Rattle.ledger_core.specs.LedgerText.{ledger_text, old_ledger_text}
 use Rattle.universe_core.specs.Jobs.{Job}
-use Rattle.universe_core.specs.Formats.{JobFormat, JobIn, in_format}
+use Rattle.universe_core.specs.Formats.{JobFormat, JobIn, in_format, reads_dates, facts_in}
 use Rattle.universe_core.specs.History.{Release, past_of, released, accepted_with}
 use Rattle.universe_core.specs.Groups.{GroupFields, groups}
 use Rattle.universe_core.specs.Ledgers.{part_from, ledger_of}
 use Rattle.universe_core.specs.Step.{head_after}
 use Rattle.builder_core.specs.Building.{AreGroupBlocks}
 use Rattle.store_core.specs.StoreLayout.{store_text}
-use Rattle.publication_core.specs.Formats.{current, blocks_in, facts_in}
+use Rattle.publication_core.specs.Formats.{current, blocks_in}
 
 -- ---- one job
 
@@ -124,3 +124,11 @@ store_bytes parts = store_text parts
 
 abbrev pub ledger_bytes : History → List SealedFields → List ℕ
 ledger_bytes h parts = ledger_text (ledger_of (history h parts))
+
+-- no job of the history is in a format that reads dates
+abbrev pub IsUndated : History → Type 0
+IsUndated (of_jobs jobs) = All (λ j. reads_dates j.format ≡ false) jobs
+
+-- the bytes of its ledger in version 1
+abbrev pub old_ledger_bytes : History → List SealedFields → List ℕ
+old_ledger_bytes h parts = old_ledger_text (ledger_of (history h parts))

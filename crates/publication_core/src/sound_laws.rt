@@ -9,11 +9,10 @@ ghost use Rattle.part_codec.specs.SealedFields.{SealedFields};
 ghost use Rattle.sets_core.specs.Among.{Among};
 ghost use Rattle.sets_core.specs.Sets.{has, has_key};
 ghost use Rattle.universe_core.specs.Jobs.{Entry, is_enrolled, lists};
-ghost use Rattle.universe_core.specs.Formats.{JobIn};
+ghost use Rattle.universe_core.specs.Formats.{JobIn, facts_in};
 ghost use Rattle.universe_core.specs.History.{Release, accepted_by, seen, sightings, birth, is_listed};
 ghost use Rattle.universe_core.specs.Ledgers.{last};
 ghost use Rattle.history_core.specs.Facts.{IsSound};
-ghost use Rattle.publication_core.specs.Formats.{facts_in};
 ghost use Rattle.publication_core.specs.Histories.{IsAdmissible, release_of, History, of_jobs, jobs_of, IsHistory, history};
 
 /// Every history is sound: it is so before the first job (`begun`), and each job that may follow keeps it, from any
