@@ -38,6 +38,7 @@ fn enroll(alloc: Global, job: &mut Job, issuer: Key32, count: u32) -> Result<(),
         let entry = Entry {
             id: Identity { issuer, serial },
             sighting: Sighting { log, time: 0 },
+            until: None,
         };
         job.entries.push(Some(entry))?;
     }

@@ -19,7 +19,7 @@ const RANGE: usize = 48;
 
 const PART: usize = 46 + MAX_RANGES * RANGE + MAX_ISSUERS * 32;
 
-const IDENTITY: usize = 35 + MAX_SERIAL;
+const IDENTITY: usize = 44 + MAX_SERIAL;
 
 /// The most bytes of a ledger: it has a magic, a version, its counts, and a digest.
 const LONGEST_LEDGER: usize = 46 + MAX_PARTS * PART + MAX_IDENTITIES * IDENTITY;

@@ -48,7 +48,11 @@ fn entry(log: u8, id: Identity, after: u64) -> Option<Entry> {
         log: Key32::new([log; 32]),
         time: NOON.saturating_add(after),
     };
-    Some(Entry { id, sighting })
+    Some(Entry {
+        id,
+        sighting,
+        until: None,
+    })
 }
 
 /// A range of a log.
@@ -341,7 +345,7 @@ fn a_second_job_revokes_and_has_a_late_entry(rt: HostRuntime) -> Result<(), Fail
     assert_eq!(rt; admitted.head.parent(), Key32::new(TRAILERS[0]));
     assert!(rt; has_group(alloc, &admitted, &[5, 6], &[true, false])?);
     let next = admitted.next.seal(Key32::new(TRAILERS[1]));
-    let items = [item(5, 0, Some(1))?, item(6, 1, None)?];
+    let items = [item(5, 0, Some(1), None)?, item(6, 1, None, None)?];
     assert_eq!(rt; next.items(), items.as_slice());
     Ok(())
 }
@@ -355,7 +359,11 @@ fn a_third_job_revokes_again_what_a_new_log_sees(rt: HostRuntime) -> Result<(), 
     assert_eq!(rt; admitted.head.parent(), Key32::new(TRAILERS[1]));
     assert!(rt; has_group(alloc, &admitted, &[5, 6, 8], &[true, false, false])?);
     let next = admitted.next.seal(Key32::new([0x99; 32]));
-    let items = [item(5, 0, Some(2))?, item(6, 1, None)?, item(8, 2, None)?];
+    let items = [
+        item(5, 0, Some(2), None)?,
+        item(6, 1, None, None)?,
+        item(8, 2, None, None)?,
+    ];
     assert_eq!(rt; next.items(), items.as_slice());
     Ok(())
 }

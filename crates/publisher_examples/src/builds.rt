@@ -67,6 +67,7 @@ fn entry(issuer: u8, number: u16) -> Result<Entry, Fail> {
     Ok(Entry {
         id: identity(issuer, number)?,
         sighting: Sighting { log, time: 0 },
+        until: None,
     })
 }
 

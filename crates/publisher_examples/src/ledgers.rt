@@ -12,13 +12,32 @@ use std::test::Fail;
 
 // Of a snapshot of epoch 0 with neither ranges nor blocks, whose trailer it holds.
 const EMPTY: &[u8] =
-    b"\x43\x4c\x55\x42\x4c\x45\x44\x47\x01\x01\x00\x00\x00\x00\x00\x00\x00\x00\xc8\x7b\x6b\x85\x1f\x26\
+    b"\x43\x4c\x55\x42\x4c\x45\x44\x47\x02\x01\x00\x00\x00\x00\x00\x00\x00\x00\xc8\x7b\x6b\x85\x1f\x26\
         \x3e\x96\xd0\x21\x6b\xf6\x64\xb6\x16\xf5\xb5\xc7\xbc\xbc\xcd\x3e\x79\x05\x69\x66\x5c\x1e\x83\xf5\
-        \x5a\x8f\x00\x00\x00\x00\x00\x00\x00\x00\x00\x00\xe4\xf5\x2f\x72\x84\x41\xfb\x10\x0d\xc1\x59\xae\
-        \xaf\x9a\x74\xd8\x16\x03\x07\x89\xf6\x4c\xa8\xd2\x09\x54\x05\xf8\xa1\x59\x21\x2e";
+        \x5a\x8f\x00\x00\x00\x00\x00\x00\x00\x00\x00\x00\x8f\xdb\x0d\x07\xd6\x4c\x10\xd0\x3b\x47\x7f\x80\
+        \x7a\x89\xd3\x82\xf3\x75\xae\x79\xdd\x97\xf7\xda\x33\x90\xdc\xc0\xa6\x5e\x60\x1a";
 
-// Of a snapshot and a delta, each with one range and one issuer, and two identities.
+// Of a snapshot and a delta, each with one range and one issuer, and two identities, of which the first has a date.
 const TWO_PARTS: &[u8] =
+    b"\x43\x4c\x55\x42\x4c\x45\x44\x47\x02\x02\x00\x00\x00\x00\x00\x00\x00\x01\xda\x82\xb3\xb0\x69\x07\
+        \x11\xee\x12\x02\x27\xb7\x98\xfe\x5a\x2a\x7f\xdf\x4b\x98\x41\x8e\x78\xbf\x30\x03\x09\xaa\x3f\x49\
+        \xd2\x02\x00\x01\xaa\xaa\xaa\xaa\xaa\xaa\xaa\xaa\xaa\xaa\xaa\xaa\xaa\xaa\xaa\xaa\xaa\xaa\xaa\xaa\
+        \xaa\xaa\xaa\xaa\xaa\xaa\xaa\xaa\xaa\xaa\xaa\xaa\x00\x00\x01\x8b\xcf\xe5\x68\x00\x00\x00\x01\x8b\
+        \xcf\xe5\x6b\xe8\x00\x00\x00\x01\x11\x11\x11\x11\x11\x11\x11\x11\x11\x11\x11\x11\x11\x11\x11\x11\
+        \x11\x11\x11\x11\x11\x11\x11\x11\x11\x11\x11\x11\x11\x11\x11\x11\x00\x00\x00\x00\x00\x00\x00\x02\
+        \x44\x44\x44\x44\x44\x44\x44\x44\x44\x44\x44\x44\x44\x44\x44\x44\x44\x44\x44\x44\x44\x44\x44\x44\
+        \x44\x44\x44\x44\x44\x44\x44\x44\x00\x01\xaa\xaa\xaa\xaa\xaa\xaa\xaa\xaa\xaa\xaa\xaa\xaa\xaa\xaa\
+        \xaa\xaa\xaa\xaa\xaa\xaa\xaa\xaa\xaa\xaa\xaa\xaa\xaa\xaa\xaa\xaa\xaa\xaa\x00\x00\x01\x8b\xcf\xe5\
+        \x68\x00\x00\x00\x01\x8b\xcf\xe5\x6f\xd0\x00\x00\x00\x01\x11\x11\x11\x11\x11\x11\x11\x11\x11\x11\
+        \x11\x11\x11\x11\x11\x11\x11\x11\x11\x11\x11\x11\x11\x11\x11\x11\x11\x11\x11\x11\x11\x11\x00\x00\
+        \x00\x02\x11\x11\x11\x11\x11\x11\x11\x11\x11\x11\x11\x11\x11\x11\x11\x11\x11\x11\x11\x11\x11\x11\
+        \x11\x11\x11\x11\x11\x11\x11\x11\x11\x11\x01\x05\x00\x01\x01\xff\xff\xff\xff\xda\x61\x62\x80\x11\
+        \x11\x11\x11\x11\x11\x11\x11\x11\x11\x11\x11\x11\x11\x11\x11\x11\x11\x11\x11\x11\x11\x11\x11\x11\
+        \x11\x11\x11\x11\x11\x11\x11\x01\x06\x01\xff\x00\xd8\xf8\xbf\x29\x8b\xdb\x2c\x62\xce\x4d\xdd\x95\
+        \x3d\xcf\x1c\xac\x1a\xdf\xc8\x18\xde\x9c\xbf\x1e\x28\x1d\xd6\xf8\x10\x47\x46\xff";
+
+// The same in version 1, where no identity has a date.
+const OLD_TWO_PARTS: &[u8] =
     b"\x43\x4c\x55\x42\x4c\x45\x44\x47\x01\x02\x00\x00\x00\x00\x00\x00\x00\x01\xda\x82\xb3\xb0\x69\x07\
         \x11\xee\x12\x02\x27\xb7\x98\xfe\x5a\x2a\x7f\xdf\x4b\x98\x41\x8e\x78\xbf\x30\x03\x09\xaa\x3f\x49\
         \xd2\x02\x00\x01\xaa\xaa\xaa\xaa\xaa\xaa\xaa\xaa\xaa\xaa\xaa\xaa\xaa\xaa\xaa\xaa\xaa\xaa\xaa\xaa\
@@ -83,18 +102,29 @@ fn part(alloc: Global, epoch: u64, trailer: [u8; 32], to: u64) -> Result<LedgerP
 }
 
 /// The item of a serial of issuer `11`.
-pub(crate) fn item(octet: u8, birth: u8, last: Option<u8>) -> Result<LedgerItem, Fail>
+pub(crate) fn item(
+    octet: u8,
+    birth: u8,
+    last: Option<u8>,
+    until: Option<i64>,
+) -> Result<LedgerItem, Fail>
     ensures { IfOk result (λ x. x ≡ record {
       id = record { issuer = replicate 32 17; serial = octet ∷ [] };
       birth = birth;
       last = last;
+      until = until;
     }) }
 {
     let id = Identity {
         issuer: Key32::new([0x11; 32]),
         serial: Serial::new(&[octet])?,
     };
-    Ok(LedgerItem { id, birth, last })
+    Ok(LedgerItem {
+        id,
+        birth,
+        last,
+        until,
+    })
 }
 
 fn two_parts(alloc: Global, trailer: [u8; 32]) -> Result<Draft, Fail> {
@@ -102,8 +132,8 @@ fn two_parts(alloc: Global, trailer: [u8; 32]) -> Result<Draft, Fail> {
     parts.push(part(alloc, 1, trailer, 1_700_000_001_000)?)?;
     parts.push(part(alloc, 2, [0; 32], 1_700_000_002_000)?)?;
     let mut items = Vec::new(alloc);
-    items.push(item(5, 0, Some(1))?)?;
-    items.push(item(6, 1, None)?)?;
+    items.push(item(5, 0, Some(1), Some(-631_152_000))?)?;
+    items.push(item(6, 1, None, None)?)?;
     Ok(Draft::new(parts, items))
 }
 
@@ -152,9 +182,26 @@ fn reads_two_parts_and_two_identities(rt: HostRuntime) -> Result<(), Fail> {
             [Key32::new([0x11; 32])].as_slice()
         );
     }
-    let items = [item(5, 0, Some(1))?, item(6, 1, None)?];
+    let items = [
+        item(5, 0, Some(1), Some(-631_152_000))?,
+        item(6, 1, None, None)?,
+    ];
     assert_eq!(rt; ledger.items(), items.as_slice());
     assert_eq!(rt; encode_ledger(alloc, &ledger)?.as_slice(), TWO_PARTS);
+    Ok(())
+}
+
+#[test]
+fn reads_version_1_without_dates(rt: HostRuntime) -> Result<(), Fail> {
+    let alloc = rt.alloc();
+    let ledger = decode_ledger(alloc, OLD_TWO_PARTS)?;
+    assert_eq!(rt; ledger.parts().len(), 2);
+    let items = [item(5, 0, Some(1), None)?, item(6, 1, None, None)?];
+    assert_eq!(rt; ledger.items(), items.as_slice());
+    let text = encode_ledger(alloc, &ledger)?;
+    assert_eq!(rt; text.len(), 372);
+    let again = decode_ledger(alloc, &text)?;
+    assert_eq!(rt; again.items(), items.as_slice());
     Ok(())
 }
 
@@ -167,7 +214,8 @@ fn fault_at(at: u64, field: Field, why: Why) -> LedgerFault {
 fn names_the_first_field_that_fails(rt: HostRuntime) -> Result<(), Fail> {
     let rows = [
         (0, 0x63, 0, Field::LedgerMagic),
-        (8, 2, 8, Field::LedgerVersion),
+        (8, 0, 8, Field::LedgerVersion),
+        (8, 3, 8, Field::LedgerVersion),
         (9, 65, 9, Field::LedgerParts),
         (50, 5, 50, Field::LedgerRanges),
         (84, 1, 92, Field::RangeTo),
@@ -178,9 +226,11 @@ fn names_the_first_field_that_fails(rt: HostRuntime) -> Result<(), Fail> {
         (298, 0, 298, Field::IdentityLength),
         (300, 2, 300, Field::IdentityBirth),
         (301, 2, 301, Field::IdentityLast),
-        (302, 0x10, 302, Field::IdentityIssuer),
-        (335, 5, 335, Field::IdentitySerial),
-        (337, 0, 337, Field::IdentityLast),
+        (302, 2, 302, Field::IdentityDated),
+        (311, 0x10, 311, Field::IdentityIssuer),
+        (344, 5, 344, Field::IdentitySerial),
+        (346, 0, 346, Field::IdentityLast),
+        (347, 2, 347, Field::IdentityDated),
     ];
     for (place, value, at, field) in rows {
         let mut bytes = Vec::new(rt.alloc());
@@ -205,20 +255,20 @@ fn tests_the_digest_and_the_end(rt: HostRuntime) -> Result<(), Fail> {
     bytes.extend_from_slice(TWO_PARTS)?;
     bytes.push(0)?;
     let read = decode_ledger(rt.alloc(), &bytes);
-    assert_eq!(rt; read.err(), Some(fault_at(370, Field::End, Why::Value)));
+    assert_eq!(rt; read.err(), Some(fault_at(380, Field::End, Why::Value)));
     if let Some(byte) = bytes.get_mut(18) {
         *byte = 0;
     }
     let read = decode_ledger(rt.alloc(), &bytes);
     assert_eq!(rt;
         read.err(),
-        Some(fault_at(338, Field::LedgerDigest, Why::Digest))
+        Some(fault_at(348, Field::LedgerDigest, Why::Digest))
     );
     Ok(())
 }
 
 // Where the fields of TWO_PARTS begin and end, coverage aside.
-const FIELDS: [(usize, usize, Field); 31] = [
+const FIELDS: [(usize, usize, Field); 34] = [
     (0, 8, Field::LedgerMagic),
     (8, 9, Field::LedgerVersion),
     (9, 10, Field::LedgerParts),
@@ -244,12 +294,15 @@ const FIELDS: [(usize, usize, Field); 31] = [
     (299, 300, Field::IdentitySerial),
     (300, 301, Field::IdentityBirth),
     (301, 302, Field::IdentityLast),
-    (302, 334, Field::IdentityIssuer),
-    (334, 335, Field::IdentityLength),
-    (335, 336, Field::IdentitySerial),
-    (336, 337, Field::IdentityBirth),
-    (337, 338, Field::IdentityLast),
-    (338, 370, Field::LedgerDigest),
+    (302, 303, Field::IdentityDated),
+    (303, 311, Field::IdentityUntil),
+    (311, 343, Field::IdentityIssuer),
+    (343, 344, Field::IdentityLength),
+    (344, 345, Field::IdentitySerial),
+    (345, 346, Field::IdentityBirth),
+    (346, 347, Field::IdentityLast),
+    (347, 348, Field::IdentityDated),
+    (348, 380, Field::LedgerDigest),
 ];
 
 #[test]

@@ -1,4 +1,4 @@
-use Rattle.std.proofs.Common.{◌≡◌, ℕ, List, [], ◌∷◌, ◌++◌, replicate, map, Some, None, refl, ap, ◌∙◌, sym, arith}
+use Rattle.std.proofs.Common.{◌≡◌, ℕ, negsuc, List, [], ◌∷◌, ◌++◌, replicate, map, Some, None, refl, ap, ◌∙◌, sym, arith}
 use Rattle.std.specs.List.Sorted.{IsStrictlySortedBy}
 use Rattle.std.proofs.lemmas.List.{map-id}
 use Rattle.std.proofs.lemmas.List.Elements.{All-from_recursion}
@@ -20,8 +20,8 @@ both_parts trailer = part_of 1 trailer 1700000001000 ∷ part_of 2 (replicate 32
 
 abbrev both_items : List LedgerItem
 both_items =
-    record { id = record { issuer = replicate 32 17; serial = 5 ∷ [] }; birth = 0; last = Some 1 }
-    ∷ record { id = record { issuer = replicate 32 17; serial = 6 ∷ [] }; birth = 1; last = None } ∷ []
+    record { id = record { issuer = replicate 32 17; serial = 5 ∷ [] }; birth = 0; last = Some 1; until = Some (negsuc 631151999) }
+    ∷ record { id = record { issuer = replicate 32 17; serial = 6 ∷ [] }; birth = 1; last = None; until = None } ∷ []
 
 is-ledger : (trailer : List ℕ) → IsLedger (record { parts = both_parts trailer; items = both_items })
 unfolding IsStrictlySortedBy
