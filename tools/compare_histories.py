@@ -5,11 +5,12 @@
 
 For each history: the part, the ledger and the store of each job byte for byte, the lines of `snapshot`, `delta`,
 `start` and `install`, and `query` on accepted certificates (the answer must be the history's truth) and on others (it
-must be the verdict of the parts). Then all jobs in one `rehearse`, with queries of both kinds; in some histories with a
-job that is refused among them, or with a damaged query file, and then the line and the status of the refusal. Then an
-`audit` of one of the stores by all jobs, or with one among them that is refused. And a job of `sample`. It runs the
-program that `./clubcard` runs, prints a line, and ends with status 0 exactly where nothing differs; where something
-does, it says which history and what.
+must be the verdict of the parts). One of the jobs is published behind ledgers without dates too, in both versions, and
+is refused behind ledgers that are damaged, with the digest mended or not. Then all jobs in one `rehearse`, with queries
+of both kinds; in some histories with a job that is refused among them, or with a damaged query file, and then the line
+and the status of the refusal. Then an `audit` of one of the stores by all jobs, or with one among them that is refused.
+And a job of `sample`. It runs the program that `./clubcard` runs, prints a line, and ends with status 0 exactly where
+nothing differs; where something does, it says which history and what.
 """
 
 import functools
@@ -24,17 +25,19 @@ from reference import (
     Crl,
     Entry,
     Job,
-    JobFile,
+    Refused,
+    SHARDED,
     T,
-    audit,
+    UNDATED,
     be,
     history_of,
     queries_bytes,
-    rehearse,
     sample,
+    sha,
     store,
     verdict,
 )
+from reference_files import JobFile, audit, read_ledger_fields, rehearse
 
 PROGRAM = path_of_program()
 
@@ -77,9 +80,16 @@ def random_entries(rng, logs, issuers, serials, ranges):
         if rng.random() < 0.03:
             entries.append(unread_entry(log, issuers[0]))
         else:
-            time = rng.randint(first - 5, last + 5)
-            entries.append(Entry(rng.choice(issuers), rng.choice(serials), log, time))
+            time, (until, behind) = rng.randint(first - 5, last + 5), random_date(rng)
+            entries.append(Entry(rng.choice(issuers), rng.choice(serials), log, time, until=until, behind=behind))
     return entries
+
+
+def random_date(rng):
+    """A date, one of few or in the years 1 to 9999; or none, and what stands in place of one."""
+    if rng.random() < 0.1:
+        return None, rng.choice(UNDATED)
+    return rng.choice([T // 1000 + rng.randint(-5, 5), rng.randint(-62135596800, 253402300799)]), b""
 
 
 def random_octets(rng, length):
@@ -133,6 +143,38 @@ def compare_files(rng, history, parts, at):
         same(f"part {i}", held(at("part")), parts[i].bytes)
         same(f"ledger {i}", held(at(f"ledger{i}")), history.ledger(i))
         same(f"store {i}", held(at(f"store{i}")), store(parts[: i + 1]))
+
+
+def compare_undated(rng, jobs, at):
+    """Publishes a job behind the ledger of those before it, in both versions, as if these were taken without dates."""
+    place = rng.randrange(1, len(jobs))
+    old = [Job(job.epoch, job.moment, job.ranges, job.crls, job.entries, SHARDED) for job in jobs[:place]]
+    history = history_of(tuple(old + [jobs[place]]))
+    put(at("job"), jobs[place].bytes())
+    for version in (1, 2):
+        put(at("undated"), history.ledger(place - 1, version))
+        told = run("delta", at("job"), at("undated"), at("part"), at("ledger"), "1")
+        same(f"report behind version {version}", told, (0, history.report(place) + "\n"))
+        same(f"part behind version {version}", held(at("part")), history.parts()[place].bytes)
+        same(f"ledger behind version {version}", held(at("ledger")), history.ledger(place))
+
+
+def compare_damaged_ledgers(rng, history, at):
+    """Refuses a job behind ledgers that break the layout. Gives how many do."""
+    place, faults = rng.randrange(1, len(history.jobs)), 0
+    put(at("job"), history.jobs[place].bytes())
+    for _ in range(4):
+        data = damaged(rng, history.ledger(place - 1))
+        data = rng.choice([data, data[:-32] + sha(data[:-32])])
+        put(at("damaged"), data)
+        try:
+            read_ledger_fields(data)
+        except Refused as refused:
+            told = run("delta", at("job"), at("damaged"), at("unwritten"), at("unwritten too"), "1")
+            same("damaged ledger", told, (refused.status, refused.line(at("damaged"))))
+            same("outputs", [os.path.exists(at(name)) for name in ("unwritten", "unwritten too")], [False, False])
+            faults += 1
+    return faults
 
 
 def ask(path, identity, sightings):
@@ -258,7 +300,7 @@ def compare_sample(rng, at):
 def main():
     count = int(sys.argv[1]) if len(sys.argv) > 1 else 20
     seed = int(sys.argv[2]) if len(sys.argv) > 2 else 1
-    jobs, asked, refused, agreed = 0, 0, 0, 0
+    jobs, asked, refused, agreed, faults = 0, 0, 0, 0, 0
     for number in range(count):
         rng = random.Random(seed * 1_000_003 + number)
         history = history_of(tuple(random_history(rng)))
@@ -267,6 +309,9 @@ def main():
             at = functools.partial(os.path.join, folder)
             try:
                 compare_files(rng, history, parts, at)
+                if len(history.jobs) > 1:
+                    compare_undated(rng, history.jobs, at)
+                    faults += compare_damaged_ledgers(rng, history, at)
                 asked += compare_answers(rng, history, parts, at(f"store{len(parts) - 1}"))
                 rehearsed = compare_rehearsal(rng, history, parts, at)
                 agreed += compare_audit(rng, history, parts, at)
@@ -277,8 +322,8 @@ def main():
         asked += rehearsed
         refused += rehearsed == 0
     print(
-        f"{count} histories, {jobs} jobs, {asked} queries, {refused} refused rehearsals, {agreed} audits that agree: "
-        "nothing differs"
+        f"{count} histories, {jobs} jobs, {asked} queries, {refused} refused rehearsals, {agreed} audits that agree, "
+        f"{faults} damaged ledgers: nothing differs"
     )
 
 

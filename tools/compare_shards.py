@@ -35,14 +35,13 @@ from reference import (
     be,
     build_leaf,
     build_sharded,
-    check,
     ident,
     sha,
     shift_in,
-    show,
     store,
     verdict,
 )
+from reference_files import check, show
 
 TOP = os.path.join(os.path.dirname(os.path.abspath(__file__)), "..")
 LOG = b"\xaa" * 32
@@ -167,7 +166,8 @@ def compare_damaged(rng, at):
 
 # ---------- two jobs ----------
 def entries_of(rng, issuer, serials):
-    return [Entry(issuer, serial, LOG, T + rng.randrange(1000)) for serial in serials]
+    until = lambda: rng.choice([None, T // 1000 + rng.randrange(1000)])
+    return [Entry(issuer, serial, LOG, T + rng.randrange(1000), until=until()) for serial in serials]
 
 
 def random_jobs(rng):

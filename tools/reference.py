@@ -1,6 +1,6 @@
 #!/usr/bin/env python3
-"""An independent reference of the rules: parts, ledgers, stores, verdicts, rehearsals and audits from jobs, and jobs of
-the generator.
+"""An independent reference of the rules: parts, ledgers, stores and verdicts from jobs, and jobs of the generator. What
+comes of files, of rehearsals and of audits stands in tools/reference_files.py.
 
 Written from the rules and layouts (docs/ARCHITECTURE.md, docs/FORMATS.md) and not from the program. The sets of a
 history are worked out by their definitions over all its jobs (not from a birth and a last part), systems are solved by
@@ -9,6 +9,7 @@ highest column down, a column is zero where that leaves a solution. It is slow: 
 entries.
 """
 
+import datetime
 import functools
 import hashlib
 
@@ -16,9 +17,10 @@ from sample_reference import sample as sample_text
 
 T = 1700000000000
 
-# The formats of jobs: whether the blocks of large issuers are cut into shards. And the one in which jobs are taken.
-PLAIN, SHARDED = "plain", "sharded"
-CURRENT = SHARDED
+# The formats of jobs: the blocks of large issuers are cut into shards in all but the first, and the dates of entries
+# are read in the last. And the one in which jobs are taken.
+PLAIN, SHARDED, DATED = "plain", "sharded", "dated"
+CURRENT = DATED
 
 
 def sha(*xs):
@@ -60,14 +62,44 @@ class Crl:
             self.bytes = self.bytes[:-1]
 
 
-class Entry:
-    """A precertificate entry, or a raw leaf that is unread."""
+def time_of(seconds):
+    """A time of DER: a UTCTime in the years 1950 to 2049, else a GeneralizedTime."""
+    at = datetime.datetime(1970, 1, 1) + datetime.timedelta(seconds=seconds)
+    text = f"{at.year:04}{at:%m%d%H%M%S}Z"
+    return der(0x17, text[2:].encode()) if 1950 <= at.year < 2050 else der(0x18, text.encode())
 
-    def __init__(self, issuer, serial, log, time, leaf=None, extra=b""):
+
+def validity(*ends):
+    """The fields of a TBS from behind the serial up to a validity, which holds these elements."""
+    return 2 * der(0x30, b"") + der(0x30, b"".join(ends))
+
+
+# What stands behind the serial of an entry without a date: nothing, or too little; a validity of one time, of three, of
+# another tag or with more behind the times; and a second element that is no time, or a day that there isn't.
+UNDATED = [
+    b"",
+    2 * der(0x30, b""),
+    validity(D),
+    validity(D, D, D),
+    2 * der(0x30, b"") + der(0x31, D + D),
+    validity(D, D, b"\0"),
+    validity(D, der(0x04, b"231114221320Z")),
+    validity(D, der(0x17, b"20231114221320Z")),
+    validity(D, der(0x18, b"231114221320Z")),
+    validity(D, der(0x17, b"230229221320Z")),
+    validity(D, der(0x17, b"231114241320Z")),
+]
+
+
+class Entry:
+    """A precertificate entry, or a raw leaf that is unread. Its date is the end of the certificate's validity, in
+    seconds since 1970. Where it has none, one of UNDATED stands behind the serial."""
+
+    def __init__(self, issuer, serial, log, time, leaf=None, extra=b"", until=None, behind=b""):
         self.id = None if leaf is not None else (issuer, len(serial), serial)
-        self.log, self.time, self.extra = log, time, extra
+        self.log, self.time, self.extra, self.until = log, time, extra, until
         if leaf is None:
-            tbs = der(0x30, der(2, serial))
+            tbs = der(0x30, der(2, serial) + (behind if until is None else validity(D_BEFORE, time_of(until))))
             leaf = b"\0\0" + be(time, 8) + b"\0\1" + issuer + be(len(tbs), 3) + tbs + b"\0\0"
         self.leaf = leaf
 
@@ -391,7 +423,7 @@ class History:
     def __init__(self, jobs):
         self.jobs = jobs
         self.named = []  # per job: the identities of its accepted entries
-        self.seen = {}  # per identity: (job, (log, time)) of each of its accepted entries
+        self.seen = {}  # per identity: (job, (log, time), date) of each of its accepted entries
         self.accepted = []  # per job: the places of its accepted entries, among all of its own
         self.counts = []
         for i, job in enumerate(jobs):
@@ -411,12 +443,12 @@ class History:
                 ):
                     n["late"] += 1
                 else:
-                    here.append((e.id, (e.log, e.time)))
+                    here.append((e.id, (e.log, e.time), e.until if job.taken == DATED else None))
                     places.append(place)
             self.accepted.append(places)
-            for x, s in here:
-                self.seen.setdefault(x, []).append((i, s))
-            self.named.append({x for x, _ in here})
+            for x, s, date in here:
+                self.seen.setdefault(x, []).append((i, s, date))
+            self.named.append({x for x, _, _ in here})
             n["accepted"] = len(here)
             self.counts.append(n)
 
@@ -428,7 +460,12 @@ class History:
         return next(i for i, named in enumerate(self.named) if x in named)
 
     def sightings(self, x, i):
-        return [s for j, s in self.seen.get(x, []) if j <= i]
+        return [s for j, s, _ in self.seen.get(x, []) if j <= i]
+
+    def until(self, x, i):
+        """The date of an identity: None where one of its accepted entries has none."""
+        dates = [date for j, _, date in self.seen[x] if j <= i]
+        return None if None in dates else max(dates)
 
     @functools.lru_cache(maxsize=None)
     def universe(self, i):
@@ -467,9 +504,10 @@ class History:
             out.append(Part(1 if out else 0, job.epoch, parent, job.ranges, blocks))
         return out
 
-    def ledger(self, i):
+    def ledger(self, i, version=2):
+        """The ledger after a job. In version 1, which has no dates, of jobs that are taken in formats without them."""
         parts = self.parts()[: i + 1]
-        out = b"CLUBLEDG" + b"\1" + bytes([i + 1])
+        out = b"CLUBLEDG" + bytes([version, i + 1])
         for p, job in zip(parts, self.jobs):
             issuers = sorted(job.enrolled())
             out += be(p.epoch, 8) + p.trailer + ranges_bytes(p.ranges) + be(len(issuers), 4) + b"".join(issuers)
@@ -477,7 +515,12 @@ class History:
         out += be(len(ids), 4)
         for x in ids:
             last = self.last(x, i)
+            until = self.until(x, i)
             out += x[0] + bytes([x[1]]) + x[2] + bytes([self.birth(x), 255 if last is None else last])
+            if version == 1:
+                assert until is None, "version 1 has no dates"
+            else:
+                out += b"\0" if until is None else b"\1" + until.to_bytes(8, "big", signed=True)
         return out + sha(out)
 
     def report(self, i):
@@ -507,45 +550,6 @@ def ident(k, s):
     return (k, len(s), s)
 
 
-# ---------- files that are read ----------
-class Fields:
-    """The fields of a file, one behind the other."""
-
-    def __init__(self, data):
-        self.data, self.at = data, 0
-
-    def refuse(self, field, why):
-        raise Refused(3, f"layout {self.at} {field} {why}")
-
-    def take(self, field, width, passes=lambda octets: True):
-        octets = self.data[self.at : self.at + width]
-        if len(octets) < width:
-            self.refuse(field, "short")
-        if not passes(octets):
-            self.refuse(field, "value")
-        self.at += width
-        return octets
-
-    def magic(self, field, text):
-        self.take(field, len(text), lambda octets: octets == text)
-
-    def number(self, field, width, passes=lambda number: True):
-        octets = self.take(field, width, lambda octets: passes(int.from_bytes(octets, "big")))
-        return int.from_bytes(octets, "big")
-
-    def digest(self, field, first):
-        """The digest of the octets from the first one on."""
-        wanted = sha(self.data[first : self.at])
-        given = self.data[self.at : self.at + len(wanted)]
-        if given != wanted:
-            self.refuse(field, "short" if len(given) < len(wanted) else "digest")
-        self.at += len(wanted)
-
-    def end(self):
-        if self.at < len(self.data):
-            self.refuse("end", "value")
-
-
 def queries_bytes(queries):
     out = b"CLUBQRY1" + be(len(queries), 4)
     for (issuer, length, serial), sightings in queries:
@@ -554,234 +558,10 @@ def queries_bytes(queries):
     return out
 
 
-def read_queries(data):
-    fields = Fields(data)
-    fields.magic("query.magic", b"CLUBQRY1")
-    queries = []
-    for _ in range(fields.number("query.count", 4, lambda count: count <= 65536)):
-        issuer = fields.take("query.issuer", 32)
-        length = fields.number("query.length", 1, lambda length: 1 <= length <= 32)
-        serial = fields.take("query.serial", length)
-        count = fields.number("query.sightings", 1, lambda count: 1 <= count <= 64)
-        sightings = [(fields.take("sighting.log", 32), fields.number("sighting.time", 8)) for _ in range(count)]
-        queries.append(((issuer, length, serial), sightings))
-    fields.end()
-    return queries
-
-
-def read_range(fields, log_before):
-    log = fields.take("range.log", 32, lambda log: log_before is None or log > log_before)
-    first = fields.number("range.from", 8)
-    return log, first, fields.number("range.to", 8, lambda last: last >= first)
-
-
-def read_ranges(fields, count_field):
-    ranges = []
-    for _ in range(fields.number(count_field, 2, lambda count: count <= 1024)):
-        ranges.append(read_range(fields, ranges[-1][0] if ranges else None))
-    return ranges
-
-
-def read_stage(fields, name, planes):
-    """The seed, the starts and the planes of a stage."""
-    seed = fields.number(f"{name}.seed", 1)
-    starts = fields.number(f"{name}.starts", 4, lambda starts: 1 <= starts <= 4718593)
-
-    def is_padded(words):
-        return columns_of(words) < 2 ** (starts + 127)
-
-    words = [fields.take(f"{name}.plane", 8 * words_for(starts), is_padded) for _ in range(planes)]
-    return seed, starts, [columns_of(plane) for plane in words]
-
-
-def read_mixed(fields):
-    k = fields.number("block.k", 1, lambda k: k <= 16)
-    approx = read_stage(fields, "approx", k) if k else None
-    seed, starts, planes = read_stage(fields, "exact", 1)
-    return Mixed(k, approx, (seed, starts, planes[0]))
-
-
-def read_leaf(fields, mode):
-    return read_mixed(fields) if mode == 2 else ("none", "all")[mode]
-
-
-def read_block(fields, version):
-    mode = fields.number("block.mode", 1, lambda mode: mode <= 2 or mode == 3 and version == 2)
-    if mode < 3:
-        return read_leaf(fields, mode)
-    shift = fields.number("block.shift", 1, lambda shift: 1 <= shift <= 8)
-    modes = (fields.number("shard.mode", 1, lambda mode: mode <= 2) for _ in range(2**shift))
-    return Sharded(shift, [read_leaf(fields, mode) for mode in modes])
-
-
-def read_part(data):
-    """The part of a file that holds one."""
-    fields = Fields(data)
-    fields.magic("part.magic", b"CLUBCARD")
-    version = fields.number("part.version", 1, lambda version: version in (1, 2))
-    kind = fields.number("part.kind", 1, lambda kind: kind <= 1)
-    epoch = fields.number("part.epoch", 8)
-    parent = fields.take("part.parent", 32, lambda parent: kind == 1 or parent == bytes(32))
-    ranges, blocks = read_ranges(fields, "part.ranges"), []
-    for _ in range(fields.number("part.issuers", 4, lambda count: count <= 65535)):
-        issuer = fields.take("block.issuer", 32, lambda issuer: not blocks or issuer > blocks[-1][0])
-        blocks.append((issuer, read_block(fields, version)))
-    fields.take("part.sharded", 0, lambda _: version == 1 or has_shards(blocks))
-    fields.digest("part.trailer", 0)
-    fields.end()
-    part = Part(kind, epoch, parent, ranges, blocks)
-    assert part.bytes == data, "a part has one text"
-    return part
-
-
-def of_part(name, data, told):
-    """The status and the text of a command that reads a part and tells something of it."""
-    try:
-        return 0, told(read_part(data))
-    except Refused as refused:
-        return refused.status, refused.line(name)
-
-
-def check(name, data):
-    """Of a part's name and bytes."""
-    return of_part(name, data, Part.checked)
-
-
-def show(name, data):
-    return of_part(name, data, Part.shown)
-
-
-def read_job_fields(data):
-    """Reads the fields of a job, and not what they mean."""
-    fields = Fields(data)
-    fields.magic("job.magic", b"CLUBJOB1")
-    fields.number("job.epoch", 8)
-    fields.number("job.moment", 8)
-    before, log = 0, None
-    while True:
-        kind = fields.number("record.kind", 1, lambda kind: kind == 0 or before <= kind <= 3)
-        if kind == 0:
-            return fields.end()
-        before = kind
-        if kind == 1:
-            log, _, _ = read_range(fields, log)
-        elif kind == 2:
-            fields.take("crl.issuer", 32)
-            fields.take("crl.bytes", fields.number("crl.length", 4, lambda length: length <= 67108864))
-        else:
-            fields.take("entry.log", 32)
-            fields.take("entry.leaf", fields.number("entry.leaf_length", 3))
-            fields.take("entry.extra", fields.number("entry.extra_length", 3))
-
-
-# ---------- rehearsals ----------
-def test_crls(job):
-    """Refuses a job with a CRL that isn't accepted."""
-    for place, (_, crl) in enumerate(job.crls):
-        if crl.cut:
-            raise Refused(4, f"crl {place} malformed")
-
-
-def follow(job, before):
-    """Refuses a job that doesn't follow those before it. The limits are out of reach of short jobs."""
-    if not before:
-        return
-    newest = before[-1]
-    if job.epoch <= newest.epoch:
-        raise Refused(5, f"chain epoch {newest.epoch} {job.epoch}")
-    for log, first, last in newest.ranges:
-        if not any(l == log and a <= first and last <= b for l, a, b in job.ranges):
-            raise Refused(5, f"chain coverage {log.hex()}")
-    if len(before) == 64:
-        raise Refused(5, "chain full")
-
-
-class JobFile:
-    """A file that is read as a job: its name, what it holds (None: it isn't held), and the job that this is unless it
-    breaks its layout."""
-
-    def __init__(self, name, data, job):
-        self.name, self.data, self.job = name, data, job
-
-    def read(self):
-        if self.data is None:
-            raise Refused(8, "read-fault")
-        read_job_fields(self.data)
-        assert self.data == self.job.bytes(), f"{self.name} holds another job"
-        return self.job
-
-    def admitted(self, before):
-        job = self.read()
-        test_crls(job)
-        follow(job, before)
-        return job
-
-
 @functools.lru_cache(maxsize=8)
 def history_of(jobs):
     """The history of a tuple of jobs."""
     return History(list(jobs))
-
-
-def rehearse(name, data, files):
-    """The status and the text of `rehearse`, of a query file's name and bytes and of the files of jobs."""
-    jobs = []
-    try:
-        queries = read_queries(data)
-        for file in files:
-            name = file.name
-            jobs.append(file.admitted(jobs))
-            history_of(tuple(jobs)).parts()
-    except Refused as refused:
-        return refused.status, refused.line(name)
-    history = history_of(tuple(jobs))
-    parts = history.parts()
-    reports = [history.report(i) for i in range(len(jobs))]
-    return 0, text_of(reports + [verdict(parts, identity, sightings) for identity, sightings in queries])
-
-
-# ---------- audits ----------
-class Disagrees(Refused):
-    """An accepted entry of which a store doesn't say the truth. Its line names no file."""
-
-    def __init__(self, job, entry, held, truth):
-        super().__init__(17, f"audit job {job} entry {entry} held {held} truth {truth}")
-
-    def line(self, name):
-        return f"{self.why}\n"
-
-
-def agreed(parts, history):
-    """How many entries a history accepts, if the parts say the truth of each."""
-    last = len(history.jobs) - 1
-    for i, (job, places) in enumerate(zip(history.jobs, history.accepted)):
-        for place in places:
-            entry = job.entries[place]
-            truth = "revoked" if history.listed(entry.id, last) else "good"
-            held = verdict(parts, entry.id, [(entry.log, entry.time)])
-            if held != truth:
-                raise Disagrees(i, place, held, truth)
-    return sum(len(places) for places in history.accepted)
-
-
-def audit(parts, files):
-    """The status and the text of `audit`, of the parts of a store and of the files of jobs. The limits are out of reach
-    of short jobs."""
-    name, jobs = None, []
-    try:
-        for file in files:
-            name = file.name
-            jobs.append(file.read())
-        for file, job in zip(files, jobs):
-            name = file.name
-            test_crls(job)
-        for i, file in enumerate(files):
-            name = file.name
-            follow(jobs[i], jobs[:i])
-        entries = agreed(parts, history_of(tuple(jobs)))
-    except Refused as refused:
-        return refused.status, refused.line(name)
-    return 0, f"audit jobs {len(jobs)} entries {entries} agree\n"
 
 
 # ---------- the generator ----------
