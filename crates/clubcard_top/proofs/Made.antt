@@ -1,5 +1,5 @@
 -- What comes of commands over the files of histories, from what the layers promise of histories.
-use Rattle.std.proofs.Common.{◌≡◌, ℕ, ◌<◌, ◌≤◌, List, [], ◌∷◌, ◌++◌, map, length, Option, Some, None, Result, Ok, Err, refl, sym, ap, ◌∙◌, subst, arith}
+use Rattle.std.proofs.Common.{◌≡◌, ℕ, ◌<◌, ◌≤◌, inl, inr, List, [], ◌∷◌, ◌++◌, map, length, Option, Some, None, Result, Ok, Err, refl, sym, ap, ◌∙◌, subst, arith}
 use Rattle.std.specs.Prelude.{All}
 use Rattle.std.specs.FinMap.{get}
 use Rattle.std.proofs.lemmas.Bool.{le-ltb}
@@ -39,6 +39,7 @@ use Rattle.card_core.specs.Verdict.{verdict}
 use Rattle.publication_core.specs.declared.fault.PublishFault.{PublishFault}
 use Rattle.publication_core.specs.Formats.{current}
 use Rattle.publication_core.specs.Histories.{IsAdmissible, History, of_jobs, members, with_job, IsHistory, history, part_bytes, ledger_bytes, store_bytes}
+use Rattle.publication_core.specs.Histories.{old_ledger_bytes, IsUndated}
 use Rattle.publication_core.specs.Publishing.{Published, Publishes}
 use Rattle.publication_core.specs.Truth.{truth}
 use Rattle.word_core.specs.declared.command.Command.{Command}
@@ -55,7 +56,7 @@ use Rattle.clubcard_top.specs.ReplyFields.{Done, NamedFault}
 use Rattle.clubcard_top.specs.Commands.{◌>>=◌, named, input, only, verdict_word, query_done, query_makes, query_cert_makes, epoch_of, stored, begun_by, installed_by, start_makes}
 use Rattle.clubcard_top.specs.Commands.{install_makes, publication_done, published_as, MakesPart, MakesSnapshot, MakesDelta, Makes}
 use Rattle.clubcard_top.specs.Replies.{held_by}
-use Rattle.clubcard_top.specs.Headline.{HoldsJob, PublishesJob, publishes_to, IsPublished, StoresPart, stores_to, IsStored, AsksHistory, truth_done}
+use Rattle.clubcard_top.specs.Headline.{HoldsJob, HoldsLedger, PublishesJob, publishes_to, IsPublished, StoresPart, stores_to, IsStored, AsksHistory, truth_done}
 use Rattle.clubcard_top.specs.Headline.{HoldsCert, HoldsKey, AsksCert, cert_truth_line}
 use Rattle.clubcard_top.proofs.CertTruth.{certificate_read, issuer_read, truth_of_covered}
 use Rattle.clubcard_top.proofs.Makings.{cert_last, cert_then, cert_after}
@@ -77,6 +78,8 @@ pub record Layers : Type 0 where
   pub place : (h : History) (parts : List SealedFields) (job : JobFields) (p : Published) → IsHistory h parts
       → Publishes (ledger_of (history h parts)) job (Ok p) → p.place ≡ members h
   pub ledger_read : (h : History) (parts : List SealedFields) → IsHistory h parts → 1 ≤ members h → ledger_of_bytes (ledger_bytes h parts) ≡ Ok (ledger_of (history h parts))
+  pub old_read : (h : History) (parts : List SealedFields) → IsHistory h parts → 1 ≤ members h → IsUndated h
+      → ledger_of_bytes (old_ledger_bytes h parts) ≡ Ok (ledger_of (history h parts))
   pub chain : (h : History) (parts : List SealedFields) → IsHistory h parts → IsChain parts
   pub many : (h : History) (parts : List SealedFields) → IsHistory h parts → length parts ≡ members h
   pub few : (h : History) (parts : List SealedFields) → IsHistory h parts → length parts ≤ 64
@@ -119,9 +122,12 @@ module _ (layers : Layers) where
   published_by asked h parts job d name part ledger before is ledger_is outputs fits limits (Err fault) pub_ is_done =
       absurd (let h : ◌≡◌ {A = Result Done NamedFault} (Ok d) (published_as name part ledger (Err fault)) = is_done in cc)
 
-  ledger_input : (files : Files) (name : List ℕ) (h : History) (parts : List SealedFields) → IsHistory h parts → 1 ≤ members h → get files name ≡ Some (ledger_bytes h parts)
+  ledger_input : (files : Files) (name : List ℕ) (h : History) (parts : List SealedFields) → IsHistory h parts → 1 ≤ members h → HoldsLedger files name h parts
       → input name ledger_in (get files name) ≡ Ok (ledger_of (history h parts))
-  ledger_input files name h parts is some held = rw held (ap (λ (r : Result LedgerFields LedgerFault). named name (faulted of_ledger r)) (layers.ledger_read h parts is some))
+  ledger_input files name h parts is some (inl held) =
+      rw held (ap (λ (r : Result LedgerFields LedgerFault). named name (faulted of_ledger r)) (layers.ledger_read h parts is some))
+  ledger_input files name h parts is some (inr held) =
+      rw held.0 (ap (λ (r : Result LedgerFields LedgerFault). named name (faulted of_ledger r)) (layers.old_read h parts is some held.1))
 
   -- what a command that publishes a job behind a history makes
   pub record Behind (asked : Command) (h : History) (parts : List SealedFields) (job : JobFields) (o : Result Done NamedFault) : Type 0 where

@@ -1,5 +1,5 @@
 -- What a call asks for, and what comes of it, where its files are those of a history of admitted jobs.
-use Rattle.std.specs.Prelude.{◌≡◌, ℕ, ◌≤◌, List, [], ◌∷◌, ◌++◌, length, Some, Ok, IsTrue}
+use Rattle.std.specs.Prelude.{◌≡◌, ◌⊎◌, ℕ, ◌≤◌, List, [], ◌∷◌, ◌++◌, length, Some, Ok, IsTrue}
 use Rattle.std.specs.List.{AllZip}
 use Rattle.std.specs.FinMap.{get}
 use Rattle.sha2.specs.Sha256.{sha256}
@@ -24,7 +24,7 @@ use Rattle.universe_core.specs.History.{Release, past_of, seen, sightings}
 use Rattle.universe_core.specs.Counting.{counts}
 use Rattle.publication_core.specs.Formats.{current}
 use Rattle.publication_core.specs.Histories.{IsAdmissible, History, of_jobs, members, with_job, chain, IsHistory, history}
-use Rattle.publication_core.specs.Histories.{part_bytes, store_bytes, ledger_bytes}
+use Rattle.publication_core.specs.Histories.{part_bytes, store_bytes, ledger_bytes, old_ledger_bytes, IsUndated}
 use Rattle.publication_core.specs.Truth.{truth}
 use Rattle.word_core.specs.declared.command.Command.{Command}
 use Rattle.word_core.specs.declared.command.Command.TheVariants as commands
@@ -40,12 +40,16 @@ use Rattle.clubcard_top.specs.Calls.{Call, Found, Holds, Prints, Writes}
 abbrev pub HoldsJob : Files → List ℕ → JobFields → Type 0
 HoldsJob files name job = (bytes : List ℕ) × (get files name ≡ Some bytes) × (job_of limits.PUBLISHED bytes ≡ Ok job)
 
+-- the file of this name holds the ledger of the history, in version 2, or in version 1 where no job reads dates
+abbrev pub HoldsLedger : Files → List ℕ → History → List SealedFields → Type 0
+HoldsLedger files name h parts = (get files name ≡ Some (ledger_bytes h parts)) ⊎ ((get files name ≡ Some (old_ledger_bytes h parts)) × IsUndated h)
+
 -- The command publishes a job behind a history: `snapshot` behind that of no jobs, and `delta` behind that whose
--- ledger's bytes LEDGER holds.
+-- ledger LEDGER holds.
 abbrev pub PublishesJob : Command → Files → History → List SealedFields → JobFields → Type 0
 PublishesJob (commands.Snapshot s) files h parts job = (h ≡ of_jobs []) × (parts ≡ []) × HoldsJob files s.job job
 PublishesJob (commands.Delta d) files h parts job =
-    (1 ≤ members h) × (get files d.ledger ≡ Some (ledger_bytes h parts)) × HoldsJob files d.job job
+    (1 ≤ members h) × HoldsLedger files d.ledger h parts × HoldsJob files d.job job
 PublishesJob command files h parts job = ⊥
 
 -- the call asks to publish this job behind the history with these parts
