@@ -62,7 +62,8 @@ const CUTS: [Cut<'static>; 5] = [
             ("identity.serial", 174),
             ("identity.birth", 175),
             ("identity.last", 176),
-            ("ledger.digest", 208),
+            ("identity.dated", 177),
+            ("ledger.digest", 209),
         ],
     },
     Cut {

@@ -2,8 +2,8 @@
 
 use clubcard_rows::calls::{does, holds, lacks, put, put_cut, put_with_byte, says};
 use clubcard_rows::files::{
-    CRL_CUT, CRL_NONE, K1, LA, LB, LEDGER_DROPPED, LEDGER_GOOD, LEDGER_LATE, PART_DROPPED,
-    PART_LATE,
+    CRL_CUT, CRL_NONE, K1, LA, LB, LEDGER_DROPPED, LEDGER_GOOD, LEDGER_LATE, OLD_LEDGER_GOOD,
+    PART_DROPPED, PART_LATE,
 };
 use clubcard_rows::jobs::{JobText, dropped_serial, late_entry};
 use clubcard_top::Status;
@@ -65,25 +65,30 @@ fn refuses<R: Threads + Sync>(
     refused_over(rt, alloc, depot_of(alloc, job, ledger)?, status, line)
 }
 
+/// Whether late_entry is published behind a ledger of one_good.
+fn drops_the_late_entry<R: Threads + Sync>(
+    rt: &R,
+    alloc: Global,
+    ledger: &str,
+) -> Result<bool, Fail> {
+    let report =
+        "epoch 2 part 1 issuers 1 universe 2 revoked 1 unread 0 uncovered 0 unenrolled 0 late 1 accepted 1\n";
+    let job = late_entry(alloc)?;
+    publishes(rt, alloc, &job, ledger, PART_LATE, LEDGER_LATE, report)
+}
+
 // 05 is listed now, 06 is new, and 07 is late: the first part covers it, and was built without it. In the ledger 05 has
 // birth 0 and last 1, and 06 birth 1 and no last part.
 #[test]
 fn late_entry_is_dropped(rt: HostRuntime) -> Result<(), Fail> {
-    let alloc = rt.alloc();
-    let report =
-        "epoch 2 part 1 issuers 1 universe 2 revoked 1 unread 0 uncovered 0 unenrolled 0 late 1 accepted 1\n";
-    let job = late_entry(alloc)?;
-    assert!(rt;
-        publishes(
-            &rt,
-            alloc,
-            &job,
-            LEDGER_GOOD,
-            PART_LATE,
-            LEDGER_LATE,
-            report
-        )?
-    );
+    assert!(rt; drops_the_late_entry(&rt, rt.alloc(), LEDGER_GOOD)?);
+    Ok(())
+}
+
+// The ledger is read in both versions, and the next one is written in version 2.
+#[test]
+fn behind_a_ledger_in_version_1(rt: HostRuntime) -> Result<(), Fail> {
+    assert!(rt; drops_the_late_entry(&rt, rt.alloc(), OLD_LEDGER_GOOD)?);
     Ok(())
 }
 
@@ -214,9 +219,6 @@ fn breaks<R: Threads + Sync>(
 #[test]
 fn damaged_ledger(rt: HostRuntime) -> Result<(), Fail> {
     let alloc = rt.alloc();
-    let birth = "layout 174 identity.birth value L\n";
-    let last = "layout 175 identity.last value L\n";
-    let digest = "layout 176 ledger.digest digest L\n";
     assert!(rt;
         breaks(
             &rt,
@@ -229,7 +231,15 @@ fn damaged_ledger(rt: HostRuntime) -> Result<(), Fail> {
         breaks(
             &rt,
             alloc,
-            damaged_at(alloc, 8, 2)?,
+            damaged_at(alloc, 8, 0)?,
+            "layout 8 ledger.version value L\n"
+        )?
+    );
+    assert!(rt;
+        breaks(
+            &rt,
+            alloc,
+            damaged_at(alloc, 8, 3)?,
             "layout 8 ledger.version value L\n"
         )?
     );
@@ -241,9 +251,29 @@ fn damaged_ledger(rt: HostRuntime) -> Result<(), Fail> {
             "layout 9 ledger.parts value L\n"
         )?
     );
+    Ok(())
+}
+
+#[test]
+fn damaged_identity(rt: HostRuntime) -> Result<(), Fail> {
+    let alloc = rt.alloc();
+    let birth = "layout 174 identity.birth value L\n";
+    let last = "layout 175 identity.last value L\n";
+    let dated = "layout 176 identity.dated value L\n";
+    let digest = "layout 177 ledger.digest digest L\n";
     assert!(rt; breaks(&rt, alloc, damaged_at(alloc, 174, 1)?, birth)?);
     assert!(rt; breaks(&rt, alloc, damaged_at(alloc, 175, 1)?, last)?);
     assert!(rt; breaks(&rt, alloc, damaged_at(alloc, 175, 0)?, digest)?);
+    assert!(rt; breaks(&rt, alloc, damaged_at(alloc, 176, 2)?, dated)?);
+    Ok(())
+}
+
+// In version 1 the digest begins where in version 2 an identity says whether it has a date.
+#[test]
+fn version_2_read_as_version_1(rt: HostRuntime) -> Result<(), Fail> {
+    let alloc = rt.alloc();
+    let digest = "layout 176 ledger.digest digest L\n";
+    assert!(rt; breaks(&rt, alloc, damaged_at(alloc, 8, 1)?, digest)?);
     Ok(())
 }
 
@@ -259,11 +289,11 @@ fn ledger_of_another_length(rt: HostRuntime) -> Result<(), Fail> {
     let alloc = rt.alloc();
     let (magic, digest) = (
         "layout 0 ledger.magic short L\n",
-        "layout 176 ledger.digest short L\n",
+        "layout 177 ledger.digest short L\n",
     );
     assert!(rt; breaks(&rt, alloc, cut_at(alloc, 0)?, magic)?);
-    assert!(rt; breaks(&rt, alloc, cut_at(alloc, 207)?, digest)?);
-    assert!(rt; breaks(&rt, alloc, longer(alloc)?, "layout 208 end value L\n")?);
+    assert!(rt; breaks(&rt, alloc, cut_at(alloc, 208)?, digest)?);
+    assert!(rt; breaks(&rt, alloc, longer(alloc)?, "layout 209 end value L\n")?);
     Ok(())
 }
 
@@ -304,13 +334,13 @@ fn job_in_place_of_the_ledger(rt: HostRuntime) -> Result<(), Fail> {
 
 /// The ledger of one_good, but for 05, whose last part is the first.
 const LEDGER_LISTED: &str = "\
-    434c55424c454447010100000000000000013c5297690856618bbb3bc14ceaf1\
+    434c55424c454447020100000000000000013c5297690856618bbb3bc14ceaf1\
     9ce2d0f4c977bf05c935e445542588879af30001aaaaaaaaaaaaaaaaaaaaaaaa\
     aaaaaaaaaaaaaaaaaaaaaaaaaaaaaaaaaaaaaaaa0000018bcfe568000000018b\
     cfe56be800000001111111111111111111111111111111111111111111111111\
     1111111111111111000000011111111111111111111111111111111111111111\
-    1111111111111111111111110105000059399edc1fa5a85113ce612983241c50\
-    74729a4f3c896082fa492c358d147124";
+    111111111111111111111111010500000052c3c5c1e7d3ce3bdc4eee6ef0e007\
+    798403676326867bdd8782778b5ccdf80d";
 
 /// The part of late_entry behind it: one block, of mode none.
 const PART_NONE: &str = "\
@@ -323,7 +353,7 @@ const PART_NONE: &str = "\
 
 /// Its ledger.
 const LEDGER_NONE: &str = "\
-    434c55424c454447010200000000000000013c5297690856618bbb3bc14ceaf1\
+    434c55424c454447020200000000000000013c5297690856618bbb3bc14ceaf1\
     9ce2d0f4c977bf05c935e445542588879af30001aaaaaaaaaaaaaaaaaaaaaaaa\
     aaaaaaaaaaaaaaaaaaaaaaaaaaaaaaaaaaaaaaaa0000018bcfe568000000018b\
     cfe56be800000001111111111111111111111111111111111111111111111111\
@@ -332,9 +362,9 @@ const LEDGER_NONE: &str = "\
     aaaaaaaaaaaaaaaaaaaaaaaaaaaaaaaaaaaa0000018bcfe568000000018bcfe5\
     6fd0000000011111111111111111111111111111111111111111111111111111\
     1111111111110000000211111111111111111111111111111111111111111111\
-    1111111111111111111101050000111111111111111111111111111111111111\
-    1111111111111111111111111111010601ff729ae92542fdce06cd89d0b50e6d\
-    b981306ca92f745375e3fb5f9d7b90950f1f";
+    1111111111111111111101050000001111111111111111111111111111111111\
+    111111111111111111111111111111010601ff00a2ca3c42950bb2010585c388\
+    75fbdbf4bb4768800d88daf08e9048c4c4442bf0";
 
 // No history gives this ledger: the first part doesn't list 05. It is taken at its word, so 05 isn't revoked once more.
 #[test]
