@@ -368,6 +368,69 @@ fn a_third_job_revokes_again_what_a_new_log_sees(rt: HostRuntime) -> Result<(), 
     Ok(())
 }
 
+/// Gives the entries of a job these dates.
+fn date(job: &mut Job, dates: &[Option<i64>]) {
+    for (entry, until) in job.entries.iter_mut().zip(dates) {
+        if let Some(entry) = entry {
+            entry.until = *until;
+        }
+    }
+}
+
+/// A job of epoch 1 with two entries of serials 5 and 6 and one of 7. One of 6 has no date.
+fn first_dated_job(alloc: Global) -> Result<Job, Fail> {
+    let rows = [
+        (0x11, 5, 0),
+        (0x11, 5, 1),
+        (0x11, 6, 0),
+        (0x11, 6, 1),
+        (0x11, 7, 0),
+    ];
+    let mut first = job(alloc, &[(0x11, None, &[])], &rows)?;
+    date(&mut first, &[Some(10), Some(-10), Some(10), None, Some(-1)]);
+    Ok(first)
+}
+
+/// Behind it, with entries of serials 5 to 8 with dates: of 5 a lesser one, of 7 a greater one, and of 8 none.
+fn second_dated_job(alloc: Global) -> Result<Job, Fail> {
+    let rows = [
+        (0x11, 5, 1500),
+        (0x11, 6, 1500),
+        (0x11, 7, 1500),
+        (0x11, 8, 1500),
+    ];
+    let mut second = job(alloc, &[(0x11, None, &[])], &rows)?;
+    date(&mut second, &[Some(5), Some(20), Some(3), None]);
+    second.epoch = 2;
+    let mut ranges = Vec::new(alloc);
+    ranges.push(range(0xaa, NOON, NOON + 2000))?;
+    second.ranges = ranges;
+    Ok(second)
+}
+
+#[test]
+fn the_greatest_date_of_an_identity_is_kept(rt: HostRuntime) -> Result<(), Fail> {
+    let alloc = rt.alloc();
+    let admitted = admit_first(alloc, &first_dated_job(alloc)?)?;
+    let ledger = admitted.next.seal(Key32::new(TRAILERS[0]));
+    let items = [
+        item(5, 0, None, Some(10))?,
+        item(6, 0, None, None)?,
+        item(7, 0, None, Some(-1))?,
+    ];
+    assert_eq!(rt; ledger.items(), items.as_slice());
+    let admitted = admit_behind(alloc, &ledger, &second_dated_job(alloc)?)?;
+    let next = admitted.next.seal(Key32::new(TRAILERS[1]));
+    let items = [
+        item(5, 0, None, Some(10))?,
+        item(6, 0, None, None)?,
+        item(7, 0, None, Some(3))?,
+        item(8, 1, None, None)?,
+    ];
+    assert_eq!(rt; next.items(), items.as_slice());
+    Ok(())
+}
+
 #[test]
 fn a_job_must_follow_the_newest_part(rt: HostRuntime) -> Result<(), Fail> {
     let alloc = rt.alloc();
