@@ -610,6 +610,18 @@ struct Entry<'a> {
     issuer: &'a Key,
     serial: Serial,
     time: u64,
+    /// The end of its certificate's validity, in seconds since 1970.
+    until: Option<i64>,
+}
+
+/// The end of the validity, where the fields behind the serial have one.
+fn until_in(mut fields: &[u8]) -> Option<i64> {
+    element(&mut fields)?;
+    element(&mut fields)?;
+    let mut validity = element_of(SEQUENCE, &mut fields)?;
+    element(&mut validity)?;
+    let until = time(&mut validity)?;
+    validity.is_empty().then_some(until)
 }
 
 /// The entry of a precertificate's leaf (RFC 6962, 3.4).
@@ -627,10 +639,12 @@ fn entry_in(leaf: &[u8]) -> Option<Entry<'_>> {
     if begins_with(&[0xa0], fields) {
         element(&mut fields)?;
     }
+    let serial = Serial::new(element_of(INTEGER, &mut fields)?)?;
     Some(Entry {
         issuer: front[12..44].try_into().unwrap(),
-        serial: Serial::new(element_of(INTEGER, &mut fields)?)?,
+        serial,
         time: number_in(&front[2..10]),
+        until: until_in(fields),
     })
 }
 
@@ -649,13 +663,19 @@ fn covers(ranges: &[Range], log: &[u8], time: u64) -> bool {
     }
 }
 
+/// A certificate of an accepted entry. Of one serial those without a date come first, and then those with lesser ones.
+#[derive(Clone, Copy, PartialEq, Eq, PartialOrd, Ord)]
+struct Member {
+    serial: Serial,
+    until: Option<i64>,
+}
+
 /// The certificates of an enrolled issuer.
 struct Group {
     issuer: Key,
     /// The serials of its CRLs, ascending.
     listed: Vec<Serial>,
-    /// Those of its accepted entries.
-    members: Vec<Serial>,
+    members: Vec<Member>,
 }
 
 #[derive(Default)]
@@ -779,7 +799,8 @@ fn admit(
             Some(entry) => match groups.binary_search_by(|group| group.issuer.cmp(entry.issuer)) {
                 Err(_) => counts.unenrolled += 1,
                 Ok(place) => {
-                    groups[place].members.push(entry.serial);
+                    let (serial, until) = (entry.serial, entry.until);
+                    groups[place].members.push(Member { serial, until });
                     counts.accepted += 1;
                 }
             },
@@ -1063,12 +1084,22 @@ fn shift_for(listed: usize, others: usize) -> u8 {
     (1..=8).rev().find(|shift| 16_384 << shift <= listed + others).unwrap_or(0)
 }
 
-/// The members that are listed, and the others, ascending.
-fn parted(mut members: Vec<Serial>, listed: &[Serial]) -> (Vec<Serial>, Vec<Serial>) {
+/// Leaves each serial once, ascending: with the greatest of its dates, or with none where one of its entries has none.
+fn merge(members: &mut Vec<Member>) {
     members.sort_unstable();
-    members.dedup();
+    members.dedup_by(|member, kept| {
+        let is_same = member.serial == kept.serial;
+        if is_same && kept.until.is_some() {
+            kept.until = member.until;
+        }
+        is_same
+    });
+}
+
+/// The serials that are listed, and the others, ascending.
+fn parted(members: &[Member], listed: &[Serial]) -> (Vec<Serial>, Vec<Serial>) {
     let mut listed = listed.iter().peekable();
-    members.into_iter().partition(|member| {
+    members.iter().map(|member| member.serial).partition(|member| {
         while listed.next_if(|serial| *serial < member).is_some() {}
         listed.peek() == Some(&member)
     })
@@ -1079,14 +1110,18 @@ struct Members {
     issuer: Key,
     listed: Vec<Serial>,
     others: Vec<Serial>,
+    /// The date of each, listed or not, in the order of all.
+    until: Vec<Option<i64>>,
 }
 
-fn members_of(group: Group) -> Members {
-    let (listed, others) = parted(group.members, &group.listed);
+fn members_of(mut group: Group) -> Members {
+    merge(&mut group.members);
+    let (listed, others) = parted(&group.members, &group.listed);
     Members {
         issuer: group.issuer,
         listed,
         others,
+        until: group.members.iter().map(|member| member.until).collect(),
     }
 }
 
@@ -1154,6 +1189,7 @@ fn tasks_of(members: &Members, workers: usize) -> (u8, Vec<Task<'_>>) {
         issuer,
         listed,
         others,
+        ..
     } = members;
     let shift = shift_for(listed.len(), others.len());
     if shift == 0 {
@@ -1192,10 +1228,8 @@ fn leaves_of(tasks: &[Task<'_>], workers: usize) -> Result<Vec<Leaf>, Refusal> {
 
 /// An issuer's filter, and its members.
 struct Built {
-    issuer: Key,
     filter: Filter,
-    listed: Vec<Serial>,
-    others: Vec<Serial>,
+    members: Members,
 }
 
 fn built(members: Members, shift: u8, mut leaves: impl Iterator<Item = Leaf>) -> Built {
@@ -1206,12 +1240,7 @@ fn built(members: Members, shift: u8, mut leaves: impl Iterator<Item = Leaf>) ->
             leaves: leaves.take(1 << shift).collect(),
         },
     };
-    Built {
-        issuer: members.issuer,
-        filter,
-        listed: members.listed,
-        others: members.others,
-    }
+    Built { filter, members }
 }
 
 /// The filters of all groups, in order, built by so many threads.
@@ -1231,8 +1260,8 @@ fn build_all(groups: Vec<Group>, workers: usize) -> Result<Vec<Built>, Refusal> 
 }
 
 fn report_of(epoch: u64, counts: &Counts, built: &[Built]) -> String {
-    let revoked: usize = built.iter().map(|group| group.listed.len()).sum();
-    let others: usize = built.iter().map(|group| group.others.len()).sum();
+    let revoked: usize = built.iter().map(|group| group.members.listed.len()).sum();
+    let others: usize = built.iter().map(|group| group.members.others.len()).sum();
     format!(
         "epoch {epoch} part 0 issuers {} universe {} revoked {revoked} unread {} uncovered {} unenrolled {} late 0 \
          accepted {}",
@@ -1256,7 +1285,7 @@ impl Part {
     fn publish(job: Job) -> Result<(Part, String), Refusal> {
         let built = build_all(job.groups, 1)?;
         let report = report_of(job.epoch, &job.counts, &built);
-        let blocks = built.into_iter().map(|group| (group.issuer, group.filter));
+        let blocks = built.into_iter().map(|group| (group.members.issuer, group.filter));
         let ranges = job.ranges;
         let blocks = blocks.collect();
         Ok((Part { ranges, blocks }, report))
@@ -1319,7 +1348,7 @@ fn put_leaf(text: &mut Vec<u8>, leaf: &Leaf) {
 }
 
 fn put_block(text: &mut Vec<u8>, group: &Built) {
-    text.extend(group.issuer);
+    text.extend(group.members.issuer);
     match &group.filter {
         Filter::Alone(leaf) => put_leaf(text, leaf),
         Filter::Cut { shift, leaves } => {
@@ -1353,41 +1382,43 @@ fn part_text(epoch: u64, ranges: &[Range], built: &[Built]) -> (Vec<u8>, Key) {
     (text, trailer)
 }
 
-fn put_item(text: &mut Vec<u8>, issuer: &Key, serial: &Serial, last: u8) {
+fn put_item(text: &mut Vec<u8>, issuer: &Key, serial: &Serial, last: u8, until: Option<i64>) {
     text.extend(issuer);
     text.push(serial.length);
     text.extend(&serial.padded()[..usize::from(serial.length)]);
-    text.extend([0, last]);
+    text.extend([0, last, u8::from(until.is_some())]);
+    if let Some(until) = until {
+        text.extend(until.to_be_bytes());
+    }
 }
 
 /// The members of an issuer, ascending.
-fn put_items(text: &mut Vec<u8>, group: &Built) {
-    let mut others = group.others.iter().peekable();
-    for listed in &group.listed {
-        while let Some(other) = others.next_if(|other| *other < listed) {
-            put_item(text, &group.issuer, other, 255);
+fn put_items(text: &mut Vec<u8>, members: &Members) {
+    let mut listed = members.listed.iter().peekable();
+    let mut others = members.others.iter().peekable();
+    for until in &members.until {
+        let first = listed.peek().copied();
+        match others.next_if(|other| first.is_none_or(|first| *other < first)) {
+            Some(other) => put_item(text, &members.issuer, other, 255, *until),
+            None => put_item(text, &members.issuer, listed.next().expect("a member"), 0, *until),
         }
-        put_item(text, &group.issuer, listed, 0);
-    }
-    for other in others {
-        put_item(text, &group.issuer, other, 255);
     }
 }
 
 fn ledger_text(epoch: u64, trailer: &Key, ranges: &[Range], built: &[Built]) -> Vec<u8> {
-    let members: usize = built.iter().map(|group| group.listed.len() + group.others.len()).sum();
-    let mut text = Vec::with_capacity(128 + 48 * ranges.len() + 32 * built.len() + 68 * members);
-    text.extend(b"CLUBLEDG\x01\x01");
+    let members: usize = built.iter().map(|group| group.members.until.len()).sum();
+    let mut text = Vec::with_capacity(128 + 48 * ranges.len() + 32 * built.len() + 76 * members);
+    text.extend(b"CLUBLEDG\x02\x01");
     text.extend(epoch.to_be_bytes());
     text.extend(trailer);
     put_ranges(&mut text, ranges);
     text.extend((built.len() as u32).to_be_bytes());
     for group in built {
-        text.extend(group.issuer);
+        text.extend(group.members.issuer);
     }
     text.extend((members as u32).to_be_bytes());
     for group in built {
-        put_items(&mut text, group);
+        put_items(&mut text, &group.members);
     }
     seal(&mut text);
     text
