@@ -12,6 +12,7 @@ pub mod Following
 pub mod Enrolling
 pub mod Reading
 pub mod Placing
+pub mod Sorting
 pub mod Marking
 pub mod Merging
 pub mod Judging

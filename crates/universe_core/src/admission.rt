@@ -16,6 +16,7 @@ ghost use Rattle.universe_core.specs.Ledgers.{no_ledger, past_in, past_by, next_
 ghost use Rattle.universe_core.specs.Members.{AreMembers, AreOf, members_in};
 ghost use Rattle.universe_core.specs.Following.{IsBefore};
 ghost use Rattle.universe_core.specs.Judging.{IsSearchable};
+ghost use Rattle.universe_core.specs.Sorting.{Sorts};
 ghost use Rattle.universe_core.specs.Step.{KeepsLimits, refusal, head_after, groups_after, counts_after};
 ghost use Rattle.universe_core.specs.declared.class.Class.TheVariants as class;
 
@@ -30,11 +31,14 @@ use crate::grouping::groups;
 use crate::held::Held;
 use crate::member::Members;
 use crate::merging::members;
+use crate::read_entry::ReadEntry;
 use crate::reading::{Tally, read};
+use crate::sorted::{sorted, sorted_by};
 use job_core::{Job, JobCrl, Limits, What};
 use ledger_core::{Ledger, LedgerItem, LedgerPart};
 use octets_core::Key32;
 use std::alloc::{AllocError, Global};
+use std::thread::Threads;
 
 /// What is accepted: the enrolled issuers, the identities, and how many entries there are of each class. The rest of
 /// the job is beside it.
@@ -59,11 +63,12 @@ struct Built {
 }
 
 /// Accepts a job's entries, beside a ledger. They are let go once they are read.
-fn accept<'a>(
+fn accept<'a, F: Fn(Vec<ReadEntry>) -> Vec<ReadEntry>>(
     alloc: Global,
     parts: &[LedgerPart],
     items: &[LedgerItem],
     job: Held<'a>,
+    sort: &F,
 ) -> Result<Acceptance<'a>, AllocError>
     requires few_parts { length parts.now < 256 }
     requires parts { All IsSearchable parts.now }
@@ -71,6 +76,7 @@ fn accept<'a>(
     requires few_crls { length (job_of job).crls.items ≤ 65535 }
     requires ascend { IsStrictlySortedBy identity_cmp (map (λ i. i.id) items.now) }
     requires few_entries { length (job_of job).entries.items ≤ 4294967295 }
+    requires sorts { Sorts (F.pre sort.now) (F.post sort.now) }
     ensures epoch { IfOk result (λ a. (job_of a.rest).epoch ≡ (job_of job.entry).epoch) }
     ensures ranges { IfOk result (λ a. (job_of a.rest).ranges.items ≡ (job_of job.entry).ranges.items) }
     ensures crls { IfOk result (λ a. (job_of a.rest).crls.items ≡ (job_of job.entry).crls.items) }
@@ -89,7 +95,15 @@ fn accept<'a>(
     let tally = reading.tally;
     let rest = job.without_entries(alloc);
     let left = rest.job();
-    let merged = members(alloc, parts, items, &issuers, &left.ranges, reading.entries)?;
+    let merged = members(
+        alloc,
+        parts,
+        items,
+        &issuers,
+        &left.ranges,
+        reading.entries,
+        sort,
+    )?;
     let late = merged.late as u32;
     Ok(Acceptance {
         rest,
@@ -138,18 +152,20 @@ fn build(
 }
 
 /// Admits a job behind these parts and items, of which a chain's first job has none.
-fn step(
+fn step<F: Fn(Vec<ReadEntry>) -> Vec<ReadEntry>>(
     alloc: Global,
     parts: &[LedgerPart],
     items: &[LedgerItem],
     job: Held<'_>,
     limits: &Limits,
+    sort: &F,
 ) -> Result<Admitted, AdmitFault>
     requires published { AreWithin limits.now Limits.PUBLISHED }
     requires ranges { RangesFit (job_of job).ranges.items }
     requires few { KeepsLimits limits.now (fields_of_job (job_of job)) }
     requires few_parts { length parts.now ≤ MAX_PARTS }
     requires before { IsBefore (ledger_fields parts.now items.now) }
+    requires sorts { Sorts (F.pre sort.now) (F.post sort.now) }
     ensures admitted { OnOk result (refusal limits.now (ledger_fields parts.now items.now) (fields_of_job (job_of job.entry)) ≡ None) }
     ensures refused { IfErr result (λ e. e ≢ AdmitFault.NoMemory → refusal limits.now (ledger_fields parts.now items.now) (fields_of_job (job_of job.entry)) ≡ Some e) }
     ensures head { IfOk result (λ a. a.head ≡ head_after (ledger_fields parts.now items.now).parts (facts_of_job (job_of job.entry))) }
@@ -162,7 +178,7 @@ fn step(
     if let Some(fault) = early_fault(parts, job.job()) {
         return Err(fault);
     }
-    let accepted = accept(alloc, parts, items, job)?;
+    let accepted = accept(alloc, parts, items, job, sort)?;
     if accepted.members.items.len() > limits.identities as usize {
         return Err(AdmitFault::TooMany {
             what: What::Identities,
@@ -213,7 +229,7 @@ pub fn first(alloc: Global, job: &Job, limits: &Limits) -> Result<Admitted, Admi
     // For every trailer that the next part may have.
     ensures next { IfOk result (λ a. (trailer : List ℕ) → sealed_with a.next trailer ≡ next_ledger no_ledger (facts_of_job job.now) trailer) }
 {
-    step(alloc, &[], &[], Held::Lent(job), limits)
+    step(alloc, &[], &[], Held::Lent(job), limits, &sorted)
 }
 
 /// Admits a job behind a ledger. Its ranges fit, and its numbers of ranges, CRLs and entries keep the limits. The
@@ -242,11 +258,19 @@ pub fn admit(
         ledger.items(),
         Held::Lent(job),
         limits,
+        &sorted,
     )
 }
 
-/// As `first`, of a job that is given: its entries are let go once they are read.
-pub fn first_of(alloc: Global, job: Job, limits: &Limits) -> Result<Admitted, AdmitFault>
+/// As `first`, of a job that is given: its entries are let go once they are read. More workers than one sort them, by as
+/// many threads as there are processors.
+pub fn first_of<R: Threads + Sync>(
+    rt: &R,
+    alloc: Global,
+    job: Job,
+    limits: &Limits,
+    workers: u32,
+) -> Result<Admitted, AdmitFault>
     requires published { AreWithin limits.now Limits.PUBLISHED }
     requires ranges { RangesFit job.ranges.items }
     requires few { KeepsLimits limits.now (fields_of_job job) }
@@ -259,15 +283,25 @@ pub fn first_of(alloc: Global, job: Job, limits: &Limits) -> Result<Admitted, Ad
     // For every trailer that the next part may have.
     ensures next { IfOk result (λ a. (trailer : List ℕ) → sealed_with a.next trailer ≡ next_ledger no_ledger (facts_of_job job) trailer) }
 {
-    step(alloc, &[], &[], Held::Given(job), limits)
+    step(
+        alloc,
+        &[],
+        &[],
+        Held::Given(job),
+        limits,
+        &|entries| sorted_by(rt, entries, workers),
+    )
 }
 
-/// As `admit`, of a job that is given: its entries are let go once they are read.
-pub fn admit_of(
+/// As `admit`, of a job that is given: its entries are let go once they are read. More workers than one sort them, by as
+/// many threads as there are processors.
+pub fn admit_of<R: Threads + Sync>(
+    rt: &R,
     alloc: Global,
     ledger: &Ledger,
     job: Job,
     limits: &Limits,
+    workers: u32,
 ) -> Result<Admitted, AdmitFault>
     requires published { AreWithin limits.now Limits.PUBLISHED }
     requires ranges { RangesFit job.ranges.items }
@@ -287,5 +321,6 @@ pub fn admit_of(
         ledger.items(),
         Held::Given(job),
         limits,
+        &|entries| sorted_by(rt, entries, workers),
     )
 }

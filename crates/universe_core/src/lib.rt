@@ -23,6 +23,7 @@ mod merging;
 mod read_entry;
 mod reading;
 mod serial_key;
+mod sorted;
 
 pub use admission::{admit, admit_of, first, first_of};
 pub use admitted::{Admitted, Group};

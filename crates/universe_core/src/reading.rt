@@ -152,7 +152,7 @@ pub(crate) fn read(
 }
 
 /// How entries are ordered: by the places of their issuers, then as serials are.
-fn order(x: &ReadEntry, y: &ReadEntry) -> Ordering
+pub(crate) fn order(x: &ReadEntry, y: &ReadEntry) -> Ordering
     ensures { result ≡ placed_cmp x.now y.now }
 {
     if x.place != y.place {

@@ -16,29 +16,29 @@ use Rattle.universe_core.proofs.Late.{count_alone, late_is, late_fits, late_with
 use Rattle.universe_core.proofs.admission.accept.Goals as goal
 
 pub read-requires-clause-ranges : goal.read-requires-clause-ranges
-read-requires-clause-ranges c = subst RangesFit (sym (c.deref.ensures.value ∙ ap (λ (j : CodeJob). j.ranges.items) c.job-whole.ensures)) c.requires.ranges
+read-requires-clause-ranges g c = subst RangesFit (sym (c.deref.ensures.value ∙ ap (λ (j : CodeJob). j.ranges.items) c.job-whole.ensures)) c.requires.ranges
 
 pub read-requires-clause-sorted : goal.read-requires-clause-sorted
-read-requires-clause-sorted c = subst (λ ks. IsStrictlySortedBy octets_cmp ks) (sym (c.deref-2.ensures.value ∙ c.in_ok-issuers.ensures)) (enrolled_ascend (facts_of_job c.job-whole.result.now))
+read-requires-clause-sorted g c = subst (λ ks. IsStrictlySortedBy octets_cmp ks) (sym (c.deref-2.ensures.value ∙ c.in_ok-issuers.ensures)) (enrolled_ascend (facts_of_job c.job-whole.result.now))
 
 pub read-requires-clause-few_issuers : goal.read-requires-clause-few_issuers
-read-requires-clause-few_issuers c =
+read-requires-clause-few_issuers g c =
     let few = job_issuers_few c.job-whole.result.now (subst (λ (j : CodeJob). length j.crls.items ≤ 65535) (sym c.job-whole.ensures) c.requires.few_crls) in
     let k = ap length (c.deref-2.ensures.value ∙ c.in_ok-issuers.ensures) in
     omega arith
 
 pub read-requires-clause-few : goal.read-requires-clause-few
-read-requires-clause-few c =
+read-requires-clause-few g c =
     let n = ap length (c.deref-3.ensures.value ∙ ap (λ (j : CodeJob). j.entries.items) c.job-whole.ensures) in
     let few = c.requires.few_entries in
     omega arith
 
 pub members-requires-clause-issuers : goal.members-requires-clause-issuers
-members-requires-clause-issuers c =
+members-requires-clause-issuers g c =
     subst (λ ks. IsStrictlySortedBy octets_cmp ks) (sym (c.deref-4.ensures.value ∙ c.in_ok-issuers.ensures)) (enrolled_ascend (facts_of_job c.job-whole.result.now))
 
 pub members-requires-clause-placed : goal.members-requires-clause-placed
-members-requires-clause-placed c =
+members-requires-clause-placed g c =
     let job = job_of c.args.job in
     let ranges : c.deref.result.now ≡ job.ranges.items = c.deref.ensures.value ∙ ap (λ (j : CodeJob). j.ranges.items) c.job-whole.ensures in
     let keys : c.deref-4.result.now ≡ c.deref-2.result.now = c.deref-4.ensures.value ∙ sym c.deref-2.ensures.value in
@@ -47,10 +47,10 @@ members-requires-clause-placed c =
     placed_again c.deref-2.result.now c.deref-4.result.now c.deref.result.now c.deref-5.result.now c.in_ok-reading.reading.entries.items keys shown c.in_ok-reading.ensures.placed
 
 pub returns-clause-issuers : goal.returns-clause-issuers
-returns-clause-issuers c = c.in_ok-issuers.ensures ∙ ap (λ (j : CodeJob). enrolled (facts_of_job j)) c.job-whole.ensures
+returns-clause-issuers g c = c.in_ok-issuers.ensures ∙ ap (λ (j : CodeJob). enrolled (facts_of_job j)) c.job-whole.ensures
 
 pub returns-clause-members : goal.returns-clause-members
-returns-clause-members c =
+returns-clause-members g c =
     let job = job_of c.args.job in
     let ranges : c.deref.result.now ≡ job.ranges.items = c.deref.ensures.value ∙ ap (λ (j : CodeJob). j.ranges.items) c.job-whole.ensures in
     let issuers : c.deref-2.result.now ≡ enrolled (facts_of_job job) = c.deref-2.ensures.value ∙ c.in_ok-issuers.ensures ∙ ap (λ (j : CodeJob). enrolled (facts_of_job j)) c.job-whole.ensures in
@@ -64,7 +64,7 @@ returns-clause-members c =
     c.in_ok-merged.ensures.members (facts_of_job job) read
 
 pub returns-clause-unread : goal.returns-clause-unread
-returns-clause-unread c =
+returns-clause-unread g c =
     let job = job_of c.args.job in
     let ranges : c.deref.result.now ≡ job.ranges.items = c.deref.ensures.value ∙ ap (λ (j : CodeJob). j.ranges.items) c.job-whole.ensures in
     let issuers : c.deref-2.result.now ≡ enrolled (facts_of_job job) = c.deref-2.ensures.value ∙ c.in_ok-issuers.ensures ∙ ap (λ (j : CodeJob). enrolled (facts_of_job j)) c.job-whole.ensures in
@@ -73,7 +73,7 @@ returns-clause-unread c =
     ∙ count_alone Unread refl (past_in no_ledger) (past_in (ledger_fields c.args.parts.now c.args.items.now)) (facts_of_job job)
 
 pub returns-clause-uncovered : goal.returns-clause-uncovered
-returns-clause-uncovered c =
+returns-clause-uncovered g c =
     let job = job_of c.args.job in
     let ranges : c.deref.result.now ≡ job.ranges.items = c.deref.ensures.value ∙ ap (λ (j : CodeJob). j.ranges.items) c.job-whole.ensures in
     let issuers : c.deref-2.result.now ≡ enrolled (facts_of_job job) = c.deref-2.ensures.value ∙ c.in_ok-issuers.ensures ∙ ap (λ (j : CodeJob). enrolled (facts_of_job j)) c.job-whole.ensures in
@@ -82,7 +82,7 @@ returns-clause-uncovered c =
     ∙ count_alone Uncovered refl (past_in no_ledger) (past_in (ledger_fields c.args.parts.now c.args.items.now)) (facts_of_job job)
 
 pub returns-clause-unenrolled : goal.returns-clause-unenrolled
-returns-clause-unenrolled c =
+returns-clause-unenrolled g c =
     let job = job_of c.args.job in
     let ranges : c.deref.result.now ≡ job.ranges.items = c.deref.ensures.value ∙ ap (λ (j : CodeJob). j.ranges.items) c.job-whole.ensures in
     let issuers : c.deref-2.result.now ≡ enrolled (facts_of_job job) = c.deref-2.ensures.value ∙ c.in_ok-issuers.ensures ∙ ap (λ (j : CodeJob). enrolled (facts_of_job j)) c.job-whole.ensures in
@@ -91,7 +91,7 @@ returns-clause-unenrolled c =
     ∙ count_alone Unenrolled refl (past_in no_ledger) (past_in (ledger_fields c.args.parts.now c.args.items.now)) (facts_of_job job)
 
 pub overflow_cast-late : goal.overflow_cast-late
-overflow_cast-late c =
+overflow_cast-late g c =
     let job = job_of c.args.job in
     let ranges : c.deref.result.now ≡ job.ranges.items = c.deref.ensures.value ∙ ap (λ (j : CodeJob). j.ranges.items) c.job-whole.ensures in
     let issuers : c.deref-2.result.now ≡ enrolled (facts_of_job job) = c.deref-2.ensures.value ∙ c.in_ok-issuers.ensures ∙ ap (λ (j : CodeJob). enrolled (facts_of_job j)) c.job-whole.ensures in
@@ -109,7 +109,7 @@ overflow_cast-late c =
     omega arith
 
 pub overflow_sub-result : goal.overflow_sub-result
-overflow_sub-result c =
+overflow_sub-result g c =
     let job = job_of c.args.job in
     let ranges : c.deref.result.now ≡ job.ranges.items = c.deref.ensures.value ∙ ap (λ (j : CodeJob). j.ranges.items) c.job-whole.ensures in
     let issuers : c.deref-2.result.now ≡ enrolled (facts_of_job job) = c.deref-2.ensures.value ∙ c.in_ok-issuers.ensures ∙ ap (λ (j : CodeJob). enrolled (facts_of_job j)) c.job-whole.ensures in
@@ -127,7 +127,7 @@ overflow_sub-result c =
     (count_job Accepted job c.deref.result.now c.deref-2.result.now c.deref-3.result.now c.in_ok-reading.reading.tally.read ranges issuers entries c.in_ok-reading.ensures.read) late
 
 pub returns-clause-late : goal.returns-clause-late
-returns-clause-late c =
+returns-clause-late g c =
     let job = job_of c.args.job in
     let ranges : c.deref.result.now ≡ job.ranges.items = c.deref.ensures.value ∙ ap (λ (j : CodeJob). j.ranges.items) c.job-whole.ensures in
     let issuers : c.deref-2.result.now ≡ enrolled (facts_of_job job) = c.deref-2.ensures.value ∙ c.in_ok-issuers.ensures ∙ ap (λ (j : CodeJob). enrolled (facts_of_job j)) c.job-whole.ensures in
@@ -144,7 +144,7 @@ returns-clause-late c =
     late
 
 pub returns-clause-accepted : goal.returns-clause-accepted
-returns-clause-accepted c =
+returns-clause-accepted g c =
     let job = job_of c.args.job in
     let ranges : c.deref.result.now ≡ job.ranges.items = c.deref.ensures.value ∙ ap (λ (j : CodeJob). j.ranges.items) c.job-whole.ensures in
     let issuers : c.deref-2.result.now ≡ enrolled (facts_of_job job) = c.deref-2.ensures.value ∙ c.in_ok-issuers.ensures ∙ ap (λ (j : CodeJob). enrolled (facts_of_job j)) c.job-whole.ensures in

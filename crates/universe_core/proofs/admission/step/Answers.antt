@@ -20,21 +20,21 @@ use Rattle.universe_core.proofs.Searchable.{parts_searchable}
 use Rattle.universe_core.proofs.admission.step.Goals as goal
 
 pub returns-in-Some-clause-refused : goal.returns-in-Some-clause-refused
-returns-in-Some-clause-refused c = λ n.
+returns-in-Some-clause-refused g c = λ n.
     refusal_early c.args.limits.now (ledger_fields c.args.parts.now c.args.items.now) (fields_of_job (job_of c.args.job)) c.in-Some.fault
     (ap (λ (j : CodeJob). early (map part_fields c.args.parts.now) (fields_of_job j)) (sym c.job.ensures) ∙ sym c.early_fault.ensures ∙ c.in-Some.is)
 
 pub accept-requires-clause-parts : goal.accept-requires-clause-parts
-accept-requires-clause-parts c = parts_searchable None c.args.parts.now c.requires.before.parts
+accept-requires-clause-parts g c = parts_searchable None c.args.parts.now c.requires.before.parts
 
 pub accept-requires-clause-few_crls : goal.accept-requires-clause-few_crls
-accept-requires-clause-few_crls c = crls_few c.args.limits.now (job_of c.args.job) c.requires.few.crls c.requires.published.crls
+accept-requires-clause-few_crls g c = crls_few c.args.limits.now (job_of c.args.job) c.requires.few.crls c.requires.published.crls
 
 pub accept-requires-clause-ascend : goal.accept-requires-clause-ascend
-accept-requires-clause-ascend c = c.requires.before.items_ascend
+accept-requires-clause-ascend g c = c.requires.before.items_ascend
 
 pub returns-then-len-limits-clause-refused : goal.returns-then-len-limits-clause-refused
-returns-then-len-limits-clause-refused c = λ n.
+returns-then-len-limits-clause-refused g c = λ n.
     let many = members_many (ledger_fields c.args.parts.now c.args.items.now) (facts_of_job (job_of c.args.job)) c.in_ok-accepted.accepted.members.items.items c.in_ok-accepted.accepted.members.settled.items c.in_ok-accepted.ensures.members in
     let len = c.len.ensures in
     let above = c.if-len-limits.true in
@@ -42,21 +42,21 @@ returns-then-len-limits-clause-refused c = λ n.
     (ap (λ (j : CodeJob). early (map part_fields c.args.parts.now) (fields_of_job j)) (sym c.job.ensures) ∙ sym c.early_fault.ensures ∙ c.in_default.is) (omega arith)
 
 pub build-requires-clause-issuers : goal.build-requires-clause-issuers
-build-requires-clause-issuers c =
+build-requires-clause-issuers g c =
     subst (λ ks. IsStrictlySortedBy octets_cmp ks) (sym (c.deref-2.ensures.value ∙ c.in_ok-accepted.ensures.issuers)) (enrolled_ascend (facts_of_job (job_of c.args.job)))
 
 pub build-requires-clause-ascend : goal.build-requires-clause-ascend
-build-requires-clause-ascend c =
+build-requires-clause-ascend g c =
     ids_ascend (ledger_fields c.args.parts.now c.args.items.now) (facts_of_job (job_of c.args.job)) c.requires.before
     c.in_ok-accepted.accepted.members.items.items c.in_ok-accepted.accepted.members.settled.items c.in_ok-accepted.ensures.members
 
 pub build-requires-clause-beside : goal.build-requires-clause-beside
-build-requires-clause-beside c =
+build-requires-clause-beside g c =
     settled_many (members_in (ledger_fields c.args.parts.now c.args.items.now) (facts_of_job (job_of c.args.job)))
     c.in_ok-accepted.accepted.members.items.items c.in_ok-accepted.accepted.members.settled.items c.in_ok-accepted.ensures.members
 
 pub returns-clause-admitted : goal.returns-clause-admitted
-returns-clause-admitted c =
+returns-clause-admitted g c =
     let many = members_many (ledger_fields c.args.parts.now c.args.items.now) (facts_of_job (job_of c.args.job)) c.in_ok-accepted.accepted.members.items.items c.in_ok-accepted.accepted.members.settled.items c.in_ok-accepted.ensures.members in
     let len = c.len.ensures in
     let below = c.if-len-limits.false in
@@ -64,14 +64,14 @@ returns-clause-admitted c =
     (ap (λ (j : CodeJob). early (map part_fields c.args.parts.now) (fields_of_job j)) (sym c.job.ensures) ∙ sym c.early_fault.ensures ∙ c.in_default.is) (omega arith)
 
 pub returns-clause-head : goal.returns-clause-head
-returns-clause-head c =
+returns-clause-head g c =
     let frame = frame_left (job_of c.args.job) (job_of c.in_ok-accepted.accepted.rest) c.job-rest.result.now c.job-rest.ensures
     c.in_ok-accepted.ensures.epoch c.in_ok-accepted.ensures.ranges in
     c.in_ok-head.ensures
     ∙ ap (λ (x : ℕ × List Range). record { kind = kind_by (map part_fields c.args.parts.now); epoch = x.0; parent = parent_by (newest (map part_fields c.args.parts.now)); ranges = x.1 }) frame
 
 pub returns-clause-groups : goal.returns-clause-groups
-returns-clause-groups c =
+returns-clause-groups g c =
     let of = are_of (job_of c.args.job) (job_of c.in_ok-accepted.accepted.rest) c.job-rest.result.now c.job-rest.ensures
     (ledger_fields c.args.parts.now c.args.items.now) c.deref.result.now c.deref-2.result.now c.in_ok-accepted.accepted.issuers.items
     c.in_ok-accepted.accepted.members.items.items c.in_ok-accepted.accepted.members.settled.items
@@ -79,7 +79,7 @@ returns-clause-groups c =
     c.in_ok-built.ensures.groups (ledger_fields c.args.parts.now c.args.items.now) (facts_of_job (job_of c.args.job)) of
 
 pub returns-clause-facts : goal.returns-clause-facts
-returns-clause-facts c =
+returns-clause-facts g c =
     let of = are_of (job_of c.args.job) (job_of c.in_ok-accepted.accepted.rest) c.job-rest.result.now c.job-rest.ensures
     (ledger_fields c.args.parts.now c.args.items.now) c.deref.result.now c.deref-2.result.now c.in_ok-accepted.accepted.issuers.items
     c.in_ok-accepted.accepted.members.items.items c.in_ok-accepted.accepted.members.settled.items
@@ -88,7 +88,7 @@ returns-clause-facts c =
     (c.in_ok-built.ensures.groups (ledger_fields c.args.parts.now c.args.items.now) (facts_of_job (job_of c.args.job)) of)
 
 pub overflow_cast-counts : goal.overflow_cast-counts
-overflow_cast-counts c =
+overflow_cast-counts g c =
     let crls = crls_few c.args.limits.now (job_of c.args.job) c.requires.few.crls c.requires.published.crls in
     let few = job_issuers_few (job_of c.args.job) crls in
     let k = ap length c.in_ok-accepted.ensures.issuers in
@@ -96,7 +96,7 @@ overflow_cast-counts c =
     omega arith
 
 pub next_draft-requires : goal.next_draft-requires
-next_draft-requires c =
+next_draft-requires g c =
     let many = members_many (ledger_fields c.args.parts.now c.args.items.now) (facts_of_job (job_of c.args.job)) c.in_ok-accepted.accepted.members.items.items c.in_ok-accepted.accepted.members.settled.items c.in_ok-accepted.ensures.members in
     let len = c.len.ensures in
     let below = c.if-len-limits.false in
@@ -121,7 +121,7 @@ next_draft-requires c =
     (job_issuers_few (job_of c.args.job) crls) (omega arith))
 
 pub returns-clause-counts : goal.returns-clause-counts
-returns-clause-counts c =
+returns-clause-counts g c =
     let k = ap length c.in_ok-accepted.ensures.issuers in
     let n = c.len-2.ensures in
     let issuers : c.len-2.result ≡ length (enrolled (facts_of_job (job_of c.args.job))) = omega arith in
@@ -136,7 +136,7 @@ returns-clause-counts c =
     c.in_ok-accepted.ensures.accepted
 
 pub returns-clause-next : goal.returns-clause-next
-returns-clause-next c = λ trailer.
+returns-clause-next g c = λ trailer.
     let of = are_of (job_of c.args.job) (job_of c.in_ok-accepted.accepted.rest) c.job-rest.result.now c.job-rest.ensures
     (ledger_fields c.args.parts.now c.args.items.now) c.deref.result.now c.deref-2.result.now c.in_ok-accepted.accepted.issuers.items
     c.in_ok-accepted.accepted.members.items.items c.in_ok-accepted.accepted.members.settled.items
