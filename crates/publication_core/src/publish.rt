@@ -73,7 +73,7 @@ pub fn publish_first<R: Threads + Sync, G: Gate + Sync>(
     requires few_workers { workers ≤ MAX_WORKERS }
     ensures { PublishesUnless no_ledger (fields_of_job job) result }
 {
-    let admitted = match first_of(alloc, job, &Limits::PUBLISHED) {
+    let admitted = match first_of(rt, alloc, job, &Limits::PUBLISHED, workers) {
         Ok(admitted) => admitted,
         Err(fault) => return Err(admission_fault(fault)),
     };
@@ -98,7 +98,7 @@ pub fn publish_after<R: Threads + Sync, G: Gate + Sync>(
     ensures { PublishesUnless ledger (fields_of_job job) result }
 {
     let place = ledger.parts().len() as u32;
-    let admitted = match admit_of(alloc, &ledger, job, &Limits::PUBLISHED) {
+    let admitted = match admit_of(rt, alloc, &ledger, job, &Limits::PUBLISHED, workers) {
         Ok(admitted) => admitted,
         Err(fault) => return Err(admission_fault(fault)),
     };
