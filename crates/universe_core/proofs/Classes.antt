@@ -1,7 +1,8 @@
 -- What an entry is by its job alone, and what is read and counted of it.
+use Rattle.std.specs.Bool.{then_some}
 use Rattle.std.specs.List.{filter_map, cons_option, count_by}
 use Rattle.std.specs.Option.{option_map, option_map_or}
-use Rattle.std.specs.Prelude.{All, IfSome, nat_le, slice_get, unwrap_or}
+use Rattle.std.specs.Prelude.{ℤ, pos, All, IfSome, is_some, nat_le, slice_get, unwrap_or}
 use Rattle.std.specs.Str.{bytes_eq}
 use Rattle.std.proofs.Common.{map, subst, ◌≡◌, ℕ, ◌+◌, ◌<◌, List, [], ◌∷◌, ◌++◌, length, get_or, take, Bool, true, false, cond, not, ◌&&◌, Option, Some, None, refl, sym, ap, ◌∙◌, arith}
 use Rattle.std.proofs.lemmas.Bool.{and_parts}
@@ -103,13 +104,18 @@ log_of (Some r) s h =
     let t : is_within s r ≡ true = cc in
     bytes_same r.log s.log (and_parts (bytes_eq r.log s.log) (nat_le r.from s.time) (and_parts (bytes_eq r.log s.log && nat_le r.from s.time) (nat_le s.time r.to) t).0).0
 
-pub entry_is : (ranges : List Range) (issuers : List (List ℕ)) (e : Entry) (near place : ℕ) → option_map (is_within e.sighting) (slice_get ranges near) ≡ Some true
-    → slice_get issuers place ≡ Some e.id.issuer
-    → entry_fields issuers ranges (record { time = e.sighting.time; until = e.until; place = place; near = near; serial = e.id.serial }) ≡ e
-entry_is ranges issuers e near place r k =
+-- a date again from its number, which is 0 where there is none, and from whether there is one
+pub date_again : (date : Option ℤ) {until : ℤ} {dated : Bool} → until ≡ unwrap_or date (pos 0) → dated ≡ is_some date → then_some dated until ≡ date
+date_again None n d = rw d refl
+date_again (Some t) n d = rw (n, d) refl
+
+pub entry_is : (ranges : List Range) (issuers : List (List ℕ)) (e : Entry) (near place : ℕ) (until : ℤ) (dated : Bool)
+    → option_map (is_within e.sighting) (slice_get ranges near) ≡ Some true → slice_get issuers place ≡ Some e.id.issuer → then_some dated until ≡ e.until
+    → entry_fields issuers ranges (record { time = e.sighting.time; until = until; dated = dated; place = place; near = near; serial = e.id.serial }) ≡ e
+entry_is ranges issuers e near place until dated r k date =
     let log = log_of (slice_get ranges near) e.sighting r in
     let issuer = ap (λ (o : Option (List ℕ)). unwrap_or o []) k in
-    λ i. record { id = record { issuer = issuer i; serial = e.id.serial }; sighting = record { log = log i; time = e.sighting.time }; until = e.until }
+    λ i. record { id = record { issuer = issuer i; serial = e.id.serial }; sighting = record { log = log i; time = e.sighting.time }; until = date i }
 
 pub read_is : (ranges : List Range) (issuers : List (List ℕ)) (e : Entry) → covers ranges e.sighting ≡ true → has_key issuers e.id.issuer ≡ true → Some e ≡ if_read ranges issuers (Some e)
 read_is ranges issuers e c n = rw (c, n) refl

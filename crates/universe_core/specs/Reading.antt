@@ -1,5 +1,6 @@
 -- Which of a job's entries are read.
-use Rattle.std.specs.Prelude.{ℕ, ◌+◌, ◌<◌, List, [], map, length, ◌&&◌, Bool, cond, Option, Some, None, unwrap_or}
+use Rattle.std.specs.Prelude.{ℕ, ℤ, ◌+◌, ◌<◌, List, [], map, length, ◌&&◌, Bool, cond, Option, Some, None, unwrap_or}
+use Rattle.std.specs.Bool.{then_some}
 use Rattle.std.specs.List.{slice_get}
 use Rattle.std.specs.Option.{option_map_or}
 use Rattle.ident_core.specs.declared.identity.Identity.{Identity}
@@ -25,8 +26,12 @@ id_in issuers e = record { issuer = unwrap_or (slice_get issuers e.place) []; se
 abbrev pub sighting_in : List Range → ReadEntry → Sighting
 sighting_in ranges e = record { log = option_map_or (λ r. r.log) (slice_get ranges e.near) []; time = e.time }
 
+-- its date, if it is told
+abbrev pub date_in : ReadEntry → Option ℤ
+date_in e = then_some e.dated e.until
+
 abbrev pub entry_fields : List (List ℕ) → List Range → ReadEntry → Entry
-entry_fields issuers ranges e = record { id = id_in issuers e; sighting = sighting_in ranges e; until = e.until }
+entry_fields issuers ranges e = record { id = id_in issuers e; sighting = sighting_in ranges e; until = date_in e }
 
 abbrev pub entries_of : List (List ℕ) → List Range → List ReadEntry → List Entry
 entries_of issuers ranges es = map (entry_fields issuers ranges) es

@@ -8,7 +8,7 @@ ghost use Rattle.ledger_core.specs.LedgerFields.{part_fields};
 ghost use Rattle.universe_core.specs.Judging.{IsSearchable, judge_of, is_late_by, is_late_beside, is_timely, sightings_of};
 ghost use Rattle.universe_core.specs.Judging.{dates_of, with_date as date_with};
 ghost use Rattle.universe_core.specs.Dates.{later_of as later};
-ghost use Rattle.universe_core.specs.Reading.{IsPlaced, entry_fields, entries_of, sighting_in};
+ghost use Rattle.universe_core.specs.Reading.{IsPlaced, entry_fields, entries_of, sighting_in, date_in};
 
 use crate::member::Member;
 use crate::read_entry::ReadEntry;
@@ -139,7 +139,7 @@ fn facts_alone(
     ensures late { result.late ≡ count_by (λ e. is_late_by parts.now birth (entry_fields issuers.now ranges.now e)) run.now }
     ensures settled { result.settled ≡ false }
     ensures date { result.date ≡ fold date_with date
-        (map (λ e. e.until) (filter (λ e. is_timely parts.now birth (entry_fields issuers.now ranges.now e)) run.now)) }
+        (map date_in (filter (λ e. is_timely parts.now birth (entry_fields issuers.now ranges.now e)) run.now)) }
 {
     let mut facts = RunFacts {
         late: 0,
@@ -150,7 +150,7 @@ fn facts_alone(
         if comes_late(parts, birth, issuers, ranges, e) {
             facts.late += 1;
         } else {
-            facts.date = with_date(facts.date, e.until);
+            facts.date = with_date(facts.date, e.date());
         }
     }
     facts
@@ -173,7 +173,7 @@ fn facts_beside(
     ensures settled { result.settled ≡ list_all (λ e. covers part.now.ranges.items (sighting_in ranges.now e))
         (filter (λ e. is_timely parts.now birth (entry_fields issuers.now ranges.now e)) run.now) }
     ensures date { result.date ≡ fold date_with date
-        (map (λ e. e.until) (filter (λ e. is_timely parts.now birth (entry_fields issuers.now ranges.now e)) run.now)) }
+        (map date_in (filter (λ e. is_timely parts.now birth (entry_fields issuers.now ranges.now e)) run.now)) }
 {
     let mut facts = RunFacts {
         late: 0,
@@ -184,7 +184,7 @@ fn facts_beside(
         if comes_late(parts, birth, issuers, ranges, e) {
             facts.late += 1;
         } else {
-            facts.date = with_date(facts.date, e.until);
+            facts.date = with_date(facts.date, e.date());
             if !covers_near(&part.ranges, e.near as usize, &e.sighting(ranges)) {
                 facts.settled = false;
             }
@@ -209,7 +209,7 @@ fn facts_of(
     ensures settled { result.settled ≡ last_covers (map part_fields parts.now) last
         (sightings_of (filter (is_timely parts.now birth) (entries_of issuers.now ranges.now run.now))) }
     ensures date { result.date ≡ fold date_with date
-        (map (λ e. e.until) (filter (λ e. is_timely parts.now birth (entry_fields issuers.now ranges.now e)) run.now)) }
+        (map date_in (filter (λ e. is_timely parts.now birth (entry_fields issuers.now ranges.now e)) run.now)) }
 {
     match last {
         None => facts_alone(parts, birth, issuers, ranges, run, date),

@@ -72,7 +72,8 @@ fn classify(ranges: &[Range], issuers: &[Key32], entry: &Option<Entry>) -> Told
     };
     let one = ReadEntry {
         time: entry.sighting.time,
-        until: entry.until,
+        until: entry.until.unwrap_or(0),
+        dated: entry.until.is_some(),
         place: place as u16,
         near: near as u16,
         serial: entry.id.serial,

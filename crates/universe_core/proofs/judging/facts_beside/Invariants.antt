@@ -2,7 +2,7 @@ use Rattle.std.proofs.Common.{◌≡◌, map, take, drop, filter, fold}
 use Rattle.std.specs.List.{count_by, list_all}
 use Rattle.ident_core.specs.Coverage.{covers}
 use Rattle.universe_core.specs.Judging.{is_late_by, is_timely, with_date}
-use Rattle.universe_core.specs.Reading.{entry_fields, sighting_in}
+use Rattle.universe_core.specs.Reading.{entry_fields, sighting_in, date_in}
 use Rattle.universe_core.proofs.judging.facts_beside.Given as goal
 
 abbrev pub invariant-loop-e : goal.invariant-loop-e
@@ -13,6 +13,6 @@ invariant-loop-e l = record {
       ≡ list_all (λ e. covers l.part.ranges.items (sighting_in l.ranges e))
       (filter (λ e. is_timely l.parts l.birth (entry_fields l.issuers l.ranges e)) (take l.e-index l.run));
   date :
-      fold with_date l.facts.date (map (λ e. e.until) (filter (λ e. is_timely l.parts l.birth (entry_fields l.issuers l.ranges e)) (drop l.e-index l.run)))
-      ≡ fold with_date l.fn.date (map (λ e. e.until) (filter (λ e. is_timely l.parts l.birth (entry_fields l.issuers l.ranges e)) l.run));
+      fold with_date l.facts.date (map date_in (filter (λ e. is_timely l.parts l.birth (entry_fields l.issuers l.ranges e)) (drop l.e-index l.run)))
+      ≡ fold with_date l.fn.date (map date_in (filter (λ e. is_timely l.parts l.birth (entry_fields l.issuers l.ranges e)) l.run));
 }

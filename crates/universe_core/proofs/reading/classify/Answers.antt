@@ -1,13 +1,15 @@
 use Rattle.std.proofs.Common.{◌∙◌, Some, refl, sym, ap, arith}
+use Rattle.std.specs.Int.{w64}
 use Rattle.std.specs.Option.{option_map}
 use Rattle.std.specs.Prelude.{is_some}
+use Rattle.std.proofs.lemmas.Int.{to_z-of_z, ints}
 use Rattle.std.proofs.lemmas.Option.{slice_get_within}
 use Rattle.ident_core.specs.Coverage.{is_within}
 use Rattle.sets_core.proofs.Elements.{Among-from_place}
 use Rattle.sets_core.proofs.Sets.{has_key-from_Among}
 use Rattle.universe_core.specs.Reading.{entry_fields}
 use Rattle.universe_core.specs.declared.reading.Told.{Told}
-use Rattle.universe_core.proofs.Classes.{class_uncovered, class_unenrolled, class_accepted, entry_is, read_is, not_covered, not_enrolled}
+use Rattle.universe_core.proofs.Classes.{class_uncovered, class_unenrolled, class_accepted, date_again, entry_is, read_is, not_covered, not_enrolled}
 use Rattle.universe_core.proofs.Searchable.{place_within}
 use Rattle.universe_core.proofs.reading.classify.Goals as goal
 
@@ -50,8 +52,11 @@ returns-clause-class c =
 
 pub returns-clause-entry : goal.returns-clause-entry
 returns-clause-entry c =
+    let within = c.unwrap_or.type_inv in
+    let number = to_z-of_z w64 c.unwrap_or.result (omega (arith, ints)) ∙ c.unwrap_or.ensures in
     ap Some
-    (entry_is c.args.ranges.now c.args.issuers.now c.in-Some.entry c.in-Some-place_covering.near c.in-Some-place_of_key.place c.in-Some-place_covering.ensures.some c.in-Some-place_of_key.ensures.some)
+    (entry_is c.args.ranges.now c.args.issuers.now c.in-Some.entry c.in-Some-place_covering.near c.in-Some-place_of_key.place _ _ c.in-Some-place_covering.ensures.some c.in-Some-place_of_key.ensures.some
+    (date_again c.in-Some.entry.until number c.is_some.ensures))
     ∙ rw c.in-Some.is (read_is c.args.ranges.now c.args.issuers.now c.in-Some.entry (sym c.in-Some-place_covering.ensures.covers)
     (has_key-from_Among c.args.issuers.now c.in-Some.entry.id.issuer (Among-from_place c.args.issuers.now c.in-Some-place_of_key.place c.in-Some.entry.id.issuer c.in-Some-place_of_key.ensures.some)))
 
