@@ -1,5 +1,5 @@
-"""What tools/reference.py says of files: parts, ledgers, jobs and queries are read by their layouts, the first field that
-breaks one is named, and so is why a job is refused; rehearsals and audits of files of jobs."""
+"""What tools/reference.py says of files: parts, ledgers, jobs and queries are read by their layouts, the first field
+that breaks one is named, and so is why a job is refused; rehearsals and audits of files of jobs."""
 
 from reference import (
     Mixed,
