@@ -6,13 +6,15 @@ path is given, that one. Run it at the top of the repository:
 
     python3 bench/workers.py [RUNS [COUNT [PROGRAM]]]
 
-Each time is the least of so many runs (5), which take turns. The job is `sample 7 COUNT` (1000000). The part, the
-ledger and the line must be the same with any number of workers, and those of both programs.
+Each time is the least of so many runs (5), which take turns; each ratio is the median of those of the turns, since a
+shared host is slower at some times than at others. The job is `sample 7 COUNT` (1000000). The part, the ledger and the
+line must be the same with any number of workers, and those of both programs.
 """
 
 import hashlib
 import os
 import resource
+import statistics
 import subprocess
 import sys
 import tempfile
@@ -54,18 +56,20 @@ def digest(path):
 
 
 class Publisher:
-    """A program that publishes, and the least times of its runs by the number of workers."""
+    """A program that publishes, and the times of its runs by the number of workers: the least ones, and each turn's."""
 
     def __init__(self, program, files):
         self.command = [program, "snapshot", *files]
         self.files = files
         self.clock, self.spent = {}, {}
+        self.turns = {}
 
     def run(self, workers):
         """Publishes, and gives what was said and written."""
         took, used, line = timed(self.command + [str(workers)])
         self.clock[workers] = min(took, self.clock.get(workers, took))
         self.spent[workers] = min(used, self.spent.get(workers, used))
+        self.turns.setdefault(workers, []).append((took, used))
         return line, digest(self.files[1]), digest(self.files[2])
 
 
@@ -81,10 +85,16 @@ def compare(ours, theirs, runs):
     return said.pop()[0]
 
 
+def ratio(ones, others, kind):
+    """The median of the turns' ratios, by the clock (0) or of processors (1)."""
+    return statistics.median(one[kind] / other[kind] for one, other in zip(ones, others))
+
+
 def told(what, publisher, workers):
     clock, spent = publisher.clock[workers], publisher.spent[workers]
     kib = memory(publisher.command + [str(workers)])
-    return f"{what} {clock:6.3f} s ({publisher.clock[1] / clock:.2f} times as fast as one), {spent:6.3f} s, {kib} KiB"
+    times = ratio(publisher.turns[1], publisher.turns[workers], 0)
+    return f"{what} {clock:6.3f} s ({times:.2f} times as fast as one), {spent:6.3f} s, {kib} KiB"
 
 
 def main():
@@ -102,7 +112,7 @@ def main():
         line = compare(ours, theirs, runs)
         print("workers: by the clock, of processors, most memory")
         for workers in WORKERS:
-            clock, spent = ours.clock[workers] / theirs.clock[workers], ours.spent[workers] / theirs.spent[workers]
+            clock, spent = (ratio(ours.turns[workers], theirs.turns[workers], kind) for kind in (0, 1))
             print(f"{workers}: {told('clubcard', ours, workers)}; {told('plain Rust', theirs, workers)};"
                   f" {clock:.2f} by the clock, {spent:.2f} of processors", flush=True)
         print(line)
