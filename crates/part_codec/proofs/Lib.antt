@@ -10,6 +10,7 @@ pub mod Lengths
 pub mod MachineLaws
 pub mod FieldSteps
 pub mod MachineStands
+pub mod WholePlanes
 pub mod Scans
 pub mod Collects
 pub mod Readings

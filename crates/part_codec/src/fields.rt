@@ -1,6 +1,6 @@
 //! The fields of a part one by one: how wide each is, its test, what is kept of it, and which one follows.
 
-ghost use Rattle.std.specs.Prelude.{◌≡◌, ◌≤◌, ◌↔◌, ℕ, List, length, true, IsTrue};
+ghost use Rattle.std.specs.Prelude.{◌≡◌, ◌≤◌, ◌-◌, ◌↔◌, ℕ, List, length, true, IsTrue};
 ghost use Rattle.equation_core.specs.declared.shards.TheConstants.{MAX_SHIFT};
 ghost use Rattle.std.specs.Str.{bytes_eq};
 ghost use Rattle.std.specs.Int.{w8, w16, w32, w64, from_be_bytes};
@@ -115,6 +115,16 @@ pub(crate) fn is_block(field: Open) -> bool
 {
     match field {
         Open::BlockIssuer => true,
+        _ => false,
+    }
+}
+
+#[inline(always)]
+pub(crate) fn is_approx_plane(field: Open) -> bool
+    ensures { IsTrue result ↔ field ≡ Open.ApproxPlane }
+{
+    match field {
+        Open::ApproxPlane => true,
         _ => false,
     }
 }
@@ -237,7 +247,7 @@ pub(crate) fn is_digest(hasher: &Sha256, bytes: &[u8]) -> bool
 
 /// Whether the bits of a plane's last word behind its last column are zero.
 #[inline(always)]
-fn is_last_padded(starts: u32, last: &[u8]) -> bool
+pub(crate) fn is_last_padded(starts: u32, last: &[u8]) -> bool
     requires starts { AreStarts starts }
     requires len { length last.now ≡ 8 }
     ensures { result ≡ is_padded_last starts last.now }
@@ -330,6 +340,14 @@ fn keep_issuers(kept: &mut Kept, count: u32)
     kept.sharded = false;
 }
 
+/// Of the approximate stage one plane fewer is left.
+#[inline(always)]
+pub(crate) fn keep_plane(kept: &mut Kept)
+    ensures { kept.new ≡ record kept.old { planes = kept.old.planes - 1 } }
+{
+    kept.planes = kept.planes.saturating_sub(1);
+}
+
 /// Behind the last leaf of a block the block is whole.
 #[inline(always)]
 fn keep_leaf(kept: &mut Kept)
@@ -409,7 +427,7 @@ pub(crate) fn keep(kept: &mut Kept, field: Open, last: &[u8])
         Open::BlockK => kept.planes = number8(last),
         Open::ApproxSeed | Open::ExactSeed => kept.seed = number8(last),
         Open::ApproxStarts | Open::ExactStarts => kept.starts = number32(last),
-        Open::ApproxPlane => kept.planes = kept.planes.saturating_sub(1),
+        Open::ApproxPlane => keep_plane(kept),
         Open::ExactPlane => keep_leaf(kept),
         Open::Trailer => kept.trailer = key_of(last),
         Open::Magic | Open::Sharded | Open::Done => {}
@@ -468,7 +486,7 @@ fn at_approx(planes: u8) -> Open
 }
 
 #[inline(always)]
-fn at_plane(planes: u8) -> Open
+pub(crate) fn at_plane(planes: u8) -> Open
     ensures { result ≡ open_plane planes }
 {
     match planes {

@@ -2,21 +2,23 @@
 //! field it holds what the field's test needs, which is at most 32 bytes, and a plane passes through it up to its last
 //! word.
 
-ghost use Rattle.std.specs.Prelude.{◌≡◌, ◌≢◌, ◌≤◌, ◌<◌, ◌+◌, ◌++◌, ℕ, List, [], length, take, drop, true, false, Ok, Err, IfOk, OnOk, IfErr};
+ghost use Rattle.std.specs.Prelude.{◌≡◌, ◌≢◌, ◌≤◌, ◌<◌, ◌+◌, ◌*◌, ◌++◌, ℕ, List, [], length, take, drop, true, false, Ok, Err, IfOk, OnOk, IfErr};
 ghost use Rattle.sha2.specs.Hashers.{Holds256};
 ghost use Rattle.part_codec.specs.declared.fields.TheConstants.{LEAST_BLOCK};
 ghost use Rattle.part_codec.specs.declared.machine.TheConstants.{MAX_PART};
 ghost use Rattle.part_codec.specs.PartLayout.{sealed};
 ghost use Rattle.part_codec.specs.Remaining.{Seen, nothing_seen};
+ghost use Rattle.equation_core.specs.Sizes.{words_for as words_of};
 ghost use Rattle.part_codec.specs.Stepping.{in_front, skips as skips_of, tail_of, kept_after, seen_after, open_after, settled};
 ghost use Rattle.part_codec.specs.Stepping.{AreStarts, AreLimits, name_of, still};
 
 use crate::encode::MAX_BLOCK;
 use crate::fields::{
-    Kept, LEAST_BLOCK, Open, TRAILER, is_block, is_digest, is_front, keep, name, next_of, passes,
-    skips, tail,
+    Kept, LEAST_BLOCK, Open, TRAILER, at_plane, is_approx_plane, is_block, is_digest, is_front,
+    is_last_padded, keep, keep_plane, name, next_of, passes, skips, tail,
 };
 use card_core::MAX_BLOCKS;
+use equation_core::words_for;
 use ident_core::{MAX_RANGES, RANGE_BYTES};
 use octets_core::{Key32, LayoutFault, Why};
 use sha2::Sha256;
@@ -310,6 +312,103 @@ impl Machine {
         }
     }
 
+    /// Behind an approximate plane, all of which this is and which passed: opens the next field.
+    #[inline(always)]
+    fn pass_plane(&mut self, plane: &[u8])
+        requires field { self.old.field ≡ Open.ApproxPlane }
+        requires len { length plane.now ≡ 8 * words_of self.old.kept.starts }
+        ensures kept { (last : List ℕ) → self.new.kept ≡ kept_after self.old.field self.old.kept last }
+        ensures next { self.new.field ≡ open_after self.old.field self.new.kept }
+        ensures at { self.new.at ≡ self.old.at + length plane.now }
+        ensures passed { self.new.passed ≡ 0 }
+        ensures empty { self.new.filled ≡ 0 }
+    {
+        self.at += plane.len() as u64;
+        keep_plane(&mut self.kept);
+        self.field = at_plane(self.kept.planes);
+        self.passed = 0;
+        self.filled = 0;
+    }
+
+    /// An approximate plane, all of which this is: tests it, and opens the next field.
+    #[inline(always)]
+    fn complete_plane(&mut self, plane: &[u8]) -> Result<(), LayoutFault>
+        requires field { self.old.field ≡ Open.ApproxPlane }
+        requires passed { self.old.passed ≡ 0 }
+        requires empty { self.old.filled ≡ 0 }
+        requires len { length plane.now ≡ 8 * words_of self.old.kept.starts }
+        ensures ok { OnOk result ((s : Seen) (b : List ℕ) → Stands self.old s b
+            → Stands self.new (seen_after self.old.field self.old.kept s (drop self.old.at (b ++ plane.now))) (b ++ plane.now)) }
+        ensures moved { OnOk result ((s : Seen) (b : List ℕ) → Stands self.old s b → Moved true self.old self.new (b ++ plane.now)) }
+        ensures err { IfErr result (Fails self.old plane.now) }
+        ensures partial { OnOk result (IsPartial self.new) }
+    {
+        if !is_last_padded(self.kept.starts, &plane[plane.len() - 8..]) {
+            return Err(self.fault(Why::Value));
+        }
+        self.pass_plane(plane);
+        Ok(())
+    }
+
+    /// `step`, which isn't copied to where this is called.
+    #[inline(never)]
+    fn step_apart(&mut self, piece: &[u8]) -> Result<(usize, bool), LayoutFault>
+        requires { IsFront self.old }
+        ensures ok { IfOk result (Advances self.old self.new piece.now) }
+        ensures err { IfErr result (Fails self.old piece.now) }
+    {
+        self.step(piece)
+    }
+
+    /// `step` at an approximate plane. One that is whole in the piece is taken where nothing goes by the open field.
+    #[inline(always)]
+    pub(crate) fn advance_plane(&mut self, piece: &[u8]) -> Result<(usize, bool), LayoutFault>
+        requires field { self.old.field ≡ Open.ApproxPlane }
+        requires front { IsFront self.old }
+        ensures ok { IfOk result (Advances self.old self.new piece.now) }
+        ensures err { IfErr result (Fails self.old piece.now) }
+    {
+        let width = 8 * words_for(self.kept.starts);
+        if self.passed == 0 && self.filled == 0 && piece.len() >= width {
+            self.complete_plane(&piece[..width])?;
+            return Ok((width, true));
+        }
+        self.step_apart(piece)
+    }
+
+    /// Takes bytes of an approximate plane. Answers how many.
+    #[inline(always)]
+    fn take_plane(&mut self, piece: &[u8]) -> Result<usize, LayoutFault>
+        requires field { self.old.field ≡ Open.ApproxPlane }
+        requires front { IsFront self.old }
+        ensures ok { IfOk result (Takes self.old self.new piece.now) }
+        ensures err { IfErr result (Fails self.old piece.now) }
+        ensures progress { IfOk result (λ n. 0 < length piece.now → 0 < n) }
+    {
+        let (n, _) = self.advance_plane(piece)?;
+        Ok(n)
+    }
+
+    /// Takes bytes of an approximate stage's planes. Answers how many.
+    #[inline(always)]
+    fn take_planes(&mut self, piece: &[u8]) -> Result<usize, LayoutFault>
+        requires field { self.old.field ≡ Open.ApproxPlane }
+        requires partial { self.old.filled < tail_of self.old.field }
+        ensures ok { IfOk result (Takes self.old self.new piece.now) }
+        ensures err { IfErr result (Fails self.old piece.now) }
+        ensures progress { IfOk result (λ n. 0 < length piece.now → 0 < n) }
+    {
+        let mut taken = 0;
+        while taken < piece.len() {
+            if !is_approx_plane(self.field) {
+                return Ok(taken);
+            }
+            let n = self.take_plane(&piece[taken..])?;
+            taken += n;
+        }
+        Ok(taken)
+    }
+
     /// The issuer and the mode of a block, both at once: most of a long part is blocks that have no more.
     #[inline(always)]
     fn block(&mut self, piece: &[u8]) -> Result<(), LayoutFault>
@@ -325,7 +424,8 @@ impl Machine {
         Ok(())
     }
 
-    /// Takes bytes up to the end of the open field, or to that of a block's mode. Answers how many.
+    /// Takes bytes up to the end of the open field, to that of a block's mode, or of planes that stand together. Answers how
+    /// many.
     #[inline(always)]
     fn walk(&mut self, piece: &[u8]) -> Result<usize, LayoutFault>
         requires { IsFront self.old }
@@ -336,6 +436,9 @@ impl Machine {
         if is_block(self.field) && self.filled == 0 && piece.len() >= LEAST_BLOCK {
             self.block(&piece[..LEAST_BLOCK])?;
             return Ok(LEAST_BLOCK);
+        }
+        if is_approx_plane(self.field) {
+            return self.take_planes(piece);
         }
         let (n, _) = self.step(piece)?;
         Ok(n)

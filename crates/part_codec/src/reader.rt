@@ -12,7 +12,7 @@ ghost use Rattle.part_codec.specs.Collecting.{Reads, HasRead, HasHashed};
 ghost use Rattle.part_codec.specs.Taking.{IsFront, IsPartial, TakesTo, ReadsOn, FailsRead, FailsHashed};
 
 use crate::fault::PartFault;
-use crate::fields::{is_done, is_front, kind};
+use crate::fields::{Open, is_approx_plane, is_done, is_front, kind};
 use crate::machine::Machine;
 use crate::pile::Pile;
 use crate::sealed::Sealed;
@@ -47,6 +47,79 @@ fn step(
     Ok(n)
 }
 
+/// The same at an approximate plane.
+#[inline(always)]
+fn step_plane(
+    alloc: Global,
+    machine: &mut Machine,
+    pile: &mut Pile,
+    piece: &[u8],
+) -> Result<usize, PartFault>
+    requires field { machine.old.field ≡ opens.ApproxPlane }
+    requires front { IsFront machine.old }
+    requires read { ∥ HasRead machine.old pile.old ∥₁ }
+    ensures ok { IfOk result (TakesTo machine.old machine.new pile.old pile.new piece.now) }
+    ensures err { IfErr result (FailsRead machine.old pile.old piece.now) }
+    ensures progress { IfOk result (λ n. 0 < length piece.now → 0 < n) }
+{
+    let field = machine.field;
+    let (n, whole) = machine.advance_plane(piece)?;
+    pile.put(
+        alloc,
+        field,
+        &machine.kept,
+        &piece[..n],
+        whole,
+        piece.len() - n,
+    )?;
+    Ok(n)
+}
+
+/// Takes bytes of an approximate stage's planes.
+fn read_planes(
+    alloc: Global,
+    machine: &mut Machine,
+    pile: &mut Pile,
+    piece: &[u8],
+) -> Result<usize, PartFault>
+    requires field { machine.old.field ≡ opens.ApproxPlane }
+    requires front { IsFront machine.old }
+    requires read { ∥ HasRead machine.old pile.old ∥₁ }
+    ensures ok { IfOk result (TakesTo machine.old machine.new pile.old pile.new piece.now) }
+    ensures err { IfErr result (FailsRead machine.old pile.old piece.now) }
+    ensures progress { IfOk result (λ n. 0 < length piece.now → 0 < n) }
+{
+    let mut taken = 0;
+    while taken < piece.len() {
+        if !is_approx_plane(machine.field) {
+            return Ok(taken);
+        }
+        let n = step_plane(alloc, machine, pile, &piece[taken..])?;
+        taken += n;
+    }
+    Ok(taken)
+}
+
+/// Takes bytes of a field, or of planes that stand together.
+#[inline(always)]
+fn walk(
+    alloc: Global,
+    machine: &mut Machine,
+    pile: &mut Pile,
+    piece: &[u8],
+) -> Result<usize, PartFault>
+    requires front { IsFront machine.old }
+    requires read { ∥ HasRead machine.old pile.old ∥₁ }
+    ensures ok { IfOk result (TakesTo machine.old machine.new pile.old pile.new piece.now) }
+    ensures err { IfErr result (FailsRead machine.old pile.old piece.now) }
+    ensures progress { IfOk result (λ n. 0 < length piece.now → 0 < n) }
+{
+    match machine.field {
+        Open::ApproxPlane => read_planes(alloc, machine, pile, piece),
+        _ => step(alloc, machine, pile, piece),
+    }
+}
+
 /// Takes the bytes of the piece before the trailer.
 fn read_fields(
     alloc: Global,
@@ -65,7 +138,7 @@ fn read_fields(
         if !is_front(machine.field) {
             return Ok(taken);
         }
-        let n = step(alloc, machine, pile, &piece[taken..])?;
+        let n = walk(alloc, machine, pile, &piece[taken..])?;
         taken += n;
     }
     Ok(taken)

@@ -19,7 +19,7 @@ loop-taken-preserved c =
     let n = c.loop-taken.taken in
     record {
       stands = λ b read.
-          subst (λ (l : List ℕ). ReadsFront c.step.new.machine c.step.new.pile l) (pieces-join b piece n c.in_ok-n.n _ (take_rest piece n))
+          subst (λ (l : List ℕ). ReadsFront c.walk.new.machine c.walk.new.pile l) (pieces-join b piece n c.in_ok-n.n _ (take_rest piece n))
           (c.in_ok-n.ensures.ok.reads _ (c.loop-taken.invariant.stands b read).reads);
       read = c.in_ok-n.ensures.ok.read;
       within = search rules;

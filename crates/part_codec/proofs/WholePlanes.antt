@@ -1,0 +1,101 @@
+-- A field that came whole in a piece, as a plane does.
+use Rattle.std.proofs.Common.{true, ◌≡◌, ℕ, zero, suc, ◌+◌, ◌-◌, ◌*◌, ◌≤◌, ◌<◌, Bool, false, List, ◌++◌, length, take, drop, Err, refl, sym, ap, ◌∙◌, arith, length-append}
+use Rattle.std.proofs.lemmas.List.{drop_at, drop-drop, take_rest}
+use Rattle.octets_core.specs.Reading.{fault_at}
+use Rattle.octets_core.specs.declared.fault.Why.{Why}
+use Rattle.octets_core.specs.declared.fault.Why.TheVariants as why
+use Rattle.octets_core.proofs.Texts.{IsBytes}
+use Rattle.equation_core.specs.Sizes.{words_for}
+use Rattle.part_codec.specs.PartLayout.{sealed}
+use Rattle.part_codec.specs.declared.fields.Kept.{Kept}
+use Rattle.part_codec.specs.declared.fields.Open.{Open}
+use Rattle.part_codec.specs.declared.fields.Open.TheVariants as opens
+use Rattle.part_codec.specs.declared.machine.Machine.{Machine}
+use Rattle.part_codec.specs.declared.machine.TheConstants.{MAX_PART}
+use Rattle.part_codec.specs.Remaining.{Seen}
+use Rattle.part_codec.specs.Stepping.{in_front, skips, tail_of, width_of, passes_last, is_padded_last, kept_after, open_after, seen_after, name_of, open_plane, settled, AreLimits, still}
+use Rattle.part_codec.specs.Scanning.{IsWhole, Stands, Moved}
+use Rattle.part_codec.proofs.FieldSteps.{width-parts, room-steps, front-goes, wrong-front}
+use Rattle.part_codec.proofs.MachineStands.{Opened-more, field-fails, field-goes, passes-of, moved-of}
+
+-- ---- it is the open field, of which nothing came before
+
+whole-now : (m : Machine) (s : Seen) (b t : List ℕ) → Stands m s b → m.passed ≡ 0 → m.filled ≡ 0 → length t ≡ width_of m.field m.kept → IsWhole m (drop (skips m.field m.kept) t) (b ++ t)
+whole-now m s b t st passed empty len = record {
+  len = omega (arith, st.place, passed, empty, len, length-append b t);
+  held = sym (drop-drop (skips m.field m.kept) m.at (b ++ t)) ∙ ap (drop (skips m.field m.kept)) (drop_at b t m.at (omega (arith, st.place, passed, empty)));
+}
+
+pub whole-fails : (m : Machine) (s : Seen) (b t x : List ℕ) → Stands m s b → IsBytes t → m.passed ≡ 0 → m.filled ≡ 0 → length t ≡ width_of m.field m.kept → in_front m.field ≡ true
+    → ((sum : List ℕ) → passes_last m.field m.kept sum (drop (skips m.field m.kept) t) ≡ false) → sealed (b ++ t ++ x) 0 ≡ Err (fault_at why.Value (name_of m.field) m.at)
+whole-fails m s b t x st fits passed empty len front failed =
+    field-fails m s (drop (skips m.field m.kept) t) (b ++ t) x (Opened-more m s b t fits st.opens) (whole-now m s b t st passed empty len) (front-goes m.field front) (failed _)
+    ∙ ap (λ (y : Why). Err (fault_at y (name_of m.field) m.at)) (wrong-front m.field front)
+
+-- it passed, and the next one is open
+pub record Goes (m n : Machine) (t : List ℕ) : Type 0 where
+  pub passes : (sum : List ℕ) → passes_last m.field m.kept sum (drop (skips m.field m.kept) t) ≡ true
+  pub limits : AreLimits m.field (drop (skips m.field m.kept) t)
+  pub kept : n.kept ≡ kept_after m.field m.kept (drop (skips m.field m.kept) t)
+  pub field : n.field ≡ open_after m.field n.kept
+  pub at : n.at ≡ m.at + length t
+  pub passed : n.passed ≡ 0
+  pub empty : n.filled ≡ 0
+
+pub whole-stands : (m n : Machine) (s : Seen) (b t : List ℕ) → Stands m s b → IsBytes t → m.passed ≡ 0 → m.filled ≡ 0 → length t ≡ width_of m.field m.kept → Goes m n t
+    → Stands n (seen_after m.field m.kept s (drop m.at (b ++ t))) (b ++ t)
+whole-stands m n s b t st fits passed empty len g =
+    field-goes m n s (drop (skips m.field m.kept) t) (b ++ t) (Opened-more m s b t fits st.opens) (whole-now m s b t st passed empty len) g.limits (g.passes _) g.kept g.field
+    (omega (arith, g.at, st.place, passed, empty, length-append b t)) g.passed g.empty
+
+pub whole-moved : (m n : Machine) (s : Seen) (b t : List ℕ) → Stands m s b → IsBytes t → m.passed ≡ 0 → m.filled ≡ 0 → length t ≡ width_of m.field m.kept → Goes m n t
+    → n.field ≡ settled n.field → Moved true m n (b ++ t)
+whole-moved m n s b t st fits passed empty len g settles =
+    moved-of m n n (b ++ t)
+    (passes-of m n s (drop (skips m.field m.kept) t) (b ++ t) (Opened-more m s b t fits st.opens) (whole-now m s b t st passed empty len) g.limits (g.passes _) g.kept
+    (omega (arith, g.at, st.place, passed, empty, length-append b t)))
+    g.field settles refl refl
+
+pub whole-room : (m : Machine) (k : Kept) (o : Open) (t last : List ℕ) → AreLimits m.field last → k ≡ kept_after m.field m.kept last → o ≡ open_after m.field k
+    → length t ≡ width_of m.field m.kept → m.at + length t + still o k ≤ MAX_PART
+whole-room m k o t last limits kept next len =
+    rw (next, kept) (omega (arith, room-steps m.field m.kept last limits m.starts, width-parts m.field m.kept m.starts, len, m.room))
+
+-- ---- it is an approximate plane
+
+pub plane-width : (m : Machine) (t : List ℕ) → m.field ≡ opens.ApproxPlane → length t ≡ 8 * words_for m.kept.starts → length t ≡ width_of m.field m.kept
+plane-width m t field len = len ∙ sym (ap (λ (o : Open). width_of o m.kept) field)
+
+-- its last word is tested
+pub plane-tested : (m : Machine) (t : List ℕ) (answer : Bool) → m.field ≡ opens.ApproxPlane → length t ≡ 8 * words_for m.kept.starts
+    → is_padded_last m.kept.starts (take (length t - (length t - 8)) (drop (length t - 8) t)) ≡ answer
+    → (sum : List ℕ) → passes_last m.field m.kept sum (drop (skips m.field m.kept) t) ≡ answer
+plane-tested m t answer field len tested sum =
+    let skipped : skips m.field m.kept ≡ 8 * (words_for m.kept.starts - 1) = ap (λ (o : Open). skips o m.kept) field in
+    let place : skips m.field m.kept ≡ length t - 8 = omega (arith, skipped, len, m.starts.0) in
+    ap (λ (o : Open). passes_last o m.kept sum (drop (skips m.field m.kept) t)) field
+    ∙ ap (λ (n : ℕ). is_padded_last m.kept.starts (drop n t)) place
+    ∙ ap (is_padded_last m.kept.starts) (sym (take_rest t (length t - 8)))
+    ∙ tested
+
+settled-plane : (n : ℕ) → settled (open_plane n) ≡ open_plane n
+settled-plane zero = refl
+settled-plane (suc n) = refl
+
+some-plane : (n : ℕ) → 0 < tail_of (open_plane n)
+some-plane zero = omega arith
+some-plane (suc n) = omega arith
+
+pub plane-opens : (m n : Machine) → m.field ≡ opens.ApproxPlane → n.field ≡ open_after m.field n.kept → n.field ≡ open_plane n.kept.planes
+plane-opens m n field next = next ∙ ap (λ (o : Open). open_after o n.kept) field
+
+pub plane-settles : (m n : Machine) → m.field ≡ opens.ApproxPlane → n.field ≡ open_after m.field n.kept → n.field ≡ settled n.field
+plane-settles m n field next =
+    let is = plane-opens m n field next in
+    is ∙ sym (settled-plane n.kept.planes) ∙ ap settled (sym is)
+
+pub plane-partial : (m n : Machine) → m.field ≡ opens.ApproxPlane → n.field ≡ open_after m.field n.kept → n.filled ≡ 0 → n.filled < tail_of n.field
+plane-partial m n field next empty =
+    let some = some-plane n.kept.planes in
+    let same : tail_of n.field ≡ tail_of (open_plane n.kept.planes) = ap tail_of (plane-opens m n field next) in
+    omega (arith, some, same, empty)
