@@ -1,5 +1,6 @@
 -- A field that came whole in a piece, as a plane does.
-use Rattle.std.proofs.Common.{true, ◌≡◌, ℕ, zero, suc, ◌+◌, ◌-◌, ◌*◌, ◌≤◌, ◌<◌, Bool, false, List, ◌++◌, length, take, drop, Err, refl, sym, ap, ◌∙◌, arith, length-append}
+use Rattle.std.proofs.Common.{true, ◌≡◌, ℕ, zero, suc, ◌+◌, ◌-◌, ◌*◌, ◌≤◌, ◌<◌, Bool, false, List, ◌++◌, length, take, drop, Err, refl, sym, ap, ◌∙◌, arith, length-append, inl, inr}
+use Rattle.std.specs.Prelude.{◌⊎◌}
 use Rattle.std.proofs.lemmas.List.{drop_at, drop-drop, take_rest}
 use Rattle.octets_core.specs.Reading.{fault_at}
 use Rattle.octets_core.specs.declared.fault.Why.{Why}
@@ -14,13 +15,13 @@ use Rattle.part_codec.specs.declared.machine.Machine.{Machine}
 use Rattle.part_codec.specs.declared.machine.TheConstants.{MAX_PART}
 use Rattle.part_codec.specs.Remaining.{Seen}
 use Rattle.part_codec.specs.Stepping.{in_front, skips, tail_of, width_of, passes_last, is_padded_last, kept_after, open_after, seen_after, name_of, open_plane, settled, AreLimits, still}
-use Rattle.part_codec.specs.Scanning.{IsWhole, Stands, Moved}
+use Rattle.part_codec.specs.Scanning.{Opened, IsWhole, Stands, Passes, Moved}
 use Rattle.part_codec.proofs.FieldSteps.{width-parts, room-steps, front-goes, wrong-front}
 use Rattle.part_codec.proofs.MachineStands.{Opened-more, field-fails, field-goes, passes-of, moved-of}
 
 -- ---- it is the open field, of which nothing came before
 
-whole-now : (m : Machine) (s : Seen) (b t : List ℕ) → Stands m s b → m.passed ≡ 0 → m.filled ≡ 0 → length t ≡ width_of m.field m.kept → IsWhole m (drop (skips m.field m.kept) t) (b ++ t)
+pub whole-now : (m : Machine) (s : Seen) (b t : List ℕ) → Stands m s b → m.passed ≡ 0 → m.filled ≡ 0 → length t ≡ width_of m.field m.kept → IsWhole m (drop (skips m.field m.kept) t) (b ++ t)
 whole-now m s b t st passed empty len = record {
   len = omega (arith, st.place, passed, empty, len, length-append b t);
   held = sym (drop-drop (skips m.field m.kept) m.at (b ++ t)) ∙ ap (drop (skips m.field m.kept)) (drop_at b t m.at (omega (arith, st.place, passed, empty)));
@@ -48,35 +49,48 @@ whole-stands m n s b t st fits passed empty len g =
     field-goes m n s (drop (skips m.field m.kept) t) (b ++ t) (Opened-more m s b t fits st.opens) (whole-now m s b t st passed empty len) g.limits (g.passes _) g.kept g.field
     (omega (arith, g.at, st.place, passed, empty, length-append b t)) g.passed g.empty
 
+pub whole-passes : (m n : Machine) (s : Seen) (b t : List ℕ) → length t ≡ width_of m.field m.kept → Goes m n t → Opened m s b → IsWhole m (drop (skips m.field m.kept) t) b → Passes m n b
+whole-passes m n s b t len g o w = passes-of m n s (drop (skips m.field m.kept) t) b o w g.limits (g.passes _) g.kept (omega (arith, g.at, w.len, len))
+
 pub whole-moved : (m n : Machine) (s : Seen) (b t : List ℕ) → Stands m s b → IsBytes t → m.passed ≡ 0 → m.filled ≡ 0 → length t ≡ width_of m.field m.kept → Goes m n t
     → n.field ≡ settled n.field → Moved true m n (b ++ t)
 whole-moved m n s b t st fits passed empty len g settles =
-    moved-of m n n (b ++ t)
-    (passes-of m n s (drop (skips m.field m.kept) t) (b ++ t) (Opened-more m s b t fits st.opens) (whole-now m s b t st passed empty len) g.limits (g.passes _) g.kept
-    (omega (arith, g.at, st.place, passed, empty, length-append b t)))
-    g.field settles refl refl
+    moved-of m n n (b ++ t) (whole-passes m n s (b ++ t) t len g (Opened-more m s b t fits st.opens) (whole-now m s b t st passed empty len)) g.field settles refl refl
 
 pub whole-room : (m : Machine) (k : Kept) (o : Open) (t last : List ℕ) → AreLimits m.field last → k ≡ kept_after m.field m.kept last → o ≡ open_after m.field k
     → length t ≡ width_of m.field m.kept → m.at + length t + still o k ≤ MAX_PART
 whole-room m k o t last limits kept next len =
     rw (next, kept) (omega (arith, room-steps m.field m.kept last limits m.starts, width-parts m.field m.kept m.starts, len, m.room))
 
--- ---- it is an approximate plane
+-- ---- it is a plane
 
-pub plane-width : (m : Machine) (t : List ℕ) → m.field ≡ opens.ApproxPlane → length t ≡ 8 * words_for m.kept.starts → length t ≡ width_of m.field m.kept
-plane-width m t field len = len ∙ sym (ap (λ (o : Open). width_of o m.kept) field)
+abbrev pub IsPlane : Open → Type 0
+IsPlane o = (o ≡ opens.ApproxPlane) ⊎ (o ≡ opens.ExactPlane)
+
+pub plane-width : (m : Machine) (t : List ℕ) → IsPlane m.field → length t ≡ 8 * words_for m.kept.starts → length t ≡ width_of m.field m.kept
+plane-width m t (inl is) len = len ∙ sym (ap (λ (o : Open). width_of o m.kept) is)
+plane-width m t (inr is) len = len ∙ sym (ap (λ (o : Open). width_of o m.kept) is)
+
+plane-skips : (m : Machine) → IsPlane m.field → skips m.field m.kept ≡ 8 * (words_for m.kept.starts - 1)
+plane-skips m (inl is) = ap (λ (o : Open). skips o m.kept) is
+plane-skips m (inr is) = ap (λ (o : Open). skips o m.kept) is
+
+plane-passes : (m : Machine) (sum p : List ℕ) → IsPlane m.field → passes_last m.field m.kept sum p ≡ is_padded_last m.kept.starts p
+plane-passes m sum p (inl is) = ap (λ (o : Open). passes_last o m.kept sum p) is
+plane-passes m sum p (inr is) = ap (λ (o : Open). passes_last o m.kept sum p) is
 
 -- its last word is tested
-pub plane-tested : (m : Machine) (t : List ℕ) (answer : Bool) → m.field ≡ opens.ApproxPlane → length t ≡ 8 * words_for m.kept.starts
+pub plane-tested : (m : Machine) (t : List ℕ) (answer : Bool) → IsPlane m.field → length t ≡ 8 * words_for m.kept.starts
     → is_padded_last m.kept.starts (take (length t - (length t - 8)) (drop (length t - 8) t)) ≡ answer
     → (sum : List ℕ) → passes_last m.field m.kept sum (drop (skips m.field m.kept) t) ≡ answer
-plane-tested m t answer field len tested sum =
-    let skipped : skips m.field m.kept ≡ 8 * (words_for m.kept.starts - 1) = ap (λ (o : Open). skips o m.kept) field in
-    let place : skips m.field m.kept ≡ length t - 8 = omega (arith, skipped, len, m.starts.0) in
-    ap (λ (o : Open). passes_last o m.kept sum (drop (skips m.field m.kept) t)) field
+plane-tested m t answer is len tested sum =
+    let place : skips m.field m.kept ≡ length t - 8 = omega (arith, plane-skips m is, len, m.starts.0) in
+    plane-passes m sum (drop (skips m.field m.kept) t) is
     ∙ ap (λ (n : ℕ). is_padded_last m.kept.starts (drop n t)) place
     ∙ ap (is_padded_last m.kept.starts) (sym (take_rest t (length t - 8)))
     ∙ tested
+
+-- ---- it is an approximate plane
 
 settled-plane : (n : ℕ) → settled (open_plane n) ≡ open_plane n
 settled-plane zero = refl

@@ -350,7 +350,7 @@ pub(crate) fn keep_plane(kept: &mut Kept)
 
 /// Behind the last leaf of a block the block is whole.
 #[inline(always)]
-fn keep_leaf(kept: &mut Kept)
+pub(crate) fn keep_leaf(kept: &mut Kept)
     ensures { kept.new ≡ kept_leaf kept.old }
 {
     kept.leaves = kept.leaves.saturating_sub(1);
@@ -454,7 +454,7 @@ fn at_block(left: u32) -> Open
 }
 
 #[inline(always)]
-fn at_leaf(leaves: u16, left: u32) -> Open
+pub(crate) fn at_leaf(leaves: u16, left: u32) -> Open
     ensures { result ≡ open_leaf leaves left }
 {
     match leaves {

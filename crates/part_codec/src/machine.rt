@@ -14,8 +14,8 @@ ghost use Rattle.part_codec.specs.Stepping.{AreStarts, AreLimits, name_of, still
 
 use crate::encode::MAX_BLOCK;
 use crate::fields::{
-    Kept, LEAST_BLOCK, Open, TRAILER, at_plane, is_approx_plane, is_block, is_digest, is_front,
-    is_last_padded, keep, keep_plane, name, next_of, passes, skips, tail,
+    Kept, LEAST_BLOCK, Open, TRAILER, at_leaf, at_plane, is_approx_plane, is_block, is_digest,
+    is_front, is_last_padded, keep, keep_leaf, keep_plane, name, next_of, passes, skips, tail,
 };
 use card_core::MAX_BLOCKS;
 use equation_core::words_for;
@@ -248,7 +248,7 @@ impl Machine {
     }
 
     /// Passes bytes of a plane before its last word, and takes that too where all of it is in the piece.
-    #[inline(always)]
+    #[inline(never)]
     fn plane(&mut self, piece: &[u8]) -> Result<(usize, bool), LayoutFault>
         requires front { IsFront self.old }
         requires some { self.old.passed < skips_of self.old.field self.old.kept }
@@ -264,20 +264,6 @@ impl Machine {
         Ok((n + want, true))
     }
 
-    /// The same, with a copy for each of the two fields.
-    #[inline(always)]
-    fn known_plane(&mut self, piece: &[u8]) -> Result<(usize, bool), LayoutFault>
-        requires front { IsFront self.old }
-        requires some { self.old.passed < skips_of self.old.field self.old.kept }
-        ensures ok { IfOk result (Advances self.old self.new piece.now) }
-        ensures err { IfErr result (Fails self.old piece.now) }
-    {
-        match self.field {
-            Open::ApproxPlane => self.plane(piece),
-            _ => self.plane(piece),
-        }
-    }
-
     /// Takes bytes up to the end of the open field. Answers how many, and whether it became whole.
     #[inline(always)]
     fn step(&mut self, piece: &[u8]) -> Result<(usize, bool), LayoutFault>
@@ -286,7 +272,7 @@ impl Machine {
         ensures err { IfErr result (Fails self.old piece.now) }
     {
         if self.passed < skips(self.field, &self.kept) {
-            return self.known_plane(piece);
+            return self.plane(piece);
         }
         let want = tail(self.field) - self.filled;
         if piece.len() < want {
@@ -295,21 +281,6 @@ impl Machine {
         }
         self.complete_with(&piece[..want])?;
         Ok((want, true))
-    }
-
-    /// The same. The fields of a block that says none or all are most of a long part, so each of them has a copy of the
-    /// step in which the field is known.
-    #[inline(always)]
-    pub(crate) fn advance(&mut self, piece: &[u8]) -> Result<(usize, bool), LayoutFault>
-        requires { IsFront self.old }
-        ensures ok { IfOk result (Advances self.old self.new piece.now) }
-        ensures err { IfErr result (Fails self.old piece.now) }
-    {
-        match self.field {
-            Open::BlockIssuer => self.step(piece),
-            Open::BlockMode => self.step(piece),
-            _ => self.step(piece),
-        }
     }
 
     /// Behind an approximate plane, all of which this is and which passed: opens the next field.
@@ -376,6 +347,88 @@ impl Machine {
         self.step_apart(piece)
     }
 
+    /// Behind an exact plane, all of which this is and which passed: opens the next field.
+    #[inline(always)]
+    fn pass_exact(&mut self, plane: &[u8])
+        requires field { self.old.field ≡ Open.ExactPlane }
+        requires len { length plane.now ≡ 8 * words_of self.old.kept.starts }
+        ensures kept { (last : List ℕ) → self.new.kept ≡ kept_after self.old.field self.old.kept last }
+        ensures next { self.new.field ≡ open_after self.old.field self.new.kept }
+        ensures at { self.new.at ≡ self.old.at + length plane.now }
+        ensures passed { self.new.passed ≡ 0 }
+        ensures empty { self.new.filled ≡ 0 }
+    {
+        self.at += plane.len() as u64;
+        keep_leaf(&mut self.kept);
+        self.field = at_leaf(self.kept.leaves, self.kept.left);
+        self.passed = 0;
+        self.filled = 0;
+    }
+
+    /// An exact plane, all of which this is: tests it, and opens the next field.
+    #[inline(always)]
+    fn complete_exact(&mut self, plane: &[u8]) -> Result<(), LayoutFault>
+        requires field { self.old.field ≡ Open.ExactPlane }
+        requires passed { self.old.passed ≡ 0 }
+        requires empty { self.old.filled ≡ 0 }
+        requires len { length plane.now ≡ 8 * words_of self.old.kept.starts }
+        ensures ok { OnOk result ((s : Seen) (b : List ℕ) → Stands self.old s b
+            → Stands self.new (seen_after self.old.field self.old.kept s (drop self.old.at (b ++ plane.now))) (b ++ plane.now)) }
+        ensures moved { OnOk result ((s : Seen) (b : List ℕ) → Stands self.old s b → Moved true self.old self.new (b ++ plane.now)) }
+        ensures err { IfErr result (Fails self.old plane.now) }
+        ensures partial { OnOk result (IsPartial self.new) }
+    {
+        if !is_last_padded(self.kept.starts, &plane[plane.len() - 8..]) {
+            return Err(self.fault(Why::Value));
+        }
+        self.pass_exact(plane);
+        self.settle()
+    }
+
+    /// `step` at an exact plane, as at an approximate one.
+    #[inline(always)]
+    fn advance_exact(&mut self, piece: &[u8]) -> Result<(usize, bool), LayoutFault>
+        requires field { self.old.field ≡ Open.ExactPlane }
+        requires front { IsFront self.old }
+        ensures ok { IfOk result (Advances self.old self.new piece.now) }
+        ensures err { IfErr result (Fails self.old piece.now) }
+    {
+        let width = 8 * words_for(self.kept.starts);
+        if self.passed == 0 && self.filled == 0 && piece.len() >= width {
+            self.complete_exact(&piece[..width])?;
+            return Ok((width, true));
+        }
+        self.step_apart(piece)
+    }
+
+    /// `step`, and at an exact plane what is made for that.
+    #[inline(always)]
+    fn step_known(&mut self, piece: &[u8]) -> Result<(usize, bool), LayoutFault>
+        requires { IsFront self.old }
+        ensures ok { IfOk result (Advances self.old self.new piece.now) }
+        ensures err { IfErr result (Fails self.old piece.now) }
+    {
+        match self.field {
+            Open::ExactPlane => self.advance_exact(piece),
+            _ => self.step(piece),
+        }
+    }
+
+    /// `step`. The fields of a block that says none or all are most of a long part, so each of them has a copy of the
+    /// step in which the field is known.
+    #[inline(always)]
+    pub(crate) fn advance(&mut self, piece: &[u8]) -> Result<(usize, bool), LayoutFault>
+        requires { IsFront self.old }
+        ensures ok { IfOk result (Advances self.old self.new piece.now) }
+        ensures err { IfErr result (Fails self.old piece.now) }
+    {
+        match self.field {
+            Open::BlockIssuer => self.step(piece),
+            Open::BlockMode => self.step(piece),
+            _ => self.step_known(piece),
+        }
+    }
+
     /// Takes bytes of an approximate plane. Answers how many.
     #[inline(always)]
     fn take_plane(&mut self, piece: &[u8]) -> Result<usize, LayoutFault>
@@ -424,8 +477,8 @@ impl Machine {
         Ok(())
     }
 
-    /// Takes bytes up to the end of the open field, to that of a block's mode, or of planes that stand together. Answers how
-    /// many.
+    /// Takes bytes up to the end of the open field, to that of a block's mode, or of planes that stand together.
+    /// Answers how many.
     #[inline(always)]
     fn walk(&mut self, piece: &[u8]) -> Result<usize, LayoutFault>
         requires { IsFront self.old }
@@ -440,7 +493,7 @@ impl Machine {
         if is_approx_plane(self.field) {
             return self.take_planes(piece);
         }
-        let (n, _) = self.step(piece)?;
+        let (n, _) = self.step_known(piece)?;
         Ok(n)
     }
 

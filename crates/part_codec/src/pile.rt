@@ -278,6 +278,24 @@ impl Pile {
         }
     }
 
+    /// `put` of an approximate plane.
+    #[inline(always)]
+    pub(crate) fn put_plane(
+        &mut self,
+        alloc: Global,
+        kept: &Kept,
+        piece: &[u8],
+        whole: bool,
+    ) -> Result<(), NoMemory>
+        requires { whole ≡ true → CanCollect Open.ApproxPlane kept.now (pile_passed Open.ApproxPlane self.old piece.now) }
+        ensures { OnOk result (self.new ≡ pile_when whole Open.ApproxPlane kept.now (pile_passed Open.ApproxPlane self.old piece.now)) }
+    {
+        match whole {
+            true => self.approx_plane(alloc, kept, piece),
+            false => self.pass(Open::ApproxPlane, piece),
+        }
+    }
+
     pub(crate) fn lists(self) -> (Vec<Range>, Vec<Block>)
         ensures ranges { result.0.items ≡ self.ranges }
         ensures blocks { result.1.items ≡ self.blocks }

@@ -62,16 +62,8 @@ fn step_plane(
     ensures err { IfErr result (FailsRead machine.old pile.old piece.now) }
     ensures progress { IfOk result (λ n. 0 < length piece.now → 0 < n) }
 {
-    let field = machine.field;
     let (n, whole) = machine.advance_plane(piece)?;
-    pile.put(
-        alloc,
-        field,
-        &machine.kept,
-        &piece[..n],
-        whole,
-        piece.len() - n,
-    )?;
+    pile.put_plane(alloc, &machine.kept, &piece[..n], whole)?;
     Ok(n)
 }
 

@@ -1,7 +1,6 @@
-use Rattle.std.proofs.Common.{[], sym, ap, subst, ◌∙◌, arith}
+use Rattle.std.proofs.Common.{[], inl, sym, ap, subst, ◌∙◌, arith}
 use Rattle.part_codec.specs.declared.fields.Open.{Open}
 use Rattle.part_codec.specs.Stepping.{kept_after, open_after, AreLimits}
-use Rattle.part_codec.proofs.FieldSteps.{starts-steps}
 use Rattle.part_codec.proofs.WholePlanes.{plane-width, whole-room}
 use Rattle.part_codec.proofs.machine.Machine.pass_plane.Goals as goal
 
@@ -17,7 +16,7 @@ invariant_of-self c =
       before = omega arith;
       order = λ some. absurd (omega arith);
       starts = rw c.keep_plane.ensures m.starts;
-      room = omega (arith, whole-room m c.keep_plane.new.kept c.at_plane-self.result t [] limits kept next (plane-width m t c.requires.field c.requires.len));
+      room = omega (arith, whole-room m c.keep_plane.new.kept c.at_plane-self.result t [] limits kept next (plane-width m t (inl c.requires.field) c.requires.len));
     }
 
 pub returns-clause-kept : goal.returns-clause-kept
