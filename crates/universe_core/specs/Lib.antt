@@ -1,4 +1,4 @@
--- What a reader must believe: jobs and their formats, histories, groups, counts, ledgers and the step.
+-- What a reader must believe: jobs and their formats, histories, groups, counts, ledgers, the step and rebases.
 pub mod Jobs
 pub mod Formats
 pub mod History
@@ -7,6 +7,7 @@ pub mod Groups
 pub mod Counting
 pub mod Ledgers
 pub mod Step
+pub mod Rebases
 -- Words that only the clauses of the code's own helpers need, in its types.
 pub mod Following
 pub mod Enrolling

@@ -46,8 +46,8 @@ fn group(
     })
 }
 
-/// The groups of issuers, in their order.
-pub(crate) fn groups(
+/// The groups of issuers, in their order, where it is known of each identity whether it is revoked.
+pub fn groups(
     alloc: Global,
     issuers: &[Key32],
     items: &[LedgerItem],

@@ -32,4 +32,5 @@ pub use classing::class_of;
 pub use counts::Counts;
 pub use enrolling::is_enrolled;
 pub use fault::AdmitFault;
+pub use grouping::groups;
 pub use laws::enrolment_is_a_test;
