@@ -1,6 +1,6 @@
 use ident_core::{MAX_IDENTITIES, MAX_RANGES};
 
-/// What a job has a limited number of.
+/// What there is a limited number of: in a job, and of issuers in a ledger.
 #[derive(Clone, Copy, Debug, PartialEq, Eq)]
 pub enum What {
     Ranges,
@@ -9,6 +9,8 @@ pub enum What {
     Serials,
     Entries,
     Identities,
+    /// The different issuers that a ledger's parts have together.
+    Issuers,
 }
 
 /// How many of each a job may have.

@@ -215,6 +215,7 @@ what_word what.Crls = codes "crls"
 what_word what.Serials = codes "serials"
 what_word what.Entries = codes "entries"
 what_word what.Identities = codes "identities"
+what_word what.Issuers = codes "issuers"
 
 -- limit WHAT LIMIT NAME
 abbrev pub limit_line : What → ℕ → List ℕ → List ℕ

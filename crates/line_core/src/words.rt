@@ -100,5 +100,6 @@ pub fn what_text(what: What) -> &'static [u8]
         What::Serials => b"serials",
         What::Entries => b"entries",
         What::Identities => b"identities",
+        What::Issuers => b"issuers",
     }
 }

@@ -145,6 +145,7 @@ fn limit_lines(rt: HostRuntime) -> Result<(), Fail> {
         (What::Serials, 16_777_216, "limit serials 16777216 a.job\n"),
         (What::Entries, 4_194_304, "limit entries 4194304 a.job\n"),
         (What::Identities, 0, "limit identities 0 a.job\n"),
+        (What::Issuers, 65_535, "limit issuers 65535 a.job\n"),
     ];
     for (what, limit, want) in rows {
         compare(&rt, limit_line(what, limit, "a.job"), want)?;
