@@ -12,7 +12,7 @@ use log_core::Entry;
 use octets_core::Key32;
 use std::alloc::Global;
 use std::test::Fail;
-use universe_core::{AdmitFault, Admitted, Class, admit, first};
+use universe_core::{AdmitFault, Admitted, Class, Group, admit, first};
 
 const NOON: u64 = 1_700_000_000_000;
 
@@ -102,7 +102,7 @@ fn admit_few(alloc: Global, job: &Job, identities: u32) -> Result<Admitted, Admi
 }
 
 /// `first` with the published limits.
-fn admit_first(alloc: Global, job: &Job) -> Result<Admitted, AdmitFault> {
+pub(crate) fn admit_first(alloc: Global, job: &Job) -> Result<Admitted, AdmitFault> {
     admit_few(alloc, job, Limits::PUBLISHED.identities)
 }
 
@@ -294,7 +294,7 @@ fn second_job(alloc: Global) -> Result<Job, Fail> {
     Ok(second)
 }
 
-fn second_ledger(alloc: Global) -> Result<Ledger, Fail> {
+pub(crate) fn second_ledger(alloc: Global) -> Result<Ledger, Fail> {
     let ledger = first_ledger(alloc)?;
     let admitted = admit_behind(alloc, &ledger, &second_job(alloc)?)?;
     Ok(admitted.next.seal(Key32::new(TRAILERS[1])))
@@ -314,9 +314,9 @@ fn third_job(alloc: Global) -> Result<Job, Fail> {
 }
 
 /// Whether there is one group, of issuer `11`, with these serials and flags.
-fn has_group(
+pub(crate) fn has_group(
     alloc: Global,
-    admitted: &Admitted,
+    groups: &[Group],
     octets: &[u8],
     revoked: &[bool],
 ) -> Result<bool, Fail> {
@@ -324,7 +324,6 @@ fn has_group(
     for octet in octets {
         ids.push(identity(0x11, *octet)?)?;
     }
-    let groups = admitted.groups.as_slice();
     Ok(
         groups.len() == 1
             && groups.iter().all(|group| {
@@ -343,7 +342,7 @@ fn a_second_job_revokes_and_has_a_late_entry(rt: HostRuntime) -> Result<(), Fail
     assert_eq!(rt; numbers(&admitted), [1, 2, 1, 0, 0, 0, 1, 1]);
     assert_eq!(rt; admitted.head.kind(), Kind::Delta);
     assert_eq!(rt; admitted.head.parent(), Key32::new(TRAILERS[0]));
-    assert!(rt; has_group(alloc, &admitted, &[5, 6], &[true, false])?);
+    assert!(rt; has_group(alloc, &admitted.groups, &[5, 6], &[true, false])?);
     let next = admitted.next.seal(Key32::new(TRAILERS[1]));
     let items = [item(5, 0, Some(1), None)?, item(6, 1, None, None)?];
     assert_eq!(rt; next.items(), items.as_slice());
@@ -357,7 +356,7 @@ fn a_third_job_revokes_again_what_a_new_log_sees(rt: HostRuntime) -> Result<(), 
     let admitted = admit_behind(alloc, &ledger, &third_job(alloc)?)?;
     assert_eq!(rt; numbers(&admitted), [1, 3, 1, 0, 0, 0, 0, 2]);
     assert_eq!(rt; admitted.head.parent(), Key32::new(TRAILERS[1]));
-    assert!(rt; has_group(alloc, &admitted, &[5, 6, 8], &[true, false, false])?);
+    assert!(rt; has_group(alloc, &admitted.groups, &[5, 6, 8], &[true, false, false])?);
     let next = admitted.next.seal(Key32::new([0x99; 32]));
     let items = [
         item(5, 0, Some(2), None)?,
@@ -378,7 +377,7 @@ fn date(job: &mut Job, dates: &[Option<i64>]) {
 }
 
 /// A job of epoch 1 with two entries of serials 5 and 6 and one of 7. One of 6 has no date.
-fn first_dated_job(alloc: Global) -> Result<Job, Fail> {
+pub(crate) fn first_dated_job(alloc: Global) -> Result<Job, Fail> {
     let rows = [
         (0x11, 5, 0),
         (0x11, 5, 1),

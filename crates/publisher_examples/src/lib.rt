@@ -1,4 +1,4 @@
-//! Worked examples of the layers of the publisher: ledgers, admission, building a part, parts of both versions,
+//! Worked examples of the layers of the publisher: ledgers, admission, rebases, building a part, parts of both versions,
 //! made jobs, and printed lines.
 #![tactic(auto)]
 
@@ -10,6 +10,8 @@ mod builds;
 mod ledgers;
 #[cfg(test)]
 mod lines;
+#[cfg(test)]
+mod rebases;
 #[cfg(test)]
 mod samples;
 #[cfg(test)]

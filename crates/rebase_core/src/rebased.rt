@@ -1,0 +1,16 @@
+use ident_core::Head;
+use ledger_core::Draft;
+use universe_core::Group;
+
+/// What a ledger is rebased to: the first part of a new chain, and its ledger.
+#[derive(Debug, Drop)]
+pub struct Rebased {
+    /// The head of the part, a snapshot.
+    pub head: Head,
+    /// One for each issuer that was enrolled in some part of the old chain, ascending.
+    pub groups: Vec<Group>,
+    /// How many identities have expired, and aren't kept.
+    pub pruned: u32,
+    /// The new ledger, but for the trailer of its part.
+    pub next: Draft,
+}
