@@ -12,4 +12,8 @@ pub mod Publishing
 pub mod Answers
 pub mod Words
 pub mod Beginnings
+pub mod Bases
+pub mod Kept
+pub mod BaseLedgers
+pub mod BaseAnswers
 pub mod Computed

@@ -127,6 +127,12 @@ pub listed_in_words : (x : Identity) (jobs : List Job) (rs : List Release) → A
 unfolding is_listed birth
 listed_in_words x jobs rs z w = listed_all x jobs rs z w
 
+-- behind a base: the base lists it, or such a job does
+pub listed_behind : (x : Identity) (jobs : List Job) (base : Release) (rs : List Release) → AllZip Leaves jobs rs → Widens (base ∷ rs)
+    → is_listed (base ∷ rs) x ≡ (has base.listed x || list_any (λ job. lists job x && has_key (enrolled job) x.issuer) (drop (birth x rs) jobs))
+unfolding is_listed
+listed_behind x jobs base rs z w = ap (λ b. has base.listed x || b) (listed_in_words x jobs rs z w.1)
+
 -- each release leaves what its job says
 pub leaves : (past : Past) (job : Job) (trailer : List ℕ) → Leaves job (released past job trailer)
 unfolding listed_now universe

@@ -1,4 +1,4 @@
-ghost use Rattle.std.specs.Prelude.{◌≡◌, ℕ, List, [], ◌∷◌, ◌++◌, ◌+◌, ◌&&◌, not, Bool, true, map, drop, length, Some, None, is_some};
+ghost use Rattle.std.specs.Prelude.{◌≡◌, ℕ, List, [], ◌∷◌, ◌++◌, ◌+◌, ◌&&◌, ◌||◌, not, Bool, true, map, drop, length, Some, None, is_some};
 ghost use Rattle.std.specs.Prelude.{ℤ, pos, Option};
 ghost use Rattle.std.specs.List.{AllZip, list_any, slice_get};
 ghost use Rattle.ident_core.specs.declared.identity.Identity.{Identity};
@@ -6,20 +6,23 @@ ghost use Rattle.ident_core.specs.declared.range.Sighting.{Sighting};
 ghost use Rattle.ident_core.specs.Coverage.{covers};
 ghost use Rattle.job_core.specs.declared.bounds.Limits.{Limits};
 ghost use Rattle.job_core.specs.JobFields.{JobFields};
+ghost use Rattle.ledger_core.specs.declared.fields.LedgerItem.{LedgerItem};
 ghost use Rattle.sets_core.specs.Among.{Among};
 ghost use Rattle.sets_core.specs.Sets.{has, has_key};
 ghost use Rattle.universe_core.specs.Jobs.{Job, facts_of, enrolled, lists};
 ghost use Rattle.universe_core.specs.History.{Release, Past, past_of, released, releases, seen, sightings, birth, is_listed, is_settled_by, revoked, universe};
-ghost use Rattle.universe_core.specs.Dates.{IsGreatest, greatest as greatest_of};
+ghost use Rattle.universe_core.specs.Dates.{IsGreatest, greatest as greatest_of, until};
 ghost use Rattle.universe_core.specs.Groups.{GroupFields, groups};
 ghost use Rattle.universe_core.specs.Counting.{count, counts};
 ghost use Rattle.universe_core.specs.declared.class.Class.TheVariants.{Unread, Uncovered, Unenrolled, Late, Accepted};
-ghost use Rattle.universe_core.specs.Ledgers.{no_ledger, past_in, next_ledger, ledger_of, last};
+ghost use Rattle.universe_core.specs.Ledgers.{no_ledger, past_in, next_ledger, item_from, ledger_of, last};
+ghost use Rattle.universe_core.specs.Rebases.{is_lasting, rebased_head, rebased_groups, rebased_ledger};
 ghost use Rattle.universe_core.specs.Step.{refusal, groups_after, counts_after};
 ghost use Rattle.history_core.specs.Facts.{IsSound, KeepsCoverage, AllKeepCoverage, Leaves, Widens};
-ghost use Rattle.history_core.specs.Showing.{PartView, Shows, answers_of};
+ghost use Rattle.history_core.specs.Showing.{PartView, Shows, answers_of, said};
 ghost use Rattle.history_core.specs.Publishing.{IsExact, part_of};
 ghost use Rattle.history_core.specs.Beginnings.{sees};
+ghost use Rattle.history_core.specs.Bases.{kept_by, base_with, base_head, base_at};
 ghost use Rattle.history_core.specs.Example.{certificate, second_job, after_first};
 
 /// The facts hold of no release, and each job that isn't refused keeps them, from any state in which they hold
@@ -73,10 +76,43 @@ pub fn last_part_covers()
     ensures listed { (rs : List Release) (x : Identity) → IsSound rs → is_some (last x rs) ≡ is_listed rs x }
 {}
 
+/// A base stands for its history, whichever identities it keeps. The facts hold of it alone (`sound`), and so after each
+/// job behind it. It knows of an identity that it keeps what the history does: its accepted sightings, its date, and
+/// whether it is listed. So a rebase keeps the verdicts: asked with accepted sightings of such an identity, the part of
+/// the base says what the parts of the history say together (`said`).
+pub fn base_stands_for_its_history()
+    ensures sound { (keeps : Identity → Bool) (rs : List Release) (trailer : List ℕ) → IsSound rs → IsSound (base_with keeps rs trailer ∷ []) }
+    ensures kept_sightings { (keeps : Identity → Bool) (rs : List Release) (trailer : List ℕ) (x : Identity) → has (kept_by keeps rs) x ≡ true
+        → sightings x (seen (base_with keeps rs trailer ∷ [])) ≡ sightings x (seen rs) }
+    ensures kept_date { (keeps : Identity → Bool) (rs : List Release) (trailer : List ℕ) (x : Identity) → has (kept_by keeps rs) x ≡ true
+        → until x (base_with keeps rs trailer ∷ []) ≡ until x rs }
+    ensures kept_listing { (keeps : Identity → Bool) (rs : List Release) (trailer : List ℕ) (x : Identity) → has (kept_by keeps rs) x ≡ true
+        → is_listed (base_with keeps rs trailer ∷ []) x ≡ is_listed rs x }
+    ensures verdicts { (keeps : Identity → Bool) (parts : List PartView) (part : PartView) (rs : List Release) (trailer : List ℕ)
+        (x : Identity) (s : Sighting) (ss : List Sighting) → IsSound rs → AllZip Shows parts rs → Shows part (base_with keeps rs trailer)
+        → has (kept_by keeps rs) x ≡ true → ((t : Sighting) → Among (s ∷ ss) t → Among (sightings x (seen rs)) t)
+        → said (answers_of x (s ∷ ss) parts) ≡ said (answers_of x (s ∷ ss) (part ∷ [])) }
+{}
+
+/// What a rebase makes of the ledger of a history is what the base of that history makes: the head of its part, its
+/// groups and its ledger, whichever items are kept. Those that have not expired at a moment are those of the identities
+/// of the history that haven't (`at_a_moment`).
+pub fn rebase_makes_the_base()
+    ensures head { (rs : List Release) → rebased_head (ledger_of rs).parts ≡ base_head rs }
+    ensures groups { (keeps : LedgerItem → Bool) (rs : List Release) (trailer : List ℕ) → IsSound rs
+        → rebased_groups keeps (ledger_of rs) ≡ groups (base_with (λ x. keeps (item_from rs x)) rs trailer) }
+    ensures ledger { (keeps : LedgerItem → Bool) (rs : List Release) (trailer : List ℕ) → IsSound rs
+        → rebased_ledger keeps (ledger_of rs) trailer ≡ ledger_of (base_with (λ x. keeps (item_from rs x)) rs trailer ∷ []) }
+    ensures at_a_moment { (moment : ℕ) (rs : List Release) (trailer : List ℕ) → IsSound rs
+        → (rebased_groups (is_lasting moment) (ledger_of rs) ≡ groups (base_at moment rs trailer))
+        × (rebased_ledger (is_lasting moment) (ledger_of rs) trailer ≡ ledger_of (base_at moment rs trailer ∷ [])) }
+{}
+
 /// The definitions in other words. The revoked set: of the universe, what is listed up to now, without what an earlier
 /// part revokes while it covers all its sightings. Listed: some job since the identity's birth enrolls its issuer and
 /// lists it; of any releases that leave what their jobs say (`listed`). No releases and no jobs are so, and a job more
 /// with what it leaves keeps it (`leaves_none`, `leaves_more`), so those of a history are (`leaves`, `listed_by_jobs`).
+/// Behind a base: the base lists it, or such a job does (`listed_behind`).
 /// The five classes add up to the entries. The greatest of some dates is none where there is none or one isn't told,
 /// and else one of them that no other is above (`greatest`).
 pub fn words_hold()
@@ -87,6 +123,9 @@ pub fn words_hold()
         && has (universe (past_of rs) job) x) }
     ensures listed { (x : Identity) (jobs : List Job) (rs : List Release) → AllZip Leaves jobs rs → Widens rs
         → is_listed rs x ≡ list_any (λ job. lists job x && has_key (enrolled job) x.issuer) (drop (birth x rs) jobs) }
+    ensures listed_behind { (x : Identity) (jobs : List Job) (base : Release) (rs : List Release) → AllZip Leaves jobs rs → Widens (base ∷ rs)
+        → is_listed (base ∷ rs) x
+        ≡ (has base.listed x || list_any (λ job. lists job x && has_key (enrolled job) x.issuer) (drop (birth x rs) jobs)) }
     ensures leaves_none { AllZip Leaves [] [] }
     ensures leaves_more { (jobs : List Job) (job : Job) (rs : List Release) (trailer : List ℕ) → AllZip Leaves jobs rs
         → AllZip Leaves (jobs ++ job ∷ []) (rs ++ released (past_of rs) job trailer ∷ []) }
