@@ -1,8 +1,8 @@
 -- The files that a command reads and writes.
 use Rattle.std.specs.Prelude.{ℕ, List, [], ◌∷◌}
 use Rattle.word_core.specs.declared.command.Command.{Command}
-use Rattle.word_core.specs.declared.command.Command.TheVariants.{Usage, Query, QueryCert, Check, Show, Snapshot}
-use Rattle.word_core.specs.declared.command.Command.TheVariants.{Delta, Start, Install, Rehearse, Sample, Gather, Audit}
+use Rattle.word_core.specs.declared.command.Command.TheVariants.{Usage, Query, QueryCert, Check, Show, Snapshot, Delta}
+use Rattle.word_core.specs.declared.command.Command.TheVariants.{Rebase, Start, Install, Rehearse, Sample, Gather, Audit}
 
 -- the names of the files that a command reads, in the order of reading
 abbrev pub inputs_of : Command → List (List ℕ)
@@ -13,6 +13,7 @@ inputs_of (Check name) = name ∷ []
 inputs_of (Show name) = name ∷ []
 inputs_of (Snapshot snapshot) = snapshot.job ∷ []
 inputs_of (Delta delta) = delta.job ∷ delta.ledger ∷ []
+inputs_of (Rebase rebase) = rebase.ledger ∷ []
 inputs_of (Start start) = start.part ∷ []
 inputs_of (Install install) = install.store ∷ install.part ∷ []
 inputs_of (Rehearse rehearse) = rehearse.queries ∷ rehearse.jobs
@@ -29,6 +30,7 @@ outputs_of (Check name) = []
 outputs_of (Show name) = []
 outputs_of (Snapshot snapshot) = snapshot.part ∷ snapshot.ledger ∷ []
 outputs_of (Delta delta) = delta.part ∷ delta.new_ledger ∷ []
+outputs_of (Rebase rebase) = rebase.part ∷ rebase.new_ledger ∷ []
 outputs_of (Start start) = start.store ∷ []
 outputs_of (Install install) = install.new_store ∷ []
 outputs_of (Rehearse rehearse) = []

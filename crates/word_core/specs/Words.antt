@@ -10,7 +10,7 @@ use Rattle.hex.specs.declared.error.FromHexError.{FromHexError}
 use Rattle.octets_core.specs.Layout.{within}
 use Rattle.ident_core.specs.declared.bounds.TheConstants.{MAX_PARTS, MAX_WORKERS, MAX_SAMPLE}
 use Rattle.ident_core.specs.declared.range.Sighting.{Sighting}
-use Rattle.word_core.specs.CommandFields.{QueryFields, QueryCertFields, SnapshotFields, DeltaFields}
+use Rattle.word_core.specs.CommandFields.{QueryFields, QueryCertFields, SnapshotFields, DeltaFields, RebaseFields}
 use Rattle.word_core.specs.CommandFields.{StartFields, InstallFields, RehearseFields, AuditFields, SampleFields, GatherFields}
 use Rattle.word_core.specs.declared.publishing.TheConstants.{MAX_PAGES}
 use Rattle.word_core.specs.declared.command.Command.{Command}
@@ -130,6 +130,20 @@ delta_of (job ∷ ledger ∷ part ∷ new_ledger ∷ workers ∷ []) = do
   if are_apart (job ∷ ledger ∷ []) (part ∷ new_ledger ∷ []) then named_delta job ledger part new_ledger n else None
 delta_of words = None
 
+abbrev pub named_rebase : (ledger : List ℕ) (moment : ℕ) (part new_ledger : List ℕ) → ℕ → Option RebaseFields
+named_rebase ledger moment part new_ledger workers = do
+  l ← name_of ledger
+  outputs ← two_names_of part new_ledger
+  Some (record { ledger = l; moment = moment; part = outputs.0; new_ledger = outputs.1; workers = workers })
+
+-- LEDGER MOMENT PART NEWLEDGER WORKERS
+abbrev pub rebase_of : List (List ℕ) → Option RebaseFields
+rebase_of (ledger ∷ moment ∷ part ∷ new_ledger ∷ workers ∷ []) = do
+  m ← number_of moment
+  n ← workers_of workers
+  if are_apart (ledger ∷ []) (part ∷ new_ledger ∷ []) then named_rebase ledger m part new_ledger n else None
+rebase_of words = None
+
 -- PART STORE
 abbrev pub start_of : List (List ℕ) → Option StartFields
 start_of (part ∷ store ∷ []) = do
@@ -223,6 +237,7 @@ command_of (command ∷ words) =
     else if bytes_eq command (codes "show") then asks commands.Show (name_alone words)
     else if bytes_eq command (codes "snapshot") then asks commands.Snapshot (snapshot_of words)
     else if bytes_eq command (codes "delta") then asks commands.Delta (delta_of words)
+    else if bytes_eq command (codes "rebase") then asks commands.Rebase (rebase_of words)
     else if bytes_eq command (codes "start") then asks commands.Start (start_of words)
     else if bytes_eq command (codes "install") then asks commands.Install (install_of words)
     else if bytes_eq command (codes "rehearse") then asks commands.Rehearse (rehearse_of words)

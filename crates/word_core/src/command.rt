@@ -1,6 +1,6 @@
 //! What the words of a call ask for, and the commands that ask about a certificate.
 
-use crate::publishing::{Delta, Gather, Snapshot};
+use crate::publishing::{Delta, Gather, Rebase, Snapshot};
 use crate::storing::{Install, Start};
 use crate::trying::{Audit, Rehearse, Sample};
 use ident_core::{Identity, Sighting};
@@ -159,6 +159,8 @@ pub enum Command<'a> {
     Snapshot(Snapshot<'a>),
     /// To publish a job behind the part before: its part and its ledger.
     Delta(Delta<'a>),
+    /// To begin a chain anew from a ledger, without what has expired: its part and its ledger.
+    Rebase(Rebase<'a>),
     /// To begin a store with a part.
     Start(Start<'a>),
     /// To add a part to a store.

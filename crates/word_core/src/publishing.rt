@@ -1,4 +1,4 @@
-//! The commands that make a job from a log's pages, and publish one.
+//! The commands that make a job from a log's pages, publish one, and begin a chain anew.
 
 use crate::command::FileName;
 use octets_core::Key32;
@@ -215,6 +215,90 @@ impl<'a> Delta<'a> {
         ensures { result.now ≡ self.now.ledger }
     {
         self.ledger.as_str()
+    }
+
+    /// The name of the file that the part is written to.
+    pub fn part(&self) -> &'a str
+        ensures { result.now ≡ self.now.part }
+    {
+        self.part.as_str()
+    }
+
+    /// The name of the file that the part's ledger is written to.
+    pub fn new_ledger(&self) -> &'a str
+        ensures { result.now ≡ self.now.new_ledger }
+    {
+        self.new_ledger.as_str()
+    }
+
+    /// How many workers build the part.
+    pub fn workers(&self) -> u32
+        ensures value { result ≡ self.now.workers }
+        ensures bounds { (1 ≤ result) × (result ≤ MAX_WORKERS) }
+    {
+        self.workers
+    }
+}
+
+/// A chain to be begun anew from a ledger, without what has expired before a moment.
+#[derive(Debug, Drop)]
+pub struct Rebase<'a> {
+    ledger: FileName<'a>,
+    moment: u64,
+    part: FileName<'a>,
+    new_ledger: FileName<'a>,
+    workers: u32,
+}
+
+impl<'a> Model for Rebase<'a> {
+    ghost use Rattle.std.specs.Prelude.{◌≤◌};
+    ghost use Rattle.word_core.specs.CommandFields.{RebaseFields};
+    ghost use Rattle.ident_core.specs.declared.bounds.TheConstants.{MAX_WORKERS};
+
+    ghost Value = { RebaseFields };
+
+    ghost view = { λ r. record { ledger = r.ledger; moment = r.moment; part = r.part; new_ledger = r.new_ledger; workers = r.workers } };
+
+    ghost invariant = { λ r. (1 ≤ r.workers) × (r.workers ≤ MAX_WORKERS) };
+}
+
+impl<'a> Rebase<'a> {
+    ghost use Rattle.std.specs.Prelude.{◌≡◌, ◌≤◌};
+    ghost use Rattle.ident_core.specs.declared.bounds.TheConstants.{MAX_WORKERS};
+
+    /// The ledger in the file `ledger` without what has expired at `moment`, in milliseconds, to be built by so many
+    /// workers and written to the files `part` and `new_ledger`.
+    pub fn new(
+        ledger: FileName<'a>,
+        moment: u64,
+        part: FileName<'a>,
+        new_ledger: FileName<'a>,
+        workers: u32,
+    ) -> Rebase<'a>
+        requires { (1 ≤ workers) × (workers ≤ MAX_WORKERS) }
+        ensures { result ≡ record { ledger = ledger.entry; moment = moment; part = part.entry; new_ledger = new_ledger.entry; workers = workers } }
+    {
+        Rebase {
+            ledger,
+            moment,
+            part,
+            new_ledger,
+            workers,
+        }
+    }
+
+    /// The name of the file that holds the ledger of the chain so far.
+    pub fn ledger(&self) -> &'a str
+        ensures { result.now ≡ self.now.ledger }
+    {
+        self.ledger.as_str()
+    }
+
+    /// The moment, in milliseconds, before which what has expired is left out.
+    pub fn moment(&self) -> u64
+        ensures { result ≡ self.now.moment }
+    {
+        self.moment
     }
 
     /// The name of the file that the part is written to.

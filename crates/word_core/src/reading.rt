@@ -4,10 +4,11 @@ ghost use Rattle.std.specs.Prelude.{◌≡◌, ◌≤◌, ℕ, List, ◌∷◌, 
 ghost use Rattle.std.specs.Option.{option_map};
 ghost use Rattle.ident_core.specs.declared.bounds.TheConstants.{MAX_PARTS, MAX_WORKERS};
 ghost use Rattle.word_core.specs.Words.{command_of, query_of, query_cert_of, name_alone, snapshot_of};
-ghost use Rattle.word_core.specs.Words.{named_delta, delta_of, start_of, install_of, jobs_of, rehearse_of, audit_of, sample_of, gather_of, named_gather};
+ghost use Rattle.word_core.specs.Words.{named_delta, delta_of, named_rebase, rebase_of, start_of, install_of, jobs_of, rehearse_of, audit_of};
+ghost use Rattle.word_core.specs.Words.{sample_of, gather_of, named_gather};
 
 use crate::command::{Command, FileName, Query, QueryCert};
-use crate::publishing::{Delta, Gather, MAX_PAGES, Snapshot};
+use crate::publishing::{Delta, Gather, MAX_PAGES, Rebase, Snapshot};
 use crate::storing::{Install, Start};
 use crate::trying::{Audit, Rehearse, Sample};
 use crate::words::{
@@ -113,6 +114,43 @@ fn read_delta(words: &[String]) -> Option<Delta<'_>>
     delta_named(
         job.as_str(),
         ledger.as_str(),
+        part.as_str(),
+        new_ledger.as_str(),
+        workers,
+    )
+}
+
+/// The chain begun anew with names that words spell, if each spells one.
+fn rebase_named<'a>(
+    ledger: &'a str,
+    moment: u64,
+    part: &'a str,
+    new_ledger: &'a str,
+    workers: u32,
+) -> Option<Rebase<'a>>
+    requires { (1 ≤ workers) × (workers ≤ MAX_WORKERS) }
+    ensures { result ≡ named_rebase ledger.now moment part.now new_ledger.now workers }
+{
+    let ledger = read_name(ledger)?;
+    let (part, new_ledger) = read_two_names(part, new_ledger)?;
+    Some(Rebase::new(ledger, moment, part, new_ledger, workers))
+}
+
+/// The chain begun anew that words spell, if they spell one.
+fn read_rebase(words: &[String]) -> Option<Rebase<'_>>
+    ensures { result ≡ rebase_of (map string_bytes words.now) }
+{
+    let [ledger, moment, part, new_ledger, workers] = words else {
+        return None;
+    };
+    if !are_apart(&words[..1], &words[2..4]) {
+        return None;
+    }
+    let moment = number_word(moment.as_str())?;
+    let workers = workers_word(workers.as_str())?;
+    rebase_named(
+        ledger.as_str(),
+        moment,
         part.as_str(),
         new_ledger.as_str(),
         workers,
@@ -285,6 +323,7 @@ fn read_command<'a>(
         "show" => Ok(read_name_alone(rest).map_or(Command::Usage, Command::Show)),
         "snapshot" => Ok(read_snapshot(rest).map_or(Command::Usage, Command::Snapshot)),
         "delta" => Ok(read_delta(rest).map_or(Command::Usage, Command::Delta)),
+        "rebase" => Ok(read_rebase(rest).map_or(Command::Usage, Command::Rebase)),
         "start" => Ok(read_start(rest).map_or(Command::Usage, Command::Start)),
         "install" => Ok(read_install(rest).map_or(Command::Usage, Command::Install)),
         "rehearse" => Ok(read_rehearse(alloc, rest)?.map_or(Command::Usage, Command::Rehearse)),
