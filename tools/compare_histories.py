@@ -37,7 +37,7 @@ from reference import (
     store,
     verdict,
 )
-from reference_files import JobFile, audit, read_ledger_fields, rehearse
+from reference_files import JobFile, audit, read_ledger, rehearse
 
 PROGRAM = path_of_program()
 
@@ -129,7 +129,7 @@ def put(path, data):
 
 def compare_files(rng, history, parts, at):
     """Publishes each job and installs its part."""
-    for i, job in enumerate(history.jobs):
+    for i, job in enumerate(history.members):
         put(at("job"), job.bytes())
         workers = str(rng.choice([1, 2, 64]))
         if i == 0:
@@ -141,7 +141,7 @@ def compare_files(rng, history, parts, at):
         same(f"report {i}", told, (0, history.report(i) + "\n"))
         same(f"store line {i}", stored, (0, f"store parts {i + 1} epoch {job.epoch}\n"))
         same(f"part {i}", held(at("part")), parts[i].bytes)
-        same(f"ledger {i}", held(at(f"ledger{i}")), history.ledger(i))
+        same(f"ledger {i}", held(at(f"ledger{i}")), history.ledger(i).bytes)
         same(f"store {i}", held(at(f"store{i}")), store(parts[: i + 1]))
 
 
@@ -152,23 +152,23 @@ def compare_undated(rng, jobs, at):
     history = history_of(tuple(old + [jobs[place]]))
     put(at("job"), jobs[place].bytes())
     for version in (1, 2):
-        put(at("undated"), history.ledger(place - 1, version))
+        put(at("undated"), history.ledger(place - 1).written(version))
         told = run("delta", at("job"), at("undated"), at("part"), at("ledger"), "1")
         same(f"report behind version {version}", told, (0, history.report(place) + "\n"))
         same(f"part behind version {version}", held(at("part")), history.parts()[place].bytes)
-        same(f"ledger behind version {version}", held(at("ledger")), history.ledger(place))
+        same(f"ledger behind version {version}", held(at("ledger")), history.ledger(place).bytes)
 
 
 def compare_damaged_ledgers(rng, history, at):
     """Refuses a job behind ledgers that break the layout. Gives how many do."""
-    place, faults = rng.randrange(1, len(history.jobs)), 0
-    put(at("job"), history.jobs[place].bytes())
+    place, faults = rng.randrange(1, len(history.members)), 0
+    put(at("job"), history.members[place].bytes())
     for _ in range(4):
-        data = damaged(rng, history.ledger(place - 1))
+        data = damaged(rng, history.ledger(place - 1).bytes)
         data = rng.choice([data, data[:-32] + sha(data[:-32])])
         put(at("damaged"), data)
         try:
-            read_ledger_fields(data)
+            read_ledger(data)
         except Refused as refused:
             told = run("delta", at("job"), at("damaged"), at("unwritten"), at("unwritten too"), "1")
             same("damaged ledger", told, (refused.status, refused.line(at("damaged"))))
@@ -184,7 +184,7 @@ def ask(path, identity, sightings):
 
 def random_queries(rng, history, parts, accepted, others):
     """Accepted certificates, each with the history's truth, and others, each with the verdict of the parts."""
-    last = len(history.jobs) - 1
+    last = len(history.members) - 1
     known = sorted(history.identities(last))
     queries = []
     for x in rng.sample(known, min(len(known), accepted)):
@@ -194,7 +194,7 @@ def random_queries(rng, history, parts, accepted, others):
     for _ in range(others):
         issuer = rng.choice(known)[0] if known and rng.random() < 0.7 else random_octets(rng, 32)
         serial = random_octets(rng, rng.randint(1, 32))
-        log, first, until = rng.choice(history.jobs[-1].ranges)
+        log, first, until = rng.choice(history.members[-1].ranges)
         x, some = (issuer, len(serial), serial), [(log, rng.randint(first - 30, until + 30))]
         queries.append((x, some, verdict(parts, x, some)))
     return queries
@@ -252,13 +252,13 @@ def compare_rehearsal(rng, history, parts, at):
     asked = random_queries(rng, history, parts, 30, 10)
     rng.shuffle(asked)
     queries = queries_bytes([(x, some) for x, some, _ in asked])
-    texts = [(job, job.bytes()) for job in history.jobs]
+    texts = [(job, job.bytes()) for job in history.members]
     changed = rng.random() < 0.5
     if changed and rng.random() < 0.3:
         queries = damaged(rng, queries)
     elif changed:
         place = rng.randint(0, len(texts))
-        texts.insert(place, misfit(rng, history.jobs, place))
+        texts.insert(place, misfit(rng, history.members, place))
     put(at("queries"), queries)
     files = [JobFile(at(f"job{i}"), data, job) for i, (job, data) in enumerate(texts)]
     for file in files:
@@ -275,10 +275,10 @@ def compare_rehearsal(rng, history, parts, at):
 def compare_audit(rng, history, parts, at):
     """Audits the store of all parts, or of the first ones, by all jobs. Gives whether it agrees."""
     last = rng.choice([len(parts) - 1] * 2 + list(range(len(parts))))
-    texts = [(job, job.bytes()) for job in history.jobs]
+    texts = [(job, job.bytes()) for job in history.members]
     if rng.random() < 0.2:
         place = rng.randint(0, len(texts))
-        texts.insert(place, misfit(rng, history.jobs, place))
+        texts.insert(place, misfit(rng, history.members, place))
     files = [JobFile(at(f"audited{i}"), data, job) for i, (job, data) in enumerate(texts)]
     for file in files:
         if file.data is not None:
@@ -309,8 +309,8 @@ def main():
             at = functools.partial(os.path.join, folder)
             try:
                 compare_files(rng, history, parts, at)
-                if len(history.jobs) > 1:
-                    compare_undated(rng, history.jobs, at)
+                if len(history.members) > 1:
+                    compare_undated(rng, history.members, at)
                     faults += compare_damaged_ledgers(rng, history, at)
                 asked += compare_answers(rng, history, parts, at(f"store{len(parts) - 1}"))
                 rehearsed = compare_rehearsal(rng, history, parts, at)

@@ -213,7 +213,7 @@ def compare_history(rng, history, at):
 
 def compare_published(history, at):
     """Publishes the jobs, in the format in which they are taken."""
-    first, second = history.jobs
+    first, second = history.members
     put(at("job0"), first.bytes())
     put(at("job1"), second.bytes())
     for workers in "18":
@@ -224,7 +224,7 @@ def compare_published(history, at):
         for i, part in enumerate(history.parts()):
             if held(at(f"part{i}")) != part.bytes:
                 raise AssertionError(f"part {i} differs in the format {CURRENT} with {workers} workers")
-            if held(at(f"ledger{i}")) != history.ledger(i):
+            if held(at(f"ledger{i}")) != history.ledger(i).bytes:
                 raise AssertionError(f"ledger {i} differs in the format {CURRENT} with {workers} workers")
 
 

@@ -1,6 +1,6 @@
 #!/usr/bin/env python3
-"""An independent reference of the rules: parts, ledgers, stores and verdicts from jobs, and jobs of the generator. What
-comes of files, of rehearsals and of audits stands in tools/reference_files.py.
+"""An independent reference of the rules: parts, ledgers, stores and verdicts from jobs, chains begun anew, and jobs of
+the generator. What comes of files, of rehearsals and of audits stands in tools/reference_files.py.
 
 Written from the rules and layouts (docs/ARCHITECTURE.md, docs/FORMATS.md) and not from the program. The sets of a
 history are worked out by their definitions over all its jobs (not from a birth and a last part), systems are solved by
@@ -12,6 +12,7 @@ entries.
 import datetime
 import functools
 import hashlib
+import typing
 
 from sample_reference import sample as sample_text
 
@@ -104,8 +105,17 @@ class Entry:
         self.leaf = leaf
 
 
-class Job:
+class Member:
+    """What a history has one behind the other: jobs, or a base and jobs behind it."""
+
+    def covers(self, log, time):
+        return any(l == log and a <= time <= b for l, a, b in self.ranges)
+
+
+class Job(Member):
     """A job, with the format in which it is taken. Its bytes don't tell the format."""
+
+    held = ()
 
     def __init__(self, epoch, moment, ranges, crls, entries, taken=CURRENT):
         self.epoch, self.moment, self.ranges, self.crls, self.entries = epoch, moment, ranges, crls, entries
@@ -122,9 +132,6 @@ class Job:
 
     def bytes(self):
         return b"".join(self.records())
-
-    def covers(self, log, time):
-        return any(l == log and a <= time <= b for l, a, b in self.ranges)
 
     @functools.lru_cache(maxsize=None)
     def enrolled(self):
@@ -260,6 +267,15 @@ def shift_in(taken, universe, revoked):
     if taken == PLAIN or revoked in (0, universe) or universe < 32768:
         return 0
     return max(shift for shift in range(9) if 2**shift * 16384 <= universe)
+
+
+def build_blocks(issuers, universe, revoked, taken):
+    """A block for each issuer, of its identities in the universe and of those of them that are revoked."""
+
+    def of(issuer, identities):
+        return [x for x in identities if x[0] == issuer]
+
+    return [(issuer, build_block(issuer, of(issuer, universe), set(of(issuer, revoked)), taken)) for issuer in issuers]
 
 
 def build_sharded(issuer, universe, revoked, shift):
@@ -417,40 +433,135 @@ def text_of(lines):
     return "".join(line + "\n" for line in lines)
 
 
-class History:
-    """The sets of a history of jobs, by their definitions over all of its jobs."""
+class LedgerPart(typing.NamedTuple):
+    """What a ledger remembers of a part. The issuers are ascending."""
 
-    def __init__(self, jobs):
-        self.jobs = jobs
-        self.named = []  # per job: the identities of its accepted entries
-        self.seen = {}  # per identity: (job, (log, time), date) of each of its accepted entries
-        self.accepted = []  # per job: the places of its accepted entries, among all of its own
+    epoch: int
+    trailer: bytes
+    ranges: list
+    issuers: list
+
+
+class LedgerItem(typing.NamedTuple):
+    """What a ledger remembers of an identity: the places of the first part whose job accepted it and of the last one
+    that revoked it (None: none did), and its date (None: it has none)."""
+
+    identity: tuple
+    birth: int
+    last: typing.Optional[int]
+    until: typing.Optional[int]
+
+    def bytes(self, version):
+        (issuer, length, serial), birth, last, until = self
+        out = issuer + bytes([length]) + serial + bytes([birth, 255 if last is None else last])
+        if version == 1:
+            assert until is None, "version 1 has no dates"
+            return out
+        return out + (b"\0" if until is None else b"\1" + until.to_bytes(8, "big", signed=True))
+
+
+class Ledger:
+    """A ledger. It is written in version 2. Its identities are ascending."""
+
+    def __init__(self, parts, items):
+        self.parts, self.items = parts, items
+        self.bytes = self.written(2)
+
+    def written(self, version):
+        """Its text in a version. In version 1, which has no dates, that of a ledger without any."""
+        out = b"CLUBLEDG" + bytes([version, len(self.parts)])
+        for part in self.parts:
+            out += be(part.epoch, 8) + part.trailer + ranges_bytes(part.ranges)
+            out += be(len(part.issuers), 4) + b"".join(part.issuers)
+        out += be(len(self.items), 4) + b"".join(item.bytes(version) for item in self.items)
+        return out + sha(out)
+
+
+# ---------- chains begun anew ----------
+def is_expired(until, moment):
+    return until is not None and 1000 * until < moment
+
+
+def rebased(ledger, moment):
+    """What any ledger comes to without what has expired at a moment: the part, its ledger, and the line."""
+    newest = ledger.parts[-1]
+    issuers = sorted({issuer for part in ledger.parts for issuer in part.issuers})
+    if len(issuers) > 65535:
+        raise Refused(6, "limit issuers 65535")
+    kept = [item for item in ledger.items if not is_expired(item.until, moment)]
+    revoked = [item.identity for item in kept if item.last is not None]
+    blocks = build_blocks(issuers, [item.identity for item in kept], revoked, DATED)
+    part = Part(0, newest.epoch, bytes(32), newest.ranges, blocks)
+    items = [LedgerItem(item.identity, 0, None if item.last is None else 0, item.until) for item in kept]
+    line = (
+        f"rebase epoch {part.epoch} issuers {len(issuers)} universe {len(kept)} revoked {len(revoked)} "
+        f"pruned {len(ledger.items) - len(kept)}"
+    )
+    return part, Ledger([LedgerPart(part.epoch, part.trailer, part.ranges, issuers)], items), line
+
+
+class Base(Member):
+    """What a history may begin with in place of a job: what another one comes to at a moment. It has the ranges of the
+    newest member of that one, the issuers of all, and the identities that haven't expired, with their sightings, their
+    dates, and whether they are listed, all as at its end. It has no entries of its own."""
+
+    entries = ()
+
+    def __init__(self, history, moment):
+        last = len(history.members) - 1
+        kept = [x for x in sorted(history.identities(last)) if not is_expired(history.until(x, last), moment)]
+        self.history, self.moment = history, moment
+        self.epoch, self.ranges = history.members[last].epoch, history.members[last].ranges
+        self.issuers = {issuer for member in history.members for issuer in member.enrolled()}
+        self.held = [(x, s, history.until(x, last)) for x in kept for s in history.sightings(x, last)]
+        self.listed = {x for x in kept if history.listed(x, last)}
+        self.part, self.ledger, self.line = rebased(history.ledger(last), moment)
+
+    def enrolled(self):
+        return self.issuers
+
+    def lists(self, identity):
+        return identity in self.listed
+
+
+class History:
+    """The sets of a history, by their definitions over all of its members: jobs, or a base and jobs behind it."""
+
+    def __init__(self, members):
+        self.members = members
+        self.named = []  # per member: the identities of its accepted entries, of a base those that it holds
+        self.seen = {}  # per identity: (member, (log, time), date) of each of these
+        self.accepted = []  # per member: the places of its accepted entries, among all of its own
         self.counts = []
-        for i, job in enumerate(jobs):
-            here, places, n = [], [], dict(unread=0, uncovered=0, unenrolled=0, late=0)
-            for place, e in enumerate(job.entries):
+        for i, member in enumerate(members):
+            here, places, n = list(member.held), [], dict(unread=0, uncovered=0, unenrolled=0, late=0)
+            for place, e in enumerate(member.entries):
                 if e.id is None:
                     n["unread"] += 1
-                elif not job.covers(e.log, e.time):
+                elif not member.covers(e.log, e.time):
                     n["uncovered"] += 1
-                elif e.id[0] not in job.enrolled():
+                elif e.id[0] not in member.enrolled():
                     n["unenrolled"] += 1
-                elif any(
-                    jobs[j].covers(e.log, e.time)
-                    and e.id[0] in jobs[j].enrolled()
-                    and e.id not in self.identities(j)
-                    for j in range(i)
-                ):
+                elif self.is_late(e, i):
                     n["late"] += 1
                 else:
-                    here.append((e.id, (e.log, e.time), e.until if job.taken == DATED else None))
+                    here.append((e.id, (e.log, e.time), e.until if member.taken == DATED else None))
                     places.append(place)
             self.accepted.append(places)
             for x, s, date in here:
                 self.seen.setdefault(x, []).append((i, s, date))
             self.named.append({x for x, _, _ in here})
-            n["accepted"] = len(here)
+            n["accepted"] = len(places)
             self.counts.append(n)
+
+    def is_late(self, entry, i):
+        """Whether an earlier member covers an entry and enrolls its issuer, and hasn't its identity."""
+        return any(
+            member.covers(entry.log, entry.time)
+            and entry.id[0] in member.enrolled()
+            and entry.id not in self.identities(j)
+            for j, member in enumerate(self.members[:i])
+        )
 
     @functools.lru_cache(maxsize=None)
     def identities(self, j):
@@ -463,16 +574,17 @@ class History:
         return [s for j, s, _ in self.seen.get(x, []) if j <= i]
 
     def until(self, x, i):
-        """The date of an identity: None where one of its accepted entries has none."""
+        """The date of an identity: None where one of its accepted entries has none, or a base holds it without."""
         dates = [date for j, _, date in self.seen[x] if j <= i]
         return None if None in dates else max(dates)
 
     @functools.lru_cache(maxsize=None)
     def universe(self, i):
-        return sorted(x for x in self.identities(i) if x[0] in self.jobs[i].enrolled())
+        return sorted(x for x in self.identities(i) if x[0] in self.members[i].enrolled())
 
     def listed(self, x, i):
-        return any(x[0] in self.jobs[j].enrolled() and self.jobs[j].lists(x) for j in range(self.birth(x), i + 1))
+        since = self.members[self.birth(x) : i + 1]
+        return any(x[0] in member.enrolled() and member.lists(x) for member in since)
 
     @functools.lru_cache(maxsize=None)
     def revoked(self, i):
@@ -481,7 +593,7 @@ class History:
             if not self.listed(x, i):
                 continue
             if any(
-                x in self.revoked(r) and all(self.jobs[r].covers(*s) for s in self.sightings(x, i)) for r in range(i)
+                x in self.revoked(r) and all(self.members[r].covers(*s) for s in self.sightings(x, i)) for r in range(i)
             ):
                 continue
             out.add(x)
@@ -494,39 +606,35 @@ class History:
     @functools.lru_cache(maxsize=None)
     def parts(self):
         out = []
-        for i, job in enumerate(self.jobs):
-            revoked, universe = self.revoked(i), self.universe(i)
-            blocks = [
-                (k, build_block(k, [x for x in universe if x[0] == k], {x for x in revoked if x[0] == k}, job.taken))
-                for k in sorted(job.enrolled())
-            ]
+        for i, member in enumerate(self.members):
+            if isinstance(member, Base):
+                out.append(member.part)
+                continue
+            blocks = build_blocks(sorted(member.enrolled()), self.universe(i), self.revoked(i), member.taken)
             parent = out[-1].trailer if out else bytes(32)
-            out.append(Part(1 if out else 0, job.epoch, parent, job.ranges, blocks))
+            out.append(Part(1 if out else 0, member.epoch, parent, member.ranges, blocks))
         return out
 
-    def ledger(self, i, version=2):
-        """The ledger after a job. In version 1, which has no dates, of jobs that are taken in formats without them."""
-        parts = self.parts()[: i + 1]
-        out = b"CLUBLEDG" + bytes([version, i + 1])
-        for p, job in zip(parts, self.jobs):
-            issuers = sorted(job.enrolled())
-            out += be(p.epoch, 8) + p.trailer + ranges_bytes(p.ranges) + be(len(issuers), 4) + b"".join(issuers)
+    @functools.lru_cache(maxsize=None)
+    def ledger(self, i):
+        """The ledger after a member. That of a base is also what these sets say."""
+        parts = [
+            LedgerPart(part.epoch, part.trailer, part.ranges, sorted(member.enrolled()))
+            for part, member in zip(self.parts(), self.members[: i + 1])
+        ]
         ids = sorted(self.identities(i))
-        out += be(len(ids), 4)
-        for x in ids:
-            last = self.last(x, i)
-            until = self.until(x, i)
-            out += x[0] + bytes([x[1]]) + x[2] + bytes([self.birth(x), 255 if last is None else last])
-            if version == 1:
-                assert until is None, "version 1 has no dates"
-            else:
-                out += b"\0" if until is None else b"\1" + until.to_bytes(8, "big", signed=True)
-        return out + sha(out)
+        ledger = Ledger(parts, [LedgerItem(x, self.birth(x), self.last(x, i), self.until(x, i)) for x in ids])
+        member = self.members[i]
+        assert not isinstance(member, Base) or member.ledger.bytes == ledger.bytes, "a base has one ledger"
+        return ledger
 
     def report(self, i):
-        n, job = self.counts[i], self.jobs[i]
+        """The line of the command that publishes a member."""
+        n, member = self.counts[i], self.members[i]
+        if isinstance(member, Base):
+            return member.line
         return (
-            f"epoch {job.epoch} part {i} issuers {len(job.enrolled())} universe {len(self.universe(i))} "
+            f"epoch {member.epoch} part {i} issuers {len(member.enrolled())} universe {len(self.universe(i))} "
             f"revoked {len(self.revoked(i))} unread {n['unread']} uncovered {n['uncovered']} "
             f"unenrolled {n['unenrolled']} late {n['late']} accepted {n['accepted']}"
         )
@@ -559,9 +667,9 @@ def queries_bytes(queries):
 
 
 @functools.lru_cache(maxsize=8)
-def history_of(jobs):
-    """The history of a tuple of jobs."""
-    return History(list(jobs))
+def history_of(members):
+    """The history of a tuple of members."""
+    return History(list(members))
 
 
 # ---------- the generator ----------

@@ -1,7 +1,11 @@
 """What tools/reference.py says of files: parts, ledgers, jobs and queries are read by their layouts, the first field
-that breaks one is named, and so is why a job is refused; rehearsals and audits of files of jobs."""
+that breaks one is named, and so is why a job is refused; chains begun anew from files of ledgers; rehearsals and audits
+of files of jobs."""
 
 from reference import (
+    Ledger,
+    LedgerItem,
+    LedgerPart,
     Mixed,
     Part,
     Refused,
@@ -9,6 +13,7 @@ from reference import (
     columns_of,
     has_shards,
     history_of,
+    rebased,
     sha,
     text_of,
     verdict,
@@ -157,42 +162,56 @@ def lies_in(part, ranges):
     return any(l == log and a <= first and last <= b for l, a, b in ranges)
 
 
-def read_ledger_part(fields, epoch, covered):
-    """Reads a part of a ledger, behind one of this epoch and these ranges. Gives its own."""
-    epoch = fields.number("ledger.epoch", 8, lambda number: epoch is None or number > epoch)
-    fields.take("ledger.part_trailer", 32)
-    ranges, issuer = read_ranges(fields, "ledger.ranges"), b""
+def read_ledger_part(fields, before):
+    """A part of a ledger, behind another one (None: it is the first)."""
+    epoch = fields.number("ledger.epoch", 8, lambda number: before is None or number > before.epoch)
+    trailer = fields.take("ledger.part_trailer", 32)
+    ranges, issuers = read_ranges(fields, "ledger.ranges"), []
+    covered = before.ranges if before else []
     fields.take("ledger.coverage", 0, lambda _: all(lies_in(part, ranges) for part in covered))
     for _ in range(fields.number("ledger.issuers", 4, lambda count: count <= 65535)):
-        issuer = fields.take("ledger.issuer", 32, lambda octets, before=issuer: octets > before)
-    return epoch, ranges
+        issuers.append(fields.take("ledger.issuer", 32, lambda octets: not issuers or octets > issuers[-1]))
+    return LedgerPart(epoch, trailer, ranges, issuers)
 
 
 def read_item(fields, version, parts, before):
-    """Reads an identity of a ledger of so many parts, behind another one. Gives it."""
+    """An item of a ledger of so many parts, behind one of this identity."""
     issuer = fields.take("identity.issuer", 32, lambda octets: octets >= before[0])
     length = fields.number("identity.length", 1, lambda length: 1 <= length <= 32)
     serial = fields.take("identity.serial", length, lambda octets: (issuer, length, octets) > before)
     birth = fields.number("identity.birth", 1, lambda birth: birth < parts)
-    fields.number("identity.last", 1, lambda last: last == 255 or birth <= last < parts)
+    last = fields.number("identity.last", 1, lambda last: last == 255 or birth <= last < parts)
+    until = None
     if version == 2 and fields.number("identity.dated", 1, lambda dated: dated <= 1):
-        fields.take("identity.until", 8)
-    return issuer, length, serial
+        until = int.from_bytes(fields.take("identity.until", 8), "big", signed=True)
+    return LedgerItem((issuer, length, serial), birth, None if last == 255 else last, until)
 
 
-def read_ledger_fields(data):
-    """Reads the fields of a ledger, and not what they mean."""
+def read_ledger(data):
+    """The ledger of a file that holds one."""
     fields = Fields(data)
     fields.magic("ledger.magic", b"CLUBLEDG")
     version = fields.number("ledger.version", 1, lambda version: version in (1, 2))
-    parts = fields.number("ledger.parts", 1, lambda count: 1 <= count <= 64)
-    epoch, ranges, identity = None, [], (b"", 0, b"")
-    for _ in range(parts):
-        epoch, ranges = read_ledger_part(fields, epoch, ranges)
+    parts, items = [], []
+    for _ in range(fields.number("ledger.parts", 1, lambda count: 1 <= count <= 64)):
+        parts.append(read_ledger_part(fields, parts[-1] if parts else None))
     for _ in range(fields.number("ledger.identities", 4, lambda count: count <= 4194304)):
-        identity = read_item(fields, version, parts, identity)
+        items.append(read_item(fields, version, len(parts), items[-1].identity if items else (b"", 0, b"")))
     fields.digest("ledger.digest", 0)
     fields.end()
+    ledger = Ledger(parts, items)
+    assert ledger.written(version) == data, "a ledger has one text in each version"
+    return ledger
+
+
+def rebase(name, data, moment):
+    """The status and the text of `rebase`, of a ledger's name and bytes, and what it writes: a part and its ledger, or
+    nothing."""
+    try:
+        part, ledger, line = rebased(read_ledger(data), moment)
+    except Refused as refused:
+        return refused.status, refused.line(name), []
+    return 0, line + "\n", [part.bytes, ledger.bytes]
 
 
 def read_job_fields(data):
@@ -291,8 +310,8 @@ class Disagrees(Refused):
 
 def agreed(parts, history):
     """How many entries a history accepts, if the parts say the truth of each."""
-    last = len(history.jobs) - 1
-    for i, (job, places) in enumerate(zip(history.jobs, history.accepted)):
+    last = len(history.members) - 1
+    for i, (job, places) in enumerate(zip(history.members, history.accepted)):
         for place in places:
             entry = job.entries[place]
             truth = "revoked" if history.listed(entry.id, last) else "good"

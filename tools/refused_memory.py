@@ -26,7 +26,8 @@ import sys
 import tempfile
 
 from program import path_of_program
-from reference import Crl, Entry, Job, T, History, ident, queries_bytes, sample, store, text_of, verdict
+from reference import T, History, queries_bytes, sample, store, text_of, verdict
+from three_jobs import JOBS, K1, LA, QUERIES
 
 SHIM = r"""
 #define _GNU_SOURCE
@@ -63,36 +64,8 @@ void *realloc(void *kept, size_t size) {
 }
 """
 
-K1, K2, LA, LB = (bytes([octet]) * 32 for octet in (0x11, 0x22, 0xAA, 0xBB))
 CRATE = os.path.join(os.path.dirname(os.path.abspath(__file__)), "..", "crates", "clubcard")
 MOST = 100_000
-
-JOBS = [
-    Job(1, T, [(LA, T, T + 1000)], [(K1, Crl([]))], [Entry(K1, b"\5", LA, T)]),
-    Job(
-        2,
-        T,
-        [(LA, T, T + 2000)],
-        [(K1, Crl([b"\5", b"\x08"]))],
-        [Entry(K1, b"\6", LA, T + 1500), Entry(K1, b"\7", LA, T + 500)],
-    ),
-    Job(
-        3,
-        T,
-        [(LA, T, T + 2000), (LB, T, T + 1000)],
-        [(K1, Crl([]))],
-        [Entry(K1, b"\5", LB, T + 10), Entry(K1, b"\x08", LB, T + 20)],
-    ),
-]
-
-QUERIES = [
-    (ident(K1, b"\5"), [(LA, T)]),
-    (ident(K1, b"\5"), [(LB, T + 10)]),
-    (ident(K1, b"\6"), [(LA, T + 1500)]),
-    (ident(K1, b"\x08"), [(LB, T + 20)]),
-    (ident(K2, b"\5"), [(LA, T)]),
-    (ident(K1, b"\5"), [(LA, T + 2001)]),
-]
 
 
 class Run:
@@ -113,15 +86,15 @@ def files_and_runs():
         "J1": JOBS[1].bytes(),
         "J2": JOBS[2].bytes(),
         "Q": queries_bytes(QUERIES),
-        "L": history.ledger(0),
+        "L": history.ledger(0).bytes,
         "P0": parts[0].bytes,
         "P1": parts[1].bytes,
         "S": store(parts[:1]),
     }
     runs = [
-        Run("delta /J1 /L /X /Y 1", reports[1:2], {"X": parts[1].bytes, "Y": history.ledger(1)}),
+        Run("delta /J1 /L /X /Y 1", reports[1:2], {"X": parts[1].bytes, "Y": history.ledger(1).bytes}),
         Run("rehearse /Q 1 /J0 /J1 /J2", reports + answers, {}),
-        Run("snapshot /J0 /X /Y 1", reports[:1], {"X": parts[0].bytes, "Y": history.ledger(0)}),
+        Run("snapshot /J0 /X /Y 1", reports[:1], {"X": parts[0].bytes, "Y": history.ledger(0).bytes}),
         Run("start /P0 /X", ["store parts 1 epoch 1"], {"X": store(parts[:1])}),
         Run("install /S /P1 /X", ["store parts 2 epoch 2"], {"X": store(parts[:2])}),
         Run(f"query /S {K1.hex()} 05 {LA.hex()} {T}", ["good"], {}),
