@@ -149,6 +149,13 @@ report_line epoch place c =
     ++ codes " unenrolled " ++ decimal c.unenrolled ++ codes " late " ++ decimal c.late
     ++ codes " accepted " ++ decimal c.accepted ++ 10 ∷ []
 
+-- rebase epoch E issuers I universe U revoked R pruned N
+abbrev pub rebase_line : (epoch issuers universe revoked pruned : ℕ) → List ℕ
+rebase_line epoch issuers universe revoked pruned =
+    codes "rebase epoch " ++ decimal epoch ++ codes " issuers " ++ decimal issuers
+    ++ codes " universe " ++ decimal universe ++ codes " revoked " ++ decimal revoked
+    ++ codes " pruned " ++ decimal pruned ++ 10 ∷ []
+
 -- sample NUMBER entries COUNT revoked R bytes B
 abbrev pub sample_line : (number count revoked bytes : ℕ) → List ℕ
 sample_line number count revoked bytes =

@@ -4,7 +4,7 @@ ghost use Rattle.std.specs.Prelude.{◌≡◌, ◌+◌, ◌*◌, ◌≤◌, [], 
 ghost use Rattle.hex.specs.Hex.{encode_lower};
 ghost use Rattle.part_codec.specs.PartText.{width_of};
 ghost use Rattle.line_core.specs.Lines.{stage_words, approx_words, mixed_words, leaf_words, body_words, note_line, report_line};
-ghost use Rattle.line_core.specs.Lines.{store_line, sample_line, gather_line, audit_line, disagreement_line};
+ghost use Rattle.line_core.specs.Lines.{store_line, rebase_line, sample_line, gather_line, audit_line, disagreement_line};
 ghost use Rattle.line_core.specs.Lines.{head_line, range_line, block_line, shard_line, trailer_line};
 ghost use Rattle.line_core.specs.Lines.{seeds_line};
 
@@ -198,6 +198,20 @@ pub fn stored(parts: usize, epoch: u64) -> Line
     let mut line = Line::new();
     line.push_count(b"store parts ", parts as u64);
     line.push_count(b" epoch ", epoch);
+    line.push(b"\n");
+    line
+}
+
+/// `rebase epoch E issuers I universe U revoked R pruned N`
+pub fn rebased(epoch: u64, issuers: usize, universe: usize, revoked: usize, pruned: u32) -> Line
+    ensures { result ≡ rebase_line epoch issuers universe revoked pruned }
+{
+    let mut line = Line::new();
+    line.push_count(b"rebase epoch ", epoch);
+    line.push_count(b" issuers ", issuers as u64);
+    line.push_count(b" universe ", universe as u64);
+    line.push_count(b" revoked ", revoked as u64);
+    line.push_count(b" pruned ", pruned as u64);
     line.push(b"\n");
     line
 }
