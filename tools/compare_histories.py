@@ -9,10 +9,19 @@ must be the verdict of the parts). One of the jobs is published behind ledgers w
 is refused behind ledgers that are damaged, with the digest mended or not. Then all jobs in one `rehearse`, with queries
 of both kinds; in some histories with a job that is refused among them, or with a damaged query file, and then the line
 and the status of the refusal. Then an `audit` of one of the stores by all jobs, or with one among them that is refused.
-And a job of `sample`. It runs the program that `./clubcard` runs, prints a line, and ends with status 0 exactly where
-nothing differs; where something does, it says which history and what.
+And a job of `sample`.
+
+Behind one of the jobs the chain is begun anew by `rebase`, at a moment at which some certificates may have expired. It
+goes on with the jobs behind that one, and is compared as the history was; in some histories it is itself begun anew
+behind one of its parts, and so on. The ledgers without dates, and the damaged ones, are begun anew too. Before all
+histories stand three such chains that were worked out by hand, and ledgers with as many issuers as a part may have, and
+one more.
+
+It runs the program that `./clubcard` runs, prints a line, and ends with status 0 exactly where nothing differs; where
+something does, it says which history and what.
 """
 
+import collections
 import functools
 import os
 import random
@@ -22,9 +31,12 @@ import tempfile
 
 from program import path_of_program
 from reference import (
+    Base,
     Crl,
     Entry,
     Job,
+    Ledger,
+    LedgerPart,
     Refused,
     SHARDED,
     T,
@@ -37,7 +49,8 @@ from reference import (
     store,
     verdict,
 )
-from reference_files import JobFile, audit, read_ledger, rehearse
+from reference_files import JobFile, audit, read_ledger, rebase, rehearse
+from three_jobs import ANSWERS, JOBS, K1, LA, QUERIES
 
 PROGRAM = path_of_program()
 
@@ -127,26 +140,36 @@ def put(path, data):
         file.write(data)
 
 
+def publish(rng, history, i, at):
+    """Publishes a member of a history behind those before it. Gives the status, and what was printed."""
+    member, workers = history.members[i], str(rng.choice([1, 2, 64]))
+    if isinstance(member, Base):
+        put(at("old ledger"), member.old_ledger.bytes)
+        return run("rebase", at("old ledger"), str(member.moment), at("part"), at("ledger0"), workers)
+    put(at("job"), member.bytes())
+    if i == 0:
+        return run("snapshot", at("job"), at("part"), at("ledger0"), workers)
+    return run("delta", at("job"), at(f"ledger{i - 1}"), at("part"), at(f"ledger{i}"), workers)
+
+
 def compare_files(rng, history, parts, at):
-    """Publishes each job and installs its part."""
-    for i, job in enumerate(history.members):
-        put(at("job"), job.bytes())
-        workers = str(rng.choice([1, 2, 64]))
+    """Publishes each member and installs its part."""
+    for i, member in enumerate(history.members):
+        told = publish(rng, history, i, at)
         if i == 0:
-            told = run("snapshot", at("job"), at("part"), at("ledger0"), workers)
             stored = run("start", at("part"), at("store0"))
         else:
-            told = run("delta", at("job"), at(f"ledger{i - 1}"), at("part"), at(f"ledger{i}"), workers)
             stored = run("install", at(f"store{i - 1}"), at("part"), at(f"store{i}"))
         same(f"report {i}", told, (0, history.report(i) + "\n"))
-        same(f"store line {i}", stored, (0, f"store parts {i + 1} epoch {job.epoch}\n"))
+        same(f"store line {i}", stored, (0, f"store parts {i + 1} epoch {member.epoch}\n"))
         same(f"part {i}", held(at("part")), parts[i].bytes)
         same(f"ledger {i}", held(at(f"ledger{i}")), history.ledger(i).bytes)
         same(f"store {i}", held(at(f"store{i}")), store(parts[: i + 1]))
 
 
 def compare_undated(rng, jobs, at):
-    """Publishes a job behind the ledger of those before it, in both versions, as if these were taken without dates."""
+    """Publishes a job behind the ledger of those before it, in both versions, as if these were taken without dates, and
+    begins a chain anew from it."""
     place = rng.randrange(1, len(jobs))
     old = [Job(job.epoch, job.moment, job.ranges, job.crls, job.entries, SHARDED) for job in jobs[:place]]
     history = history_of(tuple(old + [jobs[place]]))
@@ -157,16 +180,19 @@ def compare_undated(rng, jobs, at):
         same(f"report behind version {version}", told, (0, history.report(place) + "\n"))
         same(f"part behind version {version}", held(at("part")), history.parts()[place].bytes)
         same(f"ledger behind version {version}", held(at("ledger")), history.ledger(place).bytes)
+        compare_rebase(held(at("undated")), 2**64 - 1, at)
 
 
 def compare_damaged_ledgers(rng, history, at):
-    """Refuses a job behind ledgers that break the layout. Gives how many do."""
+    """Publishes a job behind ledgers that are damaged, and begins chains anew from them. Gives how many break the
+    layout."""
     place, faults = rng.randrange(1, len(history.members)), 0
     put(at("job"), history.members[place].bytes())
     for _ in range(4):
         data = damaged(rng, history.ledger(place - 1).bytes)
         data = rng.choice([data, data[:-32] + sha(data[:-32])])
         put(at("damaged"), data)
+        compare_rebase(data, rng.choice([0, T, 2**64 - 1]), at)
         try:
             read_ledger(data)
         except Refused as refused:
@@ -206,6 +232,76 @@ def compare_answers(rng, history, parts, path):
     for x, some, wanted in queries:
         same(f"answer on {x} at {some}", ask(path, x, some), (0, wanted + "\n"))
     return len(queries)
+
+
+def random_moment(rng, ledger):
+    """A moment at a date of the ledger, to a millisecond, or one at which nothing or all has expired that can."""
+    dates = [1000 * item.until for item in ledger.items if item.until is not None]
+    at_dates = [min(max(0, date + rng.choice([-1, 0, 1])), 2**64 - 1) for date in dates]
+    return rng.choice(at_dates) if at_dates and rng.random() < 0.8 else rng.choice([0, T, 2**64 - 1])
+
+
+def compare_rebase(data, moment, at):
+    """Begins a chain anew from a file, of a history's ledger or not. Gives whether it is refused."""
+    outputs = [at("new part"), at("new ledger")]
+    for path in [at("old ledger"), *outputs]:
+        put(path, data)
+    status, text, wanted = rebase(at("old ledger"), data, moment)
+    told = run("rebase", at("old ledger"), str(moment), *outputs, "2")
+    same(f"rebase at {moment}", told, (status, text))
+    same(f"outputs of rebase at {moment}", [held(path) for path in outputs], wanted or [data, data])
+    return status != 0
+
+
+def compare_begun_anew(rng, history, at):
+    """Begins the chain of a history anew behind one of its members, goes on with the jobs behind that, and asks about
+    certificates; and so on from the new chain, or not. Gives how many chains were begun, and how many queries asked."""
+    place = rng.randrange(len(history.members))
+    front = history_of(tuple(history.members[: place + 1]))
+    base = Base(front, random_moment(rng, front.ledger(place)))
+    anew = history_of((base, *history.members[place + 1 :]))
+    parts = anew.parts()
+    compare_files(rng, anew, parts, at)
+    asked = compare_answers(rng, anew, parts, at(f"store{len(parts) - 1}"))
+    if rng.random() < 0.5:
+        return 1, asked
+    chains, queries = compare_begun_anew(rng, anew, at)
+    return 1 + chains, asked + queries
+
+
+def rows_by_hand():
+    """Histories, a moment, the line of a rebase of the last ledger, and how many bytes the part and its ledger have."""
+    entries = [Entry(K1, b"\5", LA, T), Entry(K1, b"\x09", LA, T, until=T // 1000)]
+    dated = [Job(1, T, [(LA, T, T + 1000)], [(K1, Crl([b"\5"]))], entries)]
+    return [
+        (JOBS, 2**64 - 1, "rebase epoch 3 issuers 1 universe 3 revoked 1 pruned 0", [276, 331]),
+        (dated, T, "rebase epoch 1 issuers 1 universe 2 revoked 1 pruned 0", [199, 254]),
+        (dated, T + 1, "rebase epoch 1 issuers 1 universe 1 revoked 1 pruned 1", [169, 209]),
+    ]
+
+
+def compare_rows(at):
+    for members, moment, line, sizes in rows_by_hand():
+        base = Base(history_of(tuple(members)), moment)
+        same("line by hand", base.line, line)
+        same("sizes by hand", [len(base.part.bytes), len(base.ledger.bytes)], sizes)
+        compare_rebase(base.old_ledger.bytes, moment, at)
+        if members is JOBS:
+            same("store by hand", run("start", at("new part"), at("store")), (0, "store parts 1 epoch 3\n"))
+            answers = [ask(at("store"), *query) for query in QUERIES]
+            same("answers by hand", answers, [(0, answer + "\n") for answer in ANSWERS])
+
+
+def crowded(issuers):
+    """A ledger without identities, of two parts that have so many issuers together."""
+    keys = [be(number, 32) for number in range(issuers)]
+    return Ledger([LedgerPart(1, sha(b""), [], keys[:40000]), LedgerPart(2, sha(b""), [], keys[30000:])], [])
+
+
+def compare_limit(at):
+    """Begins a chain anew with as many issuers as a part may have, and with one more."""
+    for issuers in (65535, 65536):
+        same(f"refusal with {issuers} issuers", compare_rebase(crowded(issuers).bytes, 0, at), issuers > 65535)
 
 
 def damaged(rng, data):
@@ -297,34 +393,49 @@ def compare_sample(rng, at):
     same("sample", held(at("sample")), data)
 
 
+def compare_history(rng, at):
+    """Compares all that is done with one history. Gives how many of each there were."""
+    history = history_of(tuple(random_history(rng)))
+    parts, faults = history.parts(), 0
+    compare_files(rng, history, parts, at)
+    if len(history.members) > 1:
+        compare_undated(rng, history.members, at)
+        faults = compare_damaged_ledgers(rng, history, at)
+    asked = compare_answers(rng, history, parts, at(f"store{len(parts) - 1}"))
+    rehearsed = compare_rehearsal(rng, history, parts, at)
+    agreed = compare_audit(rng, history, parts, at)
+    chains, asked_anew = compare_begun_anew(rng, history, at)
+    compare_sample(rng, at)
+    return {
+        "jobs": len(parts),
+        "queries": asked + rehearsed + asked_anew,
+        "refused rehearsals": int(rehearsed == 0),
+        "audits that agree": int(agreed),
+        "chains begun anew": chains,
+        "damaged ledgers": faults,
+    }
+
+
+def in_a_folder(what, compare):
+    """What is compared, over files in a new folder. Where something differs the script ends, and says of what."""
+    with tempfile.TemporaryDirectory() as folder:
+        try:
+            return compare(functools.partial(os.path.join, folder))
+        except AssertionError as differs:
+            return sys.exit(f"{what} differs: {differs}")
+
+
 def main():
     count = int(sys.argv[1]) if len(sys.argv) > 1 else 20
     seed = int(sys.argv[2]) if len(sys.argv) > 2 else 1
-    jobs, asked, refused, agreed, faults = 0, 0, 0, 0, 0
+    in_a_folder("what was worked out by hand", compare_rows)
+    in_a_folder("a ledger of many issuers", compare_limit)
+    done = collections.Counter()
     for number in range(count):
         rng = random.Random(seed * 1_000_003 + number)
-        history = history_of(tuple(random_history(rng)))
-        parts = history.parts()
-        with tempfile.TemporaryDirectory() as folder:
-            at = functools.partial(os.path.join, folder)
-            try:
-                compare_files(rng, history, parts, at)
-                if len(history.members) > 1:
-                    compare_undated(rng, history.members, at)
-                    faults += compare_damaged_ledgers(rng, history, at)
-                asked += compare_answers(rng, history, parts, at(f"store{len(parts) - 1}"))
-                rehearsed = compare_rehearsal(rng, history, parts, at)
-                agreed += compare_audit(rng, history, parts, at)
-                compare_sample(rng, at)
-            except AssertionError as differs:
-                sys.exit(f"history {number} of seed {seed} differs: {differs}")
-        jobs += len(parts)
-        asked += rehearsed
-        refused += rehearsed == 0
-    print(
-        f"{count} histories, {jobs} jobs, {asked} queries, {refused} refused rehearsals, {agreed} audits that agree, "
-        f"{faults} damaged ledgers: nothing differs"
-    )
+        done.update(in_a_folder(f"history {number} of seed {seed}", functools.partial(compare_history, rng)))
+    counts = "".join(f", {number} {what}" for what, number in done.items())
+    print(f"{count} histories{counts}: nothing differs")
 
 
 if __name__ == "__main__":

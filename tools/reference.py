@@ -515,7 +515,8 @@ class Base(Member):
         self.issuers = {issuer for member in history.members for issuer in member.enrolled()}
         self.held = [(x, s, history.until(x, last)) for x in kept for s in history.sightings(x, last)]
         self.listed = {x for x in kept if history.listed(x, last)}
-        self.part, self.ledger, self.line = rebased(history.ledger(last), moment)
+        self.old_ledger = history.ledger(last)
+        self.part, self.ledger, self.line = rebased(self.old_ledger, moment)
 
     def enrolled(self):
         return self.issuers

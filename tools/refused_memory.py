@@ -26,7 +26,7 @@ import sys
 import tempfile
 
 from program import path_of_program
-from reference import T, History, queries_bytes, sample, store, text_of, verdict
+from reference import Base, T, History, queries_bytes, sample, store, text_of, verdict
 from three_jobs import JOBS, K1, LA, QUERIES
 
 SHIM = r"""
@@ -81,6 +81,7 @@ def files_and_runs():
     reports = [history.report(place) for place in range(3)]
     answers = [verdict(parts, *query) for query in QUERIES]
     made, made_line = sample(7, 1)
+    base = Base(History(JOBS[:1]), T)
     files = {
         "J0": JOBS[0].bytes(),
         "J1": JOBS[1].bytes(),
@@ -95,6 +96,7 @@ def files_and_runs():
         Run("delta /J1 /L /X /Y 1", reports[1:2], {"X": parts[1].bytes, "Y": history.ledger(1).bytes}),
         Run("rehearse /Q 1 /J0 /J1 /J2", reports + answers, {}),
         Run("snapshot /J0 /X /Y 1", reports[:1], {"X": parts[0].bytes, "Y": history.ledger(0).bytes}),
+        Run(f"rebase /L {T} /X /Y 1", [base.line], {"X": base.part.bytes, "Y": base.ledger.bytes}),
         Run("start /P0 /X", ["store parts 1 epoch 1"], {"X": store(parts[:1])}),
         Run("install /S /P1 /X", ["store parts 2 epoch 2"], {"X": store(parts[:2])}),
         Run(f"query /S {K1.hex()} 05 {LA.hex()} {T}", ["good"], {}),

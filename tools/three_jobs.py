@@ -1,5 +1,5 @@
-"""A history of three jobs by hand, and queries about its certificates: one that is revoked when a later job lists it, and
-is seen again by a second log; one that is late; and two that are good, one of which was listed before it came."""
+"""A history of three jobs by hand, with queries and their answers. One certificate is revoked by the second job and
+seen again by another log in the third, one is late, and two are good, of which one was listed before it came."""
 
 from reference import Crl, Entry, Job, T, ident
 
