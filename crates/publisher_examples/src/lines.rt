@@ -5,7 +5,7 @@ use crl_core::CrlFault;
 use job_core::What;
 use line_core::{
     Message, about_file, checked, coverage_line, crl_line, epoch_line, layout_line, limit_line,
-    line_of, parent_line, reported, sampled, seeds_line, stored, write_sealed,
+    line_of, parent_line, rebased, reported, sampled, seeds_line, stored, write_sealed,
 };
 use octets_core::{Field, Key32, LayoutFault, Why};
 use outside_core::MemorySink;
@@ -200,6 +200,10 @@ fn lines_without_a_name(rt: HostRuntime) -> Result<(), Fail> {
         (
             reported(u64::MAX, 63, &counts),
             "epoch 18446744073709551615 part 63 issuers 1 universe 2 revoked 3 unread 4 uncovered 5 unenrolled 6 late 7 accepted 4294967295\n",
+        ),
+        (
+            rebased(u64::MAX, 65_535, 4, 3, 4_194_304),
+            "rebase epoch 18446744073709551615 issuers 65535 universe 4 revoked 3 pruned 4194304\n",
         ),
         (stored(64, 10), "store parts 64 epoch 10\n"),
         (

@@ -34,6 +34,7 @@ fn name_of(alloc: Global, words: &[&str]) -> Result<&'static str, NoMemory> {
         Command::Show(_) => Ok("show"),
         Command::Snapshot(_) => Ok("snapshot"),
         Command::Delta(_) => Ok("delta"),
+        Command::Rebase(_) => Ok("rebase"),
         Command::Start(_) => Ok("start"),
         Command::Install(_) => Ok("install"),
         Command::Rehearse(_) => Ok("rehearse"),
@@ -45,7 +46,7 @@ fn name_of(alloc: Global, words: &[&str]) -> Result<&'static str, NoMemory> {
 
 #[test]
 fn reads_each_command(rt: HostRuntime) -> Result<(), Fail> {
-    let cases: [&[&str]; 20] = [
+    let cases: [&[&str]; 22] = [
         &["query", "S", KEY, "05", LOG, "00000000000000000001"],
         &[
             "query",
@@ -63,6 +64,15 @@ fn reads_each_command(rt: HostRuntime) -> Result<(), Fail> {
         &["snapshot", "J", "P", "L", "064"],
         &["delta", "J", "L", "P", "K", "64"],
         &["delta", "J", "J", "P", "K", "1"],
+        &["rebase", "L", "0", "P", "K", "64"],
+        &[
+            "rebase",
+            "L",
+            "18446744073709551615",
+            "18446744073709551615",
+            "K",
+            "1",
+        ],
         &["start", "P", "S"],
         &["start", "S", "s"],
         &["install", "S", "P", "N"],
@@ -84,7 +94,7 @@ fn reads_each_command(rt: HostRuntime) -> Result<(), Fail> {
 
 #[test]
 fn refuses_what_is_no_command(rt: HostRuntime) -> Result<(), Fail> {
-    let cases: [&[&str]; 52] = [
+    let cases: [&[&str]; 63] = [
         &[],
         &["--help"],
         &["Query", "S", KEY, "05", LOG, "1"],
@@ -114,6 +124,17 @@ fn refuses_what_is_no_command(rt: HostRuntime) -> Result<(), Fail> {
         &["delta", "J", "L", "P", "P", "1"],
         &["delta", "J", "L", "P", "K", "65"],
         &["delta", "J", "L", "P", "K"],
+        &["rebase", "L", "1", "P", "P", "1"],
+        &["rebase", "L", "1", "L", "K", "1"],
+        &["rebase", "L", "1", "P", "L", "1"],
+        &["rebase", "L", "18446744073709551616", "P", "K", "1"],
+        &["rebase", "L", "-1", "P", "K", "1"],
+        &["rebase", "L", "", "P", "K", "1"],
+        &["rebase", "L", "1", "P", "K", "0"],
+        &["rebase", "L", "1", "P", "K", "65"],
+        &["rebase", "", "1", "P", "K", "1"],
+        &["rebase", "L", "1", "P", "K"],
+        &["rebase", "L", "1", "P", "K", "1", "1"],
         &["start", "P", "P"],
         &["install", "S", "P", "S"],
         &["install", "S", "P", "P"],
