@@ -4,7 +4,7 @@ use Rattle.std.specs.Prelude.{◌⊎◌, ◌≢◌, IsErr, IsErrOf}
 use Rattle.octets_core.specs.declared.memory.NoMemory.{NoMemory}
 use Rattle.octets_core.specs.Reading.{GivesUnless}
 use Rattle.outside_core.specs.Files.{Files, IsMissing}
-use Rattle.part_codec.specs.SealedFields.{SealedFields}
+use Rattle.part_text.specs.SealedFields.{SealedFields}
 use Rattle.store_core.specs.declared.chain.Refusal.{Refusal}
 use Rattle.store_core.specs.Chain.{refusal_of}
 use Rattle.card_core.specs.Verdict.{verdict}

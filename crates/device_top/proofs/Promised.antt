@@ -7,8 +7,8 @@ use Rattle.ident_core.specs.declared.identity.Identity.{Identity}
 use Rattle.ident_core.specs.declared.range.Sighting.{Sighting}
 use Rattle.octets_core.specs.Reading.{value_of}
 use Rattle.outside_core.specs.Written.{followed_by}
-use Rattle.part_codec.specs.Fitting.{Fits}
-use Rattle.part_codec.specs.SealedFields.{SealedFields}
+use Rattle.part_text.specs.Fitting.{Fits}
+use Rattle.part_text.specs.SealedFields.{SealedFields}
 use Rattle.store_core.specs.declared.chain.Refusal.{Refusal}
 use Rattle.card_core.specs.declared.verdict.Verdict.{Verdict}
 use Rattle.store_core.specs.Chain.{IsChain, refusal_of}

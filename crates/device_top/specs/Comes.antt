@@ -1,7 +1,7 @@
 -- What comes of a command over a device and the depot's files.
 use Rattle.std.specs.Prelude.{◌≡◌, ◌⊎◌, ℕ, List, Option, Ok, Err}
 use Rattle.outside_core.specs.Files.{Files}
-use Rattle.part_codec.specs.SealedFields.{SealedFields}
+use Rattle.part_text.specs.SealedFields.{SealedFields}
 use Rattle.slot_core.specs.Device.{IsDevice, BreaksAt}
 use Rattle.word_core.specs.CommandFields.{QueryFields}
 use Rattle.word_core.specs.declared.device.DeviceCommand.{DeviceCommand}

@@ -1,6 +1,6 @@
 -- What each command comes to: what it says, and what it does to the device.
 use Rattle.std.specs.Prelude.{ℕ, List, [], ◌∷◌, ◌++◌, length, map, nat_lt, if◌then◌else◌, Option, Some, None, Result, Ok, Err}
-use Rattle.part_codec.specs.SealedFields.{SealedFields}
+use Rattle.part_text.specs.SealedFields.{SealedFields}
 use Rattle.store_core.specs.declared.chain.Refusal.{Refusal}
 use Rattle.store_core.specs.Chain.{newest_of, refusal_of}
 use Rattle.store_core.specs.StoreLayout.{store_text}

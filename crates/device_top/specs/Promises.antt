@@ -2,7 +2,7 @@
 use Rattle.std.specs.Prelude.{◌≡◌, ◌≢◌, ◌≤◌, ℕ, List, [], ◌∷◌, ◌++◌, length, map, slice_index, not, Some, None, Ok}
 use Rattle.ident_core.specs.declared.range.Sighting.{Sighting}
 use Rattle.outside_core.specs.Written.{followed_by}
-use Rattle.part_codec.specs.SealedFields.{SealedFields}
+use Rattle.part_text.specs.SealedFields.{SealedFields}
 use Rattle.store_core.specs.Chain.{refusal_of}
 use Rattle.store_core.specs.StoreLayout.{store_text}
 use Rattle.card_core.specs.Verdict.{verdict}

@@ -10,12 +10,12 @@ use Rattle.octets_core.specs.declared.field.Field.TheVariants as fields
 use Rattle.octets_core.specs.declared.fault.Why.TheVariants as why
 use Rattle.outside_core.specs.Files.{Files}
 use Rattle.outside_core.specs.Feeding.{IsTaken, Offers}
-use Rattle.part_codec.specs.SealedFields.{SealedFields}
-use Rattle.part_codec.specs.PartLayout.{part}
-use Rattle.part_codec.proofs.PartBounds.{at-of}
+use Rattle.part_text.specs.SealedFields.{SealedFields}
+use Rattle.part_text.specs.PartLayout.{part}
+use Rattle.part_text.proofs.PartBounds.{at-of}
 use Rattle.part_codec.specs.ReaderStanding.{ReadsBy, ReadsFor, EndsAs}
-use Rattle.part_codec.specs.declared.fault.PartFault.{PartFault}
-use Rattle.part_codec.specs.declared.fault.PartFault.TheVariants as of
+use Rattle.part_text.specs.declared.fault.PartFault.{PartFault}
+use Rattle.part_text.specs.declared.fault.PartFault.TheVariants as of
 use Rattle.part_codec.specs.declared.reader.PartReader.{PartReader}
 use Rattle.input_core.specs.declared.fault.FileFault.{FileFault}
 use Rattle.input_core.specs.declared.fault.FileFault.TheVariants as faults

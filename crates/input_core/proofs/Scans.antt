@@ -12,8 +12,8 @@ use Rattle.octets_core.specs.Reading.{fault_at}
 use Rattle.outside_core.specs.Files.{Files, IsMissing}
 use Rattle.outside_core.specs.Feeding.{IsTaken, Offers}
 use Rattle.outside_core.proofs.Feeding.{taken-more}
-use Rattle.part_codec.specs.SealedFields.{SealedFields}
-use Rattle.part_codec.specs.PartLayout.{sealed}
+use Rattle.part_text.specs.SealedFields.{SealedFields}
+use Rattle.part_text.specs.PartLayout.{sealed}
 use Rattle.part_codec.specs.Noting.{noted}
 use Rattle.part_codec.specs.Scanning.{Scans}
 use Rattle.part_codec.specs.Standing.{StandsBy, StandsFor, EndsAt}

@@ -1,8 +1,8 @@
 -- The layout of a file that holds one part.
 use Rattle.octets_core.specs.Layout.{Layout, ◌>>=◌, whole, mapped}
 use Rattle.octets_core.specs.Reading.{end}
-use Rattle.part_codec.specs.SealedFields.{SealedFields}
-use Rattle.part_codec.specs.PartLayout.{part}
+use Rattle.part_text.specs.SealedFields.{SealedFields}
+use Rattle.part_text.specs.PartLayout.{part}
 use Rattle.input_core.specs.declared.fault.FileFault.{FileFault}
 use Rattle.input_core.specs.declared.fault.FileFault.TheVariants as faults
 use Rattle.input_core.specs.Faults.{of_part}

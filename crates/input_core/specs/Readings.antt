@@ -8,7 +8,7 @@ use Rattle.job_core.specs.JobFields.{JobFields}
 use Rattle.job_core.specs.JobLayout.{job_of}
 use Rattle.ledger_core.specs.LedgerFields.{LedgerFields}
 use Rattle.ledger_core.specs.LedgerReading.{ledger_of}
-use Rattle.part_codec.specs.SealedFields.{SealedFields}
+use Rattle.part_text.specs.SealedFields.{SealedFields}
 use Rattle.store_core.specs.StoreLayout.{store}
 use Rattle.input_core.specs.declared.fault.FileFault.{FileFault}
 use Rattle.input_core.specs.declared.fault.FileFault.TheVariants as faults

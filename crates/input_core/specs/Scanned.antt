@@ -2,7 +2,7 @@
 use Rattle.std.specs.Prelude.{◌≡◌, ℕ, List, Option, Result, Ok, Err}
 use Rattle.octets_core.specs.declared.fault.LayoutFault.{LayoutFault}
 use Rattle.outside_core.specs.Files.{Files}
-use Rattle.part_codec.specs.SealedFields.{SealedFields}
+use Rattle.part_text.specs.SealedFields.{SealedFields}
 use Rattle.part_codec.specs.Noting.{note_of}
 use Rattle.part_codec.specs.declared.scan.PartNote.{PartNote}
 use Rattle.input_core.specs.declared.fault.FileFault.{FileFault}

@@ -8,8 +8,8 @@ use Rattle.octets_core.specs.declared.fault.LayoutFault.{LayoutFault}
 use Rattle.ident_core.specs.declared.bounds.TheConstants.{MAX_PARTS}
 use Rattle.outside_core.specs.Files.{Files}
 use Rattle.outside_core.specs.Feeding.{Offers}
-use Rattle.part_codec.specs.SealedFields.{SealedFields}
-use Rattle.part_codec.specs.PartLayout.{part}
+use Rattle.part_text.specs.SealedFields.{SealedFields}
+use Rattle.part_text.specs.PartLayout.{part}
 use Rattle.store_core.specs.StoreLayout.{moved, first_part, chain, store_parts}
 use Rattle.input_core.specs.declared.fault.FileFault.{FileFault}
 use Rattle.input_core.specs.declared.fault.FileFault.TheVariants as faults

@@ -5,7 +5,7 @@ ghost use Rattle.octets_core.specs.declared.fault.LayoutFault.{LayoutFault};
 ghost use Rattle.outside_core.specs.Effects.{OnlyReads};
 ghost use Rattle.outside_core.specs.Filling.{IsInOrder};
 ghost use Rattle.outside_core.specs.Standing.{reference_of, depot_of, name_of, place_of};
-ghost use Rattle.part_codec.specs.PartLayout.{sealed};
+ghost use Rattle.part_text.specs.PartLayout.{sealed};
 ghost use Rattle.part_codec.specs.Noting.{noted};
 ghost use Rattle.part_codec.specs.Standing.{StandsFor};
 ghost use Rattle.input_core.specs.Inputs.{WhichFailed};

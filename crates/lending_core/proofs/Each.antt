@@ -1,7 +1,7 @@
 -- What is written into many queries, and answered.
 use Rattle.std.proofs.Common.{◌≡◌, ◌⊎◌, inl, inr, List, map, Result, Ok, Err, refl, ap, ◌∙◌}
 use Rattle.ident_core.specs.declared.range.Sighting.{Sighting}
-use Rattle.part_codec.specs.SealedFields.{SealedFields}
+use Rattle.part_text.specs.SealedFields.{SealedFields}
 use Rattle.lending_core.specs.declared.fault.LentFault.{LentFault}
 use Rattle.lending_core.specs.declared.fault.LentFault.TheVariants as faults
 use Rattle.lending_core.specs.declared.lent.LentQuery.{LentQuery}

@@ -7,7 +7,7 @@ use Rattle.log_core.specs.Certificates.{certificate_serial, certificate_key}
 use Rattle.sct_core.specs.declared.bounds.TheConstants.{MAX_CERTIFICATE}
 use Rattle.sct_core.specs.declared.fault.CertFault.TheVariants.{Malformed}
 use Rattle.sct_core.specs.Outcome.{sightings_of}
-use Rattle.part_codec.specs.SealedFields.{SealedFields}
+use Rattle.part_text.specs.SealedFields.{SealedFields}
 use Rattle.store_core.specs.StoreLayout.{store}
 use Rattle.card_core.specs.Verdict.{verdict}
 use Rattle.card_core.specs.declared.verdict.Verdict.{Verdict}

@@ -5,7 +5,7 @@ use Rattle.octets_core.specs.declared.fault.Why.TheVariants as whys
 use Rattle.ident_core.specs.declared.range.Sighting.{Sighting}
 use Rattle.sct_core.specs.declared.fault.CertFault.{CertFault}
 use Rattle.sct_core.specs.declared.fault.CertFault.TheVariants as certs
-use Rattle.part_codec.specs.SealedFields.{SealedFields}
+use Rattle.part_text.specs.SealedFields.{SealedFields}
 use Rattle.store_core.specs.Chain.{newest_of}
 use Rattle.store_core.specs.declared.chain.Refusal.{Refusal}
 use Rattle.store_core.specs.declared.chain.Refusal.TheVariants as refusals

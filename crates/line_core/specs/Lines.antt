@@ -19,9 +19,9 @@ use Rattle.card_core.specs.declared.stage.Stage.{Stage}
 use Rattle.card_core.specs.MixedFields.{MixedFields}
 use Rattle.card_core.specs.declared.verdict.Verdict.{Verdict}
 use Rattle.card_core.specs.declared.verdict.Verdict.TheVariants as verdicts
-use Rattle.part_codec.specs.SealedFields.{SealedFields}
+use Rattle.part_text.specs.SealedFields.{SealedFields}
 use Rattle.part_codec.specs.Noting.{note_of}
-use Rattle.part_codec.specs.PartText.{width_of, version_of}
+use Rattle.part_text.specs.PartText.{width_of, version_of}
 use Rattle.part_codec.specs.declared.scan.PartNote.{PartNote}
 use Rattle.crl_core.specs.declared.crl.CrlFault.{CrlFault}
 use Rattle.crl_core.specs.declared.crl.CrlFault.TheVariants as crl_faults

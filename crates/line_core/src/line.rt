@@ -2,7 +2,7 @@
 
 ghost use Rattle.std.specs.Prelude.{◌≡◌, ◌+◌, ◌*◌, ◌≤◌, [], ◌∷◌, ◌++◌, length, codes, decimal};
 ghost use Rattle.hex.specs.Hex.{encode_lower};
-ghost use Rattle.part_codec.specs.PartText.{width_of};
+ghost use Rattle.part_text.specs.PartText.{width_of};
 ghost use Rattle.line_core.specs.Lines.{stage_words, approx_words, mixed_words, leaf_words, body_words, note_line, report_line};
 ghost use Rattle.line_core.specs.Lines.{store_line, rebase_line, sample_line, gather_line, audit_line, disagreement_line};
 ghost use Rattle.line_core.specs.Lines.{head_line, range_line, block_line, shard_line, trailer_line};

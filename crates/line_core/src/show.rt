@@ -1,7 +1,7 @@
 //! The lines of `show`, written one by one: no memory is taken, and no more than one line is held.
 
 ghost use Rattle.std.specs.Prelude.{◌≡◌, ◌++◌, flat_map};
-ghost use Rattle.part_codec.specs.PartText.{version_of as version_in};
+ghost use Rattle.part_text.specs.PartText.{version_of as version_in};
 ghost use Rattle.line_core.specs.Lines.{head_line, range_line, shard_lines, body_lines, block_lines, show_text};
 ghost use Rattle.line_core.specs.Sending.{Sends};
 

@@ -15,7 +15,7 @@ use Rattle.card_core.specs.declared.leaf.Leaf.{Leaf}
 use Rattle.card_core.specs.declared.leaf.Leaf.TheVariants as leaves_of
 use Rattle.card_core.specs.Filter.{as_body}
 use Rattle.card_core.specs.declared.stage.Stage.{Stage}
-use Rattle.part_codec.specs.PlaneBytes.{columns_of_bytes, is_padded}
+use Rattle.part_text.specs.PlaneBytes.{columns_of_bytes, is_padded}
 use Rattle.part_codec.specs.ReadWords.{AreRead, AreStageWords, spelled}
 use Rattle.part_codec.specs.PileFields.{PileFields}
 use Rattle.part_codec.specs.declared.fields.Kept.{Kept}

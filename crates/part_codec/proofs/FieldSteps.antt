@@ -17,13 +17,13 @@ use Rattle.card_core.specs.declared.block.Body.TheVariants as bodies
 use Rattle.card_core.specs.declared.leaf.Leaf.{Leaf}
 use Rattle.card_core.specs.declared.leaf.Leaf.TheVariants as leaves_of
 use Rattle.card_core.specs.Filter.{as_body}
-use Rattle.part_codec.specs.PlaneBytes.{is_padded}
+use Rattle.part_text.specs.PlaneBytes.{is_padded}
 use Rattle.part_codec.specs.declared.fields.Kept.{Kept}
 use Rattle.part_codec.specs.declared.fields.Open.{Open}
 use Rattle.part_codec.specs.declared.fields.Open.TheVariants as opens
 use Rattle.part_codec.specs.declared.fields.TheConstants.{TRAILER}
-use Rattle.part_codec.specs.declared.encode.TheConstants.{MAX_BLOCK, MAX_LEAF}
-use Rattle.part_codec.specs.PartLayout.{is_sharded, some_sharded}
+use Rattle.part_text.specs.declared.encode.TheConstants.{MAX_BLOCK, MAX_LEAF}
+use Rattle.part_text.specs.PartLayout.{is_sharded, some_sharded}
 use Rattle.ident_core.specs.declared.layout.TheConstants.{RANGE_BYTES}
 use Rattle.part_codec.specs.Remaining.{Seen, with_leaf, shards_of, column_of, mixed_of, kept_range, kept_leaves, kept_ranges, kept_issuers, kept_shift, kept_leaf_mode, kept_mode}
 use Rattle.part_codec.specs.Stepping.{in_front, skips, tail_of, width_of, passes, is_padded_last, passes_last, seen_mode, seen_leaf_mode, kept_after, seen_after}
@@ -31,7 +31,7 @@ use Rattle.part_codec.specs.Stepping.{open_range, open_block, open_leaf, open_mo
 use Rattle.part_codec.specs.Stepping.{AreStarts, IsShift, AreLimits, InBlock, InLeaf, IsOpen, Counts, Passed, still, plane_most, behind_ranges, behind_block, behind_leaf}
 use Rattle.part_codec.proofs.MachineLaws.{leaf-mode}
 use Rattle.octets_core.specs.declared.fault.Why.TheVariants as why
-use Rattle.part_codec.proofs.PlaneBytes.{padded-by_last}
+use Rattle.part_text.proofs.PlaneBytes.{padded-by_last}
 
 -- ---- the last word of a plane
 

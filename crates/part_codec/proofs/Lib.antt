@@ -1,12 +1,4 @@
-pub mod PartBounds
-pub mod PartOfFields
-pub mod PlaneBytes
 pub mod Planes
-pub mod MixedTexts
-pub mod PartTexts
-pub mod Loops
-pub mod Words
-pub mod Lengths
 pub mod MachineLaws
 pub mod FieldSteps
 pub mod MachineStands

@@ -37,12 +37,12 @@ use Rattle.card_core.specs.declared.stage.Stage.{Stage}
 use Rattle.card_core.specs.MixedFields.{MixedFields}
 use Rattle.card_core.specs.ShardedFields.{ShardedFields}
 use Rattle.card_core.specs.PartFields.{PartFields}
-use Rattle.part_codec.specs.PlaneBytes.{columns_of_bytes, is_padded}
+use Rattle.part_text.specs.PlaneBytes.{columns_of_bytes, is_padded}
 use Rattle.part_codec.specs.declared.fields.Kept.{Kept}
 use Rattle.part_codec.specs.declared.fields.Open.{Open}
 use Rattle.part_codec.specs.declared.fields.Open.TheVariants as opens
-use Rattle.part_codec.specs.PartLayout.{is_parent, head, plane_bytes, plane, columns, planes, approx_stage, approx, exact, mixed, leaf, shard, shards, sharded}
-use Rattle.part_codec.specs.PartLayout.{body_of, greatest_mode, block, blocks, some_sharded, sharded_test, unsealed, sealed}
+use Rattle.part_text.specs.PartLayout.{is_parent, head, plane_bytes, plane, columns, planes, approx_stage, approx, exact, mixed, leaf, shard, shards, sharded}
+use Rattle.part_text.specs.PartLayout.{body_of, greatest_mode, block, blocks, some_sharded, sharded_test, unsealed, sealed}
 use Rattle.part_codec.specs.Remaining.{Seen, sealed_of, with_range, with_block, with_shard, shards_of, with_leaf, column_of, with_plane, with_approx, mixed_of, kept_range}
 use Rattle.part_codec.specs.Remaining.{kept_ranges, kept_issuers, next_log, next_issuer, Rest, at_trailer, at_blocks}
 use Rattle.part_codec.specs.Remaining.{at_exact_plane, at_exact_starts, at_exact_seed, at_approx_planes, at_approx_plane, at_approx_starts}

@@ -12,9 +12,9 @@ use Rattle.equation_core.specs.Sizes.{columns_for, words_for}
 use Rattle.ribbon_core.specs.PlaneWords.{word_of, plane_of_words, columns_of}
 use Rattle.ribbon_core.proofs.BackSubstitution.{number_same}
 use Rattle.ribbon_core.proofs.Words.{plane_room}
-use Rattle.part_codec.specs.PlaneBytes.{columns_of_bytes, is_padded}
+use Rattle.part_text.specs.PlaneBytes.{columns_of_bytes, is_padded}
 use Rattle.part_codec.specs.ReadWords.{AreRead, spelled}
-use Rattle.part_codec.proofs.PlaneBytes.{number-spelled}
+use Rattle.part_text.proofs.PlaneBytes.{number-spelled}
 
 pub length-first_chunks : {X : Type 0} (k n : ℕ) (xs : List X) → length (first_chunks k n xs) ≡ n
 length-first_chunks k zero xs = refl

@@ -7,12 +7,12 @@ use Rattle.octets_core.specs.Layout.{with_fault}
 use Rattle.octets_core.specs.declared.fault.LayoutFault.{LayoutFault}
 use Rattle.octets_core.specs.Reading.{fault_at}
 use Rattle.octets_core.specs.declared.fault.Why.TheVariants as why
-use Rattle.part_codec.specs.SealedFields.{SealedFields}
-use Rattle.part_codec.specs.PartLayout.{kind_of, sealed, part}
-use Rattle.part_codec.specs.Fitting.{Fits}
+use Rattle.part_text.specs.SealedFields.{SealedFields}
+use Rattle.part_text.specs.PartLayout.{kind_of, sealed, part}
+use Rattle.part_text.specs.Fitting.{Fits}
 use Rattle.part_codec.specs.PileFields.{PileFields}
-use Rattle.part_codec.specs.declared.fault.PartFault.{PartFault}
-use Rattle.part_codec.specs.declared.fault.PartFault.TheVariants as faults
+use Rattle.part_text.specs.declared.fault.PartFault.{PartFault}
+use Rattle.part_text.specs.declared.fault.PartFault.TheVariants as faults
 use Rattle.part_codec.specs.declared.fields.Kept.{Kept}
 use Rattle.part_codec.specs.declared.fields.Open.{Open}
 use Rattle.part_codec.specs.declared.fields.Open.TheVariants as opens
@@ -22,7 +22,7 @@ use Rattle.part_codec.specs.Stepping.{tail_of, name_of}
 use Rattle.part_codec.specs.Scanning.{Stands, Hashes}
 use Rattle.part_codec.specs.Collecting.{nothing_piled, Collects, Reads, HasRead}
 use Rattle.part_codec.specs.ReaderStanding.{ReadsBy, EndsAs}
-use Rattle.part_codec.proofs.PartTexts.{sealed-leaves}
+use Rattle.part_text.proofs.PartTexts.{sealed-leaves}
 use Rattle.part_codec.proofs.MachineStands.{field-done, field-short}
 use Rattle.part_codec.proofs.Scans.{done-is, ends-at}
 use Rattle.octets_core.proofs.Fields.{mapped-ok}

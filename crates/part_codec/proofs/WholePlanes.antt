@@ -7,7 +7,7 @@ use Rattle.octets_core.specs.declared.fault.Why.{Why}
 use Rattle.octets_core.specs.declared.fault.Why.TheVariants as why
 use Rattle.octets_core.proofs.Texts.{IsBytes}
 use Rattle.equation_core.specs.Sizes.{words_for}
-use Rattle.part_codec.specs.PartLayout.{sealed}
+use Rattle.part_text.specs.PartLayout.{sealed}
 use Rattle.part_codec.specs.declared.fields.Kept.{Kept}
 use Rattle.part_codec.specs.declared.fields.Open.{Open}
 use Rattle.part_codec.specs.declared.fields.Open.TheVariants as opens

@@ -1,10 +1,3 @@
-pub mod SealedFields
-pub mod PlaneBytes
-pub mod PartLayout
-pub mod PartText
-pub mod Fitting
-pub mod Offsets
-pub mod Output
 pub mod Remaining
 pub mod Stepping
 pub mod Scanning

@@ -1,8 +1,8 @@
 -- What a scan tells of a part.
 use Rattle.std.specs.Prelude.{ℕ, length as count, Result, Ok, Err}
 use Rattle.octets_core.specs.declared.fault.LayoutFault.{LayoutFault}
-use Rattle.part_codec.specs.SealedFields.{SealedFields}
-use Rattle.part_codec.specs.PartLayout.{kind_of}
+use Rattle.part_text.specs.SealedFields.{SealedFields}
+use Rattle.part_text.specs.PartLayout.{kind_of}
 use Rattle.part_codec.specs.declared.fields.Kept.{Kept}
 use Rattle.part_codec.specs.declared.scan.PartNote.{PartNote}
 

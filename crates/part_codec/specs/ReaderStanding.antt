@@ -1,13 +1,13 @@
 -- For which bytes a reader stands.
 use Rattle.std.specs.Prelude.{◌≡◌, ℕ, List, ◌++◌, length, Option, Some, None, Ok, Err}
 use Rattle.sha2.specs.declared.Sha256.{Sha256}
-use Rattle.part_codec.specs.SealedFields.{SealedFields}
-use Rattle.part_codec.specs.PartLayout.{part}
+use Rattle.part_text.specs.SealedFields.{SealedFields}
+use Rattle.part_text.specs.PartLayout.{part}
 use Rattle.part_codec.specs.PileFields.{PileFields}
 use Rattle.part_codec.specs.Collecting.{Reads}
 use Rattle.part_codec.specs.Scanning.{Hashes}
-use Rattle.part_codec.specs.declared.fault.PartFault.{PartFault}
-use Rattle.part_codec.specs.declared.fault.PartFault.TheVariants as faults
+use Rattle.part_text.specs.declared.fault.PartFault.{PartFault}
+use Rattle.part_text.specs.declared.fault.PartFault.TheVariants as faults
 use Rattle.part_codec.specs.declared.machine.Machine.{Machine}
 use Rattle.part_codec.specs.declared.reader.PartReader.{PartReader}
 

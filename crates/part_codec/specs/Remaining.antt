@@ -22,13 +22,13 @@ use Rattle.card_core.specs.declared.part.TheConstants.{MAX_BLOCKS}
 use Rattle.card_core.specs.declared.stage.Stage.{Stage}
 use Rattle.card_core.specs.Filter.{as_body}
 use Rattle.card_core.specs.PartFields.{PartFields}
-use Rattle.part_codec.specs.PlaneBytes.{columns_of_bytes}
-use Rattle.part_codec.specs.SealedFields.{SealedFields}
+use Rattle.part_text.specs.PlaneBytes.{columns_of_bytes}
+use Rattle.part_text.specs.SealedFields.{SealedFields}
 use Rattle.part_codec.specs.declared.fields.Kept.{Kept}
 use Rattle.part_codec.specs.declared.fields.Open.{Open}
 use Rattle.part_codec.specs.declared.fields.Open.TheVariants as opens
-use Rattle.part_codec.specs.PartLayout.{kind_of, is_parent, plane_bytes, columns, approx, leaf, shards, body_of}
-use Rattle.part_codec.specs.PartLayout.{greatest_mode, block, some_sharded, sharded_test}
+use Rattle.part_text.specs.PartLayout.{kind_of, is_parent, plane_bytes, columns, approx, leaf, shards, body_of}
+use Rattle.part_text.specs.PartLayout.{greatest_mode, block, some_sharded, sharded_test}
 
 -- what came whole before the open field: ranges, blocks, of the open block the leaves of its shards, and of the open
 -- leaf the approximate stage and the columns of the open stage

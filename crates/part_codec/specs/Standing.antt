@@ -2,8 +2,8 @@
 use Rattle.std.specs.Prelude.{◌≡◌, ℕ, List, ◌++◌, length, Option, Some, None, Ok, Err}
 use Rattle.sha2.specs.declared.Sha256.{Sha256}
 use Rattle.octets_core.specs.declared.fault.LayoutFault.{LayoutFault}
-use Rattle.part_codec.specs.SealedFields.{SealedFields}
-use Rattle.part_codec.specs.PartLayout.{sealed}
+use Rattle.part_text.specs.SealedFields.{SealedFields}
+use Rattle.part_text.specs.PartLayout.{sealed}
 use Rattle.part_codec.specs.declared.machine.Machine.{Machine}
 use Rattle.part_codec.specs.declared.scan.PartScan.{PartScan}
 use Rattle.part_codec.specs.Scanning.{Scans}

@@ -18,13 +18,13 @@ use Rattle.ident_core.specs.declared.layout.TheConstants.{RANGE_BYTES}
 use Rattle.card_core.specs.declared.block.Body.TheVariants as bodies
 use Rattle.card_core.specs.declared.leaf.Leaf.TheVariants as leaves_of
 use Rattle.card_core.specs.declared.part.TheConstants.{MAX_BLOCKS}
-use Rattle.part_codec.specs.PlaneBytes.{is_padded}
-use Rattle.part_codec.specs.declared.encode.TheConstants.{MAX_BLOCK, MAX_LEAF}
+use Rattle.part_text.specs.PlaneBytes.{is_padded}
+use Rattle.part_text.specs.declared.encode.TheConstants.{MAX_BLOCK, MAX_LEAF}
 use Rattle.part_codec.specs.declared.fields.TheConstants.{TRAILER}
 use Rattle.part_codec.specs.declared.fields.Kept.{Kept}
 use Rattle.part_codec.specs.declared.fields.Open.{Open}
 use Rattle.part_codec.specs.declared.fields.Open.TheVariants as opens
-use Rattle.part_codec.specs.PartLayout.{is_parent, greatest_mode, some_sharded}
+use Rattle.part_text.specs.PartLayout.{is_parent, greatest_mode, some_sharded}
 use Rattle.part_codec.specs.Remaining.{Seen, with_range, with_block, seen_leaf, column_of, with_plane, with_approx, mixed_of, previous}
 use Rattle.part_codec.specs.Remaining.{kept_range, kept_leaf, kept_leaf_mode, kept_mode, kept_shift, kept_ranges, kept_issuers}
 

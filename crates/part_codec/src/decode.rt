@@ -2,15 +2,14 @@
 
 ghost use Rattle.std.specs.Prelude.{◌≡◌, ◌++◌, ◌≤◌, ℕ, List, length, take, Ok, IfOk, IfErr};
 ghost use Rattle.octets_core.specs.Reading.{GivesUnless};
-ghost use Rattle.part_codec.specs.SealedFields.{SealedFields};
-ghost use Rattle.part_codec.specs.PartLayout.{part};
-ghost use Rattle.part_codec.specs.PartText.{spelling};
-ghost use Rattle.part_codec.specs.Fitting.{Fits};
-ghost use Rattle.part_codec.specs.Offsets.{offset_in_part};
+ghost use Rattle.part_text.specs.SealedFields.{SealedFields};
+ghost use Rattle.part_text.specs.PartLayout.{part};
+ghost use Rattle.part_text.specs.PartText.{spelling};
+ghost use Rattle.part_text.specs.Fitting.{Fits};
+ghost use Rattle.part_text.specs.Offsets.{offset_in_part};
 
-use crate::fault::PartFault;
 use crate::reader::PartReader;
-use crate::sealed::Sealed;
+use part_text::{PartFault, Sealed};
 use std::alloc::Global;
 
 fn sealed_of(alloc: Global, bytes: &[u8]) -> Result<(Sealed, usize), PartFault>

@@ -8,7 +8,7 @@ ghost use Rattle.sha2.specs.Sha256.{sha256};
 ghost use Rattle.sha2.specs.Hashers.{Holds256};
 ghost use Rattle.octets_core.specs.Linked.{is_after};
 ghost use Rattle.octets_core.specs.Layout.{within};
-ghost use Rattle.part_codec.specs.PartLayout.{kind_of, is_parent, greatest_mode};
+ghost use Rattle.part_text.specs.PartLayout.{kind_of, is_parent, greatest_mode};
 ghost use Rattle.part_codec.specs.Remaining.{previous, kept_range, kept_leaf, kept_ranges, kept_issuers, kept_shift, kept_leaf_mode, kept_mode};
 ghost use Rattle.part_codec.specs.Stepping.{in_front, skips as skips_of, tail_of, is_padded_last, passes_last};
 ghost use Rattle.part_codec.specs.Stepping.{AreStarts, IsShift, AreLimits, kept_after, name_of};

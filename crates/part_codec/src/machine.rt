@@ -6,13 +6,12 @@ ghost use Rattle.std.specs.Prelude.{◌≡◌, ◌≢◌, ◌≤◌, ◌<◌, �
 ghost use Rattle.sha2.specs.Hashers.{Holds256};
 ghost use Rattle.part_codec.specs.declared.fields.TheConstants.{LEAST_BLOCK};
 ghost use Rattle.part_codec.specs.declared.machine.TheConstants.{MAX_PART};
-ghost use Rattle.part_codec.specs.PartLayout.{sealed};
+ghost use Rattle.part_text.specs.PartLayout.{sealed};
 ghost use Rattle.part_codec.specs.Remaining.{Seen, nothing_seen};
 ghost use Rattle.equation_core.specs.Sizes.{words_for as words_of};
 ghost use Rattle.part_codec.specs.Stepping.{in_front, skips as skips_of, tail_of, kept_after, seen_after, open_after, settled};
 ghost use Rattle.part_codec.specs.Stepping.{AreStarts, AreLimits, name_of, still};
 
-use crate::encode::MAX_BLOCK;
 use crate::fields::{
     Kept, LEAST_BLOCK, Open, TRAILER, at_leaf, at_plane, is_approx_plane, is_block, is_digest,
     is_front, is_last_padded, keep, keep_leaf, keep_plane, name, next_of, passes, skips, tail,
@@ -21,6 +20,7 @@ use card_core::MAX_BLOCKS;
 use equation_core::words_for;
 use ident_core::{MAX_RANGES, RANGE_BYTES};
 use octets_core::{Key32, LayoutFault, Why};
+use part_text::MAX_BLOCK;
 use sha2::Sha256;
 
 /// The bytes of a part's head up to its ranges.

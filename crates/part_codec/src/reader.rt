@@ -1,23 +1,22 @@
 //! Parts that are read in pieces.
 
-ghost use Rattle.std.specs.Prelude.{◌≡◌, ◌≢◌, ◌++◌, ◌+◌, ◌≤◌, ◌<◌, ℕ, List, [], length, take, true, false, Option, Some, None, Ok, Err, IfOk, OnOk, IfErr};
+ghost use Rattle.std.specs.Prelude.{◌≡◌, ◌≢◌, ◌++◌, ◌+◌, ◌≤◌, ◌<◌, ℕ, List, [], length, take, false, Option, Some, None, Ok, Err, IfOk, IfErr};
 ghost use Rattle.octets_core.specs.Reading.{fault_at};
 ghost use Rattle.octets_core.specs.declared.fault.Why.TheVariants as why;
-ghost use Rattle.part_codec.specs.SealedFields.{SealedFields};
+ghost use Rattle.part_text.specs.SealedFields.{SealedFields};
 ghost use Rattle.part_codec.specs.declared.fields.Open.TheVariants as opens;
-ghost use Rattle.part_codec.specs.declared.fault.PartFault.TheVariants as faults;
-ghost use Rattle.part_codec.specs.PartLayout.{part};
+ghost use Rattle.part_text.specs.declared.fault.PartFault.TheVariants as faults;
+ghost use Rattle.part_text.specs.PartLayout.{part};
 ghost use Rattle.part_codec.specs.Stepping.{in_front, name_of};
 ghost use Rattle.part_codec.specs.Collecting.{Reads, HasRead, HasHashed};
 ghost use Rattle.part_codec.specs.Taking.{IsFront, IsPartial, TakesTo, ReadsOn, FailsRead, FailsHashed};
 
-use crate::fault::PartFault;
 use crate::fields::{Open, is_approx_plane, is_done, is_front, kind};
 use crate::machine::Machine;
 use crate::pile::Pile;
-use crate::sealed::Sealed;
 use card_core::Part;
 use ident_core::Head;
+use part_text::{PartFault, Sealed};
 use sha2::{Digest, Sha256};
 use std::alloc::Global;
 

@@ -1,13 +1,13 @@
 //! Parts that are scanned in pieces, with no memory.
 
-ghost use Rattle.std.specs.Prelude.{◌≡◌, ◌≢◌, ◌++◌, ◌+◌, ◌-◌, ◌^◌, ◌≤◌, ◌<◌, ◌⊎◌, ℕ, List, [], length, take, false};
-ghost use Rattle.std.specs.Prelude.{Option, Some, None, Ok, Err, IfOk, OnOk, IfErr};
+ghost use Rattle.std.specs.Prelude.{◌≡◌, ◌++◌, ◌+◌, ◌-◌, ◌^◌, ◌≤◌, ◌<◌, ◌⊎◌, ℕ, List, [], length, take, false};
+ghost use Rattle.std.specs.Prelude.{Option, Some, None, Ok, Err, IfOk, IfErr};
 ghost use Rattle.octets_core.specs.Reading.{fault_at};
 ghost use Rattle.octets_core.specs.declared.fault.LayoutFault.{LayoutFault};
 ghost use Rattle.octets_core.specs.declared.fault.Why.TheVariants as why;
-ghost use Rattle.part_codec.specs.SealedFields.{SealedFields};
+ghost use Rattle.part_text.specs.SealedFields.{SealedFields};
 ghost use Rattle.part_codec.specs.declared.fields.Open.TheVariants as opens;
-ghost use Rattle.part_codec.specs.PartLayout.{sealed};
+ghost use Rattle.part_text.specs.PartLayout.{sealed};
 ghost use Rattle.part_codec.specs.Stepping.{in_front, name_of};
 ghost use Rattle.part_codec.specs.Taking.{IsPartial, ScansOn, FailsScan};
 ghost use Rattle.part_codec.specs.Noting.{noted, note_by};

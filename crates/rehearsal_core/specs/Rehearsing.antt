@@ -1,6 +1,6 @@
 -- What a history publishes, held together; and what a job adds to it.
 use Rattle.std.specs.Prelude.{◌≡◌, List, [], ◌∷◌, ◌++◌, Option, Some, None}
-use Rattle.part_codec.specs.SealedFields.{SealedFields}
+use Rattle.part_text.specs.SealedFields.{SealedFields}
 use Rattle.job_core.specs.JobFields.{JobFields}
 use Rattle.ledger_core.specs.LedgerFields.{LedgerFields}
 use Rattle.universe_core.specs.Jobs.{facts_of}

@@ -13,7 +13,7 @@ use Rattle.ident_core.specs.declared.kind.Kind.TheVariants as kinds
 use Rattle.ident_core.specs.declared.range.Range.{Range}
 use Rattle.ident_core.specs.Coverage.{LiesIn, LiesWithin, lies_in_some, first_outside}
 use Rattle.ident_core.proofs.Within.{within-iff}
-use Rattle.part_codec.specs.SealedFields.{SealedFields}
+use Rattle.part_text.specs.SealedFields.{SealedFields}
 use Rattle.store_core.specs.declared.chain.Refusal.{Refusal}
 use Rattle.store_core.specs.declared.chain.Refusal.TheVariants as refusals
 use Rattle.store_core.specs.Chain.{Follows, newest_of, not_delta, refusal_of}

@@ -1,11 +1,11 @@
 -- A part's fault, in the bytes that hold the part.
 use Rattle.std.proofs.Common.{◌≡◌, ℕ, List, drop, Err, refl, ap}
 use Rattle.octets_core.specs.Layout.{embedded, from_there}
-use Rattle.part_codec.specs.SealedFields.{SealedFields}
-use Rattle.part_codec.specs.declared.fault.PartFault.{PartFault}
-use Rattle.part_codec.specs.declared.fault.PartFault.TheVariants as faults
+use Rattle.part_text.specs.SealedFields.{SealedFields}
+use Rattle.part_text.specs.declared.fault.PartFault.{PartFault}
+use Rattle.part_text.specs.declared.fault.PartFault.TheVariants as faults
 use Rattle.octets_core.specs.Reading.{GivesUnless}
-use Rattle.part_codec.specs.PartLayout.{part}
+use Rattle.part_text.specs.PartLayout.{part}
 use Rattle.store_core.specs.declared.fault.StoreFault.TheVariants as of_store
 use Rattle.store_core.specs.StoreLayout.{moved}
 

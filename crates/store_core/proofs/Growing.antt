@@ -10,7 +10,7 @@ use Rattle.ident_core.specs.declared.kind.Kind.{Kind}
 use Rattle.ident_core.specs.declared.kind.Kind.TheVariants as kinds
 use Rattle.ident_core.specs.Coverage.{first_outside}
 use Rattle.ident_core.proofs.Within.{within-iff}
-use Rattle.part_codec.specs.SealedFields.{SealedFields}
+use Rattle.part_text.specs.SealedFields.{SealedFields}
 use Rattle.store_core.specs.declared.chain.Refusal.{Refusal}
 use Rattle.store_core.specs.declared.chain.Refusal.TheVariants as refusals
 use Rattle.store_core.specs.Chain.{Follows, IsChain, IsStore, newest_of, not_delta, wrong_parent, old_epoch, broken, broken_behind, full, refusal_of}

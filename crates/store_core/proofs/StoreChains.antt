@@ -11,8 +11,8 @@ use Rattle.octets_core.proofs.Fields.{ok_is}
 use Rattle.octets_core.proofs.Texts.{IsBytes, Leaves, ◌>>-◌, whole-leaves}
 use Rattle.ident_core.specs.declared.kind.Kind.{Kind}
 use Rattle.ident_core.specs.declared.kind.Kind.TheVariants as kinds
-use Rattle.part_codec.specs.SealedFields.{SealedFields}
-use Rattle.part_codec.specs.Fitting.{Fits}
+use Rattle.part_text.specs.SealedFields.{SealedFields}
+use Rattle.part_text.specs.Fitting.{Fits}
 use Rattle.store_core.specs.declared.chain.Refusal.{Refusal}
 use Rattle.store_core.specs.declared.fault.StoreFault.{StoreFault}
 use Rattle.store_core.specs.Chain.{IsStore, refusal_of}

@@ -16,11 +16,11 @@ use Rattle.octets_core.proofs.Fields.{ok_is, then_read-ok, mapped-ok}
 use Rattle.octets_core.proofs.Texts.{IsBytes, Leaves, Takes, Takes-as, ◌>>>◌, ◌>>-◌, whole-leaves, bytes_field-leaves, number_field-leaves, mapped-leaves, wide8}
 use Rattle.ident_core.specs.declared.kind.Kind.{Kind}
 use Rattle.ident_core.specs.declared.kind.Kind.TheVariants as kinds
-use Rattle.part_codec.specs.SealedFields.{SealedFields}
-use Rattle.part_codec.specs.PartLayout.{part}
-use Rattle.part_codec.specs.PartText.{spelling}
-use Rattle.part_codec.specs.Fitting.{Fits}
-use Rattle.part_codec.proofs.PartTexts.{part-leaves}
+use Rattle.part_text.specs.SealedFields.{SealedFields}
+use Rattle.part_text.specs.PartLayout.{part}
+use Rattle.part_text.specs.PartText.{spelling}
+use Rattle.part_text.specs.Fitting.{Fits}
+use Rattle.part_text.proofs.PartTexts.{part-leaves}
 use Rattle.store_core.specs.declared.chain.Refusal.{Refusal}
 use Rattle.store_core.specs.declared.fault.StoreFault.{StoreFault}
 use Rattle.store_core.specs.declared.fault.StoreFault.TheVariants as faults

@@ -10,11 +10,11 @@ use Rattle.octets_core.specs.Reading.{end, value_of}
 use Rattle.octets_core.proofs.Texts.{IsRead, whole-read, then-read, reads, from_front, ends-read, bytes_field-read, number_field-read, embedded-read, mapped-read, wide8}
 use Rattle.ident_core.specs.declared.kind.Kind.{Kind}
 use Rattle.ident_core.specs.declared.kind.Kind.TheVariants as kinds
-use Rattle.part_codec.specs.SealedFields.{SealedFields}
-use Rattle.part_codec.specs.PartLayout.{part}
-use Rattle.part_codec.specs.PartText.{spelling}
-use Rattle.part_codec.specs.Fitting.{Fits}
-use Rattle.part_codec.proofs.PartTexts.{part-read}
+use Rattle.part_text.specs.SealedFields.{SealedFields}
+use Rattle.part_text.specs.PartLayout.{part}
+use Rattle.part_text.specs.PartText.{spelling}
+use Rattle.part_text.specs.Fitting.{Fits}
+use Rattle.part_text.proofs.PartTexts.{part-read}
 use Rattle.store_core.specs.declared.chain.Refusal.{Refusal}
 use Rattle.store_core.specs.declared.fault.StoreFault.{StoreFault}
 use Rattle.store_core.specs.declared.fault.StoreFault.TheVariants as faults

@@ -8,7 +8,7 @@ use Rattle.card_core.specs.PartFields.{PartFields}
 use Rattle.card_core.specs.declared.verdict.Verdict.{Verdict}
 use Rattle.card_core.specs.Verdict.{joined}
 use Rattle.card_core.proofs.Verdicts.{IsAsked, asked-append}
-use Rattle.part_codec.specs.SealedFields.{SealedFields}
+use Rattle.part_text.specs.SealedFields.{SealedFields}
 
 -- one part more
 pub asked-more : (id : Identity) (ss : List Sighting) (parts : List SealedFields) (i : ℕ) (s : SealedFields) (v w : Verdict) (p0 p1 p2 w0 w1 w2 : ℕ) → i < length parts → s ≡ get_or parts i s

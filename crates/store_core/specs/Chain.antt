@@ -8,7 +8,7 @@ use Rattle.ident_core.specs.declared.bounds.TheConstants.{MAX_PARTS}
 use Rattle.ident_core.specs.declared.kind.Kind.{Kind}
 use Rattle.ident_core.specs.declared.kind.Kind.TheVariants as kinds
 use Rattle.ident_core.specs.Coverage.{LiesWithin, first_outside}
-use Rattle.part_codec.specs.SealedFields.{SealedFields}
+use Rattle.part_text.specs.SealedFields.{SealedFields}
 use Rattle.store_core.specs.declared.chain.Refusal.{Refusal}
 use Rattle.store_core.specs.declared.chain.Refusal.TheVariants as refusals
 

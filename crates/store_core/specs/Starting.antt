@@ -1,7 +1,7 @@
 -- Why a part begins no store, and what bytes that begin with it come to.
 use Rattle.std.specs.Prelude.{◌≡◌}
 use Rattle.ident_core.specs.declared.kind.Kind.TheVariants as kinds
-use Rattle.part_codec.specs.SealedFields.{SealedFields}
+use Rattle.part_text.specs.SealedFields.{SealedFields}
 use Rattle.store_core.specs.declared.fault.StoreFault.{StoreFault}
 use Rattle.store_core.specs.declared.fault.StoreFault.TheVariants as faults
 use Rattle.store_core.specs.declared.store.StartFault.{StartFault}

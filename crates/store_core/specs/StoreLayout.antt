@@ -9,11 +9,11 @@ use Rattle.octets_core.specs.declared.fault.LayoutFault.{LayoutFault}
 use Rattle.ident_core.specs.declared.bounds.TheConstants.{MAX_PARTS}
 use Rattle.ident_core.specs.declared.kind.Kind.{Kind}
 use Rattle.ident_core.specs.declared.kind.Kind.TheVariants as kinds
-use Rattle.part_codec.specs.SealedFields.{SealedFields}
-use Rattle.part_codec.specs.declared.fault.PartFault.{PartFault}
-use Rattle.part_codec.specs.declared.fault.PartFault.TheVariants as of_part
-use Rattle.part_codec.specs.PartLayout.{part}
-use Rattle.part_codec.specs.PartText.{spelling}
+use Rattle.part_text.specs.SealedFields.{SealedFields}
+use Rattle.part_text.specs.declared.fault.PartFault.{PartFault}
+use Rattle.part_text.specs.declared.fault.PartFault.TheVariants as of_part
+use Rattle.part_text.specs.PartLayout.{part}
+use Rattle.part_text.specs.PartText.{spelling}
 use Rattle.store_core.specs.declared.chain.Refusal.{Refusal}
 use Rattle.store_core.specs.declared.fault.StoreFault.{StoreFault}
 use Rattle.store_core.specs.declared.fault.StoreFault.TheVariants as faults

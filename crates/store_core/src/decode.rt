@@ -3,9 +3,9 @@
 ghost use Rattle.std.specs.Prelude.{◌≡◌, ◌+◌, ◌<◌, ◌^◌, ◌≤◌, length, IfOk, All};
 ghost use Rattle.octets_core.specs.Layout.{embedded};
 ghost use Rattle.octets_core.specs.Reading.{GivesUnless, value_of};
-ghost use Rattle.part_codec.specs.Fitting.{Fits};
-ghost use Rattle.part_codec.specs.Offsets.{offset_in_part};
-ghost use Rattle.part_codec.specs.PartLayout.{part as part_layout};
+ghost use Rattle.part_text.specs.Fitting.{Fits};
+ghost use Rattle.part_text.specs.Offsets.{offset_in_part};
+ghost use Rattle.part_text.specs.PartLayout.{part as part_layout};
 ghost use Rattle.store_core.specs.StoreLayout.{store as store_layout, store_parts, store_text, chain, first_part, moved as moved_by};
 
 use crate::fault::StoreFault;

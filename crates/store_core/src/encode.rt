@@ -1,8 +1,8 @@
 //! Stores as bytes.
 
 ghost use Rattle.std.specs.Prelude.{◌≡◌, ◌++◌, IfOk, OnOk, All, flat_map};
-ghost use Rattle.part_codec.specs.Fitting.{Fits};
-ghost use Rattle.part_codec.specs.PartText.{spelling};
+ghost use Rattle.part_text.specs.Fitting.{Fits};
+ghost use Rattle.part_text.specs.PartText.{spelling};
 ghost use Rattle.store_core.specs.StoreLayout.{store_text};
 
 use crate::store::Store;

@@ -4,8 +4,8 @@ ghost use Rattle.std.specs.Prelude.{◌≡◌, ◌↔◌, ◌≤◌, ◌<◌, �
 ghost use Rattle.ident_core.specs.declared.bounds.TheConstants.{MAX_PARTS};
 ghost use Rattle.ident_core.specs.declared.kind.Kind.TheVariants.{Snapshot};
 ghost use Rattle.octets_core.specs.Reading.{value_of};
-ghost use Rattle.part_codec.specs.SealedFields.{SealedFields};
-ghost use Rattle.part_codec.specs.Fitting.{Fits};
+ghost use Rattle.part_text.specs.SealedFields.{SealedFields};
+ghost use Rattle.part_text.specs.Fitting.{Fits};
 ghost use Rattle.store_core.specs.declared.chain.Refusal.TheVariants.{NotDelta, WrongParent, OldEpoch, CoverageShrinks, Full};
 ghost use Rattle.store_core.specs.Chain.{newest_of, refusal_of, Follows, IsChain, IsStore};
 ghost use Rattle.store_core.specs.Refusals.{HasWrongParent, HasOldEpoch, LosesCoverage};

@@ -25,7 +25,7 @@ pub struct Store {
 impl Model for Store {
     ghost use Rattle.std.specs.Prelude.{List, ◌≤◌, vec_capacity};
     ghost use Rattle.ident_core.specs.declared.bounds.TheConstants.{MAX_PARTS};
-    ghost use Rattle.part_codec.specs.SealedFields.{SealedFields};
+    ghost use Rattle.part_text.specs.SealedFields.{SealedFields};
     ghost use Rattle.store_core.specs.Chain.{IsStore};
 
     ghost Value = { List SealedFields };

@@ -1,5 +1,5 @@
 use Rattle.std.proofs.Common.{List, Ok, refl}
-use Rattle.part_codec.specs.SealedFields.{SealedFields}
+use Rattle.part_text.specs.SealedFields.{SealedFields}
 use Rattle.input_core.specs.Inputs.{WhichFailed}
 use Rattle.input_core.proofs.Reading.{all_of}
 use Rattle.device_top.proofs.Answering.{bad_store, good_store, no_store}

@@ -1,6 +1,6 @@
 use Rattle.std.proofs.Common.{arith}
-use Rattle.part_codec.proofs.PartTexts.{found-of, takes-of, len-of, only-of}
-use Rattle.part_codec.proofs.PartBounds.{at-of}
+use Rattle.part_text.proofs.PartTexts.{found-of, takes-of, len-of, only-of}
+use Rattle.part_text.proofs.PartBounds.{at-of}
 use Rattle.part_codec.proofs.decode.decode_part.Goals as goal
 
 pub returns-clause-found : goal.returns-clause-found

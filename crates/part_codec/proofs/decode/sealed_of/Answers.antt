@@ -1,7 +1,7 @@
 use Rattle.std.proofs.Common.{List, ℕ, [], take, drop, ap, sym, ◌∙◌}
 use Rattle.std.proofs.lemmas.Result.{err_from_is_err_and}
 use Rattle.std.proofs.lemmas.List.{append-nil}
-use Rattle.part_codec.specs.PartLayout.{part}
+use Rattle.part_text.specs.PartLayout.{part}
 use Rattle.part_codec.proofs.Readings.{given-ok, given-err}
 use Rattle.part_codec.proofs.decode.sealed_of.Goals as goal
 

@@ -4,8 +4,8 @@ use Rattle.std.proofs.lemmas.Result.{err_from_is_err_and}
 use Rattle.std.proofs.lemmas.List.{take_rest}
 use Rattle.octets_core.specs.Layout.{with_fault}
 use Rattle.octets_core.specs.declared.fault.LayoutFault.{LayoutFault}
-use Rattle.part_codec.specs.SealedFields.{SealedFields}
-use Rattle.part_codec.specs.declared.fault.PartFault.TheVariants as faults
+use Rattle.part_text.specs.SealedFields.{SealedFields}
+use Rattle.part_text.specs.declared.fault.PartFault.TheVariants as faults
 use Rattle.part_codec.specs.Scanning.{Hashes}
 use Rattle.part_codec.specs.Collecting.{Reads}
 use Rattle.part_codec.proofs.MachineStands.{pieces-join}

@@ -1,5 +1,5 @@
-use Rattle.part_codec.specs.PartText.{spelling}
-use Rattle.part_codec.specs.Fitting.{Fits}
+use Rattle.part_text.specs.PartText.{spelling}
+use Rattle.part_text.specs.Fitting.{Fits}
 use Rattle.octets_core.proofs.Loops.{appended-more, all-more}
 use Rattle.store_core.proofs.encode.put_parts.Goals as goal
 

@@ -1,7 +1,7 @@
 use Rattle.std.proofs.Common.{◌≡◌, ◌++◌, take}
 use Rattle.std.specs.Prelude.{flat_map, All}
-use Rattle.part_codec.specs.PartText.{spelling}
-use Rattle.part_codec.specs.Fitting.{Fits}
+use Rattle.part_text.specs.PartText.{spelling}
+use Rattle.part_text.specs.Fitting.{Fits}
 use Rattle.store_core.proofs.encode.put_parts.Given as goal
 
 abbrev pub invariant-loop-part : goal.invariant-loop-part

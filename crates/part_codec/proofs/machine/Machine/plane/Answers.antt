@@ -1,7 +1,7 @@
 use Rattle.std.proofs.Common.{true, ◌≡◌, ℕ, ◌+◌, ◌-◌, List, ◌++◌, take, drop, Err, refl, sym, ap, subst, ◌∙◌, arith, rules}
 use Rattle.std.proofs.lemmas.Result.{err_from_is_err_and}
 use Rattle.octets_core.specs.declared.fault.LayoutFault.{LayoutFault}
-use Rattle.part_codec.specs.PartLayout.{sealed}
+use Rattle.part_text.specs.PartLayout.{sealed}
 use Rattle.part_codec.specs.Remaining.{Seen}
 use Rattle.part_codec.specs.Stepping.{seen_after}
 use Rattle.part_codec.specs.Scanning.{Stands, Moved}

@@ -1,4 +1,0 @@
-use Rattle.part_codec.proofs.text.put_stage.Given as goal
-
-abbrev pub ghosts-put_planes : goal.ghosts-put_planes
-ghosts-put_planes g a = record { name = a.blank.name; parts = a.blank.parts }
