@@ -1,4 +1,5 @@
 pub mod Lists
+pub mod Narrowing
 pub mod Verdicts
 pub mod Telling
 pub mod Checks

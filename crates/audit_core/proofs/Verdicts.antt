@@ -7,7 +7,7 @@ use Rattle.card_core.specs.declared.verdict.Verdict.{Verdict}
 use Rattle.card_core.specs.declared.verdict.Verdict.TheVariants.{NotCovered, NotEnrolled, Good, Revoked}
 use Rattle.card_core.specs.Verdict.{verdict, joined}
 use Rattle.card_core.proofs.Verdicts.{verdict-append}
-use Rattle.part_codec.specs.SealedFields.{SealedFields}
+use Rattle.part_text.specs.SealedFields.{SealedFields}
 use Rattle.audit_core.specs.Checking.{is_truth, truth_by}
 
 -- one part more

@@ -1,42 +1,16 @@
 //! What a ledger tells of an entry.
 
-ghost use Rattle.std.specs.Prelude.{◌≡◌, ◌≤◌, ◌<◌, length, map, take, find, slice_get, is_some, All};
+ghost use Rattle.std.specs.Prelude.{◌≡◌, ◌<◌, length, map, take, is_some, All};
 ghost use Rattle.std.specs.List.{list_any};
-ghost use Rattle.std.specs.List.Sorted.{IsStrictlySortedBy};
-ghost use Rattle.ident_core.specs.Order.{identity_cmp, is_same as same};
-ghost use Rattle.ledger_core.specs.LedgerFields.{ids, part_fields};
+ghost use Rattle.ledger_core.specs.LedgerFields.{part_fields};
 ghost use Rattle.universe_core.specs.Judging.{IsSearchable};
 ghost use Rattle.universe_core.specs.Ledgers.{birth_or, last_or_none, lacked_by};
 ghost use Rattle.audit_core.specs.Checking.{is_seen, listing as listing_of};
 
-use ident_core::Identity;
+use crate::searching::item_of;
 use ledger_core::{Ledger, LedgerItem, LedgerPart};
 use log_core::Entry;
 use sets_core::{covers_sorted, holds_key};
-use std::cmp::Ordering;
-
-fn order(item: &LedgerItem, id: &Identity) -> Ordering
-    ensures { result ≡ identity_cmp item.now.id id.now }
-{
-    item.id.cmp(id)
-}
-
-fn item_at(items: &[LedgerItem], place: usize) -> Option<LedgerItem>
-    ensures { result ≡ slice_get items.now place }
-{
-    items.get(place).copied()
-}
-
-/// The item of an identity. A binary search.
-fn item_of(items: &[LedgerItem], id: &Identity) -> Option<LedgerItem>
-    requires sorted { IsStrictlySortedBy identity_cmp (ids items.now) }
-    ensures { result ≡ find (λ i. same id.now i.id) items.now }
-{
-    match items.binary_search_by(|i| order(i, id)) {
-        Ok(place) => item_at(items, place),
-        Err(_) => None,
-    }
-}
 
 /// Whether a part covers the entry and enrolls its issuer.
 fn sees(part: &LedgerPart, entry: &Entry) -> bool
