@@ -84,6 +84,36 @@ fn a_file_is_opened_once(rt: HostRuntime) -> Result<(), Fail> {
     Ok(())
 }
 
+const AHEAD: &str = "files_read_ahead";
+
+const LONG: &str = "files_read_ahead/long";
+
+// A file is read ahead: on both sides of where that ends, and behind it what is added later.
+#[test]
+fn a_file_longer_than_is_read_ahead(rt: HostRuntime) -> Result<(), Fail> {
+    if fs::exists(&rt, AHEAD)? {
+        fs::remove_dir_all(&rt, AHEAD)?;
+    }
+    fs::create_dir(&rt, AHEAD)?;
+    let mut depot = FileDepot::new(&rt);
+    depot.begin(LONG)?;
+    append_all(&mut depot, LONG, &[0; 65_530])?;
+    append_all(&mut depot, LONG, b"0123456789")?;
+    let mut buf = [b'-'; 8];
+    assert_eq!(rt; depot.read_at(LONG, 0, &mut buf), Ok(8));
+    assert_eq!(rt; buf, [0; 8]);
+    assert_eq!(rt; depot.read_at(LONG, 65_530, &mut buf), Ok(6));
+    assert_eq!(rt; buf.get(..6), Some(b"012345".as_slice()));
+    assert_eq!(rt; depot.read_at(LONG, 65_536, &mut buf), Ok(4));
+    assert_eq!(rt; buf.get(..4), Some(b"6789".as_slice()));
+    append_all(&mut depot, LONG, b"!")?;
+    assert_eq!(rt; depot.read_at(LONG, 65_540, &mut buf), Ok(1));
+    assert_eq!(rt; depot.read_at(LONG, 65_541, &mut buf), Ok(0));
+    assert_eq!(rt; depot.read_at(LONG, 3, &mut buf), Ok(8));
+    fs::remove_dir_all(&rt, AHEAD)?;
+    Ok(())
+}
+
 const LINKED: &str = "linked_files";
 
 const WRITTEN: &str = "linked_files/written";

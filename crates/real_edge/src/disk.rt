@@ -1,6 +1,7 @@
 ghost use Rattle.std.specs.Prelude.{◌≡◌, ◌≤◌, length, IfOk};
 
-use crate::files::{read_from, write_to};
+use crate::ahead::read_from;
+use crate::files::write_to;
 use outside_core::Failed;
 use slot_core::Disk;
 use std::fs::{OpenFile, OpenOptions};

@@ -1,9 +1,10 @@
 ghost use Rattle.std.specs.Prelude.{◌≡◌, ◌≤◌, length, IfOk};
 
+use crate::ahead::{Ahead, read_through};
 use outside_core::{Depot, Failed};
 use std::fs;
 use std::fs::{OpenFile, OpenOptions};
-use std::io::{Read, Seek, SeekFrom, Write};
+use std::io::Write;
 use std::os::unix::fs::MetadataExt;
 use std::rt::Files;
 
@@ -40,30 +41,16 @@ impl<F: Drop> Held<F> {
 }
 
 /// The files of the system, by their paths. The file that was read last stays open, and so does the one that was begun
-/// last; that one can't be begun by another of its names, as by a link or as `./NAME`.
+/// last; that one can't be begun by another of its names, as by a link or as `./NAME`. A file is read ahead, until
+/// something is written.
 #[derive(Drop)]
 pub struct FileDepot<'a, R: Files> {
     rt: &'a R,
     read: Option<Held<R::File>>,
+    ahead: Ahead,
     begun: Option<Held<R::File>>,
     read_faults: u64,
     write_faults: u64,
-}
-
-pub(crate) fn read_from<F: Read + Seek>(
-    file: &mut F,
-    at: u64,
-    buf: &mut [u8],
-) -> Result<usize, Failed>
-    ensures { IfOk result (λ n. n ≤ length buf.old) }
-{
-    let Ok(_) = file.seek(SeekFrom::Start(at)) else {
-        return Err(Failed);
-    };
-    match file.read(buf) {
-        Ok(n) => Ok(n),
-        Err(_) => Err(Failed),
-    }
 }
 
 pub(crate) fn write_to<F: Write>(file: &mut F, bytes: &[u8]) -> Result<usize, Failed>
@@ -105,6 +92,7 @@ impl<'a, R: Files> FileDepot<'a, R> {
         FileDepot {
             rt,
             read: None,
+            ahead: Ahead::new(),
             begun: None,
             read_faults: 0,
             write_faults: 0,
@@ -119,13 +107,14 @@ impl<'a, R: Files> FileDepot<'a, R> {
     {
         if let Some(held) = &mut self.read {
             if held.is_named(name) {
-                return read_from(&mut held.file, at, buf);
+                return read_through(&mut self.ahead, &mut held.file, at, buf);
             }
         }
+        self.ahead.forget();
         let Ok(mut file) = fs::open(self.rt, name) else {
             return Err(Failed);
         };
-        let read = read_from(&mut file, at, buf);
+        let read = read_through(&mut self.ahead, &mut file, at, buf);
         self.read = Held::new(name, file);
         read
     }
@@ -144,6 +133,7 @@ impl<'a, R: Files> FileDepot<'a, R> {
         ensures same_writes { self.new.write_faults ≡ self.old.write_faults }
     {
         self.begun = None;
+        self.ahead.forget();
         let Ok(file) = fs::create(self.rt, name) else {
             return Err(Failed);
         };
@@ -157,6 +147,7 @@ impl<'a, R: Files> FileDepot<'a, R> {
         ensures same_reads { self.new.read_faults ≡ self.old.read_faults }
         ensures same_writes { self.new.write_faults ≡ self.old.write_faults }
     {
+        self.ahead.forget();
         if let Some(begun) = &mut self.begun {
             if begun.is_named(name) {
                 return write_to(&mut begun.file, bytes);
