@@ -22,6 +22,7 @@ use Rattle.universe_core.specs.Jobs.{Job, facts_of, enrolled}
 use Rattle.universe_core.specs.History.{Release, released, accepted_with}
 use Rattle.universe_core.specs.Ledgers.{past_in}
 use Rattle.universe_core.specs.Groups.{GroupFields, members_of, group_of, groups}
+use Rattle.universe_core.specs.Rebases.{group_among}
 use Rattle.universe_core.specs.Step.{bad_crl_from, old_epoch, shrunk, chain_full, too_many, refusal, groups_after}
 use Rattle.universe_core.proofs.Beginning.{issuers_few}
 use Rattle.universe_core.proofs.Issuers.{enrolled_ascend}
@@ -29,13 +30,13 @@ use Rattle.builder_core.specs.Building.{issuers_of, identities_in}
 
 -- ---- issuers
 
-issuers_from : (r : Release) (ks : List (List ℕ)) → issuers_of (map (group_of r) ks) ≡ ks
-issuers_from r [] = refl
-issuers_from r (k ∷ ks) = ap (λ ls. k ∷ ls) (issuers_from r ks)
+pub issuers_among : (xs revoked : List Identity) (ks : List (List ℕ)) → issuers_of (map (group_among xs revoked) ks) ≡ ks
+issuers_among xs revoked [] = refl
+issuers_among xs revoked (k ∷ ks) = ap (λ ls. k ∷ ls) (issuers_among xs revoked ks)
 
 pub issuers_are : (r : Release) → issuers_of (groups r) ≡ r.issuers
 unfolding groups
-issuers_are r = issuers_from r r.issuers
+issuers_are r = issuers_among r.accepted r.revoked r.issuers
 
 pub groups_ascend : (ledger : LedgerFields) (job : Job) (gs : List GroupFields) → gs ≡ groups_after ledger job → IsStrictlySortedBy octets_cmp (issuers_of gs)
 groups_ascend ledger job gs is =
@@ -101,10 +102,15 @@ total_few (k ∷ ks) xs s =
     let few : total ks (others_of k xs) ≤ length (others_of k xs) = total_few ks (others_of k xs) s.1 in
     omega (arith, parted, same, few)
 
-identities_from : (r : Release) (ks : List (List ℕ)) → identities_in (map (group_of r) ks) ≡ total ks r.accepted
-identities_from r [] = refl
-identities_from r (k ∷ ks) =
-    sum_by-cons (λ (g : GroupFields). length g.universe) (group_of r k) (map (group_of r) ks) ∙ ap (λ (n : ℕ). length (members_of k r.accepted) + n) (identities_from r ks)
+identities_from : (xs revoked : List Identity) (ks : List (List ℕ)) → identities_in (map (group_among xs revoked) ks) ≡ total ks xs
+identities_from xs revoked [] = refl
+identities_from xs revoked (k ∷ ks) =
+    sum_by-cons (λ (g : GroupFields). length g.universe) (group_among xs revoked k) (map (group_among xs revoked) ks)
+    ∙ ap (λ (n : ℕ). length (members_of k xs) + n) (identities_from xs revoked ks)
+
+-- the groups of ascending issuers have no more identities together than there are
+pub identities_among : (xs revoked : List Identity) (ks : List (List ℕ)) → IsStrictlySortedBy octets_cmp ks → identities_in (map (group_among xs revoked) ks) ≤ length xs
+identities_among xs revoked ks s = omega (arith, identities_from xs revoked ks, total_few ks xs s)
 
 none_of : (a b : Option AdmitFault) → option_or a b ≡ None → b ≡ None
 none_of None b h = h
@@ -132,5 +138,6 @@ pub identities_few : (limits : Limits) (ledger : LedgerFields) (job : JobFields)
 unfolding groups
 identities_few limits ledger job gs is none =
     let r = released (past_in ledger) (facts_of job) [] in
-    let e : identities_in gs ≡ total (enrolled (facts_of job)) (accepted_with (past_in ledger) (facts_of job)) = ap identities_in is ∙ identities_from r (enrolled (facts_of job)) in
-    omega (arith, e, total_few (enrolled (facts_of job)) (accepted_with (past_in ledger) (facts_of job)) (enrolled_ascend (facts_of job)), accepted_few limits ledger job none)
+    let few : identities_in (groups_after ledger (facts_of job)) ≤ length (accepted_with (past_in ledger) (facts_of job))
+    = identities_among r.accepted r.revoked (enrolled (facts_of job)) (enrolled_ascend (facts_of job)) in
+    omega (arith, ap identities_in is, few, accepted_few limits ledger job none)

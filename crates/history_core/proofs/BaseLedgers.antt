@@ -140,10 +140,10 @@ module _ (keeps_item : LedgerItem → Bool) (rs : List Release) (trailer : List 
   abbrev kept_ids : List Identity
   kept_ids = filter (λ x. keeps_item (item_from rs x)) (accepted_by [] rs)
 
-  accepted_same : ids (filter keeps_item (map (item_from rs) (accepted_by [] rs))) ≡ kept_ids
+  pub accepted_same : ids (filter keeps_item (map (item_from rs) (accepted_by [] rs))) ≡ kept_ids
   accepted_same = ap ids (filter_items keeps_item rs (accepted_by [] rs)) ∙ ids_of_items rs kept_ids
 
-  revoked_same : ids (filter (λ (i : LedgerItem). is_some i.last) (filter keeps_item (map (item_from rs) (accepted_by [] rs)))) ≡ filter (is_listed rs) kept_ids
+  pub revoked_same : ids (filter (λ (i : LedgerItem). is_some i.last) (filter keeps_item (map (item_from rs) (accepted_by [] rs)))) ≡ filter (is_listed rs) kept_ids
   revoked_same =
       ap (λ is. ids (filter (λ (i : LedgerItem). is_some i.last) is)) (filter_items keeps_item rs (accepted_by [] rs))
       ∙ ap ids (filter_items (λ i. is_some i.last) rs kept_ids)

@@ -142,7 +142,7 @@ leaves past job trailer = record {
       ∙ ap (λ b. lists job x && b) (has-filter (λ y. has_key (enrolled job) y.issuer) (accepted_with past job) x);
 }
 
-zip_push : {A B : Type 0} (R : A → B → Type 0) (xs : List A) (ys : List B) (x : A) (y : B) → AllZip R xs ys → R x y → AllZip R (xs ++ x ∷ []) (ys ++ y ∷ [])
+pub zip_push : {A B : Type 0} (R : A → B → Type 0) (xs : List A) (ys : List B) (x : A) (y : B) → AllZip R xs ys → R x y → AllZip R (xs ++ x ∷ []) (ys ++ y ∷ [])
 zip_push R [] [] x y z r = (r, tt)
 zip_push R [] (w ∷ ys) x y z r = absurd z
 zip_push R (v ∷ xs) [] x y z r = absurd z

@@ -1,5 +1,5 @@
 -- The parts of a history are a chain, and each has a text.
-use Rattle.std.proofs.Common.{◌≡◌, ◌+◌, ◌≤◌, List, [], ◌∷◌, ◌++◌, map, length, Option, Some, refl, sym, ap, ◌∙◌, subst, arith}
+use Rattle.std.proofs.Common.{◌≡◌, ℕ, ◌+◌, ◌≤◌, List, [], ◌∷◌, ◌++◌, map, length, Option, Some, refl, sym, ap, ◌∙◌, subst, arith}
 use Rattle.std.specs.Prelude.{All, IfSome}
 use Rattle.std.specs.Option.{option_map}
 use Rattle.std.proofs.lemmas.List.{length-append}
@@ -10,16 +10,18 @@ use Rattle.ident_core.specs.declared.range.Range.{Range}
 use Rattle.ident_core.specs.declared.kind.Kind.TheVariants as kinds
 use Rattle.ident_core.specs.HeadFields.{HeadFields}
 use Rattle.ident_core.specs.Coverage.{LiesWithin}
-use Rattle.part_codec.specs.SealedFields.{SealedFields}
-use Rattle.part_codec.specs.PartText.{unsealed_text}
-use Rattle.part_codec.specs.Fitting.{Fits}
+use Rattle.part_text.specs.SealedFields.{SealedFields}
+use Rattle.part_text.specs.PartText.{unsealed_text}
+use Rattle.part_text.specs.Fitting.{Fits}
 use Rattle.universe_core.specs.Formats.{JobIn}
 use Rattle.universe_core.specs.History.{Release}
 use Rattle.universe_core.specs.Ledgers.{part_from}
 use Rattle.universe_core.specs.Step.{kind_by, parent_by}
+use Rattle.history_core.specs.Bases.{base_with, base_at}
 use Rattle.store_core.specs.Chain.{Follows, IsChain}
-use Rattle.publication_core.specs.Histories.{newest_of, GoesOn, IsAdmissible, IsPartOf, release_of, AreAdmissible, History, of_jobs, IsHistory}
-use Rattle.publication_core.proofs.PartTexts.{newest_part, part_has_text}
+use Rattle.publication_core.specs.Histories.{newest_of, GoesOn, IsAdmissible, IsPartOf, IsBasePart, release_of, AreAdmissible, History, of_jobs, rebased, IsHistory, history}
+use Rattle.publication_core.proofs.Ledgers.{history_base_fits}
+use Rattle.publication_core.proofs.PartTexts.{newest_part, part_has_text, base_has_text}
 
 -- ---- the newest release, and its part
 
@@ -31,6 +33,14 @@ record Matches (r : Release) (s : SealedFields) : Type 0 where
 
 release_matches : (rs : List Release) (job : JobIn) (s : SealedFields) → IsPartOf rs job s → Matches (release_of rs job s) s
 release_matches rs job s is = record {
+  epoch = sym (ap (λ (h : HeadFields). h.epoch) is.head_is);
+  ranges = sym (ap (λ (h : HeadFields). h.ranges) is.head_is);
+  trailer = refl;
+}
+
+base_matches : (moment : ℕ) (rs : List Release) (s : SealedFields) → IsBasePart moment rs s → Matches (base_at moment rs s.trailer) s
+unfolding base_with
+base_matches moment rs s is = record {
   epoch = sym (ap (λ (h : HeadFields). h.epoch) is.head_is);
   ranges = sym (ap (λ (h : HeadFields). h.ranges) is.head_is);
   trailer = refl;
@@ -79,6 +89,10 @@ history_chain (of_jobs (job ∷ jobs)) [] h = absurd h
 history_chain (of_jobs (job ∷ jobs)) (s ∷ parts) h =
     let made : Release = release_of [] job s in
     (ap (λ (h : HeadFields). h.kind) h.1.head_is, linked_after (made ∷ []) made s jobs parts refl (release_matches [] job s h.1) h.2)
+history_chain (rebased b old moment jobs) [] h = absurd h
+history_chain (rebased b old moment jobs) (s ∷ parts) h =
+    let base : Release = base_at moment (history b old) s.trailer in
+    (ap (λ (h : HeadFields). h.kind) h.2.head_is, linked_after (base ∷ []) base s jobs parts refl (base_matches moment (history b old) s h.2) h.3)
 
 -- ---- how many parts there are
 
@@ -93,6 +107,8 @@ few_after rs (job ∷ jobs) (s ∷ parts) few h =
 
 pub history_few : (h : History) (parts : List SealedFields) → IsHistory h parts → length parts ≤ 64
 history_few (of_jobs jobs) parts h = omega (arith, few_after [] jobs parts (omega arith) h)
+history_few (rebased b old moment jobs) [] h = absurd h
+history_few (rebased b old moment jobs) (s ∷ parts) h = omega (arith, few_after (base_at moment (history b old) s.trailer ∷ []) jobs parts (omega arith) h.3)
 
 -- ---- the texts
 
@@ -104,6 +120,10 @@ digest_pushed : (rs : List Release) (job : JobIn) (s : SealedFields) → IsPartO
 digest_pushed rs job s is =
     subst (λ (o : Option Release). IfSome o (λ r. length r.trailer ≡ 32)) (sym (newest_pushed rs (release_of rs job s))) (ap length is.trailer ∙ length-sha256 (unsealed_text s.part))
 
+base_digest : (moment : ℕ) (rs : List Release) (s : SealedFields) → IsBasePart moment rs s → EndsInDigest (base_at moment rs s.trailer ∷ [])
+unfolding base_with
+base_digest moment rs s is = ap length is.trailer ∙ length-sha256 (unsealed_text s.part)
+
 texts_after : (rs : List Release) (jobs : List JobIn) (parts : List SealedFields) → EndsInDigest rs → AreAdmissible rs jobs parts → All Fits parts
 texts_after rs [] [] digest h = All-nil Fits
 texts_after rs [] (s ∷ parts) digest h = absurd h
@@ -113,3 +133,8 @@ texts_after rs (job ∷ jobs) (s ∷ parts) digest h =
 
 pub history_texts : (h : History) (parts : List SealedFields) → IsHistory h parts → All Fits parts
 history_texts (of_jobs jobs) parts h = texts_after [] jobs parts tt h
+history_texts (rebased b old moment jobs) [] h = absurd h
+history_texts (rebased b old moment jobs) (s ∷ parts) h =
+    let rs : List Release = history b old in
+    All-cons Fits s parts (base_has_text moment rs s h.2 (history_base_fits b old moment s h.0 h.1 h.2))
+    (texts_after (base_at moment rs s.trailer ∷ []) jobs parts (base_digest moment rs s h.2) h.3)

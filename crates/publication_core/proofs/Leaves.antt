@@ -26,7 +26,7 @@ use Rattle.card_core.specs.MixedFields.{MixedFields}
 use Rattle.card_core.specs.Leaf.{IsStage, approx_equations, exact_equations, passes, IsApprox, false_positives, IsLeaf, IsMixed, flagged}
 use Rattle.card_core.specs.ShardedFields.{ShardedFields}
 use Rattle.card_core.specs.Filter.{cut, filter_of, in_shard, IsFilter}
-use Rattle.part_codec.specs.Fitting.{StageFits, FirstFits, MixedFits, LeafFits, ShardsFit, BodyFits, BlockFits}
+use Rattle.part_text.specs.Fitting.{StageFits, FirstFits, MixedFits, LeafFits, ShardsFit, BodyFits, BlockFits}
 use Rattle.universe_core.specs.Groups.{GroupFields}
 use Rattle.builder_core.specs.declared.format.Format.{Format}
 use Rattle.builder_core.specs.Building.{shift_in, IsGroupBlock}

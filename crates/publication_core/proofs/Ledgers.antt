@@ -1,9 +1,9 @@
 -- The ledger of a history has a text, from which it is read back.
-use Rattle.std.proofs.Common.{◌≡◌, ℕ, ◌≤◌, inl, inr, ⊎_elim, List, [], ◌∷◌, ◌++◌, map, length, true, Option, Some, None, Result, Ok, Err, refl, sym, ap, ◌∙◌, subst, arith}
+use Rattle.std.proofs.Common.{◌≡◌, ℕ, ◌<◌, ◌≤◌, ◌^◌, inl, inr, ⊎_elim, Bool, List, [], ◌∷◌, ◌++◌, map, length, true, Option, Some, None, Result, Ok, Err, refl, sym, ap, ◌∙◌, subst, arith}
 use Rattle.std.specs.Prelude.{ℤ, All, IfSome, not}
 use Rattle.std.specs.Int.{w64}
 use Rattle.std.specs.Int.RustNames.{FitsSigned}
-use Rattle.std.specs.List.{list_all}
+use Rattle.std.specs.List.{list_all, flat_map}
 use Rattle.std.specs.Option.{option_or}
 use Rattle.std.proofs.lemmas.List.{length-map}
 use Rattle.std.proofs.lemmas.List.Elements.{All-nil, All-cons, All-append, All-map, All-contains, All-from_recursion}
@@ -14,17 +14,18 @@ use Rattle.octets_core.specs.Reading.{value_of}
 use Rattle.ident_core.specs.declared.identity.Identity.{Identity}
 use Rattle.ident_core.specs.declared.range.Range.{Range}
 use Rattle.ident_core.specs.Order.{is_same}
+use Rattle.ident_core.specs.Coverage.{RangesFit}
 use Rattle.ident_core.specs.RangeText.{RangeFits, FitsRange}
 use Rattle.crl_core.specs.declared.crl.CrlFault.{CrlFault}
 use Rattle.crl_core.specs.Outcome.{CrlFields}
-use Rattle.part_codec.specs.SealedFields.{SealedFields}
-use Rattle.part_codec.specs.PartText.{unsealed_text}
+use Rattle.part_text.specs.SealedFields.{SealedFields}
+use Rattle.part_text.specs.PartText.{unsealed_text}
 use Rattle.job_core.specs.declared.bounds.TheConstants.Limits.{PUBLISHED}
 use Rattle.job_core.specs.JobFields.{CrlMeaning, JobFields}
 use Rattle.job_core.specs.JobFacts.{EntryFieldsFit, FitsPublishing}
 use Rattle.ledger_core.specs.declared.fault.LedgerFault.TheVariants as ledger_faults
 use Rattle.ledger_core.specs.declared.fields.LedgerItem.{LedgerItem}
-use Rattle.ledger_core.specs.LedgerFields.{LedgerFields, IsLedger, ids, newest}
+use Rattle.ledger_core.specs.LedgerFields.{LedgerPartFields, LedgerFields, IsLedger, ids, newest}
 use Rattle.ledger_core.specs.Fitting.{IsKey, PartFits, ItemFits, Fits}
 use Rattle.ledger_core.specs.LedgerLayout.{ledger}
 use Rattle.ledger_core.specs.LedgerReading.{ledger_of as read_ledger}
@@ -34,7 +35,7 @@ use Rattle.ledger_core.proofs.Seals.{IsLedger-sealed}
 use Rattle.sets_core.specs.Among.{Among}
 use Rattle.sets_core.specs.Sets.{has, key_set}
 use Rattle.sets_core.proofs.Elements.{Among-filter, Among-map, Among-filter_map, Among-cases, some_item}
-use Rattle.sets_core.proofs.Sets.{Among-from_has, has-from_Among, Among-from_key_set}
+use Rattle.sets_core.proofs.Sets.{Among-from_has, has-from_Among, Among-from_key_set, key_set_ascends}
 use Rattle.sets_core.proofs.Canonical.{Contains-from_Among, all_from}
 use Rattle.universe_core.specs.Jobs.{Crl, Entry, crl_by, accepted_crl, facts_of, is_stale, crls_of, enrolled}
 use Rattle.universe_core.specs.Formats.{JobIn, read_in}
@@ -42,6 +43,7 @@ use Rattle.universe_core.specs.History.{Release, past_of, shown, accepted_with}
 use Rattle.universe_core.specs.Dates.{greatest, dates}
 use Rattle.universe_core.specs.Ledgers.{no_ledger, past_in, item_of, old_dates, next_item, part_after, next_ledger, part_from, ledger_of}
 use Rattle.universe_core.specs.Members.{first_part}
+use Rattle.universe_core.specs.Rebases.{is_lasting, issuers_in, kept, epoch_by, ranges_by, rebased_item, rebased_part, rebased_ledger}
 use Rattle.universe_core.specs.Step.{bad_crl_from, old_epoch, shrunk, chain_full, too_many, refusal}
 use Rattle.universe_core.specs.Following.{IsBefore, early}
 use Rattle.universe_core.specs.declared.fault.AdmitFault.{AdmitFault}
@@ -49,16 +51,20 @@ use Rattle.universe_core.proofs.Beginning.{issuers_few}
 use Rattle.universe_core.proofs.Continuing.{before_none, before_ledger, find_all, is_next, next_is}
 use Rattle.universe_core.proofs.Greatest.{greatest_is, greatest_keeps}
 use Rattle.universe_core.proofs.Members.{Among-dates}
+use Rattle.rebase_core.proofs.Built.{is_ledger}
+use Rattle.rebase_core.proofs.Parts.{newest_fits}
+use Rattle.history_core.specs.Bases.{all_issuers, base_at}
 use Rattle.history_core.specs.Facts.{IsSound}
 use Rattle.history_core.proofs.Accepting.{accepted_cases, shown_entry}
+use Rattle.history_core.proofs.BaseLedgers.{issuers_same, ledger_same}
 use Rattle.history_core.proofs.Beginnings.{ledger_of_none}
 use Rattle.history_core.proofs.Ledger as histories
 use Rattle.history_core.proofs.Sound.{nothing_sound}
-use Rattle.publication_core.specs.Histories.{newest_of, IsAdmissible, IsPartOf, release_of, history_after, AreAdmissible, History, of_jobs, members, IsHistory, history}
+use Rattle.publication_core.specs.Histories.{newest_of, IsAdmissible, IsPartOf, IsRebasable, IsBasePart, release_of, history_after, AreAdmissible, History, of_jobs, rebased, members, IsHistory, history}
 use Rattle.publication_core.specs.Histories.{ledger_bytes, old_ledger_bytes, IsUndated}
 use Rattle.publication_core.proofs.Reading.{fits_in, goes_on_in, none_dated, after_undated, items_undated}
 use Rattle.publication_core.proofs.Admitting.{not_refused}
-use Rattle.publication_core.proofs.Histories.{job_sound, members_many}
+use Rattle.publication_core.proofs.Histories.{job_sound, base_at_sound, history_sound, members_many}
 
 all_among : {A : Type 0} (P : A → Type 0) (xs : List A) (x : A) → All P xs → Among xs x → P x
 all_among P xs x h a = All-contains P xs x h (Contains-from_Among xs x a)
@@ -127,6 +133,20 @@ none_fits = record { before = before_none; few_items = omega arith; parts = All-
 
 fits_before : (l : LedgerFields) → Fits l → FitsBefore l
 fits_before l fits = record { before = before_ledger l fits.facts; few_items = fits.facts.few_items; parts = fits.parts; items = fits.items }
+
+fits_of : (l : LedgerFields) → FitsBefore l → 1 ≤ length l.parts → Fits l
+fits_of l kept some = record {
+  facts = record {
+    some_parts = some;
+    few_parts = kept.before.few_parts;
+    parts = kept.before.parts;
+    few_items = kept.few_items;
+    items_ascend = kept.before.items_ascend;
+    items = kept.before.items;
+  };
+  parts = kept.parts;
+  items = kept.items;
+}
 
 early_none : (a b c d e : Option AdmitFault) → option_or a (option_or b (option_or c (option_or d e))) ≡ None → option_or a (option_or b (option_or c d)) ≡ None
 early_none (Some x) b c d e h = absurd cc
@@ -201,6 +221,60 @@ module _ (l : LedgerFields) (job : JobFields) (kept : FitsBefore l) (fits : Fits
     items = items_fit;
   }
 
+-- ---- a rebased ledger
+
+newest_among : (ps : List LedgerPartFields) → 1 ≤ length ps → (p : LedgerPartFields) × (newest ps ≡ Some p) × Among ps p
+newest_among [] some = absurd (omega arith)
+newest_among (p ∷ []) some = (p, refl, inl refl)
+newest_among (p ∷ q ∷ ps) some = let r = newest_among (q ∷ ps) (omega arith) in (r.0, r.1, inr r.2)
+
+keys_of : (ps : List LedgerPartFields) (k : List ℕ) → ((p : LedgerPartFields) → Among ps p → PartFits p) → Among (flat_map (λ (p : LedgerPartFields). p.issuers) ps) k → IsKey k
+keys_of [] k h a = absurd a
+keys_of (p ∷ ps) k h a =
+    ⊎_elim (λ here. all_among IsKey p.issuers k (h p (inl refl)).issuers here) (λ later. keys_of ps k (λ q i. h q (inr i)) later)
+    (Among-cases p.issuers (flat_map (λ (q : LedgerPartFields). q.issuers) ps) k a)
+
+module _ (keeps : LedgerItem → Bool) (l : LedgerFields) (trailer : List ℕ) (fits : Fits l) (key : IsKey trailer) (few : length (issuers_in l.parts) ≤ 65535) where
+  part_at : (p : LedgerPartFields) → Among l.parts p → PartFits p
+  part_at p a = all_among PartFits l.parts p fits.parts a
+
+  rebased_issuers : (k : List ℕ) → Among (issuers_in l.parts) k → IsKey k
+  rebased_issuers k a = keys_of l.parts k part_at (Among-from_key_set (flat_map (λ (p : LedgerPartFields). p.issuers) l.parts) k a)
+
+  rebased_part_fits : PartFits (rebased_part l.parts trailer)
+  rebased_part_fits =
+      let n = newest_among l.parts fits.facts.some_parts in
+      let f : PartFits n.0 = part_at n.0 n.2 in
+      record {
+        epoch = subst (λ (o : Option LedgerPartFields). epoch_by o < 2 ^ 64) (sym n.1) f.epoch;
+        trailer = key;
+        ranges = subst (λ (o : Option LedgerPartFields). All RangeFits (ranges_by o)) (sym n.1) f.ranges;
+        issuers = All-from_recursion IsKey (issuers_in l.parts) (all_from IsKey (issuers_in l.parts) rebased_issuers);
+      }
+
+  rebased_is_ledger : IsLedger (rebased_ledger keeps l trailer)
+  rebased_is_ledger =
+      let n = newest_among l.parts fits.facts.some_parts in
+      let ranges : RangesFit (ranges_by (newest l.parts)) = subst (λ (o : Option LedgerPartFields). RangesFit (ranges_by o)) (sym n.1) (newest_fits None l.parts n.0 fits.facts.parts n.1) in
+      let items : List LedgerItem = map rebased_item (kept keeps l) in
+      IsLedger-sealed (record { parts = first_part (epoch_by (newest l.parts)) (ranges_by (newest l.parts)) (issuers_in l.parts) ∷ []; items = items }) trailer
+      (is_ledger keeps l (epoch_by (newest l.parts)) (ranges_by (newest l.parts)) (issuers_in l.parts) items fits.facts ranges few
+      (key_set_ascends (flat_map (λ (p : LedgerPartFields). p.issuers) l.parts)) refl)
+
+  rebased_item_fits : (i : LedgerItem) → Among (kept keeps l) i → ItemFits (rebased_item i)
+  rebased_item_fits i a =
+      let f : ItemFits i = all_among ItemFits l.items i fits.items (Among-filter keeps l.items i a).0 in
+      record { issuer = f.issuer; some_octets = f.some_octets; few_octets = f.few_octets; until = f.until }
+
+  -- The ledger of one part fits, as the old one does.
+  rebased_fits : Fits (rebased_ledger keeps l trailer)
+  rebased_fits = record {
+    facts = rebased_is_ledger;
+    parts = All-cons PartFits (rebased_part l.parts trailer) [] rebased_part_fits (All-nil PartFits);
+    items = All-map ItemFits rebased_item (kept keeps l)
+        (All-from_recursion (λ i. ItemFits (rebased_item i)) (kept keeps l) (all_from (λ i. ItemFits (rebased_item i)) (kept keeps l) rebased_item_fits));
+  }
+
 -- ---- a history's ledger
 
 -- the ledger of releases and of one job more
@@ -228,29 +302,40 @@ releases_many : (rs : List Release) → length (ledger_of rs).parts ≡ length r
 unfolding ledger_of
 releases_many rs = length-map rs part_from
 
+few_issuers : (rs : List Release) → length (all_issuers rs) ≤ 65535 → length (issuers_in (ledger_of rs).parts) ≤ 65535
+unfolding ledger_of
+few_issuers rs few = subst (λ (ks : List (List ℕ)). length (key_set ks) ≤ 65535) (sym (issuers_same rs)) few
+
+-- the ledger of a base
+base_fits : (moment : ℕ) (rs : List Release) (s : SealedFields) → IsSound rs → FitsBefore (ledger_of rs) → IsRebasable moment rs → IsBasePart moment rs s
+    → Fits (ledger_of (base_at moment rs s.trailer ∷ []))
+base_fits moment rs s sound kept can part =
+    let key : IsKey s.trailer = ap length part.trailer ∙ length-sha256 (unsealed_text s.part) in
+    let fits : Fits (ledger_of rs) = fits_of (ledger_of rs) kept (omega (arith, releases_many rs, can.some)) in
+    subst Fits (ledger_same (is_lasting moment) rs s.trailer sound) (rebased_fits (is_lasting moment) (ledger_of rs) s.trailer fits key (few_issuers rs can.few_issuers))
+
 history_fits : (h : History) (parts : List SealedFields) → IsHistory h parts → FitsBefore (ledger_of (history h parts))
 history_fits (of_jobs jobs) parts is = after_fits [] jobs parts nothing_sound (subst FitsBefore (sym ledger_of_none) none_fits) is
+history_fits (rebased h old moment jobs) [] is = absurd is
+history_fits (rebased h old moment jobs) (s ∷ parts) is =
+    let rs : List Release = history h old in
+    let base : Release = base_at moment rs s.trailer in
+    let sound : IsSound rs = history_sound h old is.0 in
+    after_fits (base ∷ []) jobs parts (base_at_sound moment rs s sound) (fits_before (ledger_of (base ∷ [])) (base_fits moment rs s sound (history_fits h old is.0) is.1 is.2)) is.3
+
+-- The ledger of the base with which a history begins fits.
+pub history_base_fits : (h : History) (old : List SealedFields) (moment : ℕ) (s : SealedFields) → IsHistory h old → IsRebasable moment (history h old)
+    → IsBasePart moment (history h old) s → Fits (ledger_of (base_at moment (history h old) s.trailer ∷ []))
+history_base_fits h old moment s is can part = base_fits moment (history h old) s (history_sound h old is) (history_fits h old is) can part
 
 -- where no job reads dates, the ledger has none
 undated_by : (h : History) (parts : List SealedFields) → IsUndated h → HasNoDates (ledger_of (history h parts))
 undated_by (of_jobs jobs) parts none = items_undated (history_after [] jobs parts) (after_undated [] jobs parts none none_dated)
+undated_by (rebased h old moment jobs) parts none = absurd none
 
 module _ (h : History) (parts : List SealedFields) (is : IsHistory h parts) (some : 1 ≤ members h) where
   pub history_ledger_fits : Fits (ledger_of (history h parts))
-  history_ledger_fits =
-      let kept : FitsBefore (ledger_of (history h parts)) = history_fits h parts is in
-      record {
-        facts = record {
-          some_parts = omega (arith, releases_many (history h parts), members_many h parts is, some);
-          few_parts = kept.before.few_parts;
-          parts = kept.before.parts;
-          few_items = kept.few_items;
-          items_ascend = kept.before.items_ascend;
-          items = kept.before.items;
-        };
-        parts = kept.parts;
-        items = kept.items;
-      }
+  history_ledger_fits = fits_of (ledger_of (history h parts)) (history_fits h parts is) (omega (arith, releases_many (history h parts), members_many h parts is, some))
 
   pub history_ledger_read : ledger (ledger_bytes h parts) 0 ≡ Ok (ledger_of (history h parts), length (ledger_bytes h parts))
   history_ledger_read = ledger-again (ledger_of (history h parts)) history_ledger_fits

@@ -13,3 +13,6 @@ pub mod Reading
 pub mod Ledgers
 pub mod PartTexts
 pub mod Chains
+pub mod Bases
+pub mod BaseOutcomes
+pub mod BasePublishing

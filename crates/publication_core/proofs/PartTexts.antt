@@ -1,4 +1,4 @@
--- The part of an admissible job has a text.
+-- The part of an admissible job has a text, and that of a base.
 use Rattle.std.proofs.Common.{◌≡◌, ℕ, ◌≤◌, inl, inr, List, [], ◌∷◌, map, length, true, not, Option, Some, None, Result, Ok, Err, refl, sym, ap, ◌∙◌, subst, arith}
 use Rattle.std.specs.Prelude.{All, IfSome}
 use Rattle.std.specs.List.{list_all}
@@ -6,21 +6,26 @@ use Rattle.std.specs.Option.{option_map}
 use Rattle.std.specs.Str.{bytes_eq}
 use Rattle.std.proofs.lemmas.List.{length-map}
 use Rattle.std.proofs.lemmas.List.Sums.{length-filter, count_by-le-length}
-use Rattle.std.proofs.lemmas.List.Elements.{All-contains}
+use Rattle.std.proofs.lemmas.List.Elements.{All-contains, All-head, All-tail}
 use Rattle.octets_core.specs.Linked.{Linked, is_after}
 use Rattle.octets_core.proofs.Texts.{Linked-weaken}
 use Rattle.ident_core.specs.declared.identity.Identity.{Identity}
 use Rattle.ident_core.specs.declared.kind.Kind.TheVariants as kinds
+use Rattle.ident_core.specs.declared.range.Range.{Range}
+use Rattle.ident_core.specs.Coverage.{IsRangeAfter}
+use Rattle.ident_core.specs.RangeText.{RangeFits, FitsRange}
 use Rattle.ident_core.specs.HeadFields.{zero_key}
 use Rattle.crl_core.specs.declared.crl.CrlFault.{CrlFault}
 use Rattle.crl_core.specs.Outcome.{CrlFields}
 use Rattle.equation_core.specs.Rows.{sha256_row}
 use Rattle.card_core.specs.declared.block.Block.{Block}
-use Rattle.part_codec.specs.SealedFields.{SealedFields}
-use Rattle.part_codec.specs.Fitting.{FitsBlock, FitsHead, Fits}
+use Rattle.part_text.specs.SealedFields.{SealedFields}
+use Rattle.part_text.specs.Fitting.{FitsBlock, FitsHead, Fits}
 use Rattle.job_core.specs.JobFields.{CrlMeaning, JobFields}
 use Rattle.job_core.specs.JobFacts.{FitsPublishing}
-use Rattle.ledger_core.specs.LedgerFields.{LedgerPartFields, newest}
+use Rattle.ledger_core.specs.LedgerFields.{LedgerPartFields, IsPartAfter, newest}
+use Rattle.ledger_core.specs.Fitting.{IsKey, PartFits}
+use Rattle.ledger_core.specs.Fitting.{Fits as LedgerFits}
 use Rattle.ledger_core.proofs.Orders.{keys-linked}
 use Rattle.sets_core.specs.Among.{Among}
 use Rattle.sets_core.specs.Sets.{key_set}
@@ -28,18 +33,19 @@ use Rattle.sets_core.proofs.Elements.{Among-filter, Among-map, Among-filter_map,
 use Rattle.sets_core.proofs.Sets.{Among-from_key_set}
 use Rattle.sets_core.proofs.Canonical.{Contains-from_Among}
 use Rattle.universe_core.specs.Jobs.{Crl, accepted_crl, crl_by, crls_of, enrolled, is_stale, facts_of}
-use Rattle.universe_core.specs.Formats.{JobIn, read_in}
-use Rattle.universe_core.specs.History.{Release, past_of, released}
+use Rattle.universe_core.specs.Formats.{JobIn, dated, read_in}
+use Rattle.universe_core.specs.History.{Release, accepted_by, past_of, released}
 use Rattle.universe_core.specs.Groups.{members_of, group_of, groups}
-use Rattle.universe_core.specs.Ledgers.{part_from}
+use Rattle.universe_core.specs.Ledgers.{item_from, part_from, ledger_of}
 use Rattle.universe_core.specs.Step.{kind_by, parent_by, head_after}
 use Rattle.universe_core.proofs.Beginning.{issuers_few}
 use Rattle.universe_core.proofs.Issuers.{enrolled_ascend}
+use Rattle.history_core.specs.Bases.{newest_ranges, base_with, base_at, base_head}
 use Rattle.builder_core.specs.declared.format.Format.{Format}
 use Rattle.builder_core.specs.Building.{AreGroupBlocks}
 use Rattle.builder_core.proofs.GroupBlocks.{blocks_length}
 use Rattle.publication_core.specs.Formats.{blocks_in}
-use Rattle.publication_core.specs.Histories.{newest_of, IsPartOf, IsAdmissible}
+use Rattle.publication_core.specs.Histories.{newest_of, IsPartOf, IsAdmissible, IsBasePart}
 use Rattle.publication_core.proofs.Reading.{fits_in}
 use Rattle.publication_core.proofs.Leaves.{blocks_have_texts}
 
@@ -146,3 +152,72 @@ module _ (rs : List Release) (j : JobIn) (s : SealedFields) (admissible : IsAdmi
     };
     trailer = is.trailer;
   }
+
+-- ---- the part of a base
+
+ranges_linked : (previous : Option (List ℕ)) (ranges : List Range) → Linked IsRangeAfter (λ previous r. Some r.log) previous ranges → All RangeFits ranges
+    → Linked FitsRange (λ previous r. Some r.log) previous ranges
+ranges_linked previous [] l f = tt
+ranges_linked previous (r ∷ ranges) l f = ((l.0, All-head RangeFits r ranges f), ranges_linked (Some r.log) ranges l.1 (All-tail RangeFits r ranges f))
+
+-- what the ledger of one release says of it
+record FitsAlone (r : Release) : Type 0 where
+  part : PartFits (part_from r)
+  after : IsPartAfter None (part_from r)
+  few_accepted : length r.accepted ≤ 4194304
+
+fits_alone : (r : Release) → LedgerFits (ledger_of (r ∷ [])) → FitsAlone r
+unfolding ledger_of accepted_by
+fits_alone r fits = record {
+  part = All-head PartFits (part_from r) [] fits.parts;
+  after = fits.facts.parts.0;
+  few_accepted = omega (arith, length-map r.accepted (item_from (r ∷ [])), fits.facts.few_items);
+}
+
+module _ (moment : ℕ) (rs : List Release) (s : SealedFields) (is : IsBasePart moment rs s) (fits : FitsAlone (base_at moment rs s.trailer)) where
+  abbrev base : Release
+  base = base_at moment rs s.trailer
+
+  base_head_fits : FitsHead (base_head rs)
+  unfolding base_with
+  base_head_fits = record {
+    facts = record { ranges = fits.after.ranges; snapshot = λ e. refl };
+    epoch = fits.part.epoch;
+    parent = refl;
+    ranges = ranges_linked None (newest_ranges [] rs) fits.after.ranges.ascending fits.part.ranges;
+  }
+
+  base_blocks_are : AreGroupBlocks (blocks_in dated) sha256_row (map (group_of base) base.issuers) s.part.blocks
+  unfolding groups base_with
+  base_blocks_are = is.blocks
+
+  base_blocks_linked : Linked FitsBlock (λ previous b. Some b.issuer) None s.part.blocks
+  base_blocks_linked =
+      blocks_fit (blocks_in dated) base None base.issuers s.part.blocks fits.few_accepted (keys-linked base.issuers fits.after.issuers_ascend)
+      (λ k a. All-contains IsKey base.issuers k fits.part.issuers (Contains-from_Among base.issuers k a)) base_blocks_are
+
+  base_blocks_few : length s.part.blocks ≤ 65535
+  base_blocks_few =
+      omega (
+        arith,
+        blocks_length (blocks_in dated) sha256_row (map (group_of base) base.issuers) s.part.blocks base_blocks_are,
+        length-map base.issuers (group_of base),
+        fits.after.few_issuers,
+      )
+
+  base_text : Fits s
+  base_text = record {
+    part = record {
+      facts = record {
+        few = base_blocks_few;
+        ascending = Linked-weaken FitsBlock (λ previous b. is_after previous b.issuer ≡ true) (λ previous b. Some b.issuer) block_after None s.part.blocks base_blocks_linked;
+      };
+      head = subst FitsHead (sym is.head_is) base_head_fits;
+      blocks = base_blocks_linked;
+    };
+    trailer = is.trailer;
+  }
+
+-- The part has a text where the ledger of the base fits.
+pub base_has_text : (moment : ℕ) (rs : List Release) (s : SealedFields) → IsBasePart moment rs s → LedgerFits (ledger_of (base_at moment rs s.trailer ∷ [])) → Fits s
+base_has_text moment rs s is fits = base_text moment rs s is (fits_alone (base_at moment rs s.trailer) fits)

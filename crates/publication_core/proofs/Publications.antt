@@ -5,8 +5,8 @@ use Rattle.sha2.specs.Sha256.{sha256}
 use Rattle.equation_core.specs.Rows.{sha256_row}
 use Rattle.card_core.specs.declared.block.Block.{Block}
 use Rattle.card_core.specs.PartFields.{PartFields}
-use Rattle.part_codec.specs.SealedFields.{SealedFields}
-use Rattle.part_codec.specs.PartText.{unsealed_text}
+use Rattle.part_text.specs.SealedFields.{SealedFields}
+use Rattle.part_text.specs.PartText.{unsealed_text}
 use Rattle.job_core.specs.declared.bounds.TheConstants.Limits.{PUBLISHED}
 use Rattle.job_core.specs.JobFields.{JobFields}
 use Rattle.job_core.specs.JobFacts.{FitsPublishing, IsWithinLimits}
@@ -20,6 +20,7 @@ use Rattle.universe_core.specs.Step.{refusal, head_after, groups_after, counts_a
 use Rattle.history_core.specs.Facts.{IsSound}
 use Rattle.history_core.proofs.Ledger.{next_is, groups_are, counts_are}
 use Rattle.ledger_core.specs.LedgerFields.{LedgerFields}
+use Rattle.builder_core.specs.declared.format.Format.{Format}
 use Rattle.builder_core.specs.Building.{IsGroupBlock, AreGroupBlocks}
 use Rattle.publication_core.specs.Formats.{current, blocks_in}
 use Rattle.publication_core.specs.Histories.{IsPartOf, IsAdmissible, History, members, with_job, IsHistory, history}
@@ -56,17 +57,17 @@ admitted_published ledger job none blocks are =
     )
 
 -- a block for each of the groups, as a list
-blocks_of_each : (groups : List GroupFields) → ((g : GroupFields) → Contains groups g → (block : Block) × IsGroupBlock (blocks_in current) sha256_row g block)
-    → (blocks : List Block) × AreGroupBlocks (blocks_in current) sha256_row groups blocks
-blocks_of_each [] each = ([], tt)
-blocks_of_each (g ∷ groups) each =
+pub blocks_of_each : (format : Format) (groups : List GroupFields) → ((g : GroupFields) → Contains groups g → (block : Block) × IsGroupBlock format sha256_row g block)
+    → (blocks : List Block) × AreGroupBlocks format sha256_row groups blocks
+blocks_of_each format [] each = ([], tt)
+blocks_of_each format (g ∷ groups) each =
     let first = each g (0, omega arith, refl) in
-    let rest = blocks_of_each groups (λ h c. each h (c.0 + 1, omega (arith, c.1), rw add-one c.2)) in
+    let rest = blocks_of_each format groups (λ h c. each h (c.0 + 1, omega (arith, c.1), rw add-one c.2)) in
     (first.0 ∷ rest.0, (first.1, rest.1))
 
 pub can_be_published : (ledger : LedgerFields) (job : JobFields) → CanBePublished ledger job → (p : Published) × Publishes ledger job (Ok p)
 can_be_published ledger job can =
-    let made = blocks_of_each (groups_after ledger (facts_of job)) can.blocks in
+    let made = blocks_of_each (blocks_in current) (groups_after ledger (facts_of job)) can.blocks in
     admitted_published ledger job can.admitted made.0 made.1
 
 -- a job that is published is admissible

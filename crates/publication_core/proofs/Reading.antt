@@ -5,7 +5,7 @@ use Rattle.std.specs.Option.{option_map}
 use Rattle.std.proofs.lemmas.Bool.{true≢false}
 use Rattle.std.proofs.lemmas.List.Elements.{All-map, All-head, All-tail}
 use Rattle.ident_core.specs.declared.identity.Identity.{Identity}
-use Rattle.part_codec.specs.SealedFields.{SealedFields}
+use Rattle.part_text.specs.SealedFields.{SealedFields}
 use Rattle.job_core.specs.JobFacts.{EntryFieldsFit, FitsPublishing}
 use Rattle.ledger_core.specs.declared.fields.LedgerItem.{LedgerItem}
 use Rattle.ledger_core.specs.LedgerText.{HasNoDates}

@@ -12,20 +12,21 @@ use Rattle.card_core.specs.declared.block.Block.{Block}
 use Rattle.card_core.specs.Filter.{is_positive}
 use Rattle.card_core.specs.PartFields.{PartFields}
 use Rattle.card_core.specs.Consulting.{block_of, consulted}
-use Rattle.part_codec.specs.SealedFields.{SealedFields}
+use Rattle.part_text.specs.SealedFields.{SealedFields}
 use Rattle.sets_core.specs.Sets.{has, has_key}
 use Rattle.sets_core.proofs.Elements.{Among-in_filter, bool_same}
 use Rattle.sets_core.proofs.Sets.{Among-from_has, bytes_same, bytes_refl}
 use Rattle.sets_core.proofs.Canonical.{Contains-from_Among}
-use Rattle.universe_core.specs.Formats.{JobIn}
+use Rattle.universe_core.specs.Formats.{JobIn, dated}
 use Rattle.universe_core.specs.History.{Release}
 use Rattle.universe_core.specs.Groups.{members_of, group_of, groups}
+use Rattle.history_core.specs.Bases.{base_with, base_at}
 use Rattle.history_core.specs.Showing.{PartView, Shows}
 use Rattle.builder_core.specs.declared.format.Format.{Format}
 use Rattle.builder_core.specs.Building.{IsGroupBlock, AreGroupBlocks}
 use Rattle.builder_core.proofs.GroupBlocks.{group_exact as exact_in}
 use Rattle.publication_core.specs.Formats.{blocks_in}
-use Rattle.publication_core.specs.Histories.{IsPartOf, release_of}
+use Rattle.publication_core.specs.Histories.{IsPartOf, IsBasePart, release_of}
 
 -- what a part is to its reader
 abbrev pub shown_by : PartFields → PartView
@@ -100,3 +101,8 @@ module _ (format : Format) where
 pub part_shows : (rs : List Release) (j : JobIn) (s : SealedFields) → IsPartOf rs j s → Shows (shown_by s.part) (release_of rs j s)
 unfolding groups
 part_shows rs j s is = blocks_show (blocks_in j.format) s.part (release_of rs j s) (ap (λ (head : HeadFields). head.ranges) is.head_is) is.blocks
+
+-- the part of a base shows the base
+pub base_shows : (moment : ℕ) (rs : List Release) (s : SealedFields) → IsBasePart moment rs s → Shows (shown_by s.part) (base_at moment rs s.trailer)
+unfolding groups base_with
+base_shows moment rs s is = blocks_show (blocks_in dated) s.part (base_at moment rs s.trailer) (ap (λ (head : HeadFields). head.ranges) is.head_is) is.blocks

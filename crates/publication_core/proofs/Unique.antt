@@ -1,21 +1,22 @@
 -- A job has one part at most, and one thing comes of it behind a ledger.
-use Rattle.std.proofs.Common.{◌≡◌, List, [], ◌∷◌, ◌++◌, Option, Some, None, Result, Ok, Err, refl, sym, ap, ◌∙◌, subst}
+use Rattle.std.proofs.Common.{◌≡◌, ℕ, List, [], ◌∷◌, ◌++◌, Option, Some, None, Result, Ok, Err, refl, sym, ap, ◌∙◌, subst}
 use Rattle.sha2.specs.Sha256.{sha256}
 use Rattle.ident_core.specs.HeadFields.{HeadFields}
 use Rattle.equation_core.specs.Rows.{sha256_row}
 use Rattle.card_core.specs.PartFields.{PartFields}
-use Rattle.part_codec.specs.SealedFields.{SealedFields}
-use Rattle.part_codec.specs.PartText.{unsealed_text}
+use Rattle.part_text.specs.SealedFields.{SealedFields}
+use Rattle.part_text.specs.PartText.{unsealed_text}
 use Rattle.job_core.specs.declared.bounds.TheConstants.Limits.{PUBLISHED}
 use Rattle.job_core.specs.JobFields.{JobFields}
 use Rattle.ledger_core.specs.LedgerFields.{LedgerFields}
 use Rattle.universe_core.specs.declared.fault.AdmitFault.{AdmitFault}
 use Rattle.universe_core.specs.Jobs.{facts_of}
-use Rattle.universe_core.specs.Formats.{JobIn, facts_in}
+use Rattle.universe_core.specs.Formats.{JobIn, dated, facts_in}
 use Rattle.universe_core.specs.History.{Release}
 use Rattle.universe_core.specs.Groups.{GroupFields}
 use Rattle.universe_core.specs.Ledgers.{next_ledger}
 use Rattle.universe_core.specs.Step.{refusal, groups_after}
+use Rattle.history_core.specs.Bases.{base_at, base_head}
 use Rattle.builder_core.specs.declared.format.Format.{Format}
 use Rattle.builder_core.specs.Building.{AreGroupBlocks}
 use Rattle.builder_core.proofs.GroupBlocks.{blocks_unique}
@@ -23,11 +24,11 @@ use Rattle.builder_core.proofs.FirstRefused.{refused_no_blocks, first_refused_on
 use Rattle.publication_core.specs.declared.fault.PublishFault.{PublishFault}
 use Rattle.publication_core.specs.declared.fault.PublishFault.TheVariants.{Admission, SeedsExhausted, NoMemory}
 use Rattle.publication_core.specs.Formats.{current, blocks_in}
-use Rattle.publication_core.specs.Histories.{groups_of, IsPartOf, release_of, AreAdmissible, History, of_jobs, IsHistory}
+use Rattle.publication_core.specs.Histories.{groups_of, IsPartOf, release_of, AreAdmissible, base_groups, IsBasePart, History, of_jobs, rebased, IsHistory, history}
 use Rattle.publication_core.specs.Publishing.{Published, IsPublication, Publishes}
 
 -- parts with the same head, blocks of the same groups, and their digests
-sealed_same : (format : Format) (head : HeadFields) (gs : List GroupFields) (a b : SealedFields) → a.part.head ≡ head → b.part.head ≡ head → AreGroupBlocks format sha256_row gs a.part.blocks
+pub sealed_same : (format : Format) (head : HeadFields) (gs : List GroupFields) (a b : SealedFields) → a.part.head ≡ head → b.part.head ≡ head → AreGroupBlocks format sha256_row gs a.part.blocks
     → AreGroupBlocks format sha256_row gs b.part.blocks → a.trailer ≡ sha256 (unsealed_text a.part) → b.trailer ≡ sha256 (unsealed_text b.part) → a ≡ b
 sealed_same format head gs a b ha hb ba bb ta tb =
     let blocks : a.part.blocks ≡ b.part.blocks = blocks_unique format sha256_row gs a.part.blocks b.part.blocks ba bb in
@@ -36,6 +37,9 @@ sealed_same format head gs a b ha hb ba bb ta tb =
 
 pub part_unique : (rs : List Release) (j : JobIn) (a b : SealedFields) → IsPartOf rs j a → IsPartOf rs j b → a ≡ b
 part_unique rs j a b x y = sealed_same (blocks_in j.format) _ (groups_of rs (facts_in j)) a b x.head_is y.head_is x.blocks y.blocks x.trailer y.trailer
+
+base_unique : (moment : ℕ) (rs : List Release) (a b : SealedFields) → IsBasePart moment rs a → IsBasePart moment rs b → a ≡ b
+base_unique moment rs a b x y = sealed_same (blocks_in dated) (base_head rs) (base_groups moment rs) a b x.head_is y.head_is x.blocks y.blocks x.trailer y.trailer
 
 after_unique : (rs : List Release) (jobs : List JobIn) (a b : List SealedFields) → AreAdmissible rs jobs a → AreAdmissible rs jobs b → a ≡ b
 after_unique rs [] [] [] x y = refl
@@ -50,6 +54,13 @@ after_unique rs (j ∷ jobs) (s ∷ a) (t ∷ b) x y =
 
 pub history_unique : (h : History) (a b : List SealedFields) → IsHistory h a → IsHistory h b → a ≡ b
 history_unique (of_jobs jobs) a b x y = after_unique [] jobs a b x y
+history_unique (rebased h old moment jobs) [] b x y = absurd x
+history_unique (rebased h old moment jobs) (s ∷ a) [] x y = absurd y
+history_unique (rebased h old moment jobs) (s ∷ a) (t ∷ b) x y =
+    let rs : List Release = history h old in
+    let same : s ≡ t = base_unique moment rs s t x.2 y.2 in
+    let rest : a ≡ b = after_unique (base_at moment rs s.trailer ∷ []) jobs a b x.3 (subst (λ z. AreAdmissible (base_at moment rs z.trailer ∷ []) jobs b) (sym same) y.3) in
+    λ i. same i ∷ rest i
 
 -- ---- what comes of a job behind a ledger
 

@@ -1,5 +1,5 @@
 -- The verdict of the parts of a history is its truth.
-use Rattle.std.proofs.Common.{◌≡◌, ◌≤◌, List, [], ◌∷◌, ◌++◌, map, length, Bool, true, false, cond, refl, sym, ap, ◌∙◌, subst, append_assoc, arith}
+use Rattle.std.proofs.Common.{◌≡◌, ℕ, ◌≤◌, List, [], ◌∷◌, ◌++◌, map, length, Bool, true, false, cond, refl, sym, ap, ◌∙◌, subst, append_assoc, arith}
 use Rattle.std.specs.List.{list_any, filter, filter_map, cons_option, AllZip}
 use Rattle.std.proofs.lemmas.List.{append-nil}
 use Rattle.ident_core.specs.declared.identity.Identity.{Identity}
@@ -8,19 +8,23 @@ use Rattle.ident_core.specs.Coverage.{covers}
 use Rattle.equation_core.specs.Rows.{sha256_row}
 use Rattle.card_core.specs.PartFields.{PartFields}
 use Rattle.card_core.specs.Consulting.{consulted, covers_some}
-use Rattle.part_codec.specs.SealedFields.{SealedFields}
+use Rattle.part_text.specs.SealedFields.{SealedFields}
 use Rattle.sets_core.specs.Among.{Among}
+use Rattle.sets_core.specs.Sets.{has}
 use Rattle.universe_core.specs.Formats.{JobIn}
 use Rattle.universe_core.specs.History.{Release, seen, sightings}
+use Rattle.history_core.specs.Bases.{kept_by, is_lasting_by, base_at}
 use Rattle.history_core.specs.Facts.{IsSound}
 use Rattle.history_core.specs.Showing.{PartView, Shows, answers_of}
 use Rattle.history_core.proofs.Answers.{answers_are_truth}
+use Rattle.history_core.proofs.Kept.{sightings_kept, listed_kept}
+use Rattle.history_core.proofs.Words.{zip_push}
 use Rattle.card_core.specs.declared.verdict.Verdict.TheVariants.{Good, Revoked}
 use Rattle.card_core.specs.Verdict.{covering, answers, by_answers, by_covering, verdict}
-use Rattle.publication_core.specs.Histories.{release_of, history_after, AreAdmissible, History, of_jobs, IsHistory, history}
+use Rattle.publication_core.specs.Histories.{release_of, history_after, AreAdmissible, History, of_jobs, rebased, IsHistory, history}
 use Rattle.publication_core.specs.Truth.{truth}
 use Rattle.publication_core.proofs.Histories.{history_sound}
-use Rattle.publication_core.proofs.Shown.{shown_by, part_shows}
+use Rattle.publication_core.proofs.Shown.{shown_by, part_shows, base_shows}
 
 -- ---- the verdict, and the answers of the parts
 
@@ -46,13 +50,7 @@ verdict_is_truth parts rs x s ss sound shows asked =
     let a = answers_are_truth (map shown_by parts) rs x s ss sound shows asked in
     by_answers_of x (covering (s ∷ ss) parts) a.0 a.1 (sym (answers_same x (s ∷ ss) parts) ∙ a.2) ∙ ap (λ (r : Bool). cond r Revoked Good) a.3
 
--- ---- the parts of a history show what its jobs leave
-
-shows_push : (views : List PartView) (rs : List Release) (v : PartView) (r : Release) → AllZip Shows views rs → Shows v r → AllZip Shows (views ++ v ∷ []) (rs ++ r ∷ [])
-shows_push [] [] v r z s = (s, tt)
-shows_push [] (q ∷ rs) v r z s = absurd z
-shows_push (w ∷ views) [] v r z s = absurd z
-shows_push (w ∷ views) (q ∷ rs) v r z s = (z.0, shows_push views rs v r z.1 s)
+-- ---- the parts of a history show what its members leave
 
 -- behind views that show the releases before
 after_shown : (views : List PartView) (rs : List Release) (jobs : List JobIn) (parts : List SealedFields) → AllZip Shows views rs → AreAdmissible rs jobs parts
@@ -62,12 +60,15 @@ after_shown views rs [] (s ∷ parts) z h = absurd h
 after_shown views rs (job ∷ jobs) [] z h = absurd h
 after_shown views rs (job ∷ jobs) (s ∷ parts) z h =
     let after : List Release = rs ++ release_of rs job s ∷ [] in
-    let pushed : AllZip Shows (views ++ shown_by s.part ∷ []) after = shows_push views rs (shown_by s.part) (release_of rs job s) z (part_shows rs job s h.1) in
+    let pushed : AllZip Shows (views ++ shown_by s.part ∷ []) after = zip_push Shows views rs (shown_by s.part) (release_of rs job s) z (part_shows rs job s h.1) in
     subst (λ (vs : List PartView). AllZip Shows vs (history_after after jobs parts)) (append_assoc views (shown_by s.part ∷ []) (map shown_by (map (λ t. t.part) parts)))
     (after_shown (views ++ shown_by s.part ∷ []) after jobs parts pushed h.2)
 
 pub parts_shown : (h : History) (parts : List SealedFields) → IsHistory h parts → AllZip Shows (map shown_by (map (λ t. t.part) parts)) (history h parts)
 parts_shown (of_jobs jobs) parts is = after_shown [] [] jobs parts tt is
+parts_shown (rebased h old moment jobs) [] is = absurd is
+parts_shown (rebased h old moment jobs) (s ∷ parts) is =
+    after_shown (shown_by s.part ∷ []) (base_at moment (history h old) s.trailer ∷ []) jobs parts (base_shows moment (history h old) s is.2, tt) is.3
 
 -- The parts of a history answer its truth, asked with accepted sightings.
 pub history_verdict : (h : History) (parts : List SealedFields) (x : Identity) (ss : List Sighting) → IsHistory h parts → 1 ≤ length ss
@@ -75,3 +76,15 @@ pub history_verdict : (h : History) (parts : List SealedFields) (x : Identity) (
 history_verdict h parts x [] is some asked = absurd (omega arith)
 history_verdict h parts x (s ∷ ss) is some asked =
     verdict_is_truth (map (λ t. t.part) parts) (history h parts) x s ss (history_sound h parts is) (parts_shown h parts is) asked
+
+-- A rebase keeps the verdicts of what it keeps.
+pub base_verdict : (h : History) (parts : List SealedFields) (moment : ℕ) (s : SealedFields) (x : Identity) (ss : List Sighting)
+    → IsHistory (rebased h parts moment []) (s ∷ []) → has (kept_by (is_lasting_by moment (history h parts)) (history h parts)) x ≡ true → 1 ≤ length ss
+    → ((t : Sighting) → Among ss t → Among (sightings x (seen (history h parts))) t) → verdict (map (λ t. t.part) parts) x ss ≡ verdict (s.part ∷ []) x ss
+base_verdict h parts moment s x ss is kept some asked =
+    let rs : List Release = history h parts in
+    let keeps : Identity → Bool = is_lasting_by moment rs in
+    let same : sightings x (seen (base_at moment rs s.trailer ∷ [])) ≡ sightings x (seen rs) = sightings_kept keeps rs s.trailer x kept in
+    history_verdict h parts x ss is.0 some asked
+    ∙ ap (λ (b : Bool). cond b Revoked Good) (sym (listed_kept keeps rs s.trailer x kept))
+    ∙ sym (history_verdict (rebased h parts moment []) (s ∷ []) x ss is some (λ t a. subst (λ (ts : List Sighting). Among ts t) (sym same) (asked t a)))

@@ -1,23 +1,25 @@
--- Histories of admitted jobs: which job may follow, which part is published of it, and the bytes of what is published.
-use Rattle.std.specs.Prelude.{◌≡◌, false, ℕ, ◌<◌, ◌≤◌, List, [], ◌∷◌, ◌++◌, map, length, Option, Some, None, All, IfSome, IsOk}
+-- Histories of admitted jobs: how they begin, which job may follow, which part is published of it, and the bytes of what
+-- is published.
+use Rattle.std.specs.Prelude.{◌≡◌, false, ℕ, ◌+◌, ◌<◌, ◌≤◌, List, [], ◌∷◌, ◌++◌, map, length, Option, Some, None, All, IfSome, IsOk}
 use Rattle.sha2.specs.Sha256.{sha256}
 use Rattle.ident_core.specs.Coverage.{LiesWithin}
 use Rattle.ident_core.specs.HeadFields.{HeadFields}
 use Rattle.equation_core.specs.Rows.{sha256_row}
 use Rattle.card_core.specs.declared.block.Block.{Block}
-use Rattle.part_codec.specs.SealedFields.{SealedFields}
-use Rattle.part_codec.specs.PartText.{unsealed_text, spelling}
+use Rattle.part_text.specs.SealedFields.{SealedFields}
+use Rattle.part_text.specs.PartText.{unsealed_text, spelling}
 use Rattle.job_core.specs.declared.bounds.TheConstants.Limits.{PUBLISHED}
 use Rattle.job_core.specs.JobFields.{JobFields}
 use Rattle.job_core.specs.JobFacts.{FitsPublishing, IsWithinLimits}
-use Rattle.ident_core.specs.declared.bounds.TheConstants.{MAX_PARTS}
+use Rattle.ident_core.specs.declared.bounds.TheConstants.{MAX_ISSUERS, MAX_PARTS}
 use Rattle.ledger_core.specs.LedgerText.{ledger_text, old_ledger_text}
 use Rattle.universe_core.specs.Jobs.{Job}
-use Rattle.universe_core.specs.Formats.{JobFormat, JobIn, in_format, reads_dates, facts_in}
+use Rattle.universe_core.specs.Formats.{JobFormat, dated, JobIn, in_format, reads_dates, facts_in}
 use Rattle.universe_core.specs.History.{Release, past_of, released, accepted_with}
 use Rattle.universe_core.specs.Groups.{GroupFields, groups}
 use Rattle.universe_core.specs.Ledgers.{part_from, ledger_of}
 use Rattle.universe_core.specs.Step.{head_after}
+use Rattle.history_core.specs.Bases.{all_issuers, base_head, base_at}
 use Rattle.builder_core.specs.Building.{AreGroupBlocks}
 use Rattle.store_core.specs.StoreLayout.{store_text}
 use Rattle.publication_core.specs.Formats.{current, blocks_in}
@@ -79,23 +81,40 @@ AreAdmissible rs [] (s ∷ parts) = ⊥
 AreAdmissible rs (j ∷ jobs) [] = ⊥
 AreAdmissible rs (j ∷ jobs) (s ∷ parts) = IsAdmissible rs j × IsPartOf rs j s × AreAdmissible (rs ++ release_of rs j s ∷ []) jobs parts
 
+-- ---- a base: one snapshot, which stands for releases without what has expired at a moment
+
+-- what its blocks are built of: the kept identities, and which of them are listed
+abbrev pub base_groups : ℕ → List Release → List GroupFields
+base_groups moment rs = groups (base_at moment rs [])
+
+-- its part: a block for each issuer of the releases
+abbrev pub IsBasePart : ℕ → List Release → SealedFields → Type 0
+IsBasePart moment rs s = IsSealedPart dated (base_head rs) (base_groups moment rs) s
+
+-- A base may stand for these releases at the moment.
+pub record IsRebasable (moment : ℕ) (rs : List Release) : Type 0 where
+  pub some : 1 ≤ length rs
+  pub few_issuers : length (all_issuers rs) ≤ MAX_ISSUERS
+  -- each of these issuers has a block
+  pub blocks : (blocks : List Block) × AreGroupBlocks (blocks_in dated) sha256_row (base_groups moment rs) blocks
+
 -- ---- histories
 
--- a history: the jobs from the first on
+-- A history: jobs from the first on; or a base and the jobs behind it. The base stands, at a moment, for a history with
+-- the parts that it published, which may itself begin with a base.
 pub data History : Type 0 where
   of_jobs : List JobIn → History
+  rebased : History → List SealedFields → ℕ → List JobIn → History
 
--- its jobs, in order
-abbrev pub jobs_of : History → List JobIn
-jobs_of (of_jobs jobs) = jobs
-
--- how many members it has
+-- how many members it has: a base, if it begins with one, and the jobs
 abbrev pub members : History → ℕ
 members (of_jobs jobs) = length jobs
+members (rebased h old moment jobs) = 1 + length jobs
 
 -- with a job more
 abbrev pub with_job : History → JobIn → History
 with_job (of_jobs jobs) j = of_jobs (jobs ++ j ∷ [])
+with_job (rebased h old moment jobs) j = rebased h old moment (jobs ++ j ∷ [])
 
 -- with more jobs, in order
 abbrev pub with_jobs : History → List JobIn → History
@@ -106,13 +125,20 @@ with_jobs h (j ∷ jobs) = with_jobs (with_job h j) jobs
 abbrev pub chain : List JobFields → History
 chain jobs = with_jobs (of_jobs []) (map (in_format current) jobs)
 
--- what the jobs of a history with these parts leave
+-- what the members of a history with these parts leave
 abbrev pub history : History → List SealedFields → List Release
 history (of_jobs jobs) parts = history_after [] jobs parts
+history (rebased h old moment jobs) [] = []
+history (rebased h old moment jobs) (s ∷ parts) = history_after (base_at moment (history h old) s.trailer ∷ []) jobs parts
 
--- each job of the history may follow those before it, and these are the parts that they publish
+-- Each job of the history may follow those before it, the base may stand for its history, and these are the parts that
+-- they publish.
 abbrev pub IsHistory : History → List SealedFields → Type 0
 IsHistory (of_jobs jobs) parts = AreAdmissible [] jobs parts
+IsHistory (rebased h old moment jobs) [] = ⊥
+IsHistory (rebased h old moment jobs) (s ∷ parts) =
+    IsHistory h old × IsRebasable moment (history h old) × IsBasePart moment (history h old) s
+    × AreAdmissible (base_at moment (history h old) s.trailer ∷ []) jobs parts
 
 -- ---- bytes
 
@@ -125,9 +151,10 @@ store_bytes parts = store_text parts
 abbrev pub ledger_bytes : History → List SealedFields → List ℕ
 ledger_bytes h parts = ledger_text (ledger_of (history h parts))
 
--- no job of the history is in a format that reads dates
+-- no job of the history is in a format that reads dates, and it begins with no base
 abbrev pub IsUndated : History → Type 0
 IsUndated (of_jobs jobs) = All (λ j. reads_dates j.format ≡ false) jobs
+IsUndated (rebased h old moment jobs) = ⊥
 
 -- the bytes of its ledger in version 1
 abbrev pub old_ledger_bytes : History → List SealedFields → List ℕ

@@ -4,3 +4,5 @@ pub mod Publishing
 pub mod Faults
 pub mod Building
 pub mod Truth
+pub mod Rebasing
+pub mod BaseFaults

@@ -4,8 +4,8 @@ use Rattle.std.specs.Prelude.{◌≡◌, ℕ, length, Some, None, Result, Ok, Er
 use Rattle.sha2.specs.Sha256.{sha256}
 use Rattle.equation_core.specs.Rows.{sha256_row}
 use Rattle.card_core.specs.declared.block.Block.{Block}
-use Rattle.part_codec.specs.SealedFields.{SealedFields}
-use Rattle.part_codec.specs.PartText.{unsealed_text}
+use Rattle.part_text.specs.SealedFields.{SealedFields}
+use Rattle.part_text.specs.PartText.{unsealed_text}
 use Rattle.job_core.specs.declared.bounds.TheConstants.Limits as limits
 use Rattle.job_core.specs.JobFields.{JobFields}
 use Rattle.ledger_core.specs.LedgerFields.{LedgerFields}

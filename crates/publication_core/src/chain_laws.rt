@@ -1,8 +1,8 @@
 //! The parts of a history are a client's chain.
 
 ghost use Rattle.std.specs.Prelude.{◌≡◌, ◌≤◌, List, All, length};
-ghost use Rattle.part_codec.specs.SealedFields.{SealedFields};
-ghost use Rattle.part_codec.specs.Fitting.{Fits};
+ghost use Rattle.part_text.specs.SealedFields.{SealedFields};
+ghost use Rattle.part_text.specs.Fitting.{Fits};
 ghost use Rattle.ident_core.specs.declared.bounds.TheConstants.{MAX_PARTS};
 ghost use Rattle.store_core.specs.Chain.{IsChain};
 ghost use Rattle.publication_core.specs.Histories.{History, IsHistory, members};

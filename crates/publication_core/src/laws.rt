@@ -1,7 +1,7 @@
 //! What follows for every history, with no call.
 
 ghost use Rattle.std.specs.Prelude.{◌≡◌, ◌++◌, ◌∷◌, [], List, Ok, Result};
-ghost use Rattle.part_codec.specs.SealedFields.{SealedFields};
+ghost use Rattle.part_text.specs.SealedFields.{SealedFields};
 ghost use Rattle.job_core.specs.declared.bounds.TheConstants.Limits.{PUBLISHED};
 ghost use Rattle.job_core.specs.JobFields.{JobFields};
 ghost use Rattle.job_core.specs.JobFacts.{FitsPublishing, IsWithinLimits};

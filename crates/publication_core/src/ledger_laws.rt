@@ -1,7 +1,7 @@
 //! What follows for the ledger of every history, with no call.
 
 ghost use Rattle.std.specs.Prelude.{◌≡◌, ◌≤◌, List, Ok, length};
-ghost use Rattle.part_codec.specs.SealedFields.{SealedFields};
+ghost use Rattle.part_text.specs.SealedFields.{SealedFields};
 ghost use Rattle.ledger_core.specs.Fitting.{Fits};
 ghost use Rattle.ledger_core.specs.LedgerLayout.{ledger};
 ghost use Rattle.ledger_core.specs.LedgerReading.{ledger_of as ledger_of_bytes};

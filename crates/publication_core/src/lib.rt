@@ -1,6 +1,11 @@
-//! What is published of a job: the part, the next ledger and the counts; and what histories of jobs publish.
+//! What is published of a job, and of a ledger that begins a chain anew: the part, the next ledger and the counts; and
+//! what histories publish.
 #![tactic(auto)]
 
+mod base;
+mod base_fault;
+mod base_laws;
+mod base_publishing;
 mod chain_laws;
 mod existence;
 mod fault;
@@ -11,6 +16,10 @@ mod publish;
 mod sound_laws;
 mod verdict_laws;
 
+pub use base::{BaseCounts, BasePublication};
+pub use base_fault::BaseFault;
+pub use base_laws::{bases_are_published, one_thing_comes_of_a_rebase, rebases_keep_verdicts};
+pub use base_publishing::publish_base;
 pub use builder_core::{Gate, Open};
 pub use chain_laws::parts_are_chains;
 pub use existence::a_publication_or_a_refusal;

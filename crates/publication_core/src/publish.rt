@@ -9,22 +9,48 @@ ghost use Rattle.job_core.specs.JobFacts.{FitsPublishing, IsWithinLimits};
 ghost use Rattle.universe_core.specs.Groups.{group_fields, IsGroup};
 ghost use Rattle.universe_core.specs.Ledgers.{no_ledger};
 ghost use Rattle.builder_core.specs.Building.{identities_in, issuers_of};
-ghost use Rattle.publication_core.specs.Building.{Builds};
+ghost use Rattle.publication_core.specs.Building.{Builds, BuildsAs};
 ghost use Rattle.publication_core.specs.Publishing.{PublishesUnless};
 
 use crate::fault::{PublishFault, admission_fault, building_fault};
 use crate::publication::Publication;
-use builder_core::{Format, Gate, build_part_claimed};
+use builder_core::{BuildFault, Format, Gate, build_part_claimed};
 use equation_core::Sha256Rows;
+use ident_core::Head;
 use job_core::{Job, Limits};
-use ledger_core::Ledger;
-use part_codec::seal;
+use ledger_core::{Draft, Ledger};
+use part_codec::{Sealed, seal};
 use std::alloc::Global;
 use std::thread::Threads;
-use universe_core::{Admitted, admit_of, first_of};
+use universe_core::{Admitted, Group, admit_of, first_of};
+
+/// Builds and seals a part of these groups, and the ledger with its trailer.
+pub(crate) fn built<R: Threads + Sync, G: Gate + Sync>(
+    rt: &R,
+    alloc: Global,
+    gate: &G,
+    head: Head,
+    groups: &[Group],
+    next: Draft,
+    workers: u32,
+) -> Result<(Sealed, Ledger), BuildFault>
+    requires facts { All IsGroup (map group_fields groups.now) }
+    requires ascending { IsStrictlySortedBy octets_cmp (issuers_of (map group_fields groups.now)) }
+    requires few { length groups.now ≤ Limits.PUBLISHED.crls }
+    requires identities { identities_in (map group_fields groups.now) ≤ Limits.PUBLISHED.identities }
+    requires some_workers { 1 ≤ workers }
+    requires few_workers { workers ≤ MAX_WORKERS }
+    ensures { Builds head (map group_fields groups.now) next result }
+{
+    let format = Format::Sharded;
+    let part = build_part_claimed(rt, alloc, &Sha256Rows, gate, groups, head, workers, format)?;
+    let sealed = seal(part);
+    let ledger = next.seal(sealed.trailer());
+    Ok((sealed, ledger))
+}
 
 /// Builds and seals the part of an admitted job.
-fn built<R: Threads + Sync, G: Gate + Sync>(
+fn published<R: Threads + Sync, G: Gate + Sync>(
     rt: &R,
     alloc: Global,
     gate: &G,
@@ -38,7 +64,7 @@ fn built<R: Threads + Sync, G: Gate + Sync>(
     requires identities { identities_in (map group_fields admitted.groups.items) ≤ Limits.PUBLISHED.identities }
     requires some_workers { 1 ≤ workers }
     requires few_workers { workers ≤ MAX_WORKERS }
-    ensures { Builds place admitted.head (map group_fields admitted.groups.items) admitted.next admitted.counts result }
+    ensures { BuildsAs place admitted.head (map group_fields admitted.groups.items) admitted.next admitted.counts result }
 {
     let Admitted {
         head,
@@ -46,15 +72,10 @@ fn built<R: Threads + Sync, G: Gate + Sync>(
         counts,
         next,
     } = admitted;
-    let format = Format::Sharded;
-    let built = build_part_claimed(rt, alloc, &Sha256Rows, gate, &groups, head, workers, format);
-    let part = match built {
-        Ok(part) => part,
-        Err(fault) => return Err(building_fault(fault)),
-    };
-    let sealed = seal(part);
-    let ledger = next.seal(sealed.trailer());
-    Ok(Publication::new(place, sealed, ledger, counts))
+    match built(rt, alloc, gate, head, &groups, next, workers) {
+        Ok((sealed, ledger)) => Ok(Publication::new(place, sealed, ledger, counts)),
+        Err(fault) => Err(building_fault(fault)),
+    }
 }
 
 /// What is published of a job as the first of a chain, by 1 to 64 workers, each of which enters the gate before it
@@ -77,7 +98,7 @@ pub fn publish_first<R: Threads + Sync, G: Gate + Sync>(
         Ok(admitted) => admitted,
         Err(fault) => return Err(admission_fault(fault)),
     };
-    built(rt, alloc, gate, 0, admitted, workers)
+    published(rt, alloc, gate, 0, admitted, workers)
 }
 
 /// What is published of a job behind a ledger, by 1 to 64 workers, each of which enters the gate before it builds a leaf
@@ -103,5 +124,5 @@ pub fn publish_after<R: Threads + Sync, G: Gate + Sync>(
         Err(fault) => return Err(admission_fault(fault)),
     };
     drop(ledger);
-    built(rt, alloc, gate, place, admitted, workers)
+    published(rt, alloc, gate, place, admitted, workers)
 }

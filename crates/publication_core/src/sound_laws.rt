@@ -1,11 +1,11 @@
 //! What holds of every history: what it has accepted, which part is the last of an identity, and what is listed.
 
-ghost use Rattle.std.specs.Prelude.{◌≡◌, ◌++◌, ◌∷◌, ◌&&◌, [], ℕ, List, Some, true, is_some, drop};
+ghost use Rattle.std.specs.Prelude.{◌≡◌, ◌++◌, ◌∷◌, ◌&&◌, ◌||◌, [], ℕ, List, Some, true, is_some, drop};
 ghost use Rattle.std.specs.List.{list_any, slice_get};
 ghost use Rattle.ident_core.specs.declared.identity.Identity.{Identity};
 ghost use Rattle.ident_core.specs.declared.range.Sighting.{Sighting};
 ghost use Rattle.ident_core.specs.Coverage.{covers};
-ghost use Rattle.part_codec.specs.SealedFields.{SealedFields};
+ghost use Rattle.part_text.specs.SealedFields.{SealedFields};
 ghost use Rattle.sets_core.specs.Among.{Among};
 ghost use Rattle.sets_core.specs.Sets.{has, has_key};
 ghost use Rattle.universe_core.specs.Jobs.{Entry, is_enrolled, lists};
@@ -13,19 +13,22 @@ ghost use Rattle.universe_core.specs.Formats.{JobIn, facts_in};
 ghost use Rattle.universe_core.specs.History.{Release, accepted_by, seen, sightings, birth, is_listed};
 ghost use Rattle.universe_core.specs.Ledgers.{last};
 ghost use Rattle.history_core.specs.Facts.{IsSound};
-ghost use Rattle.publication_core.specs.Histories.{IsAdmissible, release_of, History, of_jobs, jobs_of, IsHistory, history};
+ghost use Rattle.history_core.specs.Bases.{kept_by, base_at, is_lasting_by};
+ghost use Rattle.publication_core.specs.Histories.{IsAdmissible, release_of, History, of_jobs, rebased, IsHistory, history};
 
-/// Every history is sound: it is so before the first job (`begun`), and each job that may follow keeps it, from any
-/// state in which it is so (`kept`). So in each history:
+/// Every history is sound: it is so before the first job (`begun`), a base is where the releases are for which it stands
+/// (`based`), and each job that may follow keeps it, from any state in which it is so (`kept`). So in each history:
 ///
 /// - the last part of an identity, which the ledger keeps, covers all its accepted sightings (`last_covers`), and there
 ///   is one exactly for the listed (`last_listed`);
-/// - each accepted sighting so far is covered by a job that enrolls the issuer (`covered`);
-/// - where a job covers one and enrolls its issuer, the identity was accepted by then (`timely`);
+/// - each accepted sighting so far is covered by a member that enrolls the issuer (`covered`);
+/// - where a member covers one and enrolls its issuer, the identity was accepted by then (`timely`);
 /// - each accepted identity has an accepted entry (`entered`);
-/// - listed is what some job from the identity's birth on lists, and enrolls the issuer of (`listed`).
+/// - listed is what some job from the identity's birth on lists, and enrolls the issuer of (`listed`); behind a base,
+///   that, or what is kept and was listed in the history that it stands for (`listed_behind`).
 pub fn histories_are_sound()
     ensures begun { IsSound (history (of_jobs []) []) }
+    ensures based { (moment : ℕ) (rs : List Release) (s : SealedFields) → IsSound rs → IsSound (base_at moment rs s.trailer ∷ []) }
     ensures kept { (rs : List Release) (j : JobIn) (s : SealedFields) → IsSound rs → IsAdmissible rs j
         → IsSound (rs ++ release_of rs j s ∷ []) }
     ensures sound { (h : History) (parts : List SealedFields) → IsHistory h parts → IsSound (history h parts) }
@@ -41,8 +44,14 @@ pub fn histories_are_sound()
         → has_key r.issuers e.id.issuer ≡ true → has r.accepted e.id ≡ true }
     ensures entered { (h : History) (parts : List SealedFields) (x : Identity) → IsHistory h parts
         → has (accepted_by [] (history h parts)) x ≡ true → (e : Entry) × Among (seen (history h parts)) e × (e.id ≡ x) }
-    ensures listed { (h : History) (parts : List SealedFields) (x : Identity) → IsHistory h parts
-        → is_listed (history h parts) x
+    ensures listed { (jobs : List JobIn) (parts : List SealedFields) (x : Identity) → IsHistory (of_jobs jobs) parts
+        → is_listed (history (of_jobs jobs) parts) x
         ≡ list_any (λ j. lists (facts_in j) x && is_enrolled (facts_in j) x.issuer)
-        (drop (birth x (history h parts)) (jobs_of h)) }
+        (drop (birth x (history (of_jobs jobs) parts)) jobs) }
+    ensures listed_behind { (h : History) (old : List SealedFields) (moment : ℕ) (jobs : List JobIn) (parts : List SealedFields)
+        (x : Identity) → IsHistory (rebased h old moment jobs) parts
+        → is_listed (history (rebased h old moment jobs) parts) x
+        ≡ ((has (kept_by (is_lasting_by moment (history h old)) (history h old)) x && is_listed (history h old) x)
+        || list_any (λ j. lists (facts_in j) x && is_enrolled (facts_in j) x.issuer)
+        (drop (birth x (drop 1 (history (rebased h old moment jobs) parts))) jobs)) }
 {}

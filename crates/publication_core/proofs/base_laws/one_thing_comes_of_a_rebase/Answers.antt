@@ -1,0 +1,10 @@
+use Rattle.publication_core.proofs.Bases.{can_be_rebased}
+use Rattle.publication_core.proofs.BaseOutcomes.{base_outcome_unique, some_outcome}
+use Rattle.publication_core.proofs.base_laws.one_thing_comes_of_a_rebase.Goals as goal
+
+pub returns : goal.returns
+returns c = record {
+  outcome = λ ledger moment a b x y. base_outcome_unique ledger moment a b x y;
+  some = λ ledger moment. some_outcome ledger moment;
+  complete = λ ledger moment can. can_be_rebased ledger moment can;
+}

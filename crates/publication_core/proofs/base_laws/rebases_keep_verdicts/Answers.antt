@@ -1,0 +1,5 @@
+use Rattle.publication_core.proofs.Verdicts.{base_verdict}
+use Rattle.publication_core.proofs.base_laws.rebases_keep_verdicts.Goals as goal
+
+pub returns : goal.returns
+returns c = λ h parts moment s x ss is kept some asked. base_verdict h parts moment s x ss is kept some asked

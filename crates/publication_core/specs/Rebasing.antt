@@ -1,0 +1,79 @@
+-- What a rebase publishes behind a ledger, which need not be that of a history; and why nothing is.
+use Rattle.std.specs.Prelude.{◌≡◌, ℕ, ◌<◌, ◌≤◌, List, [], filter, length, count_by, not, Result, Ok, Err, Contains}
+use Rattle.sha2.specs.Sha256.{sha256}
+use Rattle.ident_core.specs.declared.bounds.TheConstants.{MAX_ISSUERS}
+use Rattle.equation_core.specs.Rows.{sha256_row}
+use Rattle.card_core.specs.declared.block.Block.{Block}
+use Rattle.part_text.specs.SealedFields.{SealedFields}
+use Rattle.part_text.specs.PartText.{unsealed_text}
+use Rattle.job_core.specs.declared.bounds.What.TheVariants.{Issuers}
+use Rattle.ledger_core.specs.LedgerFields.{LedgerFields}
+use Rattle.universe_core.specs.Formats.{dated}
+use Rattle.universe_core.specs.Groups.{GroupFields}
+use Rattle.universe_core.specs.History.{Release, accepted_by, is_listed}
+use Rattle.universe_core.specs.Rebases.{is_lasting, issuers_in, kept, kept_revoked, count_pruned, rebased_head, rebased_groups, rebased_ledger}
+use Rattle.history_core.specs.Bases.{all_issuers, kept_by, is_lasting_by}
+use Rattle.builder_core.specs.Building.{IsGroupBlock, AreGroupBlocks, IsFirstRefused}
+use Rattle.publication_core.specs.declared.base.BaseCounts.{BaseCounts}
+use Rattle.publication_core.specs.declared.base_fault.BaseFault.{BaseFault}
+use Rattle.publication_core.specs.declared.base_fault.BaseFault.TheVariants.{TooMany, SeedsExhausted, NoMemory}
+use Rattle.publication_core.specs.Formats.{blocks_in}
+
+-- ---- how many there are
+
+-- what a rebase of the ledger keeps, and what it doesn't
+abbrev pub base_counts_after : ℕ → LedgerFields → BaseCounts
+base_counts_after moment ledger = record {
+  issuers = length (issuers_in ledger.parts);
+  universe = length (kept (is_lasting moment) ledger);
+  revoked = length (kept_revoked (is_lasting moment) ledger);
+  pruned = count_pruned (is_lasting moment) ledger;
+}
+
+-- the same of the base of these releases
+abbrev pub base_counts : ℕ → List Release → BaseCounts
+base_counts moment rs = record {
+  issuers = length (all_issuers rs);
+  universe = length (kept_by (is_lasting_by moment rs) rs);
+  revoked = length (filter (is_listed rs) (kept_by (is_lasting_by moment rs) rs));
+  pruned = count_by (λ x. not (is_lasting_by moment rs x)) (accepted_by [] rs);
+}
+
+-- ---- what is published
+
+-- The part that begins a chain anew, the ledger behind it, and how many they have of each.
+pub record PublishedBase : Type 0 where
+  pub sealed : SealedFields
+  pub ledger : LedgerFields
+  pub counts : BaseCounts
+
+-- what the ledger makes at the moment
+pub record IsBasePublication (ledger : LedgerFields) (moment : ℕ) (p : PublishedBase) : Type 0 where
+  pub few_issuers : length (issuers_in ledger.parts) ≤ MAX_ISSUERS
+  pub head : p.sealed.part.head ≡ rebased_head ledger.parts
+  pub blocks : AreGroupBlocks (blocks_in dated) sha256_row (rebased_groups (is_lasting moment) ledger) p.sealed.part.blocks
+  pub trailer : p.sealed.trailer ≡ sha256 (unsealed_text p.sealed.part)
+  pub next : p.ledger ≡ rebased_ledger (is_lasting moment) ledger p.sealed.trailer
+  pub counts : p.counts ≡ base_counts_after moment ledger
+
+-- That; or the ledger's parts have more different issuers than a part may; or they haven't, and an issuer has no block.
+abbrev pub PublishesBase : LedgerFields → ℕ → Result PublishedBase BaseFault → Type 0
+PublishesBase ledger moment (Ok p) = IsBasePublication ledger moment p
+PublishesBase ledger moment (Err (TooMany what limit)) =
+    (what ≡ Issuers) × (limit ≡ MAX_ISSUERS) × (MAX_ISSUERS < length (issuers_in ledger.parts))
+PublishesBase ledger moment (Err (SeedsExhausted issuer stage)) =
+    (length (issuers_in ledger.parts) ≤ MAX_ISSUERS)
+    × IsFirstRefused (blocks_in dated) sha256_row (rebased_groups (is_lasting moment) ledger) issuer stage
+PublishesBase ledger moment (Err NoMemory) = ⊥
+
+-- the same, or want of memory
+abbrev pub PublishesBaseUnless : LedgerFields → ℕ → Result PublishedBase BaseFault → Type 0
+PublishesBaseUnless ledger moment (Ok p) = PublishesBase ledger moment (Ok p)
+PublishesBaseUnless ledger moment (Err NoMemory) = Unit {0}
+PublishesBaseUnless ledger moment (Err fault) = PublishesBase ledger moment (Err fault)
+
+-- The ledger's parts have few issuers, and each of these has a block at the moment.
+pub record CanBeRebased (ledger : LedgerFields) (moment : ℕ) : Type 0 where
+  pub few_issuers : length (issuers_in ledger.parts) ≤ MAX_ISSUERS
+  pub blocks : (g : GroupFields) → Contains (rebased_groups (is_lasting moment) ledger) g
+      → (block : Block) × IsGroupBlock (blocks_in dated) sha256_row g block

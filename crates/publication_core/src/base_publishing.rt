@@ -1,0 +1,59 @@
+//! What is published of a ledger alone: a chain that begins anew.
+
+ghost use Rattle.std.specs.Prelude.{◌≡◌, ◌≤◌, length, filter, is_some};
+ghost use Rattle.ident_core.specs.declared.bounds.TheConstants.{MAX_WORKERS};
+ghost use Rattle.publication_core.specs.Rebasing.{PublishesBaseUnless};
+
+use crate::base::{BaseCounts, BasePublication};
+use crate::base_fault::{BaseFault, base_building_fault, rebasing_fault};
+use crate::publish::built;
+use builder_core::Gate;
+use ledger_core::{Ledger, LedgerItem};
+use rebase_core::{Rebased, rebase};
+use std::alloc::Global;
+use std::thread::Threads;
+
+/// How many items have a last.
+fn count_revoked(items: &[LedgerItem]) -> usize
+    ensures { result ≡ length (filter (λ i. is_some i.last) items.now) }
+{
+    items.iter().filter(|item| item.last.is_some()).count()
+}
+
+/// What is published of a ledger without the identities whose date lies before the moment, which is in milliseconds
+/// since 1970: the part and the ledger that begin a chain anew. It is built by 1 to 64 workers, each of which enters
+/// the gate before it builds a leaf of an issuer's block. The ledger is let go before the part is built.
+pub fn publish_base<R: Threads + Sync, G: Gate + Sync>(
+    rt: &R,
+    alloc: Global,
+    gate: &G,
+    ledger: Ledger,
+    moment: u64,
+    workers: u32,
+) -> Result<BasePublication, BaseFault>
+    requires some_workers { 1 ≤ workers }
+    requires few_workers { workers ≤ MAX_WORKERS }
+    ensures { PublishesBaseUnless ledger moment result }
+{
+    let Rebased {
+        head,
+        groups,
+        pruned,
+        next,
+    } = match rebase(alloc, &ledger, moment) {
+        Ok(rebased) => rebased,
+        Err(fault) => return Err(rebasing_fault(fault)),
+    };
+    drop(ledger);
+    let (sealed, ledger) = match built(rt, alloc, gate, head, &groups, next, workers) {
+        Ok(made) => made,
+        Err(fault) => return Err(base_building_fault(fault)),
+    };
+    let counts = BaseCounts {
+        issuers: groups.len(),
+        universe: ledger.items().len(),
+        revoked: count_revoked(ledger.items()),
+        pruned,
+    };
+    Ok(BasePublication::new(sealed, ledger, counts))
+}
