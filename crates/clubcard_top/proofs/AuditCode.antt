@@ -7,7 +7,7 @@ use Rattle.std.proofs.lemmas.List.{drop_more, length-map, map-append, map_more, 
 use Rattle.std.proofs.lemmas.List.Sums.{sum_by-append, sum_by_push}
 use Rattle.std.proofs.lemmas.Option.{slice_get_within}
 use Rattle.octets_core.specs.declared.memory.NoMemory.{NoMemory}
-use Rattle.part_codec.specs.SealedFields.{SealedFields}
+use Rattle.part_text.specs.SealedFields.{SealedFields}
 use Rattle.job_core.specs.declared.bounds.TheConstants.Limits.{PUBLISHED}
 use Rattle.job_core.specs.declared.meaning.Job.{Job}
 use Rattle.job_core.specs.declared.meaning.JobCrl.{JobCrl}

@@ -7,7 +7,7 @@ use Rattle.octets_core.specs.declared.memory.NoMemory.{NoMemory}
 use Rattle.outside_core.specs.declared.depot.Depot.{Ghosts}
 use Rattle.outside_core.specs.Effects.{OnlyReads}
 use Rattle.outside_core.specs.Files.{Files}
-use Rattle.part_codec.specs.SealedFields.{SealedFields}
+use Rattle.part_text.specs.SealedFields.{SealedFields}
 use Rattle.job_core.specs.JobFields.{JobFields}
 use Rattle.word_core.specs.declared.command.Command.TheVariants as commands
 use Rattle.word_core.specs.CommandFields.{AuditFields}

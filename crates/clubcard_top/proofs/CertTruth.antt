@@ -14,7 +14,7 @@ use Rattle.sct_core.specs.Grammar.{HasSightings}
 use Rattle.sct_core.proofs.SightingLaws.{sightings-read}
 use Rattle.card_core.specs.PartFields.{PartFields}
 use Rattle.card_core.specs.Consulting.{covers_some}
-use Rattle.part_codec.specs.SealedFields.{SealedFields}
+use Rattle.part_text.specs.SealedFields.{SealedFields}
 use Rattle.sets_core.specs.Among.{Among}
 use Rattle.sets_core.proofs.Elements.{Among-filter, Among-in_filter, Among-map, found, any_at, bool_same}
 use Rattle.universe_core.specs.History.{seen, sightings}

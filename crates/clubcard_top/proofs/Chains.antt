@@ -2,8 +2,8 @@
 use Rattle.std.proofs.Common.{◌≡◌, List, [], ◌∷◌, ◌++◌, map, refl, sym, subst}
 use Rattle.sha2.specs.Sha256.{sha256}
 use Rattle.card_core.specs.PartFields.{PartFields}
-use Rattle.part_codec.specs.SealedFields.{SealedFields}
-use Rattle.part_codec.specs.PartText.{unsealed_text}
+use Rattle.part_text.specs.SealedFields.{SealedFields}
+use Rattle.part_text.specs.PartText.{unsealed_text}
 use Rattle.job_core.specs.JobFields.{JobFields}
 use Rattle.universe_core.specs.Formats.{JobIn, in_format, facts_in}
 use Rattle.universe_core.specs.Ledgers.{part_from}

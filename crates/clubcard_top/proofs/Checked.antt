@@ -1,7 +1,7 @@
 -- The reply to a command whose file was scanned.
 use Rattle.std.proofs.Common.{◌≡◌, ℕ, List, [], ◌∷◌, Option, Result, Ok, Err, refl, sym, ap, inl, inr}
 use Rattle.outside_core.specs.Files.{Files}
-use Rattle.part_codec.specs.SealedFields.{SealedFields}
+use Rattle.part_text.specs.SealedFields.{SealedFields}
 use Rattle.part_codec.specs.Noting.{note_of}
 use Rattle.part_codec.specs.declared.scan.PartNote.{PartNote}
 use Rattle.input_core.specs.declared.fault.FileFault.{FileFault}

@@ -6,7 +6,7 @@ use Rattle.std.proofs.lemmas.List.Elements.{All-nil, All-cons, All-head, All-tai
 use Rattle.octets_core.proofs.Texts.{IsBytes}
 use Rattle.query_core.specs.Queries.{Query}
 use Rattle.card_core.specs.PartFields.{PartFields}
-use Rattle.part_codec.specs.SealedFields.{SealedFields}
+use Rattle.part_text.specs.SealedFields.{SealedFields}
 use Rattle.job_core.specs.declared.bounds.Limits.{Limits}
 use Rattle.job_core.specs.declared.bounds.TheConstants.Limits.{PUBLISHED}
 use Rattle.job_core.specs.JobFields.{CrlMeaning, JobFields}
@@ -19,13 +19,15 @@ use Rattle.publication_core.specs.declared.fault.PublishFault.{PublishFault}
 use Rattle.publication_core.specs.Formats.{current}
 use Rattle.publication_core.specs.Histories.{History, with_job, chain, IsHistory, history}
 use Rattle.publication_core.specs.Publishing.{Published, Publishes}
+use Rattle.publication_core.specs.declared.base_fault.BaseFault.{BaseFault}
+use Rattle.publication_core.specs.Rebasing.{PublishedBase, PublishesBase}
 use Rattle.word_core.specs.declared.command.Command.{Command}
 use Rattle.word_core.specs.declared.command.Command.TheVariants as commands
 use Rattle.audit_core.specs.declared.auditing.Audited.{Audited}
 use Rattle.audit_core.specs.declared.fault.AuditFault.{AuditFault}
 use Rattle.audit_core.specs.declared.fault.AuditFault.TheVariants.{NoMemory}
 use Rattle.audit_core.specs.Auditing.{IsAuditable, entries_of, IsFound}
-use Rattle.word_core.specs.CommandFields.{SnapshotFields, DeltaFields, RehearseFields, AuditFields}
+use Rattle.word_core.specs.CommandFields.{SnapshotFields, DeltaFields, RebaseFields, RehearseFields, AuditFields}
 use Rattle.word_core.specs.Names.{inputs_of}
 use Rattle.input_core.specs.Readings.{queries_in, job_in, ledger_in, store_in}
 use Rattle.clubcard_top.specs.ReplyFields.{Done, NamedFault, ReplyFields}
@@ -34,6 +36,7 @@ use Rattle.clubcard_top.specs.Commands.{input, query_makes, query_cert_makes, ch
 use Rattle.clubcard_top.specs.Commands.{MakesPart, MakesSnapshot, MakesDelta, MakesRehearsal, Makes}
 use Rattle.clubcard_top.specs.Commands.{AreJobs}
 use Rattle.clubcard_top.specs.Audits.{audit_jobs, audited_as, MakesAudit}
+use Rattle.clubcard_top.specs.Rebasings.{rebased_as, MakesRebase}
 use Rattle.clubcard_top.specs.Steps.{RehearsesOn}
 use Rattle.clubcard_top.specs.Replies.{usage, reply_of, IsReplyOver, IsOctets, HasFewJobs}
 use Rattle.clubcard_top.proofs.AuditsMade.{AreAccepted, audit_jobs_are}
@@ -41,10 +44,11 @@ use Rattle.clubcard_top.proofs.Chains.{chain_push}
 use Rattle.clubcard_top.proofs.Prefixes.{first_of}
 use Rattle.clubcard_top.proofs.Rehearsed.{job_value}
 
--- What the layers promise: something comes of each job behind each ledger, a job that is read fits, and one that is
--- published goes on with the history.
+-- What the layers promise: something comes of each job behind each ledger, and of each rebase of one; a job that is read
+-- fits, and one that is published goes on with the history.
 pub record Existence : Type 0 where
   pub something : (ledger : LedgerFields) (job : JobFields) → (o : Result Published PublishFault) × Publishes ledger job o
+  pub rebases : (ledger : LedgerFields) (moment : ℕ) → (o : Result PublishedBase BaseFault) × PublishesBase ledger moment o
   pub fits : (limits : Limits) (bytes : List ℕ) (job : JobFields) → IsBytes bytes → limits.ranges ≤ 1024 → job_of limits bytes ≡ Ok job → FitsFields job
   pub within : (limits : Limits) (bytes : List ℕ) (job : JobFields) → IsBytes bytes → job_of limits bytes ≡ Ok job → IsWithinLimits limits job
   pub next : (h : History) (parts : List SealedFields) (job : JobFields) (p : Published) → IsHistory h parts → FitsPublishing job → IsWithinLimits PUBLISHED job
@@ -78,6 +82,12 @@ module _ (layers : Existence) where
   delta_made d (Ok job) (Ok l) facts = part_made d.job d.part d.new_ledger l job (facts job refl)
   delta_made d (Ok job) (Err e) facts = (Err e, refl)
   delta_made d (Err e) l facts = (Err e, refl)
+
+  rebase_made : (b : RebaseFields) (l : Result LedgerFields NamedFault) → (o : Result Done NamedFault) × MakesRebase b l o
+  rebase_made b (Ok l) =
+      let r = layers.rebases l b.moment in
+      (rebased_as b r.0, record { result = r.0; publishes = r.1; is = refl })
+  rebase_made b (Err e) = (Err e, refl)
 
   -- ---- rehearsing
 
@@ -178,6 +188,7 @@ module _ (layers : Existence) where
   outcome_exists (commands.Snapshot s) (g ∷ []) some few many octets = snapshot_made s (input s.job job_in g) (read_fits s.job g [] octets)
   outcome_exists (commands.Delta t) (g ∷ h ∷ []) some few many octets =
       delta_made t (input t.job job_in g) (input t.ledger ledger_in h) (read_fits t.job g (h ∷ []) octets)
+  outcome_exists (commands.Rebase b) (g ∷ []) some few many octets = rebase_made b (input b.ledger ledger_in g)
   outcome_exists (commands.Start t) (g ∷ []) some few many octets = (start_makes t g, refl)
   outcome_exists (commands.Install i) (g ∷ h ∷ []) some few many octets = (install_makes i g h, refl)
   outcome_exists (commands.Rehearse r) (g ∷ inputs) some few many octets =
@@ -205,6 +216,8 @@ module _ (layers : Existence) where
   outcome_exists (commands.Delta t) [] some few many octets = absurd (omega (arith, many))
   outcome_exists (commands.Delta t) (g ∷ []) some few many octets = absurd (omega (arith, many))
   outcome_exists (commands.Delta t) (g ∷ h ∷ k ∷ cs) some few many octets = absurd (omega (arith, many))
+  outcome_exists (commands.Rebase b) [] some few many octets = absurd (omega (arith, many))
+  outcome_exists (commands.Rebase b) (g ∷ h ∷ cs) some few many octets = absurd (omega (arith, many))
   outcome_exists (commands.Start t) [] some few many octets = absurd (omega (arith, many))
   outcome_exists (commands.Start t) (g ∷ h ∷ cs) some few many octets = absurd (omega (arith, many))
   outcome_exists (commands.Install i) [] some few many octets = absurd (omega (arith, many))
@@ -222,6 +235,7 @@ module _ (layers : Existence) where
   reply_exists (commands.Show n) inputs few many octets = made_reply (commands.Show n) inputs (outcome_exists (commands.Show n) inputs (λ none. cc) few many octets)
   reply_exists (commands.Snapshot s) inputs few many octets = made_reply (commands.Snapshot s) inputs (outcome_exists (commands.Snapshot s) inputs (λ none. cc) few many octets)
   reply_exists (commands.Delta t) inputs few many octets = made_reply (commands.Delta t) inputs (outcome_exists (commands.Delta t) inputs (λ none. cc) few many octets)
+  reply_exists (commands.Rebase b) inputs few many octets = made_reply (commands.Rebase b) inputs (outcome_exists (commands.Rebase b) inputs (λ none. cc) few many octets)
   reply_exists (commands.Start t) inputs few many octets = made_reply (commands.Start t) inputs (outcome_exists (commands.Start t) inputs (λ none. cc) few many octets)
   reply_exists (commands.Install i) inputs few many octets = made_reply (commands.Install i) inputs (outcome_exists (commands.Install i) inputs (λ none. cc) few many octets)
   reply_exists (commands.Rehearse r) inputs few many octets = made_reply (commands.Rehearse r) inputs (outcome_exists (commands.Rehearse r) inputs (λ none. cc) few many octets)

@@ -2,6 +2,7 @@ pub mod AuditCode
 pub mod AuditFaults
 pub mod AuditReplies
 pub mod AuditsMade
+pub mod BasesMade
 pub mod Checked
 pub mod CertTruth
 pub mod Chains
@@ -23,6 +24,7 @@ pub mod Rehearsed
 pub mod Replying
 pub mod Results
 pub mod Succeeded
+pub mod OfHistories
 pub mod Tellings
 pub mod Unique
 pub mod Ways

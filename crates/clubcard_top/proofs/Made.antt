@@ -12,10 +12,10 @@ use Rattle.ident_core.specs.declared.range.Sighting.{Sighting}
 use Rattle.ident_core.specs.HeadFields.{HeadFields}
 use Rattle.octets_core.specs.Reading.{value_of}
 use Rattle.outside_core.specs.Files.{Files}
-use Rattle.part_codec.specs.SealedFields.{SealedFields}
-use Rattle.part_codec.specs.PartText.{spelling}
-use Rattle.part_codec.specs.PartLayout.{part}
-use Rattle.part_codec.specs.Fitting.{Fits}
+use Rattle.part_text.specs.SealedFields.{SealedFields}
+use Rattle.part_text.specs.PartText.{spelling}
+use Rattle.part_text.specs.PartLayout.{part}
+use Rattle.part_text.specs.Fitting.{Fits}
 use Rattle.job_core.specs.declared.bounds.TheConstants.Limits.{PUBLISHED}
 use Rattle.job_core.specs.JobFields.{JobFields}
 use Rattle.job_core.specs.JobLayout.{job_of}
@@ -63,6 +63,12 @@ use Rattle.clubcard_top.proofs.Makings.{cert_last, cert_then, cert_after}
 use Rattle.clubcard_top.proofs.Results.{ok_same}
 use Rattle.clubcard_top.proofs.Unique.{Publishing}
 
+-- The ledger of a history is read back, in either version.
+pub record ReadBack : Type 0 where
+  pub value : (h : History) (parts : List SealedFields) → IsHistory h parts → 1 ≤ members h → ledger_of_bytes (ledger_bytes h parts) ≡ Ok (ledger_of (history h parts))
+  pub old_value : (h : History) (parts : List SealedFields) → IsHistory h parts → 1 ≤ members h → IsUndated h
+      → ledger_of_bytes (old_ledger_bytes h parts) ≡ Ok (ledger_of (history h parts))
+
 -- What the layers promise of histories.
 pub record Layers : Type 0 where
   pub publishing : Publishing
@@ -77,9 +83,7 @@ pub record Layers : Type 0 where
       → Publishes (ledger_of (history h parts)) job (Ok p) → p.counts ≡ counts (past_of (history h parts)) (facts_of job)
   pub place : (h : History) (parts : List SealedFields) (job : JobFields) (p : Published) → IsHistory h parts
       → Publishes (ledger_of (history h parts)) job (Ok p) → p.place ≡ members h
-  pub ledger_read : (h : History) (parts : List SealedFields) → IsHistory h parts → 1 ≤ members h → ledger_of_bytes (ledger_bytes h parts) ≡ Ok (ledger_of (history h parts))
-  pub old_read : (h : History) (parts : List SealedFields) → IsHistory h parts → 1 ≤ members h → IsUndated h
-      → ledger_of_bytes (old_ledger_bytes h parts) ≡ Ok (ledger_of (history h parts))
+  pub ledgers : ReadBack
   pub chain : (h : History) (parts : List SealedFields) → IsHistory h parts → IsChain parts
   pub many : (h : History) (parts : List SealedFields) → IsHistory h parts → length parts ≡ members h
   pub few : (h : History) (parts : List SealedFields) → IsHistory h parts → length parts ≤ 64
@@ -97,6 +101,13 @@ read_job bytes job h = ap (faulted of_job) h
 
 pub job_input : (files : Files) (name : List ℕ) (job : JobFields) → HoldsJob files name job → input name job_in (get files name) ≡ Ok job
 job_input files name job h = rw h.1 (ap (named name) (read_job h.0 job h.2))
+
+pub ledger_input : ReadBack → (files : Files) (name : List ℕ) (h : History) (parts : List SealedFields) → IsHistory h parts → 1 ≤ members h → HoldsLedger files name h parts
+    → input name ledger_in (get files name) ≡ Ok (ledger_of (history h parts))
+ledger_input back files name h parts is some (inl held) =
+    rw held (ap (λ (r : Result LedgerFields LedgerFault). named name (faulted of_ledger r)) (back.value h parts is some))
+ledger_input back files name h parts is some (inr held) =
+    rw held.0 (ap (λ (r : Result LedgerFields LedgerFault). named name (faulted of_ledger r)) (back.old_value h parts is some held.1))
 
 module _ (layers : Layers) where
   -- what is published behind the ledger of a history
@@ -122,13 +133,6 @@ module _ (layers : Layers) where
   published_by asked h parts job d name part ledger before is ledger_is outputs fits limits (Err fault) pub_ is_done =
       absurd (let h : ◌≡◌ {A = Result Done NamedFault} (Ok d) (published_as name part ledger (Err fault)) = is_done in cc)
 
-  ledger_input : (files : Files) (name : List ℕ) (h : History) (parts : List SealedFields) → IsHistory h parts → 1 ≤ members h → HoldsLedger files name h parts
-      → input name ledger_in (get files name) ≡ Ok (ledger_of (history h parts))
-  ledger_input files name h parts is some (inl held) =
-      rw held (ap (λ (r : Result LedgerFields LedgerFault). named name (faulted of_ledger r)) (layers.ledger_read h parts is some))
-  ledger_input files name h parts is some (inr held) =
-      rw held.0 (ap (λ (r : Result LedgerFields LedgerFault). named name (faulted of_ledger r)) (layers.old_read h parts is some held.1))
-
   -- what a command that publishes a job behind a history makes
   pub record Behind (asked : Command) (h : History) (parts : List SealedFields) (job : JobFields) (o : Result Done NamedFault) : Type 0 where
     pub name : List ℕ
@@ -151,6 +155,7 @@ module _ (layers : Layers) where
   behind (commands.Sample t) files h parts job o is p m = absurd p
   behind (commands.Gather g) files h parts job o is p m = absurd p
   behind (commands.Audit a) files h parts job o is p m = absurd p
+  behind (commands.Rebase r) files h parts job o is p m = absurd p
   behind (commands.Start t) files h parts job o is p m = absurd p
   behind (commands.Install i) files h parts job o is p m = absurd p
   behind (commands.Snapshot s) files h parts job o is p m = record {
@@ -169,7 +174,7 @@ module _ (layers : Layers) where
     before = ledger_of (history h parts);
     is_before = refl;
     outputs = λ a b. refl;
-    makes = subst (λ (l : Result LedgerFields NamedFault). MakesDelta t (Ok job) l o) (ledger_input files t.ledger h parts is p.0 p.1)
+    makes = subst (λ (l : Result LedgerFields NamedFault). MakesDelta t (Ok job) l o) (ledger_input layers.ledgers files t.ledger h parts is p.0 p.1)
         (subst (λ (r : Result JobFields NamedFault). MakesDelta t r (input t.ledger ledger_in (get files t.ledger)) o) (job_input files t.job job p.2) m);
   }
 
@@ -277,6 +282,7 @@ module _ (layers : Layers) where
   stored_law (commands.Audit a) files h parts s o is p m = absurd p
   stored_law (commands.Snapshot t) files h parts s o is p m = absurd p
   stored_law (commands.Delta d) files h parts s o is p m = absurd p
+  stored_law (commands.Rebase r) files h parts s o is p m = absurd p
   stored_law (commands.Start t) files h [] s o is p m = stored_is (commands.Start t) t.store [] s o (λ b. refl) (start_stored t files h s o is p.1 m)
   stored_law (commands.Start t) files h (q ∷ parts) s o is p m = absurd (let h : ◌≡◌ {A = List SealedFields} (q ∷ parts) [] = p.0 in cc)
   stored_law (commands.Install i) files h parts s o is p m = stored_is (commands.Install i) i.new_store parts s o (λ b. refl) (install_stored i files h parts s o is p.0 p.1 p.2 m)

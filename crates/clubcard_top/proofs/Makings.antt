@@ -6,10 +6,10 @@ use Rattle.octets_core.specs.Reading.{end, value_of, GivesUnless}
 use Rattle.octets_core.specs.declared.fault.LayoutFault.{LayoutFault}
 use Rattle.outside_core.specs.Files.{Files, IsMissing}
 use Rattle.sets_core.specs.Among.{Among}
-use Rattle.part_codec.specs.SealedFields.{SealedFields}
-use Rattle.part_codec.specs.PartLayout.{part}
-use Rattle.part_codec.specs.declared.fault.PartFault.{PartFault}
-use Rattle.part_codec.specs.declared.fault.PartFault.TheVariants as of_part_faults
+use Rattle.part_text.specs.SealedFields.{SealedFields}
+use Rattle.part_text.specs.PartLayout.{part}
+use Rattle.part_text.specs.declared.fault.PartFault.{PartFault}
+use Rattle.part_text.specs.declared.fault.PartFault.TheVariants as of_part_faults
 use Rattle.query_core.specs.Queries.{Query}
 use Rattle.query_core.specs.QueryReading.{queries_in as queries_of}
 use Rattle.query_core.specs.declared.fault.QueriesFault.{QueriesFault}
@@ -45,17 +45,20 @@ use Rattle.store_core.specs.Chain.{refusal_of}
 use Rattle.store_core.specs.StoreLayout.{store}
 use Rattle.publication_core.specs.declared.fault.PublishFault.{PublishFault}
 use Rattle.publication_core.specs.declared.fault.PublishFault.TheVariants as publish
+use Rattle.publication_core.specs.declared.base_fault.BaseFault.{BaseFault}
+use Rattle.publication_core.specs.declared.base_fault.BaseFault.TheVariants as bases
 use Rattle.publication_core.specs.Publishing.{Published}
+use Rattle.publication_core.specs.Rebasing.{PublishedBase}
 use Rattle.publication_core.specs.Histories.{History, chain}
 use Rattle.word_core.specs.declared.command.Command.{Command}
 use Rattle.word_core.specs.declared.command.Command.TheVariants as commands
-use Rattle.word_core.specs.CommandFields.{QueryCertFields, SnapshotFields, DeltaFields, StartFields, InstallFields, RehearseFields, GatherFields, AuditFields}
+use Rattle.word_core.specs.CommandFields.{QueryCertFields, SnapshotFields, DeltaFields, RebaseFields, StartFields, InstallFields, RehearseFields, GatherFields, AuditFields}
 use Rattle.word_core.specs.Names.{inputs_of, outputs_of}
 use Rattle.input_core.specs.declared.certificates.Certificate.{Certificate}
 use Rattle.input_core.specs.declared.fault.FileFault.{FileFault}
 use Rattle.input_core.specs.declared.fault.FileFault.TheVariants as faults
 use Rattle.input_core.specs.Faults.{of_queries, of_job, of_ledger, of_part, of_store, of_page}
-use Rattle.clubcard_top.specs.Faults.{of_admission, of_publishing}
+use Rattle.clubcard_top.specs.Faults.{of_admission, of_publishing, of_rebasing}
 use Rattle.input_core.specs.PartFile.{part_file}
 use Rattle.input_core.specs.Readings.{faulted, queries_in, job_in, ledger_in, part_in, store_in}
 use Rattle.input_core.specs.Certificates.{certificate_of, issuer_of, certificate_in, issuer_in}
@@ -65,6 +68,7 @@ use Rattle.clubcard_top.specs.Commands.{◌>>=◌, named, input, begun_by, begun
 use Rattle.clubcard_top.specs.Commands.{publication_done, published_as, MakesSnapshot, MakesDelta, rehearsed, IsRefused, MakesRehearsal}
 use Rattle.clubcard_top.specs.Commands.{sample_done, head_in, page_in, room_for, pages_of, gather_done, Makes}
 use Rattle.clubcard_top.specs.Audits.{job_behind, jobs_behind, audit_jobs}
+use Rattle.clubcard_top.specs.Rebasings.{base_done, rebased_as, MakesRebase}
 use Rattle.clubcard_top.specs.Steps.{RehearsesOn}
 use Rattle.clubcard_top.specs.Replies.{refusal, reply_of}
 use Rattle.input_core.specs.Inputs.{IsRead, AreRead}
@@ -147,6 +151,14 @@ delta_names t (Ok j) (Ok l) d m = published_names t.job t.part t.new_ledger m.re
 delta_names t (Ok j) (Err e) d m = absurd (not_err d e m)
 delta_names t (Err e) l d m = absurd (not_err d e m)
 
+based_names : (b : RebaseFields) (r : Result PublishedBase BaseFault) (d : Done) → Ok d ≡ rebased_as b r → names_of d.outputs ≡ outputs_of (commands.Rebase b)
+based_names b (Ok p) d h = ap (λ (e : Done). names_of e.outputs) (ok_same {E = NamedFault} d (base_done b p) h)
+based_names b (Err fault) d h = absurd (not_err d (record { name = b.ledger; fault = of_rebasing fault }) h)
+
+rebase_names : (b : RebaseFields) (l : Result LedgerFields NamedFault) (d : Done) → MakesRebase b l (Ok d) → names_of d.outputs ≡ outputs_of (commands.Rebase b)
+rebase_names b (Ok l) d m = based_names b m.result d m.is
+rebase_names b (Err e) d m = absurd (not_err d e m)
+
 -- a rehearsal writes no file
 rehearses_names : (queries : List Query) (jobs : List JobFields) (parts : List SealedFields) (names : List (List ℕ)) (inputs : List (Option (List ℕ)))
     (d : Done) → RehearsesOn queries jobs parts names inputs (Ok d)
@@ -195,6 +207,7 @@ done_names (commands.Check name) (p ∷ []) d m = names_after [] check_done (λ 
 done_names (commands.Show name) (p ∷ []) d m = names_after [] show_done (λ x. refl) (input name part_in p) d m
 done_names (commands.Snapshot s) (j ∷ []) d m = snapshot_names s (input s.job job_in j) d m
 done_names (commands.Delta t) (j ∷ l ∷ []) d m = delta_names t (input t.job job_in j) (input t.ledger ledger_in l) d m
+done_names (commands.Rebase b) (l ∷ []) d m = rebase_names b (input b.ledger ledger_in l) d m
 done_names (commands.Start t) (p ∷ []) d m =
     let x = after_ok (input t.part part_in p) (start_after t) d m in
     names_after (t.store ∷ []) (stored t.store) (λ y. refl) (named t.part (begun x.0.0)) d x.2
@@ -227,6 +240,8 @@ done_names (commands.Snapshot s) (a ∷ b ∷ cs) d m = absurd m
 done_names (commands.Delta t) [] d m = absurd m
 done_names (commands.Delta t) (a ∷ []) d m = absurd m
 done_names (commands.Delta t) (a ∷ b ∷ e ∷ cs) d m = absurd m
+done_names (commands.Rebase b) [] d m = absurd m
+done_names (commands.Rebase b) (a ∷ e ∷ cs) d m = absurd m
 done_names (commands.Start t) [] d m = absurd m
 done_names (commands.Start t) (a ∷ b ∷ cs) d m = absurd m
 done_names (commands.Install i) [] d m = absurd m
@@ -278,6 +293,11 @@ publish_fault_read : (f : PublishFault) → IsRead_fault (of_publishing f)
 publish_fault_read (publish.Admission fault) = admission_fault_read fault
 publish_fault_read (publish.SeedsExhausted issuer stage) = λ h. cc
 publish_fault_read publish.NoMemory = λ h. cc
+
+base_fault_read : (f : BaseFault) → IsRead_fault (of_rebasing f)
+base_fault_read (bases.TooMany what limit) = λ h. cc
+base_fault_read (bases.SeedsExhausted issuer stage) = λ h. cc
+base_fault_read bases.NoMemory = λ h. cc
 
 faulted_read : {A E : Type 0} (fault : E → FileFault) (r : Result A E) → ((e : E) → IsRead_fault (fault e)) → faulted fault r ≡ Err faults.Unread → ⊥
 faulted_read {A} fault (Ok x) read h = not_err x faults.Unread h
@@ -384,6 +404,15 @@ delta_unread : (t : DeltaFields) (r : Result JobFields NamedFault) (l : Result L
 delta_unread t (Ok j) (Ok l) e m u = absurd (published_read t.job t.part t.new_ledger m.result e m.is u)
 delta_unread t (Ok j) (Err f) e m u = inr (ap (λ (k : NamedFault). Err k) (sym (err_same {A = Done} e f m)))
 delta_unread t (Err f) l e m u = inl (ap (λ (k : NamedFault). Err k) (sym (err_same {A = Done} e f m)))
+
+based_read : (b : RebaseFields) (r : Result PublishedBase BaseFault) (e : NamedFault) → Err e ≡ rebased_as b r → e.fault ≡ faults.Unread → ⊥
+based_read b (Ok p) e h u = not_ok (base_done b p) e h
+based_read b (Err fault) e h u =
+    base_fault_read fault (sym (ap (λ (k : NamedFault). k.fault) (err_same {A = Done} e (record { name = b.ledger; fault = of_rebasing fault }) h)) ∙ u)
+
+rebase_unread : (b : RebaseFields) (l : Result LedgerFields NamedFault) (e : NamedFault) → MakesRebase b l (Err e) → e.fault ≡ faults.Unread → l ≡ Err e
+rebase_unread b (Ok l) e m u = absurd (based_read b m.result e m.is u)
+rebase_unread b (Err f) e m u = ap (λ (k : NamedFault). Err k) (sym (err_same {A = Done} e f m))
 
 -- a fault of what is made of what was read
 made_read : {A : Type 0} (name : List ℕ) (r : Result A FileFault) (f : A → Done) (e : NamedFault) → (r ≡ Err faults.Unread → ⊥)
@@ -576,6 +605,8 @@ module _ (told : Option Files) (failed : Option (List ℕ) → Type 0) (e : Name
   unread_cause (commands.Snapshot s) (j ∷ []) read m =
       cause_of (s.job ∷ []) s.job j (inl refl) read.0 (input_unread s.job job_in j e job_read (snapshot_unread s (input s.job job_in j) e m u) u)
   unread_cause (commands.Delta t) (j ∷ l ∷ []) read m = delta_by t j l read.0 read.1.0 (delta_unread t (input t.job job_in j) (input t.ledger ledger_in l) e m u)
+  unread_cause (commands.Rebase b) (l ∷ []) read m =
+      cause_of (b.ledger ∷ []) b.ledger l (inl refl) read.0 (input_unread b.ledger ledger_in l e ledger_read (rebase_unread b (input b.ledger ledger_in l) e m u) u)
   unread_cause (commands.Start t) (p ∷ []) read m =
       cause_of (t.part ∷ []) t.part p (inl refl) read.0
       (first_unread t.part part_in p (start_after t) e part_read (λ x h. start_unread t x e h u) (after_err (input t.part part_in p) (start_after t) e m) u)
@@ -605,6 +636,8 @@ module _ (told : Option Files) (failed : Option (List ℕ) → Type 0) (e : Name
   unread_cause (commands.Delta t) [] read m = absurd m
   unread_cause (commands.Delta t) (a ∷ []) read m = absurd m
   unread_cause (commands.Delta t) (a ∷ b ∷ k ∷ cs) read m = absurd m
+  unread_cause (commands.Rebase b) [] read m = absurd m
+  unread_cause (commands.Rebase b) (a ∷ c ∷ cs) read m = absurd m
   unread_cause (commands.Start t) [] read m = absurd m
   unread_cause (commands.Start t) (a ∷ b ∷ cs) read m = absurd m
   unread_cause (commands.Install i) [] read m = absurd m

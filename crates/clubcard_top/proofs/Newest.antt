@@ -1,6 +1,6 @@
 -- The newest part of a store.
 use Rattle.std.proofs.Common.{◌≡◌, suc, ◌-◌, ◌≤◌, List, [], ◌∷◌, length, get_or, Some, refl, arith}
-use Rattle.part_codec.specs.SealedFields.{SealedFields}
+use Rattle.part_text.specs.SealedFields.{SealedFields}
 use Rattle.store_core.specs.Chain.{newest_of}
 
 pub newest_at : (parts : List SealedFields) (d : SealedFields) → 1 ≤ length parts → newest_of parts ≡ Some (get_or parts (length parts - 1) d)

@@ -7,7 +7,7 @@ use Rattle.query_core.specs.Queries.{Query}
 use Rattle.job_core.specs.JobFields.{JobFields}
 use Rattle.gather_core.specs.Pages.{PageFields}
 use Rattle.ledger_core.specs.LedgerFields.{LedgerFields}
-use Rattle.part_codec.specs.SealedFields.{SealedFields}
+use Rattle.part_text.specs.SealedFields.{SealedFields}
 use Rattle.publication_core.specs.Histories.{History, chain}
 use Rattle.word_core.specs.declared.command.Command.{Command}
 use Rattle.word_core.specs.declared.command.Command.TheVariants as commands
@@ -236,6 +236,8 @@ over_files files failed (commands.Check name) (p ∷ []) o seen read m = one_ove
 over_files files failed (commands.Show name) (p ∷ []) o seen read m = one_over files failed name (λ g. o ≡ show_makes name g) p (λ h. seen (unread name) h refl) read.0 m
 over_files files failed (commands.Snapshot s) (j ∷ []) o seen read m = one_over files failed s.job (λ g. Makes (commands.Snapshot s) (g ∷ []) o) j (λ h. seen (unread s.job) h refl) read.0 m
 over_files files failed (commands.Delta t) (j ∷ l ∷ []) o seen read m = delta_over files failed t j l o seen read.0 read.1.0 m
+over_files files failed (commands.Rebase b) (l ∷ []) o seen read m =
+    one_over files failed b.ledger (λ g. Makes (commands.Rebase b) (g ∷ []) o) l (λ h. seen (unread b.ledger) h refl) read.0 m
 over_files files failed (commands.Start t) (p ∷ []) o seen read m = one_over files failed t.part (λ g. o ≡ start_makes t g) p (λ h. seen (unread t.part) h refl) read.0 m
 over_files files failed (commands.Install i) (s ∷ p ∷ []) o seen read m = install_over files failed i s p o seen read.0 read.1.0 m
 over_files files failed (commands.Rehearse r) (q ∷ inputs) o seen read m = rehearsal_over files failed r q inputs o seen read.0 read.1 m
@@ -261,6 +263,8 @@ over_files files failed (commands.Snapshot s) (a ∷ b ∷ cs) o seen read m = a
 over_files files failed (commands.Delta t) [] o seen read m = absurd m
 over_files files failed (commands.Delta t) (a ∷ []) o seen read m = absurd m
 over_files files failed (commands.Delta t) (a ∷ b ∷ k ∷ cs) o seen read m = absurd m
+over_files files failed (commands.Rebase b) [] o seen read m = absurd m
+over_files files failed (commands.Rebase b) (a ∷ l ∷ cs) o seen read m = absurd m
 over_files files failed (commands.Start t) [] o seen read m = absurd m
 over_files files failed (commands.Start t) (a ∷ b ∷ cs) o seen read m = absurd m
 over_files files failed (commands.Install i) [] o seen read m = absurd m

@@ -7,7 +7,7 @@ use Rattle.outside_core.specs.Files.{Files}
 use Rattle.query_core.specs.Queries.{Query}
 use Rattle.query_core.specs.QueryReading.{queries_in as queries_of}
 use Rattle.query_core.specs.declared.fault.QueriesFault.{QueriesFault}
-use Rattle.part_codec.specs.SealedFields.{SealedFields}
+use Rattle.part_text.specs.SealedFields.{SealedFields}
 use Rattle.job_core.specs.declared.bounds.TheConstants.Limits.{PUBLISHED}
 use Rattle.job_core.specs.declared.fault.JobFault.{JobFault}
 use Rattle.job_core.specs.JobFields.{JobFields}
@@ -148,6 +148,7 @@ module _ (layers : Layers) (files : Files) where
   done_law (commands.Show n) queries jobs parts o is p m = absurd p
   done_law (commands.Snapshot s) queries jobs parts o is p m = absurd p
   done_law (commands.Delta d) queries jobs parts o is p m = absurd p
+  done_law (commands.Rebase r) queries jobs parts o is p m = absurd p
   done_law (commands.Start t) queries jobs parts o is p m = absurd p
   done_law (commands.Install i) queries jobs parts o is p m = absurd p
   done_law (commands.Sample s) queries jobs parts o is p m = absurd p

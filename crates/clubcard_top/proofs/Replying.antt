@@ -7,7 +7,7 @@ use Rattle.outside_core.specs.declared.depot.Depot.{Ghosts}
 use Rattle.outside_core.specs.Effects.{OnlyReads}
 use Rattle.outside_core.specs.Files.{Files}
 use Rattle.sets_core.specs.Among.{Among}
-use Rattle.part_codec.specs.SealedFields.{SealedFields}
+use Rattle.part_text.specs.SealedFields.{SealedFields}
 use Rattle.job_core.specs.declared.bounds.TheConstants.Limits.{PUBLISHED}
 use Rattle.job_core.specs.JobFields.{JobFields}
 use Rattle.job_core.specs.JobFacts.{FitsFields, IsWithinLimits}
@@ -16,19 +16,23 @@ use Rattle.universe_core.specs.Ledgers.{no_ledger}
 use Rattle.publication_core.specs.declared.fault.PublishFault.{PublishFault}
 use Rattle.publication_core.specs.declared.fault.PublishFault.TheVariants as publish
 use Rattle.publication_core.specs.Publishing.{Published, Publishes, PublishesUnless}
+use Rattle.publication_core.specs.declared.base_fault.BaseFault.{BaseFault}
+use Rattle.publication_core.specs.declared.base_fault.BaseFault.TheVariants as bases
+use Rattle.publication_core.specs.Rebasing.{PublishedBase, PublishesBase, PublishesBaseUnless}
 use Rattle.word_core.specs.declared.command.Command.{Command}
 use Rattle.word_core.specs.declared.command.Command.TheVariants as commands
-use Rattle.word_core.specs.CommandFields.{QueryFields, SnapshotFields, DeltaFields, StartFields, InstallFields}
+use Rattle.word_core.specs.CommandFields.{QueryFields, SnapshotFields, DeltaFields, RebaseFields, StartFields, InstallFields}
 use Rattle.word_core.specs.Names.{inputs_of}
 use Rattle.clubcard_top.specs.declared.answer.Answer.{Answer}
 use Rattle.input_core.specs.declared.fault.FileFault.{FileFault}
 use Rattle.input_core.specs.declared.fault.FileFault.TheVariants as faults
-use Rattle.clubcard_top.specs.Faults.{of_publishing}
+use Rattle.clubcard_top.specs.Faults.{of_publishing, of_rebasing}
 use Rattle.input_core.specs.Readings.{job_in, ledger_in, part_in, store_in, input_as}
 use Rattle.input_core.specs.Inputs.{WhichFailed, IsBlamed, IsRead, AreRead, IsInput}
 use Rattle.input_core.proofs.FilesRead.{some_read, later_read, failed_later, none_failed, blamed_later}
 use Rattle.clubcard_top.specs.ReplyFields.{ReplyFields, Done, NamedFault}
 use Rattle.clubcard_top.specs.Commands.{◌>>=◌, named, input, query_done, show_done, begun, installed, stored, publication_done, MakesPart, MakesSnapshot, MakesDelta, Makes}
+use Rattle.clubcard_top.specs.Rebasings.{base_done, MakesBase, MakesRebase}
 use Rattle.clubcard_top.specs.Replies.{done, refusal, reply_of}
 use Rattle.clubcard_top.specs.Answering.{reply_fields}
 use Rattle.clubcard_top.specs.Runs.{BlamesFile, SaysWhich, IsReply}
@@ -182,6 +186,13 @@ publishes_err before j (publish.Admission fault) h refute = h
 publishes_err before j (publish.SeedsExhausted issuer stage) h refute = h
 publishes_err before j publish.NoMemory h refute = absurd (refute refl)
 
+-- and one of a rebase
+base_err : (before : LedgerFields) (moment : ℕ) (fault : BaseFault) → PublishesBaseUnless before moment (Err fault) → (of_rebasing fault ≡ faults.NoMemory → ⊥)
+    → PublishesBase before moment (Err fault)
+base_err before moment (bases.TooMany what limit) h refute = h
+base_err before moment (bases.SeedsExhausted issuer stage) h refute = h
+base_err before moment bases.NoMemory h refute = absurd (refute refl)
+
 module _ (told : Option Files) (failed : Option (List ℕ) → Type 0) (r : Result Answer NoMemory) where
   pub snapshot_not : {B : Type 0} (s : SnapshotFields) (view : B → JobFields) (x : B) (fault : PublishFault) → IsInput told failed s.job job_in view (Ok x)
       → FitsFields (view x) → IsWithinLimits PUBLISHED (view x)
@@ -191,6 +202,32 @@ module _ (told : Option Files) (failed : Option (List ℕ) → Type 0) (r : Resu
       made_unless (commands.Snapshot s) told failed (given ∷ []) s.job (of_publishing fault) r (read, tt) (inl (none_failed failed s.job faults.Unread x blamed))
       (λ refute. snapshot_step told failed r s (view x) given (Err (record { name = s.job; fault = of_publishing fault })) gives
       (record { fits = fits; limits = limits; result = Err fault; publishes = publishes_err no_ledger (view x) fault publishes refute; is = refl })) memory is
+
+  -- ---- rebase
+
+  pub rebase_refused : {B : Type 0} (b : RebaseFields) (view : B → LedgerFields) (fault : FileFault) → IsInput told failed b.ledger ledger_in view (Err fault) → (fault ≡ faults.NoMemory → IsErr r)
+      → IfOk r (λ a. reply_fields a ≡ refusal b.ledger fault) → IfOk r (λ a. IsReply (commands.Rebase b) told failed (reply_fields a))
+  rebase_refused b view fault in_ memory is =
+      one_refused told failed r (commands.Rebase b) b.ledger ledger_in view fault (λ g read. (read, tt))
+      (λ g h. subst (λ (x : Result LedgerFields NamedFault). MakesRebase b x (Err (record { name = b.ledger; fault = fault }))) (sym h) refl) (inl refl) in_ memory is
+
+  rebase_step : (b : RebaseFields) (l : LedgerFields) (given : Option (List ℕ)) (o : Result Done NamedFault) → input_as ledger_in given ≡ Ok l → MakesBase b l o
+      → Makes (commands.Rebase b) (given ∷ []) o
+  rebase_step b l given o gives m = subst (λ (x : Result LedgerFields FileFault). MakesRebase b (named b.ledger x) o) (sym gives) m
+
+  pub rebase_made : {B : Type 0} (b : RebaseFields) (view : B → LedgerFields) (x : B) (p : PublishedBase) → IsInput told failed b.ledger ledger_in view (Ok x)
+      → PublishesBaseUnless (view x) b.moment (Ok p) → IfOk r (λ a. reply_fields a ≡ done (base_done b p)) → IfOk r (λ a. IsReply (commands.Rebase b) told failed (reply_fields a))
+  rebase_made b view x p (given, read, gives, blamed) publishes is =
+      made (commands.Rebase b) told failed (given ∷ []) (Ok (base_done b p)) r (read, tt) (none_failed failed b.ledger faults.Unread x blamed)
+      (rebase_step b (view x) given (Ok (base_done b p)) gives (record { result = Ok p; publishes = publishes; is = refl })) is
+
+  pub rebase_not : {B : Type 0} (b : RebaseFields) (view : B → LedgerFields) (x : B) (fault : BaseFault) → IsInput told failed b.ledger ledger_in view (Ok x)
+      → PublishesBaseUnless (view x) b.moment (Err fault) → (of_rebasing fault ≡ faults.NoMemory → IsErr r) → IfOk r (λ a. reply_fields a ≡ refusal b.ledger (of_rebasing fault))
+      → IfOk r (λ a. IsReply (commands.Rebase b) told failed (reply_fields a))
+  rebase_not b view x fault (given, read, gives, blamed) publishes memory is =
+      made_unless (commands.Rebase b) told failed (given ∷ []) b.ledger (of_rebasing fault) r (read, tt) (inl (none_failed failed b.ledger faults.Unread x blamed))
+      (λ refute. rebase_step b (view x) given (Err (record { name = b.ledger; fault = of_rebasing fault })) gives
+      (record { result = Err fault; publishes = base_err (view x) b.moment fault publishes refute; is = refl })) memory is
 
 -- ---- commands of two inputs
 

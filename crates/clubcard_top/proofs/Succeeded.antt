@@ -1,4 +1,4 @@
--- What a call that succeeds found, left and said; and what it does for a history.
+-- What a call that succeeds found, left and said; and when one must succeed.
 use Rattle.std.proofs.Common.{◌≡◌, ◌≢◌, ℕ, cond, ◌⊎◌, List, [], ◌∷◌, ◌++◌, length, Option, Some, None, Result, Ok, Err, refl, sym, ap, subst, ◌∙◌}
 use Rattle.std.proofs.Common.{◌+◌, ◌≤◌, Bool, true, false, map, length-append, arith}
 use Rattle.std.specs.Prelude.{nat_le, if◌then◌else◌}
@@ -11,9 +11,6 @@ use Rattle.outside_core.specs.Files.{Files}
 use Rattle.outside_core.specs.Written.{followed_by}
 use Rattle.ident_core.specs.declared.kind.Kind.{Kind}
 use Rattle.ident_core.specs.declared.kind.Kind.TheVariants as kinds
-use Rattle.ident_core.specs.declared.identity.Identity.{Identity}
-use Rattle.ident_core.specs.declared.range.Sighting.{Sighting}
-use Rattle.query_core.specs.Queries.{Query}
 use Rattle.sample_core.specs.Sample.{sample_text}
 use Rattle.gather_core.specs.Pages.{PageFields}
 use Rattle.job_core.specs.declared.bounds.TheConstants.Limits as limits
@@ -21,46 +18,40 @@ use Rattle.job_core.specs.declared.bounds.What.TheVariants as what
 use Rattle.job_core.specs.JobFields.{JobFields}
 use Rattle.universe_core.specs.History.{seen}
 use Rattle.audit_core.specs.Auditing.{history as audited_history, AllAgree}
-use Rattle.universe_core.specs.Formats.{in_format}
 use Rattle.job_core.specs.JobText.{JobContents, spelling as job_text}
 use Rattle.ledger_core.specs.LedgerFields.{LedgerFields}
 use Rattle.ledger_core.specs.LedgerText.{ledger_text}
-use Rattle.part_codec.specs.SealedFields.{SealedFields}
-use Rattle.part_codec.specs.PartText.{spelling}
+use Rattle.part_text.specs.SealedFields.{SealedFields}
+use Rattle.part_text.specs.PartText.{spelling}
 use Rattle.universe_core.specs.Ledgers.{no_ledger}
 use Rattle.store_core.specs.declared.chain.Refusal.{Refusal}
 use Rattle.store_core.specs.Chain.{newest_of, refusal_of}
 use Rattle.store_core.specs.StoreLayout.{store_text}
 use Rattle.publication_core.specs.declared.fault.PublishFault.{PublishFault}
 use Rattle.publication_core.specs.Publishing.{Published as Publication, CanBePublished, Publishes}
-use Rattle.publication_core.specs.Formats.{current}
-use Rattle.publication_core.specs.Histories.{IsAdmissible, History, with_job, chain, IsHistory, history, part_bytes, store_bytes, ledger_bytes}
+use Rattle.publication_core.specs.declared.base.BaseCounts.{BaseCounts}
+use Rattle.publication_core.specs.declared.base_fault.BaseFault.{BaseFault}
+use Rattle.publication_core.specs.Rebasing.{PublishedBase, IsBasePublication, PublishesBase, CanBeRebased}
 use Rattle.word_core.specs.declared.command.Command.{Command}
 use Rattle.word_core.specs.declared.command.Command.TheVariants as commands
-use Rattle.word_core.specs.CommandFields.{QueryFields, QueryCertFields, SnapshotFields, DeltaFields, StartFields, InstallFields, RehearseFields, SampleFields, GatherFields, AuditFields}
-use Rattle.line_core.specs.Lines.{store_line}
+use Rattle.word_core.specs.CommandFields.{QueryFields, QueryCertFields, SnapshotFields, DeltaFields, RebaseFields, StartFields, InstallFields, SampleFields, GatherFields, AuditFields}
 use Rattle.input_core.specs.declared.certificates.Certificate.{Certificate}
 use Rattle.input_core.specs.declared.fault.FileFault.{FileFault}
 use Rattle.input_core.specs.declared.fault.FileFault.TheVariants as faults
-use Rattle.clubcard_top.specs.Faults.{of_publishing}
-use Rattle.clubcard_top.specs.ReplyFields.{OutputFields, Done, NamedFault}
+use Rattle.clubcard_top.specs.Faults.{of_publishing, of_rebasing}
+use Rattle.clubcard_top.specs.ReplyFields.{Done, NamedFault}
 use Rattle.input_core.specs.Readings.{job_in, ledger_in, part_in, store_in}
 use Rattle.input_core.specs.Certificates.{certificate_in, issuer_in}
-use Rattle.clubcard_top.specs.Commands.{◌>>=◌, named, input, only, query_done, query_cert_done, check_done, show_done, epoch_of, stored, begun_by, begun, installed_by, installed}
+use Rattle.clubcard_top.specs.Commands.{◌>>=◌, named, input, both_files, query_done, query_cert_done, check_done, show_done, stored, begun_by, begun, installed_by, installed}
 use Rattle.clubcard_top.specs.Commands.{publication_done, published_as, MakesPart, MakesSnapshot, MakesDelta, sample_done}
-use Rattle.clubcard_top.specs.Commands.{head_in, page_in, room_for, pages_of, longer, gather_done, rehearsed, AreJobs, Makes}
+use Rattle.clubcard_top.specs.Commands.{head_in, page_in, room_for, pages_of, longer, gather_done, AreJobs, Makes}
+use Rattle.clubcard_top.specs.Rebasings.{base_line, base_done, rebased_as, MakesBase, MakesRebase}
 use Rattle.clubcard_top.specs.Replies.{held_by}
 use Rattle.clubcard_top.specs.Runs.{with_outputs}
-use Rattle.clubcard_top.specs.Calls.{Call, Reads, Holds, Writes, ChangesNoFile, Prints, NoFault}
+use Rattle.clubcard_top.specs.Calls.{Call, Reads, Holds, ChangesNoFile, Prints, NoFault}
 use Rattle.clubcard_top.specs.Endings.{Succeeds, Did, WantedMemory}
 use Rattle.clubcard_top.specs.Audits.{audit_jobs, audit_done, MakesAudit}
-use Rattle.clubcard_top.specs.Successes.{PublishesFile, ReadsPages, ReadsJobs, AreWithinLimits, IsAudited, SaysTheTruth}
-use Rattle.clubcard_top.specs.Headline.{AsksHistory, IsPublished, IsRehearsed, IsStored, PublishesJob, RehearsesJobs}
-use Rattle.clubcard_top.specs.Headline.{StoresPart, publishes_to, stores_to, truth_line, truth_done, Published, Stored}
-use Rattle.clubcard_top.specs.Headline.{AsksToPublish, AsksToStore, AsksTruth, AsksToRehearse}
-use Rattle.clubcard_top.specs.Headline.{AsksCert, AsksCertTruth, cert_truth_line}
-use Rattle.clubcard_top.specs.Headline.{part_name, ledger_name, store_name}
-use Rattle.clubcard_top.specs.Promises.{Successes, Histories}
+use Rattle.clubcard_top.specs.Successes.{PublishesFile, BeginsAnew, ReadsPages, ReadsJobs, AreWithinLimits, IsAudited, SaysTheTruth}
 use Rattle.clubcard_top.proofs.AuditsMade.{audit_done_is, audit_jobs_back, audit_makes}
 use Rattle.clubcard_top.proofs.Files.{get-other}
 use Rattle.clubcard_top.proofs.Makings.{gather_after, page_last, page_then, cert_last, cert_then, cert_after}
@@ -80,11 +71,11 @@ get-same files name bytes =
     get-insert nat_list_cmp_total files name bytes name
     ∙ ap (λ t. cond t (Some bytes) (get files name)) (is_eq-slice_cmp name name ∙ (bytes_eq-Decides name name).1 refl)
 
-one_held : (files : Files) (name bytes : List ℕ) (after : Option Files) → after ≡ Some (insert files name bytes)
+pub one_held : (files : Files) (name bytes : List ℕ) (after : Option Files) → after ≡ Some (insert files name bytes)
     → HoldsIn after name bytes
 one_held files name bytes after is = (insert files name bytes, is, get-same files name bytes)
 
-two_held : (files : Files) (a b x y : List ℕ) (after : Option Files) → a ≢ b
+pub two_held : (files : Files) (a b x y : List ℕ) (after : Option Files) → a ≢ b
     → after ≡ Some (insert (insert files a x) b y) → HoldsIn after a x × HoldsIn after b y
 two_held files a b x y after apart is =
     let both = insert (insert files a x) b y in
@@ -124,7 +115,7 @@ room_ok job before page few h = room_ok_by job page few (nat_le (before + length
 
 -- ---- parts of stores
 
-newest_last : (parts : List SealedFields) (s : SealedFields) → newest_of (parts ++ s ∷ []) ≡ Some s
+pub newest_last : (parts : List SealedFields) (s : SealedFields) → newest_of (parts ++ s ∷ []) ≡ Some s
 newest_last [] s = refl
 newest_last (p ∷ []) s = refl
 newest_last (p ∷ q ∷ parts) s = newest_last (q ∷ parts) s
@@ -164,6 +155,18 @@ delta_ok t (Ok j) (Ok before) d m = (j, before, refl, refl, m)
 delta_ok t (Ok j) (Err e) d m = absurd (not_fault d e (sym m))
 delta_ok t (Err e) l d m = absurd (not_fault d e (sym m))
 
+rebase_ok : (r : RebaseFields) (l : Result LedgerFields NamedFault) (d : Done) → MakesRebase r l (Ok d)
+    → (before : LedgerFields) × (l ≡ Ok before) × MakesBase r before (Ok d)
+rebase_ok r (Ok before) d m = (before, refl, m)
+rebase_ok r (Err e) d m = absurd (not_fault d e (sym m))
+
+based_ok : (r : RebaseFields) (before : LedgerFields) (x : Result PublishedBase BaseFault) (d : Done)
+    → PublishesBase before r.moment x → Ok d ≡ rebased_as r x
+    → (p : PublishedBase) × IsBasePublication before r.moment p × (d ≡ base_done r p)
+based_ok r before (Ok p) d is h = (p, is, ok_same {E = NamedFault} d (base_done r p) h)
+based_ok r before (Err fault) d is h =
+    absurd (not_fault d (record { name = r.ledger; fault = of_rebasing fault }) (sym h))
+
 -- what is made of a job and a ledger, where this is published
 makes_this : (job part ledger : List ℕ) (before : LedgerFields) (j : JobFields) (o : Result Done NamedFault)
     (p : Publication) → Publishes before j (Ok p) → MakesPart job part ledger before j o
@@ -201,6 +204,9 @@ Truthful = (parts : List SealedFields) (jobs : List JobFields) → AllAgree (map
 abbrev pub Publishable : Type 0
 Publishable = (before : LedgerFields) (job : JobFields) → CanBePublished before job → (made : Publication) × Publishes before job (Ok made)
 
+abbrev pub Rebasable : Type 0
+Rebasable = (before : LedgerFields) (moment : ℕ) → CanBeRebased before moment → (made : PublishedBase) × PublishesBase before moment (Ok made)
+
 -- ---- each command
 
 module _ (call : Call) where
@@ -226,14 +232,14 @@ module _ (call : Call) where
       → Reads call name read x
   reads files told name read x h = let i = input_ok name read (get files name) x h in (i.0, (files, told, i.1), i.2)
 
-  prints : (d e : Done) → d ≡ e → Prints call d.text → Prints call e.text
+  pub prints : (d e : Done) → d ≡ e → Prints call d.text → Prints call e.text
   prints d e same h = subst (λ (k : Done). Prints call k.text) same h
 
-  left : (files : Files) (d e : Done) → d ≡ e → call.files_after ≡ with_outputs (Some files) d.outputs
+  pub left : (files : Files) (d e : Done) → d ≡ e → call.files_after ≡ with_outputs (Some files) d.outputs
       → call.files_after ≡ with_outputs (Some files) e.outputs
   left files d e same h = subst (λ (k : Done). call.files_after ≡ with_outputs (Some files) k.outputs) same h
 
-  query : EndsOld call → (q : QueryFields) → (did : Did call (commands.Query q)) → (parts : List SealedFields)
+  pub query : EndsOld call → (q : QueryFields) → (did : Did call (commands.Query q)) → (parts : List SealedFields)
       × Reads call q.store store_in parts × Prints call (query_done q parts).text × ChangesNoFile call
   query ends q did =
       let c = came ends (commands.Query q) did in
@@ -245,7 +251,7 @@ module _ (call : Call) where
         left did.files c.d (query_done q s.0) (sym same) c.files_are ∙ sym did.told,
       )
 
-  query_cert : EndsOld call → (q : QueryCertFields) → (did : Did call (commands.QueryCert q)) → (parts : List SealedFields)
+  pub query_cert : EndsOld call → (q : QueryCertFields) → (did : Did call (commands.QueryCert q)) → (parts : List SealedFields)
       × (cert : Certificate) × (issuer : List ℕ) × Reads call q.store store_in parts
       × Reads call q.cert certificate_in cert × Reads call q.issuer_cert issuer_in issuer
       × Prints call (query_cert_done parts cert issuer).text × ChangesNoFile call
@@ -268,7 +274,7 @@ module _ (call : Call) where
         left did.files c.d said (sym same) c.files_are ∙ sym did.told,
       )
 
-  check : EndsOld call → (name : List ℕ) → (did : Did call (commands.Check name)) → (x : SealedFields × ℕ)
+  pub check : EndsOld call → (name : List ℕ) → (did : Did call (commands.Check name)) → (x : SealedFields × ℕ)
       × Reads call name part_in x × Prints call (check_done x).text × ChangesNoFile call
   check ends name did =
       let c = came ends (commands.Check name) did in
@@ -280,7 +286,7 @@ module _ (call : Call) where
         left did.files c.d (check_done s.0) (sym same) c.files_are ∙ sym did.told,
       )
 
-  show : EndsOld call → (name : List ℕ) → (did : Did call (commands.Show name)) → (x : SealedFields × ℕ)
+  pub show : EndsOld call → (name : List ℕ) → (did : Did call (commands.Show name)) → (x : SealedFields × ℕ)
       × Reads call name part_in x × Prints call (show_done x).text × ChangesNoFile call
   show ends name did =
       let c = came ends (commands.Show name) did in
@@ -292,21 +298,27 @@ module _ (call : Call) where
         left did.files c.d (show_done s.0) (sym same) c.files_are ∙ sym did.told,
       )
 
-  -- the two files of a publication
+  -- a part and the ledger after it
+  both_written : (files : Files) (part ledger : List ℕ) (sealed : SealedFields) (after : LedgerFields) (line : List ℕ) (d : Done)
+      → part ≢ ledger → d ≡ both_files part ledger sealed after line → Prints call d.text
+      → call.files_after ≡ with_outputs (Some files) d.outputs
+      → Holds call part (spelling sealed) × Holds call ledger (ledger_text after) × Prints call line
+  both_written files part ledger sealed after line d apart same text files_are =
+      let said = both_files part ledger sealed after line in
+      let two = two_held files part ledger (spelling sealed) (ledger_text after) call.files_after apart (left files d said same files_are) in
+      (two.0, two.1, prints d said same text)
+
   publication : (files : Files) (part ledger : List ℕ) (p : Publication) (d : Done) → part ≢ ledger
       → d ≡ publication_done part ledger p → Prints call d.text → call.files_after ≡ with_outputs (Some files) d.outputs
       → Holds call part (spelling p.sealed) × Holds call ledger (ledger_text p.ledger)
       × Prints call (publication_done part ledger p).text
-  publication files part ledger p d apart same text files_are =
-      let kept = left files d (publication_done part ledger p) same files_are in
-      let two = two_held files part ledger (spelling p.sealed) (ledger_text p.ledger) call.files_after apart kept in
-      (two.0, two.1, prints d (publication_done part ledger p) same text)
+  publication files part ledger p d = both_written files part ledger p.sealed p.ledger (publication_done part ledger p).text d
 
-  apart_at : IsApart call.asked → (c : Command) → call.asked ≡ c → IsApart c
+  pub apart_at : IsApart call.asked → (c : Command) → call.asked ≡ c → IsApart c
   apart_at apart c is = subst IsApart is apart
 
   module _ (apart : IsApart call.asked) where
-    snapshot : EndsOld call → (s : SnapshotFields) → (did : Did call (commands.Snapshot s))
+    pub snapshot : EndsOld call → (s : SnapshotFields) → (did : Did call (commands.Snapshot s))
         → PublishesFile call no_ledger s.job s.part s.ledger
     snapshot ends s did =
         let c = came ends (commands.Snapshot s) did in
@@ -324,7 +336,7 @@ module _ (call : Call) where
           ledger_holds = all.1;
         }
 
-    delta : EndsOld call → (t : DeltaFields) → (did : Did call (commands.Delta t)) → (before : LedgerFields)
+    pub delta : EndsOld call → (t : DeltaFields) → (did : Did call (commands.Delta t)) → (before : LedgerFields)
         × Reads call t.ledger ledger_in before × PublishesFile call before t.job t.part t.new_ledger
     delta ends t did =
         let c = came ends (commands.Delta t) did in
@@ -345,6 +357,29 @@ module _ (call : Call) where
           },
         )
 
+    -- the two files of a base
+    pub rebase : EndsOld call → (r : RebaseFields) → (did : Did call (commands.Rebase r)) → (before : LedgerFields)
+        × Reads call r.ledger ledger_in before × BeginsAnew call before r
+    rebase ends r did =
+        let c = came ends (commands.Rebase r) did in
+        let k = rebase_ok r (input r.ledger ledger_in (get did.files r.ledger)) c.d c.makes in
+        let m = k.2 in
+        let p = based_ok r k.0 m.result c.d m.publishes m.is in
+        let epoch = p.0.sealed.part.head.epoch in
+        let all =
+        both_written did.files r.part r.new_ledger p.0.sealed p.0.ledger (base_line epoch p.0.counts) c.d
+        (apart_at apart (commands.Rebase r) did.asked) p.2 c.text c.files_are in (
+          k.0,
+          reads did.files did.told r.ledger ledger_in k.0 k.1,
+          record {
+            made = p.0;
+            publishes = p.1;
+            prints = all.2 ∙ ap (λ (n : BaseCounts). followed_by call.text_before (base_line epoch n)) p.1.counts;
+            part_holds = all.0;
+            ledger_holds = all.1;
+          },
+        )
+
   -- the file of a store
   store : (files : Files) (name : List ℕ) (parts : List SealedFields) (d : Done) → d ≡ stored name parts
       → Prints call d.text → call.files_after ≡ with_outputs (Some files) d.outputs
@@ -352,7 +387,7 @@ module _ (call : Call) where
   store files name parts d same text files_are =
       (one_held files name (store_text parts) call.files_after (left files d (stored name parts) same files_are), prints d (stored name parts) same text)
 
-  start : EndsOld call → (t : StartFields) → (did : Did call (commands.Start t)) → (x : SealedFields × ℕ)
+  pub start : EndsOld call → (t : StartFields) → (did : Did call (commands.Start t)) → (x : SealedFields × ℕ)
       × Reads call t.part part_in x × (x.0.part.head.kind ≡ kinds.Snapshot)
       × Holds call t.store (store_text (x.0 ∷ [])) × Prints call (stored t.store (x.0 ∷ [])).text
   start ends t did =
@@ -365,7 +400,7 @@ module _ (call : Call) where
       let all = store did.files t.store (x.0 ∷ []) c.d same c.text c.files_are in
       (x, reads did.files did.told t.part part_in x one.1, b.0, all.0, all.1)
 
-  install : EndsOld call → (i : InstallFields) → (did : Did call (commands.Install i)) → (parts : List SealedFields)
+  pub install : EndsOld call → (i : InstallFields) → (did : Did call (commands.Install i)) → (parts : List SealedFields)
       × (x : SealedFields × ℕ) × Reads call i.store store_in parts × Reads call i.part part_in x
       × (refusal_of parts x.0 ≡ None) × Holds call i.new_store (store_text (parts ++ x.0 ∷ []))
       × Prints call (stored i.new_store (parts ++ x.0 ∷ [])).text
@@ -396,7 +431,7 @@ module _ (call : Call) where
         all.1,
       )
 
-  sample : EndsOld call → (s : SampleFields) → (did : Did call (commands.Sample s)) → Prints call (sample_done s).text
+  pub sample : EndsOld call → (s : SampleFields) → (did : Did call (commands.Sample s)) → Prints call (sample_done s).text
       × Holds call s.job (sample_text s.number s.count)
   sample ends s did =
       let c = came ends (commands.Sample s) did in
@@ -422,7 +457,7 @@ module _ (call : Call) where
         pages_read files told job (before + length two.0) names three.0 (sym three.1),
       )
 
-  gather : EndsOld call → (g : GatherFields) → (did : Did call (commands.Gather g)) → (head : JobContents)
+  pub gather : EndsOld call → (g : GatherFields) → (did : Did call (commands.Gather g)) → (head : JobContents)
       × (entries : List PageFields) × Reads call g.head head_in head × ReadsPages call g.pages entries
       × Prints call (gather_done g head entries).text × Holds call g.job (job_text (longer g head entries))
   gather ends g did =
@@ -445,7 +480,7 @@ module _ (call : Call) where
   jobs_read files told (name ∷ names) [] are = absurd are
   jobs_read files told (name ∷ names) (j ∷ jobs) are = (reads files told name job_in j are.0, jobs_read files told names jobs are.1)
 
-  audit : Truthful → EndsOld call → (a : AuditFields) → (did : Did call (commands.Audit a)) → (parts : List SealedFields) × (jobs : List JobFields)
+  pub audit : Truthful → EndsOld call → (a : AuditFields) → (did : Did call (commands.Audit a)) → (parts : List SealedFields) × (jobs : List JobFields)
       × Reads call a.store store_in parts × ReadsJobs call a.jobs jobs × IsAudited parts jobs × SaysTheTruth parts jobs
       × Prints call (audit_done jobs (record { entries = length (seen (audited_history jobs)) })).text × ChangesNoFile call
   audit truthful ends a did =
@@ -528,6 +563,19 @@ module _ (call : Call) where
         (makes_this t.job t.part t.new_ledger before job o made x (both_read t files job before o job_is ledger_is m)))
         quiet
 
+    pub rebase_complete : Rebasable → (r : RebaseFields) (before : LedgerFields) → call.asked ≡ commands.Rebase r
+        → Reads call r.ledger ledger_in before → CanBeRebased before r.moment → NoFault call
+        → Succeeds call ⊎ WantedMemory call
+    rebase_complete rebasable r before asked (bytes, (files, told, held), is) can quiet =
+        let made = rebasable before r.moment can in
+        let ledger_is = read_in files told r.ledger ledger_in before (bytes, (files, told, held), is) in
+        let d = base_done r made.0 in
+        sure_of (commands.Rebase r) files d told asked
+        (λ none. cc)
+        (λ o m. subst (λ (l : Result LedgerFields NamedFault). MakesRebase r l (Ok d)) (sym ledger_is)
+        (record { result = Ok made.0; publishes = made.1; is = refl }))
+        quiet
+
     -- three inputs that are read are asked
     pub query_cert_complete : (q : QueryCertFields) (parts : List SealedFields) (cert : Certificate) (issuer : List ℕ)
         → call.asked ≡ commands.QueryCert q → Reads call q.store store_in parts
@@ -576,221 +624,3 @@ module _ (call : Call) where
         (λ o m. subst (λ (r : Result (List SealedFields) NamedFault). MakesAudit a r (audit_jobs a.jobs (map (get files) a.jobs)) (Ok d)) (sym store_is)
         (subst (λ (js : Result (List JobFields) NamedFault). MakesAudit a (Ok parts) js (Ok d)) (sym jobs_are) (audit_makes a parts jobs audited)))
         quiet
-
-  -- ---- histories
-
-  -- the laws of what comes of a command over files, as `histories_are_made` says them
-  pub record Laws : Type 0 where
-    pub published : (files : Files) (h : History) (parts : List SealedFields) (job : JobFields) (d : Done)
-        → IsHistory h parts → PublishesJob call.asked files h parts job
-        → Makes call.asked (held_by call.asked files) (Ok d) → IsPublished call.asked h parts job d
-    pub admitted : (files : Files) (h : History) (parts : List SealedFields) (job : JobFields)
-        (o : Result Done NamedFault) → IsHistory h parts → PublishesJob call.asked files h parts job
-        → IsAdmissible (history h parts) (in_format current job) → Makes call.asked (held_by call.asked files) o → (d : Done)
-        × (o ≡ Ok d)
-    pub stored : (files : Files) (h : History) (parts : List SealedFields) (s : SealedFields)
-        (o : Result Done NamedFault) → IsHistory h (parts ++ s ∷ []) → StoresPart call.asked files parts s
-        → Makes call.asked (held_by call.asked files) o → (d : Done) × (o ≡ Ok d) × IsStored call.asked parts s d
-    pub asks : (files : Files) (q : QueryFields) (h : History) (parts : List SealedFields)
-        (o : Result Done NamedFault) → IsHistory h parts → AsksHistory call.asked files q h parts
-        → Makes call.asked (held_by call.asked files) o → o ≡ Ok (truth_done h parts q)
-    pub certifies : (files : Files) (q : QueryCertFields) (x : Identity) (ss : List Sighting) (h : History)
-        (parts : List SealedFields) (o : Result Done NamedFault) → IsHistory h parts
-        → AsksCert call.asked files q x ss h parts
-        → Makes call.asked (held_by call.asked files) o → o ≡ Ok (only (cert_truth_line h parts x))
-    pub rehearses : (files : Files) (r : RehearseFields) (d : Done) → call.asked ≡ commands.Rehearse r
-        → Makes call.asked (held_by call.asked files) (Ok d)
-        → (queries : List Query) × (jobs : List JobFields) × (parts : List SealedFields)
-        × RehearsesJobs call.asked files queries jobs × IsRehearsed queries jobs parts
-        × (d ≡ rehearsed queries jobs parts)
-    pub follows : (files : Files) (queries : List Query) (jobs : List JobFields) (parts : List SealedFields)
-        (o : Result Done NamedFault) → IsHistory (chain jobs) parts → RehearsesJobs call.asked files queries jobs
-        → Makes call.asked (held_by call.asked files) o → o ≡ Ok (rehearsed queries jobs parts)
-
-  -- both files of a publication, whichever command publishes it
-  both_held : (c : Command) (files : Files) (h : History) (parts : List SealedFields) (job : JobFields)
-      (x y : List ℕ) → PublishesJob c files h parts job → IsApart c
-      → call.files_after ≡ with_outputs (Some files) (publishes_to c x y) → Holds call (part_name c) x
-      × Holds call (ledger_name c) y
-  both_held (commands.Snapshot s) files h parts job x y p apart is =
-      two_held files s.part s.ledger x y call.files_after apart is
-  both_held (commands.Delta t) files h parts job x y p apart is =
-      two_held files t.part t.new_ledger x y call.files_after apart is
-  both_held commands.Usage files h parts job x y p apart is = absurd p
-  both_held (commands.Query q) files h parts job x y p apart is = absurd p
-  both_held (commands.QueryCert q) files h parts job x y p apart is = absurd p
-  both_held (commands.Check n) files h parts job x y p apart is = absurd p
-  both_held (commands.Show n) files h parts job x y p apart is = absurd p
-  both_held (commands.Start t) files h parts job x y p apart is = absurd p
-  both_held (commands.Install i) files h parts job x y p apart is = absurd p
-  both_held (commands.Rehearse r) files h parts job x y p apart is = absurd p
-  both_held (commands.Sample s) files h parts job x y p apart is = absurd p
-  both_held (commands.Gather g) files h parts job x y p apart is = absurd p
-  both_held (commands.Audit a) files h parts job x y p apart is = absurd p
-
-  store_held : (c : Command) (files : Files) (parts : List SealedFields) (s : SealedFields) (x : List ℕ)
-      → StoresPart c files parts s
-      → call.files_after ≡ with_outputs (Some files) (stores_to c x) → Holds call (store_name c) x
-  store_held (commands.Start t) files parts s x p is = one_held files t.store x call.files_after is
-  store_held (commands.Install i) files parts s x p is = one_held files i.new_store x call.files_after is
-  store_held commands.Usage files parts s x p is = absurd p
-  store_held (commands.Query q) files parts s x p is = absurd p
-  store_held (commands.QueryCert q) files parts s x p is = absurd p
-  store_held (commands.Check n) files parts s x p is = absurd p
-  store_held (commands.Show n) files parts s x p is = absurd p
-  store_held (commands.Snapshot t) files parts s x p is = absurd p
-  store_held (commands.Delta t) files parts s x p is = absurd p
-  store_held (commands.Rehearse r) files parts s x p is = absurd p
-  store_held (commands.Sample t) files parts s x p is = absurd p
-  store_held (commands.Gather g) files parts s x p is = absurd p
-  store_held (commands.Audit a) files parts s x p is = absurd p
-
-  -- what was written, over the files as they are told
-  writes_as : (files : Files) → call.files_before ≡ Some files → (outputs others : List OutputFields) → outputs ≡ others
-      → call.files_after ≡ with_outputs (Some files) outputs → Writes call others
-  writes_as files told outputs others same is =
-      is ∙ ap (with_outputs (Some files)) same ∙ ap (λ (t : Option Files). with_outputs t others) (sym told)
-
-  module _ (laws : Laws) (ends : EndsOld call) where
-    published : IsApart call.asked → (h : History) (parts : List SealedFields) (job : JobFields)
-        → IsHistory h parts → AsksToPublish call h parts job → Succeeds call → Published call h parts job
-    published apart h parts job is_history (files, told, p) zero =
-        let a = answers call ends files told zero in
-        let l = laws.published files h parts job a.done is_history p a.makes in
-        let part = part_bytes l.sealed in
-        let ledger = ledger_bytes (with_job h (in_format current job)) (parts ++ l.sealed ∷ []) in
-        let kept = a.files_are ∙ ap (with_outputs (Some files)) l.outputs in
-        let two = both_held call.asked files h parts job part ledger p apart kept in
-        record {
-          sealed = l.sealed;
-          fits = l.fits;
-          admissible = l.admissible;
-          is_history = l.is_history;
-          prints = a.written ∙ ap (followed_by call.text_before) l.report;
-          writes = writes_as files told a.done.outputs _ l.outputs a.files_are;
-          part_holds = two.0;
-          ledger_holds = two.1;
-        }
-
-    admitted : (h : History) (parts : List SealedFields) (job : JobFields) → IsHistory h parts
-        → AsksToPublish call h parts job → IsAdmissible (history h parts) (in_format current job) → NoFault call
-        → Succeeds call ⊎ WantedMemory call
-    admitted h parts job is_history (files, told, p) may quiet =
-        sure call ends files told (λ none. subst (λ (c : Command). PublishesJob c files h parts job) none p)
-        (λ o m. laws.admitted files h parts job o is_history p may m) quiet
-
-    stored_clause : (h : History) (parts : List SealedFields) (s : SealedFields)
-        → IsHistory h (parts ++ s ∷ []) → AsksToStore call parts s → Succeeds call → Stored call parts s
-    stored_clause h parts s is_history (files, told, p) zero =
-        let a = answers call ends files told zero in
-        let l = laws.stored files h parts s (Ok a.done) is_history p a.makes in
-        let is : IsStored call.asked parts s a.done = subst (IsStored call.asked parts s) (sym (ok_same {E = NamedFault} a.done l.0 l.1)) l.2 in
-        record {
-          prints = a.written ∙ ap (followed_by call.text_before) is.text;
-          writes = writes_as files told a.done.outputs _ is.outputs a.files_are;
-          store_holds = store_held call.asked files parts s (store_bytes (parts ++ s ∷ [])) p (a.files_are ∙ ap (with_outputs (Some files)) is.outputs);
-        }
-
-    taken : (h : History) (parts : List SealedFields) (s : SealedFields) → IsHistory h (parts ++ s ∷ [])
-        → AsksToStore call parts s → NoFault call → Succeeds call ⊎ WantedMemory call
-    taken h parts s is_history (files, told, p) quiet =
-        sure call ends files told (λ none. subst (λ (c : Command). StoresPart c files parts s) none p)
-        (λ o m. let l = laws.stored files h parts s o is_history p m in (l.0, l.1)) quiet
-
-    truth_clause : (q : QueryFields) (h : History) (parts : List SealedFields) → IsHistory h parts
-        → AsksTruth call q h parts → Succeeds call → Prints call (truth_line h parts q)
-    truth_clause q h parts is_history (files, told, p) zero =
-        let a = answers call ends files told zero in
-        prints a.done (truth_done h parts q)
-        (ok_same {E = NamedFault} a.done (truth_done h parts q) (laws.asks files q h parts (Ok a.done) is_history p a.makes)) a.written
-
-    answered : (q : QueryFields) (h : History) (parts : List SealedFields) → IsHistory h parts
-        → AsksTruth call q h parts → NoFault call → Succeeds call ⊎ WantedMemory call
-    answered q h parts is_history (files, told, p) quiet =
-        sure call ends files told (λ none. let g : commands.Query q ≡ commands.Usage = sym p.0 ∙ none in cc)
-        (λ o m. (truth_done h parts q, laws.asks files q h parts o is_history p m)) quiet
-
-    cert_truth : (q : QueryCertFields) (x : Identity) (ss : List Sighting) (h : History)
-        (parts : List SealedFields) → IsHistory h parts → AsksCertTruth call q x ss h parts → Succeeds call
-        → Prints call (cert_truth_line h parts x)
-    cert_truth q x ss h parts is_history (files, told, p) zero =
-        let a = answers call ends files told zero in
-        let said = only (cert_truth_line h parts x) in
-        prints a.done said
-        (ok_same {E = NamedFault} a.done said (laws.certifies files q x ss h parts (Ok a.done) is_history p a.makes)) a.written
-
-    cert_answered : (q : QueryCertFields) (x : Identity) (ss : List Sighting) (h : History)
-        (parts : List SealedFields) → IsHistory h parts → AsksCertTruth call q x ss h parts → NoFault call
-        → Succeeds call ⊎ WantedMemory call
-    cert_answered q x ss h parts is_history (files, told, p) quiet =
-        sure call ends files told (λ none. let g : commands.QueryCert q ≡ commands.Usage = sym p.is ∙ none in cc)
-        (λ o m. (only (cert_truth_line h parts x), laws.certifies files q x ss h parts o is_history p m)) quiet
-
-    followed : (queries : List Query) (jobs : List JobFields) (parts : List SealedFields) → IsHistory (chain jobs) parts
-        → AsksToRehearse call queries jobs → NoFault call → Succeeds call ⊎ WantedMemory call
-    followed queries jobs parts is_history (files, told, p) quiet =
-        sure call ends files told (λ none. subst (λ (c : Command). RehearsesJobs c files queries jobs) none p)
-        (λ o m. (rehearsed queries jobs parts, laws.follows files queries jobs parts o is_history p m)) quiet
-
-    pub histories : IsApart call.asked → Histories call
-    histories apart = record {
-      published = published apart;
-      admitted = admitted;
-      stored = stored_clause;
-      taken = taken;
-      truth = truth_clause;
-      answered = answered;
-      cert_truth = cert_truth;
-      cert_answered = cert_answered;
-      followed = followed;
-    }
-
-    rehearse : (r : RehearseFields) → (did : Did call (commands.Rehearse r)) → (queries : List Query)
-        × (jobs : List JobFields) × (parts : List SealedFields) × AsksToRehearse call queries jobs
-        × IsRehearsed queries jobs parts × Prints call (rehearsed queries jobs parts).text × ChangesNoFile call
-    rehearse r did =
-        let a = answers call ends did.files did.told did.succeeds in
-        let l = laws.rehearses did.files r a.done did.asked a.makes in (
-          l.0,
-          l.1,
-          l.2,
-          (did.files, did.told, l.3),
-          l.4,
-          prints a.done (rehearsed l.0 l.1 l.2) l.5 a.written,
-          left did.files a.done (rehearsed l.0 l.1 l.2) l.5 a.files_are ∙ sym did.told,
-        )
-
-    pub successes : OneOutcome → Publishable → Truthful → IsApart call.asked → Successes call
-    successes one publishable truthful apart = record {
-      query = query ends;
-      query_cert = query_cert ends;
-      query_cert_complete = query_cert_complete one publishable ends;
-      check = λ name did. let c = check ends name did in (c.0.0, c.0.1, c.1, c.2, c.3);
-      show = λ name did. let c = show ends name did in (c.0.0, (c.0.1, c.1), c.2, c.3);
-      snapshot = snapshot apart ends;
-      snapshot_complete = snapshot_complete one publishable ends;
-      delta = delta apart ends;
-      delta_complete = delta_complete one publishable ends;
-      start = λ t did. let c = start ends t did in (c.0.0, (c.0.1, c.1), c.2, record { holds = c.3; prints = c.4 });
-      install = λ i did.
-          let c = install ends i did in (
-            c.0,
-            c.1.0,
-            c.2,
-            (c.1.1, c.3),
-            c.4,
-            record {
-              holds = c.5;
-              prints = c.6
-                  ∙ ap (λ (n : Option SealedFields).
-                  followed_by call.text_before (store_line (length (c.0 ++ c.1.0 ∷ [])) (epoch_of n)))
-                  (newest_last c.0 c.1.0);
-            },
-          );
-      rehearse = rehearse;
-      sample = sample ends;
-      gather = gather ends;
-      gather_complete = gather_complete one publishable ends;
-      audit = audit truthful ends;
-      audit_complete = audit_complete one publishable ends;
-    }

@@ -3,7 +3,7 @@ use Rattle.std.proofs.Common.{◌≡◌, ◌≢◌, ℕ, inl, inr, List, [], ◌
 use Rattle.outside_core.specs.Files.{Files}
 use Rattle.query_core.specs.Queries.{Query}
 use Rattle.card_core.specs.PartFields.{PartFields}
-use Rattle.part_codec.specs.SealedFields.{SealedFields}
+use Rattle.part_text.specs.SealedFields.{SealedFields}
 use Rattle.job_core.specs.JobFields.{JobFields}
 use Rattle.ledger_core.specs.LedgerFields.{LedgerFields}
 use Rattle.universe_core.specs.Formats.{JobIn, in_format}
@@ -12,17 +12,20 @@ use Rattle.publication_core.specs.declared.fault.PublishFault.{PublishFault}
 use Rattle.publication_core.specs.Formats.{current}
 use Rattle.publication_core.specs.Histories.{IsAdmissible, History, with_jobs, chain, IsHistory, history}
 use Rattle.publication_core.specs.Publishing.{Published, Publishes}
+use Rattle.publication_core.specs.declared.base_fault.BaseFault.{BaseFault}
+use Rattle.publication_core.specs.Rebasing.{PublishedBase, PublishesBase}
 use Rattle.word_core.specs.declared.command.Command.{Command}
 use Rattle.word_core.specs.declared.command.Command.TheVariants as commands
 use Rattle.audit_core.specs.declared.auditing.Audited.{Audited}
 use Rattle.audit_core.specs.declared.fault.AuditFault.{AuditFault}
 use Rattle.audit_core.specs.declared.fault.AuditFault.TheVariants.{NoMemory}
 use Rattle.audit_core.specs.Auditing.{IsFound}
-use Rattle.word_core.specs.CommandFields.{SnapshotFields, DeltaFields, RehearseFields, AuditFields}
+use Rattle.word_core.specs.CommandFields.{SnapshotFields, DeltaFields, RebaseFields, RehearseFields, AuditFields}
 use Rattle.clubcard_top.specs.ReplyFields.{Done, NamedFault, ReplyFields}
 use Rattle.input_core.specs.Readings.{queries_in, job_in, ledger_in, store_in}
 use Rattle.clubcard_top.specs.Commands.{input, published_as, MakesPart, MakesSnapshot, MakesDelta, IsRefused, MakesRehearsal, Makes}
 use Rattle.clubcard_top.specs.Audits.{audit_jobs, audited_as, MakesAudit}
+use Rattle.clubcard_top.specs.Rebasings.{rebased_as, MakesRebase}
 use Rattle.clubcard_top.specs.Steps.{RehearsesOn}
 use Rattle.clubcard_top.specs.Faults.{of_publishing}
 use Rattle.clubcard_top.specs.Replies.{reply_of, IsReplyOver, IsReplyTo, held_by}
@@ -32,6 +35,10 @@ use Rattle.clubcard_top.proofs.Prefixes.{from_first}
 -- One thing is published of a job behind a ledger.
 abbrev pub OnePublication : Type 0
 OnePublication = (ledger : LedgerFields) (job : JobFields) (a b : Result Published PublishFault) → Publishes ledger job a → Publishes ledger job b → a ≡ b
+
+-- One thing comes of a rebase behind a ledger.
+abbrev pub OneBase : Type 0
+OneBase = (ledger : LedgerFields) (moment : ℕ) (a b : Result PublishedBase BaseFault) → PublishesBase ledger moment a → PublishesBase ledger moment b → a ≡ b
 
 -- What is published is unique, a job of a history is admissible behind those before it, and each admissible job is
 -- published.
@@ -46,6 +53,11 @@ pub record Publishing : Type 0 where
 -- An audit finds one thing.
 abbrev pub OneAudit : Type 0
 OneAudit = (parts : List PartFields) (jobs : List JobFields) (a b : Result Audited AuditFault) → IsFound parts jobs a → IsFound parts jobs b → a ≢ Err NoMemory → b ≢ Err NoMemory → a ≡ b
+
+-- What comes of an audit and of a rebase is unique.
+pub record Others : Type 0 where
+  pub audits : OneAudit
+  pub bases : OneBase
 
 module _ (publishing : Publishing) where
   one : OnePublication
@@ -141,55 +153,64 @@ module _ (publishing : Publishing) where
   audit_unique audits a (Ok parts) (Err e) o p x y = x ∙ sym y
   audit_unique audits a (Err e) jobs o p x y = x ∙ sym y
 
+  -- ---- rebases
+
+  rebase_unique : OneBase → (r : RebaseFields) (l : Result LedgerFields NamedFault) (a b : Result Done NamedFault) → MakesRebase r l a → MakesRebase r l b → a ≡ b
+  rebase_unique bases r (Ok l) a b x y = x.is ∙ ap (rebased_as r) (bases l r.moment x.result y.result x.publishes y.publishes) ∙ sym y.is
+  rebase_unique bases r (Err e) a b x y = x ∙ sym y
+
   -- ---- commands
 
-  pub outcome_unique : OneAudit → (c : Command) (inputs : List (Option (List ℕ))) (a b : Result Done NamedFault) → Makes c inputs a → Makes c inputs b → a ≡ b
-  outcome_unique audits commands.Usage inputs a b x y = absurd x
-  outcome_unique audits (commands.Query q) (g ∷ []) a b x y = x ∙ sym y
-  outcome_unique audits (commands.QueryCert q) (g ∷ h ∷ k ∷ []) a b x y = x ∙ sym y
-  outcome_unique audits (commands.Check name) (g ∷ []) a b x y = x ∙ sym y
-  outcome_unique audits (commands.Show name) (g ∷ []) a b x y = x ∙ sym y
-  outcome_unique audits (commands.Snapshot s) (g ∷ []) a b x y = snapshot_unique s (input s.job job_in g) a b x y
-  outcome_unique audits (commands.Delta t) (g ∷ h ∷ []) a b x y = delta_unique t (input t.job job_in g) (input t.ledger ledger_in h) a b x y
-  outcome_unique audits (commands.Start t) (g ∷ []) a b x y = x ∙ sym y
-  outcome_unique audits (commands.Install i) (g ∷ h ∷ []) a b x y = x ∙ sym y
-  outcome_unique audits (commands.Rehearse r) (g ∷ inputs) a b x y = rehearsal_unique r (input r.queries queries_in g) inputs a b x y
-  outcome_unique audits (commands.Sample s) [] a b x y = x ∙ sym y
-  outcome_unique audits (commands.Gather f) (g ∷ inputs) a b x y = x ∙ sym y
-  outcome_unique audits (commands.Gather f) [] a b x y = absurd x
-  outcome_unique audits (commands.Audit f) (g ∷ inputs) a b x y = audit_unique audits f (input f.store store_in g) (audit_jobs f.jobs inputs) a b x y
-  outcome_unique audits (commands.Audit f) [] a b x y = absurd x
-  outcome_unique audits (commands.Rehearse r) [] a b x y = absurd x
-  outcome_unique audits (commands.Sample s) (g ∷ cs) a b x y = absurd x
-  outcome_unique audits (commands.Query q) [] a b x y = absurd x
-  outcome_unique audits (commands.Query q) (g ∷ h ∷ cs) a b x y = absurd x
-  outcome_unique audits (commands.QueryCert q) [] a b x y = absurd x
-  outcome_unique audits (commands.QueryCert q) (g ∷ []) a b x y = absurd x
-  outcome_unique audits (commands.QueryCert q) (g ∷ h ∷ []) a b x y = absurd x
-  outcome_unique audits (commands.QueryCert q) (g ∷ h ∷ k ∷ l ∷ cs) a b x y = absurd x
-  outcome_unique audits (commands.Check name) [] a b x y = absurd x
-  outcome_unique audits (commands.Check name) (g ∷ h ∷ cs) a b x y = absurd x
-  outcome_unique audits (commands.Show name) [] a b x y = absurd x
-  outcome_unique audits (commands.Show name) (g ∷ h ∷ cs) a b x y = absurd x
-  outcome_unique audits (commands.Snapshot s) [] a b x y = absurd x
-  outcome_unique audits (commands.Snapshot s) (g ∷ h ∷ cs) a b x y = absurd x
-  outcome_unique audits (commands.Delta t) [] a b x y = absurd x
-  outcome_unique audits (commands.Delta t) (g ∷ []) a b x y = absurd x
-  outcome_unique audits (commands.Delta t) (g ∷ h ∷ k ∷ cs) a b x y = absurd x
-  outcome_unique audits (commands.Start t) [] a b x y = absurd x
-  outcome_unique audits (commands.Start t) (g ∷ h ∷ cs) a b x y = absurd x
-  outcome_unique audits (commands.Install i) [] a b x y = absurd x
-  outcome_unique audits (commands.Install i) (g ∷ []) a b x y = absurd x
-  outcome_unique audits (commands.Install i) (g ∷ h ∷ k ∷ cs) a b x y = absurd x
+  pub outcome_unique : Others → (c : Command) (inputs : List (Option (List ℕ))) (a b : Result Done NamedFault) → Makes c inputs a → Makes c inputs b → a ≡ b
+  outcome_unique others commands.Usage inputs a b x y = absurd x
+  outcome_unique others (commands.Query q) (g ∷ []) a b x y = x ∙ sym y
+  outcome_unique others (commands.QueryCert q) (g ∷ h ∷ k ∷ []) a b x y = x ∙ sym y
+  outcome_unique others (commands.Check name) (g ∷ []) a b x y = x ∙ sym y
+  outcome_unique others (commands.Show name) (g ∷ []) a b x y = x ∙ sym y
+  outcome_unique others (commands.Snapshot s) (g ∷ []) a b x y = snapshot_unique s (input s.job job_in g) a b x y
+  outcome_unique others (commands.Delta t) (g ∷ h ∷ []) a b x y = delta_unique t (input t.job job_in g) (input t.ledger ledger_in h) a b x y
+  outcome_unique others (commands.Rebase r) (g ∷ []) a b x y = rebase_unique others.bases r (input r.ledger ledger_in g) a b x y
+  outcome_unique others (commands.Start t) (g ∷ []) a b x y = x ∙ sym y
+  outcome_unique others (commands.Install i) (g ∷ h ∷ []) a b x y = x ∙ sym y
+  outcome_unique others (commands.Rehearse r) (g ∷ inputs) a b x y = rehearsal_unique r (input r.queries queries_in g) inputs a b x y
+  outcome_unique others (commands.Sample s) [] a b x y = x ∙ sym y
+  outcome_unique others (commands.Gather f) (g ∷ inputs) a b x y = x ∙ sym y
+  outcome_unique others (commands.Gather f) [] a b x y = absurd x
+  outcome_unique others (commands.Audit f) (g ∷ inputs) a b x y = audit_unique others.audits f (input f.store store_in g) (audit_jobs f.jobs inputs) a b x y
+  outcome_unique others (commands.Audit f) [] a b x y = absurd x
+  outcome_unique others (commands.Rehearse r) [] a b x y = absurd x
+  outcome_unique others (commands.Sample s) (g ∷ cs) a b x y = absurd x
+  outcome_unique others (commands.Query q) [] a b x y = absurd x
+  outcome_unique others (commands.Query q) (g ∷ h ∷ cs) a b x y = absurd x
+  outcome_unique others (commands.QueryCert q) [] a b x y = absurd x
+  outcome_unique others (commands.QueryCert q) (g ∷ []) a b x y = absurd x
+  outcome_unique others (commands.QueryCert q) (g ∷ h ∷ []) a b x y = absurd x
+  outcome_unique others (commands.QueryCert q) (g ∷ h ∷ k ∷ l ∷ cs) a b x y = absurd x
+  outcome_unique others (commands.Check name) [] a b x y = absurd x
+  outcome_unique others (commands.Check name) (g ∷ h ∷ cs) a b x y = absurd x
+  outcome_unique others (commands.Show name) [] a b x y = absurd x
+  outcome_unique others (commands.Show name) (g ∷ h ∷ cs) a b x y = absurd x
+  outcome_unique others (commands.Snapshot s) [] a b x y = absurd x
+  outcome_unique others (commands.Snapshot s) (g ∷ h ∷ cs) a b x y = absurd x
+  outcome_unique others (commands.Delta t) [] a b x y = absurd x
+  outcome_unique others (commands.Delta t) (g ∷ []) a b x y = absurd x
+  outcome_unique others (commands.Delta t) (g ∷ h ∷ k ∷ cs) a b x y = absurd x
+  outcome_unique others (commands.Rebase r) [] a b x y = absurd x
+  outcome_unique others (commands.Rebase r) (g ∷ h ∷ cs) a b x y = absurd x
+  outcome_unique others (commands.Start t) [] a b x y = absurd x
+  outcome_unique others (commands.Start t) (g ∷ h ∷ cs) a b x y = absurd x
+  outcome_unique others (commands.Install i) [] a b x y = absurd x
+  outcome_unique others (commands.Install i) (g ∷ []) a b x y = absurd x
+  outcome_unique others (commands.Install i) (g ∷ h ∷ k ∷ cs) a b x y = absurd x
 
   usage_makes : (c : Command) (inputs : List (Option (List ℕ))) (o : Result Done NamedFault) → c ≡ commands.Usage → Makes c inputs o → ⊥
   usage_makes c inputs o is m = subst (λ (k : Command). Makes k inputs o) is m
 
-  over_unique : OneAudit → (c : Command) (inputs : List (Option (List ℕ))) (a b : ReplyFields) → IsReplyOver c inputs a → IsReplyOver c inputs b → a ≡ b
-  over_unique audits c inputs a b (inl (u, x)) (inl (v, y)) = x ∙ sym y
-  over_unique audits c inputs a b (inl (u, x)) (inr (o, m, y)) = absurd (usage_makes c inputs o u m)
-  over_unique audits c inputs a b (inr (o, m, x)) (inl (v, y)) = absurd (usage_makes c inputs o v m)
-  over_unique audits c inputs a b (inr (o, m, x)) (inr (k, n, y)) = x ∙ ap reply_of (outcome_unique audits c inputs o k m n) ∙ sym y
+  over_unique : Others → (c : Command) (inputs : List (Option (List ℕ))) (a b : ReplyFields) → IsReplyOver c inputs a → IsReplyOver c inputs b → a ≡ b
+  over_unique others c inputs a b (inl (u, x)) (inl (v, y)) = x ∙ sym y
+  over_unique others c inputs a b (inl (u, x)) (inr (o, m, y)) = absurd (usage_makes c inputs o u m)
+  over_unique others c inputs a b (inr (o, m, x)) (inl (v, y)) = absurd (usage_makes c inputs o v m)
+  over_unique others c inputs a b (inr (o, m, x)) (inr (k, n, y)) = x ∙ ap reply_of (outcome_unique others c inputs o k m n) ∙ sym y
 
-  pub reply_unique : OneAudit → (c : Command) (files : Files) (a b : ReplyFields) → IsReplyTo c files a → IsReplyTo c files b → a ≡ b
-  reply_unique audits c files a b x y = over_unique audits c (held_by c files) a b x y
+  pub reply_unique : Others → (c : Command) (files : Files) (a b : ReplyFields) → IsReplyTo c files a → IsReplyTo c files b → a ≡ b
+  reply_unique others c files a b x y = over_unique others c (held_by c files) a b x y

@@ -7,10 +7,11 @@ use Rattle.std.proofs.lemmas.Bool.{false≢true}
 use Rattle.std.proofs.lemmas.Bool.Decides.{nat_tests}
 use Rattle.octets_core.specs.Layout.{within}
 use Rattle.ident_core.specs.declared.bounds.TheConstants.{MAX_PARTS}
-use Rattle.word_core.specs.CommandFields.{SnapshotFields, DeltaFields, AuditFields}
+use Rattle.word_core.specs.CommandFields.{SnapshotFields, DeltaFields, RebaseFields, AuditFields}
 use Rattle.word_core.specs.declared.command.Command.{Command}
 use Rattle.word_core.specs.declared.command.Command.TheVariants as commands
-use Rattle.word_core.specs.Words.{◌>>=◌, is_name, name_of, workers_of, two_names_of, named_delta, is_among, are_apart, snapshot_of, delta_of, query_of, query_cert_of}
+use Rattle.word_core.specs.Words.{◌>>=◌, is_name, name_of, workers_of, two_names_of, named_delta, named_rebase, is_among, are_apart, snapshot_of, delta_of}
+use Rattle.word_core.specs.Words.{number_of, rebase_of, query_of, query_cert_of}
 use Rattle.word_core.specs.Words.{name_alone, start_of, install_of, rehearse_of, sample_of, gather_of, audit_of, names_of, jobs_of, asks, command_of}
 use Rattle.clubcard_top.specs.Replies.{HasFewJobs}
 
@@ -18,6 +19,7 @@ use Rattle.clubcard_top.specs.Replies.{HasFewJobs}
 abbrev pub IsApart : Command → Type 0
 IsApart (commands.Snapshot s) = s.part ≢ s.ledger
 IsApart (commands.Delta d) = d.part ≢ d.new_ledger
+IsApart (commands.Rebase r) = r.part ≢ r.new_ledger
 IsApart command = Unit {0}
 
 -- ---- tests and steps
@@ -133,6 +135,29 @@ delta_keeps (a ∷ b ∷ c ∷ []) = tt
 delta_keeps (a ∷ b ∷ c ∷ d ∷ []) = tt
 delta_keeps (a ∷ b ∷ c ∷ d ∷ e ∷ f ∷ fs) = tt
 
+rebase_named : (ledger : List ℕ) (moment : ℕ) (part new_ledger : List ℕ) (workers : ℕ) → part ≢ new_ledger
+    → IfSome (named_rebase ledger moment part new_ledger workers) (λ r. r.part ≢ r.new_ledger)
+rebase_named ledger moment part new_ledger workers apart =
+    step_keeps (λ (r : RebaseFields). r.part ≢ r.new_ledger) (name_of ledger) _ (λ l is_l.
+    step_keeps (λ (r : RebaseFields). r.part ≢ r.new_ledger) (two_names_of part new_ledger) _ (λ outputs is_outputs.
+    let both =
+    if_some_at (λ (n : List ℕ × List ℕ). (n.0 ≡ part) × (n.1 ≡ new_ledger)) (two_names_of part new_ledger)
+    outputs is_outputs (two_keep part new_ledger) in
+    differ_as part new_ledger outputs.0 outputs.1 both.0 both.1 apart))
+
+rebase_keeps : (words : List (List ℕ)) → IfSome (rebase_of words) (λ r. r.part ≢ r.new_ledger)
+rebase_keeps (ledger ∷ moment ∷ part ∷ new_ledger ∷ workers ∷ []) =
+    step_keeps (λ (r : RebaseFields). r.part ≢ r.new_ledger) (number_of moment) _ (λ m is_m.
+    step_keeps (λ (r : RebaseFields). r.part ≢ r.new_ledger) (workers_of workers) _ (λ n is_n.
+    test_keeps (λ (r : RebaseFields). r.part ≢ r.new_ledger) (are_apart (ledger ∷ []) (part ∷ new_ledger ∷ [])) _
+    (λ apart. rebase_named ledger m part new_ledger n (differ (ledger ∷ []) part new_ledger apart))))
+rebase_keeps [] = tt
+rebase_keeps (a ∷ []) = tt
+rebase_keeps (a ∷ b ∷ []) = tt
+rebase_keeps (a ∷ b ∷ c ∷ []) = tt
+rebase_keeps (a ∷ b ∷ c ∷ d ∷ []) = tt
+rebase_keeps (a ∷ b ∷ c ∷ d ∷ e ∷ f ∷ fs) = tt
+
 -- what is asked by a word that is none of the first few
 abbrev from_audit : List ℕ → List (List ℕ) → Command
 from_audit command words =
@@ -158,9 +183,13 @@ abbrev from_start : List ℕ → List (List ℕ) → Command
 from_start command words =
     if bytes_eq command (codes "start") then asks commands.Start (start_of words) else from_install command words
 
+abbrev from_rebase : List ℕ → List (List ℕ) → Command
+from_rebase command words =
+    if bytes_eq command (codes "rebase") then asks commands.Rebase (rebase_of words) else from_start command words
+
 abbrev from_delta : List ℕ → List (List ℕ) → Command
 from_delta command words =
-    if bytes_eq command (codes "delta") then asks commands.Delta (delta_of words) else from_start command words
+    if bytes_eq command (codes "delta") then asks commands.Delta (delta_of words) else from_rebase command words
 
 abbrev from_snapshot : List ℕ → List (List ℕ) → Command
 from_snapshot command words =
@@ -215,11 +244,17 @@ start_apart command words =
     (from_install command words) (asks_free IsApart commands.Start (start_of words) (λ x. tt) tt)
     (install_apart command words)
 
+rebase_apart : (command : List ℕ) (words : List (List ℕ)) → IsApart (from_rebase command words)
+rebase_apart command words =
+    if_keeps IsApart (bytes_eq command (codes "rebase")) (asks commands.Rebase (rebase_of words))
+    (from_start command words) (asks_keeps IsApart commands.Rebase (rebase_of words) (rebase_keeps words) tt)
+    (start_apart command words)
+
 delta_apart : (command : List ℕ) (words : List (List ℕ)) → IsApart (from_delta command words)
 delta_apart command words =
     if_keeps IsApart (bytes_eq command (codes "delta")) (asks commands.Delta (delta_of words))
-    (from_start command words) (asks_keeps IsApart commands.Delta (delta_of words) (delta_keeps words) tt)
-    (start_apart command words)
+    (from_rebase command words) (asks_keeps IsApart commands.Delta (delta_of words) (delta_keeps words) tt)
+    (rebase_apart command words)
 
 snapshot_apart : (command : List ℕ) (words : List (List ℕ)) → IsApart (from_snapshot command words)
 snapshot_apart command words =
@@ -299,10 +334,11 @@ few_jobs (command ∷ words) =
     (few_else (codes "show") command commands.Show (name_alone words) _ (λ x. tt)
     (few_else (codes "snapshot") command commands.Snapshot (snapshot_of words) _ (λ x. tt)
     (few_else (codes "delta") command commands.Delta (delta_of words) _ (λ x. tt)
+    (few_else (codes "rebase") command commands.Rebase (rebase_of words) _ (λ x. tt)
     (few_else (codes "start") command commands.Start (start_of words) _ (λ x. tt)
     (few_else (codes "install") command commands.Install (install_of words) _ (λ x. tt)
     (few_else (codes "rehearse") command commands.Rehearse (rehearse_of words) _ (λ x. tt)
     (few_else (codes "sample") command commands.Sample (sample_of words) _ (λ x. tt)
     (few_else (codes "gather") command commands.Gather (gather_of words) _ (λ x. tt)
     (if_keeps HasFewJobs (bytes_eq command (codes "audit")) (asks commands.Audit (audit_of words)) commands.Usage
-    (asks_keeps HasFewJobs commands.Audit (audit_of words) (few_audit words) tt) tt)))))))))))
+    (asks_keeps HasFewJobs commands.Audit (audit_of words) (few_audit words) tt) tt))))))))))))

@@ -1,17 +1,20 @@
 -- What comes of a command, and what it is answered, doesn't depend on its number of workers.
-use Rattle.std.proofs.Common.{◌≡◌, ℕ, inl, inr, List, [], ◌∷◌, Option, Result, Ok, Err, refl}
+use Rattle.std.proofs.Common.{◌≡◌, ℕ, inl, inr, List, [], ◌∷◌, Option, Result, Ok, Err, refl, sym, ◌∙◌}
 use Rattle.std.specs.Prelude.{◌↔◌}
 use Rattle.outside_core.specs.Files.{Files}
 use Rattle.query_core.specs.Queries.{Query}
 use Rattle.job_core.specs.JobFields.{JobFields}
 use Rattle.ledger_core.specs.LedgerFields.{LedgerFields}
+use Rattle.publication_core.specs.declared.base_fault.BaseFault.{BaseFault}
+use Rattle.publication_core.specs.Rebasing.{PublishedBase}
 use Rattle.word_core.specs.declared.command.Command.{Command}
 use Rattle.word_core.specs.declared.command.Command.TheVariants as commands
-use Rattle.word_core.specs.CommandFields.{SnapshotFields, DeltaFields, RehearseFields}
+use Rattle.word_core.specs.CommandFields.{SnapshotFields, DeltaFields, RebaseFields, RehearseFields}
 use Rattle.word_core.specs.Names.{inputs_of, outputs_of}
 use Rattle.clubcard_top.specs.ReplyFields.{ReplyFields, Done, NamedFault}
 use Rattle.input_core.specs.Readings.{queries_in, job_in, ledger_in}
 use Rattle.clubcard_top.specs.Commands.{input, MakesSnapshot, MakesDelta, MakesRehearsal, Makes}
+use Rattle.clubcard_top.specs.Rebasings.{rebased_as, MakesBase, MakesRebase}
 use Rattle.clubcard_top.specs.Replies.{IsReplyOver, IsReplyTo, held_by}
 use Rattle.clubcard_top.specs.Workers.{with_workers}
 
@@ -29,6 +32,23 @@ delta_same n d (Ok j) (Ok l) o = both (MakesDelta d (Ok j) (Ok l) o)
 delta_same n d (Ok j) (Err e) o = both (MakesDelta d (Ok j) (Err e) o)
 delta_same n d (Err e) l o = both (MakesDelta d (Err e) l o)
 
+as_same : (n : ℕ) (r : RebaseFields) (x : Result PublishedBase BaseFault) → rebased_as r x ≡ rebased_as (record r { workers = n }) x
+as_same n r (Ok p) = refl
+as_same n r (Err fault) = refl
+
+-- the same, since no field of what is made holds the number of workers
+based_same : (n : ℕ) (r : RebaseFields) (before : LedgerFields) (o : Result Done NamedFault)
+    → MakesBase r before o ↔ MakesBase (record r { workers = n }) before o
+based_same n r before o = (
+  λ m. record { result = m.result; publishes = m.publishes; is = m.is ∙ as_same n r m.result },
+  λ m. record { result = m.result; publishes = m.publishes; is = m.is ∙ sym (as_same n r m.result) },
+)
+
+rebase_same : (n : ℕ) (r : RebaseFields) (l : Result LedgerFields NamedFault) (o : Result Done NamedFault)
+    → MakesRebase r l o ↔ MakesRebase (record r { workers = n }) l o
+rebase_same n r (Ok l) o = based_same n r l o
+rebase_same n r (Err e) o = both (MakesRebase r (Err e) o)
+
 rehearse_same : (n : ℕ) (r : RehearseFields) (q : Result (List Query) NamedFault) (inputs : List (Option (List ℕ)))
     (o : Result Done NamedFault) → MakesRehearsal r q inputs o ↔ MakesRehearsal (record r { workers = n }) q inputs o
 rehearse_same n r (Ok queries) inputs o = both (MakesRehearsal r (Ok queries) inputs o)
@@ -43,6 +63,9 @@ makes_same n (commands.Delta d) [] o = both ⊥
 makes_same n (commands.Delta d) (j ∷ []) o = both ⊥
 makes_same n (commands.Delta d) (j ∷ l ∷ []) o = delta_same n d (input d.job job_in j) (input d.ledger ledger_in l) o
 makes_same n (commands.Delta d) (j ∷ l ∷ k ∷ ks) o = both ⊥
+makes_same n (commands.Rebase r) [] o = both ⊥
+makes_same n (commands.Rebase r) (l ∷ []) o = rebase_same n r (input r.ledger ledger_in l) o
+makes_same n (commands.Rebase r) (l ∷ k ∷ ks) o = both ⊥
 makes_same n (commands.Rehearse r) [] o = both ⊥
 makes_same n (commands.Rehearse r) (q ∷ inputs) o = rehearse_same n r (input r.queries queries_in q) inputs o
 makes_same n commands.Usage inputs o = both (Makes commands.Usage inputs o)
@@ -59,6 +82,7 @@ makes_same n (commands.Audit a) inputs o = both (Makes (commands.Audit a) inputs
 pub inputs_same : (n : ℕ) (c : Command) → inputs_of (with_workers n c) ≡ inputs_of c
 inputs_same n (commands.Snapshot s) = refl
 inputs_same n (commands.Delta d) = refl
+inputs_same n (commands.Rebase r) = refl
 inputs_same n (commands.Rehearse r) = refl
 inputs_same n commands.Usage = refl
 inputs_same n (commands.Query q) = refl
@@ -74,6 +98,7 @@ inputs_same n (commands.Audit a) = refl
 pub outputs_same : (n : ℕ) (c : Command) → outputs_of (with_workers n c) ≡ outputs_of c
 outputs_same n (commands.Snapshot s) = refl
 outputs_same n (commands.Delta d) = refl
+outputs_same n (commands.Rebase r) = refl
 outputs_same n (commands.Rehearse r) = refl
 outputs_same n commands.Usage = refl
 outputs_same n (commands.Query q) = refl
@@ -93,6 +118,9 @@ snapshot_some s e = cc
 
 delta_some : (d : DeltaFields) → commands.Delta d ≡ commands.Usage → ⊥
 delta_some d e = cc
+
+rebase_some : (r : RebaseFields) → commands.Rebase r ≡ commands.Usage → ⊥
+rebase_some r e = cc
 
 rehearse_some : (r : RehearseFields) → commands.Rehearse r ≡ commands.Usage → ⊥
 rehearse_some r e = cc
@@ -119,6 +147,13 @@ replies_same n (commands.Delta d) files reply =
     let inputs = held_by c files in (
       over_same c w inputs reply (delta_some d) (λ o m. (makes_same n c inputs o).0 m),
       over_same w c inputs reply (delta_some (record d { workers = n })) (λ o m. (makes_same n c inputs o).1 m),
+    )
+replies_same n (commands.Rebase r) files reply =
+    let c : Command = commands.Rebase r in
+    let w : Command = commands.Rebase (record r { workers = n }) in
+    let inputs = held_by c files in (
+      over_same c w inputs reply (rebase_some r) (λ o m. (makes_same n c inputs o).0 m),
+      over_same w c inputs reply (rebase_some (record r { workers = n })) (λ o m. (makes_same n c inputs o).1 m),
     )
 replies_same n (commands.Rehearse r) files reply =
     let c : Command = commands.Rehearse r in

@@ -4,8 +4,7 @@ use Rattle.std.specs.Prelude.{Option, Some, None, Result, Ok, Err}
 use Rattle.ident_core.specs.declared.identity.Identity.{Identity}
 use Rattle.ident_core.specs.declared.kind.Kind.{Kind}
 use Rattle.ident_core.specs.declared.kind.Kind.TheVariants as kinds
-use Rattle.part_codec.specs.SealedFields.{SealedFields}
-use Rattle.part_codec.specs.PartText.{spelling}
+use Rattle.part_text.specs.SealedFields.{SealedFields}
 use Rattle.query_core.specs.Queries.{Query}
 use Rattle.sample_core.specs.Sample.{sample_text, sample_revoked}
 use Rattle.gather_core.specs.Pages.{PageFields}
@@ -15,7 +14,6 @@ use Rattle.job_core.specs.JobText.{JobContents, spelling as job_text}
 use Rattle.job_core.specs.JobFields.{JobFields}
 use Rattle.job_core.specs.JobFacts.{FitsFields, IsWithinLimits}
 use Rattle.ledger_core.specs.LedgerFields.{LedgerFields}
-use Rattle.ledger_core.specs.LedgerText.{ledger_text}
 use Rattle.universe_core.specs.Formats.{in_format}
 use Rattle.universe_core.specs.Jobs.{facts_of}
 use Rattle.universe_core.specs.History.{past_of}
@@ -43,8 +41,9 @@ use Rattle.clubcard_top.specs.ReplyFields.{Done, NamedFault}
 use Rattle.input_core.specs.Readings.{queries_in, job_in, ledger_in, part_in, store_in}
 use Rattle.input_core.specs.Certificates.{certificate_in, issuer_in}
 pub use Rattle.clubcard_top.specs.PageFiles.{head_in, page_in, room_for}
-pub use Rattle.clubcard_top.specs.Outcomes.{◌>>=◌, named, input, only}
+pub use Rattle.clubcard_top.specs.Outcomes.{◌>>=◌, named, input, only, both_files}
 use Rattle.clubcard_top.specs.Audits.{audit_jobs, MakesAudit}
+use Rattle.clubcard_top.specs.Rebasings.{MakesRebase}
 
 -- ---- asking
 
@@ -137,11 +136,8 @@ install_makes i store part = do
 
 -- the part and the next ledger, and the report
 abbrev pub publication_done : List ℕ → List ℕ → Published → Done
-publication_done part ledger p = record {
-  text = report_line p.sealed.part.head.epoch p.place p.counts;
-  outputs = record { name = part; bytes = spelling p.sealed }
-      ∷ record { name = ledger; bytes = ledger_text p.ledger } ∷ [];
-}
+publication_done part ledger p =
+    both_files part ledger p.sealed p.ledger (report_line p.sealed.part.head.epoch p.place p.counts)
 
 abbrev pub published_as : List ℕ → List ℕ → List ℕ → Result Published PublishFault → Result Done NamedFault
 published_as job part ledger (Ok p) = Ok (publication_done part ledger p)
@@ -270,6 +266,7 @@ Makes (commands.Show name) (part ∷ []) o = o ≡ show_makes name part
 Makes (commands.Snapshot s) (job ∷ []) o = MakesSnapshot s (input s.job job_in job) o
 Makes (commands.Delta d) (job ∷ ledger ∷ []) o =
     MakesDelta d (input d.job job_in job) (input d.ledger ledger_in ledger) o
+Makes (commands.Rebase r) (ledger ∷ []) o = MakesRebase r (input r.ledger ledger_in ledger) o
 Makes (commands.Start t) (part ∷ []) o = o ≡ start_makes t part
 Makes (commands.Install i) (store ∷ part ∷ []) o = o ≡ install_makes i store part
 Makes (commands.Rehearse r) (queries ∷ jobs) o = MakesRehearsal r (input r.queries queries_in queries) jobs o

@@ -1,5 +1,5 @@
 -- What a call asks for, and what comes of it, where its files are those of a history of admitted jobs.
-use Rattle.std.specs.Prelude.{◌≡◌, ◌⊎◌, ℕ, ◌≤◌, List, [], ◌∷◌, ◌++◌, length, Some, Ok, IsTrue}
+use Rattle.std.specs.Prelude.{◌≡◌, ◌⊎◌, true, ℕ, ◌≤◌, List, [], ◌∷◌, ◌++◌, length, Some, Ok, IsTrue}
 use Rattle.std.specs.List.{AllZip}
 use Rattle.std.specs.FinMap.{get}
 use Rattle.sha2.specs.Sha256.{sha256}
@@ -9,7 +9,7 @@ use Rattle.ident_core.specs.Coverage.{covers}
 use Rattle.outside_core.specs.Files.{Files}
 use Rattle.query_core.specs.Queries.{Query}
 use Rattle.query_core.specs.QueryReading.{queries_in}
-use Rattle.part_codec.specs.SealedFields.{SealedFields}
+use Rattle.part_text.specs.SealedFields.{SealedFields}
 use Rattle.log_core.specs.CertificateGrammar.{IsCertificate, HasKey}
 use Rattle.sct_core.specs.declared.bounds.TheConstants.{MAX_CERTIFICATE}
 use Rattle.sct_core.specs.Grammar.{HasSightings}
@@ -20,18 +20,23 @@ use Rattle.job_core.specs.JobLayout.{job_of}
 use Rattle.sets_core.specs.Among.{Among}
 use Rattle.universe_core.specs.Formats.{in_format}
 use Rattle.universe_core.specs.Jobs.{facts_of}
+use Rattle.sets_core.specs.Sets.{has}
 use Rattle.universe_core.specs.History.{Release, past_of, seen, sightings}
 use Rattle.universe_core.specs.Counting.{counts}
+use Rattle.history_core.specs.Bases.{kept_by, is_lasting_by, newest_epoch}
 use Rattle.publication_core.specs.Formats.{current}
-use Rattle.publication_core.specs.Histories.{IsAdmissible, History, of_jobs, members, with_job, chain, IsHistory, history}
+use Rattle.publication_core.specs.Histories.{IsAdmissible, IsRebasable, History, of_jobs, rebased, members, with_job, chain}
+use Rattle.publication_core.specs.Histories.{IsHistory, history}
 use Rattle.publication_core.specs.Histories.{part_bytes, store_bytes, ledger_bytes, old_ledger_bytes, IsUndated}
+use Rattle.publication_core.specs.Rebasing.{base_counts}
 use Rattle.publication_core.specs.Truth.{truth}
 use Rattle.word_core.specs.declared.command.Command.{Command}
 use Rattle.word_core.specs.declared.command.Command.TheVariants as commands
-use Rattle.word_core.specs.CommandFields.{QueryFields, QueryCertFields}
+use Rattle.word_core.specs.CommandFields.{QueryFields, QueryCertFields, RebaseFields}
 use Rattle.line_core.specs.Lines.{line, report_line, store_line}
 use Rattle.clubcard_top.specs.ReplyFields.{OutputFields, Done}
 use Rattle.clubcard_top.specs.Commands.{verdict_word, only, report_behind, verdict_line}
+use Rattle.clubcard_top.specs.Rebasings.{base_line}
 use Rattle.clubcard_top.specs.Calls.{Call, Found, Holds, Prints, Writes}
 
 -- ---- publishing
@@ -105,6 +110,46 @@ pub record IsPublished
       ≡ publishes_to asked (part_bytes sealed) (ledger_bytes (with_job h (in_format current job)) (parts ++ sealed ∷ []))
   pub report : d.text ≡ report_line job.epoch (members h) (counts (past_of (history h parts)) (facts_of job))
 
+-- ---- beginning a chain anew
+
+-- the command rebases this history, whose ledger LEDGER holds
+abbrev pub RebasesHistory : Command → Files → RebaseFields → History → List SealedFields → Type 0
+RebasesHistory asked files r h parts = (asked ≡ commands.Rebase r) × (1 ≤ members h) × HoldsLedger files r.ledger h parts
+
+-- the call asks to rebase the history with these parts
+abbrev pub AsksToRebase : Call → RebaseFields → History → List SealedFields → Type 0
+AsksToRebase call r h parts = Found call (λ files. RebasesHistory call.asked files r h parts)
+
+-- the history that its base at the moment begins, with no job behind it yet
+abbrev pub base_of : History → List SealedFields → ℕ → History
+base_of h parts moment = rebased h parts moment []
+
+-- the outputs: a part and a ledger, in the order of writing
+abbrev pub rebases_to : RebaseFields → List ℕ → List ℕ → List OutputFields
+rebases_to r part ledger = record { name = r.part; bytes = part } ∷ record { name = r.new_ledger; bytes = ledger } ∷ []
+
+-- A base may stand for the history at MOMENT, and is one with this part. The epoch of the history's newest member and
+-- the counts of the base were printed, PART holds the bytes of its part, and NEWLEDGER those of its ledger.
+pub record Rebased (call : Call) (r : RebaseFields) (h : History) (parts : List SealedFields) : Type 0 where
+  pub sealed : SealedFields
+  pub rebasable : IsRebasable r.moment (history h parts)
+  pub is_history : IsHistory (base_of h parts r.moment) (sealed ∷ [])
+  pub prints : Prints call (base_line (newest_epoch 0 (history h parts)) (base_counts r.moment (history h parts)))
+  -- the two files in their order, and no other
+  pub writes : Writes call
+      (rebases_to r (part_bytes sealed) (ledger_bytes (base_of h parts r.moment) (sealed ∷ [])))
+  pub part_holds : Holds call r.part (part_bytes sealed)
+  pub ledger_holds : Holds call r.new_ledger (ledger_bytes (base_of h parts r.moment) (sealed ∷ []))
+
+-- The same of what the command makes, with no call.
+pub record IsRebased (r : RebaseFields) (h : History) (parts : List SealedFields) (d : Done) : Type 0 where
+  pub sealed : SealedFields
+  pub rebasable : IsRebasable r.moment (history h parts)
+  pub is_history : IsHistory (base_of h parts r.moment) (sealed ∷ [])
+  pub outputs : d.outputs
+      ≡ rebases_to r (part_bytes sealed) (ledger_bytes (base_of h parts r.moment) (sealed ∷ []))
+  pub text : d.text ≡ base_line (newest_epoch 0 (history h parts)) (base_counts r.moment (history h parts))
+
 -- ---- stores
 
 -- The command adds a part to the parts of a store: `start` to none, and `install` to those whose store's bytes STORE
@@ -164,6 +209,24 @@ truth_line h parts q = line (verdict_word (truth (history h parts) q.id))
 -- that line alone
 abbrev pub truth_done : History → List SealedFields → QueryFields → Done
 truth_done h parts q = only (truth_line h parts q)
+
+-- ---- asking the store that a base begins
+
+-- the identity is accepted and has not expired at the moment
+abbrev pub IsKept : ℕ → List Release → Identity → Type 0
+IsKept moment rs x = has (kept_by (is_lasting_by moment rs) rs) x ≡ true
+
+-- The command asks the store of this part alone, that of a history's base, about a certificate that the base keeps, with
+-- sightings of the history's accepted entries alone.
+abbrev pub AsksBase : Command → Files → QueryFields → History → List SealedFields → ℕ → SealedFields → Type 0
+AsksBase asked files q h parts moment s =
+    (asked ≡ commands.Query q) × IsKept moment (history h parts) q.id
+    × (get files q.store ≡ Some (store_bytes (s ∷ []))) × (1 ≤ length q.sightings)
+    × ((t : Sighting) → Among q.sightings t → Among (sightings q.id (seen (history h parts))) t)
+
+-- the call asks the store of the base so
+abbrev pub AsksTheBase : Call → QueryFields → History → List SealedFields → ℕ → SealedFields → Type 0
+AsksTheBase call q h parts moment s = Found call (λ files. AsksBase call.asked files q h parts moment s)
 
 -- ---- asking with a certificate
 

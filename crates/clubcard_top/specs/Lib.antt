@@ -6,6 +6,7 @@ pub mod PageFiles
 pub mod Outcomes
 pub mod Audits
 pub mod AuditJobs
+pub mod Rebasings
 pub mod Commands
 pub mod Replies
 pub mod Runs

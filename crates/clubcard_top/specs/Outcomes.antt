@@ -1,5 +1,9 @@
 -- How what comes of a command is put together: inputs that are read one after the other, each of which may be at fault.
-use Rattle.std.specs.Prelude.{ℕ, List, [], Option, Result, Ok, Err}
+use Rattle.std.specs.Prelude.{ℕ, List, [], ◌∷◌, Option, Result, Ok, Err}
+use Rattle.part_text.specs.SealedFields.{SealedFields}
+use Rattle.part_text.specs.PartText.{spelling}
+use Rattle.ledger_core.specs.LedgerFields.{LedgerFields}
+use Rattle.ledger_core.specs.LedgerText.{ledger_text}
 use Rattle.input_core.specs.declared.fault.FileFault.{FileFault}
 use Rattle.input_core.specs.Readings.{input_as}
 use Rattle.clubcard_top.specs.ReplyFields.{Done, NamedFault}
@@ -21,3 +25,10 @@ input name read given = named name (input_as read given)
 -- lines alone
 abbrev pub only : List ℕ → Done
 only text = record { text = text; outputs = [] }
+
+-- a part and the ledger after it, written to the files of these names, and lines
+abbrev pub both_files : (part ledger : List ℕ) → SealedFields → LedgerFields → List ℕ → Done
+both_files part ledger sealed after text = record {
+  text = text;
+  outputs = record { name = part; bytes = spelling sealed } ∷ record { name = ledger; bytes = ledger_text after } ∷ [];
+}

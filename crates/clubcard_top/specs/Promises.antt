@@ -9,7 +9,7 @@ use Rattle.sct_core.specs.declared.fault.CertFault.{CertFault}
 use Rattle.gather_core.specs.declared.fault.PageFault.{PageFault}
 use Rattle.gather_core.specs.Pages.{PageFields}
 use Rattle.query_core.specs.Queries.{Query}
-use Rattle.part_codec.specs.SealedFields.{SealedFields}
+use Rattle.part_text.specs.SealedFields.{SealedFields}
 use Rattle.job_core.specs.declared.bounds.What.{What}
 use Rattle.job_core.specs.declared.bounds.TheConstants.Limits as limits
 use Rattle.job_core.specs.JobFields.{JobFields}
@@ -26,11 +26,12 @@ use Rattle.card_core.specs.Verdict.{verdict}
 use Rattle.universe_core.specs.History.{seen}
 use Rattle.audit_core.specs.Auditing.{history as audited_history}
 use Rattle.publication_core.specs.Formats.{current}
-use Rattle.publication_core.specs.Histories.{IsAdmissible, History, chain, IsHistory, history}
+use Rattle.publication_core.specs.Histories.{IsAdmissible, IsRebasable, History, chain, IsHistory, history}
 use Rattle.publication_core.specs.Publishing.{CanBePublished}
+use Rattle.publication_core.specs.Rebasing.{CanBeRebased}
 use Rattle.word_core.specs.declared.command.Command.TheVariants as commands
 use Rattle.word_core.specs.CommandFields.{QueryFields, QueryCertFields, SnapshotFields, DeltaFields, StartFields}
-use Rattle.word_core.specs.CommandFields.{InstallFields, RehearseFields, SampleFields, GatherFields, AuditFields}
+use Rattle.word_core.specs.CommandFields.{RebaseFields, InstallFields, RehearseFields, SampleFields, GatherFields, AuditFields}
 use Rattle.word_core.specs.Names.{inputs_of, outputs_of}
 use Rattle.line_core.specs.Lines.{line, check_line, show_text, sample_line, gather_line, audit_line}
 use Rattle.input_core.specs.declared.certificates.Certificate.{Certificate}
@@ -46,15 +47,15 @@ use Rattle.clubcard_top.specs.Calls.{Call, FilesAreTold, Reads, Holds, Writes, C
 use Rattle.clubcard_top.specs.Calls.{NoReadFailed, CouldNotRead}
 use Rattle.clubcard_top.specs.Endings.{Succeeds, Did, GivesTheReply, WantedMemory, SinkFailed, Torn, IsAnswer, Ends}
 use Rattle.clubcard_top.specs.Endings.{MustSucceed, MustGive}
-use Rattle.clubcard_top.specs.Successes.{ReadsPart, PublishesFile, NewStore, ReadsPages, ReadsJobs}
+use Rattle.clubcard_top.specs.Successes.{ReadsPart, PublishesFile, BeginsAnew, NewStore, ReadsPages, ReadsJobs}
 use Rattle.clubcard_top.specs.Successes.{AreWithinLimits, IsAudited, SaysTheTruth}
 use Rattle.clubcard_top.specs.Headline.{AsksToPublish, AsksToStore, AsksTruth, AsksCertTruth, AsksToRehearse}
-use Rattle.clubcard_top.specs.Headline.{truth_line, cert_truth_line}
-use Rattle.clubcard_top.specs.Headline.{Published, Stored, IsRehearsed}
+use Rattle.clubcard_top.specs.Headline.{AsksToRebase, AsksTheBase, base_of, truth_line, cert_truth_line}
+use Rattle.clubcard_top.specs.Headline.{Published, Rebased, Stored, IsRehearsed}
 use Rattle.clubcard_top.specs.Refusals.{Comes, Refused}
 
 -- Each command that succeeds: what the files held that it read, what it printed, and what those hold that it wrote. And
--- when `snapshot` and `delta` must succeed, behind any ledger.
+-- when `snapshot`, `delta` and `rebase` must succeed, behind any ledger.
 pub record Successes (call : Call) : Type 0 where
   -- what the parts of STORE say of the certificate
   pub query : (q : QueryFields) → Did call (commands.Query q)
@@ -89,6 +90,12 @@ pub record Successes (call : Call) : Type 0 where
   pub delta_complete : (d : DeltaFields) (before : LedgerFields) (job : JobFields) → call.asked ≡ commands.Delta d
       → Reads call d.ledger ledger_in before → Reads call d.job job_in job → CanBePublished before job
       → MustSucceed call
+  -- the ledger of LEDGER, without what has expired at MOMENT, begins a chain anew; and where its parts have few enough
+  -- issuers and each of these has a block, the call must succeed
+  pub rebase : (r : RebaseFields) → Did call (commands.Rebase r) → (before : LedgerFields)
+      × Reads call r.ledger ledger_in before × BeginsAnew call before r
+  pub rebase_complete : (r : RebaseFields) (before : LedgerFields) → call.asked ≡ commands.Rebase r
+      → Reads call r.ledger ledger_in before → CanBeRebased before r.moment → MustSucceed call
   -- the part of PART, which is a snapshot, begins a store
   pub start : (t : StartFields) → Did call (commands.Start t)
       → (s : SealedFields) × ReadsPart call t.part s × (s.part.head.kind ≡ kinds.Snapshot) × NewStore call t.store [] s
@@ -126,13 +133,18 @@ pub record Successes (call : Call) : Type 0 where
       → AreWithinLimits jobs → IsAudited parts jobs → MustSucceed call
 
 -- What a call does for a history of admitted jobs, in pairs: what its success is, and when it must succeed. What the
--- success of `rehearse` is stands above.
+-- success of `rehearse` is stands above; that of `kept` must come by `answered`, since a base keeps sightings.
 pub record Histories (call : Call) : Type 0 where
   -- `snapshot` and `delta`
   pub published : (h : History) (parts : List SealedFields) (job : JobFields) → IsHistory h parts
       → AsksToPublish call h parts job → Succeeds call → Published call h parts job
   pub admitted : (h : History) (parts : List SealedFields) (job : JobFields) → IsHistory h parts
       → AsksToPublish call h parts job → IsAdmissible (history h parts) (in_format current job) → MustSucceed call
+  -- `rebase`
+  pub rebased : (r : RebaseFields) (h : History) (parts : List SealedFields) → IsHistory h parts
+      → AsksToRebase call r h parts → Succeeds call → Rebased call r h parts
+  pub rebasable : (r : RebaseFields) (h : History) (parts : List SealedFields) → IsHistory h parts
+      → AsksToRebase call r h parts → IsRebasable r.moment (history h parts) → MustSucceed call
   -- `start` and `install`
   pub stored : (h : History) (parts : List SealedFields) (s : SealedFields) → IsHistory h (parts ++ s ∷ [])
       → AsksToStore call parts s → Succeeds call → Stored call parts s
@@ -143,6 +155,10 @@ pub record Histories (call : Call) : Type 0 where
       → AsksTruth call q h parts → Succeeds call → Prints call (truth_line h parts q)
   pub answered : (q : QueryFields) (h : History) (parts : List SealedFields) → IsHistory h parts
       → AsksTruth call q h parts → MustSucceed call
+  -- `query` of the store that the base of a history begins: of what has not expired, it says what the history tells
+  pub kept : (q : QueryFields) (h : History) (parts : List SealedFields) (moment : ℕ) (s : SealedFields)
+      → IsHistory (base_of h parts moment) (s ∷ []) → AsksTheBase call q h parts moment s → Succeeds call
+      → Prints call (truth_line h parts q)
   -- `query-cert`
   pub cert_truth : (q : QueryCertFields) (x : Identity) (ss : List Sighting)
       (h : History) (parts : List SealedFields) → IsHistory h parts
@@ -164,9 +180,10 @@ pub record Refusals (call : Call) : Type 0 where
   pub chain : call.status ≡ status.chain → FilesAreTold call
       → (name : List ℕ)
       × (Refused call name faults.NotSnapshot ⊎ ((why : Refusal) × Refused call name (faults.Chain why)))
+  -- of a job, or of a ledger that is rebased
   pub too_many : call.status ≡ status.too_many → FilesAreTold call
       → (name : List ℕ) × (what : What) × (limit : ℕ) × Refused call name (faults.TooMany what limit)
-  -- an issuer of the job has no block
+  -- an issuer of the job, or of the ledger that is rebased, has no block
   pub seeds : call.status ≡ status.seeds → FilesAreTold call
       → (name : List ℕ) × (issuer : List ℕ) × (stage : ℕ) × Refused call name (faults.Seeds issuer stage)
   -- CERT or ISSUERCERT

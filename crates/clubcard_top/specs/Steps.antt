@@ -1,7 +1,7 @@
 -- What comes of files that are rehearsed, stated file by file: the words of private functions and of proofs.
 use Rattle.std.specs.Prelude.{◌≡◌, ◌⊎◌, ℕ, List, [], ◌∷◌, ◌++◌, Option, Result, Ok, Err}
 use Rattle.query_core.specs.Queries.{Query}
-use Rattle.part_codec.specs.SealedFields.{SealedFields}
+use Rattle.part_text.specs.SealedFields.{SealedFields}
 use Rattle.job_core.specs.JobFields.{JobFields}
 use Rattle.publication_core.specs.Histories.{chain, IsHistory}
 use Rattle.clubcard_top.specs.ReplyFields.{Done, NamedFault}

@@ -4,8 +4,8 @@ use Rattle.std.specs.List.{AllZip}
 use Rattle.ident_core.specs.declared.identity.Identity.{Identity}
 use Rattle.ident_core.specs.declared.range.Sighting.{Sighting}
 use Rattle.card_core.specs.Verdict.{verdict}
-use Rattle.part_codec.specs.SealedFields.{SealedFields}
-use Rattle.part_codec.specs.PartText.{spelling}
+use Rattle.part_text.specs.SealedFields.{SealedFields}
+use Rattle.part_text.specs.PartText.{spelling}
 use Rattle.gather_core.specs.Pages.{PageFields}
 use Rattle.job_core.specs.declared.bounds.TheConstants.Limits as limits
 use Rattle.job_core.specs.JobFields.{JobFields}
@@ -17,10 +17,13 @@ use Rattle.history_core.specs.Truth.{truth}
 use Rattle.store_core.specs.StoreLayout.{store_text}
 use Rattle.audit_core.specs.Auditing.{history as audited_history, entries_of, AreAdmitted, AllAgree}
 use Rattle.publication_core.specs.Publishing.{Published as Publication, Publishes}
+use Rattle.publication_core.specs.Rebasing.{PublishedBase, IsBasePublication, base_counts_after}
+use Rattle.word_core.specs.CommandFields.{RebaseFields}
 use Rattle.line_core.specs.Lines.{report_line, store_line}
 use Rattle.input_core.specs.Readings.{job_in, part_in}
 use Rattle.clubcard_top.specs.Commands.{page_in}
 use Rattle.clubcard_top.specs.Audits.{serials_of}
+use Rattle.clubcard_top.specs.Rebasings.{base_line}
 use Rattle.clubcard_top.specs.Calls.{Call, Reads, Holds, Prints}
 
 -- the file of this name held this part and nothing else
@@ -37,6 +40,15 @@ pub record PublishesFile (call : Call) (before : LedgerFields) (job part ledger 
   pub prints : Prints call (report_line made.sealed.part.head.epoch made.place made.counts)
   pub part_holds : Holds call part (spelling made.sealed)
   pub ledger_holds : Holds call ledger (ledger_text made.ledger)
+
+-- This ledger without what has expired at MOMENT begins a chain anew: its counts were printed with the part's epoch, PART
+-- holds the part, and NEWLEDGER the ledger after it.
+pub record BeginsAnew (call : Call) (before : LedgerFields) (r : RebaseFields) : Type 0 where
+  pub made : PublishedBase
+  pub publishes : IsBasePublication before r.moment made
+  pub prints : Prints call (base_line made.sealed.part.head.epoch (base_counts_after r.moment before))
+  pub part_holds : Holds call r.part (spelling made.sealed)
+  pub ledger_holds : Holds call r.new_ledger (ledger_text made.ledger)
 
 -- The number of parts and the newest one's epoch were printed, and STORE holds these parts with this one behind them.
 pub record NewStore (call : Call) (store : List ℕ) (parts : List SealedFields) (s : SealedFields) : Type 0 where

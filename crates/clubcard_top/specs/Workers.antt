@@ -7,6 +7,7 @@ use Rattle.word_core.specs.declared.command.Command.TheVariants as commands
 abbrev pub with_workers : ℕ → Command → Command
 with_workers n (commands.Snapshot s) = commands.Snapshot (record s { workers = n })
 with_workers n (commands.Delta d) = commands.Delta (record d { workers = n })
+with_workers n (commands.Rebase r) = commands.Rebase (record r { workers = n })
 with_workers n (commands.Rehearse r) = commands.Rehearse (record r { workers = n })
 with_workers n commands.Usage = commands.Usage
 with_workers n (commands.Query q) = commands.Query q

@@ -1,10 +1,10 @@
-//! What is wrong with the file of a job that isn't published.
+//! What is wrong with the file of a job that isn't published, or of a ledger that isn't rebased.
 
 ghost use Rattle.std.specs.Prelude.{◌≡◌};
-ghost use Rattle.clubcard_top.specs.Faults.{of_admission, of_publishing};
+ghost use Rattle.clubcard_top.specs.Faults.{of_admission, of_publishing, of_rebasing};
 
 use input_core::FileFault;
-use publication_core::PublishFault;
+use publication_core::{BaseFault, PublishFault};
 use store_core::Refusal;
 use universe_core::AdmitFault;
 
@@ -32,5 +32,16 @@ pub fn unpublished(fault: PublishFault) -> FileFault
         PublishFault::Admission(fault) => unadmitted(fault),
         PublishFault::SeedsExhausted { issuer, stage } => FileFault::Seeds { issuer, stage },
         PublishFault::NoMemory => FileFault::NoMemory,
+    }
+}
+
+/// What is wrong with the file of a ledger that isn't rebased.
+pub fn unrebased(fault: BaseFault) -> FileFault
+    ensures { result ≡ of_rebasing fault }
+{
+    match fault {
+        BaseFault::TooMany { what, limit } => FileFault::TooMany { what, limit },
+        BaseFault::SeedsExhausted { issuer, stage } => FileFault::Seeds { issuer, stage },
+        BaseFault::NoMemory => FileFault::NoMemory,
     }
 }

@@ -5,15 +5,17 @@ ghost use Rattle.ident_core.specs.declared.identity.Identity.{Identity};
 ghost use Rattle.ident_core.specs.declared.range.Sighting.{Sighting};
 ghost use Rattle.outside_core.specs.Files.{Files};
 ghost use Rattle.query_core.specs.Queries.{Query};
-ghost use Rattle.part_codec.specs.SealedFields.{SealedFields};
+ghost use Rattle.part_text.specs.SealedFields.{SealedFields};
 ghost use Rattle.job_core.specs.JobFields.{JobFields};
 ghost use Rattle.ledger_core.specs.LedgerFields.{LedgerFields};
 ghost use Rattle.universe_core.specs.Formats.{in_format};
+ghost use Rattle.universe_core.specs.History.{seen, sightings};
 ghost use Rattle.publication_core.specs.Formats.{current};
-ghost use Rattle.publication_core.specs.Histories.{IsAdmissible, History, chain, IsHistory, history};
+ghost use Rattle.publication_core.specs.Histories.{IsAdmissible, IsRebasable, History, chain, IsHistory, history};
 ghost use Rattle.publication_core.specs.Publishing.{CanBePublished, Published, Publishes};
+ghost use Rattle.publication_core.specs.Rebasing.{CanBeRebased, PublishedBase, PublishesBase};
 ghost use Rattle.word_core.specs.declared.command.Command.{Command};
-ghost use Rattle.word_core.specs.CommandFields.{QueryFields, QueryCertFields, RehearseFields};
+ghost use Rattle.word_core.specs.CommandFields.{QueryFields, QueryCertFields, RebaseFields, RehearseFields};
 ghost use Rattle.word_core.specs.Names.{inputs_of, outputs_of};
 ghost use Rattle.word_core.specs.Words.{command_of};
 ghost use Rattle.clubcard_top.specs.ReplyFields.{Done, NamedFault, ReplyFields};
@@ -23,11 +25,14 @@ ghost use Rattle.clubcard_top.specs.Steps.{RehearsesOn};
 ghost use Rattle.clubcard_top.specs.Replies.{HasFewJobs, IsOctets, IsReplyOver, IsReplyTo, held_by};
 ghost use Rattle.clubcard_top.specs.Headline.{PublishesJob, IsPublished, StoresPart, IsStored, AsksHistory, truth_done};
 ghost use Rattle.clubcard_top.specs.Headline.{AsksCert, cert_truth_line, RehearsesJobs, IsRehearsed};
+ghost use Rattle.clubcard_top.specs.Headline.{RebasesHistory, IsRebased, base_of, IsKept, AsksBase, truth_line};
 
 use audit_core::{audits_are_unique, audits_exist};
+use history_core::base_stands_for_its_history;
 use publication_core::{
-    a_publication_or_a_refusal, histories_are_published, ledgers_are_read_back, parts_are_chains,
-    publications_are_unique, verdicts_are_the_truth, what_can_be_is_published,
+    a_publication_or_a_refusal, bases_are_published, histories_are_published,
+    ledgers_are_read_back, one_thing_comes_of_a_rebase, parts_are_chains, publications_are_unique,
+    verdicts_are_the_truth, what_can_be_is_published,
 };
 use store_core::{chains_grow, stores_are_read_back};
 
@@ -40,6 +45,7 @@ pub fn replies_are_unique()
 {
     publications_are_unique();
     histories_are_published();
+    one_thing_comes_of_a_rebase();
     audits_are_unique();
 }
 
@@ -57,6 +63,7 @@ pub fn replies_exist()
 {
     a_publication_or_a_refusal();
     histories_are_published();
+    one_thing_comes_of_a_rebase();
     audits_exist();
     job_core::jobs_that_are_read_fit();
 }
@@ -108,6 +115,37 @@ pub fn histories_are_made()
     stores_are_read_back();
     what_can_be_is_published();
     part_codec::a_text_is_read_back();
+}
+
+/// What comes of `rebase`, and of `query` after it. A history that is rebased has a base, whose part and ledger are
+/// written; each history for which a base may stand is rebased, and behind any ledger, what can be rebased is. Of an
+/// identity that has not expired the base keeps the sightings, and what the history tells (`kept`): so the store of the
+/// base, asked with accepted sightings of the history, answers as that of the history does (`asked`).
+pub fn bases_are_made()
+    ensures rebased { (command : Command) (files : Files) (r : RebaseFields)
+        (h : History) (parts : List SealedFields) (d : Done)
+        → IsHistory h parts → RebasesHistory command files r h parts
+        → Makes command (held_by command files) (Ok d) → IsRebased r h parts d }
+    ensures rebasable { (command : Command) (files : Files) (r : RebaseFields)
+        (h : History) (parts : List SealedFields) (o : Result Done NamedFault)
+        → IsHistory h parts → RebasesHistory command files r h parts → IsRebasable r.moment (history h parts)
+        → Makes command (held_by command files) o → (d : Done) × (o ≡ Ok d) }
+    ensures kept { (h : History) (parts : List SealedFields) (moment : ℕ) (s : SealedFields) (q : QueryFields)
+        → IsKept moment (history h parts) q.id
+        → (sightings q.id (seen (history (base_of h parts moment) (s ∷ []))) ≡ sightings q.id (seen (history h parts)))
+        × (truth_line (base_of h parts moment) (s ∷ []) q ≡ truth_line h parts q) }
+    ensures asked { (command : Command) (files : Files) (q : QueryFields)
+        (h : History) (parts : List SealedFields) (moment : ℕ) (s : SealedFields) (o : Result Done NamedFault)
+        → IsHistory (base_of h parts moment) (s ∷ []) → AsksBase command files q h parts moment s
+        → Makes command (held_by command files) o → o ≡ Ok (truth_done h parts q) }
+    ensures publishable { (before : LedgerFields) (moment : ℕ) → CanBeRebased before moment
+        → (made : PublishedBase) × PublishesBase before moment (Ok made) }
+{
+    bases_are_published();
+    one_thing_comes_of_a_rebase();
+    ledgers_are_read_back();
+    base_stands_for_its_history();
+    histories_are_made();
 }
 
 /// Commands that differ in WORKERS alone make the same of the same inputs, are answered alike over the same files, and

@@ -10,6 +10,7 @@ mod gathering;
 mod laws;
 mod output;
 mod publishing;
+mod rebasing;
 mod rehearsing;
 mod reply;
 mod sampling;
@@ -17,8 +18,8 @@ mod storing;
 mod top;
 
 pub use laws::{
-    histories_are_made, rehearsals_go_file_by_file, replies_are_unique, replies_exist,
-    workers_are_free,
+    bases_are_made, histories_are_made, rehearsals_go_file_by_file, replies_are_unique,
+    replies_exist, workers_are_free,
 };
 pub use line_core::Status;
 pub use publication_core::{Gate, Open};

@@ -3,7 +3,7 @@
 ghost use Rattle.std.specs.Prelude.{◌≡◌, IfOk};
 ghost use Rattle.outside_core.specs.Effects.{OnlyReads};
 ghost use Rattle.word_core.specs.declared.command.Command.{Command};
-ghost use Rattle.clubcard_top.specs.Commands.{publication_done};
+ghost use Rattle.clubcard_top.specs.Commands.{both_files, publication_done};
 ghost use Rattle.clubcard_top.specs.Answering.{reply_fields};
 ghost use Rattle.clubcard_top.specs.Replies.{done};
 ghost use Rattle.input_core.specs.Inputs.{WhichFailed};
@@ -15,15 +15,35 @@ use crate::fault::unpublished;
 use crate::output::Output;
 use crate::reply::Reply;
 use input_core::{job_in, ledger_in};
-use ledger_core::encode_ledger;
-use line_core::reported;
+use ledger_core::{Ledger, encode_ledger};
+use line_core::{Line, reported};
 use octets_core::NoMemory;
 use outside_core::Depot;
-use part_codec::encode_part;
+use part_codec::{Sealed, encode_part};
 use publication_core::{Gate, Publication, publish_after, publish_first};
 use std::alloc::Global;
 use std::thread::Threads;
 use word_core::{Delta, Snapshot};
+
+/// The answer where a part and the ledger after it are written, to files of these names, and this line once they are
+/// whole.
+pub(crate) fn written<'a>(
+    alloc: Global,
+    part: &'a str,
+    ledger: &'a str,
+    sealed: &Sealed,
+    after: &Ledger,
+    line: Line,
+) -> Result<Answer<'a>, NoMemory>
+    ensures { IfOk result (λ a. reply_fields a ≡ done (both_files part.now ledger.now sealed.now after.now line)) }
+{
+    let part_bytes = encode_part(alloc, sealed)?;
+    let ledger_bytes = encode_ledger(alloc, after)?;
+    let mut outputs = Vec::with_capacity(alloc, 2)?;
+    outputs.push(Output::new(part, part_bytes))?;
+    outputs.push(Output::new(ledger, ledger_bytes))?;
+    Ok(Answer::Files(outputs, Reply::done(line)))
+}
 
 /// The answer where a job is published: its part and the ledger after it, to files of these names, and its report.
 fn published<'a>(
@@ -35,14 +55,9 @@ fn published<'a>(
     ensures { IfOk result (λ a. reply_fields a ≡ done (publication_done part.now ledger.now publication.now)) }
 {
     let sealed = publication.sealed();
-    let part_bytes = encode_part(alloc, sealed)?;
-    let ledger_bytes = encode_ledger(alloc, publication.ledger())?;
-    let mut outputs = Vec::with_capacity(alloc, 2)?;
-    outputs.push(Output::new(part, part_bytes))?;
-    outputs.push(Output::new(ledger, ledger_bytes))?;
     let epoch = sealed.part().head().epoch();
     let report = reported(epoch, publication.place(), publication.counts());
-    Ok(Answer::Files(outputs, Reply::done(report)))
+    written(alloc, part, ledger, sealed, publication.ledger(), report)
 }
 
 /// The answer of `snapshot`.

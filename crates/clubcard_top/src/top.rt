@@ -16,8 +16,9 @@ use crate::answer::{Answer, send};
 use crate::auditing::answer_audit;
 use crate::commands::{answer_check, answer_query, answer_query_cert, answer_show};
 use crate::gathering::answer_gather;
-use crate::laws::{histories_are_made, replies_are_unique};
+use crate::laws::{bases_are_made, histories_are_made, replies_are_unique};
 use crate::publishing::{answer_delta, answer_snapshot};
+use crate::rebasing::answer_rebase;
 use crate::rehearsing::answer_rehearse;
 use crate::reply::Reply;
 use crate::sampling::answer_sample;
@@ -52,6 +53,7 @@ fn answer_for<'a, R: Threads + Sync, G: Gate + Sync, D: Depot>(
         Command::Show(name) => answer_show(alloc, name, depot),
         Command::Snapshot(asked) => answer_snapshot(rt, alloc, gate, asked, depot),
         Command::Delta(asked) => answer_delta(rt, alloc, gate, asked, depot),
+        Command::Rebase(asked) => answer_rebase(rt, alloc, gate, asked, depot),
         Command::Start(asked) => answer_start(alloc, asked, depot),
         Command::Install(asked) => answer_install(alloc, asked, depot),
         Command::Rehearse(asked) => answer_rehearse(rt, alloc, gate, asked, depot),
@@ -126,6 +128,7 @@ pub fn run_gated<R: Threads + Sync, D: Depot, K: Sink, G: Gate + Sync>(
 {
     // What the promises on histories, on refusals and on audits stand on.
     histories_are_made();
+    bases_are_made();
     replies_are_unique();
     agreement_is_enough();
     run_words(rt, alloc, gate, words, depot, out)
@@ -145,7 +148,7 @@ pub fn run<R: Threads + Sync, D: Depot, K: Sink>(
     out: &mut K,
 ) -> Status
     // Each command that succeeds: what the files held that it read, what it printed, and what those hold that it wrote.
-    // And when `snapshot` and `delta` must succeed, behind any ledger.
+    // And when `snapshot`, `delta` and `rebase` must succeed, behind any ledger.
     ensures successes { Successes (call D.Depot K.Sink words.now depot.old depot.new out.old out.new result.0) }
     // Over the files of a history of admitted jobs: what a success is, and when there must be one.
     ensures histories { Histories (call D.Depot K.Sink words.now depot.old depot.new out.old out.new result.0) }

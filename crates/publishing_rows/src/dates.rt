@@ -15,7 +15,7 @@ const T_1500: &str = "0000018bcfe56ddc";
 /// The UTCTimes 231114221319Z, 231114221320Z and 231114221321Z.
 const BEFORE_T: &str = "170d3233313131343232313331395a";
 
-const AT_T: &str = "170d3233313131343232313332305a";
+pub const AT_T: &str = "170d3233313131343232313332305a";
 
 const AFTER_T: &str = "170d3233313131343232313332315a";
 
@@ -23,7 +23,7 @@ const AFTER_T: &str = "170d3233313131343232313332315a";
 const OLDEST: &str = "170d3530303130313030303030305a";
 
 /// An entry of K1 in LA whose certificate's validity ends so.
-fn dated(job: &mut JobText, serial: &str, time: &str, until: &str) -> Result<(), Fail> {
+pub fn dated(job: &mut JobText, serial: &str, time: &str, until: &str) -> Result<(), Fail> {
     job.record("03")?;
     job.record(LA)?;
     job.record("00005a0000")?;
@@ -39,14 +39,14 @@ fn dated(job: &mut JobText, serial: &str, time: &str, until: &str) -> Result<(),
 }
 
 /// 05 is revoked and has no date, and 09 has one.
-fn first(alloc: Global) -> Result<Vec<u8>, Fail> {
+pub fn first(alloc: Global) -> Result<Vec<u8>, Fail> {
     let mut job = first_entry(alloc, CRL_05)?;
     dated(&mut job, "09", T, AT_T)?;
     job.end()
 }
 
 /// Its ledger: 09 has the date 1700000000.
-const LEDGER_FIRST: &str = "\
+pub const LEDGER_FIRST: &str = "\
     434c55424c454447020100000000000000012dc0833351c88c3277058ec448b1\
     68eb45f48c5ab41dc68b71e9122410bc74e40001aaaaaaaaaaaaaaaaaaaaaaaa\
     aaaaaaaaaaaaaaaaaaaaaaaaaaaaaaaaaaaaaaaa0000018bcfe568000000018b\

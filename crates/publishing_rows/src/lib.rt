@@ -1,4 +1,4 @@
-//! Worked examples of `snapshot` and `delta`.
+//! Worked examples of `snapshot`, `delta`, `rebase` and `gather`.
 #![tactic(auto)]
 
 #[cfg(test)]
@@ -9,5 +9,7 @@ mod deltas;
 mod gathering;
 #[cfg(test)]
 mod publishing;
+#[cfg(test)]
+mod rebases;
 #[cfg(test)]
 mod workers;

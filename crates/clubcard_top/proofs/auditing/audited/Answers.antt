@@ -1,6 +1,6 @@
 use Rattle.std.proofs.Common.{ℕ, List, Err, map, length, sym, ap, subst, ◌∙◌}
 use Rattle.std.proofs.lemmas.List.{length-map}
-use Rattle.part_codec.specs.SealedFields.{SealedFields}
+use Rattle.part_text.specs.SealedFields.{SealedFields}
 use Rattle.job_core.specs.JobFields.{fields_of_job}
 use Rattle.audit_core.specs.Auditing.{IsFound}
 use Rattle.line_core.specs.Lines.{audit_line}

@@ -17,8 +17,7 @@ returns c =
       ledger = c.histories_are_published.ensures.ledger;
       numbers = c.histories_are_published.ensures.numbers;
       place = c.histories_are_published.ensures.place;
-      ledger_read = c.ledgers_are_read_back.ensures.value;
-      old_read = c.ledgers_are_read_back.ensures.old_value;
+      ledgers = record { value = c.ledgers_are_read_back.ensures.value; old_value = c.ledgers_are_read_back.ensures.old_value };
       chain = c.parts_are_chains.ensures.chain;
       many = c.parts_are_chains.ensures.many;
       few = c.parts_are_chains.ensures.few;

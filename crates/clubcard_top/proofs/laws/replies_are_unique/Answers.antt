@@ -1,4 +1,4 @@
-use Rattle.clubcard_top.proofs.Unique.{Publishing, outcome_unique, reply_unique}
+use Rattle.clubcard_top.proofs.Unique.{Publishing, Others, outcome_unique, reply_unique}
 use Rattle.clubcard_top.proofs.laws.replies_are_unique.Goals as goal
 
 pub returns : goal.returns
@@ -9,7 +9,8 @@ returns c =
       parts = c.publications_are_unique.ensures.parts;
       complete = c.histories_are_published.ensures.complete;
     } in
+    let others : Others = record { audits = c.audits_are_unique.ensures; bases = c.one_thing_comes_of_a_rebase.ensures.outcome } in
     record {
-      outcome = λ command inputs a b x y. outcome_unique publishing c.audits_are_unique.ensures command inputs a b x y;
-      reply = λ command files a b x y. reply_unique publishing c.audits_are_unique.ensures command files a b x y;
+      outcome = λ command inputs a b x y. outcome_unique publishing others command inputs a b x y;
+      reply = λ command files a b x y. reply_unique publishing others command files a b x y;
     }

@@ -6,6 +6,7 @@ pub returns : goal.returns
 returns c =
     let layers : Existence = record {
       something = c.a_publication_or_a_refusal.ensures;
+      rebases = c.one_thing_comes_of_a_rebase.ensures.some;
       fits = c.jobs_that_are_read_fit.ensures.fits;
       within = c.jobs_that_are_read_fit.ensures.within;
       next = c.histories_are_published.ensures.history;

@@ -1,5 +1,5 @@
 use Rattle.std.proofs.Common.{ap, sym, ◌∙◌}
-use Rattle.part_codec.specs.SealedFields.{SealedFields}
+use Rattle.part_text.specs.SealedFields.{SealedFields}
 use Rattle.card_core.specs.PartFields.{PartFields}
 use Rattle.ident_core.specs.HeadFields.{HeadFields}
 use Rattle.clubcard_top.specs.Commands.{epoch_of}

@@ -1,9 +1,9 @@
 use Rattle.std.proofs.Common.{map}
 use Rattle.std.specs.Prelude.{string_bytes}
-use Rattle.part_codec.specs.SealedFields.{SealedFields}
+use Rattle.part_text.specs.SealedFields.{SealedFields}
 use Rattle.clubcard_top.proofs.Promised as promised
 use Rattle.clubcard_top.proofs.WordsApart as apart
-use Rattle.clubcard_top.proofs.Succeeded as succeeded
+use Rattle.clubcard_top.proofs.OfHistories as of_histories
 use Rattle.clubcard_top.proofs.top.run_gated.Goals as goal
 
 pub returns-clause-ending : goal.returns-clause-ending
@@ -27,7 +27,7 @@ returns-clause-frame g c = record {
 
 pub returns-clause-successes : goal.returns-clause-successes
 returns-clause-successes g c =
-    succeeded.successes _
+    of_histories.successes _
     (record {
       published = c.histories_are_made.ensures.published _;
       admitted = c.histories_are_made.ensures.admitted _;
@@ -35,16 +35,20 @@ returns-clause-successes g c =
       asks = c.histories_are_made.ensures.asked _;
       certifies = c.histories_are_made.ensures.certified _;
       rehearses = c.histories_are_made.ensures.rehearsed _;
+      rebases = c.bases_are_made.ensures.rebased _;
+      rebasable = c.bases_are_made.ensures.rebasable _;
+      keeps = c.bases_are_made.ensures.asked _;
       follows = c.histories_are_made.ensures.followed _;
     })
     (promised.parts _ c.run_words.ensures.ends) (λ command inputs a b x y. c.replies_are_unique.ensures.outcome command inputs a b x y)
     (λ before job can. c.histories_are_made.ensures.publishable before job can)
+    (λ before moment can. c.bases_are_made.ensures.publishable before moment can)
     (λ parts jobs agree. c.agreement_is_enough.ensures (map (λ (s : SealedFields). s.part) parts) jobs agree)
     (apart.words_apart (map string_bytes c.args.words.now))
 
 pub returns-clause-histories : goal.returns-clause-histories
 returns-clause-histories g c =
-    succeeded.histories _
+    of_histories.histories _
     (record {
       published = c.histories_are_made.ensures.published _;
       admitted = c.histories_are_made.ensures.admitted _;
@@ -52,6 +56,9 @@ returns-clause-histories g c =
       asks = c.histories_are_made.ensures.asked _;
       certifies = c.histories_are_made.ensures.certified _;
       rehearses = c.histories_are_made.ensures.rehearsed _;
+      rebases = c.bases_are_made.ensures.rebased _;
+      rebasable = c.bases_are_made.ensures.rebasable _;
+      keeps = c.bases_are_made.ensures.asked _;
       follows = c.histories_are_made.ensures.followed _;
     })
     (promised.parts _ c.run_words.ensures.ends) (apart.words_apart (map string_bytes c.args.words.now))

@@ -1,0 +1,73 @@
+//! The command that begins a chain anew: what it answers, from what its ledger holds.
+
+ghost use Rattle.std.specs.Prelude.{◌≡◌, IfOk};
+ghost use Rattle.outside_core.specs.Effects.{OnlyReads};
+ghost use Rattle.word_core.specs.declared.command.Command.{Command};
+ghost use Rattle.clubcard_top.specs.Answering.{reply_fields};
+ghost use Rattle.clubcard_top.specs.Rebasings.{base_done};
+ghost use Rattle.clubcard_top.specs.Replies.{done};
+ghost use Rattle.input_core.specs.Inputs.{WhichFailed};
+ghost use Rattle.clubcard_top.specs.Runs.{IsReply};
+
+use crate::answer::Answer;
+use crate::commands::refused;
+use crate::fault::unrebased;
+use crate::publishing::written;
+use input_core::ledger_in;
+use line_core::rebased as rebased_line;
+use octets_core::NoMemory;
+use outside_core::Depot;
+use publication_core::{BasePublication, Gate, publish_base};
+use std::alloc::Global;
+use std::thread::Threads;
+use word_core::Rebase;
+
+/// The answer where a chain begins anew: its part and the ledger after it, and how many they have of each.
+fn rebased<'a>(
+    alloc: Global,
+    rebase: &Rebase<'a>,
+    publication: &BasePublication,
+) -> Result<Answer<'a>, NoMemory>
+    ensures { IfOk result (λ a. reply_fields a ≡ done (base_done rebase.now publication.now)) }
+{
+    let sealed = publication.sealed();
+    let epoch = sealed.part().head().epoch();
+    let counts = publication.counts();
+    let line = rebased_line(
+        epoch,
+        counts.issuers,
+        counts.universe,
+        counts.revoked,
+        counts.pruned,
+    );
+    written(
+        alloc,
+        rebase.part(),
+        rebase.new_ledger(),
+        sealed,
+        publication.ledger(),
+        line,
+    )
+}
+
+/// The answer of `rebase`.
+pub fn answer_rebase<'a, R: Threads + Sync, G: Gate + Sync, D: Depot>(
+    rt: &R,
+    alloc: Global,
+    gate: &G,
+    rebase: &Rebase<'a>,
+    depot: &mut D,
+) -> Result<Answer<'a>, NoMemory>
+    ensures reply { IfOk result (λ a. IsReply (Command.Rebase rebase.now) (D.files depot.old)
+        (WhichFailed D.Depot depot.old depot.new) (reply_fields a)) }
+    ensures only_reads { OnlyReads D.Depot depot.old depot.new }
+{
+    let ledger = match ledger_in(alloc, depot, rebase.ledger()) {
+        Ok(ledger) => ledger,
+        Err(fault) => return refused(rebase.ledger(), fault),
+    };
+    match publish_base(rt, alloc, gate, ledger, rebase.moment(), rebase.workers()) {
+        Ok(publication) => rebased(alloc, rebase, &publication),
+        Err(fault) => refused(rebase.ledger(), unrebased(fault)),
+    }
+}
