@@ -24,6 +24,17 @@
 #
 #     clubcard rehearse QUERIES 1 JOB JOB
 #
+# Each authority's second certificate is of three days, and the others are of thirty. The chain begins anew without what
+# ends within ten days, and a third job goes on from it, whose CRLs revoke the last certificate of the first authority;
+# the certificates that are left are asked again:
+#
+#     clubcard rebase LEDGER MOMENT PART NEWLEDGER 1
+#     clubcard start PART STORE
+#     clubcard query STORE ..
+#     clubcard delta JOB LEDGER PART NEWLEDGER 1
+#     clubcard install STORE PART NEWSTORE
+#     clubcard query NEWSTORE ..
+#
 # It prints a line for each certificate that is asked, and ends with status 0 exactly where the two agree on all of
 # them. All files lie in a new folder, which is removed.
 set -eu
@@ -99,10 +110,12 @@ request() {
     quiet req "$@" -newkey ec -pkeyopt ec_paramgen_curve:P-256 -nodes
 }
 
-# Issues a certificate, N.pem, with these extensions.
+# Issues a certificate, N.pem, with these extensions. The second of an authority is of three days.
 issue() {
+    days=30
+    [ "$1" != 2 ] || days=3
     request -new -keyout leaf.key -out leaf.csr -subj "/CN=$1.$name.example"
-    quiet ca -batch -notext -extensions "$2" -in leaf.csr -out "$1.pem"
+    quiet ca -batch -notext -days "$days" -extensions "$2" -in leaf.csr -out "$1.pem"
 }
 
 # Makes an authority in a folder of its name: ca.pem, crl.pem and a certificate for each further word. The first serial
@@ -234,6 +247,28 @@ else
     echo "rehearse: other verdicts"
     differing=$((differing + 1))
 fi
+
+# The certificates that are left: all but the second ones.
+grep -v ' 2 ' certificates.txt >kept.txt
+wanted="pruned $(($(wc -l <certificates.txt) - $(wc -l <kept.txt)))"
+"$top/clubcard" rebase ledger2 "$((moment + 864000000))" part3 ledger3 1 >rebased
+cat rebased
+grep -q " $wanted\$" rebased || {
+    echo "rebase: not $wanted"
+    differing=$((differing + 1))
+}
+"$top/clubcard" start part3 store3
+cp kept.txt certificates.txt
+compare store3
+
+(cd oak && quiet ca -revoke 4.pem)
+while read -r name _; do
+    (cd "$name" && quiet ca -gencrl -out crl.pem)
+done <authorities.txt
+python3 "$top/tools/pack_job.py" --epoch 3 --moment "$moment" --range "$log" "$moment" "$((moment + 2000))" @crls job3
+"$top/clubcard" delta job3 ledger3 part4 ledger4 1
+"$top/clubcard" install store3 part4 store4
+compare store4
 
 echo "$differing certificates differ"
 [ "$differing" -eq 0 ]
