@@ -6,8 +6,8 @@ use clubcard_rows::calls::{
     put, says,
 };
 use clubcard_rows::files::{
-    CRL_05, CRL_05_08, CRL_NONE, K1, K2, LA, LB, LEDGER_DROPPED, LEDGER_GOOD, OLD_LEDGER_GOOD,
-    PART_ONE_EACH,
+    CRL_05, CRL_05_08, CRL_NONE, K1, K2, LA, LB, LEDGER_DROPPED, LEDGER_GOOD, LEDGER_REVOKED,
+    OLD_LEDGER_GOOD, PART_ONE_EACH, PART_REVOKED,
 };
 use clubcard_rows::jobs::JobText;
 use clubcard_top::Status;
@@ -265,34 +265,16 @@ fn a_date_at_the_moment_is_kept(rt: HostRuntime) -> Result<(), Fail> {
     Ok(())
 }
 
-/// The part a millisecond later: one block, of mode all.
-const PART_PRUNED: &str = "\
-    434c554243415244010000000000000000010000000000000000000000000000\
-    0000000000000000000000000000000000000001aaaaaaaaaaaaaaaaaaaaaaaa\
-    aaaaaaaaaaaaaaaaaaaaaaaaaaaaaaaaaaaaaaaa0000018bcfe568000000018b\
-    cfe56be800000001111111111111111111111111111111111111111111111111\
-    111111111111111101da82b3b0690711ee120227b798fe5a2a7fdf4b98418e78\
-    bf300309aa3f49d202";
-
-/// Its ledger, without 09.
-const LEDGER_PRUNED: &str = "\
-    434c55424c45444702010000000000000001da82b3b0690711ee120227b798fe\
-    5a2a7fdf4b98418e78bf300309aa3f49d2020001aaaaaaaaaaaaaaaaaaaaaaaa\
-    aaaaaaaaaaaaaaaaaaaaaaaaaaaaaaaaaaaaaaaa0000018bcfe568000000018b\
-    cfe56be800000001111111111111111111111111111111111111111111111111\
-    1111111111111111000000011111111111111111111111111111111111111111\
-    1111111111111111111111110105000000a21f29c84dae7c317c4bbf5c23dbad\
-    14373f57d91e7f1f4607259a0f9ae2d6e7";
-
 const PRUNED: &str = "rebase epoch 1 issuers 1 universe 1 revoked 1 pruned 1\n";
 
+// A millisecond later the part and the ledger are those of one_revoked, which never had 09.
 #[test]
 fn a_date_before_the_moment_is_pruned(rt: HostRuntime) -> Result<(), Fail> {
     let alloc = rt.alloc();
     let depot = &mut with_dates(&rt, alloc)?;
     assert!(rt; rebases(&rt, alloc, depot, "1700000000001", PRUNED)?);
-    assert!(rt; holds(alloc, depot, "P", &[PART_PRUNED])?);
-    assert!(rt; holds(alloc, depot, "M", &[LEDGER_PRUNED])?);
+    assert!(rt; holds(alloc, depot, "P", &[PART_REVOKED])?);
+    assert!(rt; holds(alloc, depot, "M", &[LEDGER_REVOKED])?);
     Ok(())
 }
 
@@ -311,7 +293,7 @@ fn shown_again(alloc: Global) -> Result<Vec<u8>, Fail> {
 fn a_pruned_certificate_is_late(rt: HostRuntime) -> Result<(), Fail> {
     let alloc = rt.alloc();
     let depot = &mut MemoryDepot::new(alloc);
-    put(alloc, depot, "L", &[LEDGER_PRUNED])?;
+    put(alloc, depot, "L", &[LEDGER_REVOKED])?;
     depot.put("J", &shown_again(alloc)?)?;
     let line =
         "epoch 2 part 1 issuers 1 universe 2 revoked 0 unread 0 uncovered 0 unenrolled 0 late 1 accepted 1\n";
