@@ -4,6 +4,7 @@
 #![tactic(auto)]
 
 mod hash;
+mod message;
 mod sha256_rows;
 mod shards;
 mod sizes;

@@ -4,27 +4,22 @@ ghost use Rattle.equation_core.specs.Rows.{row_text, sha256_row};
 ghost use Rattle.equation_core.specs.RowLaws.{sha256_row-is};
 
 use crate::hash::{EquationHash, Row};
-use ident_core::{Identity, MAX_SERIAL};
+use crate::message::{IDENTITY, put_identity};
+use ident_core::Identity;
 use sha2::{Digest, Sha256};
 
-/// The bytes of a row's message before the serial.
-const FRONT: usize = 41;
+/// The bytes of a row's message before the identity.
+const FRONT: usize = 8;
 
-/// The most bytes of a row's message.
-const MESSAGE: usize = FRONT + MAX_SERIAL;
-
-/// The message of a row, and zeros behind it: one piece, since the hasher takes longer over several.
-fn message_of(stage: u8, seed: u8, id: &Identity) -> [u8; MESSAGE]
-    ensures { take (FRONT + length id.now.serial) result ≡ row_text stage seed id.now }
+/// The message of a row, and zeros behind it.
+fn message_of(stage: u8, seed: u8, id: &Identity) -> [u8; FRONT + IDENTITY]
+    ensures { take (FRONT + 33 + length id.now.serial) result ≡ row_text stage seed id.now }
 {
-    let serial = id.serial.bytes();
-    let mut message = [0; MESSAGE];
+    let mut message = [0; FRONT + IDENTITY];
     message[..6].copy_from_slice(b"CCROW1");
     message[6] = stage;
     message[7] = seed;
-    message[8..40].copy_from_slice(id.issuer.bytes());
-    message[40] = serial.len() as u8;
-    message[FRONT..FRONT + serial.len()].copy_from_slice(serial);
+    put_identity(&mut message, FRONT, id);
     message
 }
 
@@ -42,7 +37,7 @@ impl EquationHash for Sha256Rows {
     // and 25 are the tag.
     fn row(&self, stage: u8, seed: u8, id: &Identity, starts: u32) -> Row {
         let message = message_of(stage, seed, id);
-        let len = FRONT + id.serial.bytes().len();
+        let len = FRONT + 33 + id.serial.bytes().len();
         let d = Sha256::digest(&message[..len]);
         let coeff = u128::from_be_bytes([
             d[0], d[1], d[2], d[3], d[4], d[5], d[6], d[7], d[8], d[9], d[10], d[11], d[12], d[13],

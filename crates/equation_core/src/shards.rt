@@ -1,12 +1,26 @@
-ghost use Rattle.std.specs.Prelude.{◌≡◌, ◌<◌, ◌≤◌, ◌^◌};
-ghost use Rattle.equation_core.specs.declared.shards.TheConstants.{MAX_SHIFT};
-ghost use Rattle.equation_core.specs.Shards.{shard};
+ghost use Rattle.std.specs.Prelude.{◌≡◌, ◌<◌, ◌≤◌, ◌^◌, ◌+◌, length, take};
+ghost use Rattle.equation_core.specs.declared.shards.TheConstants.{MAX_SHIFT, FRONT};
+ghost use Rattle.equation_core.specs.Shards.{shard, shard_text};
 
+use crate::message::{IDENTITY, put_identity};
 use ident_core::Identity;
 use sha2::{Digest, Sha256};
 
 /// The most bits that tell a shard.
 pub const MAX_SHIFT: u8 = 8;
+
+/// The bytes of a shard's message before the identity.
+const FRONT: usize = 7;
+
+/// The message of a shard, and zeros behind it.
+fn message_of(id: &Identity) -> [u8; FRONT + IDENTITY]
+    ensures { take (FRONT + 33 + length id.now.serial) result ≡ shard_text id.now }
+{
+    let mut message = [0; FRONT + IDENTITY];
+    message[..FRONT].copy_from_slice(b"CCSHARD");
+    put_identity(&mut message, FRONT, id);
+    message
+}
 
 /// The shard of an identity among `2^shift`: the number that the first `shift` bits of a digest (SHA-256, FIPS 180-4)
 /// spell. Digested are the mark `CCSHARD`, the issuer, the serial's length and the serial.
@@ -16,12 +30,8 @@ pub fn shard_of(id: &Identity, shift: u8) -> u8
     ensures value { result ≡ shard id.now shift }
     ensures below { result < 2 ^ shift }
 {
-    let serial = id.serial.bytes();
-    let mut hasher = Sha256::new();
-    hasher.update(b"CCSHARD");
-    hasher.update(id.issuer.bytes());
-    hasher.update(&[serial.len() as u8]);
-    hasher.update(serial);
-    let digest = hasher.finalize();
+    let message = message_of(id);
+    let len = FRONT + 33 + id.serial.bytes().len();
+    let digest = Sha256::digest(&message[..len]);
     (u32::from(digest[0]) >> (MAX_SHIFT - shift)) as u8
 }
