@@ -4,9 +4,11 @@ use Rattle.std.specs.declared.cmp.Ordering.{Ordering}
 use Rattle.std.specs.declared.cmp.Ordering.TheVariants.{Less, Equal, Greater}
 use Rattle.std.specs.Ordering.{nat_cmp, ordering_then, match_ordering}
 use Rattle.std.specs.Cmp.{IsTotalOrder}
+use Rattle.std.specs.List.{slice_get}
+use Rattle.std.specs.Prelude.{IfSome, IsNone, is_some}
 use Rattle.std.specs.List.Sorted.{IsStrictlySortedBy}
 use Rattle.std.specs.BTreeSet.{insert_key}
-use Rattle.std.proofs.Common.{◌≡◌, ℕ, ◌⊎◌, inl, inr, ⊎_elim, List, [], ◌∷◌, length, true, refl, sym, ◌∙◌, subst, rules}
+use Rattle.std.proofs.Common.{◌≡◌, ℕ, ◌⊎◌, inl, inr, ⊎_elim, List, [], ◌∷◌, length, true, false, Option, Some, None, refl, sym, ◌∙◌, subst, rules}
 use Rattle.std.proofs.lemmas.Slice.Eq.{bytes_eq-Decides}
 use Rattle.std.proofs.lemmas.Bool.{and_parts, and_from}
 use Rattle.std.proofs.lemmas.Map.Lookups.{CmpEqualImpliesEq, exact_bytes}
@@ -15,7 +17,7 @@ use Rattle.ident_core.specs.declared.identity.Identity.{Identity}
 use Rattle.ident_core.specs.Order.{is_same, octets_cmp, identity_cmp}
 use Rattle.sets_core.specs.Among.{Among}
 use Rattle.sets_core.specs.Sets.{has, has_key, all_inserted, with_all, key_set}
-use Rattle.sets_core.proofs.Elements.{found, any_at}
+use Rattle.sets_core.proofs.Elements.{found, any_at, Among-from_place}
 use Rattle.sets_core.proofs.Order.{sorted_all_inserted, sorted_none}
 
 pub bytes_same : (a b : List ℕ) → bytes_eq a b ≡ true → a ≡ b
@@ -117,6 +119,11 @@ Among-from_has_key ks k h = let f = found (bytes_eq k) ks h in subst (λ y. Amon
 
 pub has_key-from_Among : (ks : List (List ℕ)) (k : List ℕ) → Among ks k → has_key ks k ≡ true
 has_key-from_Among ks k h = any_at (bytes_eq k) ks k h (bytes_refl k)
+
+-- a search that gives a key's place, or none where there is none, tells whether it is there
+pub has_key-from_place : (ks : List (List ℕ)) (k : List ℕ) (o : Option ℕ) → IfSome o (λ i. slice_get ks i ≡ Some k) → (IsNone o → has_key ks k ≡ false) → is_some o ≡ has_key ks k
+has_key-from_place ks k (Some i) some none = sym (has_key-from_Among ks k (Among-from_place ks i k some))
+has_key-from_place ks k None some none = sym (none refl)
 
 pub Among-key_set : (ks : List (List ℕ)) (k : List ℕ) → Among ks k → Among (key_set ks) k
 Among-key_set ks k h = Among-in_all_inserted octets_cmp exact_bytes ks [] k (inl h)

@@ -21,6 +21,19 @@ pub fn place_of_key(keys: &[Key32], key: &Key32) -> Option<usize>
     }
 }
 
+/// The same, where a guess tells the place, as that of a key asked for before does. A search is made only where another
+/// key has that place.
+pub fn place_of_key_near(keys: &[Key32], guess: usize, key: &Key32) -> Option<usize>
+    requires sorted { IsStrictlySortedBy octets_cmp keys.now }
+    ensures some { IfSome result (λ i. slice_get keys.now i ≡ Some key.now) }
+    ensures none { IsNone result → has_key keys.now key.now ≡ false }
+{
+    match keys.get(guess) {
+        Some(there) if *there == *key => Some(guess),
+        _ => place_of_key(keys, key),
+    }
+}
+
 /// Whether ascending keys hold the key. A binary search.
 pub fn holds_key(keys: &[Key32], key: &Key32) -> bool
     requires sorted { IsStrictlySortedBy octets_cmp keys.now }
