@@ -4,10 +4,9 @@ ghost use Rattle.std.specs.Prelude.{◌≡◌, ◌≤◌, ◌+◌, ◌*◌, ◌+
 ghost use Rattle.std.specs.Prelude.{IfSome};
 ghost use Rattle.std.specs.Int.{w64};
 ghost use Rattle.std.specs.Int.RustNames.{FitsSigned};
-ghost use Rattle.ident_core.specs.declared.bounds.TheConstants.{MAX_RANGES, MAX_ISSUERS, MAX_SERIAL};
-ghost use Rattle.ident_core.specs.declared.bounds.TheConstants.{MAX_PARTS, MAX_IDENTITIES};
+ghost use Rattle.ident_core.specs.declared.bounds.TheConstants.{MAX_RANGES, MAX_ISSUERS, MAX_PARTS};
 ghost use Rattle.ident_core.specs.declared.layout.TheConstants.{RANGE_BYTES};
-ghost use Rattle.ledger_core.specs.declared.encode.TheConstants.{PART, ISSUER, ITEM, DATE};
+ghost use Rattle.ledger_core.specs.declared.encode.TheConstants.{PART, ISSUER};
 ghost use Rattle.ledger_core.specs.LedgerFields.{part_fields};
 ghost use Rattle.ledger_core.specs.LedgerText.{last_number, part_text, date_text, item_text, body_text};
 ghost use Rattle.ledger_core.specs.LedgerText.{ledger_text};
@@ -16,7 +15,7 @@ ghost use Rattle.ledger_core.specs.Fitting.{IsKey, IsSmall, PartFits, ItemFits, 
 
 use crate::fields::{LedgerItem, LedgerPart};
 use crate::ledger::Ledger;
-use ident_core::{RANGE_BYTES, put_ranges};
+use ident_core::{MAX_SERIAL, RANGE_BYTES, put_ranges};
 use octets_core::{Key32, NoMemory, put_bytes, put_u8, put_u16, put_u32, put_u64};
 use sha2::{Digest, Sha256};
 use std::alloc::Global;
@@ -33,8 +32,8 @@ pub(crate) const ISSUER: usize = 32;
 /// The bytes of an identity without its serial and its date.
 pub(crate) const ITEM: usize = 35;
 
-/// The bytes of a date, where there is one.
-const DATE: usize = 9;
+/// The bytes of an identity with the longest serial and a date.
+const LONGEST_ITEM: usize = ITEM + MAX_SERIAL + 9;
 
 /// The number that stands for no last place.
 pub(crate) const NONE: u8 = 255;
@@ -54,26 +53,6 @@ fn parts_len(parts: &[LedgerPart]) -> usize
     let mut total = 0;
     for part in parts {
         total += part_len(part);
-    }
-    total
-}
-
-fn date_len(until: Option<i64>) -> usize
-    ensures { result ≤ DATE }
-{
-    match until {
-        None => 1,
-        Some(_) => DATE,
-    }
-}
-
-fn items_len(items: &[LedgerItem]) -> usize
-    requires { length items.now ≤ MAX_IDENTITIES }
-    ensures { result ≤ length items.now * (ITEM + MAX_SERIAL + DATE) }
-{
-    let mut total = 0;
-    for item in items {
-        total += ITEM + item.id.serial.bytes().len() + date_len(item.until);
     }
     total
 }
@@ -179,17 +158,27 @@ fn put_body(out: &mut Vec<u8>, ledger: &Ledger) -> Result<(), NoMemory>
     Ok(())
 }
 
-/// The text of the ledger in version 2, of which the last 32 bytes are the SHA-256 (FIPS 180-4) of those before them.
-/// Memory is asked for once, for the whole text.
+/// The text of the ledger in version 2 but for its last 32 bytes, which are the SHA-256 (FIPS 180-4) of those before
+/// them, so that they can be drawn while these are written. Memory is asked for once, for the longest text with as many
+/// identities and for the digest: what a text leaves of it isn't touched.
+pub fn encode_ledger_body(alloc: Global, ledger: &Ledger) -> Result<Vec<u8>, NoMemory>
+    ensures text { IfOk result (λ text. text.items ≡ body_text 2 ledger.now) }
+    ensures fits { OnOk result (Fits ledger.now) }
+{
+    let room = FRAME + parts_len(ledger.parts()) + ledger.items().len() * LONGEST_ITEM;
+    let mut out = Vec::with_capacity(alloc, room)?;
+    put_body(&mut out, ledger)?;
+    Ok(out)
+}
+
+/// The text of the ledger in version 2, with its digest. Memory is asked for once.
 #[tactic(auto, unfolding(crate::specs::LedgerText::text_in))]
 pub fn encode_ledger(alloc: Global, ledger: &Ledger) -> Result<Vec<u8>, NoMemory>
     ensures text { IfOk result (λ text. text.items ≡ ledger_text ledger.now) }
     ensures fits { OnOk result (Fits ledger.now) }
     ensures read_back { IfOk result (λ text. layout text.items 0 ≡ Ok (ledger.now, length text.items)) }
 {
-    let room = FRAME + parts_len(ledger.parts()) + items_len(ledger.items());
-    let mut out = Vec::with_capacity(alloc, room)?;
-    put_body(&mut out, ledger)?;
+    let mut out = encode_ledger_body(alloc, ledger)?;
     let digest = Sha256::digest(out.as_slice());
     put_bytes(&mut out, &digest)?;
     Ok(out)
