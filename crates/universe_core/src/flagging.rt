@@ -15,7 +15,7 @@ use crate::marking::listed_now;
 use job_core::JobCrl;
 use ledger_core::LedgerItem;
 use octets_core::Key32;
-use sets_core::holds_key;
+use sets_core::place_of_key_near;
 use std::alloc::{AllocError, Global};
 
 /// Beside each member whether it is revoked, and how many are of the universe.
@@ -32,11 +32,12 @@ fn is_flagged(member: &LedgerItem, settled: bool, listed: bool) -> bool
     (was || listed) && !settled
 }
 
-fn is_enrolled(issuers: &[Key32], member: &LedgerItem) -> bool
+/// The place of a member's issuer, if it is enrolled, where a guess tells it. A search is made only where it doesn't.
+fn place_near(issuers: &[Key32], guess: usize, member: &LedgerItem) -> Option<usize>
     requires { IsStrictlySortedBy octets_cmp issuers.now }
-    ensures { result ≡ has_key issuers.now member.now.id.issuer }
+    ensures { is_some result ≡ has_key issuers.now member.now.id.issuer }
 {
-    holds_key(issuers, &member.id.issuer)
+    place_of_key_near(issuers, guess, &member.id.issuer)
 }
 
 fn both(enrolled: bool, flagged: bool) -> bool
@@ -71,11 +72,15 @@ fn flag(
 {
     let mut revoked = Vec::with_capacity(alloc, members.len())?;
     let mut universe = 0;
+    let mut near = 0;
     for i in 0..members.len() {
-        let enrolled = is_enrolled(issuers, &members[i]);
+        // The members ascend, so that neighbours mostly have one issuer.
+        let place = place_near(issuers, near, &members[i]);
+        let enrolled = place.is_some();
         let flagged = is_flagged(&members[i], settled[i], listed[i]);
         revoked.push(both(enrolled, flagged))?;
         universe += one(enrolled);
+        near = place.unwrap_or(near);
     }
     Ok(Flags { revoked, universe })
 }

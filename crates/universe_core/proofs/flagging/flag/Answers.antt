@@ -12,10 +12,10 @@ loop-i-preserved c = record {
   revoked = λ s g es eg.
       flags_more c.args.issuers.now c.args.members.now c.args.settled.now c.args.listed.now c.loop-i.revoked.items c.push.new.self.items c.loop-i.i
       c.index-members-i.result c.index-members-i-in-loop-i.result _ _ c.both.result s g c.loop-i-test.true c.index-members-i.is c.index-members-i-in-loop-i.is es eg
-      (c.both.ensures ∙ (λ k. c.is_enrolled-enrolled.ensures k && c.is_flagged-flagged.ensures k)) (c.loop-i.invariant.revoked s g es eg) c.in_ok-push.ensures.items;
+      (c.both.ensures ∙ (λ k. (c.is_some-enrolled.ensures ∙ c.place_near-place.ensures) k && c.is_flagged-flagged.ensures k)) (c.loop-i.invariant.revoked s g es eg) c.in_ok-push.ensures.items;
   beside = (let n = ap length c.in_ok-push.ensures.items in let b = c.loop-i.invariant.beside in omega (arith, c.in_ok-push.ensures.len));
   universe = count_more (λ (m : LedgerItem). has_key c.args.issuers.now m.id.issuer) c.args.members.now c.loop-i.i c.index-members-i.result c.loop-i.universe _
-      c.is_enrolled-enrolled.result c.loop-i-test.true c.index-members-i.is c.loop-i.invariant.universe c.is_enrolled-enrolled.ensures
+      c.is_some-enrolled.result c.loop-i-test.true c.index-members-i.is c.loop-i.invariant.universe (c.is_some-enrolled.ensures ∙ c.place_near-place.ensures)
       (ap (λ n. c.loop-i.universe + n) c.one-universe.ensures);
 }
 
