@@ -5,6 +5,8 @@ use Rattle.std.specs.Prelude.{OnOk, OnErr}
 use Rattle.std.proofs.lemmas.List.{take-append-drop, take_more}
 use Rattle.outside_core.specs.Files.{Files, putting, extending, Torn}
 use Rattle.outside_core.specs.declared.depot.Failed.{Failed}
+use Rattle.outside_core.proofs.Appending.{extending-twice}
+use Rattle.sample_core.proofs.Moving.{Torn-behind}
 use Rattle.clubcard_top.proofs.Files.{get-other, extending-putting, Torn-putting}
 use Rattle.clubcard_top.specs.ReplyFields.{OutputFields}
 use Rattle.clubcard_top.specs.Runs.{with_outputs, IsLeft, IsTorn, KeepsAllBut}
@@ -95,3 +97,19 @@ left-torn told mid new o (Err e) begun torn = inr (Torn-putting told new o.name 
 pub left-begun : (told new : Option Files) (o : OutputFields) → (new ≡ told) ⊎ (new ≡ putting told o.name []) → IsLeft told new o
 left-begun told new o (inl same) = inl same
 left-begun told new o (inr begun) = inr (0, omega arith, begun)
+
+-- ---- a text and its digest
+
+-- the text is there, and its digest was written behind it
+pub extending-digested : (told mid new : Option Files) (name text digest sum : List ℕ) (r : Result (Unit {0}) Failed) → mid ≡ extending told name text → digest ≡ sum
+    → OnOk r (new ≡ extending mid name digest) → OnOk r (new ≡ extending told name (text ++ sum))
+extending-digested told mid new name text digest sum (Ok x) before drawn all =
+    all ∙ ap (λ (t : Option Files). extending t name digest) before ∙ extending-twice told name text digest ∙ ap (λ (d : List ℕ). extending told name (text ++ d)) drawn
+extending-digested told mid new name text digest sum (Err e) before drawn all = tt
+
+-- the text is there, and the write of its digest behind it failed
+pub torn-digested : (told mid new : Option Files) (name text digest sum : List ℕ) (r : Result (Unit {0}) Failed) → mid ≡ extending told name text → digest ≡ sum
+    → OnErr r (Torn mid new name digest) → OnErr r (Torn told new name (text ++ sum))
+torn-digested told mid new name text digest sum (Ok x) before drawn torn = tt
+torn-digested told mid new name text digest sum (Err e) before drawn torn =
+    subst (λ (d : List ℕ). Torn told new name (text ++ d)) drawn (Torn-behind told mid new name text digest before torn)

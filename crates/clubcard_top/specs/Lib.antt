@@ -1,5 +1,6 @@
 pub mod Statuses
 pub mod ReplyFields
+pub mod Digested
 pub mod Faults
 pub mod Gathers
 pub mod PageFiles

@@ -11,6 +11,7 @@ use crate::reply::Reply;
 use line_core::{Message, Status, about_file, write_sealed};
 use outside_core::{Depot, Failed, Sink, write_all};
 use part_codec::Sealed;
+use std::thread::Threads;
 
 /// What a command answers.
 #[derive(Drop)]
@@ -74,7 +75,8 @@ fn send_part<K: Sink>(sealed: &Sealed, out: &mut K) -> Status
 }
 
 /// Writes the outputs, and then sends the reply, or the line that says which can't be written.
-fn send_files<D: Depot, K: Sink>(
+fn send_files<R: Threads, D: Depot, K: Sink>(
+    rt: &R,
     outputs: &[Output<'_>],
     reply: &Reply<'_>,
     depot: &mut D,
@@ -88,7 +90,7 @@ fn send_files<D: Depot, K: Sink>(
     ensures later_out { K.faults out.old ≤ K.faults out.new }
 {
     let status = reply.status();
-    match write_outputs(outputs, depot) {
+    match write_outputs(rt, outputs, depot) {
         None => send_message(reply.message(), status, out),
         Some(name) => send_message(&about_file("write-fault", name), Status::WRITE_FAULT, out),
     }
@@ -115,8 +117,13 @@ fn send_sample<D: Depot, K: Sink>(
     }
 }
 
-/// Sends an answer. No memory is taken.
-pub fn send<D: Depot, K: Sink>(answer: Answer<'_>, depot: &mut D, out: &mut K) -> Status
+/// Sends an answer. No memory is wanted.
+pub fn send<R: Threads, D: Depot, K: Sink>(
+    rt: &R,
+    answer: Answer<'_>,
+    depot: &mut D,
+    out: &mut K,
+) -> Status
     ensures ends { IsSent (writing D.Depot depot.old depot.new) (printing K.Sink out.old out.new result.0)
         (reply_fields answer.entry) }
     ensures own { IsTrue (statuses.is_one_of statuses.of_replies (reply_fields answer.entry).status) }
@@ -128,7 +135,7 @@ pub fn send<D: Depot, K: Sink>(answer: Answer<'_>, depot: &mut D, out: &mut K) -
         Answer::Reply(reply) => send_reply(&reply, out),
         Answer::Lines(text) => send_text(&text, Status::DONE, out),
         Answer::Part(sealed) => send_part(&sealed, out),
-        Answer::Files(outputs, reply) => send_files(&outputs, &reply, depot, out),
+        Answer::Files(outputs, reply) => send_files(rt, &outputs, &reply, depot, out),
         Answer::Sample(output, reply) => send_sample(output, &reply, depot, out),
     }
 }

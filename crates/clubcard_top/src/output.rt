@@ -1,28 +1,34 @@
-//! Files that a command writes. All that is written is made before the first is begun.
+//! Files that a command writes. All memory that they need is taken before the first is begun.
 
-ghost use Rattle.std.specs.Prelude.{◌≡◌, ◌≤◌, [], ◌∷◌, OnOk, OnErr, IfSome, IsNone};
+ghost use Rattle.std.specs.Prelude.{◌≡◌, ◌≤◌, ◌++◌, [], ◌∷◌, OnOk, OnErr, IfSome, IsNone};
+ghost use Rattle.sha2.specs.Sha256.{sha256};
 ghost use Rattle.outside_core.specs.Effects.{OnlyWrites};
-ghost use Rattle.outside_core.specs.Files.{Rose, putting};
+ghost use Rattle.outside_core.specs.Files.{Rose, Torn, extending, putting};
 ghost use Rattle.sample_core.specs.Sample.{sample_text};
 ghost use Rattle.clubcard_top.specs.Runs.{with_outputs, IsLeft, IsTorn};
 
 use outside_core::{Depot, Failed, append_all};
 use sample_core::SampleJob;
+use sha2::{Digest, Sha256};
 use std::marker::Model;
+use std::thread::{Threads, join_mut};
 
 /// A file to be written: its name, which the words lend, and the bytes that it then holds.
 #[derive(Debug, Drop)]
 pub struct Output<'a> {
     name: &'a str,
-    bytes: Vec<u8>,
+    text: Vec<u8>,
+    // Whether the text's digest stands behind it. It is drawn as the text is written.
+    digested: bool,
 }
 
 impl<'a> Model for Output<'a> {
     ghost use Rattle.clubcard_top.specs.ReplyFields.{OutputFields};
+    ghost use Rattle.clubcard_top.specs.Digested.{bytes_of};
 
     ghost Value = { OutputFields };
 
-    ghost view = { λ o. record { name = o.name.now; bytes = o.bytes.items } };
+    ghost view = { λ o. record { name = o.name.now; bytes = bytes_of o.text.items o.digested } };
 }
 
 impl<'a> Output<'a> {
@@ -30,7 +36,22 @@ impl<'a> Output<'a> {
     pub fn new(name: &'a str, bytes: Vec<u8>) -> Output<'a>
         ensures { result ≡ record { name = name.now; bytes = bytes.items } }
     {
-        Output { name, bytes }
+        Output {
+            name,
+            text: bytes,
+            digested: false,
+        }
+    }
+
+    /// The output of this text and its SHA-256 (FIPS 180-4) to the file of this name.
+    pub fn digested(name: &'a str, text: Vec<u8>) -> Output<'a>
+        ensures { result ≡ record { name = name.now; bytes = text.items ++ sha256 text.items } }
+    {
+        Output {
+            name,
+            text,
+            digested: true,
+        }
     }
 
     /// The file's name.
@@ -40,28 +61,68 @@ impl<'a> Output<'a> {
         self.name
     }
 
-    /// The bytes that it then holds.
-    fn bytes(&self) -> &[u8]
-        ensures { result.now ≡ self.now.bytes }
+    /// Adds the bytes behind what the file holds.
+    fn append<R: Threads, D: Depot>(&self, rt: &R, depot: &mut D) -> Result<(), Failed>
+        ensures ok { OnOk result (D.files depot.new ≡ extending (D.files depot.old) self.now.name self.now.bytes) }
+        ensures err { OnErr result (Torn (D.files depot.old) (D.files depot.new) self.now.name self.now.bytes) }
+        ensures cause { OnErr result (Rose (D.write_faults depot.old) (D.write_faults depot.new)) }
+        ensures only_writes { OnlyWrites D.Depot depot.old depot.new }
     {
-        self.bytes.as_slice()
+        if self.digested {
+            return append_digested(rt, depot, self.name, &self.text);
+        }
+        append_all(depot, self.name, &self.text)
     }
 }
 
-/// Writes one output: begins its file, and offers it all bytes as one text.
-fn write_output<D: Depot>(output: &Output<'_>, depot: &mut D) -> Result<(), Failed>
+/// Adds a text and its digest behind what a file holds. One thread draws the digest while another writes the text.
+fn append_digested<R: Threads, D: Depot>(
+    rt: &R,
+    depot: &mut D,
+    name: &str,
+    text: &[u8],
+) -> Result<(), Failed>
+    ensures ok { OnOk result (D.files depot.new ≡ extending (D.files depot.old) name.now (text.now ++ sha256 text.now)) }
+    ensures err { OnErr result (Torn (D.files depot.old) (D.files depot.new) name.now (text.now ++ sha256 text.now)) }
+    ensures cause { OnErr result (Rose (D.write_faults depot.old) (D.write_faults depot.new)) }
+    ensures only_writes { OnlyWrites D.Depot depot.old depot.new }
+{
+    let mut draw = || -> [u8; 32]
+        ensures { result ≡ sha256 text.entry.now }
+    { Sha256::digest(text) };
+    let mut write = || -> Result<(), Failed>
+        ensures { OnOk result (D.files depot.exit.now ≡ extending (D.files depot.entry.now) name.entry.now text.entry.now)
+            × OnErr result (Torn (D.files depot.entry.now) (D.files depot.exit.now) name.entry.now text.entry.now)
+            × OnErr result (Rose (D.write_faults depot.entry.now) (D.write_faults depot.exit.now))
+            × OnlyWrites D.Depot depot.entry.now depot.exit.now }
+    { append_all(depot, name, text) };
+    let (digest, written) = join_mut(rt, &mut draw, &mut write);
+    written?;
+    append_all(depot, name, &digest)
+}
+
+/// Writes one output: begins its file, and adds all bytes.
+fn write_output<R: Threads, D: Depot>(
+    rt: &R,
+    output: &Output<'_>,
+    depot: &mut D,
+) -> Result<(), Failed>
     ensures ok { OnOk result (D.files depot.new ≡ putting (D.files depot.old) output.now.name output.now.bytes) }
     ensures err { OnErr result (IsLeft (D.files depot.old) (D.files depot.new) output.now) }
     ensures cause { OnErr result (Rose (D.write_faults depot.old) (D.write_faults depot.new)) }
     ensures only_writes { OnlyWrites D.Depot depot.old depot.new }
 {
     depot.begin(output.name())?;
-    append_all(depot, output.name(), output.bytes())
+    output.append(rt, depot)
 }
 
 /// Writes the outputs in their order, each once the one before it is whole, and answers the name of the first that
 /// can't be written.
-pub fn write_outputs<'a, D: Depot>(outputs: &[Output<'a>], depot: &mut D) -> Option<&'a str>
+pub fn write_outputs<'a, R: Threads, D: Depot>(
+    rt: &R,
+    outputs: &[Output<'a>],
+    depot: &mut D,
+) -> Option<&'a str>
     ensures all { IsNone result → D.files depot.new ≡ with_outputs (D.files depot.old) outputs.now }
     ensures torn { IfSome result (λ name. IsTorn (D.files depot.old) (D.files depot.new) outputs.now name.now) }
     ensures cause { IfSome result (λ name. Rose (D.write_faults depot.old) (D.write_faults depot.new)) }
@@ -69,7 +130,7 @@ pub fn write_outputs<'a, D: Depot>(outputs: &[Output<'a>], depot: &mut D) -> Opt
     ensures only_writes { OnlyWrites D.Depot depot.old depot.new }
 {
     for output in outputs {
-        match write_output(output, depot) {
+        match write_output(rt, output, depot) {
             Ok(()) => {}
             Err(Failed) => return Some(output.name()),
         }

@@ -2,6 +2,7 @@
 
 ghost use Rattle.std.specs.Prelude.{◌≡◌, IfOk};
 ghost use Rattle.outside_core.specs.Effects.{OnlyReads};
+ghost use Rattle.ledger_core.specs.LedgerText.{ledger_text};
 ghost use Rattle.word_core.specs.declared.command.Command.{Command};
 ghost use Rattle.clubcard_top.specs.Commands.{both_files, publication_done};
 ghost use Rattle.clubcard_top.specs.Answering.{reply_fields};
@@ -15,7 +16,7 @@ use crate::fault::unpublished;
 use crate::output::Output;
 use crate::reply::Reply;
 use input_core::{job_in, ledger_in};
-use ledger_core::{Ledger, encode_ledger};
+use ledger_core::{Ledger, encode_ledger, encode_ledger_body};
 use line_core::{Line, reported};
 use octets_core::NoMemory;
 use outside_core::Depot;
@@ -24,6 +25,23 @@ use publication_core::{Gate, Publication, publish_after, publish_first};
 use std::alloc::Global;
 use std::thread::Threads;
 use word_core::{Delta, Snapshot};
+
+/// The output of a ledger to the file of this name. More workers than one draw its digest as it is written.
+fn ledger_output<'a>(
+    alloc: Global,
+    name: &'a str,
+    ledger: &Ledger,
+    workers: u32,
+) -> Result<Output<'a>, NoMemory>
+    ensures { IfOk result (λ o. o ≡ record { name = name.now; bytes = ledger_text ledger.now }) }
+{
+    if workers > 1 {
+        let text = encode_ledger_body(alloc, ledger)?;
+        return Ok(Output::digested(name, text));
+    }
+    let bytes = encode_ledger(alloc, ledger)?;
+    Ok(Output::new(name, bytes))
+}
 
 /// The answer where a part and the ledger after it are written, to files of these names, and this line once they are
 /// whole.
@@ -34,14 +52,15 @@ pub(crate) fn written<'a>(
     sealed: &Sealed,
     after: &Ledger,
     line: Line,
+    workers: u32,
 ) -> Result<Answer<'a>, NoMemory>
     ensures { IfOk result (λ a. reply_fields a ≡ done (both_files part.now ledger.now sealed.now after.now line)) }
 {
     let part_bytes = encode_part(alloc, sealed)?;
-    let ledger_bytes = encode_ledger(alloc, after)?;
+    let ledger_output = ledger_output(alloc, ledger, after, workers)?;
     let mut outputs = Vec::with_capacity(alloc, 2)?;
     outputs.push(Output::new(part, part_bytes))?;
-    outputs.push(Output::new(ledger, ledger_bytes))?;
+    outputs.push(ledger_output)?;
     Ok(Answer::Files(outputs, Reply::done(line)))
 }
 
@@ -51,13 +70,22 @@ fn published<'a>(
     part: &'a str,
     ledger: &'a str,
     publication: &Publication,
+    workers: u32,
 ) -> Result<Answer<'a>, NoMemory>
     ensures { IfOk result (λ a. reply_fields a ≡ done (publication_done part.now ledger.now publication.now)) }
 {
     let sealed = publication.sealed();
     let epoch = sealed.part().head().epoch();
     let report = reported(epoch, publication.place(), publication.counts());
-    written(alloc, part, ledger, sealed, publication.ledger(), report)
+    written(
+        alloc,
+        part,
+        ledger,
+        sealed,
+        publication.ledger(),
+        report,
+        workers,
+    )
 }
 
 /// The answer of `snapshot`.
@@ -77,7 +105,13 @@ pub fn answer_snapshot<'a, R: Threads + Sync, G: Gate + Sync, D: Depot>(
         Err(fault) => return refused(snapshot.job(), fault),
     };
     match publish_first(rt, alloc, gate, job, snapshot.workers()) {
-        Ok(publication) => published(alloc, snapshot.part(), snapshot.ledger(), &publication),
+        Ok(publication) => published(
+            alloc,
+            snapshot.part(),
+            snapshot.ledger(),
+            &publication,
+            snapshot.workers(),
+        ),
         Err(fault) => refused(snapshot.job(), unpublished(fault)),
     }
 }
@@ -103,7 +137,13 @@ pub fn answer_delta<'a, R: Threads + Sync, G: Gate + Sync, D: Depot>(
         Err(fault) => return refused(delta.ledger(), fault),
     };
     match publish_after(rt, alloc, gate, ledger, job, delta.workers()) {
-        Ok(publication) => published(alloc, delta.part(), delta.new_ledger(), &publication),
+        Ok(publication) => published(
+            alloc,
+            delta.part(),
+            delta.new_ledger(),
+            &publication,
+            delta.workers(),
+        ),
         Err(fault) => refused(delta.job(), unpublished(fault)),
     }
 }

@@ -47,6 +47,7 @@ fn rebased<'a>(
         sealed,
         publication.ledger(),
         line,
+        rebase.workers(),
     )
 }
 

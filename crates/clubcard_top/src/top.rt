@@ -80,7 +80,7 @@ fn run_command<R: Threads + Sync, G: Gate + Sync, D: Depot, K: Sink>(
     ensures later_out { K.faults out.old ≤ K.faults out.new }
 {
     match answer_for(rt, alloc, gate, command, depot) {
-        Ok(answer) => send(answer, depot, out),
+        Ok(answer) => send(rt, answer, depot, out),
         Err(NoMemory) => Status::NO_MEMORY,
     }
 }
@@ -139,7 +139,7 @@ pub fn run_gated<R: Threads + Sync, D: Depot, K: Sink, G: Gate + Sync>(
 ///
 /// Each clause is a record of promises (`specs/Promises.antt`), and each promise is of the one `call` that this is: its
 /// words, the files and the text before it and after it, its status, and the faults that were counted. Want of memory
-/// alone is free, and no memory is taken once the first output is begun.
+/// alone is free, and it doesn't come once the first output is begun.
 pub fn run<R: Threads + Sync, D: Depot, K: Sink>(
     rt: &R,
     alloc: Global,
