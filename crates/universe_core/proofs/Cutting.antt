@@ -1,5 +1,8 @@
 -- The group of an issuer, cut from an ascending list.
+use Rattle.std.specs.List.{AllZip}
 use Rattle.std.specs.List.Sorted.{IsStrictlySortedBy, IsPartitionedBy}
+use Rattle.std.specs.Prelude.{IfOk, MatchResult, Ok, Err}
+use Rattle.std.specs.declared.result.Result.{Result}
 use Rattle.std.specs.declared.cmp.Ordering.TheVariants.{Less, Equal}
 use Rattle.std.specs.Ordering.{nat_cmp, is_lt, ordering_then}
 use Rattle.std.proofs.Common.{◌≡◌, ℕ, zero, suc, ◌+◌, ◌-◌, ◌≤◌, ◌<◌, ◌⊎◌, inl, inr, ⊎_elim, List, [], ◌∷◌, ◌++◌, map, length, get_or, take, drop, Bool, true}
@@ -66,3 +69,19 @@ made_more g f xs i x old new y l e a b n =
 
 pub made_all : {A C : Type 0} (g : A → C) (xs : List A) (i : ℕ) → length xs ≤ i → map g (take i xs) ≡ map g xs
 made_all g xs i l = ap (map g) (take_all i xs l)
+
+-- ---- what is made of each, where nothing failed
+
+made_ok : {A B C : Type 0} (E : Type 0) (g : A → C) (f : B → C) (xs : List A) (ys : List B) → AllZip (λ x (r : Result B E). IfOk r (λ y. f y ≡ g x)) xs (map Ok ys)
+    → map f ys ≡ map g xs
+made_ok E g f [] [] h = refl
+made_ok E g f [] (y ∷ ys) h = absurd h
+made_ok E g f (x ∷ xs) [] h = absurd h
+made_ok E g f (x ∷ xs) (y ∷ ys) h = ap (λ z. z ∷ map f ys) h.0 ∙ ap (λ zs. g x ∷ zs) (made_ok E g f xs ys h.1)
+
+pub collected_ok : {A B C E V : Type 0} (g : A → C) (f : B → C) (items : V → List B) (xs : List A) (rs : List (Result B E)) (r : Result V E) (bad : E → Type 0)
+    → MatchResult r (λ v. (ys : List B) × (rs ≡ map Ok ys) × (items v ≡ ys)) bad
+    → AllZip (λ x (s : Result B E). IfOk s (λ y. f y ≡ g x)) xs rs → IfOk r (λ v. map f (items v) ≡ map g xs)
+collected_ok {E = E} g f items xs rs (Ok v) bad m a =
+    ap (map f) m.2 ∙ made_ok E g f xs m.0 (subst (λ zs. AllZip (λ x (s : Result _ E). IfOk s (λ y. f y ≡ g x)) xs zs) m.1 a)
+collected_ok g f items xs rs (Err e) bad m a = tt

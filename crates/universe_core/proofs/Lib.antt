@@ -9,6 +9,7 @@ pub mod Searching
 pub mod Issuers
 pub mod Enrolled
 pub mod Revoking
+pub mod Joining
 pub mod Cutting
 pub mod Tallies
 pub mod Beginning

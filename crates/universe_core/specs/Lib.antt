@@ -15,6 +15,7 @@ pub mod Reading
 pub mod Placing
 pub mod Sorting
 pub mod Marking
+pub mod Flagging
 pub mod Merging
 pub mod Judging
 pub mod Members

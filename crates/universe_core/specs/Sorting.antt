@@ -1,6 +1,5 @@
 -- Read entries in the order of their identities.
 use Rattle.std.specs.Prelude.{ℕ, List, All, IsPermutation}
-use Rattle.std.specs.Global.{Vec}
 use Rattle.std.specs.List.Sorted.{IsStrictlySortedBy}
 use Rattle.ident_core.specs.Order.{octets_cmp}
 use Rattle.ident_core.specs.declared.range.Range.{Range}
@@ -13,7 +12,3 @@ pub record IsSortOf (old new : List ReadEntry) : Type 0 where
   pub same : IsPermutation old new
   pub rising : (issuers : List (List ℕ)) (ranges : List Range) → IsStrictlySortedBy octets_cmp issuers → All (IsPlaced issuers ranges) old
       → IsRising (entries_of issuers ranges new)
-
--- whichever entries the call is given, it may be, and it sorts them
-abbrev pub Sorts : (Vec ReadEntry → Type 0) → (Vec ReadEntry → Vec ReadEntry → Type 0) → Type 0
-Sorts pre post = (es : Vec ReadEntry) → pre es × ((sorted : Vec ReadEntry) → post es sorted → IsSortOf es.items sorted.items)

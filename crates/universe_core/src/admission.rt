@@ -16,7 +16,6 @@ ghost use Rattle.universe_core.specs.Ledgers.{no_ledger, past_in, past_by, next_
 ghost use Rattle.universe_core.specs.Members.{AreMembers, AreOf, members_in};
 ghost use Rattle.universe_core.specs.Following.{IsBefore};
 ghost use Rattle.universe_core.specs.Judging.{IsSearchable};
-ghost use Rattle.universe_core.specs.Sorting.{Sorts};
 ghost use Rattle.universe_core.specs.Step.{KeepsLimits, refusal, head_after, groups_after, counts_after};
 ghost use Rattle.universe_core.specs.declared.class.Class.TheVariants as class;
 
@@ -27,13 +26,11 @@ use crate::enrolling::enrolled;
 use crate::fault::AdmitFault;
 use crate::flagging::{revoked_now, set_lasts};
 use crate::following::{early_fault, next_draft, next_head};
-use crate::grouping::groups;
 use crate::held::Held;
 use crate::member::Members;
 use crate::merging::members;
-use crate::read_entry::ReadEntry;
 use crate::reading::{Tally, read};
-use crate::sorted::{sorted, sorted_by};
+use crate::threading::{ByWorkers, OneThread, Threading};
 use job_core::{Job, JobCrl, Limits, What};
 use ledger_core::{Ledger, LedgerItem, LedgerPart};
 use octets_core::Key32;
@@ -63,20 +60,20 @@ struct Built {
 }
 
 /// Accepts a job's entries, beside a ledger. They are let go once they are read.
-fn accept<'a, F: Fn(Vec<ReadEntry>) -> Vec<ReadEntry>>(
+fn accept<'a, T: Threading>(
+    threading: &T,
     alloc: Global,
     parts: &[LedgerPart],
     items: &[LedgerItem],
     job: Held<'a>,
-    sort: &F,
 ) -> Result<Acceptance<'a>, AllocError>
+    requires shared { T.shared threading.now }
     requires few_parts { length parts.now < 256 }
     requires parts { All IsSearchable parts.now }
     requires ranges { RangesFit (job_of job).ranges.items }
     requires few_crls { length (job_of job).crls.items ≤ 65535 }
     requires ascend { IsStrictlySortedBy identity_cmp (map (λ i. i.id) items.now) }
     requires few_entries { length (job_of job).entries.items ≤ 4294967295 }
-    requires sorts { Sorts (F.pre sort.now) (F.post sort.now) }
     ensures epoch { IfOk result (λ a. (job_of a.rest).epoch ≡ (job_of job.entry).epoch) }
     ensures ranges { IfOk result (λ a. (job_of a.rest).ranges.items ≡ (job_of job.entry).ranges.items) }
     ensures crls { IfOk result (λ a. (job_of a.rest).crls.items ≡ (job_of job.entry).crls.items) }
@@ -96,13 +93,13 @@ fn accept<'a, F: Fn(Vec<ReadEntry>) -> Vec<ReadEntry>>(
     let rest = job.without_entries(alloc);
     let left = rest.job();
     let merged = members(
+        threading,
         alloc,
         parts,
         items,
         &issuers,
         &left.ranges,
         reading.entries,
-        sort,
     )?;
     let late = merged.late as u32;
     Ok(Acceptance {
@@ -116,13 +113,15 @@ fn accept<'a, F: Fn(Vec<ReadEntry>) -> Vec<ReadEntry>>(
 }
 
 /// Makes the next items and the groups of accepted identities, for a part at this place, by the job's CRLs.
-fn build(
+fn build<T: Threading>(
+    threading: &T,
     alloc: Global,
     crls: &[JobCrl],
     issuers: &[Key32],
     members: Members,
     place: u8,
 ) -> Result<Built, AllocError>
+    requires shared { T.shared threading.now }
     requires issuers { IsStrictlySortedBy octets_cmp issuers.now }
     requires ascend { IsStrictlySortedBy identity_cmp (ids members.items.items) }
     requires beside { length members.settled.items ≡ length members.items.items }
@@ -137,11 +136,18 @@ fn build(
     ensures revoked { (ledger : LedgerFields) (job : JobMeaning) → AreOf ledger job crls.now issuers.now members.items.items members.settled.items
         → IfOk result (λ b. b.revoked ≡ length (revoked (past_in ledger) job)) }
 {
-    let flags = revoked_now(alloc, crls, issuers, &members.items, &members.settled)?;
+    let flags = revoked_now(
+        threading,
+        alloc,
+        crls,
+        issuers,
+        &members.items,
+        &members.settled,
+    )?;
     drop(members.settled);
     let mut items = members.items;
     set_lasts(&mut items, &flags.revoked, place);
-    let groups = groups(alloc, issuers, &items, &flags.revoked)?;
+    let groups = threading.groups(alloc, issuers, &items, &flags.revoked)?;
     let revoked = set_flags(&flags.revoked);
     Ok(Built {
         groups,
@@ -152,20 +158,20 @@ fn build(
 }
 
 /// Admits a job behind these parts and items, of which a chain's first job has none.
-fn step<F: Fn(Vec<ReadEntry>) -> Vec<ReadEntry>>(
+fn step<T: Threading>(
+    threading: &T,
     alloc: Global,
     parts: &[LedgerPart],
     items: &[LedgerItem],
     job: Held<'_>,
     limits: &Limits,
-    sort: &F,
 ) -> Result<Admitted, AdmitFault>
+    requires shared { T.shared threading.now }
     requires published { AreWithin limits.now Limits.PUBLISHED }
     requires ranges { RangesFit (job_of job).ranges.items }
     requires few { KeepsLimits limits.now (fields_of_job (job_of job)) }
     requires few_parts { length parts.now ≤ MAX_PARTS }
     requires before { IsBefore (ledger_fields parts.now items.now) }
-    requires sorts { Sorts (F.pre sort.now) (F.post sort.now) }
     ensures admitted { OnOk result (refusal limits.now (ledger_fields parts.now items.now) (fields_of_job (job_of job.entry)) ≡ None) }
     ensures refused { IfErr result (λ e. e ≢ AdmitFault.NoMemory → refusal limits.now (ledger_fields parts.now items.now) (fields_of_job (job_of job.entry)) ≡ Some e) }
     ensures head { IfOk result (λ a. a.head ≡ head_after (ledger_fields parts.now items.now).parts (facts_of_job (job_of job.entry))) }
@@ -178,7 +184,7 @@ fn step<F: Fn(Vec<ReadEntry>) -> Vec<ReadEntry>>(
     if let Some(fault) = early_fault(parts, job.job()) {
         return Err(fault);
     }
-    let accepted = accept(alloc, parts, items, job, sort)?;
+    let accepted = accept(threading, alloc, parts, items, job)?;
     if accepted.members.items.len() > limits.identities as usize {
         return Err(AdmitFault::TooMany {
             what: What::Identities,
@@ -193,7 +199,7 @@ fn step<F: Fn(Vec<ReadEntry>) -> Vec<ReadEntry>>(
     let held = accepted.rest;
     let rest = held.job();
     let place = parts.len() as u8;
-    let built = build(alloc, &rest.crls, &issuers, members, place)?;
+    let built = build(threading, alloc, &rest.crls, &issuers, members, place)?;
     let counts = Counts {
         issuers: issuers.len() as u32,
         universe: built.universe,
@@ -229,7 +235,7 @@ pub fn first(alloc: Global, job: &Job, limits: &Limits) -> Result<Admitted, Admi
     // For every trailer that the next part may have.
     ensures next { IfOk result (λ a. (trailer : List ℕ) → sealed_with a.next trailer ≡ next_ledger no_ledger (facts_of_job job.now) trailer) }
 {
-    step(alloc, &[], &[], Held::Lent(job), limits, &sorted)
+    step(&OneThread, alloc, &[], &[], Held::Lent(job), limits)
 }
 
 /// Admits a job behind a ledger. Its ranges fit, and its numbers of ranges, CRLs and entries keep the limits. The
@@ -253,17 +259,18 @@ pub fn admit(
     ensures next { IfOk result (λ a. (trailer : List ℕ) → sealed_with a.next trailer ≡ next_ledger ledger.now (facts_of_job job.now) trailer) }
 {
     step(
+        &OneThread,
         alloc,
         ledger.parts(),
         ledger.items(),
         Held::Lent(job),
         limits,
-        &sorted,
     )
 }
 
-/// As `first`, of a job that is given: its entries are let go once they are read. More workers than one sort them, by as
-/// many threads as there are processors.
+/// As `first`, of a job that is given: its entries are let go once they are read. Where there are more workers than one,
+/// as many threads as there are processors sort them, tell which identities are revoked, and make the groups. Few
+/// identities are told by fewer threads.
 pub fn first_of<R: Threads + Sync>(
     rt: &R,
     alloc: Global,
@@ -284,17 +291,18 @@ pub fn first_of<R: Threads + Sync>(
     ensures next { IfOk result (λ a. (trailer : List ℕ) → sealed_with a.next trailer ≡ next_ledger no_ledger (facts_of_job job) trailer) }
 {
     step(
+        &ByWorkers { rt, workers },
         alloc,
         &[],
         &[],
         Held::Given(job),
         limits,
-        &|entries| sorted_by(rt, entries, workers),
     )
 }
 
-/// As `admit`, of a job that is given: its entries are let go once they are read. More workers than one sort them, by as
-/// many threads as there are processors.
+/// As `admit`, of a job that is given: its entries are let go once they are read. Where there are more workers than one,
+/// as many threads as there are processors sort them, tell which identities are revoked, and make the groups. Few
+/// identities are told by fewer threads.
 pub fn admit_of<R: Threads + Sync>(
     rt: &R,
     alloc: Global,
@@ -316,11 +324,11 @@ pub fn admit_of<R: Threads + Sync>(
     ensures next { IfOk result (λ a. (trailer : List ℕ) → sealed_with a.next trailer ≡ next_ledger ledger.now (facts_of_job job) trailer) }
 {
     step(
+        &ByWorkers { rt, workers },
         alloc,
         ledger.parts(),
         ledger.items(),
         Held::Given(job),
         limits,
-        &|entries| sorted_by(rt, entries, workers),
     )
 }

@@ -1,10 +1,12 @@
-ghost use Rattle.std.specs.Prelude.{◌≡◌, ◌≤◌, ◌&&◌, ◌||◌, IfOk, Some, map, not, cond, Bool, length, is_some};
+ghost use Rattle.std.specs.Prelude.{◌≡◌, ◌≤◌, ◌+◌, ◌++◌, ◌&&◌, ◌||◌, IfOk, Some, map, not, cond, Bool, length, is_some};
 ghost use Rattle.std.specs.List.{count_by};
 ghost use Rattle.std.specs.List.Sorted.{IsStrictlySortedBy};
+ghost use Rattle.std.specs.Thread.{IsSync};
 ghost use Rattle.ident_core.specs.Order.{octets_cmp, identity_cmp};
 ghost use Rattle.ident_core.specs.declared.identity.Identity.{Identity as IdentityFields};
 ghost use Rattle.ledger_core.specs.LedgerFields.{LedgerFields, ids};
 ghost use Rattle.sets_core.specs.Sets.{has, has_key};
+ghost use Rattle.universe_core.specs.Flagging.{AreFlags};
 ghost use Rattle.universe_core.specs.Jobs.{Job as JobMeaning};
 ghost use Rattle.universe_core.specs.History.{accepted_with, revoked as revoked_of};
 ghost use Rattle.universe_core.specs.Ledgers.{past_in};
@@ -12,11 +14,17 @@ ghost use Rattle.universe_core.specs.Members.{AreOf, next_of};
 ghost use Rattle.universe_core.specs.Reading.{one_if};
 
 use crate::marking::listed_now;
+use crate::threading::Threading;
 use job_core::JobCrl;
 use ledger_core::LedgerItem;
 use octets_core::Key32;
+use rayon::current_num_threads;
 use sets_core::place_of_key_near;
 use std::alloc::{AllocError, Global};
+use std::thread::{Threads, join};
+
+/// So many members are told by one thread. To start another one takes longer than it saves.
+const FEW: usize = 16384;
 
 /// Beside each member whether it is revoked, and how many are of the universe.
 #[derive(Drop)]
@@ -53,7 +61,7 @@ fn one(is: bool) -> u32
 }
 
 /// Which members are revoked, where it is known which are settled and which a job lists.
-fn flag(
+pub(crate) fn flag(
     alloc: Global,
     issuers: &[Key32],
     members: &[LedgerItem],
@@ -64,11 +72,7 @@ fn flag(
     requires listed { length listed.now ≡ length members.now }
     requires ascend { IsStrictlySortedBy octets_cmp issuers.now }
     requires few { length members.now ≤ 4294967295 }
-    ensures revoked { (s g : IdentityFields → Bool) → settled.now ≡ map (λ m. s m.id) members.now → listed.now ≡ map (λ m. g m.id) members.now
-        → IfOk result (λ f. f.revoked.items
-        ≡ map (λ m. has_key issuers.now m.id.issuer && ((is_some m.last || g m.id) && not (s m.id))) members.now) }
-    ensures beside { IfOk result (λ f. length f.revoked.items ≡ length members.now) }
-    ensures universe { IfOk result (λ f. f.universe ≡ count_by (λ m. has_key issuers.now m.id.issuer) members.now) }
+    ensures { IfOk result (λ f. AreFlags issuers.now members.now settled.now listed.now f.revoked.items f.universe) }
 {
     let mut revoked = Vec::with_capacity(alloc, members.len())?;
     let mut universe = 0;
@@ -85,14 +89,92 @@ fn flag(
     Ok(Flags { revoked, universe })
 }
 
+/// The same, by as many threads as there are processors, or fewer where each would have few members.
+pub(crate) fn flag_in_threads<R: Threads + Sync>(
+    rt: &R,
+    alloc: Global,
+    issuers: &[Key32],
+    members: &[LedgerItem],
+    settled: &[bool],
+    listed: &[bool],
+) -> Result<Flags, AllocError>
+    requires settled { length settled.now ≡ length members.now }
+    requires listed { length listed.now ≡ length members.now }
+    requires ascend { IsStrictlySortedBy octets_cmp issuers.now }
+    requires few { length members.now ≤ 4294967295 }
+    ensures { IfOk result (λ f. AreFlags issuers.now members.now settled.now listed.now f.revoked.items f.universe) }
+{
+    let share = members.len().div_ceil(current_num_threads(rt));
+    flag_halves(rt, alloc, issuers, members, settled, listed, share.max(FEW))
+}
+
+/// The same. The members are halved into threads until none has more than `most`.
+#[cycle(flag_halves)]
+fn flag_halves<R: Threads + Sync>(
+    rt: &R,
+    alloc: Global,
+    issuers: &[Key32],
+    members: &[LedgerItem],
+    settled: &[bool],
+    listed: &[bool],
+    most: usize,
+) -> Result<Flags, AllocError>
+    requires settled { length settled.now ≡ length members.now }
+    requires listed { length listed.now ≡ length members.now }
+    requires ascend { IsStrictlySortedBy octets_cmp issuers.now }
+    requires few { length members.now ≤ 4294967295 }
+    requires some { 1 ≤ most }
+    ensures { IfOk result (λ f. AreFlags issuers.now members.now settled.now listed.now f.revoked.items f.universe) }
+{
+    if members.len() <= most {
+        return flag(alloc, issuers, members, settled, listed);
+    }
+    let half = members.len() / 2;
+    let (first, rest) = members.split_at(half);
+    let (first_settled, rest_settled) = settled.split_at(half);
+    let (first_listed, rest_listed) = listed.split_at(half);
+    let front = move || -> Result<Flags, AllocError>
+        requires { IsSync R.row × (1 ≤ most) × IsStrictlySortedBy octets_cmp issuers.now × (length first.now ≤ 4294967295)
+            × (length first_settled.now ≡ length first.now) × (length first_listed.now ≡ length first.now) }
+        ensures { IfOk result (λ f.
+            AreFlags issuers.entry.now first.entry.now first_settled.entry.now first_listed.entry.now f.revoked.items f.universe) }
+    { flag_halves(rt, alloc, issuers, first, first_settled, first_listed, most) };
+    let back = move || -> Result<Flags, AllocError>
+        requires { IsSync R.row × (1 ≤ most) × IsStrictlySortedBy octets_cmp issuers.now × (length rest.now ≤ 4294967295)
+            × (length rest_settled.now ≡ length rest.now) × (length rest_listed.now ≡ length rest.now) }
+        ensures { IfOk result (λ f.
+            AreFlags issuers.entry.now rest.entry.now rest_settled.entry.now rest_listed.entry.now f.revoked.items f.universe) }
+    { flag_halves(rt, alloc, issuers, rest, rest_settled, rest_listed, most) };
+    let (one, two) = join(rt, front, back);
+    let first_flags = one?;
+    let rest_flags = two?;
+    let flags = joined(first_flags, rest_flags)?;
+    Ok(flags)
+}
+
+/// The flags of some members and of those behind them.
+fn joined(front: Flags, back: Flags) -> Result<Flags, AllocError>
+    requires { front.universe + back.universe ≤ 4294967295 }
+    ensures revoked { IfOk result (λ f. f.revoked.items ≡ front.revoked.items ++ back.revoked.items) }
+    ensures universe { IfOk result (λ f. f.universe ≡ front.universe + back.universe) }
+{
+    let universe = front.universe + back.universe;
+    let mut revoked = front.revoked;
+    let mut more = back.revoked;
+    revoked.append(&mut more)?;
+    Ok(Flags { revoked, universe })
+}
+
 /// Which members of a job are revoked, by its CRLs and the issuers that it enrolls.
-pub(crate) fn revoked_now(
+pub(crate) fn revoked_now<T: Threading>(
+    threading: &T,
     alloc: Global,
     crls: &[JobCrl],
     issuers: &[Key32],
     members: &[LedgerItem],
     settled: &[bool],
 ) -> Result<Flags, AllocError>
+    requires shared { T.shared threading.now }
     requires issuers { IsStrictlySortedBy octets_cmp issuers.now }
     requires ascend { IsStrictlySortedBy identity_cmp (ids members.now) }
     requires beside { length settled.now ≡ length members.now }
@@ -103,7 +185,7 @@ pub(crate) fn revoked_now(
     ensures universe { IfOk result (λ f. f.universe ≡ count_by (λ m. has_key issuers.now m.id.issuer) members.now) }
 {
     let listed = listed_now(alloc, members, crls)?;
-    let flags = flag(alloc, issuers, members, settled, &listed)?;
+    let flags = threading.flag(alloc, issuers, members, settled, &listed)?;
     Ok(flags)
 }
 

@@ -11,7 +11,9 @@ use crate::marking::run_of;
 use ident_core::Identity;
 use ledger_core::LedgerItem;
 use octets_core::Key32;
+use rayon::prelude::*;
 use std::alloc::{AllocError, Global};
+use std::thread::Threads;
 
 fn ids_of(alloc: Global, items: &[LedgerItem]) -> Result<Vec<Identity>, AllocError>
     ensures { IfOk result (λ out. out.items ≡ ids items.now) }
@@ -64,4 +66,30 @@ pub fn groups(
         out.push(one)?;
     }
     Ok(out)
+}
+
+/// The same, by as many threads as there are processors. A group is made by one thread.
+pub(crate) fn groups_in_threads<R: Threads + Sync>(
+    rt: &R,
+    alloc: Global,
+    issuers: &[Key32],
+    items: &[LedgerItem],
+    revoked: &[bool],
+) -> Result<Vec<Group>, AllocError>
+    requires ascend { IsStrictlySortedBy identity_cmp (ids items.now) }
+    requires beside { length revoked.now ≡ length items.now }
+    ensures { (h : IdentityFields → Bool) → revoked.now ≡ map h (ids items.now)
+        → IfOk result (λ gs. map group_fields gs.items ≡ map (group_with h (ids items.now)) issuers.now) }
+{
+    issuers
+        .par_iter()
+        .with_min_len(1)
+        .map(
+            |issuer: &Key32| -> Result<Group, AllocError>
+                requires { IsStrictlySortedBy identity_cmp (ids items.now) × (length revoked.now ≡ length items.now) }
+                ensures { (h : IdentityFields → Bool) → revoked.entry.now ≡ map h (ids items.entry.now)
+                    → IfOk result (λ g. group_fields g ≡ group_with h (ids items.entry.now) issuer.now) }
+            { group(alloc, issuer, items, revoked) },
+        )
+        .collect::<Result<Vec<Group>, AllocError>>(rt, alloc)?
 }

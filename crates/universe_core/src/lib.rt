@@ -24,6 +24,7 @@ mod read_entry;
 mod reading;
 mod serial_key;
 mod sorted;
+mod threading;
 
 pub use admission::{admit, admit_of, first, first_of};
 pub use admitted::{Admitted, Group};

@@ -10,12 +10,12 @@ ghost use Rattle.universe_core.specs.Judging.{IsSearchable, judge_of, is_late_be
 ghost use Rattle.ledger_core.specs.LedgerFields.{ledger_fields};
 ghost use Rattle.universe_core.specs.Jobs.{Job as JobMeaning, enrolled};
 ghost use Rattle.universe_core.specs.Reading.{if_read, IsPlaced, entries_of, is_lacked};
-ghost use Rattle.universe_core.specs.Sorting.{Sorts};
 ghost use Rattle.universe_core.specs.Members.{AreMembers, as_item, members_in};
 
 use crate::judging::judge;
 use crate::member::{Member, Members};
 use crate::read_entry::ReadEntry;
+use crate::threading::Threading;
 use ident_core::{Identity, Range, is_same};
 use ledger_core::{LedgerItem, LedgerPart};
 use octets_core::Key32;
@@ -159,27 +159,27 @@ fn merge(
 
 /// The identities accepted so far, ascending, where these entries are those that a job's ranges cover and whose issuers
 /// it enrolls, and how many of these are late.
-pub(crate) fn members<F: Fn(Vec<ReadEntry>) -> Vec<ReadEntry>>(
+pub(crate) fn members<T: Threading>(
+    threading: &T,
     alloc: Global,
     parts: &[LedgerPart],
     items: &[LedgerItem],
     issuers: &[Key32],
     ranges: &[Range],
     entries: Vec<ReadEntry>,
-    sort: &F,
 ) -> Result<Merged, AllocError>
+    requires shared { T.shared threading.now }
     requires few { length parts.now < 256 }
     requires parts { All IsSearchable parts.now }
     requires ascend { IsStrictlySortedBy identity_cmp (map (λ i. i.id) items.now) }
     requires issuers { IsStrictlySortedBy octets_cmp issuers.now }
     requires placed { All (IsPlaced issuers.now ranges.now) entries.items }
-    requires sorts { Sorts (F.pre sort.now) (F.post sort.now) }
     ensures members { (job : JobMeaning) → entries_of issuers.now ranges.now entries.items ≡ filter_map (if_read job.ranges (enrolled job)) job.entries
         → IfOk result (λ m. AreMembers (members_in (ledger_fields parts.now items.now) job) m.members.items.items m.members.settled.items) }
     ensures late { IfOk result (λ m. m.late
         ≡ count_by (is_lacked (ledger_fields parts.now items.now)) (entries_of issuers.now ranges.now entries.items)) }
 {
-    let sorted = sort(entries);
+    let sorted = threading.sorted(entries);
     let merged = merge(alloc, parts, items, issuers, ranges, &sorted)?;
     Ok(merged)
 }

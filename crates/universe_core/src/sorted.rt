@@ -14,18 +14,13 @@ pub(crate) fn sorted(entries: Vec<ReadEntry>) -> Vec<ReadEntry>
     sorted
 }
 
-/// The same, by as many threads as there are processors where there are more workers than one. One worker sorts them on
-/// the caller's thread.
-pub(crate) fn sorted_by<R: Threads + Sync>(
+/// The same, by as many threads as there are processors.
+pub(crate) fn sorted_in_threads<R: Threads + Sync>(
     rt: &R,
     entries: Vec<ReadEntry>,
-    workers: u32,
 ) -> Vec<ReadEntry>
     ensures { IsSortOf entries.items result.items }
 {
-    if workers <= 1 {
-        return sorted(entries);
-    }
     let mut sorted = entries;
     par_sort_unstable_by(rt, &mut sorted, |x: &ReadEntry, y: &ReadEntry| order(x, y));
     sorted

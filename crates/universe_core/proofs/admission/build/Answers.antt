@@ -10,14 +10,14 @@ use Rattle.universe_core.proofs.Tallies.{universe_count, revoked_count}
 use Rattle.universe_core.proofs.admission.build.Goals as goal
 
 pub groups-requires-clause-ascend : goal.groups-requires-clause-ascend
-groups-requires-clause-ascend c =
+groups-requires-clause-ascend g c =
     let v = c.deref_mut.ensures.value in
     let l : c.args.members.items.len ≡ length c.args.members.items.items = omega arith in
     let back = c.deref-4.ensures.value ∙ written_back c.args.members.items.len c.set_lasts.new.items c.args.members.items.items (c.set_lasts.auto.items ∙ ap length v) l in
     subst (λ xs. IsStrictlySortedBy identity_cmp xs) (sym (ap ids back ∙ c.set_lasts.ensures.same ∙ ap ids v)) c.requires.ascend
 
 pub returns-clause-groups : goal.returns-clause-groups
-returns-clause-groups c = λ ledger job of.
+returns-clause-groups g c = λ ledger job of.
     let v = c.deref_mut.ensures.value in
     let l : c.args.members.items.len ≡ length c.args.members.items.items = omega arith in
     let back = c.deref-4.ensures.value ∙ written_back c.args.members.items.len c.set_lasts.new.items c.args.members.items.items (c.set_lasts.auto.items ∙ ap length v) l in
@@ -27,7 +27,7 @@ returns-clause-groups c = λ ledger job of.
     (c.deref-5.ensures.value ∙ c.in_ok-flags.ensures.revoked ledger job (shown_of of c.deref.ensures.value c.deref-2.ensures.value)) c.in_ok-groups.ensures
 
 pub returns-clause-items : goal.returns-clause-items
-returns-clause-items c = λ ledger job of p.
+returns-clause-items g c = λ ledger job of p.
     let v = c.deref_mut.ensures.value in
     let l : c.args.members.items.len ≡ length c.args.members.items.items = omega arith in
     written_back c.args.members.items.len c.set_lasts.new.items c.args.members.items.items (c.set_lasts.auto.items ∙ ap length v) l
@@ -36,10 +36,10 @@ returns-clause-items c = λ ledger job of p.
     (c.deref-3.ensures.value ∙ c.in_ok-flags.ensures.revoked ledger job (shown_of of c.deref.ensures.value c.deref-2.ensures.value)) p c.set_lasts.ensures.items
 
 pub returns-clause-universe : goal.returns-clause-universe
-returns-clause-universe c = λ ledger job of. c.in_ok-flags.ensures.universe ∙ universe_count ledger job c.args.issuers.now
+returns-clause-universe g c = λ ledger job of. c.in_ok-flags.ensures.universe ∙ universe_count ledger job c.args.issuers.now
     c.deref.result.now of.issuers (c.deref.ensures.value ∙ of.members.items)
 
 pub returns-clause-revoked : goal.returns-clause-revoked
-returns-clause-revoked c = λ ledger job of.
+returns-clause-revoked g c = λ ledger job of.
     c.set_flags-revoked.ensures ∙ revoked_count (past_in ledger) job c.deref-6.result.now
     (c.deref-6.ensures.value ∙ c.in_ok-flags.ensures.revoked ledger job (shown_of of c.deref.ensures.value c.deref-2.ensures.value))

@@ -1,5 +1,7 @@
+use Rattle.std.specs.List.{count_by}
 use Rattle.std.specs.Prelude.{is_some}
-use Rattle.std.proofs.Common.{◌∙◌, ◌+◌, ◌&&◌, ◌||◌, ap, not, length, arith}
+use Rattle.std.proofs.Common.{◌≤◌, ◌∙◌, ◌+◌, ◌&&◌, ◌||◌, ap, not, length, arith}
+use Rattle.std.proofs.lemmas.List.{take_all}
 use Rattle.ledger_core.specs.declared.fields.LedgerItem.{LedgerItem}
 use Rattle.sets_core.specs.Sets.{has_key}
 use Rattle.universe_core.proofs.Classes.{count_more}
@@ -19,8 +21,13 @@ loop-i-preserved c = record {
       (ap (λ n. c.loop-i.universe + n) c.one-universe.ensures);
 }
 
-pub returns-clause-revoked : goal.returns-clause-revoked
-returns-clause-revoked c = λ s g es eg.
-    c.loop-i.invariant.revoked s g es eg
-    ∙ made_all (λ (m : LedgerItem). has_key c.args.issuers.now m.id.issuer && ((is_some m.last || g m.id) && not (s m.id))) c.args.members.now c.loop-i.i
-    (let t = c.loop-i-test.false in omega arith)
+pub returns : goal.returns
+returns c =
+    let all : length c.args.members.now ≤ c.loop-i.i = (let t = c.loop-i-test.false in omega arith) in
+    record {
+      revoked = λ s g es eg.
+          c.loop-i.invariant.revoked s g es eg
+          ∙ made_all (λ (m : LedgerItem). has_key c.args.issuers.now m.id.issuer && ((is_some m.last || g m.id) && not (s m.id))) c.args.members.now c.loop-i.i all;
+      beside = (let b = c.loop-i.invariant.beside in omega (arith, c.loop-i.auto));
+      universe = c.loop-i.invariant.universe ∙ ap (count_by (λ (m : LedgerItem). has_key c.args.issuers.now m.id.issuer)) (take_all c.loop-i.i c.args.members.now all);
+    }

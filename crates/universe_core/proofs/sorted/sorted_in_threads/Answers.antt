@@ -8,7 +8,7 @@ use Rattle.universe_core.specs.Sorting.{IsSortOf}
 use Rattle.universe_core.specs.declared.read_entry.ReadEntry.{ReadEntry}
 use Rattle.universe_core.proofs.Placing.{placed_ranks}
 use Rattle.universe_core.proofs.Sorting.{rising_sorted}
-use Rattle.universe_core.proofs.sorted.sorted_by.Goals as goal
+use Rattle.universe_core.proofs.sorted.sorted_in_threads.Goals as goal
 
 pub returns : goal.returns
 returns g c =
