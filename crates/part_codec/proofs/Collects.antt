@@ -1,9 +1,9 @@
 -- What is collected is what was seen.
-use Rattle.std.proofs.Common.{◌≡◌, ℕ, zero, suc, ◌+◌, ◌-◌, ◌*◌, ◌/◌, ◌≤◌, Bool, true, false, List, [], ◌∷◌, ◌++◌, length, drop, Option, Some, None, refl, sym, ap, subst, ◌∙◌, arith}
+use Rattle.std.proofs.Common.{◌≡◌, ℕ, zero, suc, ◌+◌, ◌-◌, ◌*◌, ◌/◌, ◌≤◌, ◌<◌, Bool, true, false, List, [], ◌∷◌, ◌++◌, length, take, drop, Option, Some, None, refl, sym, ap, subst, ◌∙◌, arith}
 use Rattle.std.specs.Prelude.{map}
 use Rattle.std.specs.Int.{w8, w16, w32, w64, from_be_bytes}
 use Rattle.std.specs.Simd.{first_chunks}
-use Rattle.std.proofs.lemmas.List.{drop-append-le}
+use Rattle.std.proofs.lemmas.List.{drop-append-le, append-nil}
 use Rattle.equation_core.specs.declared.hash.TheConstants.{MAX_PLANES}
 use Rattle.equation_core.specs.Sizes.{words_for}
 use Rattle.ribbon_core.specs.PlaneWords.{columns_of}
@@ -25,10 +25,11 @@ use Rattle.part_codec.specs.declared.machine.Machine.{Machine}
 use Rattle.part_codec.specs.Remaining.{Seen, with_approx, with_plane, column_of, mixed_of, with_leaf as seen_with, shards_of, kept_range}
 use Rattle.part_codec.specs.Remaining.{kept_ranges, kept_issuers, kept_mode, kept_leaf_mode, kept_leaves}
 use Rattle.part_codec.specs.Stepping.{seen_mode, seen_leaf_mode, settled as settled_field, kept_after, open_range, open_block, open_mode, open_approx, open_plane, open_after}
-use Rattle.part_codec.specs.Stepping.{seen_after, AreStarts, InLeaf, Counts, Passed, open_leaf, in_front, IsOpen}
-use Rattle.part_codec.specs.Scanning.{Stands, Moved, seen_when}
+use Rattle.part_codec.specs.Stepping.{seen_after, AreStarts, InLeaf, Counts, Passed, open_leaf, in_front, tail_of, IsOpen}
+use Rattle.part_codec.specs.Scanning.{Stands, Moved, seen_when, hashed_to}
+use Rattle.part_codec.specs.Taking.{Advances, TakesTo}
 use Rattle.part_codec.specs.Collecting.{with_words, leaf_in, IsLast, exact_leaf, cleared, stage_by, pile_mode, pile_plane, pile_exact, pile_after, pile_when}
-use Rattle.part_codec.specs.Collecting.{pile_passed, CanCollect, FewPlanes, IsApprox, IsExact, Staged, Collects, Reads, ReadsFront}
+use Rattle.part_codec.specs.Collecting.{pile_passed, CanCollect, FewPlanes, IsApprox, IsExact, Staged, Collects, Reads, ReadsFront, HasRead}
 use Rattle.part_codec.proofs.FieldSteps.{leaf-starts}
 use Rattle.part_codec.proofs.MachineLaws.{leaf-mode}
 use Rattle.part_codec.proofs.MachineStands.{drop-all, front-moved}
@@ -395,3 +396,24 @@ reads-end w m n p b t last read moved st =
 -- no byte of the trailer came
 pub reads-front : (w : Bool) (m n : Machine) (r : PileFields) (b : List ℕ) → in_front m.field ≡ true → Moved w m n b → Reads n r b → ReadsFront n r b
 reads-front w m n r b front moved read = record { reads = read; front = front-moved w m n b front moved }
+
+-- ---- of a block that says none or all
+
+-- where nothing is taken
+pub takes-none : (m : Machine) (p : PileFields) (piece : List ℕ) (o : Open) → ((at len : ℕ) → hashed_to o at len ≡ len) → m.field ≡ o → m.filled < tail_of m.field → ∥ HasRead m p ∥₁
+    → TakesTo m m p p piece 0
+takes-none m p piece o before is partial read = record {
+  reads = λ b r. record {
+    reads = subst (λ (l : List ℕ). Reads m p l) (sym (append-nil b)) r;
+    front = ap (λ (x : Open). hashed_to x m.at (length (b ++ []))) is ∙ before m.at (length (b ++ []));
+  };
+  read = read;
+  partial = λ goes. partial;
+  count = omega arith;
+}
+
+-- its issuer came, which isn't collected before its mode
+pub reads-issuer : (m n : Machine) (p : PileFields) (piece : List ℕ) (k : ℕ) → m.field ≡ opens.BlockIssuer → Advances m n piece (k, true) → (b : List ℕ) → Reads m p b → Reads n p (b ++ take k piece)
+reads-issuer m n p piece k is f b read =
+    let t : List ℕ = take k piece in
+    reads-step true m n p (pile_passed m.field p t) p b t read refl (f.moved read.0 b read.1) (sym (ap (λ (o : Open). pile_when true o n.kept (pile_passed o p t)) is)) (f.stands read.0 b read.1)

@@ -13,11 +13,12 @@ use Rattle.part_codec.specs.declared.fields.Open.{Open}
 use Rattle.part_codec.specs.declared.fields.Open.TheVariants as opens
 use Rattle.part_codec.specs.declared.machine.Machine.{Machine}
 use Rattle.part_codec.specs.declared.machine.TheConstants.{MAX_PART}
-use Rattle.part_codec.specs.Remaining.{Seen}
-use Rattle.part_codec.specs.Stepping.{in_front, skips, tail_of, width_of, passes_last, is_padded_last, kept_after, open_after, seen_after, name_of, open_plane, settled, AreLimits, still}
+use Rattle.part_codec.specs.Remaining.{Seen, kept_mode}
+use Rattle.part_codec.specs.Stepping.{in_front, skips, tail_of, width_of, passes_last, is_padded_last, kept_after, open_after, seen_after, name_of, open_plane, open_block, open_mode, settled, AreLimits, still}
 use Rattle.part_codec.specs.Scanning.{Opened, IsWhole, Stands, Passes, Moved}
 use Rattle.part_codec.proofs.FieldSteps.{width-parts, room-steps, front-goes, wrong-front}
-use Rattle.part_codec.proofs.MachineStands.{Opened-more, field-fails, field-goes, passes-of, moved-of}
+use Rattle.part_codec.specs.Taking.{IsPartial, Advances}
+use Rattle.part_codec.proofs.MachineStands.{Opened-more, field-fails, field-goes, passes-of, moved-of, bytes-front}
 
 -- ---- it is the open field, of which nothing came before
 
@@ -61,6 +62,44 @@ pub whole-room : (m : Machine) (k : Kept) (o : Open) (t last : List ℕ) → Are
     → length t ≡ width_of m.field m.kept → m.at + length t + still o k ≤ MAX_PART
 whole-room m k o t last limits kept next len =
     rw (next, kept) (omega (arith, room-steps m.field m.kept last limits m.starts, width-parts m.field m.kept m.starts, len, m.room))
+
+-- all of its bytes are held where it has no more
+pub alone-goes : (m n : Machine) (t : List ℕ) → skips m.field m.kept ≡ 0 → ((sum : List ℕ) → passes_last m.field m.kept sum t ≡ true) → AreLimits m.field t
+    → n.kept ≡ kept_after m.field m.kept t → n.field ≡ open_after m.field n.kept → n.at ≡ m.at + length t → n.passed ≡ 0 → n.filled ≡ 0 → Goes m n t
+alone-goes m n t none passes limits kept field at passed empty =
+    record { passes = λ sum. rw none (passes sum); limits = rw none limits; kept = rw none kept; field = field; at = at; passed = passed; empty = empty }
+
+pub alone-width : (m : Machine) (t : List ℕ) → skips m.field m.kept ≡ 0 → length t ≡ tail_of m.field → length t ≡ width_of m.field m.kept
+alone-width m t none len = omega (arith, width-parts m.field m.kept m.starts, none, len)
+
+-- it is the front of a piece
+pub whole-advances : (m n : Machine) (piece : List ℕ) (k : ℕ) → IsBytes piece → k ≤ length piece → 0 < k → m.passed ≡ 0 → m.filled ≡ 0
+    → length (take k piece) ≡ width_of m.field m.kept → Goes m n (take k piece) → n.field ≡ settled n.field → IsPartial n → Advances m n piece (k, true)
+whole-advances m n piece k bytes within some passed empty len goes settles partial = record {
+  stands = λ s b st. whole-stands m n s b (take k piece) st (bytes-front k piece bytes) passed empty len goes;
+  moved = λ s b st. whole-moved m n s b (take k piece) st (bytes-front k piece bytes) passed empty len goes settles;
+  partial = partial;
+  count = within;
+  progress = λ more. some;
+}
+
+-- ---- it is the issuer or the mode of a block
+
+more-blocks : (n : ℕ) → 1 ≤ n → open_block n ≡ opens.BlockIssuer
+more-blocks zero some = absurd (omega (arith, some))
+more-blocks (suc n) some = refl
+
+-- behind a block that says none or all another one is open, if one is left
+pub plain-opens : (mode : ℕ) (k : Kept) → mode ≤ 1 → 2 ≤ k.left → open_mode (kept_mode mode k).mode (kept_mode mode k).leaves (kept_mode mode k).left ≡ opens.BlockIssuer
+plain-opens zero k plain more = more-blocks (k.left - 1) (omega (arith, more))
+plain-opens (suc zero) k plain more = more-blocks (k.left - 1) (omega (arith, more))
+plain-opens (suc (suc n)) k plain more = absurd (omega (arith, plain))
+
+pub field-settles : (n : Machine) (o : Open) → settled o ≡ o → n.field ≡ o → n.field ≡ settled n.field
+field-settles n o same is = is ∙ sym same ∙ ap settled (sym is)
+
+pub field-partial : (n : Machine) (o : Open) → 0 < tail_of o → n.field ≡ o → n.filled ≡ 0 → IsPartial n
+field-partial n o some is empty = λ goes. omega (arith, some, ap tail_of is, empty)
 
 -- ---- it is a plane
 

@@ -196,7 +196,7 @@ fn is_parent_of(kind: u8, key: Key32) -> bool
 }
 
 #[inline(always)]
-fn number8(bytes: &[u8]) -> u8
+pub(crate) fn number8(bytes: &[u8]) -> u8
     requires { length bytes.now ≡ 1 }
     ensures { result ≡ from_be_bytes w8 bytes.now }
 {

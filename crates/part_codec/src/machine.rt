@@ -14,7 +14,8 @@ ghost use Rattle.part_codec.specs.Stepping.{AreStarts, AreLimits, name_of, still
 
 use crate::fields::{
     Kept, LEAST_BLOCK, Open, TRAILER, at_leaf, at_plane, is_approx_plane, is_block, is_digest,
-    is_front, is_last_padded, keep, keep_leaf, keep_plane, name, next_of, passes, skips, tail,
+    is_front, is_last_padded, keep, keep_leaf, keep_plane, name, next_of, number8, passes, skips,
+    tail,
 };
 use card_core::MAX_BLOCKS;
 use equation_core::words_for;
@@ -210,6 +211,24 @@ impl Machine {
         self.filled += piece.len();
     }
 
+    /// The last bytes of the open field came, of which some are held.
+    #[inline(never)]
+    fn complete_held(&mut self, rest: &[u8]) -> Result<(), LayoutFault>
+        requires front { in_front self.old.field ≡ true }
+        requires passed { self.old.passed ≡ skips_of self.old.field self.old.kept }
+        requires len { self.old.filled + length rest.now ≡ tail_of self.old.field }
+        ensures ok { OnOk result ((s : Seen) (b : List ℕ) → Stands self.old s b
+            → Stands self.new (seen_after self.old.field self.old.kept s (drop self.old.at (b ++ rest.now))) (b ++ rest.now)) }
+        ensures moved { OnOk result ((s : Seen) (b : List ℕ) → Stands self.old s b → Moved true self.old self.new (b ++ rest.now)) }
+        ensures err { IfErr result (λ e. (s : Seen) (b x : List ℕ) → Stands self.old s b → sealed (b ++ rest.now ++ x) 0 ≡ Err e) }
+        ensures partial { OnOk result (IsPartial self.new) }
+        ensures empty { OnOk result (self.new.filled ≡ 0) }
+    {
+        self.hold(rest);
+        let held = self.held;
+        self.complete(&held[..self.filled])
+    }
+
     /// The last bytes of the open field came.
     #[inline(always)]
     fn complete_with(&mut self, rest: &[u8]) -> Result<(), LayoutFault>
@@ -226,9 +245,7 @@ impl Machine {
         if self.filled == 0 {
             return self.complete(rest);
         }
-        self.hold(rest);
-        let held = self.held;
-        self.complete(&held[..self.filled])
+        self.complete_held(rest)
     }
 
     /// Passes bytes of a plane before its last word.
@@ -301,24 +318,66 @@ impl Machine {
         self.filled = 0;
     }
 
-    /// An approximate plane, all of which this is: tests it, and opens the next field.
+    /// Takes the issuer of a block that is whole in the piece and passes its test, and opens the block's mode. Answers
+    /// how many bytes it has, or 0 where nothing is taken.
     #[inline(always)]
-    fn complete_plane(&mut self, plane: &[u8]) -> Result<(), LayoutFault>
-        requires field { self.old.field ≡ Open.ApproxPlane }
-        requires passed { self.old.passed ≡ 0 }
-        requires empty { self.old.filled ≡ 0 }
-        requires len { length plane.now ≡ 8 * words_of self.old.kept.starts }
-        ensures ok { OnOk result ((s : Seen) (b : List ℕ) → Stands self.old s b
-            → Stands self.new (seen_after self.old.field self.old.kept s (drop self.old.at (b ++ plane.now))) (b ++ plane.now)) }
-        ensures moved { OnOk result ((s : Seen) (b : List ℕ) → Stands self.old s b → Moved true self.old self.new (b ++ plane.now)) }
-        ensures err { IfErr result (Fails self.old plane.now) }
-        ensures partial { OnOk result (IsPartial self.new) }
+    pub(crate) fn whole_issuer(&mut self, piece: &[u8]) -> usize
+        requires field { self.old.field ≡ Open.BlockIssuer }
+        requires front { IsFront self.old }
+        ensures taken { 0 < result → Advances self.old self.new piece.now (result, true) }
+        ensures left { result ≡ 0 → self.new ≡ self.old }
+        ensures next { 0 < result → self.new.field ≡ Open.BlockMode }
     {
+        if self.filled > 0 || piece.len() < 32 {
+            return 0;
+        }
+        let issuer = &piece[..32];
+        if !passes(Open::BlockIssuer, &self.kept, issuer) {
+            return 0;
+        }
+        self.open_next(issuer);
+        32
+    }
+
+    /// Takes the mode of a block that says none or all and isn't the last, where it is in the piece, and opens the next
+    /// block. Answers how many bytes it has, or 0 where nothing is taken.
+    #[inline(always)]
+    pub(crate) fn whole_plain(&mut self, piece: &[u8]) -> usize
+        requires field { self.old.field ≡ Open.BlockMode }
+        requires front { IsFront self.old }
+        ensures taken { 0 < result → Advances self.old self.new piece.now (result, true) }
+        ensures left { result ≡ 0 → self.new ≡ self.old }
+    {
+        if self.filled > 0 || piece.len() < 1 || self.kept.left < 2 {
+            return 0;
+        }
+        let mode = &piece[..1];
+        if number8(mode) > 1 || !passes(Open::BlockMode, &self.kept, mode) {
+            return 0;
+        }
+        self.open_next(mode);
+        1
+    }
+
+    /// Takes an approximate plane that is whole in the piece and passes its test, and opens the next field. Answers how
+    /// many bytes it has, or 0 where nothing is taken.
+    #[inline(always)]
+    pub(crate) fn whole_plane(&mut self, piece: &[u8]) -> usize
+        requires field { self.old.field ≡ Open.ApproxPlane }
+        requires front { IsFront self.old }
+        ensures taken { 0 < result → Advances self.old self.new piece.now (result, true) }
+        ensures left { result ≡ 0 → self.new ≡ self.old }
+    {
+        let width = 8 * words_for(self.kept.starts);
+        if self.passed > 0 || self.filled > 0 || piece.len() < width {
+            return 0;
+        }
+        let plane = &piece[..width];
         if !is_last_padded(self.kept.starts, &plane[plane.len() - 8..]) {
-            return Err(self.fault(Why::Value));
+            return 0;
         }
         self.pass_plane(plane);
-        Ok(())
+        width
     }
 
     /// `step`, which isn't copied to where this is called.
@@ -339,10 +398,9 @@ impl Machine {
         ensures ok { IfOk result (Advances self.old self.new piece.now) }
         ensures err { IfErr result (Fails self.old piece.now) }
     {
-        let width = 8 * words_for(self.kept.starts);
-        if self.passed == 0 && self.filled == 0 && piece.len() >= width {
-            self.complete_plane(&piece[..width])?;
-            return Ok((width, true));
+        let n = self.whole_plane(piece);
+        if n > 0 {
+            return Ok((n, true));
         }
         self.step_apart(piece)
     }
@@ -403,7 +461,7 @@ impl Machine {
 
     /// `step`, and at an exact plane what is made for that.
     #[inline(always)]
-    fn step_known(&mut self, piece: &[u8]) -> Result<(usize, bool), LayoutFault>
+    pub(crate) fn advance(&mut self, piece: &[u8]) -> Result<(usize, bool), LayoutFault>
         requires { IsFront self.old }
         ensures ok { IfOk result (Advances self.old self.new piece.now) }
         ensures err { IfErr result (Fails self.old piece.now) }
@@ -411,21 +469,6 @@ impl Machine {
         match self.field {
             Open::ExactPlane => self.advance_exact(piece),
             _ => self.step(piece),
-        }
-    }
-
-    /// `step`. The fields of a block that says none or all are most of a long part, so each of them has a copy of the
-    /// step in which the field is known.
-    #[inline(always)]
-    pub(crate) fn advance(&mut self, piece: &[u8]) -> Result<(usize, bool), LayoutFault>
-        requires { IsFront self.old }
-        ensures ok { IfOk result (Advances self.old self.new piece.now) }
-        ensures err { IfErr result (Fails self.old piece.now) }
-    {
-        match self.field {
-            Open::BlockIssuer => self.step(piece),
-            Open::BlockMode => self.step(piece),
-            _ => self.step_known(piece),
         }
     }
 
@@ -493,7 +536,7 @@ impl Machine {
         if is_approx_plane(self.field) {
             return self.take_planes(piece);
         }
-        let (n, _) = self.step_known(piece)?;
+        let (n, _) = self.advance(piece)?;
         Ok(n)
     }
 

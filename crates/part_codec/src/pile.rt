@@ -89,6 +89,7 @@ impl Pile {
 
     /// Collects the words of the open plane, which ends with these bytes. Where they are all of it they aren't
     /// collected before.
+    #[inline(always)]
     fn push_plane(&mut self, last: &[u8]) -> Result<(), NoMemory>
         ensures { OnOk result (self.new ≡ spelled_plane (record self.old { plane = self.old.plane ++ last.now })) }
     {
@@ -101,6 +102,7 @@ impl Pile {
         Ok(())
     }
 
+    #[inline(always)]
     fn close_plane(&mut self, last: &[u8]) -> Result<(), NoMemory>
         requires { self.old.done < 255 }
         ensures { OnOk result (self.new ≡ with_words (record self.old { plane = self.old.plane ++ last.now })) }
@@ -121,6 +123,7 @@ impl Pile {
         })
     }
 
+    #[inline(always)]
     fn push_body(&mut self, kept: &Kept, body: Body) -> Result<(), NoMemory>
         ensures { OnOk result (self.new ≡ with_body kept.now body self.old) }
     {
@@ -147,6 +150,7 @@ impl Pile {
         }
     }
 
+    #[inline(always)]
     fn push_leaf(&mut self, alloc: Global, kept: &Kept, leaf: Leaf) -> Result<(), NoMemory>
         requires { IsLast kept.now self.old }
         ensures { OnOk result (self.new ≡ with_leaf kept.now leaf self.old) }
@@ -157,7 +161,13 @@ impl Pile {
         }
     }
 
-    fn approx_plane(&mut self, alloc: Global, kept: &Kept, last: &[u8]) -> Result<(), NoMemory>
+    #[inline(always)]
+    pub(crate) fn approx_plane(
+        &mut self,
+        alloc: Global,
+        kept: &Kept,
+        last: &[u8],
+    ) -> Result<(), NoMemory>
         requires { AreStageWords kept.now.starts (self.old.done + 1) (with_words (record self.old { plane = self.old.plane ++ last.now })).words }
         ensures { OnOk result (self.new ≡ pile_plane kept.now.planes kept.now (with_words (record self.old { plane = self.old.plane ++ last.now }))) }
     {
@@ -180,7 +190,8 @@ impl Pile {
         self.push_leaf(alloc, kept, Leaf::Mixed(Mixed::new(approx, exact)))
     }
 
-    fn plain(&mut self, alloc: Global, kept: &Kept) -> Result<(), NoMemory>
+    #[inline(always)]
+    pub(crate) fn plain(&mut self, alloc: Global, kept: &Kept) -> Result<(), NoMemory>
         requires { IsLast kept.now self.old }
         ensures { OnOk result (self.new ≡ pile_mode kept.now.mode kept.now self.old) }
     {
@@ -229,6 +240,7 @@ impl Pile {
     }
 
     /// Collects what a field made whole, of which these are the last bytes. So many are at hand behind them.
+    #[inline(always)]
     fn collect(
         &mut self,
         alloc: Global,
@@ -260,6 +272,7 @@ impl Pile {
     }
 
     /// Collects bytes of a field, and what it tells if it is whole with them. So many are at hand behind them.
+    #[inline(always)]
     pub(crate) fn put(
         &mut self,
         alloc: Global,
@@ -275,24 +288,6 @@ impl Pile {
         match whole {
             true => self.collect(alloc, field, kept, piece, bytes),
             false => self.pass(field, piece),
-        }
-    }
-
-    /// `put` of an approximate plane.
-    #[inline(always)]
-    pub(crate) fn put_plane(
-        &mut self,
-        alloc: Global,
-        kept: &Kept,
-        piece: &[u8],
-        whole: bool,
-    ) -> Result<(), NoMemory>
-        requires { whole ≡ true → CanCollect Open.ApproxPlane kept.now (pile_passed Open.ApproxPlane self.old piece.now) }
-        ensures { OnOk result (self.new ≡ pile_when whole Open.ApproxPlane kept.now (pile_passed Open.ApproxPlane self.old piece.now)) }
-    {
-        match whole {
-            true => self.approx_plane(alloc, kept, piece),
-            false => self.pass(Open::ApproxPlane, piece),
         }
     }
 

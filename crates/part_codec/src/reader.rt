@@ -21,6 +21,7 @@ use sha2::{Digest, Sha256};
 use std::alloc::Global;
 
 /// Takes bytes up to the end of the open field, which isn't the trailer, and collects what they make whole.
+#[inline(always)]
 fn step(
     alloc: Global,
     machine: &mut Machine,
@@ -46,7 +47,24 @@ fn step(
     Ok(n)
 }
 
-/// The same at an approximate plane.
+/// `step`, which isn't copied to where this is called.
+#[inline(never)]
+fn step_apart(
+    alloc: Global,
+    machine: &mut Machine,
+    pile: &mut Pile,
+    piece: &[u8],
+) -> Result<usize, PartFault>
+    requires front { IsFront machine.old }
+    requires read { ∥ HasRead machine.old pile.old ∥₁ }
+    ensures ok { IfOk result (TakesTo machine.old machine.new pile.old pile.new piece.now) }
+    ensures err { IfErr result (FailsRead machine.old pile.old piece.now) }
+    ensures progress { IfOk result (λ n. 0 < length piece.now → 0 < n) }
+{
+    step(alloc, machine, pile, piece)
+}
+
+/// The same at an approximate plane. One that is whole in the piece is taken where nothing goes by the open field.
 #[inline(always)]
 fn step_plane(
     alloc: Global,
@@ -61,9 +79,58 @@ fn step_plane(
     ensures err { IfErr result (FailsRead machine.old pile.old piece.now) }
     ensures progress { IfOk result (λ n. 0 < length piece.now → 0 < n) }
 {
-    let (n, whole) = machine.advance_plane(piece)?;
-    pile.put_plane(alloc, &machine.kept, &piece[..n], whole)?;
+    let n = machine.whole_plane(piece);
+    if n > 0 {
+        pile.approx_plane(alloc, &machine.kept, &piece[..n])?;
+        return Ok(n);
+    }
+    step_apart(alloc, machine, pile, piece)
+}
+
+/// Takes the mode of a block that says none or all and isn't the last, if it is at hand, and collects the block.
+#[inline(always)]
+fn step_plain(
+    alloc: Global,
+    machine: &mut Machine,
+    pile: &mut Pile,
+    piece: &[u8],
+) -> Result<usize, PartFault>
+    requires field { machine.old.field ≡ opens.BlockMode }
+    requires front { IsFront machine.old }
+    requires read { ∥ HasRead machine.old pile.old ∥₁ }
+    ensures ok { IfOk result (TakesTo machine.old machine.new pile.old pile.new piece.now) }
+    ensures err { IfErr result (FailsRead machine.old pile.old piece.now) }
+{
+    let n = machine.whole_plain(piece);
+    if n == 0 {
+        return Ok(0);
+    }
+    pile.plain(alloc, &machine.kept)?;
     Ok(n)
+}
+
+/// `step` at the issuer of a block, and at its mode where both are at hand and there is no more of the block: most of a
+/// long part is blocks that say none or all.
+#[inline(always)]
+fn step_block(
+    alloc: Global,
+    machine: &mut Machine,
+    pile: &mut Pile,
+    piece: &[u8],
+) -> Result<usize, PartFault>
+    requires field { machine.old.field ≡ opens.BlockIssuer }
+    requires front { IsFront machine.old }
+    requires read { ∥ HasRead machine.old pile.old ∥₁ }
+    ensures ok { IfOk result (TakesTo machine.old machine.new pile.old pile.new piece.now) }
+    ensures err { IfErr result (FailsRead machine.old pile.old piece.now) }
+    ensures progress { IfOk result (λ n. 0 < length piece.now → 0 < n) }
+{
+    let n = machine.whole_issuer(piece);
+    if n == 0 {
+        return step_apart(alloc, machine, pile, piece);
+    }
+    let more = step_plain(alloc, machine, pile, &piece[n..])?;
+    Ok(n + more)
 }
 
 /// Takes bytes of an approximate stage's planes.
@@ -91,7 +158,7 @@ fn read_planes(
     Ok(taken)
 }
 
-/// Takes bytes of a field, or of planes that stand together.
+/// Takes bytes of a field, of a block that says none or all, or of planes that stand together.
 #[inline(always)]
 fn walk(
     alloc: Global,
@@ -106,6 +173,7 @@ fn walk(
     ensures progress { IfOk result (λ n. 0 < length piece.now → 0 < n) }
 {
     match machine.field {
+        Open::BlockIssuer => step_block(alloc, machine, pile, piece),
         Open::ApproxPlane => read_planes(alloc, machine, pile, piece),
         _ => step(alloc, machine, pile, piece),
     }

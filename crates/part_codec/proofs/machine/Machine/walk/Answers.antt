@@ -11,7 +11,7 @@ pub returns-clause-ok : goal.returns-clause-ok
 returns-clause-ok c =
     let f = c.in_ok-n.ensures.ok in
     record {
-      stands = λ s b st. record { seen = _; stands = f.stands s b st; front = front-moved c.in_ok-n.field-0-1 c.args.self.now c.step_known.new.self _ c.requires.front (f.moved s b st) };
+      stands = λ s b st. record { seen = _; stands = f.stands s b st; front = front-moved c.in_ok-n.field-0-1 c.args.self.now c.advance.new.self _ c.requires.front (f.moved s b st) };
       partial = f.partial;
       count = f.count;
     }

@@ -1,8 +1,0 @@
-use Rattle.std.proofs.lemmas.Result.{err_from_is_err_and}
-use Rattle.part_codec.proofs.MachineStands.{piece-fails}
-use Rattle.part_codec.proofs.machine.Machine.advance_plane.Goals as goal
-
-pub returns-in_err-complete_plane-clause-err : goal.returns-in_err-complete_plane-clause-err
-returns-in_err-complete_plane-clause-err c =
-    let p = err_from_is_err_and c.from_residual.result c.from_residual.ensures.1 in
-    rw (p.1, p.2) (λ s b x st. piece-fails b c.args.piece.now x _ _ (c.in_err-complete_plane.ensures.err s b _ st))
