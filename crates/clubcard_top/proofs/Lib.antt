@@ -16,6 +16,7 @@ pub mod Outputs
 pub mod PagesPut
 pub mod PagesRead
 pub mod Overs
+pub mod Piecewise
 pub mod Prefixes
 pub mod Promised
 pub mod QueryCerts

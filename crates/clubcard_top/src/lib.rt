@@ -9,6 +9,7 @@ mod fault;
 mod gathering;
 mod laws;
 mod output;
+mod pieces;
 mod publishing;
 mod rebasing;
 mod rehearsing;

@@ -5,21 +5,29 @@ ghost use Rattle.sha2.specs.Sha256.{sha256};
 ghost use Rattle.outside_core.specs.Effects.{OnlyWrites};
 ghost use Rattle.outside_core.specs.Files.{Rose, Torn, extending, putting};
 ghost use Rattle.sample_core.specs.Sample.{sample_text};
+ghost use Rattle.clubcard_top.specs.Digested.{joined};
 ghost use Rattle.clubcard_top.specs.Runs.{with_outputs, IsLeft, IsTorn};
 
+use crate::pieces::append_digested;
 use outside_core::{Depot, Failed, append_all};
 use sample_core::SampleJob;
-use sha2::{Digest, Sha256};
 use std::marker::Model;
-use std::thread::{Threads, join_mut};
+use std::thread::Threads;
+
+/// What a file is to hold.
+#[derive(Debug, Drop)]
+enum Text {
+    /// These bytes.
+    Whole(Vec<u8>),
+    /// These pieces, one behind the other, and behind them the digest of all, which is drawn as they are written.
+    Digested(Vec<Vec<u8>>),
+}
 
 /// A file to be written: its name, which the words lend, and the bytes that it then holds.
 #[derive(Debug, Drop)]
 pub struct Output<'a> {
     name: &'a str,
-    text: Vec<u8>,
-    // Whether the text's digest stands behind it. It is drawn as the text is written.
-    digested: bool,
+    text: Text,
 }
 
 impl<'a> Model for Output<'a> {
@@ -28,7 +36,7 @@ impl<'a> Model for Output<'a> {
 
     ghost Value = { OutputFields };
 
-    ghost view = { λ o. record { name = o.name.now; bytes = bytes_of o.text.items o.digested } };
+    ghost view = { λ o. record { name = o.name.now; bytes = bytes_of o.text } };
 }
 
 impl<'a> Output<'a> {
@@ -38,19 +46,18 @@ impl<'a> Output<'a> {
     {
         Output {
             name,
-            text: bytes,
-            digested: false,
+            text: Text::Whole(bytes),
         }
     }
 
-    /// The output of this text and its SHA-256 (FIPS 180-4) to the file of this name.
-    pub fn digested(name: &'a str, text: Vec<u8>) -> Output<'a>
-        ensures { result ≡ record { name = name.now; bytes = text.items ++ sha256 text.items } }
+    /// The output of the text that these pieces make, one behind the other, and its SHA-256 (FIPS 180-4) to the file of
+    /// this name.
+    pub fn digested(name: &'a str, pieces: Vec<Vec<u8>>) -> Output<'a>
+        ensures { result ≡ record { name = name.now; bytes = joined pieces.items ++ sha256 (joined pieces.items) } }
     {
         Output {
             name,
-            text,
-            digested: true,
+            text: Text::Digested(pieces),
         }
     }
 
@@ -68,37 +75,11 @@ impl<'a> Output<'a> {
         ensures cause { OnErr result (Rose (D.write_faults depot.old) (D.write_faults depot.new)) }
         ensures only_writes { OnlyWrites D.Depot depot.old depot.new }
     {
-        if self.digested {
-            return append_digested(rt, depot, self.name, &self.text);
+        match &self.text {
+            Text::Whole(bytes) => append_all(depot, self.name, bytes),
+            Text::Digested(pieces) => append_digested(rt, depot, self.name, pieces),
         }
-        append_all(depot, self.name, &self.text)
     }
-}
-
-/// Adds a text and its digest behind what a file holds. One thread draws the digest while another writes the text.
-fn append_digested<R: Threads, D: Depot>(
-    rt: &R,
-    depot: &mut D,
-    name: &str,
-    text: &[u8],
-) -> Result<(), Failed>
-    ensures ok { OnOk result (D.files depot.new ≡ extending (D.files depot.old) name.now (text.now ++ sha256 text.now)) }
-    ensures err { OnErr result (Torn (D.files depot.old) (D.files depot.new) name.now (text.now ++ sha256 text.now)) }
-    ensures cause { OnErr result (Rose (D.write_faults depot.old) (D.write_faults depot.new)) }
-    ensures only_writes { OnlyWrites D.Depot depot.old depot.new }
-{
-    let mut draw = || -> [u8; 32]
-        ensures { result ≡ sha256 text.entry.now }
-    { Sha256::digest(text) };
-    let mut write = || -> Result<(), Failed>
-        ensures { OnOk result (D.files depot.exit.now ≡ extending (D.files depot.entry.now) name.entry.now text.entry.now)
-            × OnErr result (Torn (D.files depot.entry.now) (D.files depot.exit.now) name.entry.now text.entry.now)
-            × OnErr result (Rose (D.write_faults depot.entry.now) (D.write_faults depot.exit.now))
-            × OnlyWrites D.Depot depot.entry.now depot.exit.now }
-    { append_all(depot, name, text) };
-    let (digest, written) = join_mut(rt, &mut draw, &mut write);
-    written?;
-    append_all(depot, name, &digest)
 }
 
 /// Writes one output: begins its file, and adds all bytes.

@@ -16,7 +16,7 @@ use crate::fault::unpublished;
 use crate::output::Output;
 use crate::reply::Reply;
 use input_core::{job_in, ledger_in};
-use ledger_core::{Ledger, encode_ledger, encode_ledger_body};
+use ledger_core::{Ledger, encode_ledger, encode_ledger_pieces};
 use line_core::{Line, reported};
 use octets_core::NoMemory;
 use outside_core::Depot;
@@ -26,8 +26,10 @@ use std::alloc::Global;
 use std::thread::Threads;
 use word_core::{Delta, Snapshot};
 
-/// The output of a ledger to the file of this name. More workers than one draw its digest as it is written.
-fn ledger_output<'a>(
+/// The output of a ledger to the file of this name. Where there are more workers than one, several threads make its
+/// text, and its digest is drawn as it is written.
+fn ledger_output<'a, R: Threads + Sync>(
+    rt: &R,
     alloc: Global,
     name: &'a str,
     ledger: &Ledger,
@@ -36,8 +38,8 @@ fn ledger_output<'a>(
     ensures { IfOk result (λ o. o ≡ record { name = name.now; bytes = ledger_text ledger.now }) }
 {
     if workers > 1 {
-        let text = encode_ledger_body(alloc, ledger)?;
-        return Ok(Output::digested(name, text));
+        let pieces = encode_ledger_pieces(rt, alloc, ledger)?;
+        return Ok(Output::digested(name, pieces));
     }
     let bytes = encode_ledger(alloc, ledger)?;
     Ok(Output::new(name, bytes))
@@ -45,7 +47,8 @@ fn ledger_output<'a>(
 
 /// The answer where a part and the ledger after it are written, to files of these names, and this line once they are
 /// whole.
-pub(crate) fn written<'a>(
+pub(crate) fn written<'a, R: Threads + Sync>(
+    rt: &R,
     alloc: Global,
     part: &'a str,
     ledger: &'a str,
@@ -57,7 +60,7 @@ pub(crate) fn written<'a>(
     ensures { IfOk result (λ a. reply_fields a ≡ done (both_files part.now ledger.now sealed.now after.now line)) }
 {
     let part_bytes = encode_part(alloc, sealed)?;
-    let ledger_output = ledger_output(alloc, ledger, after, workers)?;
+    let ledger_output = ledger_output(rt, alloc, ledger, after, workers)?;
     let mut outputs = Vec::with_capacity(alloc, 2)?;
     outputs.push(Output::new(part, part_bytes))?;
     outputs.push(ledger_output)?;
@@ -65,7 +68,8 @@ pub(crate) fn written<'a>(
 }
 
 /// The answer where a job is published: its part and the ledger after it, to files of these names, and its report.
-fn published<'a>(
+fn published<'a, R: Threads + Sync>(
+    rt: &R,
     alloc: Global,
     part: &'a str,
     ledger: &'a str,
@@ -78,6 +82,7 @@ fn published<'a>(
     let epoch = sealed.part().head().epoch();
     let report = reported(epoch, publication.place(), publication.counts());
     written(
+        rt,
         alloc,
         part,
         ledger,
@@ -106,6 +111,7 @@ pub fn answer_snapshot<'a, R: Threads + Sync, G: Gate + Sync, D: Depot>(
     };
     match publish_first(rt, alloc, gate, job, snapshot.workers()) {
         Ok(publication) => published(
+            rt,
             alloc,
             snapshot.part(),
             snapshot.ledger(),
@@ -138,6 +144,7 @@ pub fn answer_delta<'a, R: Threads + Sync, G: Gate + Sync, D: Depot>(
     };
     match publish_after(rt, alloc, gate, ledger, job, delta.workers()) {
         Ok(publication) => published(
+            rt,
             alloc,
             delta.part(),
             delta.new_ledger(),

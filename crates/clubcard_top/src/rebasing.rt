@@ -23,7 +23,8 @@ use std::thread::Threads;
 use word_core::Rebase;
 
 /// The answer where a chain begins anew: its part and the ledger after it, and how many they have of each.
-fn rebased<'a>(
+fn rebased<'a, R: Threads + Sync>(
+    rt: &R,
     alloc: Global,
     rebase: &Rebase<'a>,
     publication: &BasePublication,
@@ -41,6 +42,7 @@ fn rebased<'a>(
         counts.pruned,
     );
     written(
+        rt,
         alloc,
         rebase.part(),
         rebase.new_ledger(),
@@ -68,7 +70,7 @@ pub fn answer_rebase<'a, R: Threads + Sync, G: Gate + Sync, D: Depot>(
         Err(fault) => return refused(rebase.ledger(), fault),
     };
     match publish_base(rt, alloc, gate, ledger, rebase.moment(), rebase.workers()) {
-        Ok(publication) => rebased(alloc, rebase, &publication),
+        Ok(publication) => rebased(rt, alloc, rebase, &publication),
         Err(fault) => refused(rebase.ledger(), unrebased(fault)),
     }
 }

@@ -1,6 +1,7 @@
 pub mod Seals
 pub mod Chains
 mod Small
+mod Pieces
 mod Dates
 pub mod Orders
 pub mod LedgerTexts

@@ -30,6 +30,11 @@ item_text version x =
     x.id.issuer ++ to_be_bytes w8 (length x.id.serial) ++ x.id.serial ++ to_be_bytes w8 x.birth ++ to_be_bytes w8 (last_number x.last)
     ++ date_text_in version x.until
 
+-- what stands before the identities
+unfoldable pub head_text : ℕ → LedgerFields → List ℕ
+head_text version l =
+    codes "CLUBLEDG" ++ to_be_bytes w8 version ++ to_be_bytes w8 (length l.parts) ++ flat_map part_text l.parts ++ to_be_bytes w32 (length l.items)
+
 -- all but the digest
 unfoldable pub body_text : ℕ → LedgerFields → List ℕ
 body_text version l =

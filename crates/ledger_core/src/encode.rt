@@ -8,8 +8,8 @@ ghost use Rattle.ident_core.specs.declared.bounds.TheConstants.{MAX_RANGES, MAX_
 ghost use Rattle.ident_core.specs.declared.layout.TheConstants.{RANGE_BYTES};
 ghost use Rattle.ledger_core.specs.declared.encode.TheConstants.{PART, ISSUER};
 ghost use Rattle.ledger_core.specs.LedgerFields.{part_fields};
-ghost use Rattle.ledger_core.specs.LedgerText.{last_number, part_text, date_text, item_text, body_text};
-ghost use Rattle.ledger_core.specs.LedgerText.{ledger_text};
+ghost use Rattle.ledger_core.specs.LedgerText.{last_number, part_text, date_text, item_text, head_text};
+ghost use Rattle.ledger_core.specs.LedgerText.{body_text, ledger_text};
 ghost use Rattle.ledger_core.specs.LedgerLayout.{ledger as layout};
 ghost use Rattle.ledger_core.specs.Fitting.{IsKey, IsSmall, PartFits, ItemFits, Fits};
 
@@ -17,11 +17,16 @@ use crate::fields::{LedgerItem, LedgerPart};
 use crate::ledger::Ledger;
 use ident_core::{MAX_SERIAL, RANGE_BYTES, put_ranges};
 use octets_core::{Key32, NoMemory, put_bytes, put_u8, put_u16, put_u32, put_u64};
+use rayon::prelude::*;
 use sha2::{Digest, Sha256};
 use std::alloc::Global;
+use std::thread::Threads;
+
+/// The bytes before the identities, in a ledger without parts.
+const HEAD: usize = 14;
 
 /// The bytes of a ledger with neither parts nor identities.
-const FRAME: usize = 46;
+const FRAME: usize = HEAD + 32;
 
 /// The bytes of a part with neither ranges nor issuers.
 const PART: usize = 46;
@@ -34,6 +39,9 @@ pub(crate) const ITEM: usize = 35;
 
 /// The bytes of an identity with the longest serial and a date.
 const LONGEST_ITEM: usize = ITEM + MAX_SERIAL + 9;
+
+/// The identities of a piece of text: about 2 MB.
+const PIECE_ITEMS: usize = 32_768;
 
 /// The number that stands for no last place.
 pub(crate) const NONE: u8 = 255;
@@ -142,26 +150,92 @@ fn put_items(out: &mut Vec<u8>, items: &[LedgerItem]) -> Result<(), NoMemory>
     Ok(())
 }
 
-#[tactic(auto, unfolding(crate::specs::LedgerText::body_text))]
-fn put_body(out: &mut Vec<u8>, ledger: &Ledger) -> Result<(), NoMemory>
-    ensures text { OnOk result (out.new.items ≡ out.old.items ++ body_text 2 ledger.now) }
-    ensures fits { OnOk result (Fits ledger.now) }
+// All that stands before the identities.
+#[tactic(auto, unfolding(crate::specs::LedgerText::head_text))]
+fn put_head(out: &mut Vec<u8>, ledger: &Ledger) -> Result<(), NoMemory>
+    ensures text { OnOk result (out.new.items ≡ out.old.items ++ head_text 2 ledger.now) }
+    ensures fits { OnOk result (All PartFits ledger.now.parts) }
 {
     let parts = ledger.parts();
-    let items = ledger.items();
     put_bytes(out, b"CLUBLEDG")?;
     put_u8(out, 2)?;
     put_u8(out, parts.len() as u8)?;
     put_parts(out, parts)?;
-    put_u32(out, items.len() as u32)?;
-    put_items(out, items)?;
+    put_u32(out, ledger.items().len() as u32)?;
     Ok(())
 }
 
+#[tactic(auto, unfolding(crate::specs::LedgerText::head_text, crate::specs::LedgerText::body_text))]
+fn put_body(out: &mut Vec<u8>, ledger: &Ledger) -> Result<(), NoMemory>
+    ensures text { OnOk result (out.new.items ≡ out.old.items ++ body_text 2 ledger.now) }
+    ensures fits { OnOk result (Fits ledger.now) }
+{
+    put_head(out, ledger)?;
+    put_items(out, ledger.items())?;
+    Ok(())
+}
+
+// The text before the identities. Memory is asked for once.
+fn encode_head(alloc: Global, ledger: &Ledger) -> Result<Vec<u8>, NoMemory>
+    ensures text { IfOk result (λ head. head.items ≡ head_text 2 ledger.now) }
+    ensures fits { OnOk result (All PartFits ledger.now.parts) }
+{
+    let mut out = Vec::with_capacity(alloc, HEAD + parts_len(ledger.parts()))?;
+    put_head(&mut out, ledger)?;
+    Ok(out)
+}
+
+// The text of identities. Memory is asked for once, for the longest text of as many: what this text leaves of it
+// isn't touched.
+fn encode_items(alloc: Global, items: &[LedgerItem]) -> Result<Vec<u8>, NoMemory>
+    ensures text { IfOk result (λ text. text.items ≡ flat_map (item_text 2) items.now) }
+    ensures fits { OnOk result (All ItemFits items.now) }
+{
+    let mut out = Vec::with_capacity(alloc, items.len().saturating_mul(LONGEST_ITEM))?;
+    put_items(&mut out, items)?;
+    Ok(out)
+}
+
+// The text of the identities in pieces, which several threads make.
+fn item_pieces<R: Threads + Sync>(
+    rt: &R,
+    alloc: Global,
+    items: &[LedgerItem],
+) -> Result<Vec<Vec<u8>>, NoMemory>
+    ensures text { IfOk result (λ pieces. flat_map (λ piece. piece.items) pieces.items ≡ flat_map (item_text 2) items.now) }
+    ensures fits { OnOk result (All ItemFits items.now) }
+{
+    items
+        .par_chunks(PIECE_ITEMS)
+        .map(
+            |chunk: &[LedgerItem]| -> Result<Vec<u8>, NoMemory>
+                ensures { IfOk result (λ piece. (piece.items ≡ flat_map (item_text 2) chunk.entry.now) × All ItemFits chunk.entry.now) }
+            { encode_items(alloc, chunk) },
+        )
+        .collect::<Result<Vec<Vec<u8>>, NoMemory>>(rt, alloc)?
+}
+
 /// The text of the ledger in version 2 but for its last 32 bytes, which are the SHA-256 (FIPS 180-4) of those before
-/// them, so that they can be drawn while these are written. Memory is asked for once, for the longest text with as many
-/// identities and for the digest: what a text leaves of it isn't touched.
-pub fn encode_ledger_body(alloc: Global, ledger: &Ledger) -> Result<Vec<u8>, NoMemory>
+/// them, so that they can be drawn while these are written. It is in pieces: one behind the other they make it. The
+/// first stands before the identities; each of the others has 32,768 of these, or those that are left. From 65,536
+/// identities on several threads make them. Each piece asks for memory once.
+pub fn encode_ledger_pieces<R: Threads + Sync>(
+    rt: &R,
+    alloc: Global,
+    ledger: &Ledger,
+) -> Result<Vec<Vec<u8>>, NoMemory>
+    ensures text { IfOk result (λ pieces. flat_map (λ piece. piece.items) pieces.items ≡ body_text 2 ledger.now) }
+    ensures fits { OnOk result (Fits ledger.now) }
+{
+    let head = encode_head(alloc, ledger)?;
+    let mut pieces = item_pieces(rt, alloc, ledger.items())?;
+    pieces.insert(0, head)?;
+    Ok(pieces)
+}
+
+// The text but for its digest. Memory is asked for once, for the longest text with as many identities and for the
+// digest: what a text leaves of it isn't touched.
+fn encode_body(alloc: Global, ledger: &Ledger) -> Result<Vec<u8>, NoMemory>
     ensures text { IfOk result (λ text. text.items ≡ body_text 2 ledger.now) }
     ensures fits { OnOk result (Fits ledger.now) }
 {
@@ -178,7 +252,7 @@ pub fn encode_ledger(alloc: Global, ledger: &Ledger) -> Result<Vec<u8>, NoMemory
     ensures fits { OnOk result (Fits ledger.now) }
     ensures read_back { IfOk result (λ text. layout text.items 0 ≡ Ok (ledger.now, length text.items)) }
 {
-    let mut out = encode_ledger_body(alloc, ledger)?;
+    let mut out = encode_body(alloc, ledger)?;
     let digest = Sha256::digest(out.as_slice());
     put_bytes(&mut out, &digest)?;
     Ok(out)

@@ -10,7 +10,7 @@ mod laws;
 mod ledger;
 
 pub use decode::decode_ledger;
-pub use encode::{encode_ledger, encode_ledger_body};
+pub use encode::{encode_ledger, encode_ledger_pieces};
 pub use fault::LedgerFault;
 pub use fields::{LedgerItem, LedgerPart};
 pub use laws::{a_text_is_read_back, only_a_text_is_read};

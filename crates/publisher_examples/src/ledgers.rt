@@ -5,8 +5,11 @@ ghost use Rattle.std.specs.Prelude.{◌≡◌, replicate, IfOk, [], ◌∷◌};
 ghost use Rattle.ledger_core.specs.LedgerFields.{part_fields};
 
 use ident_core::{Identity, Range, Serial};
-use ledger_core::{Draft, LedgerFault, LedgerItem, LedgerPart, decode_ledger, encode_ledger};
+use ledger_core::{
+    Draft, LedgerFault, LedgerItem, LedgerPart, decode_ledger, encode_ledger, encode_ledger_pieces,
+};
 use octets_core::{Field, Key32, LayoutFault, Why};
+use sha2::{Digest, Sha256};
 use std::alloc::Global;
 use std::test::Fail;
 
@@ -202,6 +205,48 @@ fn reads_version_1_without_dates(rt: HostRuntime) -> Result<(), Fail> {
     assert_eq!(rt; text.len(), 372);
     let again = decode_ledger(alloc, &text)?;
     assert_eq!(rt; again.items(), items.as_slice());
+    Ok(())
+}
+
+// The text of a ledger whose one part is that of EMPTY, with so many identities of one issuer.
+fn text_of_many(alloc: Global, count: u32) -> Result<Vec<u8>, Fail> {
+    let mut text = Vec::new(alloc);
+    text.extend_from_slice(EMPTY.get(..56).unwrap_or(b""))?;
+    text.extend_from_slice(&count.to_be_bytes())?;
+    for place in 0..count {
+        text.extend_from_slice(&[0x11; 32])?;
+        text.push(4)?;
+        text.extend_from_slice(&(place | 1 << 24).to_be_bytes())?;
+        text.extend_from_slice(&[0, 255, 0])?;
+    }
+    let digest = Sha256::digest(text.as_slice());
+    text.extend_from_slice(&digest)?;
+    Ok(text)
+}
+
+// The pieces one behind the other, and the digest of all.
+fn together(alloc: Global, pieces: &[Vec<u8>]) -> Result<Vec<u8>, Fail> {
+    let mut text = Vec::new(alloc);
+    for piece in pieces {
+        text.extend_from_slice(piece)?;
+    }
+    let digest = Sha256::digest(text.as_slice());
+    text.extend_from_slice(&digest)?;
+    Ok(text)
+}
+
+// One thread makes those of one identity, and of none; several make those of more than 65,536.
+#[test]
+fn writes_a_ledger_in_pieces(rt: HostRuntime) -> Result<(), Fail> {
+    let alloc = rt.alloc();
+    for (count, want) in [(0, 1), (1, 2), (32_768, 2), (65_537, 4)] {
+        let text = text_of_many(alloc, count)?;
+        let ledger = decode_ledger(alloc, &text)?;
+        let pieces = encode_ledger_pieces(&rt, alloc, &ledger)?;
+        assert_eq!(rt; pieces.len(), want);
+        assert_eq!(rt; together(alloc, &pieces)?, text);
+        assert_eq!(rt; encode_ledger(alloc, &ledger)?, text);
+    }
     Ok(())
 }
 

@@ -1,0 +1,62 @@
+//! Texts in pieces, which several threads made, on their way into a file.
+
+ghost use Rattle.std.specs.Prelude.{◌≡◌, ◌≤◌, ◌++◌, OnOk, OnErr};
+ghost use Rattle.sha2.specs.Sha256.{sha256};
+ghost use Rattle.outside_core.specs.Effects.{OnlyWrites};
+ghost use Rattle.outside_core.specs.Files.{Rose, Torn, extending};
+ghost use Rattle.clubcard_top.specs.Digested.{joined};
+
+use outside_core::{Depot, Failed, append_all};
+use sha2::{Digest, Sha256};
+use std::thread::{Threads, join_mut};
+
+/// The SHA-256 (FIPS 180-4) of the pieces, one behind the other.
+fn digest_of(pieces: &[Vec<u8>]) -> [u8; 32]
+    ensures { result ≡ sha256 (joined pieces.now) }
+{
+    let mut hasher = Sha256::new();
+    for piece in pieces {
+        hasher.update(piece.as_slice());
+    }
+    hasher.finalize()
+}
+
+/// Adds the pieces in their order behind what a file holds.
+fn append_pieces<D: Depot>(depot: &mut D, name: &str, pieces: &[Vec<u8>]) -> Result<(), Failed>
+    ensures ok { OnOk result (D.files depot.new ≡ extending (D.files depot.old) name.now (joined pieces.now)) }
+    ensures err { OnErr result (Torn (D.files depot.old) (D.files depot.new) name.now (joined pieces.now)) }
+    ensures cause { OnErr result (Rose (D.write_faults depot.old) (D.write_faults depot.new)) }
+    ensures only_writes { OnlyWrites D.Depot depot.old depot.new }
+{
+    for piece in pieces {
+        append_all(depot, name, piece.as_slice())?;
+    }
+    Ok(())
+}
+
+/// Adds a text, which the pieces make, and its digest behind what a file holds. One thread draws the digest while
+/// another writes the pieces.
+pub(crate) fn append_digested<R: Threads, D: Depot>(
+    rt: &R,
+    depot: &mut D,
+    name: &str,
+    pieces: &[Vec<u8>],
+) -> Result<(), Failed>
+    ensures ok { OnOk result (D.files depot.new ≡ extending (D.files depot.old) name.now (joined pieces.now ++ sha256 (joined pieces.now))) }
+    ensures err { OnErr result (Torn (D.files depot.old) (D.files depot.new) name.now (joined pieces.now ++ sha256 (joined pieces.now))) }
+    ensures cause { OnErr result (Rose (D.write_faults depot.old) (D.write_faults depot.new)) }
+    ensures only_writes { OnlyWrites D.Depot depot.old depot.new }
+{
+    let mut draw = || -> [u8; 32]
+        ensures { result ≡ sha256 (joined pieces.entry.now) }
+    { digest_of(pieces) };
+    let mut write = || -> Result<(), Failed>
+        ensures { OnOk result (D.files depot.exit.now ≡ extending (D.files depot.entry.now) name.entry.now (joined pieces.entry.now))
+            × OnErr result (Torn (D.files depot.entry.now) (D.files depot.exit.now) name.entry.now (joined pieces.entry.now))
+            × OnErr result (Rose (D.write_faults depot.entry.now) (D.write_faults depot.exit.now))
+            × OnlyWrites D.Depot depot.entry.now depot.exit.now }
+    { append_pieces(depot, name, pieces) };
+    let (digest, written) = join_mut(rt, &mut draw, &mut write);
+    written?;
+    append_all(depot, name, &digest)
+}
