@@ -72,68 +72,48 @@ fn sums_in_lanes(rt: HostRuntime) -> Result<(), Fail> {
     Ok(())
 }
 
-// The planes of one start whose words these are, two a plane.
-fn placed(alloc: Global, planes: u8, text: &[u64]) -> Result<Planes, NoMemory>
+/// The planes of one start whose words these bytes spell, two a plane.
+pub(crate) fn placed(alloc: Global, planes: u8, text: &[u8]) -> Result<Planes, NoMemory>
     requires some { 1 ≤ planes }
     requires few { planes ≤ MAX_PLANES }
-    requires text { length text.now ≡ planes * 2 }
+    requires text { length text.now ≡ 8 * (planes * 2) }
 {
-    Planes::of_words(alloc, 1, planes, text)
+    Planes::of_bytes(alloc, 1, planes, text)
 }
 
-fn compare_text<L: Ledger>(rt: &impl Abort, planes: &Planes, text: &[u64], blank: Blank)
+fn compare_text<L: Ledger>(rt: &impl Abort, planes: &Planes, text: &[u8], blank: Blank)
     requires name { blank.name ≡ L.name }
     requires parts { blank.parts ≡ L.parts }
     requires some { 0 < L.parts }
 {
     let mut steps: Steps<L> = Steps::new(blank);
     let width = words_for(planes.starts());
-    for (at, word) in text.iter().enumerate() {
+    let (words, _) = text.as_chunks::<8>();
+    for (at, word) in words.iter().enumerate() {
         let read = word_of(planes, at / width, at % width, &mut steps);
-        assert_eq!(rt; read, Some(*word), "at word {at} of the text");
+        assert_eq!(rt;
+            read,
+            Some(u64::from_be_bytes(*word)),
+            "at word {at} of the text"
+        );
     }
 }
 
-const TEXT: [u64; 32] = [
-    1,
-    0x8000_0000_0000_0002,
-    3,
-    4,
-    5,
-    6,
-    7,
-    8,
-    9,
-    10,
-    11,
-    12,
-    13,
-    14,
-    15,
-    16,
-    17,
-    18,
-    19,
-    20,
-    21,
-    22,
-    23,
-    24,
-    25,
-    26,
-    27,
-    28,
-    29,
-    30,
-    31,
-    0xffff_ffff_ffff_ffff,
-];
+// Thirty-two words.
+const TEXT: &[u8; 256] = b"\0\0\0\0\0\0\0\x01\x80\0\0\0\0\0\0\x02plane02wplane03w\
+    plane04wplane05wplane06wplane07w\
+    plane08wplane09wplane10wplane11w\
+    plane12wplane13wplane14wplane15w\
+    plane16wplane17wplane18wplane19w\
+    plane20wplane21wplane22wplane23w\
+    plane24wplane25wplane26wplane27w\
+    plane28wplane29wplane30w\xff\xff\xff\xff\xff\xff\xff\xff";
 
 // Puts the words at their places, and reads them again.
-fn back_and_forth(rt: &impl Abort, alloc: Global, planes: u8, text: &[u64]) -> Result<(), NoMemory>
+fn back_and_forth(rt: &impl Abort, alloc: Global, planes: u8, text: &[u8]) -> Result<(), NoMemory>
     requires some { 1 ≤ planes }
     requires few { planes ≤ MAX_PLANES }
-    requires text { length text.now ≡ planes * 2 }
+    requires text { length text.now ≡ 8 * (planes * 2) }
 {
     let kept = placed(alloc, planes, text)?;
     compare_text::<Brand>(rt, &kept, text, Blank::new(1));
@@ -142,9 +122,9 @@ fn back_and_forth(rt: &impl Abort, alloc: Global, planes: u8, text: &[u64]) -> R
 
 #[test]
 fn words_back_and_forth(rt: HostRuntime) -> Result<(), Fail> {
-    back_and_forth(&rt, rt.alloc(), 1, &TEXT[..2])?;
-    back_and_forth(&rt, rt.alloc(), 2, &TEXT[..4])?;
-    back_and_forth(&rt, rt.alloc(), 15, &TEXT[..30])?;
-    back_and_forth(&rt, rt.alloc(), 16, &TEXT)?;
+    back_and_forth(&rt, rt.alloc(), 1, &TEXT[..16])?;
+    back_and_forth(&rt, rt.alloc(), 2, &TEXT[..32])?;
+    back_and_forth(&rt, rt.alloc(), 15, &TEXT[..240])?;
+    back_and_forth(&rt, rt.alloc(), 16, TEXT)?;
     Ok(())
 }

@@ -2,6 +2,7 @@
 
 ghost use Rattle.std.specs.Prelude.{◌≡◌, ◌+◌, ◌<◌, length};
 
+use crate::lanes::placed;
 use crate::words::compare_words;
 use equation_core::Row;
 use octets_core::Steps;
@@ -263,10 +264,14 @@ fn words_read(rt: HostRuntime) -> Result<(), Fail> {
     Ok(())
 }
 
+// Of each word the greatest byte comes first.
 #[test]
-fn planes_of_words(rt: HostRuntime) -> Result<(), Fail> {
-    let words = [1, 0x8000_0000_0000_0000, 2, 3];
-    let planes = Planes::of_words(rt.alloc(), 1, 2, &words)?;
-    compare_words(&rt, &planes, &[&words[..2], &words[2..]]);
+fn planes_of_bytes(rt: HostRuntime) -> Result<(), Fail> {
+    let bytes =
+        *b"\0\0\0\0\0\0\0\x01\x80\0\0\0\0\0\0\0\0\0\0\0\0\0\0\x02\x01\x02\x03\x04\x05\x06\x07\x08";
+    let planes = placed(rt.alloc(), 2, &bytes)?;
+    let first = [1, 0x8000_0000_0000_0000];
+    let second = [2, 0x0102_0304_0506_0708];
+    compare_words(&rt, &planes, &[&first, &second]);
     Ok(())
 }

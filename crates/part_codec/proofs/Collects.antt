@@ -1,12 +1,9 @@
 -- What is collected is what was seen.
-use Rattle.std.proofs.Common.{◌≡◌, ℕ, zero, suc, ◌+◌, ◌-◌, ◌*◌, ◌/◌, ◌≤◌, ◌<◌, Bool, true, false, List, [], ◌∷◌, ◌++◌, length, take, drop, Option, Some, None, refl, sym, ap, subst, ◌∙◌, arith}
-use Rattle.std.specs.Prelude.{map}
+use Rattle.std.proofs.Common.{◌≡◌, ℕ, zero, suc, ◌+◌, ◌-◌, ◌*◌, ◌≤◌, ◌<◌, Bool, true, false, List, [], ◌∷◌, ◌++◌, length, take, drop, Option, Some, None, refl, sym, ap, subst, ◌∙◌, arith}
 use Rattle.std.specs.Int.{w8, w16, w32, w64, from_be_bytes}
-use Rattle.std.specs.Simd.{first_chunks}
-use Rattle.std.proofs.lemmas.List.{drop-append-le, append-nil}
+use Rattle.std.proofs.lemmas.List.{append_assoc, drop-append-le, append-nil}
 use Rattle.equation_core.specs.declared.hash.TheConstants.{MAX_PLANES}
 use Rattle.equation_core.specs.Sizes.{words_for}
-use Rattle.ribbon_core.specs.PlaneWords.{columns_of}
 use Rattle.ident_core.specs.declared.range.Range.{Range}
 use Rattle.card_core.specs.declared.block.Block.{Block}
 use Rattle.card_core.specs.declared.block.Body.{Body}
@@ -16,7 +13,7 @@ use Rattle.card_core.specs.declared.leaf.Leaf.TheVariants as leaves_of
 use Rattle.card_core.specs.Filter.{as_body}
 use Rattle.card_core.specs.declared.stage.Stage.{Stage}
 use Rattle.part_text.specs.PlaneBytes.{columns_of_bytes, is_padded}
-use Rattle.part_codec.specs.ReadWords.{AreRead, AreStageWords, spelled}
+use Rattle.part_codec.specs.ReadPlanes.{columns_read, AreRead, AreStageBytes}
 use Rattle.part_codec.specs.PileFields.{PileFields}
 use Rattle.part_codec.specs.declared.fields.Kept.{Kept}
 use Rattle.part_codec.specs.declared.fields.Open.{Open}
@@ -28,12 +25,12 @@ use Rattle.part_codec.specs.Stepping.{seen_mode, seen_leaf_mode, settled as sett
 use Rattle.part_codec.specs.Stepping.{seen_after, AreStarts, InLeaf, Counts, Passed, open_leaf, in_front, tail_of, IsOpen}
 use Rattle.part_codec.specs.Scanning.{Stands, Moved, seen_when, hashed_to}
 use Rattle.part_codec.specs.Taking.{Advances, TakesTo}
-use Rattle.part_codec.specs.Collecting.{with_words, leaf_in, IsLast, exact_leaf, cleared, stage_by, pile_mode, pile_plane, pile_exact, pile_after, pile_when}
+use Rattle.part_codec.specs.Collecting.{with_whole, leaf_in, IsLast, exact_leaf, cleared, stage_by, pile_mode, pile_plane, pile_exact, pile_after, pile_when}
 use Rattle.part_codec.specs.Collecting.{pile_passed, CanCollect, FewPlanes, IsApprox, IsExact, Staged, Collects, Reads, ReadsFront, HasRead}
 use Rattle.part_codec.proofs.FieldSteps.{leaf-starts}
 use Rattle.part_codec.proofs.MachineLaws.{leaf-mode}
 use Rattle.part_codec.proofs.MachineStands.{drop-all, front-moved}
-use Rattle.part_codec.proofs.Planes.{columns-more, are_read-more, none_read, words-are}
+use Rattle.part_codec.proofs.Planes.{columns-more, are_read-more, none_read}
 
 staged-range : (n : ℕ) (k : Kept) (s : Seen) (p : PileFields) → Staged (open_range n) k s p []
 staged-range zero k s p = tt
@@ -126,51 +123,49 @@ collected-leaf_mode (suc (suc n)) k s p one ranges blocks leaves = record { rang
 
 -- behind a plane, or before the first
 piled-plane : (n : ℕ) (k : Kept) (s : Seen) (q : PileFields) → k.planes ≡ n → s.ranges ≡ q.ranges → s.blocks ≡ q.blocks → s.leaves ≡ q.leaves → s.approx ≡ Some (stage_by k q)
-    → s.columns ≡ columns_of k.starts q.done q.words
-    → AreRead k.starts q.done q.words → q.done + n ≤ MAX_PLANES → q.plane ≡ [] → Collects (open_plane n) k s (pile_plane n k q) []
-piled-plane zero k s q is ranges blocks leaves approx columns read few none = record { ranges = ranges; blocks = blocks; leaves = leaves; stage = approx }
-piled-plane (suc n) k s q is ranges blocks leaves approx columns read few none =
-    record { ranges = ranges; blocks = blocks; leaves = leaves; stage = record { columns = columns; read = read; some = omega (arith, is); few = omega (arith, is, few); plane = none } }
+    → s.columns ≡ columns_read k.starts q.done q.bytes
+    → AreRead k.starts q.done q.bytes → q.done + n ≤ MAX_PLANES → Collects (open_plane n) k s (pile_plane n k q) []
+piled-plane zero k s q is ranges blocks leaves approx columns read few = record { ranges = ranges; blocks = blocks; leaves = leaves; stage = approx }
+piled-plane (suc n) k s q is ranges blocks leaves approx columns read few =
+    let stage : IsApprox k s q [] =
+    record { whole = q.bytes; columns = columns; read = read; some = omega (arith, is); few = omega (arith, is, few); bytes = sym (append-nil q.bytes) } in
+    record { ranges = ranges; blocks = blocks; leaves = leaves; stage = stage }
 
 first-plane : (n : ℕ) (k : Kept) (s : Seen) (q : PileFields) → k.planes ≡ n → 1 ≤ n → n ≤ MAX_PLANES → s.ranges ≡ q.ranges → s.blocks ≡ q.blocks → s.leaves ≡ q.leaves
     → Collects (open_plane n) k (with_approx k (record s { columns = [] })) (cleared q) []
 first-plane zero k s q is some few ranges blocks leaves = absurd (omega arith)
 first-plane (suc n) k s q is some few ranges blocks leaves =
     let stage : IsApprox k (with_approx k (record s { columns = [] })) (cleared q) [] =
-    record { columns = refl; read = none_read k.starts [] refl; some = omega (arith, is); few = omega (arith, is, few); plane = refl } in
+    record { whole = []; columns = refl; read = none_read k.starts; some = omega (arith, is); few = omega (arith, is, few); bytes = refl } in
     record { ranges = ranges; blocks = blocks; leaves = leaves; stage = stage }
 
 starts-plane : (k : Kept) (s : Seen) (p : PileFields) → s.ranges ≡ p.ranges → s.blocks ≡ p.blocks → s.leaves ≡ p.leaves → FewPlanes k
     → Collects (open_plane k.planes) k (with_approx k (record s { columns = [] })) (cleared p) []
 starts-plane k s p ranges blocks leaves few = first-plane k.planes k s p refl few.0 few.1 ranges blocks leaves
 
--- the words of the open plane
-more-words : (starts : ℕ) (p : PileFields) (P : List ℕ) → p.plane ≡ P → length P ≡ 8 * words_for starts → (with_words p).words ≡ p.words ++ spelled (words_for starts) P
-more-words starts p P is len = ap (λ (l : List ℕ). p.words ++ map (from_be_bytes w64) (first_chunks 8 (length l / 8) l)) is ∙ ap (λ (l : List ℕ). p.words ++ l) (words-are starts P len)
-
-more-columns : (starts : ℕ) (p : PileFields) (P : List ℕ) (columns : List ℕ) → p.plane ≡ P → length P ≡ 8 * words_for starts → AreRead starts p.done p.words
-    → columns ≡ columns_of starts p.done p.words
-    → (k : Kept) → k.starts ≡ starts → columns ++ column_of k P ∷ [] ≡ columns_of starts (p.done + 1) (with_words p).words
-more-columns starts p P columns is len read same k at =
+-- behind those that are whole
+more-columns : (starts : ℕ) (p : PileFields) (whole P columns : List ℕ) → p.bytes ≡ whole ++ P → AreRead starts p.done whole → columns ≡ columns_read starts p.done whole
+    → (k : Kept) → k.starts ≡ starts → columns ++ column_of k P ∷ [] ≡ columns_read starts (p.done + 1) p.bytes
+more-columns starts p whole P columns is read same k at =
     ap (λ (l : List ℕ). l ++ column_of k P ∷ []) same
-    ∙ ap (λ (n : ℕ). columns_of starts p.done p.words ++ columns_of_bytes (words_for n) P ∷ []) at
-    ∙ sym (ap (columns_of starts (p.done + 1)) (more-words starts p P is len) ∙ columns-more starts p.done p.words P read)
+    ∙ ap (λ (n : ℕ). columns_read starts p.done whole ++ columns_of_bytes (words_for n) P ∷ []) at
+    ∙ sym (ap (columns_read starts (p.done + 1)) is ∙ columns-more starts p.done whole P read)
 
-more-read : (starts : ℕ) (p : PileFields) (P : List ℕ) → p.plane ≡ P → (is_padded starts P ≡ true) × (length P ≡ 8 * words_for starts) → AreRead starts p.done p.words
-    → AreRead starts (p.done + 1) (with_words p).words
-more-read starts p P is told read = subst (AreRead starts (p.done + 1)) (sym (more-words starts p P is told.1)) (are_read-more starts p.done p.words P read told.0)
+more-read : (starts : ℕ) (p : PileFields) (whole P : List ℕ) → p.bytes ≡ whole ++ P → (is_padded starts P ≡ true) × (length P ≡ 8 * words_for starts) → AreRead starts p.done whole
+    → AreRead starts (p.done + 1) p.bytes
+more-read starts p whole P is told read = subst (AreRead starts (p.done + 1)) (sym is) (are_read-more starts p.done whole P read told.1 told.0)
 
 collected-plane : (k : Kept) (s : Seen) (p : PileFields) (P : List ℕ) → s.ranges ≡ p.ranges → s.blocks ≡ p.blocks → s.leaves ≡ p.leaves → IsApprox k s p P
     → (is_padded k.starts P ≡ true) × (length P ≡ 8 * words_for k.starts)
-    → Collects (open_plane (k.planes - 1)) (record k { planes = k.planes - 1 }) (with_approx k (with_plane k s P)) (pile_plane (k.planes - 1) (record k { planes = k.planes - 1 }) (with_words p)) []
+    → Collects (open_plane (k.planes - 1)) (record k { planes = k.planes - 1 }) (with_approx k (with_plane k s P)) (pile_plane (k.planes - 1) (record k { planes = k.planes - 1 }) (with_whole p)) []
 collected-plane k s p P ranges blocks leaves st told =
-    let columns : s.columns ++ column_of k P ∷ [] ≡ columns_of k.starts (p.done + 1) (with_words p).words = more-columns k.starts p P s.columns st.plane told.1 st.read st.columns k refl in
-    piled-plane (k.planes - 1) (record k { planes = k.planes - 1 }) (with_approx k (with_plane k s P)) (with_words p) refl ranges blocks leaves
-    (ap (λ (l : List ℕ). Some (record { seed = k.seed; planes = record { starts = k.starts; columns = l } })) columns) columns (more-read k.starts p P st.plane told st.read) (omega
-    (arith, st.some, st.few)) refl
+    let columns : s.columns ++ column_of k P ∷ [] ≡ columns_read k.starts (p.done + 1) p.bytes = more-columns k.starts p st.whole P s.columns st.bytes st.read st.columns k refl in
+    piled-plane (k.planes - 1) (record k { planes = k.planes - 1 }) (with_approx k (with_plane k s P)) (with_whole p) refl ranges blocks leaves
+    (ap (λ (l : List ℕ). Some (record { seed = k.seed; planes = record { starts = k.starts; columns = l } })) columns) columns (more-read k.starts p st.whole P st.bytes told st.read)
+    (omega (arith, st.some, st.few))
 
-none-read : (starts : ℕ) (p : PileFields) → p.done ≡ 0 → p.words ≡ [] → AreRead starts p.done p.words
-none-read starts p none words = rw none (none_read starts p.words words)
+none-read : (starts : ℕ) (p : PileFields) → p.done ≡ 0 → AreRead starts p.done []
+none-read starts p none = rw none (none_read starts)
 
 mixed_with : Kept → Option Stage → List ℕ → Leaf
 mixed_with k approx columns = leaves_of.Mixed (record { approx = approx; exact = record { seed = k.seed; planes = record { starts = k.starts; columns = columns } } })
@@ -180,19 +175,19 @@ leaf-seed zero k = refl
 leaf-seed (suc n) k = refl
 
 -- the leaf that is collected is the one that is read
-exact-same : (k : Kept) (s : Seen) (p : PileFields) (P : List ℕ) → IsExact s p P → length P ≡ 8 * words_for k.starts
+exact-same : (k : Kept) (s : Seen) (p : PileFields) (P : List ℕ) → IsExact s p P
     → mixed_of k (record s { columns = column_of k P ∷ [] }) ≡ exact_leaf (kept_leaves (k.leaves - 1) k) p
 unfolding mixed_with
-exact-same k s p P st len =
-    let none : [] ≡ columns_of k.starts p.done p.words = sym (ap (λ (n : ℕ). columns_of k.starts n p.words) st.none) in
-    let columns : column_of k P ∷ [] ≡ columns_of k.starts (p.done + 1) (with_words p).words = more-columns k.starts p P [] st.plane len (none-read k.starts p st.none st.words) none k refl in
+exact-same k s p P st =
+    let none : [] ≡ columns_read k.starts p.done [] = sym (ap (λ (n : ℕ). columns_read k.starts n []) st.none) in
+    let columns : column_of k P ∷ [] ≡ columns_read k.starts (p.done + 1) p.bytes = more-columns k.starts p [] P [] st.bytes (none-read k.starts p st.none) none k refl in
     ap (λ (a : Option Stage). mixed_with k a (column_of k P ∷ [])) st.approx
     ∙ ap (λ (l : List ℕ). mixed_with k p.approx l) columns
     ∙ ap (λ (n : ℕ). leaves_of.Mixed (record {
       approx = p.approx;
       exact = record {
         seed = n;
-        planes = record { starts = k.starts; columns = columns_of k.starts (p.done + 1) (with_words p).words };
+        planes = record { starts = k.starts; columns = columns_read k.starts (p.done + 1) p.bytes };
       };
     }))
     (sym (leaf-seed (k.leaves - 1) k))
@@ -200,7 +195,7 @@ exact-same k s p P st len =
       approx = p.approx;
       exact = record {
         seed = (kept_leaves (k.leaves - 1) k).seed;
-        planes = record { starts = n; columns = columns_of n (p.done + 1) (with_words p).words };
+        planes = record { starts = n; columns = columns_read n (p.done + 1) p.bytes };
       };
     }))
     (sym (leaf-starts (k.leaves - 1) k))
@@ -214,12 +209,11 @@ staged-leaf zero left k s p = staged-block left k s p
 staged-leaf (suc n) left k s p = tt
 
 collected-exact : (k : Kept) (s : Seen) (p : PileFields) (P : List ℕ) → (k.shift ≡ 0 → k.leaves ≡ 1) → s.ranges ≡ p.ranges → s.blocks ≡ p.blocks → s.leaves ≡ p.leaves → IsExact s p P
-    → length P ≡ 8 * words_for k.starts
     → Left (k.leaves - 1) k (seen_with k.shift (k.leaves - 1) k.key s (mixed_of k (record s { columns = column_of k P ∷ [] }))) (pile_exact (kept_leaves (k.leaves - 1) k) p)
-collected-exact k s p P one ranges blocks leaves st len =
+collected-exact k s p P one ranges blocks leaves st =
     without-approx (open_leaf (kept_leaves (k.leaves - 1) k).leaves (kept_leaves (k.leaves - 1) k).left) (kept_leaves (k.leaves - 1) k) _ _
     (λ q. staged-leaf (kept_leaves (k.leaves - 1) k).leaves (kept_leaves (k.leaves - 1) k).left (kept_leaves (k.leaves - 1) k) _ q)
-    (collected-one k s (with_words p) _ _ one ranges blocks leaves (exact-same k s p P st len))
+    (collected-one k s (with_whole p) _ _ one ranges blocks leaves (exact-same k s p P st))
 
 collected-steps : (o : Open) (k : Kept) (s : Seen) (p : PileFields) (P : List ℕ) → IsOpen o k → Collects o k s p P → Passed o k P
     → Collects (open_after o (kept_after o k P)) (kept_after o k P) (seen_after o k s P) (pile_after o (kept_after o k P) p) []
@@ -262,9 +256,9 @@ collected-steps opens.ExactStarts k s p P opened c told = record {
   ranges = c.ranges;
   blocks = c.blocks;
   leaves = c.leaves;
-  stage = record { approx = c.stage; none = refl; words = refl; plane = refl };
+  stage = record { approx = c.stage; none = refl; bytes = refl };
 }
-collected-steps opens.ExactPlane k s p P opened c told = collected-exact k s p P opened.3 c.ranges c.blocks c.leaves c.stage told.1
+collected-steps opens.ExactPlane k s p P opened c told = collected-exact k s p P opened.3 c.ranges c.blocks c.leaves c.stage
 collected-steps o k s p P opened c told = record { ranges = c.ranges; blocks = c.blocks; leaves = c.leaves; stage = tt }
 
 collects-more : (o : Open) (k : Kept) (s : Seen) (p : PileFields) (P t : List ℕ) → Collects o k s p P → Collects o k s (pile_passed o p t) (P ++ t)
@@ -272,28 +266,33 @@ collects-more opens.ApproxPlane k s p P t c = record {
   ranges = c.ranges;
   blocks = c.blocks;
   leaves = c.leaves;
-  stage =
-      record { columns = c.stage.columns; read = c.stage.read; some = c.stage.some; few = c.stage.few; plane = ap (λ (l : List ℕ). l ++ t) c.stage.plane };
+  stage = record {
+    whole = c.stage.whole;
+    columns = c.stage.columns;
+    read = c.stage.read;
+    some = c.stage.some;
+    few = c.stage.few;
+    bytes = ap (λ (l : List ℕ). l ++ t) c.stage.bytes ∙ append_assoc c.stage.whole P t;
+  };
 }
 collects-more opens.ExactPlane k s p P t c = record {
   ranges = c.ranges;
   blocks = c.blocks;
   leaves = c.leaves;
-  stage =
-      record { approx = c.stage.approx; none = c.stage.none; words = c.stage.words; plane = ap (λ (l : List ℕ). l ++ t) c.stage.plane };
+  stage = record { approx = c.stage.approx; none = c.stage.none; bytes = ap (λ (l : List ℕ). l ++ t) c.stage.bytes };
 }
 collects-more o k s p P t c = record { ranges = c.ranges; blocks = c.blocks; leaves = c.leaves; stage = c.stage }
 
 are-planes : (k : Kept) (s : Seen) (p : PileFields) (P : List ℕ) → IsApprox k s p P → AreStarts k.starts → (is_padded k.starts P ≡ true) × (length P ≡ 8 * words_for k.starts)
-    → AreStageWords k.starts (p.done + 1) (with_words p).words
+    → AreStageBytes k.starts (p.done + 1) p.bytes
 are-planes k s p P st starts told =
-    let read = more-read k.starts p P st.plane told st.read in
+    let read = more-read k.starts p st.whole P st.bytes told st.read in
     record { some_starts = starts.0; few_starts = starts.1; some_planes = omega arith; few_planes = omega (arith, st.few, st.some); room = read.room; padding = read.padding }
 
 are-exact : (k : Kept) (s : Seen) (p : PileFields) (P : List ℕ) → IsExact s p P → AreStarts k.starts → (is_padded k.starts P ≡ true) × (length P ≡ 8 * words_for k.starts)
-    → AreStageWords k.starts (p.done + 1) (with_words p).words
+    → AreStageBytes k.starts (p.done + 1) p.bytes
 are-exact k s p P st starts told =
-    let read = more-read k.starts p P st.plane told (none-read k.starts p st.none st.words) in
+    let read = more-read k.starts p [] P st.bytes told (none-read k.starts p st.none) in
     record { some_starts = starts.0; few_starts = starts.1; some_planes = omega arith; few_planes = omega (arith, st.none); room = read.room; padding = read.padding }
 
 -- before the last leaf all others were collected

@@ -5,5 +5,6 @@ pub mod MachineStands
 pub mod WholePlanes
 pub mod Scans
 pub mod Collects
+pub mod WholeStages
 pub mod Readings
 pub mod Onces

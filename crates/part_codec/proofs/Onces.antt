@@ -2,7 +2,7 @@
 use Rattle.std.proofs.Common.{◌≡◌, ℕ, ◌≤◌, List, [], ◌∷◌, true, refl}
 use Rattle.std.proofs.Props.{props}
 use Rattle.octets_core.specs.Linked.{Linked, is_after}
-use Rattle.part_codec.specs.ReadWords.{AreStageWords}
+use Rattle.part_codec.specs.ReadPlanes.{AreStageBytes}
 use Rattle.ident_core.specs.HeadFields.{HeadFields, IsHead, zero_key}
 use Rattle.ident_core.specs.declared.kind.Kind.TheVariants as kinds
 use Rattle.ident_core.specs.declared.range.Range.{Range}
@@ -15,14 +15,14 @@ use Rattle.part_codec.specs.declared.fields.Open.{Open}
 use Rattle.part_codec.specs.declared.fields.Open.TheVariants as opens
 use Rattle.part_codec.specs.Collecting.{IsLast, CanCollect}
 
-planes-once : (starts planes : ℕ) (words : List ℕ) → IsProp (AreStageWords starts planes words)
-planes-once starts planes words = Prim.hlevel props
+pub planes-once : (starts planes : ℕ) (bytes : List ℕ) → IsProp (AreStageBytes starts planes bytes)
+planes-once starts planes bytes = Prim.hlevel props
 
 last-once : (k : Kept) (p : PileFields) → IsProp (IsLast k p)
 last-once k p = Prim.hlevel props
 
-exact-once : (starts planes done : ℕ) (words : List ℕ) (k : Kept) (p : PileFields) → IsProp (AreStageWords starts planes words × (done ≡ 0) × IsLast k p)
-exact-once starts planes done words k p = Prim.hlevel props
+exact-once : (starts planes done : ℕ) (bytes : List ℕ) (k : Kept) (p : PileFields) → IsProp (AreStageBytes starts planes bytes × (done ≡ 0) × IsLast k p)
+exact-once starts planes done bytes k p = Prim.hlevel props
 
 pub can-once : (o : Open) (k : Kept) (p : PileFields) → IsProp (CanCollect o k p)
 can-once opens.ApproxPlane k p = planes-once _ _ _

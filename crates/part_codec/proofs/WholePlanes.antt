@@ -1,7 +1,7 @@
 -- A field that came whole in a piece, as a plane does.
-use Rattle.std.proofs.Common.{true, ◌≡◌, ℕ, zero, suc, ◌+◌, ◌-◌, ◌*◌, ◌≤◌, ◌<◌, Bool, false, List, ◌++◌, length, take, drop, Err, refl, sym, ap, ◌∙◌, arith, length-append, inl, inr}
+use Rattle.std.proofs.Common.{true, ◌≡◌, ℕ, zero, suc, ◌+◌, ◌-◌, ◌*◌, ◌≤◌, ◌<◌, Bool, false, List, [], ◌++◌, length, take, drop, Err, refl, subst, sym, ap, ◌∙◌, arith, length-append, inl, inr}
 use Rattle.std.specs.Prelude.{◌⊎◌}
-use Rattle.std.proofs.lemmas.List.{drop_at, drop-drop, take_rest}
+use Rattle.std.proofs.lemmas.List.{drop_at, drop-drop, take_rest, length-drop}
 use Rattle.octets_core.specs.Reading.{fault_at}
 use Rattle.octets_core.specs.declared.fault.Why.{Why}
 use Rattle.octets_core.specs.declared.fault.Why.TheVariants as why
@@ -14,11 +14,11 @@ use Rattle.part_codec.specs.declared.fields.Open.TheVariants as opens
 use Rattle.part_codec.specs.declared.machine.Machine.{Machine}
 use Rattle.part_codec.specs.declared.machine.TheConstants.{MAX_PART}
 use Rattle.part_codec.specs.Remaining.{Seen, kept_mode}
-use Rattle.part_codec.specs.Stepping.{in_front, skips, tail_of, width_of, passes_last, is_padded_last, kept_after, open_after, seen_after, name_of, open_plane, open_block, open_mode, settled, AreLimits, still}
-use Rattle.part_codec.specs.Scanning.{Opened, IsWhole, Stands, Passes, Moved}
+use Rattle.part_codec.specs.Stepping.{in_front, leads_on, skips, tail_of, width_of, passes_last, is_padded_last, kept_after, open_after, seen_after, name_of, open_approx, open_plane, open_block, open_mode, settled, AreLimits, still}
+use Rattle.part_codec.specs.Scanning.{Opened, IsWhole, Stands, StandsFront, Passes, Moved}
 use Rattle.part_codec.proofs.FieldSteps.{width-parts, room-steps, front-goes, wrong-front}
-use Rattle.part_codec.specs.Taking.{IsPartial, Advances}
-use Rattle.part_codec.proofs.MachineStands.{Opened-more, field-fails, field-goes, passes-of, moved-of, bytes-front}
+use Rattle.part_codec.specs.Taking.{IsPartial, Advances, Takes}
+use Rattle.part_codec.proofs.MachineStands.{Opened-more, pieces-join, front-moved, field-fails, field-goes, passes-of, moved-of, bytes-front}
 
 -- ---- it is the open field, of which nothing came before
 
@@ -83,6 +83,58 @@ whole-advances m n piece k bytes within some passed empty len goes settles parti
   progress = λ more. some;
 }
 
+-- it and maybe the next field came
+pub takes-one : (m n : Machine) (piece : List ℕ) (r : ℕ × Bool) → in_front m.field ≡ true → Advances m n piece r → Takes m n piece r.0
+takes-one m n piece r front f = record {
+  stands = λ s b st. record { seen = _; stands = f.stands s b st; front = front-moved r.1 m n _ front (f.moved s b st) };
+  partial = f.partial;
+  count = f.count;
+}
+
+takes-next : (m n o : Machine) (piece r : List ℕ) (k j : ℕ) → in_front n.field ≡ true → r ≡ drop k piece → Advances m n piece (k, true) → Advances n o r (j, true) → Takes m o piece (k + j)
+takes-next m n o piece r k j front is f g = record {
+  stands = λ s b st.
+      let h = (takes-one n o r (j, true) front g).stands _ (b ++ take k piece) (f.stands s b st) in
+      subst (λ (l : List ℕ). StandsFront o l) (pieces-join b piece k j r is) h;
+  partial = g.partial;
+  count = omega (arith, f.count, g.count, ap length is, length-drop k piece);
+}
+
+pub takes-both : (m n o : Machine) (piece r : List ℕ) (k more : ℕ) → in_front m.field ≡ true → in_front n.field ≡ true → r ≡ drop k piece → Advances m n piece (k, true)
+    → (0 < more → Advances n o r (more, true)) → (more ≡ 0 → o ≡ n) → Takes m o piece (k + more)
+takes-both m n o piece r k zero front next is f some none =
+    let e : k ≡ k + 0 = omega arith in
+    subst (λ (x : Machine). Takes m x piece (k + 0)) (sym (none refl)) (subst (λ (i : ℕ). Takes m n piece i) e (takes-one m n piece (k, true) front f))
+takes-both m n o piece r k (suc j) front next is f some none = takes-next m n o piece r k (suc j) next is f (some (omega arith))
+
+-- ---- it is no plane, and one that has a byte comes behind it
+
+pub leads-alone : (o : Open) (k : Kept) → leads_on o ≡ true → skips o k ≡ 0
+leads-alone opens.BlockIssuer k leads = refl
+leads-alone opens.BlockK k leads = refl
+leads-alone opens.ApproxSeed k leads = refl
+leads-alone opens.ApproxStarts k leads = refl
+leads-alone opens.ExactSeed k leads = refl
+leads-alone opens.ExactStarts k leads = refl
+leads-alone o k leads = absurd cc
+
+approx-leads : (n : ℕ) → (settled (open_approx n) ≡ open_approx n) × (0 < tail_of (open_approx n))
+approx-leads zero = (refl, omega arith)
+approx-leads (suc n) = (refl, omega arith)
+
+plane-leads : (n : ℕ) → (settled (open_plane n) ≡ open_plane n) × (0 < tail_of (open_plane n))
+plane-leads zero = (refl, omega arith)
+plane-leads (suc n) = (refl, omega arith)
+
+pub leads-next : (o : Open) (k : Kept) → leads_on o ≡ true → (settled (open_after o k) ≡ open_after o k) × (0 < tail_of (open_after o k))
+leads-next opens.BlockIssuer k leads = (refl, omega arith)
+leads-next opens.BlockK k leads = approx-leads k.planes
+leads-next opens.ApproxSeed k leads = (refl, omega arith)
+leads-next opens.ApproxStarts k leads = plane-leads k.planes
+leads-next opens.ExactSeed k leads = (refl, omega arith)
+leads-next opens.ExactStarts k leads = (refl, omega arith)
+leads-next o k leads = absurd cc
+
 -- ---- it is the issuer or the mode of a block
 
 more-blocks : (n : ℕ) → 1 ≤ n → open_block n ≡ opens.BlockIssuer
@@ -131,24 +183,67 @@ plane-tested m t answer is len tested sum =
 
 -- ---- it is an approximate plane
 
-settled-plane : (n : ℕ) → settled (open_plane n) ≡ open_plane n
-settled-plane zero = refl
-settled-plane (suc n) = refl
-
-some-plane : (n : ℕ) → 0 < tail_of (open_plane n)
-some-plane zero = omega arith
-some-plane (suc n) = omega arith
-
 pub plane-opens : (m n : Machine) → m.field ≡ opens.ApproxPlane → n.field ≡ open_after m.field n.kept → n.field ≡ open_plane n.kept.planes
 plane-opens m n field next = next ∙ ap (λ (o : Open). open_after o n.kept) field
 
 pub plane-settles : (m n : Machine) → m.field ≡ opens.ApproxPlane → n.field ≡ open_after m.field n.kept → n.field ≡ settled n.field
 plane-settles m n field next =
     let is = plane-opens m n field next in
-    is ∙ sym (settled-plane n.kept.planes) ∙ ap settled (sym is)
+    is ∙ sym (plane-leads n.kept.planes).0 ∙ ap settled (sym is)
 
 pub plane-partial : (m n : Machine) → m.field ≡ opens.ApproxPlane → n.field ≡ open_after m.field n.kept → n.filled ≡ 0 → n.filled < tail_of n.field
 plane-partial m n field next empty =
-    let some = some-plane n.kept.planes in
+    let some = (plane-leads n.kept.planes).1 in
     let same : tail_of n.field ≡ tail_of (open_plane n.kept.planes) = ap tail_of (plane-opens m n field next) in
     omega (arith, some, same, empty)
+
+pub one-plane-goes : (m n : Machine) (t : List ℕ) → m.field ≡ opens.ApproxPlane → length t ≡ 8 * words_for m.kept.starts → is_padded_last m.kept.starts (drop (length t - 8) t) ≡ true
+    → n.kept ≡ record m.kept { planes = m.kept.planes - 1 } → n.field ≡ open_plane n.kept.planes → n.at ≡ m.at + length t → n.passed ≡ 0 → n.filled ≡ 0 → Goes m n t
+one-plane-goes m n t is len padded kept field at passed empty = record {
+  passes = plane-tested m t true (inl is) len (ap (is_padded_last m.kept.starts) (take_rest t (length t - 8)) ∙ padded);
+  limits = subst (λ (o : Open). AreLimits o (drop (skips m.field m.kept) t)) (sym is) tt;
+  kept = kept ∙ sym (ap (λ (o : Open). kept_after o m.kept (drop (skips m.field m.kept) t)) is);
+  field = field ∙ sym (ap (λ (o : Open). open_after o n.kept) is);
+  at = at;
+  passed = passed;
+  empty = empty;
+}
+
+pub more-planes : (n : ℕ) → 1 ≤ n → open_plane n ≡ opens.ApproxPlane
+more-planes zero some = absurd (omega (arith, some))
+more-planes (suc n) some = refl
+
+-- where another one follows, a machine behind one
+pub record Behind (m : Machine) (t : List ℕ) : Type 0 where
+  pub next : Machine
+  pub kept : next.kept ≡ record m.kept { planes = m.kept.planes - 1 }
+  pub field : next.field ≡ opens.ApproxPlane
+  pub at : next.at ≡ m.at + length t
+  pub passed : next.passed ≡ 0
+  pub empty : next.filled ≡ 0
+
+pub one-behind : (m : Machine) (t : List ℕ) → m.field ≡ opens.ApproxPlane → 2 ≤ m.kept.planes → length t ≡ 8 * words_for m.kept.starts → Behind m t
+one-behind m t is more len =
+    let kept : Kept = record m.kept { planes = m.kept.planes - 1 } in
+    let limits : AreLimits m.field [] = subst (λ (o : Open). AreLimits o []) (sym is) tt in
+    let next : opens.ApproxPlane ≡ open_after m.field kept = sym (ap (λ (o : Open). open_after o kept) is ∙ more-planes (m.kept.planes - 1) (omega (arith, more))) in
+    record {
+      next = record {
+        field = opens.ApproxPlane;
+        kept = kept;
+        held = m.held;
+        filled = 0;
+        passed = 0;
+        at = m.at + length t;
+        few = omega arith;
+        before = omega arith;
+        order = λ some. absurd (omega (arith, some));
+        starts = m.starts;
+        room = omega (arith, whole-room m kept opens.ApproxPlane t [] limits (sym (ap (λ (o : Open). kept_after o m.kept []) is)) next (plane-width m t (inl is) len));
+      };
+      kept = refl;
+      field = refl;
+      at = refl;
+      passed = refl;
+      empty = refl;
+    }

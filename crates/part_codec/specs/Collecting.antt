@@ -1,17 +1,14 @@
 -- What a part that is read in pieces is collected into, and when that is what was seen.
-use Rattle.std.specs.Prelude.{◌≡◌, ℕ, zero, suc, ◌+◌, ◌/◌, ◌^◌, ◌≤◌, List, [], ◌∷◌, ◌++◌, length, map, drop, Bool, true, false, Some, None}
-use Rattle.std.specs.Int.{w64, from_be_bytes}
-use Rattle.std.specs.Simd.{first_chunks}
+use Rattle.std.specs.Prelude.{◌≡◌, ℕ, zero, suc, ◌+◌, ◌^◌, ◌≤◌, List, [], ◌∷◌, ◌++◌, length, drop, Bool, true, false, Some, None}
 use Rattle.sha2.specs.declared.Sha256.{Sha256}
 use Rattle.equation_core.specs.declared.hash.TheConstants.{MAX_PLANES}
-use Rattle.ribbon_core.specs.PlaneWords.{columns_of}
 use Rattle.equation_core.specs.declared.shards.TheConstants.{MAX_SHIFT}
 use Rattle.card_core.specs.declared.block.Body.{Body}
 use Rattle.card_core.specs.declared.leaf.Leaf.{Leaf}
 use Rattle.card_core.specs.declared.leaf.Leaf.TheVariants as leaves_of
 use Rattle.card_core.specs.Filter.{as_body}
 use Rattle.card_core.specs.declared.stage.Stage.{Stage}
-use Rattle.part_codec.specs.ReadWords.{AreRead, AreStageWords}
+use Rattle.part_codec.specs.ReadPlanes.{columns_read, AreRead, AreStageBytes}
 use Rattle.part_codec.specs.PileFields.{PileFields}
 use Rattle.part_codec.specs.declared.fields.Kept.{Kept}
 use Rattle.part_codec.specs.declared.fields.Open.{Open}
@@ -21,21 +18,25 @@ use Rattle.part_codec.specs.Remaining.{Seen, shards_of}
 use Rattle.part_codec.specs.Scanning.{Stands, Hashes, hashed_to}
 
 abbrev pub nothing_piled : PileFields
-nothing_piled = record { ranges = []; blocks = []; leaves = []; approx = None; words = []; done = 0; plane = [] }
+nothing_piled = record { ranges = []; blocks = []; leaves = []; approx = None; bytes = []; done = 0 }
 
--- the words of the open plane behind those before it
-abbrev pub spelled_plane : PileFields → PileFields
-spelled_plane p = record p { words = p.words ++ map (from_be_bytes w64) (first_chunks 8 (length p.plane / 8) p.plane); plane = [] }
+-- bytes of the open plane behind those before
+abbrev pub with_bytes : PileFields → List ℕ → PileFields
+with_bytes p t = record p { bytes = p.bytes ++ t }
 
--- which is one more
-abbrev pub with_words : PileFields → PileFields
-with_words p = record (spelled_plane p) { done = p.done + 1 }
+-- the open plane is whole
+abbrev pub with_whole : PileFields → PileFields
+with_whole p = record p { done = p.done + 1 }
+
+-- so many planes are, of which these are the bytes
+abbrev pub with_planes : PileFields → ℕ → List ℕ → PileFields
+with_planes p n t = record p { bytes = p.bytes ++ t; done = p.done + n }
 
 abbrev pub cleared : PileFields → PileFields
-cleared p = record p { words = []; done = 0; plane = [] }
+cleared p = record p { bytes = []; done = 0 }
 
 abbrev pub stage_by : Kept → PileFields → Stage
-stage_by k p = record { seed = k.seed; planes = record { starts = k.starts; columns = columns_of k.starts p.done p.words } }
+stage_by k p = record { seed = k.seed; planes = record { starts = k.starts; columns = columns_read k.starts p.done p.bytes } }
 
 abbrev pub with_body : Kept → Body → PileFields → PileFields
 with_body k body p = record p { blocks = p.blocks ++ record { issuer = k.key; body = body } ∷ [] }
@@ -64,10 +65,10 @@ pile_plane zero k p = record p { approx = Some (stage_by k p) }
 pile_plane (suc n) k p = p
 
 abbrev pub exact_leaf : Kept → PileFields → Leaf
-exact_leaf k p = leaves_of.Mixed (record { approx = p.approx; exact = stage_by k (with_words p) })
+exact_leaf k p = leaves_of.Mixed (record { approx = p.approx; exact = stage_by k (with_whole p) })
 
 abbrev pub pile_exact : Kept → PileFields → PileFields
-pile_exact k p = record (with_leaf k (exact_leaf k p) (with_words p)) { approx = None }
+pile_exact k p = record (with_leaf k (exact_leaf k p) (with_whole p)) { approx = None }
 
 -- behind a field that passed, from what is kept then
 abbrev pub pile_after : Open → Kept → PileFields → PileFields
@@ -79,7 +80,7 @@ pile_after opens.BlockShift k p = record p { leaves = [] }
 pile_after opens.ShardMode k p = pile_mode k.mode k p
 pile_after opens.BlockK k p = record p { approx = None }
 pile_after opens.ApproxStarts k p = cleared p
-pile_after opens.ApproxPlane k p = pile_plane k.planes k (with_words p)
+pile_after opens.ApproxPlane k p = pile_plane k.planes k (with_whole p)
 pile_after opens.ExactStarts k p = cleared p
 pile_after opens.ExactPlane k p = pile_exact k p
 pile_after o k p = p
@@ -90,8 +91,8 @@ pile_when false o k p = p
 
 -- bytes of a plane are collected as they come
 abbrev pub pile_passed : Open → PileFields → List ℕ → PileFields
-pile_passed opens.ApproxPlane p t = record p { plane = p.plane ++ t }
-pile_passed opens.ExactPlane p t = record p { plane = p.plane ++ t }
+pile_passed opens.ApproxPlane p t = with_bytes p t
+pile_passed opens.ExactPlane p t = with_bytes p t
 pile_passed o p t = p
 
 -- with one leaf more, which is the last, the leaves are one for each shard
@@ -102,25 +103,26 @@ IsLast k p = 1 ≤ k.shift → k.leaves ≡ 0 → (k.shift ≤ MAX_SHIFT) × (le
 abbrev pub CanCollect : Open → Kept → PileFields → Type 0
 CanCollect opens.BlockMode k p = IsLast k p
 CanCollect opens.ShardMode k p = IsLast k p
-CanCollect opens.ApproxPlane k p = AreStageWords k.starts (p.done + 1) (with_words p).words
-CanCollect opens.ExactPlane k p = (AreStageWords k.starts (p.done + 1) (with_words p).words) × (p.done ≡ 0) × IsLast k p
+CanCollect opens.ApproxPlane k p = AreStageBytes k.starts (p.done + 1) p.bytes
+CanCollect opens.ExactPlane k p = (AreStageBytes k.starts (p.done + 1) p.bytes) × (p.done ≡ 0) × IsLast k p
 CanCollect o k p = Unit {0}
 
 abbrev pub FewPlanes : Kept → Type 0
 FewPlanes k = (1 ≤ k.planes) × (k.planes ≤ MAX_PLANES)
 
 pub record IsApprox (k : Kept) (s : Seen) (p : PileFields) (P : List ℕ) : Type 0 where
-  pub columns : s.columns ≡ columns_of k.starts p.done p.words
-  pub read : AreRead k.starts p.done p.words
+  -- the bytes of the planes that are whole
+  pub whole : List ℕ
+  pub columns : s.columns ≡ columns_read k.starts p.done whole
+  pub read : AreRead k.starts p.done whole
   pub some : 1 ≤ k.planes
   pub few : p.done + k.planes ≤ MAX_PLANES
-  pub plane : p.plane ≡ P
+  pub bytes : p.bytes ≡ whole ++ P
 
 pub record IsExact (s : Seen) (p : PileFields) (P : List ℕ) : Type 0 where
   pub approx : s.approx ≡ p.approx
   pub none : p.done ≡ 0
-  pub words : p.words ≡ []
-  pub plane : p.plane ≡ P
+  pub bytes : p.bytes ≡ P
 
 -- of the open block
 abbrev pub Staged : Open → Kept → Seen → PileFields → List ℕ → Type 0

@@ -4,7 +4,7 @@ pub mod Scanning
 pub mod Taking
 pub mod Standing
 pub mod Noting
-pub mod ReadWords
+pub mod ReadPlanes
 pub mod PileFields
 pub mod Collecting
 pub mod ReaderStanding

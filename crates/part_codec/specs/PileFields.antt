@@ -11,8 +11,6 @@ pub record PileFields : Type 0 where
   -- of the shards of the open block
   pub leaves : List Leaf
   pub approx : Option Stage
-  -- the words of the open stage, and of how many planes they are
-  pub words : List ℕ
+  -- the bytes of the open stage's planes, and how many of these are whole
+  pub bytes : List ℕ
   pub done : ℕ
-  -- the bytes of the open plane
-  pub plane : List ℕ

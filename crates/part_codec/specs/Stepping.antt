@@ -1,5 +1,5 @@
 -- The fields of a part one by one: how wide each is, its test, and what is kept and seen behind it.
-use Rattle.std.specs.Prelude.{◌≡◌, ℕ, zero, suc, ◌+◌, ◌-◌, ◌*◌, ◌/◌, ◌^◌, ◌≤◌, List, [], ◌∷◌, length}
+use Rattle.std.specs.Prelude.{◌≡◌, ℕ, zero, suc, ◌+◌, ◌-◌, ◌*◌, ◌/◌, ◌^◌, ◌<◌, ◌≤◌, List, [], ◌∷◌, length, take, drop}
 use Rattle.std.specs.Prelude.{Bool, true, false, ◌==◌, ◌||◌, None, codes}
 use Rattle.std.specs.Int.{w8, w16, w32, w64, from_be_bytes}
 use Rattle.std.specs.Str.{bytes_eq}
@@ -33,6 +33,16 @@ abbrev pub in_front : Open → Bool
 in_front opens.Trailer = false
 in_front opens.Done = false
 in_front o = true
+
+-- it is no plane, and one that has a byte comes behind it
+abbrev pub leads_on : Open → Bool
+leads_on opens.BlockIssuer = true
+leads_on opens.BlockK = true
+leads_on opens.ApproxSeed = true
+leads_on opens.ApproxStarts = true
+leads_on opens.ExactSeed = true
+leads_on opens.ExactStarts = true
+leads_on o = false
 
 -- of a plane its last word alone is held, which has all padding bits; so many bytes before it are passed
 abbrev pub skips : Open → Kept → ℕ
@@ -101,6 +111,10 @@ passes opens.Done k sum p = false
 -- the padding bits of the last word are zero
 abbrev pub is_padded_last : ℕ → List ℕ → Bool
 is_padded_last starts p = from_be_bytes w64 p / 2 ^ (starts + 127 - 64 * (words_for starts - 1)) == 0
+
+-- so are those of each of so many planes, one behind the other
+abbrev pub ArePadded : ℕ → ℕ → List ℕ → Type 0
+ArePadded starts n t = (i : ℕ) → i < n → is_padded_last starts (take 8 (drop (i * (8 * words_for starts) + (8 * words_for starts - 8)) t)) ≡ true
 
 -- the same test, of the bytes that are held
 abbrev pub passes_last : Open → Kept → List ℕ → List ℕ → Bool

@@ -1,5 +1,5 @@
 -- What a call that takes bytes of a piece makes of a machine.
-use Rattle.std.specs.Prelude.{◌≡◌, ◌≢◌, ℕ, ◌<◌, ◌≤◌, List, ◌++◌, length, take, drop, Bool, true, Err}
+use Rattle.std.specs.Prelude.{◌≡◌, ◌≢◌, ℕ, ◌+◌, ◌*◌, ◌<◌, ◌≤◌, List, ◌++◌, length, take, drop, Bool, true, Err}
 use Rattle.sha2.specs.declared.Sha256.{Sha256}
 use Rattle.octets_core.specs.declared.fault.LayoutFault.{LayoutFault}
 use Rattle.part_text.specs.declared.fault.PartFault.{PartFault}
@@ -8,7 +8,8 @@ use Rattle.part_text.specs.PartLayout.{sealed, part}
 use Rattle.part_codec.specs.declared.fields.Open.TheVariants as opens
 use Rattle.part_codec.specs.declared.machine.Machine.{Machine}
 use Rattle.part_codec.specs.Remaining.{Seen}
-use Rattle.part_codec.specs.Stepping.{in_front, tail_of}
+use Rattle.equation_core.specs.Sizes.{words_for}
+use Rattle.part_codec.specs.Stepping.{in_front, tail_of, ArePadded}
 use Rattle.part_codec.specs.PileFields.{PileFields}
 use Rattle.part_codec.specs.Scanning.{Stands, StandsFront, Hashes, Scans, Moved, seen_when}
 use Rattle.part_codec.specs.Collecting.{Reads, ReadsFront, HasRead, HasHashed}
@@ -35,6 +36,17 @@ pub record Takes (m n : Machine) (piece : List ℕ) (taken : ℕ) : Type 0 where
   pub stands : (s : Seen) (b : List ℕ) → Stands m s b → StandsFront n (b ++ take taken piece)
   pub partial : IsPartial n
   pub count : taken ≤ length piece
+
+-- They are the bytes of all approximate planes of a stage, which passed, and the next field is open.
+pub record PassesPlanes (m n : Machine) (t : List ℕ) : Type 0 where
+  pub fresh : (m.passed ≡ 0) × (m.filled ≡ 0)
+  pub some : 1 ≤ m.kept.planes
+  pub len : length t ≡ m.kept.planes * (8 * words_for m.kept.starts)
+  pub padded : ArePadded m.kept.starts m.kept.planes t
+  pub kept : n.kept ≡ record m.kept { planes = 0 }
+  pub field : n.field ≡ opens.ExactSeed
+  pub at : n.at ≡ m.at + length t
+  pub empty : (n.passed ≡ 0) × (n.filled ≡ 0)
 
 -- so many bytes of the trailer, and that is whole or not
 pub record Closes (m n : Machine) (hasher : Sha256) (piece : List ℕ) (r : ℕ × Bool) : Type 0 where

@@ -1,17 +1,18 @@
 //! The fields of a part one by one: how wide each is, its test, what is kept of it, and which one follows.
 
-ghost use Rattle.std.specs.Prelude.{◌≡◌, ◌≤◌, ◌-◌, ◌↔◌, ℕ, List, length, true, IsTrue};
+ghost use Rattle.std.specs.Prelude.{◌≡◌, ◌≤◌, ◌-◌, ◌*◌, ◌↔◌, ℕ, List, length, true, IsTrue};
 ghost use Rattle.equation_core.specs.declared.shards.TheConstants.{MAX_SHIFT};
 ghost use Rattle.std.specs.Str.{bytes_eq};
 ghost use Rattle.std.specs.Int.{w8, w16, w32, w64, from_be_bytes};
 ghost use Rattle.sha2.specs.Sha256.{sha256};
 ghost use Rattle.sha2.specs.Hashers.{Holds256};
 ghost use Rattle.octets_core.specs.Linked.{is_after};
+ghost use Rattle.equation_core.specs.Sizes.{words_for as words_of};
 ghost use Rattle.octets_core.specs.Layout.{within};
 ghost use Rattle.part_text.specs.PartLayout.{kind_of, is_parent, greatest_mode};
 ghost use Rattle.part_codec.specs.Remaining.{previous, kept_range, kept_leaf, kept_ranges, kept_issuers, kept_shift, kept_leaf_mode, kept_mode};
 ghost use Rattle.part_codec.specs.Stepping.{in_front, skips as skips_of, tail_of, is_padded_last, passes_last};
-ghost use Rattle.part_codec.specs.Stepping.{AreStarts, IsShift, AreLimits, kept_after, name_of};
+ghost use Rattle.part_codec.specs.Stepping.{AreStarts, ArePadded, IsShift, AreLimits, kept_after, name_of};
 ghost use Rattle.part_codec.specs.Stepping.{open_range, open_block, open_leaf, open_mode, open_approx, open_plane, open_after};
 
 use card_core::MAX_BLOCKS;
@@ -255,6 +256,23 @@ pub(crate) fn is_last_padded(starts: u32, last: &[u8]) -> bool
     let word = number64(last);
     let columns = starts as usize + 127 - 64 * (words_for(starts) - 1);
     u128::from(word) >> columns == 0
+}
+
+/// Whether they are zero of each of so many planes, of which these are all bytes.
+#[inline(always)]
+pub(crate) fn are_padded(starts: u32, count: u8, planes: &[u8]) -> bool
+    requires starts { AreStarts starts }
+    requires len { length planes.now ≡ count * (8 * words_of starts) }
+    ensures { result ≡ true → ArePadded starts count planes.now }
+{
+    let width = 8 * words_for(starts);
+    for plane in 0..count {
+        let last = plane as usize * width + (width - 8);
+        if !is_last_padded(starts, &planes[last..last + 8]) {
+            return false;
+        }
+    }
+    true
 }
 
 #[inline(always)]

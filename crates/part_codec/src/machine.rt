@@ -4,16 +4,15 @@
 
 ghost use Rattle.std.specs.Prelude.{◌≡◌, ◌≢◌, ◌≤◌, ◌<◌, ◌+◌, ◌*◌, ◌++◌, ℕ, List, [], length, take, drop, true, false, Ok, Err, IfOk, OnOk, IfErr};
 ghost use Rattle.sha2.specs.Hashers.{Holds256};
-ghost use Rattle.part_codec.specs.declared.fields.TheConstants.{LEAST_BLOCK};
 ghost use Rattle.part_codec.specs.declared.machine.TheConstants.{MAX_PART};
 ghost use Rattle.part_text.specs.PartLayout.{sealed};
 ghost use Rattle.part_codec.specs.Remaining.{Seen, nothing_seen};
 ghost use Rattle.equation_core.specs.Sizes.{words_for as words_of};
-ghost use Rattle.part_codec.specs.Stepping.{in_front, skips as skips_of, tail_of, kept_after, seen_after, open_after, settled};
+ghost use Rattle.part_codec.specs.Stepping.{in_front, leads_on, skips as skips_of, tail_of, kept_after, seen_after, open_after, settled};
 ghost use Rattle.part_codec.specs.Stepping.{AreStarts, AreLimits, name_of, still};
 
 use crate::fields::{
-    Kept, LEAST_BLOCK, Open, TRAILER, at_leaf, at_plane, is_approx_plane, is_block, is_digest,
+    Kept, Open, TRAILER, are_padded, at_leaf, at_plane, is_approx_plane, is_block, is_digest,
     is_front, is_last_padded, keep, keep_leaf, keep_plane, name, next_of, number8, passes, skips,
     tail,
 };
@@ -55,7 +54,7 @@ pub(crate) struct Machine {
 
 impl Machine {
     ghost use Rattle.part_codec.specs.Scanning.{Opened, IsWhole, Tested, Stands, StandsFront, Stays, Passes, Moved};
-    ghost use Rattle.part_codec.specs.Taking.{IsFront, IsPartial, Advances, Takes, Closes, Fails, FailsAtEnd};
+    ghost use Rattle.part_codec.specs.Taking.{IsFront, IsPartial, Advances, Takes, PassesPlanes, Closes, Fails, FailsAtEnd};
 
     /// At the first field.
     pub(crate) fn new() -> Machine
@@ -318,25 +317,27 @@ impl Machine {
         self.filled = 0;
     }
 
-    /// Takes the issuer of a block that is whole in the piece and passes its test, and opens the block's mode. Answers
-    /// how many bytes it has, or 0 where nothing is taken.
+    /// Takes the open field, which this is, where it is whole in the piece and passes its test, and opens the next one.
+    /// Answers how many bytes it has, or 0 where nothing is taken.
     #[inline(always)]
-    pub(crate) fn whole_issuer(&mut self, piece: &[u8]) -> usize
-        requires field { self.old.field ≡ Open.BlockIssuer }
+    pub(crate) fn whole_field(&mut self, field: Open, piece: &[u8]) -> usize
+        requires field { self.old.field ≡ field }
+        requires leads { leads_on field ≡ true }
         requires front { IsFront self.old }
         ensures taken { 0 < result → Advances self.old self.new piece.now (result, true) }
         ensures left { result ≡ 0 → self.new ≡ self.old }
-        ensures next { 0 < result → self.new.field ≡ Open.BlockMode }
+        ensures next { 0 < result → self.new.field ≡ open_after field self.new.kept }
     {
-        if self.filled > 0 || piece.len() < 32 {
+        let want = tail(field);
+        if self.filled > 0 || piece.len() < want {
             return 0;
         }
-        let issuer = &piece[..32];
-        if !passes(Open::BlockIssuer, &self.kept, issuer) {
+        let last = &piece[..want];
+        if !passes(field, &self.kept, last) {
             return 0;
         }
-        self.open_next(issuer);
-        32
+        self.open_next(last);
+        want
     }
 
     /// Takes the mode of a block that says none or all and isn't the last, where it is in the piece, and opens the next
@@ -377,6 +378,48 @@ impl Machine {
             return 0;
         }
         self.pass_plane(plane);
+        width
+    }
+
+    /// Behind the last approximate plane, where these are the bytes of all: opens the next field.
+    #[inline(always)]
+    fn pass_planes(&mut self, planes: &[u8])
+        requires field { self.old.field ≡ Open.ApproxPlane }
+        requires some { 1 ≤ self.old.kept.planes }
+        requires len { length planes.now ≡ self.old.kept.planes * (8 * words_of self.old.kept.starts) }
+        ensures kept { self.new.kept ≡ record self.old.kept { planes = 0 } }
+        ensures next { self.new.field ≡ Open.ExactSeed }
+        ensures at { self.new.at ≡ self.old.at + length planes.now }
+        ensures passed { self.new.passed ≡ 0 }
+        ensures empty { self.new.filled ≡ 0 }
+    {
+        self.at += planes.len() as u64;
+        self.kept.planes = 0;
+        self.field = Open::ExactSeed;
+        self.passed = 0;
+        self.filled = 0;
+    }
+
+    /// Takes all approximate planes of a stage, where they are whole in the piece and pass their tests, and opens the
+    /// next field. Answers how many bytes they have, or 0 where nothing is taken.
+    #[inline(always)]
+    pub(crate) fn whole_planes(&mut self, piece: &[u8]) -> usize
+        requires field { self.old.field ≡ Open.ApproxPlane }
+        requires front { IsFront self.old }
+        ensures taken { 0 < result → PassesPlanes self.old self.new (take result piece.now) }
+        ensures left { result ≡ 0 → self.new ≡ self.old }
+        ensures count { result ≤ length piece.now }
+    {
+        let count = self.kept.planes;
+        let width = usize::from(count) * (8 * words_for(self.kept.starts));
+        if count == 0 || self.passed > 0 || self.filled > 0 || piece.len() < width {
+            return 0;
+        }
+        let planes = &piece[..width];
+        if !are_padded(self.kept.starts, count, planes) {
+            return 0;
+        }
+        self.pass_planes(planes);
         width
     }
 
@@ -505,19 +548,23 @@ impl Machine {
         Ok(taken)
     }
 
-    /// The issuer and the mode of a block, both at once: most of a long part is blocks that have no more.
+    /// Takes bytes of the issuer of a block, and of its mode where both are whole in the piece and there is no more of
+    /// the block: most of a long part is blocks that say none or all.
     #[inline(always)]
-    fn block(&mut self, piece: &[u8]) -> Result<(), LayoutFault>
+    fn take_block(&mut self, piece: &[u8]) -> Result<usize, LayoutFault>
         requires field { self.old.field ≡ Open.BlockIssuer }
-        requires empty { self.old.filled ≡ 0 }
-        requires len { length piece.now ≡ LEAST_BLOCK }
-        ensures ok { OnOk result ((s : Seen) (b : List ℕ) → Stands self.old s b → StandsFront self.new (b ++ piece.now)) }
+        requires front { IsFront self.old }
+        ensures ok { IfOk result (Takes self.old self.new piece.now) }
         ensures err { IfErr result (Fails self.old piece.now) }
-        ensures partial { OnOk result (IsPartial self.new) }
+        ensures progress { IfOk result (λ n. 0 < length piece.now → 0 < n) }
     {
-        self.complete(&piece[..32])?;
-        self.complete(&piece[32..])?;
-        Ok(())
+        let n = self.whole_field(Open::BlockIssuer, piece);
+        if n == 0 {
+            let (n, _) = self.step_apart(piece)?;
+            return Ok(n);
+        }
+        let more = self.whole_plain(&piece[n..]);
+        Ok(n + more)
     }
 
     /// Takes bytes up to the end of the open field, to that of a block's mode, or of planes that stand together.
@@ -529,9 +576,8 @@ impl Machine {
         ensures err { IfErr result (Fails self.old piece.now) }
         ensures progress { IfOk result (λ n. 0 < length piece.now → 0 < n) }
     {
-        if is_block(self.field) && self.filled == 0 && piece.len() >= LEAST_BLOCK {
-            self.block(&piece[..LEAST_BLOCK])?;
-            return Ok(LEAST_BLOCK);
+        if is_block(self.field) {
+            return self.take_block(piece);
         }
         if is_approx_plane(self.field) {
             return self.take_planes(piece);

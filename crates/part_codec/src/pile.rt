@@ -1,12 +1,10 @@
 //! What a part that is read in pieces is collected into.
 
-ghost use Rattle.std.specs.Prelude.{◌≡◌, ◌<◌, ◌≤◌, ◌+◌, ◌++◌, ◌/◌, [], length, map, IfOk, OnOk, true};
-ghost use Rattle.std.specs.Int.{w64, from_be_bytes};
-ghost use Rattle.std.specs.Simd.{first_chunks};
-ghost use Rattle.part_codec.specs.Collecting.{nothing_piled, spelled_plane, with_words, with_body, with_shard, with_leaf, IsLast};
-ghost use Rattle.part_codec.specs.Collecting.{stage_by, cleared, pile_mode, pile_plane, pile_exact};
+ghost use Rattle.std.specs.Prelude.{◌≡◌, ◌<◌, ◌≤◌, ◌+◌, ◌++◌, [], IfOk, OnOk, true};
+ghost use Rattle.part_codec.specs.Collecting.{nothing_piled, with_bytes, with_whole, with_body, with_shard, with_leaf, IsLast};
+ghost use Rattle.part_codec.specs.Collecting.{with_planes, stage_by, cleared, pile_mode, pile_plane, pile_exact};
 ghost use Rattle.part_codec.specs.Collecting.{pile_after, pile_when, pile_passed, CanCollect};
-ghost use Rattle.part_codec.specs.ReadWords.{AreStageWords};
+ghost use Rattle.part_codec.specs.ReadPlanes.{AreStageBytes};
 
 use crate::fields::{Kept, LEAST_BLOCK, Open};
 use card_core::{Block, Body, Leaf, Mixed, Sharded, Stage};
@@ -25,11 +23,9 @@ pub(crate) struct Pile {
     /// The leaves of the open block, where it is sharded.
     leaves: Vec<Leaf>,
     approx: Option<Stage>,
-    /// The words of the open stage, and of how many planes they are.
-    words: Vec<u64>,
+    /// The bytes of the open stage's planes, and how many of these are whole.
+    bytes: Vec<u8>,
     done: u8,
-    /// The bytes of the open plane.
-    plane: Vec<u8>,
 }
 
 impl Model for Pile {
@@ -42,21 +38,9 @@ impl Model for Pile {
       blocks = p.blocks.items;
       leaves = p.leaves.items;
       approx = p.approx;
-      words = p.words.items;
+      bytes = p.bytes.items;
       done = p.done;
-      plane = p.plane.items;
     } };
-}
-
-/// Appends the words that these bytes spell.
-fn push_words(words: &mut Vec<u64>, bytes: &[u8]) -> Result<(), NoMemory>
-    ensures { OnOk result (words.new.items ≡ words.old.items ++ map (from_be_bytes w64) (first_chunks 8 (length bytes.now / 8) bytes.now)) }
-{
-    let (chunks, _) = bytes.as_chunks::<8>();
-    for chunk in chunks {
-        words.push(u64::from_be_bytes(*chunk))?;
-    }
-    Ok(())
 }
 
 impl Pile {
@@ -68,9 +52,8 @@ impl Pile {
             blocks: Vec::new(alloc),
             leaves: Vec::new(alloc),
             approx: None,
-            words: Vec::new(alloc),
+            bytes: Vec::new(alloc),
             done: 0,
-            plane: Vec::new(alloc),
         }
     }
 
@@ -80,43 +63,29 @@ impl Pile {
     {
         match field {
             Open::ApproxPlane | Open::ExactPlane => {
-                self.plane.extend_from_slice(piece)?;
+                self.bytes.extend_from_slice(piece)?;
                 Ok(())
             }
             _ => Ok(()),
         }
     }
 
-    /// Collects the words of the open plane, which ends with these bytes. Where they are all of it they aren't
-    /// collected before.
-    #[inline(always)]
-    fn push_plane(&mut self, last: &[u8]) -> Result<(), NoMemory>
-        ensures { OnOk result (self.new ≡ spelled_plane (record self.old { plane = self.old.plane ++ last.now })) }
-    {
-        if self.plane.is_empty() {
-            return push_words(&mut self.words, last);
-        }
-        self.plane.extend_from_slice(last)?;
-        push_words(&mut self.words, &self.plane)?;
-        self.plane.clear();
-        Ok(())
-    }
-
+    /// Collects the open plane, which ends with these bytes.
     #[inline(always)]
     fn close_plane(&mut self, last: &[u8]) -> Result<(), NoMemory>
         requires { self.old.done < 255 }
-        ensures { OnOk result (self.new ≡ with_words (record self.old { plane = self.old.plane ++ last.now })) }
+        ensures { OnOk result (self.new ≡ with_whole (with_bytes self.old last.now)) }
     {
-        self.push_plane(last)?;
+        self.bytes.extend_from_slice(last)?;
         self.done += 1;
         Ok(())
     }
 
     fn stage(&self, alloc: Global, kept: &Kept) -> Result<Stage, NoMemory>
-        requires { AreStageWords kept.now.starts self.now.done self.now.words }
+        requires { AreStageBytes kept.now.starts self.now.done self.now.bytes }
         ensures { IfOk result (λ s. s ≡ stage_by kept.now self.now) }
     {
-        let planes = Planes::of_words(alloc, kept.starts, self.done, &self.words)?;
+        let planes = Planes::of_bytes(alloc, kept.starts, self.done, &self.bytes)?;
         Ok(Stage {
             seed: kept.seed,
             planes,
@@ -168,8 +137,8 @@ impl Pile {
         kept: &Kept,
         last: &[u8],
     ) -> Result<(), NoMemory>
-        requires { AreStageWords kept.now.starts (self.old.done + 1) (with_words (record self.old { plane = self.old.plane ++ last.now })).words }
-        ensures { OnOk result (self.new ≡ pile_plane kept.now.planes kept.now (with_words (record self.old { plane = self.old.plane ++ last.now }))) }
+        requires { AreStageBytes kept.now.starts (self.old.done + 1) (self.old.bytes ++ last.now) }
+        ensures { OnOk result (self.new ≡ pile_plane kept.now.planes kept.now (with_whole (with_bytes self.old last.now))) }
     {
         self.close_plane(last)?;
         if kept.planes == 0 {
@@ -178,11 +147,28 @@ impl Pile {
         Ok(())
     }
 
+    /// The last planes of an approximate stage, so many, of which these are the bytes.
+    pub(crate) fn approx_planes(
+        &mut self,
+        alloc: Global,
+        kept: &Kept,
+        count: u8,
+        bytes: &[u8],
+    ) -> Result<(), NoMemory>
+        requires { AreStageBytes kept.now.starts (self.old.done + count) (self.old.bytes ++ bytes.now) }
+        ensures { OnOk result (self.new ≡ pile_plane 0 kept.now (with_planes self.old count bytes.now)) }
+    {
+        self.bytes.extend_from_slice(bytes)?;
+        self.done += count;
+        self.approx = Some(self.stage(alloc, kept)?);
+        Ok(())
+    }
+
     fn exact_plane(&mut self, alloc: Global, kept: &Kept, last: &[u8]) -> Result<(), NoMemory>
-        requires planes { AreStageWords kept.now.starts (self.old.done + 1) (with_words (record self.old { plane = self.old.plane ++ last.now })).words }
+        requires planes { AreStageBytes kept.now.starts (self.old.done + 1) (self.old.bytes ++ last.now) }
         requires one { self.old.done ≡ 0 }
         requires last { IsLast kept.now self.old }
-        ensures { OnOk result (self.new ≡ pile_exact kept.now (record self.old { plane = self.old.plane ++ last.now })) }
+        ensures { OnOk result (self.new ≡ pile_exact kept.now (with_bytes self.old last.now)) }
     {
         self.close_plane(last)?;
         let exact = self.stage(alloc, kept)?;
@@ -234,9 +220,8 @@ impl Pile {
     fn clear_stage(&mut self)
         ensures { self.new ≡ cleared self.old }
     {
-        self.words.clear();
+        self.bytes.clear();
         self.done = 0;
-        self.plane.clear();
     }
 
     /// Collects what a field made whole, of which these are the last bytes. So many are at hand behind them.

@@ -1,17 +1,17 @@
 //! Parts that are read in pieces.
 
-ghost use Rattle.std.specs.Prelude.{◌≡◌, ◌≢◌, ◌++◌, ◌+◌, ◌≤◌, ◌<◌, ℕ, List, [], length, take, false, Option, Some, None, Ok, Err, IfOk, IfErr};
+ghost use Rattle.std.specs.Prelude.{◌≡◌, ◌≢◌, ◌++◌, ◌+◌, ◌≤◌, ◌<◌, ℕ, List, [], length, take, true, false, Option, Some, None, Ok, Err, IfOk, IfErr};
 ghost use Rattle.octets_core.specs.Reading.{fault_at};
 ghost use Rattle.octets_core.specs.declared.fault.Why.TheVariants as why;
 ghost use Rattle.part_text.specs.SealedFields.{SealedFields};
 ghost use Rattle.part_codec.specs.declared.fields.Open.TheVariants as opens;
 ghost use Rattle.part_text.specs.declared.fault.PartFault.TheVariants as faults;
 ghost use Rattle.part_text.specs.PartLayout.{part};
-ghost use Rattle.part_codec.specs.Stepping.{in_front, name_of};
+ghost use Rattle.part_codec.specs.Stepping.{in_front, leads_on, name_of};
 ghost use Rattle.part_codec.specs.Collecting.{Reads, HasRead, HasHashed};
 ghost use Rattle.part_codec.specs.Taking.{IsFront, IsPartial, TakesTo, ReadsOn, FailsRead, FailsHashed};
 
-use crate::fields::{Open, is_approx_plane, is_done, is_front, kind};
+use crate::fields::{Open, is_done, is_front, kind};
 use crate::machine::Machine;
 use crate::pile::Pile;
 use card_core::Part;
@@ -64,9 +64,36 @@ fn step_apart(
     step(alloc, machine, pile, piece)
 }
 
-/// The same at an approximate plane. One that is whole in the piece is taken where nothing goes by the open field.
+/// `step` at this field of a mixed leaf, which isn't a plane. Where it is whole in the piece, nothing goes by the open
+/// field.
 #[inline(always)]
-fn step_plane(
+fn step_field(
+    alloc: Global,
+    machine: &mut Machine,
+    pile: &mut Pile,
+    field: Open,
+    piece: &[u8],
+) -> Result<usize, PartFault>
+    requires field { machine.old.field ≡ field }
+    requires leads { leads_on field ≡ true }
+    requires front { IsFront machine.old }
+    requires read { ∥ HasRead machine.old pile.old ∥₁ }
+    ensures ok { IfOk result (TakesTo machine.old machine.new pile.old pile.new piece.now) }
+    ensures err { IfErr result (FailsRead machine.old pile.old piece.now) }
+    ensures progress { IfOk result (λ n. 0 < length piece.now → 0 < n) }
+{
+    let n = machine.whole_field(field, piece);
+    if n == 0 {
+        return step_apart(alloc, machine, pile, piece);
+    }
+    let left = piece.len() - n;
+    pile.put(alloc, field, &machine.kept, &piece[..n], true, left)?;
+    Ok(n)
+}
+
+/// `step` at an approximate plane. Where all that are left of the stage are whole in the piece, they are taken at once.
+#[inline(always)]
+fn step_planes(
     alloc: Global,
     machine: &mut Machine,
     pile: &mut Pile,
@@ -79,9 +106,10 @@ fn step_plane(
     ensures err { IfErr result (FailsRead machine.old pile.old piece.now) }
     ensures progress { IfOk result (λ n. 0 < length piece.now → 0 < n) }
 {
-    let n = machine.whole_plane(piece);
+    let count = machine.kept.planes;
+    let n = machine.whole_planes(piece);
     if n > 0 {
-        pile.approx_plane(alloc, &machine.kept, &piece[..n])?;
+        pile.approx_planes(alloc, &machine.kept, count, &piece[..n])?;
         return Ok(n);
     }
     step_apart(alloc, machine, pile, piece)
@@ -125,37 +153,12 @@ fn step_block(
     ensures err { IfErr result (FailsRead machine.old pile.old piece.now) }
     ensures progress { IfOk result (λ n. 0 < length piece.now → 0 < n) }
 {
-    let n = machine.whole_issuer(piece);
+    let n = machine.whole_field(Open::BlockIssuer, piece);
     if n == 0 {
         return step_apart(alloc, machine, pile, piece);
     }
     let more = step_plain(alloc, machine, pile, &piece[n..])?;
     Ok(n + more)
-}
-
-/// Takes bytes of an approximate stage's planes.
-fn read_planes(
-    alloc: Global,
-    machine: &mut Machine,
-    pile: &mut Pile,
-    piece: &[u8],
-) -> Result<usize, PartFault>
-    requires field { machine.old.field ≡ opens.ApproxPlane }
-    requires front { IsFront machine.old }
-    requires read { ∥ HasRead machine.old pile.old ∥₁ }
-    ensures ok { IfOk result (TakesTo machine.old machine.new pile.old pile.new piece.now) }
-    ensures err { IfErr result (FailsRead machine.old pile.old piece.now) }
-    ensures progress { IfOk result (λ n. 0 < length piece.now → 0 < n) }
-{
-    let mut taken = 0;
-    while taken < piece.len() {
-        if !is_approx_plane(machine.field) {
-            return Ok(taken);
-        }
-        let n = step_plane(alloc, machine, pile, &piece[taken..])?;
-        taken += n;
-    }
-    Ok(taken)
 }
 
 /// Takes bytes of a field, of a block that says none or all, or of planes that stand together.
@@ -174,7 +177,12 @@ fn walk(
 {
     match machine.field {
         Open::BlockIssuer => step_block(alloc, machine, pile, piece),
-        Open::ApproxPlane => read_planes(alloc, machine, pile, piece),
+        Open::BlockK => step_field(alloc, machine, pile, Open::BlockK, piece),
+        Open::ApproxSeed => step_field(alloc, machine, pile, Open::ApproxSeed, piece),
+        Open::ApproxStarts => step_field(alloc, machine, pile, Open::ApproxStarts, piece),
+        Open::ApproxPlane => step_planes(alloc, machine, pile, piece),
+        Open::ExactSeed => step_field(alloc, machine, pile, Open::ExactSeed, piece),
+        Open::ExactStarts => step_field(alloc, machine, pile, Open::ExactStarts, piece),
         _ => step(alloc, machine, pile, piece),
     }
 }

@@ -1,6 +1,8 @@
 -- Planes, and the words that hold their columns.
 use Rattle.std.specs.Prelude.{◌≡◌, ℕ, zero, suc, ◌+◌, ◌-◌, ◌*◌, ◌^◌, ◌<◌, ◌≤◌, List, length, get_or, map}
+use Rattle.std.specs.Int.{w64, from_be_bytes}
 use Rattle.std.specs.List.{range_with_len}
+use Rattle.std.specs.Simd.{first_chunks}
 use Rattle.equation_core.specs.Sizes.{words_for}
 use Rattle.equation_core.specs.declared.hash.TheConstants.{MAX_PLANES}
 use Rattle.equation_core.specs.declared.sizes.TheConstants.{MAX_STARTS}
@@ -14,6 +16,10 @@ pub record PlaneColumns : Type 0 where
 unfoldable pub number_by : (ℕ → ℕ) → ℕ → ℕ → ℕ
 number_by f i zero = 0
 number_by f i (suc n) = f i + 2 ^ 64 * number_by f (suc i) n
+
+-- the first words that bytes spell, so many, of each the greatest byte first
+abbrev pub words_spelled : ℕ → List ℕ → List ℕ
+words_spelled n bytes = map (from_be_bytes w64) (first_chunks 8 n bytes)
 
 -- word i of a plane, in a text of planes one after the other
 abbrev pub word_of : List ℕ → ℕ → ℕ → ℕ → ℕ

@@ -1,4 +1,5 @@
-ghost use Rattle.std.specs.Prelude.{◌≡◌, ℕ, ◌+◌, ◌*◌, ◌^◌, ◌<◌, ◌≤◌, ◌≢◌, length};
+ghost use Rattle.std.specs.Prelude.{◌≡◌, ℕ, ◌+◌, ◌*◌, ◌^◌, ◌<◌, ◌≤◌, ◌≢◌, length, map};
+ghost use Rattle.std.specs.Int.{w64, from_be_bytes};
 ghost use Rattle.equation_core.specs.Sizes.{words_for as words_of};
 ghost use Rattle.equation_core.specs.declared.hash.TheConstants.{MAX_PLANES};
 ghost use Rattle.equation_core.specs.declared.sizes.TheConstants.{MAX_STARTS};
@@ -24,25 +25,26 @@ pub fn kept_length(starts: u32, planes: u8) -> usize
     planes as usize * words_for(starts) + usize::from(MAX_PLANES - planes)
 }
 
-// Puts the words of planes that stand one after the other in `text` at their places.
-pub fn place_planes(text: &[u64], planes: u8, width: usize, words: &mut [u64])
+// Puts the words of planes that `text` spells one after the other at their places.
+pub fn place_planes(text: &[[u8; 8]], planes: u8, width: usize, words: &mut [u64])
     requires text { length text.now ≡ planes * width }
     requires room { planes * width ≤ length words.old }
-    ensures { (plane : ℕ) → plane < planes → kept_plane words.new planes width plane ≡ plane_of_words text.now width plane }
+    ensures { (plane : ℕ) → plane < planes → kept_plane words.new planes width plane ≡ plane_of_words (map (from_be_bytes w64) text.now) width plane }
 {
     for plane in 0..planes {
         place_plane(text, planes, width, plane, words);
     }
 }
 
-fn place_plane(text: &[u64], planes: u8, width: usize, plane: u8, words: &mut [u64])
+fn place_plane(text: &[[u8; 8]], planes: u8, width: usize, plane: u8, words: &mut [u64])
     requires plane { plane < planes }
     requires text { length text.now ≡ planes * width }
     requires room { planes * width ≤ length words.old }
-    ensures placed { (i : ℕ) → i < width → kept_word words.new planes plane i ≡ word_of text.now width plane i }
+    ensures placed { (i : ℕ) → i < width → kept_word words.new planes plane i ≡ word_of (map (from_be_bytes w64) text.now) width plane i }
     ensures others { (q i : ℕ) → q < planes → q ≢ plane → kept_word words.new planes q i ≡ kept_word words.old planes q i }
 {
     for i in 0..width {
-        words[place(planes, plane, i)] = text[plane as usize * width + i];
+        let word = u64::from_be_bytes(text[plane as usize * width + i]);
+        words[place(planes, plane, i)] = word;
     }
 }

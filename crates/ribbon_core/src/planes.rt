@@ -5,7 +5,7 @@ ghost use Rattle.equation_core.specs.Sizes.{words_for as words_of};
 ghost use Rattle.equation_core.specs.declared.hash.TheConstants.{MAX_PLANES};
 ghost use Rattle.equation_core.specs.declared.sizes.TheConstants.{MAX_STARTS};
 ghost use Rattle.ribbon_core.specs.Equations.{sum_of};
-ghost use Rattle.ribbon_core.specs.PlaneWords.{ArePlanes, columns_of, kept_columns, plane_of_words};
+ghost use Rattle.ribbon_core.specs.PlaneWords.{ArePlanes, columns_of, kept_columns, plane_of_words, words_spelled};
 ghost use Rattle.ribbon_core.specs.Rows.{equation_of};
 
 use crate::places::{kept_length, place_planes};
@@ -41,23 +41,26 @@ impl Model for Planes {
 }
 
 impl Planes {
-    /// The planes whose words these are, plane after plane, the lowest columns first.
-    pub fn of_words(
+    /// The planes whose words these bytes spell, plane after plane, the lowest columns first, and of each word the
+    /// greatest byte first.
+    pub fn of_bytes(
         alloc: Global,
         starts: u32,
         planes: u8,
-        words: &[u64],
+        bytes: &[u8],
     ) -> Result<Planes, NoMemory>
         requires some_starts { 1 ≤ starts }
         requires few_starts { starts ≤ MAX_STARTS }
         requires some_planes { 1 ≤ planes }
         requires few_planes { planes ≤ MAX_PLANES }
-        requires room { length words.now ≡ planes * words_of starts }
-        requires padding { (plane : ℕ) → plane < planes → plane_of_words words.now (words_of starts) plane < 2 ^ (starts + 127) }
-        ensures { IfOk result (λ p. p ≡ record { starts = starts; columns = columns_of starts planes words.now }) }
+        requires room { length bytes.now ≡ 8 * (planes * words_of starts) }
+        requires padding { (plane : ℕ) → plane < planes
+            → plane_of_words (words_spelled (planes * words_of starts) bytes.now) (words_of starts) plane < 2 ^ (starts + 127) }
+        ensures { IfOk result (λ p. p ≡ record { starts = starts; columns = columns_of starts planes (words_spelled (planes * words_of starts) bytes.now) }) }
     {
         let mut placed = vec![in alloc; 0u64; kept_length(starts, planes)]?;
-        place_planes(words, planes, words_for(starts), &mut placed);
+        let (text, _) = bytes.as_chunks::<8>();
+        place_planes(text, planes, words_for(starts), &mut placed);
         let kept = KeptWords {
             starts,
             planes,
