@@ -20,7 +20,6 @@ use Rattle.publication_core.specs.declared.base_fault.BaseFault.{BaseFault}
 use Rattle.publication_core.specs.Histories.{History, members, IsHistory, IsRebasable, history}
 use Rattle.publication_core.specs.Rebasing.{PublishedBase, PublishesBase, base_counts}
 use Rattle.word_core.specs.declared.command.Command.{Command}
-use Rattle.word_core.specs.declared.command.Command.TheVariants as commands
 use Rattle.word_core.specs.CommandFields.{QueryFields, RebaseFields}
 use Rattle.line_core.specs.Lines.{line}
 use Rattle.clubcard_top.specs.ReplyFields.{Done, NamedFault}

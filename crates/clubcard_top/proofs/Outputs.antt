@@ -101,15 +101,29 @@ left-begun told new o (inr begun) = inr (0, omega arith, begun)
 -- ---- a text and its digest
 
 -- the text is there, and its digest was written behind it
-pub extending-digested : (told mid new : Option Files) (name text digest sum : List ℕ) (r : Result (Unit {0}) Failed) → mid ≡ extending told name text → digest ≡ sum
+extending-digested : (told mid new : Option Files) (name text digest sum : List ℕ) (r : Result (Unit {0}) Failed) → mid ≡ extending told name text → digest ≡ sum
     → OnOk r (new ≡ extending mid name digest) → OnOk r (new ≡ extending told name (text ++ sum))
 extending-digested told mid new name text digest sum (Ok x) before drawn all =
     all ∙ ap (λ (t : Option Files). extending t name digest) before ∙ extending-twice told name text digest ∙ ap (λ (d : List ℕ). extending told name (text ++ d)) drawn
 extending-digested told mid new name text digest sum (Err e) before drawn all = tt
 
 -- the text is there, and the write of its digest behind it failed
-pub torn-digested : (told mid new : Option Files) (name text digest sum : List ℕ) (r : Result (Unit {0}) Failed) → mid ≡ extending told name text → digest ≡ sum
+torn-digested : (told mid new : Option Files) (name text digest sum : List ℕ) (r : Result (Unit {0}) Failed) → mid ≡ extending told name text → digest ≡ sum
     → OnErr r (Torn mid new name digest) → OnErr r (Torn told new name (text ++ sum))
 torn-digested told mid new name text digest sum (Ok x) before drawn torn = tt
 torn-digested told mid new name text digest sum (Err e) before drawn torn =
     subst (λ (d : List ℕ). Torn told new name (text ++ d)) drawn (Torn-behind told mid new name text digest before torn)
+
+-- the same of a file that was begun
+module _ (told mid new : Option Files) (name text digest sum : List ℕ) (r : Result (Unit {0}) Failed) (put : mid ≡ putting told name text) (drawn : digest ≡ sum) where
+  begun : mid ≡ extending (putting told name []) name text
+  begun = put ∙ sym (extending-putting told name text)
+
+  pub put-digested : OnOk r (new ≡ extending mid name digest) → OnOk r (new ≡ putting told name (text ++ sum))
+  put-digested all =
+      written-whole told (putting told name []) new name (text ++ sum) r refl (extending-digested (putting told name []) mid new name text digest sum r begun drawn all)
+
+  pub left-digested : OnErr r (Torn mid new name digest) → OnErr r (IsLeft told new (record { name = name; bytes = text ++ sum }))
+  left-digested torn =
+      left-torn told (putting told name []) new (record { name = name; bytes = text ++ sum }) r refl
+      (torn-digested (putting told name []) mid new name text digest sum r begun drawn torn)

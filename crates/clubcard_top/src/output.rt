@@ -3,13 +3,13 @@
 ghost use Rattle.std.specs.Prelude.{◌≡◌, ◌≤◌, ◌++◌, [], ◌∷◌, OnOk, OnErr, IfSome, IsNone};
 ghost use Rattle.sha2.specs.Sha256.{sha256};
 ghost use Rattle.outside_core.specs.Effects.{OnlyWrites};
-ghost use Rattle.outside_core.specs.Files.{Rose, Torn, extending, putting};
+ghost use Rattle.outside_core.specs.Files.{Rose, putting};
 ghost use Rattle.sample_core.specs.Sample.{sample_text};
 ghost use Rattle.clubcard_top.specs.Digested.{joined};
 ghost use Rattle.clubcard_top.specs.Runs.{with_outputs, IsLeft, IsTorn};
 
-use crate::pieces::append_digested;
-use outside_core::{Depot, Failed, append_all};
+use crate::pieces::{write_digested, write_whole};
+use outside_core::{Depot, Failed};
 use sample_core::SampleJob;
 use std::marker::Model;
 use std::thread::Threads;
@@ -68,33 +68,18 @@ impl<'a> Output<'a> {
         self.name
     }
 
-    /// Adds the bytes behind what the file holds.
-    fn append<R: Threads, D: Depot>(&self, rt: &R, depot: &mut D) -> Result<(), Failed>
-        ensures ok { OnOk result (D.files depot.new ≡ extending (D.files depot.old) self.now.name self.now.bytes) }
-        ensures err { OnErr result (Torn (D.files depot.old) (D.files depot.new) self.now.name self.now.bytes) }
+    /// Begins the file, and adds all bytes.
+    fn write<R: Threads, D: Depot>(&self, rt: &R, depot: &mut D) -> Result<(), Failed>
+        ensures ok { OnOk result (D.files depot.new ≡ putting (D.files depot.old) self.now.name self.now.bytes) }
+        ensures err { OnErr result (IsLeft (D.files depot.old) (D.files depot.new) self.now) }
         ensures cause { OnErr result (Rose (D.write_faults depot.old) (D.write_faults depot.new)) }
         ensures only_writes { OnlyWrites D.Depot depot.old depot.new }
     {
         match &self.text {
-            Text::Whole(bytes) => append_all(depot, self.name, bytes),
-            Text::Digested(pieces) => append_digested(rt, depot, self.name, pieces),
+            Text::Whole(bytes) => write_whole(depot, self.name, bytes),
+            Text::Digested(pieces) => write_digested(rt, depot, self.name, pieces),
         }
     }
-}
-
-/// Writes one output: begins its file, and adds all bytes.
-fn write_output<R: Threads, D: Depot>(
-    rt: &R,
-    output: &Output<'_>,
-    depot: &mut D,
-) -> Result<(), Failed>
-    ensures ok { OnOk result (D.files depot.new ≡ putting (D.files depot.old) output.now.name output.now.bytes) }
-    ensures err { OnErr result (IsLeft (D.files depot.old) (D.files depot.new) output.now) }
-    ensures cause { OnErr result (Rose (D.write_faults depot.old) (D.write_faults depot.new)) }
-    ensures only_writes { OnlyWrites D.Depot depot.old depot.new }
-{
-    depot.begin(output.name())?;
-    output.append(rt, depot)
 }
 
 /// Writes the outputs in their order, each once the one before it is whole, and answers the name of the first that
@@ -111,7 +96,7 @@ pub fn write_outputs<'a, R: Threads, D: Depot>(
     ensures only_writes { OnlyWrites D.Depot depot.old depot.new }
 {
     for output in outputs {
-        match write_output(rt, output, depot) {
+        match output.write(rt, depot) {
             Ok(()) => {}
             Err(Failed) => return Some(output.name()),
         }

@@ -1,10 +1,11 @@
-//! Texts in pieces, which several threads made, on their way into a file.
+//! Texts, whole ones and those in pieces that several threads made, on their way into a file.
 
 ghost use Rattle.std.specs.Prelude.{◌≡◌, ◌≤◌, ◌++◌, OnOk, OnErr};
 ghost use Rattle.sha2.specs.Sha256.{sha256};
 ghost use Rattle.outside_core.specs.Effects.{OnlyWrites};
-ghost use Rattle.outside_core.specs.Files.{Rose, Torn, extending};
+ghost use Rattle.outside_core.specs.Files.{Rose, Torn, extending, putting};
 ghost use Rattle.clubcard_top.specs.Digested.{joined};
+ghost use Rattle.clubcard_top.specs.Runs.{IsLeft};
 
 use outside_core::{Depot, Failed, append_all};
 use sha2::{Digest, Sha256};
@@ -34,16 +35,39 @@ fn append_pieces<D: Depot>(depot: &mut D, name: &str, pieces: &[Vec<u8>]) -> Res
     Ok(())
 }
 
-/// Adds a text, which the pieces make, and its digest behind what a file holds. One thread draws the digest while
-/// another writes the pieces.
-pub(crate) fn append_digested<R: Threads, D: Depot>(
+/// Begins the file of this name, and adds the bytes.
+pub(crate) fn write_whole<D: Depot>(depot: &mut D, name: &str, bytes: &[u8]) -> Result<(), Failed>
+    ensures ok { OnOk result (D.files depot.new ≡ putting (D.files depot.old) name.now bytes.now) }
+    ensures err { OnErr result (IsLeft (D.files depot.old) (D.files depot.new) (record { name = name.now; bytes = bytes.now })) }
+    ensures cause { OnErr result (Rose (D.write_faults depot.old) (D.write_faults depot.new)) }
+    ensures only_writes { OnlyWrites D.Depot depot.old depot.new }
+{
+    depot.begin(name)?;
+    append_all(depot, name, bytes)
+}
+
+/// Begins the file of this name, and adds the pieces in their order.
+fn write_pieces<D: Depot>(depot: &mut D, name: &str, pieces: &[Vec<u8>]) -> Result<(), Failed>
+    ensures ok { OnOk result (D.files depot.new ≡ putting (D.files depot.old) name.now (joined pieces.now)) }
+    ensures err { OnErr result (IsLeft (D.files depot.old) (D.files depot.new) (record { name = name.now; bytes = joined pieces.now })) }
+    ensures cause { OnErr result (Rose (D.write_faults depot.old) (D.write_faults depot.new)) }
+    ensures only_writes { OnlyWrites D.Depot depot.old depot.new }
+{
+    depot.begin(name)?;
+    append_pieces(depot, name, pieces)
+}
+
+/// Begins the file of this name, and adds a text, which the pieces make, and its digest. One thread draws the digest
+/// while another begins the file, which may wait for a disk, and writes the pieces.
+pub(crate) fn write_digested<R: Threads, D: Depot>(
     rt: &R,
     depot: &mut D,
     name: &str,
     pieces: &[Vec<u8>],
 ) -> Result<(), Failed>
-    ensures ok { OnOk result (D.files depot.new ≡ extending (D.files depot.old) name.now (joined pieces.now ++ sha256 (joined pieces.now))) }
-    ensures err { OnErr result (Torn (D.files depot.old) (D.files depot.new) name.now (joined pieces.now ++ sha256 (joined pieces.now))) }
+    ensures ok { OnOk result (D.files depot.new ≡ putting (D.files depot.old) name.now (joined pieces.now ++ sha256 (joined pieces.now))) }
+    ensures err { OnErr result (IsLeft (D.files depot.old) (D.files depot.new)
+        (record { name = name.now; bytes = joined pieces.now ++ sha256 (joined pieces.now) })) }
     ensures cause { OnErr result (Rose (D.write_faults depot.old) (D.write_faults depot.new)) }
     ensures only_writes { OnlyWrites D.Depot depot.old depot.new }
 {
@@ -51,11 +75,11 @@ pub(crate) fn append_digested<R: Threads, D: Depot>(
         ensures { result ≡ sha256 (joined pieces.entry.now) }
     { digest_of(pieces) };
     let mut write = || -> Result<(), Failed>
-        ensures { OnOk result (D.files depot.exit.now ≡ extending (D.files depot.entry.now) name.entry.now (joined pieces.entry.now))
-            × OnErr result (Torn (D.files depot.entry.now) (D.files depot.exit.now) name.entry.now (joined pieces.entry.now))
+        ensures { OnOk result (D.files depot.exit.now ≡ putting (D.files depot.entry.now) name.entry.now (joined pieces.entry.now))
+            × OnErr result (IsLeft (D.files depot.entry.now) (D.files depot.exit.now) (record { name = name.entry.now; bytes = joined pieces.entry.now }))
             × OnErr result (Rose (D.write_faults depot.entry.now) (D.write_faults depot.exit.now))
             × OnlyWrites D.Depot depot.entry.now depot.exit.now }
-    { append_pieces(depot, name, pieces) };
+    { write_pieces(depot, name, pieces) };
     let (digest, written) = join_mut(rt, &mut draw, &mut write);
     written?;
     append_all(depot, name, &digest)
