@@ -9,3 +9,4 @@ pub mod ShareLists
 pub mod FirstRefused
 pub mod Admitted
 pub mod Existing
+pub mod RunsDrawn

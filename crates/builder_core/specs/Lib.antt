@@ -4,3 +4,4 @@ pub mod Tasks
 pub mod Outcomes
 pub mod Shares
 pub mod Laws
+pub mod Drawing

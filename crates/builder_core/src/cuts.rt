@@ -1,20 +1,17 @@
 ghost use Rattle.std.specs.Prelude.{◌≡◌, ◌≤◌, All, map, length, filter, IfOk};
 ghost use Rattle.std.specs.List.{flat_map};
 ghost use Rattle.equation_core.specs.declared.shards.TheConstants.{MAX_SHIFT};
-ghost use Rattle.equation_core.specs.Shards.{shard};
 ghost use Rattle.universe_core.specs.Groups.{group_fields};
 ghost use Rattle.builder_core.specs.Building.{shift_in};
 ghost use Rattle.builder_core.specs.Cutting.{IsReady};
 ghost use Rattle.builder_core.specs.Tasks.{tasks_in, tasks_of, tasks_of_cut};
 
 use crate::Format;
+use crate::drawing::{shards_alone, shards_in_threads};
 use crate::task::Cut;
-use equation_core::shard_of;
-use ident_core::Identity;
 use octets_core::NoMemory;
-use rayon::prelude::*;
 use stage_core::shift_for;
-use std::alloc::{AllocError, Global};
+use std::alloc::Global;
 use std::thread::Threads;
 use universe_core::Group;
 
@@ -36,39 +33,6 @@ fn shift_of(group: &Group, format: Format) -> u8
         Format::Plain => 0,
         Format::Sharded => shift_for(group.universe.len() as u32, count(&group.revoked) as u32),
     }
-}
-
-// The shard of each identity.
-fn shards_alone(alloc: Global, universe: &[Identity], shift: u8) -> Result<Vec<u8>, AllocError>
-    requires { shift ≤ MAX_SHIFT }
-    ensures { IfOk result (λ v. v.items ≡ map (λ x. shard x shift) universe.now) }
-{
-    let mut shards = Vec::with_capacity(alloc, universe.len())?;
-    for id in universe {
-        shards.push(shard_of(id, shift))?;
-    }
-    Ok(shards)
-}
-
-// The same, by as many threads as there are processors.
-fn shards_in_threads<R: Threads + Sync>(
-    rt: &R,
-    alloc: Global,
-    universe: &[Identity],
-    shift: u8,
-) -> Result<Vec<u8>, AllocError>
-    requires { shift ≤ MAX_SHIFT }
-    ensures { IfOk result (λ v. v.items ≡ map (λ x. shard x shift) universe.now) }
-{
-    universe
-        .par_iter()
-        .map(
-            |id: &Identity| -> u8
-                requires { shift ≤ MAX_SHIFT }
-                ensures { result ≡ shard id.now shift }
-            { shard_of(id, shift) },
-        )
-        .collect(rt, alloc)
 }
 
 // Where `wide` allows it several threads draw the shards.

@@ -5,6 +5,7 @@ mod assembling;
 mod building;
 mod built;
 mod cuts;
+mod drawing;
 mod existence;
 mod fault;
 mod format;
