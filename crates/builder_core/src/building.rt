@@ -44,8 +44,8 @@ fn build_blocks<R: Threads + Sync, H: EquationHash + Sync, G: Gate + Sync>(
 /// The part of this head with the block of each group in this format, or the first refusal. The leaves of the blocks
 /// are built side by side, by as many threads as there are workers, or leaves where these are fewer. Each thread builds
 /// neighbouring leaves in order, and enters the gate before each. One worker builds all on the caller's thread; where
-/// there are several, the shards of a large group are drawn, and the rows of a large one that isn't cut are made, by as
-/// many threads as there are processors.
+/// there are several, the shards of a large group are drawn by twice as many threads as there are processors, and the
+/// rows of a large one that isn't cut are made by as many as there are processors.
 pub fn build_part<R: Threads + Sync, H: EquationHash + Sync, G: Gate + Sync>(
     rt: &R,
     alloc: Global,
@@ -72,8 +72,9 @@ pub fn build_part<R: Threads + Sync, H: EquationHash + Sync, G: Gate + Sync>(
 /// The part of this head with the block of each group in this format, or the first refusal, as `build_part` gives it.
 /// The workers, or as many as there are leaves where these are fewer, draw the leaves of the blocks from one counter,
 /// in order, so that a leaf that takes long holds up no other. Each thread enters the gate before each leaf that it
-/// builds. One worker builds all on the caller's thread; where there are several, the shards of a large group are
-/// drawn, and the rows of a large one that isn't cut are made, by as many threads as there are processors.
+/// builds. One worker builds all on the caller's thread; where there are several, the shards of a large group are drawn
+/// by twice as many threads as there are processors, and the rows of a large one that isn't cut are made by as many as
+/// there are processors.
 pub fn build_part_claimed<R: Threads + Sync, H: EquationHash + Sync, G: Gate + Sync>(
     rt: &R,
     alloc: Global,

@@ -13,8 +13,8 @@ use rayon::current_num_threads;
 use std::alloc::{AllocError, Global};
 use std::thread::Threads;
 
-/// How many neighbours a thread takes at once. It is done with them within a millisecond or so, and at the end no thread
-/// waits longer for another.
+/// How many neighbours a thread takes at once. It is done with them within a millisecond or so, and at the end waits no
+/// longer for another.
 const RUN: usize = 1024;
 
 /// The most threads that `claim_map` starts.
@@ -93,8 +93,8 @@ fn joined(alloc: Global, count: usize, drawn: &[Vec<u8>]) -> Result<Vec<u8>, All
     Ok(all)
 }
 
-/// The same, by as many threads as there are processors. Each draws runs of neighbours from one counter until none is
-/// left.
+/// The same, by twice as many threads as there are processors: of as many the system may have two on one processor, and
+/// none on another, for as long as a group takes. Each draws runs of neighbours from one counter until none is left.
 pub(crate) fn shards_in_threads<R: Threads + Sync>(
     rt: &R,
     alloc: Global,
@@ -111,7 +111,7 @@ pub(crate) fn shards_in_threads<R: Threads + Sync>(
         runs: &runs,
         shift,
     };
-    let threads = current_num_threads(rt).min(MAX_THREADS) as u32;
+    let threads = current_num_threads(rt).saturating_mul(2).min(MAX_THREADS) as u32;
     let drawn = claim_map(rt, alloc, &work, threads)?;
     let shards = joined(alloc, universe.len(), &drawn)?;
     Ok(shards)
