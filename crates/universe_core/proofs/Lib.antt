@@ -5,6 +5,7 @@ pub mod Members
 pub mod Placing
 pub mod IssuerRuns
 pub mod Sorting
+pub mod Halves
 pub mod Searching
 pub mod Issuers
 pub mod Enrolled

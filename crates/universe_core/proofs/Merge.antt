@@ -258,7 +258,7 @@ least_is x (i ∷ is) (e ∷ es) s r h = subst (λ w. IsLeast w (i ∷ is) (e �
 
 -- ---- the step
 
-agree : {M : Type 0} (f g : Identity → Option M) (ys : List Identity) → ((y : Identity) → Among ys y → f y ≡ g y) → filter_map f ys ≡ filter_map g ys
+pub agree : {M : Type 0} (f g : Identity → Option M) (ys : List Identity) → ((y : Identity) → Among ys y → f y ≡ g y) → filter_map f ys ≡ filter_map g ys
 agree f g [] h = refl
 agree f g (y ∷ ys) h = rw (h y (inl refl), agree f g ys (λ z a. h z (inr a))) refl
 

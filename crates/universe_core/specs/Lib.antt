@@ -13,9 +13,9 @@ pub mod Following
 pub mod Enrolling
 pub mod Reading
 pub mod Placing
-pub mod Sorting
 pub mod Marking
 pub mod Flagging
+pub mod Merges
 pub mod Merging
 pub mod Judging
 pub mod Members

@@ -14,7 +14,7 @@ ghost use Rattle.universe_core.specs.Members.{AreOf, next_of};
 ghost use Rattle.universe_core.specs.Reading.{one_if};
 
 use crate::marking::listed_now;
-use crate::threading::Threading;
+use crate::threading::{FEW, Threading};
 use job_core::JobCrl;
 use ledger_core::LedgerItem;
 use octets_core::Key32;
@@ -22,9 +22,6 @@ use rayon::current_num_threads;
 use sets_core::place_of_key_near;
 use std::alloc::{AllocError, Global};
 use std::thread::{Threads, join};
-
-/// So many members are told by one thread. To start another one takes longer than it saves.
-const FEW: usize = 16384;
 
 /// Beside each member whether it is revoked, and how many are of the universe.
 #[derive(Drop)]

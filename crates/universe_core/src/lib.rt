@@ -12,6 +12,7 @@ mod fault;
 mod flagging;
 mod following;
 mod grouping;
+mod halving;
 mod held;
 mod judging;
 mod lateness;
@@ -23,7 +24,6 @@ mod merging;
 mod read_entry;
 mod reading;
 mod serial_key;
-mod sorted;
 mod threading;
 
 pub use admission::{admit, admit_of, first, first_of};

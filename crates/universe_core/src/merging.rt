@@ -1,4 +1,4 @@
-ghost use Rattle.std.specs.List.Sorted.{IsStrictlySortedBy};
+ghost use Rattle.std.specs.List.Sorted.{IsPermutation, IsStrictlySortedBy};
 ghost use Rattle.std.specs.List.{cons_option, count_by, filter_map};
 ghost use Rattle.std.specs.Option.{option_map};
 ghost use Rattle.std.specs.Prelude.{◌≡◌, ◌≤◌, ◌++◌, Bool, List, [], length, map, OnOk, IfOk, ◌<◌, All};
@@ -6,6 +6,7 @@ ghost use Rattle.ident_core.specs.Order.{identity_cmp, octets_cmp};
 ghost use Rattle.ident_core.specs.declared.range.Range.{Range as RangeFields};
 ghost use Rattle.universe_core.specs.Merging.{IsRising, least_of, run_of, first_of, after_first, merged, lower};
 ghost use Rattle.universe_core.specs.Merging.{count_told};
+ghost use Rattle.universe_core.specs.Merges.{AreMergeable, IsMergeOf};
 ghost use Rattle.universe_core.specs.Judging.{IsSearchable, judge_of, is_late_beside};
 ghost use Rattle.ledger_core.specs.LedgerFields.{ledger_fields};
 ghost use Rattle.universe_core.specs.Jobs.{Job as JobMeaning, enrolled};
@@ -15,6 +16,7 @@ ghost use Rattle.universe_core.specs.Members.{AreMembers, as_item, members_in};
 use crate::judging::judge;
 use crate::member::{Member, Members};
 use crate::read_entry::ReadEntry;
+use crate::reading::sort_entries;
 use crate::threading::Threading;
 use ident_core::{Identity, Range, is_same};
 use ledger_core::{LedgerItem, LedgerPart};
@@ -157,6 +159,23 @@ fn merge(
     Ok(Merged { members, late })
 }
 
+/// What becomes of items and entries, which are sorted.
+pub(crate) fn merge_unsorted(
+    alloc: Global,
+    parts: &[LedgerPart],
+    items: &[LedgerItem],
+    issuers: &[Key32],
+    ranges: &[Range],
+    entries: &mut [ReadEntry],
+) -> Result<Merged, AllocError>
+    requires mergeable { AreMergeable parts.now issuers.now ranges.now items.now entries.old }
+    ensures same { OnOk result (IsPermutation entries.old entries.new) }
+    ensures merged { IfOk result (IsMergeOf parts.now issuers.now ranges.now items.now entries.new) }
+{
+    sort_entries(entries);
+    merge(alloc, parts, items, issuers, ranges, entries)
+}
+
 /// The identities accepted so far, ascending, where these entries are those that a job's ranges cover and whose issuers
 /// it enrolls, and how many of these are late.
 pub(crate) fn members<T: Threading>(
@@ -179,7 +198,7 @@ pub(crate) fn members<T: Threading>(
     ensures late { IfOk result (λ m. m.late
         ≡ count_by (is_lacked (ledger_fields parts.now items.now)) (entries_of issuers.now ranges.now entries.items)) }
 {
-    let sorted = threading.sorted(entries);
-    let merged = merge(alloc, parts, items, issuers, ranges, &sorted)?;
+    let mut entries = entries;
+    let merged = threading.merge(alloc, parts, items, issuers, ranges, &mut entries)?;
     Ok(merged)
 }

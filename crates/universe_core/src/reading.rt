@@ -163,10 +163,10 @@ pub(crate) fn order(x: &ReadEntry, y: &ReadEntry) -> Ordering
 }
 
 /// Sorts the entries by their identities.
-pub(crate) fn sort_entries(entries: &mut Vec<ReadEntry>)
-    ensures same { IsPermutation entries.old.items entries.new.items }
+pub(crate) fn sort_entries(entries: &mut [ReadEntry])
+    ensures same { IsPermutation entries.old entries.new }
     ensures rising { (issuers : List (List ℕ)) (ranges : List RangeFields) → IsStrictlySortedBy octets_cmp issuers
-        → All (IsPlaced issuers ranges) entries.old.items → IsRising (entries_of issuers ranges entries.new.items) }
+        → All (IsPlaced issuers ranges) entries.old → IsRising (entries_of issuers ranges entries.new) }
 {
     entries.sort_unstable_by(|x, y| order(x, y));
 }

@@ -1,32 +1,49 @@
-ghost use Rattle.std.specs.Prelude.{◌≡◌, ◌≤◌, IfOk, Bool, length, map};
-ghost use Rattle.std.specs.List.Sorted.{IsStrictlySortedBy};
+ghost use Rattle.std.specs.Prelude.{◌≡◌, ◌≤◌, IfOk, OnOk, Bool, length, map};
+ghost use Rattle.std.specs.List.Sorted.{IsPermutation, IsStrictlySortedBy};
 ghost use Rattle.ident_core.specs.Order.{identity_cmp, octets_cmp};
 ghost use Rattle.ident_core.specs.declared.identity.Identity.{Identity as IdentityFields};
 ghost use Rattle.ledger_core.specs.LedgerFields.{ids};
 ghost use Rattle.universe_core.specs.Flagging.{AreFlags};
 ghost use Rattle.universe_core.specs.Groups.{group_fields};
 ghost use Rattle.universe_core.specs.Members.{group_with};
-ghost use Rattle.universe_core.specs.Sorting.{IsSortOf};
+ghost use Rattle.universe_core.specs.Merges.{AreMergeable, IsMergeOf};
 
 use crate::admitted::Group;
 use crate::flagging::{Flags, flag, flag_in_threads};
 use crate::grouping::{groups, groups_in_threads};
+use crate::halving::merge_halves;
+use crate::merging::{Merged, merge_unsorted};
 use crate::read_entry::ReadEntry;
-use crate::sorted::{sorted, sorted_in_threads};
-use ledger_core::LedgerItem;
+use ident_core::Range;
+use ledger_core::{LedgerItem, LedgerPart};
 use octets_core::Key32;
+use rayon::current_num_threads;
 use std::alloc::{AllocError, Global};
 use std::thread::Threads;
+
+/// So many members are told by one thread, and fewer entries are merged by one. To start another thread takes longer
+/// than it saves.
+pub(crate) const FEW: usize = 16384;
 
 /// By how many threads the steps of an admission are done that several threads can share.
 pub(crate) trait Threading {
     /// What its threads may share.
     ghost shared: { Self → Type 0 };
 
-    /// The entries, sorted by their identities.
-    fn sorted(&self, entries: Vec<ReadEntry>) -> Vec<ReadEntry>
+    /// What becomes of items and entries, which are sorted.
+    fn merge(
+        &self,
+        alloc: Global,
+        parts: &[LedgerPart],
+        items: &[LedgerItem],
+        issuers: &[Key32],
+        ranges: &[Range],
+        entries: &mut [ReadEntry],
+    ) -> Result<Merged, AllocError>
         requires shared { shared self.now }
-        ensures { IsSortOf entries.items result.items };
+        requires mergeable { AreMergeable parts.now issuers.now ranges.now items.now entries.old }
+        ensures same { OnOk result (IsPermutation entries.old entries.new) }
+        ensures merged { IfOk result (IsMergeOf parts.now issuers.now ranges.now items.now entries.new) };
 
     /// Which members are revoked, where it is known which are settled and which a job lists.
     fn flag(
@@ -66,8 +83,16 @@ pub(crate) struct OneThread;
 impl Threading for OneThread {
     ghost shared = { λ threading. Unit {0} };
 
-    fn sorted(&self, entries: Vec<ReadEntry>) -> Vec<ReadEntry> {
-        sorted(entries)
+    fn merge(
+        &self,
+        alloc: Global,
+        parts: &[LedgerPart],
+        items: &[LedgerItem],
+        issuers: &[Key32],
+        ranges: &[Range],
+        entries: &mut [ReadEntry],
+    ) -> Result<Merged, AllocError> {
+        merge_unsorted(alloc, parts, items, issuers, ranges, entries)
     }
 
     fn flag(
@@ -104,11 +129,22 @@ impl<'a, R: Threads + Sync> Threading for ByWorkers<'a, R> {
 
     ghost shared = { λ threading. IsSync R.row };
 
-    fn sorted(&self, entries: Vec<ReadEntry>) -> Vec<ReadEntry> {
+    fn merge(
+        &self,
+        alloc: Global,
+        parts: &[LedgerPart],
+        items: &[LedgerItem],
+        issuers: &[Key32],
+        ranges: &[Range],
+        entries: &mut [ReadEntry],
+    ) -> Result<Merged, AllocError> {
         if self.workers > 1 {
-            sorted_in_threads(self.rt, entries)
+            let threads = current_num_threads(self.rt);
+            merge_halves(
+                self.rt, alloc, parts, items, issuers, ranges, entries, threads,
+            )
         } else {
-            sorted(entries)
+            merge_unsorted(alloc, parts, items, issuers, ranges, entries)
         }
     }
 
