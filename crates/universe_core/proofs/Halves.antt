@@ -2,12 +2,12 @@
 use mir.Val.{bool_byte}
 use Rattle.std.proofs.Common.{◌≡◌, ℕ, ◌+◌, ◌*◌, ◌/◌, ◌≤◌, ◌<◌, inl, inr, ⊎_elim, List, [], ◌∷◌, ◌++◌, map, length, get_or, take, drop, not, Bool, true, false, cond, Option, Some, None, refl, sym, ap, ◌∙◌, subst, arith}
 use Rattle.std.specs.Prelude.{All, IsPermutation}
-use Rattle.std.specs.List.{SwappedAt, filter, filter_map, find}
+use Rattle.std.specs.List.{AllByRecursion, SwappedAt, filter, filter_map, find}
 use Rattle.std.specs.List.Sorted.{IsStrictlySortedBy, IsPartitionedBy, IsPartitionPoint}
 use Rattle.std.specs.Option.{option_or}
 use Rattle.std.specs.declared.cmp.Ordering.{Ordering}
 use Rattle.std.specs.declared.cmp.Ordering.TheVariants.{Less, Equal, Greater}
-use Rattle.std.specs.Ordering.{is_lt, ordering_reverse}
+use Rattle.std.specs.Ordering.{is_gt, is_lt, ordering_reverse}
 use Rattle.std.proofs.lemmas.Bool.{cases_eq, true≢false}
 use Rattle.std.proofs.lemmas.List.{append-nil, map-append, take-append-drop, length-take-le, length-drop, get_or-take, get_or-drop}
 use Rattle.std.proofs.lemmas.List.Elements.{All-head, All-tail, All-map, All-same, All-take, All-drop, filter_map-append, filter-append}
@@ -17,12 +17,12 @@ use Rattle.std.proofs.lemmas.List.Sums.{sum_by-append, sum_by-cons}
 use Rattle.std.proofs.lemmas.Nat.{mul-le}
 use Rattle.ident_core.specs.declared.identity.Identity.{Identity}
 use Rattle.ident_core.specs.declared.range.Range.{Range}
-use Rattle.ident_core.specs.Order.{is_same, identity_cmp}
+use Rattle.ident_core.specs.Order.{is_same, identity_cmp, octets_cmp}
 use Rattle.ledger_core.specs.LedgerFields.{ids}
 use Rattle.ledger_core.specs.declared.fields.LedgerItem.{LedgerItem}
 use Rattle.ledger_core.specs.declared.fields.LedgerPart.{LedgerPart}
 use Rattle.sets_core.specs.Among.{Among}
-use Rattle.sets_core.proofs.Canonical.{sorted_cons}
+use Rattle.sets_core.proofs.Canonical.{all_from, sorted_cons}
 use Rattle.sets_core.proofs.Elements.{Among-left, Among-right, Among-cases}
 use Rattle.sets_core.proofs.Groups.{lt_less}
 use Rattle.sets_core.proofs.Keys.{same_other, code_cmp, code_cmp_at}
@@ -31,16 +31,17 @@ use Rattle.sets_core.proofs.Sets.{identity_exact, identity_total, Among-with_all
 use Rattle.universe_core.specs.Jobs.{Entry}
 use Rattle.universe_core.specs.Judging.{is_late_beside, judge_of}
 use Rattle.universe_core.specs.Members.{as_item}
-use Rattle.universe_core.specs.Merges.{AreMergeable, IsMergeOf}
-use Rattle.universe_core.specs.Merging.{all_ids, count_told, merged}
+use Rattle.universe_core.specs.Merges.{AreMergeable, IsMergedBehind, IsMergeOf}
+use Rattle.universe_core.specs.Merging.{IsRising, all_ids, count_told, merged}
 use Rattle.universe_core.specs.Placing.{placed_cmp}
 use Rattle.universe_core.specs.Reading.{IsPlaced, entries_of, entry_fields, id_in}
 use Rattle.universe_core.specs.declared.member.Member.{Member}
-use Rattle.universe_core.specs.declared.merging.Merged.{Merged}
+use Rattle.universe_core.specs.declared.member.Members.{Members}
 use Rattle.universe_core.specs.declared.read_entry.ReadEntry.{ReadEntry}
 use Rattle.universe_core.proofs.Cutting.{keyed_partitioned}
 use Rattle.universe_core.proofs.Merge.{agree}
-use Rattle.universe_core.proofs.Placing.{placed_is}
+use Rattle.universe_core.proofs.Placing.{placed_is, placed_ranks}
+use Rattle.universe_core.proofs.Sorting.{no_gt}
 
 abbrev entry_ids : List Entry → List Identity
 entry_ids es = map (λ (e : Entry). e.id) es
@@ -217,8 +218,8 @@ module _ (x : Identity) where
 
 -- ---- a sample of entries
 
-pub sampled_within : (i n : ℕ) → i < 512 → 512 ≤ n → i * (n / 512) < n
-sampled_within i n lt le = omega (arith, mul-le i (n / 512) 511 (n / 512) (omega arith) (omega arith))
+pub sampled_within : (i n : ℕ) → i < 256 → 256 ≤ n → i * (n / 256) < n
+sampled_within i n lt le = omega (arith, mul-le i (n / 256) 255 (n / 256) (omega arith) (omega arith))
 
 -- ---- entries, as a pass puts them in front
 
@@ -279,43 +280,125 @@ module _ (x : Identity) (items : List LedgerItem) (n : ℕ) (within : n ≤ leng
       subst (λ (i : LedgerItem). comes_before x i.id ≡ false) (sym (get_or-drop n items k d))
       (ap is_lt (sym (code_cmp_at (get_or items (n + k) d).id x)) ∙ cut.1 (n + k) d (omega arith) l)
 
--- ---- put together
+-- ---- entries in two parts that are sorted each
+
+pub parts_same : (entries put : List ReadEntry) (n : ℕ) (old_front old_back front back : List ReadEntry) → IsPermutation entries put
+    → old_front ≡ take n put → old_back ≡ drop n put → IsPermutation old_front front → IsPermutation old_back back → IsPermutation entries (front ++ back)
+parts_same entries put n old_front old_back front back same f b p q =
+    IsPermutation-trans entries put (front ++ back) same
+    (subst (λ es. IsPermutation es (front ++ back)) (ap (λ z. z ++ old_back) f ∙ ap (λ z. take n put ++ z) b ∙ take-append-drop n put)
+    (IsPermutation-append old_front front old_back back p q))
+
+rising_both : (xs ys : List Entry) → IsRising xs → IsRising ys → ((x y : Entry) → Among xs x → Among ys y → is_gt (identity_cmp x.id y.id) ≡ false) → IsRising (xs ++ ys)
+rising_both [] ys r s f = s
+rising_both (x ∷ xs) ys r s f = (
+  all_from (λ (d : Entry). is_gt (identity_cmp x.id d.id) ≡ false) (xs ++ ys) (λ d a. ⊎_elim
+      (λ b. among_rule xs r.0 d b)
+      (λ b. f x d (inl refl) b) (Among-cases xs ys d a)),
+  rising_both xs ys r.1 s (λ v w a b. f v w (inr a) b),
+)
+  where
+    among_rule : (zs : List Entry) → AllByRecursion (λ (d : Entry). is_gt (identity_cmp x.id d.id) ≡ false) zs → (d : Entry) → Among zs d → is_gt (identity_cmp x.id d.id) ≡ false
+    among_rule [] h d a = absurd a
+    among_rule (z ∷ zs) h d (inl e) = subst (λ (w : Entry). is_gt (identity_cmp x.id w.id) ≡ false) e h.0
+    among_rule (z ∷ zs) h d (inr a) = among_rule zs h.1 d a
+
+module _ (issuers : List (List ℕ)) (ranges : List Range) (ascend : IsStrictlySortedBy octets_cmp issuers) where
+  among_placed : (P : ReadEntry → Type 0) (es : List ReadEntry) → All P es → (x : Entry) → Among (entries_of issuers ranges es) x
+      → (e : ReadEntry) × P e × (entry_fields issuers ranges e ≡ x)
+  among_placed P [] h x a = absurd a
+  among_placed P (e ∷ es) h x (inl same) = (e, All-head P e es h, same)
+  among_placed P (e ∷ es) h x (inr a) = among_placed P es (All-tail P e es h) x a
+
+  not_above : (cut d e : ReadEntry) → goes_before cut d ≡ true → goes_before cut e ≡ false → IsPlaced issuers ranges d → IsPlaced issuers ranges e
+      → is_gt (identity_cmp (id_in issuers d) (id_in issuers e)) ≡ false
+  not_above cut d e b n p q =
+      let back : is_lt (placed_cmp e d) ≡ false = placed_ranks.chain e cut d n (placed_ranks.one_way d cut b) in
+      no_gt (identity_cmp (id_in issuers d) (id_in issuers e))
+      (ap is_lt (sym (identity_total.antisymm (id_in issuers e) (id_in issuers d)) ∙ sym (placed_is issuers e d ascend q.issuer p.issuer)) ∙ back)
+
+  pub parts_rise : (cut : ReadEntry) (entries put : List ReadEntry) (n : ℕ) (old_front old_back front back : List ReadEntry) → IsPermutation entries put → All (IsPlaced issuers ranges) entries
+      → All (λ e. goes_before cut e ≡ true) (take n put) → All (λ e. goes_before cut e ≡ false) (drop n put)
+      → old_front ≡ take n put → old_back ≡ drop n put → IsPermutation old_front front → IsPermutation old_back back
+      → (All (IsPlaced issuers ranges) old_front → IsRising (entries_of issuers ranges front)) → (All (IsPlaced issuers ranges) old_back → IsRising (entries_of issuers ranges back))
+      → IsRising (entries_of issuers ranges (front ++ back))
+  parts_rise cut entries put n old_front old_back front back same placed b c f g p q r s =
+      let there : All (IsPlaced issuers ranges) put = All-permutation (IsPlaced issuers ranges) entries put same placed in
+      let one : All (IsPlaced issuers ranges) old_front = All-same (IsPlaced issuers ranges) old_front (take n put) f (All-take (IsPlaced issuers ranges) n put there) in
+      let two : All (IsPlaced issuers ranges) old_back = All-same (IsPlaced issuers ranges) old_back (drop n put) g (All-drop (IsPlaced issuers ranges) n put there) in
+      let before : All (λ e. (goes_before cut e ≡ true) × IsPlaced issuers ranges e) front =
+      All-permutation (λ e. (goes_before cut e ≡ true) × IsPlaced issuers ranges e) old_front front p
+      (λ k d lt. (All-same (λ e. goes_before cut e ≡ true) old_front (take n put) f b k d lt, one k d lt)) in
+      let behind : All (λ e. (goes_before cut e ≡ false) × IsPlaced issuers ranges e) back =
+      All-permutation (λ e. (goes_before cut e ≡ false) × IsPlaced issuers ranges e) old_back back q
+      (λ k d lt. (All-same (λ e. goes_before cut e ≡ false) old_back (drop n put) g c k d lt, two k d lt)) in
+      subst IsRising (sym (map-append (entry_fields issuers ranges) front back))
+      (rising_both (entries_of issuers ranges front) (entries_of issuers ranges back) (r one) (s two) (λ x y a z.
+      let d = among_placed (λ e. (goes_before cut e ≡ true) × IsPlaced issuers ranges e) front before x a in
+      let e = among_placed (λ e. (goes_before cut e ≡ false) × IsPlaced issuers ranges e) back behind y z in
+      subst (λ (w : Entry). is_gt (identity_cmp w.id y.id) ≡ false) d.2
+      (subst (λ (w : Entry). is_gt (identity_cmp (id_in issuers d.0) w.id) ≡ false) e.2
+      (not_above cut d.0 e.0 d.1.0 e.1.0 d.1.1 e.1.1))))
+
+-- ---- merged, one behind the other
 
 module _ (parts : List LedgerPart) (issuers : List (List ℕ)) (ranges : List Range) where
+  -- behind none
+  pub merged_alone : (items : List LedgerItem) (entries : List ReadEntry) (old new : Members) (late : ℕ) → old.items.items ≡ [] → old.settled.items ≡ []
+      → IsMergedBehind parts issuers ranges items entries old new late → IsMergeOf parts issuers ranges items entries (record { members = new; late = late })
+  merged_alone items entries old new late empty unsettled m =
+      let made = merged (judge_of parts) items (entries_of issuers ranges entries) in
+      let settles : Member → Bool = λ x. x.settled in
+      record {
+        members = record { items = m.made ∙ ap (λ z. z ++ map as_item made) empty; settled = m.settled ∙ ap (λ z. z ++ map settles made) unsettled };
+        late = m.told;
+      }
+
   all_of : (x : Identity) (b : Bool) (es : List ReadEntry) → All (λ e. comes_before x (id_in issuers e) ≡ b) es
       → All (λ (e : Entry). comes_before x e.id ≡ b) (entries_of issuers ranges es)
   all_of x b es h = All-map (λ (e : Entry). comes_before x e.id ≡ b) (entry_fields issuers ranges) es h
 
-  pub halves_merged : (x : Identity) (low high : List LedgerItem) (front back : List ReadEntry) (m n w : Merged) → IsStrictlySortedBy identity_cmp (ids (low ++ high))
+  -- those of the identities behind one behind those of the others
+  halves_merged : (x : Identity) (low high : List LedgerItem) (front back : List ReadEntry) (none first all : Members) (m n : ℕ) → IsStrictlySortedBy identity_cmp (ids (low ++ high))
       → All (λ i. comes_before x i.id ≡ true) low → All (λ i. comes_before x i.id ≡ false) high
       → All (λ e. comes_before x (id_in issuers e) ≡ true) front → All (λ e. comes_before x (id_in issuers e) ≡ false) back
-      → IsMergeOf parts issuers ranges low front m → IsMergeOf parts issuers ranges high back n
-      → w.members.items.items ≡ m.members.items.items ++ n.members.items.items → w.members.settled.items ≡ m.members.settled.items ++ n.members.settled.items → w.late ≡ m.late + n.late
-      → IsMergeOf parts issuers ranges (low ++ high) (front ++ back) w
-  halves_merged x low high front back m n w s a b c d p q items settled late =
+      → none.items.items ≡ [] → none.settled.items ≡ []
+      → IsMergedBehind parts issuers ranges low front none first m → IsMergedBehind parts issuers ranges high back first all n
+      → IsMergeOf parts issuers ranges (low ++ high) (front ++ back) (record { members = all; late = m + n })
+  halves_merged x low high front back none first all m n s a b c d empty unsettled p q =
       let one = entries_of issuers ranges front in
       let two = entries_of issuers ranges back in
       let of : entries_of issuers ranges (front ++ back) ≡ one ++ two = map-append (entry_fields issuers ranges) front back in
-      let first = all_of x true front c in
-      let rest = all_of x false back d in
-      let whole : merged (judge_of parts) (low ++ high) (entries_of issuers ranges (front ++ back)) ≡ merged (judge_of parts) low one ++ merged (judge_of parts) high two =
-      ap (merged (judge_of parts) (low ++ high)) of ∙ merged_apart x low high a b one two first rest (judge_of parts) s in
-      let settles : Member → Bool = λ m. m.settled in
+      let before = all_of x true front c in
+      let behind = all_of x false back d in
+      let made = merged (judge_of parts) low one in
+      let more = merged (judge_of parts) high two in
+      let whole : merged (judge_of parts) (low ++ high) (entries_of issuers ranges (front ++ back)) ≡ made ++ more =
+      ap (merged (judge_of parts) (low ++ high)) of ∙ merged_apart x low high a b one two before behind (judge_of parts) s in
+      let settles : Member → Bool = λ v. v.settled in
+      let alone = merged_alone low front none first m empty unsettled p in
       record {
         members = record {
-          items = items ∙ ap (λ zs. zs ++ n.members.items.items) p.members.items ∙ ap (λ zs. map as_item (merged (judge_of parts) low one) ++ zs) q.members.items
-              ∙ sym (ap (map as_item) whole ∙ map-append as_item (merged (judge_of parts) low one) (merged (judge_of parts) high two));
-          settled = settled ∙ ap (λ zs. zs ++ n.members.settled.items) p.members.settled ∙ ap (λ zs. map settles (merged (judge_of parts) low one) ++ zs) q.members.settled
-              ∙ sym (ap (map settles) whole ∙ map-append settles (merged (judge_of parts) low one) (merged (judge_of parts) high two));
+          items = q.made ∙ ap (λ z. z ++ map as_item more) alone.members.items ∙ sym (ap (map as_item) whole ∙ map-append as_item made more);
+          settled = q.settled ∙ ap (λ z. z ++ map settles more) alone.members.settled ∙ sym (ap (map settles) whole ∙ map-append settles made more);
         };
         late =
             let counted : count_told (is_late_beside parts) (low ++ high) (entries_of issuers ranges (front ++ back))
             ≡ count_told (is_late_beside parts) low one + count_told (is_late_beside parts) high two =
-            ap (count_told (is_late_beside parts) (low ++ high)) of ∙ told_apart x low high a b one two first rest (is_late_beside parts) in
-            let first_late = p.late in
-            let rest_late = q.late in
+            ap (count_told (is_late_beside parts) (low ++ high)) of ∙ told_apart x low high a b one two before behind (is_late_beside parts) in
+            let first_late = p.told in
+            let rest_late = q.told in
             omega arith;
       }
+
+  pub sorted_mergeable : (items : List LedgerItem) (old new : List ReadEntry) → IsPermutation old new → AreMergeable parts issuers ranges items old → AreMergeable parts issuers ranges items new
+  sorted_mergeable items old new same m = record {
+    few = m.few;
+    searchable = m.searchable;
+    issuers_ascend = m.issuers_ascend;
+    items_ascend = m.items_ascend;
+    placed = All-permutation (IsPlaced issuers ranges) old new same m.placed;
+  }
 
   -- ---- the halves, of entries that are put in front of others and of the items that a search cuts
 
@@ -348,32 +431,25 @@ module _ (parts : List LedgerPart) (issuers : List (List ℕ)) (ranges : List Ra
       placed = All-same (IsPlaced issuers ranges) back (drop n put) e (All-drop (IsPlaced issuers ranges) n put placed);
     }
 
-    module _ (old_front old_back : List ReadEntry) (front_is : old_front ≡ take n put) (back_is : old_back ≡ drop n put) (front back : List ReadEntry)
-        (front_same : IsPermutation old_front front) (back_same : IsPermutation old_back back) where
-      pub halves_same : IsPermutation entries (front ++ back)
-      halves_same =
-          IsPermutation-trans entries put (front ++ back) same
-          (subst (λ es. IsPermutation es (front ++ back)) (ap (λ z. z ++ old_back) front_is ∙ ap (λ z. take n put ++ z) back_is ∙ take-append-drop n put)
-          (IsPermutation-append old_front front old_back back front_same back_same))
+    in_order : (cut : ReadEntry) (b : Bool) (old new : List ReadEntry) → IsPlaced issuers ranges cut → All (IsPlaced issuers ranges) old → IsPermutation old new
+        → All (λ e. goes_before cut e ≡ b) old → All (λ e. comes_before (id_in issuers cut) (id_in issuers e) ≡ b) new
+    in_order cut b old new at there moved h =
+        All-permutation (λ e. comes_before (id_in issuers cut) (id_in issuers e) ≡ b) old new moved
+        (λ i d lt. ap is_lt (sym (placed_is issuers (get_or old i d) cut given.issuers_ascend (there i d lt).issuer at.issuer)) ∙ h i d lt)
 
-      in_order : (cut : ReadEntry) (b : Bool) (old new : List ReadEntry) → IsPlaced issuers ranges cut → All (IsPlaced issuers ranges) old → IsPermutation old new
-          → All (λ e. goes_before cut e ≡ b) old → All (λ e. comes_before (id_in issuers cut) (id_in issuers e) ≡ b) new
-      in_order cut b old new at there moved h =
-          All-permutation (λ e. comes_before (id_in issuers cut) (id_in issuers e) ≡ b) old new moved
-          (λ i d lt. ap is_lt (sym (placed_is issuers (get_or old i d) cut given.issuers_ascend (there i d lt).issuer at.issuer)) ∙ h i d lt)
-
-      pub whole_merged : (cut : ReadEntry) (m r w : Merged) → IsPlaced issuers ranges cut
-          → All (λ e. goes_before cut e ≡ true) (take n put) → All (λ e. goes_before cut e ≡ false) (drop n put)
-          → All (λ i. comes_before (id_in issuers cut) i.id ≡ true) (take k items) → All (λ i. comes_before (id_in issuers cut) i.id ≡ false) (drop k items)
-          → IsMergeOf parts issuers ranges low front m → IsMergeOf parts issuers ranges high back r
-          → w.members.items.items ≡ m.members.items.items ++ r.members.items.items → w.members.settled.items ≡ m.members.settled.items ++ r.members.settled.items → w.late ≡ m.late + r.late
-          → IsMergeOf parts issuers ranges items (front ++ back) w
-      whole_merged cut m r w at a b c d p q is settled late =
-          let goes = λ (v : Bool) (e : ReadEntry). goes_before cut e ≡ v in
-          let comes_in = λ (v : Bool) (i : LedgerItem). comes_before (id_in issuers cut) i.id ≡ v in
-          subst (λ xs. IsMergeOf parts issuers ranges xs (front ++ back) w) whole_items
-          (halves_merged (id_in issuers cut) low high front back m r w (subst (IsStrictlySortedBy identity_cmp) (ap ids (sym whole_items)) given.items_ascend)
-          (All-same (comes_in true) low (take k items) items_low c) (All-same (comes_in false) high (drop k items) items_high d)
-          (in_order cut true old_front front at (front_mergeable old_front front_is).placed front_same (All-same (goes true) old_front (take n put) front_is a))
-          (in_order cut false old_back back at (back_mergeable old_back back_is).placed back_same (All-same (goes false) old_back (drop n put) back_is b))
-          p q is settled late)
+    pub whole_merged : (cut : ReadEntry) (old_front old_back front back : List ReadEntry) (none first all : Members) (m r : ℕ) → IsPlaced issuers ranges cut
+        → All (λ e. goes_before cut e ≡ true) (take n put) → All (λ e. goes_before cut e ≡ false) (drop n put)
+        → All (λ i. comes_before (id_in issuers cut) i.id ≡ true) (take k items) → All (λ i. comes_before (id_in issuers cut) i.id ≡ false) (drop k items)
+        → old_front ≡ take n put → old_back ≡ drop n put → IsPermutation old_front front → IsPermutation old_back back
+        → none.items.items ≡ [] → none.settled.items ≡ []
+        → IsMergedBehind parts issuers ranges low front none first m → IsMergedBehind parts issuers ranges high back first all r
+        → IsMergeOf parts issuers ranges items (front ++ back) (record { members = all; late = m + r })
+    whole_merged cut old_front old_back front back none first all m r at a b c d f g fs bs empty unsettled p q =
+        let goes = λ (v : Bool) (e : ReadEntry). goes_before cut e ≡ v in
+        let comes_in = λ (v : Bool) (i : LedgerItem). comes_before (id_in issuers cut) i.id ≡ v in
+        subst (λ xs. IsMergeOf parts issuers ranges xs (front ++ back) (record { members = all; late = m + r })) whole_items
+        (halves_merged (id_in issuers cut) low high front back none first all m r (subst (IsStrictlySortedBy identity_cmp) (ap ids (sym whole_items)) given.items_ascend)
+        (All-same (comes_in true) low (take k items) items_low c) (All-same (comes_in false) high (drop k items) items_high d)
+        (in_order cut true old_front front at (front_mergeable old_front f).placed fs (All-same (goes true) old_front (take n put) f a))
+        (in_order cut false old_back back at (back_mergeable old_back g).placed bs (All-same (goes false) old_back (drop n put) g b))
+        empty unsettled p q)

@@ -4,7 +4,7 @@ use Rattle.std.specs.Prelude.{is_some}
 use Rattle.std.specs.Str.{bytes_eq}
 use Rattle.std.proofs.Common.{◌≡◌, ℕ, ◌+◌, ◌-◌, ◌<◌, ◌++◌, List, [], ◌∷◌, map, filter, length, get_or, take, drop, set, arith, Bool, true, false, cond, not, ◌&&◌, ◌||◌, Option, Some, None, refl, sym, ap, ◌∙◌}
 use Rattle.std.proofs.lemmas.Bool.{false_from_ne_true, true≢false}
-use Rattle.std.proofs.lemmas.List.{length-map, length-take, map_more, get_or-map, get_or-drop, get_or-append_right, get_or_default}
+use Rattle.std.proofs.lemmas.List.{length-map, length-take, map_more, get_or-map, get_or-drop, get_or-append_right, get_or_default, set-get_or}
 use Rattle.std.proofs.lemmas.List.Edits.{map_over_more}
 use Rattle.ident_core.specs.declared.identity.Identity.{Identity}
 use Rattle.job_core.specs.declared.meaning.JobCrl.{JobCrl}
@@ -196,3 +196,14 @@ lasts_more place h xs ys flags i x y d last lt ef eo ex ey el =
     let flag : get_or flags i d ≡ h x.id = ap (λ z. get_or z i d) ef ∙ get_or-map (λ (m : LedgerItem). h m.id) xs i x d lt ∙ ap (λ (m : LedgerItem). h m.id) (sym x-is) in
     let next : last ≡ cond (h x.id) (Some place) x.last = el ∙ (λ k. cond (flag k) (Some place) ((sym ey ∙ y-is) k).last) in
     (λ k. set ys i (record { id = (sym ex k).id; birth = (sym ex k).birth; last = next k; until = (sym ex k).until })) ∙ map_over_more f xs ys i x lt eo ex
+
+-- one that isn't revoked stays as it is
+pub lasts_kept : (place : ℕ) (h : Identity → Bool) (xs ys : List LedgerItem) (flags : List Bool) (i : ℕ) → i < length xs → length ys ≡ length xs → flags ≡ map (λ m. h m.id) xs
+    → ys ≡ map (λ m. next_of place (h m.id) m) (take i xs) ++ drop i xs → get_or flags i false ≡ false
+    → ys ≡ map (λ m. next_of place (h m.id) m) (take (i + 1) xs) ++ drop (i + 1) xs
+lasts_kept place h xs ys flags i lt long ef eo el =
+    let bare : LedgerItem = record { id = record { issuer = []; serial = [] }; birth = 0; last = None; until = None } in
+    let x : LedgerItem = get_or ys i bare in
+    let ex : x ≡ get_or ys i x = get_or_default ys i bare x (omega arith) in
+    sym (set-get_or ys i x)
+    ∙ lasts_more place h xs ys flags i x x false (get_or ys i x).last lt ef eo ex ex (sym (ap (λ b. cond b (Some place) (get_or ys i x).last) el))

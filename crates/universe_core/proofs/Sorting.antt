@@ -24,7 +24,7 @@ use Rattle.universe_core.proofs.Members.{AreRead}
 use Rattle.universe_core.proofs.Placing.{placed_is, placed_ranks}
 use Rattle.sets_core.proofs.Sets.{identity_total}
 
-no_gt : (o : Ordering) → is_lt (ordering_reverse o) ≡ false → is_gt o ≡ false
+pub no_gt : (o : Ordering) → is_lt (ordering_reverse o) ≡ false → is_gt o ≡ false
 no_gt Less h = refl
 no_gt Equal h = refl
 no_gt Greater h = absurd (true≢false h)

@@ -1,4 +1,4 @@
-ghost use Rattle.std.specs.Prelude.{◌≡◌, ◌≤◌, ◌+◌, ◌++◌, ◌&&◌, ◌||◌, IfOk, Some, map, not, cond, Bool, length, is_some};
+ghost use Rattle.std.specs.Prelude.{◌≡◌, ◌≤◌, ◌+◌, ◌++◌, ◌&&◌, ◌||◌, IfOk, map, not, Bool, length, is_some};
 ghost use Rattle.std.specs.List.{count_by};
 ghost use Rattle.std.specs.List.Sorted.{IsStrictlySortedBy};
 ghost use Rattle.std.specs.Thread.{IsSync};
@@ -186,13 +186,6 @@ pub(crate) fn revoked_now<T: Threading>(
     Ok(flags)
 }
 
-/// The last of a member, where it is known whether it is revoked.
-fn next_last(last: Option<u8>, revoked: bool, place: u8) -> Option<u8>
-    ensures { result ≡ cond revoked (Some place) last }
-{
-    if revoked { Some(place) } else { last }
-}
-
 /// Makes the items of the next ledger of those that members have, where it is known which are revoked.
 pub(crate) fn set_lasts(items: &mut [LedgerItem], revoked: &[bool], place: u8)
     requires { length revoked.now ≡ length items.old }
@@ -201,6 +194,8 @@ pub(crate) fn set_lasts(items: &mut [LedgerItem], revoked: &[bool], place: u8)
     ensures same { ids items.new ≡ ids items.old }
 {
     for i in 0..items.len() {
-        items[i].last = next_last(items[i].last, revoked[i], place);
+        if revoked[i] {
+            items[i].last = Some(place);
+        }
     }
 }

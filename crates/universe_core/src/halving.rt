@@ -1,4 +1,4 @@
-//! Items and entries merged by several threads, of which each takes the identities between two.
+//! Entries sorted by several threads, of which each takes the identities between two, and merged with items.
 
 ghost use Rattle.std.specs.Prelude.{◌≡◌, ◌+◌, ◌++◌, ◌^◌, ◌≤◌, ◌<◌, ℕ, List, true, false, length, take, drop, OnOk, IfOk, All};
 ghost use Rattle.std.specs.List.Sorted.{IsPermutation, IsStrictlySortedBy};
@@ -7,12 +7,12 @@ ghost use Rattle.std.specs.Thread.{IsSync};
 ghost use Rattle.ident_core.specs.Order.{identity_cmp, octets_cmp};
 ghost use Rattle.ident_core.specs.declared.range.Range.{Range as RangeFields};
 ghost use Rattle.ledger_core.specs.LedgerFields.{ids};
-ghost use Rattle.universe_core.specs.Merges.{AreMergeable, IsMergeOf};
+ghost use Rattle.universe_core.specs.Merges.{AreMergeable, IsMergedBehind, IsMergeOf};
+ghost use Rattle.universe_core.specs.Merging.{IsRising};
 ghost use Rattle.universe_core.specs.Placing.{placed_cmp};
-ghost use Rattle.universe_core.specs.Reading.{IsPlaced};
+ghost use Rattle.universe_core.specs.Reading.{IsPlaced, entries_of};
 
-use crate::member::Members;
-use crate::merging::{Merged, merge_unsorted};
+use crate::merging::{Merged, merge, merge_unsorted, no_members};
 use crate::read_entry::ReadEntry;
 use crate::reading::{order, sort_entries};
 use crate::threading::FEW;
@@ -23,20 +23,20 @@ use std::alloc::{AllocError, Global};
 use std::thread::{Threads, join_mut};
 
 /// So many entries tell which one is in the middle.
-const SAMPLED: usize = 512;
+const SAMPLED: usize = 256;
 
 /// An entry that about half of the entries come before, as evenly spaced ones tell.
-fn middle(alloc: Global, entries: &[ReadEntry]) -> Result<ReadEntry, AllocError>
+fn middle(entries: &[ReadEntry]) -> ReadEntry
     requires { SAMPLED ≤ length entries.now }
-    ensures { (issuers : List (List ℕ)) (ranges : List RangeFields) → All (IsPlaced issuers ranges) entries.now → IfOk result (IsPlaced issuers ranges) }
+    ensures { (issuers : List (List ℕ)) (ranges : List RangeFields) → All (IsPlaced issuers ranges) entries.now → IsPlaced issuers ranges result }
 {
     let step = entries.len() / SAMPLED;
-    let mut sample = Vec::with_capacity(alloc, SAMPLED)?;
+    let mut sample = [entries[0]; SAMPLED];
     for i in 0..SAMPLED {
-        sample.push(entries[i * step])?;
+        sample[i] = entries[i * step];
     }
     sort_entries(&mut sample);
-    Ok(sample[SAMPLED / 2])
+    sample[SAMPLED / 2]
 }
 
 /// Puts the entries that come before the cut in front of the others, and says how many they are.
@@ -65,31 +65,40 @@ fn items_before(items: &[LedgerItem], id: &Identity) -> usize
     items.partition_point(|i| i.id.cmp(id).is_lt())
 }
 
-/// What some identities become and what those behind them become.
-fn joined(front: Merged, back: Merged) -> Result<Merged, AllocError>
-    requires { front.late + back.late < 2 ^ 64 }
-    ensures items { IfOk result (λ m. m.members.items.items ≡ front.members.items.items ++ back.members.items.items) }
-    ensures settled { IfOk result (λ m. m.members.settled.items ≡ front.members.settled.items ++ back.members.settled.items) }
-    ensures late { IfOk result (λ m. m.late ≡ front.late + back.late) }
+/// Sorts the entries by their identities, by so many threads: those before a middle one by a half of them, and the others
+/// by the rest, until each has its own.
+#[cycle(sort_halves)]
+fn sort_halves<R: Threads + Sync>(rt: &R, entries: &mut [ReadEntry], threads: usize)
+    ensures same { IsPermutation entries.old entries.new }
+    ensures rising { (issuers : List (List ℕ)) (ranges : List RangeFields) → IsStrictlySortedBy octets_cmp issuers
+        → All (IsPlaced issuers ranges) entries.old → IsRising (entries_of issuers ranges entries.new) }
 {
-    let late = front.late + back.late;
-    let Members {
-        mut items,
-        mut settled,
-    } = front.members;
-    let mut more = back.members;
-    items.append(&mut more.items)?;
-    settled.append(&mut more.settled)?;
-    Ok(Merged {
-        members: Members { items, settled },
-        late,
-    })
+    if threads < 2 || entries.len() < FEW {
+        sort_entries(entries);
+        return;
+    }
+    let cut = middle(entries);
+    let place = put_in_front(entries, &cut);
+    let (low, high) = entries.split_at_mut(place);
+    let half = threads / 2;
+    let other = threads - half;
+    let mut front = ||
+        requires { IsSync R.row }
+        ensures { IsPermutation low.entry.now low.exit.now
+            × ((issuers : List (List ℕ)) (ranges : List RangeFields) → IsStrictlySortedBy octets_cmp issuers
+            → All (IsPlaced issuers ranges) low.entry.now → IsRising (entries_of issuers ranges low.exit.now)) }
+    { sort_halves(rt, low, half) };
+    let mut back = ||
+        requires { IsSync R.row }
+        ensures { IsPermutation high.entry.now high.exit.now
+            × ((issuers : List (List ℕ)) (ranges : List RangeFields) → IsStrictlySortedBy octets_cmp issuers
+            → All (IsPlaced issuers ranges) high.entry.now → IsRising (entries_of issuers ranges high.exit.now)) }
+    { sort_halves(rt, high, other) };
+    join_mut(rt, &mut front, &mut back);
 }
 
-/// As `merge_unsorted`, by so many threads: the identities before one go to a half of them, and the others to the rest,
-/// until each has its own.
-#[cycle(merge_halves)]
-pub(crate) fn merge_halves<R: Threads + Sync>(
+/// As `merge_unsorted`, by so many threads. A half of the entries is merged by one while the others sort those behind it.
+pub(crate) fn merge_in_threads<R: Threads + Sync>(
     rt: &R,
     alloc: Global,
     parts: &[LedgerPart],
@@ -103,28 +112,30 @@ pub(crate) fn merge_halves<R: Threads + Sync>(
     ensures same { OnOk result (IsPermutation entries.old entries.new) }
     ensures merged { IfOk result (IsMergeOf parts.now issuers.now ranges.now items.now entries.new) }
 {
-    if threads < 2 || entries.len() < FEW {
+    if entries.len() < FEW {
         return merge_unsorted(alloc, parts, items, issuers, ranges, entries);
     }
-    let cut = middle(alloc, entries)?;
+    let mut members = no_members(alloc, items.len().saturating_add(entries.len()))?;
+    let cut = middle(entries);
     let place = put_in_front(entries, &cut);
     let (low, high) = entries.split_at_mut(place);
     let (items_low, items_high) = items.split_at(items_before(items, &cut.id(issuers)));
-    let half = threads / 2;
-    let other = threads - half;
-    let mut front = || -> Result<Merged, AllocError>
-        requires { IsSync R.row × AreMergeable parts.now issuers.now ranges.now items_low.now low.now }
-        ensures { OnOk result (IsPermutation low.entry.now low.exit.now)
-            × IfOk result (IsMergeOf parts.entry.now issuers.entry.now ranges.entry.now items_low.entry.now low.exit.now) }
-    { merge_halves(rt, alloc, parts, items_low, issuers, ranges, low, half) };
-    let mut back = || -> Result<Merged, AllocError>
-        requires { IsSync R.row × AreMergeable parts.now issuers.now ranges.now items_high.now high.now }
-        ensures { OnOk result (IsPermutation high.entry.now high.exit.now)
-            × IfOk result (IsMergeOf parts.entry.now issuers.entry.now ranges.entry.now items_high.entry.now high.exit.now) }
-    { merge_halves(rt, alloc, parts, items_high, issuers, ranges, high, other) };
-    let (one, two) = join_mut(rt, &mut front, &mut back);
-    let first = one?;
-    let rest = two?;
-    let whole = joined(first, rest)?;
-    Ok(whole)
+    sort_halves(rt, low, threads);
+    let sorted: &[ReadEntry] = low;
+    let mut sort_rest = ||
+        requires { IsSync R.row }
+        ensures { IsPermutation high.entry.now high.exit.now
+            × ((issuers : List (List ℕ)) (ranges : List RangeFields) → IsStrictlySortedBy octets_cmp issuers
+            → All (IsPlaced issuers ranges) high.entry.now → IsRising (entries_of issuers ranges high.exit.now)) }
+    { sort_halves(rt, high, threads) };
+    let mut merge_first = || -> Result<usize, AllocError>
+        requires { AreMergeable parts.now issuers.now ranges.now items_low.now sorted.now
+            × IsRising (entries_of issuers.now ranges.now sorted.now) }
+        ensures { IfOk result (IsMergedBehind parts.entry.now issuers.entry.now ranges.entry.now items_low.entry.now sorted.entry.now members.entry members.exit) }
+    { merge(&mut members, parts, items_low, issuers, ranges, sorted) };
+    let (_, merged) = join_mut(rt, &mut sort_rest, &mut merge_first);
+    let first = merged?;
+    let rest = merge(&mut members, parts, items_high, issuers, ranges, high)?;
+    let late = first + rest;
+    Ok(Merged { members, late })
 }

@@ -6,7 +6,7 @@ ghost use Rattle.ident_core.specs.Order.{identity_cmp, octets_cmp};
 ghost use Rattle.ident_core.specs.declared.range.Range.{Range as RangeFields};
 ghost use Rattle.universe_core.specs.Merging.{IsRising, least_of, run_of, first_of, after_first, merged, lower};
 ghost use Rattle.universe_core.specs.Merging.{count_told};
-ghost use Rattle.universe_core.specs.Merges.{AreMergeable, IsMergeOf};
+ghost use Rattle.universe_core.specs.Merges.{AreMergeable, IsMergedBehind, IsMergeOf};
 ghost use Rattle.universe_core.specs.Judging.{IsSearchable, judge_of, is_late_beside};
 ghost use Rattle.ledger_core.specs.LedgerFields.{ledger_fields};
 ghost use Rattle.universe_core.specs.Jobs.{Job as JobMeaning, enrolled};
@@ -119,27 +119,19 @@ pub(crate) struct Merged {
     pub(crate) late: usize,
 }
 
-fn merge(
-    alloc: Global,
+/// Puts what becomes of items and entries behind members, and says how many entries are late.
+pub(crate) fn merge(
+    members: &mut Members,
     parts: &[LedgerPart],
     items: &[LedgerItem],
     issuers: &[Key32],
     ranges: &[Range],
     entries: &[ReadEntry],
-) -> Result<Merged, AllocError>
-    requires few { length parts.now < 256 }
-    requires parts { All IsSearchable parts.now }
-    requires ascend { IsStrictlySortedBy identity_cmp (map (λ i. i.id) items.now) }
-    requires placed { All (IsPlaced issuers.now ranges.now) entries.now }
+) -> Result<usize, AllocError>
+    requires mergeable { AreMergeable parts.now issuers.now ranges.now items.now entries.now }
     requires rise { IsRising (entries_of issuers.now ranges.now entries.now) }
-    ensures members { IfOk result (λ m.
-        AreMembers (merged (judge_of parts.now) items.now (entries_of issuers.now ranges.now entries.now)) m.members.items.items m.members.settled.items) }
-    ensures late { IfOk result (λ m. m.late
-        ≡ count_told (is_late_beside parts.now) items.now (entries_of issuers.now ranges.now entries.now)) }
+    ensures { IfOk result (IsMergedBehind parts.now issuers.now ranges.now items.now entries.now members.old members.new) }
 {
-    let most = items.len().saturating_add(entries.len());
-    let mut kept = Vec::with_capacity(alloc, most)?;
-    let mut settled = Vec::with_capacity(alloc, most)?;
     let mut late = 0;
     let mut items_left = items;
     let mut entries_left = entries;
@@ -147,16 +139,23 @@ fn merge(
         let old = first_item(items_left, &id);
         let (run, behind) = entries_left.split_at(run_length(issuers, entries_left, &id));
         let judged = judge(parts, &id, &old, issuers, ranges, run);
-        keep(&mut kept, &mut settled, judged.member)?;
+        keep(&mut members.items, &mut members.settled, judged.member)?;
         late += judged.late;
         items_left = after_item(items_left, &id);
         entries_left = behind;
     }
-    let members = Members {
-        items: kept,
-        settled,
-    };
-    Ok(Merged { members, late })
+    Ok(late)
+}
+
+/// No members, with room for so many.
+pub(crate) fn no_members(alloc: Global, most: usize) -> Result<Members, AllocError>
+    ensures items { IfOk result (λ m. m.items.items ≡ []) }
+    ensures settled { IfOk result (λ m. m.settled.items ≡ []) }
+{
+    Ok(Members {
+        items: Vec::with_capacity(alloc, most)?,
+        settled: Vec::with_capacity(alloc, most)?,
+    })
 }
 
 /// What becomes of items and entries, which are sorted.
@@ -172,8 +171,10 @@ pub(crate) fn merge_unsorted(
     ensures same { OnOk result (IsPermutation entries.old entries.new) }
     ensures merged { IfOk result (IsMergeOf parts.now issuers.now ranges.now items.now entries.new) }
 {
+    let mut members = no_members(alloc, items.len().saturating_add(entries.len()))?;
     sort_entries(entries);
-    merge(alloc, parts, items, issuers, ranges, entries)
+    let late = merge(&mut members, parts, items, issuers, ranges, entries)?;
+    Ok(Merged { members, late })
 }
 
 /// The identities accepted so far, ascending, where these entries are those that a job's ranges cover and whose issuers

@@ -11,7 +11,7 @@ ghost use Rattle.universe_core.specs.Merges.{AreMergeable, IsMergeOf};
 use crate::admitted::Group;
 use crate::flagging::{Flags, flag, flag_in_threads};
 use crate::grouping::{groups, groups_in_threads};
-use crate::halving::merge_halves;
+use crate::halving::merge_in_threads;
 use crate::merging::{Merged, merge_unsorted};
 use crate::read_entry::ReadEntry;
 use ident_core::Range;
@@ -140,7 +140,7 @@ impl<'a, R: Threads + Sync> Threading for ByWorkers<'a, R> {
     ) -> Result<Merged, AllocError> {
         if self.workers > 1 {
             let threads = current_num_threads(self.rt);
-            merge_halves(
+            merge_in_threads(
                 self.rt, alloc, parts, items, issuers, ranges, entries, threads,
             )
         } else {

@@ -1,5 +1,5 @@
 use Rattle.std.specs.Option.{option_map}
-use Rattle.std.proofs.Common.{◌≡◌, ◌∙◌, Bool, refl, ap, sym, subst, length, arith, All}
+use Rattle.std.proofs.Common.{◌≡◌, ◌∙◌, ◌++◌, Bool, refl, ap, sym, subst, length, arith, All}
 use Rattle.std.specs.List.{count_by}
 use Rattle.std.proofs.lemmas.List.{take-map, drop-map, length-map}
 use Rattle.std.proofs.lemmas.List.Elements.{All-take, All-drop}
@@ -47,12 +47,12 @@ loop-id-preserved c =
       rise = subst IsRising (sym behind) (rising_after id (of left) c.loop-id.invariant.rise);
       kept =
           step_done (made_of as_item parts) id items c.after_item-items_left.result.now (of left) (of c.split_at.result.1.now)
-          (option_map as_item c.judge-judged.result.member) c.loop-id.kept.items c.keep.new.items.items _
+          (option_map as_item c.judge-judged.result.member) c.loop-id.members.items.items c.keep.new.items.items _
           c.loop-id.invariant.ascend c.loop-id.invariant.rise least c.after_item-items_left.ensures behind
           (ap (option_map as_item) judged) c.in_ok-keep.ensures.items c.loop-id.invariant.kept;
       settled =
           step_done (made_of settled parts) id items c.after_item-items_left.result.now (of left) (of c.split_at.result.1.now)
-          (option_map settled c.judge-judged.result.member) c.loop-id.settled.items c.keep.new.settled.items _
+          (option_map settled c.judge-judged.result.member) c.loop-id.members.settled.items c.keep.new.settled.items _
           c.loop-id.invariant.ascend c.loop-id.invariant.rise least c.after_item-items_left.ensures behind
           (ap (option_map settled) judged) c.in_ok-keep.ensures.settled c.loop-id.invariant.settled;
       late =
@@ -95,21 +95,19 @@ overflow_add-late c =
     let d = length-map c.args.entries.now fields in
     omega arith
 
-pub returns-clause-members : goal.returns-clause-members
-returns-clause-members c =
+pub returns : goal.returns
+returns c =
     let of = entries_of c.args.issuers.now c.args.ranges.now in
     let parts = c.args.parts.now in
     let items = c.args.items.now in
     let left = c.loop-id.items_left.now in
+    let old = c.args.members.now in
     let settled : Member → Bool = λ m. m.settled in
     let none = sym (c.least.ensures c.args.ranges.now) ∙ c.in_default.is in
     record {
-      items = all_done (made_of as_item parts) left (of c.loop-id.entries_left.now) c.loop-id.kept.items _ none c.loop-id.invariant.kept
-          ∙ merged_made as_item (judge_of parts) items (of c.args.entries.now);
-      settled = all_done (made_of settled parts) left (of c.loop-id.entries_left.now) c.loop-id.settled.items _ none c.loop-id.invariant.settled
-          ∙ merged_made settled (judge_of parts) items (of c.args.entries.now);
+      made = all_done (made_of as_item parts) left (of c.loop-id.entries_left.now) c.loop-id.members.items.items _ none c.loop-id.invariant.kept
+          ∙ ap (λ ms. old.items.items ++ ms) (merged_made as_item (judge_of parts) items (of c.args.entries.now));
+      settled = all_done (made_of settled parts) left (of c.loop-id.entries_left.now) c.loop-id.members.settled.items _ none c.loop-id.invariant.settled
+          ∙ ap (λ ms. old.settled.items ++ ms) (merged_made settled (judge_of parts) items (of c.args.entries.now));
+      told = told_done (is_late_beside parts) left (of c.loop-id.entries_left.now) c.loop-id.late _ none c.loop-id.invariant.late;
     }
-
-pub returns-clause-late : goal.returns-clause-late
-returns-clause-late c = told_done (is_late_beside c.args.parts.now) c.loop-id.items_left.now (entries_of c.args.issuers.now c.args.ranges.now c.loop-id.entries_left.now) c.loop-id.late _
-    (sym (c.least.ensures c.args.ranges.now) ∙ c.in_default.is) c.loop-id.invariant.late

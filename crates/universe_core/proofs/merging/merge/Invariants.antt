@@ -16,11 +16,11 @@ invariant-loop-id l =
       placed : All (IsPlaced issuers ranges) l.entries_left;
       rise : IsRising (entries_of issuers ranges l.entries_left);
       kept :
-          l.kept.items ++ merged (made_of as_item l.parts) l.items_left (entries_of issuers ranges l.entries_left)
-          ≡ merged (made_of as_item l.parts) l.items (entries_of issuers ranges l.entries);
+          l.members.items.items ++ merged (made_of as_item l.parts) l.items_left (entries_of issuers ranges l.entries_left)
+          ≡ l.initial.members.items.items ++ merged (made_of as_item l.parts) l.items (entries_of issuers ranges l.entries);
       settled :
-          l.settled.items ++ merged (made_of (λ (m : Member). m.settled) l.parts) l.items_left (entries_of issuers ranges l.entries_left)
-          ≡ merged (made_of (λ (m : Member). m.settled) l.parts) l.items (entries_of issuers ranges l.entries);
+          l.members.settled.items ++ merged (made_of (λ (m : Member). m.settled) l.parts) l.items_left (entries_of issuers ranges l.entries_left)
+          ≡ l.initial.members.settled.items ++ merged (made_of (λ (m : Member). m.settled) l.parts) l.items (entries_of issuers ranges l.entries);
       late :
           l.late + count_told (is_late_beside l.parts) l.items_left (entries_of issuers ranges l.entries_left)
           ≡ count_told (is_late_beside l.parts) l.items (entries_of issuers ranges l.entries);

@@ -1,9 +1,9 @@
 use Rattle.std.proofs.Common.{◌+◌, ◌*◌}
-use Rattle.universe_core.proofs.halving.+merge_halves.Given as goal
+use Rattle.universe_core.proofs.halving.+sort_halves.Given as goal
 
 -- a closure comes just above the call in it
-abbrev pub decreases-merge_halves : goal.decreases-merge_halves
-decreases-merge_halves g l = l.threads * 2
+abbrev pub decreases-sort_halves : goal.decreases-sort_halves
+decreases-sort_halves g l = l.threads * 2
 
 abbrev pub decreases-front : goal.decreases-front
 decreases-front g l = l.half * 2 + 1
