@@ -5,6 +5,8 @@ pub mod Partial
 pub mod Offsets
 pub mod JobText
 pub mod Records
+pub mod Gathering
+pub mod ReadFrom
 pub mod JobMeaning
 pub mod JobFacts
 pub mod Reader
