@@ -32,6 +32,7 @@ use Rattle.universe_core.specs.declared.listing.Listed.{Listed}
 use Rattle.universe_core.specs.declared.marking.Run.{Run}
 use Rattle.universe_core.specs.Groups.{members_of}
 use Rattle.universe_core.specs.Marking.{IsRunOf, IsWindow, listed_in, serials_of}
+use Rattle.universe_core.proofs.Ascending.{cut_ascends, none_ascend}
 use Rattle.universe_core.proofs.Cutting.{is_below, earlier, keyed_partitioned, place_cases, rest_is}
 use Rattle.universe_core.proofs.Revoking.{map_map}
 use Rattle.universe_core.proofs.Searching.{bare_item}
@@ -68,11 +69,6 @@ upto_earlier k x y l h = by (is_lt (octets_cmp k x.issuer)) refl
     by false e = refl
     by true e = absurd (true≢false (sym h ∙ ap (λ o. not (is_lt o)) (above k x y (lt_less (octets_cmp k x.issuer) e) l)))
 
-sorted_drop : (n : ℕ) (xs : List Identity) → IsStrictlySortedBy identity_cmp xs → IsStrictlySortedBy identity_cmp (drop n xs)
-sorted_drop zero xs s = s
-sorted_drop (suc n) [] s = s
-sorted_drop (suc n) (x ∷ xs) s = sorted_drop n xs (sorted_tail identity_cmp x xs s)
-
 pub start_partitioned : (k : List ℕ) (ms : List LedgerItem) → IsStrictlySortedBy identity_cmp (ids ms) → IsPartitionedBy (λ (m : LedgerItem). is_lt (octets_cmp m.id.issuer k)) ms
 start_partitioned k = keyed_partitioned (λ (m : LedgerItem). m.id) (is_below k) (earlier k)
 
@@ -80,7 +76,7 @@ pub end_partitioned : (k : List ℕ) (ms : List LedgerItem) (start : ℕ) → Is
     → IsPartitionedBy (λ (m : LedgerItem). not (is_lt (octets_cmp k m.id.issuer))) (take (length ms - start) (drop start ms))
 end_partitioned k ms start s =
     keyed_partitioned (λ (m : LedgerItem). m.id) (is_upto k) (upto_earlier k) (take (length ms - start) (drop start ms))
-    (subst (λ xs. IsStrictlySortedBy identity_cmp xs) (drop-map (λ (m : LedgerItem). m.id) start ms ∙ sym (ap ids (rest_is ms start))) (sorted_drop start (ids ms) s))
+    (subst (λ xs. IsStrictlySortedBy identity_cmp xs) (drop-map (λ (m : LedgerItem). m.id) start ms ∙ sym (ap ids (rest_is ms start))) (cut_ascends identity_cmp start (ids ms) s).1)
 
 below_other : (k a : List ℕ) → is_lt (octets_cmp a k) ≡ true → bytes_eq k a ≡ false
 below_other k a h =
@@ -172,12 +168,8 @@ serial_less x y e l =
     let t : octets_cmp x.issuer y.issuer ≡ Equal = ap (octets_cmp x.issuer) (sym e) ∙ tied_itself nat_list_cmp_total x.issuer in
     sym (ap (λ o. ordering_then o (serial_cmp x.serial y.serial)) t) ∙ l
 
-sorted_none : IsStrictlySortedBy serial_cmp []
-unfolding IsStrictlySortedBy
-sorted_none = tt
-
 own_sorted : (k : List ℕ) (xs : List Identity) → IsStrictlySortedBy identity_cmp xs → IsStrictlySortedBy serial_cmp (map (λ x. x.serial) (members_of k xs))
-own_sorted k [] s = sorted_none
+own_sorted k [] s = none_ascend serial_cmp
 own_sorted k (x ∷ xs) s = by (own_sorted k xs (sorted_tail identity_cmp x xs s)) (bytes_eq k x.issuer) refl
   where
     below : bytes_eq k x.issuer ≡ true → (z : List ℕ) → Among (map (λ (y : Identity). y.serial) (members_of k xs)) z → serial_cmp x.serial z ≡ Less
@@ -234,30 +226,13 @@ run_none k ms run z r h =
 
 -- ---- a window of the run
 
-sorted_drop_by : (n : ℕ) (xs : List (List ℕ)) → IsStrictlySortedBy serial_cmp xs → IsStrictlySortedBy serial_cmp (drop n xs)
-sorted_drop_by zero xs s = s
-sorted_drop_by (suc n) [] s = s
-sorted_drop_by (suc n) (x ∷ xs) s = sorted_drop_by n xs (sorted_tail serial_cmp x xs s)
-
-back_take : (n : ℕ) (xs : List (List ℕ)) (z : List ℕ) → Among (take n xs) z → Among xs z
-back_take zero xs z a = absurd a
-back_take (suc n) [] z a = absurd a
-back_take (suc n) (x ∷ xs) z (inl e) = inl e
-back_take (suc n) (x ∷ xs) z (inr a) = inr (back_take n xs z a)
-
-sorted_take : (n : ℕ) (xs : List (List ℕ)) → IsStrictlySortedBy serial_cmp xs → IsStrictlySortedBy serial_cmp (take n xs)
-sorted_take zero xs s = sorted_none
-sorted_take (suc n) [] s = sorted_none
-sorted_take (suc n) (x ∷ xs) s =
-    sorted_cons serial_cmp x (take n xs) (λ z a. sorted_head serial_cmp x xs z s (back_take n xs z a)) (sorted_take n xs (sorted_tail serial_cmp x xs s))
-
 serials_cut : (ms : List LedgerItem) (w : Run) → serials_of (cut_run ms w) ≡ take (w.end - w.start) (drop w.start (serials_of ms))
 serials_cut ms w =
     sym (take-map (λ (m : LedgerItem). m.id.serial) (w.end - w.start) (drop w.start ms)) ∙ ap (take (w.end - w.start)) (sym (drop-map (λ (m : LedgerItem). m.id.serial) w.start ms))
 
 pub cut_sorted : (ms : List LedgerItem) (w : Run) → IsStrictlySortedBy serial_cmp (serials_of ms) → IsStrictlySortedBy serial_cmp (serials_of (cut_run ms w))
 cut_sorted ms w s =
-    subst (λ xs. IsStrictlySortedBy serial_cmp xs) (sym (serials_cut ms w)) (sorted_take (w.end - w.start) (drop w.start (serials_of ms)) (sorted_drop_by w.start (serials_of ms) s))
+    subst (λ xs. IsStrictlySortedBy serial_cmp xs) (sym (serials_cut ms w)) (cut_ascends serial_cmp (w.end - w.start) (drop w.start (serials_of ms)) (cut_ascends serial_cmp w.start (serials_of ms) s).1).0
 
 pub cut_place : (ms : List LedgerItem) (w : Run) (i : ℕ) (z : List ℕ) → slice_get (serials_of (cut_run ms w)) i ≡ Some z → slice_get (serials_of ms) (w.start + i) ≡ Some z
 cut_place ms w i z h =

@@ -5,6 +5,9 @@ pub mod Members
 pub mod Placing
 pub mod IssuerRuns
 pub mod Sorting
+pub mod Ascending
+pub mod Apart
+pub mod Parting
 pub mod Halves
 pub mod Searching
 pub mod Issuers

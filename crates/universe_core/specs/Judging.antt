@@ -13,7 +13,10 @@ use Rattle.ledger_core.specs.LedgerFields.{part_fields}
 use Rattle.universe_core.specs.Dates.{later_of, greatest}
 use Rattle.universe_core.specs.Ledgers.{birth_or, last_or_none, last_covers, lacked_by, old_dates}
 use Rattle.universe_core.specs.Jobs.{Entry}
+use Rattle.universe_core.specs.Reading.{entry_fields}
+use Rattle.universe_core.specs.declared.judging.Context.{Context}
 use Rattle.universe_core.specs.declared.member.Member.{Member}
+use Rattle.universe_core.specs.declared.read_entry.ReadEntry.{ReadEntry}
 
 -- the part's issuers ascend, and so do the logs of its ranges
 pub record IsSearchable (p : LedgerPart) : Type 0 where
@@ -30,6 +33,13 @@ is_late_beside parts old e = is_late_by parts (birth_or (length parts) old) e
 
 abbrev pub is_timely : List LedgerPart → ℕ → Entry → Bool
 is_timely parts birth e = not (is_late_by parts birth e)
+
+-- the same of a read entry
+abbrev pub is_late_in : Context → ℕ → ReadEntry → Bool
+is_late_in c birth e = is_late_by c.parts.now birth (entry_fields c.issuers.now c.ranges.now e)
+
+abbrev pub is_timely_in : Context → ℕ → ReadEntry → Bool
+is_timely_in c birth e = not (is_late_in c birth e)
 
 abbrev pub timely : List LedgerPart → Option LedgerItem → List Entry → List Entry
 timely parts old run = filter (is_timely parts (birth_or (length parts) old)) run

@@ -13,6 +13,7 @@ pub mod Following
 pub mod Enrolling
 pub mod Reading
 pub mod Placing
+pub mod Sorting
 pub mod Marking
 pub mod Flagging
 pub mod Merges

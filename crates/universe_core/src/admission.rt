@@ -27,6 +27,7 @@ use crate::fault::AdmitFault;
 use crate::flagging::{revoked_now, set_lasts};
 use crate::following::{early_fault, next_draft, next_head};
 use crate::held::Held;
+use crate::judging::Context;
 use crate::member::Members;
 use crate::merging::members;
 use crate::reading::{Tally, read};
@@ -92,15 +93,12 @@ fn accept<'a, T: Threading>(
     let tally = reading.tally;
     let rest = job.without_entries(alloc);
     let left = rest.job();
-    let merged = members(
-        threading,
-        alloc,
+    let context = Context {
         parts,
-        items,
-        &issuers,
-        &left.ranges,
-        reading.entries,
-    )?;
+        issuers: &issuers,
+        ranges: &left.ranges,
+    };
+    let merged = members(threading, alloc, &context, items, reading.entries)?;
     let late = merged.late as u32;
     Ok(Acceptance {
         rest,

@@ -5,10 +5,10 @@ ghost use Rattle.universe_core.specs.Ledgers.{birth_or, last_or_none, last_cover
 ghost use Rattle.ident_core.specs.Coverage.{covers};
 ghost use Rattle.sets_core.specs.Sets.{has_key};
 ghost use Rattle.ledger_core.specs.LedgerFields.{part_fields};
-ghost use Rattle.universe_core.specs.Judging.{IsSearchable, judge_of, is_late_by, is_late_beside, is_timely, sightings_of};
-ghost use Rattle.universe_core.specs.Judging.{dates_of, with_date as date_with};
+ghost use Rattle.universe_core.specs.Judging.{IsSearchable, judge_of, is_late_beside, is_late_in, is_timely, is_timely_in, sightings_of};
+ghost use Rattle.universe_core.specs.Judging.{with_date as date_with};
 ghost use Rattle.universe_core.specs.Dates.{later_of as later};
-ghost use Rattle.universe_core.specs.Reading.{IsPlaced, entry_fields, entries_of, sighting_in, date_in};
+ghost use Rattle.universe_core.specs.Reading.{IsPlaced, entries_of, sighting_in, date_in};
 
 use crate::member::Member;
 use crate::read_entry::ReadEntry;
@@ -52,19 +52,28 @@ pub(crate) fn is_late(
     some_lacks(&parts[..birth.min(parts.len())], issuer, sighting, near)
 }
 
-fn comes_late(
-    parts: &[LedgerPart],
-    birth: usize,
-    issuers: &[Key32],
-    ranges: &[Range],
-    e: &ReadEntry,
-) -> bool
-    requires parts { All IsSearchable parts.now }
-    requires placed { IsPlaced issuers.now ranges.now e.now }
-    ensures { result ≡ is_late_by parts.now birth (entry_fields issuers.now ranges.now e.now) }
+/// What entries are judged by: the parts of the ledger before their job, and the job's enrolled issuers and ranges.
+#[derive(Clone, Copy)]
+pub(crate) struct Context<'a> {
+    pub(crate) parts: &'a [LedgerPart],
+    pub(crate) issuers: &'a [Key32],
+    pub(crate) ranges: &'a [Range],
+}
+
+fn comes_late(context: &Context, birth: usize, e: &ReadEntry) -> bool
+    requires parts { All IsSearchable context.now.parts.now }
+    requires placed { IsPlaced context.now.issuers.now context.now.ranges.now e.now }
+    ensures { result ≡ is_late_in context.now birth e.now }
 {
-    let issuer = &issuers[e.place as usize];
-    birth > 0 && is_late(parts, birth, issuer, &e.sighting(ranges), e.near as usize)
+    let issuer = &context.issuers[e.place as usize];
+    birth > 0
+        && is_late(
+            context.parts,
+            birth,
+            issuer,
+            &e.sighting(context.ranges),
+            e.near as usize,
+        )
 }
 
 pub(crate) fn birth_of(parts: &[LedgerPart], old: &Option<LedgerItem>) -> u8
@@ -127,19 +136,17 @@ struct RunFacts {
 
 /// Where there is no part of a last.
 fn facts_alone(
-    parts: &[LedgerPart],
+    context: &Context,
     birth: usize,
-    issuers: &[Key32],
-    ranges: &[Range],
     run: &[ReadEntry],
     date: Option<Option<i64>>,
 ) -> RunFacts
-    requires parts { All IsSearchable parts.now }
-    requires placed { All (IsPlaced issuers.now ranges.now) run.now }
-    ensures late { result.late ≡ count_by (λ e. is_late_by parts.now birth (entry_fields issuers.now ranges.now e)) run.now }
+    requires parts { All IsSearchable context.now.parts.now }
+    requires placed { All (IsPlaced context.now.issuers.now context.now.ranges.now) run.now }
+    ensures late { result.late ≡ count_by (is_late_in context.now birth) run.now }
     ensures settled { result.settled ≡ false }
     ensures date { result.date ≡ fold date_with date
-        (map date_in (filter (λ e. is_timely parts.now birth (entry_fields issuers.now ranges.now e)) run.now)) }
+        (map date_in (filter (is_timely_in context.now birth) run.now)) }
 {
     let mut facts = RunFacts {
         late: 0,
@@ -147,7 +154,7 @@ fn facts_alone(
         date,
     };
     for e in run {
-        if comes_late(parts, birth, issuers, ranges, e) {
+        if comes_late(context, birth, e) {
             facts.late += 1;
         } else {
             facts.date = with_date(facts.date, e.date());
@@ -159,21 +166,19 @@ fn facts_alone(
 /// Where this is the part of the last.
 fn facts_beside(
     part: &LedgerPart,
-    parts: &[LedgerPart],
+    context: &Context,
     birth: usize,
-    issuers: &[Key32],
-    ranges: &[Range],
     run: &[ReadEntry],
     date: Option<Option<i64>>,
 ) -> RunFacts
     requires part { IsSearchable part.now }
-    requires parts { All IsSearchable parts.now }
-    requires placed { All (IsPlaced issuers.now ranges.now) run.now }
-    ensures late { result.late ≡ count_by (λ e. is_late_by parts.now birth (entry_fields issuers.now ranges.now e)) run.now }
-    ensures settled { result.settled ≡ list_all (λ e. covers part.now.ranges.items (sighting_in ranges.now e))
-        (filter (λ e. is_timely parts.now birth (entry_fields issuers.now ranges.now e)) run.now) }
+    requires parts { All IsSearchable context.now.parts.now }
+    requires placed { All (IsPlaced context.now.issuers.now context.now.ranges.now) run.now }
+    ensures late { result.late ≡ count_by (is_late_in context.now birth) run.now }
+    ensures settled { result.settled ≡ list_all (λ e. covers part.now.ranges.items (sighting_in context.now.ranges.now e))
+        (filter (is_timely_in context.now birth) run.now) }
     ensures date { result.date ≡ fold date_with date
-        (map date_in (filter (λ e. is_timely parts.now birth (entry_fields issuers.now ranges.now e)) run.now)) }
+        (map date_in (filter (is_timely_in context.now birth) run.now)) }
 {
     let mut facts = RunFacts {
         late: 0,
@@ -181,11 +186,11 @@ fn facts_beside(
         date,
     };
     for e in run {
-        if comes_late(parts, birth, issuers, ranges, e) {
+        if comes_late(context, birth, e) {
             facts.late += 1;
         } else {
             facts.date = with_date(facts.date, e.date());
-            if !covers_near(&part.ranges, e.near as usize, &e.sighting(ranges)) {
+            if !covers_near(&part.ranges, e.near as usize, &e.sighting(context.ranges)) {
                 facts.settled = false;
             }
         }
@@ -195,27 +200,25 @@ fn facts_beside(
 
 /// What the entries say of an identity that was born before so many of the parts, and has this last and this date.
 fn facts_of(
-    parts: &[LedgerPart],
+    context: &Context,
     last: Option<u8>,
     birth: usize,
-    issuers: &[Key32],
-    ranges: &[Range],
     run: &[ReadEntry],
     date: Option<Option<i64>>,
 ) -> RunFacts
-    requires parts { All IsSearchable parts.now }
-    requires placed { All (IsPlaced issuers.now ranges.now) run.now }
-    ensures late { result.late ≡ count_by (λ e. is_late_by parts.now birth (entry_fields issuers.now ranges.now e)) run.now }
-    ensures settled { result.settled ≡ last_covers (map part_fields parts.now) last
-        (sightings_of (filter (is_timely parts.now birth) (entries_of issuers.now ranges.now run.now))) }
+    requires parts { All IsSearchable context.now.parts.now }
+    requires placed { All (IsPlaced context.now.issuers.now context.now.ranges.now) run.now }
+    ensures late { result.late ≡ count_by (is_late_in context.now birth) run.now }
+    ensures settled { result.settled ≡ last_covers (map part_fields context.now.parts.now) last
+        (sightings_of (filter (is_timely context.now.parts.now birth) (entries_of context.now.issuers.now context.now.ranges.now run.now))) }
     ensures date { result.date ≡ fold date_with date
-        (map date_in (filter (λ e. is_timely parts.now birth (entry_fields issuers.now ranges.now e)) run.now)) }
+        (map date_in (filter (is_timely_in context.now birth) run.now)) }
 {
     match last {
-        None => facts_alone(parts, birth, issuers, ranges, run, date),
-        Some(place) => match parts.get(place as usize) {
-            None => facts_alone(parts, birth, issuers, ranges, run, date),
-            Some(part) => facts_beside(part, parts, birth, issuers, ranges, run, date),
+        None => facts_alone(context, birth, run, date),
+        Some(place) => match context.parts.get(place as usize) {
+            None => facts_alone(context, birth, run, date),
+            Some(part) => facts_beside(part, context, birth, run, date),
         },
     }
 }
@@ -229,23 +232,21 @@ pub(crate) struct Judged {
 
 /// What becomes of an identity. It is accepted if it has an item, or an entry that isn't late.
 pub(crate) fn judge(
-    parts: &[LedgerPart],
+    context: &Context,
     id: &Identity,
     old: &Option<LedgerItem>,
-    issuers: &[Key32],
-    ranges: &[Range],
     run: &[ReadEntry],
 ) -> Judged
-    requires few { length parts.now < 256 }
-    requires parts { All IsSearchable parts.now }
-    requires placed { All (IsPlaced issuers.now ranges.now) run.now }
-    ensures member { result.member ≡ judge_of parts.now id.now old.now (entries_of issuers.now ranges.now run.now) }
-    ensures late { result.late ≡ count_by (is_late_beside parts.now old.now) (entries_of issuers.now ranges.now run.now) }
+    requires few { length context.now.parts.now < 256 }
+    requires parts { All IsSearchable context.now.parts.now }
+    requires placed { All (IsPlaced context.now.issuers.now context.now.ranges.now) run.now }
+    ensures member { result.member ≡ judge_of context.now.parts.now id.now old.now (entries_of context.now.issuers.now context.now.ranges.now run.now) }
+    ensures late { result.late ≡ count_by (is_late_beside context.now.parts.now old.now) (entries_of context.now.issuers.now context.now.ranges.now run.now) }
 {
-    let birth = birth_of(parts, old);
+    let birth = birth_of(context.parts, old);
     let last = last_of(old);
     let date = date_of(old);
-    let facts = facts_of(parts, last, birth as usize, issuers, ranges, run, date);
+    let facts = facts_of(context, last, birth as usize, run, date);
     let accepted = old.is_some() || facts.late < run.len();
     let until = facts.date.flatten();
     let member = Member {

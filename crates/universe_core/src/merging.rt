@@ -5,21 +5,20 @@ ghost use Rattle.std.specs.Prelude.{◌≡◌, ◌≤◌, ◌++◌, Bool, List, 
 ghost use Rattle.ident_core.specs.Order.{identity_cmp, octets_cmp};
 ghost use Rattle.ident_core.specs.declared.range.Range.{Range as RangeFields};
 ghost use Rattle.universe_core.specs.Merging.{IsRising, least_of, run_of, first_of, after_first, merged, lower};
-ghost use Rattle.universe_core.specs.Merging.{count_told};
 ghost use Rattle.universe_core.specs.Merges.{AreMergeable, IsMergedBehind, IsMergeOf};
-ghost use Rattle.universe_core.specs.Judging.{IsSearchable, judge_of, is_late_beside};
+ghost use Rattle.universe_core.specs.Judging.{IsSearchable};
 ghost use Rattle.ledger_core.specs.LedgerFields.{ledger_fields};
 ghost use Rattle.universe_core.specs.Jobs.{Job as JobMeaning, enrolled};
 ghost use Rattle.universe_core.specs.Reading.{if_read, IsPlaced, entries_of, is_lacked};
 ghost use Rattle.universe_core.specs.Members.{AreMembers, as_item, members_in};
 
-use crate::judging::judge;
+use crate::judging::{Context, judge};
 use crate::member::{Member, Members};
 use crate::read_entry::ReadEntry;
 use crate::reading::sort_entries;
 use crate::threading::Threading;
-use ident_core::{Identity, Range, is_same};
-use ledger_core::{LedgerItem, LedgerPart};
+use ident_core::{Identity, is_same};
+use ledger_core::LedgerItem;
 use octets_core::Key32;
 use std::alloc::{AllocError, Global};
 
@@ -122,23 +121,21 @@ pub(crate) struct Merged {
 /// Puts what becomes of items and entries behind members, and says how many entries are late.
 pub(crate) fn merge(
     members: &mut Members,
-    parts: &[LedgerPart],
+    context: &Context,
     items: &[LedgerItem],
-    issuers: &[Key32],
-    ranges: &[Range],
     entries: &[ReadEntry],
 ) -> Result<usize, AllocError>
-    requires mergeable { AreMergeable parts.now issuers.now ranges.now items.now entries.now }
-    requires rise { IsRising (entries_of issuers.now ranges.now entries.now) }
-    ensures { IfOk result (IsMergedBehind parts.now issuers.now ranges.now items.now entries.now members.old members.new) }
+    requires mergeable { AreMergeable context.now items.now entries.now }
+    requires rise { IsRising (entries_of context.now.issuers.now context.now.ranges.now entries.now) }
+    ensures { IfOk result (IsMergedBehind context.now items.now entries.now members.old.items.items members.old.settled.items members.new) }
 {
     let mut late = 0;
     let mut items_left = items;
     let mut entries_left = entries;
-    while let Some(id) = least(issuers, items_left, entries_left) {
+    while let Some(id) = least(context.issuers, items_left, entries_left) {
         let old = first_item(items_left, &id);
-        let (run, behind) = entries_left.split_at(run_length(issuers, entries_left, &id));
-        let judged = judge(parts, &id, &old, issuers, ranges, run);
+        let (run, behind) = entries_left.split_at(run_length(context.issuers, entries_left, &id));
+        let judged = judge(context, &id, &old, run);
         keep(&mut members.items, &mut members.settled, judged.member)?;
         late += judged.late;
         items_left = after_item(items_left, &id);
@@ -161,19 +158,17 @@ pub(crate) fn no_members(alloc: Global, most: usize) -> Result<Members, AllocErr
 /// What becomes of items and entries, which are sorted.
 pub(crate) fn merge_unsorted(
     alloc: Global,
-    parts: &[LedgerPart],
+    context: &Context,
     items: &[LedgerItem],
-    issuers: &[Key32],
-    ranges: &[Range],
     entries: &mut [ReadEntry],
 ) -> Result<Merged, AllocError>
-    requires mergeable { AreMergeable parts.now issuers.now ranges.now items.now entries.old }
+    requires mergeable { AreMergeable context.now items.now entries.old }
     ensures same { OnOk result (IsPermutation entries.old entries.new) }
-    ensures merged { IfOk result (IsMergeOf parts.now issuers.now ranges.now items.now entries.new) }
+    ensures merged { IfOk result (IsMergeOf context.now items.now entries.new) }
 {
     let mut members = no_members(alloc, items.len().saturating_add(entries.len()))?;
     sort_entries(entries);
-    let late = merge(&mut members, parts, items, issuers, ranges, entries)?;
+    let late = merge(&mut members, context, items, entries)?;
     Ok(Merged { members, late })
 }
 
@@ -182,24 +177,22 @@ pub(crate) fn merge_unsorted(
 pub(crate) fn members<T: Threading>(
     threading: &T,
     alloc: Global,
-    parts: &[LedgerPart],
+    context: &Context,
     items: &[LedgerItem],
-    issuers: &[Key32],
-    ranges: &[Range],
     entries: Vec<ReadEntry>,
 ) -> Result<Merged, AllocError>
     requires shared { T.shared threading.now }
-    requires few { length parts.now < 256 }
-    requires parts { All IsSearchable parts.now }
+    requires few { length context.now.parts.now < 256 }
+    requires parts { All IsSearchable context.now.parts.now }
     requires ascend { IsStrictlySortedBy identity_cmp (map (λ i. i.id) items.now) }
-    requires issuers { IsStrictlySortedBy octets_cmp issuers.now }
-    requires placed { All (IsPlaced issuers.now ranges.now) entries.items }
-    ensures members { (job : JobMeaning) → entries_of issuers.now ranges.now entries.items ≡ filter_map (if_read job.ranges (enrolled job)) job.entries
-        → IfOk result (λ m. AreMembers (members_in (ledger_fields parts.now items.now) job) m.members.items.items m.members.settled.items) }
+    requires issuers { IsStrictlySortedBy octets_cmp context.now.issuers.now }
+    requires placed { All (IsPlaced context.now.issuers.now context.now.ranges.now) entries.items }
+    ensures members { (job : JobMeaning) → entries_of context.now.issuers.now context.now.ranges.now entries.items ≡ filter_map (if_read job.ranges (enrolled job)) job.entries
+        → IfOk result (λ m. AreMembers (members_in (ledger_fields context.now.parts.now items.now) job) m.members.items.items m.members.settled.items) }
     ensures late { IfOk result (λ m. m.late
-        ≡ count_by (is_lacked (ledger_fields parts.now items.now)) (entries_of issuers.now ranges.now entries.items)) }
+        ≡ count_by (is_lacked (ledger_fields context.now.parts.now items.now)) (entries_of context.now.issuers.now context.now.ranges.now entries.items)) }
 {
     let mut entries = entries;
-    let merged = threading.merge(alloc, parts, items, issuers, ranges, &mut entries)?;
+    let merged = threading.merge(alloc, context, items, &mut entries)?;
     Ok(merged)
 }

@@ -1,14 +1,13 @@
 ghost use Rattle.std.specs.List.Sorted.{IsStrictlySortedBy};
 ghost use Rattle.std.specs.List.{filter_map, cons_option, count_by};
 ghost use Rattle.std.specs.Option.{option_map};
-ghost use Rattle.std.specs.Prelude.{◌≡◌, ◌≤◌, ◌<◌, ℕ, List, None, IfOk, IfSome, OnOk, All, [], ◌++◌, IsPermutation, length};
+ghost use Rattle.std.specs.Prelude.{◌≡◌, ◌≤◌, ◌<◌, None, IfOk, IfSome, OnOk, All, [], ◌++◌, length};
 ghost use Rattle.ident_core.specs.Coverage.{RangesFit};
 ghost use Rattle.ident_core.specs.Order.{octets_cmp};
-ghost use Rattle.ident_core.specs.declared.range.Range.{Range as RangeFields};
 ghost use Rattle.universe_core.specs.Reading.{if_read, IsPlaced, entry_fields, entries_of, class_alone, with_class};
 ghost use Rattle.universe_core.specs.Counting.{is_class};
-ghost use Rattle.universe_core.specs.Merging.{IsRising};
 ghost use Rattle.universe_core.specs.Placing.{placed_cmp};
+ghost use Rattle.universe_core.specs.Sorting.{IsSortOf};
 ghost use Rattle.universe_core.specs.declared.class.Class.TheVariants as class;
 
 use crate::class::Class;
@@ -164,9 +163,7 @@ pub(crate) fn order(x: &ReadEntry, y: &ReadEntry) -> Ordering
 
 /// Sorts the entries by their identities.
 pub(crate) fn sort_entries(entries: &mut [ReadEntry])
-    ensures same { IsPermutation entries.old entries.new }
-    ensures rising { (issuers : List (List ℕ)) (ranges : List RangeFields) → IsStrictlySortedBy octets_cmp issuers
-        → All (IsPlaced issuers ranges) entries.old → IsRising (entries_of issuers ranges entries.new) }
+    ensures { IsSortOf entries.old entries.new }
 {
     entries.sort_unstable_by(|x, y| order(x, y));
 }

@@ -12,10 +12,10 @@ use crate::admitted::Group;
 use crate::flagging::{Flags, flag, flag_in_threads};
 use crate::grouping::{groups, groups_in_threads};
 use crate::halving::merge_in_threads;
+use crate::judging::Context;
 use crate::merging::{Merged, merge_unsorted};
 use crate::read_entry::ReadEntry;
-use ident_core::Range;
-use ledger_core::{LedgerItem, LedgerPart};
+use ledger_core::LedgerItem;
 use octets_core::Key32;
 use rayon::current_num_threads;
 use std::alloc::{AllocError, Global};
@@ -34,16 +34,14 @@ pub(crate) trait Threading {
     fn merge(
         &self,
         alloc: Global,
-        parts: &[LedgerPart],
+        context: &Context,
         items: &[LedgerItem],
-        issuers: &[Key32],
-        ranges: &[Range],
         entries: &mut [ReadEntry],
     ) -> Result<Merged, AllocError>
         requires shared { shared self.now }
-        requires mergeable { AreMergeable parts.now issuers.now ranges.now items.now entries.old }
+        requires mergeable { AreMergeable context.now items.now entries.old }
         ensures same { OnOk result (IsPermutation entries.old entries.new) }
-        ensures merged { IfOk result (IsMergeOf parts.now issuers.now ranges.now items.now entries.new) };
+        ensures merged { IfOk result (IsMergeOf context.now items.now entries.new) };
 
     /// Which members are revoked, where it is known which are settled and which a job lists.
     fn flag(
@@ -86,13 +84,11 @@ impl Threading for OneThread {
     fn merge(
         &self,
         alloc: Global,
-        parts: &[LedgerPart],
+        context: &Context,
         items: &[LedgerItem],
-        issuers: &[Key32],
-        ranges: &[Range],
         entries: &mut [ReadEntry],
     ) -> Result<Merged, AllocError> {
-        merge_unsorted(alloc, parts, items, issuers, ranges, entries)
+        merge_unsorted(alloc, context, items, entries)
     }
 
     fn flag(
@@ -132,19 +128,15 @@ impl<'a, R: Threads + Sync> Threading for ByWorkers<'a, R> {
     fn merge(
         &self,
         alloc: Global,
-        parts: &[LedgerPart],
+        context: &Context,
         items: &[LedgerItem],
-        issuers: &[Key32],
-        ranges: &[Range],
         entries: &mut [ReadEntry],
     ) -> Result<Merged, AllocError> {
         if self.workers > 1 {
             let threads = current_num_threads(self.rt);
-            merge_in_threads(
-                self.rt, alloc, parts, items, issuers, ranges, entries, threads,
-            )
+            merge_in_threads(self.rt, alloc, context, items, entries, threads)
         } else {
-            merge_unsorted(alloc, parts, items, issuers, ranges, entries)
+            merge_unsorted(alloc, context, items, entries)
         }
     }
 

@@ -15,10 +15,10 @@ use Rattle.universe_core.proofs.judging.judge.Goals.{then-is_some, else-is_some}
 
 pub returns-clause-member : goal.returns-clause-member
 returns-clause-member c =
-    let parts = c.args.parts.now in
+    let parts = c.args.context.now.parts.now in
     let old = c.args.old.now in
-    let fields = entry_fields c.args.issuers.now c.args.ranges.now in
-    let run = entries_of c.args.issuers.now c.args.ranges.now c.args.run.now in
+    let fields = entry_fields c.args.context.now.issuers.now c.args.context.now.ranges.now in
+    let run = entries_of c.args.context.now.issuers.now c.args.context.now.ranges.now c.args.run.now in
     let any = list_any (is_timely parts (birth_or (length parts) old)) run in
     let late = c.facts_of-facts.ensures.late ∙ sym (count_by-map (is_late_by parts c.birth_of-birth.result) fields c.args.run.now)
     ∙ ap (λ n. count_by (is_late_by parts n) run) c.birth_of-birth.ensures in
@@ -37,8 +37,8 @@ returns-clause-member c =
 
 pub returns-clause-late : goal.returns-clause-late
 returns-clause-late c =
-    let parts = c.args.parts.now in
-    let fields = entry_fields c.args.issuers.now c.args.ranges.now in
-    let run = entries_of c.args.issuers.now c.args.ranges.now c.args.run.now in
+    let parts = c.args.context.now.parts.now in
+    let fields = entry_fields c.args.context.now.issuers.now c.args.context.now.ranges.now in
+    let run = entries_of c.args.context.now.issuers.now c.args.context.now.ranges.now c.args.run.now in
     c.facts_of-facts.ensures.late ∙ sym (count_by-map (is_late_by parts c.birth_of-birth.result) fields c.args.run.now)
     ∙ ap (λ n. count_by (is_late_by parts n) run) c.birth_of-birth.ensures

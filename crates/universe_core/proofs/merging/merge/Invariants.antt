@@ -10,20 +10,20 @@ use Rattle.universe_core.proofs.merging.merge.Given as goal
 
 abbrev pub invariant-loop-id : goal.invariant-loop-id
 invariant-loop-id l =
-    let issuers = l.issuers in
-    let ranges = l.ranges in record {
+    let issuers = l.context.issuers.now in
+    let ranges = l.context.ranges.now in record {
       ascend : IsStrictlySortedBy identity_cmp (map (λ i. i.id) l.items_left);
       placed : All (IsPlaced issuers ranges) l.entries_left;
       rise : IsRising (entries_of issuers ranges l.entries_left);
       kept :
-          l.members.items.items ++ merged (made_of as_item l.parts) l.items_left (entries_of issuers ranges l.entries_left)
-          ≡ l.initial.members.items.items ++ merged (made_of as_item l.parts) l.items (entries_of issuers ranges l.entries);
+          l.members.items.items ++ merged (made_of as_item l.context.parts.now) l.items_left (entries_of issuers ranges l.entries_left)
+          ≡ l.initial.members.items.items ++ merged (made_of as_item l.context.parts.now) l.items (entries_of issuers ranges l.entries);
       settled :
-          l.members.settled.items ++ merged (made_of (λ (m : Member). m.settled) l.parts) l.items_left (entries_of issuers ranges l.entries_left)
-          ≡ l.initial.members.settled.items ++ merged (made_of (λ (m : Member). m.settled) l.parts) l.items (entries_of issuers ranges l.entries);
+          l.members.settled.items ++ merged (made_of (λ (m : Member). m.settled) l.context.parts.now) l.items_left (entries_of issuers ranges l.entries_left)
+          ≡ l.initial.members.settled.items ++ merged (made_of (λ (m : Member). m.settled) l.context.parts.now) l.items (entries_of issuers ranges l.entries);
       late :
-          l.late + count_told (is_late_beside l.parts) l.items_left (entries_of issuers ranges l.entries_left)
-          ≡ count_told (is_late_beside l.parts) l.items (entries_of issuers ranges l.entries);
+          l.late + count_told (is_late_beside l.context.parts.now) l.items_left (entries_of issuers ranges l.entries_left)
+          ≡ count_told (is_late_beside l.context.parts.now) l.items (entries_of issuers ranges l.entries);
     }
 
 abbrev pub decreases-loop-id : goal.decreases-loop-id

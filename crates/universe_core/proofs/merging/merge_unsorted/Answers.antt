@@ -1,12 +1,13 @@
-use Rattle.universe_core.proofs.Halves.{merged_alone, sorted_mergeable}
+use Rattle.std.proofs.lemmas.List.Sorted.{All-permutation}
+use Rattle.universe_core.specs.Reading.{IsPlaced}
+use Rattle.universe_core.proofs.Halves.{mergeable}
 use Rattle.universe_core.proofs.merging.merge_unsorted.Goals as goal
 
 pub merge-requires-clause-mergeable : goal.merge-requires-clause-mergeable
 merge-requires-clause-mergeable c =
-    sorted_mergeable c.args.parts.now c.args.issuers.now c.args.ranges.now c.args.items.now c.args.entries.now c.sort_entries.new.entries
-    c.sort_entries.ensures.same c.requires.mergeable
+    let given = c.requires.mergeable in
+    mergeable given given.items_ascend
+    (All-permutation (IsPlaced c.args.context.now.issuers.now c.args.context.now.ranges.now) _ _ c.sort_entries.ensures.same given.placed)
 
 pub returns-clause-merged : goal.returns-clause-merged
-returns-clause-merged c =
-    merged_alone c.args.parts.now c.args.issuers.now c.args.ranges.now c.args.items.now c.sort_entries.new.entries c.in_ok-members.members c.merge.new.members c.in_ok-late.late
-    c.in_ok-members.ensures.items c.in_ok-members.ensures.settled c.in_ok-late.ensures
+returns-clause-merged c = rw c.in_ok-members.ensures.items at (rw c.in_ok-members.ensures.settled at c.in_ok-late.ensures)
