@@ -25,7 +25,7 @@ use crate::rehearsing::BadFile;
 use crate::reply::Reply;
 use audit_core::{AuditFault, audit};
 use input_core::{FileFault, job_in, store_in};
-use job_core::{Job, JobCrl, Limits, OneThread, What};
+use job_core::{Job, JobCrl, Limits, What};
 use line_core::audited as audited_line;
 use octets_core::NoMemory;
 use outside_core::Depot;
@@ -132,7 +132,7 @@ impl AuditJobs {
             (WhichFailed D.Depot depot.old depot.new) name.now self.old e) }
         ensures only_reads { OnlyReads D.Depot depot.old depot.new }
     {
-        let job = job_in(&OneThread, alloc, depot, name)?;
+        let job = job_in(alloc, depot, name)?;
         self.add(job)
     }
 

@@ -16,7 +16,6 @@ use crate::fault::unpublished;
 use crate::output::Output;
 use crate::reply::Reply;
 use input_core::{job_in, ledger_in};
-use job_core::OneThread;
 use ledger_core::{Ledger, encode_ledger, encode_ledger_pieces};
 use line_core::{Line, reported};
 use octets_core::NoMemory;
@@ -106,7 +105,7 @@ pub fn answer_snapshot<'a, R: Threads + Sync, G: Gate + Sync, D: Depot>(
         (WhichFailed D.Depot depot.old depot.new) (reply_fields a)) }
     ensures only_reads { OnlyReads D.Depot depot.old depot.new }
 {
-    let job = match job_in(&OneThread, alloc, depot, snapshot.job()) {
+    let job = match job_in(alloc, depot, snapshot.job()) {
         Ok(job) => job,
         Err(fault) => return refused(snapshot.job(), fault),
     };
@@ -135,7 +134,7 @@ pub fn answer_delta<'a, R: Threads + Sync, G: Gate + Sync, D: Depot>(
         (WhichFailed D.Depot depot.old depot.new) (reply_fields a)) }
     ensures only_reads { OnlyReads D.Depot depot.old depot.new }
 {
-    let job = match job_in(&OneThread, alloc, depot, delta.job()) {
+    let job = match job_in(alloc, depot, delta.job()) {
         Ok(job) => job,
         Err(fault) => return refused(delta.job(), fault),
     };

@@ -19,7 +19,6 @@ use crate::commands::{refused, verdict_on};
 use crate::fault::unpublished;
 use crate::reply::verdict_line;
 use input_core::{FileFault, job_in, queries_in};
-use job_core::OneThread;
 use line_core::{Line, reported};
 use octets_core::{NoMemory, put_bytes};
 use outside_core::Depot;
@@ -65,7 +64,7 @@ fn with_file<R: Threads + Sync, G: Gate + Sync, D: Depot>(
     ensures blamed { IsBlamed (WhichFailed D.Depot depot.old depot.new) name.now FileFault.Unread result }
     ensures only_reads { OnlyReads D.Depot depot.old depot.new }
 {
-    let job = job_in(&OneThread, alloc, depot, name)?;
+    let job = job_in(alloc, depot, name)?;
     let (after, report) = match before.with_job(rt, alloc, gate, job, workers) {
         Ok(added) => added,
         Err(fault) => return Err(unpublished(fault)),

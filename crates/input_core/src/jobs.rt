@@ -10,16 +10,12 @@ ghost use Rattle.input_core.specs.Inputs.{IsInput, WhichFailed};
 ghost use Rattle.input_core.specs.Readings.{job_in as job_of};
 
 use crate::fault::FileFault;
-use job_core::{Job, Limits, Threading, read_job_with};
+use job_core::{Job, Limits, read_job_from};
 use outside_core::{Depot, Feed};
 use std::alloc::Global;
 
 /// The job that the feed's file is.
-fn fed_job<T: Threading, D: Depot>(
-    threading: &T,
-    alloc: Global,
-    feed: &mut Feed<'_, D>,
-) -> Result<Job, FileFault>
+fn fed_job<D: Depot>(alloc: Global, feed: &mut Feed<'_, D>) -> Result<Job, FileFault>
     requires place { place_of feed.old ≡ 0 }
     requires in_order { IsInOrder D.Depot feed.old }
     ensures input { IsInput (D.files (depot_of feed.old)) (WhichFailed D.Depot (depot_of feed.old) (depot_of feed.new))
@@ -29,16 +25,11 @@ fn fed_job<T: Threading, D: Depot>(
     ensures same_reference { reference_of feed.new ≡ reference_of feed.old }
     ensures only_reads { OnlyReads D.Depot (depot_of feed.old) (depot_of feed.new) }
 {
-    Ok(read_job_with(threading, alloc, feed, &Limits::PUBLISHED)?)
+    Ok(read_job_from(alloc, feed, &Limits::PUBLISHED)?)
 }
 
 /// The job of the file of this name.
-pub fn job_in<T: Threading, D: Depot>(
-    threading: &T,
-    alloc: Global,
-    depot: &mut D,
-    name: &str,
-) -> Result<Job, FileFault>
+pub fn job_in<D: Depot>(alloc: Global, depot: &mut D, name: &str) -> Result<Job, FileFault>
     ensures input { IsInput (D.files depot.old) (WhichFailed D.Depot depot.old depot.new) name.now
         job_of fields_of_job result }
     ensures fits { IfOk result (λ job. FitsFields (fields_of_job job)) }
@@ -46,5 +37,5 @@ pub fn job_in<T: Threading, D: Depot>(
     ensures only_reads { OnlyReads D.Depot depot.old depot.new }
 {
     let mut feed = Feed::new(depot, name);
-    fed_job(threading, alloc, &mut feed)
+    fed_job(alloc, &mut feed)
 }

@@ -1,5 +1,5 @@
 -- The records of a job, read off a feed field by field.
-use Rattle.std.proofs.Common.{◌≡◌, ◌+◌, ◌-◌, ◌^◌, ℕ, List, Option, Some, None, Ok, Err, Vec, Global, true, false, refl, sym, ap}
+use Rattle.std.proofs.Common.{◌≡◌, ◌+◌, ◌-◌, ◌^◌, ℕ, List, Option, Some, None, Ok, Err, Vec, Global, true, false, refl}
 use Rattle.std.specs.Prelude.{◌==◌, nat_le, codes, if◌then◌else◌}
 use Rattle.std.specs.Int.{w8, w32, w64, from_be_bytes}
 use Rattle.octets_core.specs.Linked.{is_after}
@@ -21,7 +21,7 @@ use Rattle.job_core.specs.declared.records.Item.TheVariants as takens
 use Rattle.job_core.specs.JobLayout.{fielded, is_kind, record_kind, crl, entry, opening, Held, EntryText, Item, OneRange, OneCrl, OneEntry}
 use Rattle.job_core.specs.JobLayout.{range_item, crl_item, entry_item, item_of, some_of, next_item}
 use Rattle.job_core.specs.JobText.{crl_held, entry_held}
-use Rattle.job_core.specs.Records.{item_of_record, some_record, entry_if}
+use Rattle.job_core.specs.Records.{item_of_record, some_record}
 use Rattle.job_core.specs.Pulling.{Fetches}
 use Rattle.job_core.proofs.Fetching.{fetched-then, fetched-err, fetched-same, fetched-whole, fetched-refused, fielded-then, fielded-err, tested}
 
@@ -304,33 +304,3 @@ unfolding next_item
 next-one g n limits h old mid new kind x some one two =
     fetched-then g (λ (k : ℕ). k) (some_record n) (fielded (record_kind h.kind)) (behind_kind limits h) old mid new kind (Ok (Some x)) one
     (rw some (fetched-then g (item_of_record n) (some_record n) (item_of kind limits h) (λ x. whole (Some x)) mid new new x (Ok (Some x)) two (fetched-whole g (some_record n) _ new (Some x) refl)))
-
--- ---- the next entry, behind another
-
-pub entry-over : {D : Type 0} (g : Ghosts D) (n : RawEntry) (limits : Limits) (h : Held) (old new : Feed D) (kind : ℕ) → kind ≡ 0
-    → Fetches g (λ (k : ℕ). k) (fielded (record_kind h.kind)) old new (Ok kind) → Fetches g (entry_if n) (next_item limits h) old new (Ok false)
-unfolding next_item
-entry-over g n limits h old new kind is one =
-    fetched-then g (λ (k : ℕ). k) (entry_if n) (fielded (record_kind h.kind)) (behind_kind limits h) old new new kind (Ok false) one (rw is (fetched-whole g (entry_if n) None new false refl))
-
-pub entry-kind-err : {D : Type 0} (g : Ghosts D) (n : RawEntry) (limits : Limits) (h : Held) (old new : Feed D) (e : JobFault)
-    → Fetches g (λ (k : ℕ). k) (fielded (record_kind h.kind)) old new (Err e) → Fetches g (entry_if n) (next_item limits h) old new (Err e)
-unfolding next_item
-entry-kind-err g n limits h old new e one = fetched-err g (λ (k : ℕ). k) (entry_if n) (fielded (record_kind h.kind)) (behind_kind limits h) old new e one
-
-pub entry-one-err : {D : Type 0} (g : Ghosts D) (n : RawEntry) (limits : Limits) (h : Held) (old mid new : Feed D) (kind : ℕ) (e : JobFault) → kind ≡ 3
-    → Fetches g (λ (k : ℕ). k) (fielded (record_kind h.kind)) old mid (Ok kind) → Fetches g (item_of_record n) (entry_item limits h) mid new (Err e)
-    → Fetches g (entry_if n) (next_item limits h) old new (Err e)
-unfolding next_item
-entry-one-err g n limits h old mid new kind e is one two =
-    fetched-then g (λ (k : ℕ). k) (entry_if n) (fielded (record_kind h.kind)) (behind_kind limits h) old mid new kind (Err e) one
-    (rw is (fetched-err g (item_of_record n) (entry_if n) (entry_item limits h) (λ x. whole (Some x)) mid new e two))
-
-pub entry-one : {D : Type 0} (g : Ghosts D) (n : RawEntry) (limits : Limits) (h : Held) (old mid new : Feed D) (kind : ℕ) (x : Taken) → kind ≡ 3 → x ≡ takens.Entry
-    → Fetches g (λ (k : ℕ). k) (fielded (record_kind h.kind)) old mid (Ok kind) → Fetches g (item_of_record n) (entry_item limits h) mid new (Ok x)
-    → Fetches g (entry_if n) (next_item limits h) old new (Ok true)
-unfolding next_item
-entry-one g n limits h old mid new kind x is same one two =
-    fetched-then g (λ (k : ℕ). k) (entry_if n) (fielded (record_kind h.kind)) (behind_kind limits h) old mid new kind (Ok true) one
-    (rw is (fetched-then g (item_of_record n) (entry_if n) (entry_item limits h) (λ x. whole (Some x)) mid new new x (Ok true) two
-    (fetched-whole g (entry_if n) (Some (item_of_record n x)) new true (ap (λ (t : Taken). Some (item_of_record n t)) (sym same)))))

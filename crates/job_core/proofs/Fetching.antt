@@ -106,34 +106,6 @@ fetched-err g v w first next old new e one = record {
   reads = λ file lies of. ap (λ r. then_read r next file) (one.reads file lies of);
 }
 
--- the same value, seen another way
-pub fetched-as : {D X Y A : Type 0} (g : Ghosts D) (v : X → A) (w : Y → A) (layout : Layout JobFault A) (old new : Feed D) (x : X) (y : Y) → w y ≡ v x
-    → Fetches g v layout old new (Ok x) → Fetches g w layout old new (Ok y)
-fetched-as {D} {X} {Y} {A} g v w layout old new x y same it = record {
-  pulled = it.pulled;
-  blames = it.blames;
-  given = it.given;
-  ended = it.ended;
-  place = it.place;
-  going = it.going;
-  lies = it.lies;
-  reads = λ file lies. it.reads file lies ∙ ap (λ (z : A). Ok (z, place_of new)) (sym same);
-}
-
--- a fault has no value to be seen
-pub fetched-none : {D X Y A : Type 0} (g : Ghosts D) (v : X → A) (w : Y → A) (layout : Layout JobFault A) (old new : Feed D) (e : JobFault)
-    → Fetches g v layout old new (Err e) → Fetches g w layout old new (Err e)
-fetched-none g v w layout old new e it = record {
-  pulled = it.pulled;
-  blames = it.blames;
-  given = it.given;
-  ended = it.ended;
-  place = it.place;
-  going = it.going;
-  lies = it.lies;
-  reads = it.reads;
-}
-
 -- nothing is read
 pub fetched-whole : {D X A : Type 0} (g : Ghosts D) (v : X → A) (y : A) (feed : Feed D) (x : X) → v x ≡ y → Fetches g v (whole y) feed feed (Ok x)
 fetched-whole g v y feed x is = record {

@@ -5,8 +5,6 @@ pub mod Partial
 pub mod Offsets
 pub mod JobText
 pub mod Records
-pub mod Gathering
-pub mod ReadFrom
 pub mod JobMeaning
 pub mod JobFacts
 pub mod Reader

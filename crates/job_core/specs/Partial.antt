@@ -24,9 +24,5 @@ abbrev pub said_behind : JobFields → Result (List Item × ℕ) JobFault → Re
 said_behind f (Ok x) = Ok (saying f x.0, x.1)
 said_behind f (Err e) = Err e
 
--- the same of records behind some of which so much is held
-abbrev pub rest_saying : Limits → Held → ℕ → JobFields → Layout JobFault JobFields
-rest_saying limits h serials f bytes at = said_behind f (records serials_of limits h serials bytes at)
-
 abbrev pub records_saying : Limits → JobFields → Layout JobFault JobFields
-records_saying limits f = rest_saying limits nothing_held 0 f
+records_saying limits f bytes at = said_behind f (records serials_of limits nothing_held 0 bytes at)

@@ -1,5 +1,5 @@
 -- What a record that was read off a feed holds; the entry is the one that was read last.
-use Rattle.std.specs.Prelude.{List, map, Bool, true, false, Option, Some, None}
+use Rattle.std.specs.Prelude.{Option}
 use Rattle.std.specs.Option.{option_map}
 use Rattle.job_core.specs.declared.raw.RawEntry.{RawEntry}
 use Rattle.job_core.specs.declared.records.Item.{Item as Taken}
@@ -14,12 +14,3 @@ item_of_record e takens.Entry = OneEntry (entry_held e)
 
 abbrev pub some_record : RawEntry → Option Taken → Option Item
 some_record e x = option_map (item_of_record e) x
-
--- an entry that was read, if there was one more
-abbrev pub entry_if : RawEntry → Bool → Option Item
-entry_if e true = Some (OneEntry (entry_held e))
-entry_if e false = None
-
--- entries that were read, as records
-abbrev pub entries_held : List RawEntry → List Item
-entries_held es = map (λ e. OneEntry (entry_held e)) es

@@ -2,7 +2,6 @@
 #![tactic(auto)]
 
 mod bounds;
-mod entries;
 mod fault;
 mod fetch;
 mod laws;
@@ -19,7 +18,6 @@ mod slice;
 mod writing;
 
 pub use bounds::{Limits, What};
-pub use entries::{ByWorkers, OneThread, Threading};
 pub use fault::JobFault;
 pub use laws::{a_job_is_its_text, records_are_texts};
 pub use meaning::{Job, JobCrl};
@@ -27,6 +25,6 @@ pub use raw::{RawCrl, RawEntry, RawJob};
 pub use read_facts::jobs_that_are_read_fit;
 pub use reader::{JobReader, Record};
 pub use reading::read_job;
-pub use reading_from::{read_job_from, read_job_with};
+pub use reading_from::read_job_from;
 pub use slice::SliceDepot;
 pub use writing::{job_fits, write_job};

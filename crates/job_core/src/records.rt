@@ -1,13 +1,13 @@
 //! Records of a job, read one by one off a feed.
 
-ghost use Rattle.std.specs.Prelude.{◌≡◌, ◌+◌, ◌^◌, ◌≤◌, ◌<◌, ◌==◌, true, false, IfOk, IfErr, IfSome, OnOk};
+ghost use Rattle.std.specs.Prelude.{◌≡◌, ◌+◌, ◌^◌, ◌≤◌, ◌<◌, true, IfOk, IfSome, OnOk};
 ghost use Rattle.outside_core.specs.Standing.{place_of};
 ghost use Rattle.ident_core.specs.RangeLayout.{range};
 ghost use Rattle.job_core.specs.JobLayout.{fielded, with_item, is_kind, record_kind, crl, entry, opening};
-ghost use Rattle.job_core.specs.JobLayout.{OneEntry, range_item, crl_item, entry_item, item_of, next_item};
+ghost use Rattle.job_core.specs.JobLayout.{range_item, crl_item, entry_item, item_of, next_item};
 ghost use Rattle.job_core.specs.JobText.{crl_held, entry_held};
 ghost use Rattle.job_core.specs.Partial.{held_in};
-ghost use Rattle.job_core.specs.Records.{item_of_record, some_record, entry_if};
+ghost use Rattle.job_core.specs.Records.{item_of_record, some_record};
 ghost use Rattle.job_core.specs.Pulling.{Fetches};
 
 use crate::bounds::{Limits, What};
@@ -37,7 +37,6 @@ pub enum Item {
 fn is_kind_after(previous: u8, kind: u8) -> bool
     ensures is { result ≡ is_kind previous kind }
     ensures known { result ≡ true → kind ≤ 3 }
-    ensures after { result ≡ true → (kind == 0) ≡ false → previous ≤ kind }
 {
     kind == 0 || (previous <= kind && kind <= 3)
 }
@@ -47,7 +46,6 @@ fn fetch_kind<D: Depot>(feed: &mut Feed<'_, D>, previous: u8) -> Result<u8, JobF
     ensures exact { Fetches D.Depot (λ k. k) (fielded (record_kind previous)) feed.old feed.new result }
     ensures near { place_of feed.new ≤ place_of feed.old + 1 }
     ensures known { IfOk result (λ k. k ≤ 3) }
-    ensures after { IfOk result (λ k. (k == 0) ≡ false → previous ≤ k) }
     ensures further { OnOk result (place_of feed.old < place_of feed.new) }
 {
     let at = feed.at();
@@ -160,8 +158,6 @@ fn entry_from<D: Depot>(
     ensures exact { Fetches D.Depot (item_of_record into.new) (entry_item limits.now (held_in numbers.old)) feed.old feed.new result }
     ensures near { place_of feed.new ≤ place_of feed.old + 2 ^ 27 }
     ensures behind { IfOk result (λ x. held_in numbers.new ≡ with_item (held_in numbers.old) (item_of_record into.new x)) }
-    ensures entry { IfOk result (λ x. x ≡ Item.Entry) }
-    ensures kept { IfErr result (λ e. numbers.new ≡ numbers.old) }
 {
     if !is_room(limits.entries, numbers.entries) {
         return Err(JobFault::TooMany {
@@ -213,28 +209,4 @@ pub fn next_item_from<D: Depot>(
     }
     let item = item_from(alloc, numbers, feed, limits, into, kind)?;
     Ok(Some(item))
-}
-
-/// The next entry, put in place of the one that is passed, in its memory; false where the job ends. No other record
-/// stands behind an entry.
-pub fn next_entry_from<D: Depot>(
-    numbers: &mut Numbers,
-    feed: &mut Feed<'_, D>,
-    limits: &Limits,
-    into: &mut RawEntry,
-) -> Result<bool, JobFault>
-    requires { numbers.old.kind ≡ 3 }
-    ensures exact { Fetches D.Depot (entry_if into.new) (next_item limits.now (held_in numbers.old)) feed.old feed.new result }
-    ensures near { place_of feed.new ≤ place_of feed.old + 2 ^ 27 + 1 }
-    ensures behind { IfOk result (λ more. more ≡ true → held_in numbers.new ≡ with_item (held_in numbers.old) (OneEntry (entry_held into.new))) }
-    ensures further { OnOk result (place_of feed.old < place_of feed.new) }
-    ensures kind { numbers.new.kind ≡ 3 }
-    ensures count { (numbers.old.entries ≤ numbers.new.entries) × (numbers.new.entries ≤ numbers.old.entries + 1) }
-{
-    let kind = fetch_kind(feed, numbers.kind)?;
-    if kind == 0 {
-        return Ok(false);
-    }
-    entry_from(numbers, feed, limits, into)?;
-    Ok(true)
 }

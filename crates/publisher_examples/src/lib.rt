@@ -11,8 +11,6 @@ mod ledgers;
 #[cfg(test)]
 mod lines;
 #[cfg(test)]
-mod readings;
-#[cfg(test)]
 mod rebases;
 #[cfg(test)]
 mod samples;

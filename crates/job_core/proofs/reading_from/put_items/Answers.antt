@@ -1,5 +1,5 @@
 use Rattle.std.proofs.Common.{◌≡◌, ℕ, List, Option, Some, ap, subst, ◌∙◌, refl, sym, arith}
-use Rattle.std.specs.Prelude.{IfSome, Err}
+use Rattle.std.specs.Prelude.{IfSome}
 use Rattle.std.proofs.lemmas.Result.{err_from_is_err_and}
 use Rattle.outside_core.specs.Standing.{place_of}
 use Rattle.job_core.specs.declared.fault.JobFault.TheVariants as faults
@@ -7,11 +7,12 @@ use Rattle.job_core.specs.declared.partial.Numbers.{Numbers}
 use Rattle.job_core.specs.declared.raw.RawEntry.{RawEntry}
 use Rattle.job_core.specs.declared.records.Item.{Item as Taken}
 use Rattle.job_core.specs.JobFields.{fields_of_job}
-use Rattle.job_core.specs.JobLayout.{Item, OneRange, OneCrl, OneEntry, nothing_held, with_item}
+use Rattle.job_core.specs.JobLayout.{Item, OneRange, OneCrl, OneEntry, with_item}
 use Rattle.job_core.specs.JobText.{entry_held}
-use Rattle.job_core.specs.Partial.{held_in, records_saying}
+use Rattle.job_core.specs.Partial.{held_in}
 use Rattle.job_core.specs.Records.{item_of_record, some_record}
-use Rattle.job_core.proofs.Gathering.{gathers-none, gathers-one, gathers-then, gathered-rest, fetched-end, fetched-refusal, fetched-fault, near-more, near-all}
+use Rattle.job_core.proofs.Pulling.{pulled-none, pulled-then}
+use Rattle.job_core.proofs.Gathering.{gathers-none, gathers-more, gathered-all, gathered-refused, gathered-fault, near-more, near-all}
 use Rattle.job_core.proofs.reading_from.put_items.Goals as goal
 
 abbrev Behind : RawEntry → Numbers → Numbers → Option Taken → Type 0
@@ -19,7 +20,9 @@ Behind entry old new o = IfSome o (λ taken. held_in new ≡ with_item (held_in 
 
 pub records-init : goal.records-init
 records-init g c = record {
-  gathers = gathers-none g.D.Depot c.args.limits.now (fields_of_job c.args.job.now) (held_in c.no_numbers-numbers.result) nothing_held 0 c.args.feed.now c.no_numbers-numbers.ensures;
+  pulled = pulled-none g.D.Depot c.args.feed.now;
+  none = refl;
+  gathers = gathers-none g.D.Depot c.args.limits.now (fields_of_job c.args.job.now) (held_in c.no_numbers-numbers.result) c.args.feed.now c.no_numbers-numbers.ensures;
   near = omega arith;
   few = omega arith;
 }
@@ -27,29 +30,22 @@ records-init g c = record {
 pub returns-in-Ok-None : goal.returns-in-Ok-None
 returns-in-Ok-None g c =
     let inv = c.records.invariant in
+    let e = c.in-Ok-None.ensures.exact in
     record {
-      exact = gathered-rest g.D.Depot c.args.limits.now (records_saying c.args.limits.now (fields_of_job c.args.job.now)) (fields_of_job c.records.job) (held_in c.records.numbers) c.records.serials c.args.feed.now c.records.feed
-          c.next_item_from.new.feed inv.gathers (λ u. fields_of_job c.records.job) _
-          (fetched-end g.D.Depot c.args.limits.now (fields_of_job c.records.job) (held_in c.records.numbers) c.records.serials c.records.feed c.next_item_from.new.feed _ _ c.in-Ok-None.ensures.exact (λ u. fields_of_job c.records.job) _ refl (ap (some_record c.next_item_from.new.into) c.in-Ok-None.field-0-is));
-      near = omega (
-        arith,
-        near-all c.records.numbers (place_of c.args.feed.now) (place_of c.records.feed) (place_of c.next_item_from.new.feed) c.numbers_facts.ensures.0
-            c.numbers_facts.ensures.1 c.numbers_facts.ensures.2 inv.near (omega (arith, c.next_item_from.ensures.near)),
-      );
+      exact = gathered-all g.D.Depot c.args.limits.now (fields_of_job c.args.job.now) (fields_of_job c.records.job) (held_in c.records.numbers) c.records.serials c.args.feed.now c.records.feed
+          c.next_item_from.new.feed inv.gathers inv.pulled _ _ e (λ u. fields_of_job c.records.job) _ refl inv.none (ap (some_record c.next_item_from.new.into) c.in-Ok-None.field-0-is);
+      near = near-all c.records.numbers (place_of c.args.feed.now) (place_of c.records.feed) (place_of c.next_item_from.new.feed) c.numbers_facts.ensures.0
+          c.numbers_facts.ensures.1 c.numbers_facts.ensures.2 inv.near (omega (arith, c.next_item_from.ensures.near));
     }
 
 pub returns-in-Err : goal.returns-in-Err
 returns-in-Err g c =
     let inv = c.records.invariant in
     record {
-      exact = gathered-rest g.D.Depot c.args.limits.now (records_saying c.args.limits.now (fields_of_job c.args.job.now)) (fields_of_job c.records.job) (held_in c.records.numbers) c.records.serials c.args.feed.now c.records.feed
-          c.next_item_from.new.feed inv.gathers (λ u. fields_of_job c.records.job) (Err c.in-Err.fault)
-          (fetched-fault g.D.Depot c.args.limits.now (fields_of_job c.records.job) (held_in c.records.numbers) c.records.serials c.records.feed c.next_item_from.new.feed (some_record c.next_item_from.new.into) (λ u. fields_of_job c.records.job) c.in-Err.fault c.in-Err.ensures.exact);
-      near = omega (
-        arith,
-        near-all c.records.numbers (place_of c.args.feed.now) (place_of c.records.feed) (place_of c.next_item_from.new.feed) c.numbers_facts.ensures.0
-            c.numbers_facts.ensures.1 c.numbers_facts.ensures.2 inv.near (omega (arith, c.next_item_from.ensures.near)),
-      );
+      exact = gathered-fault g.D.Depot c.args.limits.now (fields_of_job c.args.job.now) (fields_of_job c.records.job) (held_in c.records.numbers) c.records.serials c.args.feed.now c.records.feed
+          c.next_item_from.new.feed inv.gathers inv.pulled _ (λ u. fields_of_job c.records.job) c.in-Err.fault inv.none c.in-Err.ensures.exact;
+      near = near-all c.records.numbers (place_of c.args.feed.now) (place_of c.records.feed) (place_of c.next_item_from.new.feed) c.numbers_facts.ensures.0
+          c.numbers_facts.ensures.1 c.numbers_facts.ensures.2 inv.near (omega (arith, c.next_item_from.ensures.near));
     }
 
 pub records-preserved-in-Continue-1 : goal.records-preserved-in-Continue-1
@@ -60,10 +56,11 @@ records-preserved-in-Continue-1 g c =
     let x : Item = OneRange c.in-Ok-Some-Range.range in
     let holds = subst (Behind c.next_item_from.new.into c.records.numbers c.next_item_from.new.numbers) is c.in-Ok-Some-Range.ensures.behind in
     record {
-      gathers = gathers-then g.D.Depot c.args.limits.now (records_saying c.args.limits.now (fields_of_job c.args.job.now)) (fields_of_job c.records.job) (held_in c.records.numbers) c.records.serials c.args.feed.now c.records.feed
-          c.next_item_from.new.feed inv.gathers _ (held_in c.next_item_from.new.numbers) _
-          (gathers-one g.D.Depot c.args.limits.now (fields_of_job c.records.job) (held_in c.records.numbers) c.records.serials c.records.feed c.next_item_from.new.feed _ _ e x (held_in c.next_item_from.new.numbers) _ _
-          (ap (some_record c.next_item_from.new.into) is) c.in_ok-put_range-in-Ok-Some-Range.ensures.ok holds refl inv.few);
+      pulled = pulled-then g.D.Depot c.args.feed.now c.records.feed c.next_item_from.new.feed inv.pulled e.pulled;
+      none = e.blames ∙ inv.none;
+      gathers = gathers-more g.D.Depot c.args.limits.now (fields_of_job c.args.job.now) (fields_of_job c.records.job) (held_in c.records.numbers) c.records.serials c.args.feed.now c.records.feed
+          c.next_item_from.new.feed inv.gathers inv.pulled _ _ e x (held_in c.next_item_from.new.numbers) _ _
+          (ap (some_record c.next_item_from.new.into) is) c.in_ok-put_range-in-Ok-Some-Range.ensures.ok holds refl inv.few;
       near = near-more c.records.numbers c.next_item_from.new.numbers x (place_of c.args.feed.now) (place_of c.records.feed)
           (place_of c.next_item_from.new.feed) holds inv.near (omega (arith, c.next_item_from.ensures.near));
       few = inv.few;
@@ -72,26 +69,48 @@ records-preserved-in-Continue-1 g c =
 pub records-smaller-in-Continue-1 : goal.records-smaller-in-Continue-1
 records-smaller-in-Continue-1 g c = omega (arith, c.in-Ok-Some-Range.ensures.further, c.next_item_from.new.feed.reach)
 
-pub records-preserved : goal.records-preserved
-records-preserved g c =
+pub records-preserved-in-Ok-Some-Crl : goal.records-preserved-in-Ok-Some-Crl
+records-preserved-in-Ok-Some-Crl g c =
     let inv = c.records.invariant in
     let e = c.in-Ok-Some-Crl.ensures.exact in
     let is = c.in-Ok-Some-Crl.field-0-is ∙ ap Some c.in-Ok-Some-Crl.field-0-0-is in
     let x : Item = OneCrl (record { issuer = c.in-Ok-Some-Crl.crl.issuer; bytes = c.deref.result.now }) in
     let holds = subst (Behind c.next_item_from.new.into c.records.numbers c.next_item_from.new.numbers) is c.in-Ok-Some-Crl.ensures.behind in
     record {
-      gathers = gathers-then g.D.Depot c.args.limits.now (records_saying c.args.limits.now (fields_of_job c.args.job.now)) (fields_of_job c.records.job) (held_in c.records.numbers) c.records.serials c.args.feed.now c.records.feed
-          c.next_item_from.new.feed inv.gathers _ (held_in c.next_item_from.new.numbers) _
-          (gathers-one g.D.Depot c.args.limits.now (fields_of_job c.records.job) (held_in c.records.numbers) c.records.serials c.records.feed c.next_item_from.new.feed _ _ e x (held_in c.next_item_from.new.numbers) _ _
+      pulled = pulled-then g.D.Depot c.args.feed.now c.records.feed c.next_item_from.new.feed inv.pulled e.pulled;
+      none = e.blames ∙ inv.none;
+      gathers = gathers-more g.D.Depot c.args.limits.now (fields_of_job c.args.job.now) (fields_of_job c.records.job) (held_in c.records.numbers) c.records.serials c.args.feed.now c.records.feed
+          c.next_item_from.new.feed inv.gathers inv.pulled _ _ e x (held_in c.next_item_from.new.numbers) _ _
           (ap (some_record c.next_item_from.new.into) is ∙ ap (λ (b : List ℕ). Some (OneCrl (record { issuer = c.in-Ok-Some-Crl.crl.issuer; bytes = b }))) (sym c.deref.ensures.value))
-          c.in_ok-serials-in-Ok-Some-Crl.ensures.0 holds c.in_ok-serials-in-Ok-Some-Crl.ensures.1 c.in_ok-serials-in-Ok-Some-Crl.ensures.2);
+          c.in_ok-serials-in-Ok-Some-Crl.ensures.0 holds c.in_ok-serials-in-Ok-Some-Crl.ensures.1 c.in_ok-serials-in-Ok-Some-Crl.ensures.2;
       near = near-more c.records.numbers c.next_item_from.new.numbers x (place_of c.args.feed.now) (place_of c.records.feed)
           (place_of c.next_item_from.new.feed) holds inv.near (omega (arith, c.next_item_from.ensures.near));
       few = c.in_ok-serials-in-Ok-Some-Crl.ensures.2;
     }
 
+pub records-smaller-in-Ok-Some-Crl : goal.records-smaller-in-Ok-Some-Crl
+records-smaller-in-Ok-Some-Crl g c = omega (arith, c.in-Ok-Some-Crl.ensures.further, c.next_item_from.new.feed.reach)
+
+pub records-preserved : goal.records-preserved
+records-preserved g c =
+    let inv = c.records.invariant in
+    let e = c.in-Ok-Some-Entry.ensures.exact in
+    let is = c.in-Ok-Some-Entry.field-0-is ∙ ap Some c.in-Ok-Some-Entry.field-0-0-is in
+    let x : Item = OneEntry (entry_held c.next_item_from.new.into) in
+    let holds = subst (Behind c.next_item_from.new.into c.records.numbers c.next_item_from.new.numbers) is c.in-Ok-Some-Entry.ensures.behind in
+    record {
+      pulled = pulled-then g.D.Depot c.args.feed.now c.records.feed c.next_item_from.new.feed inv.pulled e.pulled;
+      none = e.blames ∙ inv.none;
+      gathers = gathers-more g.D.Depot c.args.limits.now (fields_of_job c.args.job.now) (fields_of_job c.records.job) (held_in c.records.numbers) c.records.serials c.args.feed.now c.records.feed
+          c.next_item_from.new.feed inv.gathers inv.pulled _ _ e x (held_in c.next_item_from.new.numbers) _ _ (ap (some_record c.next_item_from.new.into) is)
+          c.in_ok-put_entry_in-in-Ok-Some-Entry.ensures.ok holds refl inv.few;
+      near = near-more c.records.numbers c.next_item_from.new.numbers x (place_of c.args.feed.now) (place_of c.records.feed)
+          (place_of c.next_item_from.new.feed) holds inv.near (omega (arith, c.next_item_from.ensures.near));
+      few = inv.few;
+    }
+
 pub records-smaller : goal.records-smaller
-records-smaller g c = omega (arith, c.in-Ok-Some-Crl.ensures.further, c.next_item_from.new.feed.reach)
+records-smaller g c = omega (arith, c.in-Ok-Some-Entry.ensures.further, c.next_item_from.new.feed.reach)
 
 pub returns-in_err-serials-in-Ok-Some-Crl : goal.returns-in_err-serials-in-Ok-Some-Crl
 returns-in_err-serials-in-Ok-Some-Crl g c =
@@ -101,17 +120,14 @@ returns-in_err-serials-in-Ok-Some-Crl g c =
     let e = c.in-Ok-Some-Crl.ensures.exact in
     let is = c.in-Ok-Some-Crl.field-0-is ∙ ap Some c.in-Ok-Some-Crl.field-0-0-is in
     rw (p.1, p.2) (record {
-      exact = gathered-rest g.D.Depot c.args.limits.now (records_saying c.args.limits.now (fields_of_job c.args.job.now)) (fields_of_job c.records.job) (held_in c.records.numbers) c.records.serials c.args.feed.now c.records.feed
-          c.next_item_from.new.feed inv.gathers _ _
-          (fetched-refusal g.D.Depot c.args.limits.now (fields_of_job c.records.job) (held_in c.records.numbers) c.records.serials c.records.feed c.next_item_from.new.feed _ _ e _ (OneCrl (record { issuer = c.in-Ok-Some-Crl.crl.issuer; bytes = c.deref.result.now })) _
+      exact = gathered-refused g.D.Depot c.args.limits.now (fields_of_job c.args.job.now) (fields_of_job c.records.job) (held_in c.records.numbers) c.records.serials c.args.feed.now c.records.feed
+          c.next_item_from.new.feed inv.gathers inv.pulled _ _ e _ (OneCrl (record { issuer = c.in-Ok-Some-Crl.crl.issuer; bytes = c.deref.result.now })) _
           (ap (some_record c.next_item_from.new.into) is ∙ ap (λ (b : List ℕ). Some (OneCrl (record { issuer = c.in-Ok-Some-Crl.crl.issuer; bytes = b }))) (sym c.deref.ensures.value))
+          inv.none
           (λ same. let wants : c.in_err-serials-in-Ok-Some-Crl.field-0.0 ≡ faults.NoMemory → ⊥ = λ other. absurd cc in let over = (c.in_err-serials-in-Ok-Some-Crl.ensures wants).0 in absurd cc)
-          c.in_err-serials-in-Ok-Some-Crl.ensures);
-      near = omega (
-        arith,
-        near-all c.records.numbers (place_of c.args.feed.now) (place_of c.records.feed) (place_of c.next_item_from.new.feed) c.numbers_facts.ensures.0
-            c.numbers_facts.ensures.1 c.numbers_facts.ensures.2 inv.near (omega (arith, c.next_item_from.ensures.near)),
-      );
+          c.in_err-serials-in-Ok-Some-Crl.ensures;
+      near = near-all c.records.numbers (place_of c.args.feed.now) (place_of c.records.feed) (place_of c.next_item_from.new.feed) c.numbers_facts.ensures.0
+          c.numbers_facts.ensures.1 c.numbers_facts.ensures.2 inv.near (omega (arith, c.next_item_from.ensures.near));
     })
 
 pub returns-in_err-put_range-in-Ok-Some-Range : goal.returns-in_err-put_range-in-Ok-Some-Range
@@ -122,16 +138,12 @@ returns-in_err-put_range-in-Ok-Some-Range g c =
     let e = c.in-Ok-Some-Range.ensures.exact in
     let is = c.in-Ok-Some-Range.field-0-is ∙ ap Some c.in-Ok-Some-Range.field-0-0-is in
     rw (p.1, p.2) (record {
-      exact = gathered-rest g.D.Depot c.args.limits.now (records_saying c.args.limits.now (fields_of_job c.args.job.now)) (fields_of_job c.records.job) (held_in c.records.numbers) c.records.serials c.args.feed.now c.records.feed
-          c.next_item_from.new.feed inv.gathers _ _
-          (fetched-refusal g.D.Depot c.args.limits.now (fields_of_job c.records.job) (held_in c.records.numbers) c.records.serials c.records.feed c.next_item_from.new.feed _ _ e _ (OneRange c.in-Ok-Some-Range.range) _ (ap (some_record c.next_item_from.new.into) is)
+      exact = gathered-refused g.D.Depot c.args.limits.now (fields_of_job c.args.job.now) (fields_of_job c.records.job) (held_in c.records.numbers) c.records.serials c.args.feed.now c.records.feed
+          c.next_item_from.new.feed inv.gathers inv.pulled _ _ e _ (OneRange c.in-Ok-Some-Range.range) _ (ap (some_record c.next_item_from.new.into) is) inv.none
           (λ same. let none = c.in_err-put_range-in-Ok-Some-Range.ensures.wanted in absurd cc)
-          (λ other. absurd (other c.in_err-put_range-in-Ok-Some-Range.ensures.wanted)));
-      near = omega (
-        arith,
-        near-all c.records.numbers (place_of c.args.feed.now) (place_of c.records.feed) (place_of c.next_item_from.new.feed) c.numbers_facts.ensures.0
-            c.numbers_facts.ensures.1 c.numbers_facts.ensures.2 inv.near (omega (arith, c.next_item_from.ensures.near)),
-      );
+          (λ other. absurd (other c.in_err-put_range-in-Ok-Some-Range.ensures.wanted));
+      near = near-all c.records.numbers (place_of c.args.feed.now) (place_of c.records.feed) (place_of c.next_item_from.new.feed) c.numbers_facts.ensures.0
+          c.numbers_facts.ensures.1 c.numbers_facts.ensures.2 inv.near (omega (arith, c.next_item_from.ensures.near));
     })
 
 pub returns-in_err-put_entry_in-in-Ok-Some-Entry : goal.returns-in_err-put_entry_in-in-Ok-Some-Entry
@@ -142,36 +154,10 @@ returns-in_err-put_entry_in-in-Ok-Some-Entry g c =
     let e = c.in-Ok-Some-Entry.ensures.exact in
     let is = c.in-Ok-Some-Entry.field-0-is ∙ ap Some c.in-Ok-Some-Entry.field-0-0-is in
     rw (p.1, p.2) (record {
-      exact = gathered-rest g.D.Depot c.args.limits.now (records_saying c.args.limits.now (fields_of_job c.args.job.now)) (fields_of_job c.records.job) (held_in c.records.numbers) c.records.serials c.args.feed.now c.records.feed
-          c.next_item_from.new.feed inv.gathers _ _
-          (fetched-refusal g.D.Depot c.args.limits.now (fields_of_job c.records.job) (held_in c.records.numbers) c.records.serials c.records.feed c.next_item_from.new.feed _ _ e _ (OneEntry (entry_held c.next_item_from.new.into)) _ (ap (some_record c.next_item_from.new.into) is)
+      exact = gathered-refused g.D.Depot c.args.limits.now (fields_of_job c.args.job.now) (fields_of_job c.records.job) (held_in c.records.numbers) c.records.serials c.args.feed.now c.records.feed
+          c.next_item_from.new.feed inv.gathers inv.pulled _ _ e _ (OneEntry (entry_held c.next_item_from.new.into)) _ (ap (some_record c.next_item_from.new.into) is) inv.none
           (λ same. let none = c.in_err-put_entry_in-in-Ok-Some-Entry.ensures.wanted in absurd cc)
-          (λ other. absurd (other c.in_err-put_entry_in-in-Ok-Some-Entry.ensures.wanted)));
-      near = omega (
-        arith,
-        near-all c.records.numbers (place_of c.args.feed.now) (place_of c.records.feed) (place_of c.next_item_from.new.feed) c.numbers_facts.ensures.0
-            c.numbers_facts.ensures.1 c.numbers_facts.ensures.2 inv.near (omega (arith, c.next_item_from.ensures.near)),
-      );
+          (λ other. absurd (other c.in_err-put_entry_in-in-Ok-Some-Entry.ensures.wanted));
+      near = near-all c.records.numbers (place_of c.args.feed.now) (place_of c.records.feed) (place_of c.next_item_from.new.feed) c.numbers_facts.ensures.0
+          c.numbers_facts.ensures.1 c.numbers_facts.ensures.2 inv.near (omega (arith, c.next_item_from.ensures.near));
     })
-
-pub returns-in-Ok-Some-Entry : goal.returns-in-Ok-Some-Entry
-returns-in-Ok-Some-Entry g c =
-    let inv = c.records.invariant in
-    let e = c.in-Ok-Some-Entry.ensures.exact in
-    let is = c.in-Ok-Some-Entry.field-0-is ∙ ap Some c.in-Ok-Some-Entry.field-0-0-is in
-    let x : Item = OneEntry (entry_held c.next_item_from.new.into) in
-    let holds = subst (Behind c.next_item_from.new.into c.records.numbers c.next_item_from.new.numbers) is c.in-Ok-Some-Entry.ensures.behind in
-    let one = gathers-one g.D.Depot c.args.limits.now (fields_of_job c.records.job) (held_in c.records.numbers) c.records.serials c.records.feed c.next_item_from.new.feed _ _ e x (held_in c.next_item_from.new.numbers) _ _ (ap (some_record c.next_item_from.new.into) is)
-    c.in_ok-put_entry_in-in-Ok-Some-Entry.ensures.ok holds refl inv.few in
-    record {
-      exact = gathered-rest g.D.Depot c.args.limits.now (records_saying c.args.limits.now (fields_of_job c.args.job.now)) (fields_of_job c.records.job) (held_in c.records.numbers) c.records.serials c.args.feed.now c.records.feed
-          c.put_rest.new.feed inv.gathers _ _
-          (gathered-rest g.D.Depot c.args.limits.now _ _ (held_in c.next_item_from.new.numbers) c.records.serials c.records.feed c.next_item_from.new.feed c.put_rest.new.feed one _ _
-          (c.put_rest.ensures.exact c.records.serials inv.few));
-      near = omega (
-        arith,
-        c.put_rest.ensures.near,
-        near-all c.records.numbers (place_of c.args.feed.now) (place_of c.records.feed) (place_of c.next_item_from.new.feed)
-            c.numbers_facts.ensures.0 c.numbers_facts.ensures.1 c.numbers_facts.ensures.2 inv.near (omega (arith, c.next_item_from.ensures.near)),
-      );
-    }

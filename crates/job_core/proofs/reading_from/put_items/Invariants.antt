@@ -1,15 +1,17 @@
 use Rattle.std.proofs.Common.{◌+◌, ◌*◌, ◌≤◌, ◌-◌, ◌^◌}
 use Rattle.outside_core.specs.Standing.{place_of}
 use Rattle.job_core.specs.JobFields.{fields_of_job}
-use Rattle.job_core.specs.Gathering.{Gathers, longest}
-use Rattle.job_core.specs.Partial.{held_in, records_saying}
-use Rattle.job_core.proofs.Gathering.{count_of}
+use Rattle.job_core.specs.Partial.{held_in}
+use Rattle.job_core.specs.Pulling.{Pulled, NoneFailed}
+use Rattle.job_core.proofs.Gathering.{Gathers, count_of}
 use Rattle.job_core.proofs.reading_from.put_items.Given as goal
 
 abbrev pub invariant-records : goal.invariant-records
 invariant-records g l = record {
-  gathers : Gathers g.D.Depot l.limits (records_saying l.limits (fields_of_job l.fn.job)) (fields_of_job l.job) (held_in l.numbers) l.serials l.fn.feed l.feed;
-  near : place_of l.feed ≤ place_of l.fn.feed + count_of l.numbers * longest;
+  pulled : Pulled g.D.Depot l.fn.feed l.feed;
+  none : NoneFailed g.D.Depot l.fn.feed l.feed;
+  gathers : Gathers g.D.Depot l.limits (fields_of_job l.fn.job) (fields_of_job l.job) (held_in l.numbers) l.serials l.fn.feed l.feed;
+  near : place_of l.feed ≤ place_of l.fn.feed + count_of l.numbers * (2 ^ 27 + 1);
   few : l.serials ≤ l.limits.serials;
 }
 
