@@ -166,7 +166,9 @@ def compare_damaged(rng, at):
 
 # ---------- two jobs ----------
 def entries_of(rng, issuer, serials):
-    until = lambda: rng.choice([None, T // 1000 + rng.randrange(1000)])
+    def until():
+        return rng.choice([None, T // 1000 + rng.randrange(1000)])
+
     return [Entry(issuer, serial, LOG, T + rng.randrange(1000), until=until()) for serial in serials]
 
 

@@ -109,7 +109,7 @@ class Member:
     """What a history has one behind the other: jobs, or a base and jobs behind it."""
 
     def covers(self, log, time):
-        return any(l == log and a <= time <= b for l, a, b in self.ranges)
+        return any(of == log and a <= time <= b for of, a, b in self.ranges)
 
 
 class Job(Member):
@@ -123,11 +123,9 @@ class Job(Member):
 
     def records(self):
         head = b"CLUBJOB1" + be(self.epoch, 8) + be(self.moment, 8)
-        ranges = [b"\1" + l + be(a, 8) + be(b, 8) for l, a, b in self.ranges]
+        ranges = [b"\1" + log + be(a, 8) + be(b, 8) for log, a, b in self.ranges]
         crls = [b"\2" + i + be(len(c.bytes), 4) + c.bytes for i, c in self.crls]
-        entries = [
-            b"\3" + e.log + be(len(e.leaf), 3) + e.leaf + be(len(e.extra), 3) + e.extra for e in self.entries
-        ]
+        entries = [b"\3" + e.log + be(len(e.leaf), 3) + e.leaf + be(len(e.extra), 3) + e.extra for e in self.entries]
         return [head] + ranges + crls + entries + [b"\0"]
 
     def bytes(self):
@@ -360,7 +358,7 @@ def positive(block, x):
 
 
 def ranges_bytes(ranges):
-    return be(len(ranges), 2) + b"".join(l + be(a, 8) + be(b, 8) for l, a, b in ranges)
+    return be(len(ranges), 2) + b"".join(log + be(a, 8) + be(b, 8) for log, a, b in ranges)
 
 
 def leaf_bytes(leaf):
@@ -646,7 +644,7 @@ def store(parts):
 
 
 def verdict(parts, identity, sightings):
-    covering = [p for p in parts if any(l == x and a <= t <= b for x, a, b in p.ranges for l, t in sightings)]
+    covering = [p for p in parts if any(log == x and a <= t <= b for x, a, b in p.ranges for log, t in sightings)]
     if not covering:
         return "not-covered"
     blocks = [b for p in covering for k, b in p.blocks if k == identity[0]]

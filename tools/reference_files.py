@@ -120,9 +120,9 @@ def read_block(fields, version):
     return Sharded(shift, [read_leaf(fields, mode) for mode in modes])
 
 
-def read_part(data):
-    """The part of a file that holds one."""
-    fields = Fields(data)
+def take_part(fields):
+    """The part that stands next."""
+    first = fields.at
     fields.magic("part.magic", b"CLUBCARD")
     version = fields.number("part.version", 1, lambda version: version in (1, 2))
     kind = fields.number("part.kind", 1, lambda kind: kind <= 1)
@@ -133,10 +133,17 @@ def read_part(data):
         issuer = fields.take("block.issuer", 32, lambda issuer: not blocks or issuer > blocks[-1][0])
         blocks.append((issuer, read_block(fields, version)))
     fields.take("part.sharded", 0, lambda _: version == 1 or has_shards(blocks))
-    fields.digest("part.trailer", 0)
-    fields.end()
+    fields.digest("part.trailer", first)
     part = Part(kind, epoch, parent, ranges, blocks)
-    assert part.bytes == data, "a part has one text"
+    assert part.bytes == fields.data[first : fields.at], "a part has one text"
+    return part
+
+
+def read_part(data):
+    """The part of a file that holds one."""
+    fields = Fields(data)
+    part = take_part(fields)
+    fields.end()
     return part
 
 
@@ -159,7 +166,7 @@ def show(name, data):
 
 def lies_in(part, ranges):
     log, first, last = part
-    return any(l == log and a <= first and last <= b for l, a, b in ranges)
+    return any(of == log and a <= first and last <= b for of, a, b in ranges)
 
 
 def read_ledger_part(fields, before):
