@@ -1,0 +1,45 @@
+//! Words of the program.
+
+use crate::entries::{put_identity, put_sighting};
+use play_core::Files;
+use std::alloc::Global;
+use std::fmt::Write;
+use std::test::Fail;
+use word_core::{Command, read_words};
+
+/// `usage`, or a command. Of a query its certificate and its sightings are told, of a sample its number and its count.
+fn put_command(alloc: Global, text: &mut String, command: &Command<'_>) -> Result<(), Fail> {
+    match command {
+        Command::Usage => text.push_str("usage")?,
+        Command::Query(query) => {
+            text.push_str("query ")?;
+            put_identity(alloc, text, query.id())?;
+            for seen in query.sightings() {
+                put_sighting(alloc, text, seen)?;
+            }
+        }
+        Command::Sample(sample) => {
+            let (number, count) = (sample.number(), sample.count());
+            write!(text, "sample {number} entries {count}")?;
+        }
+        _ => text.push_str("command")?,
+    }
+    Ok(())
+}
+
+/// What words are. A word that names a file is what that holds.
+pub fn tell_words(alloc: Global, files: &Files, words: &[&str]) -> Result<String, Fail> {
+    let mut said = Vec::new(alloc);
+    for word in words {
+        let bytes = files
+            .get(*word)
+            .map_or(word.as_bytes(), |held| held.as_slice());
+        said.push(String::from_str(alloc, str::from_utf8(bytes)?)?)?;
+    }
+    let mut text = String::new(alloc);
+    match read_words(alloc, &said) {
+        Ok(command) => put_command(alloc, &mut text, &command)?,
+        Err(_) => return Err(Fail::new("no memory")),
+    }
+    Ok(text)
+}
