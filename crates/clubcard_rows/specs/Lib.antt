@@ -1,4 +1,0 @@
-pub mod Pieces
-pub mod Depots
-pub mod Records
-pub mod Endings

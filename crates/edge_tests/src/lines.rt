@@ -1,0 +1,58 @@
+//! Lines with numbers that no small file reaches, against docs/FORMATS.md, "Lines and statuses".
+
+use job_core::What;
+use line_core::{layout_line, limit_line, rebased, reported, seeds_line};
+use octets_core::{Field, Key32, LayoutFault, Why};
+use outside_core::{MemorySink, write_all};
+use std::test::Fail;
+use universe_core::Counts;
+
+const OFFSETS_AND_LIMITS: &str = "\
+    layout 18446744073709551615 ledger.digest digest a b\n\
+    limit serials 16777216 a.job\n\
+    limit entries 4194304 a.job\n\
+    limit identities 4194304 a.job\n\
+    limit issuers 65535 a.job\n";
+
+#[test]
+fn offsets_and_limits(rt: HostRuntime) -> Result<(), Fail> {
+    let fault = LayoutFault {
+        at: u64::MAX,
+        field: Field::LedgerDigest,
+        why: Why::Digest,
+    };
+    let mut sink = MemorySink::new(rt.alloc());
+    layout_line(fault, "a b").write(&mut sink)?;
+    limit_line(What::Serials, 16_777_216, "a.job").write(&mut sink)?;
+    limit_line(What::Entries, 4_194_304, "a.job").write(&mut sink)?;
+    limit_line(What::Identities, 4_194_304, "a.job").write(&mut sink)?;
+    limit_line(What::Issuers, 65_535, "a.job").write(&mut sink)?;
+    assert_eq!(rt; sink.bytes(), OFFSETS_AND_LIMITS.as_bytes());
+    Ok(())
+}
+
+const REPORTS: &str = "\
+    epoch 18446744073709551615 part 63 issuers 1 universe 2 revoked 3 unread 4 \
+    uncovered 5 unenrolled 6 late 7 accepted 4294967295\n\
+    rebase epoch 18446744073709551615 issuers 65535 universe 4 revoked 3 pruned 4194304\n\
+    seeds efefefefefefefefefefefefefefefefefefefefefefefefefefefefefefefef 1\n";
+
+#[test]
+fn reports(rt: HostRuntime) -> Result<(), Fail> {
+    let counts = Counts {
+        issuers: 1,
+        universe: 2,
+        revoked: 3,
+        unread: 4,
+        uncovered: 5,
+        unenrolled: 6,
+        late: 7,
+        accepted: 4_294_967_295,
+    };
+    let mut sink = MemorySink::new(rt.alloc());
+    write_all(&mut sink, reported(u64::MAX, 63, &counts).text())?;
+    write_all(&mut sink, rebased(u64::MAX, 65_535, 4, 3, 4_194_304).text())?;
+    write_all(&mut sink, seeds_line(&Key32::new([0xef; 32]), 1).text())?;
+    assert_eq!(rt; sink.bytes(), REPORTS.as_bytes());
+    Ok(())
+}

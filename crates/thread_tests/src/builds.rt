@@ -1,0 +1,291 @@
+//! Building a part: refusals, what enters the gate, and what is built side by side.
+
+ghost use Rattle.std.specs.Prelude.{◌≡◌, ◌<◌, ◌≤◌};
+
+use crate::gates::Holds;
+use builder_core::{BuildFault, Format, Gate, Open, build_part, build_part_claimed};
+use card_core::{Body, Part};
+use crl_core::Crl;
+use equation_core::{EquationHash, Row, Sha256Rows};
+use ident_core::{Identity, Range, Serial, Sighting, ranges_fit};
+use job_core::{Job, JobCrl, Limits, What};
+use log_core::Entry;
+use octets_core::Key32;
+use std::alloc::Global;
+use std::sync::atomic::AtomicU32;
+use std::sync::atomic::Ordering::SeqCst;
+use std::test::Fail;
+use std::thread::Threads;
+use universe_core::{AdmitFault, Admitted, first};
+
+/// Rows by which no exact stage can be solved: each chooses the first column alone, so that the equations are the same
+/// but for their targets.
+pub struct RowsAlike;
+
+impl EquationHash for RowsAlike {
+    ghost use Rattle.thread_tests.specs.TestRows.{row_alike, row_alike-is};
+
+    ghost row_of = { λ _ stage seed id starts. row_alike stage seed id starts };
+
+    ghost formed = { λ _ stage seed id starts _ _ some _. row_alike-is stage seed id starts some };
+
+    fn row(&self, _stage: u8, _seed: u8, _id: &Identity, _starts: u32) -> Row {
+        Row {
+            start: 0,
+            coeff: 1,
+            tag: 0,
+        }
+    }
+}
+
+// How the leaves are shared among workers: cut into shares before the work, or drawn from one counter.
+#[derive(Clone, Copy, Debug)]
+enum Sharing {
+    Cut,
+    Claimed,
+}
+
+const BOTH: [Sharing; 2] = [Sharing::Cut, Sharing::Claimed];
+
+const LOG: [u8; 32] = [0xaa; 32];
+
+/// A certificate of the issuer whose key is made of this byte.
+pub fn identity(issuer: u8, serial: &[u8]) -> Result<Identity, Fail> {
+    let issuer = Key32::new([issuer; 32]);
+    let serial = Serial::new(serial)?;
+    Ok(Identity { issuer, serial })
+}
+
+// Each fiftieth serial below `count`, or none.
+fn serials_of(alloc: Global, count: u16, revokes: bool) -> Result<Vec<Serial>, Fail> {
+    let mut serials = Vec::new(alloc);
+    for number in 0..count {
+        if revokes && number % 50 == 0 {
+            serials.push(Serial::new(&number.to_be_bytes())?)?;
+        }
+    }
+    Ok(serials)
+}
+
+// Enters an issuer with a certificate for each serial below `count`, of which each fiftieth is revoked, or none.
+fn enroll(alloc: Global, job: &mut Job, issuer: u8, count: u16, revokes: bool) -> Result<(), Fail> {
+    let log = Key32::new(LOG);
+    for number in 0..count {
+        job.entries.push(Some(Entry {
+            id: identity(issuer, &number.to_be_bytes())?,
+            sighting: Sighting { log, time: 0 },
+            until: None,
+        }))?;
+    }
+    let crl = Crl {
+        this_update: 0,
+        next_update: None,
+        serials: serials_of(alloc, count, revokes)?,
+    };
+    job.crls.push(JobCrl {
+        issuer: Key32::new([issuer; 32]),
+        outcome: Ok(crl),
+    })?;
+    Ok(())
+}
+
+// A job of issuers, each with the byte of its key, how many certificates it has, and whether each fiftieth of them is
+// revoked. From 32,768 certificates on an issuer is cut into two shards.
+fn job_of(alloc: Global, issuers: &[(u8, u16, bool)]) -> Result<Job, Fail> {
+    let log = Key32::new(LOG);
+    let (from, to) = (0, 9);
+    let mut job = Job {
+        epoch: 1,
+        moment: 0,
+        ranges: vec![in alloc; Range { log, from, to }]?,
+        crls: Vec::new(alloc),
+        entries: Vec::new(alloc),
+    };
+    for (issuer, count, revokes) in issuers {
+        enroll(alloc, &mut job, *issuer, *count, *revokes)?;
+    }
+    Ok(job)
+}
+
+fn part_of<R: Threads + Sync, H: EquationHash + Sync, G: Gate + Sync>(
+    rt: &R,
+    alloc: Global,
+    hash: &H,
+    gate: &G,
+    job: &Job,
+    sharing: Sharing,
+    workers: u32,
+) -> Result<Result<Part, BuildFault>, Fail>
+    requires some_workers { 1 ≤ workers }
+    requires few_workers { workers ≤ 64 }
+{
+    let few = job.crls.len() <= 65_535 && job.entries.len() <= 4_194_304;
+    let fits = job.ranges.len() <= 1024 && ranges_fit(&job.ranges);
+    if !(few && fits) {
+        return Err(Fail::from(BuildFault::NoMemory));
+    }
+    let Admitted { head, groups, .. } = first(alloc, job, &Limits::PUBLISHED)?;
+    if groups.len() > 65_535 {
+        return Err(Fail::from(BuildFault::NoMemory));
+    }
+    let groups = groups.as_slice();
+    let format = Format::Sharded;
+    Ok(match sharing {
+        Sharing::Cut => build_part(rt, alloc, hash, gate, groups, head, workers, format),
+        Sharing::Claimed => build_part_claimed(
+            rt, alloc, hash, gate, groups, head, workers, format,
+        ),
+    })
+}
+
+// How many leaves the only block has.
+fn leaves_of(part: &Part) -> Option<usize> {
+    match part.blocks() {
+        [block] => match &block.body {
+            Body::Sharded(sharded) => Some(sharded.leaves().len()),
+            _ => Some(1),
+        },
+        _ => None,
+    }
+}
+
+// Both issuers have no exact stage, and then the second alone: of the first nothing is revoked. One worker refuses the
+// same issuer as two, however they share the groups.
+#[test]
+fn refusals_are_the_same_for_any_workers(rt: HostRuntime) -> Result<(), Fail> {
+    let alloc = rt.alloc();
+    for (revokes, issuer, sharing) in [
+        (true, 0x22, Sharing::Cut),
+        (true, 0x22, Sharing::Claimed),
+        (false, 0x33, Sharing::Cut),
+        (false, 0x33, Sharing::Claimed),
+    ] {
+        let job = job_of(alloc, &[(0x22, 4, revokes), (0x33, 2, true)])?;
+        let issuer = Key32::new([issuer; 32]);
+        let refused = Some(BuildFault::SeedsExhausted { issuer, stage: 2 });
+        let by_one = part_of(&rt, alloc, &RowsAlike, &Open, &job, sharing, 1)?.err();
+        let by_two = part_of(&rt, alloc, &RowsAlike, &Open, &job, sharing, 2)?.err();
+        assert_eq!(&rt; [by_one, by_two], [refused, refused], "{sharing:?}");
+    }
+    Ok(())
+}
+
+// Three identities are accepted, and no more than two may be.
+#[test]
+fn one_identity_too_many(rt: HostRuntime) -> Result<(), Fail> {
+    let job = job_of(rt.alloc(), &[(0x22, 3, true)])?;
+    let limits = Limits {
+        identities: 2,
+        ..Limits::PUBLISHED
+    };
+    let fits = job.ranges.len() <= 1024 && ranges_fit(&job.ranges);
+    assert!(&rt; fits && job.crls.len() <= 65_535 && job.entries.len() <= 4_194_304);
+    let fault = first(rt.alloc(), &job, &limits).err();
+    let (what, limit) = (What::Identities, 2);
+    assert_eq!(&rt; fault, Some(AdmitFault::TooMany { what, limit }));
+    Ok(())
+}
+
+// Counts the groups or shards that enter, and those of them that enter in order. As a hash it gives the rows of
+// SHA-256, and counts those that are asked for while another group than the member's entered last. The issuer of the
+// group at place 0 is 0x22, that at place 1 is 0x33, and so on.
+#[derive(Default, Drop)]
+struct Watch {
+    calls: AtomicU32,
+    entered: AtomicU32,
+    strange: AtomicU32,
+}
+
+impl Gate for Watch {
+    fn enter(&self, place: u32) {
+        self.calls.fetch_add(1, SeqCst);
+        let next = place.saturating_add(1);
+        let _ = self.entered.compare_exchange(place, next, SeqCst, SeqCst);
+    }
+}
+
+impl EquationHash for Watch {
+    ghost use Rattle.equation_core.specs.Rows.{sha256_row};
+    ghost use Rattle.equation_core.specs.RowLaws.{sha256_row-is};
+
+    ghost row_of = { λ _ stage seed id starts. sha256_row stage seed id starts };
+
+    ghost formed = { λ _ stage seed id starts _ _ some _. sha256_row-is stage seed id starts some };
+
+    fn row(&self, stage: u8, seed: u8, id: &Identity, starts: u32) -> Row {
+        let last = self.entered.load(SeqCst);
+        if id.issuer.bytes()[0] as u32 != last.saturating_add(1).saturating_mul(0x11) {
+            self.strange.fetch_add(1, SeqCst);
+        }
+        Sha256Rows.row(stage, seed, id, starts)
+    }
+}
+
+// With one worker each group enters once, in order, before its first member is hashed and behind the last one of the
+// group before it.
+#[test]
+fn each_group_enters(rt: HostRuntime) -> Result<(), Fail> {
+    let issuers = [(0x22, 2, true), (0x33, 60, true), (0x44, 300, true)];
+    let job = job_of(rt.alloc(), &issuers)?;
+    for sharing in BOTH {
+        let watch = Watch::default();
+        let _ = part_of(&rt, rt.alloc(), &watch, &watch, &job, sharing, 1)??;
+        assert_eq!(&rt; watch.calls.load(SeqCst), 3, "{sharing:?}");
+        assert_eq!(&rt; watch.entered.load(SeqCst), 3, "{sharing:?}");
+        assert_eq!(&rt; watch.strange.load(SeqCst), 0, "{sharing:?}");
+    }
+    Ok(())
+}
+
+// With one worker each shard enters once, and no other group is between them.
+#[test]
+fn each_shard_enters(rt: HostRuntime) -> Result<(), Fail> {
+    let job = job_of(rt.alloc(), &[(0x22, 40_000, true), (0x33, 2, true)])?;
+    for sharing in BOTH {
+        let watch = Watch::default();
+        let _ = part_of(&rt, rt.alloc(), &watch, &watch, &job, sharing, 1)??;
+        assert_eq!(&rt; watch.calls.load(SeqCst), 3, "{sharing:?}");
+        assert_eq!(&rt; watch.entered.load(SeqCst), 3, "{sharing:?}");
+    }
+    Ok(())
+}
+
+// One thread alone would wait at place 0 to the end of the turns.
+#[test]
+fn two_workers_build_side_by_side(rt: HostRuntime) -> Result<(), Fail> {
+    let job = job_of(rt.alloc(), &[(0x22, 2, true), (0x33, 2, true)])?;
+    for sharing in BOTH {
+        let gate = Holds::new(0, 1);
+        let _ = part_of(&rt, rt.alloc(), &Sha256Rows, &gate, &job, sharing, 2)??;
+        assert!(&rt; gate.has_passed(), "{sharing:?}");
+    }
+    Ok(())
+}
+
+// Whichever group is kept, the other worker builds both others. Shares that are cut before the work have two of the
+// three groups in one share, and would keep the second of these behind the first in one of the runs.
+#[test]
+fn a_kept_group_holds_up_no_other(rt: HostRuntime) -> Result<(), Fail> {
+    let issuers = [(0x22, 2, true), (0x33, 2, true), (0x44, 300, true)];
+    let job = job_of(rt.alloc(), &issuers)?;
+    for place in 0..3 {
+        let gate = Holds::new(place, 2);
+        let sharing = Sharing::Claimed;
+        let _ = part_of(&rt, rt.alloc(), &Sha256Rows, &gate, &job, sharing, 2)??;
+        assert!(&rt; gate.has_passed(), "place {place}");
+    }
+    Ok(())
+}
+
+// One thread alone would wait at the first shard to the end of the turns.
+#[test]
+fn two_workers_build_two_shards_side_by_side(rt: HostRuntime) -> Result<(), Fail> {
+    let job = job_of(rt.alloc(), &[(0x22, 40_000, true)])?;
+    for sharing in BOTH {
+        let gate = Holds::new(0, 1);
+        let part = part_of(&rt, rt.alloc(), &Sha256Rows, &gate, &job, sharing, 2)??;
+        assert_eq!(&rt; leaves_of(&part), Some(2), "{sharing:?}");
+        assert!(&rt; gate.has_passed(), "{sharing:?}");
+    }
+    Ok(())
+}
