@@ -1,14 +1,15 @@
 #!/bin/sh
-# Builds the examples of bindings/ and runs them, on the store that the repository ships and on one of certificates and
-# CRLs that openssl makes; then it calls the library for C with random bytes for ten seconds.
+# Tests bindings/: that the header and the module for Python have the numbers and the structs of the code; the module's
+# own tests; that nothing is read where nothing is lent; and the examples, on the store that the repository ships and on
+# one of certificates and CRLs that openssl makes. Then it calls the library for C with random bytes for ten seconds.
 #
 #     tools/bindings_test.sh [FOLDER]
 #
 # FOLDER holds libclubcard.a and libclubcard.so; without it the library is made by tools/library.sh, where the
 # toolchain is there, else it is that of release/. The commands `clubcard snapshot` and `start` make the store, by the
-# program that ./clubcard runs, or by the one that the variable CLUBCARD names. Where cc, make, openssl or its headers,
-# or python3 are absent, what needs them is skipped with a word; where valgrind is there, each program in C runs under
-# it.
+# program that ./clubcard runs, or by the one that the variable CLUBCARD names. Where cc, make, c++, openssl or its
+# headers, python3 or its packages pytest and hypothesis, mypy, black or flake8 are absent, what needs them is skipped
+# with a line that says so; where valgrind is there, each program in C runs under it.
 #
 # It prints a line for each test. The status is 0 exactly where none that ran failed.
 set -u
@@ -28,10 +29,10 @@ is_there() {
     command -v "$1" >/dev/null 2>&1
 }
 
-if ! is_there cc || ! is_there make; then
-    echo "bindings: skipped, since there is no cc or no make"
-    exit 0
-fi
+has_c() {
+    is_there cc && is_there make
+}
+
 if [ $# -eq 1 ]; then
     library=$(CDPATH='' cd -- "$1" && pwd) || exit 1
 elif is_there rt; then
@@ -41,6 +42,8 @@ else
     library="$top/release"
 fi
 export CLUBCARD_LIBRARY="$library/libclubcard.so"
+# The tree stays as it is.
+export PYTHONDONTWRITEBYTECODE=1
 
 # Says how a test went: its name, what was wanted, and what came.
 report() {
@@ -50,6 +53,25 @@ report() {
         echo "$1: $3, and not $2"
         failed=$((failed + 1))
     fi
+}
+
+# Says whether two lists are the same: whose they are, the list that was wanted, and the one that came.
+compare() {
+    if [ -n "$2" ] && [ "$2" = "$3" ]; then
+        echo "$1: the same $(echo "$2" | grep -c .)"
+    else
+        report "$1" "${2:-a list}" "$3"
+    fi
+}
+
+# Says how a command went, whose lines are shown where it failed: a name for it, and its words.
+must_do() {
+    tested=$1
+    shift
+    "$@" >"$work/lines" 2>&1
+    status=$?
+    [ $status -eq 0 ] || cat "$work/lines" >&2
+    report "$tested" 0 $status
 }
 
 # Runs a command and says its last line and its status, under valgrind where that is wanted.
@@ -78,15 +100,10 @@ numbers_of_header() {
 }
 numbers_of_module() {
     echo "DONE 0"
-    sed -n 's/^    \([A-Z_]*\) = \([0-9]*\)$/\1 \2/p' "$top/bindings/python/clubcard.py"
+    sed -n 's/^    \([A-Z_]*\) = \([0-9]*\)$/\1 \2/p' "$top/bindings/python/clubcard/answers.py"
 }
-report "numbers of clubcard.h" "$(numbers_of_code)" "$(numbers_of_header)" >"$work/numbers"
-report "numbers of clubcard.py" "$(numbers_of_code)" "$(numbers_of_module)" >>"$work/numbers"
-if [ $failed -eq 0 ]; then
-    echo "the numbers of the code, clubcard.h and clubcard.py: the same $(numbers_of_code | grep -c .)"
-else
-    cat "$work/numbers"
-fi
+compare "numbers of the code and of clubcard.h" "$(numbers_of_code)" "$(numbers_of_header)"
+compare "numbers of the code and of the module" "$(numbers_of_code)" "$(numbers_of_module)"
 
 # A copy of the sources, so that the tree stays as it is.
 cp -r "$top/bindings/c" "$work/c"
@@ -98,26 +115,105 @@ build() {
     }
 }
 
-# ---- the shipped store, from Python
+# ---- the structs, and the header
 
-if is_there python3; then
-    cat >"$work/shipped.py" <<'PYTHON'
-import sys
-sys.path.insert(0, sys.argv[1])
-from clubcard import Query, Sighting, Store
+# The header in another layout must not be compiled.
+refuses_layout() {
+    sed 's/uint64_t time;/uint32_t time;/' "$top/bindings/c/clubcard.h" >"$work/other.h"
+    ! cmp -s "$top/bindings/c/clubcard.h" "$work/other.h" && ! "$@" "$work/other.h" >/dev/null 2>&1
+}
 
-store = Store.from_file(sys.argv[2])
-seen = Sighting(b"\xaa" * 32, 1700000000000)
-late = Sighting(b"\xaa" * 32, 1700000001001)
-asked = [(b"\x11" * 32, seen), (b"\x11" * 32, late), (b"\x22" * 32, seen)]
-one_by_one = [store.query(issuer, b"\x05", [sighting]) for issuer, sighting in asked]
-together = store.query_each([Query(issuer, b"\x05", [sighting]) for issuer, sighting in asked])
-print(*store.examine(), *(verdict.name for verdict in one_by_one), one_by_one == together)
-PYTHON
-    report "the shipped store, from Python" "1 1 REVOKED NOT_COVERED NOT_ENROLLED True (0)" \
-        "$(ending python3 "$work/shipped.py" "$top/bindings/python" "$shipped")"
+test_header() {
+    for standard in c99 c11 c17; do
+        must_do "clubcard.h by $standard" cc -std=$standard -pedantic -Wall -Wextra -Werror -fsyntax-only -x c \
+            "$top/bindings/c/clubcard.h"
+    done
+    must_do "clubcard.h in another layout is refused by C" refuses_layout cc -std=c11 -fsyntax-only -x c
+    if ! is_there c++; then
+        echo "clubcard.h by C++: skipped, since there is no c++"
+        return
+    fi
+    for standard in c++11 c++17; do
+        must_do "clubcard.h by $standard" c++ -std=$standard -pedantic -Wall -Wextra -Werror -fsyntax-only -x c++ \
+            "$top/bindings/c/clubcard.h"
+    done
+    must_do "clubcard.h in another layout is refused by C++" refuses_layout c++ -std=c++11 -fsyntax-only -x c++
+}
+
+layouts_of_header() {
+    python3 "$top/bindings/layouts.py" c >"$work/layouts.c" &&
+        cc -std=c11 -Wall -Wextra -Werror -I"$top/bindings/c" -o "$work/layouts" "$work/layouts.c" && "$work/layouts"
+}
+
+if has_c; then
+    test_header
 else
-    echo "Python: skipped, since there is no python3"
+    echo "C: skipped, since there is no cc or no make"
+fi
+if is_there python3; then
+    layouts=$(python3 "$top/bindings/layouts.py" code)
+    compare "structs and fields of the code and of the module" "$layouts" \
+        "$(python3 "$top/bindings/layouts.py" module)"
+    ! has_c || compare "structs and fields of the code and of clubcard.h" "$layouts" "$(layouts_of_header)"
+else
+    echo "structs and fields: skipped, since there is no python3"
+fi
+
+# ---- the module for Python
+
+# A Python that has these packages: the one on the path, or the system's own.
+python_with() {
+    for each in python3 /usr/bin/python3; do
+        "$each" -c "import $1" >/dev/null 2>&1 && echo "$each" && return
+    done
+    return 1
+}
+
+# Runs the module's tests of a file, in the folder of work, where they may leave what they like.
+test_module() {
+    must_do "$1" "$tester" -m pytest -q -rs -p no:cacheprovider --rootdir "$top/bindings/python" \
+        "$top/bindings/python/$1"
+    grep '^SKIPPED' "$work/lines"
+    tail -n 1 "$work/lines"
+}
+
+# Runs mypy on what needs no package, and on the tests where their packages are there.
+test_types() {
+    must_do "mypy --strict, the module" mypy --strict --cache-dir "$work/mypy" -p clubcard
+    must_do "mypy --strict, its callers" mypy --strict --cache-dir "$work/mypy" ask.py ../layouts.py
+    if typed=$(python_with "pytest, hypothesis"); then
+        must_do "mypy --strict, its tests" mypy --strict --cache-dir "$work/mypy" --python-executable "$typed" \
+            test_clubcard.py test_properties.py
+    fi
+}
+
+from=$(pwd)
+cd "$work" || exit 1
+if tester=$(python_with pytest); then
+    test_module test_clubcard.py
+else
+    echo "test_clubcard.py: skipped, since python3 has no pytest"
+fi
+if tester=$(python_with "pytest, hypothesis"); then
+    test_module test_properties.py
+else
+    echo "test_properties.py: skipped, since python3 has no pytest or no hypothesis"
+fi
+cd "$top/bindings/python" || exit 1
+if is_there mypy; then
+    test_types
+else
+    echo "types: skipped, since there is no mypy"
+fi
+if is_there black; then
+    must_do "black" black -q -l 120 --check "$top/bindings"
+else
+    echo "black: skipped, since there is no black"
+fi
+if is_there flake8; then
+    must_do "flake8" flake8 --isolated --max-line-length 120 "$top/bindings"
+else
+    echo "flake8: skipped, since there is no flake8"
 fi
 
 # ---- certificates that openssl makes
@@ -212,6 +308,7 @@ test_asking() {
         "$(ending python3 "$top/bindings/python/ask.py" "$shipped" good.chain)"
     report "ask plain" "the certificate carries no timestamp (65)" "$(checked "$work/c/out/ask" store plain.chain)"
     report "ask.py plain" "CERT_NO_SCTS (65)" "$(ending python3 "$top/bindings/python/ask.py" store plain.chain)"
+    report "ask.py, a file that isn't there" " (1)" "$(ending python3 "$top/bindings/python/ask.py" store absent.chain)"
     report "ask, a store that is cut" "store: a field is short at $(($(wc -c <short_store) - 31)) (16)" \
         "$(checked "$work/c/out/ask" short_store good.chain)"
 }
@@ -229,10 +326,12 @@ test_handshakes() {
         "$(checked "$work/c/out/handshake" short_store ca.pem good.chain good.key)"
 }
 
-from=$(pwd)
 cd "$work" || exit 1
 fuzzed=$shipped
-if ! is_there openssl || ! is_there python3; then
+certificates=
+if ! has_c; then
+    echo "certificates: skipped, since there is no cc or no make"
+elif ! is_there openssl || ! is_there python3; then
     echo "certificates: skipped, since there is no openssl or no python3"
 elif ! echo '#include <openssl/ssl.h>' | cc -E - >/dev/null 2>&1; then
     echo "certificates: skipped, since there are no headers of OpenSSL"
@@ -242,13 +341,19 @@ elif ! program=$(cd "$from" && realpath "${CLUBCARD:-$(sh "$top/tools/program.sh
 elif build out/ask out/handshake; then
     head -c $(($(wc -c <store) - 1)) store >short_store
     fuzzed="$shipped store good.der ca.der"
+    certificates="good.der ca.der"
     test_asking
     test_handshakes
 fi
 
-# ---- random bytes
+# ---- nothing, and random bytes
 
-if build out/fuzz; then
+if has_c && build out/empty; then
+    # shellcheck disable=SC2086 # a word for each file
+    empty=$(checked "$work/c/out/empty" "$shipped" $certificates)
+    report "NULL with length 0" "${empty%% *} calls, 0 of them failed (0)" "$empty"
+fi
+if has_c && build out/fuzz; then
     # shellcheck disable=SC2086 # a word for each file
     "$work/c/out/fuzz" 10 $fuzzed >"$work/lines" 2>&1
     report "random bytes for ten seconds" 0 $?

@@ -7,12 +7,15 @@
  * proved is this file, which says the same in words.
  *
  * What a caller owes, and no call tests:
- *   - Each pointer is that of as many bytes, or elements, as its length says. None is NULL, also where the length is 0.
+ *   - Each pointer is that of as many bytes, or elements, as its length says. Where the length is 0 it may be NULL.
+ *     `issuer`, `facts` and `at`, which have no length, are never NULL.
+ *   - Each pointer is aligned as its type is: on x86-64 `sightings`, `facts` and `at` to 8 bytes, `queries` to 4.
  *   - A length is below 2^63 bytes in all.
  *   - What a call writes to (`at`, `facts`, `queries`) overlaps nothing else that the call is lent, and no other thread
- *     touches it during the call. What is only read may be shared by any number of threads.
- *   - malloc, realloc and free are of one allocator. No call is made from a signal handler, nor in the child of a fork
- *     of a process with threads.
+ *     touches it during the call. What is only read may be shared by any number of threads, and nobody writes to it
+ *     during the call.
+ *   - malloc, realloc and free are of one allocator. It aligns a block to each power of two up to 16 that divides the
+ *     block's size. No call is made from a signal handler, nor in the child of a fork of a process with threads.
  *
  * No call keeps anything: no state, no memory, no file. It reads nothing but what it is lent.
  *
@@ -34,6 +37,13 @@ extern "C" {
 /*
  * Answers. No verdict is 0, and each refusal is above each verdict. Only CLUBCARD_GOOD says that a certificate isn't
  * revoked: test for it, and not for the absence of CLUBCARD_REVOKED.
+ *
+ * What a verdict means: of a certificate that one of the jobs behind the store's parts accepted (and that was kept,
+ * where the chain began anew), asked with one or more sightings of its accepted entries and no other, it is
+ * CLUBCARD_REVOKED where the issuer's CRL lists the serial in an epoch since the certificate was first accepted, and
+ * else CLUBCARD_GOOD. Of any other certificate, or asked otherwise, either of the two may come, whatever the CRL says:
+ * so of one that no job accepted, since it was never shown to the publisher, or shown late, when an earlier job covered
+ * its sighting and enrolled its issuer. No call can tell these from the others.
  */
 enum {
     /* Done: what was asked for stands in what was lent for it. It is no verdict. */
@@ -95,6 +105,29 @@ typedef struct clubcard_facts {
     uint64_t newest_epoch; /* the epoch of the newest one */
 } clubcard_facts;
 
+/* The layout of the structs, which the library was made with. Compilers of C11, of C++11 and later test it. */
+#if defined(__cplusplus) && __cplusplus >= 201103L
+#define CLUBCARD_ASSERT(condition) static_assert(condition, "a struct of clubcard.h has another layout")
+#elif !defined(__cplusplus) && defined(__STDC_VERSION__) && __STDC_VERSION__ >= 201112L
+#define CLUBCARD_ASSERT(condition) _Static_assert(condition, "a struct of clubcard.h has another layout")
+#endif
+#ifdef CLUBCARD_ASSERT
+CLUBCARD_ASSERT(sizeof(clubcard_sighting) == 40);
+CLUBCARD_ASSERT(offsetof(clubcard_sighting, log) == 0);
+CLUBCARD_ASSERT(offsetof(clubcard_sighting, time) == 32);
+CLUBCARD_ASSERT(sizeof(clubcard_one_query) == 80);
+CLUBCARD_ASSERT(offsetof(clubcard_one_query, issuer) == 0);
+CLUBCARD_ASSERT(offsetof(clubcard_one_query, serial) == 32);
+CLUBCARD_ASSERT(offsetof(clubcard_one_query, serial_len) == 64);
+CLUBCARD_ASSERT(offsetof(clubcard_one_query, first_sighting) == 68);
+CLUBCARD_ASSERT(offsetof(clubcard_one_query, sightings) == 72);
+CLUBCARD_ASSERT(offsetof(clubcard_one_query, answer) == 76);
+CLUBCARD_ASSERT(sizeof(clubcard_facts) == 16);
+CLUBCARD_ASSERT(offsetof(clubcard_facts, parts) == 0);
+CLUBCARD_ASSERT(offsetof(clubcard_facts, newest_epoch) == 8);
+#undef CLUBCARD_ASSERT
+#endif
+
 /* The version of the interface that the library has: CLUBCARD_INTERFACE of the header that it was made with. */
 uint32_t clubcard_interface(void);
 
@@ -114,7 +147,8 @@ uint32_t clubcard_query(const uint8_t *store, size_t store_len, const uint8_t is
  * The verdict on a certificate by the timestamps that it carries and its issuer's certificate, both in DER.
  *
  * For bytes that are a store, and certificates that are read: the verdict of its parts on the certificate's serial,
- * the key of the issuer's certificate, and the timestamps of version 1. Else the refusal of the first fault: of the
+ * the key of the issuer's certificate, and the timestamps of version 1. It has the meaning above where one of these is
+ * of an accepted entry, and so is each that a part covers. Else the refusal of the first fault: of the
  * store as above, then of the certificate (its form, then its timestamps), then of the issuer's. `*at` is as above.
  */
 uint32_t clubcard_query_cert(const uint8_t *store, size_t store_len, const uint8_t *cert, size_t cert_len,

@@ -6,8 +6,8 @@
  * FILE are stores and certificates, whose bytes are changed at random, cut and put together. Each slice is lent behind
  * a page, or before a page, that nobody may touch, so that a read outside it ends the program. Tested of each call: its
  * answer is one of its numbers; `at` is an offset of the store for the refusals of the layout, and else 0; the same
- * call answers the same; a query answers alone and among others alike; and where an allocation is refused, it answers
- * either that, or want of memory. The status is 0 where all hold.
+ * call answers the same, also where each slice of length 0 is NULL; a query answers alone and among others alike; and
+ * where an allocation is refused, it answers either that, or want of memory. The status is 0 where all hold.
  */
 #include <stdio.h>
 #include <stdlib.h>
@@ -118,6 +118,9 @@ static int refuse_some(void) {
     return refused >= 0;
 }
 
+/* A slice, or NULL where it is empty. */
+static const uint8_t *or_null(const slice *s) { return s->len ? s->data : NULL; }
+
 static void test_query(void) {
     uint64_t at = 1;
     uint8_t issuer[32];
@@ -128,8 +131,9 @@ static void test_query(void) {
     if (!is_verdict(answer) && !is_store(answer) && answer != CLUBCARD_BAD_SERIAL) fail("query", answer);
     test_offset(answer, at);
     int was_refused = refuse_some();
-    uint32_t again = clubcard_query(store.data, store.len, issuer, serial.data, serial.len,
-                                    (const clubcard_sighting *)seen.data, seen.len / sizeof(clubcard_sighting), &at);
+    uint32_t again = clubcard_query(or_null(&store), store.len, issuer, or_null(&serial), serial.len,
+                                    (const clubcard_sighting *)or_null(&seen), seen.len / sizeof(clubcard_sighting),
+                                    &at);
     test_again(answer, again, was_refused);
     refused = -1;
 }
@@ -141,7 +145,7 @@ static void test_cert(void) {
     if (!is_verdict(answer) && !is_store(answer) && !is_cert(answer)) fail("query_cert", answer);
     test_offset(answer, at);
     int was_refused = refuse_some();
-    uint32_t again = clubcard_query_cert(store.data, store.len, cert.data, cert.len, issuer_cert.data,
+    uint32_t again = clubcard_query_cert(or_null(&store), store.len, or_null(&cert), cert.len, or_null(&issuer_cert),
                                          issuer_cert.len, &at);
     test_again(answer, again, was_refused);
     refused = -1;

@@ -1,0 +1,123 @@
+/*
+ * Lends nothing: NULL with length 0, in the place of each slice of each call.
+ *
+ *     empty STORE [CERT ISSUERCERT]
+ *
+ * STORE is the one that the repository ships, CERT a certificate in DER with timestamps, and ISSUERCERT its issuer's.
+ * Each answer must be the one that clubcard.h says, and the one where the pointer isn't NULL. It prints how many calls
+ * were tried; the status is 0 where all answered so. These sources are C and C++ alike.
+ */
+#include <stdio.h>
+#include <string.h>
+
+#include "clubcard.h"
+
+#define MOST 65536
+
+/* The bytes of a file. */
+typedef struct file {
+    uint8_t data[MOST];
+    size_t len;
+} file;
+
+static file store, cert, issuer_cert;
+static const uint8_t *const no_bytes = NULL;
+static const clubcard_sighting *const no_sightings = NULL;
+static unsigned calls, failures;
+
+static int read_into(file *into, const char *name) {
+    FILE *from = fopen(name, "rb");
+    into->len = from ? fread(into->data, 1, MOST, from) : 0;
+    if (from) fclose(from);
+    if (into->len == 0) fprintf(stderr, "%s can't be read\n", name);
+    return into->len > 0;
+}
+
+/* Counts a call, whose answer and offset must be these. */
+static void test(const char *what, uint32_t answer, uint64_t at, uint32_t wanted) {
+    calls++;
+    if (answer == wanted && at == 0) return;
+    printf("%s: %u at %llu, and not %u at 0\n", what, answer, (unsigned long long)at, wanted);
+    failures++;
+}
+
+/* An empty store is short at its first byte, an empty serial is none, and no sighting is covered. */
+static void test_query(const uint8_t *nothing, const clubcard_sighting *unseen) {
+    uint8_t issuer[32], serial = 5;
+    clubcard_sighting seen;
+    uint64_t at = 1;
+    memset(issuer, 0x11, sizeof issuer);
+    memset(seen.log, 0xaa, sizeof seen.log);
+    seen.time = 1700000000000;
+    uint32_t answer = clubcard_query(store.data, store.len, issuer, &serial, 1, &seen, 1, &at);
+    test("query", answer, at, CLUBCARD_REVOKED);
+    answer = clubcard_query(nothing, 0, issuer, &serial, 1, &seen, 1, &at);
+    test("query, no store", answer, at, CLUBCARD_LAYOUT_SHORT);
+    answer = clubcard_query(store.data, store.len, issuer, nothing, 0, &seen, 1, &at);
+    test("query, no serial", answer, at, CLUBCARD_BAD_SERIAL);
+    answer = clubcard_query(store.data, store.len, issuer, &serial, 1, unseen, 0, &at);
+    test("query, no sightings", answer, at, CLUBCARD_NOT_COVERED);
+    answer = clubcard_query(nothing, 0, issuer, nothing, 0, unseen, 0, &at);
+    test("query, nothing at all", answer, at, CLUBCARD_LAYOUT_SHORT);
+}
+
+static void test_query_each(const uint8_t *nothing, const clubcard_sighting *unseen, clubcard_one_query *unasked) {
+    clubcard_one_query query;
+    uint64_t at = 1;
+    memset(&query, 0, sizeof query);
+    query.serial_len = 1;
+    uint32_t answer = clubcard_query_each(store.data, store.len, unseen, 0, &query, 1, &at);
+    test("query_each, no sightings", answer, at, CLUBCARD_DONE);
+    test("the query without sightings", query.answer, 0, CLUBCARD_NOT_COVERED);
+    query.sightings = 1;
+    answer = clubcard_query_each(store.data, store.len, unseen, 0, &query, 1, &at);
+    test("query_each, too few sightings", answer, at, CLUBCARD_DONE);
+    test("the query with too few sightings", query.answer, 0, CLUBCARD_BAD_SIGHTINGS);
+    answer = clubcard_query_each(nothing, 0, unseen, 0, &query, 1, &at);
+    test("query_each, no store", answer, at, CLUBCARD_LAYOUT_SHORT);
+    test("the query of no store", query.answer, 0, CLUBCARD_LAYOUT_SHORT);
+    answer = clubcard_query_each(store.data, store.len, unseen, 0, unasked, 0, &at);
+    test("query_each, no queries", answer, at, CLUBCARD_DONE);
+    answer = clubcard_query_each(nothing, 0, unseen, 0, unasked, 0, &at);
+    test("query_each, nothing at all", answer, at, CLUBCARD_LAYOUT_SHORT);
+}
+
+static void test_examine(const uint8_t *nothing) {
+    clubcard_facts facts = {9, 9};
+    uint64_t at = 1;
+    uint32_t answer = clubcard_examine(nothing, 0, &facts, &at);
+    test("examine, no store", answer, at, CLUBCARD_LAYOUT_SHORT);
+    test("the facts of no store", (uint32_t)(facts.parts + facts.newest_epoch), 0, 0);
+}
+
+/* The store is at fault before the certificates, and the certificate before its issuer's. */
+static void test_query_cert(const uint8_t *nothing) {
+    uint64_t at = 1;
+    uint32_t answer = clubcard_query_cert(nothing, 0, cert.data, cert.len, issuer_cert.data, issuer_cert.len, &at);
+    test("query_cert, no store", answer, at, CLUBCARD_LAYOUT_SHORT);
+    answer = clubcard_query_cert(store.data, store.len, nothing, 0, issuer_cert.data, issuer_cert.len, &at);
+    test("query_cert, no certificate", answer, at, CLUBCARD_CERT_MALFORMED);
+    answer = clubcard_query_cert(store.data, store.len, nothing, 0, nothing, 0, &at);
+    test("query_cert, no certificates", answer, at, CLUBCARD_CERT_MALFORMED);
+    if (cert.len == 0) return;
+    answer = clubcard_query_cert(store.data, store.len, cert.data, cert.len, nothing, 0, &at);
+    test("query_cert, no issuer's certificate", answer, at, CLUBCARD_ISSUER_CERT_MALFORMED);
+}
+
+int main(int argc, char **argv) {
+    static uint8_t byte;
+    static clubcard_sighting sighting;
+    static clubcard_one_query query;
+    if (argc != 2 && argc != 4) {
+        fprintf(stderr, "usage: empty STORE [CERT ISSUERCERT]\n");
+        return 2;
+    }
+    if (!read_into(&store, argv[1])) return 2;
+    if (argc == 4 && (!read_into(&cert, argv[2]) || !read_into(&issuer_cert, argv[3]))) return 2;
+    test_query(no_bytes, no_sightings), test_query(&byte, &sighting);
+    test_query_each(no_bytes, no_sightings, NULL), test_query_each(&byte, &sighting, &query);
+    test_examine(no_bytes), test_examine(&byte);
+    test_query_cert(no_bytes), test_query_cert(&byte);
+    printf("%u calls, %u of them failed\n", calls, failures);
+    return failures ? 1 : 0;
+}

@@ -1,0 +1,21 @@
+"""Whether a store of pushed certificate revocation says that a certificate is revoked, asked in this process.
+
+A thin layer over libclubcard.so by ctypes; bindings/c/clubcard.h says what each call answers. The library is the first
+of these that is there: the file that CLUBCARD_LIBRARY names, release/libclubcard.so of the project where the module
+stands in its tree, and what the system finds under its name. What the library answers is proved; this module isn't.
+
+What a verdict means: of a certificate that one of the jobs behind the store's parts accepted (and that was kept, where
+the chain began anew), asked with one or more sightings of its accepted entries and no other, it is REVOKED where the
+issuer's CRL lists the serial in an epoch since the certificate was first accepted, and else GOOD. Of any other
+certificate, or asked otherwise, either of the two may come, whatever the CRL says: so of one that no job accepted,
+since it was never shown to the publisher, or shown late, when an earlier job covered its sighting and enrolled its
+issuer. No call can tell these from the others.
+
+A store's bytes, issuers and certificates must be authentic: no signature is checked.
+"""
+
+from .answers import Refusal, Refused, Verdict
+from .octets import serial_from_int
+from .store import Facts, Query, Sighting, Store
+
+__all__ = ["Facts", "Query", "Refusal", "Refused", "Sighting", "Store", "Verdict", "serial_from_int"]

@@ -1,0 +1,85 @@
+"""The library: its structs and functions, as clubcard.h declares them."""
+
+import ctypes
+import os
+import pathlib
+from typing import Any, Dict, List
+
+# The version of the interface that this module speaks (CLUBCARD_INTERFACE).
+INTERFACE = 1
+
+
+class LentSighting(ctypes.Structure):
+    """clubcard_sighting"""
+
+    _fields_ = [("log", ctypes.c_uint8 * 32), ("time", ctypes.c_uint64)]
+
+
+class LentQuery(ctypes.Structure):
+    """clubcard_one_query"""
+
+    _fields_ = [
+        ("issuer", ctypes.c_uint8 * 32),
+        ("serial", ctypes.c_uint8 * 32),
+        ("serial_len", ctypes.c_uint32),
+        ("first_sighting", ctypes.c_uint32),
+        ("sightings", ctypes.c_uint32),
+        ("answer", ctypes.c_uint32),
+    ]
+
+
+class LentFacts(ctypes.Structure):
+    """clubcard_facts"""
+
+    _fields_ = [("parts", ctypes.c_uint64), ("newest_epoch", ctypes.c_uint64)]
+
+
+_SLICE: List[Any] = [ctypes.c_void_p, ctypes.c_size_t]
+_SIGHTINGS: List[Any] = [ctypes.POINTER(LentSighting), ctypes.c_size_t]
+_QUERIES: List[Any] = [ctypes.POINTER(LentQuery), ctypes.c_size_t]
+_AT: List[Any] = [ctypes.POINTER(ctypes.c_uint64)]
+_CALLS: Dict[str, List[Any]] = {
+    "clubcard_query": [*_SLICE, ctypes.c_char_p, *_SLICE, *_SIGHTINGS, *_AT],
+    "clubcard_query_cert": [*_SLICE, *_SLICE, *_SLICE, *_AT],
+    "clubcard_query_each": [*_SLICE, *_SIGHTINGS, *_QUERIES, *_AT],
+    "clubcard_examine": [*_SLICE, ctypes.POINTER(LentFacts), *_AT],
+}
+
+
+def _file() -> str:
+    """The library's file, or the name under which the system finds it."""
+    here = pathlib.Path(__file__).resolve().parent
+    released = here.parents[2] / "release" / "libclubcard.so"
+    is_in_tree = here.parts[-3:] == ("bindings", "python", "clubcard") and released.exists()
+    return os.environ.get("CLUBCARD_LIBRARY") or (str(released) if is_in_tree else "libclubcard.so")
+
+
+def _set_types(library: ctypes.CDLL, name: str, parameters: List[Any]) -> None:
+    """Tells ctypes the types of a function, each of which answers a number of 32 bits."""
+    try:
+        function = getattr(library, name)
+    except AttributeError as error:
+        raise ImportError(f"this is no libclubcard.so, since it has no {name}: {library._name}") from error
+    function.argtypes = parameters
+    function.restype = ctypes.c_uint32
+
+
+def load(name: str) -> ctypes.CDLL:
+    """Loads the library. Where there is none, or it has another interface, it is an ImportError.
+
+    No other function of the library is looked for before its interface is known to be this module's.
+    """
+    try:
+        library = ctypes.CDLL(name)
+    except OSError as error:
+        raise ImportError(f"libclubcard.so isn't loaded ({error}); CLUBCARD_LIBRARY may name its file") from error
+    _set_types(library, "clubcard_interface", [])
+    interface = library.clubcard_interface()
+    if interface != INTERFACE:
+        raise ImportError(f"{name} has the interface {interface}, and this module is for {INTERFACE}: use its own one")
+    for call, parameters in _CALLS.items():
+        _set_types(library, call, parameters)
+    return library
+
+
+LIBRARY = load(_file())
