@@ -7,8 +7,8 @@
                certificate of its issuer. It becomes an x509 entry (RFC 6962, 3.4) whose chain is the issuer's
                certificate alone
 
-Certificates are files in DER, or in PEM with one block. It stands for a log that there is to try the program on;
-no signature is made or checked. With status 2 a word or a file is wrong, and a message says which.
+Certificates are files in DER or PEM; of several in a file the first is taken. A page stands for a log that there is to
+try the program on; no signature is made or checked. With status 2 a word or a file is wrong, and a message says which.
 """
 
 import argparse
@@ -17,14 +17,15 @@ import json
 import sys
 
 from certificates import Malformed, load_certificate, load_issued
-from pack_job import number, vector
+from pack_job import milliseconds, vector
 
 
-def item(certificate_name, issuer_name, time):
+def item(certificate_name: str, issuer_name: str, time: str) -> dict[str, str]:
     """The item of a certificate."""
     certificate, issuer = load_issued(load_certificate, certificate_name, issuer_name)
     version_and_type, x509, extensions = bytes(2), bytes(2), bytes(2)
-    leaf = version_and_type + number(time) + x509 + vector(certificate.der, 3, certificate_name) + extensions
+    seen = milliseconds(time, f"the time of {certificate_name}")
+    leaf = version_and_type + seen + x509 + vector(certificate.der, 3, certificate_name) + extensions
     chain = vector(vector(issuer.der, 3, issuer_name), 3, issuer_name)
     return {
         "leaf_input": base64.b64encode(leaf).decode(),
@@ -32,7 +33,7 @@ def item(certificate_name, issuer_name, time):
     }
 
 
-def main():
+def main() -> int:
     words = argparse.ArgumentParser(
         description=__doc__,
         usage="%(prog)s [--certificate CERT ISSUERCERT TIME] .. PAGE",
