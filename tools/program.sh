@@ -1,7 +1,8 @@
 #!/bin/sh
 # Prints the path of the program that ./clubcard runs, the first of these that there is: the one in
 # crates/clubcard/out/, where it is newer than its sources; the released one, where it is of this tree (tools/release.sh
-# --check) and runs on this machine (Linux on x86-64); the one that the toolchain builds, which proves it first.
+# --check, or the stamp of an earlier look: tools/stamp.sh) and runs on this machine (Linux on x86-64); the one that the
+# toolchain builds, which proves it first.
 #
 #     tools/program.sh
 #     tools/program.sh --built     passes over the released one
@@ -12,6 +13,7 @@ top=$(CDPATH='' cd -- "$(dirname -- "$0")/.." && pwd) || exit 1
 program="$top/crates/clubcard/out/clubcard"
 released="$top/release/clubcard-x86_64-linux"
 log="$top/crates/clubcard/out/build.log"
+. "$top/tools/stamp.sh"
 
 # Whether a source, a definition, a proof or the list of crates is newer than the program.
 is_stale() {
@@ -21,14 +23,21 @@ is_stale() {
 }
 
 # Whether the released program is of this machine and of this tree. Else `why` begins the line that says why not.
-# Without words the program ends with status 2; where the machine has another C library it doesn't begin.
+# Without words the program ends with status 2; where the machine has another C library it doesn't begin. What was
+# found is stamped (tools/stamp.sh) as it was before it was looked at.
 is_released() {
+    is_stamped && return
     why="release/ is for Linux on x86-64; "
     [ "$(uname -sm)" = "Linux x86_64" ] || return 1
+    found=$(state 2>/dev/null)
     why="$(sh "$top/tools/release.sh" --check); " || return 1
     why="the released program doesn't run on this machine; "
     "$released" >/dev/null 2>&1
-    [ $? -eq 2 ]
+    [ $? -eq 2 ] || return 1
+    # Without a list of files (find is the one of GNU) there is no stamp, nor where it can't be written.
+    [ "$(echo "$found" | wc -l)" -gt 1 ] || return 0
+    { mkdir -p "${stamp%/*}" && echo "$found" >"$stamp.$$" && mv -f "$stamp.$$" "$stamp"; } 2>/dev/null
+    return 0
 }
 
 # Shows the build's last line every five seconds, until this script ends. It lets go of the standard output, which a
