@@ -4,7 +4,8 @@ processor.
 
     bench/gate.py run LOG          runs .ci/run, and notes in LOG what each of its processes took; ends with its status
     bench/gate.py watch LOG PID    notes the same of a gate that runs, from now on; PID is that of its `rt ci`
-    bench/gate.py table LOG        prints the table of a log, the dearest crate first, and the ten dearest edits
+    bench/gate.py table LOG ..     prints the table of all logs together, the dearest crate first, and the ten dearest
+                                   edits
 
 The times are those that the system counts (/proc), looked at four times a second: a process that lives for less is
 missed. What `rt ci` prints has no times, and is no log. An edit is told by the texts that its check reads. Before a
@@ -174,10 +175,10 @@ def read(file):
         sys.exit(f"{file} is no log of `bench/gate.py run` or `watch`; what rt ci prints has no times")
 
 
-def table(file):
-    log = read(file)
+def table(*files):
+    logs = [read(file) for file in files]
     cost, edits = {}, {}
-    for record in log["processes"]:
+    for record in (record for log in logs for record in log["processes"]):
         crate, kind, seconds = record["crate"], record["kind"], record["seconds"]
         cost.setdefault(crate, dict.fromkeys(KINDS, 0))[kind] += seconds
         if kind == "edits":
@@ -190,16 +191,21 @@ def table(file):
         print(f"| {crate} | " + " | ".join(cells) + f" | {sum(row.values()) / 60:.1f} |")
     for (crate, edit), seconds in sorted(edits.items(), key=lambda it: -it[1])[:10]:
         print(f"- {seconds / 60:.1f}: {crate}, {edit}")
-    if log["took"]:
-        print(f"by the clock: {log['took'] / 60:.1f} minutes")
+    for file, log in zip(files, logs):
+        if log["took"]:
+            print(f"{file}, by the clock: {log['took'] / 60:.1f} minutes")
 
 
 def main():
-    calls = {("run", 1): run, ("watch", 2): watch, ("table", 1): table}
-    call = calls.get((sys.argv[1] if len(sys.argv) > 1 else "", len(sys.argv) - 2))
-    if call is None:
-        sys.exit(__doc__)
-    sys.exit(call(*sys.argv[2:]))
+    match sys.argv[1:]:
+        case ["run", file]:
+            sys.exit(run(file))
+        case ["watch", file, gate]:
+            sys.exit(watch(file, gate))
+        case ["table", *files] if files:
+            table(*files)
+        case _:
+            sys.exit(__doc__)
 
 
 if __name__ == "__main__":
