@@ -1,6 +1,6 @@
 #!/bin/sh
 # The released program and library: makes them, and says whether they are of this tree (release/README.md says what
-# stands in release/).
+# stands in release/). VERSION has no part in that.
 #
 #     tools/release.sh             makes release/ of the program in crates/clubcard/out/ (built where it isn't newer
 #                                  than its sources) and of the library for C (tools/library.sh)
@@ -18,20 +18,43 @@ name=clubcard-x86_64-linux
 # All that is released.
 names="$name libclubcard.a libclubcard.so clubcard.h"
 
-# Lists the sources, each name ended by a zero byte: those that git tracks, else (in an unpacked archive) all that are
-# there. A commit's hook has variables by which git would look elsewhere.
-list_sources() {
-    [ -e .git ] && (
-        unset GIT_DIR GIT_WORK_TREE GIT_INDEX_FILE
-        git ls-files -z --error-unmatch -- crates.txt ':(glob)crates/*/src/**' 2>/dev/null
-    ) && return
-    find crates.txt crates/*/src -type f -print0
+# The crates that the program and the library stand on, themselves among them.
+list_crates() {
+    awk '
+        function visit(each, words, count, i) {
+            if (!(each in needs) || seen[each]++) return
+            print each
+            count = split(needs[each], words, " ")
+            for (i = 1; i <= count; i++) visit(words[i])
+        }
+        { name = $1; sub(/:$/, "", name); sub(/^[^:]*:/, ""); needs[name] = $0 }
+        END { visit("clubcard"); visit("clubcard_c") }' crates.txt
 }
 
-# The digest of the sources: the SHA-256 of the lines that sha256sum prints of them, in the order of their names' bytes.
+# Lists their sources, each name ended by a zero byte: those that git tracks, else (in an unpacked archive) all that are
+# there. A commit's hook has variables by which git would look elsewhere.
+list_sources() {
+    # shellcheck disable=SC2046 # a word for each crate
+    set -- $(list_crates)
+    [ -e .git ] && (
+        unset GIT_DIR GIT_WORK_TREE GIT_INDEX_FILE
+        for crate do
+            git ls-files -z --error-unmatch -- ":(glob)crates/$crate/src/**" 2>/dev/null || exit 1
+        done
+    ) && return
+    for crate do
+        find "crates/$crate/src" -type f -print0
+    done
+}
+
+# The digest of the sources: the SHA-256 of the lines of crates.txt of these crates, and of those that sha256sum prints
+# of the sources, both in the order of their bytes.
 digest() (
     cd "$top" || exit 1
-    list_sources | LC_ALL=C sort -z -u | xargs -0 sha256sum -- 2>/dev/null | sha256sum | cut -d ' ' -f 1
+    {
+        list_crates | sed 's/.*/^&[ :]/' | grep -f - crates.txt | LC_ALL=C sort
+        list_sources | LC_ALL=C sort -z -u | xargs -0 sha256sum -- 2>/dev/null
+    } | sha256sum | cut -d ' ' -f 1
 )
 
 # The lines of SHA256SUMS for the released files in a folder.
@@ -77,6 +100,7 @@ make() {
     new_folder || return 1
     program=$(sh "$top/tools/program.sh" --built) || return 1
     sh "$top/tools/library.sh" "$work" || return 1
+    python3 "$top/tools/licences.py" >"$work/LICENSES" || return 1
     toolchain=$(rt version) || return 1
     if [ "$(digest)" != "$before" ]; then
         echo "release: the sources were changed while the program was built" >&2
@@ -86,7 +110,7 @@ make() {
         sums_of "$work" >"$release/SHA256SUMS" &&
         echo "$toolchain" >"$release/TOOLCHAIN" &&
         echo "$before" >"$release/SOURCES" &&
-        cp "$work/libclubcard.a" "$work/libclubcard.so" "$work/clubcard.h" "$release" &&
+        cp "$work/libclubcard.a" "$work/libclubcard.so" "$work/clubcard.h" "$work/LICENSES" "$release" &&
         cp "$work/$name" "$release/$name.draft" && mv "$release/$name.draft" "$release/$name" && check
 }
 
