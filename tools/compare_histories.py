@@ -11,11 +11,11 @@ of both kinds; in some histories with a job that is refused among them, or with 
 and the status of the refusal. Then an `audit` of one of the stores by all jobs, or with one among them that is refused.
 And a job of `sample`.
 
-Behind one of the jobs the chain is begun anew by `rebase`, at a moment at which some certificates may have expired. It
-goes on with the jobs behind that one, and is compared as the history was; in some histories it is itself begun anew
-behind one of its parts, and so on. The ledgers without dates, and the damaged ones, are begun anew too. Before all
-histories stand three such chains that were worked out by hand, and ledgers with as many issuers as a part may have, and
-one more.
+Behind one of the jobs the chain is begun anew by `rebase`, or by `rebase-without` some issuers, at a moment at which
+some certificates may have expired. It goes on with the jobs behind that one, and is compared as the history was; in
+some histories it is itself begun anew behind one of its parts, and so on. The ledgers without dates, the damaged ones,
+and for each history a ledger of no history, are begun anew too. Before all histories stand such chains that were worked
+out by hand, and ledgers with as many issuers as a part may have, and one more.
 
 It runs the program that `./clubcard` runs, prints a line, and ends with status 0 exactly where nothing differs; where
 something does, it says which history and what.
@@ -36,6 +36,7 @@ from reference import (
     Entry,
     Job,
     Ledger,
+    LedgerItem,
     LedgerPart,
     Refused,
     SHARDED,
@@ -50,7 +51,7 @@ from reference import (
     verdict,
 )
 from reference_files import JobFile, audit, read_ledger, rebase, rehearse
-from three_jobs import ANSWERS, JOBS, K1, LA, QUERIES
+from three_jobs import ANSWERS, JOBS, K1, K2, LA, QUERIES
 
 PROGRAM = path_of_program()
 
@@ -145,11 +146,18 @@ def publish(rng, history, i, at):
     member, workers = history.members[i], str(rng.choice([1, 2, 64]))
     if isinstance(member, Base):
         put(at("old ledger"), member.old_ledger.bytes)
-        return run("rebase", at("old ledger"), str(member.moment), at("part"), at("ledger0"), workers)
+        outputs = [at("part"), at("ledger0")]
+        return run(*rebase_words(at("old ledger"), member.moment, outputs, workers, member.without))
     put(at("job"), member.bytes())
     if i == 0:
         return run("snapshot", at("job"), at("part"), at("ledger0"), workers)
     return run("delta", at("job"), at(f"ledger{i - 1}"), at("part"), at(f"ledger{i}"), workers)
+
+
+def rebase_words(ledger, moment, outputs, workers, without):
+    """The words that begin a chain anew, with all issuers or without some."""
+    command = "rebase-without" if without else "rebase"
+    return [command, ledger, str(moment), *outputs, workers, *(issuer.hex() for issuer in without)]
 
 
 def compare_files(rng, history, parts, at):
@@ -192,7 +200,7 @@ def compare_damaged_ledgers(rng, history, at):
         data = damaged(rng, history.ledger(place - 1).bytes)
         data = rng.choice([data, data[:-32] + sha(data[:-32])])
         put(at("damaged"), data)
-        compare_rebase(data, rng.choice([0, T, 2**64 - 1]), at)
+        compare_rebase(data, rng.choice([0, T, 2**64 - 1]), at, random_without(rng, history.ledger(place - 1)))
         try:
             read_ledger(data)
         except Refused as refused:
@@ -241,16 +249,50 @@ def random_moment(rng, ledger):
     return rng.choice(at_dates) if at_dates and rng.random() < 0.8 else rng.choice([0, T, 2**64 - 1])
 
 
-def compare_rebase(data, moment, at):
+def random_without(rng, ledger):
+    """Some issuers of a ledger and one that it hasn't, in any order, some of them twice; or none."""
+    if rng.random() < 0.4:
+        return ()
+    issuers = sorted({issuer for part in ledger.parts for issuer in part.issuers})
+    named = [issuer for issuer in issuers if rng.random() < 0.4] or [random_octets(rng, 32)]
+    named += rng.choices(named + [random_octets(rng, 32)], k=rng.randint(0, 2))
+    rng.shuffle(named)
+    return tuple(named)
+
+
+def compare_rebase(data, moment, at, without=()):
     """Begins a chain anew from a file, of a history's ledger or not. Gives whether it is refused."""
     outputs = [at("new part"), at("new ledger")]
     for path in [at("old ledger"), *outputs]:
         put(path, data)
-    status, text, wanted = rebase(at("old ledger"), data, moment)
-    told = run("rebase", at("old ledger"), str(moment), *outputs, "2")
-    same(f"rebase at {moment}", told, (status, text))
+    status, text, wanted = rebase(at("old ledger"), data, moment, without)
+    told = run(*rebase_words(at("old ledger"), moment, outputs, "2", without))
+    same(f"rebase at {moment} without {without}", told, (status, text))
     same(f"outputs of rebase at {moment}", [held(path) for path in outputs], wanted or [data, data])
     return status != 0
+
+
+def random_items(rng, issuers, parts):
+    """Identities of these issuers, with any births, last parts and dates that a ledger of so many parts may hold."""
+    serials = {random_octets(rng, rng.choice([1, 2, 32])) for _ in range(rng.choice([0, 5, 30]))}
+    items = []
+    for identity in sorted((issuer, len(serial), serial) for issuer in issuers for serial in serials):
+        birth = rng.randrange(parts)
+        last, until = rng.choice([None, rng.randrange(birth, parts)]), rng.choice([None, random_date(rng)[0]])
+        items.append(LedgerItem(identity, birth, last, until))
+    return items
+
+
+def compare_any_ledger(rng, at):
+    """Begins a chain anew from a ledger of no history, in which parts and identities may have different issuers."""
+    issuers = sorted({random_octets(rng, 32) for _ in range(rng.randint(0, 6))})
+    parts = [
+        LedgerPart(2 * place + 1, random_octets(rng, 32), [], [x for x in issuers if rng.random() < 0.6])
+        for place in range(rng.choice([1, 2, 64]))
+    ]
+    ledger = Ledger(parts, random_items(rng, rng.sample(issuers, rng.randint(0, len(issuers))), len(parts)))
+    refused = compare_rebase(ledger.bytes, random_moment(rng, ledger), at, random_without(rng, ledger))
+    same("refusal of a ledger", refused, False)
 
 
 def compare_begun_anew(rng, history, at):
@@ -258,7 +300,8 @@ def compare_begun_anew(rng, history, at):
     certificates; and so on from the new chain, or not. Gives how many chains were begun, and how many queries asked."""
     place = rng.randrange(len(history.members))
     front = history_of(tuple(history.members[: place + 1]))
-    base = Base(front, random_moment(rng, front.ledger(place)))
+    ledger = front.ledger(place)
+    base = Base(front, random_moment(rng, ledger), random_without(rng, ledger))
     anew = history_of((base, *history.members[place + 1 :]))
     parts = anew.parts()
     compare_files(rng, anew, parts, at)
@@ -270,22 +313,31 @@ def compare_begun_anew(rng, history, at):
 
 
 def rows_by_hand():
-    """Histories, a moment, the line of a rebase of the last ledger, and how many bytes the part and its ledger have."""
+    """Histories, a moment, issuers, the line of a rebase of the last ledger without these, and how many bytes the part
+    and its ledger have."""
     entries = [Entry(K1, b"\5", LA, T), Entry(K1, b"\x09", LA, T, until=T // 1000)]
+    others = [Entry(K2, b"\7", LA, T, until=T // 1000), Entry(K2, b"\x08", LA, T)]
     dated = [Job(1, T, [(LA, T, T + 1000)], [(K1, Crl([b"\5"]))], entries)]
+    both = [Job(1, T, [(LA, T, T + 1000)], [(K1, Crl([b"\5"])), (K2, Crl([b"\7"]))], entries + others)]
+    anew, without = "rebase epoch", "rebase-without epoch"
     return [
-        (JOBS, 2**64 - 1, "rebase epoch 3 issuers 1 universe 3 revoked 1 pruned 0", [276, 331]),
-        (dated, T, "rebase epoch 1 issuers 1 universe 2 revoked 1 pruned 0", [199, 254]),
-        (dated, T + 1, "rebase epoch 1 issuers 1 universe 1 revoked 1 pruned 1", [169, 209]),
+        (JOBS, 2**64 - 1, (), f"{anew} 3 issuers 1 universe 3 revoked 1 pruned 0", [276, 331]),
+        (JOBS, 0, (K2,), f"{without} 3 issuers 1 universe 3 revoked 1 pruned 0 left 0", [276, 331]),
+        (dated, T, (), f"{anew} 1 issuers 1 universe 2 revoked 1 pruned 0", [199, 254]),
+        (dated, T + 1, (), f"{anew} 1 issuers 1 universe 1 revoked 1 pruned 1", [169, 209]),
+        (both, T, (K2, LA, K2), f"{without} 1 issuers 1 universe 2 revoked 1 pruned 0 left 2", [199, 254]),
+        (both, T + 1, (LA, K2), f"{without} 1 issuers 1 universe 1 revoked 1 pruned 1 left 2", [169, 209]),
+        (both, T + 1, (K1,), f"{without} 1 issuers 1 universe 1 revoked 0 pruned 1 left 2", [169, 209]),
+        (both, T + 1, (K2, K1), f"{without} 1 issuers 0 universe 0 revoked 0 pruned 0 left 4", [136, 140]),
     ]
 
 
 def compare_rows(at):
-    for members, moment, line, sizes in rows_by_hand():
-        base = Base(history_of(tuple(members)), moment)
+    for members, moment, without, line, sizes in rows_by_hand():
+        base = Base(history_of(tuple(members)), moment, without)
         same("line by hand", base.line, line)
         same("sizes by hand", [len(base.part.bytes), len(base.ledger.bytes)], sizes)
-        compare_rebase(base.old_ledger.bytes, moment, at)
+        compare_rebase(base.old_ledger.bytes, moment, at, without)
         if members is JOBS:
             same("store by hand", run("start", at("new part"), at("store")), (0, "store parts 1 epoch 3\n"))
             answers = [ask(at("store"), *query) for query in QUERIES]
@@ -299,9 +351,10 @@ def crowded(issuers):
 
 
 def compare_limit(at):
-    """Begins a chain anew with as many issuers as a part may have, and with one more."""
-    for issuers in (65535, 65536):
-        same(f"refusal with {issuers} issuers", compare_rebase(crowded(issuers).bytes, 0, at), issuers > 65535)
+    """Begins a chain anew with as many issuers as a part may have, and with one more; of which one may be left out."""
+    for issuers, without in ((65535, ()), (65536, ()), (65536, (be(7, 32),)), (65537, (be(7, 32),))):
+        refused = compare_rebase(crowded(issuers).bytes, 0, at, without)
+        same(f"refusal with {issuers} issuers", refused, issuers - len(without) > 65535)
 
 
 def damaged(rng, data):
@@ -405,6 +458,7 @@ def compare_history(rng, at):
     rehearsed = compare_rehearsal(rng, history, parts, at)
     agreed = compare_audit(rng, history, parts, at)
     chains, asked_anew = compare_begun_anew(rng, history, at)
+    compare_any_ledger(rng, at)
     compare_sample(rng, at)
     return {
         "jobs": len(parts),

@@ -480,41 +480,46 @@ def is_expired(until, moment):
     return until is not None and 1000 * until < moment
 
 
-def rebased(ledger, moment):
-    """What any ledger comes to without what has expired at a moment: the part, its ledger, and the line."""
-    newest = ledger.parts[-1]
-    issuers = sorted({issuer for part in ledger.parts for issuer in part.issuers})
+def rebased(ledger, moment, without=()):
+    """What any ledger comes to without what has expired at a moment, and without some issuers: the part, its ledger,
+    and the line, which tells of identities that are left out where issuers are."""
+    newest, without = ledger.parts[-1], frozenset(without)
+    issuers = sorted({issuer for part in ledger.parts for issuer in part.issuers} - without)
     if len(issuers) > 65535:
         raise Refused(6, "limit issuers 65535")
-    kept = [item for item in ledger.items if not is_expired(item.until, moment)]
+    others = [item for item in ledger.items if item.identity[0] not in without]
+    kept = [item for item in others if not is_expired(item.until, moment)]
     revoked = [item.identity for item in kept if item.last is not None]
     blocks = build_blocks(issuers, [item.identity for item in kept], revoked, DATED)
     part = Part(0, newest.epoch, bytes(32), newest.ranges, blocks)
     items = [LedgerItem(item.identity, 0, None if item.last is None else 0, item.until) for item in kept]
+    command, left = ("rebase-without", f" left {len(ledger.items) - len(others)}") if without else ("rebase", "")
     line = (
-        f"rebase epoch {part.epoch} issuers {len(issuers)} universe {len(kept)} revoked {len(revoked)} "
-        f"pruned {len(ledger.items) - len(kept)}"
+        f"{command} epoch {part.epoch} issuers {len(issuers)} universe {len(kept)} revoked {len(revoked)} "
+        f"pruned {len(others) - len(kept)}{left}"
     )
     return part, Ledger([LedgerPart(part.epoch, part.trailer, part.ranges, issuers)], items), line
 
 
 class Base(Member):
-    """What a history may begin with in place of a job: what another one comes to at a moment. It has the ranges of the
-    newest member of that one, the issuers of all, and the identities that haven't expired, with their sightings, their
-    dates, and whether they are listed, all as at its end. It has no entries of its own."""
+    """What a history may begin with in place of a job: what another one comes to at a moment, without some issuers. It
+    has the ranges of the newest member of that one, the other issuers of all, and the identities of these that haven't
+    expired, with their sightings, their dates, and whether they are listed, all as at its end. It has no entries of its
+    own."""
 
     entries = ()
 
-    def __init__(self, history, moment):
+    def __init__(self, history, moment, without=()):
         last = len(history.members) - 1
-        kept = [x for x in sorted(history.identities(last)) if not is_expired(history.until(x, last), moment)]
-        self.history, self.moment = history, moment
+        others = [x for x in sorted(history.identities(last)) if x[0] not in without]
+        kept = [x for x in others if not is_expired(history.until(x, last), moment)]
+        self.history, self.moment, self.without = history, moment, without
         self.epoch, self.ranges = history.members[last].epoch, history.members[last].ranges
-        self.issuers = {issuer for member in history.members for issuer in member.enrolled()}
+        self.issuers = {issuer for member in history.members for issuer in member.enrolled() if issuer not in without}
         self.held = [(x, s, history.until(x, last)) for x in kept for s in history.sightings(x, last)]
         self.listed = {x for x in kept if history.listed(x, last)}
         self.old_ledger = history.ledger(last)
-        self.part, self.ledger, self.line = rebased(self.old_ledger, moment)
+        self.part, self.ledger, self.line = rebased(self.old_ledger, moment, without)
 
     def enrolled(self):
         return self.issuers

@@ -211,11 +211,11 @@ def read_ledger(data):
     return ledger
 
 
-def rebase(name, data, moment):
-    """The status and the text of `rebase`, of a ledger's name and bytes, and what it writes: a part and its ledger, or
-    nothing."""
+def rebase(name, data, moment, without=()):
+    """The status and the text of `rebase`, or of `rebase-without` where issuers are named, of a ledger's name and
+    bytes, and what it writes: a part and its ledger, or nothing."""
     try:
-        part, ledger, line = rebased(read_ledger(data), moment)
+        part, ledger, line = rebased(read_ledger(data), moment, without)
     except Refused as refused:
         return refused.status, refused.line(name), []
     return 0, line + "\n", [part.bytes, ledger.bytes]

@@ -82,6 +82,7 @@ def files_and_runs():
     answers = [verdict(parts, *query) for query in QUERIES]
     made, made_line = sample(7, 1)
     base = Base(History(JOBS[:1]), T)
+    without = Base(History(JOBS[:1]), T, [K1])
     files = {
         "J0": JOBS[0].bytes(),
         "J1": JOBS[1].bytes(),
@@ -97,6 +98,11 @@ def files_and_runs():
         Run("rehearse /Q 1 /J0 /J1 /J2", reports + answers, {}),
         Run("snapshot /J0 /X /Y 1", reports[:1], {"X": parts[0].bytes, "Y": history.ledger(0).bytes}),
         Run(f"rebase /L {T} /X /Y 1", [base.line], {"X": base.part.bytes, "Y": base.ledger.bytes}),
+        Run(
+            f"rebase-without /L {T} /X /Y 1 {K1.hex()}",
+            [without.line],
+            {"X": without.part.bytes, "Y": without.ledger.bytes},
+        ),
         Run("start /P0 /X", ["store parts 1 epoch 1"], {"X": store(parts[:1])}),
         Run("install /S /P1 /X", ["store parts 2 epoch 2"], {"X": store(parts[:2])}),
         Run(f"query /S {K1.hex()} 05 {LA.hex()} {T}", ["good"], {}),

@@ -66,6 +66,7 @@ class World:
             "snapshot": Shape(4, 4, self.snapshot),
             "delta": Shape(5, 5, self.delta),
             "rebase": Shape(5, 5, self.rebase),
+            "rebase-without": Shape(6, 1029, self.rebase_without),
             "start": Shape(2, 2, self.start),
             "install": Shape(3, 3, self.install),
             "query": Shape(5, 131, self.query),
@@ -132,11 +133,14 @@ class World:
         admit(job, ledger.parts)
         self.publish(published(job, ledger), part, new)
 
-    def rebase(self, old: str, moment: str, part: str, new: str, count: str) -> None:
+    def rebase(self, old: str, moment: str, part: str, new: str, count: str, without: Sequence[bytes] = ()) -> None:
         at = words_of.number(moment)
         words_of.workers(count)
         words_of.apart([part, new], [old])
-        self.publish(Published(*rebased(read_ledger(self.fed(old)), at)), part, new)
+        self.publish(Published(*rebased(read_ledger(self.fed(old)), at, without)), part, new)
+
+    def rebase_without(self, old: str, moment: str, part: str, new: str, count: str, *issuers: str) -> None:
+        self.rebase(old, moment, part, new, count, words_of.keys(issuers, 1024))
 
     def publish(self, what: Published, part: str, ledger: str) -> None:
         """Writes a part and its ledger."""

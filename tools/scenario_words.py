@@ -41,6 +41,13 @@ def key(word: str) -> Key:
     return bytes.fromhex(word)
 
 
+def keys(words: Sequence[str], most: int) -> Sequence[Key]:
+    """One key or more, at most so many."""
+    if not 1 <= len(words) <= most:
+        raise Usage
+    return [key(word) for word in words]
+
+
 def number(word: str, least: int = 0, most: int = 2**64 - 1) -> int:
     """A number in these bounds."""
     if not re.fullmatch("[0-9]{1,20}", word) or not least <= int(word) <= most:

@@ -2,14 +2,15 @@
 
 from collections.abc import Callable
 
-from scenario_words import Usage, apart, identity, key, name, names, number, sightings, workers
+from scenario_words import Usage, apart, identity, key, keys, name, names, number, sightings, workers
 
 # The words behind a command: names of files that are read and written, a number, a key, a count of workers, and names
-# up to so many.
+# up to so many, or keys.
 SHAPES = {
     "snapshot": "read write write workers",
     "delta": "read read write write workers",
     "rebase": "read number write write workers",
+    "rebase-without": "read number write write workers keys",
     "start": "read write",
     "install": "read read write",
     "query-cert": "read read read",
@@ -31,6 +32,9 @@ def test_shape(shape: str, words: list[str]) -> None:
     for kind in shape.split():
         if kind.isdecimal():
             read += names(rest, int(kind))
+            rest = []
+        elif kind == "keys":
+            keys(rest, 1024)
             rest = []
         elif rest:
             tests[kind](rest.pop(0))

@@ -1,9 +1,11 @@
 -- What comes of `rebase` over the ledger of a history, and of `query` over the store of its base, from what the layers
 -- promise of bases.
-use Rattle.std.proofs.Common.{◌≡◌, ℕ, ◌≤◌, Bool, true, List, [], ◌∷◌, Result, Ok, Err, sym, ap, ◌∙◌, subst, arith}
+use Rattle.std.proofs.Common.{◌≡◌, ℕ, ◌≤◌, Bool, true, false, List, [], ◌∷◌, map, Result, Ok, Err, sym, ap, ◌∙◌, subst, arith}
+use Rattle.std.specs.List.{list_any}
 use Rattle.std.specs.Prelude.{if◌then◌else◌}
 use Rattle.ident_core.specs.declared.identity.Identity.{Identity}
 use Rattle.ident_core.specs.declared.range.Sighting.{Sighting}
+use Rattle.ident_core.specs.Coverage.{covers}
 use Rattle.ident_core.specs.HeadFields.{HeadFields}
 use Rattle.outside_core.specs.Files.{Files}
 use Rattle.part_text.specs.SealedFields.{SealedFields}
@@ -11,22 +13,26 @@ use Rattle.part_text.specs.PartText.{spelling}
 use Rattle.ledger_core.specs.LedgerFields.{LedgerFields}
 use Rattle.ledger_core.specs.LedgerText.{ledger_text}
 use Rattle.sets_core.specs.Among.{Among}
-use Rattle.sets_core.specs.Sets.{has}
+use Rattle.sets_core.specs.Sets.{has, has_key}
+use Rattle.sets_core.proofs.Elements.{Among-in_map, any_at}
 use Rattle.universe_core.specs.History.{Release, seen, sightings, is_listed}
 use Rattle.universe_core.specs.Ledgers.{ledger_of}
-use Rattle.history_core.specs.Bases.{kept_by, base_with, is_lasting_by, newest_epoch}
-use Rattle.card_core.specs.declared.verdict.Verdict.TheVariants.{Good, Revoked}
+use Rattle.history_core.specs.Bases.{kept_by, base_with, base_head, releases_without, is_lasting_by, newest_epoch}
+use Rattle.card_core.specs.declared.verdict.Verdict.{Verdict}
+use Rattle.card_core.specs.declared.verdict.Verdict.TheVariants.{NotCovered, NotEnrolled, Good, Revoked}
+use Rattle.card_core.specs.Consulting.{covers_some}
+use Rattle.card_core.specs.Verdict.{verdict}
 use Rattle.publication_core.specs.declared.base_fault.BaseFault.{BaseFault}
-use Rattle.publication_core.specs.Histories.{History, members, IsHistory, IsRebasable, history}
+use Rattle.publication_core.specs.Histories.{History, members, IsHistory, history, LeavesOut}
 use Rattle.publication_core.specs.Rebasing.{PublishedBase, PublishesBase, base_counts}
 use Rattle.word_core.specs.declared.command.Command.{Command}
 use Rattle.word_core.specs.CommandFields.{QueryFields, RebaseFields}
 use Rattle.line_core.specs.Lines.{line}
 use Rattle.clubcard_top.specs.ReplyFields.{Done, NamedFault}
-use Rattle.clubcard_top.specs.Commands.{only, verdict_word, Makes}
+use Rattle.clubcard_top.specs.Commands.{only, verdict_word, query_done, Makes}
 use Rattle.clubcard_top.specs.Rebasings.{base_line, base_done, rebased_as, MakesBase, MakesRebase}
 use Rattle.clubcard_top.specs.Replies.{held_by}
-use Rattle.clubcard_top.specs.Headline.{RebasesHistory, IsRebased, base_of, IsKept, AsksBase, AsksHistory, truth_line, truth_done}
+use Rattle.clubcard_top.specs.Headline.{RebasesHistory, IsRebased, IsRebasableWithout, base_of, IsKept, AsksBase, AsksStore, AsksHistory, AsksLeftOut, truth_line, truth_done}
 use Rattle.clubcard_top.proofs.Made.{ReadBack, ledger_input}
 use Rattle.clubcard_top.proofs.Results.{ok_same}
 use Rattle.clubcard_top.proofs.Unique.{OneBase}
@@ -35,16 +41,17 @@ use Rattle.clubcard_top.proofs.Unique.{OneBase}
 pub record BaseLayers : Type 0 where
   pub ledgers : ReadBack
   pub one : OneBase
-  pub rebasable : (h : History) (parts : List SealedFields) (moment : ℕ) (p : PublishedBase) → IsHistory h parts → 1 ≤ members h
-      → PublishesBase (ledger_of (history h parts)) moment (Ok p) → IsRebasable moment (history h parts)
-  pub begins : (h : History) (parts : List SealedFields) (moment : ℕ) (p : PublishedBase) → IsHistory h parts → 1 ≤ members h
-      → PublishesBase (ledger_of (history h parts)) moment (Ok p) → IsHistory (base_of h parts moment) (p.sealed ∷ [])
-  pub ledger : (h : History) (parts : List SealedFields) (moment : ℕ) (p : PublishedBase) → IsHistory h parts
-      → PublishesBase (ledger_of (history h parts)) moment (Ok p) → p.ledger ≡ ledger_of (history (base_of h parts moment) (p.sealed ∷ []))
-  pub numbers : (h : History) (parts : List SealedFields) (moment : ℕ) (p : PublishedBase) → IsHistory h parts
-      → PublishesBase (ledger_of (history h parts)) moment (Ok p) → p.counts ≡ base_counts moment (history h parts)
-  pub complete : (h : History) (parts : List SealedFields) (moment : ℕ) → IsHistory h parts → IsRebasable moment (history h parts)
-      → (p : PublishedBase) × PublishesBase (ledger_of (history h parts)) moment (Ok p)
+  pub rebasable : (h : History) (parts : List SealedFields) (moment : ℕ) (without : List (List ℕ)) (p : PublishedBase) → IsHistory h parts → 1 ≤ members h
+      → PublishesBase (ledger_of (history h parts)) moment without (Ok p) → IsRebasableWithout moment without h parts
+  pub begins : (h : History) (parts : List SealedFields) (moment : ℕ) (without : List (List ℕ)) (p : PublishedBase) → IsHistory h parts → 1 ≤ members h
+      → PublishesBase (ledger_of (history h parts)) moment without (Ok p) → IsHistory (base_of h parts moment without) (p.sealed ∷ [])
+  pub ledger : (h : History) (parts : List SealedFields) (moment : ℕ) (without : List (List ℕ)) (p : PublishedBase) → IsHistory h parts
+      → PublishesBase (ledger_of (history h parts)) moment without (Ok p) → p.ledger ≡ ledger_of (history (base_of h parts moment without) (p.sealed ∷ []))
+  pub numbers : (h : History) (parts : List SealedFields) (moment : ℕ) (without : List (List ℕ)) (p : PublishedBase) → IsHistory h parts
+      → PublishesBase (ledger_of (history h parts)) moment without (Ok p) → p.counts ≡ base_counts moment without (history h parts)
+  pub head : (without : List (List ℕ)) (rs : List Release) → base_head (releases_without without rs) ≡ base_head rs
+  pub complete : (h : History) (parts : List SealedFields) (moment : ℕ) (without : List (List ℕ)) → IsHistory h parts → IsRebasableWithout moment without h parts
+      → (p : PublishedBase) × PublishesBase (ledger_of (history h parts)) moment without (Ok p)
 
 -- ---- rebasing
 
@@ -57,18 +64,18 @@ module _ (layers : BaseLayers) where
       (subst (λ (c : Command). Makes c (held_by c files) o) p.0 m)
 
   rebased_by : (r : RebaseFields) (h : History) (parts : List SealedFields) (d : Done) → IsHistory h parts → 1 ≤ members h → (x : Result PublishedBase BaseFault)
-      → PublishesBase (ledger_of (history h parts)) r.moment x → Ok d ≡ rebased_as r x → IsRebased r h parts d
+      → PublishesBase (ledger_of (history h parts)) r.moment r.without x → Ok d ≡ rebased_as r x → IsRebased r h parts d
   rebased_by r h parts d is some (Ok p) publishes is_done =
       let same : d ≡ base_done r p = ok_same {E = NamedFault} d (base_done r p) is_done in
-      let begins : IsHistory (base_of h parts r.moment) (p.sealed ∷ []) = layers.begins h parts r.moment p is some publishes in
+      let begins : IsHistory (base_of h parts r.moment r.without) (p.sealed ∷ []) = layers.begins h parts r.moment r.without p is some publishes in
       record {
         sealed = p.sealed;
-        rebasable = layers.rebasable h parts r.moment p is some publishes;
+        rebasable = layers.rebasable h parts r.moment r.without p is some publishes;
         is_history = begins;
         outputs = ap (λ (e : Done). e.outputs) same ∙ ap (λ (l : LedgerFields).
-            record { name = r.part; bytes = spelling p.sealed } ∷ record { name = r.new_ledger; bytes = ledger_text l } ∷ []) (layers.ledger h parts r.moment p is publishes);
-        text = ap (λ (e : Done). e.text) same ∙ ap (λ (head : HeadFields). base_line head.epoch p.counts) begins.2.head_is
-            ∙ ap (base_line (newest_epoch 0 (history h parts))) (layers.numbers h parts r.moment p is publishes);
+            record { name = r.part; bytes = spelling p.sealed } ∷ record { name = r.new_ledger; bytes = ledger_text l } ∷ []) (layers.ledger h parts r.moment r.without p is publishes);
+        text = ap (λ (e : Done). e.text) same ∙ ap (λ (head : HeadFields). base_line r.without head.epoch p.counts) (begins.2.head_is ∙ layers.head r.without (history h parts))
+            ∙ ap (base_line r.without (newest_epoch 0 (history h parts))) (layers.numbers h parts r.moment r.without p is publishes);
       }
   rebased_by r h parts d is some (Err fault) publishes is_done =
       absurd (let g : ◌≡◌ {A = Result Done NamedFault} (Ok d) (rebased_as r (Err fault)) = is_done in cc)
@@ -79,17 +86,17 @@ module _ (layers : BaseLayers) where
       let x = made asked files r h parts (Ok d) is p m in
       rebased_by r h parts d is p.1 x.result x.publishes x.is
 
-  done_by : (r : RebaseFields) (before : LedgerFields) (o : Result Done NamedFault) (p : PublishedBase) → PublishesBase before r.moment (Ok p) → (x : Result PublishedBase BaseFault)
-      → PublishesBase before r.moment x → o ≡ rebased_as r x → (d : Done) × (o ≡ Ok d)
+  done_by : (r : RebaseFields) (before : LedgerFields) (o : Result Done NamedFault) (p : PublishedBase) → PublishesBase before r.moment r.without (Ok p) → (x : Result PublishedBase BaseFault)
+      → PublishesBase before r.moment r.without x → o ≡ rebased_as r x → (d : Done) × (o ≡ Ok d)
   done_by r before o p can (Ok q) publishes is = (base_done r q, is)
   done_by r before o p can (Err fault) publishes is =
-      absurd (let g : ◌≡◌ {A = Result PublishedBase BaseFault} (Ok p) (Err fault) = layers.one before r.moment (Ok p) (Err fault) can publishes in cc)
+      absurd (let g : ◌≡◌ {A = Result PublishedBase BaseFault} (Ok p) (Err fault) = layers.one before r.moment r.without (Ok p) (Err fault) can publishes in cc)
 
   pub rebasable_law : (asked : Command) (files : Files) (r : RebaseFields) (h : History) (parts : List SealedFields) (o : Result Done NamedFault) → IsHistory h parts
-      → RebasesHistory asked files r h parts → IsRebasable r.moment (history h parts) → Makes asked (held_by asked files) o → (d : Done) × (o ≡ Ok d)
+      → RebasesHistory asked files r h parts → IsRebasableWithout r.moment r.without h parts → Makes asked (held_by asked files) o → (d : Done) × (o ≡ Ok d)
   rebasable_law asked files r h parts o is p may m =
       let x = made asked files r h parts o is p m in
-      let can = layers.complete h parts r.moment is may in
+      let can = layers.complete h parts r.moment r.without is may in
       done_by r (ledger_of (history h parts)) o can.0 can.1 x.result x.publishes x.is
 
 -- ---- asking the store of the base
@@ -100,29 +107,60 @@ pub record Keeping : Type 0 where
       → sightings x (seen (base_with keeps rs trailer ∷ [])) ≡ sightings x (seen rs)
   pub listing_kept : (keeps : Identity → Bool) (rs : List Release) (trailer : List ℕ) (x : Identity) → has (kept_by keeps rs) x ≡ true
       → is_listed (base_with keeps rs trailer ∷ []) x ≡ is_listed rs x
+  pub sightings_left : (without : List (List ℕ)) (rs : List Release) (x : Identity) → has_key without x.issuer ≡ false
+      → sightings x (seen (releases_without without rs)) ≡ sightings x (seen rs)
+  pub listing_left : (without : List (List ℕ)) (rs : List Release) (x : Identity) → has_key without x.issuer ≡ false → is_listed (releases_without without rs) x ≡ is_listed rs x
+  pub left_kept : (moment : ℕ) (without : List (List ℕ)) (rs : List Release) (x : Identity) → has_key without x.issuer ≡ false
+      → has (kept_by (is_lasting_by moment (releases_without without rs)) (releases_without without rs)) x ≡ has (kept_by (is_lasting_by moment rs) rs) x
   pub asked : (command : Command) (files : Files) (q : QueryFields) (h : History) (parts : List SealedFields) (o : Result Done NamedFault)
       → IsHistory h parts → AsksHistory command files q h parts → Makes command (held_by command files) o → o ≡ Ok (truth_done h parts q)
 
 module _ (keeping : Keeping) where
-  pub kept_law : (h : History) (parts : List SealedFields) (moment : ℕ) (s : SealedFields) (q : QueryFields) → IsKept moment (history h parts) q.id
-      → (sightings q.id (seen (history (base_of h parts moment) (s ∷ []))) ≡ sightings q.id (seen (history h parts)))
-      × (truth_line (base_of h parts moment) (s ∷ []) q ≡ truth_line h parts q)
-  kept_law h parts moment s q kept =
-      let keeps = is_lasting_by moment (history h parts) in (
-        keeping.sightings_kept keeps (history h parts) s.trailer q.id kept,
-        ap (λ (b : Bool). line (verdict_word (if b then Revoked else Good))) (keeping.listing_kept keeps (history h parts) s.trailer q.id kept),
+  pub kept_law : (h : History) (parts : List SealedFields) (moment : ℕ) (without : List (List ℕ)) (s : SealedFields) (q : QueryFields) → IsKept moment (history h parts) q.id
+      → has_key without q.id.issuer ≡ false → (sightings q.id (seen (history (base_of h parts moment without) (s ∷ []))) ≡ sightings q.id (seen (history h parts)))
+      × (truth_line (base_of h parts moment without) (s ∷ []) q ≡ truth_line h parts q)
+  kept_law h parts moment without s q kept other =
+      let rest : List Release = releases_without without (history h parts) in
+      let keeps = is_lasting_by moment rest in
+      let stays : has (kept_by keeps rest) q.id ≡ true = keeping.left_kept moment without (history h parts) q.id other ∙ kept in (
+        keeping.sightings_kept keeps rest s.trailer q.id stays ∙ keeping.sightings_left without (history h parts) q.id other,
+        ap (λ (b : Bool). line (verdict_word (if b then Revoked else Good))) (keeping.listing_kept keeps rest s.trailer q.id stays ∙ keeping.listing_left without (history h parts) q.id other),
       )
 
-  pub base_asked : (command : Command) (files : Files) (q : QueryFields) (h : History) (parts : List SealedFields) (moment : ℕ) (s : SealedFields) (o : Result Done NamedFault)
-      → IsHistory (base_of h parts moment) (s ∷ []) → AsksBase command files q h parts moment s
+  pub base_asked : (command : Command) (files : Files) (q : QueryFields) (h : History) (parts : List SealedFields) (moment : ℕ) (without : List (List ℕ)) (s : SealedFields)
+      (o : Result Done NamedFault) → IsHistory (base_of h parts moment without) (s ∷ []) → AsksBase command files q h parts moment without s
       → Makes command (held_by command files) o → o ≡ Ok (truth_done h parts q)
-  base_asked command files q h parts moment s o is a m =
-      let k = kept_law h parts moment s q a.1 in
-      let again : AsksHistory command files q (base_of h parts moment) (s ∷ []) = (
+  base_asked command files q h parts moment without s o is a m =
+      let k = kept_law h parts moment without s q a.1 a.2 in
+      let again : AsksHistory command files q (base_of h parts moment without) (s ∷ []) = (
         a.0,
         omega arith,
-        a.2,
         a.3,
-        λ t among. subst (λ (ts : List Sighting). Among ts t) (sym k.0) (a.4 t among),
+        a.4,
+        λ t among. subst (λ (ts : List Sighting). Among ts t) (sym k.0) (a.5 t among),
       ) in
-      keeping.asked command files q (base_of h parts moment) (s ∷ []) o is again m ∙ ap (λ (text : List ℕ). Ok (only text)) k.1
+      keeping.asked command files q (base_of h parts moment without) (s ∷ []) o is again m ∙ ap (λ (text : List ℕ). Ok (only text)) k.1
+
+-- ---- asking for what a base leaves out
+
+-- What the parts of a history say of an issuer that its base leaves out, and what a query of its store says.
+pub record Leaving : Type 0 where
+  pub unenrolled : (h : History) (parts : List SealedFields) (x : Identity) (ss : List Sighting) → IsHistory h parts → LeavesOut h x.issuer
+      → verdict (map (λ t. t.part) parts) x ss ≡ (if list_any (covers_some ss) (map (λ t. t.part) parts) then NotEnrolled else NotCovered)
+  pub told : (command : Command) (files : Files) (q : QueryFields) (h : History) (parts : List SealedFields) (o : Result Done NamedFault)
+      → IsHistory h parts → AsksStore command files q h parts → Makes command (held_by command files) o → o ≡ Ok (query_done q parts)
+
+module _ (leaving : Leaving) where
+  some_cover : (ss : List Sighting) (parts : List SealedFields) (s : Sighting) (t : SealedFields) → Among ss s → Among parts t → covers t.part.head.ranges s ≡ true
+      → list_any (covers_some ss) (map (λ t. t.part) parts) ≡ true
+  some_cover ss parts s t a b c =
+      any_at (covers_some ss) (map (λ (t : SealedFields). t.part) parts) t.part (Among-in_map (λ (t : SealedFields). t.part) parts t b)
+      (any_at (covers t.part.head.ranges) ss s a c)
+
+  pub left_out_law : (command : Command) (files : Files) (q : QueryFields) (h : History) (parts : List SealedFields) (o : Result Done NamedFault)
+      → IsHistory h parts → AsksLeftOut command files q h parts → Makes command (held_by command files) o → o ≡ Ok (only (line (verdict_word NotEnrolled)))
+  left_out_law command files q h parts o is a m =
+      let n = a.4 in
+      leaving.told command files q h parts o is (a.0, a.1, a.2) m
+      ∙ ap (λ (v : Verdict). Ok (only (line (verdict_word v))))
+      (leaving.unenrolled h parts q.id q.sightings is a.3 ∙ ap (λ (b : Bool). if b then NotEnrolled else NotCovered) (some_cover q.sightings parts n.0 n.1 n.2 n.3 n.4))

@@ -48,7 +48,7 @@ use Rattle.clubcard_top.proofs.Rehearsed.{job_value}
 -- fits, and one that is published goes on with the history.
 pub record Existence : Type 0 where
   pub something : (ledger : LedgerFields) (job : JobFields) → (o : Result Published PublishFault) × Publishes ledger job o
-  pub rebases : (ledger : LedgerFields) (moment : ℕ) → (o : Result PublishedBase BaseFault) × PublishesBase ledger moment o
+  pub rebases : (ledger : LedgerFields) (moment : ℕ) (without : List (List ℕ)) → (o : Result PublishedBase BaseFault) × PublishesBase ledger moment without o
   pub fits : (limits : Limits) (bytes : List ℕ) (job : JobFields) → IsBytes bytes → limits.ranges ≤ 1024 → job_of limits bytes ≡ Ok job → FitsFields job
   pub within : (limits : Limits) (bytes : List ℕ) (job : JobFields) → IsBytes bytes → job_of limits bytes ≡ Ok job → IsWithinLimits limits job
   pub next : (h : History) (parts : List SealedFields) (job : JobFields) (p : Published) → IsHistory h parts → FitsPublishing job → IsWithinLimits PUBLISHED job
@@ -85,7 +85,7 @@ module _ (layers : Existence) where
 
   rebase_made : (b : RebaseFields) (l : Result LedgerFields NamedFault) → (o : Result Done NamedFault) × MakesRebase b l o
   rebase_made b (Ok l) =
-      let r = layers.rebases l b.moment in
+      let r = layers.rebases l b.moment b.without in
       (rebased_as b r.0, record { result = r.0; publishes = r.1; is = refl })
   rebase_made b (Err e) = (Err e, refl)
 

@@ -56,7 +56,7 @@ use Rattle.clubcard_top.specs.ReplyFields.{Done, NamedFault}
 use Rattle.clubcard_top.specs.Commands.{◌>>=◌, named, input, only, verdict_word, query_done, query_makes, query_cert_makes, epoch_of, stored, begun_by, installed_by, start_makes}
 use Rattle.clubcard_top.specs.Commands.{install_makes, publication_done, published_as, MakesPart, MakesSnapshot, MakesDelta, Makes}
 use Rattle.clubcard_top.specs.Replies.{held_by}
-use Rattle.clubcard_top.specs.Headline.{HoldsJob, HoldsLedger, PublishesJob, publishes_to, IsPublished, StoresPart, stores_to, IsStored, AsksHistory, truth_done}
+use Rattle.clubcard_top.specs.Headline.{HoldsJob, HoldsLedger, PublishesJob, publishes_to, IsPublished, StoresPart, stores_to, IsStored, AsksStore, AsksHistory, truth_done}
 use Rattle.clubcard_top.specs.Headline.{HoldsCert, HoldsKey, AsksCert, cert_truth_line}
 use Rattle.clubcard_top.proofs.CertTruth.{certificate_read, issuer_read, truth_of_covered}
 use Rattle.clubcard_top.proofs.Makings.{cert_last, cert_then, cert_after}
@@ -292,20 +292,19 @@ module _ (layers : Layers) where
   some_parts : (h : History) (parts : List SealedFields) → IsHistory h parts → 1 ≤ members h → 1 ≤ length parts
   some_parts h parts is some = omega (arith, layers.many h parts is, some)
 
-  query_asked : (q : QueryFields) (files : Files) (h : History) (parts : List SealedFields) (o : Result Done NamedFault) → IsHistory h parts
-      → 1 ≤ members h → get files q.store ≡ Some (store_bytes parts)
-      → 1 ≤ length q.sightings → ((s : Sighting) → Among q.sightings s → Among (sightings q.id (seen (history h parts))) s)
-      → o ≡ query_makes q (get files q.store) → o ≡ Ok (truth_done h parts q)
-  query_asked q files h parts o is some held asked accepted m =
-      m ∙ ap (λ (r : Result (List SealedFields) NamedFault). r >>= (λ ps. Ok (query_done q ps)))
-      (store_input files q.store parts (layers.chain h parts is) (some_parts h parts is some) (layers.few h parts is) (layers.texts h parts is) held)
-      ∙ ap (λ (v : Verdict). Ok (only (line (verdict_word v)))) (layers.truths h parts q.id q.sightings is asked accepted)
+  pub told_law : (asked : Command) (files : Files) (q : QueryFields) (h : History) (parts : List SealedFields) (o : Result Done NamedFault)
+      → IsHistory h parts → AsksStore asked files q h parts → Makes asked (held_by asked files) o → o ≡ Ok (query_done q parts)
+  told_law asked files q h parts o is p m =
+      let made : o ≡ query_makes q (get files q.store) = subst (λ (c : Command). Makes c (held_by c files) o) p.0 m in
+      made ∙ ap (λ (r : Result (List SealedFields) NamedFault). r >>= (λ ps. Ok (query_done q ps)))
+      (store_input files q.store parts (layers.chain h parts is) (some_parts h parts is p.1) (layers.few h parts is) (layers.texts h parts is) p.2)
 
   pub asked_law : (asked : Command) (files : Files) (q : QueryFields) (h : History) (parts : List SealedFields) (o : Result Done NamedFault)
       → IsHistory h parts → AsksHistory asked files q h parts
       → Makes asked (held_by asked files) o → o ≡ Ok (truth_done h parts q)
   asked_law asked files q h parts o is p m =
-      query_asked q files h parts o is p.1 p.2 p.3 p.4 (subst (λ (c : Command). Makes c (held_by c files) o) p.0 m)
+      told_law asked files q h parts o is (p.0, p.1, p.2) m
+      ∙ ap (λ (v : Verdict). Ok (only (line (verdict_word v)))) (layers.truths h parts q.id q.sightings is p.3 p.4)
 
   -- ---- asking with a certificate
 

@@ -6,16 +6,20 @@ use Rattle.ident_core.specs.declared.identity.Identity.{Identity}
 use Rattle.ident_core.specs.declared.range.Sighting.{Sighting}
 use Rattle.query_core.specs.Queries.{Query}
 use Rattle.job_core.specs.JobFields.{JobFields}
+use Rattle.card_core.specs.declared.verdict.Verdict.TheVariants.{NotEnrolled}
+use Rattle.sets_core.specs.Among.{Among}
 use Rattle.universe_core.specs.Formats.{in_format}
+use Rattle.universe_core.specs.Jobs.{Entry}
+use Rattle.universe_core.specs.History.{seen}
 use Rattle.part_text.specs.SealedFields.{SealedFields}
 use Rattle.publication_core.specs.Formats.{current}
-use Rattle.publication_core.specs.Histories.{IsAdmissible, IsRebasable, History, with_job, chain, IsHistory, history, part_bytes, store_bytes, ledger_bytes}
+use Rattle.publication_core.specs.Histories.{IsAdmissible, History, with_job, chain, IsHistory, history, LeavesOut, part_bytes, store_bytes, ledger_bytes}
 use Rattle.word_core.specs.declared.command.Command.{Command}
 use Rattle.word_core.specs.declared.command.Command.TheVariants as commands
 use Rattle.word_core.specs.CommandFields.{QueryFields, QueryCertFields, RebaseFields, RehearseFields}
-use Rattle.line_core.specs.Lines.{store_line}
+use Rattle.line_core.specs.Lines.{line, store_line}
 use Rattle.clubcard_top.specs.ReplyFields.{OutputFields, Done, NamedFault}
-use Rattle.clubcard_top.specs.Commands.{only, epoch_of}
+use Rattle.clubcard_top.specs.Commands.{only, epoch_of, verdict_word}
 use Rattle.clubcard_top.specs.Commands.{rehearsed, Makes}
 use Rattle.clubcard_top.specs.Replies.{held_by}
 use Rattle.clubcard_top.specs.Runs.{with_outputs}
@@ -26,7 +30,7 @@ use Rattle.clubcard_top.specs.Headline.{StoresPart, publishes_to, stores_to, tru
 use Rattle.clubcard_top.specs.Headline.{AsksToPublish, AsksToStore, AsksTruth, AsksToRehearse}
 use Rattle.clubcard_top.specs.Headline.{AsksCert, AsksCertTruth, cert_truth_line}
 use Rattle.clubcard_top.specs.Headline.{part_name, ledger_name, store_name}
-use Rattle.clubcard_top.specs.Headline.{RebasesHistory, IsRebased, Rebased, AsksToRebase, base_of, AsksBase, AsksTheBase}
+use Rattle.clubcard_top.specs.Headline.{RebasesHistory, IsRebased, Rebased, AsksToRebase, IsRebasableWithout, base_of, AsksBase, AsksTheBase, AsksLeftOut, AsksOfLeftOut, Brings}
 use Rattle.clubcard_top.specs.Promises.{Successes, Histories}
 use Rattle.clubcard_top.proofs.Results.{ok_same}
 use Rattle.clubcard_top.proofs.Promised.{EndsOld, answers, sure}
@@ -64,11 +68,17 @@ module _ (call : Call) where
         → Makes call.asked (held_by call.asked files) (Ok d) → IsRebased r h parts d
     pub rebasable : (files : Files) (r : RebaseFields) (h : History) (parts : List SealedFields)
         (o : Result Done NamedFault) → IsHistory h parts → RebasesHistory call.asked files r h parts
-        → IsRebasable r.moment (history h parts) → Makes call.asked (held_by call.asked files) o → (d : Done) × (o ≡ Ok d)
+        → IsRebasableWithout r.moment r.without h parts → Makes call.asked (held_by call.asked files) o → (d : Done) × (o ≡ Ok d)
     pub keeps : (files : Files) (q : QueryFields) (h : History) (parts : List SealedFields) (moment : ℕ)
-        (s : SealedFields) (o : Result Done NamedFault) → IsHistory (base_of h parts moment) (s ∷ [])
-        → AsksBase call.asked files q h parts moment s
+        (without : List (List ℕ)) (s : SealedFields) (o : Result Done NamedFault)
+        → IsHistory (base_of h parts moment without) (s ∷ []) → AsksBase call.asked files q h parts moment without s
         → Makes call.asked (held_by call.asked files) o → o ≡ Ok (truth_done h parts q)
+    pub leaves : (files : Files) (q : QueryFields) (h : History) (parts : List SealedFields)
+        (o : Result Done NamedFault) → IsHistory h parts → AsksLeftOut call.asked files q h parts
+        → Makes call.asked (held_by call.asked files) o → o ≡ Ok (only (line (verdict_word NotEnrolled)))
+    pub comes_back : (h : History) (parts : List SealedFields) (job : JobFields) (s : SealedFields) (e : Entry)
+        → IsHistory h parts → LeavesOut h e.id.issuer → Brings job e
+        → Among (seen (history (with_job h (in_format current job)) (parts ++ s ∷ []))) e
     pub follows : (files : Files) (queries : List Query) (jobs : List JobFields) (parts : List SealedFields)
         (o : Result Done NamedFault) → IsHistory (chain jobs) parts → RehearsesJobs call.asked files queries jobs
         → Makes call.asked (held_by call.asked files) o → o ≡ Ok (rehearsed queries jobs parts)
@@ -153,7 +163,7 @@ module _ (call : Call) where
         let a = answers call ends files told zero in
         let l = laws.rebases files r h parts a.done is_history p a.makes in
         let part = part_bytes l.sealed in
-        let ledger = ledger_bytes (base_of h parts r.moment) (l.sealed ∷ []) in
+        let ledger = ledger_bytes (base_of h parts r.moment r.without) (l.sealed ∷ []) in
         let kept = a.files_are ∙ ap (with_outputs (Some files)) l.outputs in
         let two = two_held files r.part r.new_ledger part ledger call.files_after (succeeded.apart_at call apart (commands.Rebase r) p.0) kept in
         record {
@@ -167,7 +177,7 @@ module _ (call : Call) where
         }
 
     rebasable : (r : RebaseFields) (h : History) (parts : List SealedFields) → IsHistory h parts
-        → AsksToRebase call r h parts → IsRebasable r.moment (history h parts) → NoFault call
+        → AsksToRebase call r h parts → IsRebasableWithout r.moment r.without h parts → NoFault call
         → Succeeds call ⊎ WantedMemory call
     rebasable r h parts is_history (files, told, p) may quiet =
         sure call ends files told (λ none. let g : commands.Rebase r ≡ commands.Usage = sym p.0 ∙ none in cc)
@@ -198,13 +208,20 @@ module _ (call : Call) where
         succeeded.prints call a.done (truth_done h parts q)
         (ok_same {E = NamedFault} a.done (truth_done h parts q) (laws.asks files q h parts (Ok a.done) is_history p a.makes)) a.written
 
-    kept_clause : (q : QueryFields) (h : History) (parts : List SealedFields) (moment : ℕ) (s : SealedFields)
-        → IsHistory (base_of h parts moment) (s ∷ []) → AsksTheBase call q h parts moment s → Succeeds call
-        → Prints call (truth_line h parts q)
-    kept_clause q h parts moment s is_history (files, told, p) zero =
+    kept_clause : (q : QueryFields) (h : History) (parts : List SealedFields) (moment : ℕ) (without : List (List ℕ))
+        (s : SealedFields) → IsHistory (base_of h parts moment without) (s ∷ [])
+        → AsksTheBase call q h parts moment without s → Succeeds call → Prints call (truth_line h parts q)
+    kept_clause q h parts moment without s is_history (files, told, p) zero =
         let a = answers call ends files told zero in
         succeeded.prints call a.done (truth_done h parts q)
-        (ok_same {E = NamedFault} a.done (truth_done h parts q) (laws.keeps files q h parts moment s (Ok a.done) is_history p a.makes)) a.written
+        (ok_same {E = NamedFault} a.done (truth_done h parts q) (laws.keeps files q h parts moment without s (Ok a.done) is_history p a.makes)) a.written
+
+    left_out_clause : (q : QueryFields) (h : History) (parts : List SealedFields) → IsHistory h parts
+        → AsksOfLeftOut call q h parts → Succeeds call → Prints call (line (verdict_word NotEnrolled))
+    left_out_clause q h parts is_history (files, told, p) zero =
+        let a = answers call ends files told zero in
+        let said = only (line (verdict_word NotEnrolled)) in
+        succeeded.prints call a.done said (ok_same {E = NamedFault} a.done said (laws.leaves files q h parts (Ok a.done) is_history p a.makes)) a.written
 
     answered : (q : QueryFields) (h : History) (parts : List SealedFields) → IsHistory h parts
         → AsksTruth call q h parts → NoFault call → Succeeds call ⊎ WantedMemory call
@@ -245,6 +262,8 @@ module _ (call : Call) where
       truth = truth_clause;
       answered = answered;
       kept = kept_clause;
+      left_out = left_out_clause;
+      comes_back = λ h parts job e is left b p. laws.comes_back h parts job p.sealed e is left b;
       cert_truth = cert_truth;
       cert_answered = cert_answered;
       followed = followed;

@@ -187,11 +187,11 @@ publishes_err before j (publish.SeedsExhausted issuer stage) h refute = h
 publishes_err before j publish.NoMemory h refute = absurd (refute refl)
 
 -- and one of a rebase
-base_err : (before : LedgerFields) (moment : ℕ) (fault : BaseFault) → PublishesBaseUnless before moment (Err fault) → (of_rebasing fault ≡ faults.NoMemory → ⊥)
-    → PublishesBase before moment (Err fault)
-base_err before moment (bases.TooMany what limit) h refute = h
-base_err before moment (bases.SeedsExhausted issuer stage) h refute = h
-base_err before moment bases.NoMemory h refute = absurd (refute refl)
+base_err : (before : LedgerFields) (moment : ℕ) (without : List (List ℕ)) (fault : BaseFault) → PublishesBaseUnless before moment without (Err fault)
+    → (of_rebasing fault ≡ faults.NoMemory → ⊥) → PublishesBase before moment without (Err fault)
+base_err before moment without (bases.TooMany what limit) h refute = h
+base_err before moment without (bases.SeedsExhausted issuer stage) h refute = h
+base_err before moment without bases.NoMemory h refute = absurd (refute refl)
 
 module _ (told : Option Files) (failed : Option (List ℕ) → Type 0) (r : Result Answer NoMemory) where
   pub snapshot_not : {B : Type 0} (s : SnapshotFields) (view : B → JobFields) (x : B) (fault : PublishFault) → IsInput told failed s.job job_in view (Ok x)
@@ -216,18 +216,18 @@ module _ (told : Option Files) (failed : Option (List ℕ) → Type 0) (r : Resu
   rebase_step b l given o gives m = subst (λ (x : Result LedgerFields FileFault). MakesRebase b (named b.ledger x) o) (sym gives) m
 
   pub rebase_made : {B : Type 0} (b : RebaseFields) (view : B → LedgerFields) (x : B) (p : PublishedBase) → IsInput told failed b.ledger ledger_in view (Ok x)
-      → PublishesBaseUnless (view x) b.moment (Ok p) → IfOk r (λ a. reply_fields a ≡ done (base_done b p)) → IfOk r (λ a. IsReply (commands.Rebase b) told failed (reply_fields a))
+      → PublishesBaseUnless (view x) b.moment b.without (Ok p) → IfOk r (λ a. reply_fields a ≡ done (base_done b p)) → IfOk r (λ a. IsReply (commands.Rebase b) told failed (reply_fields a))
   rebase_made b view x p (given, read, gives, blamed) publishes is =
       made (commands.Rebase b) told failed (given ∷ []) (Ok (base_done b p)) r (read, tt) (none_failed failed b.ledger faults.Unread x blamed)
       (rebase_step b (view x) given (Ok (base_done b p)) gives (record { result = Ok p; publishes = publishes; is = refl })) is
 
   pub rebase_not : {B : Type 0} (b : RebaseFields) (view : B → LedgerFields) (x : B) (fault : BaseFault) → IsInput told failed b.ledger ledger_in view (Ok x)
-      → PublishesBaseUnless (view x) b.moment (Err fault) → (of_rebasing fault ≡ faults.NoMemory → IsErr r) → IfOk r (λ a. reply_fields a ≡ refusal b.ledger (of_rebasing fault))
+      → PublishesBaseUnless (view x) b.moment b.without (Err fault) → (of_rebasing fault ≡ faults.NoMemory → IsErr r) → IfOk r (λ a. reply_fields a ≡ refusal b.ledger (of_rebasing fault))
       → IfOk r (λ a. IsReply (commands.Rebase b) told failed (reply_fields a))
   rebase_not b view x fault (given, read, gives, blamed) publishes memory is =
       made_unless (commands.Rebase b) told failed (given ∷ []) b.ledger (of_rebasing fault) r (read, tt) (inl (none_failed failed b.ledger faults.Unread x blamed))
       (λ refute. rebase_step b (view x) given (Err (record { name = b.ledger; fault = of_rebasing fault })) gives
-      (record { result = Err fault; publishes = base_err (view x) b.moment fault publishes refute; is = refl })) memory is
+      (record { result = Err fault; publishes = base_err (view x) b.moment b.without fault publishes refute; is = refl })) memory is
 
 -- ---- commands of two inputs
 

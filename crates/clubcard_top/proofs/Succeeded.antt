@@ -161,8 +161,8 @@ rebase_ok r (Ok before) d m = (before, refl, m)
 rebase_ok r (Err e) d m = absurd (not_fault d e (sym m))
 
 based_ok : (r : RebaseFields) (before : LedgerFields) (x : Result PublishedBase BaseFault) (d : Done)
-    → PublishesBase before r.moment x → Ok d ≡ rebased_as r x
-    → (p : PublishedBase) × IsBasePublication before r.moment p × (d ≡ base_done r p)
+    → PublishesBase before r.moment r.without x → Ok d ≡ rebased_as r x
+    → (p : PublishedBase) × IsBasePublication before r.moment r.without p × (d ≡ base_done r p)
 based_ok r before (Ok p) d is h = (p, is, ok_same {E = NamedFault} d (base_done r p) h)
 based_ok r before (Err fault) d is h =
     absurd (not_fault d (record { name = r.ledger; fault = of_rebasing fault }) (sym h))
@@ -205,7 +205,8 @@ abbrev pub Publishable : Type 0
 Publishable = (before : LedgerFields) (job : JobFields) → CanBePublished before job → (made : Publication) × Publishes before job (Ok made)
 
 abbrev pub Rebasable : Type 0
-Rebasable = (before : LedgerFields) (moment : ℕ) → CanBeRebased before moment → (made : PublishedBase) × PublishesBase before moment (Ok made)
+Rebasable = (before : LedgerFields) (moment : ℕ) (without : List (List ℕ)) → CanBeRebased before moment without
+    → (made : PublishedBase) × PublishesBase before moment without (Ok made)
 
 -- ---- each command
 
@@ -367,14 +368,14 @@ module _ (call : Call) where
         let p = based_ok r k.0 m.result c.d m.publishes m.is in
         let epoch = p.0.sealed.part.head.epoch in
         let all =
-        both_written did.files r.part r.new_ledger p.0.sealed p.0.ledger (base_line epoch p.0.counts) c.d
+        both_written did.files r.part r.new_ledger p.0.sealed p.0.ledger (base_line r.without epoch p.0.counts) c.d
         (apart_at apart (commands.Rebase r) did.asked) p.2 c.text c.files_are in (
           k.0,
           reads did.files did.told r.ledger ledger_in k.0 k.1,
           record {
             made = p.0;
             publishes = p.1;
-            prints = all.2 ∙ ap (λ (n : BaseCounts). followed_by call.text_before (base_line epoch n)) p.1.counts;
+            prints = all.2 ∙ ap (λ (n : BaseCounts). followed_by call.text_before (base_line r.without epoch n)) p.1.counts;
             part_holds = all.0;
             ledger_holds = all.1;
           },
@@ -564,10 +565,10 @@ module _ (call : Call) where
         quiet
 
     pub rebase_complete : Rebasable → (r : RebaseFields) (before : LedgerFields) → call.asked ≡ commands.Rebase r
-        → Reads call r.ledger ledger_in before → CanBeRebased before r.moment → NoFault call
+        → Reads call r.ledger ledger_in before → CanBeRebased before r.moment r.without → NoFault call
         → Succeeds call ⊎ WantedMemory call
     rebase_complete rebasable r before asked (bytes, (files, told, held), is) can quiet =
-        let made = rebasable before r.moment can in
+        let made = rebasable before r.moment r.without can in
         let ledger_is = read_in files told r.ledger ledger_in before (bytes, (files, told, held), is) in
         let d = base_done r made.0 in
         sure_of (commands.Rebase r) files d told asked

@@ -38,7 +38,8 @@ OnePublication = (ledger : LedgerFields) (job : JobFields) (a b : Result Publish
 
 -- One thing comes of a rebase behind a ledger.
 abbrev pub OneBase : Type 0
-OneBase = (ledger : LedgerFields) (moment : ℕ) (a b : Result PublishedBase BaseFault) → PublishesBase ledger moment a → PublishesBase ledger moment b → a ≡ b
+OneBase = (ledger : LedgerFields) (moment : ℕ) (without : List (List ℕ)) (a b : Result PublishedBase BaseFault) → PublishesBase ledger moment without a
+    → PublishesBase ledger moment without b → a ≡ b
 
 -- What is published is unique, a job of a history is admissible behind those before it, and each admissible job is
 -- published.
@@ -156,7 +157,7 @@ module _ (publishing : Publishing) where
   -- ---- rebases
 
   rebase_unique : OneBase → (r : RebaseFields) (l : Result LedgerFields NamedFault) (a b : Result Done NamedFault) → MakesRebase r l a → MakesRebase r l b → a ≡ b
-  rebase_unique bases r (Ok l) a b x y = x.is ∙ ap (rebased_as r) (bases l r.moment x.result y.result x.publishes y.publishes) ∙ sym y.is
+  rebase_unique bases r (Ok l) a b x y = x.is ∙ ap (rebased_as r) (bases l r.moment r.without x.result y.result x.publishes y.publishes) ∙ sym y.is
   rebase_unique bases r (Err e) a b x y = x ∙ sym y
 
   -- ---- commands

@@ -1,6 +1,6 @@
 -- The two files that a command writes have different names, and an audit has no more jobs than a chain may have parts.
 use Rattle.std.proofs.Common.{◌≡◌, ◌≢◌, ◌≤◌, ℕ, suc, Bool, true, false, ◌&&◌, ◌||◌, not, List, [], ◌∷◌, length, Option, Some, None, refl, sym, ap, subst, ◌∙◌, arith}
-use Rattle.std.specs.Prelude.{if◌then◌else◌, IfSome, codes, nat_le}
+use Rattle.std.specs.Prelude.{if◌then◌else◌, IfSome, codes, nat_le, take, drop}
 use Rattle.std.specs.Str.{bytes_eq}
 use Rattle.std.proofs.lemmas.Slice.Eq.{bytes_eq-Decides}
 use Rattle.std.proofs.lemmas.Bool.{false≢true}
@@ -11,7 +11,7 @@ use Rattle.word_core.specs.CommandFields.{SnapshotFields, DeltaFields, RebaseFie
 use Rattle.word_core.specs.declared.command.Command.{Command}
 use Rattle.word_core.specs.declared.command.Command.TheVariants as commands
 use Rattle.word_core.specs.Words.{◌>>=◌, is_name, name_of, workers_of, two_names_of, named_delta, named_rebase, is_among, are_apart, snapshot_of, delta_of}
-use Rattle.word_core.specs.Words.{number_of, rebase_of, query_of, query_cert_of}
+use Rattle.word_core.specs.Words.{number_of, rebase_of, without_of, rebase_without_of, query_of, query_cert_of}
 use Rattle.word_core.specs.Words.{name_alone, start_of, install_of, rehearse_of, sample_of, gather_of, audit_of, names_of, jobs_of, asks, command_of}
 use Rattle.clubcard_top.specs.Replies.{HasFewJobs}
 
@@ -135,9 +135,9 @@ delta_keeps (a ∷ b ∷ c ∷ []) = tt
 delta_keeps (a ∷ b ∷ c ∷ d ∷ []) = tt
 delta_keeps (a ∷ b ∷ c ∷ d ∷ e ∷ f ∷ fs) = tt
 
-rebase_named : (ledger : List ℕ) (moment : ℕ) (part new_ledger : List ℕ) (workers : ℕ) → part ≢ new_ledger
-    → IfSome (named_rebase ledger moment part new_ledger workers) (λ r. r.part ≢ r.new_ledger)
-rebase_named ledger moment part new_ledger workers apart =
+rebase_named : (ledger : List ℕ) (moment : ℕ) (part new_ledger : List ℕ) (workers : ℕ) (without : List (List ℕ)) → part ≢ new_ledger
+    → IfSome (named_rebase ledger moment part new_ledger workers without) (λ r. r.part ≢ r.new_ledger)
+rebase_named ledger moment part new_ledger workers without apart =
     step_keeps (λ (r : RebaseFields). r.part ≢ r.new_ledger) (name_of ledger) _ (λ l is_l.
     step_keeps (λ (r : RebaseFields). r.part ≢ r.new_ledger) (two_names_of part new_ledger) _ (λ outputs is_outputs.
     let both =
@@ -145,18 +145,22 @@ rebase_named ledger moment part new_ledger workers apart =
     outputs is_outputs (two_keep part new_ledger) in
     differ_as part new_ledger outputs.0 outputs.1 both.0 both.1 apart))
 
-rebase_keeps : (words : List (List ℕ)) → IfSome (rebase_of words) (λ r. r.part ≢ r.new_ledger)
-rebase_keeps (ledger ∷ moment ∷ part ∷ new_ledger ∷ workers ∷ []) =
+rebase_keeps : (words without : List (List ℕ)) → IfSome (rebase_of words without) (λ r. r.part ≢ r.new_ledger)
+rebase_keeps (ledger ∷ moment ∷ part ∷ new_ledger ∷ workers ∷ []) without =
     step_keeps (λ (r : RebaseFields). r.part ≢ r.new_ledger) (number_of moment) _ (λ m is_m.
     step_keeps (λ (r : RebaseFields). r.part ≢ r.new_ledger) (workers_of workers) _ (λ n is_n.
     test_keeps (λ (r : RebaseFields). r.part ≢ r.new_ledger) (are_apart (ledger ∷ []) (part ∷ new_ledger ∷ [])) _
-    (λ apart. rebase_named ledger m part new_ledger n (differ (ledger ∷ []) part new_ledger apart))))
-rebase_keeps [] = tt
-rebase_keeps (a ∷ []) = tt
-rebase_keeps (a ∷ b ∷ []) = tt
-rebase_keeps (a ∷ b ∷ c ∷ []) = tt
-rebase_keeps (a ∷ b ∷ c ∷ d ∷ []) = tt
-rebase_keeps (a ∷ b ∷ c ∷ d ∷ e ∷ f ∷ fs) = tt
+    (λ apart. rebase_named ledger m part new_ledger n without (differ (ledger ∷ []) part new_ledger apart))))
+rebase_keeps [] without = tt
+rebase_keeps (a ∷ []) without = tt
+rebase_keeps (a ∷ b ∷ []) without = tt
+rebase_keeps (a ∷ b ∷ c ∷ []) without = tt
+rebase_keeps (a ∷ b ∷ c ∷ d ∷ []) without = tt
+rebase_keeps (a ∷ b ∷ c ∷ d ∷ e ∷ f ∷ fs) without = tt
+
+rebase_without_keeps : (words : List (List ℕ)) → IfSome (rebase_without_of words) (λ r. r.part ≢ r.new_ledger)
+rebase_without_keeps words =
+    step_keeps (λ (r : RebaseFields). r.part ≢ r.new_ledger) (without_of (drop 5 words)) _ (λ without is_without. rebase_keeps (take 5 words) without)
 
 -- what is asked by a word that is none of the first few
 abbrev from_audit : List ℕ → List (List ℕ) → Command
@@ -183,9 +187,13 @@ abbrev from_start : List ℕ → List (List ℕ) → Command
 from_start command words =
     if bytes_eq command (codes "start") then asks commands.Start (start_of words) else from_install command words
 
+abbrev from_rebase_without : List ℕ → List (List ℕ) → Command
+from_rebase_without command words =
+    if bytes_eq command (codes "rebase-without") then asks commands.Rebase (rebase_without_of words) else from_start command words
+
 abbrev from_rebase : List ℕ → List (List ℕ) → Command
 from_rebase command words =
-    if bytes_eq command (codes "rebase") then asks commands.Rebase (rebase_of words) else from_start command words
+    if bytes_eq command (codes "rebase") then asks commands.Rebase (rebase_of words []) else from_rebase_without command words
 
 abbrev from_delta : List ℕ → List (List ℕ) → Command
 from_delta command words =
@@ -244,11 +252,17 @@ start_apart command words =
     (from_install command words) (asks_free IsApart commands.Start (start_of words) (λ x. tt) tt)
     (install_apart command words)
 
+rebase_without_apart : (command : List ℕ) (words : List (List ℕ)) → IsApart (from_rebase_without command words)
+rebase_without_apart command words =
+    if_keeps IsApart (bytes_eq command (codes "rebase-without")) (asks commands.Rebase (rebase_without_of words))
+    (from_start command words) (asks_keeps IsApart commands.Rebase (rebase_without_of words) (rebase_without_keeps words) tt)
+    (start_apart command words)
+
 rebase_apart : (command : List ℕ) (words : List (List ℕ)) → IsApart (from_rebase command words)
 rebase_apart command words =
-    if_keeps IsApart (bytes_eq command (codes "rebase")) (asks commands.Rebase (rebase_of words))
-    (from_start command words) (asks_keeps IsApart commands.Rebase (rebase_of words) (rebase_keeps words) tt)
-    (start_apart command words)
+    if_keeps IsApart (bytes_eq command (codes "rebase")) (asks commands.Rebase (rebase_of words []))
+    (from_rebase_without command words) (asks_keeps IsApart commands.Rebase (rebase_of words []) (rebase_keeps words []) tt)
+    (rebase_without_apart command words)
 
 delta_apart : (command : List ℕ) (words : List (List ℕ)) → IsApart (from_delta command words)
 delta_apart command words =
@@ -334,11 +348,12 @@ few_jobs (command ∷ words) =
     (few_else (codes "show") command commands.Show (name_alone words) _ (λ x. tt)
     (few_else (codes "snapshot") command commands.Snapshot (snapshot_of words) _ (λ x. tt)
     (few_else (codes "delta") command commands.Delta (delta_of words) _ (λ x. tt)
-    (few_else (codes "rebase") command commands.Rebase (rebase_of words) _ (λ x. tt)
+    (few_else (codes "rebase") command commands.Rebase (rebase_of words []) _ (λ x. tt)
+    (few_else (codes "rebase-without") command commands.Rebase (rebase_without_of words) _ (λ x. tt)
     (few_else (codes "start") command commands.Start (start_of words) _ (λ x. tt)
     (few_else (codes "install") command commands.Install (install_of words) _ (λ x. tt)
     (few_else (codes "rehearse") command commands.Rehearse (rehearse_of words) _ (λ x. tt)
     (few_else (codes "sample") command commands.Sample (sample_of words) _ (λ x. tt)
     (few_else (codes "gather") command commands.Gather (gather_of words) _ (λ x. tt)
     (if_keeps HasFewJobs (bytes_eq command (codes "audit")) (asks commands.Audit (audit_of words)) commands.Usage
-    (asks_keeps HasFewJobs commands.Audit (audit_of words) (few_audit words) tt) tt))))))))))))
+    (asks_keeps HasFewJobs commands.Audit (audit_of words) (few_audit words) tt) tt)))))))))))))

@@ -1,5 +1,5 @@
 -- What a call asks for, and what comes of it, where its files are those of a history of admitted jobs.
-use Rattle.std.specs.Prelude.{◌≡◌, ◌⊎◌, true, ℕ, ◌≤◌, List, [], ◌∷◌, ◌++◌, length, Some, Ok, IsTrue}
+use Rattle.std.specs.Prelude.{◌≡◌, ◌⊎◌, true, false, ℕ, ◌≤◌, List, [], ◌∷◌, ◌++◌, length, Some, Ok, IsTrue}
 use Rattle.std.specs.List.{AllZip}
 use Rattle.std.specs.FinMap.{get}
 use Rattle.sha2.specs.Sha256.{sha256}
@@ -19,14 +19,14 @@ use Rattle.job_core.specs.JobFacts.{FitsFields}
 use Rattle.job_core.specs.JobLayout.{job_of}
 use Rattle.sets_core.specs.Among.{Among}
 use Rattle.universe_core.specs.Formats.{in_format}
-use Rattle.universe_core.specs.Jobs.{facts_of}
-use Rattle.sets_core.specs.Sets.{has}
+use Rattle.universe_core.specs.Jobs.{Entry, is_enrolled, facts_of}
+use Rattle.sets_core.specs.Sets.{has, has_key}
 use Rattle.universe_core.specs.History.{Release, past_of, seen, sightings}
 use Rattle.universe_core.specs.Counting.{counts}
-use Rattle.history_core.specs.Bases.{kept_by, is_lasting_by, newest_epoch}
+use Rattle.history_core.specs.Bases.{kept_by, releases_without, is_lasting_by, newest_epoch}
 use Rattle.publication_core.specs.Formats.{current}
 use Rattle.publication_core.specs.Histories.{IsAdmissible, IsRebasable, History, of_jobs, rebased, members, with_job, chain}
-use Rattle.publication_core.specs.Histories.{IsHistory, history}
+use Rattle.publication_core.specs.Histories.{IsHistory, history, LeavesOut}
 use Rattle.publication_core.specs.Histories.{part_bytes, store_bytes, ledger_bytes, old_ledger_bytes, IsUndated}
 use Rattle.publication_core.specs.Rebasing.{base_counts}
 use Rattle.publication_core.specs.Truth.{truth}
@@ -120,35 +120,39 @@ RebasesHistory asked files r h parts = (asked ≡ commands.Rebase r) × (1 ≤ m
 abbrev pub AsksToRebase : Call → RebaseFields → History → List SealedFields → Type 0
 AsksToRebase call r h parts = Found call (λ files. RebasesHistory call.asked files r h parts)
 
--- the history that its base at the moment begins, with no job behind it yet
-abbrev pub base_of : History → List SealedFields → ℕ → History
-base_of h parts moment = rebased h parts moment []
+-- the history that its base at the moment, without these issuers, begins, with no job behind it yet
+abbrev pub base_of : History → List SealedFields → ℕ → List (List ℕ) → History
+base_of h parts moment without = rebased h parts moment without []
+
+-- a base without these issuers may stand for the history at the moment
+abbrev pub IsRebasableWithout : ℕ → List (List ℕ) → History → List SealedFields → Type 0
+IsRebasableWithout moment without h parts = IsRebasable moment (releases_without without (history h parts))
 
 -- the outputs: a part and a ledger, in the order of writing
 abbrev pub rebases_to : RebaseFields → List ℕ → List ℕ → List OutputFields
 rebases_to r part ledger = record { name = r.part; bytes = part } ∷ record { name = r.new_ledger; bytes = ledger } ∷ []
 
--- A base may stand for the history at MOMENT, and is one with this part. The epoch of the history's newest member and
+-- A base without the issuers of ISSUER .. may stand for the history at MOMENT, and is one with this part. The epoch of the history's newest member and
 -- the counts of the base were printed, PART holds the bytes of its part, and NEWLEDGER those of its ledger.
 pub record Rebased (call : Call) (r : RebaseFields) (h : History) (parts : List SealedFields) : Type 0 where
   pub sealed : SealedFields
-  pub rebasable : IsRebasable r.moment (history h parts)
-  pub is_history : IsHistory (base_of h parts r.moment) (sealed ∷ [])
-  pub prints : Prints call (base_line (newest_epoch 0 (history h parts)) (base_counts r.moment (history h parts)))
+  pub rebasable : IsRebasableWithout r.moment r.without h parts
+  pub is_history : IsHistory (base_of h parts r.moment r.without) (sealed ∷ [])
+  pub prints : Prints call (base_line r.without (newest_epoch 0 (history h parts)) (base_counts r.moment r.without (history h parts)))
   -- the two files in their order, and no other
   pub writes : Writes call
-      (rebases_to r (part_bytes sealed) (ledger_bytes (base_of h parts r.moment) (sealed ∷ [])))
+      (rebases_to r (part_bytes sealed) (ledger_bytes (base_of h parts r.moment r.without) (sealed ∷ [])))
   pub part_holds : Holds call r.part (part_bytes sealed)
-  pub ledger_holds : Holds call r.new_ledger (ledger_bytes (base_of h parts r.moment) (sealed ∷ []))
+  pub ledger_holds : Holds call r.new_ledger (ledger_bytes (base_of h parts r.moment r.without) (sealed ∷ []))
 
 -- The same of what the command makes, with no call.
 pub record IsRebased (r : RebaseFields) (h : History) (parts : List SealedFields) (d : Done) : Type 0 where
   pub sealed : SealedFields
-  pub rebasable : IsRebasable r.moment (history h parts)
-  pub is_history : IsHistory (base_of h parts r.moment) (sealed ∷ [])
+  pub rebasable : IsRebasableWithout r.moment r.without h parts
+  pub is_history : IsHistory (base_of h parts r.moment r.without) (sealed ∷ [])
   pub outputs : d.outputs
-      ≡ rebases_to r (part_bytes sealed) (ledger_bytes (base_of h parts r.moment) (sealed ∷ []))
-  pub text : d.text ≡ base_line (newest_epoch 0 (history h parts)) (base_counts r.moment (history h parts))
+      ≡ rebases_to r (part_bytes sealed) (ledger_bytes (base_of h parts r.moment r.without) (sealed ∷ []))
+  pub text : d.text ≡ base_line r.without (newest_epoch 0 (history h parts)) (base_counts r.moment r.without (history h parts))
 
 -- ---- stores
 
@@ -191,7 +195,11 @@ pub record IsStored (asked : Command) (parts : List SealedFields) (s : SealedFie
 
 -- ---- asking
 
--- The command asks the store of a history about a certificate, with sightings of its accepted entries alone.
+-- the command asks the store of a history about a certificate
+abbrev pub AsksStore : Command → Files → QueryFields → History → List SealedFields → Type 0
+AsksStore asked files q h parts = (asked ≡ commands.Query q) × (1 ≤ members h) × (get files q.store ≡ Some (store_bytes parts))
+
+-- The same, with sightings of its accepted entries alone.
 abbrev pub AsksHistory : Command → Files → QueryFields → History → List SealedFields → Type 0
 AsksHistory asked files q h parts =
     (asked ≡ commands.Query q) × (1 ≤ members h) × (get files q.store ≡ Some (store_bytes parts))
@@ -216,17 +224,36 @@ truth_done h parts q = only (truth_line h parts q)
 abbrev pub IsKept : ℕ → List Release → Identity → Type 0
 IsKept moment rs x = has (kept_by (is_lasting_by moment rs) rs) x ≡ true
 
--- The command asks the store of this part alone, that of a history's base, about a certificate that the base keeps, with
--- sightings of the history's accepted entries alone.
-abbrev pub AsksBase : Command → Files → QueryFields → History → List SealedFields → ℕ → SealedFields → Type 0
-AsksBase asked files q h parts moment s =
-    (asked ≡ commands.Query q) × IsKept moment (history h parts) q.id
+-- The command asks the store of this part alone, that of a history's base without some issuers, about a certificate of
+-- another issuer that the base keeps, with sightings of the history's accepted entries alone.
+abbrev pub AsksBase : Command → Files → QueryFields → History → List SealedFields → ℕ → List (List ℕ) → SealedFields → Type 0
+AsksBase asked files q h parts moment without s =
+    (asked ≡ commands.Query q) × IsKept moment (history h parts) q.id × (has_key without q.id.issuer ≡ false)
     × (get files q.store ≡ Some (store_bytes (s ∷ []))) × (1 ≤ length q.sightings)
     × ((t : Sighting) → Among q.sightings t → Among (sightings q.id (seen (history h parts))) t)
 
 -- the call asks the store of the base so
-abbrev pub AsksTheBase : Call → QueryFields → History → List SealedFields → ℕ → SealedFields → Type 0
-AsksTheBase call q h parts moment s = Found call (λ files. AsksBase call.asked files q h parts moment s)
+abbrev pub AsksTheBase : Call → QueryFields → History → List SealedFields → ℕ → List (List ℕ) → SealedFields → Type 0
+AsksTheBase call q h parts moment without s = Found call (λ files. AsksBase call.asked files q h parts moment without s)
+
+-- ---- issuers that a base leaves out
+
+-- The command asks the store of a history about a certificate whose issuer its base leaves out and no job enrolls since,
+-- with a sighting that some part covers.
+abbrev pub AsksLeftOut : Command → Files → QueryFields → History → List SealedFields → Type 0
+AsksLeftOut asked files q h parts =
+    (asked ≡ commands.Query q) × (1 ≤ members h) × (get files q.store ≡ Some (store_bytes parts)) × LeavesOut h q.id.issuer
+    × ((s : Sighting) × (t : SealedFields) × Among q.sightings s × Among parts t × (covers t.part.head.ranges s ≡ true))
+
+-- the call asks the store of this history so
+abbrev pub AsksOfLeftOut : Call → QueryFields → History → List SealedFields → Type 0
+AsksOfLeftOut call q h parts = Found call (λ files. AsksLeftOut call.asked files q h parts)
+
+-- The job has the entry, covers its sighting, and enrolls its issuer.
+pub record Brings (job : JobFields) (e : Entry) : Type 0 where
+  pub entry : Among job.entries (Some e)
+  pub covered : covers job.ranges e.sighting ≡ true
+  pub enrolled : is_enrolled (facts_of job) e.id.issuer ≡ true
 
 -- ---- asking with a certificate
 

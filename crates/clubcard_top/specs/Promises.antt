@@ -17,16 +17,18 @@ use Rattle.job_core.specs.JobText.{JobContents, spelling as job_text}
 use Rattle.sample_core.specs.Sample.{sample_text, sample_revoked}
 use Rattle.ledger_core.specs.LedgerFields.{LedgerFields}
 use Rattle.universe_core.specs.Formats.{in_format}
+use Rattle.universe_core.specs.Jobs.{Entry}
 use Rattle.universe_core.specs.Ledgers.{no_ledger}
 use Rattle.sets_core.specs.Among.{Among}
 use Rattle.store_core.specs.declared.chain.Refusal.{Refusal}
 use Rattle.store_core.specs.Chain.{refusal_of}
 use Rattle.card_core.specs.declared.verdict.Verdict.{Verdict}
+use Rattle.card_core.specs.declared.verdict.Verdict.TheVariants.{NotEnrolled}
 use Rattle.card_core.specs.Verdict.{verdict}
 use Rattle.universe_core.specs.History.{seen}
 use Rattle.audit_core.specs.Auditing.{history as audited_history}
 use Rattle.publication_core.specs.Formats.{current}
-use Rattle.publication_core.specs.Histories.{IsAdmissible, IsRebasable, History, chain, IsHistory, history}
+use Rattle.publication_core.specs.Histories.{IsAdmissible, History, with_job, chain, IsHistory, history, LeavesOut}
 use Rattle.publication_core.specs.Publishing.{CanBePublished}
 use Rattle.publication_core.specs.Rebasing.{CanBeRebased}
 use Rattle.word_core.specs.declared.command.Command.TheVariants as commands
@@ -50,7 +52,8 @@ use Rattle.clubcard_top.specs.Endings.{MustSucceed, MustGive}
 use Rattle.clubcard_top.specs.Successes.{ReadsPart, PublishesFile, BeginsAnew, NewStore, ReadsPages, ReadsJobs}
 use Rattle.clubcard_top.specs.Successes.{AreWithinLimits, IsAudited, SaysTheTruth}
 use Rattle.clubcard_top.specs.Headline.{AsksToPublish, AsksToStore, AsksTruth, AsksCertTruth, AsksToRehearse}
-use Rattle.clubcard_top.specs.Headline.{AsksToRebase, AsksTheBase, base_of, truth_line, cert_truth_line}
+use Rattle.clubcard_top.specs.Headline.{AsksToRebase, IsRebasableWithout, AsksTheBase, AsksOfLeftOut, Brings}
+use Rattle.clubcard_top.specs.Headline.{base_of, truth_line, cert_truth_line}
 use Rattle.clubcard_top.specs.Headline.{Published, Rebased, Stored, IsRehearsed}
 use Rattle.clubcard_top.specs.Refusals.{Comes, Refused}
 
@@ -90,12 +93,13 @@ pub record Successes (call : Call) : Type 0 where
   pub delta_complete : (d : DeltaFields) (before : LedgerFields) (job : JobFields) → call.asked ≡ commands.Delta d
       → Reads call d.ledger ledger_in before → Reads call d.job job_in job → CanBePublished before job
       → MustSucceed call
-  -- the ledger of LEDGER, without what has expired at MOMENT, begins a chain anew; and where its parts have few enough
-  -- issuers and each of these has a block, the call must succeed
+  -- `rebase` and `rebase-without`: the ledger of LEDGER, without what has expired at MOMENT and without the issuers of
+  -- ISSUER .., begins a chain anew; and where its parts have few enough other issuers and each of these has a block, the
+  -- call must succeed
   pub rebase : (r : RebaseFields) → Did call (commands.Rebase r) → (before : LedgerFields)
       × Reads call r.ledger ledger_in before × BeginsAnew call before r
   pub rebase_complete : (r : RebaseFields) (before : LedgerFields) → call.asked ≡ commands.Rebase r
-      → Reads call r.ledger ledger_in before → CanBeRebased before r.moment → MustSucceed call
+      → Reads call r.ledger ledger_in before → CanBeRebased before r.moment r.without → MustSucceed call
   -- the part of PART, which is a snapshot, begins a store
   pub start : (t : StartFields) → Did call (commands.Start t)
       → (s : SealedFields) × ReadsPart call t.part s × (s.part.head.kind ≡ kinds.Snapshot) × NewStore call t.store [] s
@@ -140,11 +144,11 @@ pub record Histories (call : Call) : Type 0 where
       → AsksToPublish call h parts job → Succeeds call → Published call h parts job
   pub admitted : (h : History) (parts : List SealedFields) (job : JobFields) → IsHistory h parts
       → AsksToPublish call h parts job → IsAdmissible (history h parts) (in_format current job) → MustSucceed call
-  -- `rebase`
+  -- `rebase` and `rebase-without`
   pub rebased : (r : RebaseFields) (h : History) (parts : List SealedFields) → IsHistory h parts
       → AsksToRebase call r h parts → Succeeds call → Rebased call r h parts
   pub rebasable : (r : RebaseFields) (h : History) (parts : List SealedFields) → IsHistory h parts
-      → AsksToRebase call r h parts → IsRebasable r.moment (history h parts) → MustSucceed call
+      → AsksToRebase call r h parts → IsRebasableWithout r.moment r.without h parts → MustSucceed call
   -- `start` and `install`
   pub stored : (h : History) (parts : List SealedFields) (s : SealedFields) → IsHistory h (parts ++ s ∷ [])
       → AsksToStore call parts s → Succeeds call → Stored call parts s
@@ -155,10 +159,19 @@ pub record Histories (call : Call) : Type 0 where
       → AsksTruth call q h parts → Succeeds call → Prints call (truth_line h parts q)
   pub answered : (q : QueryFields) (h : History) (parts : List SealedFields) → IsHistory h parts
       → AsksTruth call q h parts → MustSucceed call
-  -- `query` of the store that the base of a history begins: of what has not expired, it says what the history tells
-  pub kept : (q : QueryFields) (h : History) (parts : List SealedFields) (moment : ℕ) (s : SealedFields)
-      → IsHistory (base_of h parts moment) (s ∷ []) → AsksTheBase call q h parts moment s → Succeeds call
-      → Prints call (truth_line h parts q)
+  -- `query` of the store that the base of a history begins: of what has not expired and is of no issuer that is left
+  -- out, it says what the history tells
+  pub kept : (q : QueryFields) (h : History) (parts : List SealedFields) (moment : ℕ) (without : List (List ℕ))
+      (s : SealedFields) → IsHistory (base_of h parts moment without) (s ∷ [])
+      → AsksTheBase call q h parts moment without s → Succeeds call → Prints call (truth_line h parts q)
+  -- of an issuer that is left out, and that no job enrolls since, the store says that it isn't enrolled wherever it covers
+  pub left_out : (q : QueryFields) (h : History) (parts : List SealedFields) → IsHistory h parts
+      → AsksOfLeftOut call q h parts → Succeeds call → Prints call (line (verdict_word NotEnrolled))
+  -- and it can come back: the first job that enrolls it accepts each of its entries that the job covers, also those that
+  -- were accepted before the base, so that `truth` holds of them from then on
+  pub comes_back : (h : History) (parts : List SealedFields) (job : JobFields) (e : Entry) → IsHistory h parts
+      → LeavesOut h e.id.issuer → Brings job e → (p : Published call h parts job)
+      → Among (seen (history (with_job h (in_format current job)) (parts ++ p.sealed ∷ []))) e
   -- `query-cert`
   pub cert_truth : (q : QueryCertFields) (x : Identity) (ss : List Sighting)
       (h : History) (parts : List SealedFields) → IsHistory h parts

@@ -41,12 +41,12 @@ pub record PublishesFile (call : Call) (before : LedgerFields) (job part ledger 
   pub part_holds : Holds call part (spelling made.sealed)
   pub ledger_holds : Holds call ledger (ledger_text made.ledger)
 
--- This ledger without what has expired at MOMENT begins a chain anew: its counts were printed with the part's epoch, PART
+-- This ledger without what has expired at MOMENT, and without the issuers of ISSUER .., begins a chain anew: its counts were printed with the part's epoch, PART
 -- holds the part, and NEWLEDGER the ledger after it.
 pub record BeginsAnew (call : Call) (before : LedgerFields) (r : RebaseFields) : Type 0 where
   pub made : PublishedBase
-  pub publishes : IsBasePublication before r.moment made
-  pub prints : Prints call (base_line made.sealed.part.head.epoch (base_counts_after r.moment before))
+  pub publishes : IsBasePublication before r.moment r.without made
+  pub prints : Prints call (base_line r.without made.sealed.part.head.epoch (base_counts_after r.moment r.without before))
   pub part_holds : Holds call r.part (spelling made.sealed)
   pub ledger_holds : Holds call r.new_ledger (ledger_text made.ledger)
 

@@ -1,6 +1,6 @@
 //! What follows for every command and every history, with no call.
 
-ghost use Rattle.std.specs.Prelude.{◌≡◌, ◌≢◌, ◌↔◌, ℕ, List, [], ◌∷◌, ◌++◌, All, length, Option, Result, Ok};
+ghost use Rattle.std.specs.Prelude.{◌≡◌, ◌≢◌, ◌↔◌, false, ℕ, List, [], ◌∷◌, ◌++◌, All, length, Option, Result, Ok};
 ghost use Rattle.ident_core.specs.declared.identity.Identity.{Identity};
 ghost use Rattle.ident_core.specs.declared.range.Sighting.{Sighting};
 ghost use Rattle.outside_core.specs.Files.{Files};
@@ -8,10 +8,15 @@ ghost use Rattle.query_core.specs.Queries.{Query};
 ghost use Rattle.part_text.specs.SealedFields.{SealedFields};
 ghost use Rattle.job_core.specs.JobFields.{JobFields};
 ghost use Rattle.ledger_core.specs.LedgerFields.{LedgerFields};
+ghost use Rattle.card_core.specs.declared.verdict.Verdict.TheVariants.{NotEnrolled};
+ghost use Rattle.line_core.specs.Lines.{line};
+ghost use Rattle.sets_core.specs.Among.{Among};
+ghost use Rattle.sets_core.specs.Sets.{has_key};
+ghost use Rattle.universe_core.specs.Jobs.{Entry};
 ghost use Rattle.universe_core.specs.Formats.{in_format};
 ghost use Rattle.universe_core.specs.History.{seen, sightings};
 ghost use Rattle.publication_core.specs.Formats.{current};
-ghost use Rattle.publication_core.specs.Histories.{IsAdmissible, IsRebasable, History, chain, IsHistory, history};
+ghost use Rattle.publication_core.specs.Histories.{IsAdmissible, History, with_job, chain, IsHistory, history, LeavesOut};
 ghost use Rattle.publication_core.specs.Publishing.{CanBePublished, Published, Publishes};
 ghost use Rattle.publication_core.specs.Rebasing.{CanBeRebased, PublishedBase, PublishesBase};
 ghost use Rattle.word_core.specs.declared.command.Command.{Command};
@@ -19,20 +24,21 @@ ghost use Rattle.word_core.specs.CommandFields.{QueryFields, QueryCertFields, Re
 ghost use Rattle.word_core.specs.Names.{inputs_of, outputs_of};
 ghost use Rattle.word_core.specs.Words.{command_of};
 ghost use Rattle.clubcard_top.specs.ReplyFields.{Done, NamedFault, ReplyFields};
-ghost use Rattle.clubcard_top.specs.Commands.{Makes, Rehearses, only, rehearsed};
+ghost use Rattle.clubcard_top.specs.Commands.{Makes, Rehearses, only, query_done, rehearsed, verdict_word};
 ghost use Rattle.clubcard_top.specs.Workers.{with_workers};
 ghost use Rattle.clubcard_top.specs.Steps.{RehearsesOn};
 ghost use Rattle.clubcard_top.specs.Replies.{HasFewJobs, IsOctets, IsReplyOver, IsReplyTo, held_by};
 ghost use Rattle.clubcard_top.specs.Headline.{PublishesJob, IsPublished, StoresPart, IsStored, AsksHistory, truth_done};
 ghost use Rattle.clubcard_top.specs.Headline.{AsksCert, cert_truth_line, RehearsesJobs, IsRehearsed};
-ghost use Rattle.clubcard_top.specs.Headline.{RebasesHistory, IsRebased, base_of, IsKept, AsksBase, truth_line};
+ghost use Rattle.clubcard_top.specs.Headline.{RebasesHistory, IsRebased, IsRebasableWithout, base_of, IsKept, AsksBase, truth_line};
+ghost use Rattle.clubcard_top.specs.Headline.{AsksStore, AsksLeftOut, Brings};
 
 use audit_core::{audits_are_unique, audits_exist};
-use history_core::base_stands_for_its_history;
+use history_core::{base_stands_for_its_history, issuers_are_left_out};
 use publication_core::{
     a_publication_or_a_refusal, bases_are_published, histories_are_published,
-    ledgers_are_read_back, one_thing_comes_of_a_rebase, parts_are_chains, publications_are_unique,
-    verdicts_are_the_truth, what_can_be_is_published,
+    issuers_that_are_left_out_come_back, ledgers_are_read_back, one_thing_comes_of_a_rebase,
+    parts_are_chains, publications_are_unique, verdicts_are_the_truth, what_can_be_is_published,
 };
 use store_core::{chains_grow, stores_are_read_back};
 
@@ -70,7 +76,7 @@ pub fn replies_exist()
 
 /// What comes of commands over the files of histories. A job that is published behind a history makes a history with
 /// it, whose part and ledger are written; each admissible job is published. A part of a history is added to the store
-/// of those before it. The store of a history, asked with accepted sightings, answers the truth; and so it does where
+/// of those before it. The store of a history says what its parts do (`told`). The store of a history, asked with accepted sightings, answers the truth; and so it does where
 /// it is asked with a certificate, one of whose sightings is accepted, and each that a part covers. Jobs that are
 /// rehearsed are a history, and each history is rehearsed. Behind any ledger, what can be published is.
 pub fn histories_are_made()
@@ -86,6 +92,10 @@ pub fn histories_are_made()
         (h : History) (parts : List SealedFields) (s : SealedFields) (o : Result Done NamedFault)
         → IsHistory h (parts ++ s ∷ []) → StoresPart command files parts s
         → Makes command (held_by command files) o → (d : Done) × (o ≡ Ok d) × IsStored command parts s d }
+    ensures told { (command : Command) (files : Files) (q : QueryFields)
+        (h : History) (parts : List SealedFields) (o : Result Done NamedFault)
+        → IsHistory h parts → AsksStore command files q h parts
+        → Makes command (held_by command files) o → o ≡ Ok (query_done q parts) }
     ensures asked { (command : Command) (files : Files) (q : QueryFields)
         (h : History) (parts : List SealedFields) (o : Result Done NamedFault)
         → IsHistory h parts → AsksHistory command files q h parts
@@ -117,10 +127,12 @@ pub fn histories_are_made()
     part_codec::a_text_is_read_back();
 }
 
-/// What comes of `rebase`, and of `query` after it. A history that is rebased has a base, whose part and ledger are
-/// written; each history for which a base may stand is rebased, and behind any ledger, what can be rebased is. Of an
-/// identity that has not expired the base keeps the sightings, and what the history tells (`kept`): so the store of the
-/// base, asked with accepted sightings of the history, answers as that of the history does (`asked`).
+/// What comes of `rebase` and `rebase-without`, and of `query` after it. A history that is rebased has a base, whose part
+/// and ledger are written; each history for which a base may stand is rebased, and behind any ledger, what can be rebased
+/// is. Of an identity that has not expired and is of no issuer that is left out the base keeps the sightings, and what the
+/// history tells (`kept`): so the store of the base, asked with accepted sightings of the history, answers as that of the
+/// history does (`asked`). Of an issuer that is left out the store says that it isn't enrolled wherever it covers, until
+/// a job enrolls it (`left_out`); and the first that does accepts each of its entries that it covers (`comes_back`).
 pub fn bases_are_made()
     ensures rebased { (command : Command) (files : Files) (r : RebaseFields)
         (h : History) (parts : List SealedFields) (d : Done)
@@ -128,23 +140,32 @@ pub fn bases_are_made()
         → Makes command (held_by command files) (Ok d) → IsRebased r h parts d }
     ensures rebasable { (command : Command) (files : Files) (r : RebaseFields)
         (h : History) (parts : List SealedFields) (o : Result Done NamedFault)
-        → IsHistory h parts → RebasesHistory command files r h parts → IsRebasable r.moment (history h parts)
+        → IsHistory h parts → RebasesHistory command files r h parts → IsRebasableWithout r.moment r.without h parts
         → Makes command (held_by command files) o → (d : Done) × (o ≡ Ok d) }
-    ensures kept { (h : History) (parts : List SealedFields) (moment : ℕ) (s : SealedFields) (q : QueryFields)
-        → IsKept moment (history h parts) q.id
-        → (sightings q.id (seen (history (base_of h parts moment) (s ∷ []))) ≡ sightings q.id (seen (history h parts)))
-        × (truth_line (base_of h parts moment) (s ∷ []) q ≡ truth_line h parts q) }
+    ensures kept { (h : History) (parts : List SealedFields) (moment : ℕ) (without : List (List ℕ)) (s : SealedFields)
+        (q : QueryFields) → IsKept moment (history h parts) q.id → has_key without q.id.issuer ≡ false
+        → (sightings q.id (seen (history (base_of h parts moment without) (s ∷ []))) ≡ sightings q.id (seen (history h parts)))
+        × (truth_line (base_of h parts moment without) (s ∷ []) q ≡ truth_line h parts q) }
     ensures asked { (command : Command) (files : Files) (q : QueryFields)
-        (h : History) (parts : List SealedFields) (moment : ℕ) (s : SealedFields) (o : Result Done NamedFault)
-        → IsHistory (base_of h parts moment) (s ∷ []) → AsksBase command files q h parts moment s
+        (h : History) (parts : List SealedFields) (moment : ℕ) (without : List (List ℕ)) (s : SealedFields) (o : Result Done NamedFault)
+        → IsHistory (base_of h parts moment without) (s ∷ []) → AsksBase command files q h parts moment without s
         → Makes command (held_by command files) o → o ≡ Ok (truth_done h parts q) }
-    ensures publishable { (before : LedgerFields) (moment : ℕ) → CanBeRebased before moment
-        → (made : PublishedBase) × PublishesBase before moment (Ok made) }
+    ensures left_out { (command : Command) (files : Files) (q : QueryFields)
+        (h : History) (parts : List SealedFields) (o : Result Done NamedFault)
+        → IsHistory h parts → AsksLeftOut command files q h parts
+        → Makes command (held_by command files) o → o ≡ Ok (only (line (verdict_word NotEnrolled))) }
+    ensures comes_back { (h : History) (parts : List SealedFields) (job : JobFields) (s : SealedFields) (e : Entry)
+        → IsHistory h parts → LeavesOut h e.id.issuer → Brings job e
+        → Among (seen (history (with_job h (in_format current job)) (parts ++ s ∷ []))) e }
+    ensures publishable { (before : LedgerFields) (moment : ℕ) (without : List (List ℕ)) → CanBeRebased before moment without
+        → (made : PublishedBase) × PublishesBase before moment without (Ok made) }
 {
     bases_are_published();
     one_thing_comes_of_a_rebase();
+    issuers_that_are_left_out_come_back();
     ledgers_are_read_back();
     base_stands_for_its_history();
+    issuers_are_left_out();
     histories_are_made();
 }
 

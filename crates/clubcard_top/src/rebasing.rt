@@ -1,10 +1,10 @@
-//! The command that begins a chain anew: what it answers, from what its ledger holds.
+//! The commands that begin a chain anew: what they answer, from what their ledger holds.
 
 ghost use Rattle.std.specs.Prelude.{◌≡◌, IfOk};
 ghost use Rattle.outside_core.specs.Effects.{OnlyReads};
 ghost use Rattle.word_core.specs.declared.command.Command.{Command};
 ghost use Rattle.clubcard_top.specs.Answering.{reply_fields};
-ghost use Rattle.clubcard_top.specs.Rebasings.{base_done};
+ghost use Rattle.clubcard_top.specs.Rebasings.{base_line, base_done};
 ghost use Rattle.clubcard_top.specs.Replies.{done};
 ghost use Rattle.input_core.specs.Inputs.{WhichFailed};
 ghost use Rattle.clubcard_top.specs.Runs.{IsReply};
@@ -14,13 +14,36 @@ use crate::commands::refused;
 use crate::fault::unrebased;
 use crate::publishing::written;
 use input_core::ledger_in;
-use line_core::rebased as rebased_line;
-use octets_core::NoMemory;
+use line_core::{Line, rebased as rebased_line, rebased_without as rebased_without_line};
+use octets_core::{Key32, NoMemory};
 use outside_core::Depot;
-use publication_core::{BasePublication, Gate, publish_base};
+use publication_core::{BaseCounts, BasePublication, Gate, publish_base};
 use std::alloc::Global;
 use std::thread::Threads;
 use word_core::Rebase;
+
+/// The line of a base of this epoch, without these issuers.
+fn line_of(without: &[Key32], epoch: u64, counts: &BaseCounts) -> Line
+    ensures { result ≡ base_line without.now epoch counts.now }
+{
+    match without {
+        [] => rebased_line(
+            epoch,
+            counts.issuers,
+            counts.universe,
+            counts.revoked,
+            counts.pruned,
+        ),
+        [_, ..] => rebased_without_line(
+            epoch,
+            counts.issuers,
+            counts.universe,
+            counts.revoked,
+            counts.pruned,
+            counts.left,
+        ),
+    }
+}
 
 /// The answer where a chain begins anew: its part and the ledger after it, and how many they have of each.
 fn rebased<'a, R: Threads + Sync>(
@@ -33,14 +56,7 @@ fn rebased<'a, R: Threads + Sync>(
 {
     let sealed = publication.sealed();
     let epoch = sealed.part().head().epoch();
-    let counts = publication.counts();
-    let line = rebased_line(
-        epoch,
-        counts.issuers,
-        counts.universe,
-        counts.revoked,
-        counts.pruned,
-    );
+    let line = line_of(rebase.without(), epoch, publication.counts());
     written(
         rt,
         alloc,
@@ -53,7 +69,7 @@ fn rebased<'a, R: Threads + Sync>(
     )
 }
 
-/// The answer of `rebase`.
+/// The answer of `rebase` and of `rebase-without`.
 pub fn answer_rebase<'a, R: Threads + Sync, G: Gate + Sync, D: Depot>(
     rt: &R,
     alloc: Global,
@@ -69,7 +85,15 @@ pub fn answer_rebase<'a, R: Threads + Sync, G: Gate + Sync, D: Depot>(
         Ok(ledger) => ledger,
         Err(fault) => return refused(rebase.ledger(), fault),
     };
-    match publish_base(rt, alloc, gate, ledger, rebase.moment(), rebase.workers()) {
+    match publish_base(
+        rt,
+        alloc,
+        gate,
+        ledger,
+        rebase.moment(),
+        rebase.without(),
+        rebase.workers(),
+    ) {
         Ok(publication) => rebased(rt, alloc, rebase, &publication),
         Err(fault) => refused(rebase.ledger(), unrebased(fault)),
     }

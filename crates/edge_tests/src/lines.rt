@@ -1,7 +1,7 @@
 //! Lines with numbers that no small file reaches, against docs/FORMATS.md, "Lines and statuses".
 
 use job_core::What;
-use line_core::{layout_line, limit_line, rebased, reported, seeds_line};
+use line_core::{layout_line, limit_line, rebased, rebased_without, reported, seeds_line};
 use octets_core::{Field, Key32, LayoutFault, Why};
 use outside_core::{MemorySink, write_all};
 use std::test::Fail;
@@ -35,6 +35,7 @@ const REPORTS: &str = "\
     epoch 18446744073709551615 part 63 issuers 1 universe 2 revoked 3 unread 4 \
     uncovered 5 unenrolled 6 late 7 accepted 4294967295\n\
     rebase epoch 18446744073709551615 issuers 65535 universe 4 revoked 3 pruned 4194304\n\
+    rebase-without epoch 18446744073709551615 issuers 65535 universe 4 revoked 3 pruned 4194303 left 1024\n\
     seeds efefefefefefefefefefefefefefefefefefefefefefefefefefefefefefefef 1\n";
 
 #[test]
@@ -52,6 +53,10 @@ fn reports(rt: HostRuntime) -> Result<(), Fail> {
     let mut sink = MemorySink::new(rt.alloc());
     write_all(&mut sink, reported(u64::MAX, 63, &counts).text())?;
     write_all(&mut sink, rebased(u64::MAX, 65_535, 4, 3, 4_194_304).text())?;
+    write_all(
+        &mut sink,
+        rebased_without(u64::MAX, 65_535, 4, 3, 4_194_303, 1_024).text(),
+    )?;
     write_all(&mut sink, seeds_line(&Key32::new([0xef; 32]), 1).text())?;
     assert_eq!(rt; sink.bytes(), REPORTS.as_bytes());
     Ok(())

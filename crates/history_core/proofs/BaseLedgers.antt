@@ -61,7 +61,7 @@ filter_step : (p : LedgerItem → Bool) (rs : List Release) (x : Identity) (xs :
 filter_step p rs x xs true e = ap (λ is. item_from rs x ∷ is) e
 filter_step p rs x xs false e = e
 
-filter_items : (p : LedgerItem → Bool) (rs : List Release) (xs : List Identity) → filter p (map (item_from rs) xs) ≡ map (item_from rs) (filter (λ x. p (item_from rs x)) xs)
+pub filter_items : (p : LedgerItem → Bool) (rs : List Release) (xs : List Identity) → filter p (map (item_from rs) xs) ≡ map (item_from rs) (filter (λ x. p (item_from rs x)) xs)
 filter_items p rs [] = refl
 filter_items p rs (x ∷ xs) = filter_step p rs x xs (p (item_from rs x)) (filter_items p rs xs)
 

@@ -29,11 +29,11 @@ filter_kept keeps x (e ∷ es) k =
     filter_step x e (filter (λ (d : Entry). keeps d.id) es) (filter (λ (d : Entry). is_same x d.id) es) (is_same x e.id) (keeps e.id) refl
     (λ s. ap keeps (sym (same_is x e.id s)) ∙ k) (filter_kept keeps x es k)
 
-sightings_filter : (keeps : Identity → Bool) (x : Identity) (es : List Entry) → keeps x ≡ true → sightings x (filter (λ e. keeps e.id) es) ≡ sightings x es
+pub sightings_filter : (keeps : Identity → Bool) (x : Identity) (es : List Entry) → keeps x ≡ true → sightings x (filter (λ e. keeps e.id) es) ≡ sightings x es
 unfolding sightings
 sightings_filter keeps x es k = ap (map (λ (e : Entry). e.sighting)) (filter_kept keeps x es k)
 
-dates_filter : (keeps : Identity → Bool) (x : Identity) (es : List Entry) → keeps x ≡ true → dates x (filter (λ e. keeps e.id) es) ≡ dates x es
+pub dates_filter : (keeps : Identity → Bool) (x : Identity) (es : List Entry) → keeps x ≡ true → dates x (filter (λ e. keeps e.id) es) ≡ dates x es
 unfolding dates
 dates_filter keeps x es k = ap (map (λ (e : Entry). e.until)) (filter_kept keeps x es k)
 

@@ -1,6 +1,6 @@
 -- The base of a history: the first release of a new chain, which stands for all the releases before it. Which identities
--- it keeps is told by a test.
-use Rattle.std.specs.Prelude.{ℕ, List, [], ◌∷◌, filter, flat_map, Bool, not}
+-- it keeps is told by a test. A base without some issuers is that of the releases without them.
+use Rattle.std.specs.Prelude.{ℕ, List, [], ◌∷◌, map, filter, flat_map, Bool, not}
 use Rattle.ident_core.specs.declared.identity.Identity.{Identity}
 use Rattle.ident_core.specs.declared.range.Range.{Range}
 use Rattle.ident_core.specs.declared.kind.Kind.TheVariants as kinds
@@ -9,6 +9,7 @@ use Rattle.sets_core.specs.Sets.{key_set}
 use Rattle.universe_core.specs.Jobs.{is_stale}
 use Rattle.universe_core.specs.History.{Release, accepted_by, seen, is_listed}
 use Rattle.universe_core.specs.Dates.{until}
+use Rattle.universe_core.specs.Rebases.{is_other}
 
 -- the ranges, and the epoch, of the newest release; these where there is none
 unfoldable pub newest_ranges : List Range → List Release → List Range
@@ -44,6 +45,24 @@ base_with keeps rs trailer = record {
 -- the head of its part
 abbrev pub base_head : List Release → HeadFields
 base_head rs = record { kind = kinds.Snapshot; epoch = newest_epoch 0 rs; parent = zero_key; ranges = newest_ranges [] rs }
+
+-- ---- without some issuers
+
+-- what a release leaves, but for these issuers and their identities
+abbrev pub release_without : List (List ℕ) → Release → Release
+release_without without r = record {
+  epoch = r.epoch;
+  trailer = r.trailer;
+  ranges = r.ranges;
+  issuers = filter (is_other without) r.issuers;
+  shown = filter (λ e. is_other without e.id.issuer) r.shown;
+  accepted = filter (λ x. is_other without x.issuer) r.accepted;
+  listed = filter (λ x. is_other without x.issuer) r.listed;
+  revoked = filter (λ x. is_other without x.issuer) r.revoked;
+}
+
+unfoldable pub releases_without : List (List ℕ) → List Release → List Release
+releases_without without rs = map (release_without without) rs
 
 -- ---- at a moment, in milliseconds since 1970
 

@@ -1,4 +1,4 @@
-ghost use Rattle.std.specs.Prelude.{◌≡◌, ℕ, List, [], ◌∷◌, ◌++◌, ◌+◌, ◌&&◌, ◌||◌, not, Bool, true, map, drop, length, Some, None, is_some};
+ghost use Rattle.std.specs.Prelude.{◌≡◌, ℕ, List, [], ◌∷◌, ◌++◌, ◌+◌, ◌&&◌, ◌||◌, not, Bool, true, false, map, filter, drop, length, Some, None, is_some};
 ghost use Rattle.std.specs.Prelude.{ℤ, pos, Option};
 ghost use Rattle.std.specs.List.{AllZip, list_any, slice_get};
 ghost use Rattle.ident_core.specs.declared.identity.Identity.{Identity};
@@ -9,20 +9,20 @@ ghost use Rattle.job_core.specs.JobFields.{JobFields};
 ghost use Rattle.ledger_core.specs.declared.fields.LedgerItem.{LedgerItem};
 ghost use Rattle.sets_core.specs.Among.{Among};
 ghost use Rattle.sets_core.specs.Sets.{has, has_key};
-ghost use Rattle.universe_core.specs.Jobs.{Job, facts_of, enrolled, lists};
-ghost use Rattle.universe_core.specs.History.{Release, Past, past_of, released, releases, seen, sightings, birth, is_listed, is_settled_by, revoked, universe};
+ghost use Rattle.universe_core.specs.Jobs.{Entry, Job, facts_of, enrolled, lists};
+ghost use Rattle.universe_core.specs.History.{Release, Past, past_of, released, releases, accepted_by, seen, sightings, birth, is_listed, is_settled_by, is_lacked_by, revoked, universe};
 ghost use Rattle.universe_core.specs.Dates.{IsGreatest, greatest as greatest_of, until};
 ghost use Rattle.universe_core.specs.Groups.{GroupFields, groups};
 ghost use Rattle.universe_core.specs.Counting.{count, counts};
 ghost use Rattle.universe_core.specs.declared.class.Class.TheVariants.{Unread, Uncovered, Unenrolled, Late, Accepted};
 ghost use Rattle.universe_core.specs.Ledgers.{no_ledger, past_in, next_ledger, item_from, ledger_of, last};
-ghost use Rattle.universe_core.specs.Rebases.{is_lasting, rebased_head, rebased_groups, rebased_ledger};
+ghost use Rattle.universe_core.specs.Rebases.{is_other, ledger_without, is_lasting, rebased_head, rebased_groups, rebased_ledger};
 ghost use Rattle.universe_core.specs.Step.{refusal, groups_after, counts_after};
 ghost use Rattle.history_core.specs.Facts.{IsSound, KeepsCoverage, AllKeepCoverage, Leaves, Widens};
 ghost use Rattle.history_core.specs.Showing.{PartView, Shows, answers_of, said};
 ghost use Rattle.history_core.specs.Publishing.{IsExact, part_of};
 ghost use Rattle.history_core.specs.Beginnings.{sees};
-ghost use Rattle.history_core.specs.Bases.{kept_by, base_with, base_head, base_at};
+ghost use Rattle.history_core.specs.Bases.{kept_by, base_with, base_head, releases_without, is_lasting_by, base_at};
 ghost use Rattle.history_core.specs.Example.{certificate, second_job, after_first};
 
 /// The facts hold of no release, and each job that isn't refused keeps them, from any state in which they hold
@@ -92,6 +92,44 @@ pub fn base_stands_for_its_history()
         (x : Identity) (s : Sighting) (ss : List Sighting) → IsSound rs → AllZip Shows parts rs → Shows part (base_with keeps rs trailer)
         → has (kept_by keeps rs) x ≡ true → ((t : Sighting) → Among (s ∷ ss) t → Among (sightings x (seen rs)) t)
         → said (answers_of x (s ∷ ss) parts) ≡ said (answers_of x (s ∷ ss) (part ∷ [])) }
+{}
+
+/// The releases of a history without some issuers are sound (`sound`), and their ledger is that of the history without
+/// these issuers (`ledger`), so that what holds of the base of a history holds of a base without issuers. They have the
+/// head, and of what was accepted all of other issuers; and of an identity of another issuer they know what the history
+/// does: its accepted sightings, its date, whether it is listed, and whether a base keeps it. Without no issuer, they are
+/// the history's (`none`).
+pub fn issuers_are_left_out()
+    ensures sound { (without : List (List ℕ)) (rs : List Release) → IsSound rs → IsSound (releases_without without rs) }
+    ensures ledger { (without : List (List ℕ)) (rs : List Release)
+        → ledger_without without (ledger_of rs) ≡ ledger_of (releases_without without rs) }
+    ensures head { (without : List (List ℕ)) (rs : List Release) → base_head (releases_without without rs) ≡ base_head rs }
+    ensures accepted { (without : List (List ℕ)) (rs : List Release)
+        → accepted_by [] (releases_without without rs) ≡ filter (λ x. is_other without x.issuer) (accepted_by [] rs) }
+    ensures sightings { (without : List (List ℕ)) (rs : List Release) (x : Identity) → has_key without x.issuer ≡ false
+        → sightings x (seen (releases_without without rs)) ≡ sightings x (seen rs) }
+    ensures date { (without : List (List ℕ)) (rs : List Release) (x : Identity) → has_key without x.issuer ≡ false
+        → until x (releases_without without rs) ≡ until x rs }
+    ensures listing { (without : List (List ℕ)) (rs : List Release) (x : Identity) → has_key without x.issuer ≡ false
+        → is_listed (releases_without without rs) x ≡ is_listed rs x }
+    ensures kept { (moment : ℕ) (without : List (List ℕ)) (rs : List Release) (x : Identity) → has_key without x.issuer ≡ false
+        → has (kept_by (is_lasting_by moment (releases_without without rs)) (releases_without without rs)) x
+        ≡ has (kept_by (is_lasting_by moment rs) rs) x }
+    ensures none { (rs : List Release) → releases_without [] rs ≡ rs }
+{}
+
+/// An issuer that was left out can come back. The base without it doesn't enroll it (`unenrolled`). While no release
+/// does, none of its entries is late, whatever the releases cover and whatever was accepted before the base (`timely`);
+/// so the first job that enrolls it accepts each of its entries that the job covers (`accepted`).
+pub fn left_out_issuers_come_back()
+    ensures unenrolled { (keeps : Identity → Bool) (without : List (List ℕ)) (rs : List Release) (trailer issuer : List ℕ)
+        → has_key without issuer ≡ true → has_key (base_with keeps (releases_without without rs) trailer).issuers issuer ≡ false }
+    ensures timely { (rs : List Release) (x : Identity) (s : Sighting)
+        → ((r : Release) → Among rs r → has_key r.issuers x.issuer ≡ false) → is_lacked_by rs x s ≡ false }
+    ensures accepted { (rs : List Release) (job : Job) (trailer : List ℕ) (e : Entry)
+        → ((r : Release) → Among rs r → has_key r.issuers e.id.issuer ≡ false) → Among job.entries (Some e)
+        → covers job.ranges e.sighting ≡ true → has_key (enrolled job) e.id.issuer ≡ true
+        → Among (seen (rs ++ released (past_of rs) job trailer ∷ [])) e }
 {}
 
 /// What a rebase makes of the ledger of a history is what the base of that history makes: the head of its part, its

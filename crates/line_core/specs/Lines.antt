@@ -156,6 +156,13 @@ rebase_line epoch issuers universe revoked pruned =
     ++ codes " universe " ++ decimal universe ++ codes " revoked " ++ decimal revoked
     ++ codes " pruned " ++ decimal pruned ++ 10 ∷ []
 
+-- rebase-without epoch E issuers I universe U revoked R pruned N left M
+abbrev pub rebase_without_line : (epoch issuers universe revoked pruned left : ℕ) → List ℕ
+rebase_without_line epoch issuers universe revoked pruned left =
+    codes "rebase-without epoch " ++ decimal epoch ++ codes " issuers " ++ decimal issuers
+    ++ codes " universe " ++ decimal universe ++ codes " revoked " ++ decimal revoked
+    ++ codes " pruned " ++ decimal pruned ++ codes " left " ++ decimal left ++ 10 ∷ []
+
 -- sample NUMBER entries COUNT revoked R bytes B
 abbrev pub sample_line : (number count revoked bytes : ℕ) → List ℕ
 sample_line number count revoked bytes =

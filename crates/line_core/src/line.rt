@@ -4,7 +4,8 @@ ghost use Rattle.std.specs.Prelude.{◌≡◌, ◌+◌, ◌*◌, ◌≤◌, [], 
 ghost use Rattle.hex.specs.Hex.{encode_lower};
 ghost use Rattle.part_text.specs.PartText.{width_of};
 ghost use Rattle.line_core.specs.Lines.{stage_words, approx_words, mixed_words, leaf_words, body_words, note_line, report_line};
-ghost use Rattle.line_core.specs.Lines.{store_line, rebase_line, sample_line, gather_line, audit_line, disagreement_line};
+ghost use Rattle.line_core.specs.Lines.{store_line, rebase_line, rebase_without_line, sample_line, gather_line};
+ghost use Rattle.line_core.specs.Lines.{audit_line, disagreement_line};
 ghost use Rattle.line_core.specs.Lines.{head_line, range_line, block_line, shard_line, trailer_line};
 ghost use Rattle.line_core.specs.Lines.{seeds_line};
 
@@ -212,6 +213,28 @@ pub fn rebased(epoch: u64, issuers: usize, universe: usize, revoked: usize, prun
     line.push_count(b" universe ", universe as u64);
     line.push_count(b" revoked ", revoked as u64);
     line.push_count(b" pruned ", pruned as u64);
+    line.push(b"\n");
+    line
+}
+
+/// `rebase-without epoch E issuers I universe U revoked R pruned N left M`
+pub fn rebased_without(
+    epoch: u64,
+    issuers: usize,
+    universe: usize,
+    revoked: usize,
+    pruned: u32,
+    left: u32,
+) -> Line
+    ensures { result ≡ rebase_without_line epoch issuers universe revoked pruned left }
+{
+    let mut line = Line::new();
+    line.push_count(b"rebase-without epoch ", epoch);
+    line.push_count(b" issuers ", issuers as u64);
+    line.push_count(b" universe ", universe as u64);
+    line.push_count(b" revoked ", revoked as u64);
+    line.push_count(b" pruned ", pruned as u64);
+    line.push_count(b" left ", left as u64);
     line.push(b"\n");
     line
 }

@@ -14,7 +14,7 @@ use Rattle.sets_core.proofs.Sets.{key_set_ascends}
 use Rattle.universe_core.specs.declared.admitted.Group.{Group}
 use Rattle.universe_core.specs.Formats.{dated}
 use Rattle.universe_core.specs.Groups.{GroupFields, group_fields}
-use Rattle.universe_core.specs.Rebases.{is_lasting, issuers_in, kept, kept_revoked, count_pruned, group_among, rebased_head, rebased_groups, rebased_item, rebased_ledger}
+use Rattle.universe_core.specs.Rebases.{ledger_without, count_left, is_lasting, issuers_in, kept, kept_revoked, count_pruned, group_among, rebased_head, rebased_groups, rebased_item, rebased_ledger}
 use Rattle.rebase_core.proofs.Kept.{lasts_rebased}
 use Rattle.builder_core.specs.Building.{AreGroupBlocks, issuers_of, identities_in}
 use Rattle.builder_core.proofs.Admitted.{issuers_among, identities_among}
@@ -58,22 +58,25 @@ revoked_is keeps ledger =
 
 -- ---- what is built
 
-pub base_publishes : (ledger : LedgerFields) (moment : ℕ) (head : HeadFields) (groups : List Group) (next new : LedgerFields) (sealed : SealedFields) (counts : BaseCounts) (p : PublishedBase)
-    → length (issuers_in ledger.parts) ≤ 65535 → head ≡ rebased_head ledger.parts → map group_fields groups ≡ rebased_groups (is_lasting moment) ledger
-    → ((trailer : List ℕ) → sealed_with next trailer ≡ rebased_ledger (is_lasting moment) ledger trailer) → IsBuilt head (map group_fields groups) next sealed new
-    → counts.issuers ≡ length groups → counts.universe ≡ length new.items → counts.revoked ≡ length (filter (λ i. is_some i.last) new.items)
-    → counts.pruned ≡ count_pruned (is_lasting moment) ledger → p ≡ record { sealed = sealed; ledger = new; counts = counts } → IsBasePublication ledger moment p
-base_publishes ledger moment head groups next new sealed counts p few head_is is seals built issuers universe revoked pruned made_is =
-    let made : new ≡ rebased_ledger (is_lasting moment) ledger sealed.trailer = built.ledger_is ∙ seals sealed.trailer in
-    let many : counts.issuers ≡ length (issuers_in ledger.parts) = issuers ∙ sym (length-map groups group_fields) ∙ base_many (is_lasting moment) ledger (map group_fields groups) is in
-    let held : counts.universe ≡ length (kept (is_lasting moment) ledger) = universe ∙ ap (λ (l : LedgerFields). length l.items) made ∙ length-map (kept (is_lasting moment) ledger) rebased_item in
-    let listed : counts.revoked ≡ length (kept_revoked (is_lasting moment) ledger)
-    = revoked ∙ ap (λ (l : LedgerFields). length (filter (λ (i : LedgerItem). is_some i.last) l.items)) made ∙ revoked_is (is_lasting moment) ledger in
-    subst (IsBasePublication ledger moment) (sym made_is) (record {
+pub base_publishes : (ledger : LedgerFields) (moment : ℕ) (without : List (List ℕ)) (head : HeadFields) (groups : List Group) (next new : LedgerFields) (sealed : SealedFields)
+    (counts : BaseCounts) (p : PublishedBase) → length (issuers_in (ledger_without without ledger).parts) ≤ 65535 → head ≡ rebased_head (ledger_without without ledger).parts
+    → map group_fields groups ≡ rebased_groups (is_lasting moment) (ledger_without without ledger)
+    → ((trailer : List ℕ) → sealed_with next trailer ≡ rebased_ledger (is_lasting moment) (ledger_without without ledger) trailer)
+    → IsBuilt head (map group_fields groups) next sealed new → counts.issuers ≡ length groups → counts.universe ≡ length new.items
+    → counts.revoked ≡ length (filter (λ i. is_some i.last) new.items) → counts.pruned ≡ count_pruned (is_lasting moment) (ledger_without without ledger)
+    → counts.left ≡ count_left without ledger → p ≡ record { sealed = sealed; ledger = new; counts = counts } → IsBasePublication ledger moment without p
+base_publishes ledger moment without head groups next new sealed counts p few head_is is seals built issuers universe revoked pruned left made_is =
+    let rest : LedgerFields = ledger_without without ledger in
+    let made : new ≡ rebased_ledger (is_lasting moment) rest sealed.trailer = built.ledger_is ∙ seals sealed.trailer in
+    let many : counts.issuers ≡ length (issuers_in rest.parts) = issuers ∙ sym (length-map groups group_fields) ∙ base_many (is_lasting moment) rest (map group_fields groups) is in
+    let held : counts.universe ≡ length (kept (is_lasting moment) rest) = universe ∙ ap (λ (l : LedgerFields). length l.items) made ∙ length-map (kept (is_lasting moment) rest) rebased_item in
+    let listed : counts.revoked ≡ length (kept_revoked (is_lasting moment) rest)
+    = revoked ∙ ap (λ (l : LedgerFields). length (filter (λ (i : LedgerItem). is_some i.last) l.items)) made ∙ revoked_is (is_lasting moment) rest in
+    subst (IsBasePublication ledger moment without) (sym made_is) (record {
       few_issuers = few;
       head = built.head_is ∙ head_is;
       blocks = subst (λ (gs : List GroupFields). AreGroupBlocks (blocks_in dated) sha256_row gs sealed.part.blocks) is built.blocks;
       trailer = built.trailer;
       next = made;
-      counts = λ i. record { issuers = many i; universe = held i; revoked = listed i; pruned = pruned i };
+      counts = λ i. record { issuers = many i; universe = held i; revoked = listed i; pruned = pruned i; left = left i };
     })

@@ -10,16 +10,17 @@ use Rattle.part_text.specs.SealedFields.{SealedFields}
 use Rattle.part_text.specs.PartText.{unsealed_text}
 use Rattle.ledger_core.specs.declared.fields.LedgerItem.{LedgerItem}
 use Rattle.ledger_core.specs.LedgerFields.{LedgerFields}
-use Rattle.sets_core.specs.Sets.{key_set}
+use Rattle.sets_core.specs.Sets.{has_key, key_set}
 use Rattle.universe_core.specs.Formats.{dated}
 use Rattle.universe_core.specs.Groups.{GroupFields}
 use Rattle.universe_core.specs.History.{Release, accepted_by, is_listed}
 use Rattle.universe_core.specs.Ledgers.{item_from, ledger_of}
-use Rattle.universe_core.specs.Rebases.{is_lasting, issuers_in, kept, kept_revoked, count_pruned, rebased_head, rebased_groups, rebased_ledger}
+use Rattle.universe_core.specs.Rebases.{ledger_without, count_left, is_lasting, issuers_in, kept, kept_revoked, count_pruned, rebased_head, rebased_groups, rebased_ledger}
 use Rattle.universe_core.proofs.Tallies.{count_by-map}
 use Rattle.history_core.specs.Facts.{IsSound}
-use Rattle.history_core.specs.Bases.{all_issuers, kept_by, is_lasting_by}
+use Rattle.history_core.specs.Bases.{all_issuers, kept_by, releases_without, base_at, is_lasting_by}
 use Rattle.history_core.proofs.BaseLedgers.{issuers_same, head_same, ledger_same, accepted_same, revoked_same, groups_same}
+use Rattle.history_core.proofs.Without.{without_sound, ledger_without-of, many_without}
 use Rattle.builder_core.specs.Building.{AreGroupBlocks}
 use Rattle.publication_core.specs.Formats.{blocks_in}
 use Rattle.publication_core.specs.Histories.{base_groups, IsBasePart, IsRebasable, History, rebased, members, IsHistory, history}
@@ -29,25 +30,26 @@ use Rattle.publication_core.proofs.Publications.{blocks_of_each}
 
 -- ---- any ledger
 
--- A ledger whose parts have few issuers, with a block for each, is rebased.
-pub base_made : (ledger : LedgerFields) (moment : ℕ) → length (issuers_in ledger.parts) ≤ 65535
-    → (blocks : List Block) → AreGroupBlocks (blocks_in dated) sha256_row (rebased_groups (is_lasting moment) ledger) blocks
-    → (p : PublishedBase) × PublishesBase ledger moment (Ok p)
-base_made ledger moment few blocks are =
-    let made : PartFields = record { head = rebased_head ledger.parts; blocks = blocks } in
+-- A ledger whose parts have few other issuers, with a block for each, is rebased.
+pub base_made : (ledger : LedgerFields) (moment : ℕ) (without : List (List ℕ)) → length (issuers_in (ledger_without without ledger).parts) ≤ 65535
+    → (blocks : List Block) → AreGroupBlocks (blocks_in dated) sha256_row (rebased_groups (is_lasting moment) (ledger_without without ledger)) blocks
+    → (p : PublishedBase) × PublishesBase ledger moment without (Ok p)
+base_made ledger moment without few blocks are =
+    let made : PartFields = record { head = rebased_head (ledger_without without ledger).parts; blocks = blocks } in
     let sealed : SealedFields = record { part = made; trailer = sha256 (unsealed_text made) } in (
       record {
         sealed = sealed;
-        ledger = rebased_ledger (is_lasting moment) ledger sealed.trailer;
-        counts = base_counts_after moment ledger;
+        ledger = rebased_ledger (is_lasting moment) (ledger_without without ledger) sealed.trailer;
+        counts = base_counts_after moment without ledger;
       },
       record { few_issuers = few; head = refl; blocks = are; trailer = refl; next = refl; counts = refl },
     )
 
-pub can_be_rebased : (ledger : LedgerFields) (moment : ℕ) → CanBeRebased ledger moment → (p : PublishedBase) × PublishesBase ledger moment (Ok p)
-can_be_rebased ledger moment can =
-    let made = blocks_of_each (blocks_in dated) (rebased_groups (is_lasting moment) ledger) can.blocks in
-    base_made ledger moment can.few_issuers made.0 made.1
+pub can_be_rebased : (ledger : LedgerFields) (moment : ℕ) (without : List (List ℕ)) → CanBeRebased ledger moment without
+    → (p : PublishedBase) × PublishesBase ledger moment without (Ok p)
+can_be_rebased ledger moment without can =
+    let made = blocks_of_each (blocks_in dated) (rebased_groups (is_lasting moment) (ledger_without without ledger)) can.blocks in
+    base_made ledger moment without can.few_issuers made.0 made.1
 
 -- ---- the ledger of releases
 
@@ -71,48 +73,87 @@ module _ (moment : ℕ) (rs : List Release) (sound : IsSound rs) where
   unfolding ledger_of
   pruned_same = count_by-map (λ i. not (keeps i)) (item_from rs) (accepted_by [] rs)
 
-  counts_same : base_counts_after moment (ledger_of rs) ≡ base_counts moment rs
-  counts_same = λ i. record {
-    issuers = length (issuers_are rs i);
-    universe = universe_same i;
-    revoked = revoked_many i;
-    pruned = pruned_same i;
-  }
-
-  blocks_same : (blocks : List Block) → AreGroupBlocks (blocks_in dated) sha256_row (rebased_groups keeps (ledger_of rs)) blocks
+  -- the groups of the base
+  pub blocks_same : (blocks : List Block) → AreGroupBlocks (blocks_in dated) sha256_row (rebased_groups keeps (ledger_of rs)) blocks
       → AreGroupBlocks (blocks_in dated) sha256_row (base_groups moment rs) blocks
   blocks_same blocks are = subst (λ (gs : List GroupFields). AreGroupBlocks (blocks_in dated) sha256_row gs blocks) (groups_same keeps rs [] sound) are
 
-  rebasable_then : (p : PublishedBase) → 1 ≤ length rs → IsBasePublication (ledger_of rs) moment p → IsRebasable moment rs
-  rebasable_then p some x = record {
-    some = some;
-    few_issuers = subst (λ (ks : List (List ℕ)). length ks ≤ 65535) (issuers_are rs) x.few_issuers;
-    blocks = (p.sealed.part.blocks, blocks_same p.sealed.part.blocks x.blocks);
+-- how many identities these issuers have
+left_same : (without : List (List ℕ)) (rs : List Release) → count_left without (ledger_of rs) ≡ count_by (λ x. has_key without x.issuer) (accepted_by [] rs)
+unfolding ledger_of
+left_same without rs = count_by-map (λ (i : LedgerItem). has_key without i.id.issuer) (item_from rs) (accepted_by [] rs)
+
+-- ---- the same without some issuers
+
+module _ (moment : ℕ) (without : List (List ℕ)) (old : List Release) (sound : IsSound old) where
+  abbrev rest : List Release
+  rest = releases_without without old
+
+  rest_sound : IsSound rest
+  rest_sound = without_sound without old sound
+
+  -- the ledger without them is that of the releases without them
+  same : ledger_without without (ledger_of old) ≡ ledger_of rest
+  same = ledger_without-of without old
+
+  counts_same : base_counts_after moment without (ledger_of old) ≡ base_counts moment without old
+  counts_same = λ i. record {
+    issuers = (ap (λ (l : LedgerFields). length (issuers_in l.parts)) same ∙ ap length (issuers_are rest)) i;
+    universe = (ap (λ l. length (kept (is_lasting moment) l)) same ∙ universe_same moment rest rest_sound) i;
+    revoked = (ap (λ l. length (kept_revoked (is_lasting moment) l)) same ∙ revoked_many moment rest rest_sound) i;
+    pruned = (ap (λ l. count_pruned (is_lasting moment) l) same ∙ pruned_same moment rest rest_sound) i;
+    left = left_same without old i;
   }
 
-  base_part : (p : PublishedBase) → IsBasePublication (ledger_of rs) moment p → IsBasePart moment rs p.sealed
-  base_part p x = record { head_is = x.head ∙ head_same rs; blocks = blocks_same p.sealed.part.blocks x.blocks; trailer = x.trailer }
+  few_same : length (issuers_in (ledger_without without (ledger_of old)).parts) ≡ length (all_issuers rest)
+  few_same = ap (λ (l : LedgerFields). length (issuers_in l.parts)) same ∙ ap length (issuers_are rest)
 
-  rebased_then : IsRebasable moment rs → (p : PublishedBase) × PublishesBase (ledger_of rs) moment (Ok p)
+  base_blocks : (blocks : List Block) → AreGroupBlocks (blocks_in dated) sha256_row (rebased_groups (is_lasting moment) (ledger_without without (ledger_of old))) blocks
+      → AreGroupBlocks (blocks_in dated) sha256_row (base_groups moment rest) blocks
+  base_blocks blocks are =
+      blocks_same moment rest rest_sound blocks
+      (subst (λ (l : LedgerFields). AreGroupBlocks (blocks_in dated) sha256_row (rebased_groups (is_lasting moment) l) blocks) same are)
+
+  rebasable_then : (p : PublishedBase) → 1 ≤ length old → IsBasePublication (ledger_of old) moment without p → IsRebasable moment rest
+  rebasable_then p some x = record {
+    some = omega (arith, some, many_without without old);
+    few_issuers = omega (arith, few_same, x.few_issuers);
+    blocks = (p.sealed.part.blocks, base_blocks p.sealed.part.blocks x.blocks);
+  }
+
+  base_part : (p : PublishedBase) → IsBasePublication (ledger_of old) moment without p → IsBasePart moment rest p.sealed
+  base_part p x = record {
+    head_is = x.head ∙ ap (λ (l : LedgerFields). rebased_head l.parts) same ∙ head_same rest;
+    blocks = base_blocks p.sealed.part.blocks x.blocks;
+    trailer = x.trailer;
+  }
+
+  base_next : (p : PublishedBase) → IsBasePublication (ledger_of old) moment without p → p.ledger ≡ ledger_of (base_at moment rest p.sealed.trailer ∷ [])
+  base_next p x = x.next ∙ ap (λ l. rebased_ledger (is_lasting moment) l p.sealed.trailer) same ∙ ledger_same (is_lasting moment) rest p.sealed.trailer rest_sound
+
+  rebased_then : IsRebasable moment rest → (p : PublishedBase) × PublishesBase (ledger_of old) moment without (Ok p)
   rebased_then can =
-      base_made (ledger_of rs) moment (subst (λ (ks : List (List ℕ)). length ks ≤ 65535) (sym (issuers_are rs)) can.few_issuers) can.blocks.0
-      (subst (λ (gs : List GroupFields). AreGroupBlocks (blocks_in dated) sha256_row gs can.blocks.0) (sym (groups_same keeps rs [] sound)) can.blocks.1)
+      base_made (ledger_of old) moment without (omega (arith, few_same, can.few_issuers)) can.blocks.0
+      (subst (λ (l : LedgerFields). AreGroupBlocks (blocks_in dated) sha256_row (rebased_groups (is_lasting moment) l) can.blocks.0) (sym same)
+      (subst (λ (gs : List GroupFields). AreGroupBlocks (blocks_in dated) sha256_row gs can.blocks.0) (sym (groups_same (is_lasting moment) rest [] rest_sound)) can.blocks.1))
 
 -- ---- the ledger of a history
 
-module _ (h : History) (parts : List SealedFields) (moment : ℕ) (is : IsHistory h parts) where
-  pub base_rebasable : (p : PublishedBase) → 1 ≤ members h → PublishesBase (ledger_of (history h parts)) moment (Ok p) → IsRebasable moment (history h parts)
-  base_rebasable p some x = rebasable_then moment (history h parts) (history_sound h parts is) p (omega (arith, members_many h parts is, some)) x
+module _ (h : History) (parts : List SealedFields) (moment : ℕ) (without : List (List ℕ)) (is : IsHistory h parts) where
+  pub base_rebasable : (p : PublishedBase) → 1 ≤ members h → PublishesBase (ledger_of (history h parts)) moment without (Ok p)
+      → IsRebasable moment (releases_without without (history h parts))
+  base_rebasable p some x = rebasable_then moment without (history h parts) (history_sound h parts is) p (omega (arith, members_many h parts is, some)) x
 
-  pub base_history : (p : PublishedBase) → 1 ≤ members h → PublishesBase (ledger_of (history h parts)) moment (Ok p) → IsHistory (rebased h parts moment []) (p.sealed ∷ [])
-  base_history p some x = (is, base_rebasable p some x, base_part moment (history h parts) (history_sound h parts is) p x, tt)
+  pub base_history : (p : PublishedBase) → 1 ≤ members h → PublishesBase (ledger_of (history h parts)) moment without (Ok p)
+      → IsHistory (rebased h parts moment without []) (p.sealed ∷ [])
+  base_history p some x = (is, base_rebasable p some x, base_part moment without (history h parts) (history_sound h parts is) p x, tt)
 
-  pub base_ledger : (p : PublishedBase) → PublishesBase (ledger_of (history h parts)) moment (Ok p)
-      → p.ledger ≡ ledger_of (history (rebased h parts moment []) (p.sealed ∷ []))
-  base_ledger p x = x.next ∙ ledger_same (is_lasting moment) (history h parts) p.sealed.trailer (history_sound h parts is)
+  pub base_ledger : (p : PublishedBase) → PublishesBase (ledger_of (history h parts)) moment without (Ok p)
+      → p.ledger ≡ ledger_of (history (rebased h parts moment without []) (p.sealed ∷ []))
+  base_ledger p x = base_next moment without (history h parts) (history_sound h parts is) p x
 
-  pub base_numbers : (p : PublishedBase) → PublishesBase (ledger_of (history h parts)) moment (Ok p) → p.counts ≡ base_counts moment (history h parts)
-  base_numbers p x = x.counts ∙ counts_same moment (history h parts) (history_sound h parts is)
+  pub base_numbers : (p : PublishedBase) → PublishesBase (ledger_of (history h parts)) moment without (Ok p) → p.counts ≡ base_counts moment without (history h parts)
+  base_numbers p x = x.counts ∙ counts_same moment without (history h parts) (history_sound h parts is)
 
-  pub rebasable_published : IsRebasable moment (history h parts) → (p : PublishedBase) × PublishesBase (ledger_of (history h parts)) moment (Ok p)
-  rebasable_published can = rebased_then moment (history h parts) (history_sound h parts is) can
+  pub rebasable_published : IsRebasable moment (releases_without without (history h parts)) → (p : PublishedBase) × PublishesBase (ledger_of (history h parts)) moment without (Ok p)
+  rebasable_published can = rebased_then moment without (history h parts) (history_sound h parts is) can

@@ -16,3 +16,4 @@ pub mod Chains
 pub mod Bases
 pub mod BaseOutcomes
 pub mod BasePublishing
+pub mod LeftOut

@@ -8,11 +8,12 @@ use Rattle.part_text.specs.SealedFields.{SealedFields}
 use Rattle.part_text.specs.PartText.{unsealed_text}
 use Rattle.job_core.specs.declared.bounds.What.TheVariants.{Issuers}
 use Rattle.ledger_core.specs.LedgerFields.{LedgerFields}
+use Rattle.sets_core.specs.Sets.{has_key}
 use Rattle.universe_core.specs.Formats.{dated}
 use Rattle.universe_core.specs.Groups.{GroupFields}
 use Rattle.universe_core.specs.History.{Release, accepted_by, is_listed}
-use Rattle.universe_core.specs.Rebases.{is_lasting, issuers_in, kept, kept_revoked, count_pruned, rebased_head, rebased_groups, rebased_ledger}
-use Rattle.history_core.specs.Bases.{all_issuers, kept_by, is_lasting_by}
+use Rattle.universe_core.specs.Rebases.{ledger_without, count_left, is_lasting, issuers_in, kept, kept_revoked, count_pruned, rebased_head, rebased_groups, rebased_ledger}
+use Rattle.history_core.specs.Bases.{all_issuers, kept_by, releases_without, is_lasting_by}
 use Rattle.builder_core.specs.Building.{IsGroupBlock, AreGroupBlocks, IsFirstRefused}
 use Rattle.publication_core.specs.declared.base.BaseCounts.{BaseCounts}
 use Rattle.publication_core.specs.declared.base_fault.BaseFault.{BaseFault}
@@ -21,23 +22,30 @@ use Rattle.publication_core.specs.Formats.{blocks_in}
 
 -- ---- how many there are
 
--- what a rebase of the ledger keeps, and what it doesn't
-abbrev pub base_counts_after : ℕ → LedgerFields → BaseCounts
-base_counts_after moment ledger = record {
-  issuers = length (issuers_in ledger.parts);
-  universe = length (kept (is_lasting moment) ledger);
-  revoked = length (kept_revoked (is_lasting moment) ledger);
-  pruned = count_pruned (is_lasting moment) ledger;
+-- what a rebase of the ledger without some issuers keeps, and what it doesn't
+abbrev pub base_counts_after : ℕ → List (List ℕ) → LedgerFields → BaseCounts
+base_counts_after moment without ledger = record {
+  issuers = length (issuers_in (ledger_without without ledger).parts);
+  universe = length (kept (is_lasting moment) (ledger_without without ledger));
+  revoked = length (kept_revoked (is_lasting moment) (ledger_without without ledger));
+  pruned = count_pruned (is_lasting moment) (ledger_without without ledger);
+  left = count_left without ledger;
 }
 
--- the same of the base of these releases
-abbrev pub base_counts : ℕ → List Release → BaseCounts
-base_counts moment rs = record {
+-- the same of the base of releases
+abbrev pub counts_of_base : ℕ → List Release → ℕ → BaseCounts
+counts_of_base moment rs left = record {
   issuers = length (all_issuers rs);
   universe = length (kept_by (is_lasting_by moment rs) rs);
   revoked = length (filter (is_listed rs) (kept_by (is_lasting_by moment rs) rs));
   pruned = count_by (λ x. not (is_lasting_by moment rs x)) (accepted_by [] rs);
+  left = left;
 }
+
+-- the same of the base of these releases without some issuers
+abbrev pub base_counts : ℕ → List (List ℕ) → List Release → BaseCounts
+base_counts moment without rs =
+    counts_of_base moment (releases_without without rs) (count_by (λ x. has_key without x.issuer) (accepted_by [] rs))
 
 -- ---- what is published
 
@@ -47,33 +55,34 @@ pub record PublishedBase : Type 0 where
   pub ledger : LedgerFields
   pub counts : BaseCounts
 
--- what the ledger makes at the moment
-pub record IsBasePublication (ledger : LedgerFields) (moment : ℕ) (p : PublishedBase) : Type 0 where
-  pub few_issuers : length (issuers_in ledger.parts) ≤ MAX_ISSUERS
-  pub head : p.sealed.part.head ≡ rebased_head ledger.parts
-  pub blocks : AreGroupBlocks (blocks_in dated) sha256_row (rebased_groups (is_lasting moment) ledger) p.sealed.part.blocks
+-- what the ledger makes at the moment, without these issuers
+pub record IsBasePublication (ledger : LedgerFields) (moment : ℕ) (without : List (List ℕ)) (p : PublishedBase) : Type 0 where
+  pub few_issuers : length (issuers_in (ledger_without without ledger).parts) ≤ MAX_ISSUERS
+  pub head : p.sealed.part.head ≡ rebased_head (ledger_without without ledger).parts
+  pub blocks : AreGroupBlocks (blocks_in dated) sha256_row (rebased_groups (is_lasting moment) (ledger_without without ledger)) p.sealed.part.blocks
   pub trailer : p.sealed.trailer ≡ sha256 (unsealed_text p.sealed.part)
-  pub next : p.ledger ≡ rebased_ledger (is_lasting moment) ledger p.sealed.trailer
-  pub counts : p.counts ≡ base_counts_after moment ledger
+  pub next : p.ledger ≡ rebased_ledger (is_lasting moment) (ledger_without without ledger) p.sealed.trailer
+  pub counts : p.counts ≡ base_counts_after moment without ledger
 
--- That; or the ledger's parts have more different issuers than a part may; or they haven't, and an issuer has no block.
-abbrev pub PublishesBase : LedgerFields → ℕ → Result PublishedBase BaseFault → Type 0
-PublishesBase ledger moment (Ok p) = IsBasePublication ledger moment p
-PublishesBase ledger moment (Err (TooMany what limit)) =
-    (what ≡ Issuers) × (limit ≡ MAX_ISSUERS) × (MAX_ISSUERS < length (issuers_in ledger.parts))
-PublishesBase ledger moment (Err (SeedsExhausted issuer stage)) =
-    (length (issuers_in ledger.parts) ≤ MAX_ISSUERS)
-    × IsFirstRefused (blocks_in dated) sha256_row (rebased_groups (is_lasting moment) ledger) issuer stage
-PublishesBase ledger moment (Err NoMemory) = ⊥
+-- That; or the ledger's parts have more different issuers than a part may, these not counted; or they haven't, and an
+-- issuer has no block.
+abbrev pub PublishesBase : LedgerFields → ℕ → List (List ℕ) → Result PublishedBase BaseFault → Type 0
+PublishesBase ledger moment without (Ok p) = IsBasePublication ledger moment without p
+PublishesBase ledger moment without (Err (TooMany what limit)) =
+    (what ≡ Issuers) × (limit ≡ MAX_ISSUERS) × (MAX_ISSUERS < length (issuers_in (ledger_without without ledger).parts))
+PublishesBase ledger moment without (Err (SeedsExhausted issuer stage)) =
+    (length (issuers_in (ledger_without without ledger).parts) ≤ MAX_ISSUERS)
+    × IsFirstRefused (blocks_in dated) sha256_row (rebased_groups (is_lasting moment) (ledger_without without ledger)) issuer stage
+PublishesBase ledger moment without (Err NoMemory) = ⊥
 
 -- the same, or want of memory
-abbrev pub PublishesBaseUnless : LedgerFields → ℕ → Result PublishedBase BaseFault → Type 0
-PublishesBaseUnless ledger moment (Ok p) = PublishesBase ledger moment (Ok p)
-PublishesBaseUnless ledger moment (Err NoMemory) = Unit {0}
-PublishesBaseUnless ledger moment (Err fault) = PublishesBase ledger moment (Err fault)
+abbrev pub PublishesBaseUnless : LedgerFields → ℕ → List (List ℕ) → Result PublishedBase BaseFault → Type 0
+PublishesBaseUnless ledger moment without (Ok p) = PublishesBase ledger moment without (Ok p)
+PublishesBaseUnless ledger moment without (Err NoMemory) = Unit {0}
+PublishesBaseUnless ledger moment without (Err fault) = PublishesBase ledger moment without (Err fault)
 
--- The ledger's parts have few issuers, and each of these has a block at the moment.
-pub record CanBeRebased (ledger : LedgerFields) (moment : ℕ) : Type 0 where
-  pub few_issuers : length (issuers_in ledger.parts) ≤ MAX_ISSUERS
-  pub blocks : (g : GroupFields) → Contains (rebased_groups (is_lasting moment) ledger) g
+-- The ledger's parts have few other issuers, and each of these has a block at the moment.
+pub record CanBeRebased (ledger : LedgerFields) (moment : ℕ) (without : List (List ℕ)) : Type 0 where
+  pub few_issuers : length (issuers_in (ledger_without without ledger).parts) ≤ MAX_ISSUERS
+  pub blocks : (g : GroupFields) → Contains (rebased_groups (is_lasting moment) (ledger_without without ledger)) g
       → (block : Block) × IsGroupBlock (blocks_in dated) sha256_row g block

@@ -7,14 +7,16 @@ use std::marker::Model;
 /// How many a chain that begins anew has of each.
 #[derive(Clone, Copy, Debug, PartialEq, Eq)]
 pub struct BaseCounts {
-    /// The issuers that were enrolled in some part of the old chain.
+    /// The issuers that were enrolled in some part of the old chain and aren't left out.
     pub issuers: usize,
     /// The identities that are kept.
     pub universe: usize,
     /// Those of them that are revoked.
     pub revoked: usize,
-    /// The identities that have expired, and aren't kept.
+    /// The identities of these issuers that have expired, and aren't kept.
     pub pruned: u32,
+    /// The identities of issuers that are left out.
+    pub left: u32,
 }
 
 /// What a rebase publishes: the part that begins a chain anew, the ledger after it, and the counts that are reported.

@@ -1,53 +1,75 @@
 //! What follows for the base of every history, with no call.
 
-ghost use Rattle.std.specs.Prelude.{◌≡◌, ◌≤◌, ◌∷◌, [], ℕ, List, Ok, Result, length, map, true};
+ghost use Rattle.std.specs.Prelude.{◌≡◌, ◌≤◌, ◌∷◌, ◌++◌, [], ℕ, List, Ok, Result, Some, length, map, true, false, if◌then◌else◌};
+ghost use Rattle.std.specs.List.{list_any};
 ghost use Rattle.ident_core.specs.declared.identity.Identity.{Identity};
 ghost use Rattle.ident_core.specs.declared.range.Sighting.{Sighting};
 ghost use Rattle.part_text.specs.SealedFields.{SealedFields};
 ghost use Rattle.ledger_core.specs.LedgerFields.{LedgerFields};
 ghost use Rattle.sets_core.specs.Among.{Among};
-ghost use Rattle.sets_core.specs.Sets.{has};
+ghost use Rattle.sets_core.specs.Sets.{has, has_key};
+ghost use Rattle.ident_core.specs.Coverage.{covers};
+ghost use Rattle.universe_core.specs.Formats.{JobIn, facts_in};
+ghost use Rattle.universe_core.specs.Jobs.{Entry, is_enrolled};
 ghost use Rattle.universe_core.specs.History.{seen, sightings};
 ghost use Rattle.universe_core.specs.Ledgers.{ledger_of};
-ghost use Rattle.history_core.specs.Bases.{kept_by, is_lasting_by};
+ghost use Rattle.history_core.specs.Bases.{kept_by, releases_without, is_lasting_by};
+ghost use Rattle.card_core.specs.declared.verdict.Verdict.TheVariants as Verdict;
+ghost use Rattle.card_core.specs.Consulting.{covers_some};
 ghost use Rattle.card_core.specs.Verdict.{verdict};
 ghost use Rattle.publication_core.specs.declared.base_fault.BaseFault.{BaseFault};
-ghost use Rattle.publication_core.specs.Histories.{History, rebased, members, IsHistory, history, IsRebasable};
+ghost use Rattle.publication_core.specs.Histories.{History, rebased, members, with_job, IsHistory, history, IsRebasable, LeavesOut};
 ghost use Rattle.publication_core.specs.Rebasing.{PublishedBase, PublishesBase, CanBeRebased, base_counts};
 
 /// What a rebase publishes behind the ledger of a history is that of the history's base: a base may stand for it
 /// (`rebasable`), the history that begins with this base has its part (`history`) and its ledger (`ledger`), and its
 /// counts (`numbers`). Each history for which a base may stand is rebased (`complete`).
 pub fn bases_are_published()
-    ensures rebasable { (h : History) (parts : List SealedFields) (moment : ℕ) (p : PublishedBase) → IsHistory h parts → 1 ≤ members h
-        → PublishesBase (ledger_of (history h parts)) moment (Ok p) → IsRebasable moment (history h parts) }
-    ensures history { (h : History) (parts : List SealedFields) (moment : ℕ) (p : PublishedBase) → IsHistory h parts → 1 ≤ members h
-        → PublishesBase (ledger_of (history h parts)) moment (Ok p) → IsHistory (rebased h parts moment []) (p.sealed ∷ []) }
-    ensures ledger { (h : History) (parts : List SealedFields) (moment : ℕ) (p : PublishedBase) → IsHistory h parts
-        → PublishesBase (ledger_of (history h parts)) moment (Ok p)
-        → p.ledger ≡ ledger_of (history (rebased h parts moment []) (p.sealed ∷ [])) }
-    ensures numbers { (h : History) (parts : List SealedFields) (moment : ℕ) (p : PublishedBase) → IsHistory h parts
-        → PublishesBase (ledger_of (history h parts)) moment (Ok p) → p.counts ≡ base_counts moment (history h parts) }
-    ensures complete { (h : History) (parts : List SealedFields) (moment : ℕ) → IsHistory h parts → IsRebasable moment (history h parts)
-        → (p : PublishedBase) × PublishesBase (ledger_of (history h parts)) moment (Ok p) }
+    ensures rebasable { (h : History) (parts : List SealedFields) (moment : ℕ) (without : List (List ℕ)) (p : PublishedBase) → IsHistory h parts → 1 ≤ members h
+        → PublishesBase (ledger_of (history h parts)) moment without (Ok p) → IsRebasable moment (releases_without without (history h parts)) }
+    ensures history { (h : History) (parts : List SealedFields) (moment : ℕ) (without : List (List ℕ)) (p : PublishedBase) → IsHistory h parts → 1 ≤ members h
+        → PublishesBase (ledger_of (history h parts)) moment without (Ok p) → IsHistory (rebased h parts moment without []) (p.sealed ∷ []) }
+    ensures ledger { (h : History) (parts : List SealedFields) (moment : ℕ) (without : List (List ℕ)) (p : PublishedBase) → IsHistory h parts
+        → PublishesBase (ledger_of (history h parts)) moment without (Ok p)
+        → p.ledger ≡ ledger_of (history (rebased h parts moment without []) (p.sealed ∷ [])) }
+    ensures numbers { (h : History) (parts : List SealedFields) (moment : ℕ) (without : List (List ℕ)) (p : PublishedBase) → IsHistory h parts
+        → PublishesBase (ledger_of (history h parts)) moment without (Ok p) → p.counts ≡ base_counts moment without (history h parts) }
+    ensures complete { (h : History) (parts : List SealedFields) (moment : ℕ) (without : List (List ℕ))
+        → IsHistory h parts → IsRebasable moment (releases_without without (history h parts))
+        → (p : PublishedBase) × PublishesBase (ledger_of (history h parts)) moment without (Ok p) }
 {}
 
 /// One thing comes of a rebase behind a ledger (`outcome`), that of a history or not: something is published or there
 /// is a reason against it (`some`), and it is published where its issuers are few and each has a block (`complete`).
 /// Want of memory is no reason.
 pub fn one_thing_comes_of_a_rebase()
-    ensures outcome { (ledger : LedgerFields) (moment : ℕ) (a b : Result PublishedBase BaseFault)
-        → PublishesBase ledger moment a → PublishesBase ledger moment b → a ≡ b }
-    ensures some { (ledger : LedgerFields) (moment : ℕ) → (o : Result PublishedBase BaseFault) × PublishesBase ledger moment o }
-    ensures complete { (ledger : LedgerFields) (moment : ℕ) → CanBeRebased ledger moment
-        → (p : PublishedBase) × PublishesBase ledger moment (Ok p) }
+    ensures outcome { (ledger : LedgerFields) (moment : ℕ) (without : List (List ℕ)) (a b : Result PublishedBase BaseFault)
+        → PublishesBase ledger moment without a → PublishesBase ledger moment without b → a ≡ b }
+    ensures some { (ledger : LedgerFields) (moment : ℕ) (without : List (List ℕ)) → (o : Result PublishedBase BaseFault) × PublishesBase ledger moment without o }
+    ensures complete { (ledger : LedgerFields) (moment : ℕ) (without : List (List ℕ)) → CanBeRebased ledger moment without
+        → (p : PublishedBase) × PublishesBase ledger moment without (Ok p) }
 {}
 
-/// A rebase keeps the verdicts: of an identity that has not expired, asked with one or more accepted sightings of the
-/// history, the part of the base says what the parts of the history say.
+/// A rebase keeps the verdicts: of an identity that has not expired and whose issuer isn't left out, asked with one or
+/// more accepted sightings of the history, the part of the base says what the parts of the history say.
 pub fn rebases_keep_verdicts()
-    ensures { (h : History) (parts : List SealedFields) (moment : ℕ) (s : SealedFields) (x : Identity) (ss : List Sighting)
-        → IsHistory (rebased h parts moment []) (s ∷ []) → has (kept_by (is_lasting_by moment (history h parts)) (history h parts)) x ≡ true
+    ensures { (h : History) (parts : List SealedFields) (moment : ℕ) (without : List (List ℕ)) (s : SealedFields)
+        (x : Identity) (ss : List Sighting)
+        → IsHistory (rebased h parts moment without []) (s ∷ []) → has (kept_by (is_lasting_by moment (history h parts)) (history h parts)) x ≡ true
+        → has_key without x.issuer ≡ false
         → 1 ≤ length ss → ((t : Sighting) → Among ss t → Among (sightings x (seen (history h parts))) t)
         → verdict (map (λ t. t.part) parts) x ss ≡ verdict (s.part ∷ []) x ss }
+{}
+
+/// An issuer that a base leaves out can come back. While no job enrolls it, the parts say of its certificates that they
+/// aren't enrolled wherever a part covers one of the sightings (`unenrolled`). The first job that enrolls it accepts each
+/// of its entries that the job covers, those among them that were accepted before the base too (`come_back`): from then on
+/// what holds of accepted sightings holds of them.
+pub fn issuers_that_are_left_out_come_back()
+    ensures unenrolled { (h : History) (parts : List SealedFields) (x : Identity) (ss : List Sighting) → IsHistory h parts
+        → LeavesOut h x.issuer → verdict (map (λ t. t.part) parts) x ss
+        ≡ (if list_any (covers_some ss) (map (λ t. t.part) parts) then Verdict.NotEnrolled else Verdict.NotCovered) }
+    ensures come_back { (h : History) (parts : List SealedFields) (j : JobIn) (s : SealedFields) (e : Entry) → IsHistory h parts
+        → LeavesOut h e.id.issuer → Among (facts_in j).entries (Some e) → covers (facts_in j).ranges e.sighting ≡ true
+        → is_enrolled (facts_in j) e.id.issuer ≡ true → Among (seen (history (with_job h j) (parts ++ s ∷ []))) e }
 {}

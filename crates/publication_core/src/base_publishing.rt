@@ -9,6 +9,7 @@ use crate::base_fault::{BaseFault, base_building_fault, rebasing_fault};
 use crate::publish::built;
 use builder_core::Gate;
 use ledger_core::{Ledger, LedgerItem};
+use octets_core::Key32;
 use rebase_core::{Rebased, rebase};
 use std::alloc::Global;
 use std::thread::Threads;
@@ -21,7 +22,8 @@ fn count_revoked(items: &[LedgerItem]) -> usize
 }
 
 /// What is published of a ledger without the identities whose date lies before the moment, which is in milliseconds
-/// since 1970: the part and the ledger that begin a chain anew. It is built by 1 to 64 workers, each of which enters
+/// since 1970, and without some issuers, which may stand in any order, more than once, and in no part: the part and the
+/// ledger that begin a chain anew. It is built by 1 to 64 workers, each of which enters
 /// the gate before it builds a leaf of an issuer's block. The ledger is let go before the part is built.
 pub fn publish_base<R: Threads + Sync, G: Gate + Sync>(
     rt: &R,
@@ -29,18 +31,20 @@ pub fn publish_base<R: Threads + Sync, G: Gate + Sync>(
     gate: &G,
     ledger: Ledger,
     moment: u64,
+    without: &[Key32],
     workers: u32,
 ) -> Result<BasePublication, BaseFault>
     requires some_workers { 1 ≤ workers }
     requires few_workers { workers ≤ MAX_WORKERS }
-    ensures { PublishesBaseUnless ledger moment result }
+    ensures { PublishesBaseUnless ledger moment without.now result }
 {
     let Rebased {
         head,
         groups,
         pruned,
+        left,
         next,
-    } = match rebase(alloc, &ledger, moment) {
+    } = match rebase(alloc, &ledger, moment, without) {
         Ok(rebased) => rebased,
         Err(fault) => return Err(rebasing_fault(fault)),
     };
@@ -54,6 +58,7 @@ pub fn publish_base<R: Threads + Sync, G: Gate + Sync>(
         universe: ledger.items().len(),
         revoked: count_revoked(ledger.items()),
         pruned,
+        left,
     };
     Ok(BasePublication::new(sealed, ledger, counts))
 }

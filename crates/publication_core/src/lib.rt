@@ -18,7 +18,10 @@ mod verdict_laws;
 
 pub use base::{BaseCounts, BasePublication};
 pub use base_fault::BaseFault;
-pub use base_laws::{bases_are_published, one_thing_comes_of_a_rebase, rebases_keep_verdicts};
+pub use base_laws::{
+    bases_are_published, issuers_that_are_left_out_come_back, one_thing_comes_of_a_rebase,
+    rebases_keep_verdicts,
+};
 pub use base_publishing::publish_base;
 pub use builder_core::{Gate, Open};
 pub use chain_laws::parts_are_chains;

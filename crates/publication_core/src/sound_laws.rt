@@ -13,7 +13,7 @@ ghost use Rattle.universe_core.specs.Formats.{JobIn, facts_in};
 ghost use Rattle.universe_core.specs.History.{Release, accepted_by, seen, sightings, birth, is_listed};
 ghost use Rattle.universe_core.specs.Ledgers.{last};
 ghost use Rattle.history_core.specs.Facts.{IsSound};
-ghost use Rattle.history_core.specs.Bases.{kept_by, base_at, is_lasting_by};
+ghost use Rattle.history_core.specs.Bases.{kept_by, releases_without, base_at, is_lasting_by};
 ghost use Rattle.publication_core.specs.Histories.{IsAdmissible, release_of, History, of_jobs, rebased, IsHistory, history};
 
 /// Every history is sound: it is so before the first job (`begun`), a base is where the releases are for which it stands
@@ -48,10 +48,11 @@ pub fn histories_are_sound()
         → is_listed (history (of_jobs jobs) parts) x
         ≡ list_any (λ j. lists (facts_in j) x && is_enrolled (facts_in j) x.issuer)
         (drop (birth x (history (of_jobs jobs) parts)) jobs) }
-    ensures listed_behind { (h : History) (old : List SealedFields) (moment : ℕ) (jobs : List JobIn) (parts : List SealedFields)
-        (x : Identity) → IsHistory (rebased h old moment jobs) parts
-        → is_listed (history (rebased h old moment jobs) parts) x
-        ≡ ((has (kept_by (is_lasting_by moment (history h old)) (history h old)) x && is_listed (history h old) x)
+    ensures listed_behind { (h : History) (old : List SealedFields) (moment : ℕ) (without : List (List ℕ)) (jobs : List JobIn)
+        (parts : List SealedFields) (x : Identity) → IsHistory (rebased h old moment without jobs) parts
+        → is_listed (history (rebased h old moment without jobs) parts) x
+        ≡ ((has (kept_by (is_lasting_by moment (releases_without without (history h old))) (releases_without without (history h old))) x
+        && is_listed (releases_without without (history h old)) x)
         || list_any (λ j. lists (facts_in j) x && is_enrolled (facts_in j) x.issuer)
-        (drop (birth x (drop 1 (history (rebased h old moment jobs) parts))) jobs)) }
+        (drop (birth x (drop 1 (history (rebased h old moment without jobs) parts))) jobs)) }
 {}

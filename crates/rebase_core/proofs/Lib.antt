@@ -1,3 +1,4 @@
 pub mod Kept
+pub mod Without
 pub mod Parts
 pub mod Built

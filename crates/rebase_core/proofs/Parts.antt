@@ -1,15 +1,16 @@
 -- The parts of a ledger: their issuers, and the newest one.
-use Rattle.std.specs.List.{flat_map}
+use Rattle.std.specs.List.{filter, flat_map}
 use Rattle.std.proofs.Common.{◌≡◌, ℕ, zero, suc, ◌+◌, List, [], ◌∷◌, map, length, get_or, Option, Some, sym, ap, subst, arith}
 use Rattle.octets_core.specs.Linked.{Linked}
 use Rattle.ident_core.specs.Coverage.{RangesFit}
 use Rattle.ledger_core.specs.LedgerFields.{LedgerPartFields, IsPartAfter, part_fields, newest}
 use Rattle.ledger_core.specs.declared.fields.LedgerPart.{LedgerPart}
 use Rattle.sets_core.proofs.Elements.{some_item}
+use Rattle.universe_core.specs.Rebases.{is_other}
 
--- the issuers of each, one part after the other
-abbrev pub issuers_each : List LedgerPart → List (List ℕ)
-issuers_each ps = flat_map (λ (p : LedgerPartFields). p.issuers) (map part_fields ps)
+-- the issuers of each but for these, one part after the other
+abbrev pub issuers_each : List (List ℕ) → List LedgerPart → List (List ℕ)
+issuers_each without ps = flat_map (λ (p : LedgerPartFields). filter (is_other without) p.issuers) (map part_fields ps)
 
 -- the last of the parts is the newest
 pub newest_at : (ps : List LedgerPart) (p : LedgerPart) (i : ℕ) → i + 1 ≡ length ps → p ≡ get_or ps i p → newest (map part_fields ps) ≡ Some (part_fields p)

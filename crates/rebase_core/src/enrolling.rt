@@ -1,9 +1,11 @@
-ghost use Rattle.std.specs.Prelude.{◌≡◌, IfOk, map, flat_map};
+ghost use Rattle.std.specs.Prelude.{◌≡◌, ◌++◌, IfOk, OnOk, map, filter, flat_map};
 ghost use Rattle.std.specs.List.Sorted.{IsStrictlySortedBy};
 ghost use Rattle.ident_core.specs.Order.{octets_cmp};
 ghost use Rattle.ledger_core.specs.LedgerFields.{part_fields};
-ghost use Rattle.universe_core.specs.Rebases.{issuers_in};
+ghost use Rattle.sets_core.specs.Sets.{key_set};
+ghost use Rattle.universe_core.specs.Rebases.{is_other};
 
+use crate::leaving::LeftOut;
 use ledger_core::LedgerPart;
 use octets_core::Key32;
 use sets_core::sort_keys_once;
@@ -18,23 +20,49 @@ fn room(parts: &[LedgerPart]) -> usize {
     count
 }
 
-/// The issuers of all parts, one part after the other.
-fn each_issuer(alloc: Global, parts: &[LedgerPart]) -> Result<Vec<Key32>, AllocError>
-    ensures { IfOk result (λ keys. keys.items ≡ flat_map (λ p. p.issuers) (map part_fields parts.now)) }
+/// Puts behind the keys those issuers that aren't left out.
+fn put_others(
+    keys: &mut Vec<Key32>,
+    issuers: &[Key32],
+    left_out: &LeftOut,
+) -> Result<(), AllocError>
+    ensures { OnOk result (keys.new.items ≡ keys.old.items ++ filter (is_other left_out.now) issuers.now) }
+{
+    for issuer in issuers {
+        if !left_out.has(issuer) {
+            keys.push(*issuer)?;
+        }
+    }
+    Ok(())
+}
+
+/// The issuers of all parts that aren't left out, one part after the other.
+fn each_issuer(
+    alloc: Global,
+    parts: &[LedgerPart],
+    left_out: &LeftOut,
+) -> Result<Vec<Key32>, AllocError>
+    ensures { IfOk result (λ keys. keys.items
+        ≡ flat_map (λ p. filter (is_other left_out.now) p.issuers) (map part_fields parts.now)) }
 {
     let mut keys = Vec::with_capacity(alloc, room(parts))?;
     for part in parts {
-        keys.extend_from_slice(&part.issuers)?;
+        put_others(&mut keys, &part.issuers, left_out)?;
     }
     Ok(keys)
 }
 
-/// The issuers of all parts, ascending, each once.
-pub(crate) fn all_issuers(alloc: Global, parts: &[LedgerPart]) -> Result<Vec<Key32>, AllocError>
-    ensures set { IfOk result (λ keys. keys.items ≡ issuers_in (map part_fields parts.now)) }
+/// The issuers of all parts that aren't left out, ascending, each once.
+pub(crate) fn all_issuers(
+    alloc: Global,
+    parts: &[LedgerPart],
+    left_out: &LeftOut,
+) -> Result<Vec<Key32>, AllocError>
+    ensures set { IfOk result (λ keys. keys.items
+        ≡ key_set (flat_map (λ p. filter (is_other left_out.now) p.issuers) (map part_fields parts.now))) }
     ensures ascend { IfOk result (λ keys. IsStrictlySortedBy octets_cmp keys.items) }
 {
-    let mut keys = each_issuer(alloc, parts)?;
+    let mut keys = each_issuer(alloc, parts, left_out)?;
     sort_keys_once(&mut keys);
     Ok(keys)
 }

@@ -1,7 +1,9 @@
-ghost use Rattle.std.specs.Prelude.{◌≡◌, IfOk, map, filter, is_some, count_by};
+ghost use Rattle.std.specs.Prelude.{◌≡◌, ◌&&◌, IfOk, map, filter, is_some, count_by};
+ghost use Rattle.sets_core.specs.Sets.{has_key};
 ghost use Rattle.universe_core.specs.Jobs.{is_stale};
-ghost use Rattle.universe_core.specs.Rebases.{is_lasting, rebased_item};
+ghost use Rattle.universe_core.specs.Rebases.{is_lasting, is_of_other, rebased_item};
 
+use crate::leaving::LeftOut;
 use ledger_core::LedgerItem;
 use std::alloc::{AllocError, Global};
 
@@ -21,6 +23,12 @@ fn lasts(item: &LedgerItem, moment: u64) -> bool
     !is_past(item.until, moment)
 }
 
+fn stays(item: &LedgerItem, moment: u64, left_out: &LeftOut) -> bool
+    ensures { result ≡ (is_lasting moment item.now && is_of_other left_out.now item.now) }
+{
+    lasts(item, moment) && !left_out.has(&item.id.issuer)
+}
+
 /// The item in a chain of one part.
 fn renewed(item: &LedgerItem) -> LedgerItem
     ensures { result ≡ rebased_item item.now }
@@ -33,23 +41,38 @@ fn renewed(item: &LedgerItem) -> LedgerItem
     }
 }
 
-fn count_kept(items: &[LedgerItem], moment: u64) -> usize
-    ensures { result ≡ count_by (is_lasting moment) items.now }
+fn count_kept(items: &[LedgerItem], moment: u64, left_out: &LeftOut) -> usize
+    ensures { result ≡ count_by (λ i. is_lasting moment i && is_of_other left_out.now i) items.now }
 {
-    items.iter().filter(|item| lasts(item, moment)).count()
+    items
+        .iter()
+        .filter(|item| stays(item, moment, left_out))
+        .count()
 }
 
-/// The items that have not expired, as a chain of one part has them.
+/// How many items are of issuers that are left out.
+pub(crate) fn count_left(items: &[LedgerItem], left_out: &LeftOut) -> usize
+    ensures { result ≡ count_by (λ i. has_key left_out.now i.id.issuer) items.now }
+{
+    items
+        .iter()
+        .filter(|item| left_out.has(&item.id.issuer))
+        .count()
+}
+
+/// The items that have not expired and whose issuers aren't left out, as a chain of one part has them.
 pub(crate) fn kept(
     alloc: Global,
     items: &[LedgerItem],
     moment: u64,
+    left_out: &LeftOut,
 ) -> Result<Vec<LedgerItem>, AllocError>
-    ensures { IfOk result (λ out. out.items ≡ map rebased_item (filter (is_lasting moment) items.now)) }
+    ensures { IfOk result (λ out. out.items
+        ≡ map rebased_item (filter (λ i. is_lasting moment i && is_of_other left_out.now i) items.now)) }
 {
-    let mut out = Vec::with_capacity(alloc, count_kept(items, moment))?;
+    let mut out = Vec::with_capacity(alloc, count_kept(items, moment, left_out))?;
     for item in items {
-        if lasts(item, moment) {
+        if stays(item, moment, left_out) {
             out.push(renewed(item))?;
         }
     }

@@ -7,10 +7,12 @@ use universe_core::Group;
 pub struct Rebased {
     /// The head of the part, a snapshot.
     pub head: Head,
-    /// One for each issuer that was enrolled in some part of the old chain, ascending.
+    /// One for each issuer that was enrolled in some part of the old chain and isn't left out, ascending.
     pub groups: Vec<Group>,
-    /// How many identities have expired, and aren't kept.
+    /// How many identities of other issuers have expired, and aren't kept.
     pub pruned: u32,
+    /// How many identities are of issuers that are left out.
+    pub left: u32,
     /// The new ledger, but for the trailer of its part.
     pub next: Draft,
 }

@@ -6,11 +6,13 @@ ghost use Rattle.ident_core.specs.Order.{identity_cmp};
 ghost use Rattle.ledger_core.specs.LedgerFields.{IsLedger, ids, newest, part_fields, sealed_with};
 ghost use Rattle.universe_core.specs.Groups.{group_fields, IsGroup};
 ghost use Rattle.universe_core.specs.Members.{first_part};
-ghost use Rattle.universe_core.specs.Rebases.{is_lasting, issuers_in, count_pruned, group_among, rebased_head, rebased_groups, rebased_ledger};
+ghost use Rattle.universe_core.specs.Rebases.{is_lasting, issuers_in, count_left, count_pruned, group_among, ledger_without};
+ghost use Rattle.universe_core.specs.Rebases.{rebased_head, rebased_groups, rebased_ledger};
 
 use crate::enrolling::all_issuers;
 use crate::fault::RebaseFault;
-use crate::keeping::{flags, kept};
+use crate::keeping::{count_left as left_of, flags, kept};
+use crate::leaving::LeftOut;
 use crate::rebased::Rebased;
 use ident_core::{Head, Kind, MAX_ISSUERS, Range};
 use job_core::What;
@@ -83,19 +85,30 @@ fn groups_of(
 }
 
 /// Begins a chain anew from a ledger, without the identities whose date lies before the moment, which is in
-/// milliseconds since 1970. The ledger stays as it is.
-pub fn rebase(alloc: Global, ledger: &Ledger, moment: u64) -> Result<Rebased, RebaseFault>
-    ensures rebased { OnOk result (length (issuers_in ledger.now.parts) ≤ MAX_ISSUERS) }
+/// milliseconds since 1970, and without some issuers. These may stand in any order, more than once, and in no part. The
+/// ledger stays as it is.
+pub fn rebase(
+    alloc: Global,
+    ledger: &Ledger,
+    moment: u64,
+    without: &[Key32],
+) -> Result<Rebased, RebaseFault>
+    ensures rebased { OnOk result (length (issuers_in (ledger_without without.now ledger.now).parts) ≤ MAX_ISSUERS) }
     ensures refused { IfErr result (λ e. e ≢ RebaseFault.NoMemory
-        → (e ≡ RebaseFault.TooMany What.Issuers MAX_ISSUERS) × (MAX_ISSUERS < length (issuers_in ledger.now.parts))) }
-    ensures head { IfOk result (λ r. r.head ≡ rebased_head ledger.now.parts) }
-    ensures groups { IfOk result (λ r. map group_fields r.groups.items ≡ rebased_groups (is_lasting moment) ledger.now) }
+        → (e ≡ RebaseFault.TooMany What.Issuers MAX_ISSUERS)
+        × (MAX_ISSUERS < length (issuers_in (ledger_without without.now ledger.now).parts))) }
+    ensures head { IfOk result (λ r. r.head ≡ rebased_head (ledger_without without.now ledger.now).parts) }
+    ensures groups { IfOk result (λ r. map group_fields r.groups.items
+        ≡ rebased_groups (is_lasting moment) (ledger_without without.now ledger.now)) }
     ensures facts { IfOk result (λ r. All IsGroup (map group_fields r.groups.items)) }
-    ensures pruned { IfOk result (λ r. r.pruned ≡ count_pruned (is_lasting moment) ledger.now) }
+    ensures pruned { IfOk result (λ r. r.pruned ≡ count_pruned (is_lasting moment) (ledger_without without.now ledger.now)) }
+    ensures left { IfOk result (λ r. r.left ≡ count_left without.now ledger.now) }
     // For every trailer that the part may have.
-    ensures next { IfOk result (λ r. (trailer : List ℕ) → sealed_with r.next trailer ≡ rebased_ledger (is_lasting moment) ledger.now trailer) }
+    ensures next { IfOk result (λ r. (trailer : List ℕ)
+        → sealed_with r.next trailer ≡ rebased_ledger (is_lasting moment) (ledger_without without.now ledger.now) trailer) }
 {
-    let issuers = all_issuers(alloc, ledger.parts())?;
+    let left_out = LeftOut::new(alloc, without)?;
+    let issuers = all_issuers(alloc, ledger.parts(), &left_out)?;
     if issuers.len() > MAX_ISSUERS {
         return Err(RebaseFault::TooMany {
             what: What::Issuers,
@@ -103,8 +116,9 @@ pub fn rebase(alloc: Global, ledger: &Ledger, moment: u64) -> Result<Rebased, Re
         });
     }
     let newest = newest_of(ledger.parts());
-    let items = kept(alloc, ledger.items(), moment)?;
-    let pruned = (ledger.items().len() - items.len()) as u32;
+    let items = kept(alloc, ledger.items(), moment, &left_out)?;
+    let left = left_of(ledger.items(), &left_out);
+    let pruned = ledger.items().len() - items.len() - left;
     let groups = groups_of(alloc, &issuers, &items)?;
     let head = head_at(alloc, newest)?;
     let part = part_at(alloc, newest, issuers)?;
@@ -112,7 +126,8 @@ pub fn rebase(alloc: Global, ledger: &Ledger, moment: u64) -> Result<Rebased, Re
     Ok(Rebased {
         head,
         groups,
-        pruned,
+        pruned: pruned as u32,
+        left: left as u32,
         next,
     })
 }

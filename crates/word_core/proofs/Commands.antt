@@ -14,12 +14,13 @@ bytes_same a b h = search (rules, bytes_eq-Decides)
 pub other : (a b : List ℕ) → (a ≡ b → ⊥) → bytes_eq a b ≡ false
 other a b differ = false_from_ne_true (bytes_eq a b) (λ h. differ (bytes_same a b h))
 
--- a name that is none of the thirteen
+-- a name that is none of the fourteen
 pub no_command : (name : List ℕ) (rest : List (List ℕ)) → (name ≡ codes "query" → ⊥) → (name ≡ codes "query-cert" → ⊥) → (name ≡ codes "check" → ⊥)
-    → (name ≡ codes "show" → ⊥) → (name ≡ codes "snapshot" → ⊥) → (name ≡ codes "delta" → ⊥) → (name ≡ codes "rebase" → ⊥) → (name ≡ codes "start" → ⊥)
+    → (name ≡ codes "show" → ⊥) → (name ≡ codes "snapshot" → ⊥) → (name ≡ codes "delta" → ⊥) → (name ≡ codes "rebase" → ⊥)
+    → (name ≡ codes "rebase-without" → ⊥) → (name ≡ codes "start" → ⊥)
     → (name ≡ codes "install" → ⊥) → (name ≡ codes "rehearse" → ⊥) → (name ≡ codes "sample" → ⊥) → (name ≡ codes "gather" → ⊥) → (name ≡ codes "audit" → ⊥)
     → command_of (name ∷ rest) ≡ commands.Usage
-no_command name rest query query_cert check show snapshot delta rebase start install rehearse sample gather audit =
+no_command name rest query query_cert check show snapshot delta rebase rebase_without start install rehearse sample gather audit =
     rw (
       other name (codes "query") query,
       other name (codes "query-cert") query_cert,
@@ -28,6 +29,7 @@ no_command name rest query query_cert check show snapshot delta rebase start ins
       other name (codes "snapshot") snapshot,
       other name (codes "delta") delta,
       other name (codes "rebase") rebase,
+      other name (codes "rebase-without") rebase_without,
       other name (codes "start") start,
       other name (codes "install") install,
       other name (codes "rehearse") rehearse,

@@ -30,13 +30,14 @@ pub record DeltaFields : Type 0 where
   pub new_ledger : List ℕ
   pub workers : ℕ
 
--- a chain that is begun anew, and the moment before which what has expired is left out
+-- a chain that is begun anew, the moment before which what has expired is left out, and the issuers that are left out
 pub record RebaseFields : Type 0 where
   pub ledger : List ℕ
   pub moment : ℕ
   pub part : List ℕ
   pub new_ledger : List ℕ
   pub workers : ℕ
+  pub without : List (List ℕ)
 
 -- a store that is begun
 pub record StartFields : Type 0 where

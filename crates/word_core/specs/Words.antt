@@ -1,5 +1,5 @@
 -- What the words of a call spell (docs/FORMATS.md, "Words").
-use Rattle.std.specs.Prelude.{ℕ, ◌^◌, List, [], ◌∷◌, length, Bool, true, ◌&&◌, not, ◌==◌, nat_le, nat_lt, if◌then◌else◌}
+use Rattle.std.specs.Prelude.{ℕ, ◌^◌, List, [], ◌∷◌, length, take, drop, Bool, true, ◌&&◌, not, ◌==◌, nat_le, nat_lt, if◌then◌else◌}
 use Rattle.std.specs.Prelude.{Option, Some, None, Result, Ok, Err, codes}
 use Rattle.std.specs.Char.{is_ascii_digit}
 use Rattle.std.specs.List.{list_all, list_any}
@@ -12,7 +12,7 @@ use Rattle.ident_core.specs.declared.bounds.TheConstants.{MAX_PARTS, MAX_WORKERS
 use Rattle.ident_core.specs.declared.range.Sighting.{Sighting}
 use Rattle.word_core.specs.CommandFields.{QueryFields, QueryCertFields, SnapshotFields, DeltaFields, RebaseFields}
 use Rattle.word_core.specs.CommandFields.{StartFields, InstallFields, RehearseFields, AuditFields, SampleFields, GatherFields}
-use Rattle.word_core.specs.declared.publishing.TheConstants.{MAX_PAGES}
+use Rattle.word_core.specs.declared.publishing.TheConstants.{MAX_PAGES, MAX_WITHOUT}
 use Rattle.word_core.specs.declared.command.Command.{Command}
 use Rattle.word_core.specs.declared.command.Command.TheVariants as commands
 
@@ -130,19 +130,37 @@ delta_of (job ∷ ledger ∷ part ∷ new_ledger ∷ workers ∷ []) = do
   if are_apart (job ∷ ledger ∷ []) (part ∷ new_ledger ∷ []) then named_delta job ledger part new_ledger n else None
 delta_of words = None
 
-abbrev pub named_rebase : (ledger : List ℕ) (moment : ℕ) (part new_ledger : List ℕ) → ℕ → Option RebaseFields
-named_rebase ledger moment part new_ledger workers = do
+abbrev pub named_rebase : (ledger : List ℕ) (moment : ℕ) (part new_ledger : List ℕ) → ℕ → List (List ℕ) → Option RebaseFields
+named_rebase ledger moment part new_ledger workers without = do
   l ← name_of ledger
   outputs ← two_names_of part new_ledger
-  Some (record { ledger = l; moment = moment; part = outputs.0; new_ledger = outputs.1; workers = workers })
+  Some (record { ledger = l; moment = moment; part = outputs.0; new_ledger = outputs.1; workers = workers; without = without })
 
--- LEDGER MOMENT PART NEWLEDGER WORKERS
-abbrev pub rebase_of : List (List ℕ) → Option RebaseFields
-rebase_of (ledger ∷ moment ∷ part ∷ new_ledger ∷ workers ∷ []) = do
+-- LEDGER MOMENT PART NEWLEDGER WORKERS, of a chain without these issuers
+abbrev pub rebase_of : List (List ℕ) → List (List ℕ) → Option RebaseFields
+rebase_of (ledger ∷ moment ∷ part ∷ new_ledger ∷ workers ∷ []) without = do
   m ← number_of moment
   n ← workers_of workers
-  if are_apart (ledger ∷ []) (part ∷ new_ledger ∷ []) then named_rebase ledger m part new_ledger n else None
-rebase_of words = None
+  if are_apart (ledger ∷ []) (part ∷ new_ledger ∷ []) then named_rebase ledger m part new_ledger n without else None
+rebase_of words without = None
+
+-- a key for each word
+abbrev pub keys_of : List (List ℕ) → Option (List (List ℕ))
+keys_of [] = Some []
+keys_of (word ∷ rest) = do
+  key ← key_word word
+  others ← keys_of rest
+  Some (key ∷ others)
+
+-- one key or more, and no more than one call leaves out
+abbrev pub without_of : List (List ℕ) → Option (List (List ℕ))
+without_of words = if within 1 MAX_WITHOUT (length words) then keys_of words else None
+
+-- the words of `rebase`, and behind them the issuers that are left out
+abbrev pub rebase_without_of : List (List ℕ) → Option RebaseFields
+rebase_without_of words = do
+  without ← without_of (drop 5 words)
+  rebase_of (take 5 words) without
 
 -- PART STORE
 abbrev pub start_of : List (List ℕ) → Option StartFields
@@ -237,7 +255,8 @@ command_of (command ∷ words) =
     else if bytes_eq command (codes "show") then asks commands.Show (name_alone words)
     else if bytes_eq command (codes "snapshot") then asks commands.Snapshot (snapshot_of words)
     else if bytes_eq command (codes "delta") then asks commands.Delta (delta_of words)
-    else if bytes_eq command (codes "rebase") then asks commands.Rebase (rebase_of words)
+    else if bytes_eq command (codes "rebase") then asks commands.Rebase (rebase_of words [])
+    else if bytes_eq command (codes "rebase-without") then asks commands.Rebase (rebase_without_of words)
     else if bytes_eq command (codes "start") then asks commands.Start (start_of words)
     else if bytes_eq command (codes "install") then asks commands.Install (install_of words)
     else if bytes_eq command (codes "rehearse") then asks commands.Rehearse (rehearse_of words)

@@ -159,7 +159,7 @@ pub enum Command<'a> {
     Snapshot(Snapshot<'a>),
     /// To publish a job behind the part before: its part and its ledger.
     Delta(Delta<'a>),
-    /// To begin a chain anew from a ledger, without what has expired: its part and its ledger.
+    /// To begin a chain anew from a ledger, without what has expired and some issuers: its part and its ledger.
     Rebase(Rebase<'a>),
     /// To begin a store with a part.
     Start(Start<'a>),

@@ -7,6 +7,9 @@ use std::marker::Model;
 /// The most pages that one call gathers.
 pub const MAX_PAGES: usize = 1024;
 
+/// The most issuers that one call leaves out.
+pub const MAX_WITHOUT: usize = 1024;
+
 /// A log's pages, whose entries are put behind those of a job.
 #[derive(Debug, Drop)]
 pub struct Gather<'a> {
@@ -240,7 +243,7 @@ impl<'a> Delta<'a> {
     }
 }
 
-/// A chain to be begun anew from a ledger, without what has expired before a moment.
+/// A chain to be begun anew from a ledger, without what has expired before a moment and without some issuers.
 #[derive(Debug, Drop)]
 pub struct Rebase<'a> {
     ledger: FileName<'a>,
@@ -248,35 +251,40 @@ pub struct Rebase<'a> {
     part: FileName<'a>,
     new_ledger: FileName<'a>,
     workers: u32,
+    without: Vec<Key32>,
 }
 
 impl<'a> Model for Rebase<'a> {
-    ghost use Rattle.std.specs.Prelude.{◌≤◌};
+    ghost use Rattle.std.specs.Prelude.{◌≤◌, length};
     ghost use Rattle.word_core.specs.CommandFields.{RebaseFields};
     ghost use Rattle.ident_core.specs.declared.bounds.TheConstants.{MAX_WORKERS};
+    ghost use Rattle.word_core.specs.declared.publishing.TheConstants.{MAX_WITHOUT};
 
     ghost Value = { RebaseFields };
 
-    ghost view = { λ r. record { ledger = r.ledger; moment = r.moment; part = r.part; new_ledger = r.new_ledger; workers = r.workers } };
+    ghost view = { λ r. record { ledger = r.ledger; moment = r.moment; part = r.part; new_ledger = r.new_ledger; workers = r.workers; without = r.without.items } };
 
-    ghost invariant = { λ r. (1 ≤ r.workers) × (r.workers ≤ MAX_WORKERS) };
+    ghost invariant = { λ r. (1 ≤ r.workers) × (r.workers ≤ MAX_WORKERS) × (length r.without.items ≤ MAX_WITHOUT) };
 }
 
 impl<'a> Rebase<'a> {
-    ghost use Rattle.std.specs.Prelude.{◌≡◌, ◌≤◌};
+    ghost use Rattle.std.specs.Prelude.{◌≡◌, ◌≤◌, length};
     ghost use Rattle.ident_core.specs.declared.bounds.TheConstants.{MAX_WORKERS};
+    ghost use Rattle.word_core.specs.declared.publishing.TheConstants.{MAX_WITHOUT};
 
-    /// The ledger in the file `ledger` without what has expired at `moment`, in milliseconds, to be built by so many
-    /// workers and written to the files `part` and `new_ledger`.
+    /// The ledger in the file `ledger` without what has expired at `moment`, in milliseconds, and without the issuers
+    /// `without`, to be built by so many workers and written to the files `part` and `new_ledger`.
     pub fn new(
         ledger: FileName<'a>,
         moment: u64,
         part: FileName<'a>,
         new_ledger: FileName<'a>,
         workers: u32,
+        without: Vec<Key32>,
     ) -> Rebase<'a>
-        requires { (1 ≤ workers) × (workers ≤ MAX_WORKERS) }
-        ensures { result ≡ record { ledger = ledger.entry; moment = moment; part = part.entry; new_ledger = new_ledger.entry; workers = workers } }
+        requires bounds { (1 ≤ workers) × (workers ≤ MAX_WORKERS) }
+        requires few { length without.items ≤ MAX_WITHOUT }
+        ensures { result ≡ record { ledger = ledger.entry; moment = moment; part = part.entry; new_ledger = new_ledger.entry; workers = workers; without = without.items } }
     {
         Rebase {
             ledger,
@@ -284,6 +292,7 @@ impl<'a> Rebase<'a> {
             part,
             new_ledger,
             workers,
+            without,
         }
     }
 
@@ -321,5 +330,13 @@ impl<'a> Rebase<'a> {
         ensures bounds { (1 ≤ result) × (result ≤ MAX_WORKERS) }
     {
         self.workers
+    }
+
+    /// The issuers that are left out, in the order of the words; none of a chain that is begun anew with all.
+    pub fn without(&self) -> &[Key32]
+        ensures value { result.now ≡ self.now.without }
+        ensures few { length result.now ≤ MAX_WITHOUT }
+    {
+        self.without.as_slice()
     }
 }

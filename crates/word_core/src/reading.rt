@@ -4,19 +4,20 @@ ghost use Rattle.std.specs.Prelude.{◌≡◌, ◌≤◌, ℕ, List, ◌∷◌, 
 ghost use Rattle.std.specs.Option.{option_map};
 ghost use Rattle.ident_core.specs.declared.bounds.TheConstants.{MAX_PARTS, MAX_WORKERS};
 ghost use Rattle.word_core.specs.Words.{command_of, query_of, query_cert_of, name_alone, snapshot_of};
-ghost use Rattle.word_core.specs.Words.{named_delta, delta_of, named_rebase, rebase_of, start_of, install_of, jobs_of, rehearse_of, audit_of};
-ghost use Rattle.word_core.specs.Words.{sample_of, gather_of, named_gather};
+ghost use Rattle.word_core.specs.Words.{named_delta, delta_of, named_rebase, rebase_of, rebase_without_of, start_of};
+ghost use Rattle.word_core.specs.Words.{install_of, jobs_of, rehearse_of, audit_of, sample_of, gather_of, named_gather};
+ghost use Rattle.word_core.specs.declared.publishing.TheConstants.{MAX_WITHOUT};
 
 use crate::command::{Command, FileName, Query, QueryCert};
-use crate::publishing::{Delta, Gather, MAX_PAGES, Rebase, Snapshot};
+use crate::publishing::{Delta, Gather, MAX_PAGES, MAX_WITHOUT, Rebase, Snapshot};
 use crate::storing::{Install, Start};
 use crate::trying::{Audit, Rehearse, Sample};
 use crate::words::{
-    are_apart, count_word, key_word, number_word, read_name, read_names, read_pairs,
+    are_apart, count_word, key_word, number_word, read_keys, read_name, read_names, read_pairs,
     read_two_names, serial_word, workers_word,
 };
 use ident_core::{Identity, MAX_PARTS};
-use octets_core::NoMemory;
+use octets_core::{Key32, NoMemory};
 use std::alloc::Global;
 
 /// The query that words spell, if they spell one.
@@ -127,18 +128,21 @@ fn rebase_named<'a>(
     part: &'a str,
     new_ledger: &'a str,
     workers: u32,
+    without: Vec<Key32>,
 ) -> Option<Rebase<'a>>
-    requires { (1 ≤ workers) × (workers ≤ MAX_WORKERS) }
-    ensures { result ≡ named_rebase ledger.now moment part.now new_ledger.now workers }
+    requires bounds { (1 ≤ workers) × (workers ≤ MAX_WORKERS) }
+    requires few { length without.items ≤ MAX_WITHOUT }
+    ensures { result ≡ named_rebase ledger.now moment part.now new_ledger.now workers without.items }
 {
     let ledger = read_name(ledger)?;
     let (part, new_ledger) = read_two_names(part, new_ledger)?;
-    Some(Rebase::new(ledger, moment, part, new_ledger, workers))
+    Some(Rebase::new(ledger, moment, part, new_ledger, workers, without))
 }
 
-/// The chain begun anew that words spell, if they spell one.
-fn read_rebase(words: &[String]) -> Option<Rebase<'_>>
-    ensures { result ≡ rebase_of (map string_bytes words.now) }
+/// The chain begun anew without these issuers that words spell, if they spell one.
+fn read_rebase(words: &[String], without: Vec<Key32>) -> Option<Rebase<'_>>
+    requires { length without.items ≤ MAX_WITHOUT }
+    ensures { result ≡ rebase_of (map string_bytes words.now) without.items }
 {
     let [ledger, moment, part, new_ledger, workers] = words else {
         return None;
@@ -154,7 +158,21 @@ fn read_rebase(words: &[String]) -> Option<Rebase<'_>>
         part.as_str(),
         new_ledger.as_str(),
         workers,
+        without,
     )
+}
+
+/// The chain begun anew, and the issuers that it leaves out, that words spell, if they spell both.
+fn read_rebase_without(alloc: Global, words: &[String]) -> Result<Option<Rebase<'_>>, NoMemory>
+    ensures { IfOk result (λ r. r ≡ rebase_without_of (map string_bytes words.now)) }
+{
+    if words.len() < 6 || words.len() > 5 + MAX_WITHOUT {
+        return Ok(None);
+    }
+    let Some(without) = read_keys(alloc, &words[5..])? else {
+        return Ok(None);
+    };
+    Ok(read_rebase(&words[..5], without))
 }
 
 /// The beginning of a store that words spell, if they spell one.
@@ -323,7 +341,11 @@ fn read_command<'a>(
         "show" => Ok(read_name_alone(rest).map_or(Command::Usage, Command::Show)),
         "snapshot" => Ok(read_snapshot(rest).map_or(Command::Usage, Command::Snapshot)),
         "delta" => Ok(read_delta(rest).map_or(Command::Usage, Command::Delta)),
-        "rebase" => Ok(read_rebase(rest).map_or(Command::Usage, Command::Rebase)),
+        "rebase" => Ok(read_rebase(rest, Vec::new(alloc)).map_or(Command::Usage, Command::Rebase)),
+        "rebase-without" => Ok(read_rebase_without(alloc, rest)?.map_or(
+            Command::Usage,
+            Command::Rebase,
+        )),
         "start" => Ok(read_start(rest).map_or(Command::Usage, Command::Start)),
         "install" => Ok(read_install(rest).map_or(Command::Usage, Command::Install)),
         "rehearse" => Ok(read_rehearse(alloc, rest)?.map_or(Command::Usage, Command::Rehearse)),
@@ -335,7 +357,8 @@ fn read_command<'a>(
 }
 
 /// What words ask for. The words lend the names; room is taken for the sightings of a query, for the list of the jobs
-/// of a rehearsal or of an audit and for that of pages that are gathered, and for nothing else.
+/// of a rehearsal or of an audit, for that of pages that are gathered and for that of issuers that are left out, and for
+/// nothing else.
 pub fn read_words(alloc: Global, words: &[String]) -> Result<Command<'_>, NoMemory>
     ensures value { IfOk result (λ c. c ≡ command_of (map string_bytes words.now)) }
     // Words that ask for `check` are read without memory.

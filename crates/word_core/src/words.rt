@@ -6,7 +6,7 @@ ghost use Rattle.std.specs.Str.{bytes_eq};
 ghost use Rattle.std.specs.Char.{is_ascii_digit};
 ghost use Rattle.std.specs.Option.{option_map};
 ghost use Rattle.ident_core.specs.declared.bounds.TheConstants.{MAX_SAMPLE, MAX_WORKERS};
-ghost use Rattle.word_core.specs.Words.{name_of, names_of, two_names_of, pairs_of, key_word, serial_of, number_of};
+ghost use Rattle.word_core.specs.Words.{name_of, names_of, two_names_of, pairs_of, key_word, keys_of, serial_of, number_of};
 ghost use Rattle.word_core.specs.Words.{workers_of, count_of, are_apart, is_name, is_plain};
 
 use crate::command::FileName;
@@ -157,6 +157,21 @@ pub(crate) fn read_names(
         names.push(name)?;
     }
     Ok(Some(names))
+}
+
+/// The keys that words spell, if each spells one.
+pub(crate) fn read_keys(alloc: Global, words: &[String]) -> Result<Option<Vec<Key32>>, NoMemory>
+    ensures value { IfOk result (λ o. option_map (λ v. v.items) o ≡ keys_of (map string_bytes words.now)) }
+    ensures len { IfOk result (λ o. IfSome o (λ v. length v.items ≡ length words.now)) }
+{
+    let mut keys = Vec::with_capacity(alloc, words.len())?;
+    for word in words {
+        let Some(key) = key_word(word.as_str()) else {
+            return Ok(None);
+        };
+        keys.push(key)?;
+    }
+    Ok(Some(keys))
 }
 
 fn is_among(name: &str, names: &[String]) -> bool

@@ -1,4 +1,6 @@
-use Rattle.clubcard_top.proofs.BasesMade.{BaseLayers, Keeping, rebased_law, rebasable_law, kept_law, base_asked}
+use Rattle.clubcard_top.proofs.BasesMade.{BaseLayers, Keeping, Leaving, rebased_law, rebasable_law, kept_law, base_asked, left_out_law}
+use Rattle.universe_core.specs.Formats.{in_format}
+use Rattle.publication_core.specs.Formats.{current}
 use Rattle.clubcard_top.proofs.laws.bases_are_made.Goals as goal
 
 pub returns : goal.returns
@@ -10,17 +12,28 @@ returns c =
       begins = c.bases_are_published.ensures.history;
       ledger = c.bases_are_published.ensures.ledger;
       numbers = c.bases_are_published.ensures.numbers;
+      head = c.issuers_are_left_out.ensures.head;
       complete = c.bases_are_published.ensures.complete;
     } in
     let keeping : Keeping = record {
       sightings_kept = c.base_stands_for_its_history.ensures.kept_sightings;
       listing_kept = c.base_stands_for_its_history.ensures.kept_listing;
+      sightings_left = c.issuers_are_left_out.ensures.sightings;
+      listing_left = c.issuers_are_left_out.ensures.listing;
+      left_kept = c.issuers_are_left_out.ensures.kept;
       asked = c.histories_are_made.ensures.asked;
+    } in
+    let leaving : Leaving = record {
+      unenrolled = c.issuers_that_are_left_out_come_back.ensures.unenrolled;
+      told = c.histories_are_made.ensures.told;
     } in
     record {
       rebased = λ command files r h parts d is p m. rebased_law layers command files r h parts d is p m;
       rebasable = λ command files r h parts o is p may m. rebasable_law layers command files r h parts o is p may m;
-      kept = λ h parts moment s q kept. kept_law keeping h parts moment s q kept;
-      asked = λ command files q h parts moment s o is a m. base_asked keeping command files q h parts moment s o is a m;
+      kept = λ h parts moment without s q kept other. kept_law keeping h parts moment without s q kept other;
+      asked = λ command files q h parts moment without s o is a m. base_asked keeping command files q h parts moment without s o is a m;
+      left_out = λ command files q h parts o is a m. left_out_law leaving command files q h parts o is a m;
+      comes_back = λ h parts job s e is left b.
+          c.issuers_that_are_left_out_come_back.ensures.come_back h parts (in_format current job) s e is left b.entry b.covered b.enrolled;
       publishable = c.one_thing_comes_of_a_rebase.ensures.complete;
     }

@@ -1,4 +1,4 @@
-use Rattle.clubcard_top.proofs.Made.{Layers, published, admitted, stored_law, asked_law, cert_law}
+use Rattle.clubcard_top.proofs.Made.{Layers, published, admitted, stored_law, told_law, asked_law, cert_law}
 use Rattle.clubcard_top.proofs.Rehearsed.{rehearsed_law, done_law}
 use Rattle.clubcard_top.proofs.laws.histories_are_made.Goals as goal
 
@@ -31,6 +31,7 @@ returns c =
       published = λ command files h parts job d is p m. published layers command files h parts job d is p m;
       admitted = λ command files h parts job o is p a m. admitted layers command files h parts job o is p a m;
       stored = λ command files h parts s o is p m. stored_law layers command files h parts s o is p m;
+      told = λ command files q h parts o is p m. told_law layers command files q h parts o is p m;
       asked = λ command files q h parts o is p m. asked_law layers command files q h parts o is p m;
       certified = λ command files q x ss h parts o is a m. cert_law layers command files q x ss h parts o is a m;
       rehearsed = λ command files r d is m. rehearsed_law layers files command r d is m;

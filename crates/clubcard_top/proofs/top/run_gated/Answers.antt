@@ -38,11 +38,13 @@ returns-clause-successes g c =
       rebases = c.bases_are_made.ensures.rebased _;
       rebasable = c.bases_are_made.ensures.rebasable _;
       keeps = c.bases_are_made.ensures.asked _;
+      leaves = c.bases_are_made.ensures.left_out _;
+      comes_back = c.bases_are_made.ensures.comes_back;
       follows = c.histories_are_made.ensures.followed _;
     })
     (promised.parts _ c.run_words.ensures.ends) (λ command inputs a b x y. c.replies_are_unique.ensures.outcome command inputs a b x y)
     (λ before job can. c.histories_are_made.ensures.publishable before job can)
-    (λ before moment can. c.bases_are_made.ensures.publishable before moment can)
+    (λ before moment without can. c.bases_are_made.ensures.publishable before moment without can)
     (λ parts jobs agree. c.agreement_is_enough.ensures (map (λ (s : SealedFields). s.part) parts) jobs agree)
     (apart.words_apart (map string_bytes c.args.words.now))
 
@@ -59,6 +61,8 @@ returns-clause-histories g c =
       rebases = c.bases_are_made.ensures.rebased _;
       rebasable = c.bases_are_made.ensures.rebasable _;
       keeps = c.bases_are_made.ensures.asked _;
+      leaves = c.bases_are_made.ensures.left_out _;
+      comes_back = c.bases_are_made.ensures.comes_back;
       follows = c.histories_are_made.ensures.followed _;
     })
     (promised.parts _ c.run_words.ensures.ends) (apart.words_apart (map string_bytes c.args.words.now))

@@ -4,7 +4,7 @@ use Rattle.publication_core.proofs.base_laws.one_thing_comes_of_a_rebase.Goals a
 
 pub returns : goal.returns
 returns c = record {
-  outcome = λ ledger moment a b x y. base_outcome_unique ledger moment a b x y;
-  some = λ ledger moment. some_outcome ledger moment;
-  complete = λ ledger moment can. can_be_rebased ledger moment can;
+  outcome = λ ledger moment without a b x y. base_outcome_unique ledger moment without a b x y;
+  some = λ ledger moment without. some_outcome ledger moment without;
+  complete = λ ledger moment without can. can_be_rebased ledger moment without can;
 }

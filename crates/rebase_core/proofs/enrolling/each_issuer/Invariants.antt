@@ -3,4 +3,4 @@ use Rattle.rebase_core.proofs.Parts.{issuers_each}
 use Rattle.rebase_core.proofs.enrolling.each_issuer.Given as goal
 
 abbrev pub invariant-loop-part : goal.invariant-loop-part
-invariant-loop-part l = l.keys.items ≡ issuers_each (take l.part-index l.parts)
+invariant-loop-part l = l.keys.items ≡ issuers_each l.left_out (take l.part-index l.parts)

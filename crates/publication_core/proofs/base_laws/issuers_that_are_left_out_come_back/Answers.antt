@@ -1,0 +1,8 @@
+use Rattle.publication_core.proofs.LeftOut.{left_out_verdict, comes_back}
+use Rattle.publication_core.proofs.base_laws.issuers_that_are_left_out_come_back.Goals as goal
+
+pub returns : goal.returns
+returns c = record {
+  unenrolled = λ h parts x ss is left. left_out_verdict h parts x ss is left;
+  come_back = λ h parts j s e is left a v k. comes_back h parts j s e is left a v k;
+}
