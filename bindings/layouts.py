@@ -97,7 +97,7 @@ def lines_of_program() -> Iterator[str]:
 
 def classes() -> List[Tuple[str, Type[ctypes.Structure]]]:
     """The names of structs, and the module's classes for them. It is loaded here alone, since it loads the library."""
-    sys.path.insert(0, str(HERE / "python"))
+    sys.path.insert(0, str(HERE.parent / "python"))
     from clubcard import library
 
     return [(struct, getattr(library, name)) for struct, name in NAMES.values()]

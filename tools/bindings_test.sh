@@ -1,6 +1,6 @@
 #!/bin/sh
-# Tests bindings/: that the header and the module for Python have the numbers and the structs of the code; the module's
-# own tests; that nothing is read where nothing is lent; and the examples, on the store that the repository ships and on
+# Tests bindings/, and the module of python/ that asks through the library: that the header and the module have the numbers
+# and the structs of the code; the module's own tests; that nothing is read where nothing is lent; and the examples, on the store that the repository ships and on
 # one of certificates and CRLs that openssl makes. Then it calls the library for C with random bytes for ten seconds.
 #
 #     tools/bindings_test.sh [FOLDER]
@@ -41,7 +41,7 @@ elif is_there rt; then
 else
     library="$top/release"
 fi
-export CLUBCARD_LIBRARY="$library/libclubcard.so"
+export CLUBCARD_LIBRARY="$library/libclubcard.so" PYTHONPATH="$top/python"
 # The tree stays as it is.
 export PYTHONDONTWRITEBYTECODE=1
 
@@ -100,7 +100,7 @@ numbers_of_header() {
 }
 numbers_of_module() {
     echo "DONE 0"
-    sed -n 's/^    \([A-Z_]*\) = \([0-9]*\)$/\1 \2/p' "$top/bindings/python/clubcard/answers.py"
+    sed -n 's/^    \([A-Z_]*\) = \([0-9]*\)$/\1 \2/p' "$top/python/clubcard/answers.py"
 }
 compare "numbers of the code and of clubcard.h" "$(numbers_of_code)" "$(numbers_of_header)"
 compare "numbers of the code and of the module" "$(numbers_of_code)" "$(numbers_of_module)"
@@ -171,19 +171,19 @@ python_with() {
 
 # Runs the module's tests of a file, in the folder of work, where they may leave what they like.
 test_module() {
-    must_do "$1" "$tester" -m pytest -q -rs -p no:cacheprovider --rootdir "$top/bindings/python" \
-        "$top/bindings/python/$1"
+    must_do "$1" "$tester" -m pytest -q -rs -p no:cacheprovider --rootdir "$top/python" \
+        --noconftest "$top/python/tests/$1"
     grep '^SKIPPED' "$work/lines"
     tail -n 1 "$work/lines"
 }
 
 # Runs mypy on what needs no package, and on the tests where their packages are there.
 test_types() {
-    must_do "mypy --strict, the module" mypy --strict --cache-dir "$work/mypy" -p clubcard
-    must_do "mypy --strict, its callers" mypy --strict --cache-dir "$work/mypy" ask.py ../layouts.py
+    must_do "mypy --strict, the module" mypy --strict --cache-dir "$work/mypy" clubcard/__init__.py clubcard/store.py
+    must_do "mypy --strict, its callers" mypy --strict --cache-dir "$work/mypy" examples/ask.py ../bindings/layouts.py
     if typed=$(python_with "pytest, hypothesis"); then
         must_do "mypy --strict, its tests" mypy --strict --cache-dir "$work/mypy" --python-executable "$typed" \
-            test_clubcard.py test_properties.py
+            tests/test_clubcard.py tests/test_properties.py
     fi
 }
 
@@ -199,19 +199,19 @@ if tester=$(python_with "pytest, hypothesis"); then
 else
     echo "test_properties.py: skipped, since python3 has no pytest or no hypothesis"
 fi
-cd "$top/bindings/python" || exit 1
+cd "$top/python" || exit 1
 if is_there mypy; then
     test_types
 else
     echo "types: skipped, since there is no mypy"
 fi
 if is_there black; then
-    must_do "black" black -q -l 120 --check "$top/bindings"
+    must_do "black" black -q -l 120 --check "$top/bindings" "$top/python/examples"
 else
     echo "black: skipped, since there is no black"
 fi
 if is_there flake8; then
-    must_do "flake8" flake8 --isolated --max-line-length 120 "$top/bindings"
+    must_do "flake8" flake8 --isolated --max-line-length 120 "$top/bindings" "$top/python/examples"
 else
     echo "flake8: skipped, since there is no flake8"
 fi
@@ -272,7 +272,7 @@ basicConstraints = CA:false
 basicConstraints = CA:false
 1.3.6.1.4.1.11129.2.4.2 = $ENV::timestamps
 CONFIG
-    export OPENSSL_CONF="$work/openssl.cnf" timestamps=
+    export OPENSSL_CONF="$work/openssl.cnf" CLUBCARD_PYTHON timestamps=
     : >index.txt
     echo 80 >serial
     echo 01 >crlnumber
@@ -282,7 +282,7 @@ CONFIG
         issue plain '' &&
         cat good.pem other.pem >stranger.chain &&
         quiet ca -revoke revoked.pem && quiet ca -gencrl -out crl.pem &&
-        python3 "$top/tools/pack_job.py" --epoch 1 --moment "$moment" --range "$log" "$moment" $((moment + 1000)) \
+        "$top/clubcardctl" job --epoch 1 --moment "$moment" --range "$log" "$moment" $((moment + 1000)) \
             --crl ca.pem crl.pem --certificate good.pem ca.pem "$log" $((moment + 1)) \
             --certificate revoked.pem ca.pem "$log" $((moment + 2)) job >"$work/job.log" &&
         "$program" snapshot job part ledger 1 && "$program" start part store &&
@@ -301,14 +301,14 @@ test_asking() {
     chains >"$work/chains"
     while read -r name word number; do
         report "ask $name" "$word ($number)" "$(checked "$work/c/out/ask" store "$name.chain")"
-        report "ask.py $name" "$word ($number)" "$(ending python3 "$top/bindings/python/ask.py" store "$name.chain")"
+        report "ask.py $name" "$word ($number)" "$(ending python3 "$top/python/examples/ask.py" store "$name.chain")"
     done <"$work/chains"
     report "ask, the shipped store" "not-enrolled (2)" "$(checked "$work/c/out/ask" "$shipped" good.chain)"
     report "ask.py, the shipped store" "not-enrolled (2)" \
-        "$(ending python3 "$top/bindings/python/ask.py" "$shipped" good.chain)"
+        "$(ending python3 "$top/python/examples/ask.py" "$shipped" good.chain)"
     report "ask plain" "the certificate carries no timestamp (65)" "$(checked "$work/c/out/ask" store plain.chain)"
-    report "ask.py plain" "CERT_NO_SCTS (65)" "$(ending python3 "$top/bindings/python/ask.py" store plain.chain)"
-    report "ask.py, a file that isn't there" " (1)" "$(ending python3 "$top/bindings/python/ask.py" store absent.chain)"
+    report "ask.py plain" "CERT_NO_SCTS (65)" "$(ending python3 "$top/python/examples/ask.py" store plain.chain)"
+    report "ask.py, a file that isn't there" " (1)" "$(ending python3 "$top/python/examples/ask.py" store absent.chain)"
     report "ask, a store that is cut" "store: a field is short at $(($(wc -c <short_store) - 31)) (16)" \
         "$(checked "$work/c/out/ask" short_store good.chain)"
 }
@@ -333,6 +333,8 @@ if ! has_c; then
     echo "certificates: skipped, since there is no cc or no make"
 elif ! is_there openssl || ! is_there python3; then
     echo "certificates: skipped, since there is no openssl or no python3"
+elif ! CLUBCARD_PYTHON=$(sh "$top/tools/python.sh" click cryptography 2>/dev/null); then
+    echo "certificates: skipped, since no Python has click and cryptography (python/debian-packages.txt)"
 elif ! echo '#include <openssl/ssl.h>' | cc -E - >/dev/null 2>&1; then
     echo "certificates: skipped, since there are no headers of OpenSSL"
 elif ! program=$(cd "$from" && realpath "${CLUBCARD:-$(sh "$top/tools/program.sh")}") || ! make_store; then

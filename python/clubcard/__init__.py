@@ -2,7 +2,9 @@
 
 A thin layer over libclubcard.so by ctypes; bindings/c/clubcard.h says what each call answers. The library is the first
 of these that is there: the file that CLUBCARD_LIBRARY names, release/libclubcard.so of the project where the module
-stands in its tree, and what the system finds under its name. What the library answers is proved; this module isn't.
+stands in its tree, the one beside which tools/install.sh put the module, and what the system finds under its name. It
+is loaded when the first of Facts, Query, Sighting and Store is asked for; where there is none, that is an ImportError.
+What the library answers is proved; this module isn't.
 
 What a verdict means: of a certificate that one of the jobs behind the store's parts accepted (and that was kept, where
 the chain began anew), asked with one or more sightings of its accepted entries and no other, it is REVOKED where the
@@ -14,8 +16,21 @@ issuer. No call can tell these from the others.
 A store's bytes, issuers and certificates must be authentic: no signature is checked.
 """
 
+from typing import TYPE_CHECKING, Any
+
 from .answers import Refusal, Refused, Verdict
 from .octets import serial_from_int
-from .store import Facts, Query, Sighting, Store
+
+if TYPE_CHECKING:
+    from .store import Facts, Query, Sighting, Store
 
 __all__ = ["Facts", "Query", "Refusal", "Refused", "Sighting", "Store", "Verdict", "serial_from_int"]
+
+
+def __getattr__(name: str) -> Any:
+    """What wants the library, which is loaded when it is first asked for."""
+    if name not in __all__:
+        raise AttributeError(f"module {__name__} has no attribute {name}")
+    from . import store
+
+    return getattr(store, name)

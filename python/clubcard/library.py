@@ -49,9 +49,13 @@ _CALLS: Dict[str, List[Any]] = {
 def _file() -> str:
     """The library's file, or the name under which the system finds it."""
     here = pathlib.Path(__file__).resolve().parent
-    released = here.parents[2] / "release" / "libclubcard.so"
-    is_in_tree = here.parts[-3:] == ("bindings", "python", "clubcard") and released.exists()
-    return os.environ.get("CLUBCARD_LIBRARY") or (str(released) if is_in_tree else "libclubcard.so")
+    if named := os.environ.get("CLUBCARD_LIBRARY"):
+        return named
+    # tools/install.sh puts the package into PREFIX/lib/python3.11/site-packages, or a folder of this depth.
+    in_tree, installed = here.parents[1] / "release" / "libclubcard.so", here.parents[2] / "libclubcard.so"
+    if here.parts[-2:] == ("python", "clubcard") and in_tree.exists():
+        return str(in_tree)
+    return str(installed) if installed.exists() else "libclubcard.so"
 
 
 def _set_types(library: ctypes.CDLL, name: str, parameters: List[Any]) -> None:

@@ -4,6 +4,7 @@ import ctypes
 import operator
 import os
 import pathlib
+import struct
 from dataclasses import dataclass
 from typing import Iterable, List, NamedTuple, Sequence, Tuple, Union
 
@@ -12,6 +13,9 @@ from .library import LIBRARY, LentFacts, LentQuery, LentSighting
 from .octets import MAX_SERIAL, BytesLike, bytes_like, key_of, lent, octets_of, serial_of
 
 _ISSUER = "an issuer's key hash"
+# The fields of LentSighting and of LentQuery; bytes that are too short are filled up with zeros.
+_SIGHTING = struct.Struct("=32sQ")
+_QUERY = struct.Struct("=32s32s4I")
 
 
 @dataclass(frozen=True)
@@ -69,21 +73,15 @@ def _listed(sightings: Iterable[Sighting]) -> Tuple[Sighting, ...]:
 
 def _lent_sightings(sightings: Sequence[Sighting]) -> "ctypes.Array[LentSighting]":
     """The sightings in the layout of C."""
-    places = (LentSighting * len(sightings))()
-    for place, sighting in zip(places, sightings):
-        place.log[:] = sighting.log
-        place.time = sighting.time
-    return places
+    octets = bytearray().join(_SIGHTING.pack(sighting.log, sighting.time) for sighting in sightings)
+    return (LentSighting * len(sightings)).from_buffer(octets)
 
 
-def _fill(place: LentQuery, query: Query, first_sighting: int) -> None:
-    """Writes a query in the layout of C."""
-    place.issuer[:] = query.issuer
-    place.serial[: min(len(query.serial), MAX_SERIAL)] = query.serial[:MAX_SERIAL]
+def _lent_query(query: Query, first_sighting: int) -> bytes:
+    """A query in the layout of C, with no answer."""
     # Whatever is above the limit is refused alike; a greater number might not fit the field.
-    place.serial_len = min(len(query.serial), MAX_SERIAL + 1)
-    place.first_sighting = first_sighting
-    place.sightings = len(query.sightings)
+    length = min(len(query.serial), MAX_SERIAL + 1)
+    return _QUERY.pack(query.issuer, query.serial, length, first_sighting, len(query.sightings), 0)
 
 
 class Store:
@@ -129,13 +127,14 @@ class Store:
     def query_each(self, queries: Iterable[Query]) -> List[Union[Verdict, Refusal]]:
         """The answers to many queries: of each its verdict, or why there is none."""
         listed = list(queries)
-        places = (LentQuery * len(listed))()
+        octets = bytearray()
         seen: List[Sighting] = []
-        for place, query in zip(places, listed):
+        for query in listed:
             if not isinstance(query, Query):
                 raise TypeError(f"a Query is wanted, and not {type(query).__name__}")
-            _fill(place, query, len(seen))
+            octets += _lent_query(query, len(seen))
             seen.extend(query.sightings)
+        places = (LentQuery * len(listed)).from_buffer(octets)
         sightings, at = _lent_sightings(seen), ctypes.c_uint64()
         with lent(self._data) as store:
             number = LIBRARY.clubcard_query_each(*store, sightings, len(seen), places, len(listed), ctypes.byref(at))
