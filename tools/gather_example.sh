@@ -1,9 +1,9 @@
 #!/bin/sh
 # Pages of a log, through the program and back: an authority of openssl issues certificates and revokes some, another
-# program (tools/pack_page.py) makes pages of them as a log's get-entries would, `clubcard gather` puts these behind a
+# program (`clubcardctl page`) makes pages of them as a log's get-entries would, `clubcard gather` puts these behind a
 # job of the authority's CRL, and what `clubcard query` then says of each certificate is compared with its fate. The job
-# is compared with the one that tools/pack_job.py packs of the same certificates. It needs openssl (3.0 or later) and
-# python3.
+# is compared with the one that `clubcardctl job` packs of the same certificates. It needs openssl (3.0 or later) and
+# what clubcardctl needs (tools/python.sh).
 #
 #     tools/gather_example.sh
 #
@@ -19,6 +19,8 @@ if [ $# -gt 0 ]; then
     exit 2
 fi
 top=$(cd "$(dirname "$0")/.." && pwd)
+CLUBCARD_PYTHON=$(sh "$top/tools/python.sh" click cryptography)
+export CLUBCARD_PYTHON
 work=$(mktemp -d)
 trap 'rm -r "$work"' EXIT
 trap 'exit 1' HUP INT TERM
@@ -81,15 +83,15 @@ quiet ca -gencrl -out crl.pem
 
 # The head has the coverage and the CRL; the pages have two certificates and three; the whole has them all.
 set -- --epoch 1 --moment "$moment" --range "$log" "$moment" "$((moment + 1000))" --crl ca.pem crl.pem
-python3 "$top/tools/pack_job.py" "$@" head.job
-python3 "$top/tools/pack_page.py" --certificate 1.pem ca.pem "$((moment + 1))" \
+"$top/clubcardctl" job "$@" head.job
+"$top/clubcardctl" page --certificate 1.pem ca.pem "$((moment + 1))" \
     --certificate 2.pem ca.pem "$((moment + 2))" first.page
-python3 "$top/tools/pack_page.py" --certificate 3.pem ca.pem "$((moment + 3))" \
+"$top/clubcardctl" page --certificate 3.pem ca.pem "$((moment + 3))" \
     --certificate 4.pem ca.pem "$((moment + 4))" --certificate 5.pem ca.pem "$((moment + 5))" second.page
 while read -r n fate time; do
     set -- "$@" --certificate "$n.pem" ca.pem "$log" "$time"
 done <certificates.txt
-python3 "$top/tools/pack_job.py" "$@" whole.job
+"$top/clubcardctl" job "$@" whole.job
 
 "$top/clubcard" gather head.job "$log" gathered.job first.page second.page
 cmp gathered.job whole.job
@@ -98,7 +100,7 @@ cmp gathered.job whole.job
 
 differing=0
 while read -r n fate time; do
-    identity=$(python3 "$top/tools/identity.py" "$n.pem" ca.pem)
+    identity=$("$top/clubcardctl" identity "$n.pem" ca.pem)
     # shellcheck disable=SC2086 # two words
     verdict=$("$top/clubcard" query store $identity "$log" "$time") || true
     echo "oak $n: clubcard $verdict, openssl $fate"

@@ -20,7 +20,7 @@ from datetime import datetime, timezone
 
 TOP = os.path.dirname(os.path.dirname(os.path.abspath(__file__)))
 READ_ON = 'read on in README.md ("Commands and statuses"), docs/FORMATS.md ("Words"), and `man ./docs/clubcard.1`.'
-IDENTITY = "tools/identity.py CERT ISSUERCERT prints ISSUER and SERIAL"
+IDENTITY = "clubcardctl identity CERT ISSUERCERT prints ISSUER and SERIAL"
 MOST_SHOWN = 5
 LONGEST_SHOWN = 100
 
@@ -55,6 +55,7 @@ COMMANDS = (
     Command("snapshot", "JOB PART LEDGER WORKERS", written="PART LEDGER"),
     Command("delta", "JOB LEDGER PART NEWLEDGER WORKERS", written="PART NEWLEDGER"),
     Command("rebase", "LEDGER MOMENT PART NEWLEDGER WORKERS", written="PART NEWLEDGER"),
+    Command("rebase-without", "LEDGER MOMENT PART NEWLEDGER WORKERS", "ISSUER", 1024, written="PART NEWLEDGER"),
     Command("start", "PART STORE", written="STORE"),
     Command("install", "STORE PART NEWSTORE", written="NEWSTORE"),
     Command("query", "STORE ISSUER SERIAL", "LOG TIME", 64),

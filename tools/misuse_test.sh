@@ -6,8 +6,8 @@
 #     tools/misuse_test.sh
 #
 # It prints for each case what was tried, the status, and what was said. The status is 0 exactly where each case came to
-# what it should. The certificates are made by openssl (3.0 or later); it needs python3 too. All files lie in a new
-# folder, which is removed.
+# what it should. The certificates are made by openssl (3.0 or later); it needs python3 too. Where clubcardctl's packages
+# are missing (tools/python.sh), what needs it is skipped with a line. All files lie in a new folder, which is removed.
 set -u
 
 if [ $# -gt 0 ]; then
@@ -172,7 +172,7 @@ forge() {
 }
 
 job() {
-    python3 "$tools/pack_job.py" "$@"
+    "$top/clubcardctl" job "$@"
 }
 
 make_store() {
@@ -191,36 +191,37 @@ make_store() {
 }
 
 pair() {
-    what=$1
-    wanted=$2
-    text=$3
-    shift 3
-    try "$what, query_cert.sh" "$wanted" "$text" sh "$tools/query_cert.sh" "$@" one.store
+    try "$1, ask" "$2" "$3" "$top/clubcardctl" ask -i "$5" one.store "$4"
 }
-# A pair that is refused, by both scripts.
+# A pair that is refused, by both words.
 refused() {
-    pair "$1" 1 "$2" "$3" "$4"
-    try "$1, identity.py" 2 "$2" python3 "$tools/identity.py" "$3" "$4"
+    pair "$1" 5 "$2" "$3" "$4"
+    try "$1, identity" 2 "$2" "$top/clubcardctl" identity "$3" "$4"
 }
 
-make_store || {
-    echo "misuse: there are no certificates to try" >&2
-    exit 1
+try_certificates() {
+    pair "a revoked certificate and its issuer" 1 revoked elm/site.pem elm/ca.pem
+    refused "another issuer's certificate" "didn't issue" elm/site.pem oak/ca.pem
+    refused "an issuer of the same name with another key" "didn't issue" elm/site.pem twin/ca.pem
+    refused "the two the other way round" "it is the other way round" elm/ca.pem elm/site.pem
+    refused "a certificate as its own issuer" "didn't issue" elm/site.pem elm/site.pem
+    refused "a forged certificate" "didn't issue" forged.der elm/ca.pem
+    refused "a key in place of a certificate" "there is no certificate in it" elm/site.key elm/ca.pem
+    refused "a CRL in place of an issuer" "there is no certificate in it" elm/site.pem elm/crl.pem
+    refused "a certificate that isn't there" "there is no such file" no.pem elm/ca.pem
+    pair "a chain, of which the first is asked" 1 revoked chain.pem elm/ca.pem
+    pair "several authorities, of which the first is the issuer" 1 revoked elm/site.pem authorities.pem
+    pair "a certificate that has expired" 0 good elm/expired.pem elm/ca.pem
+    pair "an issuer without an authority's mark" 4 not-enrolled unmarked/site.pem unmarked/ca.pem
+    try "a chain with its issuer, ask" 1 "revoked chain.pem" "$top/clubcardctl" ask one.store chain.pem
+    try "a certificate without its issuer, ask" 5 "give that of its issuer, CN=elm" \
+        "$top/clubcardctl" ask one.store elm/site.pem
+    try "a file that is no store, ask" 7 "it isn't a store" "$top/clubcardctl" ask one.part chain.pem
+    try "a folder without certificates, ask" 5 "no file holds" "$top/clubcardctl" ask one.store "$top/docs"
+    try "no certificate, ask" 2 "Missing argument" "$top/clubcardctl" ask one.store
+    try "a word that is none" 2 "No such command" "$top/clubcardctl" identify chain.pem
+    try "a chain, identity" 0 " 0080" "$top/clubcardctl" identity chain.pem authorities.pem
 }
-pair "a revoked certificate and its issuer" 0 revoked elm/site.pem elm/ca.pem
-refused "another issuer's certificate" "didn't issue" elm/site.pem oak/ca.pem
-refused "an issuer of the same name with another key" "didn't issue" elm/site.pem twin/ca.pem
-refused "the two the other way round" "it is the other way round" elm/ca.pem elm/site.pem
-refused "a certificate as its own issuer" "didn't issue" elm/site.pem elm/site.pem
-refused "a forged certificate" "didn't issue" forged.der elm/ca.pem
-refused "a key in place of a certificate" "openssl reads no certificate in it" elm/site.key elm/ca.pem
-refused "a CRL in place of an issuer" "openssl reads no certificate in it" elm/site.pem elm/crl.pem
-refused "a certificate that isn't there" "there is no such file" no.pem elm/ca.pem
-pair "a chain, of which the first is asked" 0 revoked chain.pem elm/ca.pem
-pair "several authorities, of which the first is the issuer" 0 revoked elm/site.pem authorities.pem
-pair "a certificate that has expired" 0 good elm/expired.pem elm/ca.pem
-pair "an issuer without an authority's mark" 0 not-enrolled unmarked/site.pem unmarked/ca.pem
-try "a chain, identity.py" 0 " 0080" python3 "$tools/identity.py" chain.pem authorities.pem
 
 # ---- times that are no milliseconds
 
@@ -228,24 +229,38 @@ packed() {
     what=$1
     text=$2
     shift 2
-    try "$what" 2 "$text" python3 "$tools/pack_job.py" --epoch 1 "$@" other.job
+    try "$what" 2 "$text" "$top/clubcardctl" job --epoch 1 "$@" other.job
 }
-packed "a moment in seconds" "if these are seconds, write 1700000000000" --moment 1700000000
-packed "a moment as a date" "date -d '2023-11-14' +%s000" --moment 2023-11-14
-packed "a range from zero" "milliseconds since 1970 have 13 digits" --moment $moment --range $log 0 $moment
-packed "a range to seconds" "if these are seconds, write 1700000001000" --moment $moment --range $log $moment 1700000001
-packed "a range that ends before it starts" "ends before it starts" --moment $moment --range $log $moment 1600000000000
-packed "a time in seconds" "if these are seconds, write 1700000000000" --moment $moment --range $log $moment $moment \
-    --certificate elm/site.pem elm/ca.pem $log 1700000000
-try "a page with a time in seconds" 2 "if these are seconds, write 1700000000000" \
-    python3 "$tools/pack_page.py" --certificate elm/site.pem elm/ca.pem 1700000000 one.page
-for file in other.job one.page; do
-    [ ! -e $file ] || differ "$file must not be written"
-done
+try_times() {
+    packed "a moment in seconds" "if these are seconds, write 1700000000000" --moment 1700000000
+    packed "a moment as a date" "date -d '2023-11-14' +%s000" --moment 2023-11-14
+    packed "a range from zero" "milliseconds since 1970 have 13 digits" --moment $moment --range $log 0 $moment
+    packed "a range to seconds" "if these are seconds, write 1700000001000" --moment $moment --range $log $moment 1700000001
+    packed "a range that ends before it starts" "ends before it starts" --moment $moment --range $log $moment 1600000000000
+    packed "a time in seconds" "if these are seconds, write 1700000000000" --moment $moment --range $log $moment $moment \
+        --certificate elm/site.pem elm/ca.pem $log 1700000000
+    try "a page with a time in seconds" 2 "if these are seconds, write 1700000000000" \
+        "$top/clubcardctl" page --certificate elm/site.pem elm/ca.pem 1700000000 one.page
+    for file in other.job one.page; do
+        [ ! -e $file ] || differ "$file must not be written"
+    done
+}
+
+if CLUBCARD_PYTHON=$(sh "$tools/python.sh" click cryptography 2>/dev/null); then
+    export CLUBCARD_PYTHON
+    make_store || {
+        echo "misuse: there are no certificates to try" >&2
+        exit 1
+    }
+    try_certificates
+    try_times
+else
+    echo "certificates, times: skipped, since no Python has click and cryptography (python/debian-packages.txt)"
+fi
 
 # ---- numbers in place of bytes, in Python
 
-export PYTHONPATH="$top/bindings/python" CLUBCARD_LIBRARY="$top/release/libclubcard.so"
+export PYTHONPATH="$top/python" CLUBCARD_LIBRARY="$top/release/libclubcard.so"
 cat >asking.py <<'PYTHON'
 import sys
 from clubcard import Sighting, Store, Verdict

@@ -1,15 +1,16 @@
 #!/bin/sh
 # Certificates, CRLs and keys made by openssl, through the program and back: what `clubcard query` says of each
-# certificate is compared with what `openssl verify -crl_check` says of it. It needs openssl (3.0 or later) and python3.
+# certificate is compared with what `openssl verify -crl_check` says of it. It needs openssl (3.0 or later) and what
+# clubcardctl needs (tools/python.sh).
 #
 #     tools/openssl_example.sh
 #
-# It makes the authorities of the table below, packs their CRLs and certificates into a job (tools/pack_job.py), and
+# It makes the authorities of the table below, packs their CRLs and certificates into a job (`clubcardctl job`), and
 # runs
 #
 #     clubcard snapshot JOB PART LEDGER 1
 #     clubcard start PART STORE
-#     clubcard query STORE ISSUER SERIAL LOG TIME      for each certificate (ISSUER and SERIAL by tools/identity.py)
+#     clubcard query STORE ISSUER SERIAL LOG TIME      for each certificate (ISSUER and SERIAL by `clubcardctl identity`)
 #
 # Then each authority issues one more certificate, with the fate of its first one, the first authority revokes its first
 # certificate, all make new CRLs, and a second job holds these and the new certificates:
@@ -19,8 +20,8 @@
 #     clubcard query NEWSTORE ..                       for each certificate, old and new
 #     clubcard query-cert NEWSTORE CERT ISSUERCERT     for each new one, which carries its timestamp
 #
-# The last is asked by tools/query_cert.sh. Then the two jobs and the same queries (tools/pack_queries.py) go through
-# one call, whose verdicts must be those:
+# The last is asked by `clubcardctl ask` too. Then the two jobs and the same queries (`clubcardctl queries`) go through one
+# call, whose verdicts must be those:
 #
 #     clubcard rehearse QUERIES 1 JOB JOB
 #
@@ -55,6 +56,8 @@ if [ $# -gt 0 ]; then
     exit 2
 fi
 top=$(cd "$(dirname "$0")/.." && pwd)
+CLUBCARD_PYTHON=$(sh "$top/tools/python.sh" click cryptography)
+export CLUBCARD_PYTHON
 work=$(mktemp -d)
 trap 'rm -r "$work"' EXIT
 trap 'exit 1' HUP INT TERM
@@ -192,7 +195,7 @@ compare() {
     : >queries.txt
     : >verdicts.txt
     while read -r name n time; do
-        identity=$(python3 "$top/tools/identity.py" "$name/$n.pem" "$name/ca.pem")
+        identity=$("$top/clubcardctl" identity "$name/$n.pem" "$name/ca.pem")
         # shellcheck disable=SC2086 # two words
         verdict=$("$top/clubcard" query "$1" $identity "$log" "$time") || true
         echo "$identity $log $time" >>queries.txt
@@ -212,7 +215,7 @@ done <authorities.txt
 while read -r name n time; do
     echo "--certificate $name/$n.pem $name/ca.pem $log $time" >>first
 done <certificates.txt
-python3 "$top/tools/pack_job.py" --epoch 1 --moment "$moment" --range "$log" "$moment" "$((moment + 1000))" @crls @first job1
+"$top/clubcardctl" job --epoch 1 --moment "$moment" --range "$log" "$moment" "$((moment + 1000))" @crls @first job1
 "$top/clubcard" snapshot job1 part1 ledger1 1
 "$top/clubcard" start part1 store1
 compare store1
@@ -229,16 +232,22 @@ while read -r name fates; do
     echo "$name $n" >>carriers.txt
     echo "--certificate $name/$n.pem $name/ca.pem $log $time" >>second
 done <authorities.txt
-python3 "$top/tools/pack_job.py" --epoch 2 --moment "$moment" --range "$log" "$moment" "$((moment + 2000))" @crls @second job2
+"$top/clubcardctl" job --epoch 2 --moment "$moment" --range "$log" "$moment" "$((moment + 2000))" @crls @second job2
 "$top/clubcard" delta job2 ledger1 part2 ledger2 1
 "$top/clubcard" install store1 part2 store2
 compare store2
 while read -r name n; do
-    verdict=$(sh "$top/tools/query_cert.sh" "$name/$n.pem" "$name/ca.pem" store2) || true
-    agree "$name $n, by its file" "$verdict" "$(openssl_verdict "$name" "$n")"
+    for each in "$n" ca; do
+        openssl x509 -in "$name/$each.pem" -outform DER -out "$name/$each.der"
+    done
+    truth=$(openssl_verdict "$name" "$n")
+    verdict=$("$top/clubcard" query-cert store2 "$name/$n.der" "$name/ca.der") || true
+    agree "$name $n, by its file" "$verdict" "$truth"
+    answer=$("$top/clubcardctl" ask -i "$name/ca.pem" store2 "$name/$n.pem") || true
+    agree "$name $n, by clubcardctl" "${answer%% *}" "$truth"
 done <carriers.txt
 
-python3 "$top/tools/pack_queries.py" queries <queries.txt
+"$top/clubcardctl" queries queries <queries.txt
 "$top/clubcard" rehearse queries 1 job1 job2 >rehearsed
 head -n 2 rehearsed
 if tail -n +3 rehearsed | cmp -s - verdicts.txt; then
@@ -265,7 +274,7 @@ compare store3
 while read -r name _; do
     (cd "$name" && quiet ca -gencrl -out crl.pem)
 done <authorities.txt
-python3 "$top/tools/pack_job.py" --epoch 3 --moment "$moment" --range "$log" "$moment" "$((moment + 2000))" @crls job3
+"$top/clubcardctl" job --epoch 3 --moment "$moment" --range "$log" "$moment" "$((moment + 2000))" @crls job3
 "$top/clubcard" delta job3 ledger3 part4 ledger4 1
 "$top/clubcard" install store3 part4 store4
 compare store4

@@ -10,7 +10,7 @@ from dataclasses import dataclass, field
 from typing import NoReturn
 
 import reference_files
-from certificates import Malformed, Walk
+from der_walk import Malformed, Walk
 from reference import Job, Part, Refused, sha
 from reference_files import Fields
 from scenario_publishing import CRLS, ENTRIES, RANGES, SERIALS, Limit
@@ -343,9 +343,8 @@ def date_in(walk: Walk) -> int | None:
 
 def issuer_hash(certificate: bytes) -> Key:
     """The SHA-256 of the whole subjectPublicKeyInfo of a certificate."""
-    walk = Walk(take(Walk(whole(certificate, 0x30)), "a TBS", 0x30))
-    walk.skip("a version", 0xA0)
-    for _ in range(5):
+    _, walk = serial_in(take(Walk(whole(certificate, 0x30)), "a TBS", 0x30))
+    for _ in range(4):
         take(walk, "an element")
     key: Key = sha(walk.take("a key", 0x30)[1])
     return key

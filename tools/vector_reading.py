@@ -5,7 +5,7 @@ from collections.abc import Iterator
 from types import SimpleNamespace
 from typing import Any
 
-from certificates import Malformed, Walk
+from der_walk import Malformed, Walk
 from reference import Job, Refused
 from reference_files import Fields, read_queries, read_range
 from scenario_readers import Fed, FoundCrl, FoundEntry, issuer_hash, read_certificate, serial_in, time_in, whole

@@ -1,0 +1,168 @@
+"""The words of `clubcardctl`."""
+
+import collections
+import sys
+
+import click
+
+from ..publish.version import version
+from .files import issued_pair
+from .packing import JobWords, pack_job, pack_page, pack_queries
+from .words import NoStore, WordsInFiles
+
+Many = tuple[tuple[str, ...], ...]
+
+
+@click.group(context_settings={"help_option_names": ["-h", "--help"]})
+@click.version_option(version(), "-V", "--version", prog_name="clubcardctl")
+def main() -> None:
+    """Makes the program's files of certificates and CRLs in PEM or DER, and asks stores by them.
+
+    Status 2: a word or a file is wrong; standard error says which and what to do, and what was to be written is as
+    before. `ask` has statuses of its own.
+    """
+
+
+@main.command(cls=WordsInFiles)
+@click.option("--epoch", required=True, metavar="N", help="The number of this job in its history.")
+@click.option(
+    "--moment",
+    required=True,
+    metavar="MS",
+    help="The time at which it was collected; a CRL whose nextUpdate is before it is out of date.",
+)
+@click.option(
+    "--range",
+    "ranges",
+    nargs=3,
+    multiple=True,
+    metavar="LOG FROM TO",
+    help="What the job covers of a log: the sightings from FROM to TO, both included. At most one for a log.",
+)
+@click.option(
+    "--crl",
+    "crls",
+    nargs=2,
+    multiple=True,
+    metavar="ISSUERCERT CRLFILE",
+    help="A CRL, and the certificate of the authority that it speaks for.",
+)
+@click.option(
+    "--certificate",
+    "certificates",
+    nargs=4,
+    multiple=True,
+    metavar="CERT ISSUERCERT LOG TIME",
+    help="A certificate that a log saw at TIME, and that of its issuer. It becomes an x509 entry (RFC 6962, 3.4 and "
+    "4.6) whose chain is the issuer's certificate alone.",
+)
+@click.option(
+    "--entry",
+    "entries",
+    nargs=3,
+    multiple=True,
+    metavar="LOG LEAFFILE EXTRAFILE",
+    help="A log's entry as it stands: the MerkleTreeLeaf and the extra data, in binary (RFC 6962, 4.6).",
+)
+@click.argument("job", metavar="JOB")
+def job(epoch: str, moment: str, ranges: Many, crls: Many, certificates: Many, entries: Many, job: str) -> None:
+    """Packs CRLs, certificates and log entries into JOB, the publisher's input.
+
+    LOG is a log id, 64 hexadecimal digits. MS, FROM, TO and TIME are milliseconds since 1970-01-01 00:00:00 UTC, of 13
+    digits: a number below 1000000000000 (September 2001) is refused, since it is one of seconds. Certificates and CRLs
+    are files in DER or in PEM; of several certificates in a file the first is taken, and a CRL's file has one. A word
+    @FILE stands for the words in that file, one option to a line, quoted as for a shell.
+
+    Ranges are written in the order of their logs; CRLs, then certificates, then entries in the order of the words. The
+    name of a certificate's or a CRL's issuer must be the subject of ISSUERCERT, byte for byte. No signature is
+    verified, and whether a CRL is one that the program accepts is found by the program. Until the job is whole it
+    stands in JOB.draft.
+    """
+    click.echo(pack_job(job, JobWords(epoch, moment, ranges, crls, certificates, entries)))
+
+
+@main.command(cls=WordsInFiles)
+@click.option(
+    "--certificate",
+    "certificates",
+    nargs=3,
+    multiple=True,
+    metavar="CERT ISSUERCERT TIME",
+    help="A certificate that the log saw at TIME (milliseconds since 1970), and that of its issuer.",
+)
+@click.argument("page", metavar="PAGE")
+def page(certificates: Many, page: str) -> None:
+    """Makes PAGE, as a log's get-entries answers one (RFC 6962, 4.6), of certificates.
+
+    It stands for a log that there is, to try the program on. Each certificate becomes an x509 entry whose chain is its
+    issuer's certificate alone; no signature is made or verified.
+    """
+    click.echo(pack_page(page, certificates))
+
+
+@main.command()
+@click.argument("queries", metavar="QUERIES")
+def queries(queries: str) -> None:
+    """Packs QUERIES, which `clubcard rehearse` asks, of the lines on standard input.
+
+    Each line is one query in the words of `clubcard query`: ISSUER SERIAL, then 1 to 64 pairs LOG TIME; ISSUER and
+    SERIAL are as `clubcardctl identity` prints them. Empty lines are passed over.
+    """
+    click.echo(pack_queries(queries, sys.stdin))
+
+
+@main.command()
+@click.argument("certificate", metavar="CERT")
+@click.argument("issuer", metavar="ISSUERCERT")
+def identity(certificate: str, issuer: str) -> None:
+    """Prints the words ISSUER and SERIAL by which `clubcard query` asks about CERT.
+
+    CERT and its issuer's ISSUERCERT are files in DER or PEM; of several certificates in a file the first is taken.
+    ISSUER is the SHA-256 of the issuer's subjectPublicKeyInfo, and SERIAL the contents octets of serialNumber as they
+    stand, both in hexadecimal. ISSUERCERT must have issued CERT: its key verifies the signature.
+    """
+    found, authority = issued_pair(certificate, issuer)
+    click.echo(f"{authority.key_hash().hex()} {found.serial.hex()}")
+
+
+@main.command()
+@click.option(
+    "-i",
+    "--issuer-certificate",
+    "issuers",
+    multiple=True,
+    metavar="ISSUERCERT",
+    help="A file with issuers' certificates. Else the issuer stands behind CERT in its file, or in another CERT.",
+)
+@click.option("--count", is_flag=True, help="Print how many files came to each answer, and not which.")
+@click.argument("store", metavar="STORE")
+@click.argument("certificates", nargs=-1, required=True, metavar="CERT..")
+def ask(issuers: tuple[str, ...], count: bool, store: str, certificates: tuple[str, ...]) -> None:
+    """Asks STORE about each CERT, by its timestamps.
+
+    CERT is a file in DER or PEM, of which the first certificate is asked about, or a folder of such files. Its issuer's
+    certificate must have issued it: its key verifies the signature. A line is a verdict and the file's name; what can't
+    be asked is said on standard error.
+
+    Status 0: good; 1: revoked; 3: not-covered; 4: not-enrolled; 5: a file holds no certificate, or its issuer isn't
+    there; 6: the certificate or its timestamps can't be read; 7: STORE is none, or there is no library; 2: words. Of
+    several the first that is there of 1, 7, 5, 6, 4, 3 and 0.
+    """
+    try:
+        from . import asking
+    except ImportError as error:
+        raise NoStore(f"{store}: it can't be asked: {error}") from error
+    found = set()
+    counts: collections.Counter[str] = collections.Counter()
+    for answer in asking.ask(asking.open_store(store), certificates, issuers):
+        found.add(answer.status)
+        counts[answer.kind] += 1
+        if answer.why and answer.status:
+            click.echo(f"clubcardctl: {answer.why}", err=True)
+        elif not answer.why and not count:
+            click.echo(f"{answer.kind} {answer.name}")
+    for kind in sorted(counts) if count else ():
+        click.echo(f"{kind}: {counts[kind]}")
+    if not found - {None}:
+        click.echo("clubcardctl: no file holds a certificate to ask about", err=True)
+    sys.exit(next((status for status in asking.ORDER if status in found), asking.Status.NO_CERTIFICATE))
