@@ -1,0 +1,142 @@
+"""The publisher's state: an SQLite database, and the files that its rows name.
+
+A step writes files under new names, syncs them, and names them in one transaction. So a run that is killed leaves files
+that no row names, and never a row whose file isn't whole; the next run sweeps them away.
+"""
+
+import contextlib
+import os
+import secrets
+import shutil
+import sqlite3
+import threading
+from collections.abc import Iterator
+from dataclasses import dataclass, field
+from importlib import resources
+from pathlib import Path
+from typing import Literal
+
+Folder = Literal["spool", "crls", "chain", "work"]
+FORMAT = "1"
+CACHE = 65536
+"""How much memory the database takes for its pages, in KiB."""
+# Where rows name files: table, column.
+_NAMES = [
+    ("segment", "file"),
+    ("crl", "file"),
+    ("chain", "ledger"),
+    ("chain", "store"),
+    ("part", "file"),
+    ("part", "job"),
+]
+
+
+class StateError(Exception):
+    """The state can't be used; the text says why and what to do."""
+
+
+def sync(path: Path) -> None:
+    """Waits until a file's bytes, or a folder's names, are on the disk."""
+    number = os.open(path, os.O_RDONLY)
+    try:
+        os.fsync(number)
+    finally:
+        os.close(number)
+
+
+@dataclass
+class State:
+    """An open state. `db` is in autocommit mode: what belongs together stands in `transaction`. Threads share it, and
+    one waits for another's transaction."""
+
+    folder: Path
+    db: sqlite3.Connection
+    lock: threading.RLock = field(default_factory=threading.RLock, repr=False)
+
+    @classmethod
+    def open(cls, folder: Path) -> "State":
+        """Opens the state in a folder, or begins one."""
+        for name in ("spool", "crls", "chain", "work"):
+            (folder / name).mkdir(parents=True, exist_ok=True)
+        db = sqlite3.connect(folder / "state.sqlite", isolation_level=None, check_same_thread=False)
+        db.execute("PRAGMA journal_mode = WAL")
+        db.execute("PRAGMA synchronous = FULL")
+        db.execute("PRAGMA foreign_keys = ON")
+        db.execute(f"PRAGMA cache_size = -{CACHE}")
+        state = cls(folder, db)
+        state._begin()
+        return state
+
+    def _begin(self) -> None:
+        """Makes the tables of a new state, and tests the format of an old one."""
+        if not self.db.execute("SELECT 1 FROM sqlite_master WHERE name = 'meta'").fetchone():
+            schema = resources.files(__package__).joinpath("schema.sql").read_text(encoding="utf-8")
+            self.db.executescript(f"BEGIN IMMEDIATE; {schema}; INSERT INTO meta VALUES ('format', '{FORMAT}'); COMMIT;")
+        if self.meta("format") != FORMAT:
+            raise StateError(f"{self.folder}: a state of format {self.meta('format')}, and this program reads {FORMAT}")
+
+    def close(self) -> None:
+        self.db.close()
+
+    @contextlib.contextmanager
+    def transaction(self) -> Iterator[sqlite3.Connection]:
+        """All changes in it, or none."""
+        with self.lock:
+            self.db.execute("BEGIN IMMEDIATE")
+            try:
+                yield self.db
+                self.db.execute("COMMIT")
+            except BaseException:
+                # Where the disk is full SQLite has rolled back by itself.
+                if self.db.in_transaction:
+                    self.db.execute("ROLLBACK")
+                raise
+
+    def meta(self, key: str) -> str | None:
+        """What is noted under a key."""
+        row = self.db.execute("SELECT value FROM meta WHERE key = ?", (key,)).fetchone()
+        return None if row is None else str(row[0])
+
+    def set_meta(self, key: str, value: str) -> None:
+        """Notes a value under a key."""
+        self.db.execute(
+            "INSERT INTO meta VALUES (?, ?) ON CONFLICT (key) DO UPDATE SET value = excluded.value", (key, value)
+        )
+
+    def issuer_id(self, key: bytes) -> int:
+        """The number of an issuer, which is made where there is none."""
+        self.db.execute("INSERT OR IGNORE INTO issuer (key) VALUES (?)", (key,))
+        row = self.db.execute("SELECT id FROM issuer WHERE key = ?", (key,)).fetchone()
+        return int(row[0])
+
+    def new_file(self, folder: Folder, suffix: str) -> Path:
+        """A name that no file had before. It counts once a row names it."""
+        return self.folder / folder / f"{secrets.token_hex(8)}{suffix}"
+
+    def named(self, path: Path) -> str:
+        """How a row names a file."""
+        return str(path.relative_to(self.folder))
+
+    def path(self, name: str) -> Path:
+        """The file that a row names."""
+        return self.folder / name
+
+    def keep(self, path: Path) -> None:
+        """Waits until a new file is on the disk, with its name."""
+        sync(path)
+        sync(path.parent)
+
+    def sweep(self) -> None:
+        """Removes what a killed run left: files that no row names."""
+        held = {
+            str(name)
+            for table, column in _NAMES
+            for (name,) in self.db.execute(f"SELECT {column} FROM {table}")
+            if name
+        }
+        for folder in ("spool", "crls", "chain"):
+            for path in (self.folder / folder).iterdir():
+                if self.named(path) not in held:
+                    path.unlink()
+        for path in (self.folder / "work").iterdir():
+            shutil.rmtree(path) if path.is_dir() else path.unlink()
