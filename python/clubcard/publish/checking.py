@@ -1,0 +1,72 @@
+"""Tests of the store that clients will have, before anything names it: does it say what is true?"""
+
+import mmap
+import sqlite3
+from collections.abc import Sequence
+from pathlib import Path
+
+from ..answers import Verdict
+from ..engine import Engine, PassedLimit
+from ..store import Query, Sighting, Store
+from .making import NoEpoch
+
+AT_ONCE = 20_000
+"""How many questions are asked at once."""
+
+# What is asked of an entry e of an identity k.
+_ASKED = "SELECT l.key, e.time, i.key, e.serial, k.revoked IS NOT NULL"
+_JOINED = "JOIN log l ON l.id = e.log JOIN issuer i ON i.id = e.issuer"
+
+
+def of_epoch() -> str:
+    """What is asked behind an epoch: the entries that it accepted, and the identities that it first lists (`epoch`)."""
+    return f"""
+        {_ASKED} FROM temp.shown s CROSS JOIN entry e ON e.id = s.id
+            JOIN identity k ON k.issuer = e.issuer AND k.serial = e.serial {_JOINED}
+        UNION ALL {_ASKED} FROM identity k JOIN entry e ON e.id = k.entry {_JOINED} WHERE k.revoked = :epoch"""
+
+
+def of_rebase() -> str:
+    """What is asked behind a rebase: the identities that are revoked, and those that the newest epoch (`epoch`) was the
+    first to accept."""
+    return f"""
+        {_ASKED} FROM identity k JOIN entry e ON e.id = k.entry {_JOINED}
+        WHERE k.revoked IS NOT NULL OR k.birth = :epoch"""
+
+
+def audited(engine: Engine, store: Path, jobs: Sequence[Path] | None) -> bool:
+    """Tests by the program that a store says the truth of each entry of all of its jobs. False where it can't, since a
+    rebase began the chain or the jobs are too many for one audit: then questions are asked (`ask`)."""
+    if jobs is None:
+        return False
+    try:
+        engine.audit(store, jobs)
+    except PassedLimit:
+        return False
+    return True
+
+
+def ask(db: sqlite3.Connection, store: Path, asked: str, epoch: int) -> int:
+    """Tests by the library that a store says what the state says, of what a query asks: of each its log, time, issuer
+    and serial, and whether it is revoked. How many these are; one that isn't as the state says is a NoEpoch."""
+    count, rows = 0, db.execute(asked, {"epoch": epoch})
+    with open(store, "rb") as file, mmap.mmap(file.fileno(), 0, access=mmap.ACCESS_READ) as octets:
+        held = Store(octets)
+        while some := rows.fetchmany(AT_ONCE):
+            _compare(held, some)
+            count += len(some)
+    return count
+
+
+def _compare(store: Store, rows: Sequence[tuple[bytes, int, bytes, bytes, int]]) -> None:
+    """Asks about rows, and tests the answers."""
+    queries = [Query(issuer, serial, (Sighting(log, time),)) for log, time, issuer, serial, _ in rows]
+    for query, answer, row in zip(queries, store.query_each(queries), rows):
+        truth = Verdict.REVOKED if row[4] else Verdict.GOOD
+        if answer is not truth:
+            identity = f"issuer {query.issuer.hex()} serial {query.serial.hex()}"
+            seen = f"seen by log {row[0].hex()} at {row[1]}"
+            raise NoEpoch(
+                f"the new store says {answer.name} of {identity}, {seen}, and the state {truth.name}",
+                "report it with the state's folder; the site stays as it is",
+            )

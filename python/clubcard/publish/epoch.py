@@ -1,0 +1,190 @@
+"""One epoch: what the spool and the CRLs hold becomes a job, the job a part, and the part the newest of the chain."""
+
+from concurrent.futures import ThreadPoolExecutor
+from dataclasses import dataclass
+from pathlib import Path
+
+from ..engine import Engine
+from . import chain, checking, fitting, rebasing, recording
+from .alarms import Alarms
+from .chain import EpochRow, Newest
+from .config import Config
+from .issuers import Enrolment
+from .making import Limits, Making, NoEpoch
+from .progress import Progress
+from .publishing import Made, Publishing
+from .recording import Files
+from .showing import Showing
+from .state import State
+
+__all__ = ["EpochMade", "Limits", "NoEpoch", "left_open", "made_before", "make_epoch"]
+
+MOST_TOLD = 20
+"""How many late entries are told one by one."""
+# A full ledger is begun anew where that prunes what is lacking, or one identity of so many that it takes.
+_WORTH = 16
+
+
+@dataclass(frozen=True)
+class EpochMade:
+    """An epoch that is the state's newest."""
+
+    row: EpochRow
+    again: bool
+    """Whether it had been made before, by a run with the same moment."""
+
+    @property
+    def status(self) -> int:
+        """0 where no alarm was raised in it, else 10."""
+        return 10 if self.row.alarms else 0
+
+
+def left_open(state: State, moment: int) -> bool:
+    """Whether the newest epoch has this moment, and its run was killed before the step behind it was done: what clients
+    are to have isn't known before."""
+    row = state.db.execute("SELECT moment, done FROM epoch ORDER BY epoch DESC LIMIT 1").fetchone()
+    return row is not None and tuple(row) == (moment, 0)
+
+
+def made_before(
+    config: Config, state: State, engine: Engine, moment: int, alarms: Alarms, progress: Progress
+) -> EpochMade | None:
+    """The newest epoch where it has this moment, once the rebase that is left undone behind it is done; else None.
+
+    A run asks this before it fetches anything. The alarms of that epoch are raised again. Raises NoEpoch where the
+    moment is before the newest epoch's.
+    """
+    row = chain.newest_epoch(state)
+    if row is None or moment > row.moment:
+        return None
+    if moment < row.moment:
+        remedy = "set the clock right, or wait until it has passed that moment"
+        raise NoEpoch(f"the clock says {moment}, which is before the newest epoch's moment {row.moment}", remedy)
+    for alarm in row.alarms:
+        alarms.add(alarm.kind, alarm.text)
+    (done,) = state.db.execute("SELECT done FROM epoch WHERE epoch = ?", (row.epoch,)).fetchone()
+    if not done:
+        row = rebasing.behind(Making(config, state, engine, moment, alarms, progress))
+    return EpochMade(row, True)
+
+
+def make_epoch(
+    config: Config,
+    state: State,
+    engine: Engine,
+    moment: int,
+    enrolment: Enrolment,
+    alarms: Alarms,
+    progress: Progress,
+    limits: Limits = Limits(),
+) -> EpochMade:
+    """Makes the epoch of a moment, and the rebase behind it where it is due.
+
+    One transaction names its job, part, ledger and store and marks what it accepted; another one the rebase. So a run
+    that is killed leaves the state before or behind each. Raises NoEpoch where none is made: the state is as before.
+    All alarms that the run raised up to here are kept with the epoch. `limits` are the program's, or lower ones.
+    """
+    before = made_before(config, state, engine, moment, alarms, progress)
+    if before is not None:
+        return before
+    making = Making(config, state, engine, moment, alarms, progress, limits)
+    plan = fitting.begun(making, enrolment)
+    _make_room(making, plan)
+    with making.step():
+        row, done = _made(making, plan)
+    return EpochMade(row if done else rebasing.behind(making), False)
+
+
+def _make_room(making: Making, plan: fitting.Plan) -> None:
+    """Begins a chain anew that has no room for another part, or whose ledger is full."""
+    newest = chain.newest(making.state)
+    if newest is None:
+        return
+    full = newest.parts >= making.limits.parts
+    if full or _is_ledger_full(making, newest, plan):
+        rebasing.attempted(making, newest, newest.held, full)
+    left = chain.newest(making.state)
+    if left is not None and left.parts >= making.limits.parts:
+        told = [alarm.text for alarm in making.alarms.raised if alarm.kind == "held"]
+        why = f"the chain has {left.parts} parts, and couldn't begin anew"
+        raise NoEpoch(why, "; ".join(told) or "begin a new state")
+
+
+def _is_ledger_full(making: Making, newest: Newest, plan: fitting.Plan) -> bool:
+    """Whether the ledger has no room for what could be covered, and a rebase makes some."""
+    cut = rebasing.cut_of(making)
+    with making.step():
+        lacking = fitting.lacking(making, Showing(making.state, newest.generation, cut), newest, plan)
+    if not lacking:
+        return False
+    (prunes,) = making.db.execute("SELECT count(*) FROM identity WHERE until * 1000 < ?", (cut,)).fetchone()
+    return int(prunes) >= max(1, min(lacking, making.limits.identities // _WORTH))
+
+
+def _made(making: Making, plan: fitting.Plan) -> tuple[EpochRow, bool]:
+    """The epoch of a plan, and whether nothing is to be done behind it."""
+    state, newest, cut = making.state, chain.newest(making.state), rebasing.cut_of(making)
+    generation, epoch = (newest.generation, newest.epoch + 1) if newest else (1, 1)
+    showing = Showing(state, generation, cut)
+    made = Publishing(making, showing, newest, epoch).publish(plan)
+    store = _store(making, newest, made)
+    files = _files(making, made, store)
+    _tell_late(making)
+    done = (newest.parts if newest else 0) + 1 < making.config.rebase_after
+    with ThreadPoolExecutor(1) as thread, making.progress.task("auditing the new store"), state.transaction():
+        # The program audits while the transaction is written.
+        audit = thread.submit(_audited, making, newest, made, store)
+        recording.name_part(making, newest, made, files)
+        recording.accept(making, made)
+        recording.revoke(making, made.plan, epoch)
+        if not audit.result():
+            checking.ask(making.db, store, checking.of_epoch(), epoch)
+        recording.forget(making, generation, cut)
+        row = recording.epoch_row(making, newest, made, files)
+        recording.write_row(making, row, done)
+    return row, done
+
+
+def _store(making: Making, newest: Newest | None, made: Made) -> Path:
+    """The store of a client who installed all parts."""
+    store = making.state.new_file("chain", ".store")
+    if newest is None:
+        making.engine.start(made.part, store)
+    else:
+        making.engine.install(newest.store, made.part, store)
+    return store
+
+
+def _files(making: Making, made: Made, store: Path) -> Files:
+    """The epoch's files, once all but the job are on the disk."""
+    state = making.state
+    state.keep(made.ledger)
+    names = state.named(made.ledger), state.named(made.job)
+    return Files(recording.kept(making, made.part), names[0], recording.kept(making, store), names[1])
+
+
+def _audited(making: Making, newest: Newest | None, made: Made, store: Path) -> bool:
+    """Whether the program audited the store by all jobs of its chain; waits until the new job is on the disk."""
+    making.state.keep(made.job)
+    jobs = newest.jobs if newest else ()
+    return checking.audited(making.engine, store, None if jobs is None else (*jobs, made.job))
+
+
+def _tell_late(making: Making) -> None:
+    """An alarm for each late entry that no epoch told, up to some; one for the others of these, and one for all that
+    were told before."""
+    late = "FROM temp.late t CROSS JOIN entry e ON e.id = t.id"
+    rows = making.db.execute(
+        f"""
+        SELECT l.name, e.place, hex(e.serial), e.issuer {late}
+        JOIN log l ON l.id = e.log WHERE e.late IS NULL ORDER BY e.log, e.place LIMIT {MOST_TOLD}"""
+    ).fetchall()
+    why = "merged behind the log's maximum merge delay, so that a part that clients have answers by chance"
+    for name, place, serial, issuer in rows:
+        text = f"log {name} index {place} serial {serial.lower()} of {making.issuer_name(issuer)}"
+        making.alarms.add("late", f"{text}: {why}")
+    new, told = making.db.execute(f"SELECT count(*) - count(e.late), count(e.late) {late}").fetchone()
+    if new > len(rows):
+        making.alarms.add("late", f"{new - len(rows)} more entries: {why}")
+    if told:
+        making.alarms.add("late", f"{told} entries that an earlier epoch told are late still")

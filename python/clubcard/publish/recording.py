@@ -1,0 +1,176 @@
+"""What one transaction writes behind a new part: names of files, marks of entries, identities, and the epoch's row."""
+
+import hashlib
+from dataclasses import dataclass
+from pathlib import Path
+
+from . import rules
+from .chain import Coverage, EpochRow, IssuerRow, Newest, to_facts
+from .fitting import Plan, listed_in
+from .making import Making
+from .publishing import Made
+
+
+@dataclass(frozen=True)
+class FileFacts:
+    """A file that is on the disk: how the state names it, its length, and its SHA-256."""
+
+    name: str
+    length: int
+    sha256: bytes
+
+
+def kept(making: Making, path: Path) -> FileFacts:
+    """Waits until a new file is on the disk."""
+    making.state.keep(path)
+    with open(path, "rb") as file:
+        digest = hashlib.file_digest(file, "sha256").digest()
+    return FileFacts(making.state.named(path), path.stat().st_size, digest)
+
+
+@dataclass(frozen=True)
+class Files:
+    """What a new part brings."""
+
+    part: FileFacts
+    ledger: str
+    store: FileFacts
+    job: str | None
+
+
+def name_part(making: Making, newest: Newest | None, made: Made, files: Files) -> None:
+    """Makes a part the newest of its chain."""
+    db, generation = making.db, newest.generation if newest else 1
+    if newest is None:
+        db.execute("INSERT INTO chain VALUES (?, '', '', 0, x'', 0, NULL)", (generation,))
+    else:
+        making.former += [newest.ledger, newest.store]
+    place, kind = (newest.parts, "delta") if newest else (0, "snapshot")
+    point_to(making, generation, files)
+    row = (generation, place, kind, made.epoch, files.part.name, files.part.length, files.part.sha256, files.job)
+    db.execute("INSERT INTO part VALUES (?, ?, ?, ?, ?, ?, ?, ?)", row)
+    ranges = ((generation, place, log, low, high) for log, (low, high) in made.plan.ranges.items())
+    db.executemany("INSERT INTO part_range VALUES (?, ?, ?, ?, ?)", ranges)
+    issuers = ((generation, place, issuer) for issuer in made.plan.crls)
+    db.executemany("INSERT INTO part_issuer VALUES (?, ?, ?)", issuers)
+    enrolled = ((making.moment, issuer) for issuer in made.plan.crls)
+    db.executemany("UPDATE issuer SET enrolled_at = ? WHERE id = ?", enrolled)
+
+
+def point_to(making: Making, generation: int, files: Files) -> None:
+    """Names a chain's newest ledger and store."""
+    making.db.execute(
+        "UPDATE chain SET ledger = ?, store = ?, store_length = ?, store_sha256 = ? WHERE generation = ?",
+        (files.ledger, files.store.name, files.store.length, files.store.sha256, generation),
+    )
+
+
+def accept(making: Making, made: Made) -> None:
+    """Marks what the job showed as accepted, makes identities of it, and marks what is set aside or late."""
+    db, words = making.db, {"epoch": made.epoch}
+    db.execute("UPDATE entry SET epoch = :epoch WHERE id IN (SELECT id FROM temp.shown)", words)
+    db.execute("UPDATE entry SET aside = 'count' WHERE id IN (SELECT id FROM temp.aside)")
+    db.execute("UPDATE entry SET late = :epoch WHERE late IS NULL AND id IN (SELECT id FROM temp.late)", words)
+    db.execute(
+        """INSERT INTO identity (issuer, serial, birth, until, entry)
+        SELECT e.issuer, e.serial, :epoch, e.until, e.id FROM temp.shown s CROSS JOIN entry e WHERE e.id = s.id
+        ORDER BY e.issuer, e.serial
+        ON CONFLICT (issuer, serial) DO UPDATE SET until = iif(
+            until IS NULL OR excluded.until IS NULL, NULL, max(until, excluded.until))
+        WHERE until IS NOT excluded.until""",
+        words,
+    )
+
+
+def revoke(making: Making, plan: Plan, epoch: int) -> None:
+    """Marks the identities that the CRLs of the enrolled issuers list, and that no one listed before."""
+    change = "UPDATE identity SET revoked = ? WHERE issuer = ? AND serial = ? AND revoked IS NULL"
+    for issuer, crl in ((issuer, crl) for issuer, crls in plan.crls.items() for crl in crls):
+        making.db.executemany(change, ((epoch, issuer, serial) for serial in listed_in(crl)))
+
+
+def forget(making: Making, generation: int, cut: int) -> None:
+    """Forgets waiting entries of certificates that expired before `cut`, segments that nothing needs any more, and
+    chains that ended `keep` before the epoch's moment."""
+    db, state = making.db, making.state
+    words = {"generation": generation, "cut": cut}
+    db.execute(f"DELETE FROM entry WHERE id IN ({rules.expired()})", words)
+    drop_segments(making)
+    ended = "SELECT generation FROM chain WHERE ended < ?"
+    before = (making.moment - making.config.keep,)
+    rows = db.execute(f"SELECT file FROM part WHERE generation IN ({ended})", before)
+    making.former += [state.path(name) for (name,) in rows]
+    db.execute(f"DELETE FROM part WHERE generation IN ({ended})", before)
+    db.execute("DELETE FROM chain WHERE ended < ?", before)
+
+
+def drop_segments(making: Making) -> None:
+    """Forgets the segments of which no entry is left."""
+    gone = "NOT EXISTS (SELECT 1 FROM entry WHERE segment = segment.id)"
+    rows = making.db.execute(f"SELECT file FROM segment WHERE {gone}")
+    making.former += [making.state.path(name) for (name,) in rows]
+    making.db.execute(f"DELETE FROM segment WHERE {gone}")
+
+
+def sizes(making: Making) -> dict[int, tuple[int, int]]:
+    """How many identities of each issuer the chain holds, and how many of these are revoked."""
+    rows = making.db.execute("SELECT issuer, count(*), count(revoked) FROM identity GROUP BY issuer")
+    return {issuer: (universe, revoked) for issuer, universe, revoked in rows}
+
+
+def waiting(making: Making) -> int:
+    """How many entries wait."""
+    query = f"SELECT count(*) FROM entry e INDEXED BY entry_waiting WHERE {rules.WAITS}"
+    return int(making.db.execute(query).fetchone()[0])
+
+
+def epoch_row(making: Making, newest: Newest | None, made: Made, files: Files) -> EpochRow:
+    """What an epoch came to."""
+    config, counted = making.config, sizes(making)
+    (late,) = making.db.execute("SELECT count(*) FROM temp.late").fetchone()
+    return EpochRow(
+        epoch=made.epoch,
+        moment=making.moment,
+        generation=newest.generation if newest else 1,
+        kind="delta" if newest else "snapshot",
+        length=files.part.length,
+        parts=newest.parts + 1 if newest else 1,
+        shown=made.shown,
+        waiting=waiting(making),
+        late=late,
+        universe=sum(universe for universe, _ in counted.values()),
+        revoked=sum(revoked for _, revoked in counted.values()),
+        name=config.name,
+        valid_until=making.moment + config.valid_for,
+        next_key=config.next_key,
+        issuers=_issuer_rows(making, made.plan, counted),
+        coverage=_coverage(making, made.plan),
+        alarms=tuple(making.alarms.raised),
+        rebased=False,
+    )
+
+
+def _issuer_rows(making: Making, plan: Plan, counted: dict[int, tuple[int, int]]) -> tuple[IssuerRow, ...]:
+    """The issuers of CONFIG, in its order."""
+    known = {key: (number, at) for number, key, at in making.db.execute("SELECT id, key, enrolled_at FROM issuer")}
+    rows = []
+    for issuer in making.config.issuers:
+        number, at = known.get(issuer.key, (0, None))
+        reason = None if number in plan.crls else plan.left.get(number, "no CRL of it was accepted yet")
+        rows.append(IssuerRow(issuer.key, issuer.name, reason is None, at, reason, *counted.get(number, (0, 0))))
+    return tuple(rows)
+
+
+def _coverage(making: Making, plan: Plan) -> tuple[Coverage, ...]:
+    """What is covered, by ascending log."""
+    rows = making.db.execute("SELECT id, key, name FROM log ORDER BY key")
+    return tuple(Coverage(key, name, *plan.ranges[number]) for number, key, name in rows if number in plan.ranges)
+
+
+def write_row(making: Making, row: EpochRow, done: bool) -> None:
+    """Writes an epoch's row, or writes it anew."""
+    making.db.execute(
+        "INSERT INTO epoch VALUES (?, ?, ?, ?)"
+        " ON CONFLICT (epoch) DO UPDATE SET done = excluded.done, facts = excluded.facts",
+        (row.epoch, row.moment, int(done), to_facts(row)),
+    )
