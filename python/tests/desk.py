@@ -71,7 +71,7 @@ class Publisher:
 
     folder: Path
     web: Web = field(default_factory=Web)
-    authority: Authority = field(default_factory=lambda: Authority.of("Example R1"))
+    authority: Authority = field(default_factory=lambda: Authority.of("Example CA"))
 
     def __post_init__(self) -> None:
         self.folder.mkdir(exist_ok=True)
@@ -87,7 +87,7 @@ class Publisher:
 
     def write(self, more: str = "", program: str = PROGRAM) -> None:
         """Writes CONFIG with something more."""
-        issuer = f'[[issuer]]\nname = "Example R1"\ncertificate = ["r1.pem"]\ncrls = ["{URL}"]\n'
+        issuer = f'[[issuer]]\nname = "Example CA"\ncertificate = ["r1.pem"]\ncrls = ["{URL}"]\n'
         self.file.write_text(f'name = "example"\nprogram = "{program}"\n{more}\n{issuer}', encoding="utf-8")
 
     def config(self) -> Config:

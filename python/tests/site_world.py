@@ -41,8 +41,8 @@ def config_of(folder: Path) -> Config:
         grace=7 * DAY,
         keep=2 * DAY,
         issuers=(
-            Issuer("Example R1", key("first"), (), ("http://127.0.0.1/1.crl",), {}),
-            Issuer("R2", key("second"), (), ('http://127.0.0.1/2.crl?"\\', "http://127.0.0.1/3.crl"), {}),
+            Issuer("Example CA", key("first"), (), ("http://127.0.0.1/1.crl",), {}),
+            Issuer("Second", key("second"), (), ('http://127.0.0.1/2.crl?"\\', "http://127.0.0.1/3.crl"), {}),
         ),
         logs=(),
     )
@@ -62,11 +62,11 @@ class World:
     def issuers(self, epoch: int) -> tuple[chain.IssuerRow, ...]:
         """Two of CONFIG, of which the second one is away in each third epoch; its name tries to break the page."""
         moment = START + epoch * STEP
-        first = chain.IssuerRow(key("first"), "Example R1", True, moment, None, 1000 * epoch, 10 * epoch)
+        first = chain.IssuerRow(key("first"), "Example CA", True, moment, None, 1000 * epoch, 10 * epoch)
         if epoch % 3:
-            return (first, chain.IssuerRow(key("second"), '<b>"R2" & $x$', True, moment, None, 300 * epoch, epoch))
+            return (first, chain.IssuerRow(key("second"), '<b>"Second" & $x$', True, moment, None, 300 * epoch, epoch))
         why = "http://127.0.0.1/2.crl is past its nextUpdate"
-        away = chain.IssuerRow(key("second"), '<b>"R2" & $x$', False, moment - STEP, why, 300 * epoch, epoch)
+        away = chain.IssuerRow(key("second"), '<b>"Second" & $x$', False, moment - STEP, why, 300 * epoch, epoch)
         return (first, away)
 
     def part(self, kind: str, epoch: int) -> chain.PartRow:

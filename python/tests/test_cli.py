@@ -72,7 +72,7 @@ def test_run_with_alarms(desk: Publisher) -> None:
     desk.web.pages[URL] = FetchError("status 404", 404)
     result = said("run", desk.file, "--now", NOW)
     assert result.exit_code == 10 and result.stdout.startswith("epoch 1 ")
-    assert re.fullmatch(rf'alarm issuer: "Example R1" is left out: {URL}: .*\n', result.stderr)
+    assert re.fullmatch(rf'alarm issuer: "Example CA" is left out: {URL}: .*\n', result.stderr)
 
 
 def test_clock_goes_back(desk: Publisher) -> None:
@@ -190,7 +190,7 @@ def test_status(desk: Publisher) -> None:
     lines = said("status", desk.file, "--now", NOW + HOUR).stdout.splitlines()
     assert lines[0] == "example: epoch 2 of 2023-11-14T23:13:20.000Z, generation 1, 2 parts"
     assert lines[2] == "  valid until 2023-11-15T23:13:20.000Z"
-    assert "issuer Example R1: enrolled" in lines
+    assert "issuer Example CA: enrolled" in lines
     assert any(line.startswith(f"  {URL}: number 1 of") and line.endswith("status 404") for line in lines)
     assert said("status", desk.file).stdout.splitlines()[2].endswith(": it isn't any more")
 
@@ -201,7 +201,7 @@ def test_status_as_json(desk: Publisher) -> None:
     assert found["newest"]["epoch"] == 1 and found["is_valid"] is True
     assert [each["epoch"] for each in found["epochs"]] == [1]
     (issuer,) = found["issuers"]
-    assert (issuer["name"], issuer["enrolled"], issuer["reason"]) == ("Example R1", True, None)
+    assert (issuer["name"], issuer["enrolled"], issuer["reason"]) == ("Example CA", True, None)
     assert issuer["crls"][0]["url"] == URL and issuer["crls"][0]["why"] is None
 
 

@@ -20,7 +20,7 @@ from made import Authority, pem_of
 
 NAME = 'name = "example"'
 ISSUER = """[[issuer]]
-name = "Example R1"
+name = "Example CA"
 certificate = ["r1.pem"]
 crls = ["http://crl.example/r1.crl"]
 """
@@ -46,8 +46,8 @@ def folder(tmp_path_factory: pytest.TempPathFactory) -> Path:
     made = tmp_path_factory.mktemp("config")
     minisign.new_key(made / "publisher.key", made / "publisher.pub")
     minisign.new_key(made / "next.key", made / "next.pub")
-    one, other = Authority.of("Example R1"), Authority.of("Example R2")
-    crossed = Authority.of("Example R1", one.key)
+    one, other = Authority.of("Example CA"), Authority.of("Other CA")
+    crossed = Authority.of("Example CA", one.key)
     (made / "r1.pem").write_bytes(pem_of(one.certificate))
     (made / "r1.der").write_bytes(one.der)
     (made / "r1-crossed.pem").write_bytes(pem_of(crossed.certificate) + pem_of(one.certificate))
@@ -114,7 +114,7 @@ grace = "10m"
 keep = "2h"
 
 [[issuer]]
-name = "Example R1"
+name = "Example CA"
 certificate = ["r1.pem", "r1.der", "r1-crossed.pem"]
 crls = ["http://crl.example/1.crl", "https://crl.example:8443/2.crl?a=b"]
 names = {{ "http://crl.example/1.crl" = "ldap://crl.example/1" }}
@@ -160,7 +160,7 @@ def test_log_of_rsa(folder: Path) -> None:
     [
         ("nmae = 'x'", 'there is no key "nmae" here: is it "name"? Else take it out'),
         (f"{NAME}\nzzz = 1", 'there is no key "zzz" here'),
-        (f"{NAME}\n{ISSUER}crl = []", '[[issuer]] 1 "Example R1": there is no key "crl" here: is it "crls"?'),
+        (f"{NAME}\n{ISSUER}crl = []", '[[issuer]] 1 "Example CA": there is no key "crl" here: is it "crls"?'),
         (f"{NAME}\n{LOG}mdd = '1h'", '[[log]] 1 "Example log": there is no key "mdd" here: is it "mmd"?'),
         ("state = 'state'", 'the key "name" is missing: write name = "example"'),
         ("name = ''", "name: '' is empty"),
@@ -207,7 +207,7 @@ def test_faults(folder: Path, text: str, told: str) -> None:
         ('["r1.pem"]', '["text.pem"]', "text.pem: there is no certificate in it"),
         ('["r1.pem"]', '["r1.pem", "r2.pem"]', "certificate: these hold 2 different keys (r1.pem, r2.pem)"),
         ('["r1.pem"]', '["both.pem"]', "certificate: these hold 2 different keys (both.pem)"),
-        ('"Example R1"', "7", "[[issuer]] 1: name: 7 isn't of its type"),
+        ('"Example CA"', "7", "[[issuer]] 1: name: 7 isn't of its type"),
         ("[[issuer]]", "[[issuer]]\nnames = {'http://b/' = 'http://c/'}", "names: 'http://b/' is none of this"),
         ("[[issuer]]", "[[issuer]]\nnames = {'http://crl.example/r1.crl' = 7}", "names: 7 is no URL"),
         ("[[issuer]]", "[[issuer]]\nnames = 7", "names: 7 isn't of its type"),
@@ -227,9 +227,9 @@ def test_points_of_one_name(folder: Path) -> None:
 
 
 def test_one_key_in_two_issuers(folder: Path) -> None:
-    other = ISSUER.replace("Example R1", "Renewed").replace("r1.pem", "r1-crossed.pem").replace("r1.crl", "2.crl")
+    other = ISSUER.replace("Example CA", "Renewed").replace("r1.pem", "r1-crossed.pem").replace("r1.crl", "2.crl")
     told = fault_of(folder, f"{NAME}\n{ISSUER}\n{other}")
-    assert '[[issuer]] "Example R1" and "Renewed" have one key: list all its certificates in one of them' in told
+    assert '[[issuer]] "Example CA" and "Renewed" have one key: list all its certificates in one of them' in told
 
 
 def test_one_key_in_two_logs(folder: Path) -> None:

@@ -25,7 +25,7 @@ pytestmark = pytest.mark.skipif(
 def certificate() -> tuple[bytes, bytes]:
     """A certificate in PEM, and its key's SubjectPublicKeyInfo in DER."""
     key = ec.generate_private_key(ec.SECP256R1())
-    name = x509.Name([x509.NameAttribute(NameOID.COMMON_NAME, "Example R1")])
+    name = x509.Name([x509.NameAttribute(NameOID.COMMON_NAME, "Example CA")])
     made = x509.CertificateBuilder(name, name, key.public_key(), 5, datetime(2026, 1, 1), datetime(2027, 1, 1))
     spki = key.public_key().public_bytes(serialization.Encoding.DER, serialization.PublicFormat.SubjectPublicKeyInfo)
     return made.sign(key, hashes.SHA256()).public_bytes(serialization.Encoding.PEM), spki
@@ -69,7 +69,7 @@ def test_each_key(tmp_path: Path) -> None:
     assert set(said) == set(config._KEYS)
     assert set(said["issuer"][0]) == set(config._ISSUER_KEYS) and set(said["log"][0]) == set(config._LOG_KEYS)
     assert made.next_key == minisign.public_line(tmp_path / "next.pub")
-    assert made.issuers[0].name == "Example R1" and made.logs[0].origin == "log.example/2026"
+    assert made.issuers[0].name == "Example CA" and made.logs[0].origin == "log.example/2026"
 
 
 def test_defaults(tmp_path: Path) -> None:

@@ -25,7 +25,7 @@ from desk import HOUR, NOW, Web, made_crl
 from made import Authority, pem_of
 
 URLS = tuple(f"http://crl.example/{place}.crl" for place in range(4))
-AUTHORITY, OTHER = Authority.of("Example R1"), Authority.of("Example R2", rsa.generate_private_key(65537, 2048))
+AUTHORITY, OTHER = Authority.of("Example CA"), Authority.of("Other CA", rsa.generate_private_key(65537, 2048))
 
 
 def issuer_of(by: Authority, *urls: str, **names: str) -> Issuer:
@@ -154,7 +154,7 @@ def test_never_accepted(desk: Desk) -> None:
     assert not found.crls
     assert found.left == {ONE.key: f"{URLS[0]}: none was accepted yet: status 404"}
     (lack,) = found.lacks
-    assert "CN=Example R1" in str(lack) and URLS[0] in str(lack) and "status 404" in str(lack)
+    assert "CN=Example CA" in str(lack) and URLS[0] in str(lack) and "status 404" in str(lack)
 
 
 def test_never_asked(desk: Desk) -> None:

@@ -46,8 +46,8 @@ def test_samples(tmp_path: Path, monkeypatch: pytest.MonkeyPatch) -> None:
     assert said['clubcard_part_bytes{kind="delta"}'] == str(sum(part.length for part in seen.release.parts[1:]))
     assert said["clubcard_universe"] == "3900" and said["clubcard_revoked"] == "33"
     assert said[f'clubcard_waiting{{log="{tiles}",issuer="{second}"}}'] == "2"
-    assert said[f'clubcard_issuer_enrolled{{issuer="{first}",name="Example R1"}}'] == "1"
-    assert said[f'clubcard_issuer_enrolled{{issuer="{second}",name="<b>\\"R2\\" & $x$"}}'] == "0"
+    assert said[f'clubcard_issuer_enrolled{{issuer="{first}",name="Example CA"}}'] == "1"
+    assert said[f'clubcard_issuer_enrolled{{issuer="{second}",name="<b>\\"Second\\" & $x$"}}'] == "0"
     assert said[f'clubcard_log_entries{{log="{tiles}",name="Example tiles"}}'] == "4900"
     covered = f'clubcard_log_covered_to_seconds{{log="{log}",name="Example log 2026"}}'
     assert said[covered] == f"{(moment - DAY - 180_000) // 1000}.123"

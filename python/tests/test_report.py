@@ -74,7 +74,7 @@ def test_page(world: World) -> None:
         "revoked 462 (0.85 %)",
         "issuers enrolled 1 of 2",
         "entries that wait 3,414",
-        'last enrolled issuer <b>"R2" & $x$',
+        'last enrolled issuer <b>"Second" & $x$',
         "http://127.0.0.1/2.crl is past its nextUpdate",
         "entries of Example log 2026: 1 set aside (unread); the first one has index 77",
         "CONFIG doesn't name the issuer",
@@ -207,7 +207,7 @@ def test_charts_say(world: World) -> None:
         links = [value for node in root.iter() for key, value in node.attrib.items() if key.endswith("href")]
         assert all(link.startswith("#") for link in links)
     issuers = charts._svg(charts.CHARTS["issuers.svg"], charts.CHARTS["issuers.svg"].figures(seen)).decode()
-    assert "Example R1" in issuers and "&lt;b&gt;" in issuers
+    assert "Example CA" in issuers and "&lt;b&gt;" in issuers
 
 
 def test_drawn_once(world: World, tmp_path: Path, monkeypatch: pytest.MonkeyPatch) -> None:

@@ -96,7 +96,7 @@ def test_left_out(desk: Publisher, capsys: pytest.CaptureFixture[str]) -> None:
     outcome = desk.run()
     assert outcome.status == 10
     (alarm,) = outcome.alarms
-    assert alarm.kind == "issuer" and '"Example R1" is left out' in alarm.text and URL in alarm.text
+    assert alarm.kind == "issuer" and '"Example CA" is left out' in alarm.text and URL in alarm.text
     assert capsys.readouterr().err == f"{alarm}\n"
 
 

@@ -214,7 +214,7 @@ def _refuse_twice(path: Path, kind: str, found: list[tuple[bytes, str]]) -> None
 def _issuer(table: Table, base: Path) -> Issuer:
     """An [[issuer]]."""
     table.only(_ISSUER_KEYS)
-    name = table.text("name", '"Example R1"')
+    name = table.text("name", '"Example CA"')
     certificates = _certificates(table, base)
     urls = table.texts("crls", '["http://crl.example/r1.crl"], with all CRLs of this issuer')
     crls = tuple(table.tested("crls", url) for url in urls)
