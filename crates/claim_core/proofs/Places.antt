@@ -1,5 +1,5 @@
 -- Lists of outputs by their places.
-use Rattle.std.proofs.Common.{◌≡◌, ◌≢◌, ◌⊎◌, ℕ, zero, suc, ◌+◌, ◌<◌, List, [], ◌∷◌, ◌++◌, length, set, Option, Some, None, IfSome, get_or, true, false}
+use Rattle.std.proofs.Common.{◌≡◌, ◌≢◌, ◌⊎◌, ℕ, zero, suc, ◌+◌, ◌<◌, List, [], ◌∷◌, ◌++◌, length, map, set, Option, Some, None, IfSome, get_or, true, false}
 use Rattle.std.proofs.Common.{sym, ap, ◌∙◌, subst, refl, arith, inl, inr, ⊎_elim, length-set}
 use Rattle.std.specs.Option.{option_to_list, IsSome, is_some}
 use Rattle.std.proofs.lemmas.Option.{slice_get_read}
@@ -106,11 +106,12 @@ module _ {X : Type 0} (gives : ℕ → X → Type 0) where
       let left' : IsLeftInPlace n (slot ∷ slots') = subst (IsLeftInPlace n) is left in
       (omega arith, first_left n slot slots' left', rest_left n slot slots' left')
 
-pub in_place_unique : {X : Type 0} (gives : ℕ → X → Type 0) → OutputsAreUnique gives
-in_place_unique gives one [] [] len a b = refl
-in_place_unique gives one [] (y ∷ ys) len a b = absurd (omega arith)
-in_place_unique gives one (x ∷ xs) [] len a b = absurd (omega arith)
-in_place_unique gives one (x ∷ xs) (y ∷ ys) len a b =
-    let first : x ≡ y = one 0 x y (a 0 x refl) (b 0 y refl) in
-    let rest : xs ≡ ys = in_place_unique (λ k. gives (suc k)) (λ k. one (suc k)) xs ys (omega arith) (λ k. a (suc k)) (λ k. b (suc k)) in
+pub in_place_unique : {X Y : Type 0} (view : X → Y) (gives : ℕ → X → Type 0) → OutputsAreUnique view gives
+in_place_unique view gives n one [] [] k m a b = refl
+in_place_unique view gives n one [] (y ∷ ys) k m a b = absurd (omega arith)
+in_place_unique view gives n one (x ∷ xs) [] k m a b = absurd (omega arith)
+in_place_unique view gives n one (x ∷ xs) (y ∷ ys) k m a b =
+    let first : view x ≡ view y = one 0 x y (omega arith) (a 0 x refl) (b 0 y refl) in
+    let rest : map view xs ≡ map view ys =
+    in_place_unique view (λ i. gives (suc i)) (length xs) (λ i v w lt. one (suc i) v w (omega arith)) xs ys refl (omega arith) (λ i. a (suc i)) (λ i. b (suc i)) in
     λ i. first i ∷ rest i

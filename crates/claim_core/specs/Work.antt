@@ -1,5 +1,5 @@
 -- Outputs with the places that they are of.
-use Rattle.std.specs.Prelude.{◌≡◌, ◌<◌, ℕ, List, length, Option, Some}
+use Rattle.std.specs.Prelude.{◌≡◌, ◌<◌, ℕ, List, length, map, Option, Some}
 use Rattle.std.specs.List.{slice_get}
 use Rattle.claim_core.specs.declared.outputs.Done.{Done}
 
@@ -19,7 +19,8 @@ IsPartlyInPlace {X} gives outputs = (place : ℕ) (output : X) → slice_get out
 abbrev pub HasOutput : {X : Type 0} → List (Option X) → ℕ → Type 0
 HasOutput {X} outputs place = (output : X) × (slice_get outputs place ≡ Some (Some output))
 
--- where each place may give one output alone, one list of outputs stands in place
-abbrev pub OutputsAreUnique : {X : Type 0} → (ℕ → X → Type 0) → Type 0
-OutputsAreUnique {X} gives = ((place : ℕ) (x y : X) → gives place x → gives place y → x ≡ y)
-    → (xs ys : List X) → length xs ≡ length ys → IsInPlace gives xs → IsInPlace gives ys → xs ≡ ys
+-- Where each place below n may give outputs of one view alone, all lists of so many outputs in place have one view. The
+-- view is what counts of an output, or the output itself.
+abbrev pub OutputsAreUnique : {X Y : Type 0} → (X → Y) → (ℕ → X → Type 0) → Type 0
+OutputsAreUnique {X} view gives = (n : ℕ) → ((place : ℕ) (x y : X) → place < n → gives place x → gives place y → view x ≡ view y)
+    → (xs ys : List X) → length xs ≡ n → length ys ≡ n → IsInPlace gives xs → IsInPlace gives ys → map view xs ≡ map view ys

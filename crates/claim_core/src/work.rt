@@ -27,7 +27,8 @@ pub trait Work {
         ensures { IfOk result (λ output. gives self.now place output) };
 }
 
-/// Where each place may give one output alone, there is one list of outputs, whoever works the places.
-pub fn outputs_are_unique<W: Work>()
-    ensures { (jobs : W) → OutputsAreUnique (W.gives jobs) }
+/// Where each place may give outputs of one view alone, all lists of the outputs have one view, whoever works the
+/// places. The view is what counts of an output, as the items of a vector, or the output itself.
+pub fn outputs_are_unique<W: Work, V>()
+    ensures { (jobs : W) (view : W.Out → V) → OutputsAreUnique view (W.gives jobs) }
 {}
