@@ -104,8 +104,14 @@ impl<'a, R: Files> FileDisk<'a, R> {
 impl<'a, R: Files> Disk for FileDisk<'a, R> {
     ghost use Rattle.std.specs.Prelude.{None};
 
-    // It tells nothing, and so no image of it is known.
-    ghost state = { λ d. record { told = None; images = λ _. ⊥; clock = 0; since = λ _ _. ⊥; faults = d.faults } };
+    // It tells nothing, so that a crash may leave anything.
+    ghost state = { λ d. record {
+      told = None;
+      images = λ _. Unit {0};
+      clock = 0;
+      since = λ _ _. Unit {0};
+      faults = d.faults;
+    } };
 
     ghost lawful = { λ d. record {
       told_is_image = λ bytes told. Prim.cc;
