@@ -28,7 +28,7 @@ mark-alone device at there bad (no_version marked other) = absurd (bad marked)
 mark-alone device at there bad (no_capacity marked versioned other) = absurd (bad marked)
 mark-alone device at there bad (no_slot n header other) = absurd (bad header.mark)
 
-breaks-once : (device : List ℕ) (one other : ℕ) → BreaksAt device one → BreaksAt device other → one ≡ other
+pub breaks-once : (device : List ℕ) (one other : ℕ) → BreaksAt device one → BreaksAt device other → one ≡ other
 breaks-once device one other (no_gate none) also = sym (gate-alone device other none also)
 breaks-once device one other (no_mark there bad) also = sym (mark-alone device other there bad also)
 breaks-once device one other is (no_gate none) = gate-alone device one none is

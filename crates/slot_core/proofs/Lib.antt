@@ -3,9 +3,9 @@ mod RecordLaws
 mod Quiet
 mod Filling
 mod Torn
-mod FieldLaws
+pub mod FieldLaws
 mod Tearing
-mod Unbroken
-mod Broken
+pub mod Unbroken
+pub mod Broken
 pub mod Moments
 mod Switching
