@@ -3,11 +3,13 @@
 import os
 from dataclasses import replace
 from pathlib import Path
+from unittest import mock
 
 import pytest
 from hypothesis import HealthCheck, Phase, given, settings
 from hypothesis import strategies as st
 
+from clubcard.publish import spool
 from web.play import Play
 from web.world import HOUR, LONG, MINUTE, Cert, CrlFault, Entry, Issuer, Log, LogFault, World, at
 
@@ -120,16 +122,17 @@ FEW = settings(
 
 
 @FEW
-@given(world=histories())
-def test_histories(plain_charts: None, tmp_path_factory: pytest.TempPathFactory, world: World) -> None:
-    """Where logs keep their word each certificate that is covered, with its issuer, has an answer that was owed."""
-    play = played(world, tmp_path_factory.mktemp("history"))
+@given(world=histories(), run=st.sampled_from([1, 3, spool.FIRST_RUN]))
+def test_histories(plain_charts: None, tmp_path_factory: pytest.TempPathFactory, world: World, run: int) -> None:
+    """Where logs keep their word each certificate that is covered, with its issuer, has an answer that was owed; also
+    where the first entry that is taken says alone by when those below it were merged."""
+    with mock.patch.object(spool, "FIRST_RUN", run):
+        play = played(world, tmp_path_factory.mktemp("history"))
     assert not play.count.free, play.told()
 
 
 @FEW
 @given(world=histories(broken=True))
 def test_logs_that_break_their_word(plain_charts: None, tmp_path_factory: pytest.TempPathFactory, world: World) -> None:
-    """Where logs merge too late, no answer is wrong but by the timestamps that came too late; and, where the entry
-    `first` did, by those of entries below it, which aren't taken."""
+    """Where logs merge too late, no answer is wrong but by the timestamps that came too late."""
     played(world, tmp_path_factory.mktemp("history"))

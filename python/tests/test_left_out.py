@@ -12,7 +12,7 @@ from pathlib import Path
 import pytest
 
 from clubcard import entries
-from clubcard.publish import fitting, following, heads, making, rules, showing, spool
+from clubcard.publish import fitting, making, rules, showing, spool
 from web.leaving import COVERED, ENROLLED, Case, Patch, cert, check, dropping, instead, names, rewritten, world
 from web.world import HOUR, Entry, Issuer, Log, at
 
@@ -24,11 +24,12 @@ def head_alone(log: spool.LogRow) -> int | None:
     return log.head.time if log.head is not None and log.taken >= log.head.size else None
 
 
-def first_seen(row: spool.LogRow, head: heads.TreeHead, first: int | None) -> int | None:
-    """The time of entry `first`, without the MMD and whatever a tree head says."""
-    return row.bound if first is None else first
+def first_seen(log: spool.LogRow, mmd: int) -> int | None:
+    """The greatest time of the first entries, without the MMD and whatever a tree head says."""
+    return log.first_time
 
 
+FIRST_IS_LATE = [*(cert(number, 0, on=1) for number in (1, 2, 3)), cert(4, -1, 3.02)]
 LATE_MERGE = [cert(1, 1, 5, on=2), cert(2, 1), cert(3, 3.5)]
 RANGES = [
     Case(
@@ -52,7 +53,13 @@ RANGES = [
     Case(
         "from is the time of the first entry that is taken",
         world(3, [cert(1, 2.5, 2.6, on=2.7), cert(2, 1, 3.5)], Log(mmd=4 * HOUR, first_at=at(3))),
-        instead((following, "bound", first_seen)),
+        instead((spool.LogRow, "bounded", first_seen)),
+        "wrong",
+    ),
+    Case(
+        "from is by the time of the entry `first` alone",
+        world(2, FIRST_IS_LATE, Log(first_at=at(2))),
+        instead((spool, "FIRST_RUN", 1)),
         "wrong",
     ),
     Case(

@@ -13,7 +13,7 @@ from clubcard.publish.config import LogKind
 from clubcard.publish.following import Follower
 from clubcard.publish.http import FetchError
 from clubcard.publish.paging import Pages
-from clubcard.publish.spool import Batch, LogRow
+from clubcard.publish.spool import FIRST_RUN, Batch, LogRow
 from fake_log import BEGIN, MMD, FakeClient, FakeLog, made_log, spelt
 from fetching import Killed, Runs, killed_at, made_runs, renamed
 
@@ -53,16 +53,40 @@ def test_an_empty_log(kind: LogKind, tmp_path: Path) -> None:
 
 
 @both
-@pytest.mark.parametrize("first", [1, 64, 100, 256, 299])
+@pytest.mark.parametrize("first", [1, 44, 45, 256, 299])
 def test_from_a_later_entry_on(kind: LogKind, first: int, tmp_path: Path) -> None:
     log = made_log(kind, 300)
     runs = made_runs(tmp_path, log, first=first)
     assert runs.fetch()[0].entries == 300 - first
     runs.check(first=first)
-    assert runs.rows()[0].bound == min(log.time, BEGIN + 1000 * first + MMD)
+    last = first + FIRST_RUN - 1
+    assert runs.rows()[0].bound == (BEGIN + 1000 * last + MMD if last < 300 else log.time)
     log.grow(20)
     assert runs.fetch()[0].entries == 20 and not runs.alarms
     runs.check(first=first)
+
+
+@both
+def test_the_greatest_time_of_the_first_entries_counts(
+    kind: LogKind, tmp_path: Path, monkeypatch: pytest.MonkeyPatch
+) -> None:
+    """One of them that was merged within the delay is enough. As long as fewer are there the tree head's time counts,
+    though they come in several runs."""
+    monkeypatch.setattr("clubcard.publish.spool.FIRST_RUN", 5)
+    log = made_log(kind, 10)
+    for index, time in ((6, BEGIN - MMD), (9, BEGIN + 11_000)):
+        leaf, extra = log.entries[index]
+        log.entries[index] = leaf[:2] + time.to_bytes(8, "big") + leaf[10:], extra
+    runs = made_runs(tmp_path, log, first=6)
+    runs.fetch()
+    bound = log.time
+    assert runs.rows()[0].bound == bound
+    log.grow(1)
+    runs.fetch()
+    assert runs.rows()[0].bound == min(bound, BEGIN + 11_000 + MMD) < bound + 1000
+    log.grow(9)
+    runs.fetch()
+    assert runs.rows()[0].bound == min(bound, BEGIN + 11_000 + MMD)
 
 
 @both
@@ -392,7 +416,8 @@ def test_an_unreadable_first_entry_bounds_nothing(tmp_path: Path) -> None:
     assert runs.rows()[0].bound == log.time
 
 
-def test_config_changes(tmp_path: Path) -> None:
+def test_config_changes(tmp_path: Path, monkeypatch: pytest.MonkeyPatch) -> None:
+    monkeypatch.setattr("clubcard.publish.spool.FIRST_RUN", 1)
     log = made_log(size=10)
     runs = made_runs(tmp_path, log, first=3)
     runs.fetch()

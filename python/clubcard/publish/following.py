@@ -87,7 +87,7 @@ class Follower:
         front = self.row.front
         if front is not None and front.size == head.size and front.root() != head.root:
             raise LogFault(f"its tree head of {head.size} entries has another root than its entries")
-        row = replace(_with_times(self.row, head, None), head=head, bound=bound(self.row, head, None))
+        row = with_head(self.row, head)
         if row != self.row:
             with self.state.transaction() as db:
                 save_log(db, row)
@@ -106,9 +106,8 @@ class Follower:
         except BaseException:
             batch.drop()
             raise
-        first = batch.first if self.row.taken == self.row.first else None
-        row = replace(_with_times(self.row, head, first), bound=bound(self.row, head, first))
-        row = replace(row, head=head, taken=front.size, latest=batch.latest, front=front)
+        row = replace(self.row, taken=front.size, latest=batch.latest, front=front, first_time=batch.first_time)
+        row = with_head(row, head)
         batch.commit(row)
         task.advance(row.taken - self.row.taken)
         self.row = row
@@ -168,17 +167,10 @@ def newest(known: TreeHead | None, answered: TreeHead, moment: int) -> TreeHead:
     return answered
 
 
-def bound(row: LogRow, head: TreeHead, first: int | None) -> int | None:
-    """A time that no entry below `first` of the log exceeds, by what is known of it, a verified tree head, and the time
-    of the entry `first` (None: not read now)."""
-    return _with_times(row, head, first).bounded(row.mmd)
-
-
-def _with_times(row: LogRow, head: TreeHead, first: int | None) -> LogRow:
-    """What is known of the entries below `first` with a verified tree head, and with the time of the entry `first`
-    (None: not read now)."""
+def with_head(row: LogRow, head: TreeHead) -> LogRow:
+    """What is known of a log with a verified tree head, and what that says of the entries below `first`."""
     if row.first == 0:
-        return row
+        return replace(row, head=head)
     times = [row.bound_head, head.time if head.size >= row.first else None]
-    least = min((time for time in times if time is not None), default=None)
-    return replace(row, bound_head=least, first_time=row.first_time if first is None else first)
+    row = replace(row, head=head, bound_head=min((time for time in times if time is not None), default=None))
+    return replace(row, bound=row.bounded(row.mmd))

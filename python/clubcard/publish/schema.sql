@@ -27,7 +27,7 @@ CREATE TABLE log (
     latest INTEGER, -- the greatest time of the entries that are taken, and at most that of the tree head they are of
     bound INTEGER, -- entries below `first` have a time of at most this one; NULL where nothing is known
     bound_head INTEGER, -- the least time of a verified tree head with all those entries
-    first_time INTEGER, -- the time of the entry `first`
+    first_time INTEGER, -- the greatest time of the first entries that are taken, up to FIRST_RUN of spool.py
     compact BLOB -- the hashes of the full subtrees over entries 0 to taken, the greatest first; NULL where those
     -- before `first` aren't known yet
 );

@@ -20,6 +20,8 @@ from .state import State
 
 _LONGEST = (1 << 24) - 1
 """The most bytes of a leaf and of extra data that a record has."""
+FIRST_RUN = 256
+"""How many entries from `first` on say by when those below `first` were merged."""
 _COLUMNS = """id, key, name, mmd, first, taken, head_time, head_size, head_root, latest, bound, compact, bound_head,
     first_time"""
 
@@ -50,14 +52,17 @@ class LogRow:
     bound_head: int | None = None
     """The least time of a verified tree head with all entries below `first`."""
     first_time: int | None = None
-    """The time of the entry `first`, where it is taken and has one."""
+    """The greatest time among the first FIRST_RUN entries that are taken, where one of them has a time."""
 
     def bounded(self, mmd: int) -> int | None:
         """By which time all entries below `first` were merged, which no time of theirs exceeds: that of a tree head
-        that has them, or that of the entry behind them and the delay by which it was merged."""
-        by_entry = [] if self.first_time is None else [self.first_time + mmd]
+        that has them, or that of an entry behind them and the delay by which it was merged. Of the entries behind them
+        FIRST_RUN are looked at, once all of these are taken, and the greatest time counts: so one of them that its log
+        merged within the delay is enough."""
+        is_run_whole = self.taken >= self.first + FIRST_RUN
+        by_entries = [self.first_time + mmd] if is_run_whole and self.first_time is not None else []
         by_head = [] if self.bound_head is None else [self.bound_head]
-        return min(by_entry + by_head, default=None)
+        return min(by_entries + by_head, default=None)
 
 
 def _row(columns: tuple[Any, ...]) -> LogRow:
@@ -135,8 +140,8 @@ class Batch:
         """How many bytes the records have."""
         self.latest = row.latest
         """The greatest time of an entry that is taken."""
-        self.first: int | None = None
-        """The time of the first of these entries, where its leaf has one."""
+        self.first_time = row.first_time
+        """The greatest time among the log's first FIRST_RUN entries that are taken."""
 
     @property
     def end(self) -> int:
@@ -166,8 +171,8 @@ class Batch:
             self._entries.append((place, time, None, None, None, self.length, length, "unread"))
             if not has_time:
                 return
-        if len(self._entries) == 1:
-            self.first = time
+        if place < self._row.first + FIRST_RUN:
+            self.first_time = max(time, self.first_time or 0)
         if time <= self._limit and (self.latest is None or time > self.latest):
             self.latest = time
 

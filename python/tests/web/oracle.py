@@ -165,8 +165,18 @@ class Truth:
         self.parts, self.births = [part], dict.fromkeys(left, 0)
         self.revoked &= left
 
-    def expected(self, one: Issued, sightings: tuple[Sighting, ...]) -> str:
+    def _is_below(self, one: Issued, sighting: Sighting) -> bool:
+        """Whether a timestamp is of an entry below CONFIG's `first`. None of these is taken, so none may be covered,
+        also where the log merged some entry too late."""
+        for number, entry in enumerate(one.cert.entries):
+            log = self.things.logs[entry.log]
+            if (log.id, entry.time) == sighting:
+                return self.things.order[one.place, number][0] < log.first()
+        return False
+
+    def expected(self, one: Issued, asked: tuple[Sighting, ...]) -> str:
         """What a client must read; `free` where that is left open: no entry was owed, or one is late."""
+        sightings = tuple(sighting for sighting in asked if not self._is_below(one, sighting))
         answer = answer_by(self.parts, one.issuer, sightings)
         if answer != "known":
             return answer
