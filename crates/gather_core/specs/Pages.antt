@@ -1,6 +1,6 @@
 -- What a page of a log's `get-entries` answers holds (RFC 6962, 4.6; docs/FORMATS.md, "Pages").
-use Rattle.std.specs.Prelude.{ℕ, ◌+◌, ◌≤◌, List, [], ◌∷◌, length, ◌&&◌, nat_le, if◌then◌else◌, codes}
-use Rattle.std.specs.Prelude.{Option, Some, None, option_and_then, Result, Ok, Err}
+use Rattle.std.specs.Prelude.{ℕ, ◌+◌, ◌^◌, ◌≤◌, List, [], ◌∷◌, length, ◌&&◌, nat_le, if◌then◌else◌, codes}
+use Rattle.std.specs.Prelude.{Option, Some, None, IfSome, option_and_then, Result, Ok, Err}
 use Rattle.std.specs.Str.{is_utf8}
 use Rattle.serde_json.specs.Data.{Data, Items, no_items, item}
 use Rattle.serde_json.specs.Read.{read}
@@ -96,6 +96,15 @@ abbrev pub page_of : List ℕ → Result (List PageFields) PageFault
 page_of bytes = do
   d ← json_of bytes
   entries_of d
+
+-- how many there are
+abbrev pub count_items : Items → ℕ
+count_items no_items = 0
+count_items (item d ds) = count_items ds + 1
+
+-- an index of 32 bits is enough for each of its entries
+abbrev pub AreNumbered : Data → Type 0
+AreNumbered d = IfSome (option_and_then as_array (get (codes "entries") d)) (λ ds. count_items ds ≤ 2 ^ 32)
 
 -- neither the leaf nor the extra data is too long
 abbrev pub EntryFits : PageFields → Type 0

@@ -1,13 +1,13 @@
 //! Pages from bytes.
 
-ghost use Rattle.std.specs.Prelude.{◌≡◌, ◌≤◌, ◌+◌, ◌-◌, List, length, map, All, None, IfOk, IfErr, IsSome, string_bytes, option_and_then, codes};
+ghost use Rattle.std.specs.Prelude.{◌≡◌, ◌≤◌, ◌^◌, length, map, All, None, IfOk, IfErr, IsSome, string_bytes, option_and_then, codes};
 ghost use Rattle.std.specs.Option.{option_map};
 ghost use Rattle.std.specs.Str.{IsUtf8};
 ghost use Rattle.octets_core.specs.Reading.{GivesUnless};
 ghost use Rattle.serde_json.specs.Find.{get, as_array, as_str};
 ghost use Rattle.serde_json.specs.View.{view, items_view};
 ghost use Rattle.gather_core.specs.Pages.{PageFields, fields_of, json_of, listed, text_at, decoded, item_of, items_from, entries_of};
-ghost use Rattle.gather_core.specs.Pages.{page_of, EntryFits};
+ghost use Rattle.gather_core.specs.Pages.{page_of, AreNumbered, EntryFits};
 
 use crate::fault::PageFault;
 use base64::DecodeAllocError;
@@ -89,15 +89,13 @@ fn entry_in(alloc: Global, index: u32, item: &Value) -> Result<PageEntry, PageFa
 
 /// The entries of items, in their order.
 fn entries_in(alloc: Global, items: &[Value]) -> Result<Vec<PageEntry>, PageFault>
+    requires { length items.now ≤ 2 ^ 32 }
     ensures exact { GivesUnless PageFault.NoMemory (λ v. map fields_of v.items) result (items_from 0 (items_view items.now)) }
     ensures fits { IfOk result (λ v. All EntryFits (map fields_of v.items)) }
 {
     let mut entries = Vec::new(alloc);
     for item in items {
-        // A page has fewer items than bytes, so this is never refused.
-        let Ok(index) = u32::try_from(entries.len()) else {
-            return Err(PageFault::NoMemory);
-        };
+        let index = entries.len() as u32;
         entries.push(entry_in(alloc, index, item)?)?;
     }
     Ok(entries)
@@ -105,6 +103,7 @@ fn entries_in(alloc: Global, items: &[Value]) -> Result<Vec<PageEntry>, PageFaul
 
 /// The entries of a value.
 fn listed_in(alloc: Global, value: &Value) -> Result<Vec<PageEntry>, PageFault>
+    requires { AreNumbered (view value.now) }
     ensures exact { GivesUnless PageFault.NoMemory (λ v. map fields_of v.items) result (entries_of (view value.now)) }
     ensures fits { IfOk result (λ v. All EntryFits (map fields_of v.items)) }
 {
