@@ -1,4 +1,4 @@
-ghost use Rattle.std.specs.Prelude.{◌≡◌, ℕ, ◌+◌, ◌*◌, ◌/◌, ◌%◌, ◌^◌, ◌<◌, ◌≤◌, length, slice_index, if◌then◌else◌, ◌==◌, IfOk};
+ghost use Rattle.std.specs.Prelude.{◌≡◌, ℕ, ◌+◌, ◌*◌, ◌/◌, ◌%◌, ◌^◌, ◌<◌, ◌≤◌, length, map, slice_index, if◌then◌else◌, ◌==◌, IfOk};
 ghost use Rattle.std.specs.Int.{bit_at};
 ghost use Rattle.std.specs.List.{All};
 ghost use Rattle.equation_core.specs.Sizes.{words_for as words_of};
@@ -8,7 +8,7 @@ ghost use Rattle.ribbon_core.specs.Equations.{sum_of};
 ghost use Rattle.ribbon_core.specs.PlaneWords.{ArePlanes, columns_of, kept_columns, plane_of_words, words_spelled};
 ghost use Rattle.ribbon_core.specs.Rows.{equation_of};
 
-use crate::places::{kept_length, place_planes};
+use crate::places::{Word, kept_length, place_planes};
 use crate::reading::{sums_of, word_of};
 use equation_core::{Row, words_for};
 use octets_core::{NoMemory, Steps};
@@ -58,8 +58,44 @@ impl Planes {
             → plane_of_words (words_spelled (planes * words_of starts) bytes.now) (words_of starts) plane < 2 ^ (starts + 127) }
         ensures { IfOk result (λ p. p ≡ record { starts = starts; columns = columns_of starts planes (words_spelled (planes * words_of starts) bytes.now) }) }
     {
-        let mut placed = vec![in alloc; 0u64; kept_length(starts, planes)]?;
         let (text, _) = bytes.as_chunks::<8>();
+        Planes::spelled(alloc, starts, planes, text)
+    }
+
+    /// The planes of these words, plane after plane, the lowest columns first.
+    pub fn of_words(
+        alloc: Global,
+        starts: u32,
+        planes: u8,
+        words: &[u64],
+    ) -> Result<Planes, NoMemory>
+        requires some_starts { 1 ≤ starts }
+        requires few_starts { starts ≤ MAX_STARTS }
+        requires some_planes { 1 ≤ planes }
+        requires few_planes { planes ≤ MAX_PLANES }
+        requires room { length words.now ≡ planes * words_of starts }
+        requires padding { (plane : ℕ) → plane < planes → plane_of_words words.now (words_of starts) plane < 2 ^ (starts + 127) }
+        ensures { IfOk result (λ p. p ≡ record { starts = starts; columns = columns_of starts planes words.now }) }
+    {
+        Planes::spelled(alloc, starts, planes, words)
+    }
+
+    /// The same, of what spells a word each.
+    fn spelled<W: Word>(
+        alloc: Global,
+        starts: u32,
+        planes: u8,
+        text: &[W],
+    ) -> Result<Planes, NoMemory>
+        requires some_starts { 1 ≤ starts }
+        requires few_starts { starts ≤ MAX_STARTS }
+        requires some_planes { 1 ≤ planes }
+        requires few_planes { planes ≤ MAX_PLANES }
+        requires room { length text.now ≡ planes * words_of starts }
+        requires padding { (plane : ℕ) → plane < planes → plane_of_words (map W.spells text.now) (words_of starts) plane < 2 ^ (starts + 127) }
+        ensures { IfOk result (λ p. p ≡ record { starts = starts; columns = columns_of starts planes (map W.spells text.now) }) }
+    {
+        let mut placed = vec![in alloc; 0u64; kept_length(starts, planes)]?;
         place_planes(text, planes, words_for(starts), &mut placed);
         let kept = KeptWords {
             starts,

@@ -1,6 +1,5 @@
-use Rattle.std.proofs.Common.{◌≡◌, ◌≢◌, ◌+◌, ◌*◌, ◌<◌, inl, inr, length, sym, ◌∙◌, arith, below_more}
+use Rattle.std.proofs.Common.{◌≡◌, ◌≢◌, ◌+◌, ◌*◌, ◌<◌, inl, inr, length, sym, ap, ◌∙◌, arith, below_more}
 use Rattle.std.specs.Prelude.{map}
-use Rattle.std.specs.Int.{w64, from_be_bytes}
 use Rattle.std.proofs.lemmas.List.{get_or-map, get_or-set_other, get_or-set_same}
 use Rattle.ribbon_core.specs.PlaneWords.{place, word_of}
 use Rattle.ribbon_core.proofs.PlacesApart.{place_inside, places_apart}
@@ -8,18 +7,19 @@ use Rattle.ribbon_core.proofs.Words.{plane_room}
 use Rattle.ribbon_core.proofs.places.place_plane.Goals as goal
 
 pub place-requires : goal.place-requires
-place-requires c =
+place-requires g c =
     let inside = place_inside c.args.planes c.args.width c.args.plane c.loop-i.i c.requires.plane c.loop-i-test.true in
     omega (arith, inside, c.requires.room)
 
 pub loop-i-preserved : goal.loop-i-preserved
-loop-i-preserved c =
+loop-i-preserved g c =
     let inside = place_inside c.args.planes c.args.width c.args.plane c.loop-i.i c.requires.plane c.loop-i-test.true in
     let at : place c.args.planes c.args.plane c.loop-i.i < length c.loop-i.words = omega (arith, inside, c.requires.room, c.loop-i.auto.words) in
     let room = plane_room c.args.plane c.args.planes c.args.width (length c.args.text.now) c.requires.plane c.requires.text in
-    let word : c.from_be_bytes-word.result ≡ word_of (map (from_be_bytes w64) c.args.text.now) c.args.width c.args.plane c.loop-i.i =
-    c.from_be_bytes-word.ensures
-    ∙ sym (get_or-map (from_be_bytes w64) c.args.text.now (c.args.plane * c.args.width + c.loop-i.i) _ 0 (omega (arith, room, c.loop-i-test.true))) in
+    let word : c.word-word.result ≡ word_of (map g.W.Word.spells c.args.text.now) c.args.width c.args.plane c.loop-i.i =
+    c.word-word.ensures
+    ∙ ap g.W.Word.spells c.index-text-plane.is
+    ∙ sym (get_or-map g.W.Word.spells c.args.text.now (c.args.plane * c.args.width + c.loop-i.i) c.index-text-plane.result 0 (omega (arith, room, c.loop-i-test.true))) in
     record {
       placed = below_more _ _
           (λ k lt.
