@@ -87,7 +87,7 @@ wanted bytes = λ of. absurd (of.0 refl)
 
 -- no read of a slice fails
 pub read-well : (from to : Feed SliceDepot) (e : JobFault) → name_of from ≡ [] → Blames {X = Record} slice_ghosts from to (Err e) → e ≢ faults.ReadFault
-read-well from to e name blames = λ is. never-fails (depot_of from).bytes.now (name_of from) name (blames.0 is)
+read-well from to e name blames = λ is. never-fails (depot_of from) (depot_of to) (name_of from) name (blames.0 is)
 
 -- a record was read, and stands before the new place
 pub nearer : (bytes : List ℕ) (old new : JobReader) (at end : ℕ) (r : Record) (more : ℕ) → IsCounted r more → GivesNext old new bytes at end (Ok r) → length bytes - end < length bytes - at

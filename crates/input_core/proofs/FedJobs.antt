@@ -13,7 +13,8 @@ use Rattle.job_core.specs.declared.fault.JobFault.TheVariants as of
 use Rattle.job_core.specs.declared.meaning.Job.{Job}
 use Rattle.input_core.specs.Faults.{of_job}
 use Rattle.input_core.specs.Readings.{faulted, job_in}
-use Rattle.input_core.specs.Inputs.{WhichFailed, IsInput}
+use Rattle.outside_core.specs.Reads.{WhichFailed}
+use Rattle.input_core.specs.Inputs.{IsInput}
 use Rattle.input_core.proofs.FilesRead.{unread_input, fault_input, no_memory_input}
 
 module _ {D : Type 0} (g : Ghosts D) (old new : Feed D) where

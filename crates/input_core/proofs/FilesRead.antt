@@ -1,18 +1,16 @@
 -- What is known of files that were read.
-use Rattle.std.proofs.Common.{◌≡◌, ℕ, inl, inr, List, [], take, Option, Some, None, Result, Ok, Err, refl, ap, ◌∙◌, subst, arith}
+use Rattle.std.proofs.Common.{◌≡◌, ℕ, inl, inr, List, [], take, Option, Some, None, Result, Ok, Err, refl, ap, ◌∙◌, subst}
 use Rattle.std.specs.Prelude.{◌⊎◌, IsErrOf}
 use Rattle.std.specs.FinMap.{get}
 use Rattle.octets_core.specs.Reading.{GivesUnless}
-use Rattle.outside_core.specs.declared.depot.Depot.{Ghosts}
-use Rattle.outside_core.specs.Effects.{OnlyReads}
-use Rattle.outside_core.specs.Files.{Files, IsMissing, blaming}
+use Rattle.outside_core.specs.Files.{Files, IsMissing}
 use Rattle.input_core.specs.declared.fault.FileFault.{FileFault}
 use Rattle.input_core.specs.declared.fault.FileFault.TheVariants as faults
 use Rattle.input_core.specs.declared.input.InputFault.{InputFault}
 use Rattle.input_core.specs.declared.input.InputFault.TheVariants as reads
 use Rattle.input_core.specs.Faults.{of_input}
 use Rattle.input_core.specs.Readings.{faulted}
-use Rattle.input_core.specs.Inputs.{IsHeld, WhichFailed, IsBlamed, IsRead, IsInput}
+use Rattle.input_core.specs.Inputs.{IsHeld, IsBlamed, IsRead, IsInput}
 
 -- ---- files
 
@@ -31,13 +29,6 @@ pub later_read : (told mid : Option Files) (failed other : Option (List ℕ) →
 later_read told mid failed other name None same wider (inl why) = inl (wider (Some name) why)
 later_read told mid failed other name None same wider (inr missing) = inr (subst (λ (t : Option Files). IsMissing t name) same missing)
 later_read told mid failed other name (Some bytes) same wider held = subst (λ (t : Option Files). IsRead t other name (Some bytes)) same held
-
--- a read that failed behind others that went well is the one that failed
-pub failed_later : {D : Type 0} (g : Ghosts D) (old mid new : D) → OnlyReads g old mid → WhichFailed g old mid None
-    → (which : Option (List ℕ)) → WhichFailed g mid new which → WhichFailed g old new which
-failed_later g old mid new reads well None none = none ∙ well
-failed_later g old mid new reads well (Some name) (rose, blamed) =
-    let le = reads.later in (omega (arith, rose, le), blamed ∙ ap (λ (f : Option (List (List ℕ))). blaming f name) well)
 
 -- ---- which read failed
 

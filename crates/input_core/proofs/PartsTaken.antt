@@ -24,7 +24,8 @@ use Rattle.input_core.specs.PartFile.{part_file}
 use Rattle.input_core.specs.Readings.{part_in}
 use Rattle.input_core.specs.Inputs.{IsHeld, IsRead, IsInput}
 use Rattle.input_core.specs.Stores.{offset_in}
-use Rattle.input_core.specs.Taking.{AreTaken, CouldNotRead, PartFollows, PartFails, ComesOfPart, ComesOfEnd}
+use Rattle.outside_core.specs.Reads.{CouldNotRead}
+use Rattle.input_core.specs.Taking.{AreTaken, PartFollows, PartFails, ComesOfPart, ComesOfEnd}
 use Rattle.input_core.proofs.FilesRead.{unread_input, fault_input, no_memory_input}
 use Rattle.input_core.proofs.Scans.{begins, held_front, held_piece, nothing_of, where_held, width-bound}
 

@@ -1,11 +1,12 @@
 -- Files that are read piece by piece.
 use Rattle.std.proofs.Common.{◌≡◌, ℕ, ◌+◌, ◌≤◌, ◌<◌, ◌^◌, Vec, Global, List, length, ◌++◌, take, drop, Option, Some, None, inl, inr, sym, ap, subst, ◌∙◌, arith}
-use Rattle.std.specs.Prelude.{◌⊎◌, IfOk, IsErrOf, Result, Ok, Err}
+use Rattle.std.specs.Prelude.{◌⊎◌, ◌∷◌, [], IfOk, IsErrOf, Result, Ok, Err}
+use Rattle.std.specs.Option.{option_map}
 use Rattle.std.proofs.Math.Seq.{take-add}
 use Rattle.std.proofs.lemmas.List.{take_all, length-take}
 use Rattle.outside_core.specs.declared.depot.Depot.{Ghosts}
-use Rattle.outside_core.specs.Effects.{ReadFailed}
-use Rattle.outside_core.specs.Files.{Files, IsMissing, blaming}
+use Rattle.outside_core.specs.Reads.{ReadFailed}
+use Rattle.outside_core.specs.Files.{Files, IsMissing}
 use Rattle.input_core.specs.declared.input.InputFault.{InputFault}
 use Rattle.input_core.specs.Inputs.{WhereHeld, IsHeld}
 
@@ -13,7 +14,7 @@ use Rattle.input_core.specs.Inputs.{WhereHeld, IsHeld}
 pub failed_behind : {D : Type 0} (g : Ghosts D) (name : List ℕ) (old mid new : D) → g.files mid ≡ g.files old → g.read_faults old ≤ g.read_faults mid
     → g.failed_reads mid ≡ g.failed_reads old → ReadFailed g name mid new → ReadFailed g name old new
 failed_behind g name old mid new same le well (inl (rose, blamed)) =
-    inl (omega (arith, rose, le), blamed ∙ ap (λ (f : Option (List (List ℕ))). blaming f name) well)
+    inl (omega (arith, rose, le), blamed ∙ ap (λ (f : Option (List (List ℕ))). option_map (λ names. names ++ name ∷ []) f) well)
 failed_behind g name old mid new same le well (inr (missing, none)) = inr (subst (λ (t : Option Files). IsMissing t name) same missing, none ∙ well)
 
 -- an error says the same of another type of values

@@ -3,8 +3,7 @@ use Rattle.std.specs.Prelude.{◌≡◌, ◌⊎◌, ℕ, List, Option, Some, Non
 use Rattle.std.specs.FinMap.{get}
 use Rattle.std.specs.List.{AllZip}
 use Rattle.octets_core.specs.Reading.{GivesUnless}
-use Rattle.outside_core.specs.Files.{Files, IsMissing, Rose, blaming}
-use Rattle.outside_core.specs.declared.depot.Depot.{Ghosts}
+use Rattle.outside_core.specs.Files.{Files, IsMissing}
 use Rattle.input_core.specs.declared.fault.FileFault.{FileFault}
 use Rattle.input_core.specs.declared.fault.FileFault.TheVariants as faults
 use Rattle.input_core.specs.Readings.{input_as}
@@ -18,16 +17,6 @@ abbrev pub IsHeld : Option Files → List ℕ → (List ℕ → Type 0) → Type
 IsHeld told name P = IfSome told (λ files. (bytes : List ℕ) × (get files name ≡ Some bytes) × P bytes)
 
 -- ---- which read failed
-
--- Which read a count of faults and the names of the failed reads blame: none, and no name came behind those of before;
--- or one of this name, and a fault was counted, and the name came behind them.
-abbrev pub Blames : ℕ → ℕ → Option (List (List ℕ)) → Option (List (List ℕ)) → Option (List ℕ) → Type 0
-Blames faults faults_now failed failed_now None = failed_now ≡ failed
-Blames faults faults_now failed failed_now (Some name) = Rose faults faults_now × (failed_now ≡ blaming failed name)
-
--- which read of a depot failed and was counted between these two
-abbrev pub WhichFailed : {D : Type 0} → Ghosts D → D → D → Option (List ℕ) → Type 0
-WhichFailed g old new = Blames (g.read_faults old) (g.read_faults new) (g.failed_reads old) (g.failed_reads new)
 
 -- No read failed; or one of this name did, and the result is that it couldn't be read.
 abbrev pub IsBlamed : {A E : Type 0} → (Option (List ℕ) → Type 0) → List ℕ → E → Result A E → Type 0

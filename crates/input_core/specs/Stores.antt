@@ -16,7 +16,8 @@ use Rattle.input_core.specs.declared.fault.FileFault.TheVariants as faults
 use Rattle.input_core.specs.Faults.{of_store}
 use Rattle.input_core.specs.Inputs.{IsRead}
 use Rattle.input_core.specs.Readings.{store_in}
-use Rattle.input_core.specs.Taking.{AreTaken, CouldNotRead, PartFollows}
+use Rattle.outside_core.specs.Reads.{CouldNotRead}
+use Rattle.input_core.specs.Taking.{AreTaken, PartFollows}
 
 -- ---- before the first part
 

@@ -4,7 +4,8 @@ use Rattle.octets_core.specs.Layout.{with_fault}
 use Rattle.octets_core.specs.Reading.{fault_at}
 use Rattle.octets_core.specs.declared.field.Field.TheVariants as fields
 use Rattle.octets_core.specs.declared.fault.Why.TheVariants as why
-use Rattle.outside_core.specs.Files.{Files, IsMissing}
+use Rattle.outside_core.specs.Files.{Files}
+use Rattle.outside_core.specs.Reads.{CouldNotRead}
 use Rattle.outside_core.specs.Feeding.{Offers}
 use Rattle.part_text.specs.SealedFields.{SealedFields}
 use Rattle.part_text.specs.PartLayout.{part}
@@ -17,10 +18,6 @@ use Rattle.input_core.specs.Inputs.{WhereHeld, IsHeld, IsRead}
 pub record AreTaken (told : Option Files) (name bytes : List ℕ) (at : ℕ) : Type 0 where
   pub place : length bytes ≡ at
   pub front : WhereHeld told name (λ file. bytes ≡ take at file)
-
--- a read of this name failed and was counted, or files are told and it isn't held
-abbrev pub CouldNotRead : Option Files → (Option (List ℕ) → Type 0) → List ℕ → Type 0
-CouldNotRead told failed name = failed (Some name) ⊎ (IsMissing told name × failed None)
 
 -- the bytes that were taken, with those of the part, which has less than 2^49
 pub record PartFollows (told : Option Files) (name before : List ℕ) (s : SealedFields) (at : ℕ) : Type 0 where

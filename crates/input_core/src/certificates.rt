@@ -4,7 +4,8 @@ ghost use Rattle.std.specs.Prelude.{◌≡◌};
 ghost use Rattle.outside_core.specs.Effects.{OnlyReads};
 ghost use Rattle.input_core.specs.Certificates.{certificate_of as certificate_by, issuer_of as issuer_by};
 ghost use Rattle.input_core.specs.Certificates.{certificate_in as certificate_of_file, issuer_in as issuer_of_file};
-ghost use Rattle.input_core.specs.Inputs.{IsInput, WhichFailed};
+ghost use Rattle.outside_core.specs.Reads.{WhichFailed};
+ghost use Rattle.input_core.specs.Inputs.{IsInput};
 
 use crate::fault::FileFault;
 use crate::input::read_up_to;

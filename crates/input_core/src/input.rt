@@ -1,7 +1,8 @@
 //! Files that are taken into memory, up to a limit.
 
 ghost use Rattle.std.specs.Prelude.{◌≡◌, ◌≤◌, ◌⊎◌, ◌+◌, ◌++◌, length, take, drop, IfOk, OnOk, IsErrOf, vec_len};
-ghost use Rattle.outside_core.specs.Effects.{OnlyReads, ReadFailed};
+ghost use Rattle.outside_core.specs.Reads.{ReadFailed};
+ghost use Rattle.outside_core.specs.Effects.{OnlyReads};
 ghost use Rattle.input_core.specs.Inputs.{WhereHeld, IsHeld};
 
 use crate::fault::FileFault;

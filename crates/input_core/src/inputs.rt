@@ -4,7 +4,8 @@ ghost use Rattle.std.specs.Prelude.{map};
 ghost use Rattle.outside_core.specs.Effects.{OnlyReads};
 ghost use Rattle.query_core.specs.Queries.{as_query};
 ghost use Rattle.input_core.specs.Readings.{queries_in as queries_of, ledger_in as ledger_of};
-ghost use Rattle.input_core.specs.Inputs.{IsInput, WhichFailed};
+ghost use Rattle.outside_core.specs.Reads.{WhichFailed};
+ghost use Rattle.input_core.specs.Inputs.{IsInput};
 
 use crate::fault::FileFault;
 use crate::input::read_up_to;

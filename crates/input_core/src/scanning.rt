@@ -8,7 +8,7 @@ ghost use Rattle.outside_core.specs.Standing.{reference_of, depot_of, name_of, p
 ghost use Rattle.part_text.specs.PartLayout.{sealed};
 ghost use Rattle.part_codec.specs.Noting.{noted};
 ghost use Rattle.part_codec.specs.Standing.{StandsFor};
-ghost use Rattle.input_core.specs.Inputs.{WhichFailed};
+ghost use Rattle.outside_core.specs.Reads.{WhichFailed};
 ghost use Rattle.input_core.specs.Scanned.{layouts, IsScan};
 
 use octets_core::{Field, LayoutFault, Why};

@@ -2,11 +2,12 @@
 
 ghost use Rattle.std.specs.Prelude.{◌≡◌, ◌≤◌, ◌<◌, ◌+◌, ◌-◌, ◌*◌, ◌^◌, ℕ, suc, List, [], length, take, Bool, IfOk, IfErr, OnOk, OnErr};
 ghost use Rattle.octets_core.specs.Reading.{value_of};
-ghost use Rattle.outside_core.specs.Effects.{OnlyReads, ReadFailed};
+ghost use Rattle.outside_core.specs.Effects.{OnlyReads};
 ghost use Rattle.outside_core.specs.Feeding.{Offers};
 ghost use Rattle.outside_core.specs.Filling.{IsInOrder};
 ghost use Rattle.outside_core.specs.Standing.{reference_of, depot_of, name_of, place_of};
-ghost use Rattle.input_core.specs.Inputs.{IsHeld, IsInput, WhichFailed};
+ghost use Rattle.outside_core.specs.Reads.{ReadFailed, WhichFailed};
+ghost use Rattle.input_core.specs.Inputs.{IsHeld, IsInput};
 ghost use Rattle.input_core.specs.Readings.{store_in as store_of};
 ghost use Rattle.input_core.specs.Stores.{opening as opening_of, shifted as shifted_by, offset_in, ComesOfOpening};
 ghost use Rattle.input_core.specs.Stores.{ComesOfPartAt, ComesOfStore, ComesOfNext, HasOpening, HasParts};

@@ -16,7 +16,7 @@ use Rattle.octets_core.specs.declared.fault.Why.TheVariants as why
 use Rattle.octets_core.proofs.Fields.{bytes_field-ok, mapped-ok}
 use Rattle.outside_core.specs.declared.depot.Depot.{Ghosts}
 use Rattle.outside_core.specs.declared.feed.Feed.{Feed}
-use Rattle.outside_core.specs.Effects.{ReadFailed}
+use Rattle.outside_core.specs.Reads.{ReadFailed}
 use Rattle.outside_core.specs.Standing.{depot_of, name_of, place_of, StandsIn}
 use Rattle.outside_core.proofs.Effects.{ReadFailed-then}
 use Rattle.job_core.specs.declared.fault.JobFault.{JobFault}

@@ -10,8 +10,8 @@ use Rattle.std.proofs.lemmas.List.{take_all}
 use Rattle.octets_core.specs.Reading.{GivesUnless}
 use Rattle.outside_core.specs.declared.depot.Depot.{Ghosts}
 use Rattle.outside_core.specs.declared.feed.Feed.{Feed}
-use Rattle.outside_core.specs.Effects.{ReadFailed}
-use Rattle.outside_core.specs.Files.{Files, FailedRead}
+use Rattle.outside_core.specs.Reads.{ReadFailed}
+use Rattle.outside_core.specs.Files.{Files, Rose}
 use Rattle.outside_core.specs.Standing.{file_in, name_of, depot_of}
 use Rattle.job_core.specs.declared.fault.JobFault.{JobFault}
 use Rattle.job_core.specs.declared.fault.JobFault.TheVariants as faults
@@ -32,13 +32,18 @@ none-there bytes (x ∷ name) is = get-insert nat_list_cmp_total empty [] bytes 
 pub file-there : (bytes : List ℕ) → length bytes < 2 ^ 64 → file_in (Some (only bytes)) [] ≡ Some bytes
 file-there bytes fits = ap (option_map (take (2 ^ 64 - 1))) (held-there bytes [] refl) ∙ ap (λ (l : List ℕ). Some l) (take_all (2 ^ 64 - 1) bytes (omega (arith, fits)))
 
+-- what the depot says of itself
+abbrev pub slice_ghosts : Ghosts SliceDepot
+slice_ghosts = record { files = λ d. Some (only d.bytes.now); read_faults = λ d. 0; failed_reads = λ d. None; write_faults = λ d. d.refused }
+
 -- no read of it fails
-pub never-fails : (bytes name : List ℕ) → name ≡ [] → FailedRead (Some (only bytes)) name 0 0 None None → ⊥
-never-fails bytes name is (inl (rose, blamed)) = absurd (omega (arith, rose))
-never-fails bytes name is (inr ((files, same, none), unblamed)) =
-    let e : only bytes ≡ files = cc in
-    let held : get (only bytes) name ≡ Some bytes = held-there bytes name (rw is refl) in
-    let there : get files name ≡ Some bytes = ap (λ (f : Files). get f name) (sym e) ∙ held in
+pub never-fails : (old new : SliceDepot) (name : List ℕ) → name ≡ [] → ReadFailed slice_ghosts name old new → ⊥
+never-fails old new name is (inl (rose, last)) = let risen : Rose 0 0 = rose in absurd (omega (arith, risen))
+never-fails old new name is (inr ((files, same, none), well)) =
+    let told : Some (only old.bytes.now) ≡ Some files = same in
+    let e : only old.bytes.now ≡ files = cc in
+    let held : get (only old.bytes.now) name ≡ Some old.bytes.now = held-there old.bytes.now name (rw is refl) in
+    let there : get files name ≡ Some old.bytes.now = ap (λ (f : Files). get f name) (sym e) ∙ held in
     absurd cc
 
 -- where no read fails, a job comes of the bytes or memory is wanted
@@ -46,7 +51,3 @@ pub comes-from : {D X A : Type 0} (g : Ghosts D) (old new : Feed D) (view : X �
     → (ReadFailed g (name_of old) (depot_of old) (depot_of new) → ⊥) → Blames g old new r → Comes view read r → GivesUnless faults.NoMemory view r read
 comes-from g old new view read (Ok x) never blames comes = comes
 comes-from g old new view read (Err e) never blames comes = λ wants. comes (wants, λ same. never (blames.0 same))
-
--- what the depot says of itself
-abbrev pub slice_ghosts : Ghosts SliceDepot
-slice_ghosts = record { files = λ d. Some (only d.bytes.now); read_faults = λ d. 0; failed_reads = λ d. None; write_faults = λ d. d.refused }

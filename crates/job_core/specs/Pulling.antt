@@ -6,7 +6,8 @@ use Rattle.octets_core.specs.Position.{piece}
 use Rattle.octets_core.specs.Reading.{end as file_end}
 use Rattle.outside_core.specs.declared.depot.Depot.{Ghosts}
 use Rattle.outside_core.specs.declared.feed.Feed.{Feed}
-use Rattle.outside_core.specs.Effects.{OnlyReads, ReadFailed}
+use Rattle.outside_core.specs.Reads.{ReadFailed}
+use Rattle.outside_core.specs.Effects.{OnlyReads}
 use Rattle.outside_core.specs.Standing.{reference_of, depot_of, name_of, place_of, StandsIn}
 use Rattle.job_core.specs.JobLayout.{fielded}
 use Rattle.job_core.specs.declared.fault.JobFault.{JobFault}

@@ -1,7 +1,7 @@
 //! Bytes of a file, taken in order from a feed.
 
 ghost use Rattle.std.specs.Prelude.{◌≡◌, ◌+◌, ◌-◌, ◌≤◌, ◌<◌, ℕ, List, true, false, length, take, IfOk, OnOk, OnErr};
-ghost use Rattle.outside_core.specs.Effects.{ReadFailed};
+ghost use Rattle.outside_core.specs.Reads.{ReadFailed};
 ghost use Rattle.outside_core.specs.Standing.{depot_of, name_of, place_of, StandsIn};
 ghost use Rattle.job_core.specs.Pulling.{Pulled, Lies};
 

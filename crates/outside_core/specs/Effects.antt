@@ -1,12 +1,6 @@
 -- What a function that only reads a depot, or only writes one, leaves of it.
-use Rattle.std.specs.Prelude.{◌≡◌, ◌≤◌, ℕ, List}
+use Rattle.std.specs.Prelude.{◌≡◌, ◌≤◌}
 use Rattle.outside_core.specs.declared.depot.Depot.{Ghosts}
-use Rattle.outside_core.specs.Files.{FailedRead}
-
--- a read of this name failed, and is the only one that did
-abbrev pub ReadFailed : {D : Type 0} → Ghosts D → List ℕ → D → D → Type 0
-ReadFailed g name old new =
-    FailedRead (g.files old) name (g.read_faults old) (g.read_faults new) (g.failed_reads old) (g.failed_reads new)
 
 -- the depot was read and nothing else: its files and its write faults are as they were, and its read faults didn't fall
 pub record OnlyReads {D : Type 0} (g : Ghosts D) (old new : D) : Type 0 where

@@ -38,16 +38,6 @@ Rose before now = min (before + 1) (2 ^ 64 - 1) ≤ now
 abbrev pub IsMissing : Option Files → List ℕ → Type 0
 IsMissing told name = (files : Files) × (told ≡ Some files) × (get files name ≡ None)
 
--- the names of the failed reads with this one behind them; nothing where they aren't told
-abbrev pub blaming : Option (List (List ℕ)) → List ℕ → Option (List (List ℕ))
-blaming told name = option_map (λ names. names ++ name ∷ []) told
-
--- What a read of this name that failed leaves of the count of read faults and of the names of the failed reads: a fault
--- was counted, and the name came behind the others; or the name isn't held, and no name came behind them.
-abbrev pub FailedRead : Option Files → List ℕ → ℕ → ℕ → Option (List (List ℕ)) → Option (List (List ℕ)) → Type 0
-FailedRead told name faults faults_now failed failed_now =
-    (Rose faults faults_now × (failed_now ≡ blaming failed name)) ⊎ (IsMissing told name × (failed_now ≡ failed))
-
 -- the first n bytes of the buffer are the file's from this place
 pub record IsPiece (bytes : List ℕ) (at : ℕ) (buf : List ℕ) (n : ℕ) : Type 0 where
   pub same : take n buf ≡ take n (drop at bytes)

@@ -1,7 +1,8 @@
 -- What a feed has buffered, and what filling leaves of it.
 use Rattle.std.specs.Prelude.{◌≡◌, ℕ, ◌<◌, ◌-◌, ◌^◌, ◌⊎◌, List, length, Result, IfOk, OnOk, OnErr}
 use Rattle.std.specs.Borrow.{Bor}
-use Rattle.outside_core.specs.Effects.{ReadFailed, OnlyReads}
+use Rattle.outside_core.specs.Reads.{ReadFailed}
+use Rattle.outside_core.specs.Effects.{OnlyReads}
 use Rattle.outside_core.specs.Feeding.{InOrder, Offers}
 use Rattle.outside_core.specs.Standing.{reference_of, depot_of, name_of, place_of, buffered_of}
 use Rattle.outside_core.specs.declared.depot.Depot.{Ghosts}

@@ -1,5 +1,6 @@
 pub mod Files
 pub mod Effects
+pub mod Reads
 pub mod Written
 pub mod Calls
 pub mod Entries

@@ -1,5 +1,6 @@
-ghost use Rattle.std.specs.Prelude.{◌≡◌, ◌⊎◌, ℕ, ◌≤◌, Option, List, [], length, Ok, IfOk, OnOk, OnErr};
-ghost use Rattle.outside_core.specs.Files.{Files, putting, Rose, IsMissing, FailedRead, Gives, Appended, Torn};
+ghost use Rattle.std.specs.Prelude.{◌≡◌, ◌⊎◌, ℕ, ◌≤◌, Option, List, [], ◌∷◌, ◌++◌, length, Ok, IfOk, OnOk, OnErr};
+ghost use Rattle.std.specs.Option.{option_map};
+ghost use Rattle.outside_core.specs.Files.{Files, putting, Rose, IsMissing, Gives, Appended, Torn};
 
 /// The outside failed.
 #[derive(Clone, Copy, Debug, PartialEq, Eq)]
@@ -22,8 +23,10 @@ pub trait Depot {
     fn read_at(&mut self, name: &str, at: u64, buf: &mut [u8]) -> Result<usize, Failed>
         ensures count { IfOk result (λ n. n ≤ length buf.old) }
         ensures bytes { IfOk result (λ n. Gives (files self.old) name.now at buf.new n) }
-        ensures cause { OnErr result (FailedRead (files self.old) name.now (read_faults self.old) (read_faults self.new)
-            (failed_reads self.old) (failed_reads self.new)) }
+        // A fault was counted, and the name came behind the others; or the name isn't held, and none came.
+        ensures cause { OnErr result ((Rose (read_faults self.old) (read_faults self.new)
+            × (failed_reads self.new ≡ option_map (λ names. names ++ name.now ∷ []) (failed_reads self.old)))
+            ⊎ (IsMissing (files self.old) name.now × (failed_reads self.new ≡ failed_reads self.old))) }
         ensures unblamed { OnOk result (failed_reads self.new ≡ failed_reads self.old) }
         ensures missing { IsMissing (files self.old) name.now
             → (read_faults self.new ≡ read_faults self.old) × (failed_reads self.new ≡ failed_reads self.old) }

@@ -1,6 +1,7 @@
 ghost use Rattle.std.specs.Prelude.{◌≡◌, ◌≤◌, ◌<◌, ◌+◌, ◌-◌, ◌^◌, ◌⊎◌, ◌↔◌, ℕ, List, [], Some, length, drop, IsOk, IfOk};
 ghost use Rattle.std.specs.Prelude.{OnOk, OnErr};
-ghost use Rattle.outside_core.specs.Effects.{ReadFailed, OnlyReads};
+ghost use Rattle.outside_core.specs.Reads.{ReadFailed};
+ghost use Rattle.outside_core.specs.Effects.{OnlyReads};
 ghost use Rattle.outside_core.specs.Feeding.{most_at_once};
 
 use crate::depot::{Depot, Failed};

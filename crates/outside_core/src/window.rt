@@ -1,5 +1,6 @@
 ghost use Rattle.std.specs.Prelude.{◌≡◌, ◌≤◌, ◌<◌, ◌+◌, ◌-◌, ◌^◌, ◌⊎◌, [], length, drop, IsOk, OnOk, OnErr};
-ghost use Rattle.outside_core.specs.Effects.{ReadFailed, OnlyReads};
+ghost use Rattle.outside_core.specs.Reads.{ReadFailed};
+ghost use Rattle.outside_core.specs.Effects.{OnlyReads};
 ghost use Rattle.outside_core.specs.Feeding.{InOrder, Offers, most_at_once};
 
 use crate::depot::{Depot, Failed};

@@ -3,7 +3,7 @@ ghost use Rattle.std.specs.Bool.{OnFalse};
 ghost use Rattle.std.specs.Option.{option_copied};
 ghost use Rattle.std.specs.Result.{result_ok, is_err};
 ghost use Rattle.std.specs.FinMap.{get, insert, empty};
-ghost use Rattle.outside_core.specs.Files.{Rose, IsMissing, FailedRead, Gives, Appended, Torn, putting, extending};
+ghost use Rattle.outside_core.specs.Files.{Rose, IsMissing, Gives, Appended, Torn, putting, extending};
 ghost use Rattle.outside_core.specs.Calls.{no_calls, is_failing, with_failing, after_call};
 ghost use Rattle.outside_core.specs.View.{read_count, read_fails};
 
@@ -101,7 +101,7 @@ impl Depot for MemoryDepot {
         // The trait's clauses.
         ensures count { IfOk result (λ n. n ≤ length buf.old) }
         ensures bytes { IfOk result (λ n. Gives (Some self.old.files) name.now at buf.new n) }
-        ensures cause { OnErr result (FailedRead (Some self.old.files) name.now self.old.reads.faults self.new.reads.faults None None) }
+        ensures cause { OnErr result (Rose self.old.reads.faults self.new.reads.faults ⊎ IsMissing (Some self.old.files) name.now) }
         ensures missing { IsMissing (Some self.old.files) name.now → self.new.reads.faults ≡ self.old.reads.faults }
         ensures later { self.old.reads.faults ≤ self.new.reads.faults }
         ensures same_files { Some self.new.files ≡ Some self.old.files }

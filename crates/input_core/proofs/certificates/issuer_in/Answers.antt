@@ -4,7 +4,7 @@ use Rattle.sct_core.specs.declared.bounds.TheConstants.{MAX_CERTIFICATE}
 use Rattle.input_core.specs.declared.fault.FileFault.TheVariants.{BadCert}
 use Rattle.input_core.specs.Readings.{faulted}
 use Rattle.input_core.specs.Certificates.{issuer_in}
-use Rattle.input_core.specs.Inputs.{WhichFailed}
+use Rattle.outside_core.specs.Reads.{WhichFailed}
 use Rattle.input_core.proofs.CertificateLaws.{issuer_front}
 use Rattle.input_core.proofs.FilesRead.{input_err, input_front}
 use Rattle.input_core.proofs.certificates.issuer_in.Goals as goal

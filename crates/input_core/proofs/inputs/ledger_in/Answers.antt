@@ -4,7 +4,7 @@ use Rattle.ledger_core.specs.declared.fault.LedgerFault.TheVariants as faults
 use Rattle.input_core.specs.Faults.{of_ledger}
 use Rattle.input_core.specs.declared.inputs.TheConstants.{LONGEST_LEDGER}
 use Rattle.input_core.specs.Readings.{faulted, ledger_in}
-use Rattle.input_core.specs.Inputs.{WhichFailed}
+use Rattle.outside_core.specs.Reads.{WhichFailed}
 use Rattle.input_core.proofs.FilesRead.{input_err, input_front, faulted_ok, faulted_err}
 use Rattle.input_core.proofs.LongestLedger.{ledger-same}
 use Rattle.input_core.proofs.inputs.ledger_in.Goals as goal

@@ -6,7 +6,7 @@ use Rattle.query_core.specs.declared.fault.QueriesFault.TheVariants as faults
 use Rattle.input_core.specs.Faults.{of_queries}
 use Rattle.input_core.specs.declared.inputs.TheConstants.{LONGEST_QUERIES}
 use Rattle.input_core.specs.Readings.{faulted, queries_in}
-use Rattle.input_core.specs.Inputs.{WhichFailed}
+use Rattle.outside_core.specs.Reads.{WhichFailed}
 use Rattle.input_core.proofs.FilesRead.{input_err, input_front, faulted_ok, faulted_err}
 use Rattle.input_core.proofs.LongestQueries.{queries-same}
 use Rattle.input_core.proofs.inputs.queries_in.Goals as goal

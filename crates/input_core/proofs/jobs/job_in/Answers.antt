@@ -1,7 +1,8 @@
 use Rattle.std.proofs.Common.{rules, subst}
 use Rattle.job_core.specs.JobFields.{fields_of_job}
 use Rattle.input_core.specs.Readings.{job_in}
-use Rattle.input_core.specs.Inputs.{WhichFailed, IsInput}
+use Rattle.outside_core.specs.Reads.{WhichFailed}
+use Rattle.input_core.specs.Inputs.{IsInput}
 use Rattle.input_core.proofs.jobs.job_in.Goals as goal
 
 pub returns-clause-input : goal.returns-clause-input

@@ -1,8 +1,8 @@
 use Rattle.std.proofs.Common.{ℕ, [], Ok, Err, ap}
 use Rattle.std.proofs.lemmas.Result.{err_from_is_err_and}
 use Rattle.outside_core.specs.Standing.{depot_of, name_of, place_of}
-use Rattle.input_core.specs.Inputs.{WhichFailed}
-use Rattle.input_core.proofs.FilesRead.{failed_later}
+use Rattle.outside_core.specs.Reads.{WhichFailed}
+use Rattle.outside_core.proofs.Effects.{WhichFailed-then}
 use Rattle.input_core.proofs.PartsTaken.{none_taken, end_before, no_part, part_goes_on, part_seen, part_alone}
 use Rattle.input_core.proofs.parts.fed_part.Goals as goal
 
@@ -25,7 +25,7 @@ returns-in_err-test_end-clause-input g c =
     rw (p.1, p.2)
     (part_goes_on told (WhichFailed g.D.Depot (depot_of c.args.feed.now) (depot_of c.next_part.new.feed)) (WhichFailed g.D.Depot (depot_of c.next_part.new.feed) (depot_of c.test_end.new.feed))
     (WhichFailed g.D.Depot (depot_of c.args.feed.now) (depot_of c.test_end.new.feed)) name c.in_ok-sealed.sealed c.in_ok-sealed.ended (place_of c.next_part.new.feed)
-    c.in_err-test_end.field-0.0 (λ x. x) (failed_later g.D.Depot (depot_of c.args.feed.now) (depot_of c.next_part.new.feed) (depot_of c.test_end.new.feed) e.only_reads part.0) part
+    c.in_err-test_end.field-0.0 (λ x. x) (WhichFailed-then g.D.Depot (depot_of c.args.feed.now) (depot_of c.next_part.new.feed) (depot_of c.test_end.new.feed) e.only_reads part.0) part
     (end_before told (g.D.Depot.files (depot_of c.next_part.new.feed)) (WhichFailed g.D.Depot (depot_of c.next_part.new.feed) (depot_of c.test_end.new.feed))
     name (name_of c.next_part.new.feed) (place_of c.next_part.new.feed)
     (Err c.in_err-test_end.field-0.0) e.only_reads.same_files e.name c.in_err-test_end.ensures.comes))
@@ -47,7 +47,7 @@ returns-clause-input g c =
     part_alone told (WhichFailed g.D.Depot (depot_of c.args.feed.now) (depot_of c.next_part.new.feed)) (WhichFailed g.D.Depot (depot_of c.next_part.new.feed) (depot_of c.test_end.new.feed))
     (WhichFailed g.D.Depot (depot_of c.args.feed.now) (depot_of c.test_end.new.feed)) name c.in_ok-sealed.sealed c.in_ok-sealed.ended (place_of c.next_part.new.feed) _ (λ x. x)
     (ap (λ (i : ℕ). (c.in_ok-sealed.sealed, i)) c.at-len.ensures)
-    (failed_later g.D.Depot (depot_of c.args.feed.now) (depot_of c.next_part.new.feed) (depot_of c.test_end.new.feed) e.only_reads part.0) part
+    (WhichFailed-then g.D.Depot (depot_of c.args.feed.now) (depot_of c.next_part.new.feed) (depot_of c.test_end.new.feed) e.only_reads part.0) part
     (end_before told (g.D.Depot.files (depot_of c.next_part.new.feed)) (WhichFailed g.D.Depot (depot_of c.next_part.new.feed) (depot_of c.test_end.new.feed))
     name (name_of c.next_part.new.feed) (place_of c.next_part.new.feed)
     (Ok tt) e.only_reads.same_files e.name c.in_ok-test_end.ensures.comes)

@@ -1,11 +1,10 @@
 use Rattle.std.proofs.Common.{◌≡◌, ℕ, List, [], length, refl, sym, ap, subst, ◌∙◌, arith, inl}
 use Rattle.std.proofs.lemmas.Bool.{eqb-true}
 use Rattle.std.proofs.lemmas.List.{nil_from_length}
-use Rattle.outside_core.specs.Effects.{ReadFailed}
 use Rattle.outside_core.proofs.Effects.{ReadFailed-then}
 use Rattle.outside_core.specs.Feeding.{Offers}
 use Rattle.outside_core.specs.Standing.{depot_of, name_of, place_of}
-use Rattle.input_core.specs.Inputs.{WhichFailed}
+use Rattle.outside_core.specs.Reads.{ReadFailed, WhichFailed}
 use Rattle.input_core.specs.Taking.{ComesOfPart}
 use Rattle.input_core.proofs.Scans.{offers_there}
 use Rattle.input_core.proofs.PartsTaken.{some-more, fault-fits, end-fits, end-near, going, going-more, part-within, part-faulty, part-ended}

@@ -1,11 +1,10 @@
 use Rattle.std.proofs.Common.{◌≡◌, ℕ, List, length, refl, sym, ap, subst, ◌∙◌, arith}
 use Rattle.std.proofs.lemmas.Bool.{eqb-true}
 use Rattle.std.proofs.lemmas.List.{nil_from_length}
-use Rattle.outside_core.specs.Effects.{ReadFailed}
 use Rattle.outside_core.proofs.Effects.{ReadFailed-then}
 use Rattle.outside_core.specs.Feeding.{Offers}
 use Rattle.outside_core.specs.Standing.{depot_of, name_of, place_of}
-use Rattle.input_core.specs.Inputs.{WhichFailed}
+use Rattle.outside_core.specs.Reads.{ReadFailed, WhichFailed}
 use Rattle.input_core.proofs.Scans.{nothing_taken, taken_more, offers_there, unread, all, faulty, more}
 use Rattle.input_core.proofs.scanning.scan_feed.Goals as goal
 

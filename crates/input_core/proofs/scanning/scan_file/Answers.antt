@@ -1,5 +1,5 @@
 use Rattle.std.proofs.Common.{rules, subst}
-use Rattle.input_core.specs.Inputs.{WhichFailed}
+use Rattle.outside_core.specs.Reads.{WhichFailed}
 use Rattle.input_core.specs.Scanned.{IsScan}
 use Rattle.input_core.proofs.scanning.scan_file.Goals as goal
 

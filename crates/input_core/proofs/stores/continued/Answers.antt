@@ -1,8 +1,8 @@
 use Rattle.std.proofs.Common.{◌-◌, ◌+◌, ◌∙◌, refl, arith, Ok, Err}
 use Rattle.std.proofs.lemmas.Result.{err_from_is_err_and}
 use Rattle.outside_core.specs.Standing.{depot_of, name_of, place_of}
-use Rattle.input_core.specs.Inputs.{WhichFailed}
-use Rattle.input_core.proofs.FilesRead.{failed_later}
+use Rattle.outside_core.specs.Reads.{WhichFailed}
+use Rattle.outside_core.proofs.Effects.{WhichFailed-then}
 use Rattle.input_core.proofs.StoresTaken.{fails-later, next-before, one-more, all-left, all-taken}
 use Rattle.input_core.proofs.stores.continued.Goals as goal
 
@@ -32,7 +32,7 @@ returns-in_err-ended-clause-comes g c = λ has.
     inv.only_reads.same_files inv.name c.parts-test.true held.1) in
     rw (p.1, p.2)
     (fails-later told (WhichFailed g.D.Depot mid new) (WhichFailed g.D.Depot old new) name c.in_err-ended.field-0.0
-    (failed_later g.D.Depot old mid new inv.only_reads held.0)
+    (WhichFailed-then g.D.Depot old mid new inv.only_reads held.0)
     (next-before told (g.D.Depot.files mid) (WhichFailed g.D.Depot mid new) name (name_of c.parts.feed) (place_of c.install_next.new.feed) left c.install_next.new.store
     (Err c.in_err-ended.field-0.0) inv.only_reads.same_files inv.name comes))
 

@@ -2,8 +2,8 @@ use Rattle.std.proofs.Common.{◌-◌, ◌∙◌, arith, Ok, Err}
 use Rattle.std.proofs.lemmas.Result.{err_from_is_err_and}
 use Rattle.outside_core.specs.Effects.{OnlyReads}
 use Rattle.outside_core.specs.Standing.{depot_of, name_of, place_of}
-use Rattle.input_core.specs.Inputs.{WhichFailed}
-use Rattle.input_core.proofs.FilesRead.{failed_later}
+use Rattle.outside_core.specs.Reads.{WhichFailed}
+use Rattle.outside_core.proofs.Effects.{WhichFailed-then}
 use Rattle.input_core.proofs.StoresTaken.{fails-later, store-before, store-later, opening-now, parts-now}
 use Rattle.input_core.proofs.stores.fed_parts.Goals as goal
 
@@ -19,7 +19,7 @@ returns-in_err-store-clause-comes g c =
     let comes = c.in_err-store.ensures.comes c.in_ok-count.count
     (opening-now told (g.D.Depot.files mid) name (name_of c.opened.new.feed) (place_of c.opened.new.feed) c.in_ok-count.count o.only_reads.same_files o.name o.comes.1) in
     rw (p.1, p.2)
-    (fails-later told (WhichFailed g.D.Depot mid new) (WhichFailed g.D.Depot old new) name c.in_err-store.field-0.0 (failed_later g.D.Depot old mid new o.only_reads o.comes.0)
+    (fails-later told (WhichFailed g.D.Depot mid new) (WhichFailed g.D.Depot old new) name c.in_err-store.field-0.0 (WhichFailed-then g.D.Depot old mid new o.only_reads o.comes.0)
     (store-before told (g.D.Depot.files mid) (WhichFailed g.D.Depot mid new) name (name_of c.opened.new.feed) (place_of c.begun.new.feed) (c.in_ok-count.count - 1)
     (Err c.in_err-store.field-0.0) o.only_reads.same_files o.name comes))
 
@@ -44,7 +44,7 @@ returns-clause-comes g c =
     (opening-now told (g.D.Depot.files opened) name (name_of c.opened.new.feed) (place_of c.opened.new.feed) c.in_ok-count.count o.only_reads.same_files o.name o.comes.1)) in
     let is = b.name ∙ o.name in
     store-later told (WhichFailed g.D.Depot mid new) (WhichFailed g.D.Depot old new) name (place_of c.continued.new.feed) 0 c.continued.result
-    (failed_later g.D.Depot old mid new reads (begun.0 ∙ o.comes.0))
+    (WhichFailed-then g.D.Depot old mid new reads (begun.0 ∙ o.comes.0))
     (store-before told (g.D.Depot.files mid) (WhichFailed g.D.Depot mid new) name (name_of c.begun.new.feed) (place_of c.continued.new.feed) 0 c.continued.result reads.same_files is
     (c.continued.ensures.comes (parts-now told (g.D.Depot.files mid) name (name_of c.begun.new.feed) (place_of c.begun.new.feed) (c.in_ok-count.count - 1)
     c.in_ok-store.store.0 c.in_ok-store.store.1 reads.same_files is begun.1)))

@@ -1,8 +1,8 @@
 use Rattle.std.proofs.Common.{Ok, Err, refl}
 use Rattle.std.proofs.lemmas.Result.{err_from_is_err_and}
 use Rattle.outside_core.specs.Standing.{depot_of, name_of, place_of}
-use Rattle.input_core.specs.Inputs.{WhichFailed}
-use Rattle.input_core.proofs.FilesRead.{failed_later}
+use Rattle.outside_core.specs.Reads.{WhichFailed}
+use Rattle.outside_core.proofs.Effects.{WhichFailed-then}
 use Rattle.input_core.proofs.PartsTaken.{end_before}
 use Rattle.input_core.proofs.StoresTaken.{fails-input, goes-further, ends-there, end-later}
 use Rattle.input_core.proofs.stores.fed_store.Goals as goal
@@ -26,7 +26,7 @@ returns-in_err-test_end-clause-input g c =
     rw (p.1, p.2)
     (goes-further told (WhichFailed g.D.Depot old new) name (place_of c.fed_parts.new.feed) c.in_ok-store.store c.in_ok-store.ended c.in_err-test_end.field-0.0 (λ s. s) s.comes.1
     (end-later told (WhichFailed g.D.Depot mid new) (WhichFailed g.D.Depot old new) name (place_of c.fed_parts.new.feed) (Err c.in_err-test_end.field-0.0)
-    (failed_later g.D.Depot old mid new s.only_reads s.comes.0)
+    (WhichFailed-then g.D.Depot old mid new s.only_reads s.comes.0)
     (end_before told (g.D.Depot.files mid) (WhichFailed g.D.Depot mid new) name (name_of c.fed_parts.new.feed) (place_of c.fed_parts.new.feed) (Err c.in_err-test_end.field-0.0)
     s.only_reads.same_files s.name c.in_err-test_end.ensures.comes)))
 
@@ -40,7 +40,7 @@ returns-clause-input g c =
     let s = c.in_ok-store.ensures in
     ends-there told (WhichFailed g.D.Depot old new) name (place_of c.fed_parts.new.feed) c.in_ok-store.store c.in_ok-store.ended c.in_ok-store.store (λ s. s) refl s.far s.comes.1
     (end-later told (WhichFailed g.D.Depot mid new) (WhichFailed g.D.Depot old new) name (place_of c.fed_parts.new.feed) (Ok tt)
-    (failed_later g.D.Depot old mid new s.only_reads s.comes.0)
+    (WhichFailed-then g.D.Depot old mid new s.only_reads s.comes.0)
     (end_before told (g.D.Depot.files mid) (WhichFailed g.D.Depot mid new) name (name_of c.fed_parts.new.feed) (place_of c.fed_parts.new.feed) (Ok tt)
     s.only_reads.same_files s.name c.in_ok-test_end.ensures.comes))
 

@@ -1,6 +1,7 @@
 use Rattle.std.proofs.Common.{rules, subst}
 use Rattle.input_core.specs.Readings.{store_in}
-use Rattle.input_core.specs.Inputs.{WhichFailed, IsInput}
+use Rattle.outside_core.specs.Reads.{WhichFailed}
+use Rattle.input_core.specs.Inputs.{IsInput}
 use Rattle.input_core.proofs.stores.store_in.Goals as goal
 
 pub returns-clause-input : goal.returns-clause-input

@@ -2,7 +2,7 @@ use Rattle.std.proofs.Common.{◌≡◌, ◌+◌, ◌≤◌, ℕ, List, [], leng
 use Rattle.std.proofs.lemmas.Bool.{eqb-true}
 use Rattle.std.proofs.lemmas.List.{nil_from_length}
 use Rattle.std.proofs.lemmas.Result.{err_from_is_err_and}
-use Rattle.outside_core.specs.Effects.{ReadFailed}
+use Rattle.outside_core.specs.Reads.{ReadFailed}
 use Rattle.outside_core.proofs.Effects.{ReadFailed-then}
 use Rattle.outside_core.specs.Feeding.{Offers}
 use Rattle.outside_core.specs.Standing.{depot_of, name_of, place_of}

@@ -30,7 +30,7 @@ returns-in_err-refill-clause-cause g c =
     let p = err_from_is_err_and c.from_residual.result c.from_residual.ensures.1 in
     let inv = c.pieces.invariant in
     rw p.1 (ReadFailed-then g.D.Depot _ _ _ _ inv.pulled.only_reads inv.unblamed
-    (subst (λ (n : List ℕ). Rattle.outside_core.specs.Effects.ReadFailed g.D.Depot n c.pieces.feed.depot.now c.refill.new.self.depot.now) inv.pulled.name c.in_err-refill.ensures.cause))
+    (subst (λ (n : List ℕ). Rattle.outside_core.specs.Reads.ReadFailed g.D.Depot n c.pieces.feed.depot.now c.refill.new.self.depot.now) inv.pulled.name c.in_err-refill.ensures.cause))
 
 pub returns-then-is_empty-clause-pulled : goal.returns-then-is_empty-clause-pulled
 returns-then-is_empty-clause-pulled g c =

@@ -10,4 +10,4 @@ returns-clause-exact c =
     let e = c.read_job_from.ensures in
     let told = ap (λ (b : List ℕ). file_in (Some (only b)) []) c.new-depot.ensures.bytes ∙ file-there c.args.bytes.now c.new-depot.ensures.bound in
     comes-from slice_ghosts c.new-feed.result c.read_job_from.new.feed fields_of_job (job_of c.args.limits.now c.args.bytes.now) c.read_job_from.result
-    (never-fails c.new-feed.result.depot.now.bytes.now _ c.new-feed.ensures.name) e.blames (e.exact c.args.bytes.now (c.new-feed.ensures.stands c.args.bytes.now told))
+    (never-fails c.new-feed.result.depot.now c.read_job_from.new.feed.depot.now _ c.new-feed.ensures.name) e.blames (e.exact c.args.bytes.now (c.new-feed.ensures.stands c.args.bytes.now told))

@@ -15,7 +15,7 @@ none c =
     ∙ get-no_place c.self.inside.entries.items c.args.name.now (ap (λ es. place_of es c.args.name.now) (sym c.deref.ensures.value) ∙ sym c.in_default.ensures)
 
 pub returns-in_default-clause-cause : goal.returns-in_default-clause-cause
-returns-in_default-clause-cause c = inr ((c.args.self.now.files, refl, none c), refl)
+returns-in_default-clause-cause c = inr (c.args.self.now.files, refl, none c)
 
 pub returns-in_default-clause-answer : goal.returns-in_default-clause-answer
 returns-in_default-clause-answer c = read_count-missing c.args.self.now c.args.name.now c.args.at _ (none c)
