@@ -18,12 +18,14 @@ use Rattle.clubcard_top.specs.ReplyFields.{Done, NamedFault}
 use Rattle.input_core.specs.Readings.{store_in, input_as}
 use Rattle.clubcard_top.specs.Outcomes.{◌>>=◌, named, input}
 use Rattle.clubcard_top.specs.Audits.{unless, job_behind, jobs_behind, bad_crl, audit_jobs, MakesAudit}
-use Rattle.input_core.specs.Inputs.{WhichFailed, IsRead, AreRead, IsInput}
+use Rattle.outside_core.specs.Reads.{WhichFailed}
+use Rattle.input_core.specs.Inputs.{IsRead, AreRead, IsInput}
 use Rattle.clubcard_top.specs.AuditJobs.{IsAdded, IsNotAdded, AreAdded, AreNotAdded}
 use Rattle.clubcard_top.specs.Replies.{refusal, reply_of}
 use Rattle.clubcard_top.specs.Answering.{reply_fields}
 use Rattle.clubcard_top.specs.Runs.{BlamesFile, IsReply}
-use Rattle.input_core.proofs.FilesRead.{later_read, failed_later, none_failed, blamed_later}
+use Rattle.outside_core.proofs.Effects.{WhichFailed-then}
+use Rattle.input_core.proofs.FilesRead.{later_read, none_failed, blamed_later}
 use Rattle.clubcard_top.proofs.AuditsMade.{behind_next, behind_stop}
 use Rattle.clubcard_top.proofs.Replying.{read_well, blames_file, made, made_unless, BlamesOf}
 use Rattle.clubcard_top.proofs.Rehearsal.{nothing, wider_all, read_both, some_reads, at_among}
@@ -140,7 +142,7 @@ module _ {D : Type 0} (d : Ghosts D) (old mid new : D) (reads_ : OnlyReads d old
 
   jobs_read : (inputs : List (Option (List ℕ))) → First None → AreRead (d.files mid) Others a.jobs inputs → AreRead (d.files old) Each a.jobs inputs
   jobs_read inputs well read =
-      wider_all (d.files old) Others Each a.jobs inputs (failed_later d old mid new reads_ well)
+      wider_all (d.files old) Others Each a.jobs inputs (WhichFailed-then d old mid new reads_ well)
       (subst (λ (k : Option Files). AreRead k Others a.jobs inputs) reads_.same_files read)
 
   step : (g : Option (List ℕ)) (inputs : List (Option (List ℕ))) (jobs : Result (List JobFields) NamedFault) (o : Result Done NamedFault) → input_as store_in g ≡ Ok parts
@@ -160,7 +162,7 @@ module _ {D : Type 0} (d : Ghosts D) (old mid new : D) (reads_ : OnlyReads d old
       let e : NamedFault = record { name = name; fault = fault } in
       made (commands.Audit a) (d.files old) Each (g ∷ n.inputs) (Err e) (Ok b)
       (read_well (d.files old) First Each a.store store_in g parts gives read, jobs_read n.inputs well n.read)
-      (jobs_blamed Others Each a.store a.jobs e (failed_later d old mid new reads_ well) n.blames) (step g n.inputs (Err e) (Err e) gives n.makes refl) is
+      (jobs_blamed Others Each a.store a.jobs e (WhichFailed-then d old mid new reads_ well) n.blames) (step g n.inputs (Err e) (Err e) gives n.makes refl) is
   audit_not name fault in_ refused (Err e) memory is = tt
 
   -- what comes of the files that were read
@@ -170,7 +172,7 @@ module _ {D : Type 0} (d : Ghosts D) (old mid new : D) (reads_ : OnlyReads d old
       → IfOk r (λ y. IsReply (commands.Audit a) (d.files old) Each (reply_fields y))
   audit_made (Ok b) jobs (g, read, gives, blamed) n (o, m, is) =
       let well = none_failed First a.store faults.Unread parts blamed in
-      let none = failed_later d old mid new reads_ well None n.none_failed in
+      let none = WhichFailed-then d old mid new reads_ well None n.none_failed in
       made (commands.Audit a) (d.files old) Each (g ∷ n.inputs) o (Ok b)
       (read_well (d.files old) First Each a.store store_in g parts gives read, jobs_read n.inputs well n.read)
       (none_blamed Each (a.store ∷ a.jobs) o none) (step g n.inputs (Ok jobs) o gives n.makes m) is

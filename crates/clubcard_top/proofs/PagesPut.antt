@@ -26,12 +26,14 @@ use Rattle.input_core.specs.declared.fault.FileFault.TheVariants as faults
 use Rattle.clubcard_top.specs.ReplyFields.{NamedFault}
 use Rattle.input_core.specs.Readings.{input_as}
 use Rattle.clubcard_top.specs.Commands.{◌>>=◌, named, input, head_in, page_in, room_for, pages_of, longer, gather_done}
-use Rattle.input_core.specs.Inputs.{WhichFailed, IsBlamed, IsRead, AreRead, IsInput}
+use Rattle.outside_core.specs.Reads.{WhichFailed}
+use Rattle.input_core.specs.Inputs.{IsBlamed, IsRead, AreRead, IsInput}
 use Rattle.clubcard_top.specs.Gathers.{IsGatheredFrom, IsNotGathered}
 use Rattle.clubcard_top.specs.Replies.{done, refusal}
 use Rattle.clubcard_top.specs.Answering.{reply_fields}
 use Rattle.clubcard_top.specs.Runs.{BlamesFile, IsReply}
-use Rattle.input_core.proofs.FilesRead.{later_read, failed_later, none_failed, blamed_later}
+use Rattle.outside_core.proofs.Effects.{WhichFailed-then}
+use Rattle.input_core.proofs.FilesRead.{later_read, none_failed, blamed_later}
 use Rattle.clubcard_top.proofs.Replying.{read_well, blames_file, made, made_unless}
 use Rattle.clubcard_top.proofs.Rehearsal.{nothing, wider_all, read_both, some_reads, at_among}
 
@@ -265,7 +267,7 @@ module _ {D : Type 0} (d : Ghosts D) (old mid new : D) (reads_ : OnlyReads d old
 
   pages_read : (inputs : List (Option (List ℕ))) → First None → AreRead (d.files mid) Others f.pages inputs → AreRead (d.files old) All f.pages inputs
   pages_read inputs well read =
-      wider_all (d.files old) Others All f.pages inputs (failed_later d old mid new reads_ well)
+      wider_all (d.files old) Others All f.pages inputs (WhichFailed-then d old mid new reads_ well)
       (subst (λ (k : Option Files). AreRead k Others f.pages inputs) reads_.same_files read)
 
   step : (g : Option (List ℕ)) (inputs : List (Option (List ℕ))) (o : Result (List PageFields) NamedFault) → input_as head_in g ≡ Ok j → pages_of f.job (length j.entries) f.pages inputs ≡ o
@@ -285,7 +287,7 @@ module _ {D : Type 0} (d : Ghosts D) (old mid new : D) (reads_ : OnlyReads d old
       let well = none_failed First f.head faults.Unread j blamed in
       made (commands.Gather f) (d.files old) All (g ∷ n.inputs) (Err (record { name = name; fault = fault })) (Ok b)
       (read_well (d.files old) First All f.head head_in g j gives read, pages_read n.inputs well n.read)
-      (page_blamed Others All f.head f.pages (record { name = name; fault = fault }) (failed_later d old mid new reads_ well) n.blames)
+      (page_blamed Others All f.head f.pages (record { name = name; fault = fault }) (WhichFailed-then d old mid new reads_ well) n.blames)
       (step g n.inputs (Err (record { name = name; fault = fault })) gives n.makes) is
   gather_not name fault in_ refused (Err e) memory is = tt
 
@@ -297,5 +299,5 @@ module _ {D : Type 0} (d : Ghosts D) (old mid new : D) (reads_ : OnlyReads d old
       let well = none_failed First f.head faults.Unread j blamed in
       made (commands.Gather f) (d.files old) All (g ∷ n.inputs) (Ok (gather_done f j n.entries)) a
       (read_well (d.files old) First All f.head head_in g j gives read, pages_read n.inputs well n.read)
-      (failed_later d old mid new reads_ well None n.none_failed)
+      (WhichFailed-then d old mid new reads_ well None n.none_failed)
       (step g n.inputs (Ok n.entries) gives n.makes) (is n.entries n.opens)

@@ -16,13 +16,13 @@ use Rattle.input_core.specs.declared.fault.FileFault.{FileFault}
 use Rattle.input_core.specs.declared.fault.FileFault.TheVariants as faults
 use Rattle.clubcard_top.specs.ReplyFields.{ReplyFields, Done, NamedFault}
 use Rattle.clubcard_top.specs.Statuses.{is_one_of, of_replies}
-use Rattle.input_core.specs.Inputs.{Blames, AreRead}
+use Rattle.input_core.specs.Inputs.{AreRead}
 use Rattle.clubcard_top.specs.Commands.{Makes}
 use Rattle.clubcard_top.specs.Replies.{usage, refusal, reply_of, write_fault, IsReplyOver, IsReplyTo, held_by}
 use Rattle.clubcard_top.specs.Runs.{IsReply, KeepsAllBut, with_outputs}
 use Rattle.clubcard_top.proofs.Ways.{SentSo, EndsSo, Ends, Answers, Refuses}
-use Rattle.clubcard_top.specs.Calls.{Call, FilesAreTold, Writes, ChangesNoFile, HasRisen, NoFault}
-use Rattle.clubcard_top.specs.Endings.{Succeeds, Gives, WantedMemory, SinkFailed, PrintsOrFails, Sent, Torn, WhichFailedIn, IsAnswer}
+use Rattle.clubcard_top.specs.Calls.{Call, FilesAreTold, Writes, ChangesNoFile, HasRisen, Blames, WhichFailedIn, NoFault}
+use Rattle.clubcard_top.specs.Endings.{Succeeds, Gives, WantedMemory, SinkFailed, PrintsOrFails, Sent, Torn, IsAnswer}
 use Rattle.clubcard_top.specs.Endings.{GivesTheReply, Ends as EndsCall}
 use Rattle.clubcard_top.specs.Refusals.{Comes, Refused}
 use Rattle.clubcard_top.specs.Promises.{Ending, Outside, Refusals}

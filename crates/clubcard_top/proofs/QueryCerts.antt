@@ -15,14 +15,16 @@ use Rattle.input_core.specs.declared.fault.FileFault.{FileFault}
 use Rattle.input_core.specs.declared.fault.FileFault.TheVariants as faults
 use Rattle.input_core.specs.Readings.{store_in, input_as}
 use Rattle.input_core.specs.Certificates.{certificate_in, issuer_in}
-use Rattle.input_core.specs.Inputs.{WhichFailed, IsRead, IsInput}
+use Rattle.outside_core.specs.Reads.{WhichFailed}
+use Rattle.input_core.specs.Inputs.{IsRead, IsInput}
 use Rattle.clubcard_top.specs.ReplyFields.{Done, NamedFault}
 use Rattle.clubcard_top.specs.Commands.{◌>>=◌, named, input, query_cert_done}
 use Rattle.clubcard_top.specs.Replies.{done, refusal}
 use Rattle.clubcard_top.specs.Answering.{reply_fields}
 use Rattle.clubcard_top.specs.Runs.{IsReply}
 use Rattle.clubcard_top.proofs.Makings.{cert_last, cert_then, cert_after}
-use Rattle.input_core.proofs.FilesRead.{some_read, later_read, failed_later, none_failed, blamed_later}
+use Rattle.outside_core.proofs.Effects.{WhichFailed-then}
+use Rattle.input_core.proofs.FilesRead.{some_read, later_read, none_failed, blamed_later}
 use Rattle.clubcard_top.proofs.Replying.{read_well, blames_file, made, made_unless}
 
 -- ---- files that were read one after the other
@@ -60,7 +62,7 @@ module _ {D : Type 0} (g : Ghosts D) (old mid new : D) {A B : Type 0} (name : Li
   pub input_behind : (r : Result B FileFault) → OnlyReads g old mid → WhichFailed g old mid None → IsInput (g.files mid) (WhichFailed g mid new) name read view r
       → IsInput (g.files old) (WhichFailed g old new) name read view r
   input_behind r reads_ well (given, is_read, gives, blamed) =
-      let later = failed_later g old mid new reads_ well in (
+      let later = WhichFailed-then g old mid new reads_ well in (
         given,
         later_read (g.files old) (g.files mid) (WhichFailed g mid new) (WhichFailed g old new) name given reads_.same_files later is_read,
         gives,

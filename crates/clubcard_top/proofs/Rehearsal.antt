@@ -24,12 +24,14 @@ use Rattle.clubcard_top.specs.ReplyFields.{Done, NamedFault}
 use Rattle.input_core.specs.Readings.{queries_in, job_in, input_as}
 use Rattle.clubcard_top.specs.Commands.{named, input, report_behind, reports, rehearsed, verdict_line, IsRefused, MakesRehearsal}
 use Rattle.clubcard_top.specs.Steps.{RehearsesOn}
-use Rattle.input_core.specs.Inputs.{WhichFailed, IsBlamed, IsRead, AreRead, IsInput}
+use Rattle.outside_core.specs.Reads.{WhichFailed}
+use Rattle.input_core.specs.Inputs.{IsBlamed, IsRead, AreRead, IsInput}
 use Rattle.clubcard_top.specs.Rehearsals.{AddsJob, IsRehearsedFrom, IsRefusedFrom}
 use Rattle.clubcard_top.specs.Replies.{done, refusal}
 use Rattle.clubcard_top.specs.Answering.{reply_fields}
 use Rattle.clubcard_top.specs.Runs.{BlamesFile, IsReply}
-use Rattle.input_core.proofs.FilesRead.{some_read, later_read, failed_later, none_failed, blamed_later}
+use Rattle.outside_core.proofs.Effects.{WhichFailed-then}
+use Rattle.input_core.proofs.FilesRead.{some_read, later_read, none_failed, blamed_later}
 use Rattle.clubcard_top.proofs.Replying.{read_well, read_named, blames_file, made, made_unless}
 use Rattle.clubcard_top.proofs.Chains.{chain_push}
 use Rattle.clubcard_top.proofs.Prefixes.{first_of}
@@ -217,7 +219,7 @@ module _ {D : Type 0} (d : Ghosts D) (old mid new : D) (reads_ : OnlyReads d old
 
   jobs_read : (inputs : List (Option (List ℕ))) → First None → AreRead (d.files mid) Others r.jobs inputs → AreRead (d.files old) All r.jobs inputs
   jobs_read inputs well read =
-      wider_all (d.files old) Others All r.jobs inputs (failed_later d old mid new reads_ well)
+      wider_all (d.files old) Others All r.jobs inputs (WhichFailed-then d old mid new reads_ well)
       (subst (λ (f : Option Files). AreRead f Others r.jobs inputs) reads_.same_files read)
 
   step : (queries : List Query) (g : Option (List ℕ)) (inputs : List (Option (List ℕ))) (o : Result Done NamedFault) → input_as queries_in g ≡ Ok queries → RehearsesOn queries [] [] r.jobs inputs o
@@ -233,7 +235,7 @@ module _ {D : Type 0} (d : Ghosts D) (old mid new : D) (reads_ : OnlyReads d old
       let well = none_failed First r.queries faults.Unread x blamed in
       made (commands.Rehearse r) (d.files old) All (g ∷ f.inputs) (Err (record { name = name; fault = fault })) (Ok b)
       (read_well (d.files old) First All r.queries queries_in g (view x) gives read, jobs_read f.inputs well f.read)
-      (job_blamed Others All r.queries r.jobs (record { name = name; fault = fault }) (failed_later d old mid new reads_ well) f.blames)
+      (job_blamed Others All r.queries r.jobs (record { name = name; fault = fault }) (WhichFailed-then d old mid new reads_ well) f.blames)
       (step (view x) g f.inputs (Err (record { name = name; fault = fault })) gives (f.makes (view x))) is
   rehearse_not view x name fault in_ refused (Err e) memory is = tt
 
@@ -246,6 +248,6 @@ module _ {D : Type 0} (d : Ghosts D) (old mid new : D) (reads_ : OnlyReads d old
       let well = none_failed First r.queries faults.Unread x blamed in
       made (commands.Rehearse r) (d.files old) All (g ∷ f.inputs) (Ok (rehearsed (view x) f.jobs after.parts)) a
       (read_well (d.files old) First All r.queries queries_in g (view x) gives read, jobs_read f.inputs well f.read)
-      (failed_later d old mid new reads_ well None f.none_failed)
+      (WhichFailed-then d old mid new reads_ well None f.none_failed)
       (step (view x) g f.inputs (Ok (rehearsed (view x) f.jobs after.parts)) gives (f.makes (view x)))
       (subst (λ (t : List ℕ). IfOk a (λ y. reply_fields y ≡ done (record { text = t; outputs = [] }))) same_text is)

@@ -28,8 +28,10 @@ use Rattle.input_core.specs.declared.fault.FileFault.{FileFault}
 use Rattle.input_core.specs.declared.fault.FileFault.TheVariants as faults
 use Rattle.clubcard_top.specs.Faults.{of_publishing, of_rebasing}
 use Rattle.input_core.specs.Readings.{job_in, ledger_in, part_in, store_in, input_as}
-use Rattle.input_core.specs.Inputs.{WhichFailed, IsBlamed, IsRead, AreRead, IsInput}
-use Rattle.input_core.proofs.FilesRead.{some_read, later_read, failed_later, none_failed, blamed_later}
+use Rattle.outside_core.specs.Reads.{WhichFailed}
+use Rattle.input_core.specs.Inputs.{IsBlamed, IsRead, AreRead, IsInput}
+use Rattle.outside_core.proofs.Effects.{WhichFailed-then}
+use Rattle.input_core.proofs.FilesRead.{some_read, later_read, none_failed, blamed_later}
 use Rattle.clubcard_top.specs.ReplyFields.{ReplyFields, Done, NamedFault}
 use Rattle.clubcard_top.specs.Commands.{◌>>=◌, named, input, query_done, show_done, begun, installed, stored, publication_done, MakesPart, MakesSnapshot, MakesDelta, Makes}
 use Rattle.clubcard_top.specs.Rebasings.{base_done, MakesBase, MakesRebase}
@@ -244,7 +246,7 @@ module _ {D : Type 0} (g : Ghosts D) (old mid new : D) (reads_ : OnlyReads g old
   -- where the first was read well
   module _ {B : Type 0} (first : List ℕ) (x : B) (blamed : IsBlamed First first faults.Unread (Ok x)) where
     later : (which : Option (List ℕ)) → Second which → Both which
-    later which h = failed_later g old mid new reads_ (none_failed First first faults.Unread x blamed) which h
+    later which h = WhichFailed-then g old mid new reads_ (none_failed First first faults.Unread x blamed) which h
 
     both_read : {A : Type 0} (second : List ℕ) (read : List ℕ → Result A FileFault) (y : A) (given more : Option (List ℕ)) → input_as read given ≡ Ok y
         → IsRead (g.files old) First first given → IsRead (g.files mid) Second second more → AreRead (g.files old) Both (first ∷ second ∷ []) (given ∷ more ∷ [])

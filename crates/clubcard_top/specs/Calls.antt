@@ -1,7 +1,9 @@
 -- A call of the program: what it was asked, what it found, what it left, and which faults of the outside were counted.
-use Rattle.std.specs.Prelude.{◌≡◌, ℕ, List, map, string_bytes, Option, Some, Result, Ok, String}
+use Rattle.std.specs.Prelude.{◌≡◌, ℕ, List, [], ◌∷◌, ◌++◌, map, string_bytes, Option, None, Some, Result, Ok, String}
+use Rattle.std.specs.Option.{option_map}
 use Rattle.std.specs.FinMap.{get}
-use Rattle.outside_core.specs.Files.{Files, Rose, FailedRead}
+use Rattle.outside_core.specs.Files.{Files, Rose}
+use Rattle.outside_core.specs.Reads as reads
 use Rattle.outside_core.specs.Written.{followed_by}
 use Rattle.outside_core.specs.declared.depot.Depot as depots
 use Rattle.outside_core.specs.declared.sink.Sink as sinks
@@ -100,12 +102,19 @@ HasRisen count = Rose count.before count.after
 abbrev pub NoReadFailed : Call → Type 0
 NoReadFailed call = call.failed_reads.after ≡ call.failed_reads.before
 
--- The file of this name couldn't be read. A fault was counted, and the read that failed was of this name and the only
--- one; or files are told, the name isn't held, and no read failed.
+-- which read failed by these counts of faults and names of failed reads
+abbrev pub Blames : ℕ → ℕ → Option (List (List ℕ)) → Option (List (List ℕ)) → Option (List ℕ) → Type 0
+Blames faults faults_now failed failed_now None = failed_now ≡ failed
+Blames faults faults_now failed failed_now (Some name) =
+    Rose faults faults_now × (failed_now ≡ option_map (λ names. names ++ name ∷ []) failed)
+
+-- which read failed in the call and was counted
+abbrev pub WhichFailedIn : Call → Option (List ℕ) → Type 0
+WhichFailedIn call =
+    Blames call.read_faults.before call.read_faults.after call.failed_reads.before call.failed_reads.after
+
 abbrev pub CouldNotRead : Call → List ℕ → Type 0
-CouldNotRead call name =
-    FailedRead call.files_before name call.read_faults.before call.read_faults.after
-    call.failed_reads.before call.failed_reads.after
+CouldNotRead call = reads.CouldNotRead call.files_before (WhichFailedIn call)
 
 -- no read, no write and no printing failed
 pub record NoFault (call : Call) : Type 0 where

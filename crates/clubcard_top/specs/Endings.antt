@@ -6,9 +6,8 @@ use Rattle.word_core.specs.declared.command.Command.{Command}
 use Rattle.clubcard_top.specs.ReplyFields.{ReplyFields}
 use Rattle.clubcard_top.specs.Statuses as status
 use Rattle.clubcard_top.specs.Replies.{write_fault, IsReplyTo}
-use Rattle.input_core.specs.Inputs.{Blames}
 use Rattle.clubcard_top.specs.Runs.{IsReply, IsTorn}
-use Rattle.clubcard_top.specs.Calls.{Call, Found, Writes, ChangesNoFile, Prints, HasRisen, NoFault}
+use Rattle.clubcard_top.specs.Calls.{Call, Found, Writes, ChangesNoFile, Prints, HasRisen, WhichFailedIn, NoFault}
 
 -- ---- with a success
 
@@ -65,11 +64,6 @@ pub record Torn (call : Call) (reply : ReplyFields) (name : List ℕ) : Type 0 w
   pub printing : PrintsOrFails call (write_fault name)
 
 -- ---- in one of these ways
-
--- which read failed in the call and was counted
-abbrev pub WhichFailedIn : Call → Option (List ℕ) → Type 0
-WhichFailedIn call =
-    Blames call.read_faults.before call.read_faults.after call.failed_reads.before call.failed_reads.after
 
 -- The command's reply over its inputs as they were read: each gave what its file holds, or couldn't be read for a
 -- cause. It says which read failed, if one did.

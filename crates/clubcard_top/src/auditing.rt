@@ -10,7 +10,7 @@ ghost use Rattle.job_core.specs.JobMeaning.{kept_in};
 ghost use Rattle.universe_core.specs.Step.{bad_crl_from};
 ghost use Rattle.audit_core.specs.Checking.{truth_by};
 ghost use Rattle.word_core.specs.declared.command.Command.{Command};
-ghost use Rattle.input_core.specs.Inputs.{WhichFailed};
+ghost use Rattle.outside_core.specs.Reads.{WhichFailed};
 ghost use Rattle.clubcard_top.specs.Answering.{reply_fields};
 ghost use Rattle.clubcard_top.specs.Audits.{bad_crl as bad_crl_of, counted, of_audit, unless, MakesAudit};
 ghost use Rattle.clubcard_top.specs.AuditJobs.{AreAdded, AreCounted, AreNotAdded, IsAdded, IsNotAdded, IsReadable, NamesOneOf};

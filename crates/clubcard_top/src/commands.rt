@@ -6,7 +6,7 @@ ghost use Rattle.card_core.specs.Verdict.{verdict as verdict_of};
 ghost use Rattle.word_core.specs.declared.command.Command.{Command};
 ghost use Rattle.clubcard_top.specs.Answering.{reply_fields, scan_reply as reply_of_scan};
 ghost use Rattle.clubcard_top.specs.Replies.{refusal};
-ghost use Rattle.input_core.specs.Inputs.{WhichFailed};
+ghost use Rattle.outside_core.specs.Reads.{WhichFailed};
 ghost use Rattle.clubcard_top.specs.Runs.{IsReply};
 
 use crate::answer::Answer;

@@ -9,7 +9,7 @@ ghost use Rattle.clubcard_top.specs.Commands.{begun as begun_with, epoch_of, ins
 ghost use Rattle.clubcard_top.specs.Commands.{stored as stored_as};
 ghost use Rattle.clubcard_top.specs.Answering.{reply_fields};
 ghost use Rattle.clubcard_top.specs.Replies.{done};
-ghost use Rattle.input_core.specs.Inputs.{WhichFailed};
+ghost use Rattle.outside_core.specs.Reads.{WhichFailed};
 ghost use Rattle.clubcard_top.specs.Runs.{IsReply};
 
 use crate::answer::Answer;

@@ -5,7 +5,7 @@ ghost use Rattle.outside_core.specs.Effects.{OnlyReads};
 ghost use Rattle.word_core.specs.Names.{outputs_of};
 ghost use Rattle.word_core.specs.Words.{command_of};
 ghost use Rattle.clubcard_top.specs.Answering.{reply_fields};
-ghost use Rattle.input_core.specs.Inputs.{WhichFailed};
+ghost use Rattle.outside_core.specs.Reads.{WhichFailed};
 ghost use Rattle.clubcard_top.specs.Runs.{IsReply};
 ghost use Rattle.clubcard_top.specs.Statuses as statuses;
 ghost use Rattle.clubcard_top.specs.Calls.{call, call_of};

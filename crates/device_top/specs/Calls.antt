@@ -4,7 +4,7 @@ use Rattle.outside_core.specs.Files.{Files, Rose}
 use Rattle.outside_core.specs.Written.{followed_by, CutShort}
 use Rattle.outside_core.specs.declared.depot.Depot as depots
 use Rattle.outside_core.specs.declared.sink.Sink as sinks
-use Rattle.input_core.specs.Inputs.{WhichFailed}
+use Rattle.outside_core.specs.Reads.{WhichFailed}
 use Rattle.line_core.specs.Statuses as status
 use Rattle.slot_core.specs.Disk.{DiskState}
 use Rattle.word_core.specs.Devices.{device_command_of}

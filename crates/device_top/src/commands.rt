@@ -10,7 +10,7 @@ ghost use Rattle.store_core.specs.declared.chain.Refusal.{Refusal};
 ghost use Rattle.store_core.specs.Chain.{newest_of, refusal_of};
 ghost use Rattle.store_core.specs.StoreLayout.{store_text};
 ghost use Rattle.card_core.specs.Verdict.{verdict as verdict_of};
-ghost use Rattle.input_core.specs.Inputs.{WhichFailed};
+ghost use Rattle.outside_core.specs.Reads.{WhichFailed};
 ghost use Rattle.word_core.specs.declared.device.DeviceCommand.TheVariants as commands;
 ghost use Rattle.device_top.specs.Outcomes.{epoch_of, formats, replaced as replaced_by, stored as stored_as};
 ghost use Rattle.device_top.specs.Comes.{Comes, Queried};

@@ -3,7 +3,7 @@
 ghost use Rattle.std.specs.Prelude.{◌≡◌, ◌≤◌, List, ℕ, Some, IfOk, OnErr, map, string_bytes};
 ghost use Rattle.outside_core.specs.Effects.{OnlyReads};
 ghost use Rattle.slot_core.specs.Disk.{Quiet};
-ghost use Rattle.input_core.specs.Inputs.{WhichFailed};
+ghost use Rattle.outside_core.specs.Reads.{WhichFailed};
 ghost use Rattle.word_core.specs.DeviceFields.{InstallPartFields};
 ghost use Rattle.word_core.specs.CommandFields.{QueryFields};
 ghost use Rattle.word_core.specs.Devices.{device_command_of};

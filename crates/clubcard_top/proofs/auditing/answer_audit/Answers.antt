@@ -1,6 +1,6 @@
 use Rattle.std.proofs.Common.{List}
 use Rattle.part_text.specs.SealedFields.{SealedFields}
-use Rattle.input_core.specs.Inputs.{WhichFailed}
+use Rattle.outside_core.specs.Reads.{WhichFailed}
 use Rattle.clubcard_top.proofs.AuditReplies.{audit_refused, audit_not, audit_made}
 use Rattle.clubcard_top.proofs.auditing.answer_audit.Goals as goal
 

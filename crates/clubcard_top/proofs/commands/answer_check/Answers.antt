@@ -1,4 +1,4 @@
-use Rattle.input_core.specs.Inputs.{WhichFailed}
+use Rattle.outside_core.specs.Reads.{WhichFailed}
 use Rattle.clubcard_top.proofs.Checked.{check_scanned}
 use Rattle.clubcard_top.proofs.commands.answer_check.Goals as goal
 

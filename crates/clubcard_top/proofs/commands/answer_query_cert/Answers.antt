@@ -2,7 +2,7 @@ use Rattle.std.proofs.Common.{Ok, Err}
 use Rattle.clubcard_top.specs.declared.answer.Answer.TheVariants as answers
 use Rattle.input_core.specs.Readings.{store_in}
 use Rattle.input_core.specs.Certificates.{certificate_in, issuer_in}
-use Rattle.input_core.specs.Inputs.{WhichFailed}
+use Rattle.outside_core.specs.Reads.{WhichFailed}
 use Rattle.clubcard_top.proofs.QueryCerts.{both_only, well_before, none_before, input_behind, no_store, no_cert, no_issuer, query_cert_made}
 use Rattle.clubcard_top.proofs.commands.answer_query_cert.Goals as goal
 

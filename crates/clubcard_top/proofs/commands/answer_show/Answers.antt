@@ -1,6 +1,6 @@
 use Rattle.std.proofs.Common.{Ok, refl}
 use Rattle.clubcard_top.specs.declared.answer.Answer.TheVariants as answers
-use Rattle.input_core.specs.Inputs.{WhichFailed}
+use Rattle.outside_core.specs.Reads.{WhichFailed}
 use Rattle.clubcard_top.proofs.Replying.{show_made, show_refused}
 use Rattle.clubcard_top.proofs.commands.answer_show.Goals as goal
 

@@ -1,6 +1,6 @@
 use Rattle.std.proofs.Common.{◌∙◌}
 use Rattle.job_core.specs.JobText.{JobContents}
-use Rattle.input_core.specs.Inputs.{WhichFailed}
+use Rattle.outside_core.specs.Reads.{WhichFailed}
 use Rattle.clubcard_top.proofs.PagesPut.{fewer-before, gather_refused, gather_made, gather_not}
 use Rattle.clubcard_top.proofs.gathering.answer_gather.Goals as goal
 

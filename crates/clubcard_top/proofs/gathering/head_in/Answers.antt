@@ -3,7 +3,7 @@ use Rattle.std.proofs.lemmas.Result.{err_from_is_err_and}
 use Rattle.job_core.specs.declared.fault.JobFault.TheVariants as job
 use Rattle.job_core.specs.JobText.{JobContents}
 use Rattle.input_core.specs.Faults.{of_job}
-use Rattle.input_core.specs.Inputs.{WhichFailed}
+use Rattle.outside_core.specs.Reads.{WhichFailed}
 use Rattle.input_core.proofs.FilesRead.{input_err, input_whole, faulted_err}
 use Rattle.input_core.proofs.Reading.{all_of}
 use Rattle.clubcard_top.specs.Commands.{head_in}

@@ -6,7 +6,7 @@ use Rattle.gather_core.specs.declared.page.TheConstants.{MAX_PAGE}
 use Rattle.gather_core.specs.Pages.{fields_of}
 use Rattle.input_core.specs.declared.fault.FileFault.TheVariants as faults
 use Rattle.input_core.specs.Faults.{of_page}
-use Rattle.input_core.specs.Inputs.{WhichFailed}
+use Rattle.outside_core.specs.Reads.{WhichFailed}
 use Rattle.input_core.proofs.FilesRead.{input_err, input_front, faulted_ok, faulted_err}
 use Rattle.clubcard_top.specs.Commands.{page_in}
 use Rattle.clubcard_top.proofs.PagesRead.{page_front, page_long, page_short}

@@ -1,8 +1,9 @@
 use Rattle.std.proofs.Common.{map, refl, ◌∙◌, arith}
 use Rattle.outside_core.specs.Effects.{OnlyReads}
 use Rattle.gather_core.specs.Pages.{fields_of}
-use Rattle.input_core.specs.Inputs.{WhichFailed}
-use Rattle.input_core.proofs.FilesRead.{failed_later, none_failed}
+use Rattle.outside_core.specs.Reads.{WhichFailed}
+use Rattle.outside_core.proofs.Effects.{WhichFailed-then}
+use Rattle.input_core.proofs.FilesRead.{none_failed}
 use Rattle.clubcard_top.proofs.PagesPut.{none_gone, gone_more, gone_refused, gone_full, gone_all, puts_as, full_as}
 use Rattle.clubcard_top.proofs.gathering.put_pages.Goals as goal
 
@@ -28,7 +29,7 @@ returns-in-Err-clause-refused g c = rw c.as_str-name.ensures (λ differ j opens.
     gone_refused (g.D.Depot.files c.args.depot.now) c.args.gather.now j (WhichFailed g.D.Depot c.loop-file.depot c.page_in.new.depot) (g.D.Depot.files c.loop-file.depot)
     c.loop-file.invariant.same_files c.loop-file.file-index c.file-item.result lt at c.loop-file.job (c.loop-file.invariant.gone j opens) given read
     (WhichFailed g.D.Depot c.args.depot.now c.page_in.new.depot) c.in-Err.fault
-    (failed_later g.D.Depot c.args.depot.now c.loop-file.depot c.page_in.new.depot reads c.loop-file.invariant.none_failed) blamed (gives differ))
+    (WhichFailed-then g.D.Depot c.args.depot.now c.loop-file.depot c.page_in.new.depot reads c.loop-file.invariant.none_failed) blamed (gives differ))
 
 pub loop-file-preserved : goal.loop-file-preserved
 loop-file-preserved g c =
@@ -67,6 +68,6 @@ returns-in-Err-put_page-clause-refused g c = rw c.job.ensures (λ differ j opens
     gone_full (g.D.Depot.files c.args.depot.now) c.args.gather.now j (WhichFailed g.D.Depot c.loop-file.depot c.page_in.new.depot) (g.D.Depot.files c.loop-file.depot)
     c.loop-file.invariant.same_files c.loop-file.file-index c.file-item.result lt at c.loop-file.job (c.loop-file.invariant.gone j opens) given read
     (WhichFailed g.D.Depot c.args.depot.now c.page_in.new.depot) (map fields_of c.in-Ok.page.items) c.in-Err-put_page.fault
-    (failed_later g.D.Depot c.args.depot.now c.loop-file.depot c.page_in.new.depot reads c.loop-file.invariant.none_failed)
+    (WhichFailed-then g.D.Depot c.args.depot.now c.loop-file.depot c.page_in.new.depot reads c.loop-file.invariant.none_failed)
     (none_failed (WhichFailed g.D.Depot c.loop-file.depot c.page_in.new.depot) _ _ _ blamed ∙ c.loop-file.invariant.none_failed) gives f.0
     (full_as c.loop-file.job c.in-Ok.page.items f.1))

@@ -1,7 +1,7 @@
 use Rattle.std.proofs.Common.{◌≡◌, ◌≤◌, None}
 use Rattle.job_core.specs.JobText.{JobContents}
 use Rattle.extend_core.specs.Opened.{Opens}
-use Rattle.input_core.specs.Inputs.{WhichFailed}
+use Rattle.outside_core.specs.Reads.{WhichFailed}
 use Rattle.clubcard_top.proofs.PagesPut.{Gone}
 use Rattle.clubcard_top.proofs.gathering.put_pages.Given as goal
 

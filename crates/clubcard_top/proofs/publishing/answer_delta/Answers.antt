@@ -1,5 +1,5 @@
 use Rattle.job_core.specs.JobFields.{fields_of_job}
-use Rattle.input_core.specs.Inputs.{WhichFailed}
+use Rattle.outside_core.specs.Reads.{WhichFailed}
 use Rattle.clubcard_top.proofs.Replying.{delta_made, delta_refused, delta_no_ledger, delta_not}
 use Rattle.clubcard_top.proofs.publishing.answer_delta.Goals as goal
 

@@ -1,5 +1,5 @@
 use Rattle.job_core.specs.JobFields.{fields_of_job}
-use Rattle.input_core.specs.Inputs.{WhichFailed}
+use Rattle.outside_core.specs.Reads.{WhichFailed}
 use Rattle.clubcard_top.proofs.Replying.{snapshot_made, snapshot_refused, snapshot_not}
 use Rattle.clubcard_top.proofs.publishing.answer_snapshot.Goals as goal
 

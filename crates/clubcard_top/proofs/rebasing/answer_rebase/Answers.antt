@@ -1,6 +1,6 @@
 use Rattle.std.proofs.Common.{ℕ, List, Err, subst}
 use Rattle.publication_core.specs.Rebasing.{PublishesBaseUnless}
-use Rattle.input_core.specs.Inputs.{WhichFailed}
+use Rattle.outside_core.specs.Reads.{WhichFailed}
 use Rattle.clubcard_top.proofs.Replying.{rebase_made, rebase_refused, rebase_not}
 use Rattle.clubcard_top.proofs.rebasing.answer_rebase.Goals as goal
 

@@ -2,7 +2,7 @@ use Rattle.std.proofs.Common.{map, Ok, Vec, Global, refl}
 use Rattle.query_core.specs.declared.query.Asked.{Asked}
 use Rattle.query_core.specs.Queries.{as_query}
 use Rattle.clubcard_top.specs.declared.answer.Answer.TheVariants as answers
-use Rattle.input_core.specs.Inputs.{WhichFailed}
+use Rattle.outside_core.specs.Reads.{WhichFailed}
 use Rattle.clubcard_top.proofs.Rehearsal.{rehearse_refused, rehearse_made, rehearse_not}
 use Rattle.clubcard_top.proofs.rehearsing.answer_rehearse.Goals as goal
 

@@ -1,8 +1,9 @@
 use Rattle.std.proofs.Common.{arith, refl, ap, ◌∙◌}
 use Rattle.outside_core.specs.Effects.{OnlyReads}
 use Rattle.rehearsal_core.specs.Rehearsing.{RehearsalFields}
-use Rattle.input_core.specs.Inputs.{WhichFailed}
-use Rattle.input_core.proofs.FilesRead.{failed_later, none_failed}
+use Rattle.outside_core.specs.Reads.{WhichFailed}
+use Rattle.outside_core.proofs.Effects.{WhichFailed-then}
+use Rattle.input_core.proofs.FilesRead.{none_failed}
 use Rattle.clubcard_top.proofs.Rehearsal.{none_gone, gone_more, gone_refused, gone_all}
 use Rattle.clubcard_top.proofs.rehearsing.with_files.Goals as goal
 
@@ -29,7 +30,7 @@ returns-in-Err-clause-refused g c = λ differ.
     c.loop-file.invariant.same_files c.loop-file.file-index c.file-item.result
     c.loop-file-test.true c.file-item.is c.loop-file.rehearsal c.loop-file.text.items c.loop-file.invariant.gone f.0 f.1
     (WhichFailed g.D.Depot c.args.depot.now c.with_file.new.depot) c.in-Err.fault
-    (failed_later g.D.Depot c.args.depot.now c.loop-file.depot c.with_file.new.depot reads c.loop-file.invariant.none_failed) blamed f.2)
+    (WhichFailed-then g.D.Depot c.args.depot.now c.loop-file.depot c.with_file.new.depot reads c.loop-file.invariant.none_failed) blamed f.2)
 
 pub loop-file-preserved : goal.loop-file-preserved
 loop-file-preserved g c =

@@ -1,4 +1,4 @@
-use Rattle.input_core.specs.Inputs.{WhichFailed}
+use Rattle.outside_core.specs.Reads.{WhichFailed}
 use Rattle.clubcard_top.proofs.Replying.{install_made, install_refused, install_no_part, install_not}
 use Rattle.clubcard_top.proofs.storing.answer_install.Goals as goal
 

@@ -1,4 +1,4 @@
-use Rattle.input_core.specs.Inputs.{WhichFailed}
+use Rattle.outside_core.specs.Reads.{WhichFailed}
 use Rattle.clubcard_top.proofs.Replying.{start_made, start_refused, start_not}
 use Rattle.clubcard_top.proofs.storing.answer_start.Goals as goal
 

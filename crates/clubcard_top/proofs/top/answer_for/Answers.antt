@@ -1,6 +1,6 @@
 use Rattle.std.proofs.Common.{[], Ok, refl}
 use Rattle.word_core.specs.declared.command.Command.TheVariants as commands
-use Rattle.input_core.specs.Inputs.{WhichFailed}
+use Rattle.outside_core.specs.Reads.{WhichFailed}
 use Rattle.clubcard_top.specs.Commands.{sample_done}
 use Rattle.clubcard_top.proofs.Replying.{made}
 use Rattle.clubcard_top.proofs.top.answer_for.Goals as goal

@@ -1,6 +1,6 @@
 use Rattle.std.proofs.Common.{◌∙◌}
 use Rattle.word_core.specs.Names.{outputs_of}
-use Rattle.input_core.specs.Inputs.{WhichFailed}
+use Rattle.outside_core.specs.Reads.{WhichFailed}
 use Rattle.clubcard_top.specs.Answering.{reply_fields}
 use Rattle.clubcard_top.proofs.Endings.{named, unwritten, not_memory}
 use Rattle.std.proofs.Common.{inr}

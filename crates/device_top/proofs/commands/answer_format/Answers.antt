@@ -1,6 +1,6 @@
 use Rattle.std.proofs.Common.{List, Ok, refl}
 use Rattle.part_text.specs.SealedFields.{SealedFields}
-use Rattle.input_core.specs.Inputs.{WhichFailed}
+use Rattle.outside_core.specs.Reads.{WhichFailed}
 use Rattle.input_core.proofs.Reading.{all_of}
 use Rattle.device_top.proofs.Answering.{bad_store, good_store, no_store}
 use Rattle.device_top.proofs.commands.answer_format.Goals as goal

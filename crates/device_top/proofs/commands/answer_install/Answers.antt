@@ -1,6 +1,6 @@
 use Rattle.std.proofs.Common.{ℕ, refl}
 use Rattle.part_text.specs.SealedFields.{SealedFields}
-use Rattle.input_core.specs.Inputs.{WhichFailed}
+use Rattle.outside_core.specs.Reads.{WhichFailed}
 use Rattle.input_core.specs.Readings.{input_as, part_in}
 use Rattle.device_top.specs.Outcomes.{install_outcome}
 use Rattle.device_top.specs.Comes.{OfFile}

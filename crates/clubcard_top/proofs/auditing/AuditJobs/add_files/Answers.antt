@@ -1,7 +1,7 @@
 use Rattle.std.proofs.Common.{◌∙◌, arith}
 use Rattle.outside_core.specs.Effects.{OnlyReads}
-use Rattle.input_core.specs.Inputs.{WhichFailed}
-use Rattle.input_core.proofs.FilesRead.{failed_later}
+use Rattle.outside_core.specs.Reads.{WhichFailed}
+use Rattle.outside_core.proofs.Effects.{WhichFailed-then}
 use Rattle.clubcard_top.proofs.AuditReplies.{gone_more, gone_refused, gone_all}
 use Rattle.clubcard_top.proofs.auditing.AuditJobs.add_files.Goals as goal
 
@@ -15,7 +15,7 @@ returns-in-Err-clause-refused g c = rw c.as_str-name.ensures (λ differ.
     gone_refused (g.D.Depot.files c.args.depot.now) c.args.names.now (WhichFailed g.D.Depot c.loop-file.depot c.add_file.new.depot) (g.D.Depot.files c.loop-file.depot)
     c.loop-file.invariant.same_files c.loop-file.file-index c.file-item.result c.loop-file-test.true c.file-item.is c.loop-file.self c.loop-file.invariant.gone
     (WhichFailed g.D.Depot c.args.depot.now c.add_file.new.depot) c.in-Err.fault
-    (failed_later g.D.Depot c.args.depot.now c.loop-file.depot c.add_file.new.depot reads c.loop-file.invariant.none_failed)
+    (WhichFailed-then g.D.Depot c.args.depot.now c.loop-file.depot c.add_file.new.depot reads c.loop-file.invariant.none_failed)
     (rw c.as_str-name.ensures at (c.in-Err.ensures.refused differ)))
 
 pub loop-file-preserved : goal.loop-file-preserved

@@ -1,5 +1,5 @@
 use Rattle.std.proofs.Common.{◌≡◌, ◌≤◌, None}
-use Rattle.input_core.specs.Inputs.{WhichFailed}
+use Rattle.outside_core.specs.Reads.{WhichFailed}
 use Rattle.clubcard_top.proofs.AuditReplies.{Gone}
 use Rattle.clubcard_top.proofs.auditing.AuditJobs.add_files.Given as goal
 
