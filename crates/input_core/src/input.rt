@@ -1,13 +1,15 @@
 //! Files that are taken into memory, up to a limit.
 
-ghost use Rattle.std.specs.Prelude.{◌≡◌, ◌≤◌, ◌⊎◌, ◌+◌, ◌++◌, length, take, drop, IfOk, OnOk, IsErrOf, vec_len};
-ghost use Rattle.outside_core.specs.Reads.{ReadFailed};
+ghost use Rattle.std.specs.Prelude.{◌≡◌, ◌≤◌, ◌⊎◌, ◌+◌, take, IfOk, IsErrOf, vec_len};
 ghost use Rattle.outside_core.specs.Effects.{OnlyReads};
-ghost use Rattle.input_core.specs.Inputs.{WhereHeld, IsHeld};
+ghost use Rattle.outside_core.specs.Filling.{IsInOrder};
+ghost use Rattle.outside_core.specs.Reads.{ReadFailed};
+ghost use Rattle.outside_core.specs.Standing.{reference_of, depot_of, name_of, place_of};
+ghost use Rattle.input_core.specs.Inputs.{IsHeld};
 
 use crate::fault::FileFault;
-use outside_core::{Depot, Failed};
-use std::alloc::{AllocError, Global};
+use outside_core::{Depot, Feed};
+use std::alloc::Global;
 
 /// Why a file could not be taken.
 #[derive(Clone, Copy, Debug, PartialEq, Eq)]
@@ -32,77 +34,58 @@ impl From<InputFault> for FileFault {
     }
 }
 
-/// The most bytes that one read asks for: few reads of a long file.
-const PIECE: usize = 65_536;
-
-/// Reads the next piece of a file behind the bytes that were read, up to the limit and one more, and answers how many
-/// bytes came: none only at the end of the file.
-fn read_piece<D: Depot>(
-    depot: &mut D,
-    name: &str,
-    bytes: &mut Vec<u8>,
-    limit: usize,
-) -> Result<usize, InputFault>
-    requires { vec_len bytes.old ≤ limit }
-    ensures len { IfOk result (λ n. vec_len bytes.new ≡ vec_len bytes.old + n) }
-    ensures bound { IfOk result (λ n. vec_len bytes.new ≤ limit + 1) }
-    ensures piece { IfOk result (λ n. IsHeld (D.files depot.old) name.now (λ file.
-        (bytes.new.items ≡ bytes.old.items ++ take n (drop (vec_len bytes.old) file))
-        × (n ≡ 0 → length file ≤ vec_len bytes.old))) }
-    ensures failed { IsErrOf result InputFault.Failed → ReadFailed D.Depot name.now depot.old depot.new }
-    ensures unblamed { IsErrOf result InputFault.Failed ⊎ (D.failed_reads depot.new ≡ D.failed_reads depot.old) }
-    ensures only_reads { OnlyReads D.Depot depot.old depot.new }
-{
-    let mut buffer = [0u8; PIECE];
-    let asked = (limit - bytes.len()).min(PIECE - 1) + 1;
-    let window = &mut buffer[..asked];
-    let n = match depot.read_at(name, bytes.len() as u64, window) {
-        Ok(n) => n,
-        Err(Failed) => return Err(InputFault::Failed),
-    };
-    match bytes.extend_from_slice(&window[..n]) {
-        Ok(()) => Ok(n),
-        Err(AllocError) => Err(InputFault::NoMemory),
-    }
-}
-
-/// Takes the bytes of a file behind none, up to the limit and one more.
-fn read_on<D: Depot>(
-    depot: &mut D,
-    name: &str,
-    taken: Vec<u8>,
+/// Takes the bytes of the feed's file: all of them, or as many as the limit and one more.
+fn fed_up_to<D: Depot>(
+    alloc: Global,
+    feed: &mut Feed<'_, D>,
     limit: usize,
 ) -> Result<Vec<u8>, InputFault>
-    requires { vec_len taken ≡ 0 }
-    ensures bytes { IfOk result (λ bytes. IsHeld (D.files depot.old) name.now (λ file. bytes.items ≡ take (limit + 1) file)) }
+    requires place { place_of feed.old ≡ 0 }
+    requires in_order { IsInOrder D.Depot feed.old }
+    ensures bytes { IfOk result (λ bytes. IsHeld (D.files (depot_of feed.old)) (name_of feed.old)
+        (λ file. bytes.items ≡ take (limit + 1) file)) }
     ensures bound { IfOk result (λ bytes. vec_len bytes ≤ limit + 1) }
-    ensures failed { IsErrOf result InputFault.Failed → ReadFailed D.Depot name.now depot.old depot.new }
-    ensures unblamed { IsErrOf result InputFault.Failed ⊎ (D.failed_reads depot.new ≡ D.failed_reads depot.old) }
-    ensures only_reads { OnlyReads D.Depot depot.old depot.new }
+    ensures failed { IsErrOf result InputFault.Failed
+        → ReadFailed D.Depot (name_of feed.old) (depot_of feed.old) (depot_of feed.new) }
+    ensures unblamed { IsErrOf result InputFault.Failed
+        ⊎ (D.failed_reads (depot_of feed.new) ≡ D.failed_reads (depot_of feed.old)) }
+    ensures same_reference { reference_of feed.new ≡ reference_of feed.old }
+    ensures only_reads { OnlyReads D.Depot (depot_of feed.old) (depot_of feed.new) }
 {
-    let mut bytes = taken;
-    loop {
-        let n = read_piece(depot, name, &mut bytes, limit)?;
-        if n == 0 || bytes.len() > limit {
+    let mut bytes = Vec::new(alloc);
+    'pieces: while bytes.len() <= limit {
+        let Ok(()) = feed.refill() else {
+            return Err(InputFault::Failed);
+        };
+        let ready = feed.buffered();
+        if ready.is_empty() {
             return Ok(bytes);
         }
+        let count = (limit - bytes.len()).min(ready.len() - 1) + 1;
+        let Ok(()) = bytes.extend_from_slice(&ready[..count]) else {
+            return Err(InputFault::NoMemory);
+        };
+        feed.take(count);
     }
+    Ok(bytes)
 }
 
 /// Takes the bytes of a file: all of them, or as many as the limit and one more, which show that there are more than
-/// the limit. No byte behind these is asked for. The length of a file isn't known before its end, so room is taken as
-/// the bytes come.
+/// the limit. Whole pieces are read, so up to 4,095 bytes behind these may be read too, and aren't kept. The length of
+/// a file isn't known before its end, so room is taken as the bytes come.
 pub fn read_up_to<D: Depot>(
     alloc: Global,
     depot: &mut D,
     name: &str,
     limit: usize,
 ) -> Result<Vec<u8>, InputFault>
-    ensures bytes { IfOk result (λ bytes. IsHeld (D.files depot.old) name.now (λ file. bytes.items ≡ take (limit + 1) file)) }
+    ensures bytes { IfOk result (λ bytes. IsHeld (D.files depot.old) name.now
+        (λ file. bytes.items ≡ take (limit + 1) file)) }
     ensures bound { IfOk result (λ bytes. vec_len bytes ≤ limit + 1) }
     ensures failed { IsErrOf result InputFault.Failed → ReadFailed D.Depot name.now depot.old depot.new }
     ensures unblamed { IsErrOf result InputFault.Failed ⊎ (D.failed_reads depot.new ≡ D.failed_reads depot.old) }
     ensures only_reads { OnlyReads D.Depot depot.old depot.new }
 {
-    read_on(depot, name, Vec::new(alloc), limit)
+    let mut feed = Feed::new(depot, name);
+    fed_up_to(alloc, &mut feed, limit)
 }
