@@ -6,6 +6,7 @@ use Rattle.std.proofs.lemmas.Bool.Decides.{nat_tests}
 use Rattle.std.proofs.lemmas.List.{append-nil, take-append-drop, length-take, length-drop, nil_from_length}
 use Rattle.octets_core.specs.Layout.{with_fault}
 use Rattle.octets_core.specs.Reading.{fault_at}
+use Rattle.octets_core.specs.declared.fault.LayoutFault.{LayoutFault}
 use Rattle.octets_core.specs.declared.field.Field.TheVariants as fields
 use Rattle.octets_core.specs.declared.fault.Why.TheVariants as why
 use Rattle.outside_core.specs.Files.{Files}
@@ -94,6 +95,13 @@ some-more old new w from at n to (b, st, place) le is more =
 pub offset-within : (f : PartFault) (b : List ℕ) → (f ≢ of.NoMemory → part b 0 ≡ Err f) → offset_in (of_part f) ≤ length b
 offset-within of.NoMemory b h = omega arith
 offset-within (of.Layout f) b h = at-of b (Err (of.Layout f)) h
+
+-- a fault of the layout is no want of memory
+pub layout_not_memory : (f : LayoutFault) → faults.Layout f ≢ faults.NoMemory
+layout_not_memory f h = let k : ◌≡◌ {A = FileFault} (faults.Layout f) faults.NoMemory = h in cc
+
+pub part_not_memory : (e : PartFault) (f : LayoutFault) → e ≡ of.Layout f → of_part e ≢ faults.NoMemory
+part_not_memory e f is = rw is (layout_not_memory f)
 
 fits-by : (k : Option PartFault) (f : PartFault) (reader : PartReader) (b w : List ℕ) (from at : ℕ) → reader.fault ≡ k → ReadsFor reader b → at ≡ from + length b → at < 2 ^ 64 → from ≤ 2 ^ 63
     → length w ≤ 4096 → (f ≢ of.NoMemory → (b x : List ℕ) → ReadsFor reader b → part (b ++ w ++ x) 0 ≡ Err f)
@@ -280,7 +288,7 @@ part_more bytes s n lt is = let test : nat_lt n (length bytes) ≡ true = grind 
 pub memory_or_not : (e : FileFault) → (e ≡ faults.NoMemory) ⊎ (e ≢ faults.NoMemory)
 memory_or_not faults.NoMemory = inl refl
 memory_or_not faults.Unread = inr (λ h. let k : ◌≡◌ {A = FileFault} faults.Unread faults.NoMemory = h in cc)
-memory_or_not (faults.Layout f) = inr (λ h. let k : ◌≡◌ {A = FileFault} (faults.Layout f) faults.NoMemory = h in cc)
+memory_or_not (faults.Layout f) = inr (layout_not_memory f)
 memory_or_not faults.NotSnapshot = inr (λ h. let k : ◌≡◌ {A = FileFault} faults.NotSnapshot faults.NoMemory = h in cc)
 memory_or_not (faults.Chain why) = inr (λ h. let k : ◌≡◌ {A = FileFault} (faults.Chain why) faults.NoMemory = h in cc)
 memory_or_not (faults.BadCrl place fault) = inr (λ h. let k : ◌≡◌ {A = FileFault} (faults.BadCrl place fault) faults.NoMemory = h in cc)

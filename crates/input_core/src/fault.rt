@@ -41,7 +41,8 @@ pub enum FileFault {
     BadCert(CertFault),
     /// A page of a log isn't read, for this item of it.
     BadPage(PageFault),
-    /// A store doesn't say the truth of an entry that a job accepts. The jobs and the entries of each are counted from 0.
+    /// A store doesn't say the truth of an entry that a job accepts. The jobs and the entries of each are counted from
+    /// 0.
     Disagrees {
         job: u32,
         entry: u32,

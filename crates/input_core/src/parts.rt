@@ -1,6 +1,7 @@
 //! Parts that are read as they come from a feed, of which no more is held than what was read.
 
-ghost use Rattle.std.specs.Prelude.{◌≡◌, ◌≢◌, ◌≤◌, ◌<◌, ◌+◌, ◌^◌, ◌++◌, ℕ, List, length, Some, Ok, Err, IfOk, OnOk, IfErr};
+ghost use Rattle.std.specs.Prelude.{◌≡◌, ◌≢◌, ◌≤◌, ◌<◌, ◌+◌, ◌^◌, ◌++◌, ℕ, List, length, None, Some, Ok, Err};
+ghost use Rattle.std.specs.Prelude.{IfOk, OnOk, IfErr};
 ghost use Rattle.octets_core.specs.Layout.{with_fault};
 ghost use Rattle.outside_core.specs.Effects.{OnlyReads};
 ghost use Rattle.outside_core.specs.Filling.{IsInOrder};
@@ -28,6 +29,8 @@ fn finished(reader: PartReader, ended: bool) -> Result<(Sealed, bool), FileFault
     ensures err { IfErr result (λ e. e ≢ FileFault.NoMemory → (b : List ℕ) → ReadsFor reader b
         → with_fault of_part (part b 0) ≡ Err e) }
     ensures again { (f : PartFault) → reader.fault ≡ Some f → result ≡ Err (of_part f) }
+    // It takes no memory: a reader that has met no fault ends with one of the layout.
+    ensures memory { IfErr result (λ e. reader.fault ≡ None → e ≢ FileFault.NoMemory) }
     ensures offset { IfErr result (λ e. (b : List ℕ) → ReadsFor reader b → offset_in e ≤ length b) }
 {
     let sealed = reader.finish()?;
@@ -77,8 +80,8 @@ pub fn next_part<D: Depot>(
 /// Nothing where the feed's file ends where the feed stands; else a byte that is there is a fault.
 pub fn test_end<D: Depot>(feed: &mut Feed<'_, D>) -> Result<(), FileFault>
     requires in_order { IsInOrder D.Depot feed.old }
-    ensures comes { ComesOfEnd (D.files (depot_of feed.old)) (WhichFailed D.Depot (depot_of feed.old) (depot_of feed.new))
-        (name_of feed.old) (place_of feed.old) result }
+    ensures comes { ComesOfEnd (D.files (depot_of feed.old))
+        (WhichFailed D.Depot (depot_of feed.old) (depot_of feed.new)) (name_of feed.old) (place_of feed.old) result }
     ensures same_reference { reference_of feed.new ≡ reference_of feed.old }
     ensures only_reads { OnlyReads D.Depot (depot_of feed.old) (depot_of feed.new) }
 {

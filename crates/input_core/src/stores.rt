@@ -1,6 +1,7 @@
 //! Stores that are read part by part as they come from a feed, of which no more is held than what was read.
 
-ghost use Rattle.std.specs.Prelude.{◌≡◌, ◌≤◌, ◌<◌, ◌+◌, ◌-◌, ◌*◌, ◌^◌, ℕ, suc, List, [], length, take, Bool, IfOk, IfErr, OnOk, OnErr};
+ghost use Rattle.std.specs.Prelude.{◌≡◌, ◌≢◌, ◌≤◌, ◌<◌, ◌+◌, ◌-◌, ◌*◌, ◌^◌, ℕ, suc, List, [], length, take, Bool};
+ghost use Rattle.std.specs.Prelude.{IfOk, IfErr, OnOk, OnErr};
 ghost use Rattle.octets_core.specs.Reading.{value_of};
 ghost use Rattle.outside_core.specs.Effects.{OnlyReads};
 ghost use Rattle.outside_core.specs.Feeding.{Offers};
@@ -32,8 +33,10 @@ fn take_front<D: Depot>(feed: &mut Feed<'_, D>, out: &mut [u8]) -> Result<usize,
     ensures len { length out.new ≡ length out.old }
     ensures few { IfOk result (λ n. n ≤ length out.old) }
     // Where files are told, the name is held if a byte came.
-    ensures held { IfOk result (λ n. 0 < n → IsHeld (D.files (depot_of feed.old)) (name_of feed.old) (λ file. take n out.new ≡ take n file)) }
-    ensures taken { IfOk result (λ n. AreTaken (D.files (depot_of feed.old)) (name_of feed.old) (take n out.new) (place_of feed.new)) }
+    ensures held { IfOk result (λ n. 0 < n
+        → IsHeld (D.files (depot_of feed.old)) (name_of feed.old) (λ file. take n out.new ≡ take n file)) }
+    ensures taken { IfOk result (λ n.
+        AreTaken (D.files (depot_of feed.old)) (name_of feed.old) (take n out.new) (place_of feed.new)) }
     ensures ended { IfOk result (λ n. n < length out.old
         → Offers (D.files (depot_of feed.old)) (name_of feed.old) (place_of feed.new) []) }
     ensures cause { OnErr result (ReadFailed D.Depot (name_of feed.old) (depot_of feed.old) (depot_of feed.new)) }
@@ -75,8 +78,10 @@ fn opening(front: &[u8]) -> Result<u8, LayoutFault>
 fn opened<D: Depot>(feed: &mut Feed<'_, D>) -> Result<u8, FileFault>
     requires place { place_of feed.old ≡ 0 }
     requires in_order { IsInOrder D.Depot feed.old }
-    ensures comes { ComesOfOpening (D.files (depot_of feed.old)) (WhichFailed D.Depot (depot_of feed.old) (depot_of feed.new))
-        (name_of feed.old) (place_of feed.new) result }
+    ensures comes { ComesOfOpening (D.files (depot_of feed.old))
+        (WhichFailed D.Depot (depot_of feed.old) (depot_of feed.new)) (name_of feed.old) (place_of feed.new) result }
+    // It takes no memory.
+    ensures memory { IfErr result (λ e. e ≢ FileFault.NoMemory) }
     ensures some { IfOk result (λ n. 1 ≤ n) }
     ensures near { OnOk result (place_of feed.new ≤ 10) }
     ensures same_reference { reference_of feed.new ≡ reference_of feed.old }
@@ -200,8 +205,8 @@ fn continued<D: Depot>(
 fn fed_parts<D: Depot>(alloc: Global, feed: &mut Feed<'_, D>) -> Result<(Store, bool), FileFault>
     requires place { place_of feed.old ≡ 0 }
     requires in_order { IsInOrder D.Depot feed.old }
-    ensures comes { ComesOfStore (D.files (depot_of feed.old)) (WhichFailed D.Depot (depot_of feed.old) (depot_of feed.new))
-        (name_of feed.old) (place_of feed.new) 0 result }
+    ensures comes { ComesOfStore (D.files (depot_of feed.old))
+        (WhichFailed D.Depot (depot_of feed.old) (depot_of feed.new)) (name_of feed.old) (place_of feed.new) 0 result }
     ensures far { OnOk result (place_of feed.new < 2 ^ 63) }
     ensures same_reference { reference_of feed.new ≡ reference_of feed.old }
     ensures name { name_of feed.new ≡ name_of feed.old }
