@@ -17,4 +17,5 @@ pub mod Steps
 pub mod JobFacts
 pub mod ReadFacts
 pub mod JobStanding
+pub mod FitsGiven
 pub mod SliceFiles

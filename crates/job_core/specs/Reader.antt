@@ -4,6 +4,7 @@ use Rattle.std.specs.Int.{w8, to_be_bytes}
 use Rattle.outside_core.specs.declared.depot.Depot.{Ghosts}
 use Rattle.outside_core.specs.declared.feed.Feed.{Feed}
 use Rattle.outside_core.specs.Standing.{place_of, StandsIn}
+use Rattle.ident_core.specs.RangeText.{FitsRange}
 use Rattle.job_core.specs.declared.bounds.Limits.{Limits}
 use Rattle.job_core.specs.declared.fault.JobFault.{JobFault}
 use Rattle.job_core.specs.declared.reader.JobReader.{JobReader}
@@ -12,7 +13,7 @@ use Rattle.job_core.specs.declared.reader.Stage.TheVariants as stages
 use Rattle.job_core.specs.declared.reader.Record.{Record}
 use Rattle.job_core.specs.declared.reader.Record.TheVariants as records
 use Rattle.job_core.specs.JobLayout.{Held, nothing_held, OneRange, OneCrl, OneEntry, JobTexts, job}
-use Rattle.job_core.specs.JobText.{opening_text, record_text, Pass, held_behind, crl_held, entry_held}
+use Rattle.job_core.specs.JobText.{opening_text, record_text, Pass, held_behind, crl_held, entry_held, FitsCrl, FitsEntry}
 use Rattle.job_core.specs.Partial.{held_in}
 use Rattle.job_core.specs.Pulling.{IsOfBytes}
 
@@ -52,6 +53,10 @@ fault_at_stage (stages.Failed e) = Some e
 abbrev pub fault_of : JobReader → Option JobFault
 fault_of reader = fault_at_stage reader.stage
 
+-- it has given no record
+abbrev pub IsNew : JobReader → Type 0
+IsNew reader = reader.stage ≡ stages.Opening
+
 -- it has answered the end
 abbrev pub HasEnded : JobReader → Type 0
 HasEnded reader = reader.stage ≡ stages.Ended
@@ -63,6 +68,21 @@ text_of (records.Range r) = record_text (OneRange r)
 text_of (records.Crl c) = record_text (OneCrl (crl_held c))
 text_of (records.Entry e) = record_text (OneEntry (entry_held e))
 text_of records.End = to_be_bytes w8 0
+
+-- what it holds fits its fields
+abbrev pub FitsRecord : Record → Type 0
+FitsRecord (records.Begin epoch moment) = (epoch < 2 ^ 64) × (moment < 2 ^ 64)
+FitsRecord (records.Range r) = FitsRange None r
+FitsRecord (records.Crl c) = FitsCrl (crl_held c)
+FitsRecord (records.Entry e) = FitsEntry (entry_held e)
+FitsRecord records.End = Unit {0}
+
+abbrev pub IsBegin : Record → Type 0
+IsBegin (records.Begin epoch moment) = Unit {0}
+IsBegin (records.Range r) = ⊥
+IsBegin (records.Crl c) = ⊥
+IsBegin (records.Entry e) = ⊥
+IsBegin records.End = ⊥
 
 -- Of a file of which it has read the bytes before the place: the record's text lies from there to the new place, and
 -- it stands for all bytes before that, which at the end are the whole file; or the fault is that of the file's job.

@@ -4,7 +4,7 @@ ghost use Rattle.std.specs.Prelude.{◌≡◌, ◌≢◌, ◌+◌, ◌-◌, ◌�
 ghost use Rattle.outside_core.specs.Standing.{place_of, StandsIn};
 ghost use Rattle.job_core.specs.Pulling.{Pulled, Blames};
 ghost use Rattle.job_core.specs.JobFields.{AreWithin};
-ghost use Rattle.job_core.specs.Reader.{StandsFor, fault_of, limits_of, HasEnded, ReadsNext};
+ghost use Rattle.job_core.specs.Reader.{StandsFor, fault_of, limits_of, IsNew, HasEnded, IsBegin, FitsRecord, ReadsNext};
 
 use crate::bounds::Limits;
 use crate::fault::JobFault;
@@ -54,6 +54,7 @@ impl JobReader {
         ensures stands { StandsFor result [] }
         ensures limits { limits_of result ≡ limits }
         ensures going { fault_of result ≡ None }
+        ensures first { IsNew result }
     {
         JobReader {
             alloc,
@@ -69,7 +70,8 @@ impl JobReader {
         ensures blames { Blames D.Depot feed.old feed.new result }
         ensures limits { limits_of self.new ≡ limits_of self.old }
         ensures next { ReadsNext D.Depot self.old self.new feed.old feed.new result }
-        ensures stage { IfOk result (λ r. (self.new.stage ≡ Stage.Records) × (r ≢ Record.End)) }
+        ensures stage { IfOk result (λ r. (self.new.stage ≡ Stage.Records) × (r ≢ Record.End) × IsBegin r) }
+        ensures fits { IfOk result FitsRecord }
     {
         let (epoch, moment) = fetch_opening(feed)?;
         self.stage = Stage::Records;
@@ -82,7 +84,9 @@ impl JobReader {
         ensures blames { Blames D.Depot feed.old feed.new result }
         ensures limits { limits_of self.new ≡ limits_of self.old }
         ensures next { ReadsNext D.Depot self.old self.new feed.old feed.new result }
-        ensures stage { IfOk result (λ r. (fault_of self.new ≡ None) × (r ≡ Record.End ↔ self.new.stage ≡ Stage.Ended)) }
+        ensures stage { IfOk result (λ r. (fault_of self.new ≡ None) × (r ≡ Record.End ↔ self.new.stage ≡ Stage.Ended)
+            × (IsBegin r → ⊥) × (IsNew self.new → ⊥)) }
+        ensures fits { IfOk result FitsRecord }
     {
         let mut entry = no_entry(self.alloc);
         match next_item_from(
@@ -115,8 +119,8 @@ impl JobReader {
         answer
     }
 
-    /// The next record; `End` once the end of the file was seen behind the end of the job, and again from then on.
-    /// Ranges, CRLs and entries are counted, serials are not. A fault is answered again by each later call.
+    /// The next record: `Begin` first, and `End` once the end of the file was seen behind the end of the job, and again
+    /// from then on. Ranges, CRLs and entries are counted, serials are not. A fault is answered again by each later call.
     pub fn next<D: Depot>(&mut self, feed: &mut Feed<'_, D>) -> Result<Record, JobFault>
         // Where files are told, the bytes before the feed's place are those that the reader has read.
         requires stands { fault_of self.old ≡ None → (file : List ℕ) → StandsIn D.Depot feed.old file → StandsFor self.old (take (place_of feed.old) file) }
@@ -124,6 +128,9 @@ impl JobReader {
         ensures blames { fault_of self.old ≡ None → Blames D.Depot feed.old feed.new result }
         ensures limits { limits_of self.new ≡ limits_of self.old }
         ensures next { fault_of self.old ≡ None → (HasEnded self.old → ⊥) → ReadsNext D.Depot self.old self.new feed.old feed.new result }
+        // The first record, and no other, is the opening; and what each holds fits its fields, whatever the file.
+        ensures first { IfOk result (λ r. (IsBegin r ↔ IsNew self.old) × (IsNew self.new → ⊥)) }
+        ensures fits { IfOk result FitsRecord }
         ensures kept { IfErr result (λ e. fault_of self.new ≡ Some e) }
         ensures going { IfOk result (λ r. (fault_of self.new ≡ None) × (r ≡ Record.End ↔ HasEnded self.new)) }
         // After the end and after a fault nothing is read.

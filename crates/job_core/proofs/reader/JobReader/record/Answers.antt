@@ -17,6 +17,7 @@ use Rattle.job_core.specs.declared.partial.Numbers.{Numbers}
 use Rattle.job_core.proofs.Pulling.{pulled-then}
 use Rattle.job_core.proofs.Fetching.{blames-then, told, end-ok}
 use Rattle.job_core.proofs.JobStanding.{gives-one, gives-end, gives-fault, gives-more}
+use Rattle.job_core.proofs.FitsGiven.{range-fits, crl-fits, entry-fits}
 use Rattle.job_core.proofs.reader.JobReader.record.Goals as goal
 
 abbrev told_as : RawEntry → ℕ → Option Taken → Result (Option Item × ℕ) JobFault
@@ -132,3 +133,15 @@ returns-in-Some-Entry-clause-pulled g c = c.in_ok-next_item_from.ensures.exact.p
 
 pub returns-in-Some-Entry-clause-blames : goal.returns-in-Some-Entry-clause-blames
 returns-in-Some-Entry-clause-blames g c = c.in_ok-next_item_from.ensures.exact.blames
+
+pub returns-in-Some-Range-clause-fits : goal.returns-in-Some-Range-clause-fits
+returns-in-Some-Range-clause-fits g c = range-fits g.D.Depot c.args.self.now.limits (held_in c.args.self.now.numbers) c.next_item_from.new.into c.args.feed.now c.next_item_from.new.feed
+    _ c.in-Some-Range.range (c.in-Some-Range.is ∙ ap Some c.in-Some-Range.field-0-is) c.in_ok-next_item_from.ensures.exact
+
+pub returns-in-Some-Crl-clause-fits : goal.returns-in-Some-Crl-clause-fits
+returns-in-Some-Crl-clause-fits g c = crl-fits g.D.Depot c.args.self.now.limits (held_in c.args.self.now.numbers) c.next_item_from.new.into c.args.feed.now c.next_item_from.new.feed
+    _ c.in-Some-Crl.crl (c.in-Some-Crl.is ∙ ap Some c.in-Some-Crl.field-0-is) c.in_ok-next_item_from.ensures.exact
+
+pub returns-in-Some-Entry-clause-fits : goal.returns-in-Some-Entry-clause-fits
+returns-in-Some-Entry-clause-fits g c = entry-fits g.D.Depot c.args.self.now.limits (held_in c.args.self.now.numbers) c.next_item_from.new.into c.args.feed.now c.next_item_from.new.feed
+    _ (c.in-Some-Entry.is ∙ ap Some c.in-Some-Entry.field-0-is) c.in_ok-next_item_from.ensures.exact
