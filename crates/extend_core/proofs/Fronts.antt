@@ -4,16 +4,14 @@ use Rattle.std.specs.Int.{w8, to_be_bytes}
 use Rattle.std.proofs.lemmas.List.{append_cancel_right, append-nil}
 use Rattle.job_core.specs.declared.bounds.TheConstants.Limits as limits
 use Rattle.job_core.specs.declared.bounds.Limits.{Limits}
-use Rattle.job_core.specs.declared.reader.Record.{Record}
 use Rattle.job_core.specs.declared.reader.Stage.TheVariants as stages
 use Rattle.job_core.specs.JobLayout.{Item, Held}
 use Rattle.job_core.specs.JobText.{opening_text, record_text}
-use Rattle.job_core.specs.Reader.{Begins, StandsAt, text_of}
+use Rattle.job_core.specs.Reader.{Begins, StandsAt}
 use Rattle.job_core.proofs.Passing.{texts_of}
 use Rattle.extend_core.specs.Raw.{contents_in, entries_in}
 use Rattle.extend_core.specs.Opened.{Counts}
-use Rattle.extend_core.specs.Fitting.{IsCounted}
-use Rattle.extend_core.proofs.Records.{AllFit, pass-fits, same_texts, texts-more, fits-more, entries-more, entries-few}
+use Rattle.extend_core.proofs.Records.{Fits, AllFit, pass-fits, same_texts, texts-more, fits-more, entries-more, entries-few}
 use Rattle.extend_core.proofs.Reread.{read-job, spelled, fits-job}
 
 -- the opening and records that fit, of which so many are entries
@@ -28,16 +26,16 @@ pub record Front (b : List ℕ) (n : ℕ) : Type 0 where
 pub front-begun : (b : List ℕ) (epoch moment : ℕ) → b ≡ opening_text epoch moment → Front b 0
 front-begun b epoch moment is = record { epoch = epoch; moment = moment; items = []; is = is ∙ sym (append-nil (opening_text epoch moment)); fit = tt; count = refl }
 
-pub front-more : (b c : List ℕ) (n more : ℕ) (r : Record) → Front b n → c ≡ b ++ text_of r → IsCounted r more → Front c (n + more)
-front-more b c n more r f is (x, text, fits, count) = record {
+pub front-more : (b c : List ℕ) (n : ℕ) (x : Item) → Front b n → Fits x → c ≡ b ++ record_text x → Front c (n + length (entries_in (x ∷ [])))
+front-more b c n x f fits is = record {
   epoch = f.epoch;
   moment = f.moment;
   items = f.items ++ x ∷ [];
-  is = is ∙ ap (λ (l : List ℕ). l ++ text_of r) f.is ∙ ap (λ (l : List ℕ). (opening_text f.epoch f.moment ++ texts_of f.items) ++ l) text
+  is = is ∙ ap (λ (l : List ℕ). l ++ record_text x) f.is
       ∙ append_assoc (opening_text f.epoch f.moment) (texts_of f.items) (record_text x)
       ∙ ap (λ (l : List ℕ). opening_text f.epoch f.moment ++ l) (sym (texts-more f.items x));
   fit = fits-more f.items x f.fit fits;
-  count = omega (arith, f.count, count, entries-more f.items x);
+  count = omega (arith, f.count, entries-more f.items x);
 }
 
 pub front-few : (b : List ℕ) (n : ℕ) → Front b n → n ≤ length b

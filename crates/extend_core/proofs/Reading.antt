@@ -1,5 +1,5 @@
 -- A reader of a job that goes over a slice.
-use Rattle.std.proofs.Common.{◌≡◌, ◌≢◌, ℕ, ◌+◌, ◌-◌, ◌≤◌, ◌<◌, ◌^◌, List, [], ◌++◌, length, take, Some, None, Result, Ok, Err, refl, sym, ap, subst, ◌∙◌, length-take, length-append, arith}
+use Rattle.std.proofs.Common.{◌≡◌, ◌≢◌, ℕ, ◌+◌, ◌-◌, ◌≤◌, ◌<◌, ◌^◌, List, [], ◌∷◌, ◌++◌, length, take, Some, None, Result, Ok, Err, refl, sym, ap, subst, ◌∙◌, length-take, length-append, arith}
 use Rattle.std.specs.Int.{w8, to_be_bytes}
 use Rattle.std.proofs.lemmas.List.{take_all}
 use Rattle.outside_core.specs.declared.feed.Feed.{Feed}
@@ -14,17 +14,16 @@ use Rattle.octets_core.specs.Reading.{value_of}
 use Rattle.job_core.specs.declared.bounds.Limits.{Limits}
 use Rattle.job_core.specs.declared.reader.Stage.{Stage}
 use Rattle.job_core.specs.declared.reader.Stage.TheVariants as stages
-use Rattle.job_core.specs.JobLayout.{OneRange, OneCrl, OneEntry, job}
-use Rattle.job_core.specs.JobText.{opening_text}
+use Rattle.job_core.specs.JobLayout.{Item, OneRange, OneCrl, OneEntry, job}
+use Rattle.job_core.specs.JobText.{opening_text, record_text, crl_held, entry_held}
 use Rattle.job_core.specs.Partial.{held_in}
 use Rattle.job_core.specs.Pulling.{Blames}
-use Rattle.job_core.specs.Reader.{no_serials, StandsAt, StandsFor, fault_of, limits_of, HasEnded, text_of, GivesNext, ReadsNext}
+use Rattle.job_core.specs.Reader.{no_serials, StandsAt, StandsFor, fault_of, limits_of, IsNew, HasEnded, IsBegin, FitsRecord, text_of, GivesNext, ReadsNext}
 use Rattle.job_core.specs.declared.slice.SliceDepot.{SliceDepot}
-use Rattle.extend_core.specs.Raw.{raw_by}
-use Rattle.extend_core.specs.Opened.{Counts}
-use Rattle.extend_core.specs.Fitting.{IsCounted}
+use Rattle.extend_core.specs.Raw.{raw_by, entries_in}
+use Rattle.extend_core.specs.Opened.{Counts, entries_given}
 use Rattle.job_core.proofs.SliceFiles.{only, file-there, never-fails, slice_ghosts}
-use Rattle.extend_core.proofs.Records.{some_text}
+use Rattle.extend_core.proofs.Records.{Fits, some_text}
 use Rattle.extend_core.proofs.Fronts.{Front, front-begun, front-more, front-few, front-whole, further}
 
 -- the reader goes on, and what it read is the opening and records, of which so many are entries
@@ -35,45 +34,47 @@ pub record Going (bytes : List ℕ) (reader : JobReader) (feed : Feed SliceDepot
   pub open_ : HasEnded reader → ⊥
   pub limits : limits_of reader ≡ limits.PUBLISHED
   pub name : name_of feed ≡ []
-  pub front : Front (take (place_of feed) bytes) n
+  pub fresh : IsNew reader → (n ≡ 0) × (place_of feed ≡ 0)
+  pub front : (IsNew reader → ⊥) → Front (take (place_of feed) bytes) n
 
 -- the feed stands at the first byte, before any read
 pub at-first : (bytes : List ℕ) (depot : SliceDepot) (feed : Feed SliceDepot) → depot.bytes.now ≡ bytes → length bytes < 2 ^ 64 → name_of feed ≡ []
     → ((file : List ℕ) → file_in (slice_ghosts.files depot) [] ≡ Some file → StandsIn slice_ghosts feed file) → StandsIn slice_ghosts feed bytes
 at-first bytes depot feed is fits name stands = stands bytes (ap (λ (b : List ℕ). file_in (Some (only b)) []) is ∙ file-there bytes fits)
 
-not_end : (e m : ℕ) → ◌≡◌ {A = Record} (records.Begin e m) records.End → ⊥
-not_end e m h = cc
+module _ (bytes : List ℕ) (old new : JobReader) (from to : Feed SliceDepot) (n : ℕ) (g : Going bytes old from n) where
+  some_record : (x : Item) → (IsNew old → ⊥) → Fits x → take (place_of to) bytes ≡ take (place_of from) bytes ++ record_text x → Front (take (place_of to) bytes) (n + length (entries_in (x ∷ [])))
+  some_record x not fits text = front-more (take (place_of from) bytes) (take (place_of to) bytes) n x (g.front not) fits text
 
-module _ (bytes : List ℕ) (old new : JobReader) (from to : Feed SliceDepot) (published : limits_of new ≡ limits.PUBLISHED) (stands : StandsIn slice_ghosts to bytes) (name : name_of to ≡ []) where
-  pub going-first : (e m : ℕ) → place_of from ≡ 0 → fault_of new ≡ None → (HasEnded new → ◌≡◌ {A = Record} (records.Begin e m) records.End)
-      → GivesNext old new bytes (place_of from) (place_of to) (Ok (records.Begin e m)) → Going bytes new to 0
-  going-first e m first fault ended gives = record {
-    stands = stands;
-    here = gives.1;
-    going = fault;
-    open_ = λ h. not_end e m (ended h);
-    limits = published;
-    name = name;
-    front = front-begun (take (place_of to) bytes) e m (gives.0 ∙ ap (λ (n : ℕ). take n bytes ++ opening_text e m) first);
-  }
+  -- what was read, with one record more
+  front-next : (r : Record) → (r ≡ records.End → ⊥) → (IsBegin r → IsNew old) → (IsNew old → IsBegin r) → FitsRecord r
+      → take (place_of to) bytes ≡ take (place_of from) bytes ++ text_of r → Front (take (place_of to) bytes) (n + entries_given r)
+  front-next (records.Begin e m) not to_new to_begin fits text =
+      let first = g.fresh (to_new tt) in
+      subst (λ (k : ℕ). Front (take (place_of to) bytes) k) (omega (arith, first.0))
+      (front-begun (take (place_of to) bytes) e m (text ∙ ap (λ (k : ℕ). take k bytes ++ opening_text e m) first.1))
+  front-next (records.Range x) not to_new to_begin fits text = some_record (OneRange x) (λ is. to_begin is) (fits, omega arith, omega arith) text
+  front-next (records.Crl x) not to_new to_begin fits text = some_record (OneCrl (crl_held x)) (λ is. to_begin is) (fits, omega arith, omega arith) text
+  front-next (records.Entry x) not to_new to_begin fits text = some_record (OneEntry (entry_held x)) (λ is. to_begin is) (fits, omega arith, omega arith) text
+  front-next records.End not to_new to_begin fits text = absurd (not refl)
 
-  pub going-more : (n more : ℕ) (r : Record) → Going bytes old from n → (r ≡ records.End → ⊥) → fault_of new ≡ None → (HasEnded new → r ≡ records.End)
-      → IsCounted r more → GivesNext old new bytes (place_of from) (place_of to) (Ok r) → Going bytes new to (n + more)
-  going-more n more r g not fault ended counted gives = record {
+  pub going-next : limits_of new ≡ limits.PUBLISHED → StandsIn slice_ghosts to bytes → name_of to ≡ [] → (r : Record) → (r ≡ records.End → ⊥) → fault_of new ≡ None → (HasEnded new → r ≡ records.End)
+      → (IsBegin r → IsNew old) → (IsNew old → IsBegin r) → (IsNew new → ⊥) → FitsRecord r → GivesNext old new bytes (place_of from) (place_of to) (Ok r) → Going bytes new to (n + entries_given r)
+  going-next published stands name r not fault ended to_new to_begin begun fits gives = record {
     stands = stands;
     here = gives.1;
     going = fault;
     open_ = λ h. not (ended h);
     limits = published;
     name = name;
-    front = front-more (take (place_of from) bytes) (take (place_of to) bytes) n more r g.front gives.0 counted;
+    fresh = λ is. absurd (begun is);
+    front = λ is. front-next r not to_new to_begin fits gives.0;
   }
 
-  pub going-ended : (n : ℕ) → Going bytes old from n → HasEnded new → GivesNext old new bytes (place_of from) (place_of to) (Ok records.End) → Counts bytes (Ok n)
-  going-ended n g ended gives =
+  pub going-ended : limits_of new ≡ limits.PUBLISHED → (IsNew old → ⊥) → HasEnded new → GivesNext old new bytes (place_of from) (place_of to) (Ok records.End) → Counts bytes (Ok n)
+  going-ended published begun ended gives =
       let all : take (place_of to) bytes ≡ bytes = take_all (place_of to) bytes (gives.2 refl) in
-      front-whole new.limits (held_in new.numbers) bytes (take (place_of from) bytes) n published g.front (sym all ∙ gives.0)
+      front-whole new.limits (held_in new.numbers) bytes (take (place_of from) bytes) n published (g.front begun) (sym all ∙ gives.0)
       (subst (λ (b : List ℕ). StandsAt stages.Ended new.limits (held_in new.numbers) b) all
       (subst (λ (s : Stage). StandsAt s new.limits (held_in new.numbers) (take (place_of to) bytes)) ended gives.1))
 
@@ -82,26 +83,24 @@ pub going-fault : (bytes : List ℕ) (old new : JobReader) (at end : ℕ) (e : J
 going-fault bytes old new at end e published gives = λ of.
     ap (λ r. raw_by (value_of r)) (subst (λ (l : Limits). job no_serials l bytes 0 ≡ Err e) published (gives of))
 
-pub wanted : (bytes : List ℕ) → Counts bytes (Err faults.NoMemory)
-wanted bytes = λ of. absurd (of.0 refl)
-
 -- no read of a slice fails
 pub read-well : (from to : Feed SliceDepot) (e : JobFault) → name_of from ≡ [] → Blames {X = Record} slice_ghosts from to (Err e) → e ≢ faults.ReadFault
 read-well from to e name blames = λ is. never-fails (depot_of from) (depot_of to) (name_of from) name (blames.0 is)
 
+some_given : (r : Record) → 1 ≤ length (text_of r)
+some_given (records.Begin e m) = omega arith
+some_given (records.Range x) = some_text (OneRange x)
+some_given (records.Crl x) = some_text (OneCrl (crl_held x))
+some_given (records.Entry x) = some_text (OneEntry (entry_held x))
+some_given records.End = omega arith
+
 -- a record was read, and stands before the new place
-pub nearer : (bytes : List ℕ) (old new : JobReader) (at end : ℕ) (r : Record) (more : ℕ) → IsCounted r more → GivesNext old new bytes at end (Ok r) → length bytes - end < length bytes - at
-nearer bytes old new at end r more (x, text, fits, count) gives =
-    further bytes at end (text_of r) gives.0 (omega (arith, ap (λ (l : List ℕ). length l) text, some_text x))
+pub nearer : (bytes : List ℕ) (old new : JobReader) (at end : ℕ) (r : Record) → GivesNext old new bytes at end (Ok r) → length bytes - end < length bytes - at
+nearer bytes old new at end r gives = further bytes at end (text_of r) gives.0 (some_given r)
 
 -- the count stays within the bytes
-pub few-so-far : (bytes : List ℕ) (reader : JobReader) (feed : Feed SliceDepot) (n : ℕ) → Going bytes reader feed n → n ≤ length bytes
-few-so-far bytes reader feed n g = omega (arith, front-few (take (place_of feed) bytes) n g.front, length-take (place_of feed) bytes)
-
-pub one-at-most : (r : Record) (more : ℕ) → IsCounted r more → more ≤ 1
-one-at-most r more (OneRange x, text, fits, count) = omega (arith, count)
-one-at-most r more (OneCrl x, text, fits, count) = omega (arith, count)
-one-at-most r more (OneEntry x, text, fits, count) = omega (arith, count)
+pub few-so-far : (bytes : List ℕ) (reader : JobReader) (feed : Feed SliceDepot) (n : ℕ) → Going bytes reader feed n → (IsNew reader → ⊥) → n ≤ length bytes
+few-so-far bytes reader feed n g begun = omega (arith, front-few (take (place_of feed) bytes) n (g.front begun), length-take (place_of feed) bytes)
 
 -- the reader hasn't read anything, so it hasn't read the end
 pub not-ended : (reader : JobReader) → StandsFor reader [] → HasEnded reader → ⊥
@@ -109,8 +108,21 @@ not-ended reader stands ended =
     let (h, c, t, is, begins) = subst (λ (s : Stage). StandsAt s reader.limits (held_in reader.numbers) []) ended stands in
     omega (arith, ap (λ (l : List ℕ). length l) is, length-append c (to_be_bytes w8 0))
 
-pub first-here : (bytes : List ℕ) (reader : JobReader) (feed : Feed SliceDepot) → place_of feed ≡ 0 → StandsFor reader [] → StandsFor reader (take (place_of feed) bytes)
+first-here : (bytes : List ℕ) (reader : JobReader) (feed : Feed SliceDepot) → place_of feed ≡ 0 → StandsFor reader [] → StandsFor reader (take (place_of feed) bytes)
 first-here bytes reader feed first stands = subst (λ (n : ℕ). StandsFor reader (take n bytes)) (sym first) stands
+
+pub going-first : (bytes : List ℕ) (reader : JobReader) (feed : Feed SliceDepot) → StandsIn slice_ghosts feed bytes → StandsFor reader [] → fault_of reader ≡ None → IsNew reader
+    → limits_of reader ≡ limits.PUBLISHED → name_of feed ≡ [] → place_of feed ≡ 0 → Going bytes reader feed 0
+going-first bytes reader feed stands here going new published name first = record {
+  stands = stands;
+  here = first-here bytes reader feed first here;
+  going = going;
+  open_ = not-ended reader here;
+  limits = published;
+  name = name;
+  fresh = λ is. (refl, first);
+  front = λ not. absurd (not new);
+}
 
 pub gives-of : (bytes : List ℕ) (old new : JobReader) (from to : Feed SliceDepot) (n : ℕ) (result : Result Record JobFault) → Going bytes old from n
     → (fault_of old ≡ None → (HasEnded old → ⊥) → ReadsNext slice_ghosts old new from to result) → GivesNext old new bytes (place_of from) (place_of to) result

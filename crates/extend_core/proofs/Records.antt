@@ -11,7 +11,10 @@ use Rattle.job_core.specs.Reader.{no_serials}
 use Rattle.job_core.proofs.RecordTexts.{next-read}
 use Rattle.job_core.proofs.Passing.{texts_of}
 use Rattle.extend_core.specs.Raw.{entries_in}
-use Rattle.extend_core.specs.Fitting.{Fits}
+
+-- it might be the first record of a job
+abbrev pub Fits : Item → Type 0
+Fits x = FitsItem limits.PUBLISHED nothing_held x
 
 abbrev pub AllFit : List Item → Type 0
 AllFit [] = Unit {0}

@@ -1,3 +1,2 @@
 pub mod Raw
 pub mod Opened
-pub mod Fitting

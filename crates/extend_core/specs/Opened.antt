@@ -2,6 +2,8 @@
 use Rattle.std.specs.Prelude.{◌≡◌, ℕ, List, length, Result, Ok, Err}
 use Rattle.job_core.specs.declared.bounds.TheConstants.Limits as limits
 use Rattle.job_core.specs.declared.fault.JobFault.{JobFault}
+use Rattle.job_core.specs.declared.reader.Record.{Record}
+use Rattle.job_core.specs.declared.reader.Record.TheVariants as records
 use Rattle.job_core.specs.JobText.{JobContents, FitsJob, spelling}
 use Rattle.job_core.specs.Pulling.{IsOfBytes}
 use Rattle.extend_core.specs.declared.job.OpenJob.{OpenJob}
@@ -16,6 +18,14 @@ pub record Opens (o : OpenJob) (j : JobContents) : Type 0 where
   pub text : o.text.items ≡ opened_text j
   pub count : o.entries ≡ length j.entries
   pub fits : FitsJob limits.PUBLISHED j
+
+-- how many entries a record is
+abbrev pub entries_given : Record → ℕ
+entries_given (records.Begin epoch moment) = 0
+entries_given (records.Range r) = 0
+entries_given (records.Crl c) = 0
+entries_given (records.Entry e) = 1
+entries_given records.End = 0
 
 -- so many entries has the job of the bytes, which are its text; or that is their fault
 abbrev pub Counts : List ℕ → Result ℕ JobFault → Type 0
