@@ -1,6 +1,7 @@
 -- For which bytes a reader stands.
 use Rattle.std.specs.Prelude.{◌≡◌, ℕ, List, ◌++◌, length, Option, Some, None, Ok, Err}
 use Rattle.sha2.specs.declared.Sha256.{Sha256}
+use Rattle.octets_core.specs.declared.fault.Why.TheVariants as why
 use Rattle.part_text.specs.SealedFields.{SealedFields}
 use Rattle.part_text.specs.PartLayout.{part}
 use Rattle.part_codec.specs.PileFields.{PileFields}
@@ -19,6 +20,15 @@ ReadsBy (Some e) m p hasher b = (e ≡ faults.NoMemory → ⊥) → (x : List �
 
 abbrev pub ReadsFor : PartReader → List ℕ → Type 0
 ReadsFor r b = ReadsBy r.fault r.machine r.pile r.hasher b
+
+-- it has answered this fault
+abbrev pub HasFailed : PartReader → PartFault → Type 0
+HasFailed r e = r.fault ≡ Some e
+
+-- a field is short
+abbrev pub IsShort : PartFault → Type 0
+IsShort (faults.Layout f) = f.why ≡ why.Short
+IsShort faults.NoMemory = ⊥
 
 -- these bytes are a part, whatever follows
 abbrev pub EndsAs : List ℕ → Type 0

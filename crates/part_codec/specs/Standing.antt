@@ -16,6 +16,10 @@ StandsBy (Some e) m hasher b = (x : List ℕ) → sealed (b ++ x) 0 ≡ Err e
 abbrev pub StandsFor : PartScan → List ℕ → Type 0
 StandsFor scan b = StandsBy scan.fault scan.machine scan.hasher b
 
+-- it has answered this fault
+abbrev pub HasFailed : PartScan → LayoutFault → Type 0
+HasFailed scan e = scan.fault ≡ Some e
+
 -- these bytes are a part, whatever follows
 abbrev pub EndsAt : List ℕ → Type 0
 EndsAt b = (x : List ℕ) → (s : SealedFields) × (sealed (b ++ x) 0 ≡ Ok (s, length b))

@@ -1,13 +1,11 @@
 //! Parts that are read in pieces.
 
-ghost use Rattle.std.specs.Prelude.{◌≡◌, ◌≢◌, ◌++◌, ◌+◌, ◌≤◌, ◌<◌, ℕ, List, [], length, take, true, false, Option, Some, None, Ok, Err, IfOk, IfErr};
-ghost use Rattle.octets_core.specs.Reading.{fault_at};
-ghost use Rattle.octets_core.specs.declared.fault.Why.TheVariants as why;
+ghost use Rattle.std.specs.Prelude.{◌≡◌, ◌≢◌, ◌++◌, ◌+◌, ◌≤◌, ◌<◌, ℕ, List, [], length, take, true, false, None, Ok, Err, IfOk, OnOk, IfErr};
 ghost use Rattle.part_text.specs.SealedFields.{SealedFields};
 ghost use Rattle.part_codec.specs.declared.fields.Open.TheVariants as opens;
 ghost use Rattle.part_text.specs.declared.fault.PartFault.TheVariants as faults;
 ghost use Rattle.part_text.specs.PartLayout.{part};
-ghost use Rattle.part_codec.specs.Stepping.{in_front, leads_on, name_of};
+ghost use Rattle.part_codec.specs.Stepping.{in_front, leads_on};
 ghost use Rattle.part_codec.specs.Collecting.{Reads, HasRead, HasHashed};
 ghost use Rattle.part_codec.specs.Taking.{IsFront, IsPartial, TakesTo, ReadsOn, FailsRead, FailsHashed};
 
@@ -280,7 +278,7 @@ pub struct PartReader {
 }
 
 impl PartReader {
-    ghost use Rattle.part_codec.specs.ReaderStanding.{ReadsFor, EndsAs};
+    ghost use Rattle.part_codec.specs.ReaderStanding.{ReadsFor, EndsAs, HasFailed, IsShort};
 
     /// Before the first byte. No memory is taken.
     pub fn new(alloc: Global) -> PartReader
@@ -306,8 +304,11 @@ impl PartReader {
         // A fault other than want of memory is that of the bytes, whatever follows, and it stays.
         ensures err { IfErr result (λ e. e ≢ faults.NoMemory → (b x : List ℕ) → ReadsFor self.old b → part (b ++ piece.now ++ x) 0 ≡ Err e) }
         ensures stays { IfErr result (λ e. (b : List ℕ) → ReadsFor self.old b → ReadsFor self.new (b ++ piece.now)) }
-        ensures again { (e : PartFault) → self.old.fault ≡ Some e → result ≡ Err e }
-        ensures kept { IfErr result (λ e. self.new.fault ≡ Some e) }
+        // A fault, want of memory too, is answered again and changes nothing more.
+        ensures kept { IfErr result (λ e. HasFailed self.new e) }
+        ensures again { (e : PartFault) → HasFailed self.old e → result ≡ Err e }
+        ensures unchanged { (e : PartFault) → HasFailed self.old e → self.new ≡ self.old }
+        ensures going { OnOk result ((e : PartFault) → HasFailed self.new e → ⊥) }
         ensures count { IfOk result (λ n. n ≤ length piece.now) }
         // It takes fewer bytes than there are exactly where the part ends before.
         ensures less { IfOk result (λ n. n < length piece.now → (b : List ℕ) → ReadsFor self.old b → EndsAs (b ++ take n piece.now)) }
@@ -336,9 +337,9 @@ impl PartReader {
     pub fn finish(self) -> Result<Sealed, PartFault>
         ensures ok { IfOk result (λ s. (b x : List ℕ) → ReadsFor self b → part (b ++ x) 0 ≡ Ok (s, length b)) }
         ensures err { IfErr result (λ e. e ≢ faults.NoMemory → (b : List ℕ) → ReadsFor self b → part b 0 ≡ Err e) }
-        ensures again { (e : PartFault) → self.fault ≡ Some e → result ≡ Err e }
-        // Before its end the open field is short.
-        ensures short { IfErr result (λ e. self.fault ≡ None → e ≡ PartFault.Layout (fault_at why.Short (name_of self.machine.field) self.machine.at)) }
+        ensures again { (e : PartFault) → HasFailed self e → result ≡ Err e }
+        // Where none was answered before, the part isn't whole: the field that is open in the layout of its bytes is short.
+        ensures short { IfErr result (λ e. (HasFailed self e → ⊥) → IsShort e) }
     {
         if let Some(fault) = self.fault {
             return Err(fault);

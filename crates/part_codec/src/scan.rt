@@ -1,14 +1,13 @@
 //! Parts that are scanned in pieces, with no memory.
 
 ghost use Rattle.std.specs.Prelude.{◌≡◌, ◌++◌, ◌+◌, ◌-◌, ◌^◌, ◌≤◌, ◌<◌, ◌⊎◌, ℕ, List, [], length, take, false};
-ghost use Rattle.std.specs.Prelude.{Option, Some, None, Ok, Err, IfOk, IfErr};
-ghost use Rattle.octets_core.specs.Reading.{fault_at};
+ghost use Rattle.std.specs.Prelude.{None, Ok, Err, IfOk, OnOk, IfErr};
 ghost use Rattle.octets_core.specs.declared.fault.LayoutFault.{LayoutFault};
 ghost use Rattle.octets_core.specs.declared.fault.Why.TheVariants as why;
 ghost use Rattle.part_text.specs.SealedFields.{SealedFields};
 ghost use Rattle.part_codec.specs.declared.fields.Open.TheVariants as opens;
 ghost use Rattle.part_text.specs.PartLayout.{sealed};
-ghost use Rattle.part_codec.specs.Stepping.{in_front, name_of};
+ghost use Rattle.part_codec.specs.Stepping.{in_front};
 ghost use Rattle.part_codec.specs.Taking.{IsPartial, ScansOn, FailsScan};
 ghost use Rattle.part_codec.specs.Noting.{noted, note_by};
 
@@ -86,7 +85,7 @@ fn scan_on(machine: &mut Machine, hasher: &mut Sha256, piece: &[u8]) -> Result<u
 }
 
 impl PartScan {
-    ghost use Rattle.part_codec.specs.Standing.{StandsFor, EndsAt, HasFault};
+    ghost use Rattle.part_codec.specs.Standing.{StandsFor, EndsAt, HasFault, HasFailed};
 
     /// Before the first byte.
     pub fn new() -> PartScan
@@ -109,8 +108,11 @@ impl PartScan {
         // The fault is that of the bytes, whatever follows, and it stays.
         ensures err { IfErr result (λ e. (b x : List ℕ) → StandsFor self.old b → sealed (b ++ piece.now ++ x) 0 ≡ Err e) }
         ensures stays { IfErr result (λ e. (b : List ℕ) → StandsFor self.old b → StandsFor self.new (b ++ piece.now)) }
-        ensures again { (e : LayoutFault) → self.old.fault ≡ Some e → result ≡ Err e }
-        ensures kept { IfErr result (λ e. self.new.fault ≡ Some e) }
+        // A fault is answered again and changes nothing more.
+        ensures kept { IfErr result (λ e. HasFailed self.new e) }
+        ensures again { (e : LayoutFault) → HasFailed self.old e → result ≡ Err e }
+        ensures unchanged { (e : LayoutFault) → HasFailed self.old e → self.new ≡ self.old }
+        ensures going { OnOk result ((e : LayoutFault) → HasFailed self.new e → ⊥) }
         ensures count { IfOk result (λ n. n ≤ length piece.now) }
         // It takes fewer bytes than there are exactly where the part ends before.
         ensures less { IfOk result (λ n. n < length piece.now → (b : List ℕ) → StandsFor self.old b → EndsAt (b ++ take n piece.now)) }
@@ -132,9 +134,9 @@ impl PartScan {
     /// What is known of the part, if all of it came.
     pub fn finish(self) -> Result<PartNote, LayoutFault>
         ensures exact { (b : List ℕ) → StandsFor self b → noted (sealed b 0) ≡ result }
-        ensures again { (e : LayoutFault) → self.fault ≡ Some e → result ≡ Err e }
-        // Before its end the open field is short.
-        ensures short { IfErr result (λ e. self.fault ≡ None → e ≡ fault_at why.Short (name_of self.machine.field) self.machine.at) }
+        ensures again { (e : LayoutFault) → HasFailed self e → result ≡ Err e }
+        // Where none was answered before, the part isn't whole: the field that is open in the layout of its bytes is short.
+        ensures short { IfErr result (λ e. (HasFailed self e → ⊥) → e.why ≡ why.Short) }
         // A part is all of the bytes.
         ensures ends { (b : List ℕ) (s : SealedFields) (end : ℕ) → StandsFor self b → sealed b 0 ≡ Ok (s, end) → end ≡ length b }
         // Bytes without a fault are fewer than can be numbered.
