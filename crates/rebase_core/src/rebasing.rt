@@ -84,6 +84,20 @@ fn groups_of(
     groups(alloc, issuers, items, &revoked)
 }
 
+/// Refuses more issuers than a part may have. It takes no memory.
+fn check_limit(issuers: usize) -> Result<(), RebaseFault>
+    ensures few { OnOk result (issuers ≤ MAX_ISSUERS) }
+    ensures many { IfErr result (λ e. (e ≡ RebaseFault.TooMany What.Issuers MAX_ISSUERS) × (MAX_ISSUERS < issuers)) }
+{
+    if issuers > MAX_ISSUERS {
+        return Err(RebaseFault::TooMany {
+            what: What::Issuers,
+            limit: MAX_ISSUERS as u32,
+        });
+    }
+    Ok(())
+}
+
 /// Begins a chain anew from a ledger, without the identities whose date lies before the moment, which is in
 /// milliseconds since 1970, and without some issuers. These may stand in any order, more than once, and in no part. The
 /// ledger stays as it is.
@@ -109,12 +123,7 @@ pub fn rebase(
 {
     let left_out = LeftOut::new(alloc, without)?;
     let issuers = all_issuers(alloc, ledger.parts(), &left_out)?;
-    if issuers.len() > MAX_ISSUERS {
-        return Err(RebaseFault::TooMany {
-            what: What::Issuers,
-            limit: MAX_ISSUERS as u32,
-        });
-    }
+    check_limit(issuers.len())?;
     let newest = newest_of(ledger.parts());
     let items = kept(alloc, ledger.items(), moment, &left_out)?;
     let left = left_of(ledger.items(), &left_out);

@@ -1,6 +1,7 @@
 use Rattle.std.specs.List.{filter}
 use Rattle.std.specs.Prelude.{is_some}
-use Rattle.std.proofs.Common.{◌≡◌, ℕ, List, [], ◌∷◌, None, map, length, All, refl, ap, sym, ◌∙◌, subst, arith}
+use Rattle.std.proofs.Common.{◌≡◌, ℕ, List, [], ◌∷◌, None, map, length, All, ap, sym, ◌∙◌, subst, arith}
+use Rattle.std.proofs.lemmas.Result.{err_from_is_err_and}
 use Rattle.ledger_core.specs.LedgerFields.{LedgerFields, IsLedger, ids, newest, part_fields}
 use Rattle.sets_core.specs.Sets.{key_set}
 use Rattle.universe_core.specs.Groups.{group_fields, IsGroup}
@@ -53,7 +54,7 @@ pub draft_of-requires : goal.draft_of-requires
 draft_of-requires c =
     let w = c.in_ok-left_out.left_out in
     let k = kept_of w (is_lasting c.args.moment) c.args.ledger.now c.items.result.now c.in_ok-items.items.items c.items.ensures.value c.in_ok-items.ensures in
-    let few = c.if-len-gt-MAX_ISSUERS.false in
+    let few = c.in_ok-check_limit.ensures.few in
     let n = c.len.ensures in
     let part = c.newest_of-newest.result.now in
     subst (λ p. IsLedger (record { parts = p ∷ []; items = c.in_ok-items.items.items })) (sym c.in_ok-part.ensures)
@@ -62,14 +63,15 @@ draft_of-requires c =
     (newest_fits None c.args.ledger.now.parts (part_fields part) c.parts.ensures.facts.parts (ap newest (sym c.parts-2.ensures.value) ∙ c.newest_of-newest.ensures))
     (omega arith) c.in_ok-issuers.ensures.ascend k)
 
-pub returns-then-len-gt-MAX_ISSUERS-clause-refused : goal.returns-then-len-gt-MAX_ISSUERS-clause-refused
-returns-then-len-gt-MAX_ISSUERS-clause-refused c other =
+pub returns-in_err-check_limit-clause-refused : goal.returns-in_err-check_limit-clause-refused
+returns-in_err-check_limit-clause-refused c =
+    let q = err_from_is_err_and c.from_residual-in_err-check_limit.result c.from_residual-in_err-check_limit.ensures.1 in
     let w = c.in_ok-left_out.left_out in
     let n = many c.args.without.now c.args.ledger.now w c.in_ok-issuers.issuers.items c.in_ok-left_out.ensures
     (c.in_ok-issuers.ensures.set ∙ issuers_without w c.args.ledger.now (map part_fields c.parts.result.now) c.parts.ensures.value) in
     let l = c.len.ensures in
-    let more = c.if-len-gt-MAX_ISSUERS.true in
-    (refl, omega (arith, n))
+    let above = c.in_err-check_limit.ensures.many in
+    rw (q.1, q.2) (λ other. (above.0, omega (arith, n, above.1)))
 
 pub returns-clause-rebased : goal.returns-clause-rebased
 returns-clause-rebased c =
@@ -77,7 +79,7 @@ returns-clause-rebased c =
     let n = many c.args.without.now c.args.ledger.now w c.in_ok-issuers.issuers.items c.in_ok-left_out.ensures
     (c.in_ok-issuers.ensures.set ∙ issuers_without w c.args.ledger.now (map part_fields c.parts.result.now) c.parts.ensures.value) in
     let l = c.len.ensures in
-    let few = c.if-len-gt-MAX_ISSUERS.false in
+    let few = c.in_ok-check_limit.ensures.few in
     omega (arith, n)
 
 pub returns-clause-head : goal.returns-clause-head
