@@ -1,5 +1,5 @@
 -- What building asks of each group, and the faults of leaves.
-use Rattle.std.proofs.Common.{◌≡◌, ◌<◌, ◌≤◌, ℕ, zero, suc, List, length, map, get_or, Err, refl, ap, subst, arith, All}
+use Rattle.std.proofs.Common.{◌≡◌, ◌<◌, ◌≤◌, ℕ, zero, suc, List, length, map, get_or, Result, Ok, Err, MatchResult, refl, sym, ap, subst, arith, All}
 use Rattle.std.proofs.lemmas.List.{length-map, get_or-map}
 use Rattle.std.proofs.lemmas.List.Sums.{get_or-le-sum_by}
 use Rattle.equation_core.specs.Rows.{Rows}
@@ -8,6 +8,8 @@ use Rattle.stage_core.specs.declared.fault.BlockFault.TheVariants as block
 use Rattle.stage_core.specs.Built.{BuildsLeaf}
 use Rattle.universe_core.specs.declared.admitted.Group.{Group}
 use Rattle.universe_core.specs.Groups.{GroupFields, group_fields, IsGroup}
+use Rattle.builder_core.specs.declared.built.Built.{Built}
+use Rattle.builder_core.specs.declared.fault.BuildFault.{BuildFault}
 use Rattle.builder_core.specs.Building.{fault_of, identities_in}
 use Rattle.builder_core.specs.Cutting.{IsReady}
 use Rattle.builder_core.specs.Tasks.{TaskFields, revoked_of, others_of}
@@ -25,10 +27,12 @@ groups_ready groups all few i d lt =
     let same : length (get_or fields i (group_fields g)).universe ≡ length g.universe.items = ap (λ (x : GroupFields). length x.universe) at in
     record { beside = facts.beside; few = omega (arith, le, few, same) }
 
--- the fault of a leaf is its outcome, with its issuer
-pub outcome_fault : (rows : Rows) (t : TaskFields) (fault : BlockFault) → BuildsTask rows t (Err fault) → IsOutcome rows t (Err (fault_of t.group.issuer fault))
-outcome_fault rows t block.NoMemory h = tt
-outcome_fault rows t (block.SeedsExhausted stage) h = (refl, h)
+-- a leaf, or its fault with its issuer, is its outcome
+pub outcome_is : (rows : Rows) (t : TaskFields) (built : Result Built BlockFault) (outcome : Result Built BuildFault) → BuildsTask rows t built
+    → MatchResult built (λ leaf. outcome ≡ Ok leaf) (λ fault. outcome ≡ Err (fault_of t.group.issuer fault)) → IsOutcome rows t outcome
+outcome_is rows t (Ok leaf) outcome h e = subst (IsOutcome rows t) (sym e) h
+outcome_is rows t (Err block.NoMemory) outcome h e = subst (IsOutcome rows t) (sym e) tt
+outcome_is rows t (Err (block.SeedsExhausted stage)) outcome h e = subst (IsOutcome rows t) (sym e) (refl, h)
 
 fault_of_shard : (rows : Rows) (g : GroupFields) (shift shard : ℕ) (fault : BlockFault) → (shift ≡ 0 → ⊥)
     → BuildsLeaf rows (revoked_of (record { group = g; shift = shift; shard = shard })) (others_of (record { group = g; shift = shift; shard = shard })) (Err fault)

@@ -10,10 +10,18 @@ use Rattle.std.proofs.lemmas.Option.{slice_get-map, slice_get-get_or}
 use Rattle.equation_core.specs.Rows.{Rows}
 use Rattle.claim_core.specs.Work.{IsInPlace}
 use Rattle.builder_core.specs.declared.fault.BuildFault.{BuildFault}
+use Rattle.builder_core.specs.declared.fault.BuildFault.TheVariants as fault
 use Rattle.builder_core.specs.declared.built.Built.{Built}
 use Rattle.builder_core.specs.declared.task.Task.{Task}
 use Rattle.builder_core.specs.Tasks.{TaskFields, task_fields}
-use Rattle.builder_core.specs.Outcomes.{IsOutcome, IsOutcomeAt, AreOutcomes}
+use Rattle.builder_core.specs.Outcomes.{IsOutcome, IsSettled, IsOutcomeAt, AreOutcomes}
+
+-- what holds of an outcome holds of it once want of memory is apart
+pub settled_as : (P : Result Built BuildFault → Type 0) (o : Result Built BuildFault) (r : Result (Result Built BuildFault) NoMemory) → IsSettled o r → P o → IfOk r P
+settled_as P (Ok built) r s p = subst (λ (x : Result (Result Built BuildFault) NoMemory). IfOk x P) (sym s) p
+settled_as P (Err (fault.SeedsExhausted issuer stage)) r s p = subst (λ (x : Result (Result Built BuildFault) NoMemory). IfOk x P) (sym s) p
+settled_as P (Err fault.NoMemory) (Ok o) s p = absurd s
+settled_as P (Err fault.NoMemory) (Err want) s p = tt
 
 module _ (rows : Rows) where
   -- what comes of the leaf that was read at a place

@@ -1,15 +1,20 @@
 -- What holds of the blocks of all groups, and of a refusal.
 use Rattle.std.specs.Prelude.{◌≡◌, ◌<◌, ◌⊎◌, ℕ, false, List, length, map, slice_index_or, Result, Ok}
+use Rattle.std.specs.Borrow.{Bor}
+use Rattle.std.specs.declared.alloc.Global.{Global}
+use Rattle.std.specs.declared.vec.Vec.{Vec}
 use Rattle.ident_core.specs.declared.identity.Identity.{Identity}
 use Rattle.equation_core.specs.Rows.{Rows}
 use Rattle.card_core.specs.declared.block.Block.{Block}
 use Rattle.card_core.specs.Filter.{is_positive}
 use Rattle.universe_core.specs.Groups.{GroupFields}
+use Rattle.claim_core.specs.Work.{IsInPlace}
 use Rattle.builder_core.specs.declared.format.Format.{Format}
 use Rattle.builder_core.specs.declared.fault.BuildFault.{BuildFault}
 use Rattle.builder_core.specs.declared.fault.BuildFault.TheVariants.{SeedsExhausted}
 use Rattle.builder_core.specs.declared.built.Built.{Built}
 use Rattle.builder_core.specs.Building.{IsGroupBlock, AreGroupBlocks, IsFirstRefused}
+use Rattle.builder_core.specs.Drawing.{AreDrawnAt}
 use Rattle.builder_core.specs.Tasks.{tasks_in}
 use Rattle.builder_core.specs.Outcomes.{AreOutcomes, IsFirstFault}
 
@@ -34,6 +39,12 @@ abbrev pub RefusedHasNoBlocks : Type 0
 RefusedHasNoBlocks =
     (format : Format) (rows : Rows) (groups : List GroupFields) (issuer : List ℕ) (stage : ℕ) (blocks : List Block)
     → IsFirstRefused format rows groups issuer stage → AreGroupBlocks format rows groups blocks → ⊥
+
+-- runs of neighbours have one list of shards
+abbrev pub ShardsAreUnique : Type 0
+ShardsAreUnique =
+    (shift : ℕ) (runs : List (Bor (List Identity))) (xs ys : List (Vec ℕ Global)) → length xs ≡ length runs → length ys ≡ length runs
+    → IsInPlace (AreDrawnAt shift runs) xs → IsInPlace (AreDrawnAt shift runs) ys → map (λ v. v.items) xs ≡ map (λ v. v.items) ys
 
 -- only one issuer is the first that is refused, at one stage
 abbrev pub OneIsFirstRefused : Type 0

@@ -3,6 +3,7 @@ use Rattle.std.specs.Prelude.{◌≡◌, ◌≤◌, ℕ, zero, suc, List, [], �
 use Rattle.std.specs.List.{slice_get}
 use Rattle.std.specs.declared.alloc.Global.{Global}
 use Rattle.std.specs.declared.vec.Vec.{Vec}
+use Rattle.octets_core.specs.declared.memory.NoMemory.{NoMemory as Want}
 use Rattle.equation_core.specs.Rows.{Rows}
 use Rattle.card_core.specs.declared.block.Block.{Block}
 use Rattle.card_core.specs.Leaf.{flagged, IsLeaf, IsRefused}
@@ -41,6 +42,12 @@ abbrev pub IsOutcome : Rows → TaskFields → Result Built BuildFault → Type 
 IsOutcome rows t (Ok built) = IsBuilt rows t built
 IsOutcome rows t (Err NoMemory) = Unit {0}
 IsOutcome rows t (Err (SeedsExhausted issuer stage)) = (t.group.issuer ≡ issuer) × IsTaskRefused rows t.group t.shift t.shard stage
+
+-- the outcome, but want of memory apart from the others
+abbrev pub IsSettled : Result Built BuildFault → Result (Result Built BuildFault) Want → Type 0
+IsSettled (Err NoMemory) (Ok outcome) = ⊥
+IsSettled (Err NoMemory) (Err want) = Unit {0}
+IsSettled outcome settled = settled ≡ Ok outcome
 
 -- the same of the leaf at a place
 abbrev pub IsOutcomeAt : Rows → List TaskFields → ℕ → Result Built BuildFault → Type 0

@@ -1,5 +1,6 @@
-ghost use Rattle.std.specs.Prelude.{◌≡◌, ◌≤◌, map, not};
+ghost use Rattle.std.specs.Prelude.{◌≡◌, ◌≤◌, map, not, MatchResult};
 ghost use Rattle.stage_core.specs.Built.{BuildsBlock, BuildsLeaf};
+ghost use Rattle.builder_core.specs.Building.{fault_of};
 ghost use Rattle.builder_core.specs.Cutting.{IsReady};
 ghost use Rattle.builder_core.specs.Tasks.{others_of, revoked_of, task_fields};
 ghost use Rattle.builder_core.specs.Outcomes.{BuildsTask, IsOutcome};
@@ -10,6 +11,7 @@ use crate::task::Task;
 use crate::{BuildFault, Gate};
 use card_core::{Block, Leaf};
 use equation_core::EquationHash;
+use octets_core::Key32;
 use stage_core::{BlockFault, build_block, build_block_wide, build_leaf};
 use std::alloc::Global;
 use std::thread::Threads;
@@ -76,6 +78,16 @@ fn built_of<R: Threads + Sync, H: EquationHash + Sync>(
     }
 }
 
+// The same of a leaf of this issuer. It takes no memory.
+fn of_issuer(issuer: Key32, built: Result<Built, BlockFault>) -> Result<Built, BuildFault>
+    ensures { MatchResult built (λ leaf. result ≡ Ok leaf) (λ fault. result ≡ Err (fault_of issuer fault)) }
+{
+    match built {
+        Ok(leaf) => Ok(leaf),
+        Err(fault) => Err(BuildFault::new(issuer, fault)),
+    }
+}
+
 /// What comes of the leaf at this place. The gate is entered before.
 pub(crate) fn outcome_of<R: Threads + Sync, H: EquationHash + Sync, G: Gate + Sync>(
     rt: &R,
@@ -89,8 +101,6 @@ pub(crate) fn outcome_of<R: Threads + Sync, H: EquationHash + Sync, G: Gate + Sy
     ensures { IsOutcome (H.row_of hash.now) (task_fields task.now) result }
 {
     gate.enter(place);
-    match built_of(rt, alloc, hash, wide, task) {
-        Ok(built) => Ok(built),
-        Err(fault) => Err(BuildFault::new(task.group.issuer, fault)),
-    }
+    let built = built_of(rt, alloc, hash, wide, task);
+    of_issuer(task.group.issuer, built)
 }

@@ -6,7 +6,7 @@ ghost use Rattle.builder_core.specs.declared.built.Built.{Built};
 ghost use Rattle.builder_core.specs.declared.fault.BuildFault.{BuildFault};
 ghost use Rattle.builder_core.specs.declared.task.Task.{Task};
 ghost use Rattle.builder_core.specs.Tasks.{max_tasks, task_fields};
-ghost use Rattle.builder_core.specs.Outcomes.{AreOutcomes, IsOutcome};
+ghost use Rattle.builder_core.specs.Outcomes.{AreOutcomes, IsOutcome, IsSettled};
 
 use crate::built::Built;
 use crate::outcome::outcome_of;
@@ -57,10 +57,22 @@ impl<'a, 'b, H: EquationHash, F: Fn(u32, &Task<'b>) -> Result<Built, BuildFault>
 
     fn work(&self, place: u32) -> Result<Result<Built, BuildFault>, NoMemory> {
         let outcome = (self.call)(place, &self.tasks[place as usize]);
-        if matches!(outcome, Err(BuildFault::NoMemory)) {
-            return Err(NoMemory);
-        }
-        Ok(outcome)
+        settled(outcome)
+    }
+}
+
+// What comes of a leaf, where want of memory is that of the work. It takes no memory.
+fn settled(outcome: Result<Built, BuildFault>) -> Result<Result<Built, BuildFault>, NoMemory>
+    ensures { IsSettled outcome result }
+{
+    match outcome {
+        Ok(built) => Ok(Ok(built)),
+        Err(fault) => match fault {
+            BuildFault::SeedsExhausted { issuer, stage } => {
+                Ok(Err(BuildFault::SeedsExhausted { issuer, stage }))
+            }
+            BuildFault::NoMemory => Err(NoMemory),
+        },
     }
 }
 
