@@ -9,7 +9,7 @@ pub enum What {
     Serials,
     Entries,
     Identities,
-    /// The different issuers that a ledger's parts have together.
+    /// The different issuers that a ledger's parts have together, but for those that a rebase leaves out.
     Issuers,
 }
 
