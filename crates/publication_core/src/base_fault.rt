@@ -9,7 +9,7 @@ use rebase_core::RebaseFault;
 /// Why a ledger isn't rebased.
 #[derive(Clone, Copy, Debug, PartialEq, Eq)]
 pub enum BaseFault {
-    /// The parts of the ledger have more different issuers than one part may.
+    /// The parts of the ledger have more different issuers than one part may, those that are left out not counted.
     TooMany { what: What, limit: u32 },
     /// The equations of this issuer's approximate stage (1) or exact stage (2) are unsolvable at each of the 256 seeds,
     /// and those of each issuer before it are solved.
