@@ -58,8 +58,8 @@ class Device:
         capacity = self.number(10, 8, 1, GREATEST)
         at = 4096 + gate * (8 + capacity)
         length = self.number(at, 8, 0, capacity)
-        if length:
-            self.field(at + 8 + length - 1, 1, lambda _: True)
+        if length and not self.read(at + 8 + length - 1, 1):
+            raise Refused(14, f"device {at}")
         return Slot(capacity, gate, at + 8, length)
 
     def held(self) -> tuple[Slot, list[Part]]:
