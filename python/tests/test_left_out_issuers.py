@@ -1,5 +1,6 @@
 """Each rule of CRLs and their issuers is left out in turn, as in test_left_out.py."""
 
+from collections.abc import Mapping
 from pathlib import Path
 from typing import Any
 
@@ -16,6 +17,7 @@ from web.world import HOUR, Issuer, Log
 pytestmark = pytest.mark.usefixtures("plain_charts")
 
 ENROL = issuers.enrolled
+JUDGED = issuers._judged
 
 
 def with_some(config: configuration.Config, state: Any, moment: int) -> issuers.Enrolment:
@@ -40,6 +42,13 @@ def fetched_now(config: configuration.Config, state: Any, moment: int) -> issuer
             left[issuer.key] = "a fetch failed"
     lacks = [issuers.Lack(key, "an issuer", "its URL", why) for key, why in left.items() if key in made.crls]
     return issuers.Enrolment(taken, left, (*made.lacks, *lacks))
+
+
+def judged_alone(
+    tried: kept.Tried, held: Mapping[str, kept.KeptCrl], tries: list[kept.Tried], moment: int
+) -> kept.Tried:
+    """Judges a CRL without a look at those of other URLs."""
+    return JUDGED(tried, {url: crl for url, crl in held.items() if url == tried.url}, [tried], moment)
 
 
 PARTITIONS = [cert(1, 1, on=2), cert(2, 1, on=2, crl=1), cert(3, 1), cert(4, 1, crl=1)]
@@ -95,6 +104,13 @@ CASES = [
         "a CRL without a distribution point is taken where there are several",
         world(1, PARTITIONS, Issuer(crls=2, bad=((0, 0, "unnamed"),))),
         instead((crls, "_test_point", NO_TEST)),
+        "wrong",
+        still=frozenset({"issuer"}),
+    ),
+    Case(
+        "one CRL is taken at two URLs",
+        world(1, PARTITIONS, Issuer(crls=2, key="rsa", bad=((0, 0, "twice"), (0, 1, "twice")))),
+        instead((issuers, "_judged", judged_alone)),
         "wrong",
         still=frozenset({"issuer"}),
     ),

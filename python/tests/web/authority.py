@@ -50,8 +50,8 @@ def _name(text: str) -> x509.Name:
     return x509.Name([x509.NameAttribute(x509.NameOID.COMMON_NAME, text)])
 
 
-def _at_url(url: str) -> list[x509.GeneralName]:
-    return [x509.UniformResourceIdentifier(url)]
+def _at_urls(*urls: str) -> list[x509.GeneralName]:
+    return [x509.UniformResourceIdentifier(url) for url in urls]
 
 
 def authority_certificate(subject: x509.Name, key: Key, issuer: x509.Name, by: Key) -> x509.Certificate:
@@ -109,7 +109,7 @@ class Authority:
             .not_valid_after(date(cert.until))
             .add_extension(x509.AuthorityKeyIdentifier.from_issuer_public_key(self.key.public_key()), False)
             .add_extension(
-                x509.CRLDistributionPoints([x509.DistributionPoint(_at_url(point), None, None, None)]), False
+                x509.CRLDistributionPoints([x509.DistributionPoint(_at_urls(point), None, None, None)]), False
             )
         )
 
@@ -128,6 +128,7 @@ class Authority:
         """The CRL of a partition at a moment: of `certs`, those that it lists. `fault` is as in world.CrlFault, where
         it changes what is signed."""
         partition = (partition + 1) % self.spec.crls if fault in ("swap", "unnamed") else partition
+        partition, named = (0, range(self.spec.crls)) if fault == "twice" else (partition, (partition,))
         listed = [cert for cert in certs if cert.issuer == self.place and cert.crl == partition and cert.listed(moment)]
         listed = [] if fault in ("foreign", "delta", "indirect") else listed
         this, following = self._times(moment, fault)
@@ -140,7 +141,7 @@ class Authority:
             builder = builder.add_extension(x509.DeltaCRLIndicator(1), True)
         if self.spec.points != "none" and fault != "unnamed" or fault == "indirect":
             point = x509.IssuingDistributionPoint(
-                _at_url(self.point(partition)), None, False, False, None, fault == "indirect", False
+                _at_urls(*map(self.point, named)), None, False, False, None, fault == "indirect", False
             )
             builder = builder.add_extension(point, True)
         for cert in {cert.serial: cert for cert in listed}.values():

@@ -140,6 +140,8 @@ class LogServer:
             return replace(view, size=max(known - 1, 0), served=max(known - 1, 0))
         if fault == "fork" and known and self._fine(epoch):
             return self._forked(view, known - 1)
+        if fault == "branch":
+            return self._forked(view, self.view(world, epoch - 1).served)
         # Whoever never saw the log can't know that it forks.
         return replace(self._forked(view, known), foreign=True) if fault in ("unsigned", "fork") else view
 

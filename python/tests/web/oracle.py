@@ -102,9 +102,13 @@ class Truth:
                     until = self.world.moments[made] + issuer.valid if issuer.valid is not None else 1 << 62
                     self.kept[place, partition] = until // 1000 * 1000, made, octets
 
+    def now(self, epoch: int) -> int:
+        """The moment of an epoch: what the clock says, which never goes back."""
+        return max(self.world.now(before) for before in range(epoch + 1))
+
     def can_enrol(self, epoch: int) -> set[int]:
         """The issuers whose CRLs are all there and in time."""
-        now = self.world.now(epoch)
+        now = self.now(epoch)
         return {
             place
             for place, issuer in enumerate(self.world.issuers)
@@ -146,14 +150,15 @@ class Truth:
         known = [one for one in self.things.issued if one.cert.issuer == issuer and one.identity in self.births]
         if known:
             self.asked += len(known)
-            listed = self.openssl.revoked(issuer, crls, [one.place for one in known], self.world.now(epoch))
+            moment = max(self.now(epoch), self.world.moments[epoch])
+            listed = self.openssl.revoked(issuer, crls, [one.place for one in known], moment)
             self.revoked.update(self.things.issued[place].identity for place in listed)
 
     def _crl(self, epoch: int, issuer: int, partition: int) -> bytes:
         """A CRL by which the truth goes: the newest that a publisher could accept, where it is in time. A publisher
         that enrols the issuer without one is held against what the authority would publish."""
         until, _, octets = self.kept.get((issuer, partition), (-1, -1, b""))
-        if until >= self.world.now(epoch):
+        if until >= self.now(epoch):
             return octets
         authority, moment = self.things.authorities[issuer], self.world.moments[epoch]
         return authority.crl(list(self.world.certs), partition, moment, None, epoch + 1)

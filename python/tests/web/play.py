@@ -22,7 +22,7 @@ from .world import World, named, told
 
 FEW = 60
 CERTIFICATE = re.compile(r" certificate (\d+) ")
-NO_NEWS = {"silent", "busy", "garbage", "unsigned", "fork", "ahead", "shrinks"}
+NO_NEWS = {"silent", "busy", "garbage", "unsigned", "fork", "branch", "ahead", "shrinks"}
 
 
 @dataclass(frozen=True)

@@ -15,17 +15,21 @@ T = 1_788_220_800_000  # 2026-09-01 00:00:00 UTC: the worlds' hour 0
 LONG = T // 1000 + 10**8
 
 CrlFault = Literal[
-    "missing", "cut", "garbage", "stale", "edge", "swap", "foreign", "delta", "indirect", "older", "unnamed"
+    "missing", "cut", "garbage", "stale", "edge", "swap", "foreign", "delta", "indirect", "older", "unnamed", "twice"
 ]
 """What stands at a CRL's URL in an epoch: missing: nothing; cut: its front; garbage: no CRL; stale: one out of date by
 2 seconds; edge: one out of date by less than a second; swap: another partition's; unnamed: the same without an issuing
 distribution point; foreign: an empty one that another key signed; delta, indirect: an empty one of this kind; older:
-that of two epochs before."""
+that of two epochs before; twice: the first partition's, whose issuing distribution point names all URLs of the issuer:
+by an RSA key the same bytes at each of them."""
 
-LogFault = Literal["silent", "busy", "garbage", "unsigned", "old", "short", "fork", "ahead", "grows", "shrinks"]
+LogFault = Literal[
+    "silent", "busy", "garbage", "unsigned", "old", "short", "fork", "branch", "ahead", "grows", "shrinks"
+]
 """What a log does in an epoch: silent: no answer; busy: status 429 to all; garbage: no tree head; unsigned: other new
 entries, under a tree head that another key signed; old: an earlier tree head; short: only a front of the entries comes;
-fork: other entries, from the last known one on, under a signed tree head; ahead: a tree head whose time lies 48 hours
+fork: other entries, from the last known one on, under a signed tree head; branch: behind a short one, other entries
+than those that didn't come in it, under a signed tree head; ahead: a tree head whose time lies 48 hours
 ahead; grows: a new tree head at each answer, and entries behind it; shrinks: a smaller tree of a later time."""
 
 
@@ -85,7 +89,7 @@ class Log:
 
     def mmd_at(self, epoch: int) -> int:
         """The MMD that CONFIG says in an epoch."""
-        return max(MINUTE, self.mmd, *(mmd for at, mmd in self.conf if at <= epoch))
+        return max([self.mmd, *(mmd for at, mmd in self.conf if at <= epoch)])
 
 
 @dataclass(frozen=True)
