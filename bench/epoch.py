@@ -1,11 +1,11 @@
 #!/usr/bin/python3
 """Times one epoch of the publisher, from the spool to the site, beside the program's own calls in it.
 
-    bench/epoch.py [ENTRIES [ISSUERS [BYTES]]]
+    bench/epoch.py [--rebase] [ENTRIES [ISSUERS [BYTES]]]
 
 A spool gets so many precertificate entries (1,000,000) of so many issuers (200), each with one CRL that lists one
 certificate of a hundred; certificates are padded to so many bytes (1,000). In turn: a first epoch of all of them, and
-another one behind it in which each CRL lists more. Told are the seconds of the epoch, of the site and of the program's
+another one behind it in which each CRL lists more; with --rebase a rebase follows each of them. Told are the seconds of the epoch, of the site and of the program's
 calls, the first two together by the last, and the memory that this process took at most: before the first epoch, and
 at the end. Wants minisign, and the packages of python/debian-packages.txt.
 """
@@ -127,14 +127,14 @@ def memory() -> float:
     return resource.getrusage(resource.RUSAGE_SELF).ru_maxrss / 1000
 
 
-def config_of(folder: Path, issuers: int) -> Config:
+def config_of(folder: Path, issuers: int, rebase_after: int) -> Config:
     named = tuple(Issuer(f"Issuer {n}", key(n), (), (f"http://crl/{n}",), {}) for n in range(issuers))
     secret, program = folder / "key", str(TOP / "release" / "clubcard-x86_64-linux")
     words = ["minisign", "-G", "-W", "-p", str(folder / "key.pub"), "-s", str(secret)]
     subprocess.run(words, check=True, stdout=subprocess.DEVNULL)
     day = 24 * HOUR
     paths = folder / "config.toml", "bench", folder / "state", folder / "site", secret, None, program
-    return Config(*paths, 4, day, 40, 8, 10 * day, 7 * day, 30 * day, named, (LOG,))
+    return Config(*paths, 4, day, rebase_after, 8, 10 * day, 7 * day, 30 * day, named, (LOG,))
 
 
 def epoch(config: Config, state: State, moment: int, enrolled: Enrolment) -> None:
@@ -152,9 +152,10 @@ def epoch(config: Config, state: State, moment: int, enrolled: Enrolment) -> Non
 
 
 def main() -> None:
-    count, issuers, size = (int(word) for word in [*sys.argv[1:], *("1000000", "200", "1000")[len(sys.argv) - 1 :]])
+    words = [word for word in sys.argv[1:] if word != "--rebase"]
+    count, issuers, size = (int(word) for word in [*words, *("1000000", "200", "1000")[len(words) :]])
     with tempfile.TemporaryDirectory(prefix="clubcard-bench-") as name:
-        config = config_of(Path(name), issuers)
+        config = config_of(Path(name), issuers, 1 if "--rebase" in sys.argv else 40)
         state = State.open(config.state)
         begin = time.monotonic()
         fill(state, count, issuers, der(4, bytes(max(0, size - 60))))

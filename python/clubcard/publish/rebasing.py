@@ -148,10 +148,13 @@ def _forget(making: Making, generation: int, without: list[int]) -> None:
     db.executemany("INSERT INTO temp.gone VALUES (?)", ((issuer,) for issuer in without))
     is_left = "issuer IN (SELECT issuer FROM temp.gone)"
     db.execute(f"DELETE FROM identity WHERE {is_left} OR until * 1000 < ?", (cut,))
-    db.execute(f"UPDATE entry SET epoch = NULL, late = NULL WHERE {is_left}")
+    if without:
+        db.execute(f"UPDATE entry SET epoch = NULL, late = NULL WHERE {is_left}")
+    # Of an identity that was pruned each entry expired before that time.
     db.execute(
-        """DELETE FROM entry WHERE epoch IS NOT NULL AND NOT EXISTS (
-            SELECT 1 FROM identity k WHERE k.issuer = entry.issuer AND k.serial = entry.serial)"""
+        """DELETE FROM entry WHERE epoch IS NOT NULL AND until * 1000 < ? AND NOT EXISTS (
+            SELECT 1 FROM identity k WHERE k.issuer = entry.issuer AND k.serial = entry.serial)""",
+        (cut,),
     )
     recording.forget(making, generation, cut)
 
