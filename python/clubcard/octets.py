@@ -55,8 +55,8 @@ def bytes_like(given: BytesLike, what: str) -> BytesLike:
 
 
 def octets_of(given: BytesLike, what: str) -> bytes:
-    """The bytes of a bytes-like value."""
-    return memoryview(bytes_like(given, what)).tobytes()
+    """The bytes of a bytes-like value. Bytes never change, and are taken as they are."""
+    return given if type(given) is bytes else memoryview(bytes_like(given, what)).tobytes()
 
 
 def key_of(given: BytesLike, what: str) -> bytes:
