@@ -28,36 +28,16 @@ use Rattle.word_core.specs.CommandFields.{QueryFields}
 use Rattle.word_core.specs.DeviceFields.{FormatFields, InstallPartFields}
 use Rattle.device_top.specs.Said.{Said}
 use Rattle.device_top.specs.Replies.{done, refusal, slot_refusal, bad_device, verdict_line}
-use Rattle.device_top.specs.Outcomes.{Outcome, keeps, formats, replaced, added, install_outcome, query_outcome}
+use Rattle.device_top.specs.Outcomes.{Outcome, Deed, Keeps, Formats, Replaces, keeps, formats, replaced, added, install_outcome, query_outcome}
 use Rattle.device_top.specs.Comes.{OfDevice, Queried, Comes}
-use Rattle.device_top.specs.Holding.{Leaves, Answers, NotHeld, IsWant, held_refusal}
+use Rattle.device_top.specs.Holding.{Leaves, Answers, HeldStore, NotHeld, IsWant, held_refusal}
 use Rattle.device_top.specs.declared.held.HeldFault.{HeldFault}
 use Rattle.device_top.specs.declared.held.HeldFault.TheVariants as held
 
 pub status_of : (one other : Said) → one ≡ other → one.status ≡ other.status
 status_of one other is = ap (λ (s : Said). s.status) is
 
--- what is wrong with a file is no fault of the disk
-pub not_disk : (name : List ℕ) (fault : FileFault) → (refusal name fault).status ≢ 13
-not_disk name faults.Unread is = omega (arith, is)
-not_disk name (faults.Layout f) is = omega (arith, is)
-not_disk name faults.NotSnapshot is = omega (arith, is)
-not_disk name (faults.Chain why) is = omega (arith, is)
-not_disk name (faults.BadCrl place fault) is = omega (arith, is)
-not_disk name (faults.TooMany thing limit) is = omega (arith, is)
-not_disk name (faults.Seeds issuer stage) is = omega (arith, is)
-not_disk name (faults.BadCert fault) is = omega (arith, is)
-not_disk name (faults.BadPage fault) is = omega (arith, is)
-not_disk name (faults.Disagrees job entry held truth) is = omega (arith, is)
-not_disk name faults.NoMemory is = omega (arith, is)
-
-pub not_disk_as : (name : List ℕ) (fault : FileFault) (said : Said) → said ≡ refusal name fault → said.status ≢ 13
-not_disk_as name fault said is n = not_disk name fault (sym (status_of said (refusal name fault) is) ∙ n)
-
-pub is_not : (n m : ℕ) (said other : Said) → said ≡ other → other.status ≡ n → (n ≡ m → ⊥) → said.status ≢ m
-is_not n m said other is status differ h = differ (sym (status_of said other is ∙ status) ∙ h)
-
-same_some : (one other : List ℕ) → Some one ≡ Some other → one ≡ other
+pub same_some : {A : Type 0} (one other : A) → Some one ≡ Some other → one ≡ other
 same_some one other is = cc
 
 -- a reply that was made isn't want of memory
@@ -66,102 +46,89 @@ made P said memory p = (let h : IsErr {T = Said} {E = NoMemory} (Ok said) = memo
 
 -- ---- devices
 
-module _ (name : List ℕ) (old new : DiskState) (next : List ℕ → ℕ → List SealedFields → Outcome → Type 0) (quiet : Quiet old new) where
+module _ (name : List ℕ) (old new : DiskState) (next : ℕ → List SealedFields → Outcome → Type 0) (quiet : Quiet old new) where
   by_slots : (f : SlotFault) (said : Said) → (f ≢ slots.NoMemory) → RefusesDevice old new f → said ≡ slot_refusal name f
-      → Answers (λ device. OfDevice name device (next device)) name old new said
-  by_slots (slots.BadDevice at) said some why is =
-      inr (is_not 14 13 said (bad_device at name) is refl (λ h. omega (arith, h)), λ device told. (keeps (bad_device at name), inl (at, why device told, refl), is, quiet.same ∙ told))
+      → Answers (OfDevice name old.told next) name old new said
+  by_slots (slots.BadDevice at) said some why is = inr (keeps (bad_device at name), inl (at, why, refl), is, quiet.same)
   by_slots (slots.TooLong c) said some why is = absurd why
   by_slots slots.DiskFault said some why is = inl (is, why)
   by_slots slots.NoMemory said some why is = absurd (some refl)
 
-  by_store : (f : FileFault) (said : Said) → Shows old.told (λ device. (capacity : ℕ) × (bytes : List ℕ) × IsDevice capacity bytes device × (store_in bytes ≡ Err f))
-      → said ≡ refusal name f → Answers (λ device. OfDevice name device (next device)) name old new said
-  by_store f said why is =
-      inr (
-        not_disk_as name f said is,
-        λ device told.
-            let w = why device told in (keeps (refusal name f), inr (w.0, w.1, w.2, inl (f, w.3, refl)), is, quiet.same ∙ told),
-      )
+  by_store : (f : FileFault) (said : Said) → (capacity : ℕ) × (bytes : List ℕ) × Shows old.told (IsDevice capacity bytes) × (store_in bytes ≡ Err f)
+      → said ≡ refusal name f → Answers (OfDevice name old.told next) name old new said
+  by_store f said (capacity, bytes, there, bad) is = inr (keeps (refusal name f), inr (capacity, bytes, there, inl (f, bad, refl)), is, quiet.same)
 
   pub not_held : (fault : HeldFault) (r : Result Said NoMemory) → NotHeld old new fault → IfOk r (λ s. s ≡ held_refusal name fault) → (IsWant fault → IsErr r)
-      → IfOk r (λ s. Answers (λ device. OfDevice name device (next device)) name old new s)
+      → IfOk r (λ s. Answers (OfDevice name old.told next) name old new s)
   not_held (held.Slots f) (Ok said) why is memory = by_slots f said (made (f ≡ slots.NoMemory) said memory) (why (made (f ≡ slots.NoMemory) said memory)) is
   not_held (held.Store f) (Ok said) why is memory = by_store f said (why (made (f ≡ faults.NoMemory) said memory)) is
   not_held fault (Err e) why is memory = tt
-
--- a store that was read from a device
-abbrev pub HeldStore : DiskState → DiskState → SlotsView → List SealedFields → Type 0
-HeldStore old mid slots parts = Shows old.told (λ _. (bytes : List ℕ) × IsSlotsOf mid slots bytes × (store_in bytes ≡ Ok parts))
 
 pub held_there : (old mid : DiskState) (slots : SlotsView) (bytes device : List ℕ) → Quiet old mid → old.told ≡ Some device → IsSlotsOf mid slots bytes
     → IsDevice slots.capacity bytes device
 held_there old mid slots bytes device quiet told of =
     subst (IsDevice slots.capacity bytes) (same_some of.attached.device device (sym of.attached.reads ∙ quiet.same ∙ told)) of.attached.holds
 
+-- a store that was read from a device stands in its slot
+pub shown_there : (old mid : DiskState) (slots : SlotsView) (bytes : List ℕ) → Quiet old mid → Shows old.told (λ _. IsSlotsOf mid slots bytes)
+    → Shows old.told (IsDevice slots.capacity bytes)
+shown_there old mid slots bytes quiet held = λ device told. held_there old mid slots bytes device quiet told (held device told)
+
 -- so it was attached
 pub attached_mid : (old mid : DiskState) (slots : SlotsView) (parts : List SealedFields) → Quiet old mid → HeldStore old mid slots parts
     → Shows mid.told (λ _. (bytes : List ℕ) × IsSlotsOf mid slots bytes)
-attached_mid old mid slots parts quiet held = λ device told. let h = held device (sym quiet.same ∙ told) in (h.0, h.1)
+attached_mid old mid slots parts quiet (bytes, read, held) = λ device told. (bytes, held device (sym quiet.same ∙ told))
 
 pub queried : (q : QueryFields) (old new : DiskState) (slots : SlotsView) (parts : List SealedFields) (said : Said)
     → Quiet old new → HeldStore old new slots parts → said ≡ done (verdict_line (verdict (map (λ s. s.part) parts) q.id q.sightings))
-    → Answers (λ device. Queried q device) q.store old new said
-queried q old new slots parts said quiet held is =
-    inr (
-      is_not 0 13 said (done (verdict_line (verdict (map (λ s. s.part) parts) q.id q.sightings))) is refl (λ h. omega (arith, h)),
-      λ device is_told.
-          let h = held device is_told in
-          (query_outcome q parts, inr (slots.capacity, h.0, held_there old new slots h.0 device quiet is_told h.1, inr (parts, h.2, refl)), is, quiet.same ∙ is_told),
-    )
+    → Answers (Queried q old.told) q.store old new said
+queried q old new slots parts said quiet (bytes, read, held) is =
+    inr (query_outcome q parts, inr (slots.capacity, bytes, shown_there old new slots bytes quiet held, inr (parts, read, refl)), is, quiet.same)
 
 -- ---- device-install
+
+-- what a deed leaves, behind a reading of the disk
+leaves_later : (deed : Deed) (old mid new : DiskState) → Quiet old mid → Leaves deed mid new → Leaves deed old new
+leaves_later Keeps old mid new quiet leaves = leaves ∙ quiet.same
+leaves_later (Formats capacity bytes) old mid new quiet leaves = λ device told. leaves device (quiet.same ∙ told)
+leaves_later (Replaces capacity bytes) old mid new quiet leaves = λ device told. leaves device (quiet.same ∙ told)
 
 module _ (i : InstallPartFields) (told : Option Files) (failed : Option (List ℕ) → Type 0) (old mid new : DiskState) (slots : SlotsView) (parts : List SealedFields)
     (quiet : Quiet old mid) (held : HeldStore old mid slots parts) where
   -- the command ends with an outcome of the store and the file
   ends_so : (given : Option (List ℕ)) (o : Outcome) (said : Said) → IsRead told failed i.part given → o ≡ install_outcome i slots.capacity parts (input_as part_in given)
-      → said.status ≢ 13 → said ≡ o.said → ((device : List ℕ) → old.told ≡ Some device → Leaves o.deed device new)
-      → Answers (Comes (commands.Install i) told failed) i.device old new said
-  ends_so given o said read is_o not is leaves = inr (
-    not,
-    λ device is_told.
-        let h = held device is_told in
-        (o, inr (slots.capacity, h.0, held_there old mid slots h.0 device quiet is_told h.1, inr (parts, h.2, (given, read, is_o))), is, leaves device is_told),
-  )
+      → said ≡ o.said → Leaves o.deed old new → Answers (Comes (commands.Install i) told failed old.told) i.device old new said
+  ends_so given o said read is_o is leaves =
+      inr (o, inr (slots.capacity, held.0, shown_there old mid slots held.0 quiet held.2, inr (parts, held.1, (given, read, is_o))), is, leaves)
 
   pub no_part : {B : Type 0} (view : B → SealedFields × ℕ) (fault : FileFault) (r : Result Said NoMemory) → new.told ≡ mid.told → IsInput told failed i.part part_in view (Err fault)
-      → IfOk r (λ s. s ≡ refusal i.part fault) → (fault ≡ faults.NoMemory → IsErr r) → IfOk r (λ s. Answers (Comes (commands.Install i) told failed) i.device old new s)
+      → IfOk r (λ s. s ≡ refusal i.part fault) → (fault ≡ faults.NoMemory → IsErr r)
+      → IfOk r (λ s. Answers (Comes (commands.Install i) told failed old.told) i.device old new s)
   no_part view fault (Ok said) same (given, read, gives, blamed) is memory =
       ends_so given (keeps (refusal i.part fault)) said read (sym (ap (install_outcome i slots.capacity parts) (gives (made (fault ≡ faults.NoMemory) said memory))))
-      (not_disk_as i.part fault said is) is (λ device is_told. same ∙ quiet.same ∙ is_told)
+      is (same ∙ quiet.same)
   no_part view fault (Err e) same input is memory = tt
 
   pub not_taken : {B : Type 0} (view : B → SealedFields × ℕ) (x : B) (why : Refusal) (fault : FileFault) (r : Result Said NoMemory) → new.told ≡ mid.told
       → IsInput told failed i.part part_in view (Ok x) → refusal_of parts (view x).0 ≡ Some why → fault ≡ faults.Chain why → IfOk r (λ s. s ≡ refusal i.part fault)
-      → IfOk r (λ s. Answers (Comes (commands.Install i) told failed) i.device old new s)
+      → IfOk r (λ s. Answers (Comes (commands.Install i) told failed old.told) i.device old new s)
   not_taken view x why fault (Ok said) same (given, read, gives, blamed) refused is_fault is =
-      let is_chain : said ≡ refusal i.part (faults.Chain why) = is ∙ ap (refusal i.part) is_fault in
       ends_so given (keeps (refusal i.part (faults.Chain why))) said read
       (sym (ap (install_outcome i slots.capacity parts) gives ∙ ap (added i slots.capacity parts (view x).0) refused))
-      (not_disk_as i.part (faults.Chain why) said is_chain) is_chain (λ device is_told. same ∙ quiet.same ∙ is_told)
+      (is ∙ ap (refusal i.part) is_fault) (same ∙ quiet.same)
   not_taken view x why fault (Err e) same input refused is_fault is = tt
 
   put_on : (given : Option (List ℕ)) (more : List SealedFields) (said : Said) → old.faults ≤ mid.faults → IsRead told failed i.part given
       → replaced i.device slots.capacity more ≡ install_outcome i slots.capacity parts (input_as part_in given)
-      → Answers (λ _ o. o ≡ replaced i.device slots.capacity more) i.device mid new said → Answers (Comes (commands.Install i) told failed) i.device old new said
+      → Answers (λ o. o ≡ replaced i.device slots.capacity more) i.device mid new said → Answers (Comes (commands.Install i) told failed old.told) i.device old new said
   put_on given more said later read is_more (inl (is, rose)) = inl (is, omega (arith, rose, later))
-  put_on given more said later read is_more (inr (not, shows)) = inr (
-    not,
-    λ device is_told.
-        let h = held device is_told in
-        let w = shows device (quiet.same ∙ is_told) in
-        (w.0, inr (slots.capacity, h.0, held_there old mid slots h.0 device quiet is_told h.1, inr (parts, h.2, (given, read, w.1 ∙ is_more))), w.2, w.3),
-  )
+  put_on given more said later read is_more (inr (o, is_o, is, leaves)) =
+      ends_so given o said read (is_o ∙ is_more) is (leaves_later o.deed old mid new quiet leaves)
 
   pub taken : {B : Type 0} (view : B → SealedFields × ℕ) (x : B) (more : List SealedFields) (r : Result Said NoMemory) → old.faults ≤ mid.faults
       → IsInput told failed i.part part_in view (Ok x) → refusal_of parts (view x).0 ≡ None → more ≡ parts ++ (view x).0 ∷ []
-      → IfOk r (λ s. Answers (λ _ o. o ≡ replaced i.device slots.capacity more) i.device mid new s) → IfOk r (λ s. Answers (Comes (commands.Install i) told failed) i.device old new s)
+      → IfOk r (λ s. Answers (λ o. o ≡ replaced i.device slots.capacity more) i.device mid new s)
+      → IfOk r (λ s. Answers (Comes (commands.Install i) told failed old.told) i.device old new s)
   taken view x more (Ok said) later (given, read, gives, blamed) none is_more answers =
       put_on given more said later read
       (ap (replaced i.device slots.capacity) is_more ∙ sym (ap (install_outcome i slots.capacity parts) gives ∙ ap (added i slots.capacity parts (view x).0) none)) answers
@@ -176,39 +143,28 @@ whole_read (Some files) failed name bytes (file, there, is) = there ∙ ap (λ (
 module _ (f : FormatFields) (told : Option Files) (failed : Option (List ℕ) → Type 0) (old new : DiskState) where
   pub no_store : {T : Type 0} (e : InputFault) (r : Result Said NoMemory) → new.told ≡ old.told
       → (IsErrOf {T = T} (Err e) reads.Failed → failed (Some f.store) ⊎ (IsMissing told f.store × failed None))
-      → IfOk r (λ s. s ≡ refusal f.store (of_input e)) → (of_input e ≡ faults.NoMemory → IsErr r) → IfOk r (λ s. Answers (Comes (commands.Format f) told failed) f.device old new s)
+      → IfOk r (λ s. s ≡ refusal f.store (of_input e)) → (of_input e ≡ faults.NoMemory → IsErr r)
+      → IfOk r (λ s. Answers (Comes (commands.Format f) told failed old.told) f.device old new s)
   no_store reads.Failed (Ok said) same why is memory =
-      inr (
-        not_disk_as f.store faults.Unread said is,
-        λ device is_told.
-            (keeps (refusal f.store faults.Unread), (None, elim (why refl) [ inl blamed ↦ inl blamed | inr (missing, none) ↦ inr missing ], refl), is, same ∙ is_told),
-      )
+      inr (keeps (refusal f.store faults.Unread), (None, elim (why refl) [ inl blamed ↦ inl blamed | inr (missing, none) ↦ inr missing ], refl), is, same)
   no_store reads.NoMemory (Ok said) same why is memory = absurd (made (faults.NoMemory ≡ faults.NoMemory) said memory refl)
   no_store e (Err n) same why is memory = tt
 
   pub bad_store : {B : Type 0} (view : B → List SealedFields) (bytes : List ℕ) (fault : FileFault) (r : Result Said NoMemory) → new.told ≡ old.told
       → IsHeld told f.store (λ file. bytes ≡ file) → GivesUnless faults.NoMemory view (Err fault) (store_in bytes) → IfOk r (λ s. s ≡ refusal f.store fault)
-      → (fault ≡ faults.NoMemory → IsErr r) → IfOk r (λ s. Answers (Comes (commands.Format f) told failed) f.device old new s)
+      → (fault ≡ faults.NoMemory → IsErr r) → IfOk r (λ s. Answers (Comes (commands.Format f) told failed old.told) f.device old new s)
   bad_store view bytes fault (Ok said) same held gives is memory =
       let gives_so = sym (ap (formats f bytes) (gives (made (fault ≡ faults.NoMemory) said memory))) in
-      inr (
-        not_disk_as f.store fault said is,
-        λ device is_told.
-            (keeps (refusal f.store fault), (Some bytes, whole_read told failed f.store bytes held, gives_so), is, same ∙ is_told),
-      )
+      inr (keeps (refusal f.store fault), (Some bytes, whole_read told failed f.store bytes held, gives_so), is, same)
   bad_store view bytes fault (Err n) same held gives is memory = tt
 
   format_on : (bytes : List ℕ) (parts : List SealedFields) (said : Said) → IsHeld told f.store (λ file. bytes ≡ file) → store_in bytes ≡ Ok parts
-      → Answers (λ _ o. o ≡ formats f bytes (Ok parts)) f.device old new said → Answers (Comes (commands.Format f) told failed) f.device old new said
+      → Answers (λ o. o ≡ formats f bytes (Ok parts)) f.device old new said → Answers (Comes (commands.Format f) told failed old.told) f.device old new said
   format_on bytes parts said held gives (inl failed_disk) = inl failed_disk
-  format_on bytes parts said held gives (inr (not, shows)) = inr (
-    not,
-    λ device is_told.
-        let w = shows device is_told in
-        (w.0, (Some bytes, whole_read told failed f.store bytes held, w.1 ∙ sym (ap (formats f bytes) gives)), w.2, w.3),
-  )
+  format_on bytes parts said held gives (inr (o, is_o, is, leaves)) =
+      inr (o, (Some bytes, whole_read told failed f.store bytes held, is_o ∙ sym (ap (formats f bytes) gives)), is, leaves)
 
   pub good_store : (bytes : List ℕ) (parts : List SealedFields) (r : Result Said NoMemory) → IsHeld told f.store (λ file. bytes ≡ file) → store_in bytes ≡ Ok parts
-      → IfOk r (λ s. Answers (λ _ o. o ≡ formats f bytes (Ok parts)) f.device old new s) → IfOk r (λ s. Answers (Comes (commands.Format f) told failed) f.device old new s)
+      → IfOk r (λ s. Answers (λ o. o ≡ formats f bytes (Ok parts)) f.device old new s) → IfOk r (λ s. Answers (Comes (commands.Format f) told failed old.told) f.device old new s)
   good_store bytes parts (Ok said) held gives answers = format_on bytes parts said held gives answers
   good_store bytes parts (Err n) held gives answers = tt

@@ -2,6 +2,9 @@ pub mod Answering
 pub mod Putting
 pub mod Surviving
 pub mod Newest
-pub mod Plain
+pub mod OutcomeKinds
+pub mod Once
+pub mod Appending
+pub mod Ending
 pub mod Promised
 pub mod Reading

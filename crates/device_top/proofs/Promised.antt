@@ -1,8 +1,6 @@
 -- What follows from how a call ends, over a disk whose bytes are told.
 use Rattle.std.proofs.Common.{◌≡◌, ℕ, ◌+◌, ◌^◌, ◌≤◌, ◌<◌, Bool, true, false, inl, inr, List, [], ◌∷◌, ◌++◌, length, map, Option, Some, None, Result, Ok, Err, refl, sym, ap, ◌∙◌, subst, arith}
 use Rattle.std.specs.Prelude.{◌≢◌, nat_lt, if◌then◌else◌, All}
-use Rattle.std.specs.Int.{w64, from_be_bytes}
-use Rattle.std.proofs.lemmas.Nat.{from_be_bytes-to_be_bytes_8}
 use Rattle.ident_core.specs.declared.identity.Identity.{Identity}
 use Rattle.ident_core.specs.declared.range.Sighting.{Sighting}
 use Rattle.octets_core.specs.Reading.{value_of}
@@ -14,8 +12,7 @@ use Rattle.card_core.specs.declared.verdict.Verdict.{Verdict}
 use Rattle.store_core.specs.Chain.{IsChain, refusal_of}
 use Rattle.store_core.specs.StoreLayout.{store, store_text}
 use Rattle.card_core.specs.Verdict.{verdict}
-use Rattle.slot_core.specs.Disk.{piece}
-use Rattle.slot_core.specs.Device.{IsDevice, StandsAt, picked_at}
+use Rattle.slot_core.specs.Device.{IsDevice}
 use Rattle.sets_core.specs.Among.{Among}
 use Rattle.universe_core.specs.History.{seen, sightings}
 use Rattle.publication_core.specs.Histories.{History, members, IsHistory, history, store_bytes}
@@ -34,27 +31,12 @@ use Rattle.device_top.specs.Replies.{bad_device, disk_fault, refusal, too_long, 
 use Rattle.device_top.specs.Outcomes.{Outcome, Deed, Formats, Replaces, keeps, stored, formats, format_outcome, added, install_outcome, query_outcome}
 use Rattle.device_top.specs.Comes.{Comes, Queried}
 use Rattle.device_top.specs.Holding.{Leaves}
-use Rattle.device_top.specs.Calls.{DeviceCall, Ends}
-use Rattle.device_top.specs.Promises.{Prints, Formatted, Installed, Answered, Promises}
+use Rattle.device_top.specs.Calls.{DeviceCall, Ends, HasComeOf, Prints}
+use Rattle.device_top.specs.Promises.{Formatted, Installed, Answered, Promises}
 use Rattle.device_top.proofs.Answering.{status_of}
-use Rattle.device_top.proofs.Plain.{plain, not_done}
-
--- ---- one device
-
--- one number stands at a place
-stands_once : (at a b : ℕ) (device : List ℕ) → StandsAt at a device → StandsAt at b device → a < 2 ^ 64 → b < 2 ^ 64 → a ≡ b
-stands_once at a b device is other low high =
-    sym (from_be_bytes-to_be_bytes_8 a low) ∙ ap (from_be_bytes w64) (sym is ∙ other) ∙ from_be_bytes-to_be_bytes_8 b high
-
--- what a device's picked slot holds is one list of bytes
-held_once : (c d : ℕ) (these those device : List ℕ) → IsDevice c these device → IsDevice d those device → these ≡ those
-held_once c d these those device one other =
-    let same : c ≡ d = stands_once 10 c d device one.header.stands other.header.stands (omega (arith, one.header.high)) (omega (arith, other.header.high)) in
-    let moved = subst (λ (n : ℕ). IsDevice n these device) same one in
-    let long : length these ≡ length those =
-    stands_once (picked_at d device) (length these) (length those) device moved.slot.stands other.slot.stands
-    (omega (arith, moved.slot.within, moved.header.high)) (omega (arith, other.slot.within, other.header.high)) in
-    sym moved.slot.held ∙ ap (λ (n : ℕ). piece (picked_at d device + 8) n device) long ∙ other.slot.held
+use Rattle.device_top.proofs.Appending.{appended}
+use Rattle.device_top.proofs.OutcomeKinds.{not_done}
+use Rattle.device_top.proofs.Once.{held_once}
 
 -- ---- the ends of a call
 
@@ -62,53 +44,40 @@ module _ (call : DeviceCall) (device : List ℕ) (told : call.before.told ≡ So
   -- the command was done
   pub record Done : Type 0 where
     pub o : Outcome
-    pub comes : Comes call.asked call.files call.failed device o
+    pub comes : HasComeOf call o
     pub zero : o.said.status ≡ 0
     pub prints : Prints call o.said.text
-    pub leaves : Leaves o.deed device call.after
+    pub leaves : Leaves o.deed call.before call.after
 
   done_by : Ends call → call.printed.status ≡ 0 → Done
   done_by (inl (status, text, same)) zero = absurd (omega (arith, status, zero))
   done_by (inr (said, inl (status, text), inl (is, rose))) zero =
       let thirteen = status_of said (disk_fault _) is in absurd (omega (arith, status, zero, thirteen))
-  done_by (inr (said, inl (status, text), inr (differs, shows))) zero =
-      let (o, comes, is, leaves) = shows device told in
-      record {
-        o = o;
-        comes = comes;
-        zero = sym (status_of said o.said is) ∙ sym status ∙ zero;
-        prints = text ∙ ap (λ (s : Said). followed_by call.printed.text_before s.text) is;
-        leaves = leaves;
-      }
+  done_by (inr (said, inl (status, text), inr (o, comes, is, leaves))) zero = record {
+    o = o;
+    comes = comes;
+    zero = sym (status_of said o.said is) ∙ sym status ∙ zero;
+    prints = text ∙ ap (λ (s : Said). followed_by call.printed.text_before s.text) is;
+    leaves = leaves;
+  }
   done_by (inr (said, inr (status, cut, risen), answers)) zero = absurd (omega (arith, status, zero))
-
-  pub unchanged : Ends call → call.printed.status ≢ 0 → call.printed.status ≢ 9 → call.printed.status ≢ 13 → call.after.told ≡ Some device
-  unchanged (inl (status, text, same)) n0 n9 n13 = same ∙ told
-  unchanged (inr (said, inl (status, text), inl (is, rose))) n0 n9 n13 = absurd (n13 (status ∙ status_of said (disk_fault _) is))
-  unchanged (inr (said, inl (status, text), inr (differs, shows))) n0 n9 n13 =
-      let (o, comes, is, leaves) = shows device told in
-      elim (plain call.asked call.files call.failed device o comes) [
-        | inl kept ↦ subst (λ (d : Deed). Leaves d device call.after) kept leaves
-        | inr zero ↦ absurd (n0 (status ∙ status_of said o.said is ∙ zero))
-      ]
-  unchanged (inr (said, inr (status, cut, risen), answers)) n0 n9 n13 = absurd (n9 status)
 
   -- what an outcome says and leaves, by an equal one
   abbrev ShowsIt : Outcome → Type 0
-  ShowsIt o = (o.said.status ≡ 0) × Prints call o.said.text × Leaves o.deed device call.after
+  ShowsIt o = (o.said.status ≡ 0) × Prints call o.said.text × Leaves o.deed call.before call.after
 
   shown : (d : Done) (o : Outcome) → d.o ≡ o → ShowsIt o
   shown d o is = subst ShowsIt is (d.zero, d.prints, d.leaves)
 
-  as_asked : (d : Done) (asked : DeviceCommand) → call.asked ≡ asked → Comes asked call.files call.failed device d.o
-  as_asked d asked is = subst (λ (a : DeviceCommand). Comes a call.files call.failed device d.o) is d.comes
+  as_asked : (d : Done) (asked : DeviceCommand) → call.asked ≡ asked → Comes asked call.files call.failed call.before.told d.o
+  as_asked d asked is = subst (λ (a : DeviceCommand). Comes a call.files call.failed call.before.told d.o) is d.comes
 
   -- ---- device-format
 
   format_put : (f : FormatFields) (bytes : List ℕ) (parts : List SealedFields) → store_in bytes ≡ Ok parts → IsRead call.files call.failed f.store (Some bytes) → (b : Bool)
       → ShowsIt (if b then keeps (too_long f.capacity f.device) else record { said = stored parts; deed = Formats f.capacity bytes }) → Formatted call f
   format_put f bytes parts is read true (zero, prints, leaves) = absurd (omega (arith, zero))
-  format_put f bytes parts is read false (zero, prints, leaves) = record { bytes = bytes; parts = parts; is_read = read; is_store = is; prints = prints; rests = leaves }
+  format_put f bytes parts is read false (zero, prints, leaves) = record { bytes = bytes; parts = parts; is_read = read; is_store = is; prints = prints; rests = leaves device told }
 
   format_read : (f : FormatFields) (bytes : List ℕ) (r : Result (List SealedFields) FileFault) → store_in bytes ≡ r → IsRead call.files call.failed f.store (Some bytes)
       → ShowsIt (formats f bytes r) → Formatted call f
@@ -119,7 +88,7 @@ module _ (call : DeviceCall) (device : List ℕ) (told : call.before.told ≡ So
   format_given f None read (zero, prints, leaves) = absurd (not_done f.store faults.Unread zero)
   format_given f (Some bytes) read shows = format_read f bytes (store_in bytes) refl read shows
 
-  format_done : (f : FormatFields) (d : Done) → Comes (commands.Format f) call.files call.failed device d.o → Formatted call f
+  format_done : (f : FormatFields) (d : Done) → Comes (commands.Format f) call.files call.failed call.before.told d.o → Formatted call f
   format_done f d (given, read, is) = format_given f given read (shown d (format_outcome f given) is)
 
   -- ---- device-install
@@ -142,7 +111,8 @@ module _ (call : DeviceCall) (device : List ℕ) (told : call.before.told ≡ So
       is_part = is;
       taken = none;
       prints = prints;
-      rests = leaves;
+      rests = leaves device told;
+      appended = appended held file parts x.0 x.1 is_store is none;
     }
 
     install_added : (file : List ℕ) (x : SealedFields × ℕ) → IsRead call.files call.failed i.part (Some file) → part_in file ≡ Ok x → (r : Option Refusal) → refusal_of parts x.0 ≡ r
@@ -159,22 +129,22 @@ module _ (call : DeviceCall) (device : List ℕ) (told : call.before.told ≡ So
     install_given None read (zero, prints, leaves) = absurd (not_done i.part faults.Unread zero)
     install_given (Some file) read shows = install_read file (part_in file) refl read shows
 
-  install_done : (i : InstallPartFields) (d : Done) → Comes (commands.Install i) call.files call.failed device d.o → Installed call device i
+  install_done : (i : InstallPartFields) (d : Done) → Comes (commands.Install i) call.files call.failed call.before.told d.o → Installed call device i
   install_done i d (inl (at, breaks, is)) = let s = shown d (keeps (bad_device at i.device)) is in absurd (let z : 14 ≡ 0 = s.0 in omega (arith, z))
   install_done i d (inr (capacity, bytes, holds, inl (fault, bad, is))) = absurd (not_done i.device fault (shown d (keeps (refusal i.device fault)) is).0)
   install_done i d (inr (capacity, bytes, holds, inr (parts, good, (given, read, is)))) =
-      install_given i capacity bytes parts holds good given read (shown d (install_outcome i capacity parts (input_as part_in given)) is)
+      install_given i capacity bytes parts (holds device told) good given read (shown d (install_outcome i capacity parts (input_as part_in given)) is)
 
   -- ---- device-query
 
-  query_done : (q : QueryFields) (d : Done) → Queried q device d.o → Answered call device q
+  query_done : (q : QueryFields) (d : Done) → Queried q call.before.told d.o → Answered call device q
   query_done q d (inl (at, breaks, is)) = let s = shown d (keeps (bad_device at q.store)) is in absurd (let z : 14 ≡ 0 = s.0 in omega (arith, z))
   query_done q d (inr (capacity, bytes, holds, inl (fault, bad, is))) = absurd (not_done q.store fault (shown d (keeps (refusal q.store fault)) is).0)
   query_done q d (inr (capacity, bytes, holds, inr (parts, good, is))) = record {
     capacity = capacity;
     held = bytes;
     parts = parts;
-    is_device = holds;
+    is_device = holds device told;
     is_store = good;
     prints = (shown d (query_outcome q parts) is).1;
   }
@@ -212,5 +182,4 @@ module _ (call : DeviceCall) (device : List ℕ) (told : call.before.told ≡ So
     query = λ q did. let d = done_by ends did.1 in query_done q d (as_asked d (commands.Query q) did.0);
     truth = λ q h parts capacity is some holds asked accepted did.
         let d = done_by ends did.1 in truth_done laws q h parts capacity is some holds asked accepted (query_done q d (as_asked d (commands.Query q) did.0));
-    unchanged = unchanged ends;
   }

@@ -1,6 +1,6 @@
 -- What is answered once a device was written.
-use Rattle.std.proofs.Common.{◌≡◌, ℕ, ◌≤◌, ◌<◌, not, inl, inr, List, length, Some, Result, Ok, Err, IfOk, refl, sym, ap, ◌∙◌, subst, arith}
-use Rattle.std.specs.Prelude.{◌≢◌, slice_index}
+use Rattle.std.proofs.Common.{◌≡◌, ℕ, ◌≤◌, ◌<◌, not, inl, inr, List, length, Result, Ok, Err, IfOk, refl, sym, ap, ◌∙◌, subst, arith}
+use Rattle.std.specs.Prelude.{◌≢◌, IsOk, OnErr, slice_index}
 use Rattle.std.proofs.lemmas.Bool.{le-ltb, lt-ltb}
 use Rattle.octets_core.specs.declared.memory.NoMemory.{NoMemory}
 use Rattle.part_text.specs.SealedFields.{SealedFields}
@@ -17,7 +17,7 @@ use Rattle.device_top.specs.Said.{Said}
 use Rattle.device_top.specs.Replies.{slot_refusal, too_long}
 use Rattle.device_top.specs.Outcomes.{Deed, Formats, Replaces, keeps, stored, given_to, replaced}
 use Rattle.device_top.specs.Holding.{Leaves, Answers}
-use Rattle.device_top.proofs.Answering.{is_not}
+use Rattle.device_top.proofs.Answering.{same_some}
 
 -- more bytes than the capacity
 given_long : (name : List ℕ) (capacity : ℕ) (parts : List SealedFields) (count : ℕ) (deed : Deed) → capacity < count
@@ -30,45 +30,37 @@ given_short name capacity parts count deed short = rw (le-ltb capacity count sho
 
 module _ (name : List ℕ) (capacity : ℕ) (parts : List SealedFields) (count : ℕ) (deed : Deed) (old new : DiskState) where
   -- it was done
-  pub was_put : (said : Said) → count ≤ capacity → said ≡ stored parts → ((device : List ℕ) → old.told ≡ Some device → Leaves deed device new)
-      → Answers (λ _ o. o ≡ given_to name capacity parts count deed) name old new said
-  was_put said short is leaves =
-      inr (
-        is_not 0 13 said (stored parts) is refl (λ h. omega (arith, h)),
-        λ device told.
-            (record { said = stored parts; deed = deed }, given_short name capacity parts count deed short, is, leaves device told),
-      )
+  pub was_put : (said : Said) → count ≤ capacity → said ≡ stored parts → Leaves deed old new
+      → Answers (λ o. o ≡ given_to name capacity parts count deed) name old new said
+  was_put said short is leaves = inr (record { said = stored parts; deed = deed }, given_short name capacity parts count deed short, is, leaves)
 
   refused : (f : SlotFault) (said : Said) → (f ≢ slots.NoMemory) → (capacity < count → new.told ≡ old.told) → RefusesBytes capacity count old new f → said ≡ slot_refusal name f
-      → Answers (λ _ o. o ≡ given_to name capacity parts count deed) name old new said
+      → Answers (λ o. o ≡ given_to name capacity parts count deed) name old new said
   refused (slots.BadDevice at) said some same why is = absurd why
   refused (slots.TooLong most) said some same (most_is, long) is =
-      let is_long : said ≡ too_long capacity name = is ∙ ap (λ (m : ℕ). too_long m name) most_is in
-      inr (
-        is_not 15 13 said (too_long capacity name) is_long refl (λ h. omega (arith, h)),
-        λ device told.
-            (keeps (too_long capacity name), given_long name capacity parts count deed long, is_long, same long ∙ told),
-      )
+      inr (keeps (too_long capacity name), given_long name capacity parts count deed long, is ∙ ap (λ (m : ℕ). too_long m name) most_is, same long)
   refused slots.DiskFault said some same why is = inl (is, why)
   refused slots.NoMemory said some same why is = absurd (some refl)
 
   -- it was not
   pub not_put : (f : SlotFault) (r : Result Said NoMemory) → (capacity < count → new.told ≡ old.told) → RefusesBytes capacity count old new f → IfOk r (λ s. s ≡ slot_refusal name f)
-      → IfOk r (λ s. Answers (λ _ o. o ≡ given_to name capacity parts count deed) name old new s)
+      → IfOk r (λ s. Answers (λ o. o ≡ given_to name capacity parts count deed) name old new s)
   not_put slots.NoMemory (Ok said) same why is = absurd why
   not_put (slots.BadDevice at) (Ok said) same why is = absurd why
   not_put (slots.TooLong most) (Ok said) same why is = refused (slots.TooLong most) said (λ h. cc) same why is
   not_put slots.DiskFault (Ok said) same why is = refused slots.DiskFault said (λ h. cc) same why is
   not_put f (Err e) same why is = tt
 
+-- it takes no memory, so that none was wanted
+pub not_wanting : (capacity count : ℕ) (old new : DiskState) (f : SlotFault) (r : Result Said NoMemory) → RefusesBytes capacity count old new f → OnErr r (f ≡ slots.NoMemory) → IsOk r
+not_wanting capacity count old new f (Ok said) why wants = refl
+not_wanting capacity count old new f (Err e) why wants = absurd (subst (RefusesBytes capacity count old new) wants why)
+
 -- what was made rests
 pub rests_formatted : (capacity : ℕ) (bytes : List ℕ) (old new : DiskState) → Tells (λ _ device. IsDevice capacity bytes device × (slice_index device 0 ≡ 0)) old new → IsSynced new
-    → (device : List ℕ) → old.told ≡ Some device → Leaves (Formats capacity bytes) device new
+    → Leaves (Formats capacity bytes) old new
 rests_formatted capacity bytes old new tells synced device told =
     let w = tells.some device told in (w.0, w.1, synced w.0 w.1, w.2)
-
-same_some : (one other : List ℕ) → Some one ≡ Some other → one ≡ other
-same_some one other is = cc
 
 short_by : (capacity count : ℕ) → (capacity < count → ⊥) → count ≤ capacity
 short_by capacity count isnt = omega (arith, isnt)
@@ -80,7 +72,7 @@ fits {T} capacity count x f P long = short_by capacity count (λ l. let h : ◌�
 module _ (name : List ℕ) (parts : List SealedFields) (bytes : List ℕ) (before : SlotsView) (old new : DiskState) (is_text : bytes ≡ store_text parts) where
   turned_over : (after : SlotsView) → after ≡ record { capacity = before.capacity; second = not before.second; length = length bytes }
       → Shows old.told (λ _. (held : List ℕ) × IsSlotsOf old before held) → ((held : List ℕ) → IsSlotsOf old before held → IsSlotsOf new after bytes)
-      → (device : List ℕ) → old.told ≡ Some device → Leaves (Replaces before.capacity bytes) device new
+      → Leaves (Replaces before.capacity bytes) old new
   turned_over after turned held makes device told =
       let h = held device told in
       let made = makes h.0 h.1 in
@@ -99,16 +91,16 @@ module _ (name : List ℕ) (parts : List SealedFields) (bytes : List ℕ) (befor
       → (before.capacity < length bytes → (◌≡◌ {A = Result SlotsView SlotFault} (Ok after) (Err (slots.TooLong before.capacity))) × P)
       → after ≡ record { capacity = before.capacity; second = not before.second; length = length bytes }
       → ((held : List ℕ) → IsSlotsOf old before held → IsSlotsOf new after bytes) → said ≡ stored parts → Shows old.told (λ _. (held : List ℕ) × IsSlotsOf old before held)
-      → Answers (λ _ o. o ≡ replaced name before.capacity parts) name old new said
+      → Answers (λ o. o ≡ replaced name before.capacity parts) name old new said
   was_replaced after said P long turned makes is held =
       let short = fits before.capacity (length bytes) after (slots.TooLong before.capacity) P long in
       was_put name before.capacity parts (length (store_text parts)) (Replaces before.capacity (store_text parts)) old new said
       (subst (λ (b : List ℕ). length b ≤ before.capacity) is_text short) is
-      (λ device told. subst (λ (b : List ℕ). Leaves (Replaces before.capacity b) device new) is_text (turned_over after turned held makes device told))
+      (subst (λ (b : List ℕ). Leaves (Replaces before.capacity b) old new) is_text (turned_over after turned held makes))
 
   -- it was not
   pub not_replaced : (f : SlotFault) (r : Result Said NoMemory) → (before.capacity < length bytes → new.told ≡ old.told) → RefusesBytes before.capacity (length bytes) old new f
-      → IfOk r (λ s. s ≡ slot_refusal name f) → IfOk r (λ s. Answers (λ _ o. o ≡ replaced name before.capacity parts) name old new s)
+      → IfOk r (λ s. s ≡ slot_refusal name f) → IfOk r (λ s. Answers (λ o. o ≡ replaced name before.capacity parts) name old new s)
   not_replaced f r same why is =
       not_put name before.capacity parts (length (store_text parts)) (Replaces before.capacity (store_text parts)) old new f r
       (λ l. same (subst (λ (b : List ℕ). before.capacity < length b) (sym is_text) l))

@@ -12,7 +12,7 @@ use Rattle.slot_core.specs.Refusals.{RefusesDevice, RefusesRead}
 use Rattle.input_core.specs.declared.fault.FileFault.{FileFault}
 use Rattle.input_core.specs.declared.fault.FileFault.TheVariants as faults
 use Rattle.input_core.specs.Readings.{store_in}
-use Rattle.device_top.proofs.Answering.{held_there}
+use Rattle.device_top.proofs.Answering.{shown_there}
 
 -- the device was attached as these slots
 abbrev pub Attached : DiskState → DiskState → SlotsView → Type 0
@@ -52,9 +52,14 @@ read_refused old mid new at_slots (slots.TooLong capacity) quiet later attached 
 read_refused old mid new at_slots slots.DiskFault quiet later attached why some = omega (arith, why, later)
 read_refused old mid new at_slots slots.NoMemory quiet later attached why some = absurd (some refl)
 
+-- what was read stands in the picked slot
+pub read_there : (old mid : DiskState) (at_slots : SlotsView) (items : List ℕ) → Attached old mid at_slots → ((bytes : List ℕ) → IsSlotsOf mid at_slots bytes → items ≡ bytes)
+    → Shows old.told (λ _. IsSlotsOf mid at_slots items)
+read_there old mid at_slots items attached read = λ device told.
+    let h = attached device told in subst (IsSlotsOf mid at_slots) (sym (read h.0 h.1)) h.1
+
 pub store_refused : (old mid : DiskState) (at_slots : SlotsView) (items : List ℕ) (f : FileFault) → Quiet old mid → Attached old mid at_slots
     → ((bytes : List ℕ) → IsSlotsOf mid at_slots bytes → items ≡ bytes) → ((f ≢ faults.NoMemory) → store_in items ≡ Err f) → (f ≢ faults.NoMemory)
-    → Shows old.told (λ device. (capacity : ℕ) × (bytes : List ℕ) × IsDevice capacity bytes device × (store_in bytes ≡ Err f))
-store_refused old mid at_slots items f quiet attached read is some = λ device told.
-    let h = attached device told in
-    (at_slots.capacity, h.0, held_there old mid at_slots h.0 device quiet told h.1, ap store_in (sym (read h.0 h.1)) ∙ is some)
+    → (capacity : ℕ) × (bytes : List ℕ) × Shows old.told (IsDevice capacity bytes) × (store_in bytes ≡ Err f)
+store_refused old mid at_slots items f quiet attached read is some =
+    (at_slots.capacity, items, shown_there old mid at_slots items quiet (read_there old mid at_slots items attached read), is some)

@@ -15,7 +15,9 @@ use Rattle.input_core.specs.declared.fault.FileFault.{FileFault}
 use Rattle.input_core.specs.Readings.{part_in, input_as}
 use Rattle.input_core.specs.Inputs.{IsRead, IsInput}
 use Rattle.device_top.specs.Crashes.{HoldsStore, HoldsAnOld, HoldsTheNew, Survives}
-use Rattle.device_top.proofs.Answering.{HeldStore, held_there}
+use Rattle.device_top.specs.Holding.{HeldStore}
+use Rattle.device_top.proofs.Answering.{held_there}
+use Rattle.device_top.proofs.Appending.{appended}
 
 module _ (told : Option Files) (failed : Option (List ℕ) → Type 0) (part : List ℕ) (old : DiskState) (lawful : IsLawful old) where
   abbrev Left : List ℕ → Images
@@ -39,26 +41,28 @@ module _ (told : Option Files) (failed : Option (List ℕ) → Type 0) (part : L
       → HeldStore old mid slots parts → IsInput told failed part part_in view (Ok x) → refusal_of parts (view x).0 ≡ None → more ≡ parts ++ (view x).0 ∷ []
       → ((held : List ℕ) → IsSlotsOf mid slots held → LeavesOnly mid new (IsEither slots.capacity held (store_text more)))
       → Survives told failed part old new
-  goes_over mid new slots parts more view x quiet held (given, read, gives, blamed) none is_more moment device is_told all =
-      let h = held device is_told in
-      let there = held_there old mid slots h.0 device quiet is_told h.1 in
-      let file = read_part view x given read gives in
-      run_on old mid new (Left device) (IsEither slots.capacity h.0 (store_text more))
+  goes_over mid new slots parts more view x quiet held (given, given_read, gives, blamed) none is_more moment device is_told all =
+      let (bytes, read, at_slots) = held in
+      let of_held = at_slots device is_told in
+      let there = held_there old mid slots bytes device quiet is_told of_held in
+      let file = read_part view x given given_read gives in
+      run_on old mid new (Left device) (IsEither slots.capacity bytes (store_text more))
       (stays old old mid (Left device) (begins device all) quiet)
-      (moment h.0 h.1)
+      (moment bytes of_held)
       (λ image either. elim either [
-        | inl kept ↦ inl (device, lawful.told_is_image device is_told, h.0, (slots.capacity, there), (slots.capacity, kept))
+        | inl kept ↦ inl (device, lawful.told_is_image device is_told, bytes, (slots.capacity, there), (slots.capacity, kept))
         | inr new_one ↦ inr (record {
-          held = h.0;
+          held = bytes;
           parts = parts;
           file = file.0;
           added = (view x).0;
           size = (view x).1;
           is_held = (slots.capacity, there);
-          is_store = h.2;
+          is_store = read;
           is_read = file.1;
           is_part = file.2;
           taken = none;
           holds = (slots.capacity, subst (λ (ps : List SealedFields). IsDevice slots.capacity (store_text ps) image) is_more new_one);
+          appended = λ held_bytes file_bytes. (appended bytes file.0 parts (view x).0 (view x).1 read file.2 none held_bytes file_bytes).0;
         })
       ])

@@ -1,18 +1,19 @@
 -- A call of `run_device`, and how it ends.
-use Rattle.std.specs.Prelude.{◌≡◌, ◌⊎◌, ℕ, List, [], Option, String, map, string_bytes}
+use Rattle.std.specs.Prelude.{◌≡◌, ◌⊎◌, ℕ, List, [], ◌∷◌, Option, Some, String, map, string_bytes}
 use Rattle.outside_core.specs.Files.{Files, Rose}
 use Rattle.outside_core.specs.Written.{followed_by, CutShort}
 use Rattle.outside_core.specs.declared.depot.Depot as depots
 use Rattle.outside_core.specs.declared.sink.Sink as sinks
 use Rattle.outside_core.specs.Reads.{WhichFailed}
 use Rattle.line_core.specs.Statuses as status
-use Rattle.slot_core.specs.Disk.{DiskState}
+use Rattle.slot_core.specs.Disk.{DiskState, HasFailed}
 use Rattle.word_core.specs.Devices.{device_command_of}
 use Rattle.word_core.specs.declared.device.DeviceCommand.{DeviceCommand}
 use Rattle.word_core.specs.declared.device.DeviceCommand.TheVariants as commands
 use Rattle.device_top.specs.Said.{Said}
 use Rattle.device_top.specs.Comes.{Comes}
-use Rattle.device_top.specs.Holding.{Answers}
+use Rattle.device_top.specs.Outcomes.{Outcome}
+use Rattle.device_top.specs.Holding.{Answers, Leaves}
 
 -- What was printed before and after, where the sink tells it, the exit status that came, and the faults of printing.
 pub record Printing : Type 0 where
@@ -32,11 +33,15 @@ printing k out out_after ended = record {
   faults_after = k.faults out_after;
 }
 
--- The status came and the line was printed. Or printing failed, and a prefix of the line was printed.
+-- printing failed behind a prefix of the line
+abbrev pub WasCut : Printing → List ℕ → Type 0
+WasCut p text =
+    (p.status ≡ status.write_fault) × CutShort p.text_before p.text_after text × Rose p.faults_before p.faults_after
+
+-- the status came and the line was printed, or printing failed
 abbrev pub IsPrinted : Printing → Said → Type 0
 IsPrinted p said =
-    ((p.status ≡ said.status) × (p.text_after ≡ followed_by p.text_before said.text))
-    ⊎ ((p.status ≡ status.write_fault) × CutShort p.text_before p.text_after said.text × Rose p.faults_before p.faults_after)
+    ((p.status ≡ said.status) × (p.text_after ≡ followed_by p.text_before said.text)) ⊎ WasCut p said.text
 
 -- What the words asked for; what the disk means before the call and after it; the files, where the depot tells them,
 -- and which reads of them failed; and the printing.
@@ -63,6 +68,19 @@ call_of p k asked before after depot depot_after out out_after ended = record {
 abbrev pub call : {A P K : Type 0} → depots.Ghosts P → sinks.Ghosts K → List (String A) → DiskState → DiskState → P → P → K → K → ℕ → DeviceCall
 call p k words = call_of p k (device_command_of (map string_bytes words))
 
+-- how a call may end
+abbrev pub all_statuses : List ℕ
+all_statuses =
+    status.done ∷ status.usage ∷ status.bad_layout ∷ status.chain ∷ status.read_fault ∷ status.write_fault
+    ∷ status.disk_fault ∷ status.bad_device ∷ status.too_long ∷ status.no_memory ∷ []
+
+-- the name of the file that the command reads, if it reads one
+abbrev pub file_of : DeviceCommand → List (List ℕ)
+file_of commands.Usage = []
+file_of (commands.Format f) = f.store ∷ []
+file_of (commands.Install i) = i.part ∷ []
+file_of (commands.Query q) = []
+
 -- the name of the device
 abbrev pub device_of : DeviceCommand → List ℕ
 device_of commands.Usage = []
@@ -76,9 +94,41 @@ WantedMemory call =
     (call.printed.status ≡ status.no_memory) × (call.printed.text_after ≡ call.printed.text_before)
     × (call.after.told ≡ call.before.told)
 
+-- it comes of the command, over what was told
+abbrev pub HasComeOf : DeviceCall → Outcome → Type 0
+HasComeOf call o = Comes call.asked call.files call.failed call.before.told o
+
 -- How a call ends: memory was wanted, or what comes of the command is done and said.
 abbrev pub Ends : DeviceCall → Type 0
 Ends call =
     WantedMemory call
     ⊎ ((said : Said) × IsPrinted call.printed said
-    × Answers (Comes call.asked call.files call.failed) (device_of call.asked) call.before call.after said)
+    × Answers (HasComeOf call) (device_of call.asked) call.before call.after said)
+
+abbrev pub Prints : DeviceCall → List ℕ → Type 0
+Prints call text = call.printed.text_after ≡ followed_by call.printed.text_before text
+
+-- this was said and done
+pub record Gives (call : DeviceCall) (o : Outcome) : Type 0 where
+  pub status : call.printed.status ≡ o.said.status
+  pub prints : Prints call o.said.text
+  pub leaves : Leaves o.deed call.before call.after
+
+-- ---- for certain
+
+abbrev pub none_failed : Option (List ℕ) → Type 0
+none_failed which = ⊥
+
+-- the disk and the files are told, and this comes of the command where each read goes well
+pub record IsDue (call : DeviceCall) (o : Outcome) : Type 0 where
+  pub device : List ℕ
+  pub files : Files
+  pub told : call.before.told ≡ Some device
+  pub files_told : call.files ≡ Some files
+  pub comes : Comes call.asked (Some files) none_failed (Some device) o
+
+-- no read of a file failed, nor a call of the disk, nor printing
+pub record NoFault (call : DeviceCall) : Type 0 where
+  pub reads : (name : List ℕ) → call.failed (Some name) → ⊥
+  pub disk : HasFailed call.before call.after → ⊥
+  pub sink : Rose call.printed.faults_before call.printed.faults_after → ⊥

@@ -1,5 +1,5 @@
 -- What a crash may leave of a device at a moment of `device-install`.
-use Rattle.std.specs.Prelude.{◌≡◌, ◌⊎◌, ℕ, List, [], ◌∷◌, ◌++◌, Option, Some, None, Ok}
+use Rattle.std.specs.Prelude.{◌≡◌, ◌⊎◌, ◌<◌, ℕ, List, [], ◌∷◌, ◌++◌, All, Option, Some, None, Ok}
 use Rattle.outside_core.specs.Files.{Files}
 use Rattle.part_text.specs.SealedFields.{SealedFields}
 use Rattle.store_core.specs.Chain.{refusal_of}
@@ -9,6 +9,7 @@ use Rattle.slot_core.specs.Device.{IsDevice}
 use Rattle.slot_core.specs.Moments.{LeavesOnly}
 use Rattle.input_core.specs.Readings.{part_in, store_in}
 use Rattle.input_core.specs.Inputs.{IsRead}
+use Rattle.device_top.specs.Appended.{with_part}
 
 -- a device whose picked slot holds these bytes
 abbrev pub Holds : List ℕ → Images
@@ -37,6 +38,9 @@ pub record HoldsTheNew
   pub is_part : part_in file ≡ Ok (added, size)
   pub taken : refusal_of parts added ≡ None
   pub holds : Holds (store_text (parts ++ added ∷ [])) image
+  -- the bytes of the old store with the count raised by one and those of the file behind them
+  pub appended : All (λ b. b < 256) held → All (λ b. b < 256) file
+      → store_text (parts ++ added ∷ []) ≡ with_part held file
 
 -- Where each image at the start is a device with a store, a crash at any moment leaves a store that an image at the
 -- start held, or the new store: that of this device, which reads give at the start, with the part that the file of this

@@ -1,6 +1,7 @@
 pub mod Said
 pub mod Replies
 pub mod Outcomes
+pub mod Appended
 pub mod Comes
 pub mod Holding
 pub mod Calls

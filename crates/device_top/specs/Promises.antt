@@ -1,11 +1,12 @@
--- What `run_device` promises of a call over a disk whose bytes are told: they were this device.
-use Rattle.std.specs.Prelude.{◌≡◌, ◌≢◌, ◌≤◌, ℕ, List, [], ◌∷◌, ◌++◌, length, map, slice_index, not, Some, None, Ok}
+-- What `run_device` promises of a call.
+use Rattle.std.specs.Prelude.{◌≡◌, ◌≢◌, ◌⊎◌, ◌<◌, ◌≤◌, ℕ, List, [], ◌∷◌, ◌++◌}
+use Rattle.std.specs.Prelude.{length, map, slice_index, not, All, Some, None, Ok}
 use Rattle.ident_core.specs.declared.range.Sighting.{Sighting}
-use Rattle.outside_core.specs.Written.{followed_by}
 use Rattle.part_text.specs.SealedFields.{SealedFields}
 use Rattle.store_core.specs.Chain.{refusal_of}
 use Rattle.store_core.specs.StoreLayout.{store_text}
 use Rattle.card_core.specs.Verdict.{verdict}
+use Rattle.slot_core.specs.Disk.{HasFailed}
 use Rattle.slot_core.specs.Device.{IsDevice, picks_second}
 use Rattle.sets_core.specs.Among.{Among}
 use Rattle.universe_core.specs.History.{seen, sightings}
@@ -13,23 +14,24 @@ use Rattle.publication_core.specs.Histories.{History, members, IsHistory, histor
 use Rattle.publication_core.specs.Truth.{truth}
 use Rattle.input_core.specs.Readings.{part_in, store_in}
 use Rattle.input_core.specs.Inputs.{IsRead}
+use Rattle.input_core.specs.declared.fault.FileFault.TheVariants as faults
 use Rattle.line_core.specs.Statuses as status
 use Rattle.word_core.specs.CommandFields.{QueryFields}
 use Rattle.word_core.specs.DeviceFields.{FormatFields, InstallPartFields}
 use Rattle.word_core.specs.declared.device.DeviceCommand.{DeviceCommand}
 use Rattle.word_core.specs.declared.device.DeviceCommand.TheVariants as commands
-use Rattle.device_top.specs.Replies.{verdict_line}
-use Rattle.device_top.specs.Outcomes.{stored}
-use Rattle.device_top.specs.Holding.{Rests}
-use Rattle.device_top.specs.Calls.{DeviceCall, Ends}
+use Rattle.device_top.specs.Said.{Said}
+use Rattle.device_top.specs.Replies.{disk_fault, refusal, usage, verdict_line}
+use Rattle.device_top.specs.Outcomes.{Outcome, keeps, stored}
+use Rattle.device_top.specs.Appended.{with_part}
+use Rattle.device_top.specs.Holding.{Answers, Rests}
+use Rattle.device_top.specs.Calls.{DeviceCall, Prints, WantedMemory, WasCut, Gives, HasComeOf, Ends, NoFault, IsDue}
+use Rattle.device_top.specs.Calls.{file_of, device_of, all_statuses}
 use Rattle.device_top.specs.Crashes.{Survives}
 
 -- the call did what this command is for
 abbrev pub Did : DeviceCall → DeviceCommand → Type 0
 Did call asked = (call.asked ≡ asked) × (call.printed.status ≡ status.done)
-
-abbrev pub Prints : DeviceCall → List ℕ → Type 0
-Prints call text = call.printed.text_after ≡ followed_by call.printed.text_before text
 
 -- STORE gave these bytes, which are a store; the disk now is a device of that capacity with gate 0, whose first slot
 -- holds them, and a crash leaves the same.
@@ -42,7 +44,8 @@ pub record Formatted (call : DeviceCall) (f : FormatFields) : Type 0 where
   pub rests : Rests call.after (λ after. IsDevice f.capacity bytes after × (slice_index after 0 ≡ 0))
 
 -- The device held this store, and PART gave this part, which has nothing against it; the disk now is a device of the
--- same capacity, whose other slot is picked and holds the store with the part, and a crash leaves the same.
+-- same capacity, whose other slot is picked and holds the store with the part, and a crash leaves the same. Its bytes
+-- are those of the old store with the count raised by one and those of the file behind them.
 pub record Installed (call : DeviceCall) (device : List ℕ) (i : InstallPartFields) : Type 0 where
   pub capacity : ℕ
   pub held : List ℕ
@@ -58,6 +61,9 @@ pub record Installed (call : DeviceCall) (device : List ℕ) (i : InstallPartFie
   pub prints : Prints call (stored (parts ++ added ∷ [])).text
   pub rests : Rests call.after (λ after. IsDevice capacity (store_text (parts ++ added ∷ [])) after
       × (picks_second after ≡ not (picks_second device)))
+  pub appended : All (λ b. b < 256) held → All (λ b. b < 256) file
+      → (store_text (parts ++ added ∷ []) ≡ with_part held file)
+      × (store_in (with_part held file) ≡ Ok (parts ++ added ∷ []))
 
 -- The device held this store, and what its parts say was printed.
 pub record Answered (call : DeviceCall) (device : List ℕ) (q : QueryFields) : Type 0 where
@@ -68,6 +74,7 @@ pub record Answered (call : DeviceCall) (device : List ℕ) (q : QueryFields) : 
   pub is_store : store_in held ≡ Ok parts
   pub prints : Prints call (verdict_line (verdict (map (λ s. s.part) parts) q.id q.sightings))
 
+-- Each success over a disk whose bytes are told: they were this device.
 pub record Promises (call : DeviceCall) (device : List ℕ) : Type 0 where
   pub format : (f : FormatFields) → Did call (commands.Format f) → Formatted call f
   pub install : (i : InstallPartFields) → Did call (commands.Install i) → Installed call device i
@@ -77,9 +84,28 @@ pub record Promises (call : DeviceCall) (device : List ℕ) : Type 0 where
       → 1 ≤ members h → IsDevice capacity (store_bytes parts) device → 1 ≤ length q.sightings
       → ((s : Sighting) → Among q.sightings s → Among (sightings q.id (seen (history h parts))) s)
       → Did call (commands.Query q) → Prints call (verdict_line (truth (history h parts) q.id))
+
+-- What each other status says, over any disk and files, told or not.
+pub record Refusals (call : DeviceCall) : Type 0 where
+  -- no fault of the outside, nor want of memory: what is said comes of the command, of what was told
+  pub given : call.printed.status ≢ status.write_fault → call.printed.status ≢ status.disk_fault
+      → call.printed.status ≢ status.no_memory → (o : Outcome) × HasComeOf call o × Gives call o
+  -- words that are no command
+  pub bad_words : call.printed.status ≡ status.usage → (call.asked ≡ commands.Usage) × Prints call usage.text
+  pub no_command : call.asked ≡ commands.Usage → NoFault call → Gives call (keeps usage) ⊎ WantedMemory call
+  -- STORE or PART, whose read failed and was counted, or which isn't held where files are told
+  pub read_fault : call.printed.status ≡ status.read_fault → (name : List ℕ) × Among (file_of call.asked) name
+      × IsRead call.files call.failed name None × Prints call (refusal name faults.Unread).text
+  -- printing failed behind a prefix of what was to be said, and the disk is as that leaves it
+  pub write_fault : call.printed.status ≡ status.write_fault → (said : Said) × WasCut call.printed said.text
+      × Answers (HasComeOf call) (device_of call.asked) call.before call.after said
+  -- a fault of the disk was counted
+  pub disk_fault : call.printed.status ≡ status.disk_fault → HasFailed call.before call.after
+      × Prints call (disk_fault (device_of call.asked)).text
+  pub no_memory : call.printed.status ≡ status.no_memory → WantedMemory call
   -- with each other status than these the disk reads as before
   pub unchanged : call.printed.status ≢ status.done → call.printed.status ≢ status.write_fault
-      → call.printed.status ≢ status.disk_fault → call.after.told ≡ Some device
+      → call.printed.status ≢ status.disk_fault → call.after.told ≡ call.before.told
 
 -- What a crash may leave at a moment of an install, whatever it ends with.
 pub record Crashes (call : DeviceCall) : Type 0 where
@@ -89,3 +115,6 @@ pub record Crashes (call : DeviceCall) : Type 0 where
 -- How each call ends, told or not. The promises follow from it.
 pub record Ending (call : DeviceCall) : Type 0 where
   pub ends : Ends call
+  pub statuses : Among all_statuses call.printed.status
+  -- over a disk and files that are told: what comes of the command where no read fails is said and done
+  pub complete : (o : Outcome) → IsDue call o → NoFault call → Gives call o ⊎ WantedMemory call

@@ -1,6 +1,7 @@
 //! What each command answers, from what its device and its file hold.
 
-ghost use Rattle.std.specs.Prelude.{◌≡◌, ◌≤◌, ◌<◌, ◌++◌, List, ℕ, [], ◌∷◌, map, Some, None, Ok, IfOk, IfErr, IsErr, OnErr};
+ghost use Rattle.std.specs.Prelude.{◌≡◌, ◌≤◌, ◌<◌, ◌++◌, List, ℕ, [], ◌∷◌, map};
+ghost use Rattle.std.specs.Prelude.{Some, None, Ok, IfOk, IfErr, IsOk, IsErr, OnErr};
 ghost use Rattle.outside_core.specs.Effects.{OnlyReads};
 ghost use Rattle.slot_core.specs.Disk.{Quiet};
 ghost use Rattle.slot_core.specs.Fields.{Shows};
@@ -79,6 +80,7 @@ fn verdict_on(store: &Store, id: &Identity, sightings: &[Sighting]) -> Verdict
 fn not_held(name: &str, fault: HeldFault) -> Result<Reply<'_>, NoMemory>
     ensures ok { IfOk result (λ r. r ≡ held_refusal name.now fault) }
     ensures memory { IsWant fault → IsErr result }
+    ensures err { OnErr result (IsWant fault) }
 {
     match fault {
         HeldFault::Slots(fault) => Reply::slot_refusal(name, fault),
@@ -92,7 +94,8 @@ pub fn answer_query<'a, D: Disk>(
     query: &Query<'a>,
     disk: &mut D,
 ) -> Result<Reply<'a>, NoMemory>
-    ensures answers { IfOk result (λ r. Answers (λ device. Queried query.now device) query.now.store (D.state disk.old) (D.state disk.new) r) }
+    ensures answers { IfOk result (λ r.
+        Answers (Queried query.now (D.state disk.old).told) query.now.store (D.state disk.old) (D.state disk.new) r) }
     ensures later { (D.state disk.old).faults ≤ (D.state disk.new).faults }
     ensures quiet { Quiet (D.state disk.old) (D.state disk.new) }
 {
@@ -112,9 +115,11 @@ fn formatted<'a, D: Disk>(
     store: &Store,
     disk: &mut D,
 ) -> Result<Reply<'a>, NoMemory>
-    ensures answers { IfOk result (λ r. Answers (λ _ o. o ≡ formats asked.now bytes.now (Ok store.now)) asked.now.device
+    ensures answers { IfOk result (λ r.
+        Answers (λ o. o ≡ formats asked.now bytes.now (Ok store.now)) asked.now.device
         (D.state disk.old) (D.state disk.new) r) }
-    ensures memory { OnErr result ((D.state disk.new).told ≡ (D.state disk.old).told) }
+    // It takes no memory.
+    ensures some { IsOk result }
     ensures later { (D.state disk.old).faults ≤ (D.state disk.new).faults }
 {
     match format(disk, asked.capacity(), bytes) {
@@ -131,8 +136,9 @@ pub fn answer_format<'a, D: Disk, P: Depot>(
     depot: &mut P,
 ) -> Result<Reply<'a>, NoMemory>
     ensures answers { IfOk result (λ r.
-        Answers (Comes (commands.Format asked.now) (P.files depot.old) (WhichFailed P.Depot depot.old depot.new)) asked.now.device
-        (D.state disk.old) (D.state disk.new) r) }
+        Answers (Comes (commands.Format asked.now) (P.files depot.old)
+        (WhichFailed P.Depot depot.old depot.new) (D.state disk.old).told)
+        asked.now.device (D.state disk.old) (D.state disk.new) r) }
     ensures memory { OnErr result ((D.state disk.new).told ≡ (D.state disk.old).told) }
     ensures later { (D.state disk.old).faults ≤ (D.state disk.new).faults }
     ensures only_reads { OnlyReads P.Depot depot.old depot.new }
@@ -168,7 +174,8 @@ fn replaced<'a, D: Disk>(
     store: &Store,
 ) -> Result<Reply<'a>, NoMemory>
     ensures answers { Shows (D.state disk.old).told (λ _. (held : List ℕ) × IsSlotsOf (D.state disk.old) slots held)
-        → IfOk result (λ r. Answers (λ _ o. o ≡ replaced_by name.now slots.capacity store.now) name.now (D.state disk.old) (D.state disk.new) r) }
+        → IfOk result (λ r. Answers (λ o. o ≡ replaced_by name.now slots.capacity store.now) name.now
+        (D.state disk.old) (D.state disk.new) r) }
     ensures any_moment { (held : List ℕ) → IsSlotsOf (D.state disk.old) slots held
         → LeavesOnly (D.state disk.old) (D.state disk.new) (IsEither slots.capacity held (store_text store.now)) }
     ensures memory { OnErr result ((D.state disk.new).told ≡ (D.state disk.old).told) }
@@ -189,9 +196,11 @@ pub fn answer_install<'a, D: Disk, P: Depot>(
     depot: &mut P,
 ) -> Result<Reply<'a>, NoMemory>
     ensures answers { IfOk result (λ r.
-        Answers (Comes (commands.Install asked.now) (P.files depot.old) (WhichFailed P.Depot depot.old depot.new)) asked.now.device
-        (D.state disk.old) (D.state disk.new) r) }
-    ensures survives { Survives (P.files depot.old) (WhichFailed P.Depot depot.old depot.new) asked.now.part (D.state disk.old) (D.state disk.new) }
+        Answers (Comes (commands.Install asked.now) (P.files depot.old)
+        (WhichFailed P.Depot depot.old depot.new) (D.state disk.old).told)
+        asked.now.device (D.state disk.old) (D.state disk.new) r) }
+    ensures survives { Survives (P.files depot.old) (WhichFailed P.Depot depot.old depot.new) asked.now.part
+        (D.state disk.old) (D.state disk.new) }
     ensures memory { OnErr result ((D.state disk.new).told ≡ (D.state disk.old).told) }
     ensures later { (D.state disk.old).faults ≤ (D.state disk.new).faults }
     ensures only_reads { OnlyReads P.Depot depot.old depot.new }

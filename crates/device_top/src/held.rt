@@ -1,12 +1,10 @@
 //! The store that a device holds.
 
-ghost use Rattle.std.specs.Prelude.{◌≡◌, ◌≤◌, List, ℕ, Ok, IfOk, IfErr};
+ghost use Rattle.std.specs.Prelude.{◌≡◌, ◌≤◌, IfOk, IfErr};
 ghost use Rattle.octets_core.specs.Reading.{GivesUnless};
 ghost use Rattle.input_core.specs.Readings.{store_in};
 ghost use Rattle.slot_core.specs.Disk.{Quiet};
-ghost use Rattle.slot_core.specs.Fields.{Shows};
-ghost use Rattle.slot_core.specs.Attached.{IsSlotsOf};
-ghost use Rattle.device_top.specs.Holding.{NotHeld};
+ghost use Rattle.device_top.specs.Holding.{HeldStore, NotHeld};
 
 use input_core::FileFault;
 use slot_core::{Disk, SlotFault, Slots};
@@ -58,8 +56,7 @@ pub fn store_of(alloc: Global, bytes: &[u8]) -> Result<Store, FileFault>
 
 /// Attaches the device, and reads the store that its picked slot holds.
 pub fn held_in<D: Disk>(alloc: Global, disk: &mut D) -> Result<Held, HeldFault>
-    ensures ok { IfOk result (λ held. Shows (D.state disk.old).told (λ _. (bytes : List ℕ)
-        × IsSlotsOf (D.state disk.new) held.slots bytes × (store_in bytes ≡ Ok held.store))) }
+    ensures ok { IfOk result (λ held. HeldStore (D.state disk.old) (D.state disk.new) held.slots held.store) }
     ensures refusal { IfErr result (λ fault. NotHeld (D.state disk.old) (D.state disk.new) fault) }
     ensures later { (D.state disk.old).faults ≤ (D.state disk.new).faults }
     ensures quiet { Quiet (D.state disk.old) (D.state disk.new) }

@@ -1,7 +1,6 @@
 //! What a command on a device says: how it ends, and the line, which is made before anything is written.
 
-ghost use Rattle.std.specs.Prelude.{◌≡◌, ◌≢◌, ◌≤◌, length, IfOk, IsErr, OnErr};
-ghost use Rattle.line_core.specs.Statuses as statuses;
+ghost use Rattle.std.specs.Prelude.{◌≡◌, ◌≤◌, length, IfOk, IsErr, OnErr};
 ghost use Rattle.slot_core.specs.declared.fault.SlotFault.TheVariants as slots;
 ghost use Rattle.device_top.specs.Replies.{chain_text, done, refusal, says, slot_refusal, usage, verdict_line};
 ghost use Rattle.device_top.specs.Calls.{IsPrinted, printing};
@@ -89,8 +88,8 @@ impl<'a> Reply<'a> {
     /// The reply about what is wrong with the file of this name, or with the store in the device of this name.
     pub fn refusal(name: &'a str, fault: FileFault) -> Result<Reply<'a>, NoMemory>
         ensures ok { IfOk result (λ r. r ≡ refusal name.now fault) }
-        ensures own { IfOk result (λ r. r.status ≢ statuses.disk_fault) }
         ensures memory { fault ≡ FileFault.NoMemory → IsErr result }
+        ensures err { OnErr result (fault ≡ FileFault.NoMemory) }
     {
         let (status, message) = match fault {
             FileFault::Unread => (Status::READ_FAULT, about_file("read-fault", name)),

@@ -12,7 +12,7 @@ ghost use Rattle.device_top.specs.Comes.{Comes};
 ghost use Rattle.device_top.specs.Holding.{Answers};
 ghost use Rattle.device_top.specs.Calls.{Ends, call, call_of, device_of};
 ghost use Rattle.device_top.specs.Crashes.{Survives};
-ghost use Rattle.device_top.specs.Promises.{Crashes, Ending, Promises};
+ghost use Rattle.device_top.specs.Promises.{Crashes, Ending, Promises, Refusals};
 
 use crate::commands::{answer_format, answer_install, answer_query};
 use crate::reply::Reply;
@@ -34,10 +34,12 @@ fn answer_for<'a, D: Disk, P: Depot>(
     depot: &mut P,
 ) -> Result<Reply<'a>, NoMemory>
     ensures answers { IfOk result (λ r.
-        Answers (Comes command.now (P.files depot.old) (WhichFailed P.Depot depot.old depot.new)) (device_of command.now)
-        (D.state disk.old) (D.state disk.new) r) }
+        Answers (Comes command.now (P.files depot.old)
+        (WhichFailed P.Depot depot.old depot.new) (D.state disk.old).told)
+        (device_of command.now) (D.state disk.old) (D.state disk.new) r) }
     ensures survives { (i : InstallPartFields) → command.now ≡ commands.Install i
-        → Survives (P.files depot.old) (WhichFailed P.Depot depot.old depot.new) i.part (D.state disk.old) (D.state disk.new) }
+        → Survives (P.files depot.old) (WhichFailed P.Depot depot.old depot.new) i.part
+        (D.state disk.old) (D.state disk.new) }
     ensures quiet { (q : QueryFields) → command.now ≡ commands.Query q → Quiet (D.state disk.old) (D.state disk.new) }
     ensures memory { OnErr result ((D.state disk.new).told ≡ (D.state disk.old).told) }
     ensures later { (D.state disk.old).faults ≤ (D.state disk.new).faults }
@@ -59,9 +61,11 @@ fn run_command<D: Disk, P: Depot, K: Sink>(
     depot: &mut P,
     out: &mut K,
 ) -> Status
-    ensures ends { Ends (call_of P.Depot K.Sink command.now (D.state disk.old) (D.state disk.new) depot.old depot.new out.old out.new result.0) }
+    ensures ends { Ends (call_of P.Depot K.Sink command.now (D.state disk.old) (D.state disk.new)
+        depot.old depot.new out.old out.new result.0) }
     ensures survives { (i : InstallPartFields) → command.now ≡ commands.Install i
-        → Survives (P.files depot.old) (WhichFailed P.Depot depot.old depot.new) i.part (D.state disk.old) (D.state disk.new) }
+        → Survives (P.files depot.old) (WhichFailed P.Depot depot.old depot.new) i.part
+        (D.state disk.old) (D.state disk.new) }
     ensures quiet { (q : QueryFields) → command.now ≡ commands.Query q → Quiet (D.state disk.old) (D.state disk.new) }
     ensures later { (D.state disk.old).faults ≤ (D.state disk.new).faults }
     ensures later_out { K.faults out.old ≤ K.faults out.new }
@@ -81,9 +85,11 @@ fn run_words<D: Disk, P: Depot, K: Sink>(
     depot: &mut P,
     out: &mut K,
 ) -> Status
-    ensures ends { Ends (call P.Depot K.Sink words.now (D.state disk.old) (D.state disk.new) depot.old depot.new out.old out.new result.0) }
+    ensures ends { Ends (call P.Depot K.Sink words.now (D.state disk.old) (D.state disk.new)
+        depot.old depot.new out.old out.new result.0) }
     ensures survives { (i : InstallPartFields) → device_command_of (map string_bytes words.now) ≡ commands.Install i
-        → Survives (P.files depot.old) (WhichFailed P.Depot depot.old depot.new) i.part (D.state disk.old) (D.state disk.new) }
+        → Survives (P.files depot.old) (WhichFailed P.Depot depot.old depot.new) i.part
+        (D.state disk.old) (D.state disk.new) }
     ensures quiet { (q : QueryFields) → device_command_of (map string_bytes words.now) ≡ commands.Query q
         → Quiet (D.state disk.old) (D.state disk.new) }
     ensures later { (D.state disk.old).faults ≤ (D.state disk.new).faults }
@@ -107,13 +113,20 @@ pub fn run_device<R: Threads + Sync, D: Disk, P: Depot, K: Sink>(
     depot: &mut P,
     out: &mut K,
 ) -> Status
-    // What each success is, the truth of a history, and what stays with each other status.
+    // What each success is, where the disk tells its bytes, and the truth of a history.
     ensures promises { (device : List ℕ) → (D.state disk.old).told ≡ Some device
-        → Promises (call P.Depot K.Sink words.now (D.state disk.old) (D.state disk.new) depot.old depot.new out.old out.new result.0) device }
+        → Promises (call P.Depot K.Sink words.now (D.state disk.old) (D.state disk.new)
+        depot.old depot.new out.old out.new result.0) device }
+    // What each other status says, and that its cause is so, told or not.
+    ensures refusals { Refusals (call P.Depot K.Sink words.now (D.state disk.old) (D.state disk.new)
+        depot.old depot.new out.old out.new result.0) }
     // What a crash may leave at a moment of an install.
-    ensures crashes { Crashes (call P.Depot K.Sink words.now (D.state disk.old) (D.state disk.new) depot.old depot.new out.old out.new result.0) }
-    // Every way to end, with its cause: what the promises follow from.
-    ensures ending { Ending (call P.Depot K.Sink words.now (D.state disk.old) (D.state disk.new) depot.old depot.new out.old out.new result.0) }
+    ensures crashes { Crashes (call P.Depot K.Sink words.now (D.state disk.old) (D.state disk.new)
+        depot.old depot.new out.old out.new result.0) }
+    // Every way to end, with its cause: what the promises follow from; which statuses there are; and that what comes of
+    // the command must be said and done, where no fault is counted.
+    ensures ending { Ending (call P.Depot K.Sink words.now (D.state disk.old) (D.state disk.new)
+        depot.old depot.new out.old out.new result.0) }
     // A query changes nothing of the disk.
     ensures quiet { (q : QueryFields) → device_command_of (map string_bytes words.now) ≡ commands.Query q
         → Quiet (D.state disk.old) (D.state disk.new) }

@@ -11,7 +11,7 @@ use Rattle.device_top.proofs.commands.answer_install.Goals as goal
 pub returns-in-Err-clause-answers : goal.returns-in-Err-clause-answers
 returns-in-Err-clause-answers g c =
     not_held c.args.asked.now.device (g.D.Disk.state c.args.disk.now) (g.D.Disk.state c.held_in.new.disk)
-    (λ device capacity parts. OfFile (g.P.Depot.files c.args.depot.now) (WhichFailed g.P.Depot c.args.depot.now c.args.depot.now) c.args.asked.now.part
+    (λ capacity parts. OfFile (g.P.Depot.files c.args.depot.now) (WhichFailed g.P.Depot c.args.depot.now c.args.depot.now) c.args.asked.now.part
     (λ given. install_outcome c.args.asked.now capacity parts (input_as part_in given)))
     c.held_in.ensures.quiet c.in-Err.fault c.not_held.result c.in-Err.ensures.refusal (rw c.device.ensures at c.not_held.ensures.ok) c.not_held.ensures.memory
 

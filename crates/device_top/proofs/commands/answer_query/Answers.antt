@@ -10,5 +10,5 @@ returns-in-Ok-clause-answers g c =
 
 pub returns-in-Err-clause-answers : goal.returns-in-Err-clause-answers
 returns-in-Err-clause-answers g c =
-    not_held c.args.query.now.store (g.D.Disk.state c.args.disk.now) (g.D.Disk.state c.held_in.new.disk) (λ device capacity parts o. o ≡ query_outcome c.args.query.now parts)
+    not_held c.args.query.now.store (g.D.Disk.state c.args.disk.now) (g.D.Disk.state c.held_in.new.disk) (λ capacity parts o. o ≡ query_outcome c.args.query.now parts)
     c.held_in.ensures.quiet c.in-Err.fault c.not_held.result c.in-Err.ensures.refusal (rw c.store.ensures at c.not_held.ensures.ok) c.not_held.ensures.memory

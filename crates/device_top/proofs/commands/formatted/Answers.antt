@@ -1,7 +1,7 @@
 use Rattle.std.proofs.Common.{length}
 use Rattle.slot_core.specs.declared.fault.SlotFault.TheVariants.{TooLong}
 use Rattle.device_top.specs.Outcomes.{Formats}
-use Rattle.device_top.proofs.Putting.{fits, rests_formatted, was_put}
+use Rattle.device_top.proofs.Putting.{fits, not_wanting, rests_formatted, was_put}
 use Rattle.device_top.proofs.commands.formatted.Goals as goal
 
 pub returns-in-Ok-clause-answers : goal.returns-in-Ok-clause-answers
@@ -12,3 +12,8 @@ returns-in-Ok-clause-answers g c =
     (g.D.Disk.state c.args.disk.now) (g.D.Disk.state c.format.new.disk) c.stored.result
     (fits c.args.asked.now.capacity (length c.args.bytes.now) c.in-Ok.field-0 (TooLong c.args.asked.now.capacity) _ long) c.stored.ensures
     (rests_formatted c.args.asked.now.capacity c.args.bytes.now (g.D.Disk.state c.args.disk.now) (g.D.Disk.state c.format.new.disk) ok c.in-Ok.ensures.durable)
+
+pub returns-clause-some : goal.returns-clause-some
+returns-clause-some g c =
+    not_wanting _ _ (g.D.Disk.state c.args.disk.now) (g.D.Disk.state c.format.new.disk) c.in-Err.fault c.slot_refusal.result c.in-Err.ensures.refusal
+    c.slot_refusal.ensures.err

@@ -5,12 +5,11 @@ use Rattle.word_core.specs.declared.device.DeviceCommand.TheVariants as commands
 use Rattle.device_top.specs.Outcomes.{keeps}
 use Rattle.device_top.specs.Replies.{usage}
 use Rattle.device_top.specs.Crashes.{Survives}
-use Rattle.device_top.proofs.Answering.{is_not}
 use Rattle.device_top.proofs.top.answer_for.Goals as goal
 
 pub returns-in-Usage-clause-answers : goal.returns-in-Usage-clause-answers
 returns-in-Usage-clause-answers g c =
-    rw c.in-Usage.is (inr (is_not 2 13 c.usage.result usage c.usage.ensures refl (λ h. omega (arith, h)), λ device told. (keeps usage, refl, c.usage.ensures, told)))
+    rw c.in-Usage.is (inr (keeps usage, refl, c.usage.ensures, refl))
 
 same_asked : (one other : InstallPartFields) → commands.Install one ≡ commands.Install other → one ≡ other
 same_asked one other is = cc
