@@ -1,5 +1,5 @@
 -- Jobs that are read for an audit file by file, and the reply of `audit`.
-use Rattle.std.proofs.Common.{◌≡◌, ℕ, ◌+◌, ◌<◌, ◌≤◌, inl, inr, List, [], ◌∷◌, ◌++◌, take, drop, get_or, length, append_assoc, length-append, Option, Some, None, Result, Ok}
+use Rattle.std.proofs.Common.{◌≡◌, ℕ, ◌+◌, ◌<◌, ◌≤◌, inl, List, [], ◌∷◌, ◌++◌, take, drop, get_or, length, append_assoc, length-append, Option, None, Result, Ok}
 use Rattle.std.proofs.Common.{Err, IfOk, refl, sym, ap, ◌∙◌, subst, arith}
 use Rattle.std.specs.Prelude.{IsErr}
 use Rattle.std.proofs.lemmas.List.{append-nil, take_more, drop_more, take_all, drop_all, take-append-drop}
@@ -21,13 +21,12 @@ use Rattle.clubcard_top.specs.Audits.{unless, job_behind, jobs_behind, bad_crl, 
 use Rattle.outside_core.specs.Reads.{WhichFailed}
 use Rattle.input_core.specs.Inputs.{IsRead, AreRead, IsInput}
 use Rattle.clubcard_top.specs.AuditJobs.{IsAdded, IsNotAdded, AreAdded, AreNotAdded}
-use Rattle.clubcard_top.specs.Replies.{refusal, reply_of}
+use Rattle.clubcard_top.specs.Replies.{refusal, reply_of, IsReply}
 use Rattle.clubcard_top.specs.Answering.{reply_fields}
-use Rattle.clubcard_top.specs.Runs.{BlamesFile, IsReply}
 use Rattle.outside_core.proofs.Effects.{WhichFailed-then}
 use Rattle.input_core.proofs.FilesRead.{later_read, none_failed, blamed_later}
 use Rattle.clubcard_top.proofs.AuditsMade.{behind_next, behind_stop}
-use Rattle.clubcard_top.proofs.Replying.{read_well, blames_file, made, made_unless, BlamesOf}
+use Rattle.clubcard_top.proofs.Replying.{read_well, blames_file, says_wider, made, made_unless}
 use Rattle.clubcard_top.proofs.Rehearsal.{nothing, wider_all, read_both, some_reads, at_among}
 
 -- ---- the first files
@@ -121,15 +120,6 @@ audit_refused told failed r a view fault (g, read, gives, blamed) memory is =
     (blames_file failed (a.store ∷ a.jobs) a.store fault (inl refl) blamed)
     (λ refute. subst (λ (x : Result (List SealedFields) FileFault). MakesAudit a (named a.store x) (audit_jobs a.jobs rest.0) (Err e)) (sym (gives refute)) refl) memory is
 
-jobs_blamed : (failed other : Option (List ℕ) → Type 0) (store : List ℕ) (names : List (List ℕ)) (e : NamedFault)
-    → ((which : Option (List ℕ)) → failed which → other which) → BlamesFile failed names e → BlamesFile other (store ∷ names) e
-jobs_blamed failed other store names e wider (inl none) = inl (wider None none)
-jobs_blamed failed other store names e wider (inr (unread, among, why)) = inr (unread, inr among, wider (Some e.name) why)
-
-none_blamed : (failed : Option (List ℕ) → Type 0) (names : List (List ℕ)) (o : Result Done NamedFault) → failed None → BlamesOf failed names o
-none_blamed failed names (Ok d) none = none
-none_blamed failed names (Err e) none = inl none
-
 module _ {D : Type 0} (d : Ghosts D) (old mid new : D) (reads_ : OnlyReads d old mid) (a : AuditFields) (parts : List SealedFields) where
   abbrev First : Option (List ℕ) → Type 0
   First = WhichFailed d old mid
@@ -162,7 +152,7 @@ module _ {D : Type 0} (d : Ghosts D) (old mid new : D) (reads_ : OnlyReads d old
       let e : NamedFault = record { name = name; fault = fault } in
       made (commands.Audit a) (d.files old) Each (g ∷ n.inputs) (Err e) (Ok b)
       (read_well (d.files old) First Each a.store store_in g parts gives read, jobs_read n.inputs well n.read)
-      (jobs_blamed Others Each a.store a.jobs e (WhichFailed-then d old mid new reads_ well) n.blames) (step g n.inputs (Err e) (Err e) gives n.makes refl) is
+      (says_wider Others Each a.store a.jobs (refusal name fault) (WhichFailed-then d old mid new reads_ well) n.blames) (step g n.inputs (Err e) (Err e) gives n.makes refl) is
   audit_not name fault in_ refused (Err e) memory is = tt
 
   -- what comes of the files that were read
@@ -175,5 +165,5 @@ module _ {D : Type 0} (d : Ghosts D) (old mid new : D) (reads_ : OnlyReads d old
       let none = WhichFailed-then d old mid new reads_ well None n.none_failed in
       made (commands.Audit a) (d.files old) Each (g ∷ n.inputs) o (Ok b)
       (read_well (d.files old) First Each a.store store_in g parts gives read, jobs_read n.inputs well n.read)
-      (none_blamed Each (a.store ∷ a.jobs) o none) (step g n.inputs (Ok jobs) o gives n.makes m) is
+      (inl none) (step g n.inputs (Ok jobs) o gives n.makes m) is
   audit_made (Err e) jobs in_ n h = tt

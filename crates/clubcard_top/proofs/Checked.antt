@@ -14,9 +14,8 @@ use Rattle.input_core.specs.Scanned.{noted_file, scanned, IsScan}
 use Rattle.line_core.specs.Lines.{note_line}
 use Rattle.word_core.specs.declared.command.Command.TheVariants as commands
 use Rattle.clubcard_top.specs.Commands.{◌>>=◌, named, only, check_done, check_makes}
-use Rattle.clubcard_top.specs.Replies.{done, refusal, reply_of}
+use Rattle.clubcard_top.specs.Replies.{done, refusal, reply_of, SaysWhich, IsReply}
 use Rattle.clubcard_top.specs.Answering.{scan_reply}
-use Rattle.clubcard_top.specs.Runs.{SaysWhich, IsReply}
 
 ok_note : (m n : PartNote) → ◌≡◌ {A = Result PartNote FileFault} (Ok m) (Ok n) → m ≡ n
 ok_note m n is = cc

@@ -13,8 +13,8 @@ use Rattle.clubcard_top.specs.ReplyFields.{OutputFields, ReplyFields, Done, Name
 use Rattle.clubcard_top.specs.Statuses.{is_one_of, all, of_replies}
 use Rattle.input_core.specs.Inputs.{AreRead}
 use Rattle.clubcard_top.specs.Commands.{Makes}
-use Rattle.clubcard_top.specs.Replies.{usage, refusal, reply_of, IsReplyOver}
-use Rattle.clubcard_top.specs.Runs.{SaysWhich, IsReply, IsTorn, KeepsAllBut, with_outputs}
+use Rattle.clubcard_top.specs.Replies.{usage, refusal, reply_of, IsReplyOver, SaysWhich, IsReply}
+use Rattle.clubcard_top.specs.Runs.{IsTorn, KeepsAllBut, with_outputs}
 use Rattle.clubcard_top.proofs.Ways.{EndsSo, Ends, IsUnread}
 use Rattle.clubcard_top.proofs.Outputs.{names_of, keeps-same, keeps-written, keeps-torn, none-torn, none-written}
 use Rattle.clubcard_top.proofs.Makings.{refusal_quiet, outcome_status, of_commands, done_names, unread_cause}

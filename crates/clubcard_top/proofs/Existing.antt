@@ -107,7 +107,7 @@ module _ (layers : Existence) where
       let next : IsHistory (with_job (chain jobs) (in_format current job)) more = layers.next (chain jobs) parts job p is_history facts.0.publishing facts.1 publishes in
       let next_is : IsHistory (chain (jobs ++ job ∷ [])) more = subst (λ (h : History). IsHistory h more) (sym (chain_push jobs job)) next in
       let o = rest more next_is in
-      (o.0, inr (job, more, is, next_is, o.1))
+      (o.0, inr (job, more, is, facts.0, next_is, o.1))
 
   file_on : (queries : List Query) (jobs : List JobFields) (parts : List SealedFields) (name : List ℕ) (names : List (List ℕ)) (given : Option (List ℕ))
       (inputs : List (Option (List ℕ))) → IsOctets given → IsHistory (chain jobs) parts

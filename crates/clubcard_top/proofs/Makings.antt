@@ -167,7 +167,7 @@ rehearses_names queries jobs parts [] [] d m = ap (λ (e : Done). names_of e.out
 rehearses_names queries jobs parts [] (g ∷ inputs) d m = absurd m
 rehearses_names queries jobs parts (name ∷ names) [] d m = absurd m
 rehearses_names queries jobs parts (name ∷ names) (g ∷ inputs) d (inl (e, refused, is)) = absurd (not_err d e is)
-rehearses_names queries jobs parts (name ∷ names) (g ∷ inputs) d (inr (job, more, read, is, rest)) = rehearses_names queries (jobs ++ job ∷ []) more names inputs d rest
+rehearses_names queries jobs parts (name ∷ names) (g ∷ inputs) d (inr (job, more, read, fits, is, rest)) = rehearses_names queries (jobs ++ job ∷ []) more names inputs d rest
 
 rehearsal_names : (r : RehearseFields) (queries : Result (List Query) NamedFault) (inputs : List (Option (List ℕ))) (d : Done) → MakesRehearsal r queries inputs (Ok d) → names_of d.outputs ≡ []
 rehearsal_names r (Ok queries) inputs d m = rehearses_names queries [] [] r.jobs inputs d (from_first queries r.jobs inputs (Ok d) m)
@@ -522,7 +522,7 @@ module _ (told : Option Files) (failed : Option (List ℕ) → Type 0) (e : Name
   rehearses_by queries jobs parts (name ∷ names) [] read m = absurd m
   rehearses_by queries jobs parts (name ∷ names) (g ∷ inputs) read (inl (f, refused, is)) =
       refused_by (chain jobs) parts name g names read.0 (subst (IsRefused (chain jobs) parts name g) (sym (err_same {A = Done} e f is)) refused)
-  rehearses_by queries jobs parts (name ∷ names) (g ∷ inputs) read (inr (job, more, is_read, is, rest)) =
+  rehearses_by queries jobs parts (name ∷ names) (g ∷ inputs) read (inr (job, more, is_read, fits, is, rest)) =
       let c = rehearses_by queries (jobs ++ job ∷ []) more names inputs read.1 rest in (inr c.0, c.1)
 
   rehearsal_by : (r : RehearseFields) (given : Option (List ℕ)) (inputs : List (Option (List ℕ))) (queries : Result (List Query) NamedFault)

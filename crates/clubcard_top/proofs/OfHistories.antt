@@ -33,7 +33,7 @@ use Rattle.clubcard_top.specs.Headline.{part_name, ledger_name, store_name}
 use Rattle.clubcard_top.specs.Headline.{RebasesHistory, IsRebased, Rebased, AsksToRebase, IsRebasableWithout, base_of, AsksBase, AsksTheBase, AsksLeftOut, AsksOfLeftOut, Brings}
 use Rattle.clubcard_top.specs.Promises.{Successes, Histories}
 use Rattle.clubcard_top.proofs.Results.{ok_same}
-use Rattle.clubcard_top.proofs.Promised.{EndsOld, answers, sure}
+use Rattle.clubcard_top.proofs.Promised.{EndsOld, Unique, answers, given, sure}
 use Rattle.clubcard_top.proofs.WordsApart.{IsApart}
 use Rattle.clubcard_top.proofs.Succeeded as succeeded
 use Rattle.clubcard_top.proofs.Succeeded.{two_held, one_held, newest_last, OneOutcome, Publishable, Rebasable, Truthful}
@@ -284,8 +284,8 @@ module _ (call : Call) where
           succeeded.left call did.files a.done (rehearsed l.0 l.1 l.2) l.5 a.files_are ∙ sym did.told,
         )
 
-    pub successes : OneOutcome → Publishable → Rebasable → Truthful → IsApart call.asked → Successes call
-    successes one publishable anew truthful apart = record {
+    pub successes : Unique call → OneOutcome → Publishable → Rebasable → Truthful → IsApart call.asked → Successes call
+    successes unique one publishable anew truthful apart = record {
       query = succeeded.query call ends;
       query_cert = succeeded.query_cert call ends;
       query_cert_complete = succeeded.query_cert_complete call one publishable ends;
@@ -319,4 +319,5 @@ module _ (call : Call) where
       gather_complete = succeeded.gather_complete call one publishable ends;
       audit = succeeded.audit call truthful ends;
       audit_complete = succeeded.audit_complete call one publishable ends;
+      complete = λ d. given call unique ends (Ok d);
     }

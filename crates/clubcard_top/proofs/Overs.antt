@@ -118,15 +118,16 @@ rehearses_over files failed queries jobs parts [] [] o seen read m = m
 rehearses_over files failed queries jobs parts [] (g ∷ inputs) o seen read m = absurd m
 rehearses_over files failed queries jobs parts (name ∷ names) [] o seen read m = absurd m
 rehearses_over files failed queries jobs parts (name ∷ names) (None ∷ inputs) o seen read (inl (e, refused, is)) = absurd (seen e is (unread_job (chain jobs) parts name e refused))
-rehearses_over files failed queries jobs parts (name ∷ names) (None ∷ inputs) o seen read (inr (job, more, is_job, is_more, rest)) =
+rehearses_over files failed queries jobs parts (name ∷ names) (None ∷ inputs) o seen read (inr (job, more, is_job, fits, is_more, rest)) =
     absurd (let g : ◌≡◌ {A = Result JobFields NamedFault} (Err (unread name)) (Ok job) = is_job in cc)
 rehearses_over files failed queries jobs parts (name ∷ names) (Some b ∷ inputs) o seen read (inl (e, refused, is)) =
     inl (e, subst (λ (g : Option (List ℕ)). IsRefused (chain jobs) parts name g e) (sym read.0) refused, is)
-rehearses_over files failed queries jobs parts (name ∷ names) (Some b ∷ inputs) o seen read (inr (job, more, is_job, is_more, rest)) =
+rehearses_over files failed queries jobs parts (name ∷ names) (Some b ∷ inputs) o seen read (inr (job, more, is_job, fits, is_more, rest)) =
     inr (
       job,
       more,
       subst (λ (g : Option (List ℕ)). input name job_in g ≡ Ok job) (sym read.0) is_job,
+      fits,
       is_more,
       rehearses_over files failed queries (jobs ++ job ∷ []) more names inputs o seen read.1 rest,
     )

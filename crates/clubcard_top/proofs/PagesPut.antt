@@ -1,5 +1,5 @@
 -- Pages that are put behind a job file by file, and the reply of `gather`.
-use Rattle.std.proofs.Common.{◌≡◌, ℕ, ◌+◌, ◌<◌, ◌≤◌, inl, inr, List, [], ◌∷◌, ◌++◌, map, take, drop, get_or, length, append_assoc, length-append, Option, Some, None, Result, Ok}
+use Rattle.std.proofs.Common.{◌≡◌, ℕ, ◌+◌, ◌<◌, ◌≤◌, inl, List, [], ◌∷◌, ◌++◌, map, take, drop, get_or, length, append_assoc, length-append, Option, None, Result, Ok}
 use Rattle.std.proofs.Common.{Err, IfOk, refl, sym, ap, ◌∙◌, subst, arith}
 use Rattle.std.specs.Prelude.{IsErr}
 use Rattle.std.proofs.lemmas.Bool.{le-leb, lt-leb}
@@ -29,12 +29,11 @@ use Rattle.clubcard_top.specs.Commands.{◌>>=◌, named, input, head_in, page_i
 use Rattle.outside_core.specs.Reads.{WhichFailed}
 use Rattle.input_core.specs.Inputs.{IsBlamed, IsRead, AreRead, IsInput}
 use Rattle.clubcard_top.specs.Gathers.{IsGatheredFrom, IsNotGathered}
-use Rattle.clubcard_top.specs.Replies.{done, refusal}
+use Rattle.clubcard_top.specs.Replies.{done, refusal, IsReply}
 use Rattle.clubcard_top.specs.Answering.{reply_fields}
-use Rattle.clubcard_top.specs.Runs.{BlamesFile, IsReply}
 use Rattle.outside_core.proofs.Effects.{WhichFailed-then}
 use Rattle.input_core.proofs.FilesRead.{later_read, none_failed, blamed_later}
-use Rattle.clubcard_top.proofs.Replying.{read_well, blames_file, made, made_unless}
+use Rattle.clubcard_top.proofs.Replying.{read_well, blames_file, says_wider, made, made_unless}
 use Rattle.clubcard_top.proofs.Rehearsal.{nothing, wider_all, read_both, some_reads, at_among}
 
 -- entries before those of a result
@@ -250,11 +249,6 @@ gather_refused told failed a f view fault (g, read, gives, blamed) memory is =
     (λ refute. sym (ap (λ (x : Result JobContents FileFault). named f.head x
     >>= (λ j. pages_of f.job (length j.entries) f.pages rest.0 >>= (λ entries. Ok (gather_done f j entries)))) (gives refute))) memory is
 
-page_blamed : (failed other : Option (List ℕ) → Type 0) (head : List ℕ) (names : List (List ℕ)) (e : NamedFault)
-    → ((which : Option (List ℕ)) → failed which → other which) → BlamesFile failed names e → BlamesFile other (head ∷ names) e
-page_blamed failed other head names e wider (inl none) = inl (wider None none)
-page_blamed failed other head names e wider (inr (unread, among, why)) = inr (unread, inr among, wider (Some e.name) why)
-
 module _ {D : Type 0} (d : Ghosts D) (old mid new : D) (reads_ : OnlyReads d old mid) (f : GatherFields) (j : JobContents) where
   abbrev First : Option (List ℕ) → Type 0
   First = WhichFailed d old mid
@@ -287,7 +281,7 @@ module _ {D : Type 0} (d : Ghosts D) (old mid new : D) (reads_ : OnlyReads d old
       let well = none_failed First f.head faults.Unread j blamed in
       made (commands.Gather f) (d.files old) All (g ∷ n.inputs) (Err (record { name = name; fault = fault })) (Ok b)
       (read_well (d.files old) First All f.head head_in g j gives read, pages_read n.inputs well n.read)
-      (page_blamed Others All f.head f.pages (record { name = name; fault = fault }) (WhichFailed-then d old mid new reads_ well) n.blames)
+      (says_wider Others All f.head f.pages (refusal name fault) (WhichFailed-then d old mid new reads_ well) n.blames)
       (step g n.inputs (Err (record { name = name; fault = fault })) gives n.makes) is
   gather_not name fault in_ refused (Err e) memory is = tt
 
@@ -299,5 +293,5 @@ module _ {D : Type 0} (d : Ghosts D) (old mid new : D) (reads_ : OnlyReads d old
       let well = none_failed First f.head faults.Unread j blamed in
       made (commands.Gather f) (d.files old) All (g ∷ n.inputs) (Ok (gather_done f j n.entries)) a
       (read_well (d.files old) First All f.head head_in g j gives read, pages_read n.inputs well n.read)
-      (WhichFailed-then d old mid new reads_ well None n.none_failed)
+      (inl (WhichFailed-then d old mid new reads_ well None n.none_failed))
       (step g n.inputs (Ok n.entries) gives n.makes) (is n.entries n.opens)

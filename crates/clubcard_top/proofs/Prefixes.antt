@@ -1,10 +1,12 @@
 -- What comes of files that are rehearsed is the same stated of them all and stated file by file.
 use Rattle.std.proofs.Common.{◌≡◌, ℕ, zero, suc, ◌⊎◌, inl, inr, List, [], ◌∷◌, ◌++◌, take, length, append_assoc, Option, Some, None, Result, Ok, Err, refl, sym, ap, subst, ◌∙◌, arith}
-use Rattle.std.specs.Prelude.{slice_get}
+use Rattle.std.specs.Prelude.{slice_get, All}
 use Rattle.std.proofs.lemmas.List.{append-nil}
+use Rattle.std.proofs.lemmas.List.Elements.{All-nil, All-cons, All-head, All-tail}
 use Rattle.query_core.specs.Queries.{Query}
 use Rattle.part_text.specs.SealedFields.{SealedFields}
 use Rattle.job_core.specs.JobFields.{JobFields}
+use Rattle.job_core.specs.JobFacts.{FitsFields}
 use Rattle.publication_core.specs.Histories.{chain, IsHistory}
 use Rattle.publication_core.proofs.Unique.{history_unique}
 use Rattle.clubcard_top.specs.ReplyFields.{Done, NamedFault}
@@ -33,6 +35,7 @@ record Behind
   pub are : all ≡ before ++ jobs
   pub parts : List SealedFields
   pub hold : AreJobs (take n names) (take n inputs) jobs
+  pub fit : All FitsFields jobs
   pub is_history : IsHistory (chain all) parts
   pub then : Then queries all parts n names inputs o
 
@@ -47,7 +50,7 @@ behind : (queries : List Query) (before : List JobFields) (parts : List SealedFi
     (inputs : List (Option (List ℕ))) (o : Result Done NamedFault) → IsHistory (chain before) parts
     → RehearsesOn queries before parts names inputs o → Behind queries before names inputs o
 behind queries before parts [] [] o is m =
-    record { n = 0; jobs = []; all = before; are = sym (append-nil before); parts = parts; hold = tt; is_history = is; then = inl (refl, refl, m) }
+    record { n = 0; jobs = []; all = before; are = sym (append-nil before); parts = parts; hold = tt; fit = All-nil FitsFields; is_history = is; then = inl (refl, refl, m) }
 behind queries before parts [] (g ∷ inputs) o is m = absurd m
 behind queries before parts (name ∷ names) [] o is m = absurd m
 behind queries before parts (name ∷ names) (g ∷ inputs) o is (inl (e, refused, same)) = record {
@@ -57,10 +60,11 @@ behind queries before parts (name ∷ names) (g ∷ inputs) o is (inl (e, refuse
   are = sym (append-nil before);
   parts = parts;
   hold = tt;
+  fit = All-nil FitsFields;
   is_history = is;
   then = inr (name, g, e, refl, refl, refused, same);
 }
-behind queries before parts (name ∷ names) (g ∷ inputs) o is (inr (job, more, is_job, is_more, rest)) =
+behind queries before parts (name ∷ names) (g ∷ inputs) o is (inr (job, more, is_job, fits, is_more, rest)) =
     let b = behind queries (before ++ job ∷ []) more names inputs o is_more rest in
     record {
       n = suc b.n;
@@ -69,6 +73,7 @@ behind queries before parts (name ∷ names) (g ∷ inputs) o is (inr (job, more
       are = b.are ∙ append_assoc before (job ∷ []) b.jobs;
       parts = b.parts;
       hold = (is_job, b.hold);
+      fit = All-cons FitsFields job b.jobs fits b.fit;
       is_history = b.is_history;
       then = then_more queries b.all b.parts b.n name names g inputs o b.then;
     }
@@ -82,6 +87,7 @@ first_of queries names inputs o m =
       jobs = b.all;
       parts = b.parts;
       hold = subst (λ (js : List JobFields). AreJobs (take b.n names) (take b.n inputs) js) (sym b.are) b.hold;
+      fit = subst (All FitsFields) (sym b.are) b.fit;
       is_history = b.is_history;
       then = b.then;
     }
@@ -153,35 +159,36 @@ back : (queries : List Query) (before : List JobFields) (parts : List SealedFiel
     (inputs : List (Option (List ℕ))) (o : Result Done NamedFault) (n : ℕ)
     (jobs all : List JobFields) (others : List SealedFields)
     → all ≡ before ++ jobs → IsHistory (chain before) parts → AreJobs (take n names) (take n inputs) jobs
-    → IsHistory (chain all) others → Then queries all others n names inputs o → RehearsesOn queries before parts names inputs o
-back queries before parts [] [] o zero [] all others are is hold is_all then =
+    → All FitsFields jobs → IsHistory (chain all) others → Then queries all others n names inputs o → RehearsesOn queries before parts names inputs o
+back queries before parts [] [] o zero [] all others are is hold fit is_all then =
     let same = are ∙ append-nil before in
     none_left queries before all parts others 0 o same (same_parts before all parts others same is is_all) then
-back queries before parts [] [] o (suc n) [] all others are is hold is_all then =
+back queries before parts [] [] o (suc n) [] all others are is hold fit is_all then =
     let same = are ∙ append-nil before in
     none_left queries before all parts others (suc n) o same (same_parts before all parts others same is is_all) then
-back queries before parts [] [] o zero (job ∷ jobs) all others are is hold is_all then = absurd hold
-back queries before parts [] [] o (suc n) (job ∷ jobs) all others are is hold is_all then = absurd hold
-back queries before parts [] (g ∷ inputs) o n jobs all others are is hold is_all then =
+back queries before parts [] [] o zero (job ∷ jobs) all others are is hold fit is_all then = absurd hold
+back queries before parts [] [] o (suc n) (job ∷ jobs) all others are is hold fit is_all then = absurd hold
+back queries before parts [] (g ∷ inputs) o n jobs all others are is hold fit is_all then =
     absurd (too_few queries all others n g inputs o then)
-back queries before parts (name ∷ names) [] o n jobs all others are is hold is_all then =
+back queries before parts (name ∷ names) [] o n jobs all others are is hold fit is_all then =
     absurd (too_many queries all others n name names o then)
-back queries before parts (name ∷ names) (g ∷ inputs) o zero [] all others are is hold is_all then =
+back queries before parts (name ∷ names) (g ∷ inputs) o zero [] all others are is hold fit is_all then =
     let same = are ∙ append-nil before in
     inl (refused_here queries before all parts others name names g inputs o same (same_parts before all parts others same is is_all) then)
-back queries before parts (name ∷ names) (g ∷ inputs) o zero (job ∷ jobs) all others are is hold is_all then = absurd hold
-back queries before parts (name ∷ names) (g ∷ inputs) o (suc n) [] all others are is hold is_all then = absurd hold
-back queries before parts (name ∷ names) (g ∷ inputs) o (suc n) (job ∷ jobs) all others are is hold is_all then =
+back queries before parts (name ∷ names) (g ∷ inputs) o zero (job ∷ jobs) all others are is hold fit is_all then = absurd hold
+back queries before parts (name ∷ names) (g ∷ inputs) o (suc n) [] all others are is hold fit is_all then = absurd hold
+back queries before parts (name ∷ names) (g ∷ inputs) o (suc n) (job ∷ jobs) all others are is hold fit is_all then =
     let next = chain_next before parts job jobs others is (subst (λ (js : List JobFields). IsHistory (chain js) others) are is_all) in
     inr (
       job,
       next.0,
       hold.0,
+      All-head FitsFields job jobs fit,
       next.1,
-      back queries (before ++ job ∷ []) next.0 names inputs o n jobs all others (are ∙ sym (append_assoc before (job ∷ []) jobs)) next.1 hold.1 is_all
+      back queries (before ++ job ∷ []) next.0 names inputs o n jobs all others (are ∙ sym (append_assoc before (job ∷ []) jobs)) next.1 hold.1 (All-tail FitsFields job jobs fit) is_all
           (then_rest queries all others n name names g inputs o then),
     )
 
 pub from_first : (queries : List Query) (names : List (List ℕ)) (inputs : List (Option (List ℕ)))
     (o : Result Done NamedFault) → Rehearses queries names inputs o → RehearsesOn queries [] [] names inputs o
-from_first queries names inputs o r = back queries [] [] names inputs o r.n r.jobs r.jobs r.parts refl tt r.hold r.is_history r.then
+from_first queries names inputs o r = back queries [] [] names inputs o r.n r.jobs r.jobs r.parts refl tt r.hold r.fit r.is_history r.then

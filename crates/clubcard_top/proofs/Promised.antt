@@ -1,7 +1,10 @@
 -- What is promised of a call, from how it ends.
-use Rattle.std.proofs.Common.{◌≡◌, ℕ, ◌⊎◌, inl, inr, List, [], Option, Some, Result, Ok, Err, refl, sym, ap, subst, ◌∙◌, arith}
+use Rattle.std.proofs.Common.{◌≡◌, ℕ, ◌⊎◌, inl, inr, List, [], Option, Some, None, Result, Ok, Err, refl, sym, ap, subst, ◌∙◌, arith}
 use Rattle.std.specs.Prelude.{◌≢◌, IsTrue}
 use Rattle.outside_core.specs.Files.{Files, Rose}
+use Rattle.outside_core.specs.Effects.{OnlyWrites}
+use Rattle.outside_core.specs.Reads.{WhichFailed}
+use Rattle.outside_core.specs.declared.depot.Depot.{Ghosts}
 use Rattle.octets_core.specs.declared.fault.LayoutFault.{LayoutFault}
 use Rattle.card_core.specs.declared.verdict.Verdict.{Verdict}
 use Rattle.crl_core.specs.declared.crl.CrlFault.{CrlFault}
@@ -18,22 +21,23 @@ use Rattle.clubcard_top.specs.ReplyFields.{ReplyFields, Done, NamedFault}
 use Rattle.clubcard_top.specs.Statuses.{is_one_of, of_replies}
 use Rattle.input_core.specs.Inputs.{AreRead}
 use Rattle.clubcard_top.specs.Commands.{Makes}
-use Rattle.clubcard_top.specs.Replies.{usage, refusal, reply_of, write_fault, IsReplyOver, IsReplyTo, held_by}
-use Rattle.clubcard_top.specs.Runs.{IsReply, KeepsAllBut, with_outputs}
+use Rattle.clubcard_top.specs.Replies.{usage, reply_of, write_fault, IsReplyOver, held_by, SaysWhich, IsReply}
+use Rattle.clubcard_top.specs.Runs.{KeepsAllBut, with_outputs}
 use Rattle.clubcard_top.proofs.Ways.{SentSo, EndsSo, Ends, Answers, Refuses}
-use Rattle.clubcard_top.specs.Calls.{Call, FilesAreTold, Writes, ChangesNoFile, HasRisen, Blames, WhichFailedIn, NoFault}
-use Rattle.clubcard_top.specs.Endings.{Succeeds, Gives, WantedMemory, SinkFailed, PrintsOrFails, Sent, Torn, IsAnswer}
+use Rattle.clubcard_top.specs.Calls.{Call, FilesAreTold, Writes, ChangesNoFile, HasRisen, NoFault}
+use Rattle.clubcard_top.specs.Endings.{Succeeds, Gives, WantedMemory, SinkFailed, PrintsOrFails, Sent, Torn}
 use Rattle.clubcard_top.specs.Endings.{GivesTheReply, Ends as EndsCall}
 use Rattle.clubcard_top.specs.Refusals.{Comes, Refused}
 use Rattle.clubcard_top.specs.Promises.{Ending, Outside, Refusals}
 use Rattle.clubcard_top.proofs.Endings as endings
 use Rattle.clubcard_top.proofs.Overs.{held_all}
+use Rattle.clubcard_top.proofs.Rehearsal.{wider_all}
 use Rattle.clubcard_top.proofs.Tellings as tellings
 
 -- how a call ends, by its parts
 abbrev pub EndsAs : Call → Option Files → Type 0
 EndsAs call told =
-    Ends call.asked told (WhichFailedIn call) call.status call.text_before call.text_after
+    Ends call.asked told call.failed call.status call.text_before call.text_after
     (HasRisen call.sink_faults) call.files_after (HasRisen call.write_faults)
 
 abbrev pub EndsOld : Call → Type 0
@@ -47,11 +51,25 @@ moved reply ended old new failed mid before after m b a files count h =
     subst (λ (n : ℕ). EndsSo reply ended old new failed before after (Rose n a)) count
     (subst (λ (t : Option Files). EndsSo reply ended old new failed t after (Rose m a)) files h)
 
-pub read_later : (asked : Command) (told : Option Files) (reply : ReplyFields) (b m a : ℕ) (first then last : Option (List (List ℕ)))
-    → a ≡ m → last ≡ then → IsReply asked told (Blames b m first then) reply → IsReply asked told (Blames b a first last) reply
-read_later asked told reply b m a first then last count names h =
-    subst (λ (n : ℕ). IsReply asked told (Blames b n first last) reply) (sym count)
-    (subst (λ (f : Option (List (List ℕ))). IsReply asked told (Blames b m first f) reply) (sym names) h)
+-- which read failed is the same behind a step that reads nothing
+same_read : {D : Type 0} (g : Ghosts D) (old mid new : D) → OnlyWrites g mid new → (which : Option (List ℕ)) → WhichFailed g old mid which → WhichFailed g old new which
+same_read g old mid new writes None none = writes.same_failed ∙ none
+same_read g old mid new writes (Some name) (rose, last) = (subst (λ (n : ℕ). Rose (g.read_faults old) n) (sym writes.same_reads) rose, writes.same_failed ∙ last)
+
+same_said : (failed other : Option (List ℕ) → Type 0) (names : List (List ℕ)) (reply : ReplyFields) → ((which : Option (List ℕ)) → failed which → other which)
+    → SaysWhich failed names reply → SaysWhich other names reply
+same_said failed other names reply same (inl none) = inl (same None none)
+same_said failed other names reply same (inr (name, among, is, why)) = inr (name, among, is, same (Some name) why)
+
+pub read_later : {D : Type 0} (g : Ghosts D) (old mid new : D) (asked : Command) (told : Option Files) (reply : ReplyFields) → OnlyWrites g mid new
+    → IsReply asked told (WhichFailed g old mid) reply → IsReply asked told (WhichFailed g old new) reply
+read_later g old mid new asked told reply writes (inputs, read, over, says) =
+    let same = same_read g old mid new writes in (
+      inputs,
+      wider_all told (WhichFailed g old mid) (WhichFailed g old new) (inputs_of asked) inputs same read,
+      over,
+      same_said (WhichFailed g old mid) (WhichFailed g old new) (inputs_of asked) reply same says,
+    )
 
 module _ (call : Call) where
   -- ---- the three ways
@@ -102,35 +120,35 @@ module _ (call : Call) where
 
   answer : EndsOld call → FilesAreTold call → call.status ≢ 8 → call.status ≢ 9 → call.status ≢ 70 → GivesTheReply call
   answer ends (files, is) no_read no_write no_want =
-      gives files is (tellings.answer call.asked (WhichFailedIn call) _ _ _ _ _ _ (Some files) (at files is ends) no_read no_write no_want)
+      gives files is (tellings.answer call.asked call.failed _ _ _ _ _ _ (Some files) (at files is ends) no_read no_write no_want)
 
   complete : EndsOld call → FilesAreTold call → NoFault call → call.status ≢ 70 → GivesTheReply call
   complete ends (files, is) quiet no_want =
       gives files is
-      (tellings.complete call.asked (WhichFailedIn call) _ _ _ _ _ _ (Some files) (at files is ends) (λ name h. quiet.reads h.0) quiet.writes quiet.sink no_want)
+      (tellings.complete call.asked call.failed _ _ _ _ _ _ (Some files) (at files is ends) quiet.reads quiet.writes quiet.sink no_want)
 
   -- ---- files
 
   pub unchanged : EndsOld call → call.status ≢ 0 → call.status ≢ 9 → ChangesNoFile call
-  unchanged ends = endings.unchanged _ _ (WhichFailedIn call) _ _ _ _ _ _ ends
+  unchanged ends = endings.unchanged _ _ call.failed _ _ _ _ _ _ ends
 
   pub other_files : EndsOld call → KeepsAllBut (outputs_of call.asked) call.files_before call.files_after
-  other_files ends = endings.other_files _ _ (WhichFailedIn call) _ _ _ _ _ _ ends
+  other_files ends = endings.other_files _ _ call.failed _ _ _ _ _ _ ends
 
   pub reading : EndsOld call → outputs_of call.asked ≡ [] → ChangesNoFile call
-  reading ends = endings.reading _ _ (WhichFailedIn call) _ _ _ _ _ _ ends
+  reading ends = endings.reading _ _ call.failed _ _ _ _ _ _ ends
 
   pub ending : EndsOld call → Ending call
   ending ends = record {
     ends = ways ends;
-    statuses = endings.statuses _ _ (WhichFailedIn call) _ _ _ _ _ _ ends;
+    statuses = endings.statuses _ _ call.failed _ _ _ _ _ _ ends;
     answer = answer ends;
     complete = complete ends;
   }
 
   pub answers : EndsOld call → (files : Files) → call.files_before ≡ Some files → Succeeds call
       → Answers call.asked files call.text_before call.text_after call.files_after
-  answers ends files is zero = tellings.done call.asked (WhichFailedIn call) _ _ _ _ _ _ (Some files) (at files is ends) zero
+  answers ends files is zero = tellings.done call.asked call.failed _ _ _ _ _ _ (Some files) (at files is ends) zero
 
   -- ---- where no fault was counted
 
@@ -144,18 +162,18 @@ module _ (call : Call) where
   give quiet reply (inr (name, torn)) = absurd (quiet.writes torn.cause)
 
   replied_to : (files : Files) → call.files_before ≡ Some files → (reply : ReplyFields) → NoFault call
-      → IsAnswer call reply → IsReplyTo call.asked files reply
+      → IsReply call.asked call.files_before call.failed reply → IsReplyOver call.asked (held_by call.asked files) reply
   replied_to files is reply quiet (inputs, read, over, says) =
       subst (λ (g : List (Option (List ℕ))). IsReplyOver call.asked g reply)
-      (held_all files (WhichFailedIn call) (inputs_of call.asked) inputs (λ name h. quiet.reads h.0)
-      (subst (λ (t : Option Files). AreRead t (WhichFailedIn call) (inputs_of call.asked) inputs) is read))
+      (held_all files call.failed (inputs_of call.asked) inputs quiet.reads
+      (subst (λ (t : Option Files). AreRead t call.failed (inputs_of call.asked) inputs) is read))
       over
 
   -- what is sure to come of it
   sure_reply : (files : Files) → (asked_some : call.asked ≡ commands.Usage → ⊥)
       → ((o : Result Done NamedFault) → Makes call.asked (held_by call.asked files) o → (d : Done) × (o ≡ Ok d))
       → (reply : ReplyFields)
-      → IsReplyTo call.asked files reply → call.status ≡ reply.status → Succeeds call
+      → IsReplyOver call.asked (held_by call.asked files) reply → call.status ≡ reply.status → Succeeds call
   sure_reply files some law reply (inl (none, same)) status = absurd (some none)
   sure_reply files some law reply (inr (o, m, same)) status =
       let d = law o m in
@@ -185,14 +203,14 @@ module _ (call : Call) where
   bad_layout : EndsOld call → call.status ≡ 3 → FilesAreTold call → (name : List ℕ) × (fault : LayoutFault)
       × Refused call name (faults.Layout fault)
   bad_layout ends st (files, is) =
-      let x = tellings.layout call.asked (WhichFailedIn call) _ _ _ _ _ _ (Some files) (at files is ends) st in
+      let x = tellings.layout call.asked call.failed _ _ _ _ _ _ (Some files) (at files is ends) st in
       let r = refused_of files is (faults.Layout x.0) x.1 in
       (r.0, x.0, r.1)
 
   bad_crl : EndsOld call → call.status ≡ 4 → FilesAreTold call → (name : List ℕ) × (place : ℕ) × (fault : CrlFault)
       × Refused call name (faults.BadCrl place fault)
   bad_crl ends st (files, is) =
-      let x = tellings.crl call.asked (WhichFailedIn call) _ _ _ _ _ _ (Some files) (at files is ends) st in
+      let x = tellings.crl call.asked call.failed _ _ _ _ _ _ (Some files) (at files is ends) st in
       let r = refused_of files is (faults.BadCrl x.0 x.1) x.2 in
       (r.0, x.0, x.1, r.1)
 
@@ -207,44 +225,44 @@ module _ (call : Call) where
   chain : EndsOld call → call.status ≡ 5 → FilesAreTold call → (name : List ℕ)
       × (Refused call name faults.NotSnapshot ⊎ ((why : Refusal) × Refused call name (faults.Chain why)))
   chain ends st (files, is) =
-      chain_by files is (tellings.chain call.asked (WhichFailedIn call) _ _ _ _ _ _ (Some files) (at files is ends) st)
+      chain_by files is (tellings.chain call.asked call.failed _ _ _ _ _ _ (Some files) (at files is ends) st)
 
   too_many : EndsOld call → call.status ≡ 6 → FilesAreTold call → (name : List ℕ) × (what : What) × (limit : ℕ)
       × Refused call name (faults.TooMany what limit)
   too_many ends st (files, is) =
-      let x = tellings.limit call.asked (WhichFailedIn call) _ _ _ _ _ _ (Some files) (at files is ends) st in
+      let x = tellings.limit call.asked call.failed _ _ _ _ _ _ (Some files) (at files is ends) st in
       let r = refused_of files is (faults.TooMany x.0 x.1) x.2 in
       (r.0, x.0, x.1, r.1)
 
   seeds : EndsOld call → call.status ≡ 7 → FilesAreTold call → (name : List ℕ) × (issuer : List ℕ) × (stage : ℕ)
       × Refused call name (faults.Seeds issuer stage)
   seeds ends st (files, is) =
-      let x = tellings.seeds call.asked (WhichFailedIn call) _ _ _ _ _ _ (Some files) (at files is ends) st in
+      let x = tellings.seeds call.asked call.failed _ _ _ _ _ _ (Some files) (at files is ends) st in
       let r = refused_of files is (faults.Seeds x.0 x.1) x.2 in
       (r.0, x.0, x.1, r.1)
 
   bad_cert : EndsOld call → call.status ≡ 12 → FilesAreTold call → (name : List ℕ) × (fault : CertFault)
       × Refused call name (faults.BadCert fault)
   bad_cert ends st (files, is) =
-      let x = tellings.cert call.asked (WhichFailedIn call) _ _ _ _ _ _ (Some files) (at files is ends) st in
+      let x = tellings.cert call.asked call.failed _ _ _ _ _ _ (Some files) (at files is ends) st in
       let r = refused_of files is (faults.BadCert x.0) x.1 in
       (r.0, x.0, r.1)
 
   bad_page : EndsOld call → call.status ≡ 16 → FilesAreTold call → (name : List ℕ) × (fault : PageFault)
       × Refused call name (faults.BadPage fault)
   bad_page ends st (files, is) =
-      let x = tellings.page call.asked (WhichFailedIn call) _ _ _ _ _ _ (Some files) (at files is ends) st in
+      let x = tellings.page call.asked call.failed _ _ _ _ _ _ (Some files) (at files is ends) st in
       let r = refused_of files is (faults.BadPage x.0) x.1 in
       (r.0, x.0, r.1)
 
   disagrees : EndsOld call → call.status ≡ 17 → FilesAreTold call → (name : List ℕ) × (job : ℕ) × (entry : ℕ)
       × (held : Verdict) × (truth : Verdict) × Refused call name (faults.Disagrees job entry held truth)
   disagrees ends st (files, is) =
-      let x = tellings.disagreement call.asked (WhichFailedIn call) _ _ _ _ _ _ (Some files) (at files is ends) st in
+      let x = tellings.disagreement call.asked call.failed _ _ _ _ _ _ (Some files) (at files is ends) st in
       let r = refused_of files is (faults.Disagrees x.0 x.1 x.2 x.3) x.4 in
       (r.0, x.0, x.1, x.2, x.3, r.1)
 
-  usage_reply : call.asked ≡ commands.Usage → (reply : ReplyFields) → IsAnswer call reply → Gives call reply
+  usage_reply : call.asked ≡ commands.Usage → (reply : ReplyFields) → IsReply call.asked call.files_before call.failed reply → Gives call reply
       → Gives call usage
   usage_reply none reply (inputs, read, inl (asked, same), says) g = subst (λ (r : ReplyFields). Gives call r) same g
   usage_reply none reply (inputs, read, inr (o, m, same), says) g = absurd (subst (λ (c : Command). Makes c inputs o) none m)
@@ -255,15 +273,18 @@ module _ (call : Call) where
 
   -- there is one reply at most
   abbrev pub Unique : Type 0
-  Unique = (files : Files) (a b : ReplyFields) → IsReplyTo call.asked files a → IsReplyTo call.asked files b → a ≡ b
+  Unique = (inputs : List (Option (List ℕ))) (a b : ReplyFields) → IsReplyOver call.asked inputs a → IsReplyOver call.asked inputs b → a ≡ b
 
-  refused : Unique → Way → (e : NamedFault) → Comes call (Err e)
-      → NoFault call → Gives call (refusal e.name e.fault) ⊎ WantedMemory call
-  refused unique (inl wanted) e comes quiet = inr wanted
-  refused unique (inr (reply, answered, own, how)) e (files, is, m) quiet =
+  -- what comes of the command over the files must be given
+  given_by : Unique → Way → (o : Result Done NamedFault) → Comes call o → NoFault call → Gives call (reply_of o) ⊎ WantedMemory call
+  given_by unique (inl wanted) o comes quiet = inr wanted
+  given_by unique (inr (reply, answered, own, how)) o (files, is, m) quiet =
       let to = replied_to files is reply quiet answered in
-      let same = unique files reply (refusal e.name e.fault) to (inr (Err e, m, refl)) in
+      let same = unique (held_by call.asked files) reply (reply_of o) to (inr (o, m, refl)) in
       inl (subst (λ (r : ReplyFields). Gives call r) same (give quiet reply how))
+
+  pub given : Unique → EndsOld call → (o : Result Done NamedFault) → Comes call o → NoFault call → Gives call (reply_of o) ⊎ WantedMemory call
+  given unique ends o comes quiet = given_by unique (ways ends) o comes quiet
 
   pub refusals : Unique → EndsOld call → Refusals call
   refusals unique ends = record {
@@ -275,9 +296,9 @@ module _ (call : Call) where
     bad_cert = bad_cert ends;
     bad_page = bad_page ends;
     disagrees = disagrees ends;
-    bad_words = endings.usage_line _ _ (WhichFailedIn call) _ _ _ _ _ _ ends;
+    bad_words = endings.usage_line _ _ call.failed _ _ _ _ _ _ ends;
     no_command = no_command (ways ends);
-    refused = refused unique (ways ends);
+    refused = λ e. given unique ends (Err e);
   }
 
   -- ---- faults of the outside
@@ -288,7 +309,7 @@ module _ (call : Call) where
       absurd (endings.not_among of_replies reply.status 9 own (sym status ∙ nine) refl)
   fault_printed reply own nine (inr failed) = failed
 
-  write_fault_by : Way → call.status ≡ 9 → (reply : ReplyFields) × IsAnswer call reply
+  write_fault_by : Way → call.status ≡ 9 → (reply : ReplyFields) × IsReply call.asked call.files_before call.failed reply
       × ((Writes call reply.outputs × SinkFailed call reply.text) ⊎ ((name : List ℕ) × Torn call reply name))
   write_fault_by (inl wanted) nine = let w = wanted.status in absurd (omega (arith, w))
   write_fault_by (inr (reply, answered, own, inl sent)) nine =
@@ -313,8 +334,8 @@ module _ (call : Call) where
   pub outside : ((part : List ℕ) → call.asked ≡ commands.Check part → call.status ≡ 70 → ⊥) → EndsOld call → Outside call
   outside check ends = record {
     check = check;
-    read_fault = λ eight. let u = endings.read_fault_line _ _ (WhichFailedIn call) _ _ _ _ _ _ ends eight in (u.name, u.is_input, u.cause, u.written);
-    no_read_fault = endings.no_read_fault _ _ (WhichFailedIn call) _ _ _ _ _ _ ends;
+    read_fault = λ eight. let u = endings.read_fault_line _ _ call.failed _ _ _ _ _ _ ends eight in (u.name, u.is_input, u.cause, u.written);
+    no_read_fault = endings.no_read_fault _ _ call.failed _ _ _ _ _ _ ends;
     write_fault = write_fault_by (ways ends);
     no_memory = no_memory_by (ways ends);
   }

@@ -19,9 +19,8 @@ use Rattle.outside_core.specs.Reads.{WhichFailed}
 use Rattle.input_core.specs.Inputs.{IsRead, IsInput}
 use Rattle.clubcard_top.specs.ReplyFields.{Done, NamedFault}
 use Rattle.clubcard_top.specs.Commands.{◌>>=◌, named, input, query_cert_done}
-use Rattle.clubcard_top.specs.Replies.{done, refusal}
+use Rattle.clubcard_top.specs.Replies.{done, refusal, IsReply}
 use Rattle.clubcard_top.specs.Answering.{reply_fields}
-use Rattle.clubcard_top.specs.Runs.{IsReply}
 use Rattle.clubcard_top.proofs.Makings.{cert_last, cert_then, cert_after}
 use Rattle.outside_core.proofs.Effects.{WhichFailed-then}
 use Rattle.input_core.proofs.FilesRead.{some_read, later_read, none_failed, blamed_later}
@@ -124,5 +123,5 @@ module _ (told : Option Files) (failed : Option (List ℕ) → Type 0) (r : Resu
           → IfOk r (λ a. reply_fields a ≡ done (query_cert_done parts cert (view x))) → IfOk r (λ a. IsReply (commands.QueryCert q) told failed (reply_fields a))
       query_cert_made view x (given, is_read, gives, blamed) is =
           made (commands.QueryCert q) told failed (s.given ∷ k.given ∷ given ∷ []) (Ok (query_cert_done parts cert (view x))) r (s.is_read, (k.is_read, (is_read, tt)))
-          (none_failed failed q.issuer_cert faults.Unread x blamed)
+          (inl (none_failed failed q.issuer_cert faults.Unread x blamed))
           (behind_two given (Ok (query_cert_done parts cert (view x))) (step_to q.issuer_cert issuer_in given (view x) (cert_last parts cert) gives)) is

@@ -1,5 +1,5 @@
 -- Jobs that are rehearsed file by file, and the reply of `rehearse`.
-use Rattle.std.proofs.Common.{◌≡◌, ℕ, zero, suc, ◌+◌, ◌<◌, ◌≤◌, inl, inr, List, [], ◌∷◌, ◌++◌, map, flat_map, take, drop, get_or, length, append_assoc, Option, Some, None, Result, Ok}
+use Rattle.std.proofs.Common.{◌≡◌, ℕ, zero, suc, ◌+◌, ◌<◌, ◌≤◌, inl, inr, List, [], ◌∷◌, ◌++◌, map, flat_map, take, drop, get_or, length, append_assoc, Option, None, Result, Ok}
 use Rattle.std.proofs.Common.{Err, IfOk, refl, sym, ap, ◌∙◌, subst, arith}
 use Rattle.std.specs.Prelude.{IsErr}
 use Rattle.std.proofs.lemmas.List.{append-nil, length_push, take_more, drop_more, take_all, drop_all, take-append-drop}
@@ -27,12 +27,11 @@ use Rattle.clubcard_top.specs.Steps.{RehearsesOn}
 use Rattle.outside_core.specs.Reads.{WhichFailed}
 use Rattle.input_core.specs.Inputs.{IsBlamed, IsRead, AreRead, IsInput}
 use Rattle.clubcard_top.specs.Rehearsals.{AddsJob, IsRehearsedFrom, IsRefusedFrom}
-use Rattle.clubcard_top.specs.Replies.{done, refusal}
+use Rattle.clubcard_top.specs.Replies.{done, refusal, IsReply}
 use Rattle.clubcard_top.specs.Answering.{reply_fields}
-use Rattle.clubcard_top.specs.Runs.{BlamesFile, IsReply}
 use Rattle.outside_core.proofs.Effects.{WhichFailed-then}
 use Rattle.input_core.proofs.FilesRead.{some_read, later_read, none_failed, blamed_later}
-use Rattle.clubcard_top.proofs.Replying.{read_well, read_named, blames_file, made, made_unless}
+use Rattle.clubcard_top.proofs.Replying.{read_well, read_named, blames_file, says_wider, made, made_unless}
 use Rattle.clubcard_top.proofs.Chains.{chain_push}
 use Rattle.clubcard_top.proofs.Prefixes.{first_of}
 
@@ -148,7 +147,7 @@ module _ (told : Option Files) (names : List (List ℕ)) where
           ∙ sym (reports_more (of_jobs []) [] gone.jobs r.parts a.job a.sealed gone.as_many) ∙ ap (reports (of_jobs []) [] (gone.jobs ++ a.job ∷ [])) (sym a.parts);
       next = λ queries rest o m.
           subst (λ (gs : List (Option (List ℕ))). RehearsesOn queries [] [] names gs o) (sym (append_assoc gone.inputs (g ∷ []) rest))
-          (next_of queries (g ∷ rest) o (inr (a.job, after.parts, a.is_read, (is_of_more after a.job a.is_of).is_history, m)));
+          (next_of queries (g ∷ rest) o (inr (a.job, after.parts, a.is_read, a.fits, (is_of_more after a.job a.is_of).is_history, m)));
     }
 
     pub gone_more : (after : RehearsalFields) (line : List ℕ) → ((h : History) → IsOf h r → AddsJob h r (input name job_in g) after line)
@@ -201,12 +200,6 @@ rehearse_refused told failed a r view fault (g, read, gives, blamed) memory is =
     (blames_file failed (r.queries ∷ r.jobs) r.queries fault (inl refl) blamed)
     (λ refute. subst (λ (x : Result (List Query) FileFault). MakesRehearsal r (named r.queries x) rest.0 (Err (record { name = r.queries; fault = fault }))) (sym (gives refute)) refl) memory is
 
--- one of the jobs is blamed
-job_blamed : (failed other : Option (List ℕ) → Type 0) (queries : List ℕ) (names : List (List ℕ)) (e : NamedFault)
-    → ((which : Option (List ℕ)) → failed which → other which) → BlamesFile failed names e → BlamesFile other (queries ∷ names) e
-job_blamed failed other queries names e wider (inl none) = inl (wider None none)
-job_blamed failed other queries names e wider (inr (unread, among, why)) = inr (unread, inr among, wider (Some e.name) why)
-
 module _ {D : Type 0} (d : Ghosts D) (old mid new : D) (reads_ : OnlyReads d old mid) (r : RehearseFields) where
   abbrev First : Option (List ℕ) → Type 0
   First = WhichFailed d old mid
@@ -235,7 +228,7 @@ module _ {D : Type 0} (d : Ghosts D) (old mid new : D) (reads_ : OnlyReads d old
       let well = none_failed First r.queries faults.Unread x blamed in
       made (commands.Rehearse r) (d.files old) All (g ∷ f.inputs) (Err (record { name = name; fault = fault })) (Ok b)
       (read_well (d.files old) First All r.queries queries_in g (view x) gives read, jobs_read f.inputs well f.read)
-      (job_blamed Others All r.queries r.jobs (record { name = name; fault = fault }) (WhichFailed-then d old mid new reads_ well) f.blames)
+      (says_wider Others All r.queries r.jobs (refusal name fault) (WhichFailed-then d old mid new reads_ well) f.blames)
       (step (view x) g f.inputs (Err (record { name = name; fault = fault })) gives (f.makes (view x))) is
   rehearse_not view x name fault in_ refused (Err e) memory is = tt
 
@@ -248,6 +241,6 @@ module _ {D : Type 0} (d : Ghosts D) (old mid new : D) (reads_ : OnlyReads d old
       let well = none_failed First r.queries faults.Unread x blamed in
       made (commands.Rehearse r) (d.files old) All (g ∷ f.inputs) (Ok (rehearsed (view x) f.jobs after.parts)) a
       (read_well (d.files old) First All r.queries queries_in g (view x) gives read, jobs_read f.inputs well f.read)
-      (WhichFailed-then d old mid new reads_ well None f.none_failed)
+      (inl (WhichFailed-then d old mid new reads_ well None f.none_failed))
       (step (view x) g f.inputs (Ok (rehearsed (view x) f.jobs after.parts)) gives (f.makes (view x)))
       (subst (λ (t : List ℕ). IfOk a (λ y. reply_fields y ≡ done (record { text = t; outputs = [] }))) same_text is)

@@ -2,7 +2,9 @@
 use Rattle.std.proofs.Common.{◌≡◌, ℕ, inl, inr, List, [], ◌∷◌, ◌++◌, map, append_assoc, Option, Some, None, Result, Ok, Err, refl, sym, ap, ◌∙◌, subst}
 use Rattle.std.specs.FinMap.{get}
 use Rattle.std.specs.List.{AllZip}
+use Rattle.std.specs.Prelude.{All}
 use Rattle.std.proofs.lemmas.List.{append-nil}
+use Rattle.std.proofs.lemmas.List.Elements.{All-nil, All-cons}
 use Rattle.outside_core.specs.Files.{Files}
 use Rattle.query_core.specs.Queries.{Query}
 use Rattle.query_core.specs.QueryReading.{queries_in as queries_of}
@@ -11,6 +13,7 @@ use Rattle.part_text.specs.SealedFields.{SealedFields}
 use Rattle.job_core.specs.declared.bounds.TheConstants.Limits.{PUBLISHED}
 use Rattle.job_core.specs.declared.fault.JobFault.{JobFault}
 use Rattle.job_core.specs.JobFields.{JobFields}
+use Rattle.job_core.specs.JobFacts.{FitsFields}
 use Rattle.job_core.specs.JobLayout.{job_of}
 use Rattle.card_core.specs.declared.verdict.Verdict.{Verdict}
 use Rattle.publication_core.specs.Histories.{chain, IsHistory}
@@ -60,6 +63,7 @@ module _ (layers : Layers) (files : Files) where
     pub others : List JobFields
     pub parts : List SealedFields
     pub held : AllZip (HoldsJob files) names others
+    pub fit : All FitsFields others
     pub is_history : IsHistory (chain (jobs ++ others)) parts
     pub done : d ≡ rehearsed queries (jobs ++ others) parts
 
@@ -68,17 +72,18 @@ module _ (layers : Layers) (files : Files) where
     others = [];
     parts = parts;
     held = tt;
+    fit = All-nil FitsFields;
     is_history = subst (λ (js : List JobFields). IsHistory (chain js) parts) (sym (append-nil jobs)) is;
     done = same ∙ ap (λ (js : List JobFields). rehearsed queries js parts) (sym (append-nil jobs));
   }
 
   follows_one : (queries : List Query) (jobs : List JobFields) (job : JobFields) (name : List ℕ) (names : List (List ℕ)) (d : Done) → HoldsJob files name job
-      → Follows queries (jobs ++ job ∷ []) names d
-      → Follows queries jobs (name ∷ names) d
-  follows_one queries jobs job name names d held f = record {
+      → FitsFields job → Follows queries (jobs ++ job ∷ []) names d → Follows queries jobs (name ∷ names) d
+  follows_one queries jobs job name names d held fits f = record {
     others = job ∷ f.others;
     parts = f.parts;
     held = (held, f.held);
+    fit = All-cons FitsFields job f.others fits f.fit;
     is_history = subst (λ (js : List JobFields). IsHistory (chain js) f.parts) (append_assoc jobs (job ∷ []) f.others) f.is_history;
     done = f.done ∙ ap (λ (js : List JobFields). rehearsed queries js f.parts) (append_assoc jobs (job ∷ []) f.others);
   }
@@ -87,8 +92,8 @@ module _ (layers : Layers) (files : Files) where
       → RehearsesOn queries jobs parts names (map (get files) names) (Ok d) → Follows queries jobs names d
   follows queries jobs parts [] d is m = follows_none queries jobs parts d is (ok_same {E = NamedFault} d (rehearsed queries jobs parts) m)
   follows queries jobs parts (name ∷ names) d is (inl (e, refused, same)) = absurd (not_ok d e (sym same))
-  follows queries jobs parts (name ∷ names) d is (inr (job, more, is_job, is_more, rest)) =
-      follows_one queries jobs job name names d (job_held files name job (get files name) refl is_job) (follows queries (jobs ++ job ∷ []) more names d is_more rest)
+  follows queries jobs parts (name ∷ names) d is (inr (job, more, is_job, fits, is_more, rest)) =
+      follows_one queries jobs job name names d (job_held files name job (get files name) refl is_job) fits (follows queries (jobs ++ job ∷ []) more names d is_more rest)
 
   abbrev pub IsRehearsal : Command → Done → Type 0
   IsRehearsal asked d = (queries : List Query) × (jobs : List JobFields) × (parts : List SealedFields) × RehearsesJobs asked files queries jobs
@@ -101,6 +106,7 @@ module _ (layers : Layers) (files : Files) where
     f.parts,
     (held, f.held),
     record {
+      fit = f.fit;
       is_history = f.is_history;
       truths = λ q among asked. ap (λ (v : Verdict). line (verdict_word v)) (layers.truths (chain f.others) f.parts q.identity q.sightings f.is_history asked.0 asked.1);
     },
@@ -131,7 +137,7 @@ module _ (layers : Layers) (files : Files) where
   goes_on queries jobs parts (name ∷ names) [] all o is is_all held m = absurd held
   goes_on queries jobs parts (name ∷ names) (j ∷ others) all o is is_all held (inl (e, refused, same)) =
       absurd (refused_follows layers.publishing jobs parts name (get files name) e j others all is (job_input files name j held.0) is_all refused)
-  goes_on queries jobs parts (name ∷ names) (j ∷ others) all o is is_all held (inr (job, more, is_job, is_more, rest)) =
+  goes_on queries jobs parts (name ∷ names) (j ∷ others) all o is is_all held (inr (job, more, is_job, fits, is_more, rest)) =
       let same : job ≡ j = job_same layers.publishing job j (input name job_in (get files name)) is_job (job_input files name j held.0) in
       goes_on queries (jobs ++ j ∷ []) more names others all o (subst (λ (k : JobFields). IsHistory (chain (jobs ++ k ∷ [])) more) same is_more)
       (subst (λ (js : List JobFields). IsHistory (chain js) all) (sym (append_assoc jobs (j ∷ []) others)) is_all) held.1

@@ -35,9 +35,8 @@ use Rattle.input_core.proofs.FilesRead.{some_read, later_read, none_failed, blam
 use Rattle.clubcard_top.specs.ReplyFields.{ReplyFields, Done, NamedFault}
 use Rattle.clubcard_top.specs.Commands.{◌>>=◌, named, input, query_done, show_done, begun, installed, stored, publication_done, MakesPart, MakesSnapshot, MakesDelta, Makes}
 use Rattle.clubcard_top.specs.Rebasings.{base_done, MakesBase, MakesRebase}
-use Rattle.clubcard_top.specs.Replies.{done, refusal, reply_of}
+use Rattle.clubcard_top.specs.Replies.{done, refusal, reply_of, SaysWhich, IsReply}
 use Rattle.clubcard_top.specs.Answering.{reply_fields}
-use Rattle.clubcard_top.specs.Runs.{BlamesFile, SaysWhich, IsReply}
 use Rattle.clubcard_top.proofs.Results.{not_ok}
 use Rattle.clubcard_top.proofs.Makings.{start_after, install_then, install_after}
 
@@ -57,38 +56,30 @@ read_named told failed other name read (Some bytes) x is held = held
 -- ---- which read failed
 
 pub blames_file : {A : Type 0} (failed : Option (List ℕ) → Type 0) (names : List (List ℕ)) (name : List ℕ) (fault : FileFault) → Among names name
-    → IsBlamed {A = A} failed name faults.Unread (Err fault) → BlamesFile failed names (record { name = name; fault = fault })
+    → IsBlamed {A = A} failed name faults.Unread (Err fault) → SaysWhich failed names (refusal name fault)
 blames_file failed names name fault among (inl none) = inl none
 blames_file {A} failed names name fault among (inr (is, why)) =
-    inr (let h : ◌≡◌ {A = Result A FileFault} (Err fault) (Err faults.Unread) = is in cc, among, why)
+    let unread : fault ≡ faults.Unread = let h : ◌≡◌ {A = Result A FileFault} (Err fault) (Err faults.Unread) = is in cc in
+    inr (name, among, ap (refusal name) unread, why)
+
+-- the same of more files
+pub says_wider : (failed other : Option (List ℕ) → Type 0) (first : List ℕ) (names : List (List ℕ)) (reply : ReplyFields)
+    → ((which : Option (List ℕ)) → failed which → other which) → SaysWhich failed names reply → SaysWhich other (first ∷ names) reply
+says_wider failed other first names reply wider (inl none) = inl (wider None none)
+says_wider failed other first names reply wider (inr (name, among, is, why)) = inr (name, inr among, is, wider (Some name) why)
 
 -- ---- replies
 
--- what an outcome says of which read failed
-abbrev pub BlamesOf : (Option (List ℕ) → Type 0) → List (List ℕ) → Result Done NamedFault → Type 0
-BlamesOf failed names (Ok d) = failed None
-BlamesOf failed names (Err e) = BlamesFile failed names e
-
-says_fault : (failed : Option (List ℕ) → Type 0) (names : List (List ℕ)) (e : NamedFault) (reply : ReplyFields) → BlamesFile failed names e
-    → reply ≡ refusal e.name e.fault → SaysWhich failed names reply
-says_fault failed names e reply (inl none) is = inl none
-says_fault failed names e reply (inr (unread, among, why)) is = inr (e.name, among, is ∙ ap (refusal e.name) unread, why)
-
-says_which : (failed : Option (List ℕ) → Type 0) (names : List (List ℕ)) (o : Result Done NamedFault) (reply : ReplyFields) → BlamesOf failed names o
-    → reply ≡ reply_of o → SaysWhich failed names reply
-says_which failed names (Ok d) reply none is = inl none
-says_which failed names (Err e) reply blames is = says_fault failed names e reply blames is
-
 pub made : (c : Command) (told : Option Files) (failed : Option (List ℕ) → Type 0) (inputs : List (Option (List ℕ))) (o : Result Done NamedFault)
-    (r : Result Answer NoMemory) → AreRead told failed (inputs_of c) inputs → BlamesOf failed (inputs_of c) o → Makes c inputs o
+    (r : Result Answer NoMemory) → AreRead told failed (inputs_of c) inputs → SaysWhich failed (inputs_of c) (reply_of o) → Makes c inputs o
     → IfOk r (λ a. reply_fields a ≡ reply_of o) → IfOk r (λ a. IsReply c told failed (reply_fields a))
-made c told failed inputs o (Ok a) read blames m is = (inputs, read, inr (o, m, is), says_which failed (inputs_of c) o (reply_fields a) blames is)
-made c told failed inputs o (Err e) read blames m is = tt
+made c told failed inputs o (Ok a) read says m is = (inputs, read, inr (o, m, is), subst (SaysWhich failed (inputs_of c)) (sym is) says)
+made c told failed inputs o (Err e) read says m is = tt
 
 -- a fault that isn't want of memory
 pub made_unless : (c : Command) (told : Option Files) (failed : Option (List ℕ) → Type 0) (inputs : List (Option (List ℕ))) (name : List ℕ) (fault : FileFault)
     (r : Result Answer NoMemory) → AreRead told failed (inputs_of c) inputs
-    → BlamesFile failed (inputs_of c) (record { name = name; fault = fault })
+    → SaysWhich failed (inputs_of c) (refusal name fault)
     → ((fault ≡ faults.NoMemory → ⊥) → Makes c inputs (Err (record { name = name; fault = fault }))) → (fault ≡ faults.NoMemory → IsErr r)
     → IfOk r (λ a. reply_fields a ≡ refusal name fault)
     → IfOk r (λ a. IsReply c told failed (reply_fields a))
@@ -120,7 +111,7 @@ module _ (told : Option Files) (failed : Option (List ℕ) → Type 0) (r : Resu
       → IfOk r (λ a. reply_fields a ≡ done (query_done q (view x)))
       → IfOk r (λ a. IsReply (commands.Query q) told failed (reply_fields a))
   query_made q view x (given, read, gives, blamed) is =
-      made (commands.Query q) told failed (given ∷ []) (Ok (query_done q (view x))) r (read, tt) (none_failed failed q.store faults.Unread x blamed)
+      made (commands.Query q) told failed (given ∷ []) (Ok (query_done q (view x))) r (read, tt) (inl (none_failed failed q.store faults.Unread x blamed))
       (sym (ap (λ (y : Result (List SealedFields) FileFault). named q.store y >>= (λ ps. Ok (query_done q ps))) gives)) is
 
   pub show_refused : {B : Type 0} (name : List ℕ) (view : B → SealedFields × ℕ) (fault : FileFault) → IsInput told failed name part_in view (Err fault) → (fault ≡ faults.NoMemory → IsErr r)
@@ -132,7 +123,7 @@ module _ (told : Option Files) (failed : Option (List ℕ) → Type 0) (r : Resu
   pub show_made : {B : Type 0} (name : List ℕ) (view : B → SealedFields × ℕ) (x : B) → IsInput told failed name part_in view (Ok x) → IfOk r (λ a. reply_fields a ≡ done (show_done (view x)))
       → IfOk r (λ a. IsReply (commands.Show name) told failed (reply_fields a))
   show_made name view x (given, read, gives, blamed) is =
-      made (commands.Show name) told failed (given ∷ []) (Ok (show_done (view x))) r (read, tt) (none_failed failed name faults.Unread x blamed)
+      made (commands.Show name) told failed (given ∷ []) (Ok (show_done (view x))) r (read, tt) (inl (none_failed failed name faults.Unread x blamed))
       (sym (ap (λ (y : Result (SealedFields × ℕ) FileFault). named name y >>= (λ z. Ok (show_done z))) gives)) is
 
   -- ---- start
@@ -153,7 +144,7 @@ module _ (told : Option Files) (failed : Option (List ℕ) → Type 0) (r : Resu
       → GivesUnless faults.NoMemory shape (Ok y) (begun (view x).0) → IfOk r (λ a. reply_fields a ≡ done (stored t.store (shape y)))
       → IfOk r (λ a. IsReply (commands.Start t) told failed (reply_fields a))
   start_made t view x shape y (given, read, gives, blamed) is_begun is =
-      made (commands.Start t) told failed (given ∷ []) (Ok (stored t.store (shape y))) r (read, tt) (none_failed failed t.part faults.Unread x blamed)
+      made (commands.Start t) told failed (given ∷ []) (Ok (stored t.store (shape y))) r (read, tt) (inl (none_failed failed t.part faults.Unread x blamed))
       (start_step t (view x) given (Ok (shape y)) gives is_begun) is
 
   pub start_not : {B C : Type 0} (t : StartFields) (view : B → SealedFields × ℕ) (x : B) (shape : C → List SealedFields) (fault : FileFault) → IsInput told failed t.part part_in view (Ok x)
@@ -179,7 +170,7 @@ module _ (told : Option Files) (failed : Option (List ℕ) → Type 0) (r : Resu
       → FitsFields (view x) → IsWithinLimits PUBLISHED (view x)
       → PublishesUnless no_ledger (view x) (Ok p) → IfOk r (λ a. reply_fields a ≡ done (publication_done s.part s.ledger p)) → IfOk r (λ a. IsReply (commands.Snapshot s) told failed (reply_fields a))
   snapshot_made s view x p (given, read, gives, blamed) fits limits publishes is =
-      made (commands.Snapshot s) told failed (given ∷ []) (Ok (publication_done s.part s.ledger p)) r (read, tt) (none_failed failed s.job faults.Unread x blamed)
+      made (commands.Snapshot s) told failed (given ∷ []) (Ok (publication_done s.part s.ledger p)) r (read, tt) (inl (none_failed failed s.job faults.Unread x blamed))
       (snapshot_step s (view x) given (Ok (publication_done s.part s.ledger p)) gives (record { fits = fits; limits = limits; result = Ok p; publishes = publishes; is = refl })) is
 
 -- a fault of publishing that isn't want of memory
@@ -220,7 +211,7 @@ module _ (told : Option Files) (failed : Option (List ℕ) → Type 0) (r : Resu
   pub rebase_made : {B : Type 0} (b : RebaseFields) (view : B → LedgerFields) (x : B) (p : PublishedBase) → IsInput told failed b.ledger ledger_in view (Ok x)
       → PublishesBaseUnless (view x) b.moment b.without (Ok p) → IfOk r (λ a. reply_fields a ≡ done (base_done b p)) → IfOk r (λ a. IsReply (commands.Rebase b) told failed (reply_fields a))
   rebase_made b view x p (given, read, gives, blamed) publishes is =
-      made (commands.Rebase b) told failed (given ∷ []) (Ok (base_done b p)) r (read, tt) (none_failed failed b.ledger faults.Unread x blamed)
+      made (commands.Rebase b) told failed (given ∷ []) (Ok (base_done b p)) r (read, tt) (inl (none_failed failed b.ledger faults.Unread x blamed))
       (rebase_step b (view x) given (Ok (base_done b p)) gives (record { result = Ok p; publishes = publishes; is = refl })) is
 
   pub rebase_not : {B : Type 0} (b : RebaseFields) (view : B → LedgerFields) (x : B) (fault : BaseFault) → IsInput told failed b.ledger ledger_in view (Ok x)
@@ -261,7 +252,7 @@ module _ {D : Type 0} (g : Ghosts D) (old mid new : D) (reads_ : OnlyReads g old
 
     -- and the second is at fault
     second_blamed : {C : Type 0} (second : List ℕ) (fault : FileFault) → IsBlamed {A = C} Second second faults.Unread (Err fault)
-        → BlamesFile Both (first ∷ second ∷ []) (record { name = second; fault = fault })
+        → SaysWhich Both (first ∷ second ∷ []) (refusal second fault)
     second_blamed {C} second fault h =
         blames_file {A = C} Both (first ∷ second ∷ []) second fault (inr (inl refl)) (blamed_later {A = C} Second Both second faults.Unread (Err fault) later h)
 
@@ -291,7 +282,7 @@ module _ {D : Type 0} (g : Ghosts D) (old mid new : D) (reads_ : OnlyReads g old
       → IfOk r (λ a. reply_fields a ≡ done (publication_done t.part t.new_ledger p)) → IfOk r (λ a. IsReply (commands.Delta t) (g.files old) Both (reply_fields a))
   delta_made t view x shape l p (given, read, gives, blamed) (more, read_ledger, gives_ledger, blamed_ledger) fits limits publishes is =
       made (commands.Delta t) (g.files old) Both (given ∷ more ∷ []) (Ok (publication_done t.part t.new_ledger p)) r
-      (both_read t.job x blamed t.ledger job_in (view x) given more gives read read_ledger) (both_well t.job x blamed t.ledger l blamed_ledger)
+      (both_read t.job x blamed t.ledger job_in (view x) given more gives read read_ledger) (inl (both_well t.job x blamed t.ledger l blamed_ledger))
       (delta_then t (view x) (shape l) given more (Ok (publication_done t.part t.new_ledger p)) gives gives_ledger
       (record { fits = fits; limits = limits; result = Ok p; publishes = publishes; is = refl })) is
 
@@ -333,17 +324,17 @@ module _ {D : Type 0} (g : Ghosts D) (old mid new : D) (reads_ : OnlyReads g old
       → IfOk r (λ a. reply_fields a ≡ done (stored i.new_store (form y))) → IfOk r (λ a. IsReply (commands.Install i) (g.files old) Both (reply_fields a))
   install_made i view x shape p form y (given, read, gives, blamed) (more, read_part, gives_part, blamed_part) grown is =
       made (commands.Install i) (g.files old) Both (given ∷ more ∷ []) (Ok (stored i.new_store (form y))) r
-      (both_read i.store x blamed i.part store_in (view x) given more gives read read_part) (both_well i.store x blamed i.part p blamed_part)
+      (both_read i.store x blamed i.part store_in (view x) given more gives read read_part) (inl (both_well i.store x blamed i.part p blamed_part))
       (install_last i (view x) (shape p) (Ok (form y)) grown ∙ install_step i (view x) given more (Ok (shape p)) gives gives_part) is
 
-  pub install_not : {B C E : Type 0} (i : InstallFields) (view : B → List SealedFields) (x : B) (shape : C → SealedFields × ℕ) (p : C) (form : E → List SealedFields) (fault : FileFault)
+  pub install_not : {B C : Type 0} (i : InstallFields) (view : B → List SealedFields) (x : B) (shape : C → SealedFields × ℕ) (p : C) (fault : FileFault)
       → IsInput (g.files old) First i.store store_in view (Ok x) → IsInput (g.files mid) Second i.part part_in shape (Ok p)
-      → GivesUnless faults.NoMemory form (Err fault) (installed (view x) (shape p).0)
+      → installed (view x) (shape p).0 ≡ Err fault
       → (fault ≡ faults.NoMemory → IsErr r) → IfOk r (λ a. reply_fields a ≡ refusal i.part fault) → IfOk r (λ a. IsReply (commands.Install i) (g.files old) Both (reply_fields a))
-  install_not i view x shape p form fault (given, read, gives, blamed) (more, read_part, gives_part, blamed_part) not_grown memory is =
+  install_not i view x shape p fault (given, read, gives, blamed) (more, read_part, gives_part, blamed_part) not_grown memory is =
       made_unless (commands.Install i) (g.files old) Both (given ∷ more ∷ []) i.part fault r
       (both_read i.store x blamed i.part store_in (view x) given more gives read read_part) (inl (both_well i.store x blamed i.part p blamed_part))
-      (λ refute. install_last i (view x) (shape p) (Err fault) (not_grown refute) ∙ install_step i (view x) given more (Ok (shape p)) gives gives_part) memory is
+      (λ refute. install_last i (view x) (shape p) (Err fault) not_grown ∙ install_step i (view x) given more (Ok (shape p)) gives gives_part) memory is
 
 -- the first of two inputs is at fault
 module _ (told : Option Files) (failed : Option (List ℕ) → Type 0) (r : Result Answer NoMemory) where

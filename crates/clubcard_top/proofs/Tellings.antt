@@ -16,8 +16,8 @@ use Rattle.input_core.specs.declared.fault.FileFault.{FileFault}
 use Rattle.input_core.specs.declared.fault.FileFault.TheVariants as faults
 use Rattle.clubcard_top.specs.ReplyFields.{ReplyFields, Done, NamedFault}
 use Rattle.clubcard_top.specs.Commands.{Makes}
-use Rattle.clubcard_top.specs.Replies.{refusal, reply_of, IsReplyOver, IsReplyTo, held_by}
-use Rattle.clubcard_top.specs.Runs.{IsReply, with_outputs}
+use Rattle.clubcard_top.specs.Replies.{refusal, reply_of, IsReplyOver, held_by, IsReply}
+use Rattle.clubcard_top.specs.Runs.{with_outputs}
 use Rattle.clubcard_top.proofs.Ways.{Ends, Answers, Refuses}
 use Rattle.clubcard_top.proofs.Endings.{IsSent, sent}
 use Rattle.clubcard_top.proofs.Makings.{refusal_quiet}
@@ -28,21 +28,21 @@ use Rattle.clubcard_top.proofs.Overs.{IsSeen, over_files, held_all}
 -- a reply to the command over these files, as the call ended
 abbrev pub Replied : Command → Files → ℕ → Option (List ℕ) → Option (List ℕ) → Option Files → Type 0
 Replied asked files ended old new after =
-    (reply : ReplyFields) × IsReplyTo asked files reply × (ended ≡ reply.status) × (new ≡ followed_by old reply.text) × (after ≡ with_outputs (Some files) reply.outputs)
+    (reply : ReplyFields) × IsReplyOver asked (held_by asked files) reply × (ended ≡ reply.status) × (new ≡ followed_by old reply.text) × (after ≡ with_outputs (Some files) reply.outputs)
 
 seen_by : (o : Result Done NamedFault) (ended : ℕ) → (ended ≡ 8 → ⊥) → ended ≡ (reply_of o).status → IsSeen o
 seen_by o ended refute is = λ e same unread. refute (is ∙ ap (λ (r : Result Done NamedFault). (reply_of r).status) same ∙ ap (λ (f : FileFault). (refusal e.name f).status) unread)
 
 module _ (asked : Command) (files : Files) (failed : Option (List ℕ) → Type 0) (ended : ℕ) (old new : Option (List ℕ)) (unsent : Type 0) (after : Option Files) (wrong : Type 0) where
-  over_seen : (s : IsSent asked (Some files) failed ended old new after) → (ended ≡ 8 → ⊥) → IsReply asked (Some files) failed s.reply → IsReplyTo asked files s.reply
+  over_seen : (s : IsSent asked (Some files) failed ended old new after) → (ended ≡ 8 → ⊥) → IsReply asked (Some files) failed s.reply → IsReplyOver asked (held_by asked files) s.reply
   over_seen s refute (inputs, read, inl (none, is), says) = inl (none, is)
   over_seen s refute (inputs, read, inr (o, m, is), says) =
       inr (o, over_files files failed asked inputs o (seen_by o ended refute (s.status ∙ ap (λ (r : ReplyFields). r.status) is)) read m, is)
 
-  pub over_quiet : (s : IsSent asked (Some files) failed ended old new after) → ((name : List ℕ) → failed (Some name) → ⊥) → IsReply asked (Some files) failed s.reply → IsReplyTo asked files s.reply
+  pub over_quiet : (s : IsSent asked (Some files) failed ended old new after) → ((name : List ℕ) → failed (Some name) → ⊥) → IsReply asked (Some files) failed s.reply → IsReplyOver asked (held_by asked files) s.reply
   over_quiet s quiet (inputs, read, over, says) = subst (λ (g : List (Option (List ℕ))). IsReplyOver asked g s.reply) (held_all files failed (inputs_of asked) inputs quiet read) over
 
-  replied : (s : IsSent asked (Some files) failed ended old new after) → IsReplyTo asked files s.reply → Replied asked files ended old new after
+  replied : (s : IsSent asked (Some files) failed ended old new after) → IsReplyOver asked (held_by asked files) s.reply → Replied asked files ended old new after
   replied s is = (s.reply, is, s.status, s.text, s.files)
 
   pub answered : Ends asked (Some files) failed ended old new unsent after wrong → (ended ≡ 8 → ⊥) → (ended ≡ 9 → ⊥) → (ended ≡ 70 → ⊥) → Replied asked files ended old new after
@@ -275,13 +275,13 @@ module _ (asked : Command) (files : Files) (ended : ℕ) (old new : Option (List
 
 module _ (asked : Command) (failed : Option (List ℕ) → Type 0) (ended : ℕ) (old new : Option (List ℕ)) (unsent : Type 0) (after : Option Files) (wrong : Type 0) where
   pub answer : (told : Option Files) → Ends asked told failed ended old new unsent after wrong → IfSome told (λ files. ended ≢ 8 → ended ≢ 9 → ended ≢ 70
-      → (reply : ReplyFields) × IsReplyTo asked files reply × (ended ≡ reply.status) × (new ≡ followed_by old reply.text) × (after ≡ with_outputs told reply.outputs))
+      → (reply : ReplyFields) × IsReplyOver asked (held_by asked files) reply × (ended ≡ reply.status) × (new ≡ followed_by old reply.text) × (after ≡ with_outputs told reply.outputs))
   answer None ends = tt
   answer (Some files) ends = λ no_read no_write no_want. answered asked files failed ended old new unsent after wrong ends no_read no_write no_want
 
   pub complete : (told : Option Files) → Ends asked told failed ended old new unsent after wrong
       → IfSome told (λ files. ((name : List ℕ) → failed (Some name) → ⊥) → (wrong → ⊥) → (unsent → ⊥) → ended ≢ 70
-      → (reply : ReplyFields) × IsReplyTo asked files reply × (ended ≡ reply.status) × (new ≡ followed_by old reply.text) × (after ≡ with_outputs told reply.outputs))
+      → (reply : ReplyFields) × IsReplyOver asked (held_by asked files) reply × (ended ≡ reply.status) × (new ≡ followed_by old reply.text) × (after ≡ with_outputs told reply.outputs))
   complete None ends = tt
   complete (Some files) ends = λ quiet sane calm no_want. completed asked files failed ended old new unsent after wrong ends quiet sane calm no_want
 

@@ -1,6 +1,5 @@
 -- One thing comes of a command and its inputs, and there is one reply to it over files.
 use Rattle.std.proofs.Common.{◌≡◌, ◌≢◌, ℕ, inl, inr, List, [], ◌∷◌, ◌++◌, map, Option, Result, Ok, Err, sym, ap, ◌∙◌, subst}
-use Rattle.outside_core.specs.Files.{Files}
 use Rattle.query_core.specs.Queries.{Query}
 use Rattle.card_core.specs.PartFields.{PartFields}
 use Rattle.part_text.specs.SealedFields.{SealedFields}
@@ -28,7 +27,7 @@ use Rattle.clubcard_top.specs.Audits.{audit_jobs, audited_as, MakesAudit}
 use Rattle.clubcard_top.specs.Rebasings.{rebased_as, MakesRebase}
 use Rattle.clubcard_top.specs.Steps.{RehearsesOn}
 use Rattle.clubcard_top.specs.Faults.{of_publishing}
-use Rattle.clubcard_top.specs.Replies.{reply_of, IsReplyOver, IsReplyTo, held_by}
+use Rattle.clubcard_top.specs.Replies.{reply_of, IsReplyOver}
 use Rattle.clubcard_top.proofs.Chains.{chain_front}
 use Rattle.clubcard_top.proofs.Prefixes.{from_first}
 
@@ -127,11 +126,11 @@ module _ (publishing : Publishing) where
   rehearses_unique queries jobs parts (name ∷ names) [] a b is x y = absurd x
   rehearses_unique queries jobs parts (name ∷ names) (g ∷ inputs) a b is (inl (e, refused, x)) (inl (f, refused_too, y)) =
       x ∙ ap (λ (k : NamedFault). Err k) (refused_same (chain jobs) parts name g e f refused refused_too) ∙ sym y
-  rehearses_unique queries jobs parts (name ∷ names) (g ∷ inputs) a b is (inl (e, refused, x)) (inr (job, more, is_job, is_more, rest)) =
+  rehearses_unique queries jobs parts (name ∷ names) (g ∷ inputs) a b is (inl (e, refused, x)) (inr (job, more, is_job, fits, is_more, rest)) =
       absurd (refused_follows jobs parts name g e job [] more is is_job is_more refused)
-  rehearses_unique queries jobs parts (name ∷ names) (g ∷ inputs) a b is (inr (job, more, is_job, is_more, rest)) (inl (e, refused, y)) =
+  rehearses_unique queries jobs parts (name ∷ names) (g ∷ inputs) a b is (inr (job, more, is_job, fits, is_more, rest)) (inl (e, refused, y)) =
       absurd (refused_follows jobs parts name g e job [] more is is_job is_more refused)
-  rehearses_unique queries jobs parts (name ∷ names) (g ∷ inputs) a b is (inr (job, more, is_job, is_more, rest)) (inr (other, more_other, is_other, is_more_other, rest_other)) =
+  rehearses_unique queries jobs parts (name ∷ names) (g ∷ inputs) a b is (inr (job, more, is_job, fits, is_more, rest)) (inr (other, more_other, is_other, fits_other, is_more_other, rest_other)) =
       let j : other ≡ job = job_same other job (input name job_in g) is_other is_job in
       let m : more_other ≡ more = publishing.parts (chain (jobs ++ job ∷ [])) more_other more
       (subst (λ (k : JobFields). IsHistory (chain (jobs ++ k ∷ [])) more_other) j is_more_other) is_more in
@@ -207,11 +206,8 @@ module _ (publishing : Publishing) where
   usage_makes : (c : Command) (inputs : List (Option (List ℕ))) (o : Result Done NamedFault) → c ≡ commands.Usage → Makes c inputs o → ⊥
   usage_makes c inputs o is m = subst (λ (k : Command). Makes k inputs o) is m
 
-  over_unique : Others → (c : Command) (inputs : List (Option (List ℕ))) (a b : ReplyFields) → IsReplyOver c inputs a → IsReplyOver c inputs b → a ≡ b
-  over_unique others c inputs a b (inl (u, x)) (inl (v, y)) = x ∙ sym y
-  over_unique others c inputs a b (inl (u, x)) (inr (o, m, y)) = absurd (usage_makes c inputs o u m)
-  over_unique others c inputs a b (inr (o, m, x)) (inl (v, y)) = absurd (usage_makes c inputs o v m)
-  over_unique others c inputs a b (inr (o, m, x)) (inr (k, n, y)) = x ∙ ap reply_of (outcome_unique others c inputs o k m n) ∙ sym y
-
-  pub reply_unique : Others → (c : Command) (files : Files) (a b : ReplyFields) → IsReplyTo c files a → IsReplyTo c files b → a ≡ b
-  reply_unique others c files a b x y = over_unique others c (held_by c files) a b x y
+  pub reply_unique : Others → (c : Command) (inputs : List (Option (List ℕ))) (a b : ReplyFields) → IsReplyOver c inputs a → IsReplyOver c inputs b → a ≡ b
+  reply_unique others c inputs a b (inl (u, x)) (inl (v, y)) = x ∙ sym y
+  reply_unique others c inputs a b (inl (u, x)) (inr (o, m, y)) = absurd (usage_makes c inputs o u m)
+  reply_unique others c inputs a b (inr (o, m, x)) (inl (v, y)) = absurd (usage_makes c inputs o v m)
+  reply_unique others c inputs a b (inr (o, m, x)) (inr (k, n, y)) = x ∙ ap reply_of (outcome_unique others c inputs o k m n) ∙ sym y

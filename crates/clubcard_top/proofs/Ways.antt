@@ -9,8 +9,8 @@ use Rattle.input_core.specs.declared.fault.FileFault.{FileFault}
 use Rattle.clubcard_top.specs.ReplyFields.{ReplyFields, Done}
 use Rattle.clubcard_top.specs.Statuses as status
 use Rattle.clubcard_top.specs.Commands.{Makes}
-use Rattle.clubcard_top.specs.Replies.{read_fault, write_fault, refusal, held_by}
-use Rattle.clubcard_top.specs.Runs.{IsReply, IsTorn, with_outputs}
+use Rattle.clubcard_top.specs.Replies.{read_fault, write_fault, refusal, held_by, IsReply}
+use Rattle.clubcard_top.specs.Runs.{IsTorn, with_outputs}
 
 -- how a reply is printed and sent (specs/Sending), by the parts of the two records
 abbrev pub SentSo : ReplyFields → ℕ → Option (List ℕ) → Option (List ℕ) → Type 0 → Type 0

@@ -1,7 +1,6 @@
 -- What comes of a command, and what it is answered, doesn't depend on its number of workers.
 use Rattle.std.proofs.Common.{◌≡◌, ℕ, inl, inr, List, [], ◌∷◌, Option, Result, Ok, Err, refl, sym, ◌∙◌}
 use Rattle.std.specs.Prelude.{◌↔◌}
-use Rattle.outside_core.specs.Files.{Files}
 use Rattle.query_core.specs.Queries.{Query}
 use Rattle.job_core.specs.JobFields.{JobFields}
 use Rattle.ledger_core.specs.LedgerFields.{LedgerFields}
@@ -15,7 +14,7 @@ use Rattle.clubcard_top.specs.ReplyFields.{ReplyFields, Done, NamedFault}
 use Rattle.input_core.specs.Readings.{queries_in, job_in, ledger_in}
 use Rattle.clubcard_top.specs.Commands.{input, MakesSnapshot, MakesDelta, MakesRehearsal, Makes}
 use Rattle.clubcard_top.specs.Rebasings.{rebased_as, MakesBase, MakesRebase}
-use Rattle.clubcard_top.specs.Replies.{IsReplyOver, IsReplyTo, held_by}
+use Rattle.clubcard_top.specs.Replies.{IsReplyOver}
 use Rattle.clubcard_top.specs.Workers.{with_workers}
 
 both : (P : Type 0) → P ↔ P
@@ -132,43 +131,39 @@ over_same : (a b : Command) (inputs : List (Option (List ℕ))) (reply : ReplyFi
 over_same a b inputs reply some f (inl (none, same)) = absurd (some none)
 over_same a b inputs reply some f (inr (o, m, same)) = inr (o, f o m, same)
 
-pub replies_same : (n : ℕ) (c : Command) (files : Files) (reply : ReplyFields)
-    → IsReplyTo c files reply ↔ IsReplyTo (with_workers n c) files reply
-replies_same n (commands.Snapshot s) files reply =
+pub replies_same : (n : ℕ) (c : Command) (inputs : List (Option (List ℕ))) (reply : ReplyFields)
+    → IsReplyOver c inputs reply ↔ IsReplyOver (with_workers n c) inputs reply
+replies_same n (commands.Snapshot s) inputs reply =
     let c : Command = commands.Snapshot s in
-    let w : Command = commands.Snapshot (record s { workers = n }) in
-    let inputs = held_by c files in (
+    let w : Command = commands.Snapshot (record s { workers = n }) in (
       over_same c w inputs reply (snapshot_some s) (λ o m. (makes_same n c inputs o).0 m),
       over_same w c inputs reply (snapshot_some (record s { workers = n })) (λ o m. (makes_same n c inputs o).1 m),
     )
-replies_same n (commands.Delta d) files reply =
+replies_same n (commands.Delta d) inputs reply =
     let c : Command = commands.Delta d in
-    let w : Command = commands.Delta (record d { workers = n }) in
-    let inputs = held_by c files in (
+    let w : Command = commands.Delta (record d { workers = n }) in (
       over_same c w inputs reply (delta_some d) (λ o m. (makes_same n c inputs o).0 m),
       over_same w c inputs reply (delta_some (record d { workers = n })) (λ o m. (makes_same n c inputs o).1 m),
     )
-replies_same n (commands.Rebase r) files reply =
+replies_same n (commands.Rebase r) inputs reply =
     let c : Command = commands.Rebase r in
-    let w : Command = commands.Rebase (record r { workers = n }) in
-    let inputs = held_by c files in (
+    let w : Command = commands.Rebase (record r { workers = n }) in (
       over_same c w inputs reply (rebase_some r) (λ o m. (makes_same n c inputs o).0 m),
       over_same w c inputs reply (rebase_some (record r { workers = n })) (λ o m. (makes_same n c inputs o).1 m),
     )
-replies_same n (commands.Rehearse r) files reply =
+replies_same n (commands.Rehearse r) inputs reply =
     let c : Command = commands.Rehearse r in
-    let w : Command = commands.Rehearse (record r { workers = n }) in
-    let inputs = held_by c files in (
+    let w : Command = commands.Rehearse (record r { workers = n }) in (
       over_same c w inputs reply (rehearse_some r) (λ o m. (makes_same n c inputs o).0 m),
       over_same w c inputs reply (rehearse_some (record r { workers = n })) (λ o m. (makes_same n c inputs o).1 m),
     )
-replies_same n commands.Usage files reply = both (IsReplyTo commands.Usage files reply)
-replies_same n (commands.Query q) files reply = both (IsReplyTo (commands.Query q) files reply)
-replies_same n (commands.QueryCert q) files reply = both (IsReplyTo (commands.QueryCert q) files reply)
-replies_same n (commands.Check name) files reply = both (IsReplyTo (commands.Check name) files reply)
-replies_same n (commands.Show name) files reply = both (IsReplyTo (commands.Show name) files reply)
-replies_same n (commands.Start t) files reply = both (IsReplyTo (commands.Start t) files reply)
-replies_same n (commands.Install i) files reply = both (IsReplyTo (commands.Install i) files reply)
-replies_same n (commands.Sample s) files reply = both (IsReplyTo (commands.Sample s) files reply)
-replies_same n (commands.Gather g) files reply = both (IsReplyTo (commands.Gather g) files reply)
-replies_same n (commands.Audit a) files reply = both (IsReplyTo (commands.Audit a) files reply)
+replies_same n commands.Usage inputs reply = both (IsReplyOver commands.Usage inputs reply)
+replies_same n (commands.Query q) inputs reply = both (IsReplyOver (commands.Query q) inputs reply)
+replies_same n (commands.QueryCert q) inputs reply = both (IsReplyOver (commands.QueryCert q) inputs reply)
+replies_same n (commands.Check name) inputs reply = both (IsReplyOver (commands.Check name) inputs reply)
+replies_same n (commands.Show name) inputs reply = both (IsReplyOver (commands.Show name) inputs reply)
+replies_same n (commands.Start t) inputs reply = both (IsReplyOver (commands.Start t) inputs reply)
+replies_same n (commands.Install i) inputs reply = both (IsReplyOver (commands.Install i) inputs reply)
+replies_same n (commands.Sample s) inputs reply = both (IsReplyOver (commands.Sample s) inputs reply)
+replies_same n (commands.Gather g) inputs reply = both (IsReplyOver (commands.Gather g) inputs reply)
+replies_same n (commands.Audit a) inputs reply = both (IsReplyOver (commands.Audit a) inputs reply)

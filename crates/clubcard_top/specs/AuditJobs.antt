@@ -14,7 +14,7 @@ use Rattle.input_core.specs.Readings.{input_as}
 use Rattle.input_core.specs.Inputs.{IsRead, AreRead, IsBlamed}
 use Rattle.clubcard_top.specs.ReplyFields.{NamedFault}
 use Rattle.clubcard_top.specs.Audits.{serials_of, job_behind, jobs_behind}
-use Rattle.clubcard_top.specs.Runs.{BlamesFile}
+use Rattle.clubcard_top.specs.Replies.{refusal, SaysWhich}
 
 -- what a job keeps that was read
 pub record IsReadable (job : JobFields) : Type 0 where
@@ -63,7 +63,7 @@ pub record AreNotAdded
     : Type 0 where
   pub inputs : List (Option (List ℕ))
   pub read : AreRead told failed names inputs
-  pub blames : BlamesFile failed names e
+  pub blames : SaysWhich failed names (refusal e.name e.fault)
   pub makes : jobs_behind [] names inputs ≡ Err e
 
 -- a fault that names a job names one of so many

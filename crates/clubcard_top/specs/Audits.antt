@@ -53,6 +53,7 @@ abbrev pub jobs_behind : List JobFields → List (List ℕ) → List (Option (Li
 jobs_behind before (name ∷ names) (given ∷ inputs) = do
   job ← input name (job_behind before) given
   jobs_behind (before ++ job ∷ []) names inputs
+-- all jobs are read: there are as many inputs as names
 jobs_behind before names inputs = Ok before
 
 -- the first CRL of a job that isn't accepted
@@ -63,6 +64,7 @@ bad_crl_in job = option_map of_admission (bad_crl_from 0 job.crls)
 abbrev pub bad_crl : List (List ℕ) → List JobFields → Option NamedFault
 bad_crl (name ∷ names) (job ∷ jobs) =
     option_or (option_map (λ fault. record { name = name; fault = fault }) (bad_crl_in job)) (bad_crl names jobs)
+-- no job is left: there are as many as names
 bad_crl names jobs = None
 
 -- the jobs of these files, all of whose CRLs are accepted

@@ -1,15 +1,14 @@
 -- A call of the program: what it was asked, what it found, what it left, and which faults of the outside were counted.
-use Rattle.std.specs.Prelude.{◌≡◌, ℕ, List, [], ◌∷◌, ◌++◌, map, string_bytes, Option, None, Some, Result, Ok, String}
-use Rattle.std.specs.Option.{option_map}
+use Rattle.std.specs.Prelude.{◌≡◌, ℕ, List, map, string_bytes, Option, Some, Result, Ok, String}
 use Rattle.std.specs.FinMap.{get}
 use Rattle.outside_core.specs.Files.{Files, Rose}
-use Rattle.outside_core.specs.Reads as reads
 use Rattle.outside_core.specs.Written.{followed_by}
 use Rattle.outside_core.specs.declared.depot.Depot as depots
 use Rattle.outside_core.specs.declared.sink.Sink as sinks
 use Rattle.word_core.specs.declared.command.Command.{Command}
 use Rattle.word_core.specs.Words.{command_of}
 use Rattle.input_core.specs.declared.fault.FileFault.{FileFault}
+use Rattle.outside_core.specs.Reads.{WhichFailed}
 use Rattle.clubcard_top.specs.ReplyFields.{OutputFields}
 use Rattle.clubcard_top.specs.Runs.{with_outputs}
 
@@ -18,15 +17,10 @@ pub record Count : Type 0 where
   pub before : ℕ
   pub after : ℕ
 
--- the names of the reads that had failed, before the call and after it, the last one last, where the depot tells them
-pub record Names : Type 0 where
-  pub before : Option (List (List ℕ))
-  pub after : Option (List (List ℕ))
-
 -- What the words asked for. What the files hold and what was printed, before the call and after it, where the depot and
 -- the sink tell it: those in memory do, those of a system don't. The exit status. The faults of reading files, of
--- writing files and of printing. The names of the failed reads.
-pub record Call : Type 0 where
+-- writing files and of printing. Which read failed and was counted: none, or the one of a name.
+pub record Call : Type 1 where
   pub asked : Command
   pub files_before : Option Files
   pub files_after : Option Files
@@ -36,7 +30,7 @@ pub record Call : Type 0 where
   pub read_faults : Count
   pub write_faults : Count
   pub sink_faults : Count
-  pub failed_reads : Names
+  pub failed : Option (List ℕ) → Type 0
 
 -- the call that asked for this command, over this depot of files and this sink, before it and after it
 abbrev pub call_of : {D K : Type 0} → depots.Ghosts D → sinks.Ghosts K → Command → D → D → K → K → ℕ → Call
@@ -50,12 +44,12 @@ call_of d k asked depot depot_after out out_after ended = record {
   read_faults = record { before = d.read_faults depot; after = d.read_faults depot_after };
   write_faults = record { before = d.write_faults depot; after = d.write_faults depot_after };
   sink_faults = record { before = k.faults out; after = k.faults out_after };
-  failed_reads = record { before = d.failed_reads depot; after = d.failed_reads depot_after };
+  failed = WhichFailed d depot depot_after;
 }
 
 -- the call of these words
-abbrev pub call : {A D K : Type 0} → depots.Ghosts D → sinks.Ghosts K → List (String A) → D → D → K → K → ℕ → Call
-call d k words = call_of d k (command_of (map string_bytes words))
+abbrev pub call_of_words : {A D K : Type 0} → depots.Ghosts D → sinks.Ghosts K → List (String A) → D → D → K → K → ℕ → Call
+call_of_words d k words = call_of d k (command_of (map string_bytes words))
 
 -- ---- what it found
 
@@ -98,26 +92,8 @@ Prints call text = call.text_after ≡ followed_by call.text_before text
 abbrev pub HasRisen : Count → Type 0
 HasRisen count = Rose count.before count.after
 
--- no read failed and was counted: no name came behind those of before
-abbrev pub NoReadFailed : Call → Type 0
-NoReadFailed call = call.failed_reads.after ≡ call.failed_reads.before
-
--- which read failed by these counts of faults and names of failed reads
-abbrev pub Blames : ℕ → ℕ → Option (List (List ℕ)) → Option (List (List ℕ)) → Option (List ℕ) → Type 0
-Blames faults faults_now failed failed_now None = failed_now ≡ failed
-Blames faults faults_now failed failed_now (Some name) =
-    Rose faults faults_now × (failed_now ≡ option_map (λ names. names ++ name ∷ []) failed)
-
--- which read failed in the call and was counted
-abbrev pub WhichFailedIn : Call → Option (List ℕ) → Type 0
-WhichFailedIn call =
-    Blames call.read_faults.before call.read_faults.after call.failed_reads.before call.failed_reads.after
-
-abbrev pub CouldNotRead : Call → List ℕ → Type 0
-CouldNotRead call = reads.CouldNotRead call.files_before (WhichFailedIn call)
-
 -- no read, no write and no printing failed
 pub record NoFault (call : Call) : Type 0 where
-  pub reads : HasRisen call.read_faults → ⊥
+  pub reads : (name : List ℕ) → call.failed (Some name) → ⊥
   pub writes : HasRisen call.write_faults → ⊥
   pub sink : HasRisen call.sink_faults → ⊥

@@ -1,5 +1,5 @@
 -- What each command makes of its inputs.
-use Rattle.std.specs.Prelude.{◌≡◌, ℕ, ◌+◌, List, [], ◌∷◌, ◌++◌, ◌⊎◌, map, flat_map, length, take, slice_get}
+use Rattle.std.specs.Prelude.{◌≡◌, ℕ, ◌+◌, List, [], ◌∷◌, ◌++◌, ◌⊎◌, map, flat_map, length, take, slice_get, All}
 use Rattle.std.specs.Prelude.{Option, Some, None, Result, Ok, Err}
 use Rattle.ident_core.specs.declared.identity.Identity.{Identity}
 use Rattle.ident_core.specs.declared.kind.Kind.{Kind}
@@ -173,6 +173,7 @@ report_behind h parts job = report_line job.epoch (members h) (counts (past_of (
 abbrev pub reports : (h : History) (before : List SealedFields) → List JobFields → List SealedFields → List ℕ
 reports h before (job ∷ jobs) (s ∷ parts) =
     report_behind h before job ++ reports (with_job h (in_format current job)) (before ++ s ∷ []) jobs parts
+-- as many parts as jobs: of others there is no report
 reports h before jobs parts = []
 
 -- what the parts say of the certificate of a query
@@ -196,6 +197,7 @@ IsRefused h parts name given e =
 abbrev pub AreJobs : List (List ℕ) → List (Option (List ℕ)) → List JobFields → Type 0
 AreJobs [] [] [] = Unit {0}
 AreJobs (name ∷ names) (given ∷ inputs) (job ∷ jobs) = (input name job_in given ≡ Ok job) × AreJobs names inputs jobs
+-- as many of each: others aren't
 AreJobs names inputs jobs = ⊥
 
 -- What comes of files that are rehearsed. The first n of them hold the jobs of a history. Either these are all, and the
@@ -207,6 +209,8 @@ pub record Rehearses
   pub jobs : List JobFields
   pub parts : List SealedFields
   pub hold : AreJobs (take n names) (take n inputs) jobs
+  -- keys, serials and times fit their fields
+  pub fit : All FitsFields jobs
   pub is_history : IsHistory (chain jobs) parts
   pub then : ((n ≡ length names) × (n ≡ length inputs) × (o ≡ Ok (rehearsed queries jobs parts)))
       ⊎ ((name : List ℕ) × (given : Option (List ℕ)) × (e : NamedFault)
@@ -236,6 +240,7 @@ pages_of job before (name ∷ names) (given ∷ inputs) = do
   page ← room_for job before read
   others ← pages_of job (before + length page) names inputs
   Ok (page ++ others)
+-- all pages are read: there are as many inputs as names
 pages_of job before names inputs = Ok []
 
 -- the job with these entries of the log behind its own
@@ -273,4 +278,5 @@ Makes (commands.Rehearse r) (queries ∷ jobs) o = MakesRehearsal r (input r.que
 Makes (commands.Sample s) [] o = o ≡ Ok (sample_done s)
 Makes (commands.Gather g) (head ∷ inputs) o = o ≡ gather_makes g head inputs
 Makes (commands.Audit a) (store ∷ inputs) o = MakesAudit a (input a.store store_in store) (audit_jobs a.jobs inputs) o
+-- `Usage` makes nothing, and nothing comes of more inputs, or fewer, than a command has
 Makes command inputs o = ⊥

@@ -1,13 +1,13 @@
 -- How a call ends.
-use Rattle.std.specs.Prelude.{◌≡◌, ℕ, ◌⊎◌, List, Option, Some, IsTrue}
+use Rattle.std.specs.Prelude.{◌≡◌, ℕ, ◌⊎◌, List, Some, IsTrue}
 use Rattle.outside_core.specs.Files.{Files}
 use Rattle.outside_core.specs.Written.{CutShort}
 use Rattle.word_core.specs.declared.command.Command.{Command}
 use Rattle.clubcard_top.specs.ReplyFields.{ReplyFields}
 use Rattle.clubcard_top.specs.Statuses as status
-use Rattle.clubcard_top.specs.Replies.{write_fault, IsReplyTo}
-use Rattle.clubcard_top.specs.Runs.{IsReply, IsTorn}
-use Rattle.clubcard_top.specs.Calls.{Call, Found, Writes, ChangesNoFile, Prints, HasRisen, WhichFailedIn, NoFault}
+use Rattle.clubcard_top.specs.Replies.{write_fault, held_by, IsReplyOver, IsReply}
+use Rattle.clubcard_top.specs.Runs.{IsTorn}
+use Rattle.clubcard_top.specs.Calls.{Call, Found, Writes, ChangesNoFile, Prints, HasRisen, NoFault}
 
 -- ---- with a success
 
@@ -31,7 +31,8 @@ pub record Gives (call : Call) (reply : ReplyFields) : Type 0 where
 
 -- the command's one reply over the files that the call found was given whole
 abbrev pub GivesTheReply : Call → Type 0
-GivesTheReply call = (reply : ReplyFields) × Found call (λ files. IsReplyTo call.asked files reply) × Gives call reply
+GivesTheReply call =
+    (reply : ReplyFields) × Found call (λ files. IsReplyOver call.asked (held_by call.asked files) reply) × Gives call reply
 
 -- ---- cut short
 
@@ -65,17 +66,13 @@ pub record Torn (call : Call) (reply : ReplyFields) (name : List ℕ) : Type 0 w
 
 -- ---- in one of these ways
 
--- The command's reply over its inputs as they were read: each gave what its file holds, or couldn't be read for a
--- cause. It says which read failed, if one did.
-abbrev pub IsAnswer : Call → ReplyFields → Type 0
-IsAnswer call reply = IsReply call.asked call.files_before (WhichFailedIn call) reply
-
--- Memory was wanted. Or there is an answer, whose status is none of memory or of writes, and it was sent, or a write to
--- an output failed.
+-- Memory was wanted. Or there is a reply, whose status is none of memory or of writes, and it was sent, or a write to an
+-- output failed.
 abbrev pub Ends : Call → Type 0
 Ends call =
     WantedMemory call
-    ⊎ ((reply : ReplyFields) × IsAnswer call reply × IsTrue (status.is_one_of status.of_replies reply.status)
+    ⊎ ((reply : ReplyFields) × IsReply call.asked call.files_before call.failed reply
+    × IsTrue (status.is_one_of status.of_replies reply.status)
     × (Sent call reply ⊎ ((name : List ℕ) × Torn call reply name)))
 
 -- ---- for certain

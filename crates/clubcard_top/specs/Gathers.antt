@@ -9,7 +9,7 @@ use Rattle.word_core.specs.CommandFields.{GatherFields}
 use Rattle.input_core.specs.Inputs.{AreRead}
 use Rattle.clubcard_top.specs.ReplyFields.{NamedFault}
 use Rattle.clubcard_top.specs.Commands.{longer, pages_of}
-use Rattle.clubcard_top.specs.Runs.{BlamesFile}
+use Rattle.clubcard_top.specs.Replies.{refusal, SaysWhich}
 
 -- the pages were read, and their entries stand behind those of the job
 pub record IsGatheredFrom
@@ -28,5 +28,5 @@ pub record IsNotGathered
     : Type 0 where
   pub inputs : List (Option (List ℕ))
   pub read : AreRead told failed g.pages inputs
-  pub blames : BlamesFile failed g.pages e
+  pub blames : SaysWhich failed g.pages (refusal e.name e.fault)
   pub makes : pages_of g.job (length j.entries) g.pages inputs ≡ Err e

@@ -1,5 +1,5 @@
 -- What a call asks for, and what comes of it, where its files are those of a history of admitted jobs.
-use Rattle.std.specs.Prelude.{◌≡◌, ◌⊎◌, true, false, ℕ, ◌≤◌, List, [], ◌∷◌, ◌++◌, length, Some, Ok, IsTrue}
+use Rattle.std.specs.Prelude.{◌≡◌, ◌⊎◌, true, false, ℕ, ◌≤◌, List, [], ◌∷◌, ◌++◌, length, Some, Ok, IsTrue, All}
 use Rattle.std.specs.List.{AllZip}
 use Rattle.std.specs.FinMap.{get}
 use Rattle.sha2.specs.Sha256.{sha256}
@@ -55,6 +55,7 @@ abbrev pub PublishesJob : Command → Files → History → List SealedFields �
 PublishesJob (commands.Snapshot s) files h parts job = (h ≡ of_jobs []) × (parts ≡ []) × HoldsJob files s.job job
 PublishesJob (commands.Delta d) files h parts job =
     (1 ≤ members h) × HoldsLedger files d.ledger h parts × HoldsJob files d.job job
+-- no other command publishes a job behind a history
 PublishesJob command files h parts job = ⊥
 
 -- the call asks to publish this job behind the history with these parts
@@ -65,12 +66,14 @@ AsksToPublish call h parts job = Found call (λ files. PublishesJob call.asked f
 abbrev pub part_name : Command → List ℕ
 part_name (commands.Snapshot s) = s.part
 part_name (commands.Delta d) = d.part
+-- no other command has one: it is asked where `PublishesJob` holds
 part_name command = []
 
 -- LEDGER of `snapshot`, NEWLEDGER of `delta`
 abbrev pub ledger_name : Command → List ℕ
 ledger_name (commands.Snapshot s) = s.ledger
 ledger_name (commands.Delta d) = d.new_ledger
+-- no other command has one, as above
 ledger_name command = []
 
 -- the outputs: a part and a ledger, in the order of writing
@@ -79,6 +82,7 @@ publishes_to (commands.Snapshot s) part ledger =
     record { name = s.part; bytes = part } ∷ record { name = s.ledger; bytes = ledger } ∷ []
 publishes_to (commands.Delta d) part ledger =
     record { name = d.part; bytes = part } ∷ record { name = d.new_ledger; bytes = ledger } ∷ []
+-- no other command writes them, as above
 publishes_to command part ledger = []
 
 -- The job may follow the history, and makes a history with it. Its report was printed, PART holds the bytes of its
@@ -132,8 +136,9 @@ IsRebasableWithout moment without h parts = IsRebasable moment (releases_without
 abbrev pub rebases_to : RebaseFields → List ℕ → List ℕ → List OutputFields
 rebases_to r part ledger = record { name = r.part; bytes = part } ∷ record { name = r.new_ledger; bytes = ledger } ∷ []
 
--- A base without the issuers of ISSUER .. may stand for the history at MOMENT, and is one with this part. The epoch of the history's newest member and
--- the counts of the base were printed, PART holds the bytes of its part, and NEWLEDGER those of its ledger.
+-- A base without the issuers of ISSUER .. may stand for the history at MOMENT, and is one with this part. The epoch of
+-- the history's newest member and the counts of the base were printed, PART holds the bytes of its part, and NEWLEDGER
+-- those of its ledger.
 pub record Rebased (call : Call) (r : RebaseFields) (h : History) (parts : List SealedFields) : Type 0 where
   pub sealed : SealedFields
   pub rebasable : IsRebasableWithout r.moment r.without h parts
@@ -162,6 +167,7 @@ abbrev pub StoresPart : Command → Files → List SealedFields → SealedFields
 StoresPart (commands.Start t) files parts s = (parts ≡ []) × (get files t.part ≡ Some (part_bytes s))
 StoresPart (commands.Install i) files parts s =
     (1 ≤ length parts) × (get files i.store ≡ Some (store_bytes parts)) × (get files i.part ≡ Some (part_bytes s))
+-- no other command adds a part to a store
 StoresPart command files parts s = ⊥
 
 -- the call asks to add this part to the store of these
@@ -172,12 +178,14 @@ AsksToStore call parts s = Found call (λ files. StoresPart call.asked files par
 abbrev pub store_name : Command → List ℕ
 store_name (commands.Start t) = t.store
 store_name (commands.Install i) = i.new_store
+-- no other command has one: it is asked where `StoresPart` holds
 store_name command = []
 
 -- the output: a store
 abbrev pub stores_to : Command → List ℕ → List OutputFields
 stores_to (commands.Start t) store = record { name = t.store; bytes = store } ∷ []
 stores_to (commands.Install i) store = record { name = i.new_store; bytes = store } ∷ []
+-- no other command writes one, as above
 stores_to command store = []
 
 -- The number of parts and the newest one's epoch were printed, and STORE holds the bytes of the store of the parts with
@@ -301,6 +309,7 @@ HoldsQueries files name queries = (bytes : List ℕ) × (get files name ≡ Some
 abbrev pub RehearsesJobs : Command → Files → List Query → List JobFields → Type 0
 RehearsesJobs (commands.Rehearse r) files queries jobs =
     HoldsQueries files r.queries queries × AllZip (HoldsJob files) r.jobs jobs
+-- no other command rehearses
 RehearsesJobs command files queries jobs = ⊥
 
 -- the call asks to rehearse these jobs, and then these queries
@@ -315,6 +324,8 @@ AsksAccepted rs q =
 -- The jobs are a history with these parts, and where a query asks with accepted sightings alone, its line is the truth
 -- of the history.
 pub record IsRehearsed (queries : List Query) (jobs : List JobFields) (parts : List SealedFields) : Type 0 where
+  -- keys, serials and times fit their fields, those of their CRLs too
+  pub fit : All FitsFields jobs
   pub is_history : IsHistory (chain jobs) parts
   pub truths : (q : Query) → Among queries q → AsksAccepted (history (chain jobs) parts) q
       → verdict_line parts q ≡ line (verdict_word (truth (history (chain jobs) parts) q.identity))

@@ -1,5 +1,5 @@
 -- What the program promises of a call: the contract of `run`.
-use Rattle.std.specs.Prelude.{◌≡◌, ◌≢◌, ℕ, ◌+◌, ◌≤◌, ◌⊎◌, List, [], ◌∷◌, ◌++◌, map, length, None, Err, IsTrue}
+use Rattle.std.specs.Prelude.{◌≡◌, ◌≢◌, ℕ, ◌+◌, ◌≤◌, ◌⊎◌, List, [], ◌∷◌, ◌++◌, map, length, None, Ok, Err, IsTrue}
 use Rattle.octets_core.specs.declared.fault.LayoutFault.{LayoutFault}
 use Rattle.ident_core.specs.declared.identity.Identity.{Identity}
 use Rattle.ident_core.specs.declared.kind.Kind.TheVariants as kinds
@@ -38,16 +38,16 @@ use Rattle.word_core.specs.Names.{inputs_of, outputs_of}
 use Rattle.line_core.specs.Lines.{line, check_line, show_text, sample_line, gather_line, audit_line}
 use Rattle.input_core.specs.declared.certificates.Certificate.{Certificate}
 use Rattle.input_core.specs.declared.fault.FileFault.TheVariants as faults
-use Rattle.clubcard_top.specs.ReplyFields.{ReplyFields, NamedFault}
+use Rattle.clubcard_top.specs.ReplyFields.{ReplyFields, Done, NamedFault}
 use Rattle.clubcard_top.specs.Statuses as status
 use Rattle.input_core.specs.Readings.{job_in, ledger_in, part_in, store_in}
 use Rattle.input_core.specs.Certificates.{certificate_in, issuer_in}
+use Rattle.outside_core.specs.Reads.{CouldNotRead}
 use Rattle.clubcard_top.specs.Commands.{verdict_word, issued_by, rehearsed, head_in, longer}
-use Rattle.clubcard_top.specs.Replies.{usage, read_fault, refusal}
+use Rattle.clubcard_top.specs.Replies.{usage, read_fault, refusal, done, IsReply}
 use Rattle.clubcard_top.specs.Runs.{KeepsAllBut}
 use Rattle.clubcard_top.specs.Calls.{Call, FilesAreTold, Reads, Holds, Writes, ChangesNoFile, Prints, NoFault}
-use Rattle.clubcard_top.specs.Calls.{NoReadFailed, CouldNotRead}
-use Rattle.clubcard_top.specs.Endings.{Succeeds, Did, GivesTheReply, WantedMemory, SinkFailed, Torn, IsAnswer, Ends}
+use Rattle.clubcard_top.specs.Endings.{Succeeds, Did, GivesTheReply, WantedMemory, SinkFailed, Torn, Ends}
 use Rattle.clubcard_top.specs.Endings.{MustSucceed, MustGive}
 use Rattle.clubcard_top.specs.Successes.{ReadsPart, PublishesFile, BeginsAnew, NewStore, ReadsPages, ReadsJobs}
 use Rattle.clubcard_top.specs.Successes.{AreWithinLimits, IsAudited, SaysTheTruth}
@@ -58,7 +58,8 @@ use Rattle.clubcard_top.specs.Headline.{Published, Rebased, Stored, IsRehearsed}
 use Rattle.clubcard_top.specs.Refusals.{Comes, Refused}
 
 -- Each command that succeeds: what the files held that it read, what it printed, and what those hold that it wrote. And
--- when `snapshot`, `delta` and `rebase` must succeed, behind any ledger.
+-- when one must succeed: `complete` is the rule for all of them, and what ends with that name says when a success comes of
+-- a command in other words than those of `Makes`.
 pub record Successes (call : Call) : Type 0 where
   -- what the parts of STORE say of the certificate
   pub query : (q : QueryFields) → Did call (commands.Query q)
@@ -135,6 +136,9 @@ pub record Successes (call : Call) : Type 0 where
   pub audit_complete : (a : AuditFields) (parts : List SealedFields) (jobs : List JobFields)
       → call.asked ≡ commands.Audit a → Reads call a.store store_in parts → ReadsJobs call a.jobs jobs
       → AreWithinLimits jobs → IsAudited parts jobs → MustSucceed call
+  -- every command: where what comes of it over the files that the call found is a success, that must be given. So a call
+  -- must succeed where each input is held and read, and what they make isn't refused.
+  pub complete : (d : Done) → Comes call (Ok d) → MustGive call (done d)
 
 -- What a call does for a history of admitted jobs, in pairs: what its success is, and when it must succeed. What the
 -- success of `rehearse` is stands above; that of `kept` must come by `answered`, since a base keeps sightings.
@@ -218,11 +222,12 @@ pub record Refusals (call : Call) : Type 0 where
 -- What a fault of the outside leaves: an input that wasn't read; an answer or an output that is cut short; or nothing.
 pub record Outside (call : Call) : Type 0 where
   pub read_fault : call.status ≡ status.read_fault → (name : List ℕ) × Among (inputs_of call.asked) name
-      × CouldNotRead call name × Prints call (read_fault name).text
+      × CouldNotRead call.files_before call.failed name × Prints call (read_fault name).text
   -- where no file is said to be unread, no read failed
   pub no_read_fault : call.status ≢ status.read_fault → call.status ≢ status.write_fault
-      → call.status ≢ status.no_memory → NoReadFailed call
-  pub write_fault : call.status ≡ status.write_fault → (reply : ReplyFields) × IsAnswer call reply
+      → call.status ≢ status.no_memory → call.failed None
+  pub write_fault : call.status ≡ status.write_fault → (reply : ReplyFields)
+      × IsReply call.asked call.files_before call.failed reply
       × ((Writes call reply.outputs × SinkFailed call reply.text) ⊎ ((name : List ℕ) × Torn call reply name))
   pub no_memory : call.status ≡ status.no_memory → WantedMemory call
   -- `check` takes no memory, so that it never wants any

@@ -4,6 +4,7 @@ use Rattle.outside_core.specs.Files.{Files}
 use Rattle.query_core.specs.Queries.{Query}
 use Rattle.part_text.specs.SealedFields.{SealedFields}
 use Rattle.job_core.specs.JobFields.{JobFields}
+use Rattle.job_core.specs.JobFacts.{FitsFields}
 use Rattle.universe_core.specs.Formats.{in_format}
 use Rattle.publication_core.specs.Formats.{current}
 use Rattle.publication_core.specs.Histories.{History, of_jobs, with_job}
@@ -12,7 +13,7 @@ use Rattle.clubcard_top.specs.ReplyFields.{NamedFault}
 use Rattle.clubcard_top.specs.Commands.{report_behind, reports, rehearsed}
 use Rattle.clubcard_top.specs.Steps.{RehearsesOn}
 use Rattle.input_core.specs.Inputs.{AreRead}
-use Rattle.clubcard_top.specs.Runs.{BlamesFile}
+use Rattle.clubcard_top.specs.Replies.{refusal, SaysWhich}
 
 -- A job was read, and goes on with the history: the rehearsal holds one part more, and this is the line of its report.
 pub record AddsJob
@@ -21,6 +22,7 @@ pub record AddsJob
     : Type 0 where
   pub job : JobFields
   pub is_read : read ≡ Ok job
+  pub fits : FitsFields job
   pub sealed : SealedFields
   pub parts : after.parts ≡ before.parts ++ sealed ∷ []
   pub is_of : IsOf (with_job h (in_format current job)) after
@@ -44,5 +46,5 @@ pub record IsRefusedFrom
     : Type 0 where
   pub inputs : List (Option (List ℕ))
   pub read : AreRead told failed names inputs
-  pub blames : BlamesFile failed names e
+  pub blames : SaysWhich failed names (refusal e.name e.fault)
   pub makes : (queries : List Query) → RehearsesOn queries [] [] names inputs (Err e)

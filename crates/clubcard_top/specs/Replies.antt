@@ -1,8 +1,10 @@
--- How a call ends, and what it prints, by what comes of its command.
-use Rattle.std.specs.Prelude.{◌≡◌, ◌<◌, ◌≤◌, ◌⊎◌, ℕ, List, [], map, length, get_or, Option, IfSome, Result, Ok, Err, codes}
+-- What is answered. What comes of a command, a `Done` or a `NamedFault`, has one reply, `reply_of`. `IsReplyOver` ties it
+-- to the inputs of the command, and `IsReply` to files, which may not be told, and of which a read may have failed.
+use Rattle.std.specs.Prelude.{◌≡◌, ◌<◌, ◌≤◌, ◌⊎◌, ℕ, List, [], map, length, get_or, Option, Some, None, IfSome, Result, Ok, Err, codes}
 use Rattle.std.specs.FinMap.{get}
 use Rattle.ident_core.specs.declared.bounds.TheConstants.{MAX_PARTS}
 use Rattle.outside_core.specs.Files.{Files}
+use Rattle.sets_core.specs.Among.{Among}
 use Rattle.store_core.specs.declared.chain.Refusal.{Refusal}
 use Rattle.store_core.specs.declared.chain.Refusal.TheVariants as refusals
 use Rattle.word_core.specs.declared.command.Command.{Command}
@@ -12,6 +14,7 @@ use Rattle.line_core.specs.Lines.{line, line_about, layout_line, crl_line, limit
 use Rattle.line_core.specs.Lines.{parent_line, epoch_line, coverage_line, seeds_line, cert_line, page_line, disagreement_line}
 use Rattle.input_core.specs.declared.fault.FileFault.{FileFault}
 use Rattle.input_core.specs.declared.fault.FileFault.TheVariants as faults
+use Rattle.input_core.specs.Inputs.{AreRead}
 use Rattle.clubcard_top.specs.ReplyFields.{ReplyFields, Done, NamedFault}
 use Rattle.clubcard_top.specs.Statuses as status
 use Rattle.clubcard_top.specs.Commands.{Makes}
@@ -64,7 +67,8 @@ abbrev pub reply_of : Result Done NamedFault → ReplyFields
 reply_of (Ok d) = done d
 reply_of (Err e) = refusal e.name e.fault
 
--- The reply to a command whose inputs are these, in the order of reading; none is one that can't be read.
+-- The reply to a command whose inputs are these, in the order of reading; none is one that can't be read. There is one
+-- at most.
 abbrev pub IsReplyOver : Command → List (Option (List ℕ)) → ReplyFields → Type 0
 IsReplyOver command inputs reply =
     ((command ≡ commands.Usage) × (reply ≡ usage))
@@ -74,7 +78,7 @@ IsReplyOver command inputs reply =
 abbrev pub IsOctets : Option (List ℕ) → Type 0
 IsOctets given = IfSome given (λ bytes. (i : ℕ) → get_or bytes i 0 < 256)
 
--- of an audit: no more jobs than a chain may have parts, as of each command that words spell
+-- of an audit: no more jobs than a chain may have parts, as of each command that words spell; nothing is asked of others
 abbrev pub HasFewJobs : Command → Type 0
 HasFewJobs (commands.Audit a) = length a.jobs ≤ MAX_PARTS
 HasFewJobs command = Unit {0}
@@ -83,6 +87,16 @@ HasFewJobs command = Unit {0}
 abbrev pub held_by : Command → Files → List (Option (List ℕ))
 held_by command files = map (get files) (inputs_of command)
 
--- The reply to a command over these files. There is one at most.
-abbrev pub IsReplyTo : Command → Files → ReplyFields → Type 0
-IsReplyTo command files reply = IsReplyOver command (held_by command files) reply
+-- ---- over files that were read
+
+-- No read failed; or the reply is that one of these files couldn't be read, and the read of that one did.
+abbrev pub SaysWhich : (Option (List ℕ) → Type 0) → List (List ℕ) → ReplyFields → Type 0
+SaysWhich failed names reply =
+    failed None ⊎ ((name : List ℕ) × Among names name × (reply ≡ read_fault name) × failed (Some name))
+
+-- What a command is answered, whatever the files tell: the reply over inputs that were read so. It says which read
+-- failed, if one did.
+abbrev pub IsReply : Command → Option Files → (Option (List ℕ) → Type 0) → ReplyFields → Type 0
+IsReply command told failed reply =
+    (inputs : List (Option (List ℕ))) × AreRead told failed (inputs_of command) inputs
+    × IsReplyOver command inputs reply × SaysWhich failed (inputs_of command) reply

@@ -3,6 +3,7 @@ use Rattle.std.specs.Prelude.{◌≡◌, ◌⊎◌, ℕ, List, [], ◌∷◌, �
 use Rattle.query_core.specs.Queries.{Query}
 use Rattle.part_text.specs.SealedFields.{SealedFields}
 use Rattle.job_core.specs.JobFields.{JobFields}
+use Rattle.job_core.specs.JobFacts.{FitsFields}
 use Rattle.publication_core.specs.Histories.{chain, IsHistory}
 use Rattle.clubcard_top.specs.ReplyFields.{Done, NamedFault}
 use Rattle.input_core.specs.Readings.{job_in}
@@ -16,6 +17,7 @@ RehearsesOn queries jobs parts [] [] o = o ≡ Ok (rehearsed queries jobs parts)
 RehearsesOn queries jobs parts (name ∷ names) (given ∷ inputs) o =
     ((e : NamedFault) × IsRefused (chain jobs) parts name given e × (o ≡ Err e))
     ⊎ ((job : JobFields) × (more : List SealedFields)
-    × (input name job_in given ≡ Ok job) × IsHistory (chain (jobs ++ job ∷ [])) more
+    × (input name job_in given ≡ Ok job) × FitsFields job × IsHistory (chain (jobs ++ job ∷ [])) more
     × RehearsesOn queries (jobs ++ job ∷ []) more names inputs o)
+-- as many inputs as names: nothing comes of others
 RehearsesOn queries jobs parts names inputs o = ⊥

@@ -41,8 +41,8 @@ pub record PublishesFile (call : Call) (before : LedgerFields) (job part ledger 
   pub part_holds : Holds call part (spelling made.sealed)
   pub ledger_holds : Holds call ledger (ledger_text made.ledger)
 
--- This ledger without what has expired at MOMENT, and without the issuers of ISSUER .., begins a chain anew: its counts were printed with the part's epoch, PART
--- holds the part, and NEWLEDGER the ledger after it.
+-- This ledger without what has expired at MOMENT, and without the issuers of ISSUER .., begins a chain anew: its counts
+-- were printed with the part's epoch, PART holds the part, and NEWLEDGER the ledger after it.
 pub record BeginsAnew (call : Call) (before : LedgerFields) (r : RebaseFields) : Type 0 where
   pub made : PublishedBase
   pub publishes : IsBasePublication before r.moment r.without made

@@ -1,6 +1,6 @@
 //! Stores that are audited by jobs. The store is read, and then the jobs, file by file.
 
-ghost use Rattle.std.specs.Prelude.{◌≡◌, ◌≢◌, ◌≤◌, ◌++◌, ◌∷◌, [], List, map, length, All, Option, Result, Ok, IfOk, IfErr, OnOk};
+ghost use Rattle.std.specs.Prelude.{◌≡◌, ◌≢◌, ◌≤◌, ◌++◌, ◌∷◌, [], List, map, length, All, Option, Some, Result, Ok, IfOk, IfErr, OnOk};
 ghost use Rattle.std.specs.Option.{option_map};
 ghost use Rattle.outside_core.specs.Effects.{OnlyReads};
 ghost use Rattle.octets_core.specs.Reading.{GivesUnless};
@@ -8,16 +8,16 @@ ghost use Rattle.job_core.specs.JobFields.{crl_view, fields_of_job, JobFields};
 ghost use Rattle.job_core.specs.JobLayout.{kept};
 ghost use Rattle.job_core.specs.JobMeaning.{kept_in};
 ghost use Rattle.universe_core.specs.Step.{bad_crl_from};
+ghost use Rattle.audit_core.specs.Auditing.{entries_of};
 ghost use Rattle.audit_core.specs.Checking.{truth_by};
 ghost use Rattle.word_core.specs.declared.command.Command.{Command};
 ghost use Rattle.outside_core.specs.Reads.{WhichFailed};
 ghost use Rattle.clubcard_top.specs.Answering.{reply_fields};
-ghost use Rattle.clubcard_top.specs.Audits.{bad_crl as bad_crl_of, counted, of_audit, unless, MakesAudit};
+ghost use Rattle.clubcard_top.specs.Audits.{bad_crl as bad_crl_of, counted, of_audit, passed, serials_of, unless, MakesAudit};
 ghost use Rattle.clubcard_top.specs.AuditJobs.{AreAdded, AreCounted, AreNotAdded, IsAdded, IsNotAdded, IsReadable, NamesOneOf};
 ghost use Rattle.clubcard_top.specs.Faults.{of_admission};
 ghost use Rattle.clubcard_top.specs.ReplyFields.{Done, NamedFault};
-ghost use Rattle.clubcard_top.specs.Replies.{reply_of};
-ghost use Rattle.clubcard_top.specs.Runs.{IsReply};
+ghost use Rattle.clubcard_top.specs.Replies.{reply_of, IsReply};
 
 use crate::answer::Answer;
 use crate::commands::refused;
@@ -92,12 +92,14 @@ impl AuditJobs {
         })
     }
 
-    /// Adds a job, if together the jobs then have no more entries, and no more kept serials, than one may have.
-    fn add(&mut self, job: Job) -> Result<(), FileFault>
-        requires { IsReadable (fields_of_job job) }
-        ensures gives { GivesUnless FileFault.NoMemory (λ u. fields_of_job job) result
-            (counted self.old (Ok (fields_of_job job))) }
-        ensures added { OnOk result (self.new ≡ self.old ++ fields_of_job job ∷ []) }
+    /// How many entries and kept serials the jobs have together with this one, if these are no more than one may have.
+    /// No memory is taken.
+    fn sums_with(&self, job: &Job) -> Result<(usize, usize), FileFault>
+        requires { IsReadable (fields_of_job job.now) }
+        ensures sums { IfOk result (λ x. (x.0 ≡ entries_of (self.now ++ fields_of_job job.now ∷ []))
+            × (x.1 ≡ serials_of (self.now ++ fields_of_job job.now ∷ []))
+            × (x.0 ≤ Limits.PUBLISHED.entries) × (x.1 ≤ Limits.PUBLISHED.serials)) }
+        ensures over { IfErr result (λ e. passed (self.now ++ fields_of_job job.now ∷ []) ≡ Some e) }
     {
         let entries = self.entries + job.entries.len();
         let limit = Limits::PUBLISHED.entries;
@@ -111,6 +113,17 @@ impl AuditJobs {
             let what = What::Serials;
             return Err(FileFault::TooMany { what, limit });
         }
+        Ok((entries, serials))
+    }
+
+    /// Adds a job, if together the jobs then have no more entries, and no more kept serials, than one may have.
+    fn add(&mut self, job: Job) -> Result<(), FileFault>
+        requires { IsReadable (fields_of_job job) }
+        ensures gives { GivesUnless FileFault.NoMemory (λ u. fields_of_job job) result
+            (counted self.old (Ok (fields_of_job job))) }
+        ensures added { OnOk result (self.new ≡ self.old ++ fields_of_job job ∷ []) }
+    {
+        let (entries, serials) = self.sums_with(&job)?;
         if self.jobs.push(job).is_err() {
             return Err(FileFault::NoMemory);
         }

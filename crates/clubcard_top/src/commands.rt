@@ -1,13 +1,12 @@
 //! The commands that ask: what each answers, from what its file holds.
 
-ghost use Rattle.std.specs.Prelude.{◌≡◌, ◌<◌, IfOk, IsErr, map};
+ghost use Rattle.std.specs.Prelude.{◌≡◌, ◌<◌, IfOk, OnErr, IsErr, map};
 ghost use Rattle.outside_core.specs.Effects.{OnlyReads};
 ghost use Rattle.card_core.specs.Verdict.{verdict as verdict_of};
 ghost use Rattle.word_core.specs.declared.command.Command.{Command};
 ghost use Rattle.clubcard_top.specs.Answering.{reply_fields, scan_reply as reply_of_scan};
-ghost use Rattle.clubcard_top.specs.Replies.{refusal};
+ghost use Rattle.clubcard_top.specs.Replies.{refusal, IsReply};
 ghost use Rattle.outside_core.specs.Reads.{WhichFailed};
-ghost use Rattle.clubcard_top.specs.Runs.{IsReply};
 
 use crate::answer::Answer;
 use crate::reply::Reply;
@@ -25,10 +24,11 @@ use std::sync::ledger::{Blank, Ledger};
 use store_core::{Store, Verdict};
 use word_core::{FileName, Query, QueryCert};
 
-/// The answer about what is wrong with the file of this name.
+/// The answer about what is wrong with the file of this name. No memory is taken: want of it is handed on.
 pub(crate) fn refused(name: &str, fault: FileFault) -> Result<Answer<'_>, NoMemory>
     ensures ok { IfOk result (λ a. reply_fields a ≡ refusal name.now fault) }
     ensures memory { fault ≡ FileFault.NoMemory → IsErr result }
+    ensures no_other { OnErr result (fault ≡ FileFault.NoMemory) }
 {
     Ok(Answer::Reply(Reply::refusal(name, fault)?))
 }

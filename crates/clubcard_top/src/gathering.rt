@@ -12,8 +12,7 @@ ghost use Rattle.input_core.specs.Inputs.{IsInput};
 ghost use Rattle.clubcard_top.specs.Answering.{reply_fields};
 ghost use Rattle.clubcard_top.specs.Commands.{gather_done, head_in as head_of, longer, page_in as page_of};
 ghost use Rattle.clubcard_top.specs.Gathers.{IsGatheredFrom, IsNotGathered};
-ghost use Rattle.clubcard_top.specs.Replies.{done};
-ghost use Rattle.clubcard_top.specs.Runs.{IsReply};
+ghost use Rattle.clubcard_top.specs.Replies.{done, IsReply};
 
 use crate::answer::Answer;
 use crate::commands::refused;
@@ -57,6 +56,21 @@ fn page_in<D: Depot>(alloc: Global, depot: &mut D, name: &str) -> Result<Vec<Pag
     Ok(read_page(alloc, &bytes)?)
 }
 
+/// Whether the entries of a page may stand behind those of the job. No memory is taken.
+fn room_for(job: &OpenJob, page: &[PageEntry]) -> Result<(), FileFault>
+    ensures room { OnOk result (entries_of job.now + length page.now ≤ Limits.PUBLISHED.entries) }
+    ensures full { IfErr result (λ e. (e ≡ FileFault.TooMany What.Entries Limits.PUBLISHED.entries)
+        × (Limits.PUBLISHED.entries < entries_of job.now + length page.now)) }
+{
+    if job.has_room(page.len()) {
+        return Ok(());
+    }
+    Err(FileFault::TooMany {
+        what: What::Entries,
+        limit: Limits::PUBLISHED.entries,
+    })
+}
+
 /// Puts the entries of a page behind those of the job, if there may be so many.
 fn put_page(job: &mut OpenJob, log: &Key32, page: &[PageEntry]) -> Result<(), FileFault>
     requires { All EntryFits (map fields_of page.now) }
@@ -67,12 +81,7 @@ fn put_page(job: &mut OpenJob, log: &Key32, page: &[PageEntry]) -> Result<(), Fi
         → (e ≡ FileFault.TooMany What.Entries Limits.PUBLISHED.entries)
         × ((j : JobContents) → Opens job.old j → Limits.PUBLISHED.entries < length j.entries + length page.now)) }
 {
-    if !job.has_room(page.len()) {
-        return Err(FileFault::TooMany {
-            what: What::Entries,
-            limit: Limits::PUBLISHED.entries,
-        });
-    }
+    room_for(job, page)?;
     match job.add(log, page) {
         Ok(()) => Ok(()),
         Err(NoMemory) => Err(FileFault::NoMemory),

@@ -27,7 +27,7 @@ ghost use Rattle.clubcard_top.specs.ReplyFields.{Done, NamedFault, ReplyFields};
 ghost use Rattle.clubcard_top.specs.Commands.{Makes, Rehearses, only, query_done, rehearsed, verdict_word};
 ghost use Rattle.clubcard_top.specs.Workers.{with_workers};
 ghost use Rattle.clubcard_top.specs.Steps.{RehearsesOn};
-ghost use Rattle.clubcard_top.specs.Replies.{HasFewJobs, IsOctets, IsReplyOver, IsReplyTo, held_by};
+ghost use Rattle.clubcard_top.specs.Replies.{HasFewJobs, IsOctets, IsReplyOver, held_by};
 ghost use Rattle.clubcard_top.specs.Headline.{PublishesJob, IsPublished, StoresPart, IsStored, AsksHistory, truth_done};
 ghost use Rattle.clubcard_top.specs.Headline.{AsksCert, cert_truth_line, RehearsesJobs, IsRehearsed};
 ghost use Rattle.clubcard_top.specs.Headline.{RebasesHistory, IsRebased, IsRebasableWithout, base_of, IsKept, AsksBase, truth_line};
@@ -42,12 +42,12 @@ use publication_core::{
 };
 use store_core::{chains_grow, stores_are_read_back};
 
-/// One thing comes of a command and its inputs, and there is one reply to a command over files.
+/// One thing comes of a command and its inputs, and there is one reply to it at most.
 pub fn replies_are_unique()
     ensures outcome { (command : Command) (inputs : List (Option (List ℕ))) (a b : Result Done NamedFault)
         → Makes command inputs a → Makes command inputs b → a ≡ b }
-    ensures reply { (command : Command) (files : Files) (a b : ReplyFields)
-        → IsReplyTo command files a → IsReplyTo command files b → a ≡ b }
+    ensures reply { (command : Command) (inputs : List (Option (List ℕ))) (a b : ReplyFields)
+        → IsReplyOver command inputs a → IsReplyOver command inputs b → a ≡ b }
 {
     publications_are_unique();
     histories_are_published();
@@ -76,9 +76,10 @@ pub fn replies_exist()
 
 /// What comes of commands over the files of histories. A job that is published behind a history makes a history with
 /// it, whose part and ledger are written; each admissible job is published. A part of a history is added to the store
-/// of those before it. The store of a history says what its parts do (`told`). The store of a history, asked with accepted sightings, answers the truth; and so it does where
-/// it is asked with a certificate, one of whose sightings is accepted, and each that a part covers. Jobs that are
-/// rehearsed are a history, and each history is rehearsed. Behind any ledger, what can be published is.
+/// of those before it. The store of a history says what its parts do (`told`). Asked with accepted sightings, it answers
+/// the truth; and so it does where it is asked with a certificate, one of whose sightings is accepted, and each that a
+/// part covers. Jobs that are rehearsed are a history, and each history is rehearsed. Behind any ledger, what can be
+/// published is.
 pub fn histories_are_made()
     ensures published { (command : Command) (files : Files)
         (h : History) (parts : List SealedFields) (job : JobFields) (d : Done)
@@ -169,13 +170,13 @@ pub fn bases_are_made()
     histories_are_made();
 }
 
-/// Commands that differ in WORKERS alone make the same of the same inputs, are answered alike over the same files, and
-/// read and write files of the same names. So no byte that is published depends on how many workers there are.
+/// Commands that differ in WORKERS alone make the same of the same inputs, are answered alike over them, and read and
+/// write files of the same names. So no byte that is published depends on how many workers there are.
 pub fn workers_are_free()
     ensures same { (n : ℕ) (command : Command) (inputs : List (Option (List ℕ))) (o : Result Done NamedFault)
         → Makes command inputs o ↔ Makes (with_workers n command) inputs o }
-    ensures reply { (n : ℕ) (command : Command) (files : Files) (reply : ReplyFields)
-        → IsReplyTo command files reply ↔ IsReplyTo (with_workers n command) files reply }
+    ensures reply { (n : ℕ) (command : Command) (inputs : List (Option (List ℕ))) (reply : ReplyFields)
+        → IsReplyOver command inputs reply ↔ IsReplyOver (with_workers n command) inputs reply }
     ensures reads { (n : ℕ) (command : Command) → inputs_of (with_workers n command) ≡ inputs_of command }
     ensures writes { (n : ℕ) (command : Command) → outputs_of (with_workers n command) ≡ outputs_of command }
 {}

@@ -6,9 +6,8 @@ ghost use Rattle.ledger_core.specs.LedgerText.{ledger_text};
 ghost use Rattle.word_core.specs.declared.command.Command.{Command};
 ghost use Rattle.clubcard_top.specs.Commands.{both_files, publication_done};
 ghost use Rattle.clubcard_top.specs.Answering.{reply_fields};
-ghost use Rattle.clubcard_top.specs.Replies.{done};
+ghost use Rattle.clubcard_top.specs.Replies.{done, IsReply};
 ghost use Rattle.outside_core.specs.Reads.{WhichFailed};
-ghost use Rattle.clubcard_top.specs.Runs.{IsReply};
 
 use crate::answer::Answer;
 use crate::commands::refused;

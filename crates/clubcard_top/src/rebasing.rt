@@ -5,9 +5,8 @@ ghost use Rattle.outside_core.specs.Effects.{OnlyReads};
 ghost use Rattle.word_core.specs.declared.command.Command.{Command};
 ghost use Rattle.clubcard_top.specs.Answering.{reply_fields};
 ghost use Rattle.clubcard_top.specs.Rebasings.{base_line, base_done};
-ghost use Rattle.clubcard_top.specs.Replies.{done};
+ghost use Rattle.clubcard_top.specs.Replies.{done, IsReply};
 ghost use Rattle.outside_core.specs.Reads.{WhichFailed};
-ghost use Rattle.clubcard_top.specs.Runs.{IsReply};
 
 use crate::answer::Answer;
 use crate::commands::refused;

@@ -13,7 +13,7 @@ ghost use Rattle.input_core.specs.Inputs.{IsBlamed, IsRead};
 ghost use Rattle.clubcard_top.specs.Commands.{IsRefused, input, verdict_line as line_of_verdict};
 ghost use Rattle.clubcard_top.specs.Rehearsals.{AddsJob, IsRefusedFrom, IsRehearsedFrom};
 ghost use Rattle.clubcard_top.specs.Answering.{reply_fields};
-ghost use Rattle.clubcard_top.specs.Runs.{IsReply};
+ghost use Rattle.clubcard_top.specs.Replies.{IsReply};
 
 use crate::answer::Answer;
 use crate::commands::{refused, verdict_on};

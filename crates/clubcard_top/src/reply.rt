@@ -1,7 +1,7 @@
 //! What the program answers: how it ends, and the line that it writes, which is made before anything is written. A
 //! file's name is lent beside the words, so that no memory is taken.
 
-ghost use Rattle.std.specs.Prelude.{◌≡◌, ◌≤◌, [], length, IfOk, IsErr, IsTrue};
+ghost use Rattle.std.specs.Prelude.{◌≡◌, ◌≤◌, [], length, IfOk, OnErr, IsErr, IsTrue};
 ghost use Rattle.clubcard_top.specs.Statuses as statuses;
 ghost use Rattle.line_core.specs.Lines.{line as line_of_words, verdict_word};
 ghost use Rattle.clubcard_top.specs.Commands.{only};
@@ -112,10 +112,11 @@ impl<'a> Reply<'a> {
         Reply::of(Status::BAD_LAYOUT, layout_line(fault, name))
     }
 
-    /// The reply about what is wrong with the file of this name.
+    /// The reply about what is wrong with the file of this name. No memory is taken: want of it is handed on.
     pub fn refusal(name: &'a str, fault: FileFault) -> Result<Reply<'a>, NoMemory>
         ensures ok { IfOk result (λ r. r ≡ refusal name.now fault) }
         ensures memory { fault ≡ FileFault.NoMemory → IsErr result }
+        ensures no_other { OnErr result (fault ≡ FileFault.NoMemory) }
     {
         match fault {
             FileFault::Unread => Ok(Reply::unread(name)),

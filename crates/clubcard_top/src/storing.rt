@@ -1,6 +1,6 @@
 //! The client's commands that write a store: what each answers, from what its files hold.
 
-ghost use Rattle.std.specs.Prelude.{◌≡◌, IfOk};
+ghost use Rattle.std.specs.Prelude.{◌≡◌, Ok, Err, IfOk, IfErr};
 ghost use Rattle.octets_core.specs.Reading.{GivesUnless};
 ghost use Rattle.outside_core.specs.Effects.{OnlyReads};
 ghost use Rattle.store_core.specs.Chain.{newest_of};
@@ -8,9 +8,8 @@ ghost use Rattle.word_core.specs.declared.command.Command.{Command};
 ghost use Rattle.clubcard_top.specs.Commands.{begun as begun_with, epoch_of, installed as installed_with};
 ghost use Rattle.clubcard_top.specs.Commands.{stored as stored_as};
 ghost use Rattle.clubcard_top.specs.Answering.{reply_fields};
-ghost use Rattle.clubcard_top.specs.Replies.{done};
+ghost use Rattle.clubcard_top.specs.Replies.{done, IsReply};
 ghost use Rattle.outside_core.specs.Reads.{WhichFailed};
-ghost use Rattle.clubcard_top.specs.Runs.{IsReply};
 
 use crate::answer::Answer;
 use crate::commands::refused;
@@ -22,7 +21,7 @@ use octets_core::NoMemory;
 use outside_core::Depot;
 use part_codec::Sealed;
 use std::alloc::Global;
-use store_core::{StartFault, Store, encode_store};
+use store_core::{Store, StoreFault, encode_store};
 use word_core::{Install, Start};
 
 /// The epoch of a store's newest part.
@@ -50,14 +49,14 @@ fn begun(alloc: Global, part: Sealed) -> Result<Store, FileFault>
 {
     match Store::start(alloc, part) {
         Ok(store) => Ok(store),
-        Err(StartFault::NotSnapshot(_)) => Err(FileFault::NotSnapshot),
-        Err(StartFault::NoMemory(_)) => Err(FileFault::NoMemory),
+        Err(fault) => Err(FileFault::from(StoreFault::from(fault))),
     }
 }
 
-/// The store with the part.
+/// The store with the part. No memory is taken.
 fn installed(store: Store, part: Sealed) -> Result<Store, FileFault>
-    ensures { GivesUnless FileFault.NoMemory (λ s. s) result (installed_with store part) }
+    ensures ok { IfOk result (λ s. installed_with store part ≡ Ok s) }
+    ensures err { IfErr result (λ e. installed_with store part ≡ Err e) }
 {
     let mut store = store;
     match store.install(part) {

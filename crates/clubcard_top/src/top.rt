@@ -6,9 +6,9 @@ ghost use Rattle.word_core.specs.Names.{outputs_of};
 ghost use Rattle.word_core.specs.Words.{command_of};
 ghost use Rattle.clubcard_top.specs.Answering.{reply_fields};
 ghost use Rattle.outside_core.specs.Reads.{WhichFailed};
-ghost use Rattle.clubcard_top.specs.Runs.{IsReply};
+ghost use Rattle.clubcard_top.specs.Replies.{IsReply};
 ghost use Rattle.clubcard_top.specs.Statuses as statuses;
-ghost use Rattle.clubcard_top.specs.Calls.{call, call_of};
+ghost use Rattle.clubcard_top.specs.Calls.{call_of, call_of_words};
 ghost use Rattle.clubcard_top.specs.Endings.{Ends};
 ghost use Rattle.clubcard_top.specs.Promises.{Ending, Frame, Histories, Outside, Refusals, Successes};
 
@@ -42,6 +42,7 @@ fn answer_for<'a, R: Threads + Sync, G: Gate + Sync, D: Depot>(
 ) -> Result<Answer<'a>, NoMemory>
     ensures reply { IfOk result (λ a. IsReply command.now (D.files depot.old)
         (WhichFailed D.Depot depot.old depot.new) (reply_fields a)) }
+    ensures usage { command.now ≡ Command.Usage → IsOk result }
     ensures check { (name : List ℕ) → command.now ≡ Command.Check name → IsOk result }
     ensures only_reads { OnlyReads D.Depot depot.old depot.new }
 {
@@ -94,7 +95,7 @@ fn run_words<R: Threads + Sync, G: Gate + Sync, D: Depot, K: Sink>(
     depot: &mut D,
     out: &mut K,
 ) -> Status
-    ensures ends { Ends (call D.Depot K.Sink words.now depot.old depot.new out.old out.new result.0) }
+    ensures ends { Ends (call_of_words D.Depot K.Sink words.now depot.old depot.new out.old out.new result.0) }
     ensures check { (name : List ℕ) → command_of (map string_bytes words.now) ≡ Command.Check name
         → result.0 ≢ statuses.no_memory }
     ensures reading { outputs_of (command_of (map string_bytes words.now)) ≡ []
@@ -119,12 +120,12 @@ pub fn run_gated<R: Threads + Sync, D: Depot, K: Sink, G: Gate + Sync>(
     out: &mut K,
     gate: &G,
 ) -> Status
-    ensures successes { Successes (call D.Depot K.Sink words.now depot.old depot.new out.old out.new result.0) }
-    ensures histories { Histories (call D.Depot K.Sink words.now depot.old depot.new out.old out.new result.0) }
-    ensures refusals { Refusals (call D.Depot K.Sink words.now depot.old depot.new out.old out.new result.0) }
-    ensures outside { Outside (call D.Depot K.Sink words.now depot.old depot.new out.old out.new result.0) }
-    ensures frame { Frame (call D.Depot K.Sink words.now depot.old depot.new out.old out.new result.0) }
-    ensures ending { Ending (call D.Depot K.Sink words.now depot.old depot.new out.old out.new result.0) }
+    ensures successes { Successes (call_of_words D.Depot K.Sink words.now depot.old depot.new out.old out.new result.0) }
+    ensures histories { Histories (call_of_words D.Depot K.Sink words.now depot.old depot.new out.old out.new result.0) }
+    ensures refusals { Refusals (call_of_words D.Depot K.Sink words.now depot.old depot.new out.old out.new result.0) }
+    ensures outside { Outside (call_of_words D.Depot K.Sink words.now depot.old depot.new out.old out.new result.0) }
+    ensures frame { Frame (call_of_words D.Depot K.Sink words.now depot.old depot.new out.old out.new result.0) }
+    ensures ending { Ending (call_of_words D.Depot K.Sink words.now depot.old depot.new out.old out.new result.0) }
 {
     // What the promises on histories, on refusals and on audits stand on.
     histories_are_made();
@@ -148,18 +149,18 @@ pub fn run<R: Threads + Sync, D: Depot, K: Sink>(
     out: &mut K,
 ) -> Status
     // Each command that succeeds: what the files held that it read, what it printed, and what those hold that it wrote.
-    // And when `snapshot`, `delta` and `rebase` must succeed, behind any ledger.
-    ensures successes { Successes (call D.Depot K.Sink words.now depot.old depot.new out.old out.new result.0) }
+    // And when one must succeed: the rule for all, and what it comes to for those where it isn't plain.
+    ensures successes { Successes (call_of_words D.Depot K.Sink words.now depot.old depot.new out.old out.new result.0) }
     // Over the files of a history of admitted jobs: what a success is, and when there must be one.
-    ensures histories { Histories (call D.Depot K.Sink words.now depot.old depot.new out.old out.new result.0) }
+    ensures histories { Histories (call_of_words D.Depot K.Sink words.now depot.old depot.new out.old out.new result.0) }
     // Each refusal: what is wrong with which file; and that what is wrong is what is said.
-    ensures refusals { Refusals (call D.Depot K.Sink words.now depot.old depot.new out.old out.new result.0) }
+    ensures refusals { Refusals (call_of_words D.Depot K.Sink words.now depot.old depot.new out.old out.new result.0) }
     // What a fault of the outside leaves, and want of memory.
-    ensures outside { Outside (call D.Depot K.Sink words.now depot.old depot.new out.old out.new result.0) }
+    ensures outside { Outside (call_of_words D.Depot K.Sink words.now depot.old depot.new out.old out.new result.0) }
     // Which files never change, and which counts never fall.
-    ensures frame { Frame (call D.Depot K.Sink words.now depot.old depot.new out.old out.new result.0) }
+    ensures frame { Frame (call_of_words D.Depot K.Sink words.now depot.old depot.new out.old out.new result.0) }
     // Every way to end, whatever is told: what the others stand on.
-    ensures ending { Ending (call D.Depot K.Sink words.now depot.old depot.new out.old out.new result.0) }
+    ensures ending { Ending (call_of_words D.Depot K.Sink words.now depot.old depot.new out.old out.new result.0) }
 {
     run_gated(rt, alloc, words, depot, out, &Open)
 }

@@ -12,5 +12,5 @@ returns c =
     let others : Others = record { audits = c.audits_are_unique.ensures; bases = c.one_thing_comes_of_a_rebase.ensures.outcome } in
     record {
       outcome = λ command inputs a b x y. outcome_unique publishing others command inputs a b x y;
-      reply = λ command files a b x y. reply_unique publishing others command files a b x y;
+      reply = λ command inputs a b x y. reply_unique publishing others command inputs a b x y;
     }

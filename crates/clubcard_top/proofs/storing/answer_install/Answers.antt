@@ -17,10 +17,10 @@ pub returns-in-Ok-installed-clause-reply : goal.returns-in-Ok-installed-clause-r
 returns-in-Ok-installed-clause-reply g c =
     install_made g.D.Depot c.args.depot.now _ _ c.in-Ok.ensures.only_reads c.stored.result c.args.install.now (λ s. s) c.in-Ok.store (λ x. x)
     (c.in-Ok-part_in.part, c.in-Ok-part_in.field-0-1) (λ s. s) c.in-Ok-installed.store (rw c.store.ensures at c.in-Ok.ensures.input) (rw c.part.ensures at c.in-Ok-part_in.ensures.input)
-    c.in-Ok-installed.ensures (rw c.new_store.ensures at c.stored.ensures)
+    c.in-Ok-installed.ensures.ok (rw c.new_store.ensures at c.stored.ensures)
 
 pub returns-in-Err-installed-clause-reply : goal.returns-in-Err-installed-clause-reply
 returns-in-Err-installed-clause-reply g c =
     install_not g.D.Depot c.args.depot.now _ _ c.in-Ok.ensures.only_reads c.refused-in-Err-installed.result c.args.install.now (λ s. s) c.in-Ok.store (λ x. x)
-    (c.in-Ok-part_in.part, c.in-Ok-part_in.field-0-1) (λ s. s) c.in-Err-installed.fault (rw c.store.ensures at c.in-Ok.ensures.input) (rw c.part.ensures at c.in-Ok-part_in.ensures.input)
-    c.in-Err-installed.ensures c.refused-in-Err-installed.ensures.memory (rw c.part-in-Err-installed.ensures at c.refused-in-Err-installed.ensures.ok)
+    (c.in-Ok-part_in.part, c.in-Ok-part_in.field-0-1) c.in-Err-installed.fault (rw c.store.ensures at c.in-Ok.ensures.input) (rw c.part.ensures at c.in-Ok-part_in.ensures.input)
+    c.in-Err-installed.ensures.err c.refused-in-Err-installed.ensures.memory (rw c.part-in-Err-installed.ensures at c.refused-in-Err-installed.ensures.ok)

@@ -19,7 +19,7 @@ returns-in-Ok-clause-ends g c =
     ways (call_of g.D.Depot g.K.Sink c.args.command.now c.args.depot.now c.send.new.depot c.args.out.now c.send.new.out c.send.result.0)
     (inr (
       reply_fields c.in-Ok.answer,
-      read_later c.args.command.now _ (reply_fields c.in-Ok.answer) _ _ _ _ _ _ c.send.ensures.only_writes.same_reads c.send.ensures.only_writes.same_failed c.in-Ok.ensures.reply,
+      read_later g.D.Depot c.args.depot.now _ _ c.args.command.now _ (reply_fields c.in-Ok.answer) c.send.ensures.only_writes c.in-Ok.ensures.reply,
       c.send.ensures.own,
       moved (reply_fields c.in-Ok.answer) _ _ _ _ _ _ _ _ _ _ c.in-Ok.ensures.only_reads.same_files c.in-Ok.ensures.only_reads.same_writes c.send.ensures.ends,
     ))
