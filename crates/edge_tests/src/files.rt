@@ -103,6 +103,43 @@ fn a_file_longer_than_is_read_ahead(rt: HostRuntime) -> Result<(), Fail> {
     Ok(fs::remove_dir_all(&rt, folder)?)
 }
 
+// One call takes more than is read ahead, and a place above 4 GiB is another than the one 4 GiB before it. The far file
+// is sparse.
+#[test]
+fn long_calls_and_far_places(rt: HostRuntime) -> Result<(), Fail> {
+    let (folder, far, near) = ("far_files", "far_files/far", "far_files/near");
+    let start = (1u64 << 32) + 5;
+    begin_folder(&rt, folder)?;
+    let mut bytes = Vec::new(rt.alloc());
+    for number in 0..70_000u32 {
+        bytes.push((number % 251) as u8)?;
+    }
+    let mut buf = vec![in rt.alloc(); 0; 70_000]?;
+    let mut disk = FileDisk::new(&rt, far);
+    assert_eq!(rt; disk.write_at(start, &bytes), Ok(()));
+    assert_eq!(rt; disk.read_at(start, &mut buf), Ok(70_000));
+    assert!(rt; buf == bytes);
+    let mut depot = FileDepot::new(&rt);
+    depot.begin(near)?;
+    assert_eq!(rt; depot.append(near, &bytes), Ok(70_000));
+    assert!(rt; fs::read(&rt, near)? == bytes);
+    assert_eq!(rt; depot.append(far, b"!"), Ok(1));
+    let mut buf = [b'-'; 4];
+    for (at, want) in [
+        (5, b"\0\0\0\0".as_slice()),
+        (start, b"\0\x01\x02\x03".as_slice()),
+        (start + 69_999, b"\xdd!".as_slice()),
+    ] {
+        assert_eq!(rt;
+            depot.read_at(far, at, &mut buf),
+            Ok(want.len()),
+            "from {at}"
+        );
+        assert!(rt; buf.starts_with(want), "from {at}");
+    }
+    Ok(fs::remove_dir_all(&rt, folder)?)
+}
+
 // The file that was begun last keeps its bytes where another name of it is begun; by its own name it is begun anew.
 #[test]
 fn another_name_of_the_file_that_was_begun(rt: HostRuntime) -> Result<(), Fail> {

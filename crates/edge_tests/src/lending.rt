@@ -86,30 +86,39 @@ fn certificates_are_answered(rt: HostRuntime) -> Result<(), Fail> {
     Ok(())
 }
 
+// A hundred queries of five kinds by turns: one that is revoked, and one each with a sighting that no part covers, an
+// issuer that no part has, a serial of 33 octets, and a sighting behind the last.
 #[test]
 fn many_queries_are_answered(rt: HostRuntime) -> Result<(), Fail> {
     let alloc = rt.alloc();
     let both = store_of(alloc, 2, &[FIRST, SECOND])?;
-    let mut good = LentQuery {
+    let mut late = SEEN;
+    late.time = T + 2001;
+    let mut kinds = [LentQuery {
         issuer: ISSUER,
-        serial: [0; 32],
+        serial: [5; 32],
         serial_len: 1,
         first_sighting: 0,
         sightings: 1,
         answer: 0,
-    };
-    good.serial[0] = 5;
-    let mut queries = [good; 3];
-    queries[1].first_sighting = 1;
-    queries[2].serial_len = 33;
+    }; 5];
+    kinds[1].first_sighting = 1;
+    kinds[2].issuer = [0x11; 32];
+    kinds[3].serial_len = 33;
+    kinds[4].first_sighting = 2;
+    let mut queries = Vec::new(alloc);
+    for place in 0..100 {
+        queries.push(kinds[place % 5])?;
+    }
     for (store, number, want) in [
-        (both.as_slice(), 0, (4, 49, 48)),
-        ([].as_slice(), 16, (16, 16, 16)),
+        (both.as_slice(), 0, [4, 1, 2, 48, 49]),
+        ([].as_slice(), 16, [16; 5]),
     ] {
-        let answered = query_each(alloc, store, &[SEEN], &mut queries);
+        let answered = query_each(alloc, store, &[SEEN, late], &mut queries);
         assert_eq!(rt; answered, answer(number));
-        let [a, b, c] = queries;
-        assert_eq!(rt; (a.answer, b.answer, c.answer), want);
+        for (place, query) in queries.iter().enumerate() {
+            assert_eq!(rt; query.answer, want[place % 5], "query {place}");
+        }
     }
     Ok(())
 }
