@@ -4,7 +4,7 @@ ghost use Rattle.std.specs.Prelude.{◌≡◌, ◌<◌, ◌≤◌};
 
 use crate::gates::Holds;
 use builder_core::{BuildFault, Format, Gate, Open, build_part, build_part_claimed};
-use card_core::{Body, Part};
+use card_core::Part;
 use crl_core::Crl;
 use equation_core::{EquationHash, Row, Sha256Rows};
 use ident_core::{Identity, Range, Serial, Sighting, ranges_fit};
@@ -138,17 +138,6 @@ fn part_of<R: Threads + Sync, H: EquationHash + Sync, G: Gate + Sync>(
     })
 }
 
-// How many leaves the only block has.
-fn leaves_of(part: &Part) -> Option<usize> {
-    match part.blocks() {
-        [block] => match &block.body {
-            Body::Sharded(sharded) => Some(sharded.leaves().len()),
-            _ => Some(1),
-        },
-        _ => None,
-    }
-}
-
 // Both issuers have no exact stage, and then the second alone: of the first nothing is revoked. One worker refuses the
 // same issuer as two, however they share the groups.
 #[test]
@@ -186,106 +175,48 @@ fn one_identity_too_many(rt: HostRuntime) -> Result<(), Fail> {
     Ok(())
 }
 
-// Counts the groups or shards that enter, and those of them that enter in order. As a hash it gives the rows of
-// SHA-256, and counts those that are asked for while another group than the member's entered last. The issuer of the
-// group at place 0 is 0x22, that at place 1 is 0x33, and so on.
+// Notes the places that enter, from 1, as digits.
 #[derive(Default, Drop)]
-struct Watch {
-    calls: AtomicU32,
-    entered: AtomicU32,
-    strange: AtomicU32,
-}
+struct Watch(AtomicU32);
 
 impl Gate for Watch {
     fn enter(&self, place: u32) {
-        self.calls.fetch_add(1, SeqCst);
-        let next = place.saturating_add(1);
-        let _ = self.entered.compare_exchange(place, next, SeqCst, SeqCst);
+        let before = self.0.load(SeqCst).wrapping_mul(10);
+        self.0
+            .store(before.wrapping_add(place).wrapping_add(1), SeqCst);
     }
 }
 
-impl EquationHash for Watch {
-    ghost use Rattle.equation_core.specs.Rows.{sha256_row};
-    ghost use Rattle.equation_core.specs.RowLaws.{sha256_row-is};
-
-    ghost row_of = { λ _ stage seed id starts. sha256_row stage seed id starts };
-
-    ghost formed = { λ _ stage seed id starts _ _ some _. sha256_row-is stage seed id starts some };
-
-    fn row(&self, stage: u8, seed: u8, id: &Identity, starts: u32) -> Row {
-        let last = self.entered.load(SeqCst);
-        if id.issuer.bytes()[0] as u32 != last.saturating_add(1).saturating_mul(0x11) {
-            self.strange.fetch_add(1, SeqCst);
+// With one worker each group enters once, in order, and so does each shard, with no other group between them.
+#[test]
+fn each_enters_in_order(rt: HostRuntime) -> Result<(), Fail> {
+    for issuers in [
+        [(0x22, 2, true), (0x33, 60, true), (0x44, 300, true)].as_slice(),
+        [(0x22, 40_000, true), (0x33, 2, true)].as_slice(),
+    ] {
+        let job = job_of(rt.alloc(), issuers)?;
+        for sharing in BOTH {
+            let watch = Watch::default();
+            let _ = part_of(&rt, rt.alloc(), &Sha256Rows, &watch, &job, sharing, 1)??;
+            assert_eq!(&rt; watch.0.load(SeqCst), 123, "{issuers:?}, {sharing:?}");
         }
-        Sha256Rows.row(stage, seed, id, starts)
-    }
-}
-
-// With one worker each group enters once, in order, before its first member is hashed and behind the last one of the
-// group before it.
-#[test]
-fn each_group_enters(rt: HostRuntime) -> Result<(), Fail> {
-    let issuers = [(0x22, 2, true), (0x33, 60, true), (0x44, 300, true)];
-    let job = job_of(rt.alloc(), &issuers)?;
-    for sharing in BOTH {
-        let watch = Watch::default();
-        let _ = part_of(&rt, rt.alloc(), &watch, &watch, &job, sharing, 1)??;
-        assert_eq!(&rt; watch.calls.load(SeqCst), 3, "{sharing:?}");
-        assert_eq!(&rt; watch.entered.load(SeqCst), 3, "{sharing:?}");
-        assert_eq!(&rt; watch.strange.load(SeqCst), 0, "{sharing:?}");
     }
     Ok(())
 }
 
-// With one worker each shard enters once, and no other group is between them.
-#[test]
-fn each_shard_enters(rt: HostRuntime) -> Result<(), Fail> {
-    let job = job_of(rt.alloc(), &[(0x22, 40_000, true), (0x33, 2, true)])?;
-    for sharing in BOTH {
-        let watch = Watch::default();
-        let _ = part_of(&rt, rt.alloc(), &watch, &watch, &job, sharing, 1)??;
-        assert_eq!(&rt; watch.calls.load(SeqCst), 3, "{sharing:?}");
-        assert_eq!(&rt; watch.entered.load(SeqCst), 3, "{sharing:?}");
-    }
-    Ok(())
-}
-
-// One thread alone would wait at place 0 to the end of the turns.
+// Two groups, and the two shards of one: one thread alone would wait at the first to the end of the turns.
 #[test]
 fn two_workers_build_side_by_side(rt: HostRuntime) -> Result<(), Fail> {
-    let job = job_of(rt.alloc(), &[(0x22, 2, true), (0x33, 2, true)])?;
-    for sharing in BOTH {
-        let gate = Holds::new(0, 1);
-        let _ = part_of(&rt, rt.alloc(), &Sha256Rows, &gate, &job, sharing, 2)??;
-        assert!(&rt; gate.has_passed(), "{sharing:?}");
-    }
-    Ok(())
-}
-
-// Whichever group is kept, the other worker builds both others. Shares that are cut before the work have two of the
-// three groups in one share, and would keep the second of these behind the first in one of the runs.
-#[test]
-fn a_kept_group_holds_up_no_other(rt: HostRuntime) -> Result<(), Fail> {
-    let issuers = [(0x22, 2, true), (0x33, 2, true), (0x44, 300, true)];
-    let job = job_of(rt.alloc(), &issuers)?;
-    for place in 0..3 {
-        let gate = Holds::new(place, 2);
-        let sharing = Sharing::Claimed;
-        let _ = part_of(&rt, rt.alloc(), &Sha256Rows, &gate, &job, sharing, 2)??;
-        assert!(&rt; gate.has_passed(), "place {place}");
-    }
-    Ok(())
-}
-
-// One thread alone would wait at the first shard to the end of the turns.
-#[test]
-fn two_workers_build_two_shards_side_by_side(rt: HostRuntime) -> Result<(), Fail> {
-    let job = job_of(rt.alloc(), &[(0x22, 40_000, true)])?;
-    for sharing in BOTH {
-        let gate = Holds::new(0, 1);
-        let part = part_of(&rt, rt.alloc(), &Sha256Rows, &gate, &job, sharing, 2)??;
-        assert_eq!(&rt; leaves_of(&part), Some(2), "{sharing:?}");
-        assert!(&rt; gate.has_passed(), "{sharing:?}");
+    for issuers in [
+        [(0x22, 2, true), (0x33, 2, true)].as_slice(),
+        [(0x22, 40_000, true)].as_slice(),
+    ] {
+        let job = job_of(rt.alloc(), issuers)?;
+        for sharing in BOTH {
+            let gate = Holds::new([0, 0], 2);
+            let _ = part_of(&rt, rt.alloc(), &Sha256Rows, &gate, &job, sharing, 2)??;
+            assert_eq!(&rt; gate.passed(), 1, "{issuers:?}, {sharing:?}");
+        }
     }
     Ok(())
 }

@@ -3,17 +3,7 @@
 use claim_core::{Claims, Draw, draws_are_each_once, replay, seats_draw_the_schedule};
 use std::test::Fail;
 
-#[test]
-fn each_place_is_drawn_once_and_then_none(rt: HostRuntime) -> Result<(), Fail> {
-    let (claims, mut seat) = Claims::new(rt.alloc(), 2)?;
-    assert_eq!(&rt; claims.draw(&mut seat), Some(0));
-    assert_eq!(&rt; claims.draw(&mut seat), Some(1));
-    assert_eq!(&rt; claims.draw(&mut seat), None);
-    assert_eq!(&rt; claims.draw(&mut seat), None);
-    Ok(())
-}
-
-// Seats that part and meet again draw on from one counter.
+// Seats that part and meet again draw on from one counter: each place once, and then none.
 #[test]
 fn seats_share_one_counter(rt: HostRuntime) -> Result<(), Fail> {
     let alloc = rt.alloc();
@@ -23,6 +13,7 @@ fn seats_share_one_counter(rt: HostRuntime) -> Result<(), Fail> {
     assert_eq!(&rt; claims.draw(&mut seat), Some(1));
     assert!(&rt; claims.join(alloc, &mut seat, other).is_ok());
     assert_eq!(&rt; claims.draw(&mut seat), Some(2));
+    assert_eq!(&rt; claims.draw(&mut seat), None);
     assert_eq!(&rt; claims.draw(&mut seat), None);
     Ok(())
 }

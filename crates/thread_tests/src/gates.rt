@@ -1,43 +1,52 @@
-//! A gate that tells whether others go on while one place is kept.
+//! A gate that tells whether other threads go on while two places are kept.
 
 use builder_core::Gate;
 use std::sync::atomic::{AtomicU32, Ordering};
 use std::thread::yield_now;
 
-/// Keeps one place until so many others have entered, or the turns are over.
+/// Each two of four places.
+pub const PAIRS: [[u32; 2]; 6] = [[0, 1], [0, 2], [0, 3], [1, 2], [1, 3], [2, 3]];
+
+/// Keeps two places until all of the work have entered, so that a third thread has to enter the others, or until the
+/// turns are over. Works come one behind another. Where both places are the same, one is kept.
 #[derive(Drop)]
 pub struct Holds {
-    place: u32,
-    others: u32,
+    kept: [u32; 2],
+    places: u32,
     entered: AtomicU32,
     passed: AtomicU32,
 }
 
 impl Holds {
-    pub fn new(place: u32, others: u32) -> Holds {
+    /// Of a work of so many places.
+    pub fn new(kept: [u32; 2], places: u32) -> Holds {
         Holds {
-            place,
-            others,
+            kept,
+            places,
             entered: AtomicU32::new(0),
             passed: AtomicU32::new(0),
         }
     }
 
-    /// Whether the others entered while the place was kept.
-    pub fn has_passed(&self) -> bool {
-        self.passed.load(Ordering::SeqCst) == 1
+    /// How many times a kept place went on because all places of its work had entered.
+    pub fn passed(&self) -> u32 {
+        self.passed.load(Ordering::SeqCst)
     }
 }
 
 impl Gate for Holds {
     fn enter(&self, place: u32) {
-        if place != self.place {
-            self.entered.fetch_add(1, Ordering::SeqCst);
+        self.entered.fetch_add(1, Ordering::SeqCst);
+        if !self.kept.contains(&place) {
             return;
         }
         for _ in 0..100_000_000u32 {
-            if self.entered.load(Ordering::SeqCst) == self.others {
-                self.passed.store(1, Ordering::SeqCst);
+            if self
+                .entered
+                .load(Ordering::SeqCst)
+                .is_multiple_of(self.places)
+            {
+                self.passed.fetch_add(1, Ordering::SeqCst);
                 return;
             }
             yield_now();

@@ -1,16 +1,16 @@
 //! What `claim_map` makes of work, whoever does it.
 
-use crate::gates::Holds;
+use crate::gates::{Holds, PAIRS};
 use builder_core::Gate;
 use claim_core::{Work, claim_map};
 use octets_core::NoMemory;
 use std::test::Fail;
 
-// The square of each place, which enters the gate if there is one.
+// The square of each place, which enters the gate first.
 #[derive(Drop)]
 struct Squares {
     places: u32,
-    gate: Option<Holds>,
+    gate: Holds,
 }
 
 impl Work for Squares {
@@ -29,37 +29,21 @@ impl Work for Squares {
     }
 
     fn work(&self, place: u32) -> Result<u64, NoMemory> {
-        if let Some(gate) = &self.gate {
-            gate.enter(place);
-        }
+        self.gate.enter(place);
         Ok(u64::from(place) * u64::from(place))
     }
 }
 
+// Two workers wait at the kept places, and the third works the others. With shares that are fixed before the work two
+// places are in one, and the second of them would never be entered while the first is kept.
 #[test]
-fn squares_stand_in_order_for_any_workers(rt: HostRuntime) -> Result<(), Fail> {
-    for (places, workers) in [(1000, 1), (1000, 3), (1000, 8), (0, 1), (0, 64)] {
-        let gate = None;
-        let squares = claim_map(&rt, rt.alloc(), &Squares { places, gate }, workers)?;
-        assert_eq!(&rt; squares.len(), places as usize);
-        for (place, square) in squares.iter().enumerate() {
-            let expected = (place * place) as u64;
-            assert_eq!(&rt; *square, expected, "place {place} by {workers}");
-        }
-    }
-    Ok(())
-}
-
-// Shares that are fixed before the work would leave a place behind the kept one, in one of the three runs.
-#[test]
-fn a_place_that_is_kept_holds_up_no_other(rt: HostRuntime) -> Result<(), Fail> {
-    for kept in 0..3 {
-        let gate = Some(Holds::new(kept, 2));
-        let jobs = Squares { places: 3, gate };
-        let squares = claim_map(&rt, rt.alloc(), &jobs, 2)?;
-        let passed = jobs.gate.as_ref().is_some_and(|gate| gate.has_passed());
-        assert!(&rt; passed, "place {kept}");
-        assert_eq!(&rt; squares.as_slice(), [0, 1, 4].as_slice());
+fn two_places_that_are_kept_hold_up_no_other(rt: HostRuntime) -> Result<(), Fail> {
+    for kept in PAIRS {
+        let gate = Holds::new(kept, 4);
+        let jobs = Squares { places: 4, gate };
+        let squares = claim_map(&rt, rt.alloc(), &jobs, 3)?;
+        assert_eq!(&rt; jobs.gate.passed(), 2, "places {kept:?}");
+        assert_eq!(&rt; squares.as_slice(), [0, 1, 4, 9].as_slice());
     }
     Ok(())
 }

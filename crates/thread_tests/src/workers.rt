@@ -1,16 +1,19 @@
 //! How the word WORKERS reaches the builder, and that it changes no byte.
 
-use crate::gates::Holds;
+use crate::gates::{Holds, PAIRS};
 use clubcard_top::{Gate, Open, Status, run_gated};
-use outside_core::{MemoryDepot, MemorySink};
+use outside_core::{Depot, MemoryDepot, MemorySink};
+use real_edge::FileDepot;
+use std::fs;
+use std::process::Abort;
 use std::test::Fail;
 use std::thread::Threads;
 
 /// Runs the words behind a gate. It keeps no promise of `run_gated`, so that no proof of a test begins with them.
-fn ended_by<R: Threads + AllocGlobal + Sync, G: Gate + Sync>(
+fn ended_by<R: Threads + AllocGlobal + Sync, D: Depot, G: Gate + Sync>(
     rt: &R,
     words: &[String],
-    depot: &mut MemoryDepot,
+    depot: &mut D,
     out: &mut MemorySink,
     gate: &G,
 ) -> Status {
@@ -18,9 +21,9 @@ fn ended_by<R: Threads + AllocGlobal + Sync, G: Gate + Sync>(
 }
 
 /// Whether the words are done, and print this line.
-fn prints<R: Threads + AllocGlobal + Sync, G: Gate + Sync>(
+fn prints<R: Threads + AllocGlobal + Sync, D: Depot, G: Gate + Sync>(
     rt: &R,
-    depot: &mut MemoryDepot,
+    depot: &mut D,
     gate: &G,
     words: &str,
     line: &str,
@@ -34,21 +37,54 @@ fn prints<R: Threads + AllocGlobal + Sync, G: Gate + Sync>(
     Ok(ended == Status::DONE && out.bytes() == line.as_bytes())
 }
 
-const FEW_MADE: &str = "sample 7 entries 1000 revoked 12 bytes 108862\n";
+const SAMPLED: &str = "sample 7 entries 40 revoked 4 bytes 4894\n";
 
-const FEW_PUBLISHED: &str =
-    "epoch 1 part 0 issuers 4 universe 1000 revoked 12 unread 0 uncovered 0 unenrolled 0 late 0 accepted 1000\n";
+const FIRST: &str =
+    "epoch 1 part 0 issuers 4 universe 40 revoked 4 unread 0 uncovered 0 unenrolled 0 late 0 accepted 40\n";
 
-// The sample has four issuers. Whichever is kept, the other worker builds the three others; one worker alone would wait
-// at the first one's place to the end of the turns.
+const SECOND: &str =
+    "epoch 2 part 1 issuers 4 universe 40 revoked 0 unread 0 uncovered 0 unenrolled 0 late 0 accepted 40\n";
+
+const BOTH: &str = "\
+    epoch 1 part 0 issuers 4 universe 40 revoked 4 unread 0 uncovered 0 unenrolled 0 late 0 accepted 40\n\
+    epoch 2 part 1 issuers 4 universe 40 revoked 0 unread 0 uncovered 0 unenrolled 0 late 0 accepted 40\n";
+
+const REBASED: &str = "rebase epoch 2 issuers 4 universe 40 revoked 4 pruned 0\n";
+
+// Each command that builds parts, with three workers, of a job of four issuers and of the same job in the next epoch;
+// how many places are kept, two of each part; and what it prints.
+const COMMANDS: [(&str, u32, &str); 4] = [
+    ("snapshot J P L 3", 2, FIRST),
+    ("delta K L D M 3", 2, SECOND),
+    ("rebase M 0 B N 3", 2, REBASED),
+    ("rehearse Q 3 J K", 4, BOTH),
+];
+
+/// A sample's job under J, the same in the next epoch under K, and no query under Q.
+fn jobs<R: Threads + AllocGlobal + Abort + Sync>(rt: &R) -> Result<MemoryDepot, Fail> {
+    let mut depot = MemoryDepot::new(rt.alloc());
+    assert!(rt; prints(rt, &mut depot, &Open, "sample 7 40 J", SAMPLED)?);
+    let mut next = Vec::new(rt.alloc());
+    next.extend_from_slice(depot.bytes_of("J").unwrap_or(&[]))?;
+    if let Some(epoch) = next.get_mut(15) {
+        *epoch = 2;
+    }
+    depot.put("K", &next)?;
+    depot.put("Q", b"CLUBQRY1\0\0\0\0")?;
+    Ok(depot)
+}
+
+// Whichever two issuers are kept, the third worker builds the others: fewer would wait at a kept place to the end of the
+// turns.
 #[test]
-fn a_kept_issuer_holds_up_no_other(rt: HostRuntime) -> Result<(), Fail> {
-    let depot = &mut MemoryDepot::new(rt.alloc());
-    assert!(&rt; prints(&rt, depot, &Open, "sample 7 1000 J", FEW_MADE)?);
-    for place in 0..4 {
-        let gate = Holds::new(place, 3);
-        assert!(&rt; prints(&rt, depot, &gate, "snapshot J P L 2", FEW_PUBLISHED)?);
-        assert!(&rt; gate.has_passed(), "place {place}");
+fn three_workers_build_side_by_side(rt: HostRuntime) -> Result<(), Fail> {
+    let mut depot = jobs(&rt)?;
+    for kept in PAIRS {
+        for (words, passed, lines) in COMMANDS {
+            let gate = Holds::new(kept, 4);
+            assert!(&rt; prints(&rt, &mut depot, &gate, words, lines)?, "{words}");
+            assert_eq!(&rt; gate.passed(), passed, "{words}: {kept:?}");
+        }
     }
     Ok(())
 }
@@ -58,20 +94,31 @@ const MANY_MADE: &str = "sample 7 entries 200000 revoked 2000 bytes 21670458\n";
 const MANY_PUBLISHED: &str =
     "epoch 1 part 0 issuers 4 universe 200000 revoked 2000 unread 0 uncovered 0 unenrolled 0 late 0 accepted 200000\n";
 
+const MANY_REBASED: &str = "rebase epoch 1 issuers 4 universe 200000 revoked 2000 pruned 0\n";
+
 /// By tools/reference.py: `History([sample_job(7, 200000)]).parts()[0].trailer`. Each block is cut into two shards.
 const TRAILER: &str = "bf7473715e0181a9398385190b0dad268af663e703144f1f58368492b1e6b86c";
 
-// The trailer is the digest of all that stands before it in the part that the other program made.
+// Over real files. The trailer is the digest of all that stands before it in the part that the other program made. The
+// ledger has 10 MB.
 #[test]
 fn two_hundred_thousand_by_one_and_eight(rt: HostRuntime) -> Result<(), Fail> {
-    let depot = &mut MemoryDepot::new(rt.alloc());
-    assert!(&rt; prints(&rt, depot, &Open, "sample 7 200000 J", MANY_MADE)?);
-    assert!(&rt; prints(&rt, depot, &Open, "snapshot J P L 1", MANY_PUBLISHED)?);
-    assert!(&rt; prints(&rt, depot, &Open, "snapshot J O M 8", MANY_PUBLISHED)?);
-    assert!(&rt; depot.bytes_of("P") == depot.bytes_of("O"));
-    assert!(&rt; depot.bytes_of("L") == depot.bytes_of("M"));
-    let trailer = hex::decode(rt.alloc(), TRAILER)?;
-    let part = depot.bytes_of("P");
-    assert!(&rt; part.is_some_and(|part| part.ends_with(&trailer)));
-    Ok(())
+    if fs::exists(&rt, "many")? {
+        fs::remove_dir_all(&rt, "many")?;
+    }
+    fs::create_dir(&rt, "many")?;
+    let depot = &mut FileDepot::new(&rt);
+    for (words, line) in [
+        ("sample 7 200000 many/J", MANY_MADE),
+        ("snapshot many/J many/P many/L 1", MANY_PUBLISHED),
+        ("snapshot many/J many/O many/M 8", MANY_PUBLISHED),
+        ("rebase many/L 0 many/B many/N 2", MANY_REBASED),
+    ] {
+        assert!(&rt; prints(&rt, depot, &Open, words, line)?, "{words}");
+    }
+    let part = fs::read(&rt, "many/P")?;
+    assert!(&rt; part == fs::read(&rt, "many/O")?);
+    assert!(&rt; part.ends_with(&hex::decode(rt.alloc(), TRAILER)?));
+    assert!(&rt; fs::read(&rt, "many/L")? == fs::read(&rt, "many/M")?);
+    Ok(fs::remove_dir_all(&rt, "many")?)
 }

@@ -8,7 +8,8 @@ use Rattle.thread_tests.proofs.builds.part_of.Goals as goal
 
 pub build_part-requires-clause-ascending : goal.build_part-requires-clause-ascending
 build_part-requires-clause-ascending g c κs within =
-    groups_ascend no_ledger (facts_of_job c.args.job.now) (map group_fields c.as_slice-groups.result.now) (ap (map group_fields) c.as_slice-groups.ensures.value ∙ c.in_ok-head.ensures.groups)
+    groups_ascend no_ledger (facts_of_job c.args.job.now) (map group_fields c.as_slice-groups.result.now)
+    (ap (map group_fields) c.as_slice-groups.ensures.value ∙ c.in_ok-head.ensures.groups)
 
 pub build_part-requires-clause-identities : goal.build_part-requires-clause-identities
 build_part-requires-clause-identities g c κs within =
@@ -17,7 +18,8 @@ build_part-requires-clause-identities g c κs within =
 
 pub build_part_claimed-requires-clause-ascending : goal.build_part_claimed-requires-clause-ascending
 build_part_claimed-requires-clause-ascending g c κs within =
-    groups_ascend no_ledger (facts_of_job c.args.job.now) (map group_fields c.as_slice-groups.result.now) (ap (map group_fields) c.as_slice-groups.ensures.value ∙ c.in_ok-head.ensures.groups)
+    groups_ascend no_ledger (facts_of_job c.args.job.now) (map group_fields c.as_slice-groups.result.now)
+    (ap (map group_fields) c.as_slice-groups.ensures.value ∙ c.in_ok-head.ensures.groups)
 
 pub build_part_claimed-requires-clause-identities : goal.build_part_claimed-requires-clause-identities
 build_part_claimed-requires-clause-identities g c κs within =
