@@ -2,7 +2,7 @@
 docs/FORMATS.md and the definitions in docs/ARCHITECTURE.md."""
 
 from collections import Counter
-from collections.abc import Sequence
+from collections.abc import Iterator, Sequence
 from dataclasses import dataclass
 from typing import Any, Protocol
 
@@ -51,8 +51,8 @@ class Accepted:
     others: Counter[str]
 
 
-def accepted_by(job: Job, ledger: Ledger) -> Accepted:
-    """What a job accepts behind a ledger."""
+def classes_of(job: Job, ledger: Ledger) -> Iterator[tuple[Entry, str]]:
+    """The entries of a job, and what each of them is behind a ledger."""
     births = {item.identity: item.birth for item in ledger.items}
 
     def is_late(entry: Entry) -> bool:
@@ -64,18 +64,25 @@ def accepted_by(job: Job, ledger: Ledger) -> Accepted:
             for place, part in enumerate(ledger.parts)
         )
 
-    accepted = Accepted([], Counter())
     for entry in job.entries:
         if entry.id is None:
-            accepted.others["unread"] += 1
+            yield entry, "unread"
         elif not job.covers(entry.log, entry.time):
-            accepted.others["uncovered"] += 1
+            yield entry, "uncovered"
         elif entry.id[0] not in job.enrolled():
-            accepted.others["unenrolled"] += 1
-        elif is_late(entry):
-            accepted.others["late"] += 1
+            yield entry, "unenrolled"
         else:
+            yield entry, "late" if is_late(entry) else "accepted"
+
+
+def accepted_by(job: Job, ledger: Ledger) -> Accepted:
+    """What a job accepts behind a ledger."""
+    accepted = Accepted([], Counter())
+    for entry, kind in classes_of(job, ledger):
+        if kind == "accepted":
             accepted.entries.append(entry)
+        else:
+            accepted.others[kind] += 1
     return accepted
 
 

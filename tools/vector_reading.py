@@ -6,8 +6,9 @@ from types import SimpleNamespace
 from typing import Any
 
 from der_walk import Malformed, Walk
-from reference import Job, Refused
-from reference_files import Fields, read_queries, read_range
+from reference import Job, Ledger, Refused
+from reference_files import Fields, read_ledger, read_queries, read_range
+from scenario_publishing import classes_of
 from scenario_readers import Fed, FoundCrl, FoundEntry, issuer_hash, read_certificate, serial_in, time_in, whole
 from scenario_words import Usage
 from vector_words import command_text
@@ -252,6 +253,12 @@ class Reading:
             return "job" + job_text(read_job(self.bytes(word), limits))
         except Refused as refused:
             return "job" + refused_text(refused)
+
+    def classes(self, ledger: str, word: str) -> str:
+        """What each entry of a job is behind a ledger, or for `-` in a first job."""
+        held = Ledger([], []) if ledger == "-" else read_ledger(self.bytes(ledger))
+        kinds = classes_of(read_job(self.bytes(word), PUBLISHED), held)
+        return "classes" + "".join(f" {kind.capitalize()}" for _, kind in kinds)
 
     def records(self, asked: str, word: str) -> str:
         """What a reader of the records answers when it is asked so often, and these records written again."""

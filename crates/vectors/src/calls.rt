@@ -32,29 +32,19 @@ pub fn given(alloc: Global, files: &Files, words: &[&str]) -> Result<String, Fai
             tell_entry(alloc, &leaf, &bytes_of(alloc, files, extra)?)
         }
         ["crl", bytes] => tell_crl(alloc, &bytes_of(alloc, files, bytes)?),
-        ["system", starts, planes, equations @ ..] => tell_system(
-            alloc,
-            starts.parse::<u32>()?,
-            planes.parse::<u8>()?,
-            equations,
-        ),
-        ["sums", starts, planes, rows, equations @ ..] => tell_sums(
-            alloc,
-            starts.parse::<u32>()?,
-            planes.parse::<u8>()?,
-            rows,
-            equations,
-        ),
+        ["system", starts, planes, equations @ ..] => {
+            tell_system(alloc, [starts, planes], equations)
+        }
+        ["sums", starts, planes, rows, equations @ ..] => {
+            tell_sums(alloc, [starts, planes], rows, equations)
+        }
         ["issuer", cert] => tell_issuer(alloc, &bytes_of(alloc, files, cert)?),
         ["timestamps", cert] => tell_timestamps(alloc, &bytes_of(alloc, files, cert)?),
         ["queries", file] => tell_queries(alloc, &bytes_of(alloc, files, file)?),
-        ["row", stage, seed, issuer, serial, starts] => tell_row(
-            alloc,
-            stage.parse::<u8>()?,
-            seed.parse::<u8>()?,
-            &identity_in(alloc, issuer, serial)?,
-            starts.parse::<u32>()?,
-        ),
+        ["row", stage, seed, issuer, serial, starts] => {
+            let id = identity_in(alloc, issuer, serial)?;
+            tell_row(alloc, [stage, seed], &id, starts.parse::<u32>()?)
+        }
         ["shards", issuer, serial] => tell_shards(alloc, &identity_in(alloc, issuer, serial)?),
         _ => given_filter(alloc, files, words),
     }

@@ -3,6 +3,7 @@
 #![tactic(auto)]
 
 mod calls;
+mod classes;
 mod crls;
 mod der;
 mod entries;

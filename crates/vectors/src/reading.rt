@@ -1,6 +1,7 @@
 //! The calls of the layers that read jobs and words, by their names.
 
 use crate::calls::{bytes_of, given};
+use crate::classes::tell_classes;
 use crate::feeds::tell_records;
 use crate::jobs::tell_job;
 use crate::sets::tell_identities;
@@ -28,6 +29,7 @@ pub fn given_reading(
             ];
             tell_job(alloc, &bytes_of(alloc, files, file)?, most)
         }
+        ["classes", ledger, job] => tell_classes(alloc, files, [ledger, job]),
         ["records", asked, file] => {
             let bytes = bytes_of(alloc, files, file)?;
             tell_records(alloc, &bytes, asked.parse::<u32>()?, faults, reads)

@@ -22,18 +22,12 @@ pub fn identity_in(alloc: Global, issuer: &str, serial: &str) -> Result<Identity
     identity_of(&issuer, &hex::decode(alloc, serial)?)
 }
 
-/// The row of an identity.
-pub fn tell_row(
-    alloc: Global,
-    stage: u8,
-    seed: u8,
-    id: &Identity,
-    starts: u32,
-) -> Result<String, Fail> {
+/// The row of an identity, at a stage and a seed.
+pub fn tell_row(alloc: Global, at: [&str; 2], id: &Identity, starts: u32) -> Result<String, Fail> {
     if starts == 0 {
         return Err(Fail::new("no start"));
     }
-    let row = Sha256Rows.row(stage, seed, id, starts);
+    let row = Sha256Rows.row(at[0].parse::<u8>()?, at[1].parse::<u8>()?, id, starts);
     let (start, coeff, tag) = (row.start, row.coeff, row.tag);
     Ok(format!(in alloc; "start {start} coeff {coeff:032x} tag {tag:04x}")?)
 }

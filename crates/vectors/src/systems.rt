@@ -75,14 +75,9 @@ fn tell_parities<L: Ledger>(
     Ok(())
 }
 
-/// The least solution of equations; which of them are kept is told.
-fn solved(
-    alloc: Global,
-    text: &mut String,
-    starts: u32,
-    planes: u8,
-    words: &[&str],
-) -> Result<Planes, Fail> {
+/// The least solution of equations over so many starts, in so many planes; which of them are kept is told.
+fn solved(alloc: Global, text: &mut String, of: [&str; 2], words: &[&str]) -> Result<Planes, Fail> {
+    let (starts, planes) = (of[0].parse::<u32>()?, of[1].parse::<u8>()?);
     if starts < 1 || starts > 4_718_593 || planes < 1 || planes > 16 {
         return Err(Fail::new("no system"));
     }
@@ -102,23 +97,17 @@ fn solved(
 }
 
 /// Which of the equations are kept, and the words of the least solution.
-pub fn tell_system(alloc: Global, starts: u32, planes: u8, words: &[&str]) -> Result<String, Fail> {
+pub fn tell_system(alloc: Global, of: [&str; 2], words: &[&str]) -> Result<String, Fail> {
     let mut text = String::from_str(alloc, "equations")?;
-    let found = solved(alloc, &mut text, starts, planes, words)?;
+    let found = solved(alloc, &mut text, of, words)?;
     put_planes(&mut text, &found)?;
     Ok(text)
 }
 
 /// The sums of rows over the least solution of equations.
-pub fn tell_sums(
-    alloc: Global,
-    starts: u32,
-    planes: u8,
-    rows: &str,
-    words: &[&str],
-) -> Result<String, Fail> {
+pub fn tell_sums(alloc: Global, of: [&str; 2], rows: &str, words: &[&str]) -> Result<String, Fail> {
     let mut text = String::from_str(alloc, "equations")?;
-    let found = solved(alloc, &mut text, starts, planes, words)?;
+    let found = solved(alloc, &mut text, of, words)?;
     let rows = rows_of(alloc, rows)?;
     tell_parities::<Brand>(&mut text, &found, &rows, Blank::new(1))?;
     Ok(text)
