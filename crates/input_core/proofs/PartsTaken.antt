@@ -14,7 +14,7 @@ use Rattle.outside_core.specs.Feeding.{IsTaken, Offers}
 use Rattle.part_text.specs.SealedFields.{SealedFields}
 use Rattle.part_text.specs.PartLayout.{part}
 use Rattle.part_text.proofs.PartBounds.{at-of}
-use Rattle.part_codec.specs.ReaderStanding.{ReadsBy, ReadsFor, EndsAs}
+use Rattle.part_codec.specs.ReaderStanding.{ReadsBy, ReadsFor, HasFailed, IsShort, EndsAs}
 use Rattle.part_text.specs.declared.fault.PartFault.{PartFault}
 use Rattle.part_text.specs.declared.fault.PartFault.TheVariants as of
 use Rattle.part_codec.specs.declared.reader.PartReader.{PartReader}
@@ -100,8 +100,12 @@ offset-within (of.Layout f) b h = at-of b (Err (of.Layout f)) h
 pub layout_not_memory : (f : LayoutFault) → faults.Layout f ≢ faults.NoMemory
 layout_not_memory f h = let k : ◌≡◌ {A = FileFault} (faults.Layout f) faults.NoMemory = h in cc
 
-pub part_not_memory : (e : PartFault) (f : LayoutFault) → e ≡ of.Layout f → of_part e ≢ faults.NoMemory
-part_not_memory e f is = rw is (layout_not_memory f)
+-- a reader that has met no fault ends with one of the layout
+pub part_not_memory : (reader : PartReader) (e : PartFault) → reader.fault ≡ None → ((HasFailed reader e → ⊥) → IsShort e)
+    → of_part e ≢ faults.NoMemory
+part_not_memory reader (of.Layout f) well short = layout_not_memory f
+part_not_memory reader of.NoMemory well short =
+    absurd (short (λ h. let k : ◌≡◌ {A = Option PartFault} (Some of.NoMemory) None = sym h ∙ well in cc))
 
 fits-by : (k : Option PartFault) (f : PartFault) (reader : PartReader) (b w : List ℕ) (from at : ℕ) → reader.fault ≡ k → ReadsFor reader b → at ≡ from + length b → at < 2 ^ 64 → from ≤ 2 ^ 63
     → length w ≤ 4096 → (f ≢ of.NoMemory → (b x : List ℕ) → ReadsFor reader b → part (b ++ w ++ x) 0 ≡ Err f)

@@ -13,7 +13,7 @@ returns-in-Ok-clause-answers g c =
     (fits c.args.asked.now.capacity (length c.args.bytes.now) c.in-Ok.field-0 (TooLong c.args.asked.now.capacity) _ long) c.stored.ensures
     (rests_formatted c.args.asked.now.capacity c.args.bytes.now (g.D.Disk.state c.args.disk.now) (g.D.Disk.state c.format.new.disk) ok c.in-Ok.ensures.durable)
 
-pub returns-clause-some : goal.returns-clause-some
-returns-clause-some g c =
+pub returns-in-Err-clause-some : goal.returns-in-Err-clause-some
+returns-in-Err-clause-some g c =
     not_wanting _ _ (g.D.Disk.state c.args.disk.now) (g.D.Disk.state c.format.new.disk) c.in-Err.fault c.slot_refusal.result c.in-Err.ensures.refusal
     c.slot_refusal.ensures.err

@@ -10,4 +10,4 @@ returns-in_err-sealed-clause-offset c =
 pub returns-in_err-sealed-clause-memory : goal.returns-in_err-sealed-clause-memory
 returns-in_err-sealed-clause-memory c =
     let p = err_from_is_err_and c.from_residual.result c.from_residual.ensures.1 in
-    rw (p.1, p.2) (λ well. part_not_memory c.in_err-sealed.field-0.0 _ (c.in_err-sealed.ensures.short well))
+    rw (p.1, p.2) (λ well. part_not_memory c.args.reader c.in_err-sealed.field-0.0 well c.in_err-sealed.ensures.short)
