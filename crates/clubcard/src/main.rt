@@ -57,19 +57,6 @@ fn device_named(words: &[String]) -> Option<&str>
     }
 }
 
-/// Runs the words over the real files and the terminal: over the device that they name, where they name one.
-fn run_words(rt: &HostRuntime, words: &[String]) -> Status {
-    let mut depot = FileDepot::new(rt);
-    let mut out = Terminal::new(rt);
-    match device_named(words) {
-        Some(device) => {
-            let mut disk = FileDisk::new(rt, device);
-            run_device(rt, rt.alloc(), words, &mut disk, &mut depot, &mut out)
-        }
-        None => run(rt, rt.alloc(), words, &mut depot, &mut out),
-    }
-}
-
 /// The exit status of the process.
 fn exit_of(status: Status) -> ExitCode
     ensures { exit_status result ≡ status.0 }
@@ -78,8 +65,18 @@ fn exit_of(status: Status) -> ExitCode
 }
 
 fn main(rt: HostRuntime) -> ExitCode {
-    match words(&rt) {
-        Ok(words) => exit_of(run_words(&rt, &words)),
-        Err(status) => exit_of(status),
-    }
+    let words = match words(&rt) {
+        Ok(words) => words,
+        Err(status) => return exit_of(status),
+    };
+    let mut depot = FileDepot::new(&rt);
+    let mut out = Terminal::new(&rt);
+    let status = match device_named(&words) {
+        Some(device) => {
+            let mut disk = FileDisk::new(&rt, device);
+            run_device(&rt, rt.alloc(), &words, &mut disk, &mut depot, &mut out)
+        }
+        None => run(&rt, rt.alloc(), &words, &mut depot, &mut out),
+    };
+    exit_of(status)
 }
