@@ -21,7 +21,7 @@ use Rattle.universe_core.specs.declared.fault.AdmitFault.{AdmitFault}
 use Rattle.audit_core.specs.declared.auditing.Audited.{Audited}
 use Rattle.audit_core.specs.declared.fault.AuditFault.{AuditFault}
 use Rattle.audit_core.specs.declared.fault.AuditFault.TheVariants as audits
-use Rattle.audit_core.specs.Auditing.{history, entries_of, AreAdmitted, AllAgree, IsFound}
+use Rattle.audit_core.specs.Auditing.{releases_of, entries_of, AreAdmitted, AllAgree, IsFound}
 use Rattle.word_core.specs.CommandFields.{AuditFields}
 use Rattle.input_core.specs.declared.fault.FileFault.{FileFault}
 use Rattle.input_core.specs.declared.fault.FileFault.TheVariants as faults
@@ -270,11 +270,11 @@ pub record IsDone (a : AuditFields) (r : Result (List SealedFields) NamedFault) 
   pub store : r ≡ Ok parts
   pub are : AreJobs a.jobs inputs jobs
   pub audited : IsAudited parts jobs
-  pub said : d ≡ audit_done jobs (record { entries = length (seen (history jobs)) })
+  pub said : d ≡ audit_done jobs (record { entries = length (seen (releases_of jobs)) })
 
 found_done : (a : AuditFields) (parts : List SealedFields) (jobs : List JobFields) (result : Result Audited AuditFault) (d : Done)
     → IsFound (map (λ (s : SealedFields). s.part) parts) jobs result → Ok d ≡ audited_as a jobs result
-    → AreAdmitted jobs (length jobs) × AllAgree (map (λ (s : SealedFields). s.part) parts) jobs × (d ≡ audit_done jobs (record { entries = length (seen (history jobs)) }))
+    → AreAdmitted jobs (length jobs) × AllAgree (map (λ (s : SealedFields). s.part) parts) jobs × (d ≡ audit_done jobs (record { entries = length (seen (releases_of jobs)) }))
 found_done a parts jobs (Ok found) d is h =
     (is.0, is.1, ok_same {E = NamedFault} d (audit_done jobs found) h ∙ ap (λ (n : ℕ). audit_done jobs (record { entries = n })) is.2)
 found_done a parts jobs (Err fault) d is h = absurd (not_err d (of_audit a fault) h)
@@ -301,10 +301,10 @@ audit_done_is a r inputs d same m = done_by a r inputs (audit_jobs a.jobs inputs
 
 -- and back
 pub audit_makes : (a : AuditFields) (parts : List SealedFields) (jobs : List JobFields) → IsAudited parts jobs
-    → MakesAudit a (Ok parts) (Ok jobs) (Ok (audit_done jobs (record { entries = length (seen (history jobs)) })))
+    → MakesAudit a (Ok parts) (Ok jobs) (Ok (audit_done jobs (record { entries = length (seen (releases_of jobs)) })))
 audit_makes a parts jobs i = record {
-  result = Ok (record { entries = length (seen (history jobs)) });
+  result = Ok (record { entries = length (seen (releases_of jobs)) });
   found = (i.admitted, i.agree, refl);
-  settled = λ h. not_err (record { entries = length (seen (history jobs)) }) audits.NoMemory h;
+  settled = λ h. not_err (record { entries = length (seen (releases_of jobs)) }) audits.NoMemory h;
   is = refl;
 }

@@ -23,8 +23,8 @@ use Rattle.card_core.specs.declared.verdict.Verdict.TheVariants.{NotCovered, Not
 use Rattle.card_core.specs.Consulting.{covers_some}
 use Rattle.card_core.specs.Verdict.{verdict}
 use Rattle.publication_core.specs.declared.base_fault.BaseFault.{BaseFault}
-use Rattle.publication_core.specs.Histories.{History, members, IsHistory, history, LeavesOut}
-use Rattle.publication_core.specs.Rebasing.{PublishedBase, PublishesBase, base_counts}
+use Rattle.publication_core.specs.Histories.{History, members, IsHistory, releases_of, LeavesOut}
+use Rattle.publication_core.specs.Rebasing.{BasePublicationFields, PublishesBase, base_counts}
 use Rattle.word_core.specs.declared.command.Command.{Command}
 use Rattle.word_core.specs.CommandFields.{QueryFields, RebaseFields}
 use Rattle.line_core.specs.Lines.{line}
@@ -41,30 +41,30 @@ use Rattle.clubcard_top.proofs.Unique.{OneBase}
 pub record BaseLayers : Type 0 where
   pub ledgers : ReadBack
   pub one : OneBase
-  pub rebasable : (h : History) (parts : List SealedFields) (moment : ℕ) (without : List (List ℕ)) (p : PublishedBase) → IsHistory h parts → 1 ≤ members h
-      → PublishesBase (ledger_of (history h parts)) moment without (Ok p) → IsRebasableWithout moment without h parts
-  pub begins : (h : History) (parts : List SealedFields) (moment : ℕ) (without : List (List ℕ)) (p : PublishedBase) → IsHistory h parts → 1 ≤ members h
-      → PublishesBase (ledger_of (history h parts)) moment without (Ok p) → IsHistory (base_of h parts moment without) (p.sealed ∷ [])
-  pub ledger : (h : History) (parts : List SealedFields) (moment : ℕ) (without : List (List ℕ)) (p : PublishedBase) → IsHistory h parts
-      → PublishesBase (ledger_of (history h parts)) moment without (Ok p) → p.ledger ≡ ledger_of (history (base_of h parts moment without) (p.sealed ∷ []))
-  pub numbers : (h : History) (parts : List SealedFields) (moment : ℕ) (without : List (List ℕ)) (p : PublishedBase) → IsHistory h parts
-      → PublishesBase (ledger_of (history h parts)) moment without (Ok p) → p.counts ≡ base_counts moment without (history h parts)
+  pub rebasable : (h : History) (parts : List SealedFields) (moment : ℕ) (without : List (List ℕ)) (p : BasePublicationFields) → IsHistory h parts → 1 ≤ members h
+      → PublishesBase (ledger_of (releases_of h parts)) moment without (Ok p) → IsRebasableWithout moment without h parts
+  pub begins : (h : History) (parts : List SealedFields) (moment : ℕ) (without : List (List ℕ)) (p : BasePublicationFields) → IsHistory h parts → 1 ≤ members h
+      → PublishesBase (ledger_of (releases_of h parts)) moment without (Ok p) → IsHistory (base_of h parts moment without) (p.sealed ∷ [])
+  pub ledger : (h : History) (parts : List SealedFields) (moment : ℕ) (without : List (List ℕ)) (p : BasePublicationFields) → IsHistory h parts
+      → PublishesBase (ledger_of (releases_of h parts)) moment without (Ok p) → p.ledger ≡ ledger_of (releases_of (base_of h parts moment without) (p.sealed ∷ []))
+  pub numbers : (h : History) (parts : List SealedFields) (moment : ℕ) (without : List (List ℕ)) (p : BasePublicationFields) → IsHistory h parts
+      → PublishesBase (ledger_of (releases_of h parts)) moment without (Ok p) → p.counts ≡ base_counts moment without (releases_of h parts)
   pub head : (without : List (List ℕ)) (rs : List Release) → base_head (releases_without without rs) ≡ base_head rs
   pub complete : (h : History) (parts : List SealedFields) (moment : ℕ) (without : List (List ℕ)) → IsHistory h parts → IsRebasableWithout moment without h parts
-      → (p : PublishedBase) × PublishesBase (ledger_of (history h parts)) moment without (Ok p)
+      → (p : BasePublicationFields) × PublishesBase (ledger_of (releases_of h parts)) moment without (Ok p)
 
 -- ---- rebasing
 
 module _ (layers : BaseLayers) where
   -- what is made of the ledger of a history
   made : (asked : Command) (files : Files) (r : RebaseFields) (h : History) (parts : List SealedFields) (o : Result Done NamedFault) → IsHistory h parts
-      → RebasesHistory asked files r h parts → Makes asked (held_by asked files) o → MakesBase r (ledger_of (history h parts)) o
+      → RebasesHistory asked files r h parts → Makes asked (held_by asked files) o → MakesBase r (ledger_of (releases_of h parts)) o
   made asked files r h parts o is p m =
       subst (λ (l : Result LedgerFields NamedFault). MakesRebase r l o) (ledger_input layers.ledgers files r.ledger h parts is p.1 p.2)
       (subst (λ (c : Command). Makes c (held_by c files) o) p.0 m)
 
-  rebased_by : (r : RebaseFields) (h : History) (parts : List SealedFields) (d : Done) → IsHistory h parts → 1 ≤ members h → (x : Result PublishedBase BaseFault)
-      → PublishesBase (ledger_of (history h parts)) r.moment r.without x → Ok d ≡ rebased_as r x → IsRebased r h parts d
+  rebased_by : (r : RebaseFields) (h : History) (parts : List SealedFields) (d : Done) → IsHistory h parts → 1 ≤ members h → (x : Result BasePublicationFields BaseFault)
+      → PublishesBase (ledger_of (releases_of h parts)) r.moment r.without x → Ok d ≡ rebased_as r x → IsRebased r h parts d
   rebased_by r h parts d is some (Ok p) publishes is_done =
       let same : d ≡ base_done r p = ok_same {E = NamedFault} d (base_done r p) is_done in
       let begins : IsHistory (base_of h parts r.moment r.without) (p.sealed ∷ []) = layers.begins h parts r.moment r.without p is some publishes in
@@ -74,8 +74,8 @@ module _ (layers : BaseLayers) where
         is_history = begins;
         outputs = ap (λ (e : Done). e.outputs) same ∙ ap (λ (l : LedgerFields).
             record { name = r.part; bytes = spelling p.sealed } ∷ record { name = r.new_ledger; bytes = ledger_text l } ∷ []) (layers.ledger h parts r.moment r.without p is publishes);
-        text = ap (λ (e : Done). e.text) same ∙ ap (λ (head : HeadFields). base_line r.without head.epoch p.counts) (begins.2.head_is ∙ layers.head r.without (history h parts))
-            ∙ ap (base_line r.without (newest_epoch 0 (history h parts))) (layers.numbers h parts r.moment r.without p is publishes);
+        text = ap (λ (e : Done). e.text) same ∙ ap (λ (head : HeadFields). base_line r.without head.epoch p.counts) (begins.2.head_is ∙ layers.head r.without (releases_of h parts))
+            ∙ ap (base_line r.without (newest_epoch 0 (releases_of h parts))) (layers.numbers h parts r.moment r.without p is publishes);
       }
   rebased_by r h parts d is some (Err fault) publishes is_done =
       absurd (let g : ◌≡◌ {A = Result Done NamedFault} (Ok d) (rebased_as r (Err fault)) = is_done in cc)
@@ -86,18 +86,18 @@ module _ (layers : BaseLayers) where
       let x = made asked files r h parts (Ok d) is p m in
       rebased_by r h parts d is p.1 x.result x.publishes x.is
 
-  done_by : (r : RebaseFields) (before : LedgerFields) (o : Result Done NamedFault) (p : PublishedBase) → PublishesBase before r.moment r.without (Ok p) → (x : Result PublishedBase BaseFault)
+  done_by : (r : RebaseFields) (before : LedgerFields) (o : Result Done NamedFault) (p : BasePublicationFields) → PublishesBase before r.moment r.without (Ok p) → (x : Result BasePublicationFields BaseFault)
       → PublishesBase before r.moment r.without x → o ≡ rebased_as r x → (d : Done) × (o ≡ Ok d)
   done_by r before o p can (Ok q) publishes is = (base_done r q, is)
   done_by r before o p can (Err fault) publishes is =
-      absurd (let g : ◌≡◌ {A = Result PublishedBase BaseFault} (Ok p) (Err fault) = layers.one before r.moment r.without (Ok p) (Err fault) can publishes in cc)
+      absurd (let g : ◌≡◌ {A = Result BasePublicationFields BaseFault} (Ok p) (Err fault) = layers.one before r.moment r.without (Ok p) (Err fault) can publishes in cc)
 
   pub rebasable_law : (asked : Command) (files : Files) (r : RebaseFields) (h : History) (parts : List SealedFields) (o : Result Done NamedFault) → IsHistory h parts
       → RebasesHistory asked files r h parts → IsRebasableWithout r.moment r.without h parts → Makes asked (held_by asked files) o → (d : Done) × (o ≡ Ok d)
   rebasable_law asked files r h parts o is p may m =
       let x = made asked files r h parts o is p m in
       let can = layers.complete h parts r.moment r.without is may in
-      done_by r (ledger_of (history h parts)) o can.0 can.1 x.result x.publishes x.is
+      done_by r (ledger_of (releases_of h parts)) o can.0 can.1 x.result x.publishes x.is
 
 -- ---- asking the store of the base
 
@@ -116,15 +116,15 @@ pub record Keeping : Type 0 where
       → IsHistory h parts → AsksHistory command files q h parts → Makes command (held_by command files) o → o ≡ Ok (truth_done h parts q)
 
 module _ (keeping : Keeping) where
-  pub kept_law : (h : History) (parts : List SealedFields) (moment : ℕ) (without : List (List ℕ)) (s : SealedFields) (q : QueryFields) → IsKept moment (history h parts) q.id
-      → has_key without q.id.issuer ≡ false → (sightings q.id (seen (history (base_of h parts moment without) (s ∷ []))) ≡ sightings q.id (seen (history h parts)))
+  pub kept_law : (h : History) (parts : List SealedFields) (moment : ℕ) (without : List (List ℕ)) (s : SealedFields) (q : QueryFields) → IsKept moment (releases_of h parts) q.id
+      → has_key without q.id.issuer ≡ false → (sightings q.id (seen (releases_of (base_of h parts moment without) (s ∷ []))) ≡ sightings q.id (seen (releases_of h parts)))
       × (truth_line (base_of h parts moment without) (s ∷ []) q ≡ truth_line h parts q)
   kept_law h parts moment without s q kept other =
-      let rest : List Release = releases_without without (history h parts) in
+      let rest : List Release = releases_without without (releases_of h parts) in
       let keeps = is_lasting_by moment rest in
-      let stays : has (kept_by keeps rest) q.id ≡ true = keeping.left_kept moment without (history h parts) q.id other ∙ kept in (
-        keeping.sightings_kept keeps rest s.trailer q.id stays ∙ keeping.sightings_left without (history h parts) q.id other,
-        ap (λ (b : Bool). line (verdict_word (if b then Revoked else Good))) (keeping.listing_kept keeps rest s.trailer q.id stays ∙ keeping.listing_left without (history h parts) q.id other),
+      let stays : has (kept_by keeps rest) q.id ≡ true = keeping.left_kept moment without (releases_of h parts) q.id other ∙ kept in (
+        keeping.sightings_kept keeps rest s.trailer q.id stays ∙ keeping.sightings_left without (releases_of h parts) q.id other,
+        ap (λ (b : Bool). line (verdict_word (if b then Revoked else Good))) (keeping.listing_kept keeps rest s.trailer q.id stays ∙ keeping.listing_left without (releases_of h parts) q.id other),
       )
 
   pub base_asked : (command : Command) (files : Files) (q : QueryFields) (h : History) (parts : List SealedFields) (moment : ℕ) (without : List (List ℕ)) (s : SealedFields)

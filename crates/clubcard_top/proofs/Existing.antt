@@ -17,10 +17,10 @@ use Rattle.universe_core.specs.Formats.{in_format}
 use Rattle.universe_core.specs.Ledgers.{no_ledger, ledger_of}
 use Rattle.publication_core.specs.declared.fault.PublishFault.{PublishFault}
 use Rattle.publication_core.specs.Formats.{current}
-use Rattle.publication_core.specs.Histories.{History, with_job, chain, IsHistory, history}
-use Rattle.publication_core.specs.Publishing.{Published, Publishes}
+use Rattle.publication_core.specs.Histories.{History, with_job, chain, IsHistory, releases_of}
+use Rattle.publication_core.specs.Publishing.{PublicationFields, Publishes}
 use Rattle.publication_core.specs.declared.base_fault.BaseFault.{BaseFault}
-use Rattle.publication_core.specs.Rebasing.{PublishedBase, PublishesBase}
+use Rattle.publication_core.specs.Rebasing.{BasePublicationFields, PublishesBase}
 use Rattle.word_core.specs.declared.command.Command.{Command}
 use Rattle.word_core.specs.declared.command.Command.TheVariants as commands
 use Rattle.audit_core.specs.declared.auditing.Audited.{Audited}
@@ -47,12 +47,12 @@ use Rattle.clubcard_top.proofs.Rehearsed.{job_value}
 -- What the layers promise: something comes of each job behind each ledger, and of each rebase of one; a job that is read
 -- fits, and one that is published goes on with the history.
 pub record Existence : Type 0 where
-  pub something : (ledger : LedgerFields) (job : JobFields) → (o : Result Published PublishFault) × Publishes ledger job o
-  pub rebases : (ledger : LedgerFields) (moment : ℕ) (without : List (List ℕ)) → (o : Result PublishedBase BaseFault) × PublishesBase ledger moment without o
+  pub something : (ledger : LedgerFields) (job : JobFields) → (o : Result PublicationFields PublishFault) × Publishes ledger job o
+  pub rebases : (ledger : LedgerFields) (moment : ℕ) (without : List (List ℕ)) → (o : Result BasePublicationFields BaseFault) × PublishesBase ledger moment without o
   pub fits : (limits : Limits) (bytes : List ℕ) (job : JobFields) → IsBytes bytes → limits.ranges ≤ 1024 → job_of limits bytes ≡ Ok job → FitsFields job
   pub within : (limits : Limits) (bytes : List ℕ) (job : JobFields) → IsBytes bytes → job_of limits bytes ≡ Ok job → IsWithinLimits limits job
-  pub next : (h : History) (parts : List SealedFields) (job : JobFields) (p : Published) → IsHistory h parts → FitsPublishing job → IsWithinLimits PUBLISHED job
-      → Publishes (ledger_of (history h parts)) job (Ok p) → IsHistory (with_job h (in_format current job)) (parts ++ p.sealed ∷ [])
+  pub next : (h : History) (parts : List SealedFields) (job : JobFields) (p : PublicationFields) → IsHistory h parts → FitsPublishing job → IsWithinLimits PUBLISHED job
+      → Publishes (ledger_of (releases_of h parts)) job (Ok p) → IsHistory (with_job h (in_format current job)) (parts ++ p.sealed ∷ [])
   pub found : (parts : List PartFields) (jobs : List JobFields) → length jobs ≤ 64 → All IsAuditable jobs → entries_of jobs ≤ 4194304
       → (r : Result Audited AuditFault) × IsFound parts jobs r × (r ≢ Err NoMemory)
 
@@ -98,7 +98,7 @@ module _ (layers : Existence) where
   job_on : (queries : List Query) (jobs : List JobFields) (parts : List SealedFields) (name : List ℕ) (names : List (List ℕ)) (given : Option (List ℕ))
       (inputs : List (Option (List ℕ))) (job : JobFields) → input name job_in given ≡ Ok job → FitsFields job × IsWithinLimits PUBLISHED job → IsHistory (chain jobs) parts
       → ((more : List SealedFields) → IsHistory (chain (jobs ++ job ∷ [])) more → On queries (jobs ++ job ∷ []) more names inputs)
-      → (r : Result Published PublishFault) → Publishes (ledger_of (history (chain jobs) parts)) job r → On queries jobs parts (name ∷ names) (given ∷ inputs)
+      → (r : Result PublicationFields PublishFault) → Publishes (ledger_of (releases_of (chain jobs) parts)) job r → On queries jobs parts (name ∷ names) (given ∷ inputs)
   job_on queries jobs parts name names given inputs job is facts is_history rest (Err fault) publishes =
       let e : NamedFault = record { name = name; fault = of_publishing fault } in
       (Err e, inl (e, inr (job, fault, is, publishes, refl), refl))
@@ -115,7 +115,7 @@ module _ (layers : Existence) where
       → (r : Result JobFields NamedFault) → input name job_in given ≡ r → On queries jobs parts (name ∷ names) (given ∷ inputs)
   file_on queries jobs parts name names given inputs octets is_history rest (Err e) is = (Err e, inl (e, inl is, refl))
   file_on queries jobs parts name names given inputs octets is_history rest (Ok job) is =
-      let o = layers.something (ledger_of (history (chain jobs) parts)) job in
+      let o = layers.something (ledger_of (releases_of (chain jobs) parts)) job in
       job_on queries jobs parts name names given inputs job is (job_fits name given job octets is) is_history (rest job) o.0 o.1
 
   files_on : (queries : List Query) (jobs : List JobFields) (parts : List SealedFields) (names : List (List ℕ)) (inputs : List (Option (List ℕ)))

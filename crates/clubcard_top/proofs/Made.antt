@@ -38,9 +38,9 @@ use Rattle.store_core.specs.StoreLayout.{store, store_text}
 use Rattle.card_core.specs.Verdict.{verdict}
 use Rattle.publication_core.specs.declared.fault.PublishFault.{PublishFault}
 use Rattle.publication_core.specs.Formats.{current}
-use Rattle.publication_core.specs.Histories.{IsAdmissible, History, of_jobs, members, with_job, IsHistory, history, part_bytes, ledger_bytes, store_bytes}
+use Rattle.publication_core.specs.Histories.{IsAdmissible, History, of_jobs, members, with_job, IsHistory, releases_of, part_bytes, ledger_bytes, store_bytes}
 use Rattle.publication_core.specs.Histories.{old_ledger_bytes, IsUndated}
-use Rattle.publication_core.specs.Publishing.{Published, Publishes}
+use Rattle.publication_core.specs.Publishing.{PublicationFields, Publishes}
 use Rattle.publication_core.specs.Truth.{truth}
 use Rattle.word_core.specs.declared.command.Command.{Command}
 use Rattle.word_core.specs.declared.command.Command.TheVariants as commands
@@ -65,31 +65,31 @@ use Rattle.clubcard_top.proofs.Unique.{Publishing}
 
 -- The ledger of a history is read back, in either version.
 pub record ReadBack : Type 0 where
-  pub value : (h : History) (parts : List SealedFields) → IsHistory h parts → 1 ≤ members h → ledger_of_bytes (ledger_bytes h parts) ≡ Ok (ledger_of (history h parts))
+  pub value : (h : History) (parts : List SealedFields) → IsHistory h parts → 1 ≤ members h → ledger_of_bytes (ledger_bytes h parts) ≡ Ok (ledger_of (releases_of h parts))
   pub old_value : (h : History) (parts : List SealedFields) → IsHistory h parts → 1 ≤ members h → IsUndated h
-      → ledger_of_bytes (old_ledger_bytes h parts) ≡ Ok (ledger_of (history h parts))
+      → ledger_of_bytes (old_ledger_bytes h parts) ≡ Ok (ledger_of (releases_of h parts))
 
 -- What the layers promise of histories.
 pub record Layers : Type 0 where
   pub publishing : Publishing
-  pub none : ledger_of (history (of_jobs []) []) ≡ no_ledger
-  pub admissible : (h : History) (parts : List SealedFields) (job : JobFields) (p : Published) → IsHistory h parts → FitsPublishing job → IsWithinLimits PUBLISHED job
-      → Publishes (ledger_of (history h parts)) job (Ok p) → IsAdmissible (history h parts) (in_format current job)
-  pub next : (h : History) (parts : List SealedFields) (job : JobFields) (p : Published) → IsHistory h parts → FitsPublishing job → IsWithinLimits PUBLISHED job
-      → Publishes (ledger_of (history h parts)) job (Ok p) → IsHistory (with_job h (in_format current job)) (parts ++ p.sealed ∷ [])
-  pub ledger : (h : History) (parts : List SealedFields) (job : JobFields) (p : Published) → IsHistory h parts
-      → Publishes (ledger_of (history h parts)) job (Ok p) → p.ledger ≡ ledger_of (history (with_job h (in_format current job)) (parts ++ p.sealed ∷ []))
-  pub numbers : (h : History) (parts : List SealedFields) (job : JobFields) (p : Published) → IsHistory h parts
-      → Publishes (ledger_of (history h parts)) job (Ok p) → p.counts ≡ counts (past_of (history h parts)) (facts_of job)
-  pub place : (h : History) (parts : List SealedFields) (job : JobFields) (p : Published) → IsHistory h parts
-      → Publishes (ledger_of (history h parts)) job (Ok p) → p.place ≡ members h
+  pub none : ledger_of (releases_of (of_jobs []) []) ≡ no_ledger
+  pub admissible : (h : History) (parts : List SealedFields) (job : JobFields) (p : PublicationFields) → IsHistory h parts → FitsPublishing job → IsWithinLimits PUBLISHED job
+      → Publishes (ledger_of (releases_of h parts)) job (Ok p) → IsAdmissible (releases_of h parts) (in_format current job)
+  pub next : (h : History) (parts : List SealedFields) (job : JobFields) (p : PublicationFields) → IsHistory h parts → FitsPublishing job → IsWithinLimits PUBLISHED job
+      → Publishes (ledger_of (releases_of h parts)) job (Ok p) → IsHistory (with_job h (in_format current job)) (parts ++ p.sealed ∷ [])
+  pub ledger : (h : History) (parts : List SealedFields) (job : JobFields) (p : PublicationFields) → IsHistory h parts
+      → Publishes (ledger_of (releases_of h parts)) job (Ok p) → p.ledger ≡ ledger_of (releases_of (with_job h (in_format current job)) (parts ++ p.sealed ∷ []))
+  pub numbers : (h : History) (parts : List SealedFields) (job : JobFields) (p : PublicationFields) → IsHistory h parts
+      → Publishes (ledger_of (releases_of h parts)) job (Ok p) → p.counts ≡ counts (past_of (releases_of h parts)) (facts_of job)
+  pub place : (h : History) (parts : List SealedFields) (job : JobFields) (p : PublicationFields) → IsHistory h parts
+      → Publishes (ledger_of (releases_of h parts)) job (Ok p) → p.place ≡ members h
   pub ledgers : ReadBack
   pub chain : (h : History) (parts : List SealedFields) → IsHistory h parts → IsChain parts
   pub many : (h : History) (parts : List SealedFields) → IsHistory h parts → length parts ≡ members h
   pub few : (h : History) (parts : List SealedFields) → IsHistory h parts → length parts ≤ 64
   pub texts : (h : History) (parts : List SealedFields) → IsHistory h parts → All Fits parts
   pub truths : (h : History) (parts : List SealedFields) (x : Identity) (ss : List Sighting) → IsHistory h parts → 1 ≤ length ss
-      → ((s : Sighting) → Among ss s → Among (sightings x (seen (history h parts))) s) → verdict (map (λ s. s.part) parts) x ss ≡ truth (history h parts) x
+      → ((s : Sighting) → Among ss s → Among (sightings x (seen (releases_of h parts))) s) → verdict (map (λ s. s.part) parts) x ss ≡ truth (releases_of h parts) x
   pub grown : (parts : List SealedFields) (p : SealedFields) → IsChain (parts ++ p ∷ []) → 1 ≤ length parts → length parts < 64 → IsChain parts × (refusal_of parts p ≡ None)
   pub store_read : (parts : List SealedFields) → IsChain parts → 1 ≤ length parts → length parts ≤ 64 → All Fits parts → value_of (store (store_text parts) 0) ≡ Ok parts
   pub part_read : (s : SealedFields) (rest : List ℕ) → Fits s → part (spelling s ++ rest) 0 ≡ Ok (s, length (spelling s))
@@ -103,7 +103,7 @@ pub job_input : (files : Files) (name : List ℕ) (job : JobFields) → HoldsJob
 job_input files name job h = rw h.1 (ap (named name) (read_job h.0 job h.2))
 
 pub ledger_input : ReadBack → (files : Files) (name : List ℕ) (h : History) (parts : List SealedFields) → IsHistory h parts → 1 ≤ members h → HoldsLedger files name h parts
-    → input name ledger_in (get files name) ≡ Ok (ledger_of (history h parts))
+    → input name ledger_in (get files name) ≡ Ok (ledger_of (releases_of h parts))
 ledger_input back files name h parts is some (inl held) =
     rw held (ap (λ (r : Result LedgerFields LedgerFault). named name (faulted of_ledger r)) (back.value h parts is some))
 ledger_input back files name h parts is some (inr held) =
@@ -112,12 +112,12 @@ ledger_input back files name h parts is some (inr held) =
 module _ (layers : Layers) where
   -- what is published behind the ledger of a history
   published_by : (asked : Command) (h : History) (parts : List SealedFields) (job : JobFields) (d : Done) (name part ledger : List ℕ) (before : LedgerFields) → IsHistory h parts
-      → before ≡ ledger_of (history h parts) → ((a b : List ℕ) → publishes_to asked a b ≡ record { name = part; bytes = a } ∷ record { name = ledger; bytes = b } ∷ [])
-      → (fits : FitsFields job) (limits : IsWithinLimits PUBLISHED job) (r : Result Published PublishFault) → Publishes before job r
+      → before ≡ ledger_of (releases_of h parts) → ((a b : List ℕ) → publishes_to asked a b ≡ record { name = part; bytes = a } ∷ record { name = ledger; bytes = b } ∷ [])
+      → (fits : FitsFields job) (limits : IsWithinLimits PUBLISHED job) (r : Result PublicationFields PublishFault) → Publishes before job r
       → Ok d ≡ published_as name part ledger r → IsPublished asked h parts job d
   published_by asked h parts job d name part ledger before is ledger_is outputs fits limits (Ok p) pub_ is_done =
       let same : d ≡ publication_done part ledger p = ok_same {E = NamedFault} d (publication_done part ledger p) is_done in
-      let x : Publishes (ledger_of (history h parts)) job (Ok p) = subst (λ (l : LedgerFields). Publishes l job (Ok p)) ledger_is pub_ in
+      let x : Publishes (ledger_of (releases_of h parts)) job (Ok p) = subst (λ (l : LedgerFields). Publishes l job (Ok p)) ledger_is pub_ in
       record {
         sealed = p.sealed;
         fits = fits;
@@ -139,7 +139,7 @@ module _ (layers : Layers) where
     pub part_name : List ℕ
     pub ledger_name : List ℕ
     pub before : LedgerFields
-    pub is_before : before ≡ ledger_of (history h parts)
+    pub is_before : before ≡ ledger_of (releases_of h parts)
     pub outputs : (a b : List ℕ) → publishes_to asked a b ≡ record { name = part_name; bytes = a } ∷ record { name = ledger_name; bytes = b } ∷ []
     pub makes : MakesPart name part_name ledger_name before job o
 
@@ -163,7 +163,7 @@ module _ (layers : Layers) where
     part_name = s.part;
     ledger_name = s.ledger;
     before = no_ledger;
-    is_before = sym layers.none ∙ ap (λ (k : History). ledger_of (history k [])) (sym p.0) ∙ ap (λ (ps : List SealedFields). ledger_of (history h ps)) (sym p.1);
+    is_before = sym layers.none ∙ ap (λ (k : History). ledger_of (releases_of k [])) (sym p.0) ∙ ap (λ (ps : List SealedFields). ledger_of (releases_of h ps)) (sym p.1);
     outputs = λ a b. refl;
     makes = subst (λ (r : Result JobFields NamedFault). MakesSnapshot s r o) (job_input files s.job job p.2) m;
   }
@@ -171,7 +171,7 @@ module _ (layers : Layers) where
     name = t.job;
     part_name = t.part;
     ledger_name = t.new_ledger;
-    before = ledger_of (history h parts);
+    before = ledger_of (releases_of h parts);
     is_before = refl;
     outputs = λ a b. refl;
     makes = subst (λ (l : Result LedgerFields NamedFault). MakesDelta t (Ok job) l o) (ledger_input layers.ledgers files t.ledger h parts is p.0 p.1)
@@ -184,15 +184,15 @@ module _ (layers : Layers) where
       let b = behind asked files h parts job (Ok d) is p m in
       published_by asked h parts job d b.name b.part_name b.ledger_name b.before is b.is_before b.outputs b.makes.fits b.makes.limits b.makes.result b.makes.publishes b.makes.is
 
-  done_by : (name part ledger : List ℕ) (before : LedgerFields) (job : JobFields) (o : Result Done NamedFault) (p : Published) → Publishes before job (Ok p) → (r : Result Published PublishFault)
+  done_by : (name part ledger : List ℕ) (before : LedgerFields) (job : JobFields) (o : Result Done NamedFault) (p : PublicationFields) → Publishes before job (Ok p) → (r : Result PublicationFields PublishFault)
       → Publishes before job r → o ≡ published_as name part ledger r → (d : Done) × (o ≡ Ok d)
   done_by name part ledger before job o p x (Ok q) y is = (publication_done part ledger q, is)
   done_by name part ledger before job o p x (Err fault) y is =
-      absurd (let h : ◌≡◌ {A = Result Published PublishFault} (Ok p) (Err fault) = layers.publishing.one before job (Ok p) (Err fault) x y in cc)
+      absurd (let h : ◌≡◌ {A = Result PublicationFields PublishFault} (Ok p) (Err fault) = layers.publishing.one before job (Ok p) (Err fault) x y in cc)
 
   pub admitted : (asked : Command) (files : Files) (h : History) (parts : List SealedFields) (job : JobFields) (o : Result Done NamedFault)
       → IsHistory h parts → PublishesJob asked files h parts job
-      → IsAdmissible (history h parts) (in_format current job) → Makes asked (held_by asked files) o → (d : Done) × (o ≡ Ok d)
+      → IsAdmissible (releases_of h parts) (in_format current job) → Makes asked (held_by asked files) o → (d : Done) × (o ≡ Ok d)
   admitted asked files h parts job o is p a m =
       let b = behind asked files h parts job o is p m in
       let x = layers.publishing.complete h parts job is a in

@@ -47,8 +47,8 @@ use Rattle.publication_core.specs.declared.fault.PublishFault.{PublishFault}
 use Rattle.publication_core.specs.declared.fault.PublishFault.TheVariants as publish
 use Rattle.publication_core.specs.declared.base_fault.BaseFault.{BaseFault}
 use Rattle.publication_core.specs.declared.base_fault.BaseFault.TheVariants as bases
-use Rattle.publication_core.specs.Publishing.{Published}
-use Rattle.publication_core.specs.Rebasing.{PublishedBase}
+use Rattle.publication_core.specs.Publishing.{PublicationFields}
+use Rattle.publication_core.specs.Rebasing.{BasePublicationFields}
 use Rattle.publication_core.specs.Histories.{History, chain}
 use Rattle.word_core.specs.declared.command.Command.{Command}
 use Rattle.word_core.specs.declared.command.Command.TheVariants as commands
@@ -137,7 +137,7 @@ module _ {A : Type 0} (names : List (List ℕ)) (f : A → Done) (are : (x : A) 
       let x = after_ok r (λ y. Ok (f y)) d h in
       ap (λ (e : Done). names_of e.outputs) (ok_same {E = NamedFault} d (f x.0) x.2) ∙ are x.0
 
-published_names : (of part_name ledger_name : List ℕ) (r : Result Published PublishFault) (d : Done) → Ok d ≡ published_as of part_name ledger_name r
+published_names : (of part_name ledger_name : List ℕ) (r : Result PublicationFields PublishFault) (d : Done) → Ok d ≡ published_as of part_name ledger_name r
     → names_of d.outputs ≡ part_name ∷ ledger_name ∷ []
 published_names of part_name ledger_name (Ok p) d h = ap (λ (e : Done). names_of e.outputs) (ok_same {E = NamedFault} d (publication_done part_name ledger_name p) h)
 published_names of part_name ledger_name (Err fault) d h = absurd (let g : ◌≡◌ {A = Result Done NamedFault} (Ok d) (Err (record { name = of; fault = of_publishing fault })) = h in cc)
@@ -151,7 +151,7 @@ delta_names t (Ok j) (Ok l) d m = published_names t.job t.part t.new_ledger m.re
 delta_names t (Ok j) (Err e) d m = absurd (not_err d e m)
 delta_names t (Err e) l d m = absurd (not_err d e m)
 
-based_names : (b : RebaseFields) (r : Result PublishedBase BaseFault) (d : Done) → Ok d ≡ rebased_as b r → names_of d.outputs ≡ outputs_of (commands.Rebase b)
+based_names : (b : RebaseFields) (r : Result BasePublicationFields BaseFault) (d : Done) → Ok d ≡ rebased_as b r → names_of d.outputs ≡ outputs_of (commands.Rebase b)
 based_names b (Ok p) d h = ap (λ (e : Done). names_of e.outputs) (ok_same {E = NamedFault} d (base_done b p) h)
 based_names b (Err fault) d h = absurd (not_err d (record { name = b.ledger; fault = of_rebasing fault }) h)
 
@@ -390,7 +390,7 @@ installed_read : (why : Option Refusal) (parts : List SealedFields) (s : SealedF
 installed_read None parts s h = not_err (parts ++ s ∷ []) faults.Unread h
 installed_read (Some why) parts s h = let g : faults.Chain why ≡ faults.Unread = err_same {A = List SealedFields} (faults.Chain why) faults.Unread h in cc
 
-published_read : (of part_name ledger_name : List ℕ) (r : Result Published PublishFault) (e : NamedFault) → Err e ≡ published_as of part_name ledger_name r → e.fault ≡ faults.Unread → ⊥
+published_read : (of part_name ledger_name : List ℕ) (r : Result PublicationFields PublishFault) (e : NamedFault) → Err e ≡ published_as of part_name ledger_name r → e.fault ≡ faults.Unread → ⊥
 published_read of part_name ledger_name (Ok p) e h u = not_ok (publication_done part_name ledger_name p) e h
 published_read of part_name ledger_name (Err fault) e h u =
     publish_fault_read fault (sym (ap (λ (k : NamedFault). k.fault) (err_same {A = Done} e (record { name = of; fault = of_publishing fault }) h)) ∙ u)
@@ -405,7 +405,7 @@ delta_unread t (Ok j) (Ok l) e m u = absurd (published_read t.job t.part t.new_l
 delta_unread t (Ok j) (Err f) e m u = inr (ap (λ (k : NamedFault). Err k) (sym (err_same {A = Done} e f m)))
 delta_unread t (Err f) l e m u = inl (ap (λ (k : NamedFault). Err k) (sym (err_same {A = Done} e f m)))
 
-based_read : (b : RebaseFields) (r : Result PublishedBase BaseFault) (e : NamedFault) → Err e ≡ rebased_as b r → e.fault ≡ faults.Unread → ⊥
+based_read : (b : RebaseFields) (r : Result BasePublicationFields BaseFault) (e : NamedFault) → Err e ≡ rebased_as b r → e.fault ≡ faults.Unread → ⊥
 based_read b (Ok p) e h u = not_ok (base_done b p) e h
 based_read b (Err fault) e h u =
     base_fault_read fault (sym (ap (λ (k : NamedFault). k.fault) (err_same {A = Done} e (record { name = b.ledger; fault = of_rebasing fault }) h)) ∙ u)

@@ -13,7 +13,7 @@ use Rattle.universe_core.specs.Jobs.{Entry}
 use Rattle.universe_core.specs.History.{seen}
 use Rattle.part_text.specs.SealedFields.{SealedFields}
 use Rattle.publication_core.specs.Formats.{current}
-use Rattle.publication_core.specs.Histories.{IsAdmissible, History, with_job, chain, IsHistory, history, LeavesOut, part_bytes, store_bytes, ledger_bytes}
+use Rattle.publication_core.specs.Histories.{IsAdmissible, History, with_job, chain, IsHistory, releases_of, LeavesOut, part_bytes, store_bytes, ledger_bytes}
 use Rattle.word_core.specs.declared.command.Command.{Command}
 use Rattle.word_core.specs.declared.command.Command.TheVariants as commands
 use Rattle.word_core.specs.CommandFields.{QueryFields, QueryCertFields, RebaseFields, RehearseFields}
@@ -46,7 +46,7 @@ module _ (call : Call) where
         → Makes call.asked (held_by call.asked files) (Ok d) → IsPublished call.asked h parts job d
     pub admitted : (files : Files) (h : History) (parts : List SealedFields) (job : JobFields)
         (o : Result Done NamedFault) → IsHistory h parts → PublishesJob call.asked files h parts job
-        → IsAdmissible (history h parts) (in_format current job) → Makes call.asked (held_by call.asked files) o → (d : Done)
+        → IsAdmissible (releases_of h parts) (in_format current job) → Makes call.asked (held_by call.asked files) o → (d : Done)
         × (o ≡ Ok d)
     pub stored : (files : Files) (h : History) (parts : List SealedFields) (s : SealedFields)
         (o : Result Done NamedFault) → IsHistory h (parts ++ s ∷ []) → StoresPart call.asked files parts s
@@ -78,7 +78,7 @@ module _ (call : Call) where
         → Makes call.asked (held_by call.asked files) o → o ≡ Ok (only (line (verdict_word NotEnrolled)))
     pub comes_back : (h : History) (parts : List SealedFields) (job : JobFields) (s : SealedFields) (e : Entry)
         → IsHistory h parts → LeavesOut h e.id.issuer → Brings job e
-        → Among (seen (history (with_job h (in_format current job)) (parts ++ s ∷ []))) e
+        → Among (seen (releases_of (with_job h (in_format current job)) (parts ++ s ∷ []))) e
     pub follows : (files : Files) (queries : List Query) (jobs : List JobFields) (parts : List SealedFields)
         (o : Result Done NamedFault) → IsHistory (chain jobs) parts → RehearsesJobs call.asked files queries jobs
         → Makes call.asked (held_by call.asked files) o → o ≡ Ok (rehearsed queries jobs parts)
@@ -151,7 +151,7 @@ module _ (call : Call) where
         }
 
     admitted : (h : History) (parts : List SealedFields) (job : JobFields) → IsHistory h parts
-        → AsksToPublish call h parts job → IsAdmissible (history h parts) (in_format current job) → NoFault call
+        → AsksToPublish call h parts job → IsAdmissible (releases_of h parts) (in_format current job) → NoFault call
         → Succeeds call ⊎ WantedMemory call
     admitted h parts job is_history (files, told, p) may quiet =
         sure call ends files told (λ none. subst (λ (c : Command). PublishesJob c files h parts job) none p)

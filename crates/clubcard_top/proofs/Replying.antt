@@ -15,10 +15,10 @@ use Rattle.ledger_core.specs.LedgerFields.{LedgerFields}
 use Rattle.universe_core.specs.Ledgers.{no_ledger}
 use Rattle.publication_core.specs.declared.fault.PublishFault.{PublishFault}
 use Rattle.publication_core.specs.declared.fault.PublishFault.TheVariants as publish
-use Rattle.publication_core.specs.Publishing.{Published, Publishes, PublishesUnless}
+use Rattle.publication_core.specs.Publishing.{PublicationFields, Publishes, PublishesUnless}
 use Rattle.publication_core.specs.declared.base_fault.BaseFault.{BaseFault}
 use Rattle.publication_core.specs.declared.base_fault.BaseFault.TheVariants as bases
-use Rattle.publication_core.specs.Rebasing.{PublishedBase, PublishesBase, PublishesBaseUnless}
+use Rattle.publication_core.specs.Rebasing.{BasePublicationFields, PublishesBase, PublishesBaseUnless}
 use Rattle.word_core.specs.declared.command.Command.{Command}
 use Rattle.word_core.specs.declared.command.Command.TheVariants as commands
 use Rattle.word_core.specs.CommandFields.{QueryFields, SnapshotFields, DeltaFields, RebaseFields, StartFields, InstallFields}
@@ -166,7 +166,7 @@ module _ (told : Option Files) (failed : Option (List ℕ) → Type 0) (r : Resu
       → Makes (commands.Snapshot s) (given ∷ []) o
   snapshot_step s j given o gives m = subst (λ (x : Result JobFields FileFault). MakesSnapshot s (named s.job x) o) (sym gives) m
 
-  pub snapshot_made : {B : Type 0} (s : SnapshotFields) (view : B → JobFields) (x : B) (p : Published) → IsInput told failed s.job job_in view (Ok x)
+  pub snapshot_made : {B : Type 0} (s : SnapshotFields) (view : B → JobFields) (x : B) (p : PublicationFields) → IsInput told failed s.job job_in view (Ok x)
       → FitsFields (view x) → IsWithinLimits PUBLISHED (view x)
       → PublishesUnless no_ledger (view x) (Ok p) → IfOk r (λ a. reply_fields a ≡ done (publication_done s.part s.ledger p)) → IfOk r (λ a. IsReply (commands.Snapshot s) told failed (reply_fields a))
   snapshot_made s view x p (given, read, gives, blamed) fits limits publishes is =
@@ -208,7 +208,7 @@ module _ (told : Option Files) (failed : Option (List ℕ) → Type 0) (r : Resu
       → Makes (commands.Rebase b) (given ∷ []) o
   rebase_step b l given o gives m = subst (λ (x : Result LedgerFields FileFault). MakesRebase b (named b.ledger x) o) (sym gives) m
 
-  pub rebase_made : {B : Type 0} (b : RebaseFields) (view : B → LedgerFields) (x : B) (p : PublishedBase) → IsInput told failed b.ledger ledger_in view (Ok x)
+  pub rebase_made : {B : Type 0} (b : RebaseFields) (view : B → LedgerFields) (x : B) (p : BasePublicationFields) → IsInput told failed b.ledger ledger_in view (Ok x)
       → PublishesBaseUnless (view x) b.moment b.without (Ok p) → IfOk r (λ a. reply_fields a ≡ done (base_done b p)) → IfOk r (λ a. IsReply (commands.Rebase b) told failed (reply_fields a))
   rebase_made b view x p (given, read, gives, blamed) publishes is =
       made (commands.Rebase b) told failed (given ∷ []) (Ok (base_done b p)) r (read, tt) (inl (none_failed failed b.ledger faults.Unread x blamed))
@@ -277,7 +277,7 @@ module _ {D : Type 0} (g : Ghosts D) (old mid new : D) (reads_ : OnlyReads g old
       (λ refute. delta_step t (view x) given more (Err (record { name = t.ledger; fault = fault })) gives
       (subst (λ (y : Result LedgerFields FileFault). MakesDelta t (Ok (view x)) (named t.ledger y) (Err (record { name = t.ledger; fault = fault }))) (sym (gives_ledger refute)) refl)) memory is
 
-  pub delta_made : {B C : Type 0} (t : DeltaFields) (view : B → JobFields) (x : B) (shape : C → LedgerFields) (l : C) (p : Published) → IsInput (g.files old) First t.job job_in view (Ok x)
+  pub delta_made : {B C : Type 0} (t : DeltaFields) (view : B → JobFields) (x : B) (shape : C → LedgerFields) (l : C) (p : PublicationFields) → IsInput (g.files old) First t.job job_in view (Ok x)
       → IsInput (g.files mid) Second t.ledger ledger_in shape (Ok l) → FitsFields (view x) → IsWithinLimits PUBLISHED (view x) → PublishesUnless (shape l) (view x) (Ok p)
       → IfOk r (λ a. reply_fields a ≡ done (publication_done t.part t.new_ledger p)) → IfOk r (λ a. IsReply (commands.Delta t) (g.files old) Both (reply_fields a))
   delta_made t view x shape l p (given, read, gives, blamed) (more, read_ledger, gives_ledger, blamed_ledger) fits limits publishes is =

@@ -17,7 +17,7 @@ use Rattle.job_core.specs.declared.bounds.TheConstants.Limits as limits
 use Rattle.job_core.specs.declared.bounds.What.TheVariants as what
 use Rattle.job_core.specs.JobFields.{JobFields}
 use Rattle.universe_core.specs.History.{seen}
-use Rattle.audit_core.specs.Auditing.{history as audited_history, AllAgree}
+use Rattle.audit_core.specs.Auditing.{releases_of as audited_releases, AllAgree}
 use Rattle.job_core.specs.JobText.{JobContents, spelling as job_text}
 use Rattle.ledger_core.specs.LedgerFields.{LedgerFields}
 use Rattle.ledger_core.specs.LedgerText.{ledger_text}
@@ -28,10 +28,10 @@ use Rattle.store_core.specs.declared.chain.Refusal.{Refusal}
 use Rattle.store_core.specs.Chain.{newest_of, refusal_of}
 use Rattle.store_core.specs.StoreLayout.{store_text}
 use Rattle.publication_core.specs.declared.fault.PublishFault.{PublishFault}
-use Rattle.publication_core.specs.Publishing.{Published as Publication, CanBePublished, Publishes}
+use Rattle.publication_core.specs.Publishing.{PublicationFields as Publication, CanBePublished, Publishes}
 use Rattle.publication_core.specs.declared.base.BaseCounts.{BaseCounts}
 use Rattle.publication_core.specs.declared.base_fault.BaseFault.{BaseFault}
-use Rattle.publication_core.specs.Rebasing.{PublishedBase, IsBasePublication, PublishesBase, CanBeRebased}
+use Rattle.publication_core.specs.Rebasing.{BasePublicationFields, IsBasePublication, PublishesBase, CanBeRebased}
 use Rattle.word_core.specs.declared.command.Command.{Command}
 use Rattle.word_core.specs.declared.command.Command.TheVariants as commands
 use Rattle.word_core.specs.CommandFields.{QueryFields, QueryCertFields, SnapshotFields, DeltaFields, RebaseFields, StartFields, InstallFields, SampleFields, GatherFields, AuditFields}
@@ -160,9 +160,9 @@ rebase_ok : (r : RebaseFields) (l : Result LedgerFields NamedFault) (d : Done) �
 rebase_ok r (Ok before) d m = (before, refl, m)
 rebase_ok r (Err e) d m = absurd (not_fault d e (sym m))
 
-based_ok : (r : RebaseFields) (before : LedgerFields) (x : Result PublishedBase BaseFault) (d : Done)
+based_ok : (r : RebaseFields) (before : LedgerFields) (x : Result BasePublicationFields BaseFault) (d : Done)
     → PublishesBase before r.moment r.without x → Ok d ≡ rebased_as r x
-    → (p : PublishedBase) × IsBasePublication before r.moment r.without p × (d ≡ base_done r p)
+    → (p : BasePublicationFields) × IsBasePublication before r.moment r.without p × (d ≡ base_done r p)
 based_ok r before (Ok p) d is h = (p, is, ok_same {E = NamedFault} d (base_done r p) h)
 based_ok r before (Err fault) d is h =
     absurd (not_fault d (record { name = r.ledger; fault = of_rebasing fault }) (sym h))
@@ -206,7 +206,7 @@ Publishable = (before : LedgerFields) (job : JobFields) → CanBePublished befor
 
 abbrev pub Rebasable : Type 0
 Rebasable = (before : LedgerFields) (moment : ℕ) (without : List (List ℕ)) → CanBeRebased before moment without
-    → (made : PublishedBase) × PublishesBase before moment without (Ok made)
+    → (made : BasePublicationFields) × PublishesBase before moment without (Ok made)
 
 -- ---- each command
 
@@ -483,11 +483,11 @@ module _ (call : Call) where
 
   pub audit : Truthful → EndsOld call → (a : AuditFields) → (did : Did call (commands.Audit a)) → (parts : List SealedFields) × (jobs : List JobFields)
       × Reads call a.store store_in parts × ReadsJobs call a.jobs jobs × IsAudited parts jobs × SaysTheTruth parts jobs
-      × Prints call (audit_done jobs (record { entries = length (seen (audited_history jobs)) })).text × ChangesNoFile call
+      × Prints call (audit_done jobs (record { entries = length (seen (audited_releases jobs)) })).text × ChangesNoFile call
   audit truthful ends a did =
       let c = came ends (commands.Audit a) did in
       let x = audit_done_is a (input a.store store_in (get did.files a.store)) (map (get did.files) a.jobs) c.d (length-map a.jobs (get did.files)) c.makes in
-      let said = audit_done x.jobs (record { entries = length (seen (audited_history x.jobs)) }) in (
+      let said = audit_done x.jobs (record { entries = length (seen (audited_releases x.jobs)) }) in (
         x.parts,
         x.jobs,
         reads did.files did.told a.store store_in x.parts x.store,
@@ -619,7 +619,7 @@ module _ (call : Call) where
     audit_complete a parts jobs asked (bytes, (files, told, held), is) job_reads few audited quiet =
         let store_is = read_in files told a.store store_in parts (bytes, (files, told, held), is) in
         let jobs_are = audit_jobs_back a.jobs (map (get files) a.jobs) jobs (jobs_back files told a.jobs jobs job_reads) few audited.crls in
-        let d = audit_done jobs (record { entries = length (seen (audited_history jobs)) }) in
+        let d = audit_done jobs (record { entries = length (seen (audited_releases jobs)) }) in
         sure_of (commands.Audit a) files d told asked
         (λ none. cc)
         (λ o m. subst (λ (r : Result (List SealedFields) NamedFault). MakesAudit a r (audit_jobs a.jobs (map (get files) a.jobs)) (Ok d)) (sym store_is)

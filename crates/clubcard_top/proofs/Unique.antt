@@ -9,10 +9,10 @@ use Rattle.universe_core.specs.Formats.{JobIn, in_format}
 use Rattle.universe_core.specs.Ledgers.{ledger_of}
 use Rattle.publication_core.specs.declared.fault.PublishFault.{PublishFault}
 use Rattle.publication_core.specs.Formats.{current}
-use Rattle.publication_core.specs.Histories.{IsAdmissible, History, with_jobs, chain, IsHistory, history}
-use Rattle.publication_core.specs.Publishing.{Published, Publishes}
+use Rattle.publication_core.specs.Histories.{IsAdmissible, History, with_jobs, chain, IsHistory, releases_of}
+use Rattle.publication_core.specs.Publishing.{PublicationFields, Publishes}
 use Rattle.publication_core.specs.declared.base_fault.BaseFault.{BaseFault}
-use Rattle.publication_core.specs.Rebasing.{PublishedBase, PublishesBase}
+use Rattle.publication_core.specs.Rebasing.{BasePublicationFields, PublishesBase}
 use Rattle.word_core.specs.declared.command.Command.{Command}
 use Rattle.word_core.specs.declared.command.Command.TheVariants as commands
 use Rattle.audit_core.specs.declared.auditing.Audited.{Audited}
@@ -33,11 +33,11 @@ use Rattle.clubcard_top.proofs.Prefixes.{from_first}
 
 -- One thing is published of a job behind a ledger.
 abbrev pub OnePublication : Type 0
-OnePublication = (ledger : LedgerFields) (job : JobFields) (a b : Result Published PublishFault) → Publishes ledger job a → Publishes ledger job b → a ≡ b
+OnePublication = (ledger : LedgerFields) (job : JobFields) (a b : Result PublicationFields PublishFault) → Publishes ledger job a → Publishes ledger job b → a ≡ b
 
 -- One thing comes of a rebase behind a ledger.
 abbrev pub OneBase : Type 0
-OneBase = (ledger : LedgerFields) (moment : ℕ) (without : List (List ℕ)) (a b : Result PublishedBase BaseFault) → PublishesBase ledger moment without a
+OneBase = (ledger : LedgerFields) (moment : ℕ) (without : List (List ℕ)) (a b : Result BasePublicationFields BaseFault) → PublishesBase ledger moment without a
     → PublishesBase ledger moment without b → a ≡ b
 
 -- What is published is unique, a job of a history is admissible behind those before it, and each admissible job is
@@ -45,10 +45,10 @@ OneBase = (ledger : LedgerFields) (moment : ℕ) (without : List (List ℕ)) (a 
 pub record Publishing : Type 0 where
   pub one : OnePublication
   pub front : (h : History) (j : JobIn) (others : List JobIn) (parts all : List SealedFields) → IsHistory h parts → IsHistory (with_jobs h (j ∷ others)) all
-      → IsAdmissible (history h parts) j
+      → IsAdmissible (releases_of h parts) j
   pub parts : (h : History) (a b : List SealedFields) → IsHistory h a → IsHistory h b → a ≡ b
-  pub complete : (h : History) (parts : List SealedFields) (job : JobFields) → IsHistory h parts → IsAdmissible (history h parts) (in_format current job)
-      → (p : Published) × Publishes (ledger_of (history h parts)) job (Ok p)
+  pub complete : (h : History) (parts : List SealedFields) (job : JobFields) → IsHistory h parts → IsAdmissible (releases_of h parts) (in_format current job)
+      → (p : PublicationFields) × Publishes (ledger_of (releases_of h parts)) job (Ok p)
 
 -- An audit finds one thing.
 abbrev pub OneAudit : Type 0
@@ -79,12 +79,12 @@ module _ (publishing : Publishing) where
 
   -- a job that isn't published doesn't follow
   pub not_published : (jobs : List JobFields) (parts : List SealedFields) (job : JobFields) (others : List JobFields) (all : List SealedFields) (fault : PublishFault)
-      → IsHistory (chain jobs) parts → IsHistory (chain (jobs ++ job ∷ others)) all → Publishes (ledger_of (history (chain jobs) parts)) job (Err fault) → ⊥
+      → IsHistory (chain jobs) parts → IsHistory (chain (jobs ++ job ∷ others)) all → Publishes (ledger_of (releases_of (chain jobs) parts)) job (Err fault) → ⊥
   not_published jobs parts job others all fault is is_all not =
       let may = publishing.front (chain jobs) (in_format current job) (map (in_format current) others) parts all is
       (subst (λ (h : History). IsHistory h all) (chain_front jobs job others) is_all) in
       let p = publishing.complete (chain jobs) parts job is may in
-      let h : ◌≡◌ {A = Result Published PublishFault} (Ok p.0) (Err fault) = one (ledger_of (history (chain jobs) parts)) job (Ok p.0) (Err fault) p.1 not in cc
+      let h : ◌≡◌ {A = Result PublicationFields PublishFault} (Ok p.0) (Err fault) = one (ledger_of (releases_of (chain jobs) parts)) job (Ok p.0) (Err fault) p.1 not in cc
 
   pub job_same : (x y : JobFields) (r : Result JobFields NamedFault) → r ≡ Ok x → r ≡ Ok y → x ≡ y
   job_same x y r h k = let g : ◌≡◌ {A = Result JobFields NamedFault} (Ok x) (Ok y) = sym h ∙ k in cc
@@ -95,7 +95,7 @@ module _ (publishing : Publishing) where
   not_both : (x : JobFields) (e : NamedFault) (r : Result JobFields NamedFault) → r ≡ Ok x → r ≡ Err e → ⊥
   not_both x e r h k = let g : ◌≡◌ {A = Result JobFields NamedFault} (Ok x) (Err e) = sym h ∙ k in cc
 
-  publish_fault_same : (x y : PublishFault) → ◌≡◌ {A = Result Published PublishFault} (Err x) (Err y) → x ≡ y
+  publish_fault_same : (x y : PublishFault) → ◌≡◌ {A = Result PublicationFields PublishFault} (Err x) (Err y) → x ≡ y
   publish_fault_same x y h = cc
 
   refused_same : (h : History) (parts : List SealedFields) (name : List ℕ) (given : Option (List ℕ)) (e f : NamedFault)
@@ -106,8 +106,8 @@ module _ (publishing : Publishing) where
   refused_same h parts name given e f (inr (job, fault, is, not, same)) (inr (other, wrong, is_other, not_other, same_other)) =
       let j : job ≡ other = job_same job other (input name job_in given) is is_other in
       let w : fault ≡ wrong = publish_fault_same fault wrong
-      (one (ledger_of (history h parts)) other (Err fault) (Err wrong)
-      (subst (λ (k : JobFields). Publishes (ledger_of (history h parts)) k (Err fault)) j not) not_other) in
+      (one (ledger_of (releases_of h parts)) other (Err fault) (Err wrong)
+      (subst (λ (k : JobFields). Publishes (ledger_of (releases_of h parts)) k (Err fault)) j not) not_other) in
       same ∙ ap (λ (k : PublishFault). record { name = name; fault = of_publishing k }) w ∙ sym same_other
 
   pub refused_follows : (jobs : List JobFields) (parts : List SealedFields) (name : List ℕ) (given : Option (List ℕ)) (e : NamedFault) (job : JobFields)
@@ -116,7 +116,7 @@ module _ (publishing : Publishing) where
   refused_follows jobs parts name given e job others all is is_job is_all (inl h) = not_both job e (input name job_in given) is_job h
   refused_follows jobs parts name given e job others all is is_job is_all (inr (other, fault, is_other, not, same)) =
       not_published jobs parts job others all fault is is_all
-      (subst (λ (k : JobFields). Publishes (ledger_of (history (chain jobs) parts)) k (Err fault)) (job_same other job (input name job_in given) is_other is_job) not)
+      (subst (λ (k : JobFields). Publishes (ledger_of (releases_of (chain jobs) parts)) k (Err fault)) (job_same other job (input name job_in given) is_other is_job) not)
 
   rehearses_unique : (queries : List Query) (jobs : List JobFields) (parts : List SealedFields) (names : List (List ℕ)) (inputs : List (Option (List ℕ)))
       (a b : Result Done NamedFault) → IsHistory (chain jobs) parts

@@ -5,7 +5,7 @@ use Rattle.query_core.specs.Queries.{Query}
 use Rattle.job_core.specs.JobFields.{JobFields}
 use Rattle.ledger_core.specs.LedgerFields.{LedgerFields}
 use Rattle.publication_core.specs.declared.base_fault.BaseFault.{BaseFault}
-use Rattle.publication_core.specs.Rebasing.{PublishedBase}
+use Rattle.publication_core.specs.Rebasing.{BasePublicationFields}
 use Rattle.word_core.specs.declared.command.Command.{Command}
 use Rattle.word_core.specs.declared.command.Command.TheVariants as commands
 use Rattle.word_core.specs.CommandFields.{SnapshotFields, DeltaFields, RebaseFields, RehearseFields}
@@ -31,7 +31,7 @@ delta_same n d (Ok j) (Ok l) o = both (MakesDelta d (Ok j) (Ok l) o)
 delta_same n d (Ok j) (Err e) o = both (MakesDelta d (Ok j) (Err e) o)
 delta_same n d (Err e) l o = both (MakesDelta d (Err e) l o)
 
-as_same : (n : ℕ) (r : RebaseFields) (x : Result PublishedBase BaseFault) → rebased_as r x ≡ rebased_as (record r { workers = n }) x
+as_same : (n : ℕ) (r : RebaseFields) (x : Result BasePublicationFields BaseFault) → rebased_as r x ≡ rebased_as (record r { workers = n }) x
 as_same n r (Ok p) = refl
 as_same n r (Err fault) = refl
 

@@ -24,9 +24,9 @@ use Rattle.store_core.specs.Chain.{newest_of, refusal_of}
 use Rattle.store_core.specs.StoreLayout.{store_text}
 use Rattle.card_core.specs.Verdict.{verdict}
 use Rattle.publication_core.specs.declared.fault.PublishFault.{PublishFault}
-use Rattle.publication_core.specs.Publishing.{Published, Publishes}
+use Rattle.publication_core.specs.Publishing.{PublicationFields, Publishes}
 use Rattle.publication_core.specs.Formats.{current}
-use Rattle.publication_core.specs.Histories.{History, of_jobs, members, with_job, chain, IsHistory, history}
+use Rattle.publication_core.specs.Histories.{History, of_jobs, members, with_job, chain, IsHistory, releases_of}
 use Rattle.word_core.specs.declared.command.Command.{Command}
 use Rattle.word_core.specs.declared.command.Command.TheVariants as commands
 use Rattle.word_core.specs.CommandFields.{QueryFields, QueryCertFields, SnapshotFields, DeltaFields, StartFields}
@@ -135,11 +135,11 @@ install_makes i store part = do
 -- ---- publishing
 
 -- the part and the next ledger, and the report
-abbrev pub publication_done : List ℕ → List ℕ → Published → Done
+abbrev pub publication_done : List ℕ → List ℕ → PublicationFields → Done
 publication_done part ledger p =
     both_files part ledger p.sealed p.ledger (report_line p.sealed.part.head.epoch p.place p.counts)
 
-abbrev pub published_as : List ℕ → List ℕ → List ℕ → Result Published PublishFault → Result Done NamedFault
+abbrev pub published_as : List ℕ → List ℕ → List ℕ → Result PublicationFields PublishFault → Result Done NamedFault
 published_as job part ledger (Ok p) = Ok (publication_done part ledger p)
 published_as job part ledger (Err fault) = Err (record { name = job; fault = of_publishing fault })
 
@@ -149,7 +149,7 @@ pub record MakesPart
     : Type 0 where
   pub fits : FitsFields j
   pub limits : IsWithinLimits limits.PUBLISHED j
-  pub result : Result Published PublishFault
+  pub result : Result PublicationFields PublishFault
   pub publishes : Publishes before j result
   pub is : o ≡ published_as job part ledger result
 
@@ -167,7 +167,7 @@ MakesDelta d (Err e) l o = o ≡ Err e
 
 -- the report of a job behind a history
 abbrev pub report_behind : History → List SealedFields → JobFields → List ℕ
-report_behind h parts job = report_line job.epoch (members h) (counts (past_of (history h parts)) (facts_of job))
+report_behind h parts job = report_line job.epoch (members h) (counts (past_of (releases_of h parts)) (facts_of job))
 
 -- the reports of the jobs with these parts, behind a history with its parts
 abbrev pub reports : (h : History) (before : List SealedFields) → List JobFields → List SealedFields → List ℕ
@@ -190,7 +190,7 @@ abbrev pub IsRefused : History → List SealedFields → List ℕ → Option (Li
 IsRefused h parts name given e =
     (input name job_in given ≡ Err e)
     ⊎ ((job : JobFields) × (fault : PublishFault) × (input name job_in given ≡ Ok job)
-    × Publishes (ledger_of (history h parts)) job (Err fault)
+    × Publishes (ledger_of (releases_of h parts)) job (Err fault)
     × (e ≡ record { name = name; fault = of_publishing fault }))
 
 -- the inputs of these names were read as these jobs

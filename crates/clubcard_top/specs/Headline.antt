@@ -26,7 +26,7 @@ use Rattle.universe_core.specs.Counting.{counts}
 use Rattle.history_core.specs.Bases.{kept_by, releases_without, is_lasting_by, newest_epoch}
 use Rattle.publication_core.specs.Formats.{current}
 use Rattle.publication_core.specs.Histories.{IsAdmissible, IsRebasable, History, of_jobs, rebased, members, with_job, chain}
-use Rattle.publication_core.specs.Histories.{IsHistory, history, LeavesOut}
+use Rattle.publication_core.specs.Histories.{IsHistory, releases_of, LeavesOut}
 use Rattle.publication_core.specs.Histories.{part_bytes, store_bytes, ledger_bytes, old_ledger_bytes, IsUndated}
 use Rattle.publication_core.specs.Rebasing.{base_counts}
 use Rattle.publication_core.specs.Truth.{truth}
@@ -91,7 +91,7 @@ pub record Published (call : Call) (h : History) (parts : List SealedFields) (jo
   pub sealed : SealedFields
   -- keys, serials and times fit their fields, those of its CRLs too
   pub fits : FitsFields job
-  pub admissible : IsAdmissible (history h parts) (in_format current job)
+  pub admissible : IsAdmissible (releases_of h parts) (in_format current job)
   pub is_history : IsHistory (with_job h (in_format current job)) (parts ++ sealed ∷ [])
   pub prints : Prints call (report_behind h parts job)
   -- the two files in their order, and no other
@@ -108,11 +108,11 @@ pub record IsPublished
     : Type 0 where
   pub sealed : SealedFields
   pub fits : FitsFields job
-  pub admissible : IsAdmissible (history h parts) (in_format current job)
+  pub admissible : IsAdmissible (releases_of h parts) (in_format current job)
   pub is_history : IsHistory (with_job h (in_format current job)) (parts ++ sealed ∷ [])
   pub outputs : d.outputs
       ≡ publishes_to asked (part_bytes sealed) (ledger_bytes (with_job h (in_format current job)) (parts ++ sealed ∷ []))
-  pub report : d.text ≡ report_line job.epoch (members h) (counts (past_of (history h parts)) (facts_of job))
+  pub report : d.text ≡ report_line job.epoch (members h) (counts (past_of (releases_of h parts)) (facts_of job))
 
 -- ---- beginning a chain anew
 
@@ -130,7 +130,7 @@ base_of h parts moment without = rebased h parts moment without []
 
 -- a base without these issuers may stand for the history at the moment
 abbrev pub IsRebasableWithout : ℕ → List (List ℕ) → History → List SealedFields → Type 0
-IsRebasableWithout moment without h parts = IsRebasable moment (releases_without without (history h parts))
+IsRebasableWithout moment without h parts = IsRebasable moment (releases_without without (releases_of h parts))
 
 -- the outputs: a part and a ledger, in the order of writing
 abbrev pub rebases_to : RebaseFields → List ℕ → List ℕ → List OutputFields
@@ -143,7 +143,7 @@ pub record Rebased (call : Call) (r : RebaseFields) (h : History) (parts : List 
   pub sealed : SealedFields
   pub rebasable : IsRebasableWithout r.moment r.without h parts
   pub is_history : IsHistory (base_of h parts r.moment r.without) (sealed ∷ [])
-  pub prints : Prints call (base_line r.without (newest_epoch 0 (history h parts)) (base_counts r.moment r.without (history h parts)))
+  pub prints : Prints call (base_line r.without (newest_epoch 0 (releases_of h parts)) (base_counts r.moment r.without (releases_of h parts)))
   -- the two files in their order, and no other
   pub writes : Writes call
       (rebases_to r (part_bytes sealed) (ledger_bytes (base_of h parts r.moment r.without) (sealed ∷ [])))
@@ -157,7 +157,7 @@ pub record IsRebased (r : RebaseFields) (h : History) (parts : List SealedFields
   pub is_history : IsHistory (base_of h parts r.moment r.without) (sealed ∷ [])
   pub outputs : d.outputs
       ≡ rebases_to r (part_bytes sealed) (ledger_bytes (base_of h parts r.moment r.without) (sealed ∷ []))
-  pub text : d.text ≡ base_line r.without (newest_epoch 0 (history h parts)) (base_counts r.moment r.without (history h parts))
+  pub text : d.text ≡ base_line r.without (newest_epoch 0 (releases_of h parts)) (base_counts r.moment r.without (releases_of h parts))
 
 -- ---- stores
 
@@ -212,7 +212,7 @@ abbrev pub AsksHistory : Command → Files → QueryFields → History → List 
 AsksHistory asked files q h parts =
     (asked ≡ commands.Query q) × (1 ≤ members h) × (get files q.store ≡ Some (store_bytes parts))
     × (1 ≤ length q.sightings)
-    × ((s : Sighting) → Among q.sightings s → Among (sightings q.id (seen (history h parts))) s)
+    × ((s : Sighting) → Among q.sightings s → Among (sightings q.id (seen (releases_of h parts))) s)
 
 -- the call asks the store of this history so
 abbrev pub AsksTruth : Call → QueryFields → History → List SealedFields → Type 0
@@ -220,7 +220,7 @@ AsksTruth call q h parts = Found call (λ files. AsksHistory call.asked files q 
 
 -- the line of what the history tells of the certificate, which is the truth
 abbrev pub truth_line : History → List SealedFields → QueryFields → List ℕ
-truth_line h parts q = line (verdict_word (truth (history h parts) q.id))
+truth_line h parts q = line (verdict_word (truth (releases_of h parts) q.id))
 
 -- that line alone
 abbrev pub truth_done : History → List SealedFields → QueryFields → Done
@@ -236,9 +236,9 @@ IsKept moment rs x = has (kept_by (is_lasting_by moment rs) rs) x ≡ true
 -- another issuer that the base keeps, with sightings of the history's accepted entries alone.
 abbrev pub AsksBase : Command → Files → QueryFields → History → List SealedFields → ℕ → List (List ℕ) → SealedFields → Type 0
 AsksBase asked files q h parts moment without s =
-    (asked ≡ commands.Query q) × IsKept moment (history h parts) q.id × (has_key without q.id.issuer ≡ false)
+    (asked ≡ commands.Query q) × IsKept moment (releases_of h parts) q.id × (has_key without q.id.issuer ≡ false)
     × (get files q.store ≡ Some (store_bytes (s ∷ []))) × (1 ≤ length q.sightings)
-    × ((t : Sighting) → Among q.sightings t → Among (sightings q.id (seen (history h parts))) t)
+    × ((t : Sighting) → Among q.sightings t → Among (sightings q.id (seen (releases_of h parts))) t)
 
 -- the call asks the store of the base so
 abbrev pub AsksTheBase : Call → QueryFields → History → List SealedFields → ℕ → List (List ℕ) → SealedFields → Type 0
@@ -287,9 +287,9 @@ pub record AsksCert
   pub store : get files q.store ≡ Some (store_bytes parts)
   pub cert : HoldsCert files q.cert x.serial ss
   pub issuer : HoldsKey files q.issuer_cert x.issuer
-  pub one : (s : Sighting) × Among ss s × Among (sightings x (seen (history h parts))) s
+  pub one : (s : Sighting) × Among ss s × Among (sightings x (seen (releases_of h parts))) s
   pub covered : (s : Sighting) (t : SealedFields) → Among ss s → Among parts t → IsTrue (covers t.part.head.ranges s)
-      → Among (sightings x (seen (history h parts))) s
+      → Among (sightings x (seen (releases_of h parts))) s
 
 -- the call asks the store of this history so
 abbrev pub AsksCertTruth : Call → QueryCertFields → Identity → List Sighting → History → List SealedFields → Type 0
@@ -297,7 +297,7 @@ AsksCertTruth call q x ss h parts = Found call (λ files. AsksCert call.asked fi
 
 -- the line of what the history tells of the certificate, which is the truth
 abbrev pub cert_truth_line : History → List SealedFields → Identity → List ℕ
-cert_truth_line h parts x = line (verdict_word (truth (history h parts) x))
+cert_truth_line h parts x = line (verdict_word (truth (releases_of h parts) x))
 
 -- ---- rehearsing
 
@@ -327,5 +327,5 @@ pub record IsRehearsed (queries : List Query) (jobs : List JobFields) (parts : L
   -- keys, serials and times fit their fields, those of their CRLs too
   pub fit : All FitsFields jobs
   pub is_history : IsHistory (chain jobs) parts
-  pub truths : (q : Query) → Among queries q → AsksAccepted (history (chain jobs) parts) q
-      → verdict_line parts q ≡ line (verdict_word (truth (history (chain jobs) parts) q.identity))
+  pub truths : (q : Query) → Among queries q → AsksAccepted (releases_of (chain jobs) parts) q
+      → verdict_line parts q ≡ line (verdict_word (truth (releases_of (chain jobs) parts) q.identity))

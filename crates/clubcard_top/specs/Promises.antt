@@ -26,9 +26,9 @@ use Rattle.card_core.specs.declared.verdict.Verdict.{Verdict}
 use Rattle.card_core.specs.declared.verdict.Verdict.TheVariants.{NotEnrolled}
 use Rattle.card_core.specs.Verdict.{verdict}
 use Rattle.universe_core.specs.History.{seen}
-use Rattle.audit_core.specs.Auditing.{history as audited_history}
+use Rattle.audit_core.specs.Auditing.{releases_of as audited_releases}
 use Rattle.publication_core.specs.Formats.{current}
-use Rattle.publication_core.specs.Histories.{IsAdmissible, History, with_job, chain, IsHistory, history, LeavesOut}
+use Rattle.publication_core.specs.Histories.{IsAdmissible, History, with_job, chain, IsHistory, releases_of, LeavesOut}
 use Rattle.publication_core.specs.Publishing.{CanBePublished}
 use Rattle.publication_core.specs.Rebasing.{CanBeRebased}
 use Rattle.word_core.specs.declared.command.Command.TheVariants as commands
@@ -132,7 +132,7 @@ pub record Successes (call : Call) : Type 0 where
   -- within the limits of one, their CRLs are accepted, and all that is so, the call must succeed
   pub audit : (a : AuditFields) → Did call (commands.Audit a) → (parts : List SealedFields) × (jobs : List JobFields)
       × Reads call a.store store_in parts × ReadsJobs call a.jobs jobs × IsAudited parts jobs × SaysTheTruth parts jobs
-      × Prints call (audit_line (length jobs) (length (seen (audited_history jobs)))) × ChangesNoFile call
+      × Prints call (audit_line (length jobs) (length (seen (audited_releases jobs)))) × ChangesNoFile call
   pub audit_complete : (a : AuditFields) (parts : List SealedFields) (jobs : List JobFields)
       → call.asked ≡ commands.Audit a → Reads call a.store store_in parts → ReadsJobs call a.jobs jobs
       → AreWithinLimits jobs → IsAudited parts jobs → MustSucceed call
@@ -147,7 +147,7 @@ pub record Histories (call : Call) : Type 0 where
   pub published : (h : History) (parts : List SealedFields) (job : JobFields) → IsHistory h parts
       → AsksToPublish call h parts job → Succeeds call → Published call h parts job
   pub admitted : (h : History) (parts : List SealedFields) (job : JobFields) → IsHistory h parts
-      → AsksToPublish call h parts job → IsAdmissible (history h parts) (in_format current job) → MustSucceed call
+      → AsksToPublish call h parts job → IsAdmissible (releases_of h parts) (in_format current job) → MustSucceed call
   -- `rebase` and `rebase-without`
   pub rebased : (r : RebaseFields) (h : History) (parts : List SealedFields) → IsHistory h parts
       → AsksToRebase call r h parts → Succeeds call → Rebased call r h parts
@@ -175,7 +175,7 @@ pub record Histories (call : Call) : Type 0 where
   -- were accepted before the base, so that `truth` holds of them from then on
   pub comes_back : (h : History) (parts : List SealedFields) (job : JobFields) (e : Entry) → IsHistory h parts
       → LeavesOut h e.id.issuer → Brings job e → (p : Published call h parts job)
-      → Among (seen (history (with_job h (in_format current job)) (parts ++ p.sealed ∷ []))) e
+      → Among (seen (releases_of (with_job h (in_format current job)) (parts ++ p.sealed ∷ []))) e
   -- `query-cert`
   pub cert_truth : (q : QueryCertFields) (x : Identity) (ss : List Sighting)
       (h : History) (parts : List SealedFields) → IsHistory h parts

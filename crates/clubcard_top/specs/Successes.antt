@@ -15,9 +15,9 @@ use Rattle.sets_core.specs.Among.{Among}
 use Rattle.universe_core.specs.History.{seen, sightings}
 use Rattle.history_core.specs.Truth.{truth}
 use Rattle.store_core.specs.StoreLayout.{store_text}
-use Rattle.audit_core.specs.Auditing.{history as audited_history, entries_of, AreAdmitted, AllAgree}
-use Rattle.publication_core.specs.Publishing.{Published as Publication, Publishes}
-use Rattle.publication_core.specs.Rebasing.{PublishedBase, IsBasePublication, base_counts_after}
+use Rattle.audit_core.specs.Auditing.{releases_of as audited_releases, entries_of, AreAdmitted, AllAgree}
+use Rattle.publication_core.specs.Publishing.{PublicationFields as Publication, Publishes}
+use Rattle.publication_core.specs.Rebasing.{BasePublicationFields, IsBasePublication, base_counts_after}
 use Rattle.word_core.specs.CommandFields.{RebaseFields}
 use Rattle.line_core.specs.Lines.{report_line, store_line}
 use Rattle.input_core.specs.Readings.{job_in, part_in}
@@ -44,7 +44,7 @@ pub record PublishesFile (call : Call) (before : LedgerFields) (job part ledger 
 -- This ledger without what has expired at MOMENT, and without the issuers of ISSUER .., begins a chain anew: its counts
 -- were printed with the part's epoch, PART holds the part, and NEWLEDGER the ledger after it.
 pub record BeginsAnew (call : Call) (before : LedgerFields) (r : RebaseFields) : Type 0 where
-  pub made : PublishedBase
+  pub made : BasePublicationFields
   pub publishes : IsBasePublication before r.moment r.without made
   pub prints : Prints call (base_line r.without made.sealed.part.head.epoch (base_counts_after r.moment r.without before))
   pub part_holds : Holds call r.part (spelling made.sealed)
@@ -83,5 +83,5 @@ pub record IsAudited (parts : List SealedFields) (jobs : List JobFields) : Type 
 abbrev pub SaysTheTruth : List SealedFields → List JobFields → Type 0
 SaysTheTruth parts jobs =
     (x : Identity) (ss : List Sighting) → 1 ≤ length ss
-    → ((s : Sighting) → Among ss s → Among (sightings x (seen (audited_history jobs))) s)
-    → verdict (map (λ s. s.part) parts) x ss ≡ truth (audited_history jobs) x
+    → ((s : Sighting) → Among ss s → Among (sightings x (seen (audited_releases jobs))) s)
+    → verdict (map (λ s. s.part) parts) x ss ≡ truth (audited_releases jobs) x

@@ -16,9 +16,9 @@ ghost use Rattle.universe_core.specs.Jobs.{Entry};
 ghost use Rattle.universe_core.specs.Formats.{in_format};
 ghost use Rattle.universe_core.specs.History.{seen, sightings};
 ghost use Rattle.publication_core.specs.Formats.{current};
-ghost use Rattle.publication_core.specs.Histories.{IsAdmissible, History, with_job, chain, IsHistory, history, LeavesOut};
-ghost use Rattle.publication_core.specs.Publishing.{CanBePublished, Published, Publishes};
-ghost use Rattle.publication_core.specs.Rebasing.{CanBeRebased, PublishedBase, PublishesBase};
+ghost use Rattle.publication_core.specs.Histories.{IsAdmissible, History, with_job, chain, IsHistory, releases_of, LeavesOut};
+ghost use Rattle.publication_core.specs.Publishing.{CanBePublished, PublicationFields, Publishes};
+ghost use Rattle.publication_core.specs.Rebasing.{CanBeRebased, BasePublicationFields, PublishesBase};
 ghost use Rattle.word_core.specs.declared.command.Command.{Command};
 ghost use Rattle.word_core.specs.CommandFields.{QueryFields, QueryCertFields, RebaseFields, RehearseFields};
 ghost use Rattle.word_core.specs.Names.{inputs_of, outputs_of};
@@ -87,7 +87,7 @@ pub fn histories_are_made()
         → Makes command (held_by command files) (Ok d) → IsPublished command h parts job d }
     ensures admitted { (command : Command) (files : Files)
         (h : History) (parts : List SealedFields) (job : JobFields) (o : Result Done NamedFault)
-        → IsHistory h parts → PublishesJob command files h parts job → IsAdmissible (history h parts) (in_format current job)
+        → IsHistory h parts → PublishesJob command files h parts job → IsAdmissible (releases_of h parts) (in_format current job)
         → Makes command (held_by command files) o → (d : Done) × (o ≡ Ok d) }
     ensures stored { (command : Command) (files : Files)
         (h : History) (parts : List SealedFields) (s : SealedFields) (o : Result Done NamedFault)
@@ -115,7 +115,7 @@ pub fn histories_are_made()
         → IsHistory (chain jobs) parts → RehearsesJobs command files queries jobs
         → Makes command (held_by command files) o → o ≡ Ok (rehearsed queries jobs parts) }
     ensures publishable { (before : LedgerFields) (job : JobFields) → CanBePublished before job
-        → (made : Published) × Publishes before job (Ok made) }
+        → (made : PublicationFields) × Publishes before job (Ok made) }
 {
     publications_are_unique();
     histories_are_published();
@@ -144,8 +144,8 @@ pub fn bases_are_made()
         → IsHistory h parts → RebasesHistory command files r h parts → IsRebasableWithout r.moment r.without h parts
         → Makes command (held_by command files) o → (d : Done) × (o ≡ Ok d) }
     ensures kept { (h : History) (parts : List SealedFields) (moment : ℕ) (without : List (List ℕ)) (s : SealedFields)
-        (q : QueryFields) → IsKept moment (history h parts) q.id → has_key without q.id.issuer ≡ false
-        → (sightings q.id (seen (history (base_of h parts moment without) (s ∷ []))) ≡ sightings q.id (seen (history h parts)))
+        (q : QueryFields) → IsKept moment (releases_of h parts) q.id → has_key without q.id.issuer ≡ false
+        → (sightings q.id (seen (releases_of (base_of h parts moment without) (s ∷ []))) ≡ sightings q.id (seen (releases_of h parts)))
         × (truth_line (base_of h parts moment without) (s ∷ []) q ≡ truth_line h parts q) }
     ensures asked { (command : Command) (files : Files) (q : QueryFields)
         (h : History) (parts : List SealedFields) (moment : ℕ) (without : List (List ℕ)) (s : SealedFields) (o : Result Done NamedFault)
@@ -157,9 +157,9 @@ pub fn bases_are_made()
         → Makes command (held_by command files) o → o ≡ Ok (only (line (verdict_word NotEnrolled))) }
     ensures comes_back { (h : History) (parts : List SealedFields) (job : JobFields) (s : SealedFields) (e : Entry)
         → IsHistory h parts → LeavesOut h e.id.issuer → Brings job e
-        → Among (seen (history (with_job h (in_format current job)) (parts ++ s ∷ []))) e }
+        → Among (seen (releases_of (with_job h (in_format current job)) (parts ++ s ∷ []))) e }
     ensures publishable { (before : LedgerFields) (moment : ℕ) (without : List (List ℕ)) → CanBeRebased before moment without
-        → (made : PublishedBase) × PublishesBase before moment without (Ok made) }
+        → (made : BasePublicationFields) × PublishesBase before moment without (Ok made) }
 {
     bases_are_published();
     one_thing_comes_of_a_rebase();

@@ -15,7 +15,7 @@ use Rattle.card_core.specs.Verdict.{verdict}
 use Rattle.slot_core.specs.Device.{IsDevice}
 use Rattle.sets_core.specs.Among.{Among}
 use Rattle.universe_core.specs.History.{seen, sightings}
-use Rattle.publication_core.specs.Histories.{History, members, IsHistory, history, store_bytes}
+use Rattle.publication_core.specs.Histories.{History, members, IsHistory, releases_of, store_bytes}
 use Rattle.publication_core.specs.Truth.{truth}
 use Rattle.input_core.specs.declared.fault.FileFault.{FileFault}
 use Rattle.input_core.specs.declared.fault.FileFault.TheVariants as faults
@@ -158,15 +158,15 @@ module _ (call : DeviceCall) (device : List ℕ) (told : call.before.told ≡ So
     pub few : (h : History) (parts : List SealedFields) → IsHistory h parts → length parts ≤ 64
     pub texts : (h : History) (parts : List SealedFields) → IsHistory h parts → All Fits parts
     pub truths : (h : History) (parts : List SealedFields) (x : Identity) (ss : List Sighting) → IsHistory h parts → 1 ≤ length ss
-        → ((s : Sighting) → Among ss s → Among (sightings x (seen (history h parts))) s) → verdict (map (λ s. s.part) parts) x ss ≡ truth (history h parts) x
+        → ((s : Sighting) → Among ss s → Among (sightings x (seen (releases_of h parts))) s) → verdict (map (λ s. s.part) parts) x ss ≡ truth (releases_of h parts) x
     pub store_read : (parts : List SealedFields) → IsChain parts → 1 ≤ length parts → length parts ≤ 64 → All Fits parts → value_of (store (store_text parts) 0) ≡ Ok parts
 
   same_parts : (one other : List SealedFields) → ◌≡◌ {A = Result (List SealedFields) FileFault} (Ok one) (Ok other) → one ≡ other
   same_parts one other is = cc
 
   truth_done : Laws → (q : QueryFields) (h : History) (parts : List SealedFields) (capacity : ℕ) → IsHistory h parts → 1 ≤ members h
-      → IsDevice capacity (store_bytes parts) device → 1 ≤ length q.sightings → ((s : Sighting) → Among q.sightings s → Among (sightings q.id (seen (history h parts))) s)
-      → Answered call device q → Prints call (verdict_line (truth (history h parts) q.id))
+      → IsDevice capacity (store_bytes parts) device → 1 ≤ length q.sightings → ((s : Sighting) → Among q.sightings s → Among (sightings q.id (seen (releases_of h parts))) s)
+      → Answered call device q → Prints call (verdict_line (truth (releases_of h parts) q.id))
   truth_done laws q h parts capacity is some holds asked accepted a =
       let held : a.held ≡ store_text parts = held_once a.capacity capacity a.held (store_text parts) device a.is_device holds in
       let read : store_in (store_text parts) ≡ Ok parts =

@@ -12,7 +12,7 @@ use Rattle.builder_core.proofs.FirstRefused.{refused_no_blocks, first_refused_on
 use Rattle.publication_core.specs.declared.base_fault.BaseFault.{BaseFault}
 use Rattle.publication_core.specs.declared.base_fault.BaseFault.TheVariants.{TooMany, SeedsExhausted, NoMemory}
 use Rattle.publication_core.specs.Formats.{blocks_in}
-use Rattle.publication_core.specs.Rebasing.{PublishedBase, IsBasePublication, PublishesBase}
+use Rattle.publication_core.specs.Rebasing.{BasePublicationFields, IsBasePublication, PublishesBase}
 use Rattle.publication_core.proofs.Bases.{base_made}
 use Rattle.publication_core.proofs.Unique.{sealed_same}
 
@@ -20,7 +20,7 @@ module _ (ledger : LedgerFields) (moment : ℕ) (without : List (List ℕ)) wher
   abbrev rest : LedgerFields
   rest = ledger_without without ledger
 
-  published_same : (p q : PublishedBase) → IsBasePublication ledger moment without p → IsBasePublication ledger moment without q → p ≡ q
+  published_same : (p q : BasePublicationFields) → IsBasePublication ledger moment without p → IsBasePublication ledger moment without q → p ≡ q
   published_same p q x y =
       let sealed : p.sealed ≡ q.sealed
       = sealed_same (blocks_in dated) (rebased_head rest.parts) (rebased_groups (is_lasting moment) rest) p.sealed q.sealed x.head y.head x.blocks y.blocks x.trailer y.trailer in
@@ -33,8 +33,8 @@ module _ (ledger : LedgerFields) (moment : ℕ) (without : List (List ℕ)) wher
   not_both : {A : Type 0} → length (issuers_in rest.parts) ≤ 65535 → 65535 < length (issuers_in rest.parts) → A
   not_both few many = absurd (omega (arith, few, many))
 
-  pub base_outcome_unique : (a b : Result PublishedBase BaseFault) → PublishesBase ledger moment without a → PublishesBase ledger moment without b → a ≡ b
-  base_outcome_unique (Ok p) (Ok q) x y = ap (λ (r : PublishedBase). Ok r) (published_same p q x y)
+  pub base_outcome_unique : (a b : Result BasePublicationFields BaseFault) → PublishesBase ledger moment without a → PublishesBase ledger moment without b → a ≡ b
+  base_outcome_unique (Ok p) (Ok q) x y = ap (λ (r : BasePublicationFields). Ok r) (published_same p q x y)
   base_outcome_unique (Ok p) (Err (TooMany what limit)) x y = not_both x.few_issuers y.2
   base_outcome_unique (Ok p) (Err (SeedsExhausted issuer stage)) x y =
       absurd (refused_no_blocks (blocks_in dated) sha256_row (rebased_groups (is_lasting moment) rest) issuer stage p.sealed.part.blocks y.1 x.blocks)
@@ -52,14 +52,14 @@ module _ (ledger : LedgerFields) (moment : ℕ) (without : List (List ℕ)) wher
   base_outcome_unique (Err (SeedsExhausted issuer stage)) (Err NoMemory) x y = absurd y
   base_outcome_unique (Err NoMemory) b x y = absurd x
 
-  by_blocks : length (issuers_in rest.parts) ≤ 65535 → (o : Result PublishedBase BaseFault) × PublishesBase ledger moment without o
+  by_blocks : length (issuers_in rest.parts) ≤ 65535 → (o : Result BasePublicationFields BaseFault) × PublishesBase ledger moment without o
   by_blocks few = elim (blocks_or_refusal (blocks_in dated) sha256_row (rebased_groups (is_lasting moment) rest)) [
     | inl b ↦ (let p = base_made ledger moment without few b.0 b.1 in (Ok p.0, p.1))
     | inr r ↦ (Err (SeedsExhausted r.0 r.1), (few, r.2))
   ]
 
   -- Something is published, or something stands against it.
-  pub some_outcome : (o : Result PublishedBase BaseFault) × PublishesBase ledger moment without o
+  pub some_outcome : (o : Result BasePublicationFields BaseFault) × PublishesBase ledger moment without o
   some_outcome = elim (cases_lt 65535 (length (issuers_in rest.parts))) [
     | inl many ↦ (Err (TooMany Issuers 65535), (refl, refl, many))
     | inr few ↦ by_blocks few

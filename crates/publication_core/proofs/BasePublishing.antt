@@ -21,7 +21,7 @@ use Rattle.builder_core.proofs.Admitted.{issuers_among, identities_among}
 use Rattle.publication_core.specs.declared.base.BaseCounts.{BaseCounts}
 use Rattle.publication_core.specs.Building.{IsBuilt}
 use Rattle.publication_core.specs.Formats.{blocks_in}
-use Rattle.publication_core.specs.Rebasing.{PublishedBase, IsBasePublication}
+use Rattle.publication_core.specs.Rebasing.{BasePublicationFields, IsBasePublication}
 
 -- ---- what building asks
 
@@ -59,7 +59,7 @@ revoked_is keeps ledger =
 -- ---- what is built
 
 pub base_publishes : (ledger : LedgerFields) (moment : ℕ) (without : List (List ℕ)) (head : HeadFields) (groups : List Group) (next new : LedgerFields) (sealed : SealedFields)
-    (counts : BaseCounts) (p : PublishedBase) → length (issuers_in (ledger_without without ledger).parts) ≤ 65535 → head ≡ rebased_head (ledger_without without ledger).parts
+    (counts : BaseCounts) (p : BasePublicationFields) → length (issuers_in (ledger_without without ledger).parts) ≤ 65535 → head ≡ rebased_head (ledger_without without ledger).parts
     → map group_fields groups ≡ rebased_groups (is_lasting moment) (ledger_without without ledger)
     → ((trailer : List ℕ) → sealed_with next trailer ≡ rebased_ledger (is_lasting moment) (ledger_without without ledger) trailer)
     → IsBuilt head (map group_fields groups) next sealed new → counts.issuers ≡ length groups → counts.universe ≡ length new.items

@@ -23,8 +23,8 @@ use Rattle.history_core.proofs.BaseLedgers.{issuers_same, head_same, ledger_same
 use Rattle.history_core.proofs.Without.{without_sound, ledger_without-of, many_without}
 use Rattle.builder_core.specs.Building.{AreGroupBlocks}
 use Rattle.publication_core.specs.Formats.{blocks_in}
-use Rattle.publication_core.specs.Histories.{base_groups, IsBasePart, IsRebasable, History, rebased, members, IsHistory, history}
-use Rattle.publication_core.specs.Rebasing.{PublishedBase, IsBasePublication, PublishesBase, CanBeRebased, base_counts_after, base_counts}
+use Rattle.publication_core.specs.Histories.{base_groups, IsBasePart, IsRebasable, History, rebased, members, IsHistory, releases_of}
+use Rattle.publication_core.specs.Rebasing.{BasePublicationFields, IsBasePublication, PublishesBase, CanBeRebased, base_counts_after, base_counts}
 use Rattle.publication_core.proofs.Histories.{members_many, history_sound}
 use Rattle.publication_core.proofs.Publications.{blocks_of_each}
 
@@ -33,7 +33,7 @@ use Rattle.publication_core.proofs.Publications.{blocks_of_each}
 -- A ledger whose parts have few other issuers, with a block for each, is rebased.
 pub base_made : (ledger : LedgerFields) (moment : ℕ) (without : List (List ℕ)) → length (issuers_in (ledger_without without ledger).parts) ≤ 65535
     → (blocks : List Block) → AreGroupBlocks (blocks_in dated) sha256_row (rebased_groups (is_lasting moment) (ledger_without without ledger)) blocks
-    → (p : PublishedBase) × PublishesBase ledger moment without (Ok p)
+    → (p : BasePublicationFields) × PublishesBase ledger moment without (Ok p)
 base_made ledger moment without few blocks are =
     let made : PartFields = record { head = rebased_head (ledger_without without ledger).parts; blocks = blocks } in
     let sealed : SealedFields = record { part = made; trailer = sha256 (unsealed_text made) } in (
@@ -46,7 +46,7 @@ base_made ledger moment without few blocks are =
     )
 
 pub can_be_rebased : (ledger : LedgerFields) (moment : ℕ) (without : List (List ℕ)) → CanBeRebased ledger moment without
-    → (p : PublishedBase) × PublishesBase ledger moment without (Ok p)
+    → (p : BasePublicationFields) × PublishesBase ledger moment without (Ok p)
 can_be_rebased ledger moment without can =
     let made = blocks_of_each (blocks_in dated) (rebased_groups (is_lasting moment) (ledger_without without ledger)) can.blocks in
     base_made ledger moment without can.few_issuers made.0 made.1
@@ -114,24 +114,24 @@ module _ (moment : ℕ) (without : List (List ℕ)) (old : List Release) (sound 
       blocks_same moment rest rest_sound blocks
       (subst (λ (l : LedgerFields). AreGroupBlocks (blocks_in dated) sha256_row (rebased_groups (is_lasting moment) l) blocks) same are)
 
-  rebasable_then : (p : PublishedBase) → 1 ≤ length old → IsBasePublication (ledger_of old) moment without p → IsRebasable moment rest
+  rebasable_then : (p : BasePublicationFields) → 1 ≤ length old → IsBasePublication (ledger_of old) moment without p → IsRebasable moment rest
   rebasable_then p some x = record {
     some = omega (arith, some, many_without without old);
     few_issuers = omega (arith, few_same, x.few_issuers);
     blocks = (p.sealed.part.blocks, base_blocks p.sealed.part.blocks x.blocks);
   }
 
-  base_part : (p : PublishedBase) → IsBasePublication (ledger_of old) moment without p → IsBasePart moment rest p.sealed
+  base_part : (p : BasePublicationFields) → IsBasePublication (ledger_of old) moment without p → IsBasePart moment rest p.sealed
   base_part p x = record {
     head_is = x.head ∙ ap (λ (l : LedgerFields). rebased_head l.parts) same ∙ head_same rest;
     blocks = base_blocks p.sealed.part.blocks x.blocks;
     trailer = x.trailer;
   }
 
-  base_next : (p : PublishedBase) → IsBasePublication (ledger_of old) moment without p → p.ledger ≡ ledger_of (base_at moment rest p.sealed.trailer ∷ [])
+  base_next : (p : BasePublicationFields) → IsBasePublication (ledger_of old) moment without p → p.ledger ≡ ledger_of (base_at moment rest p.sealed.trailer ∷ [])
   base_next p x = x.next ∙ ap (λ l. rebased_ledger (is_lasting moment) l p.sealed.trailer) same ∙ ledger_same (is_lasting moment) rest p.sealed.trailer rest_sound
 
-  rebased_then : IsRebasable moment rest → (p : PublishedBase) × PublishesBase (ledger_of old) moment without (Ok p)
+  rebased_then : IsRebasable moment rest → (p : BasePublicationFields) × PublishesBase (ledger_of old) moment without (Ok p)
   rebased_then can =
       base_made (ledger_of old) moment without (omega (arith, few_same, can.few_issuers)) can.blocks.0
       (subst (λ (l : LedgerFields). AreGroupBlocks (blocks_in dated) sha256_row (rebased_groups (is_lasting moment) l) can.blocks.0) (sym same)
@@ -140,20 +140,20 @@ module _ (moment : ℕ) (without : List (List ℕ)) (old : List Release) (sound 
 -- ---- the ledger of a history
 
 module _ (h : History) (parts : List SealedFields) (moment : ℕ) (without : List (List ℕ)) (is : IsHistory h parts) where
-  pub base_rebasable : (p : PublishedBase) → 1 ≤ members h → PublishesBase (ledger_of (history h parts)) moment without (Ok p)
-      → IsRebasable moment (releases_without without (history h parts))
-  base_rebasable p some x = rebasable_then moment without (history h parts) (history_sound h parts is) p (omega (arith, members_many h parts is, some)) x
+  pub base_rebasable : (p : BasePublicationFields) → 1 ≤ members h → PublishesBase (ledger_of (releases_of h parts)) moment without (Ok p)
+      → IsRebasable moment (releases_without without (releases_of h parts))
+  base_rebasable p some x = rebasable_then moment without (releases_of h parts) (history_sound h parts is) p (omega (arith, members_many h parts is, some)) x
 
-  pub base_history : (p : PublishedBase) → 1 ≤ members h → PublishesBase (ledger_of (history h parts)) moment without (Ok p)
+  pub base_history : (p : BasePublicationFields) → 1 ≤ members h → PublishesBase (ledger_of (releases_of h parts)) moment without (Ok p)
       → IsHistory (rebased h parts moment without []) (p.sealed ∷ [])
-  base_history p some x = (is, base_rebasable p some x, base_part moment without (history h parts) (history_sound h parts is) p x, tt)
+  base_history p some x = (is, base_rebasable p some x, base_part moment without (releases_of h parts) (history_sound h parts is) p x, tt)
 
-  pub base_ledger : (p : PublishedBase) → PublishesBase (ledger_of (history h parts)) moment without (Ok p)
-      → p.ledger ≡ ledger_of (history (rebased h parts moment without []) (p.sealed ∷ []))
-  base_ledger p x = base_next moment without (history h parts) (history_sound h parts is) p x
+  pub base_ledger : (p : BasePublicationFields) → PublishesBase (ledger_of (releases_of h parts)) moment without (Ok p)
+      → p.ledger ≡ ledger_of (releases_of (rebased h parts moment without []) (p.sealed ∷ []))
+  base_ledger p x = base_next moment without (releases_of h parts) (history_sound h parts is) p x
 
-  pub base_numbers : (p : PublishedBase) → PublishesBase (ledger_of (history h parts)) moment without (Ok p) → p.counts ≡ base_counts moment without (history h parts)
-  base_numbers p x = x.counts ∙ counts_same moment without (history h parts) (history_sound h parts is)
+  pub base_numbers : (p : BasePublicationFields) → PublishesBase (ledger_of (releases_of h parts)) moment without (Ok p) → p.counts ≡ base_counts moment without (releases_of h parts)
+  base_numbers p x = x.counts ∙ counts_same moment without (releases_of h parts) (history_sound h parts is)
 
-  pub rebasable_published : IsRebasable moment (releases_without without (history h parts)) → (p : PublishedBase) × PublishesBase (ledger_of (history h parts)) moment without (Ok p)
-  rebasable_published can = rebased_then moment without (history h parts) (history_sound h parts is) can
+  pub rebasable_published : IsRebasable moment (releases_without without (releases_of h parts)) → (p : BasePublicationFields) × PublishesBase (ledger_of (releases_of h parts)) moment without (Ok p)
+  rebasable_published can = rebased_then moment without (releases_of h parts) (history_sound h parts is) can

@@ -21,7 +21,7 @@ use Rattle.history_core.specs.Bases.{kept_by, is_lasting_by, base_with, releases
 use Rattle.history_core.specs.Facts.{Leaves, Widens}
 use Rattle.history_core.specs.Showing.{Shows}
 use Rattle.history_core.proofs.Words.{has-filter, last_covers_sightings, leaves, zip_push, listed_in_words, listed_behind}
-use Rattle.publication_core.specs.Histories.{release_of, history_after, AreAdmissible, History, of_jobs, rebased, IsHistory, history}
+use Rattle.publication_core.specs.Histories.{release_of, releases_after, AreAdmissible, History, of_jobs, rebased, IsHistory, releases_of}
 use Rattle.publication_core.proofs.Histories.{history_sound}
 use Rattle.publication_core.proofs.Shown.{shown_by}
 use Rattle.publication_core.proofs.Verdicts.{parts_shown}
@@ -37,18 +37,18 @@ part_at (s ∷ parts) [] k r z e = absurd z
 part_at (s ∷ parts) (q ∷ rs) zero r z e = (s, refl, z.0.ranges ∙ ap (λ (p : Release). p.ranges) (some_item q r e))
 part_at (s ∷ parts) (q ∷ rs) (suc k) r z e = part_at parts rs k r z.1 e
 
-pub last_part : (h : History) (parts : List SealedFields) (x : Identity) (k : ℕ) → IsHistory h parts → last x (history h parts) ≡ Some k
-    → (s : SealedFields) × (slice_get parts k ≡ Some s) × ((t : Sighting) → Among (sightings x (seen (history h parts))) t → covers s.part.head.ranges t ≡ true)
+pub last_part : (h : History) (parts : List SealedFields) (x : Identity) (k : ℕ) → IsHistory h parts → last x (releases_of h parts) ≡ Some k
+    → (s : SealedFields) × (slice_get parts k ≡ Some s) × ((t : Sighting) → Among (sightings x (seen (releases_of h parts))) t → covers s.part.head.ranges t ≡ true)
 last_part h parts x k is e =
-    let l = last_covers_sightings (history h parts) x k (history_sound h parts is) e in
-    let at = part_at parts (history h parts) k l.0 (parts_shown h parts is) l.1 in
+    let l = last_covers_sightings (releases_of h parts) x k (history_sound h parts is) e in
+    let at = part_at parts (releases_of h parts) k l.0 (parts_shown h parts is) l.1 in
     (at.0, at.1, λ t a. ap (λ (C : List Range). covers C t) at.2 ∙ l.2 t a)
 
 -- ---- what is listed
 
 -- behind a front of releases, each release leaves what its job says
 leaves_after : (front : List Release) (before : List Job) (rs : List Release) (jobs : List JobIn) (parts : List SealedFields) → AllZip Leaves before rs
-    → AreAdmissible (front ++ rs) jobs parts → AllZip Leaves (before ++ map facts_in jobs) (drop (length front) (history_after (front ++ rs) jobs parts))
+    → AreAdmissible (front ++ rs) jobs parts → AllZip Leaves (before ++ map facts_in jobs) (drop (length front) (releases_after (front ++ rs) jobs parts))
 leaves_after front before rs [] [] z h = rw (append-nil, drop-append_seam front rs) z
 leaves_after front before rs [] (s ∷ parts) z h = absurd h
 leaves_after front before rs (j ∷ jobs) [] z h = absurd h
@@ -57,8 +57,8 @@ leaves_after front before rs (j ∷ jobs) (s ∷ parts) z h =
     let pushed : AllZip Leaves (before ++ facts_in j ∷ []) (rs ++ r ∷ []) = zip_push Leaves before rs (facts_in j) r z (leaves (past_of (front ++ rs)) (facts_in j) s.trailer) in
     let assoc : (front ++ rs) ++ r ∷ [] ≡ front ++ (rs ++ r ∷ []) = append_assoc front rs (r ∷ []) in
     let rest = leaves_after front (before ++ facts_in j ∷ []) (rs ++ r ∷ []) jobs parts pushed (subst (λ (qs : List Release). AreAdmissible qs jobs parts) assoc h.2) in
-    subst (λ (js : List Job). AllZip Leaves js (drop (length front) (history_after ((front ++ rs) ++ r ∷ []) jobs parts))) (append_assoc before (facts_in j ∷ []) (map facts_in jobs))
-    (subst (λ (qs : List Release). AllZip Leaves ((before ++ facts_in j ∷ []) ++ map facts_in jobs) (drop (length front) (history_after qs jobs parts))) (sym assoc) rest)
+    subst (λ (js : List Job). AllZip Leaves js (drop (length front) (releases_after ((front ++ rs) ++ r ∷ []) jobs parts))) (append_assoc before (facts_in j ∷ []) (map facts_in jobs))
+    (subst (λ (qs : List Release). AllZip Leaves ((before ++ facts_in j ∷ []) ++ map facts_in jobs) (drop (length front) (releases_after qs jobs parts))) (sym assoc) rest)
 
 -- whether some job enrolls the issuer and lists the identity, the enrolled told by a list or by a test
 any_lists : (x : Identity) (jobs : List JobIn) → list_any (λ (job : Job). lists job x && has_key (enrolled job) x.issuer) (map facts_in jobs)
@@ -69,17 +69,17 @@ any_lists x (j ∷ jobs) =
     ∙ ap (λ b. (lists (facts_in j) x && is_enrolled (facts_in j) x.issuer) || b) (any_lists x jobs)
 
 pub listed_in_jobs : (jobs : List JobIn) (parts : List SealedFields) (x : Identity) → IsHistory (of_jobs jobs) parts
-    → is_listed (history (of_jobs jobs) parts) x
-    ≡ list_any (λ j. lists (facts_in j) x && is_enrolled (facts_in j) x.issuer) (drop (birth x (history (of_jobs jobs) parts)) jobs)
+    → is_listed (releases_of (of_jobs jobs) parts) x
+    ≡ list_any (λ j. lists (facts_in j) x && is_enrolled (facts_in j) x.issuer) (drop (birth x (releases_of (of_jobs jobs) parts)) jobs)
 listed_in_jobs jobs parts x is =
-    let born : ℕ = birth x (history (of_jobs jobs) parts) in
+    let born : ℕ = birth x (releases_of (of_jobs jobs) parts) in
     let says : Job → Bool = λ job. lists job x && has_key (enrolled job) x.issuer in
-    listed_in_words x (map facts_in jobs) (history (of_jobs jobs) parts) (leaves_after [] [] [] jobs parts tt is) (history_sound (of_jobs jobs) parts is).widens
+    listed_in_words x (map facts_in jobs) (releases_of (of_jobs jobs) parts) (leaves_after [] [] [] jobs parts tt is) (history_sound (of_jobs jobs) parts is).widens
     ∙ ap (list_any says) (drop-map facts_in born jobs) ∙ any_lists x (drop born jobs)
 
 -- releases behind a base begin with it
 begins : (base : Release) (rs : List Release) (jobs : List JobIn) (parts : List SealedFields)
-    → history_after (base ∷ rs) jobs parts ≡ base ∷ drop 1 (history_after (base ∷ rs) jobs parts)
+    → releases_after (base ∷ rs) jobs parts ≡ base ∷ drop 1 (releases_after (base ∷ rs) jobs parts)
 begins base rs [] parts = refl
 begins base rs (j ∷ jobs) [] = refl
 begins base rs (j ∷ jobs) (s ∷ parts) = begins base (rs ++ release_of (base ∷ rs) j s ∷ []) jobs parts
@@ -90,13 +90,13 @@ unfolding base_with
 base_lists keeps rs trailer x = has-filter (is_listed rs) (kept_by keeps rs) x ∙ and_comm (is_listed rs x) (has (kept_by keeps rs) x)
 
 listed_after : (moment : ℕ) (rs : List Release) (trailer : List ℕ) (jobs : List JobIn) (parts : List SealedFields) (x : Identity)
-    → AreAdmissible (base_at moment rs trailer ∷ []) jobs parts → Widens (history_after (base_at moment rs trailer ∷ []) jobs parts)
-    → is_listed (history_after (base_at moment rs trailer ∷ []) jobs parts) x
+    → AreAdmissible (base_at moment rs trailer ∷ []) jobs parts → Widens (releases_after (base_at moment rs trailer ∷ []) jobs parts)
+    → is_listed (releases_after (base_at moment rs trailer ∷ []) jobs parts) x
     ≡ ((has (kept_by (is_lasting_by moment rs) rs) x && is_listed rs x)
-    || list_any (λ j. lists (facts_in j) x && is_enrolled (facts_in j) x.issuer) (drop (birth x (drop 1 (history_after (base_at moment rs trailer ∷ []) jobs parts))) jobs))
+    || list_any (λ j. lists (facts_in j) x && is_enrolled (facts_in j) x.issuer) (drop (birth x (drop 1 (releases_after (base_at moment rs trailer ∷ []) jobs parts))) jobs))
 listed_after moment rs trailer jobs parts x h widens =
     let base : Release = base_at moment rs trailer in
-    let all : List Release = history_after (base ∷ []) jobs parts in
+    let all : List Release = releases_after (base ∷ []) jobs parts in
     let born : ℕ = birth x (drop 1 all) in
     let says : Job → Bool = λ job. lists job x && has_key (enrolled job) x.issuer in
     let first : all ≡ base ∷ drop 1 all = begins base [] jobs parts in
@@ -107,10 +107,10 @@ listed_after moment rs trailer jobs parts x h widens =
 
 pub listed_behind_base : (h : History) (old : List SealedFields) (moment : ℕ) (without : List (List ℕ)) (jobs : List JobIn) (parts : List SealedFields) (x : Identity)
     → IsHistory (rebased h old moment without jobs) parts
-    → is_listed (history (rebased h old moment without jobs) parts) x
-    ≡ ((has (kept_by (is_lasting_by moment (releases_without without (history h old))) (releases_without without (history h old))) x
-    && is_listed (releases_without without (history h old)) x)
-    || list_any (λ j. lists (facts_in j) x && is_enrolled (facts_in j) x.issuer) (drop (birth x (drop 1 (history (rebased h old moment without jobs) parts))) jobs))
+    → is_listed (releases_of (rebased h old moment without jobs) parts) x
+    ≡ ((has (kept_by (is_lasting_by moment (releases_without without (releases_of h old))) (releases_without without (releases_of h old))) x
+    && is_listed (releases_without without (releases_of h old)) x)
+    || list_any (λ j. lists (facts_in j) x && is_enrolled (facts_in j) x.issuer) (drop (birth x (drop 1 (releases_of (rebased h old moment without jobs) parts))) jobs))
 listed_behind_base h old moment without jobs [] x is = absurd is
 listed_behind_base h old moment without jobs (s ∷ parts) x is =
-    listed_after moment (releases_without without (history h old)) s.trailer jobs parts x is.3 (history_sound (rebased h old moment without jobs) (s ∷ parts) is).widens
+    listed_after moment (releases_without without (releases_of h old)) s.trailer jobs parts x is.3 (history_sound (rebased h old moment without jobs) (s ∷ parts) is).widens

@@ -15,19 +15,19 @@ use Rattle.history_core.specs.Facts.{KeepsCoverage, IsSound}
 use Rattle.history_core.proofs.Bases.{base_sound}
 use Rattle.history_core.proofs.Sound.{nothing_sound, keeps_sound}
 use Rattle.history_core.proofs.Without.{without_sound}
-use Rattle.publication_core.specs.Histories.{newest_of, GoesOn, IsAdmissible, IsPartOf, release_of, history_after, AreAdmissible, History, of_jobs, rebased, members, with_job, IsHistory, history}
+use Rattle.publication_core.specs.Histories.{newest_of, GoesOn, IsAdmissible, IsPartOf, release_of, releases_after, AreAdmissible, History, of_jobs, rebased, members, with_job, IsHistory, releases_of}
 
 -- ---- one job more
 
 history_push : (rs : List Release) (jobs : List JobIn) (parts : List SealedFields) (job : JobIn) (s : SealedFields) → AreAdmissible rs jobs parts
-    → history_after rs (jobs ++ job ∷ []) (parts ++ s ∷ []) ≡ history_after rs jobs parts ++ release_of (history_after rs jobs parts) job s ∷ []
+    → releases_after rs (jobs ++ job ∷ []) (parts ++ s ∷ []) ≡ releases_after rs jobs parts ++ release_of (releases_after rs jobs parts) job s ∷ []
 history_push rs [] [] job s h = refl
 history_push rs [] (p ∷ parts) job s h = absurd h
 history_push rs (j ∷ jobs) [] job s h = absurd h
 history_push rs (j ∷ jobs) (p ∷ parts) job s h = history_push (rs ++ release_of rs j p ∷ []) jobs parts job s h.2
 
 admissible_push : (rs : List Release) (jobs : List JobIn) (parts : List SealedFields) (job : JobIn) (s : SealedFields) → AreAdmissible rs jobs parts
-    → IsAdmissible (history_after rs jobs parts) job → IsPartOf (history_after rs jobs parts) job s → AreAdmissible rs (jobs ++ job ∷ []) (parts ++ s ∷ [])
+    → IsAdmissible (releases_after rs jobs parts) job → IsPartOf (releases_after rs jobs parts) job s → AreAdmissible rs (jobs ++ job ∷ []) (parts ++ s ∷ [])
 admissible_push rs [] [] job s h a p = (a, p, tt)
 admissible_push rs [] (q ∷ parts) job s h a p = absurd h
 admissible_push rs (j ∷ jobs) [] job s h a p = absurd h
@@ -37,7 +37,7 @@ length_more : {A : Type 0} (xs : List A) (x : A) → length (xs ++ x ∷ []) ≡
 length_more [] x = refl
 length_more (y ∷ xs) x = ap suc (length_more xs x)
 
-history_length : (rs : List Release) (jobs : List JobIn) (parts : List SealedFields) → AreAdmissible rs jobs parts → length (history_after rs jobs parts) ≡ length rs + length jobs
+history_length : (rs : List Release) (jobs : List JobIn) (parts : List SealedFields) → AreAdmissible rs jobs parts → length (releases_after rs jobs parts) ≡ length rs + length jobs
 history_length rs [] [] h = omega arith
 history_length rs [] (p ∷ parts) h = absurd h
 history_length rs (j ∷ jobs) [] h = absurd h
@@ -72,7 +72,7 @@ follows (r ∷ q ∷ rs) job h = follows (q ∷ rs) job h
 pub job_sound : (rs : List Release) (j : JobIn) (s : SealedFields) → IsSound rs → IsAdmissible rs j → IsSound (rs ++ release_of rs j s ∷ [])
 job_sound rs j s sound a = keeps_sound rs (facts_in j) s.trailer sound (follows rs j a.goes_on)
 
-after_sound : (rs : List Release) (jobs : List JobIn) (parts : List SealedFields) → IsSound rs → AreAdmissible rs jobs parts → IsSound (history_after rs jobs parts)
+after_sound : (rs : List Release) (jobs : List JobIn) (parts : List SealedFields) → IsSound rs → AreAdmissible rs jobs parts → IsSound (releases_after rs jobs parts)
 after_sound rs [] [] sound h = sound
 after_sound rs [] (p ∷ parts) sound h = absurd h
 after_sound rs (j ∷ jobs) [] sound h = absurd h
@@ -84,34 +84,34 @@ pub base_at_sound : (moment : ℕ) (rs : List Release) (s : SealedFields) → Is
 base_at_sound moment rs s sound = base_sound (is_lasting_by moment rs) rs s.trailer sound
 
 -- The facts hold after each history.
-pub history_sound : (h : History) (parts : List SealedFields) → IsHistory h parts → IsSound (history h parts)
+pub history_sound : (h : History) (parts : List SealedFields) → IsHistory h parts → IsSound (releases_of h parts)
 history_sound (of_jobs jobs) parts is = after_sound [] jobs parts nothing_sound is
 history_sound (rebased h old moment without jobs) [] is = absurd is
 history_sound (rebased h old moment without jobs) (s ∷ parts) is =
-    after_sound (base_at moment (releases_without without (history h old)) s.trailer ∷ []) jobs parts (base_at_sound moment (releases_without without (history h old)) s (without_sound without (history h old) (history_sound h old is.0))) is.3
+    after_sound (base_at moment (releases_without without (releases_of h old)) s.trailer ∷ []) jobs parts (base_at_sound moment (releases_without without (releases_of h old)) s (without_sound without (releases_of h old) (history_sound h old is.0))) is.3
 
 -- ---- a history with a job more
 
 pub with_job_leaves : (h : History) (parts : List SealedFields) (j : JobIn) (s : SealedFields) → IsHistory h parts
-    → history (with_job h j) (parts ++ s ∷ []) ≡ history h parts ++ release_of (history h parts) j s ∷ []
+    → releases_of (with_job h j) (parts ++ s ∷ []) ≡ releases_of h parts ++ release_of (releases_of h parts) j s ∷ []
 with_job_leaves (of_jobs jobs) parts j s is = history_push [] jobs parts j s is
 with_job_leaves (rebased h old moment without jobs) [] j s is = absurd is
-with_job_leaves (rebased h old moment without jobs) (p ∷ parts) j s is = history_push (base_at moment (releases_without without (history h old)) p.trailer ∷ []) jobs parts j s is.3
+with_job_leaves (rebased h old moment without jobs) (p ∷ parts) j s is = history_push (base_at moment (releases_without without (releases_of h old)) p.trailer ∷ []) jobs parts j s is.3
 
-pub with_job_is : (h : History) (parts : List SealedFields) (j : JobIn) (s : SealedFields) → IsHistory h parts → IsAdmissible (history h parts) j → IsPartOf (history h parts) j s
+pub with_job_is : (h : History) (parts : List SealedFields) (j : JobIn) (s : SealedFields) → IsHistory h parts → IsAdmissible (releases_of h parts) j → IsPartOf (releases_of h parts) j s
     → IsHistory (with_job h j) (parts ++ s ∷ [])
 with_job_is (of_jobs jobs) parts j s is a p = admissible_push [] jobs parts j s is a p
 with_job_is (rebased h old moment without jobs) [] j s is a p = absurd is
 with_job_is (rebased h old moment without jobs) (q ∷ parts) j s is a p =
-    (is.0, is.1, is.2, admissible_push (base_at moment (releases_without without (history h old)) q.trailer ∷ []) jobs parts j s is.3 a p)
+    (is.0, is.1, is.2, admissible_push (base_at moment (releases_without without (releases_of h old)) q.trailer ∷ []) jobs parts j s is.3 a p)
 
 -- a member leaves one release, and publishes one part
-pub members_many : (h : History) (parts : List SealedFields) → IsHistory h parts → length (history h parts) ≡ members h
+pub members_many : (h : History) (parts : List SealedFields) → IsHistory h parts → length (releases_of h parts) ≡ members h
 members_many (of_jobs jobs) parts is = omega (arith, history_length [] jobs parts is)
 members_many (rebased h old moment without jobs) [] is = absurd is
-members_many (rebased h old moment without jobs) (s ∷ parts) is = omega (arith, history_length (base_at moment (releases_without without (history h old)) s.trailer ∷ []) jobs parts is.3)
+members_many (rebased h old moment without jobs) (s ∷ parts) is = omega (arith, history_length (base_at moment (releases_without without (releases_of h old)) s.trailer ∷ []) jobs parts is.3)
 
 pub parts_many : (h : History) (parts : List SealedFields) → IsHistory h parts → length parts ≡ members h
 parts_many (of_jobs jobs) parts is = parts_length [] jobs parts is
 parts_many (rebased h old moment without jobs) [] is = absurd is
-parts_many (rebased h old moment without jobs) (s ∷ parts) is = omega (arith, parts_length (base_at moment (releases_without without (history h old)) s.trailer ∷ []) jobs parts is.3)
+parts_many (rebased h old moment without jobs) (s ∷ parts) is = omega (arith, parts_length (base_at moment (releases_without without (releases_of h old)) s.trailer ∷ []) jobs parts is.3)

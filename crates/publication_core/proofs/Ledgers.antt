@@ -62,7 +62,7 @@ use Rattle.history_core.proofs.Beginnings.{ledger_of_none}
 use Rattle.history_core.proofs.Ledger as histories
 use Rattle.history_core.proofs.Sound.{nothing_sound}
 use Rattle.history_core.proofs.Without.{without_sound, ledger_without-of, many_without}
-use Rattle.publication_core.specs.Histories.{newest_of, IsAdmissible, IsPartOf, IsRebasable, IsBasePart, release_of, history_after, AreAdmissible, History, of_jobs, rebased, members, IsHistory, history}
+use Rattle.publication_core.specs.Histories.{newest_of, IsAdmissible, IsPartOf, IsRebasable, IsBasePart, release_of, releases_after, AreAdmissible, History, of_jobs, rebased, members, IsHistory, releases_of}
 use Rattle.publication_core.specs.Histories.{ledger_bytes, old_ledger_bytes, IsUndated}
 use Rattle.publication_core.proofs.Reading.{fits_in, goes_on_in, none_dated, after_undated, items_undated}
 use Rattle.publication_core.proofs.Admitting.{not_refused}
@@ -293,7 +293,7 @@ step_fits rs j s sound kept a part =
     (fits_before (next_ledger (ledger_of rs) (facts_of job) s.trailer) (next_fits (ledger_of rs) job kept (fits_in j a.fits) s.trailer key none a.limits.crls few))
 
 after_fits : (rs : List Release) (jobs : List JobIn) (parts : List SealedFields) → IsSound rs → FitsBefore (ledger_of rs) → AreAdmissible rs jobs parts
-    → FitsBefore (ledger_of (history_after rs jobs parts))
+    → FitsBefore (ledger_of (releases_after rs jobs parts))
 after_fits rs [] [] sound kept h = kept
 after_fits rs [] (s ∷ parts) sound kept h = absurd h
 after_fits rs (job ∷ jobs) [] sound kept h = absurd h
@@ -332,11 +332,11 @@ base_fits moment w old s sound kept can part =
     subst Fits (ledger_same (is_lasting moment) rs s.trailer (without_sound w old sound))
     (rebased_fits (is_lasting moment) (ledger_of rs) s.trailer fits key (few_issuers rs can.few_issuers))
 
-history_fits : (h : History) (parts : List SealedFields) → IsHistory h parts → FitsBefore (ledger_of (history h parts))
+history_fits : (h : History) (parts : List SealedFields) → IsHistory h parts → FitsBefore (ledger_of (releases_of h parts))
 history_fits (of_jobs jobs) parts is = after_fits [] jobs parts nothing_sound (subst FitsBefore (sym ledger_of_none) none_fits) is
 history_fits (rebased h old moment without jobs) [] is = absurd is
 history_fits (rebased h old moment without jobs) (s ∷ parts) is =
-    let rs : List Release = history h old in
+    let rs : List Release = releases_of h old in
     let rest : List Release = releases_without without rs in
     let base : Release = base_at moment rest s.trailer in
     let sound : IsSound rs = history_sound h old is.0 in
@@ -345,30 +345,30 @@ history_fits (rebased h old moment without jobs) (s ∷ parts) is =
 
 -- The ledger of the base with which a history begins fits.
 pub history_base_fits : (h : History) (old : List SealedFields) (moment : ℕ) (without : List (List ℕ)) (s : SealedFields) → IsHistory h old
-    → IsRebasable moment (releases_without without (history h old)) → IsBasePart moment (releases_without without (history h old)) s
-    → Fits (ledger_of (base_at moment (releases_without without (history h old)) s.trailer ∷ []))
-history_base_fits h old moment without s is can part = base_fits moment without (history h old) s (history_sound h old is) (history_fits h old is) can part
+    → IsRebasable moment (releases_without without (releases_of h old)) → IsBasePart moment (releases_without without (releases_of h old)) s
+    → Fits (ledger_of (base_at moment (releases_without without (releases_of h old)) s.trailer ∷ []))
+history_base_fits h old moment without s is can part = base_fits moment without (releases_of h old) s (history_sound h old is) (history_fits h old is) can part
 
 -- where no job reads dates, the ledger has none
-undated_by : (h : History) (parts : List SealedFields) → IsUndated h → HasNoDates (ledger_of (history h parts))
-undated_by (of_jobs jobs) parts none = items_undated (history_after [] jobs parts) (after_undated [] jobs parts none none_dated)
+undated_by : (h : History) (parts : List SealedFields) → IsUndated h → HasNoDates (ledger_of (releases_of h parts))
+undated_by (of_jobs jobs) parts none = items_undated (releases_after [] jobs parts) (after_undated [] jobs parts none none_dated)
 undated_by (rebased h old moment without jobs) parts none = absurd none
 
 module _ (h : History) (parts : List SealedFields) (is : IsHistory h parts) (some : 1 ≤ members h) where
-  pub history_ledger_fits : Fits (ledger_of (history h parts))
-  history_ledger_fits = fits_of (ledger_of (history h parts)) (history_fits h parts is) (omega (arith, releases_many (history h parts), members_many h parts is, some))
+  pub history_ledger_fits : Fits (ledger_of (releases_of h parts))
+  history_ledger_fits = fits_of (ledger_of (releases_of h parts)) (history_fits h parts is) (omega (arith, releases_many (releases_of h parts), members_many h parts is, some))
 
-  pub history_ledger_read : ledger (ledger_bytes h parts) 0 ≡ Ok (ledger_of (history h parts), length (ledger_bytes h parts))
-  history_ledger_read = ledger-again (ledger_of (history h parts)) history_ledger_fits
+  pub history_ledger_read : ledger (ledger_bytes h parts) 0 ≡ Ok (ledger_of (releases_of h parts), length (ledger_bytes h parts))
+  history_ledger_read = ledger-again (ledger_of (releases_of h parts)) history_ledger_fits
 
-  pub history_undated : IsUndated h → HasNoDates (ledger_of (history h parts))
+  pub history_undated : IsUndated h → HasNoDates (ledger_of (releases_of h parts))
   history_undated none = undated_by h parts none
 
-  pub history_old_read : IsUndated h → ledger (old_ledger_bytes h parts) 0 ≡ Ok (ledger_of (history h parts), length (old_ledger_bytes h parts))
-  history_old_read none = old-again (ledger_of (history h parts)) history_ledger_fits (history_undated none)
+  pub history_old_read : IsUndated h → ledger (old_ledger_bytes h parts) 0 ≡ Ok (ledger_of (releases_of h parts), length (old_ledger_bytes h parts))
+  history_old_read none = old-again (ledger_of (releases_of h parts)) history_ledger_fits (history_undated none)
 
-  pub history_old_value : IsUndated h → read_ledger (old_ledger_bytes h parts) ≡ Ok (ledger_of (history h parts))
+  pub history_old_value : IsUndated h → read_ledger (old_ledger_bytes h parts) ≡ Ok (ledger_of (releases_of h parts))
   history_old_value none = ap (λ r. value_of (with_fault ledger_faults.Layout r)) (history_old_read none)
 
-  pub history_ledger_value : read_ledger (ledger_bytes h parts) ≡ Ok (ledger_of (history h parts))
+  pub history_ledger_value : read_ledger (ledger_bytes h parts) ≡ Ok (ledger_of (releases_of h parts))
   history_ledger_value = ap (λ r. value_of (with_fault ledger_faults.Layout r)) history_ledger_read

@@ -21,7 +21,7 @@ use Rattle.universe_core.proofs.Enrolled.{enrolled_test}
 use Rattle.history_core.specs.Bases.{is_lasting_by, releases_without, base_at}
 use Rattle.history_core.specs.Showing.{Shows}
 use Rattle.history_core.proofs.Returning.{base_unenrolled, entry_seen}
-use Rattle.publication_core.specs.Histories.{release_of, history_after, History, of_jobs, rebased, with_job, IsHistory, history, LeavesOut}
+use Rattle.publication_core.specs.Histories.{release_of, releases_after, History, of_jobs, rebased, with_job, IsHistory, releases_of, LeavesOut}
 use Rattle.publication_core.proofs.Histories.{with_job_leaves}
 use Rattle.publication_core.proofs.Shown.{shown_by}
 use Rattle.publication_core.proofs.Verdicts.{parts_shown}
@@ -32,7 +32,7 @@ abbrev Unenrolled : List ℕ → List Release → Type 0
 Unenrolled k rs = (r : Release) → Among rs r → has_key r.issuers k ≡ false
 
 after_unenrolled : (k : List ℕ) (rs : List Release) (jobs : List JobIn) (parts : List SealedFields) → Unenrolled k rs
-    → ((j : JobIn) → Among jobs j → is_enrolled (facts_in j) k ≡ false) → Unenrolled k (history_after rs jobs parts)
+    → ((j : JobIn) → Among jobs j → is_enrolled (facts_in j) k ≡ false) → Unenrolled k (releases_after rs jobs parts)
 after_unenrolled k rs [] parts u n = u
 after_unenrolled k rs (j ∷ jobs) [] u n = u
 after_unenrolled k rs (j ∷ jobs) (s ∷ parts) u n =
@@ -40,14 +40,14 @@ after_unenrolled k rs (j ∷ jobs) (s ∷ parts) u n =
     (λ r a. ⊎_elim (λ old. u r old) (λ e. subst (λ (z : Release). has_key z.issuers k ≡ false) e (enrolled_test (facts_in j) k ∙ n j (inl refl))) (Among-push_cases rs (release_of rs j s) r a))
     (λ i a. n i (inr a))
 
-no_release : (h : History) (parts : List SealedFields) (k : List ℕ) → IsHistory h parts → LeavesOut h k → Unenrolled k (history h parts)
+no_release : (h : History) (parts : List SealedFields) (k : List ℕ) → IsHistory h parts → LeavesOut h k → Unenrolled k (releases_of h parts)
 no_release (of_jobs jobs) parts k is left = absurd left
 no_release (rebased h old moment without jobs) [] k is left = absurd is
 no_release (rebased h old moment without jobs) (s ∷ parts) k is left =
-    let rest : List Release = releases_without without (history h old) in
+    let rest : List Release = releases_without without (releases_of h old) in
     let base : Release = base_at moment rest s.trailer in
     after_unenrolled k (base ∷ []) jobs parts
-    (λ r a. ⊎_elim (λ e. subst (λ (z : Release). has_key z.issuers k ≡ false) e (base_unenrolled (is_lasting_by moment rest) without (history h old) s.trailer k left.0)) (λ n. absurd n) a)
+    (λ r a. ⊎_elim (λ e. subst (λ (z : Release). has_key z.issuers k ≡ false) e (base_unenrolled (is_lasting_by moment rest) without (releases_of h old) s.trailer k left.0)) (λ n. absurd n) a)
     left.1
 
 -- ---- what the parts say
@@ -79,7 +79,7 @@ pub left_out_verdict : (h : History) (parts : List SealedFields) (x : Identity) 
     → verdict (map (λ t. t.part) parts) x ss ≡ cond (list_any (covers_some ss) (map (λ t. t.part) parts)) NotEnrolled NotCovered
 left_out_verdict h parts x ss is left =
     none_consulted x ss (map (λ (t : SealedFields). t.part) parts) (λ p a.
-    let z = zip_left Shows (map shown_by (map (λ (t : SealedFields). t.part) parts)) (history h parts) (shown_by p) (parts_shown h parts is)
+    let z = zip_left Shows (map shown_by (map (λ (t : SealedFields). t.part) parts)) (releases_of h parts) (shown_by p) (parts_shown h parts is)
     (Among-in_map shown_by (map (λ (t : SealedFields). t.part) parts) p a) in
     z.2.other x (no_release h parts x.issuer is left z.0 z.1))
 
@@ -87,7 +87,7 @@ left_out_verdict h parts x ss is left =
 
 pub comes_back : (h : History) (parts : List SealedFields) (j : JobIn) (s : SealedFields) (e : Entry) → IsHistory h parts → LeavesOut h e.id.issuer
     → Among (facts_in j).entries (Some e) → covers (facts_in j).ranges e.sighting ≡ true → is_enrolled (facts_in j) e.id.issuer ≡ true
-    → Among (seen (history (with_job h j) (parts ++ s ∷ []))) e
+    → Among (seen (releases_of (with_job h j) (parts ++ s ∷ []))) e
 comes_back h parts j s e is left a v k =
     subst (λ (rs : List Release). Among (seen rs) e) (sym (with_job_leaves h parts j s is))
-    (entry_seen (history h parts) (facts_in j) s.trailer e (no_release h parts e.id.issuer is left) a v (enrolled_test (facts_in j) e.id.issuer ∙ k))
+    (entry_seen (releases_of h parts) (facts_in j) s.trailer e (no_release h parts e.id.issuer is left) a v (enrolled_test (facts_in j) e.id.issuer ∙ k))

@@ -23,8 +23,8 @@ use Rattle.ledger_core.specs.LedgerFields.{LedgerFields}
 use Rattle.builder_core.specs.declared.format.Format.{Format}
 use Rattle.builder_core.specs.Building.{IsGroupBlock, AreGroupBlocks}
 use Rattle.publication_core.specs.Formats.{current, blocks_in}
-use Rattle.publication_core.specs.Histories.{IsPartOf, IsAdmissible, History, members, with_job, IsHistory, history}
-use Rattle.publication_core.specs.Publishing.{CanBePublished, Published, IsPublication, Publishes}
+use Rattle.publication_core.specs.Histories.{IsPartOf, IsAdmissible, History, members, with_job, IsHistory, releases_of}
+use Rattle.publication_core.specs.Publishing.{CanBePublished, PublicationFields, IsPublication, Publishes}
 use Rattle.publication_core.proofs.Histories.{with_job_leaves, with_job_is, members_many, history_sound}
 use Rattle.publication_core.proofs.Admitting.{admitted, not_refused, parts_many}
 
@@ -33,7 +33,7 @@ unfolding ledger_of
 heads_same rs job = refl
 
 -- the part that is published is that of the history
-part_of_history : (rs : List Release) (job : JobFields) (p : Published) → IsSound rs → IsPublication (ledger_of rs) job p → IsPartOf rs (in_format current job) p.sealed
+part_of_history : (rs : List Release) (job : JobFields) (p : PublicationFields) → IsSound rs → IsPublication (ledger_of rs) job p → IsPartOf rs (in_format current job) p.sealed
 part_of_history rs job p sound is = record {
   head_is = is.head ∙ heads_same rs job;
   blocks = subst (λ (gs : List GroupFields). AreGroupBlocks (blocks_in current) sha256_row gs p.sealed.part.blocks) (groups_are rs sound (facts_of job) []) is.blocks;
@@ -43,7 +43,7 @@ part_of_history rs job p sound is = record {
 -- A job that is admitted behind a ledger, with a block for each group, is published.
 pub admitted_published : (ledger : LedgerFields) (job : JobFields) → refusal PUBLISHED ledger job ≡ None
     → (blocks : List Block) → AreGroupBlocks (blocks_in current) sha256_row (groups_after ledger (facts_of job)) blocks
-    → (p : Published) × Publishes ledger job (Ok p)
+    → (p : PublicationFields) × Publishes ledger job (Ok p)
 admitted_published ledger job none blocks are =
     let made : PartFields = record { head = head_after ledger.parts (facts_of job); blocks = blocks } in
     let sealed : SealedFields = record { part = made; trailer = sha256 (unsealed_text made) } in (
@@ -65,13 +65,13 @@ blocks_of_each format (g ∷ groups) each =
     let rest = blocks_of_each format groups (λ h c. each h (c.0 + 1, omega (arith, c.1), rw add-one c.2)) in
     (first.0 ∷ rest.0, (first.1, rest.1))
 
-pub can_be_published : (ledger : LedgerFields) (job : JobFields) → CanBePublished ledger job → (p : Published) × Publishes ledger job (Ok p)
+pub can_be_published : (ledger : LedgerFields) (job : JobFields) → CanBePublished ledger job → (p : PublicationFields) × Publishes ledger job (Ok p)
 can_be_published ledger job can =
     let made = blocks_of_each (blocks_in current) (groups_after ledger (facts_of job)) can.blocks in
     admitted_published ledger job can.admitted made.0 made.1
 
 -- a job that is published is admissible
-admissible_then : (rs : List Release) (job : JobFields) (p : Published) → IsSound rs → FitsPublishing job → IsWithinLimits PUBLISHED job
+admissible_then : (rs : List Release) (job : JobFields) (p : PublicationFields) → IsSound rs → FitsPublishing job → IsWithinLimits PUBLISHED job
     → Publishes (ledger_of rs) job (Ok p) → IsAdmissible rs (in_format current job)
 admissible_then rs job p sound fits limits x =
     let a = admitted rs job sound x.0 in
@@ -86,31 +86,31 @@ admissible_then rs job p sound fits limits x =
     }
 
 module _ (h : History) (parts : List SealedFields) (job : JobFields) (is : IsHistory h parts) where
-  pub published_admissible : (p : Published) → FitsPublishing job → IsWithinLimits PUBLISHED job → Publishes (ledger_of (history h parts)) job (Ok p)
-      → IsAdmissible (history h parts) (in_format current job)
-  published_admissible p fits limits x = admissible_then (history h parts) job p (history_sound h parts is) fits limits x
+  pub published_admissible : (p : PublicationFields) → FitsPublishing job → IsWithinLimits PUBLISHED job → Publishes (ledger_of (releases_of h parts)) job (Ok p)
+      → IsAdmissible (releases_of h parts) (in_format current job)
+  published_admissible p fits limits x = admissible_then (releases_of h parts) job p (history_sound h parts is) fits limits x
 
-  pub published_history : (p : Published) → FitsPublishing job → IsWithinLimits PUBLISHED job → Publishes (ledger_of (history h parts)) job (Ok p)
+  pub published_history : (p : PublicationFields) → FitsPublishing job → IsWithinLimits PUBLISHED job → Publishes (ledger_of (releases_of h parts)) job (Ok p)
       → IsHistory (with_job h (in_format current job)) (parts ++ p.sealed ∷ [])
   published_history p fits limits x =
-      with_job_is h parts (in_format current job) p.sealed is (published_admissible p fits limits x) (part_of_history (history h parts) job p (history_sound h parts is) x.1)
+      with_job_is h parts (in_format current job) p.sealed is (published_admissible p fits limits x) (part_of_history (releases_of h parts) job p (history_sound h parts is) x.1)
 
-  pub published_ledger : (p : Published) → Publishes (ledger_of (history h parts)) job (Ok p) → p.ledger ≡ ledger_of (history (with_job h (in_format current job)) (parts ++ p.sealed ∷ []))
+  pub published_ledger : (p : PublicationFields) → Publishes (ledger_of (releases_of h parts)) job (Ok p) → p.ledger ≡ ledger_of (releases_of (with_job h (in_format current job)) (parts ++ p.sealed ∷ []))
   published_ledger p x =
-      x.1.next ∙ next_is (history h parts) (history_sound h parts is) (facts_of job) p.sealed.trailer ∙ ap ledger_of (sym (with_job_leaves h parts (in_format current job) p.sealed is))
+      x.1.next ∙ next_is (releases_of h parts) (history_sound h parts is) (facts_of job) p.sealed.trailer ∙ ap ledger_of (sym (with_job_leaves h parts (in_format current job) p.sealed is))
 
-  pub published_counts : (p : Published) → Publishes (ledger_of (history h parts)) job (Ok p) → p.counts ≡ counts (past_of (history h parts)) (facts_of job)
-  published_counts p x = x.1.counts ∙ counts_are (history h parts) (history_sound h parts is) (facts_of job)
+  pub published_counts : (p : PublicationFields) → Publishes (ledger_of (releases_of h parts)) job (Ok p) → p.counts ≡ counts (past_of (releases_of h parts)) (facts_of job)
+  published_counts p x = x.1.counts ∙ counts_are (releases_of h parts) (history_sound h parts is) (facts_of job)
 
-  pub published_place : (p : Published) → Publishes (ledger_of (history h parts)) job (Ok p) → p.place ≡ members h
+  pub published_place : (p : PublicationFields) → Publishes (ledger_of (releases_of h parts)) job (Ok p) → p.place ≡ members h
   published_place p x =
-      let many = parts_many (history h parts) job (history_sound h parts is) in
+      let many = parts_many (releases_of h parts) job (history_sound h parts is) in
       omega (arith, x.1.place, many, members_many h parts is)
 
   -- An admissible job is published.
-  pub admissible_published : IsAdmissible (history h parts) (in_format current job) → (p : Published) × Publishes (ledger_of (history h parts)) job (Ok p)
+  pub admissible_published : IsAdmissible (releases_of h parts) (in_format current job) → (p : PublicationFields) × Publishes (ledger_of (releases_of h parts)) job (Ok p)
   admissible_published a =
-      let rs : List Release = history h parts in
+      let rs : List Release = releases_of h parts in
       let sound : IsSound rs = history_sound h parts is in
       admitted_published (ledger_of rs) job
       (not_refused rs job sound (record { crls = a.crls; goes_on = a.goes_on; few_parts = a.few_parts; few_identities = a.few_identities }))

@@ -20,7 +20,7 @@ use Rattle.universe_core.proofs.Greatest.{greatest_is, greatest_keeps}
 use Rattle.universe_core.proofs.Members.{Among-dates}
 use Rattle.history_core.proofs.Accepting.{shown_entry}
 use Rattle.history_core.proofs.Releases.{seen-push}
-use Rattle.publication_core.specs.Histories.{GoesOn, release_of, history_after}
+use Rattle.publication_core.specs.Histories.{GoesOn, release_of, releases_after}
 
 -- ---- what a job keeps as its format reads it
 
@@ -69,7 +69,7 @@ more_undated rs j trailer undated_in h = λ e a.
     ⊎_elim (λ old. h e old) (λ n. entry_undated (reads_dates j.format) j.job.entries e undated_in (shown_entry (past_of rs) (facts_in j) e n))
     (Among-cases (seen rs) (shown (past_of rs) (facts_in j)) e (subst (λ (es : List Entry). Among es e) (seen-push rs (released (past_of rs) (facts_in j) trailer)) a))
 
-pub after_undated : (rs : List Release) (jobs : List JobIn) (parts : List SealedFields) → All (λ j. reads_dates j.format ≡ false) jobs → NoDates rs → NoDates (history_after rs jobs parts)
+pub after_undated : (rs : List Release) (jobs : List JobIn) (parts : List SealedFields) → All (λ j. reads_dates j.format ≡ false) jobs → NoDates rs → NoDates (releases_after rs jobs parts)
 after_undated rs [] parts none h = h
 after_undated rs (j ∷ jobs) [] none h = h
 after_undated rs (j ∷ jobs) (s ∷ parts) none h =

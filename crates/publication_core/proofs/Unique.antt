@@ -24,8 +24,8 @@ use Rattle.builder_core.proofs.FirstRefused.{refused_no_blocks, first_refused_on
 use Rattle.publication_core.specs.declared.fault.PublishFault.{PublishFault}
 use Rattle.publication_core.specs.declared.fault.PublishFault.TheVariants.{Admission, SeedsExhausted, NoMemory}
 use Rattle.publication_core.specs.Formats.{current, blocks_in}
-use Rattle.publication_core.specs.Histories.{groups_of, IsPartOf, release_of, AreAdmissible, base_groups, IsBasePart, History, of_jobs, rebased, IsHistory, history}
-use Rattle.publication_core.specs.Publishing.{Published, IsPublication, Publishes}
+use Rattle.publication_core.specs.Histories.{groups_of, IsPartOf, release_of, AreAdmissible, base_groups, IsBasePart, History, of_jobs, rebased, IsHistory, releases_of}
+use Rattle.publication_core.specs.Publishing.{PublicationFields, IsPublication, Publishes}
 
 -- parts with the same head, blocks of the same groups, and their digests
 pub sealed_same : (format : Format) (head : HeadFields) (gs : List GroupFields) (a b : SealedFields) → a.part.head ≡ head → b.part.head ≡ head → AreGroupBlocks format sha256_row gs a.part.blocks
@@ -57,14 +57,14 @@ history_unique (of_jobs jobs) a b x y = after_unique [] jobs a b x y
 history_unique (rebased h old moment without jobs) [] b x y = absurd x
 history_unique (rebased h old moment without jobs) (s ∷ a) [] x y = absurd y
 history_unique (rebased h old moment without jobs) (s ∷ a) (t ∷ b) x y =
-    let rs : List Release = releases_without without (history h old) in
+    let rs : List Release = releases_without without (releases_of h old) in
     let same : s ≡ t = base_unique moment rs s t x.2 y.2 in
     let rest : a ≡ b = after_unique (base_at moment rs s.trailer ∷ []) jobs a b x.3 (subst (λ z. AreAdmissible (base_at moment rs z.trailer ∷ []) jobs b) (sym same) y.3) in
     λ i. same i ∷ rest i
 
 -- ---- what comes of a job behind a ledger
 
-publication_unique : (ledger : LedgerFields) (job : JobFields) (p q : Published) → IsPublication ledger job p → IsPublication ledger job q → p ≡ q
+publication_unique : (ledger : LedgerFields) (job : JobFields) (p q : PublicationFields) → IsPublication ledger job p → IsPublication ledger job q → p ≡ q
 publication_unique ledger job p q x y =
     let sealed : p.sealed ≡ q.sealed = sealed_same (blocks_in current) _ (groups_after ledger (facts_of job)) p.sealed q.sealed x.head y.head x.blocks y.blocks x.trailer y.trailer in
     λ i. record {
@@ -80,8 +80,8 @@ some_same a b h = cc
 not_both : {A : Type 0} (o : Option AdmitFault) (fault : AdmitFault) → o ≡ None → o ≡ Some fault → A
 not_both o fault none some = absurd (let h : ◌≡◌ {A = Option AdmitFault} None (Some fault) = sym none ∙ some in cc)
 
-pub outcome_unique : (ledger : LedgerFields) (job : JobFields) (a b : Result Published PublishFault) → Publishes ledger job a → Publishes ledger job b → a ≡ b
-outcome_unique ledger job (Ok p) (Ok q) x y = ap (λ (r : Published). Ok r) (publication_unique ledger job p q x.1 y.1)
+pub outcome_unique : (ledger : LedgerFields) (job : JobFields) (a b : Result PublicationFields PublishFault) → Publishes ledger job a → Publishes ledger job b → a ≡ b
+outcome_unique ledger job (Ok p) (Ok q) x y = ap (λ (r : PublicationFields). Ok r) (publication_unique ledger job p q x.1 y.1)
 outcome_unique ledger job (Ok p) (Err (Admission fault)) x y = not_both (refusal PUBLISHED ledger job) fault x.0 y
 outcome_unique ledger job (Ok p) (Err (SeedsExhausted issuer stage)) x y =
     absurd (refused_no_blocks (blocks_in current) sha256_row (groups_after ledger (facts_of job)) issuer stage p.sealed.part.blocks y.1 x.1.blocks)

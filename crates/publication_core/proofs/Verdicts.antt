@@ -22,7 +22,7 @@ use Rattle.history_core.proofs.Without.{sightings_without, listed_without, kept_
 use Rattle.history_core.proofs.Words.{zip_push}
 use Rattle.card_core.specs.declared.verdict.Verdict.TheVariants.{Good, Revoked}
 use Rattle.card_core.specs.Verdict.{covering, answers, by_answers, by_covering, verdict}
-use Rattle.publication_core.specs.Histories.{release_of, history_after, AreAdmissible, History, of_jobs, rebased, IsHistory, history}
+use Rattle.publication_core.specs.Histories.{release_of, releases_after, AreAdmissible, History, of_jobs, rebased, IsHistory, releases_of}
 use Rattle.publication_core.specs.Truth.{truth}
 use Rattle.publication_core.proofs.Histories.{history_sound}
 use Rattle.publication_core.proofs.Shown.{shown_by, part_shows, base_shows}
@@ -55,36 +55,36 @@ verdict_is_truth parts rs x s ss sound shows asked =
 
 -- behind views that show the releases before
 after_shown : (views : List PartView) (rs : List Release) (jobs : List JobIn) (parts : List SealedFields) → AllZip Shows views rs → AreAdmissible rs jobs parts
-    → AllZip Shows (views ++ map shown_by (map (λ s. s.part) parts)) (history_after rs jobs parts)
+    → AllZip Shows (views ++ map shown_by (map (λ s. s.part) parts)) (releases_after rs jobs parts)
 after_shown views rs [] [] z h = rw append-nil z
 after_shown views rs [] (s ∷ parts) z h = absurd h
 after_shown views rs (job ∷ jobs) [] z h = absurd h
 after_shown views rs (job ∷ jobs) (s ∷ parts) z h =
     let after : List Release = rs ++ release_of rs job s ∷ [] in
     let pushed : AllZip Shows (views ++ shown_by s.part ∷ []) after = zip_push Shows views rs (shown_by s.part) (release_of rs job s) z (part_shows rs job s h.1) in
-    subst (λ (vs : List PartView). AllZip Shows vs (history_after after jobs parts)) (append_assoc views (shown_by s.part ∷ []) (map shown_by (map (λ t. t.part) parts)))
+    subst (λ (vs : List PartView). AllZip Shows vs (releases_after after jobs parts)) (append_assoc views (shown_by s.part ∷ []) (map shown_by (map (λ t. t.part) parts)))
     (after_shown (views ++ shown_by s.part ∷ []) after jobs parts pushed h.2)
 
-pub parts_shown : (h : History) (parts : List SealedFields) → IsHistory h parts → AllZip Shows (map shown_by (map (λ t. t.part) parts)) (history h parts)
+pub parts_shown : (h : History) (parts : List SealedFields) → IsHistory h parts → AllZip Shows (map shown_by (map (λ t. t.part) parts)) (releases_of h parts)
 parts_shown (of_jobs jobs) parts is = after_shown [] [] jobs parts tt is
 parts_shown (rebased h old moment without jobs) [] is = absurd is
 parts_shown (rebased h old moment without jobs) (s ∷ parts) is =
-    after_shown (shown_by s.part ∷ []) (base_at moment (releases_without without (history h old)) s.trailer ∷ []) jobs parts
-    (base_shows moment (releases_without without (history h old)) s is.2, tt) is.3
+    after_shown (shown_by s.part ∷ []) (base_at moment (releases_without without (releases_of h old)) s.trailer ∷ []) jobs parts
+    (base_shows moment (releases_without without (releases_of h old)) s is.2, tt) is.3
 
 -- The parts of a history answer its truth, asked with accepted sightings.
 pub history_verdict : (h : History) (parts : List SealedFields) (x : Identity) (ss : List Sighting) → IsHistory h parts → 1 ≤ length ss
-    → ((s : Sighting) → Among ss s → Among (sightings x (seen (history h parts))) s) → verdict (map (λ s. s.part) parts) x ss ≡ truth (history h parts) x
+    → ((s : Sighting) → Among ss s → Among (sightings x (seen (releases_of h parts))) s) → verdict (map (λ s. s.part) parts) x ss ≡ truth (releases_of h parts) x
 history_verdict h parts x [] is some asked = absurd (omega arith)
 history_verdict h parts x (s ∷ ss) is some asked =
-    verdict_is_truth (map (λ t. t.part) parts) (history h parts) x s ss (history_sound h parts is) (parts_shown h parts is) asked
+    verdict_is_truth (map (λ t. t.part) parts) (releases_of h parts) x s ss (history_sound h parts is) (parts_shown h parts is) asked
 
 -- A rebase keeps the verdicts of what it keeps.
 pub base_verdict : (h : History) (parts : List SealedFields) (moment : ℕ) (without : List (List ℕ)) (s : SealedFields) (x : Identity) (ss : List Sighting)
-    → IsHistory (rebased h parts moment without []) (s ∷ []) → has (kept_by (is_lasting_by moment (history h parts)) (history h parts)) x ≡ true → has_key without x.issuer ≡ false
-    → 1 ≤ length ss → ((t : Sighting) → Among ss t → Among (sightings x (seen (history h parts))) t) → verdict (map (λ t. t.part) parts) x ss ≡ verdict (s.part ∷ []) x ss
+    → IsHistory (rebased h parts moment without []) (s ∷ []) → has (kept_by (is_lasting_by moment (releases_of h parts)) (releases_of h parts)) x ≡ true → has_key without x.issuer ≡ false
+    → 1 ≤ length ss → ((t : Sighting) → Among ss t → Among (sightings x (seen (releases_of h parts))) t) → verdict (map (λ t. t.part) parts) x ss ≡ verdict (s.part ∷ []) x ss
 base_verdict h parts moment without s x ss is kept other some asked =
-    let old : List Release = history h parts in
+    let old : List Release = releases_of h parts in
     let rs : List Release = releases_without without old in
     let keeps : Identity → Bool = is_lasting_by moment rs in
     let stays : has (kept_by keeps rs) x ≡ true = kept_without moment without old x other ∙ kept in

@@ -13,7 +13,7 @@ use Rattle.builder_core.specs.Building.{AreGroupBlocks, IsFirstRefused, IsBuildF
 use Rattle.publication_core.specs.declared.fault.PublishFault.{PublishFault}
 use Rattle.publication_core.specs.declared.fault.PublishFault.TheVariants.{Admission, SeedsExhausted, NoMemory}
 use Rattle.publication_core.specs.Formats.{current, blocks_in}
-use Rattle.publication_core.specs.Publishing.{Published}
+use Rattle.publication_core.specs.Publishing.{PublicationFields}
 
 -- a part with this head and a block for each group, and the ledger with its trailer
 pub record IsBuilt (head : HeadFields) (groups : List GroupFields) (next : LedgerFields) (sealed : SealedFields) (ledger : LedgerFields) : Type 0 where
@@ -28,12 +28,12 @@ Builds head groups next (Ok made) = IsBuilt head groups next made.0 made.1
 Builds head groups next (Err fault) = IsBuildFault (blocks_in current) sha256_row groups fault
 
 -- The same as the publication of a job, at its place and with its counts.
-pub record IsBuiltAs (place : ℕ) (head : HeadFields) (groups : List GroupFields) (next : LedgerFields) (counts : Counts) (p : Published) : Type 0 where
+pub record IsBuiltAs (place : ℕ) (head : HeadFields) (groups : List GroupFields) (next : LedgerFields) (counts : Counts) (p : PublicationFields) : Type 0 where
   pub place_is : p.place ≡ place
   pub built : IsBuilt head groups next p.sealed p.ledger
   pub counts_are : p.counts ≡ counts
 
-abbrev pub BuildsAs : ℕ → HeadFields → List GroupFields → LedgerFields → Counts → Result Published PublishFault → Type 0
+abbrev pub BuildsAs : ℕ → HeadFields → List GroupFields → LedgerFields → Counts → Result PublicationFields PublishFault → Type 0
 BuildsAs place head groups next counts (Ok p) = IsBuiltAs place head groups next counts p
 BuildsAs place head groups next counts (Err (Admission fault)) = ⊥
 BuildsAs place head groups next counts (Err (SeedsExhausted issuer stage)) = IsFirstRefused (blocks_in current) sha256_row groups issuer stage

@@ -71,10 +71,10 @@ release_of rs j s = released (past_of rs) (facts_in j) s.trailer
 -- ---- jobs behind releases
 
 -- these releases, and then what the jobs with these parts leave
-abbrev pub history_after : List Release → List JobIn → List SealedFields → List Release
-history_after rs [] parts = rs
-history_after rs (j ∷ jobs) [] = rs
-history_after rs (j ∷ jobs) (s ∷ parts) = history_after (rs ++ release_of rs j s ∷ []) jobs parts
+abbrev pub releases_after : List Release → List JobIn → List SealedFields → List Release
+releases_after rs [] parts = rs
+releases_after rs (j ∷ jobs) [] = rs
+releases_after rs (j ∷ jobs) (s ∷ parts) = releases_after (rs ++ release_of rs j s ∷ []) jobs parts
 
 -- each of the jobs may follow those before it, and these are their parts
 abbrev pub AreAdmissible : List Release → List JobIn → List SealedFields → Type 0
@@ -128,10 +128,10 @@ abbrev pub chain : List JobFields → History
 chain jobs = with_jobs (of_jobs []) (map (in_format current) jobs)
 
 -- what the members of a history with these parts leave
-abbrev pub history : History → List SealedFields → List Release
-history (of_jobs jobs) parts = history_after [] jobs parts
-history (rebased h old moment without jobs) [] = []
-history (rebased h old moment without jobs) (s ∷ parts) = history_after (base_at moment (releases_without without (history h old)) s.trailer ∷ []) jobs parts
+abbrev pub releases_of : History → List SealedFields → List Release
+releases_of (of_jobs jobs) parts = releases_after [] jobs parts
+releases_of (rebased h old moment without jobs) [] = []
+releases_of (rebased h old moment without jobs) (s ∷ parts) = releases_after (base_at moment (releases_without without (releases_of h old)) s.trailer ∷ []) jobs parts
 
 -- Each job of the history may follow those before it, the base may stand for its history, and these are the parts that
 -- they publish.
@@ -139,9 +139,9 @@ abbrev pub IsHistory : History → List SealedFields → Type 0
 IsHistory (of_jobs jobs) parts = AreAdmissible [] jobs parts
 IsHistory (rebased h old moment without jobs) [] = ⊥
 IsHistory (rebased h old moment without jobs) (s ∷ parts) =
-    IsHistory h old × IsRebasable moment (releases_without without (history h old))
-    × IsBasePart moment (releases_without without (history h old)) s
-    × AreAdmissible (base_at moment (releases_without without (history h old)) s.trailer ∷ []) jobs parts
+    IsHistory h old × IsRebasable moment (releases_without without (releases_of h old))
+    × IsBasePart moment (releases_without without (releases_of h old)) s
+    × AreAdmissible (base_at moment (releases_without without (releases_of h old)) s.trailer ∷ []) jobs parts
 
 -- The history begins with a base that leaves out the issuer, and none of its jobs enrolls it.
 abbrev pub LeavesOut : History → List ℕ → Type 0
@@ -158,7 +158,7 @@ abbrev pub store_bytes : List SealedFields → List ℕ
 store_bytes parts = store_text parts
 
 abbrev pub ledger_bytes : History → List SealedFields → List ℕ
-ledger_bytes h parts = ledger_text (ledger_of (history h parts))
+ledger_bytes h parts = ledger_text (ledger_of (releases_of h parts))
 
 -- no job of the history is in a format that reads dates, and it begins with no base
 abbrev pub IsUndated : History → Type 0
@@ -167,4 +167,4 @@ IsUndated (rebased h old moment without jobs) = ⊥
 
 -- the bytes of its ledger in version 1
 abbrev pub old_ledger_bytes : History → List SealedFields → List ℕ
-old_ledger_bytes h parts = old_ledger_text (ledger_of (history h parts))
+old_ledger_bytes h parts = old_ledger_text (ledger_of (releases_of h parts))

@@ -20,14 +20,14 @@ use Rattle.publication_core.specs.declared.fault.PublishFault.TheVariants.{Admis
 use Rattle.publication_core.specs.Formats.{current, blocks_in}
 
 -- A part with its place in the chain, the ledger behind it, and how many the job has of each.
-pub record Published : Type 0 where
+pub record PublicationFields : Type 0 where
   pub place : ℕ
   pub sealed : SealedFields
   pub ledger : LedgerFields
   pub counts : Counts
 
 -- what the ledger and the job make
-pub record IsPublication (ledger : LedgerFields) (job : JobFields) (p : Published) : Type 0 where
+pub record IsPublication (ledger : LedgerFields) (job : JobFields) (p : PublicationFields) : Type 0 where
   pub place : p.place ≡ length ledger.parts
   pub head : p.sealed.part.head ≡ head_after ledger.parts (facts_of job)
   pub blocks : AreGroupBlocks (blocks_in current) sha256_row (groups_after ledger (facts_of job)) p.sealed.part.blocks
@@ -36,7 +36,7 @@ pub record IsPublication (ledger : LedgerFields) (job : JobFields) (p : Publishe
   pub counts : p.counts ≡ counts_after ledger (facts_of job)
 
 -- The job is admitted, and its publication is that; or it is refused; or it is admitted, and an issuer has no block.
-abbrev pub Publishes : LedgerFields → JobFields → Result Published PublishFault → Type 0
+abbrev pub Publishes : LedgerFields → JobFields → Result PublicationFields PublishFault → Type 0
 Publishes ledger job (Ok p) = (refusal limits.PUBLISHED ledger job ≡ None) × IsPublication ledger job p
 Publishes ledger job (Err (Admission fault)) = refusal limits.PUBLISHED ledger job ≡ Some fault
 Publishes ledger job (Err (SeedsExhausted issuer stage)) =
@@ -44,7 +44,7 @@ Publishes ledger job (Err (SeedsExhausted issuer stage)) =
 Publishes ledger job (Err NoMemory) = ⊥
 
 -- the same, or want of memory
-abbrev pub PublishesUnless : LedgerFields → JobFields → Result Published PublishFault → Type 0
+abbrev pub PublishesUnless : LedgerFields → JobFields → Result PublicationFields PublishFault → Type 0
 PublishesUnless ledger job (Ok p) = Publishes ledger job (Ok p)
 PublishesUnless ledger job (Err NoMemory) = Unit {0}
 PublishesUnless ledger job (Err fault) = Publishes ledger job (Err fault)

@@ -50,13 +50,13 @@ base_counts moment without rs =
 -- ---- what is published
 
 -- The part that begins a chain anew, the ledger behind it, and how many they have of each.
-pub record PublishedBase : Type 0 where
+pub record BasePublicationFields : Type 0 where
   pub sealed : SealedFields
   pub ledger : LedgerFields
   pub counts : BaseCounts
 
 -- what the ledger makes at the moment, without these issuers
-pub record IsBasePublication (ledger : LedgerFields) (moment : ℕ) (without : List (List ℕ)) (p : PublishedBase) : Type 0 where
+pub record IsBasePublication (ledger : LedgerFields) (moment : ℕ) (without : List (List ℕ)) (p : BasePublicationFields) : Type 0 where
   pub few_issuers : length (issuers_in (ledger_without without ledger).parts) ≤ MAX_ISSUERS
   pub head : p.sealed.part.head ≡ rebased_head (ledger_without without ledger).parts
   pub blocks : AreGroupBlocks (blocks_in dated) sha256_row (rebased_groups (is_lasting moment) (ledger_without without ledger)) p.sealed.part.blocks
@@ -66,7 +66,7 @@ pub record IsBasePublication (ledger : LedgerFields) (moment : ℕ) (without : L
 
 -- That; or the ledger's parts have more different issuers than a part may, these not counted; or they haven't, and an
 -- issuer has no block.
-abbrev pub PublishesBase : LedgerFields → ℕ → List (List ℕ) → Result PublishedBase BaseFault → Type 0
+abbrev pub PublishesBase : LedgerFields → ℕ → List (List ℕ) → Result BasePublicationFields BaseFault → Type 0
 PublishesBase ledger moment without (Ok p) = IsBasePublication ledger moment without p
 PublishesBase ledger moment without (Err (TooMany what limit)) =
     (what ≡ Issuers) × (limit ≡ MAX_ISSUERS) × (MAX_ISSUERS < length (issuers_in (ledger_without without ledger).parts))
@@ -76,7 +76,7 @@ PublishesBase ledger moment without (Err (SeedsExhausted issuer stage)) =
 PublishesBase ledger moment without (Err NoMemory) = ⊥
 
 -- the same, or want of memory
-abbrev pub PublishesBaseUnless : LedgerFields → ℕ → List (List ℕ) → Result PublishedBase BaseFault → Type 0
+abbrev pub PublishesBaseUnless : LedgerFields → ℕ → List (List ℕ) → Result BasePublicationFields BaseFault → Type 0
 PublishesBaseUnless ledger moment without (Ok p) = PublishesBase ledger moment without (Ok p)
 PublishesBaseUnless ledger moment without (Err NoMemory) = Unit {0}
 PublishesBaseUnless ledger moment without (Err fault) = PublishesBase ledger moment without (Err fault)

@@ -28,9 +28,9 @@ pub struct BasePublication {
 }
 
 impl Model for BasePublication {
-    ghost use Rattle.publication_core.specs.Rebasing.{PublishedBase};
+    ghost use Rattle.publication_core.specs.Rebasing.{BasePublicationFields};
 
-    ghost Value = { PublishedBase };
+    ghost Value = { BasePublicationFields };
 
     ghost view = { λ p. record { sealed = p.sealed; ledger = p.ledger; counts = p.counts } };
 }

@@ -18,36 +18,36 @@ ghost use Rattle.card_core.specs.declared.verdict.Verdict.TheVariants as Verdict
 ghost use Rattle.card_core.specs.Consulting.{covers_some};
 ghost use Rattle.card_core.specs.Verdict.{verdict};
 ghost use Rattle.publication_core.specs.declared.base_fault.BaseFault.{BaseFault};
-ghost use Rattle.publication_core.specs.Histories.{History, rebased, members, with_job, IsHistory, history, IsRebasable, LeavesOut};
-ghost use Rattle.publication_core.specs.Rebasing.{PublishedBase, PublishesBase, CanBeRebased, base_counts};
+ghost use Rattle.publication_core.specs.Histories.{History, rebased, members, with_job, IsHistory, releases_of, IsRebasable, LeavesOut};
+ghost use Rattle.publication_core.specs.Rebasing.{BasePublicationFields, PublishesBase, CanBeRebased, base_counts};
 
 /// What a rebase publishes behind the ledger of a history is that of the history's base: a base may stand for it
 /// (`rebasable`), the history that begins with this base has its part (`history`) and its ledger (`ledger`), and its
 /// counts (`numbers`). Each history for which a base may stand is rebased (`complete`).
 pub fn bases_are_published()
-    ensures rebasable { (h : History) (parts : List SealedFields) (moment : ℕ) (without : List (List ℕ)) (p : PublishedBase) → IsHistory h parts → 1 ≤ members h
-        → PublishesBase (ledger_of (history h parts)) moment without (Ok p) → IsRebasable moment (releases_without without (history h parts)) }
-    ensures history { (h : History) (parts : List SealedFields) (moment : ℕ) (without : List (List ℕ)) (p : PublishedBase) → IsHistory h parts → 1 ≤ members h
-        → PublishesBase (ledger_of (history h parts)) moment without (Ok p) → IsHistory (rebased h parts moment without []) (p.sealed ∷ []) }
-    ensures ledger { (h : History) (parts : List SealedFields) (moment : ℕ) (without : List (List ℕ)) (p : PublishedBase) → IsHistory h parts
-        → PublishesBase (ledger_of (history h parts)) moment without (Ok p)
-        → p.ledger ≡ ledger_of (history (rebased h parts moment without []) (p.sealed ∷ [])) }
-    ensures numbers { (h : History) (parts : List SealedFields) (moment : ℕ) (without : List (List ℕ)) (p : PublishedBase) → IsHistory h parts
-        → PublishesBase (ledger_of (history h parts)) moment without (Ok p) → p.counts ≡ base_counts moment without (history h parts) }
+    ensures rebasable { (h : History) (parts : List SealedFields) (moment : ℕ) (without : List (List ℕ)) (p : BasePublicationFields) → IsHistory h parts → 1 ≤ members h
+        → PublishesBase (ledger_of (releases_of h parts)) moment without (Ok p) → IsRebasable moment (releases_without without (releases_of h parts)) }
+    ensures history { (h : History) (parts : List SealedFields) (moment : ℕ) (without : List (List ℕ)) (p : BasePublicationFields) → IsHistory h parts → 1 ≤ members h
+        → PublishesBase (ledger_of (releases_of h parts)) moment without (Ok p) → IsHistory (rebased h parts moment without []) (p.sealed ∷ []) }
+    ensures ledger { (h : History) (parts : List SealedFields) (moment : ℕ) (without : List (List ℕ)) (p : BasePublicationFields) → IsHistory h parts
+        → PublishesBase (ledger_of (releases_of h parts)) moment without (Ok p)
+        → p.ledger ≡ ledger_of (releases_of (rebased h parts moment without []) (p.sealed ∷ [])) }
+    ensures numbers { (h : History) (parts : List SealedFields) (moment : ℕ) (without : List (List ℕ)) (p : BasePublicationFields) → IsHistory h parts
+        → PublishesBase (ledger_of (releases_of h parts)) moment without (Ok p) → p.counts ≡ base_counts moment without (releases_of h parts) }
     ensures complete { (h : History) (parts : List SealedFields) (moment : ℕ) (without : List (List ℕ))
-        → IsHistory h parts → IsRebasable moment (releases_without without (history h parts))
-        → (p : PublishedBase) × PublishesBase (ledger_of (history h parts)) moment without (Ok p) }
+        → IsHistory h parts → IsRebasable moment (releases_without without (releases_of h parts))
+        → (p : BasePublicationFields) × PublishesBase (ledger_of (releases_of h parts)) moment without (Ok p) }
 {}
 
 /// One thing comes of a rebase behind a ledger (`outcome`), that of a history or not: something is published or there
 /// is a reason against it (`some`), and it is published where its issuers are few and each has a block (`complete`).
 /// Want of memory is no reason.
 pub fn one_thing_comes_of_a_rebase()
-    ensures outcome { (ledger : LedgerFields) (moment : ℕ) (without : List (List ℕ)) (a b : Result PublishedBase BaseFault)
+    ensures outcome { (ledger : LedgerFields) (moment : ℕ) (without : List (List ℕ)) (a b : Result BasePublicationFields BaseFault)
         → PublishesBase ledger moment without a → PublishesBase ledger moment without b → a ≡ b }
-    ensures some { (ledger : LedgerFields) (moment : ℕ) (without : List (List ℕ)) → (o : Result PublishedBase BaseFault) × PublishesBase ledger moment without o }
+    ensures some { (ledger : LedgerFields) (moment : ℕ) (without : List (List ℕ)) → (o : Result BasePublicationFields BaseFault) × PublishesBase ledger moment without o }
     ensures complete { (ledger : LedgerFields) (moment : ℕ) (without : List (List ℕ)) → CanBeRebased ledger moment without
-        → (p : PublishedBase) × PublishesBase ledger moment without (Ok p) }
+        → (p : BasePublicationFields) × PublishesBase ledger moment without (Ok p) }
 {}
 
 /// A rebase keeps the verdicts: of an identity that has not expired and whose issuer isn't left out, asked with one or
@@ -55,9 +55,9 @@ pub fn one_thing_comes_of_a_rebase()
 pub fn rebases_keep_verdicts()
     ensures { (h : History) (parts : List SealedFields) (moment : ℕ) (without : List (List ℕ)) (s : SealedFields)
         (x : Identity) (ss : List Sighting)
-        → IsHistory (rebased h parts moment without []) (s ∷ []) → has (kept_by (is_lasting_by moment (history h parts)) (history h parts)) x ≡ true
+        → IsHistory (rebased h parts moment without []) (s ∷ []) → has (kept_by (is_lasting_by moment (releases_of h parts)) (releases_of h parts)) x ≡ true
         → has_key without x.issuer ≡ false
-        → 1 ≤ length ss → ((t : Sighting) → Among ss t → Among (sightings x (seen (history h parts))) t)
+        → 1 ≤ length ss → ((t : Sighting) → Among ss t → Among (sightings x (seen (releases_of h parts))) t)
         → verdict (map (λ t. t.part) parts) x ss ≡ verdict (s.part ∷ []) x ss }
 {}
 
@@ -71,5 +71,5 @@ pub fn issuers_that_are_left_out_come_back()
         ≡ (if list_any (covers_some ss) (map (λ t. t.part) parts) then Verdict.NotEnrolled else Verdict.NotCovered) }
     ensures come_back { (h : History) (parts : List SealedFields) (j : JobIn) (s : SealedFields) (e : Entry) → IsHistory h parts
         → LeavesOut h e.id.issuer → Among (facts_in j).entries (Some e) → covers (facts_in j).ranges e.sighting ≡ true
-        → is_enrolled (facts_in j) e.id.issuer ≡ true → Among (seen (history (with_job h j) (parts ++ s ∷ []))) e }
+        → is_enrolled (facts_in j) e.id.issuer ≡ true → Among (seen (releases_of (with_job h j) (parts ++ s ∷ []))) e }
 {}

@@ -13,15 +13,15 @@ ghost use Rattle.universe_core.specs.Ledgers.{no_ledger, ledger_of};
 ghost use Rattle.universe_core.specs.Counting.{counts};
 ghost use Rattle.publication_core.specs.declared.fault.PublishFault.{PublishFault};
 ghost use Rattle.publication_core.specs.Formats.{current};
-ghost use Rattle.publication_core.specs.Histories.{IsPartOf, IsAdmissible, History, of_jobs, members, with_job, with_jobs, IsHistory, history};
-ghost use Rattle.publication_core.specs.Publishing.{CanBePublished, Published, Publishes};
+ghost use Rattle.publication_core.specs.Histories.{IsPartOf, IsAdmissible, History, of_jobs, members, with_job, with_jobs, IsHistory, releases_of};
+ghost use Rattle.publication_core.specs.Publishing.{CanBePublished, PublicationFields, Publishes};
 
 /// A job has one part at most in its format, a history publishes one list of parts at most, and one thing comes of a
 /// job behind a ledger.
 pub fn publications_are_unique()
     ensures part { (rs : List Release) (j : JobIn) (a b : SealedFields) → IsPartOf rs j a → IsPartOf rs j b → a ≡ b }
     ensures parts { (h : History) (a b : List SealedFields) → IsHistory h a → IsHistory h b → a ≡ b }
-    ensures outcome { (ledger : LedgerFields) (job : JobFields) (a b : Result Published PublishFault)
+    ensures outcome { (ledger : LedgerFields) (job : JobFields) (a b : Result PublicationFields PublishFault)
         → Publishes ledger job a → Publishes ledger job b → a ≡ b }
 {}
 
@@ -29,29 +29,29 @@ pub fn publications_are_unique()
 /// and its counts, at its place; and each admissible job is published. The ledger before a first job is that of no
 /// history. A job of a history is admissible behind those before it.
 pub fn histories_are_published()
-    ensures none { ledger_of (history (of_jobs []) []) ≡ no_ledger }
-    ensures admissible { (h : History) (parts : List SealedFields) (job : JobFields) (p : Published)
+    ensures none { ledger_of (releases_of (of_jobs []) []) ≡ no_ledger }
+    ensures admissible { (h : History) (parts : List SealedFields) (job : JobFields) (p : PublicationFields)
         → IsHistory h parts → FitsPublishing job → IsWithinLimits PUBLISHED job
-        → Publishes (ledger_of (history h parts)) job (Ok p) → IsAdmissible (history h parts) (in_format current job) }
-    ensures history { (h : History) (parts : List SealedFields) (job : JobFields) (p : Published)
+        → Publishes (ledger_of (releases_of h parts)) job (Ok p) → IsAdmissible (releases_of h parts) (in_format current job) }
+    ensures history { (h : History) (parts : List SealedFields) (job : JobFields) (p : PublicationFields)
         → IsHistory h parts → FitsPublishing job → IsWithinLimits PUBLISHED job
-        → Publishes (ledger_of (history h parts)) job (Ok p) → IsHistory (with_job h (in_format current job)) (parts ++ p.sealed ∷ []) }
-    ensures ledger { (h : History) (parts : List SealedFields) (job : JobFields) (p : Published) → IsHistory h parts
-        → Publishes (ledger_of (history h parts)) job (Ok p)
-        → p.ledger ≡ ledger_of (history (with_job h (in_format current job)) (parts ++ p.sealed ∷ [])) }
-    ensures numbers { (h : History) (parts : List SealedFields) (job : JobFields) (p : Published) → IsHistory h parts
-        → Publishes (ledger_of (history h parts)) job (Ok p) → p.counts ≡ counts (past_of (history h parts)) (facts_of job) }
-    ensures place { (h : History) (parts : List SealedFields) (job : JobFields) (p : Published) → IsHistory h parts
-        → Publishes (ledger_of (history h parts)) job (Ok p) → p.place ≡ members h }
+        → Publishes (ledger_of (releases_of h parts)) job (Ok p) → IsHistory (with_job h (in_format current job)) (parts ++ p.sealed ∷ []) }
+    ensures ledger { (h : History) (parts : List SealedFields) (job : JobFields) (p : PublicationFields) → IsHistory h parts
+        → Publishes (ledger_of (releases_of h parts)) job (Ok p)
+        → p.ledger ≡ ledger_of (releases_of (with_job h (in_format current job)) (parts ++ p.sealed ∷ [])) }
+    ensures numbers { (h : History) (parts : List SealedFields) (job : JobFields) (p : PublicationFields) → IsHistory h parts
+        → Publishes (ledger_of (releases_of h parts)) job (Ok p) → p.counts ≡ counts (past_of (releases_of h parts)) (facts_of job) }
+    ensures place { (h : History) (parts : List SealedFields) (job : JobFields) (p : PublicationFields) → IsHistory h parts
+        → Publishes (ledger_of (releases_of h parts)) job (Ok p) → p.place ≡ members h }
     ensures front { (h : History) (j : JobIn) (others : List JobIn) (parts all : List SealedFields) → IsHistory h parts
-        → IsHistory (with_jobs h (j ∷ others)) all → IsAdmissible (history h parts) j }
+        → IsHistory (with_jobs h (j ∷ others)) all → IsAdmissible (releases_of h parts) j }
     ensures complete { (h : History) (parts : List SealedFields) (job : JobFields) → IsHistory h parts
-        → IsAdmissible (history h parts) (in_format current job) → (p : Published) × Publishes (ledger_of (history h parts)) job (Ok p) }
+        → IsAdmissible (releases_of h parts) (in_format current job) → (p : PublicationFields) × Publishes (ledger_of (releases_of h parts)) job (Ok p) }
 {}
 
 /// A job is published behind any ledger, that of a history or not, where nothing refuses it and each enrolled issuer
 /// has a block.
 pub fn what_can_be_is_published()
     ensures { (ledger : LedgerFields) (job : JobFields) → CanBePublished ledger job
-        → (p : Published) × Publishes ledger job (Ok p) }
+        → (p : PublicationFields) × Publishes ledger job (Ok p) }
 {}

@@ -15,9 +15,9 @@ pub struct Publication {
 }
 
 impl Model for Publication {
-    ghost use Rattle.publication_core.specs.Publishing.{Published};
+    ghost use Rattle.publication_core.specs.Publishing.{PublicationFields};
 
-    ghost Value = { Published };
+    ghost Value = { PublicationFields };
 
     ghost view = { λ p. record { place = p.place; sealed = p.sealed; ledger = p.ledger; counts = p.counts } };
 }

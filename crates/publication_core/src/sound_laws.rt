@@ -14,7 +14,7 @@ ghost use Rattle.universe_core.specs.History.{Release, accepted_by, seen, sighti
 ghost use Rattle.universe_core.specs.Ledgers.{last};
 ghost use Rattle.history_core.specs.Facts.{IsSound};
 ghost use Rattle.history_core.specs.Bases.{kept_by, releases_without, base_at, is_lasting_by};
-ghost use Rattle.publication_core.specs.Histories.{IsAdmissible, release_of, History, of_jobs, rebased, IsHistory, history};
+ghost use Rattle.publication_core.specs.Histories.{IsAdmissible, release_of, History, of_jobs, rebased, IsHistory, releases_of};
 
 /// Every history is sound: it is so before the first job (`begun`), a base is where the releases are for which it stands
 /// (`based`), and each job that may follow keeps it, from any state in which it is so (`kept`). So in each history:
@@ -27,32 +27,32 @@ ghost use Rattle.publication_core.specs.Histories.{IsAdmissible, release_of, His
 /// - listed is what some job from the identity's birth on lists, and enrolls the issuer of (`listed`); behind a base,
 ///   that, or what is kept and was listed in the history that it stands for (`listed_behind`).
 pub fn histories_are_sound()
-    ensures begun { IsSound (history (of_jobs []) []) }
+    ensures begun { IsSound (releases_of (of_jobs []) []) }
     ensures based { (moment : ℕ) (rs : List Release) (s : SealedFields) → IsSound rs → IsSound (base_at moment rs s.trailer ∷ []) }
     ensures kept { (rs : List Release) (j : JobIn) (s : SealedFields) → IsSound rs → IsAdmissible rs j
         → IsSound (rs ++ release_of rs j s ∷ []) }
-    ensures sound { (h : History) (parts : List SealedFields) → IsHistory h parts → IsSound (history h parts) }
+    ensures sound { (h : History) (parts : List SealedFields) → IsHistory h parts → IsSound (releases_of h parts) }
     ensures last_covers { (h : History) (parts : List SealedFields) (x : Identity) (k : ℕ) → IsHistory h parts
-        → last x (history h parts) ≡ Some k → (s : SealedFields) × (slice_get parts k ≡ Some s)
-        × ((t : Sighting) → Among (sightings x (seen (history h parts))) t → covers s.part.head.ranges t ≡ true) }
+        → last x (releases_of h parts) ≡ Some k → (s : SealedFields) × (slice_get parts k ≡ Some s)
+        × ((t : Sighting) → Among (sightings x (seen (releases_of h parts))) t → covers s.part.head.ranges t ≡ true) }
     ensures last_listed { (h : History) (parts : List SealedFields) (x : Identity) → IsHistory h parts
-        → is_some (last x (history h parts)) ≡ is_listed (history h parts) x }
-    ensures covered { (h : History) (parts : List SealedFields) (e : Entry) → IsHistory h parts → Among (seen (history h parts)) e
-        → (r : Release) × Among (history h parts) r × (covers r.ranges e.sighting ≡ true) × (has_key r.issuers e.id.issuer ≡ true) }
+        → is_some (last x (releases_of h parts)) ≡ is_listed (releases_of h parts) x }
+    ensures covered { (h : History) (parts : List SealedFields) (e : Entry) → IsHistory h parts → Among (seen (releases_of h parts)) e
+        → (r : Release) × Among (releases_of h parts) r × (covers r.ranges e.sighting ≡ true) × (has_key r.issuers e.id.issuer ≡ true) }
     ensures timely { (h : History) (parts : List SealedFields) (e : Entry) (r : Release) → IsHistory h parts
-        → Among (seen (history h parts)) e → Among (history h parts) r → covers r.ranges e.sighting ≡ true
+        → Among (seen (releases_of h parts)) e → Among (releases_of h parts) r → covers r.ranges e.sighting ≡ true
         → has_key r.issuers e.id.issuer ≡ true → has r.accepted e.id ≡ true }
     ensures entered { (h : History) (parts : List SealedFields) (x : Identity) → IsHistory h parts
-        → has (accepted_by [] (history h parts)) x ≡ true → (e : Entry) × Among (seen (history h parts)) e × (e.id ≡ x) }
+        → has (accepted_by [] (releases_of h parts)) x ≡ true → (e : Entry) × Among (seen (releases_of h parts)) e × (e.id ≡ x) }
     ensures listed { (jobs : List JobIn) (parts : List SealedFields) (x : Identity) → IsHistory (of_jobs jobs) parts
-        → is_listed (history (of_jobs jobs) parts) x
+        → is_listed (releases_of (of_jobs jobs) parts) x
         ≡ list_any (λ j. lists (facts_in j) x && is_enrolled (facts_in j) x.issuer)
-        (drop (birth x (history (of_jobs jobs) parts)) jobs) }
+        (drop (birth x (releases_of (of_jobs jobs) parts)) jobs) }
     ensures listed_behind { (h : History) (old : List SealedFields) (moment : ℕ) (without : List (List ℕ)) (jobs : List JobIn)
         (parts : List SealedFields) (x : Identity) → IsHistory (rebased h old moment without jobs) parts
-        → is_listed (history (rebased h old moment without jobs) parts) x
-        ≡ ((has (kept_by (is_lasting_by moment (releases_without without (history h old))) (releases_without without (history h old))) x
-        && is_listed (releases_without without (history h old)) x)
+        → is_listed (releases_of (rebased h old moment without jobs) parts) x
+        ≡ ((has (kept_by (is_lasting_by moment (releases_without without (releases_of h old))) (releases_without without (releases_of h old))) x
+        && is_listed (releases_without without (releases_of h old)) x)
         || list_any (λ j. lists (facts_in j) x && is_enrolled (facts_in j) x.issuer)
-        (drop (birth x (drop 1 (history (rebased h old moment without jobs) parts))) jobs)) }
+        (drop (birth x (drop 1 (releases_of (rebased h old moment without jobs) parts))) jobs)) }
 {}

@@ -16,21 +16,21 @@ use Rattle.universe_core.specs.Ledgers.{no_ledger, ledger_of}
 use Rattle.store_core.specs.declared.chain.Refusal.{Refusal}
 use Rattle.store_core.specs.Chain.{refusal_of, IsChain}
 use Rattle.publication_core.specs.Formats.{current}
-use Rattle.publication_core.specs.Histories.{History, of_jobs, members, with_job, IsHistory, history}
-use Rattle.publication_core.specs.Publishing.{Published, Publishes}
+use Rattle.publication_core.specs.Histories.{History, of_jobs, members, with_job, IsHistory, releases_of}
+use Rattle.publication_core.specs.Publishing.{PublicationFields, Publishes}
 use Rattle.rehearsal_core.specs.Rehearsing.{RehearsalFields, of_none, IsOf, Adds, report_of}
 
 -- What the layers promise of histories.
 pub record Layers : Type 0 where
-  pub none : ledger_of (history (of_jobs []) []) ≡ no_ledger
-  pub next : (h : History) (parts : List SealedFields) (job : JobFields) (p : Published) → IsHistory h parts → FitsPublishing job → IsWithinLimits PUBLISHED job
-      → Publishes (ledger_of (history h parts)) job (Ok p) → IsHistory (with_job h (in_format current job)) (parts ++ p.sealed ∷ [])
-  pub ledger : (h : History) (parts : List SealedFields) (job : JobFields) (p : Published) → IsHistory h parts
-      → Publishes (ledger_of (history h parts)) job (Ok p) → p.ledger ≡ ledger_of (history (with_job h (in_format current job)) (parts ++ p.sealed ∷ []))
-  pub numbers : (h : History) (parts : List SealedFields) (job : JobFields) (p : Published) → IsHistory h parts
-      → Publishes (ledger_of (history h parts)) job (Ok p) → p.counts ≡ counts (past_of (history h parts)) (facts_of job)
-  pub place : (h : History) (parts : List SealedFields) (job : JobFields) (p : Published) → IsHistory h parts
-      → Publishes (ledger_of (history h parts)) job (Ok p) → p.place ≡ members h
+  pub none : ledger_of (releases_of (of_jobs []) []) ≡ no_ledger
+  pub next : (h : History) (parts : List SealedFields) (job : JobFields) (p : PublicationFields) → IsHistory h parts → FitsPublishing job → IsWithinLimits PUBLISHED job
+      → Publishes (ledger_of (releases_of h parts)) job (Ok p) → IsHistory (with_job h (in_format current job)) (parts ++ p.sealed ∷ [])
+  pub ledger : (h : History) (parts : List SealedFields) (job : JobFields) (p : PublicationFields) → IsHistory h parts
+      → Publishes (ledger_of (releases_of h parts)) job (Ok p) → p.ledger ≡ ledger_of (releases_of (with_job h (in_format current job)) (parts ++ p.sealed ∷ []))
+  pub numbers : (h : History) (parts : List SealedFields) (job : JobFields) (p : PublicationFields) → IsHistory h parts
+      → Publishes (ledger_of (releases_of h parts)) job (Ok p) → p.counts ≡ counts (past_of (releases_of h parts)) (facts_of job)
+  pub place : (h : History) (parts : List SealedFields) (job : JobFields) (p : PublicationFields) → IsHistory h parts
+      → Publishes (ledger_of (releases_of h parts)) job (Ok p) → p.place ≡ members h
   pub chain : (h : History) (parts : List SealedFields) → IsHistory h parts → IsChain parts
   pub few : (h : History) (parts : List SealedFields) → IsHistory h parts → length parts ≤ 64
   pub grown : (parts : List SealedFields) (p : SealedFields) → IsChain (parts ++ p ∷ []) → 1 ≤ length parts → length parts < 64 → IsChain parts × (refusal_of parts p ≡ None)
@@ -39,12 +39,12 @@ module _ (layers : Layers) where
   pub none_is : IsOf (of_jobs []) of_none
   none_is = record { is_history = tt; ledger = sym layers.none }
 
-  module _ (h : History) (before : RehearsalFields) (job : JobFields) (p : Published) (of : IsOf h before) (fits : FitsPublishing job) (limits : IsWithinLimits PUBLISHED job)
+  module _ (h : History) (before : RehearsalFields) (job : JobFields) (p : PublicationFields) (of : IsOf h before) (fits : FitsPublishing job) (limits : IsWithinLimits PUBLISHED job)
       (published : Publishes before.ledger job (Ok p)) where
     abbrev after : History
     after = with_job h (in_format current job)
 
-    behind : Publishes (ledger_of (history h before.parts)) job (Ok p)
+    behind : Publishes (ledger_of (releases_of h before.parts)) job (Ok p)
     behind = subst (λ (l : LedgerFields). Publishes l job (Ok p)) of.ledger published
 
     pub next_is : IsHistory after (before.parts ++ p.sealed ∷ [])

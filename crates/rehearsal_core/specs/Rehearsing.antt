@@ -9,7 +9,7 @@ use Rattle.universe_core.specs.History.{past_of}
 use Rattle.universe_core.specs.Counting.{counts}
 use Rattle.universe_core.specs.Ledgers.{no_ledger, ledger_of}
 use Rattle.publication_core.specs.Formats.{current}
-use Rattle.publication_core.specs.Histories.{History, members, with_job, IsHistory, history}
+use Rattle.publication_core.specs.Histories.{History, members, with_job, IsHistory, releases_of}
 use Rattle.rehearsal_core.specs.declared.rehearsal.Report.{Report}
 
 -- the parts, and the ledger behind them
@@ -29,14 +29,14 @@ fields_of (Some x) = record { parts = x.0; ledger = x.1 }
 -- The rehearsal holds the parts and the ledger of the history.
 pub record IsOf (h : History) (r : RehearsalFields) : Type 0 where
   pub is_history : IsHistory h r.parts
-  pub ledger : r.ledger ≡ ledger_of (history h r.parts)
+  pub ledger : r.ledger ≡ ledger_of (releases_of h r.parts)
 
 -- the report of a job behind a history
 abbrev pub report_of : History → List SealedFields → JobFields → Report
 report_of h parts job = record {
   epoch = job.epoch;
   place = members h;
-  counts = counts (past_of (history h parts)) (facts_of job);
+  counts = counts (past_of (releases_of h parts)) (facts_of job);
 }
 
 -- The job goes on with the history: the rehearsal is of both, and holds one part more.

@@ -5,7 +5,7 @@ ghost use Rattle.ident_core.specs.declared.bounds.TheConstants.{MAX_WORKERS};
 ghost use Rattle.job_core.specs.JobFields.{fields_of_job};
 ghost use Rattle.job_core.specs.JobFacts.{FitsPublishing, IsWithinLimits};
 ghost use Rattle.universe_core.specs.Ledgers.{no_ledger, ledger_of};
-ghost use Rattle.publication_core.specs.Histories.{History, of_jobs, history};
+ghost use Rattle.publication_core.specs.Histories.{History, of_jobs, releases_of};
 ghost use Rattle.publication_core.specs.Publishing.{Publishes};
 ghost use Rattle.rehearsal_core.specs.Rehearsing.{of_none, Adds, IsOf};
 
@@ -154,7 +154,7 @@ impl Rehearsal {
         requires few_workers { workers ≤ MAX_WORKERS }
         ensures added { IfOk result (λ x. (h : History) → IsOf h self → Adds h self (fields_of_job job) x.0 x.1) }
         ensures refused { IfErr result (λ e. (h : History) → IsOf h self → e ≢ PublishFault.NoMemory
-            → Publishes (ledger_of (history h self.parts)) (fields_of_job job) (Err e)) }
+            → Publishes (ledger_of (releases_of h self.parts)) (fields_of_job job) (Err e)) }
     {
         match self.published {
             None => Rehearsal::begun(rt, alloc, gate, job, workers),
