@@ -101,11 +101,10 @@ pub layout_not_memory : (f : LayoutFault) → faults.Layout f ≢ faults.NoMemor
 layout_not_memory f h = let k : ◌≡◌ {A = FileFault} (faults.Layout f) faults.NoMemory = h in cc
 
 -- a reader that has met no fault ends with one of the layout
-pub part_not_memory : (reader : PartReader) (e : PartFault) → reader.fault ≡ None → ((HasFailed reader e → ⊥) → IsShort e)
+pub part_not_memory : (reader : PartReader) (e : PartFault) → ((f : PartFault) → HasFailed reader f → ⊥) → ((HasFailed reader e → ⊥) → IsShort e)
     → of_part e ≢ faults.NoMemory
 part_not_memory reader (of.Layout f) well short = layout_not_memory f
-part_not_memory reader of.NoMemory well short =
-    absurd (short (λ h. let k : ◌≡◌ {A = Option PartFault} (Some of.NoMemory) None = sym h ∙ well in cc))
+part_not_memory reader of.NoMemory well short = absurd (short (well of.NoMemory))
 
 fits-by : (k : Option PartFault) (f : PartFault) (reader : PartReader) (b w : List ℕ) (from at : ℕ) → reader.fault ≡ k → ReadsFor reader b → at ≡ from + length b → at < 2 ^ 64 → from ≤ 2 ^ 63
     → length w ≤ 4096 → (f ≢ of.NoMemory → (b x : List ℕ) → ReadsFor reader b → part (b ++ w ++ x) 0 ≡ Err f)

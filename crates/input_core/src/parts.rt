@@ -1,13 +1,13 @@
 //! Parts that are read as they come from a feed, of which no more is held than what was read.
 
-ghost use Rattle.std.specs.Prelude.{◌≡◌, ◌≢◌, ◌≤◌, ◌<◌, ◌+◌, ◌^◌, ◌++◌, ℕ, List, length, None, Some, Ok, Err};
+ghost use Rattle.std.specs.Prelude.{◌≡◌, ◌≢◌, ◌≤◌, ◌<◌, ◌+◌, ◌^◌, ◌++◌, ℕ, List, length, Ok, Err};
 ghost use Rattle.std.specs.Prelude.{IfOk, OnOk, IfErr};
 ghost use Rattle.octets_core.specs.Layout.{with_fault};
 ghost use Rattle.outside_core.specs.Effects.{OnlyReads};
 ghost use Rattle.outside_core.specs.Filling.{IsInOrder};
 ghost use Rattle.outside_core.specs.Standing.{reference_of, depot_of, name_of, place_of};
 ghost use Rattle.part_text.specs.PartLayout.{part};
-ghost use Rattle.part_codec.specs.ReaderStanding.{ReadsFor};
+ghost use Rattle.part_codec.specs.ReaderStanding.{ReadsFor, HasFailed};
 ghost use Rattle.part_text.specs.declared.fault.PartFault.{PartFault};
 ghost use Rattle.input_core.specs.Faults.{of_part};
 ghost use Rattle.outside_core.specs.Reads.{WhichFailed};
@@ -28,9 +28,9 @@ fn finished(reader: PartReader, ended: bool) -> Result<(Sealed, bool), FileFault
     ensures ended { IfOk result (λ y. y.1 ≡ ended) }
     ensures err { IfErr result (λ e. e ≢ FileFault.NoMemory → (b : List ℕ) → ReadsFor reader b
         → with_fault of_part (part b 0) ≡ Err e) }
-    ensures again { (f : PartFault) → reader.fault ≡ Some f → result ≡ Err (of_part f) }
+    ensures again { (f : PartFault) → HasFailed reader f → result ≡ Err (of_part f) }
     // It takes no memory: a reader that has met no fault ends with one of the layout.
-    ensures memory { IfErr result (λ e. reader.fault ≡ None → e ≢ FileFault.NoMemory) }
+    ensures memory { IfErr result (λ e. ((f : PartFault) → HasFailed reader f → ⊥) → e ≢ FileFault.NoMemory) }
     ensures offset { IfErr result (λ e. (b : List ℕ) → ReadsFor reader b → offset_in e ≤ length b) }
 {
     let sealed = reader.finish()?;

@@ -1,13 +1,13 @@
 //! Files that are scanned: a part is read piece by piece, and no byte of it is kept. No memory is taken.
 
-ghost use Rattle.std.specs.Prelude.{◌≡◌, ℕ, List, Some, Err};
+ghost use Rattle.std.specs.Prelude.{◌≡◌, ℕ, List, Err};
 ghost use Rattle.octets_core.specs.declared.fault.LayoutFault.{LayoutFault};
 ghost use Rattle.outside_core.specs.Effects.{OnlyReads};
 ghost use Rattle.outside_core.specs.Filling.{IsInOrder};
 ghost use Rattle.outside_core.specs.Standing.{reference_of, depot_of, name_of, place_of};
 ghost use Rattle.part_text.specs.PartLayout.{sealed};
 ghost use Rattle.part_codec.specs.Noting.{noted};
-ghost use Rattle.part_codec.specs.Standing.{StandsFor};
+ghost use Rattle.part_codec.specs.Standing.{StandsFor, HasFailed};
 ghost use Rattle.outside_core.specs.Reads.{WhichFailed};
 ghost use Rattle.input_core.specs.Scanned.{layouts, IsScan};
 
@@ -27,7 +27,7 @@ pub enum ScanFault {
 /// What is noted of the bytes that came, which are all.
 fn finished(scan: PartScan) -> Result<PartNote, ScanFault>
     ensures exact { (b : List ℕ) → StandsFor scan b → layouts (noted (sealed b 0)) ≡ result }
-    ensures again { (e : LayoutFault) → scan.fault ≡ Some e → result ≡ Err (ScanFault.Layout e) }
+    ensures again { (e : LayoutFault) → HasFailed scan e → result ≡ Err (ScanFault.Layout e) }
 {
     match scan.finish() {
         Ok(note) => Ok(note),

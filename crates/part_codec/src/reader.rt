@@ -282,7 +282,8 @@ impl PartReader {
 
     /// Before the first byte. No memory is taken.
     pub fn new(alloc: Global) -> PartReader
-        ensures { ReadsFor result [] }
+        ensures stands { ReadsFor result [] }
+        ensures fresh { (e : PartFault) → HasFailed result e → ⊥ }
     {
         let machine = Machine::new();
         let pile = Pile::new(alloc);

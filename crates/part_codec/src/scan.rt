@@ -89,7 +89,8 @@ impl PartScan {
 
     /// Before the first byte.
     pub fn new() -> PartScan
-        ensures { StandsFor result [] }
+        ensures stands { StandsFor result [] }
+        ensures fresh { (e : LayoutFault) → HasFailed result e → ⊥ }
     {
         let machine = Machine::new();
         let hasher = Sha256::new();

@@ -17,8 +17,8 @@ pieces-init g c = record {
   only_reads = record { later = omega arith; same_files = refl; same_writes = refl };
   unblamed = refl;
   in_order = c.requires.in_order;
-  going = λ b taken. going (g.D.Depot.files (depot_of c.args.feed.now)) (name_of c.args.feed.now) b c.new-reader.result (place_of c.args.feed.now) c.new-reader.ensures taken;
-  some = ([], c.new-reader.ensures, omega arith);
+  going = λ b taken. going (g.D.Depot.files (depot_of c.args.feed.now)) (name_of c.args.feed.now) b c.new-reader.result (place_of c.args.feed.now) c.new-reader.ensures.stands taken;
+  some = ([], c.new-reader.ensures.stands, omega arith);
 }
 
 pub returns-in_default-clause-comes : goal.returns-in_default-clause-comes

@@ -15,7 +15,7 @@ pieces-init g c = record {
   only_reads = record { later = omega arith; same_files = refl; same_writes = refl };
   unblamed = refl;
   in_order = c.requires.in_order;
-  taken = nothing_taken (g.D.Depot.files (depot_of c.args.feed.now)) (name_of c.args.feed.now) c.new-scan.result (place_of c.args.feed.now) c.requires.place c.new-scan.ensures;
+  taken = nothing_taken (g.D.Depot.files (depot_of c.args.feed.now)) (name_of c.args.feed.now) c.new-scan.result (place_of c.args.feed.now) c.requires.place c.new-scan.ensures.stands;
 }
 
 pub returns-in_default-clause-scan : goal.returns-in_default-clause-scan

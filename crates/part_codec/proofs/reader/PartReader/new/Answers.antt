@@ -13,8 +13,8 @@ invariant_of-result c = record {
   ) ∣₁;
 }
 
-pub returns : goal.returns
-returns c = (
+pub returns-clause-stands : goal.returns-clause-stands
+returns-clause-stands c = (
   read-new c.new-machine.result c.new-pile.result c.new-machine.ensures.stands c.new-machine.ensures.field c.new-pile.ensures,
   hashes-new c.new-machine.result c.new-hasher.result c.new-hasher.ensures,
 )
