@@ -25,7 +25,7 @@ use crate::counts::Counts;
 use crate::enrolling::enrolled;
 use crate::fault::AdmitFault;
 use crate::flagging::{revoked_now, set_lasts};
-use crate::following::{early_fault, next_draft, next_head};
+use crate::following::{check_early, next_draft, next_head};
 use crate::held::Held;
 use crate::judging::Context;
 use crate::member::Members;
@@ -155,6 +155,21 @@ fn build<T: Threading>(
     })
 }
 
+/// Refuses more identities than the limit. No memory is taken.
+fn check_identities(identities: usize, limits: &Limits) -> Result<(), AdmitFault>
+    ensures few { OnOk result (identities ≤ limits.now.identities) }
+    ensures many { IfErr result (λ e. (e ≡ AdmitFault.TooMany What.Identities limits.now.identities)
+        × (limits.now.identities < identities)) }
+{
+    if identities > limits.identities as usize {
+        return Err(AdmitFault::TooMany {
+            what: What::Identities,
+            limit: limits.identities,
+        });
+    }
+    Ok(())
+}
+
 /// Admits a job behind these parts and items, of which a chain's first job has none.
 fn step<T: Threading>(
     threading: &T,
@@ -179,16 +194,9 @@ fn step<T: Threading>(
     ensures next { IfOk result (λ a. (trailer : List ℕ)
         → sealed_with a.next trailer ≡ next_ledger (ledger_fields parts.now items.now) (facts_of_job (job_of job.entry)) trailer) }
 {
-    if let Some(fault) = early_fault(parts, job.job()) {
-        return Err(fault);
-    }
+    check_early(parts, job.job())?;
     let accepted = accept(threading, alloc, parts, items, job)?;
-    if accepted.members.items.len() > limits.identities as usize {
-        return Err(AdmitFault::TooMany {
-            what: What::Identities,
-            limit: limits.identities,
-        });
-    }
+    check_identities(accepted.members.items.len(), limits)?;
     let tally = accepted.tally;
     let late = accepted.late;
     let timely = accepted.accepted;

@@ -1,6 +1,6 @@
 //! What a job must be to follow the parts of a chain, and what follows them.
 
-ghost use Rattle.std.specs.Prelude.{◌≡◌, ◌≤◌, ◌++◌, ◌∷◌, [], length, map, slice_get, IfOk, Some};
+ghost use Rattle.std.specs.Prelude.{◌≡◌, ◌≤◌, ◌++◌, ◌∷◌, [], length, map, slice_get, IfErr, IfOk, None, OnOk, Some};
 ghost use Rattle.std.specs.Option.{option_copied, option_map};
 ghost use Rattle.ident_core.specs.Coverage.{RangesFit, first_outside};
 ghost use Rattle.job_core.specs.declared.bounds.TheConstants.Limits.{PUBLISHED};
@@ -97,16 +97,20 @@ fn full_chain(parts: &[LedgerPart]) -> Option<AdmitFault>
     None
 }
 
-/// Why a job can't follow these parts, but for the number of its identities.
-pub(crate) fn early_fault(parts: &[LedgerPart], job: &Job) -> Option<AdmitFault>
+/// Refuses a job that can't follow these parts, but for the number of its identities. No memory is taken.
+pub(crate) fn check_early(parts: &[LedgerPart], job: &Job) -> Result<(), AdmitFault>
     requires { length job.now.crls.items ≤ PUBLISHED.crls }
-    ensures { result ≡ early (map part_fields parts.now) (fields_of_job job.now) }
+    ensures follows { OnOk result (early (map part_fields parts.now) (fields_of_job job.now) ≡ None) }
+    ensures refused { IfErr result (λ e. early (map part_fields parts.now) (fields_of_job job.now) ≡ Some e) }
 {
     let bad = bad_crl(&job.crls);
     let old = old_epoch_in(parts, job.epoch);
     let shrunk = shrunk_in(parts, job);
     let full = full_chain(parts);
-    bad.or(old.or(shrunk.or(full)))
+    match bad.or(old.or(shrunk.or(full))) {
+        None => Ok(()),
+        Some(fault) => Err(fault),
+    }
 }
 
 fn copied(alloc: Global, ranges: &[Range]) -> Result<Vec<Range>, AllocError>

@@ -1,6 +1,7 @@
 use Rattle.std.proofs.Common.{◌≡◌, ◌≤◌, ◌∙◌, ◌++◌, ◌∷◌, [], ℕ, List, None, ap, sym, subst, map, length, arith}
 use Rattle.std.specs.List.Sorted.{IsStrictlySortedBy}
 use Rattle.std.proofs.lemmas.List.{length-map}
+use Rattle.std.proofs.lemmas.Result.{err_from_is_err_and}
 use Rattle.ident_core.specs.Order.{octets_cmp}
 use Rattle.ident_core.specs.declared.range.Range.{Range}
 use Rattle.job_core.specs.JobFields.{fields_of_job}
@@ -19,10 +20,11 @@ use Rattle.universe_core.proofs.Issuers.{enrolled_ascend}
 use Rattle.universe_core.proofs.Searchable.{parts_searchable}
 use Rattle.universe_core.proofs.admission.step.Goals as goal
 
-pub returns-in-Some-clause-refused : goal.returns-in-Some-clause-refused
-returns-in-Some-clause-refused g c = λ n.
-    refusal_early c.args.limits.now (ledger_fields c.args.parts.now c.args.items.now) (fields_of_job (job_of c.args.job)) c.in-Some.fault
-    (ap (λ (j : CodeJob). early (map part_fields c.args.parts.now) (fields_of_job j)) (sym c.job.ensures) ∙ sym c.early_fault.ensures ∙ c.in-Some.is)
+pub returns-in_err-check_early-clause-refused : goal.returns-in_err-check_early-clause-refused
+returns-in_err-check_early-clause-refused g c =
+    let q = err_from_is_err_and c.from_residual.result c.from_residual.ensures.1 in
+    rw (q.1, q.2) (λ n. refusal_early c.args.limits.now (ledger_fields c.args.parts.now c.args.items.now) (fields_of_job (job_of c.args.job)) c.in_err-check_early.field-0.0
+    (ap (λ (j : CodeJob). early (map part_fields c.args.parts.now) (fields_of_job j)) (sym c.job.ensures) ∙ c.in_err-check_early.ensures.refused))
 
 pub accept-requires-clause-parts : goal.accept-requires-clause-parts
 accept-requires-clause-parts g c = parts_searchable None c.args.parts.now c.requires.before.parts
@@ -33,13 +35,14 @@ accept-requires-clause-few_crls g c = crls_few c.args.limits.now (job_of c.args.
 pub accept-requires-clause-ascend : goal.accept-requires-clause-ascend
 accept-requires-clause-ascend g c = c.requires.before.items_ascend
 
-pub returns-then-len-limits-clause-refused : goal.returns-then-len-limits-clause-refused
-returns-then-len-limits-clause-refused g c = λ n.
+pub returns-in_err-check_identities-clause-refused : goal.returns-in_err-check_identities-clause-refused
+returns-in_err-check_identities-clause-refused g c =
+    let q = err_from_is_err_and c.from_residual-in_err-check_identities.result c.from_residual-in_err-check_identities.ensures.1 in
     let many = members_many (ledger_fields c.args.parts.now c.args.items.now) (facts_of_job (job_of c.args.job)) c.in_ok-accepted.accepted.members.items.items c.in_ok-accepted.accepted.members.settled.items c.in_ok-accepted.ensures.members in
     let len = c.len.ensures in
-    let above = c.if-len-limits.true in
-    refusal_many c.args.limits.now (ledger_fields c.args.parts.now c.args.items.now) (fields_of_job (job_of c.args.job))
-    (ap (λ (j : CodeJob). early (map part_fields c.args.parts.now) (fields_of_job j)) (sym c.job.ensures) ∙ sym c.early_fault.ensures ∙ c.in_default.is) (omega arith)
+    let above = c.in_err-check_identities.ensures.many in
+    rw (q.1, q.2, above.0) (λ n. refusal_many c.args.limits.now (ledger_fields c.args.parts.now c.args.items.now) (fields_of_job (job_of c.args.job))
+    (ap (λ (j : CodeJob). early (map part_fields c.args.parts.now) (fields_of_job j)) (sym c.job.ensures) ∙ c.in_ok-check_early.ensures.follows) (omega (arith, above.1)))
 
 pub build-requires-clause-issuers : goal.build-requires-clause-issuers
 build-requires-clause-issuers g c =
@@ -59,9 +62,9 @@ pub returns-clause-admitted : goal.returns-clause-admitted
 returns-clause-admitted g c =
     let many = members_many (ledger_fields c.args.parts.now c.args.items.now) (facts_of_job (job_of c.args.job)) c.in_ok-accepted.accepted.members.items.items c.in_ok-accepted.accepted.members.settled.items c.in_ok-accepted.ensures.members in
     let len = c.len.ensures in
-    let below = c.if-len-limits.false in
+    let below = c.in_ok-check_identities.ensures.few in
     refusal_none c.args.limits.now (ledger_fields c.args.parts.now c.args.items.now) (fields_of_job (job_of c.args.job))
-    (ap (λ (j : CodeJob). early (map part_fields c.args.parts.now) (fields_of_job j)) (sym c.job.ensures) ∙ sym c.early_fault.ensures ∙ c.in_default.is) (omega arith)
+    (ap (λ (j : CodeJob). early (map part_fields c.args.parts.now) (fields_of_job j)) (sym c.job.ensures) ∙ c.in_ok-check_early.ensures.follows) (omega arith)
 
 pub returns-clause-head : goal.returns-clause-head
 returns-clause-head g c =
@@ -99,7 +102,7 @@ pub next_draft-requires : goal.next_draft-requires
 next_draft-requires g c =
     let many = members_many (ledger_fields c.args.parts.now c.args.items.now) (facts_of_job (job_of c.args.job)) c.in_ok-accepted.accepted.members.items.items c.in_ok-accepted.accepted.members.settled.items c.in_ok-accepted.ensures.members in
     let len = c.len.ensures in
-    let below = c.if-len-limits.false in
+    let below = c.in_ok-check_identities.ensures.few in
     let most : c.args.limits.now.identities ≤ 4194304 = c.requires.published.identities in
     let crls = crls_few c.args.limits.now (job_of c.args.job) c.requires.few.crls c.requires.published.crls in
     let of = are_of (job_of c.args.job) (job_of c.in_ok-accepted.accepted.rest) c.job-rest.result.now c.job-rest.ensures
@@ -114,7 +117,7 @@ next_draft-requires g c =
     })) (sym frame)
     (is_next (ledger_fields c.args.parts.now c.args.items.now) (fields_of_job (job_of c.args.job)) c.in_ok-accepted.accepted.issuers.items
     c.in_ok-built.built.items.items c.requires.before
-    (ap (λ (j : CodeJob). early (map part_fields c.args.parts.now) (fields_of_job j)) (sym c.job.ensures) ∙ sym c.early_fault.ensures ∙ c.in_default.is)
+    (ap (λ (j : CodeJob). early (map part_fields c.args.parts.now) (fields_of_job j)) (sym c.job.ensures) ∙ c.in_ok-check_early.ensures.follows)
     c.requires.ranges
     c.in_ok-accepted.ensures.issuers
     (c.in_ok-built.ensures.items (ledger_fields c.args.parts.now c.args.items.now) (facts_of_job (job_of c.args.job)) of (sym (length-map c.args.parts.now part_fields)))
