@@ -18,22 +18,27 @@ pub enum BaseFault {
     NoMemory,
 }
 
-/// The same of a ledger from which no chain begins anew.
-pub(crate) fn rebasing_fault(fault: RebaseFault) -> BaseFault
-    ensures { result ≡ of_rebasing fault }
-{
-    match fault {
-        RebaseFault::TooMany { what, limit } => BaseFault::TooMany { what, limit },
-        RebaseFault::NoMemory => BaseFault::NoMemory,
+impl From<RebaseFault> for BaseFault {
+    ghost from_gives = { λ fault e. e ≡ of_rebasing fault };
+
+    fn from(fault: RebaseFault) -> BaseFault {
+        match fault {
+            RebaseFault::TooMany { what, limit } => BaseFault::TooMany { what, limit },
+            RebaseFault::NoMemory => BaseFault::NoMemory,
+        }
     }
 }
 
-/// The same of a building that failed.
-pub(crate) fn base_building_fault(fault: BuildFault) -> BaseFault
-    ensures { result ≡ of_building fault }
-{
-    match fault {
-        BuildFault::SeedsExhausted { issuer, stage } => BaseFault::SeedsExhausted { issuer, stage },
-        BuildFault::NoMemory => BaseFault::NoMemory,
+impl From<BuildFault> for BaseFault {
+    ghost from_gives = { λ fault e. e ≡ of_building fault };
+
+    fn from(fault: BuildFault) -> BaseFault {
+        match fault {
+            BuildFault::SeedsExhausted { issuer, stage } => BaseFault::SeedsExhausted {
+                issuer,
+                stage,
+            },
+            BuildFault::NoMemory => BaseFault::NoMemory,
+        }
     }
 }

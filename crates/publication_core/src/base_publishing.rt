@@ -5,7 +5,7 @@ ghost use Rattle.ident_core.specs.declared.bounds.TheConstants.{MAX_WORKERS};
 ghost use Rattle.publication_core.specs.Rebasing.{PublishesBaseUnless};
 
 use crate::base::{BaseCounts, BasePublication};
-use crate::base_fault::{BaseFault, base_building_fault, rebasing_fault};
+use crate::base_fault::BaseFault;
 use crate::publish::built;
 use builder_core::Gate;
 use ledger_core::{Ledger, LedgerItem};
@@ -38,21 +38,17 @@ pub fn publish_base<R: Threads + Sync, G: Gate + Sync>(
     requires few_workers { workers ≤ MAX_WORKERS }
     ensures { PublishesBaseUnless ledger moment without.now result }
 {
+    let rebased = rebase(alloc, &ledger, moment, without)?;
     let Rebased {
         head,
         groups,
         pruned,
         left,
         next,
-    } = match rebase(alloc, &ledger, moment, without) {
-        Ok(rebased) => rebased,
-        Err(fault) => return Err(rebasing_fault(fault)),
-    };
+    } = rebased;
     drop(ledger);
-    let (sealed, ledger) = match built(rt, alloc, gate, head, &groups, next, workers) {
-        Ok(made) => made,
-        Err(fault) => return Err(base_building_fault(fault)),
-    };
+    let made = built(rt, alloc, gate, head, &groups, next, workers)?;
+    let (sealed, ledger) = made;
     let counts = BaseCounts {
         issuers: groups.len(),
         universe: ledger.items().len(),

@@ -17,24 +17,26 @@ pub enum PublishFault {
     NoMemory,
 }
 
-/// The same of an admission that failed.
-pub(crate) fn admission_fault(fault: AdmitFault) -> PublishFault
-    ensures { result ≡ of_admission fault }
-{
-    match fault {
-        AdmitFault::NoMemory => PublishFault::NoMemory,
-        fault => PublishFault::Admission(fault),
+impl From<AdmitFault> for PublishFault {
+    ghost from_gives = { λ fault e. e ≡ of_admission fault };
+
+    fn from(fault: AdmitFault) -> PublishFault {
+        match fault {
+            AdmitFault::NoMemory => PublishFault::NoMemory,
+            fault => PublishFault::Admission(fault),
+        }
     }
 }
 
-/// The same of a building that failed.
-pub(crate) fn building_fault(fault: BuildFault) -> PublishFault
-    ensures { result ≡ of_building fault }
-{
-    match fault {
-        BuildFault::SeedsExhausted { issuer, stage } => {
-            PublishFault::SeedsExhausted { issuer, stage }
+impl From<BuildFault> for PublishFault {
+    ghost from_gives = { λ fault e. e ≡ of_building fault };
+
+    fn from(fault: BuildFault) -> PublishFault {
+        match fault {
+            BuildFault::SeedsExhausted { issuer, stage } => {
+                PublishFault::SeedsExhausted { issuer, stage }
+            }
+            BuildFault::NoMemory => PublishFault::NoMemory,
         }
-        BuildFault::NoMemory => PublishFault::NoMemory,
     }
 }

@@ -12,7 +12,7 @@ ghost use Rattle.builder_core.specs.Building.{identities_in, issuers_of};
 ghost use Rattle.publication_core.specs.Building.{Builds, BuildsAs};
 ghost use Rattle.publication_core.specs.Publishing.{PublishesUnless};
 
-use crate::fault::{PublishFault, admission_fault, building_fault};
+use crate::fault::PublishFault;
 use crate::publication::Publication;
 use builder_core::{BuildFault, Format, Gate, build_part_claimed};
 use equation_core::Sha256Rows;
@@ -72,10 +72,8 @@ fn published<R: Threads + Sync, G: Gate + Sync>(
         counts,
         next,
     } = admitted;
-    match built(rt, alloc, gate, head, &groups, next, workers) {
-        Ok((sealed, ledger)) => Ok(Publication::new(place, sealed, ledger, counts)),
-        Err(fault) => Err(building_fault(fault)),
-    }
+    let (sealed, ledger) = built(rt, alloc, gate, head, &groups, next, workers)?;
+    Ok(Publication::new(place, sealed, ledger, counts))
 }
 
 /// What is published of a job as the first of a chain, by 1 to 64 workers, each of which enters the gate before it
@@ -94,10 +92,7 @@ pub fn publish_first<R: Threads + Sync, G: Gate + Sync>(
     requires few_workers { workers ≤ MAX_WORKERS }
     ensures { PublishesUnless no_ledger (fields_of_job job) result }
 {
-    let admitted = match first_of(rt, alloc, job, &Limits::PUBLISHED, workers) {
-        Ok(admitted) => admitted,
-        Err(fault) => return Err(admission_fault(fault)),
-    };
+    let admitted = first_of(rt, alloc, job, &Limits::PUBLISHED, workers)?;
     published(rt, alloc, gate, 0, admitted, workers)
 }
 
@@ -119,10 +114,7 @@ pub fn publish_after<R: Threads + Sync, G: Gate + Sync>(
     ensures { PublishesUnless ledger (fields_of_job job) result }
 {
     let place = ledger.parts().len() as u32;
-    let admitted = match admit_of(rt, alloc, &ledger, job, &Limits::PUBLISHED, workers) {
-        Ok(admitted) => admitted,
-        Err(fault) => return Err(admission_fault(fault)),
-    };
+    let admitted = admit_of(rt, alloc, &ledger, job, &Limits::PUBLISHED, workers)?;
     drop(ledger);
     published(rt, alloc, gate, place, admitted, workers)
 }

@@ -8,10 +8,10 @@ use Rattle.publication_core.proofs.Publishing.{few_groups, few_identities}
 use Rattle.publication_core.proofs.publish.publish_first.Goals as goal
 
 pub published-requires-clause-ascending : goal.published-requires-clause-ascending
-published-requires-clause-ascending g c κs within = groups_ascend no_ledger (facts_of_job c.args.job) (map group_fields c.in-Ok.admitted.groups.items) c.in-Ok.ensures.groups
+published-requires-clause-ascending g c κs within = groups_ascend no_ledger (facts_of_job c.args.job) (map group_fields c.in_ok-admitted.admitted.groups.items) c.in_ok-admitted.ensures.groups
 
 pub published-requires-clause-few : goal.published-requires-clause-few
-published-requires-clause-few g c κs within = few_groups no_ledger (fields_of_job c.args.job) c.in-Ok.admitted.groups.items c.in-Ok.ensures.groups c.requires.within
+published-requires-clause-few g c κs within = few_groups no_ledger (fields_of_job c.args.job) c.in_ok-admitted.admitted.groups.items c.in_ok-admitted.ensures.groups c.requires.within
 
 pub published-requires-clause-identities : goal.published-requires-clause-identities
-published-requires-clause-identities g c κs within = few_identities no_ledger (fields_of_job c.args.job) (map group_fields c.in-Ok.admitted.groups.items) c.in-Ok.ensures.groups c.in-Ok.ensures.admitted
+published-requires-clause-identities g c κs within = few_identities no_ledger (fields_of_job c.args.job) (map group_fields c.in_ok-admitted.admitted.groups.items) c.in_ok-admitted.ensures.groups c.in_ok-admitted.ensures.admitted
