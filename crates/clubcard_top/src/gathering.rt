@@ -42,6 +42,17 @@ fn head_in<D: Depot>(alloc: Global, depot: &mut D, name: &str) -> Result<OpenJob
     Ok(OpenJob::new(alloc, bytes)?)
 }
 
+/// Refuses a page of more bytes than a page may have. No memory is taken.
+fn check_length(page: &[u8]) -> Result<(), FileFault>
+    ensures short { OnOk result (length page.now ≤ MAX_PAGE) }
+    ensures long { IfErr result (λ e. (e ≡ FileFault.BadPage (PageFault.Size 0)) × (MAX_PAGE < length page.now)) }
+{
+    if page.len() > MAX_PAGE {
+        return Err(FileFault::BadPage(PageFault::Size { index: 0 }));
+    }
+    Ok(())
+}
+
 /// The page of the file of this name.
 fn page_in<D: Depot>(alloc: Global, depot: &mut D, name: &str) -> Result<Vec<PageEntry>, FileFault>
     ensures input { IsInput (D.files depot.old) (WhichFailed D.Depot depot.old depot.new) name.now
@@ -50,9 +61,7 @@ fn page_in<D: Depot>(alloc: Global, depot: &mut D, name: &str) -> Result<Vec<Pag
     ensures only_reads { OnlyReads D.Depot depot.old depot.new }
 {
     let bytes = read_up_to(alloc, depot, name, MAX_PAGE)?;
-    if bytes.len() > MAX_PAGE {
-        return Err(FileFault::BadPage(PageFault::Size { index: 0 }));
-    }
+    check_length(&bytes)?;
     Ok(read_page(alloc, &bytes)?)
 }
 
