@@ -4,6 +4,7 @@ pub mod Assembly
 pub mod OutcomeLaws
 pub mod Faults
 pub mod OutcomesInPlace
+pub mod OutcomesOnce
 pub mod ShardMembers
 pub mod ShareLists
 pub mod FirstRefused

@@ -15,8 +15,8 @@ use Rattle.builder_core.specs.declared.fault.BuildFault.TheVariants.{SeedsExhaus
 use Rattle.builder_core.specs.declared.built.Built.{Built}
 use Rattle.builder_core.specs.Building.{IsGroupBlock, AreGroupBlocks, IsFirstRefused}
 use Rattle.builder_core.specs.Drawing.{AreDrawnAt}
-use Rattle.builder_core.specs.Tasks.{tasks_in}
-use Rattle.builder_core.specs.Outcomes.{AreOutcomes, IsFirstFault}
+use Rattle.builder_core.specs.Tasks.{TaskFields, tasks_in}
+use Rattle.builder_core.specs.Outcomes.{IsOutcomeAt, AreOutcomes, IsFirstFault}
 
 -- in each format the test of each identity of a group is its flag
 abbrev pub GroupBlockIsExact : Type 0
@@ -45,6 +45,12 @@ abbrev pub ShardsAreUnique : Type 0
 ShardsAreUnique =
     (shift : ℕ) (runs : List (Bor (List Identity))) (xs ys : List (Vec ℕ Global)) → length xs ≡ length runs → length ys ≡ length runs
     → IsInPlace (AreDrawnAt shift runs) xs → IsInPlace (AreDrawnAt shift runs) ys → map (λ v. v.items) xs ≡ map (λ v. v.items) ys
+
+-- leaves have one list of outcomes where memory suffices
+abbrev pub OutcomesAreUnique : Type 0
+OutcomesAreUnique =
+    (rows : Rows) (tasks : List TaskFields) (xs ys : List (Result Built BuildFault)) → length xs ≡ length tasks → length ys ≡ length tasks
+    → IsInPlace (IsOutcomeAt rows tasks) xs → IsInPlace (IsOutcomeAt rows tasks) ys → xs ≡ ys
 
 -- only one issuer is the first that is refused, at one stage
 abbrev pub OneIsFirstRefused : Type 0

@@ -1,5 +1,5 @@
 -- What comes of each leaf, built by itself, and what is made of it.
-use Rattle.std.specs.Prelude.{◌≡◌, ◌≤◌, ℕ, zero, suc, List, [], ◌∷◌, ◌++◌, map, not, Some, Result, Ok, Err}
+use Rattle.std.specs.Prelude.{◌≡◌, ◌≢◌, ◌≤◌, ℕ, zero, suc, List, [], ◌∷◌, ◌++◌, map, not, Some, Result, Ok, Err}
 use Rattle.std.specs.List.{slice_get}
 use Rattle.std.specs.declared.alloc.Global.{Global}
 use Rattle.std.specs.declared.vec.Vec.{Vec}
@@ -49,9 +49,9 @@ IsSettled (Err NoMemory) (Ok outcome) = ⊥
 IsSettled (Err NoMemory) (Err want) = Unit {0}
 IsSettled outcome settled = settled ≡ Ok outcome
 
--- the same of the leaf at a place
+-- the outcome of the leaf at a place, which isn't want of memory
 abbrev pub IsOutcomeAt : Rows → List TaskFields → ℕ → Result Built BuildFault → Type 0
-IsOutcomeAt rows tasks place outcome = (t : TaskFields) → slice_get tasks place ≡ Some t → IsOutcome rows t outcome
+IsOutcomeAt rows tasks place outcome = (outcome ≢ Err NoMemory) × ((t : TaskFields) → slice_get tasks place ≡ Some t → IsOutcome rows t outcome)
 
 -- an outcome for each leaf, in order
 abbrev pub AreOutcomes : Rows → List TaskFields → List (Result Built BuildFault) → Type 0

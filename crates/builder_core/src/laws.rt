@@ -1,7 +1,7 @@
 //! Laws of the definitions, apart from all code. Each is a function that does nothing, and its clause says the law.
 
 ghost use Rattle.builder_core.specs.Laws.{GroupBlockIsExact, GroupBlocksAreUnique, OneIsFirstRefused, OutcomesGiveBlocks};
-ghost use Rattle.builder_core.specs.Laws.{RefusedHasNoBlocks, ShardsAreUnique};
+ghost use Rattle.builder_core.specs.Laws.{OutcomesAreUnique, RefusedHasNoBlocks, ShardsAreUnique};
 
 /// In each format the block of a group tests positive for exactly those of its universe that are revoked.
 pub fn group_block_is_exact()
@@ -32,4 +32,9 @@ pub fn outcomes_give_blocks()
 /// Runs of neighbours have one list of shards, whoever draws them.
 pub fn shards_are_unique()
     ensures { ShardsAreUnique }
+{}
+
+/// Leaves have one list of outcomes where memory suffices, whoever builds them: the block or the leaf, or the refusal.
+pub fn outcomes_are_unique()
+    ensures { OutcomesAreUnique }
 {}

@@ -24,6 +24,6 @@ pub use fault::BuildFault;
 pub use format::Format;
 pub use gate::{Gate, Open};
 pub use laws::{
-    group_block_is_exact, group_blocks_are_unique, one_is_first_refused, outcomes_give_blocks,
-    refused_has_no_blocks, shards_are_unique,
+    group_block_is_exact, group_blocks_are_unique, one_is_first_refused, outcomes_are_unique,
+    outcomes_give_blocks, refused_has_no_blocks, shards_are_unique,
 };

@@ -63,19 +63,15 @@ fn built_of<R: Threads + Sync, H: EquationHash + Sync>(
 {
     let group = task.group;
     if task.shift == 0 {
-        return match block_of(rt, alloc, hash, wide, group) {
-            Ok(block) => Ok(Built::Block(block)),
-            Err(fault) => Err(fault),
-        };
+        let block = block_of(rt, alloc, hash, wide, group)?;
+        return Ok(Built::Block(block));
     }
-    match leaf_of(alloc, hash, task) {
-        Ok(leaf) => Ok(Built::Leaf(ShardLeaf {
-            issuer: group.issuer,
-            shift: task.shift,
-            leaf,
-        })),
-        Err(fault) => Err(fault),
-    }
+    let leaf = leaf_of(alloc, hash, task)?;
+    Ok(Built::Leaf(ShardLeaf {
+        issuer: group.issuer,
+        shift: task.shift,
+        leaf,
+    }))
 }
 
 // The same of a leaf of this issuer. It takes no memory.
