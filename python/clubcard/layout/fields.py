@@ -1,5 +1,6 @@
 """Fields one behind the other, each with its width and its test, and the first one that is wrong."""
 
+import hashlib
 import mmap
 from collections.abc import Callable
 from dataclasses import dataclass
@@ -9,6 +10,8 @@ Octets = bytes | mmap.mmap
 Why = Literal["short", "value", "digest", "chain", "limit"]
 
 KEY = 32
+# How many bytes are hashed at a time, and behind how many more who watches is told.
+_PIECE = 1 << 20
 # So many bytes of a field that is wrong are kept: a plane may have more than half a million.
 SHOWN = 64
 
@@ -48,19 +51,29 @@ class LayoutFault(Exception):
 class Fields:
     """The fields of some bytes, from one offset to another. What holds no field is never copied.
 
-    start: where the file begins whose fields these are, from which the program counts; at: where the next field is.
+    start: where the file begins whose fields these are, from which the program counts; at: where the next field is;
+    watch: is told of how many more bytes were read.
     """
 
-    def __init__(self, data: Octets, start: int = 0, end: int | None = None) -> None:
+    def __init__(
+        self, data: Octets, start: int = 0, end: int | None = None, watch: Callable[[int], None] | None = None
+    ) -> None:
         self.data = data
-        self.start = self.at = start
-        self.end = len(data) if end is None else end
+        self.start = self.at = self._told = start
+        self.end = len(data) if end is None else min(end, len(data))
+        self.watch = watch
 
     def fault(self, field: str, width: int, why: Why, expected: str, line: str = "") -> LayoutFault:
         """Of the next field that it is wrong."""
         octets = self.data[self.at : min(self.at + min(width, SHOWN), self.end)]
         line = line or f"layout {self.at - self.start} {field} {why}"
         return LayoutFault(Fault(field, self.at, why, octets, width, expected, line))
+
+    def tell(self) -> None:
+        """Tells who watches how many more bytes were read."""
+        if self.watch is not None and self.at - self._told >= _PIECE:
+            self.watch(self.at - self._told)
+            self._told = self.at
 
     def need(self, field: str, width: int) -> None:
         """Tests that all bytes of the next field are there."""
@@ -95,6 +108,18 @@ class Fields:
         """Passes over the next field, whose bytes are there and aren't read."""
         self.need(field, width)
         self.at += width
+
+    def digest(self, field: str, first: int) -> bytes:
+        """The next field, which is the SHA-256 of the bytes from an offset up to it."""
+        self.need(field, KEY)
+        wanted = hashlib.sha256()
+        for at in range(first, self.at, _PIECE):
+            wanted.update(self.data[at : min(at + _PIECE, self.at)])
+        if self.data[self.at : self.at + KEY] != wanted.digest():
+            what = f"the SHA-256 of the {self.at - first} bytes from {first} on"
+            raise self.fault(field, KEY, "digest", f"{what}, {wanted.hexdigest()}")
+        self.at += KEY
+        return wanted.digest()
 
     def whole(self) -> None:
         """Tests that no byte follows."""
