@@ -126,6 +126,13 @@ class Engine:
         seen = [word for log, time in sightings for word in (log.hex(), str(time))]
         return self._run(_one(verdict_of), "query", store, issuer.hex(), serial.hex(), *seen)
 
+    def device_query(
+        self, device: Name, issuer: bytes, serial: bytes, sightings: Sequence[tuple[bytes, int]]
+    ) -> Verdict:
+        """Asks the store on a device, as `query` does. The device is opened to be written, and isn't."""
+        seen = [word for log, time in sightings for word in (log.hex(), str(time))]
+        return self._run(_one(verdict_of), "device-query", device, issuer.hex(), serial.hex(), *seen)
+
     def query_cert(self, store: Name, certificate: Name, issuer: Name) -> Verdict:
         """Asks about a certificate by its own file and its issuer's, both in DER."""
         return self._run(_one(verdict_of), "query-cert", store, certificate, issuer)

@@ -7,6 +7,7 @@ import click
 
 from ..publish.version import version
 from .files import issued_pair
+from .inspecting import inspect
 from .packing import JobWords, pack_job, pack_page, pack_queries
 from .words import NoStore, WordsInFiles
 
@@ -19,8 +20,11 @@ def main() -> None:
     """Makes the program's files of certificates and CRLs in PEM or DER, and asks stores by them.
 
     Status 2: a word or a file is wrong; standard error says which and what to do, and what was to be written is as
-    before. `ask` has statuses of its own.
+    before. `ask` and `inspect` have statuses of their own.
     """
+
+
+main.add_command(inspect)
 
 
 @main.command(cls=WordsInFiles)
