@@ -308,6 +308,7 @@ def test_installed(folder: Path, tmp_path: Path) -> None:
     for name in ("clubcardctl", "clubcard-publish"):
         assert run(name, "--version").stdout == f"{name}, version {version}\n"
     assert run("clubcardctl", "ask", "store", "elm1.chain").stdout == "revoked elm1.chain\n"
+    assert run("clubcardctl", "inspect", "store").stdout.splitlines()[-1].startswith("whole: ")
     (packages,) = (place.parent / "lib").glob("python3.*/*-packages")
     source = {path.relative_to(made.TOP / "python") for path in (made.TOP / "python" / "clubcard").rglob("*")}
     for path in source:

@@ -2,6 +2,8 @@
 
 import json
 import os
+import subprocess
+import sys
 import tracemalloc
 from pathlib import Path
 from typing import Any
@@ -205,6 +207,10 @@ def test_device(files: inspected.Made, tmp_path: Path) -> None:
     end = slot["store"]["parts"][0]["offset"] + slot["store"]["parts"][0]["bytes"]
     (tmp_path / "torn").write_bytes(older[: end - 1] + bytes([older[end - 1] ^ 1]) + older[end:])
     assert report(tmp_path / "torn")["facts"]["slots"][0]["fault"]["field"] == "part.trailer"
+    (tmp_path / "torn").write_bytes(b"\x00" + (tmp_path / "torn").read_bytes()[1:])
+    fault = report(tmp_path / "torn", status=1)["fault"]
+    assert (fault["offset"], fault["offset_in_store"]) == (end - 32, end - 32 - 4104)
+    assert f"part.trailer at {end - 32} ({end - 32 - 4104} in its store), digest: " in ctl(tmp_path / "torn").stdout
     inspected.device_words("device-format", tmp_path / "new", 4096, files.store)
     assert report(tmp_path / "new")["facts"]["slots"][1]["fault"]["why"] == "short"
     assert "nothing is there" in ctl(tmp_path / "new").stdout
@@ -285,13 +291,14 @@ def test_a_wrong_field(files: inspected.Made, tmp_path: Path) -> None:
         "width": 8,
         "bytes": "4341554243415244",
         "expected": "434c554243415244 (CLUBCARD)",
+        "offset_in_store": None,
     }
     assert found["program"]["line"] == "layout 10 part.magic value" and found["program"]["remedy"]
     lines = ctl(tmp_path / "store").stdout.splitlines()
     assert lines[-2:] == [
         "wrong: part.magic at 10, value: 4341554243415244; expected 434c554243415244 (CLUBCARD)",
-        "program: query: layout 10 part.magic value (status 3): the named file is damaged or of another kind: fetch it "
-        "or make it again",
+        "program: clubcard query: layout 10 part.magic value (status 3): the named file is damaged or of another kind: "
+        "fetch it or make it again",
     ]
 
 
@@ -344,6 +351,11 @@ def test_limits_of_a_job(tmp_path: Path) -> None:
         assert (found["fault"]["field"], found["fault"]["why"]) == ("record.kind", "limit")
 
 
+def test_the_program_of_the_tree(files: inspected.Made) -> None:
+    told = CliRunner().invoke(main, ["inspect", str(files.store)], prog_name="clubcardctl")
+    assert (told.exit_code, told.stdout) == (0, ctl(files.store).stdout)
+
+
 def test_without_the_program(files: inspected.Made, tmp_path: Path) -> None:
     found = report(files.store, status=3, program=str(tmp_path / "absent"))
     assert found["fault"] is None and found["program"]["accepts"] is None
@@ -372,6 +384,15 @@ def test_what_cant_be_read(tmp_path: Path) -> None:
     ):
         result = ctl(tmp_path / name)
         assert (result.exit_code, result.stdout) == (2, "") and why in result.stderr, result.stderr
+
+
+def test_standard_input(files: inspected.Made) -> None:
+    """A file that stands for another one is the same one for the program."""
+    words = [sys.executable, "-m", "clubcard.ctl", "inspect", "/dev/stdin"]
+    variables = {**os.environ, "PYTHONPATH": str(made.TOP / "python")}
+    with open(files.parts[0], "rb") as file:
+        done = subprocess.run(words, stdin=file, env=variables, capture_output=True, text=True, check=False)
+    assert (done.returncode, done.stdout.splitlines()) == (0, ctl(files.parts[0]).stdout.splitlines())
 
 
 # ---- large files

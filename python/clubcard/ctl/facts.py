@@ -36,10 +36,12 @@ def facts_of(found: Found, names: Names) -> Facts:
 
 
 def fault_facts(fault: Fault | None) -> Facts | None:
-    """A field that is wrong."""
+    """A field that is wrong. Its offset counts from the beginning of the file, and that in the store of a device's slot
+    also from there, as the program counts it."""
     if fault is None:
         return None
     facts: Facts = {"field": fault.field, "offset": fault.at, "why": fault.why, "width": fault.width}
+    facts["offset_in_store"] = fault.at - fault.start if fault.start else None
     return facts | {"bytes": fault.octets.hex(), "expected": fault.expected}
 
 

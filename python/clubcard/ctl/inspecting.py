@@ -100,10 +100,13 @@ def report_of(name: str, kind: kinds.FileKind | None, names: Names, program: str
 
 
 def _agree(read: kinds.Read, said: programs.Said) -> bool:
-    """Whether the program refuses a file for the field that is wrong, or for what no layout says."""
+    """Whether the program refuses a file for the field that is wrong, or for what no layout says. It counts serials
+    before it reads what stands behind them."""
+    if said.line.startswith("limit serials "):
+        return True
     if read.fault is not None:
         return said.line == read.fault.line
-    return said.accepts is True or said.line.startswith(("crl ", "limit serials "))
+    return said.accepts is True or said.line.startswith("crl ")
 
 
 def status_of(report: Facts) -> Status:
@@ -133,7 +136,12 @@ def status_of(report: Facts) -> Status:
     metavar="CERTS",
     help="A file with issuers' certificates, in DER or PEM, or a folder of such files.",
 )
-@click.option("--program", default="clubcard", metavar="PROGRAM", help="The program that is asked about FILE too.")
+@click.option(
+    "--program",
+    default=programs.beside,
+    metavar="PROGRAM",
+    help="The program that is asked about FILE too; else the one that goes with this package, or is on PATH.",
+)
 @click.option("--json", "is_json", is_flag=True, help="Print one object of JSON.")
 @click.argument("file", metavar="FILE")
 def inspect(

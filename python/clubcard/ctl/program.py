@@ -1,6 +1,7 @@
 """What the program says of a file, by a command that reads such a one and writes nothing."""
 
 import hashlib
+import os
 import tempfile
 from dataclasses import dataclass
 from pathlib import Path
@@ -45,9 +46,22 @@ class Said:
     remedy: str = ""
 
 
+def beside() -> str:
+    """The program that goes with this package: that of its tree or of its installation, else the one on PATH."""
+    here = Path(__file__).resolve().parents[1]
+    # tools/install.sh puts the package into PREFIX/lib/python3.11/site-packages, or a folder of this depth.
+    in_tree, installed = here.parents[1] / "release" / "clubcard-x86_64-linux", here.parents[3] / "bin" / "clubcard"
+    if here.parts[-2:] == ("python", "clubcard") and in_tree.exists():
+        return str(in_tree)
+    return str(installed) if installed.exists() else "clubcard"
+
+
 def ask(program: str, name: str, kind: FileKind) -> Said:
     """What a program says of a file, which is taken for one of a kind."""
     command = _COMMANDS[kind]
+    if name.startswith(("/dev/", "/proc/")):
+        # What /dev/stdin stands for is another file in the program.
+        name = os.path.realpath(name)
     try:
         with tempfile.TemporaryDirectory(prefix="clubcardctl-") as folder:
             _run(Engine(program), name, kind, Path(folder))

@@ -183,7 +183,9 @@ def _fault_lines(fault: Facts) -> Iterator[str]:
         "" if fault["why"] == "short" or 2 * fault["width"] <= len(fault["bytes"]) else f".. ({fault['width']} bytes)"
     )
     given = f"{fault['bytes']}{more}" if fault["bytes"] else "no bytes"
-    yield f"wrong: {fault['field']} at {fault['offset']}, {fault['why']}: {given}; expected {fault['expected']}"
+    within = "" if fault["offset_in_store"] is None else f" ({fault['offset_in_store']} in its store)"
+    where = f"{fault['field']} at {fault['offset']}{within}, {fault['why']}"
+    yield f"wrong: {where}: {given}; expected {fault['expected']}"
 
 
 def _program_lines(report: Facts) -> Iterator[str]:
@@ -192,7 +194,7 @@ def _program_lines(report: Facts) -> Iterator[str]:
     if program is None:
         yield "program: not asked, since the kind of the file isn't known"
         return
-    who = f"program: {program['command']}"
+    who = f"program: clubcard {program['command']}"
     if program["accepts"]:
         yield f"{who} reads it"
     else:

@@ -24,7 +24,8 @@ class Fault:
     it are missing (`short`), it fails its test (`value`, of a digest `digest`), it doesn't go on with the parts before
     (`chain`), or there is more than a file may have (`limit`); octets: its bytes as far as they are there, at most
     `SHOWN` of them; width: how many bytes it has; expected: what was expected.
-    line: what the program prints of the file before its name, without what it counts from elsewhere.
+    line: what the program prints of the file, before its name; start: the offset from which it counts there, which is
+    that of the store in a slot of a device, and else 0.
     """
 
     field: str
@@ -34,6 +35,7 @@ class Fault:
     width: int
     expected: str
     line: str
+    start: int = 0
 
 
 class LayoutFault(Exception):
@@ -67,7 +69,7 @@ class Fields:
         """Of the next field that it is wrong."""
         octets = self.data[self.at : min(self.at + min(width, SHOWN), self.end)]
         line = line or f"layout {self.at - self.start} {field} {why}"
-        return LayoutFault(Fault(field, self.at, why, octets, width, expected, line))
+        return LayoutFault(Fault(field, self.at, why, octets, width, expected, line, self.start))
 
     def tell(self) -> None:
         """Tells who watches how many more bytes were read."""
