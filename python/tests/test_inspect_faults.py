@@ -32,7 +32,7 @@ def fixture_files() -> dict[kinds.FileKind, list[bytes]]:
         "part": [inspected.shard_part().bytes, store[10:179]],
         "store": [store],
         "ledger": [small_ledger(2), small_ledger(1)],
-        "job": [small_job()],
+        "job": [small_job(False), small_job(True)],
         "queries": [inspected.reference.queries_bytes(inspected.QUERIES)],
         "device": [small_device(store, 1), small_device(store, 0)],
     }
@@ -47,13 +47,13 @@ def small_store() -> bytes:
     return octets
 
 
-def small_job() -> bytes:
-    """A job of two ranges, two CRLs of which the second one isn't accepted, and two entries."""
+def small_job(cut: bool) -> bytes:
+    """A job of two ranges, two CRLs of which the second one may be cut, and two entries."""
     reference = inspected.reference
     shown = reference.Entry(inspected.ELM, b"\x05", made.LOG, 7, until=9)
     unread = reference.Entry(None, None, made.LOG, 0, leaf=b"leaf", extra=b"extra")
     spans = [(made.LOG, 5, 9), (inspected.OTHER_LOG, 0, 0)]
-    crls = [(inspected.ELM, reference.Crl([b"\x05"])), (inspected.OAK, reference.Crl([], cut=True))]
+    crls = [(inspected.ELM, reference.Crl([b"\x05"])), (inspected.OAK, reference.Crl([], cut=cut))]
     octets: bytes = reference.Job(7, made.MOMENT, spans, crls, [shown, unread]).bytes()
     return octets
 
@@ -171,11 +171,14 @@ def test_each_length(kind: kinds.FileKind, files: dict[kinds.FileKind, list[byte
 
 
 def as_the_program(name: Path, kind: kinds.FileKind) -> None:
-    """The program refuses a file just where a field is wrong, and for it."""
-    report = report_of(str(name), kind, {}, made.PROGRAM)
+    """The program refuses a file just where a field is wrong, and for it; and else a job for a CRL."""
+    report, why = report_of(str(name), kind, {}, made.PROGRAM), ""
+    if kind == "job" and report["fault"] is None:
+        why = line_of_crls(name.read_bytes())
     assert not report["differs"], report
-    assert report["program"]["accepts"] is (report["fault"] is None), report
+    assert report["program"]["accepts"] is (report["fault"] is None and not why), report
     assert report["whole"] is report["program"]["accepts"]
+    assert not why or report["program"]["line"] == why
 
 
 @settings(max_examples=100, deadline=None, suppress_health_check=[HealthCheck.function_scoped_fixture], database=None)
@@ -192,13 +195,10 @@ def test_as_the_program(files: dict[kinds.FileKind, list[bytes]], tmp_path: Path
         )
     )
     (tmp_path / "file").write_bytes(how())
-    if kind != "job" or not line_of_crls(how()):
-        as_the_program(tmp_path / "file", kind)
+    as_the_program(tmp_path / "file", kind)
 
 
-def line_of_crls(job: bytes) -> bool:
-    """Whether a job whose layout is right has a CRL that the program doesn't accept."""
-    if line_of("job", job):
-        return False
-    readers = made.second_program("scenario_readers")
-    return any(crl.fault for _, crl in readers.read_job(job).crls)
+def line_of_crls(job: bytes) -> str:
+    """What the second program says of the first CRL that isn't accepted, of a job whose layout is right."""
+    crls = made.second_program("scenario_readers").read_job(job).crls
+    return next((f"crl {place} {crl.fault}" for place, (_, crl) in enumerate(crls) if crl.fault), "")

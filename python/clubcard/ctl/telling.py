@@ -192,7 +192,7 @@ def _program_lines(report: Facts) -> Iterator[str]:
     """What the program says, and what all of it comes to."""
     program = report["program"]
     if program is None:
-        yield "program: not asked, since the kind of the file isn't known"
+        yield "program: not asked, since the file's kind isn't known; where its magic alone is damaged, give --kind"
         return
     who = f"program: clubcard {program['command']}"
     if program["accepts"]:

@@ -73,7 +73,7 @@ def read_part(fields: Fields, found: PartFound, look: Look | None = None) -> Non
         has_shards |= block.shift is not None
         found.blocks.append(block)
     if found.version == 2 and not has_shards:
-        raise fields.fault("part.sharded", 0, "value", "a sharded block, in a part of version 2, and none of it is one")
+        raise fields.fault("part.sharded", 0, "value", "some sharded block, since the version is 2; there is none")
     found.trailer = fields.digest("part.trailer", found.offset)
     found.length = fields.at - found.offset
 
