@@ -28,12 +28,12 @@ os.environ.setdefault("CLUBCARD_LIBRARY", str(TOP / "release" / "libclubcard.so"
 
 from clubcard.engine import Engine  # noqa: E402
 from clubcard.jobs import entry_record  # noqa: E402
+from clubcard.progress import Silent  # noqa: E402
 from clubcard.publish.alarms import Alarms  # noqa: E402
 from clubcard.publish.config import Config, Issuer, Log  # noqa: E402
 from clubcard.publish.epoch import make_epoch  # noqa: E402
 from clubcard.publish.issuers import Enrolment  # noqa: E402
 from clubcard.publish.kept import KeptCrl  # noqa: E402
-from clubcard.publish.progress import Silent  # noqa: E402
 from clubcard.publish.site import publish_site  # noqa: E402
 from clubcard.publish.spool import named_log  # noqa: E402
 from clubcard.publish.state import State  # noqa: E402

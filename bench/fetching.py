@@ -26,13 +26,13 @@ from pathlib import Path
 
 from made_log import PAGE, T, Made, made_log, write_rfc6962, write_static
 
+from clubcard.http import Client
+from clubcard.progress import Silent
 from clubcard.publish.alarms import Alarms
 from clubcard.publish.config import Config, Log, LogKind
 from clubcard.publish.following import MOST_ENTRIES
-from clubcard.publish.http import Client
 from clubcard.publish.logs import fetch_logs, source_of
 from clubcard.publish.merkle import CompactRange, leaf_hash
-from clubcard.publish.progress import Silent
 from clubcard.publish.spool import Batch, log_rows, named_log
 from clubcard.publish.state import State
 from clubcard.publish.tiles import WIDTH, tile_path

@@ -10,9 +10,9 @@ from cryptography.hazmat.primitives import hashes
 from cryptography.hazmat.primitives.asymmetric import ec
 
 from clubcard import der as elements
-from clubcard.publish import minisign
+from clubcard import minisign
+from clubcard.http import Client, FetchError, Response
 from clubcard.publish.config import Config, load
-from clubcard.publish.http import Client, FetchError, Response
 from clubcard.publish.run import Outcome, run
 
 from made import PROGRAM, Authority, der_of, pem_of

@@ -10,8 +10,8 @@ from urllib.parse import parse_qsl, urlsplit
 from cryptography.hazmat.primitives import hashes, serialization
 from cryptography.hazmat.primitives.asymmetric import ec, padding, rsa
 
+from clubcard.http import FetchError, Response, TooLong
 from clubcard.publish.config import Config, Issuer, Log, LogKind
-from clubcard.publish.http import FetchError, Response, TooLong
 from web.octets import be, der, vector
 from web.tiles import tile_path
 from web.tree import Tree, leaf_hash

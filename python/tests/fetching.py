@@ -9,11 +9,11 @@ from pathlib import Path
 from typing import Any
 from unittest import mock
 
+from clubcard.progress import Silent
 from clubcard.publish.alarms import Alarms
 from clubcard.publish.config import Config, Issuer
 from clubcard.publish.logs import LogFetch, fetch_logs
 from clubcard.publish.merkle import CompactRange
-from clubcard.publish.progress import Silent
 from clubcard.publish.spool import LogRow, log_rows
 from clubcard.publish.state import State
 from fake_log import MMD, FakeClient, FakeLog, config_of

@@ -6,7 +6,8 @@ from pathlib import Path
 
 import pytest
 
-from clubcard.publish import chain, minisign
+from clubcard import minisign
+from clubcard.publish import chain
 from clubcard.publish.alarms import Alarm
 from clubcard.publish.config import Config, Issuer
 from clubcard.publish.state import State

@@ -13,13 +13,13 @@ from typing import Any
 from clubcard import Query, Sighting, Store, Verdict
 from clubcard.engine import Engine
 from clubcard.jobs import entry_record
+from clubcard.progress import Silent
 from clubcard.publish import chain
 from clubcard.publish.alarms import Alarms
 from clubcard.publish.config import Config, Issuer, Log
 from clubcard.publish.epoch import EpochMade, Limits, make_epoch
 from clubcard.publish.issuers import Enrolment
 from clubcard.publish.kept import KeptCrl
-from clubcard.publish.progress import Silent
 from clubcard.publish.spool import named_log
 from clubcard.publish.state import State
 from made import PROGRAM, precertificate_entry, second_program

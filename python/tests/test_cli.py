@@ -18,11 +18,11 @@ from typing import Any
 import pytest
 from click.testing import CliRunner, Result
 
+from clubcard.http import FetchError
+from clubcard.progress import shown
 from clubcard.publish import cli
 from clubcard.publish.alarms import Alarms
-from clubcard.publish.http import FetchError
-from clubcard.publish.progress import shown
-from clubcard.publish.version import version
+from clubcard.version import version
 
 from desk import HOUR, NOW, URL, Publisher
 
@@ -174,7 +174,7 @@ def test_check_finds_a_folder_that_is_none(desk: Publisher) -> None:
 
 
 def test_check_without_minisign(desk: Publisher, monkeypatch: pytest.MonkeyPatch) -> None:
-    monkeypatch.setattr("clubcard.publish.minisign.PROGRAM", "none-of-this-name")
+    monkeypatch.setattr("clubcard.minisign.PROGRAM", "none-of-this-name")
     result = said("check", desk.file)
     assert result.exit_code == 2 and "install Debian's package minisign" in result.stderr
 

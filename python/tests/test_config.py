@@ -11,9 +11,9 @@ from cryptography.hazmat.primitives.asymmetric import ec, ed25519, rsa
 from hypothesis import HealthCheck, given, settings
 from hypothesis import strategies as st
 
-from clubcard.publish import minisign
+from clubcard import minisign
 from clubcard.publish.config import Config, ConfigError, hints, load
-from clubcard.publish.tables import duration, url_fault
+from clubcard.tables import duration, url_fault
 from clubcard.times import DAY, HOUR, MINUTE
 
 from made import Authority, pem_of

@@ -5,11 +5,11 @@ from pathlib import Path
 import pytest
 
 from clubcard.engine import Engine, PassedLimit
+from clubcard.progress import Silent
 from clubcard.publish import chain
 from clubcard.publish.epoch import NoEpoch, made_before
 from clubcard.publish.issuers import Enrolment
 from clubcard.publish.kept import KeptCrl
-from clubcard.publish.progress import Silent
 from clubcard.publish.spool import named_log
 from spooled import HOUR, MMD, T, Seen, Spooled, at, config_log, config_of, dumped, key_of, log_of
 

@@ -9,8 +9,8 @@ from http.server import BaseHTTPRequestHandler, ThreadingHTTPServer
 
 import pytest
 
-from clubcard.publish.http import BACKOFF, Client, FetchError
-from clubcard.publish.version import version
+from clubcard.http import BACKOFF, Client, FetchError
+from clubcard.version import version
 
 Answer = Callable[["Handler"], None]
 

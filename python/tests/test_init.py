@@ -15,7 +15,8 @@ from cryptography.hazmat.primitives import hashes, serialization
 from cryptography.hazmat.primitives.asymmetric import ec
 from cryptography.x509.oid import NameOID
 
-from clubcard.publish import config, init, minisign
+from clubcard import minisign
+from clubcard.publish import config, init
 
 pytestmark = pytest.mark.skipif(
     shutil.which("minisign") is None, reason="minisign isn't installed (Debian's package minisign)"

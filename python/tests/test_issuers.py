@@ -14,11 +14,11 @@ from hypothesis import HealthCheck, given, settings
 from hypothesis import strategies as st
 
 from clubcard import crls, pki
+from clubcard.http import FetchError
+from clubcard.progress import Silent
 from clubcard.publish.config import Config, Issuer
-from clubcard.publish.http import FetchError
 from clubcard.publish.issuers import Enrolment, enrolled, fetch_crls
 from clubcard.publish.kept import KeptCrl, in_time, is_older
-from clubcard.publish.progress import Silent
 from clubcard.publish.state import State
 
 from desk import HOUR, NOW, Web, made_crl

@@ -9,7 +9,7 @@ from typing import Any
 
 import pytest
 
-from clubcard.publish.http import Response
+from clubcard.http import Response
 from clubcard.publish.run import Outcome
 from web.network import PageClient
 from web.play import Play

@@ -9,9 +9,9 @@ from pathlib import Path
 import pytest
 from hypothesis import HealthCheck, given, settings, strategies as st
 
+from clubcard.http import FetchError
 from clubcard.publish.config import LogKind
 from clubcard.publish.following import Follower
-from clubcard.publish.http import FetchError
 from clubcard.publish.paging import Pages
 from clubcard.publish.spool import FIRST_RUN, Batch, LogRow
 from fake_log import BEGIN, MMD, FakeClient, FakeLog, made_log, spelt

@@ -8,7 +8,7 @@ import pytest
 from hypothesis import given, settings
 from hypothesis import strategies as st
 
-from clubcard.publish.manifest import Coverage, Issuer, Manifest, ManifestError, Part, from_json, to_json
+from clubcard.manifest import Coverage, Issuer, Manifest, ManifestError, Part, from_json, to_json
 from clubcard.times import from_iso, to_iso
 
 LOG, OTHER = b"\xaa" * 32, b"\x0b" * 32

@@ -7,8 +7,8 @@ from typing import Any
 import pytest
 from hypothesis import given, strategies as st
 
+from clubcard.http import FetchError, TooLong
 from clubcard.publish.heads import LogFault, LogKey
-from clubcard.publish.http import FetchError, TooLong
 from clubcard.publish.rfc6962 import Rfc6962
 from clubcard.publish.sources import RawEntry
 from fake_log import FakeClient, FakeLog, made_log

@@ -16,11 +16,12 @@ from cryptography.hazmat.primitives.asymmetric import ec
 from cryptography.hazmat.primitives.serialization import Encoding, PublicFormat
 
 from clubcard.engine import Engine, WriteFailed
+from clubcard.http import FetchError
+from clubcard.lock import locked
 from clubcard.publish import run as running
 from clubcard.publish import state as states
 from clubcard.publish.alarms import Alarms
-from clubcard.publish.http import FetchError
-from clubcard.publish.run import Outcome, fetch, locked, told
+from clubcard.publish.run import Outcome, fetch, told
 from clubcard.publish.site import publish_site
 from clubcard.publish.state import State
 from clubcard.publish.status import gather, lines, to_json

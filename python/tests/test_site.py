@@ -14,9 +14,10 @@ from typing import Any
 
 import pytest
 
-from clubcard.publish import charts, minisign, site
+from clubcard import minisign
+from clubcard.manifest import from_json, to_json
+from clubcard.publish import charts, site
 from clubcard.publish.config import Config
-from clubcard.publish.manifest import from_json, to_json
 from clubcard.times import DAY
 
 import site_world

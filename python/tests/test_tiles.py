@@ -5,8 +5,8 @@ import hashlib
 import pytest
 from hypothesis import given, settings, strategies as st
 
+from clubcard.http import FetchError
 from clubcard.publish.heads import LogFault, LogKey
-from clubcard.publish.http import FetchError
 from clubcard.publish.sources import RawEntry
 from clubcard.publish.tiles import Tiles, tile_path
 from fake_log import ISSUER, FakeClient, FakeLog, made_log, tile_leaf

@@ -6,6 +6,8 @@ import threading
 from dataclasses import dataclass, field
 from typing import Literal, TextIO
 
+from ..telling import one_line
+
 Kind = Literal["issuer", "log", "late", "held", "without", "count", "point", "room", "key", "clock"]
 """issuer: one of CONFIG is left out; log: one isn't followed in this epoch; late: an entry was merged too late by its
 log; held: waiting entries hold a rebase back; without: the chain began anew without issuers; count: entries that the
@@ -23,16 +25,6 @@ class Alarm:
 
     def __str__(self) -> str:
         return f"alarm {self.kind}: {self.text}"
-
-
-LONGEST = 1000
-"""How many characters of a text are told."""
-
-
-def one_line(text: str) -> str:
-    """A text as one line of printable characters, whoever wrote it: others stand as escapes, and a long one is cut."""
-    cut = text if len(text) <= LONGEST else f"{text[:LONGEST]} .."
-    return "".join(each if each.isprintable() else ascii(each)[1:-1] for each in cut)
 
 
 @dataclass

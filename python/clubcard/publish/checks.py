@@ -7,8 +7,8 @@ from collections.abc import Callable, Iterator
 from dataclasses import dataclass
 from pathlib import Path
 
+from .. import minisign
 from ..engine import Engine, EngineError, ReadFailed
-from . import minisign
 from .config import Config, hints
 
 

@@ -7,43 +7,21 @@ another run holds the lock. 1 is left to what nobody foresaw.
 import contextlib
 import sqlite3
 import sys
-import time
 from collections.abc import Iterator
 from pathlib import Path
 from typing import NoReturn
 
 import click
 
-from ..times import from_iso
+from ..minisign import MinisignError
+from ..moments import NOW, moment_of
+from ..progress import shown as progress
+from ..version import version
 from . import checks, config as configuration, demo as demonstration, init as beginning, run as running, status as shown
-from .minisign import MinisignError
-from .progress import shown as progress
 from .state import State, StateError
-from .version import version
-
-_LAST = from_iso("9000-01-01")
-
-
-class Time(click.ParamType):
-    """A time in ISO 8601 (without an offset in UTC), or in milliseconds since 1970 UTC."""
-
-    name = "TIME"
-
-    def convert(self, value: object, param: click.Parameter | None, ctx: click.Context | None) -> int:
-        """The milliseconds since 1970 UTC."""
-        text = str(value)
-        try:
-            found = int(text) if text.isascii() and text.isdecimal() else from_iso(text)
-        except ValueError:
-            self.fail(f"{text!r} is no time: write 2026-11-30T19:00:00Z, or milliseconds since 1970", param, ctx)
-        if not 0 <= found < _LAST:
-            self.fail(f"{text!r} isn't within 1970 and 9000", param, ctx)
-        return found
-
 
 CONFIG = click.argument("file", metavar="CONFIG", type=click.Path(path_type=Path))
 FOLDER = click.argument("folder", metavar="FOLDER", type=click.Path(path_type=Path))
-NOW = click.option("--now", type=Time(), help="The time that counts as now: ISO 8601, or milliseconds since 1970.")
 
 
 def _stop(status: int, text: str) -> NoReturn:
@@ -57,11 +35,6 @@ def _loaded(file: Path) -> configuration.Config:
         return configuration.load(file)
     except configuration.ConfigError as fault:
         _stop(running.WRONG_WORDS, str(fault))
-
-
-def _moment(now: int | None) -> int:
-    """The run's moment: read once."""
-    return time.time_ns() // 1_000_000 if now is None else now
 
 
 @contextlib.contextmanager
@@ -126,7 +99,7 @@ def fetch(file: Path, now: int | None) -> None:
     """Fetches CRLs and entries, and makes no epoch."""
     config = _loaded(file)
     with _told(config.state), progress() as bars:
-        outcome = running.fetch(config, _moment(now), progress=bars)
+        outcome = running.fetch(config, moment_of(now), progress=bars)
     _end(outcome)
 
 
@@ -137,7 +110,7 @@ def run(file: Path, now: int | None) -> None:
     """Fetches, makes one epoch, and publishes it."""
     config = _loaded(file)
     with _told(config.state), progress() as bars:
-        outcome = running.run(config, _moment(now), progress=bars)
+        outcome = running.run(config, moment_of(now), progress=bars)
     _end(outcome)
 
 
@@ -151,7 +124,7 @@ def status(file: Path, now: int | None, as_json: bool) -> None:
     if not (config.state / "state.sqlite").exists():
         _stop(running.NO_EPOCH, f"{config.state}: there is no state yet: begin with `clubcard-publish run {file}`")
     with _told(config.state), contextlib.closing(State.open(config.state)) as state:
-        found = shown.gather(config, state, _moment(now))
+        found = shown.gather(config, state, moment_of(now))
     click.echo(shown.to_json(found) if as_json else "\n".join(shown.lines(found)))
 
 

@@ -13,11 +13,11 @@ from pathlib import Path
 from typing import Literal, cast
 
 from .. import pki
+from .. import minisign
 from ..jobs import MOST_CRLS, MOST_RANGES
+from ..tables import ConfigError, Table
 from ..times import MINUTE
-from . import minisign
 from .heads import MOST, LogKey
-from .tables import ConfigError, Table
 
 __all__ = ["Config", "ConfigError", "Issuer", "Log", "LogKind", "hints", "load"]
 

@@ -15,13 +15,14 @@ from pathlib import Path
 from urllib.parse import parse_qs, urlsplit
 from urllib.request import ProxyHandler, build_opener
 
+from .. import minisign
 from ..answers import Verdict
 from ..engine import Engine, EngineError
+from ..manifest import Manifest, from_json
 from ..times import HOUR, MINUTE, SECOND, to_iso
-from . import init, minisign
+from . import init
 from .config import Config, load
 from .demo_world import Authority, Certificate, DemoLog
-from .manifest import Manifest, from_json
 from .run import run
 
 CERTIFICATES = 300

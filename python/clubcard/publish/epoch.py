@@ -5,13 +5,13 @@ from dataclasses import dataclass
 from pathlib import Path
 
 from ..engine import Engine
+from ..progress import Progress
 from . import chain, checking, fitting, rebasing, recording
 from .alarms import Alarms
 from .chain import EpochRow, Newest
 from .config import Config
 from .issuers import Enrolment
 from .making import Limits, Making, NoEpoch
-from .progress import Progress
 from .publishing import Made, Publishing
 from .recording import Files
 from .showing import Showing

@@ -21,11 +21,11 @@ from collections.abc import Iterator
 from contextlib import closing
 from dataclasses import dataclass, replace
 
+from ..http import FetchError
+from ..progress import Progress, Task
 from .heads import LogFault, TreeHead
-from .http import FetchError
 from .merkle import CompactRange, front_of, is_consistent, leaf_hash
 from .paging import Pages
-from .progress import Progress, Task
 from .sources import RawEntry, Source
 from .spool import Batch, LogRow, save_log
 from .state import State

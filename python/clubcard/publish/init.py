@@ -3,8 +3,8 @@
 from importlib import resources
 from pathlib import Path
 
-from . import minisign
-from .state import sync
+from .. import minisign
+from ..placing import sync
 
 CONFIG = "publisher.toml"
 SECRET = "publisher.key"

@@ -10,12 +10,12 @@ from concurrent.futures import FIRST_COMPLETED, Future, ThreadPoolExecutor, wait
 from dataclasses import dataclass
 
 from .. import crls
+from ..http import MOST_CRL, Client, FetchError
+from ..progress import Progress
+from ..telling import one_line
 from ..times import MINUTE, nearest_iso
-from .alarms import one_line
 from .config import Config, Issuer
-from .http import MOST_CRL, Client, FetchError
 from .kept import KeptCrl, Tried, in_time, is_older, kept_crls, note, said_before, tries
-from .progress import Progress
 from .state import State
 
 __all__ = ["Enrolment", "KeptCrl", "Lack", "enrolled", "fetch_crls"]

@@ -5,7 +5,7 @@ import sqlite3
 from dataclasses import dataclass
 from pathlib import Path
 
-from .alarms import one_line
+from ..telling import one_line
 from .config import Issuer
 from .state import State
 

@@ -5,14 +5,14 @@ from collections.abc import Callable, Mapping
 from concurrent.futures import Future, ThreadPoolExecutor, wait
 from dataclasses import dataclass
 
+from ..http import FetchError
+from ..progress import Progress
 from .alarms import Alarms
 from .config import Config, Log
 from .following import Follower
 from .heads import LogFault, LogKey
-from .http import FetchError
 from .paging import Pages, Stopped
 from .points import tell_unknown
-from .progress import Progress
 from .rfc6962 import Rfc6962
 from .sources import Client, Source
 from .spool import LogRow, named_log

@@ -7,9 +7,9 @@ from dataclasses import dataclass, field
 from pathlib import Path
 
 from ..engine import Engine, EngineError
+from ..progress import Progress
 from .alarms import Alarms
 from .config import Config
-from .progress import Progress
 from .state import State, StateError
 
 

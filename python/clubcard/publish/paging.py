@@ -6,8 +6,8 @@ from collections.abc import Callable, Generator
 from concurrent.futures import Future, ThreadPoolExecutor
 from typing import NamedTuple
 
+from ..http import FetchError
 from .heads import LogFault
-from .http import FetchError
 from .sources import RawEntry, Source
 
 AHEAD = 6

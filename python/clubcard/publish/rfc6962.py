@@ -6,8 +6,8 @@ import json
 from base64 import b64encode
 from urllib.parse import urlencode
 
+from ..http import FetchError, TooLong
 from .heads import LogFault, LogKey, TreeHead, read_hash, read_head
-from .http import FetchError, TooLong
 from .sources import Client, RawEntry, is_precertificate
 
 MOST_MESSAGE = 1 << 20

@@ -5,24 +5,23 @@ run that is killed at any moment is made good by the next one, and no epoch is p
 """
 
 import contextlib
-import errno
-import fcntl
-import os
 import sqlite3
 from collections.abc import Callable, Iterator
 from dataclasses import dataclass
 from pathlib import Path
 
 from ..engine import Engine, EngineError
+from ..http import Client
+from ..lock import Locked, locked
+from ..minisign import MinisignError
+from ..progress import Progress, Silent
+from ..telling import FULL, refused_by_system
 from .alarms import Alarm, Alarms
 from .chain import EpochRow
 from .config import Config
 from .epoch import NoEpoch, left_open, made_before, make_epoch
-from .http import Client
 from .issuers import Enrolment, enrolled, fetch_crls
 from .logs import fetch_logs
-from .minisign import MinisignError
-from .progress import Progress, Silent
 from .site import SiteError, publish_site
 from .state import State, StateError
 
@@ -31,15 +30,6 @@ WITH_ALARMS = 10
 WRONG_WORDS = 2
 NO_EPOCH = 3
 LOCKED = 4
-_REMEDIES = {
-    errno.ENOSPC: "make room on this disk",
-    errno.EDQUOT: "make room on this disk, or raise the quota",
-    errno.EACCES: "give the publisher's user the right to read and write here",
-    errno.EPERM: "give the publisher's user the right to read and write here",
-    errno.EROFS: "the disk can't be written: mount it so that it can",
-    errno.EIO: "look at the disk: the system couldn't read or write",
-    errno.EMFILE: "raise the limit of open files (ulimit -n)",
-}
 
 
 @dataclass(frozen=True)
@@ -53,22 +43,6 @@ class Outcome:
     """With the statuses 3 and 4: one line that says why, and what to do."""
     row: EpochRow | None = None
     """With the statuses 0 and 10 of `run`: the newest epoch."""
-
-
-class Locked(Exception):
-    """Another run holds the state's lock."""
-
-
-@contextlib.contextmanager
-def locked(folder: Path) -> Iterator[None]:
-    """Holds the lock of a state's folder. Raises Locked where another process holds it; it ends with that process."""
-    folder.mkdir(parents=True, exist_ok=True)
-    with open(folder / "lock", "a", encoding="ascii") as file:
-        try:
-            fcntl.flock(file, fcntl.LOCK_EX | fcntl.LOCK_NB)
-        except BlockingIOError:
-            raise Locked(f"{folder}: another run holds the lock: let it end") from None
-        yield
 
 
 @contextlib.contextmanager
@@ -161,15 +135,14 @@ def told(fault: OSError | sqlite3.Error, state: Path) -> str:
     """What the system or the database refused, in one line with what to do."""
     if isinstance(fault, sqlite3.Error):
         return f"{state / 'state.sqlite'}: {fault}: {_database_remedy(str(fault))}; nothing is lost, run again"
-    place = os.fsdecode(fault.filename) if isinstance(fault.filename, (str, bytes)) else str(fault.filename or state)
-    remedy = _REMEDIES.get(fault.errno or 0, "look at this file and its folder")
-    return f"{place}: {fault.strerror or fault}: {remedy}; nothing is lost, run again"
+    refused = refused_by_system(fault, state, "the publisher's user")
+    return f"{refused}; nothing is lost, run again"
 
 
 def _database_remedy(text: str) -> str:
     """What to do where SQLite refuses."""
     if "full" in text:
-        return _REMEDIES[errno.ENOSPC]
+        return FULL
     if "locked" in text:
         return "another program holds the database: close it"
     if "malformed" in text or "not a database" in text:

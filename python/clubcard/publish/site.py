@@ -13,10 +13,11 @@ import re
 from collections.abc import Iterator
 from pathlib import Path
 
-from . import chain, charts, metrics, minisign, overview, report
+from .. import minisign
+from ..manifest import Coverage, Issuer, Manifest, Part, part_path, to_json
+from ..placing import DamagedFile, make_folder, place, place_copy, remove_others, settle, sweep
+from . import chain, charts, metrics, overview, report
 from .config import Config
-from .manifest import Coverage, Issuer, Manifest, Part, part_path, to_json
-from .placing import DamagedFile, make_folder, place, place_copy, remove_others, settle, sweep
 from .state import State
 
 _MANIFEST = "manifest.json"

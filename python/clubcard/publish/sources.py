@@ -2,8 +2,8 @@
 
 from typing import NamedTuple, Protocol
 
+from ..http import Response
 from .heads import TreeHead
-from .http import Response
 
 
 class Client(Protocol):

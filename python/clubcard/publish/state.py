@@ -5,7 +5,6 @@ that no row names, and never a row whose file isn't whole; the next run sweeps t
 """
 
 import contextlib
-import os
 import secrets
 import shutil
 import sqlite3
@@ -15,6 +14,8 @@ from dataclasses import dataclass, field
 from importlib import resources
 from pathlib import Path
 from typing import Literal
+
+from ..placing import sync
 
 Folder = Literal["spool", "crls", "chain", "work"]
 FORMAT = "1"
@@ -33,15 +34,6 @@ _NAMES = [
 
 class StateError(Exception):
     """The state can't be used; the text says why and what to do."""
-
-
-def sync(path: Path) -> None:
-    """Waits until a file's bytes, or a folder's names, are on the disk."""
-    number = os.open(path, os.O_RDONLY)
-    try:
-        os.fsync(number)
-    finally:
-        os.close(number)
 
 
 @dataclass

@@ -9,8 +9,8 @@ its chain.
 import threading
 from hashlib import sha256
 
+from ..http import FetchError
 from .heads import LogFault, LogKey, TreeHead, read_checkpoint
-from .http import FetchError
 from .merkle import HASH, CompactRange, consistency_ranges, node_hash, path_ranges
 from .sources import Client, RawEntry, is_precertificate
 

@@ -1,13 +1,5 @@
-"""The version of this package."""
+"""The version, under its former name."""
 
-from importlib import metadata
-from pathlib import Path
+from ..version import version
 
-_TREE = Path(__file__).resolve().parents[3]
-
-
-def version() -> str:
-    """The version: of the tree that this file stands in, else of the installed package."""
-    if (_TREE / "python" / "pyproject.toml").is_file():
-        return (_TREE / "VERSION").read_text(encoding="ascii").strip()
-    return metadata.version("clubcard")
+__all__ = ["version"]

@@ -16,7 +16,7 @@ from pathlib import Path
 from typing import Any
 
 import httpx
-from clubcard.publish.http import Client, FetchError, Response
+from clubcard.http import Client, FetchError, Response
 
 from .answers import Answer, Rfc6962
 from .issuing import Things

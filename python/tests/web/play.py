@@ -8,9 +8,9 @@ from collections.abc import Callable
 from dataclasses import dataclass, field
 from pathlib import Path
 
+from clubcard import minisign
 from clubcard.engine import Engine
 from clubcard.publish import config as configuration
-from clubcard.publish import minisign
 from clubcard.publish.run import Outcome, run
 
 from .authority import der_of, pem_of

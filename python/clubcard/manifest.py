@@ -8,7 +8,7 @@ import json
 from collections.abc import Mapping
 from dataclasses import dataclass
 
-from ..times import from_iso, to_iso
+from .times import from_iso, to_iso
 
 FORMAT = 1
 MAX_PARTS = 64

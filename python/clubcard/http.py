@@ -1,4 +1,4 @@
-"""The HTTP client of the publisher: one pool of connections for all threads, limits on time and bytes, and retries.
+"""The HTTP client: one pool of connections for all threads, limits on time and bytes, and retries.
 
 Neither proxies nor cookies nor passwords are taken from the environment.
 """
@@ -85,12 +85,14 @@ class Client:
         longest: float = 600.0,
         sleep: Callable[[float], None] = time.sleep,
         clock: Callable[[], float] = time.time,
+        agent: str = "clubcard-publish",
     ) -> None:
         """`wait` is the limit in seconds on each connect, read and write; `longest` that on a whole answer. `sleep`
-        waits for seconds, and `clock` says the seconds since 1970 UTC (for a Retry-After that is a date)."""
+        waits for seconds, and `clock` says the seconds since 1970 UTC (for a Retry-After that is a date). `agent` is
+        the program's name, which servers are told."""
         self._longest, self._sleep, self._clock = longest, sleep, clock
         self._client = httpx.Client(
-            headers={"User-Agent": f"clubcard-publish/{version()}", "Accept": "*/*", "Accept-Encoding": "gzip"},
+            headers={"User-Agent": f"{agent}/{version()}", "Accept": "*/*", "Accept-Encoding": "gzip"},
             timeout=httpx.Timeout(wait, pool=longest),
             limits=httpx.Limits(max_connections=64, max_keepalive_connections=32),
             cookies=CookieJar(DefaultCookiePolicy(allowed_domains=())),

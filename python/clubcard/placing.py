@@ -1,15 +1,13 @@
-"""Puts files of the site in place: each is whole under its name at every moment, or isn't there.
+"""Puts files in place: each is whole under its name at every moment, or isn't there.
 
 A file is written under a name of its own, which begins with a dot and ends with `.new`, synced, and renamed. Nobody but
-the run that holds the lock writes into the site.
+the run that holds the lock writes into its folder.
 """
 
 import hashlib
 import os
 from collections.abc import Iterable
 from pathlib import Path
-
-from .state import sync
 
 MODE = 0o644
 FOLDER_MODE = 0o755
@@ -18,6 +16,15 @@ _PIECE = 1 << 20
 
 class DamagedFile(Exception):
     """A file of the state doesn't hold the bytes that its row names."""
+
+
+def sync(path: Path) -> None:
+    """Waits until a file's bytes, or a folder's names, are on the disk."""
+    number = os.open(path, os.O_RDONLY)
+    try:
+        os.fsync(number)
+    finally:
+        os.close(number)
 
 
 def make_folder(path: Path) -> None:
