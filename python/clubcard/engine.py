@@ -80,6 +80,8 @@ __all__ = [
 ]
 
 Name = str | os.PathLike[str]
+Sighting = tuple[bytes, int]
+"""A log's id (32 bytes), and milliseconds since 1970."""
 Read = TypeVar("Read")
 
 
@@ -90,8 +92,11 @@ class Engine:
     are named as the system names them; workers are 1 to 64, which change nothing of what is written.
     """
 
-    def __init__(self, program: str = "clubcard") -> None:
+    def __init__(self, program: str = "clubcard", lent: Sequence[int] = ()) -> None:
+        """`lent` are descriptors that the program keeps open: a lock's, which then holds until the program's end too,
+        whoever ended this process."""
         self.program = program
+        self.lent = tuple(lent)
 
     def snapshot(self, job: Name, part: Name, ledger: Name, workers: int) -> Published:
         """Publishes the first part of a chain, and begins its ledger."""
@@ -121,10 +126,9 @@ class Engine:
         """Puts the next part behind those of a store, as a new one."""
         return self._run(_one(_store_facts), "install", store, part, new_store)
 
-    def query(self, store: Name, issuer: bytes, serial: bytes, sightings: Sequence[tuple[bytes, int]]) -> Verdict:
-        """Asks about an identity, with 1 to 64 sightings: a log's id (32 bytes), and milliseconds since 1970."""
-        seen = [word for log, time in sightings for word in (log.hex(), str(time))]
-        return self._run(_one(verdict_of), "query", store, issuer.hex(), serial.hex(), *seen)
+    def query(self, store: Name, issuer: bytes, serial: bytes, sightings: Sequence[Sighting]) -> Verdict:
+        """Asks about an identity, with 1 to 64 sightings."""
+        return self._run(_one(verdict_of), "query", store, issuer.hex(), serial.hex(), *_seen(sightings))
 
     def device_query(
         self, device: Name, issuer: bytes, serial: bytes, sightings: Sequence[tuple[bytes, int]]
@@ -169,12 +173,28 @@ class Engine:
         read = _one(lambda line: Sampled(*numbers_of(line, "sample # entries # revoked # bytes #")))
         return self._run(read, "sample", number, count, job)
 
+    def device_format(self, device: Name, capacity: int, store: Name) -> StoreFacts:
+        """Writes a device of a capacity (1 to 2^40 bytes) that holds a store."""
+        return self._run(_one(_store_facts), "device-format", device, capacity, store)
+
+    def device_install(self, device: Name, part: Name) -> StoreFacts:
+        """Puts the next part behind those of a device's store."""
+        return self._run(_one(_store_facts), "device-install", device, part)
+
+    def device_query(self, device: Name, issuer: bytes, serial: bytes, sightings: Sequence[Sighting]) -> Verdict:
+        """Asks a device's store, as `query` asks a store."""
+        return self._run(_one(verdict_of), "device-query", device, issuer.hex(), serial.hex(), *_seen(sightings))
+
     def _run(self, read: Callable[[Sequence[str]], Read], command: str, *words: Name | int) -> Read:
         """What `read` makes of the lines of a command."""
         given = [str(word) if isinstance(word, int) else os.fspath(word) for word in words]
         try:
             ended = subprocess.run(
-                [self.program, command, *given], stdin=subprocess.DEVNULL, capture_output=True, check=False
+                [self.program, command, *given],
+                stdin=subprocess.DEVNULL,
+                capture_output=True,
+                check=False,
+                pass_fds=self.lent,
             )
         except OSError as error:
             raise ProgramMissing(command, f"{self.program}: {error.strerror}") from error
@@ -197,6 +217,11 @@ def _one(read: Callable[[str], Read]) -> Callable[[Sequence[str]], Read]:
         return read(line)
 
     return read_only
+
+
+def _seen(sightings: Sequence[Sighting]) -> list[str]:
+    """The words of sightings."""
+    return [word for log, time in sightings for word in (log.hex(), str(time))]
 
 
 def _store_facts(line: str) -> StoreFacts:

@@ -1,4 +1,4 @@
-"""Signatures by the program `minisign`, with a secret key that has no password. Nothing is verified here.
+"""Signatures by the program `minisign`: made with a secret key that has no password, and verified.
 
 A signature is over the file's BLAKE2b-512 (minisign's prehashed form, which is its default). Its comments hold no time,
 and Ed25519 draws nothing at random: so the same file and key give the same signature, byte for byte.
@@ -21,12 +21,16 @@ class MinisignError(Exception):
         self.remedy = remedy
 
 
+def _missing() -> MinisignError:
+    return MinisignError("minisign isn't there", "install Debian's package minisign")
+
+
 def _call(words: list[str]) -> None:
     """Runs the program with no input, so that it can ask nobody."""
     try:
         done = subprocess.run([PROGRAM, *words], stdin=subprocess.DEVNULL, capture_output=True, check=False)
     except FileNotFoundError:
-        raise MinisignError("minisign isn't there", "install Debian's package minisign") from None
+        raise _missing() from None
     if done.returncode != 0:
         said = (done.stderr or done.stdout).decode("utf-8", "replace").strip().replace("\n", " ")
         raise MinisignError(f"minisign has status {done.returncode} ({said})", "look at the key and at the disk")
@@ -41,6 +45,14 @@ def _second_line(path: Path) -> bytes:
         raise MinisignError(f"{path} can't be read ({fault.strerror})", "look at its name and rights") from None
     except (UnicodeDecodeError, IndexError, binascii.Error):
         raise MinisignError(f"{path} is no key file of minisign", "name the file that `minisign -G` wrote") from None
+
+
+def key_line(text: str) -> str:
+    """The Base64 of a public key, from the second line of its file. Raises ValueError where it is none."""
+    octets = base64.b64decode(text.strip(), validate=True)
+    if len(octets) != 42 or octets[:2] != b"Ed":
+        raise ValueError("it isn't the Base64 of 42 bytes that begin with Ed")
+    return base64.b64encode(octets).decode("ascii")
 
 
 def public_line(path: Path) -> str:
@@ -73,3 +85,15 @@ def sign(file: Path, signature: Path, key: Path, trusted: str) -> None:
     check_key(key)
     comment = "signature of a clubcard manifest"
     _call(["-S", "-s", str(key), "-c", comment, "-t", trusted, "-x", str(signature), "-m", str(file)])
+
+
+def verifies(key: str, file: Path, signature: Path) -> bool:
+    """Whether a signature is one of a file's bytes by a public key (its line). Raises MinisignError."""
+    try:
+        words = [PROGRAM, "-V", "-q", "-P", key, "-x", str(signature), "-m", str(file)]
+        done = subprocess.run(words, stdin=subprocess.DEVNULL, capture_output=True, check=False)
+    except FileNotFoundError:
+        raise _missing() from None
+    if done.returncode < 0:
+        raise MinisignError(f"minisign was ended by signal {-done.returncode}", "run it again")
+    return done.returncode == 0
