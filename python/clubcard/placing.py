@@ -68,7 +68,7 @@ def place(path: Path, octets: bytes) -> None:
     os.replace(new, path)
 
 
-def _digest(path: Path) -> bytes | None:
+def digest_of(path: Path) -> bytes | None:
     """The SHA-256 of a file; None where it isn't there."""
     try:
         with open(path, "rb") as file:
@@ -82,7 +82,7 @@ def place_copy(path: Path, source: Path, sha256: bytes) -> None:
 
     Raises DamagedFile where the source has another digest; nothing is placed then.
     """
-    if _digest(path) == sha256:
+    if digest_of(path) == sha256:
         return
     new = new_name(path)
     digest = hashlib.sha256()

@@ -3,6 +3,7 @@
 import os
 import shutil
 import sys
+from collections.abc import Iterator
 from pathlib import Path
 from typing import Any
 
@@ -46,6 +47,24 @@ def pytest_configure(config: pytest.Config) -> None:
 def with_plain_charts(monkeypatch: pytest.MonkeyPatch) -> None:
     """Charts that aren't drawn, which would take most of a small epoch's time."""
     monkeypatch.setattr("clubcard.publish.charts._svg", lambda chart, figures: f"<svg>{figures}</svg>".encode())
+
+
+@pytest.fixture(name="history", scope="session")
+def published_history(tmp_path_factory: pytest.TempPathFactory) -> Any:
+    """A site of many epochs, which the updater's tests share."""
+    from followed import made_history
+
+    return made_history(tmp_path_factory.mktemp("history"))
+
+
+@pytest.fixture(name="web")
+def small_web() -> Iterator[Any]:
+    """A small web server, which may lie."""
+    from followed import Web
+
+    made = Web()
+    yield made
+    made.close()
 
 
 def pytest_terminal_summary(terminalreporter: Any) -> None:

@@ -1,0 +1,93 @@
+"""What the updater knows, in the files of its folder.
+
+    accepted.json   the newest manifest that was accepted, the key that signed it, and its ETag
+    manifest.json   the manifest of the store, which `clubcardctl ask --manifest` reads
+    parts/          parts that were taken and aren't installed yet, and those that are still coming
+    lock
+
+A manifest is accepted before its parts are taken, and becomes that of the store behind the store's own rename: so an
+older one is never taken again, and manifest.json is never newer than the store.
+"""
+
+import json
+import shutil
+from dataclasses import dataclass
+from pathlib import Path
+
+from ..manifest import Manifest, ManifestError, from_json
+from ..placing import make_folder, place, settle, sweep
+from .faults import NotReached
+
+_FORMAT = 1
+
+
+@dataclass(frozen=True)
+class Accepted:
+    """A manifest whose signature was verified."""
+
+    text: bytes
+    manifest: Manifest
+    key: str
+    """The key that signed it."""
+    pinned: str
+    """The key of CONFIG, by which that key is trusted."""
+    etag: str | None
+
+    @property
+    def version(self) -> tuple[int, int]:
+        """By which manifests are ordered: generation and epoch."""
+        return self.manifest.generation, self.manifest.epoch
+
+
+class State:
+    """The updater's folder. Whoever holds its lock may use it."""
+
+    def __init__(self, folder: Path) -> None:
+        self.folder = folder
+        self.parts, self.work = folder / "parts", folder / "work"
+        self._accepted, self._installed = folder / "accepted.json", folder / "manifest.json"
+
+    def begin(self) -> None:
+        """Makes the folders, and removes what a killed run left half written."""
+        shutil.rmtree(self.work, ignore_errors=True)
+        for folder in (self.folder, self.parts, self.work):
+            make_folder(folder)
+        sweep(self.folder)
+
+    def accepted(self) -> Accepted | None:
+        """The newest manifest that was accepted; None before the first one. Raises NotReached where it is damaged."""
+        try:
+            held = json.loads(self._accepted.read_bytes())
+            text = held["manifest"].encode("utf-8")
+            found = Accepted(text, from_json(text), str(held["key"]), str(held["pinned"]), held["etag"])
+        except FileNotFoundError:
+            return None
+        except (ValueError, KeyError, TypeError, AttributeError, ManifestError):
+            remedy = "look at the disk, and remove this file; an older manifest could be taken once then"
+            raise NotReached(f"{self._accepted}: it is damaged: {remedy}") from None
+        return found
+
+    def accept(self, accepted: Accepted) -> None:
+        """Notes that a manifest was accepted."""
+        held = {
+            "format": _FORMAT,
+            "manifest": accepted.text.decode("utf-8"),
+            "key": accepted.key,
+            "pinned": accepted.pinned,
+            "etag": accepted.etag,
+        }
+        place(self._accepted, json.dumps(held, sort_keys=True, indent=1).encode("ascii") + b"\n")
+        settle(self.folder)
+
+    def installed(self) -> Manifest | None:
+        """The manifest of the store; None where it isn't known."""
+        try:
+            return from_json(self._installed.read_bytes())
+        except (OSError, ManifestError):
+            return None
+
+    def install(self, accepted: Accepted) -> None:
+        """Notes that the store is a manifest's, whose parts aren't needed any more."""
+        place(self._installed, accepted.text)
+        settle(self.folder)
+        shutil.rmtree(self.parts)

@@ -1,0 +1,108 @@
+"""Takes the site's manifest: its signature is verified, it isn't older than the one before, and isn't past its time."""
+
+import hashlib
+from pathlib import Path
+
+from .. import minisign
+from ..http import MIB, Client, FetchError, Response
+from ..manifest import Manifest, ManifestError, from_json
+from ..times import nearest_iso
+from .config import Config
+from .faults import NotReached, Refused, SetUp, Stale
+from .state import Accepted, State
+
+MANIFEST = "manifest.json"
+MOST_MANIFEST = 64 * MIB
+MOST_SIGNATURE = 1 << 16
+
+
+def take(config: Config, state: State, client: Client, now: int) -> Accepted:
+    """The site's manifest, accepted now or before. Raises Stale, Refused, NotReached or SetUp."""
+    known = state.accepted()
+    # Under another key of CONFIG all is verified anew.
+    trusted = known if known is not None and known.pinned == config.key else None
+    answer = _get(client, config.site + MANIFEST, MOST_MANIFEST, trusted.etag if trusted else None)
+    if trusted is not None and (answer.status == 304 or answer.body == trusted.text):
+        taken = Accepted(trusted.text, trusted.manifest, trusted.key, trusted.pinned, answer.etag)
+    else:
+        taken = _verified(config, state, client, answer, trusted)
+    if known is not None:
+        _test_order(taken, known)
+    why = past(config, taken.manifest, now)
+    if why is not None:
+        raise Stale(f"the site's manifest {why}: see whether the publisher runs, and this clock is right")
+    if taken != known:
+        state.accept(taken)
+    return taken
+
+
+def past(config: Config, manifest: Manifest, now: int) -> str | None:
+    """Why a manifest is past its time, or None where it isn't."""
+    if now > manifest.valid_until:
+        return f"of epoch {manifest.epoch} was valid until {nearest_iso(manifest.valid_until)}"
+    if config.max_age is not None and now > manifest.moment + config.max_age:
+        return f"of epoch {manifest.epoch} is of {nearest_iso(manifest.moment)}, which is longer ago than max_age"
+    return None
+
+
+def _get(client: Client, url: str, most_bytes: int, etag: str | None = None) -> Response:
+    """What stands at a URL."""
+    try:
+        return client.get(url, most_bytes, etag)
+    except FetchError as fault:
+        raise NotReached(f"{url}: {fault.why}: look at the network and at `site` in CONFIG") from fault
+
+
+def _verified(config: Config, state: State, client: Client, answer: Response, trusted: Accepted | None) -> Accepted:
+    """A manifest whose signature verifies by the pinned key, by the one that signed the manifest before, or by the one
+    which that announced."""
+    name = f"manifest-{hashlib.sha256(answer.body).hexdigest()}.minisig"
+    signature = _signature(client, config.site + name)
+    keys = [config.key]
+    if trusted is not None:
+        keys += [trusted.key, *([trusted.manifest.next_key] if trusted.manifest.next_key else [])]
+    key = _signer(state.work, answer.body, signature, list(dict.fromkeys(keys)))
+    if key is None:
+        why = "the manifest's signature isn't one by the pinned key, or by one that was announced"
+        raise Refused(f"{config.site + name}: {why}: tell the publisher, and compare `key` in CONFIG with its key")
+    try:
+        manifest = from_json(answer.body)
+        if manifest.next_key is not None:
+            minisign.key_line(manifest.next_key)
+    except ManifestError as fault:
+        raise Refused(f"{config.site + MANIFEST}: {fault}: update this program, or tell the publisher") from None
+    except ValueError as fault:
+        raise Refused(f"{config.site + MANIFEST}: next_key: {fault}: tell the publisher") from None
+    return Accepted(answer.body, manifest, key, config.key, answer.etag)
+
+
+def _signature(client: Client, url: str) -> bytes:
+    """The signature of exactly the bytes that the URL's name has the digest of."""
+    try:
+        return client.get(url, MOST_SIGNATURE).body
+    except FetchError as fault:
+        if fault.status in (404, 410):
+            raise Refused(f"{url}: the manifest's signature is missing: tell the publisher") from fault
+        raise NotReached(f"{url}: {fault.why}: look at the network") from fault
+
+
+def _signer(work: Path, text: bytes, signature: bytes, keys: list[str]) -> str | None:
+    """Which of the keys signed a text; None where none of them did."""
+    file, signed = work / MANIFEST, work / f"{MANIFEST}.minisig"
+    file.write_bytes(text)
+    signed.write_bytes(signature)
+    try:
+        return next((key for key in keys if minisign.verifies(key, file, signed)), None)
+    except minisign.MinisignError as fault:
+        raise SetUp(str(fault)) from fault
+
+
+def _test_order(taken: Accepted, known: Accepted) -> None:
+    """Refuses a manifest that is older than the one before, or another one of the same generation and epoch."""
+    named = "generation {} epoch {}"
+    new, old = named.format(*taken.version), named.format(*known.version)
+    remedy = "it may be replayed: tell the publisher; docs/CLIENTS.md says what else it may be"
+    if taken.version < known.version:
+        raise Refused(f"the site's manifest is of {new}, and one of {old} was accepted before: {remedy}")
+    if taken.version == known.version and taken.text != known.text:
+        raise Refused(f"the site has another manifest of {new} than the one that was accepted before: {remedy}")
