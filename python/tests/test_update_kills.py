@@ -1,0 +1,213 @@
+"""The updater killed at each of its steps, and the program at each of its system calls on a device; a full disk."""
+
+import json
+import os
+import shutil
+import signal
+import subprocess
+import sys
+import threading
+from collections.abc import Iterator
+from dataclasses import replace
+from pathlib import Path
+
+import pytest
+
+from clubcard.engine import Engine, EngineError
+from clubcard.http import Client
+from clubcard.manifest import from_json
+from clubcard.update.run import run
+from followed import REBASED, Follower, History, Web
+from made import PROGRAM
+from spooled import key_of, log_of
+from web.killing import FAILED, Steps
+
+TESTS = Path(__file__).resolve().parent
+
+
+@pytest.fixture(name="unused", scope="module")
+def unused_client() -> Iterator[Client]:
+    """A client that asks nothing in this process, so that children may begin with it."""
+    with Client(sleep=lambda seconds: None) as made:
+        yield made
+
+
+def run_once(client: Follower, now: int, unused: Client, last: int) -> tuple[int, int]:
+    """One run in a process of its own, which is killed before its n-th step (0: never): its status, negative where a
+    signal ended it, and how many steps it made."""
+    config = client.config()
+    reading, writing = os.pipe()
+    child = os.fork()
+    if child == 0:
+        try:
+            steps = Steps(last)
+            steps.install()
+            outcome = run(config, now, unused)
+            os.write(writing, str(steps.count).encode())
+            os._exit(outcome.status)
+        except BaseException as fault:  # pylint: disable=broad-except
+            sys.excepthook(type(fault), fault, fault.__traceback__)
+            os._exit(FAILED)
+    os.close(writing)
+    with os.fdopen(reading, "rb") as told:
+        count = told.read()
+    _, waited = os.waitpid(child, 0)
+    return os.waitstatus_to_exitcode(waited), int(count or b"0")
+
+
+@pytest.mark.parametrize(
+    ("is_device", "old", "new"),
+    [(False, 3, 5), (False, REBASED - 1, REBASED), (True, None, 3), (True, 3, 4), (True, 3, 5)],
+    ids=["deltas", "a chain begun anew", "a first device", "a delta on a device", "deltas on a device"],
+)
+def test_killed_at_each_step(
+    history: History, web: Web, tmp_path: Path, unused: Client, is_device: bool, old: int | None, new: int
+) -> None:
+    """At each step the store is the old one or the new one, and the next run makes it the new one."""
+    client = Follower(tmp_path / "client", history, web.base, is_device)
+    if old is not None:
+        web.show(history.shown(old))
+        client.update(old)
+    else:
+        assert client.file
+    web.show(history.shown(new))
+    shutil.copytree(client.folder, tmp_path / "before")
+    status, steps = run_once(client, history.now(new), unused, 0)
+    assert status == 0 and steps > 15
+    client.test_has(new)
+    seen = []
+    for last in range(1, steps + 1):
+        shutil.rmtree(client.folder)
+        shutil.copytree(tmp_path / "before", client.folder)
+        status, _ = run_once(client, history.now(new), unused, last)
+        assert status == -signal.SIGKILL
+        seen.append(client.is_old_or_new(old, new))
+        kept = client.folder / "state" / "manifest.json"
+        assert not kept.exists() or from_json(kept.read_bytes()).epoch in ((old, new) if seen[-1] else (old,))
+        client.update(new)
+    assert sorted(seen) == seen and set(seen) == {False, True}
+
+
+# ---- the program, as tools/crash_test.sh kills it
+
+CALLS = ("openat", "read", "lseek", "write", "fsync", "close")
+
+
+def wrapped(folder: Path, body: str) -> str:
+    """A program that does something else with device-install."""
+    script = folder / "program"
+    script.write_text(f'#!/bin/sh\ncase $1 in device-install) {body} ;; esac\nexec "{PROGRAM}" "$@"\n')
+    script.chmod(0o755)
+    return str(script)
+
+
+@pytest.mark.skipif(shutil.which("strace") is None, reason="strace isn't installed (Debian's package strace)")
+@pytest.mark.parametrize("what", ["signal=KILL", "error=EIO"], ids=["killed", "failed"])
+def test_device_install(history: History, web: Web, tmp_path: Path, monkeypatch: pytest.MonkeyPatch, what: str) -> None:
+    """It ends at each system call on a file that it makes, by a kill or with a fault: the device has the old store or
+    the new one, and the next run makes it the new one."""
+    client = Follower(tmp_path / "client", history, web.base, True)
+    web.show(history.shown(3))
+    client.update(3)
+    web.show(history.shown(4))
+    shutil.copytree(client.folder, tmp_path / "before")
+    trace = tmp_path / "trace"
+    words = f'exec strace -f -qq -o "{trace}" -e trace=%desc -e "inject=$INJECT" "{PROGRAM}" "$@"'
+    injecting = replace(client, words={"program": wrapped(tmp_path, words)})
+    count = {False: 0, True: 0}
+    for call in CALLS:
+        for number in range(1, 1000):
+            shutil.rmtree(client.folder)
+            shutil.copytree(tmp_path / "before", client.folder)
+            monkeypatch.setenv("INJECT", f"{call}:{what}:when={number}")
+            status = injecting.run(history.now(4)).status
+            told = trace.read_text()
+            if "INJECTED" not in told and "KILL" not in told:
+                break
+            is_new = client.is_old_or_new(3, 4)
+            assert status in (0, 5) and is_new or status == 5
+            count[is_new] += 1
+            client.update(4)
+        assert number > 1 and status == 0, call
+    assert count[False] > 10 and count[True] > 0
+
+
+def test_a_program_that_goes_on(history: History, web: Web, tmp_path: Path) -> None:
+    """Where the updater alone is killed, the lock holds until the program that it called ends."""
+    client = Follower(tmp_path / "client", history, web.base, True)
+    web.show(history.shown(3))
+    client.update(3)
+    web.show(history.shown(4))
+    gate, begun = tmp_path / "gate", tmp_path / "begun"
+    os.mkfifo(gate)
+    os.mkfifo(begun)
+    client.words = {"program": wrapped(tmp_path, f'echo begun >"{begun}"; read -r line <"{gate}"')}
+    words = [sys.executable, "-m", "clubcard.update", str(client.file), "--now", str(history.now(4))]
+    updater = subprocess.Popen(words, env={**os.environ, "PYTHONPATH": str(TESTS.parent)})
+    assert begun.read_text() == "begun\n"
+    updater.kill()
+    updater.wait()
+    client.words = {}
+    assert client.run(history.now(4)).status == 6
+    gate.write_text("go on\n")
+    while client.run(history.now(4)).status == 6:
+        pass
+    client.test_has(4)
+
+
+# ---- a full disk, and readers
+
+
+@pytest.mark.skipif(
+    subprocess.run(["unshare", "-rm", "true"], capture_output=True, check=False).returncode != 0,
+    reason="this user can't mount anything",
+)
+@pytest.mark.parametrize("is_device", [False, True], ids=["file", "device"])
+def test_a_full_disk(history: History, web: Web, tmp_path: Path, is_device: bool) -> None:
+    """However much room there is, the store is the old one or the new one; with room it is the new one."""
+    client = Follower(tmp_path / "client", history, web.base, is_device, {"capacity": 16384} if is_device else {})
+    web.show(history.shown(3))
+    client.update(3)
+    web.show(history.shown(20))
+    (tmp_path / "new.store").write_bytes(history.epoch(20).store)
+    (tmp_path / "old.store").write_bytes(history.epoch(3).store)
+    words = ["unshare", "-rm", sys.executable, str(TESTS / "full_disk.py"), str(tmp_path), str(history.now(20))]
+    done = subprocess.run(
+        words, env={**os.environ, "PYTHONPATH": str(TESTS.parent)}, capture_output=True, text=True, check=False
+    )
+    assert done.returncode == 0, done.stderr
+    told = [json.loads(line) for line in done.stdout.splitlines()]
+    assert all(one["store"] == ("new" if one["status"] == 0 else "old") for one in told), told
+    assert all(one["then"] == [0, "new"] for one in told), told
+    statuses = [one["status"] for one in told]
+    assert set(statuses) == {0, 5} and sorted(statuses, reverse=True) == statuses, told
+    assert any("No space left" in one["line"] or "write-fault" in one["line"] for one in told)
+
+
+def test_readers(history: History, web: Web, tmp_path: Path) -> None:
+    """Whoever asks while the store is replaced gets an answer, of the old one or the new one."""
+    client = Follower(tmp_path / "client", history, web.base)
+    web.show(history.shown(1))
+    client.update(1)
+    ended, faults, answers = threading.Event(), list[EngineError](), list[str]()
+    first = history.entries[0]
+
+    def ask() -> None:
+        engine = Engine(PROGRAM)
+        while not ended.is_set():
+            try:
+                words = key_of(first.issuer), first.serial, [(log_of(first.log), first.time)]
+                answers.append(engine.query(client.place, *words).name)
+            except EngineError as fault:
+                faults.append(fault)
+
+    reader = threading.Thread(target=ask)
+    reader.start()
+    try:
+        for number in range(2, 12):
+            web.show(history.shown(number))
+            client.update(number)
+    finally:
+        ended.set()
+        reader.join()
+    assert not faults and set(answers) == {"REVOKED"}
