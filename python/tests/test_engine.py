@@ -184,6 +184,28 @@ def test_asking(program: Engine) -> None:
         program.query(SHIPPED, KEY, b"", [(log, made.MOMENT)])
 
 
+def test_a_device(program: Engine, tmp_path: Path) -> None:
+    device, log = tmp_path / "a device", b"\xaa" * 32
+    assert program.device_format(device, 4096, SHIPPED) == engine.StoreFacts(1, 1)
+    assert program.device_query(device, KEY, b"\x05", [(log, made.MOMENT)]) is Verdict.REVOKED
+    with pytest.raises(engine.BrokenChain) as broken:
+        (tmp_path / "part").write_bytes(SHIPPED.read_bytes()[10:])
+        program.device_install(device, tmp_path / "part")
+    assert broken.value.why == "not-delta"
+    with pytest.raises(engine.FullDevice):
+        program.device_format(device, 9, SHIPPED)
+    with pytest.raises(engine.DamagedDevice):
+        program.device_query(SHIPPED, KEY, b"\x05", [(log, made.MOMENT)])
+
+
+def test_a_lent_descriptor(tmp_path: Path) -> None:
+    """The program has it under its number, and no other one."""
+    with open(tmp_path / "lent", "wb") as lent, open(tmp_path / "own", "wb") as own:
+        text = f"test -e /dev/fd/{lent.fileno()} && test ! -e /dev/fd/{own.fileno()} && exit 70"
+        with pytest.raises(engine.NoMemory):
+            Engine(script(tmp_path, text).program, [lent.fileno()]).check("part")
+
+
 def test_certificates_and_pages(program: Engine, tmp_path: Path) -> None:
     elm = made.Authority.of("elm")
     (tmp_path / "cert").write_bytes(made.der_of(elm.issue(5)))

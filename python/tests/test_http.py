@@ -6,6 +6,7 @@ import time
 from collections.abc import Callable, Iterator
 from email.utils import formatdate
 from http.server import BaseHTTPRequestHandler, ThreadingHTTPServer
+from pathlib import Path
 
 import pytest
 
@@ -268,6 +269,83 @@ def test_no_connection(client: Client, waits: Waits) -> None:
 def test_no_url(client: Client, url: str) -> None:
     with pytest.raises(FetchError):
         client.get(url, 100)
+
+
+def rest_of(client: Client, url: str, path: Path, length: int) -> bytes:
+    """What a file holds once its rest was got."""
+    with open(path, "ab+") as file:
+        try:
+            client.get_rest(url, file, length, lambda count: None)
+        finally:
+            file.close()
+    return path.read_bytes()
+
+
+def part(begin: int, body: bytes, total: object) -> Answer:
+    """An answer with a part of a body, from an offset on."""
+    return says(206, body, Content_Range=f"bytes {begin}-{begin + len(body) - 1}/{total}")
+
+
+def test_rest(server: Server, client: Client, tmp_path: Path) -> None:
+    """All of a body, what a file lacks of it, and what it lacks of a server that has no ranges."""
+    url = server.url("/a", says(200, b"0123456789"), part(4, b"456789", 10), part(4, b"456789", "*"))
+    assert rest_of(client, url, tmp_path / "0", 10) == b"0123456789"
+    for name in "12":
+        (tmp_path / name).write_bytes(b"abcd")
+        assert rest_of(client, url, tmp_path / name, 10) == b"abcd456789"
+    server.url("/a", says(200, b"0123456789"))
+    (tmp_path / "3").write_bytes(b"abcd")
+    assert rest_of(client, url, tmp_path / "3", 10) == b"0123456789"
+    asked = [(headers.get("Range"), headers["Accept-Encoding"]) for _, headers in server.asked]
+    assert asked == [(None, "identity"), *[("bytes=4-", "identity")] * 3]
+
+
+def test_rest_that_is_cut(server: Server, client: Client, waits: Waits, tmp_path: Path) -> None:
+    """Each retry goes on; what came stays in the file where they fail."""
+    head = b"HTTP/1.1 200 OK\r\nContent-Length: 10\r\n\r\n0123"
+    url = server.url("/a", raw(head), says(503), part(4, b"456789", 10))
+    assert rest_of(client, url, tmp_path / "0", 10) == b"0123456789"
+    assert waits.seconds == list(BACKOFF)
+    server.url("/a", raw(head), says(503))
+    with pytest.raises(FetchError, match="503"):
+        rest_of(client, url, tmp_path / "1", 10)
+    assert (tmp_path / "1").read_bytes() == b"0123"
+
+
+@pytest.mark.parametrize(
+    ("answer", "why"),
+    [
+        (part(3, b"3456789", 10), "isn't of the bytes from 4 of 10 on"),
+        (part(4, b"456789", 11), "isn't of the bytes from 4 of 10 on"),
+        (says(206, b"456789"), "isn't of the bytes from 4 of 10 on"),
+        (part(4, b"456789x", 10), "longer than 10 bytes"),
+        (says(200, b"012345678"), "ends at byte 9 of 10"),
+        (says(200, b"x", Content_Encoding="gzip"), "is encoded"),
+        (says(416), "status 416"),
+        (says(304), "status 304"),
+        (says(404), "status 404"),
+    ],
+)
+def test_rest_that_is_none(server: Server, client: Client, tmp_path: Path, answer: Answer, why: str) -> None:
+    (tmp_path / "file").write_bytes(b"0123")
+    with pytest.raises(FetchError, match=why):
+        rest_of(client, server.url("/a", answer), tmp_path / "file", 10)
+
+
+def test_rest_that_is_late(server: Server, waits: Waits, tmp_path: Path) -> None:
+    """Nothing is written once it was given up."""
+    url = server.url("/a", drip(b"HTTP/1.1 200 OK\r\n\r\n", b"x"))
+    with Client(longest=0.2, sleep=waits) as client, open(tmp_path / "file", "ab+") as file:
+        with pytest.raises(FetchError, match="longer than 0.2 s"):
+            client.get_rest(url, file, 10_000, lambda count: None)
+        size = file.seek(0, 2)
+        server.shutdown()
+        assert file.seek(0, 2) == size < 500
+
+
+def test_rest_on_a_full_disk(server: Server, client: Client) -> None:
+    with open("/dev/full", "ab", buffering=0) as file, pytest.raises(OSError):
+        client.get_rest(server.url("/a", says(200, b"0123456789")), file, 10, lambda count: None)
 
 
 def test_silent_server(server: Server, waits: Waits) -> None:
