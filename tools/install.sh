@@ -14,7 +14,8 @@
 #
 # and with --publisher, for Debian's own Python:
 #
-#     PREFIX/bin/clubcard-publish, clubcardctl              which /usr/bin/python3 runs
+#     PREFIX/bin/clubcard-publish, clubcard-update,         which /usr/bin/python3 runs
+#     PREFIX/bin/clubcardctl
 #     PREFIX/lib/python3.*/*-packages/clubcard/             the package, where /usr/bin/python3 looks for one below
 #                                                           PREFIX, where it does
 #
@@ -152,8 +153,10 @@ done <"$work/files"
 metadata >"$work/METADATA" || exit 1
 place 644 "$work/METADATA" "$packages/clubcard-$(cat "$top/VERSION").dist-info/METADATA"
 launcher clubcard-publish clubcard.publish.cli >"$work/clubcard-publish" || exit 1
+launcher clubcard-update clubcard.update.cli >"$work/clubcard-update" || exit 1
 launcher clubcardctl clubcard.ctl.cli >"$work/clubcardctl" || exit 1
 place 755 "$work/clubcard-publish" bin/clubcard-publish
+place 755 "$work/clubcard-update" bin/clubcard-update
 place 755 "$work/clubcardctl" bin/clubcardctl
 if ! command -v dpkg-query >/dev/null; then
     echo "install: this isn't Debian: see that there is what python/debian-packages.txt names" >&2

@@ -305,7 +305,7 @@ def test_installed(folder: Path, tmp_path: Path) -> None:
         return subprocess.run(words, env=clean, cwd=folder, capture_output=True, text=True, check=False)
 
     version = (made.TOP / "VERSION").read_text().strip()
-    for name in ("clubcardctl", "clubcard-publish"):
+    for name in ("clubcardctl", "clubcard-publish", "clubcard-update"):
         assert run(name, "--version").stdout == f"{name}, version {version}\n"
     assert run("clubcardctl", "ask", "store", "elm1.chain").stdout == "revoked elm1.chain\n"
     assert run("clubcardctl", "inspect", "store").stdout.splitlines()[-1].startswith("whole: ")
