@@ -4,6 +4,7 @@ import os
 import re
 import shutil
 import subprocess
+import sys
 import tomllib
 from pathlib import Path
 
@@ -33,7 +34,7 @@ def keys() -> dict[str, object]:
 
 def call(folder: Path, *lines: str) -> subprocess.CompletedProcess[str]:
     """Lines of the document in the client's folder, with the programs of this tree."""
-    environment = {**os.environ, "PATH": f"{TOP}:{os.environ['PATH']}", "CLUBCARD_PYTHON": "/usr/bin/python3"}
+    environment = {**os.environ, "PATH": f"{TOP}:{os.environ['PATH']}", "CLUBCARD_PYTHON": sys.executable}
     text = "\n".join(lines).replace("/var/lib/clubcard-client", str(folder))
     return subprocess.run(["sh", "-c", text], cwd=folder, env=environment, capture_output=True, text=True, check=False)
 
@@ -78,9 +79,9 @@ def test_commands(history: History, web: Web, tmp_path: Path) -> None:
     done = call(client.folder, f"{update[1]} --now {now}")
     assert (done.returncode, done.stderr) == (0, "")
     assert re.sub(r"\d+", "N", done.stdout) == re.sub(r"\d+", "N", update[2]) + "\n"
-    cron = block("23 * * * * clubcard-client").split("clubcard-client PATH=/usr/local/bin:/usr/bin:/bin ")[1]
-    done = call(client.folder, f"{cron} --now {now}")
-    assert (done.returncode, done.stdout) == (0, "current epoch 5 parts 5\n")
+    cron = block("PATH=").split(" * * * * clubcard-client ")[1].replace(">", f"--now {now} >")
+    done = call(client.folder, cron)
+    assert (done.returncode, done.stdout, done.stderr) == (0, "", "")
     web.show(history.shown(4))
     assert call(client.folder, f"{update[1]} --now {now}").returncode == 4
     assert call(client.folder, block("rm "), f"{update[1]} --now {now}").returncode == 0

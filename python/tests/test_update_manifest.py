@@ -255,7 +255,9 @@ def test_a_damaged_state(client: Follower, web: Web) -> None:
     """It is told, and nothing older is taken by it."""
     accepted = client.folder / "state" / "accepted.json"
     whole = accepted.read_bytes()
-    for damaged in (b"", b"[]", b"{}", whole[:-9], b"\xff", b'{"manifest": "", "key": "", "pinned": "", "etag": null}'):
+    later = whole.replace(b'"format": 1', b'"format": 2')
+    none = b'{"format": 1, "manifest": "", "key": "", "pinned": "", "etag": null}'
+    for damaged in (b"", b"[]", b"{}", whole[:-9], b"\xff", later, none):
         accepted.write_bytes(damaged)
         assert "it is damaged" in refused_then(client, web, 5)
     accepted.write_bytes(whole)

@@ -58,13 +58,15 @@ class State:
         """The newest manifest that was accepted; None before the first one. Raises NotReached where it is damaged."""
         try:
             held = json.loads(self._accepted.read_bytes())
+            if held["format"] != _FORMAT:
+                raise ValueError("it is of another format")
             text = held["manifest"].encode("utf-8")
             found = Accepted(text, from_json(text), str(held["key"]), str(held["pinned"]), held["etag"])
         except FileNotFoundError:
             return None
         except (ValueError, KeyError, TypeError, AttributeError, ManifestError):
             remedy = "look at the disk, and remove this file; an older manifest could be taken once then"
-            raise NotReached(f"{self._accepted}: it is damaged: {remedy}") from None
+            raise NotReached(f"{self._accepted}: it is damaged, or of another version: {remedy}") from None
         return found
 
     def accept(self, accepted: Accepted) -> None:
