@@ -1,7 +1,6 @@
 """Reading the tables of CONFIG: each value by its type, and each fault with its place and a remedy."""
 
 import difflib
-import re
 from collections.abc import Collection, Mapping
 from dataclasses import dataclass
 from typing import Any
@@ -9,21 +8,13 @@ from urllib.parse import urlsplit
 
 import httpx
 
-from .times import DAY, HOUR, MINUTE, SECOND
+from .times import DAY, SECOND, duration
 
-_UNITS = {"s": SECOND, "m": MINUTE, "h": HOUR, "d": DAY}
-_DURATION = re.compile(r"([0-9]{1,12})([smhd])", re.ASCII)
 MOST_DURATION = 36500 * DAY
 
 
 class ConfigError(Exception):
     """CONFIG can't be used. The text names the file, the place in it, what is wrong and what to do."""
-
-
-def duration(text: str) -> int | None:
-    """The milliseconds of a duration: a number and `s`, `m`, `h` or `d`, as in `90s`; None where it is none."""
-    match = _DURATION.fullmatch(text)
-    return int(match[1]) * _UNITS[match[2]] if match else None
 
 
 def url_fault(url: str) -> str | None:

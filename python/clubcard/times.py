@@ -1,5 +1,6 @@
 """Times: milliseconds since 1970-01-01 00:00:00 UTC, and how they are written (ISO 8601)."""
 
+import re
 from datetime import datetime, timedelta, timezone
 
 _BEGIN = datetime(1970, 1, 1, tzinfo=timezone.utc)
@@ -8,6 +9,8 @@ SECOND = 1000
 MINUTE = 60 * SECOND
 HOUR = 60 * MINUTE
 DAY = 24 * HOUR
+_UNITS = {"s": SECOND, "m": MINUTE, "h": HOUR, "d": DAY}
+_DURATION = re.compile(r"([0-9]{1,12})([smhd])", re.ASCII)
 _FIRST, _LAST = ((datetime(*day, tzinfo=timezone.utc) - _BEGIN) // _MILLISECOND for day in ((1, 1, 1), (9999, 12, 31)))
 
 
@@ -31,3 +34,9 @@ def from_iso(text: str) -> int:
     if time.tzinfo is None:
         time = time.replace(tzinfo=timezone.utc)
     return (time - _BEGIN) // _MILLISECOND
+
+
+def duration(text: str) -> int | None:
+    """The milliseconds of a duration: a number and `s`, `m`, `h` or `d`, as in `90s`; None where it is none."""
+    match = _DURATION.fullmatch(text)
+    return int(match[1]) * _UNITS[match[2]] if match else None

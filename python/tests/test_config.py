@@ -13,8 +13,8 @@ from hypothesis import strategies as st
 
 from clubcard import minisign
 from clubcard.publish.config import Config, ConfigError, hints, load
-from clubcard.tables import duration, url_fault
-from clubcard.times import DAY, HOUR, MINUTE
+from clubcard.tables import url_fault
+from clubcard.times import DAY, HOUR, MINUTE, duration
 
 from made import Authority, pem_of
 

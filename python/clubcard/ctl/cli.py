@@ -1,15 +1,15 @@
 """The words of `clubcardctl`."""
 
-import collections
 import sys
 
 import click
 
 from ..publish.version import version
+from .ask_words import ask
 from .files import issued_pair
 from .inspecting import inspect
 from .packing import JobWords, pack_job, pack_page, pack_queries
-from .words import NoStore, WordsInFiles
+from .words import WordsInFiles
 
 Many = tuple[tuple[str, ...], ...]
 
@@ -129,44 +129,4 @@ def identity(certificate: str, issuer: str) -> None:
     click.echo(f"{authority.key_hash().hex()} {found.serial.hex()}")
 
 
-@main.command()
-@click.option(
-    "-i",
-    "--issuer-certificate",
-    "issuers",
-    multiple=True,
-    metavar="ISSUERCERT",
-    help="A file with issuers' certificates. Else the issuer stands behind CERT in its file, or in another CERT.",
-)
-@click.option("--count", is_flag=True, help="Print how many files came to each answer, and not which.")
-@click.argument("store", metavar="STORE")
-@click.argument("certificates", nargs=-1, required=True, metavar="CERT..")
-def ask(issuers: tuple[str, ...], count: bool, store: str, certificates: tuple[str, ...]) -> None:
-    """Asks STORE about each CERT, by its timestamps.
-
-    CERT is a file in DER or PEM, of which the first certificate is asked about, or a folder of such files. Its issuer's
-    certificate must have issued it: its key verifies the signature. A line is a verdict and the file's name; what can't
-    be asked is said on standard error.
-
-    Status 0: good; 1: revoked; 3: not-covered; 4: not-enrolled; 5: a file holds no certificate, or its issuer isn't
-    there; 6: the certificate or its timestamps can't be read; 7: STORE is none, or there is no library; 2: words. Of
-    several the first that is there of 1, 7, 5, 6, 4, 3 and 0.
-    """
-    try:
-        from . import asking
-    except ImportError as error:
-        raise NoStore(f"{store}: it can't be asked: {error}") from error
-    found = set()
-    counts: collections.Counter[str] = collections.Counter()
-    for answer in asking.ask(asking.open_store(store), certificates, issuers):
-        found.add(answer.status)
-        counts[answer.kind] += 1
-        if answer.why and answer.status:
-            click.echo(f"clubcardctl: {answer.why}", err=True)
-        elif not answer.why and not count:
-            click.echo(f"{answer.kind} {answer.name}")
-    for kind in sorted(counts) if count else ():
-        click.echo(f"{kind}: {counts[kind]}")
-    if not found - {None}:
-        click.echo("clubcardctl: no file holds a certificate to ask about", err=True)
-    sys.exit(next((status for status in asking.ORDER if status in found), asking.Status.NO_CERTIFICATE))
+main.add_command(ask)

@@ -59,12 +59,23 @@ def named_pair(name: str, issuer_name: str) -> tuple[Certificate, Certificate]:
     return certificate, issuer
 
 
-def why_no_pair(certificate: Certificate, name: str, issuer: Certificate, issuer_name: str) -> str | None:
-    """Why the second certificate didn't issue the first, with what to do, and None where it did: also its key usage,
-    where it has one, has the signing of certificates."""
+def _why_no_pair(certificate: Certificate, issuer: Certificate) -> str | None:
+    """Why the second certificate didn't issue the first, and None where it did: also its key usage, where it has one,
+    has the signing of certificates."""
     why = why_not_issued(certificate.der, issuer.der)
     if why is None and not may_sign(issuer.der):
         why = "its key usage leaves out the signing of certificates"
+    return why
+
+
+def is_pair(certificate: Certificate, issuer: Certificate) -> bool:
+    """Whether the second certificate issued the first."""
+    return _why_no_pair(certificate, issuer) is None
+
+
+def why_no_pair(certificate: Certificate, name: str, issuer: Certificate, issuer_name: str) -> str | None:
+    """Why the second certificate didn't issue the first, with what to do, and None where it did."""
+    why = _why_no_pair(certificate, issuer)
     if why is None:
         return None
     text = f"the certificate in {issuer_name} didn't issue the one in {name} ({why}); "

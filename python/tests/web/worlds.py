@@ -89,11 +89,11 @@ def eight_epochs(count: int) -> World:
     return _with_certs(world, 63, count, {6: (STEP * 4 - 7, STEP * 6)})
 
 
-def four_epochs() -> World:
-    """A small world with what runs meet: a rebase behind epoch 2, an issuer that is away in epoch 1, two kinds of logs,
-    and a log whose answer fails in epoch 3."""
+def four_epochs(count: int = 24) -> World:
+    """A small world with so many certificates, and with what runs meet: a rebase behind epoch 2, an issuer that is away
+    in epoch 1, two kinds of logs, and a log whose answer fails in epoch 3."""
     issuers = (Issuer(crls=2), Issuer(valid=HOUR, bad=((1, 0, "missing"),)))
     logs = (Log(mmd=HOUR), Log(mmd=HOUR, kind="static", bad=((3, "garbage"),)))
     moments = tuple(at(STEP * (epoch + 1)) for epoch in range(4))
     world = World(moments, logs, issuers, (), rebase_after=3, grace=STEP * HOUR)
-    return _with_certs(world, 17, 24, {})
+    return _with_certs(world, 17, count, {})

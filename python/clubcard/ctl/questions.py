@@ -1,0 +1,142 @@
+"""What is asked about: certificates in files and folders, those that hosts show, and serials."""
+
+import os
+from collections.abc import Iterator, Sequence
+from dataclasses import dataclass
+from pathlib import Path
+
+from ..names import text_of
+from ..pki import Certificate, PkiError, Sighting, certificates_of, read_certificate
+from . import notations
+from .files import is_pair, why_no_pair
+from .hosts import HostError, chain_of
+from .verdicts import Answer, Identity, Status
+from .words import NoCertificate, Wrong
+
+# Names of files that hold other than certificates in DER.
+_DER_NAMES = (".der", ".crt", ".cer")
+_MOST_SIGHTINGS = 64
+NO_CERTIFICATE = "no-certificate"
+NO_ISSUER = "no-issuer"
+NO_HOST = "no-host"
+
+
+@dataclass(frozen=True)
+class Placed:
+    """A certificate, and where it stands."""
+
+    certificate: Certificate
+    place: str
+
+
+@dataclass(frozen=True)
+class Asked:
+    """What has a certificate to ask about, and those behind it."""
+
+    name: str
+    certificate: Certificate
+    chain: tuple[Placed, ...]
+
+
+@dataclass(frozen=True)
+class Words:
+    """The words that say what is asked about."""
+
+    certificates: Sequence[str] = ()
+    hosts: Sequence[str] = ()
+    issuers: Sequence[str] = ()
+    """Files of issuers' certificates."""
+    issuer: str | None = None
+    serial: str | None = None
+    logs: Sequence[str] = ()
+    times: Sequence[str] = ()
+
+    def by_serial(self) -> Identity | None:
+        """What they say by a serial, if they do. Words that are wrong, or too few, raise `Wrong`."""
+        if not (self.issuer or self.serial or self.logs or self.times):
+            return None
+        if self.issuer is None or self.serial is None or not self.logs:
+            raise Wrong("a serial is asked about by all of --issuer, --serial, --log and --time")
+        if len(self.logs) != len(self.times) or len(self.logs) > _MOST_SIGHTINGS:
+            raise Wrong(f"--log and --time stand in pairs, 1 to {_MOST_SIGHTINGS} of them: each log's own time")
+        sightings = [
+            Sighting(notations.log_id(log), notations.moment(time, "--time"))
+            for log, time in zip(self.logs, self.times)
+        ]
+        serial = notations.serial(self.serial)
+        return Identity(notations.issuer(self.issuer), serial.octets, tuple(sightings), serial.other)
+
+
+def files_of(names: Sequence[str]) -> Iterator[tuple[str, bool]]:
+    """The files of some names, in order: those that are named, and those of named folders and of the folders in
+    them. With each whether it is named itself."""
+    for name in names:
+        if not os.path.isdir(name):
+            yield name, True
+        for place, folders, files in os.walk(name):
+            folders.sort()
+            yield from ((str(Path(place, file)), False) for file in sorted(files))
+
+
+def _asked(name: str, ders: Sequence[bytes]) -> Asked:
+    """The first of some certificates, and those behind it."""
+    first, *chain = [read_certificate(each) for each in ders]
+    return Asked(name, first, tuple(Placed(each, f"{name}, behind the first") for each in chain))
+
+
+def given_issuers(names: Sequence[str]) -> list[Placed]:
+    """The certificates in the files of issuers."""
+    try:
+        return [Placed(read_certificate(each), name) for name in names for each in certificates_of(name)]
+    except PkiError as error:
+        raise NoCertificate(str(error)) from error
+
+
+def _may_hold_one(name: str) -> bool:
+    """Whether a file of a folder may hold a certificate: one in DER is known by its name, since anything may be one
+    SEQUENCE."""
+    try:
+        with open(name, "rb") as file:
+            return file.read(1) != b"\x30" or name.endswith(_DER_NAMES)
+    except OSError:
+        return False
+
+
+def read_files(names: Sequence[str]) -> Iterator[Asked | Answer]:
+    """What is asked about of some files and folders, or why there is nothing; `-` is standard input."""
+    for name, is_named in files_of(names):
+        try:
+            if not is_named and not _may_hold_one(name):
+                raise PkiError(f"{name}: it isn't one of certificates")
+            yield _asked(name, certificates_of("/dev/stdin" if name == "-" else name))
+        except PkiError as error:
+            # In a folder the files that hold none are passed over.
+            yield Answer(name, Status.NO_CERTIFICATE if is_named else None, fault=NO_CERTIFICATE, why=str(error))
+
+
+def read_hosts(names: Sequence[str]) -> Iterator[Asked | Answer]:
+    """What TLS servers show, or why they show nothing."""
+    for name in names:
+        try:
+            yield _asked(name, chain_of(name))
+        except HostError as error:
+            yield Answer(name, Status.NO_HOST, fault=NO_HOST, why=str(error))
+        except PkiError as error:
+            yield Answer(name, Status.NO_CERTIFICATE, fault=NO_CERTIFICATE, why=f"{name}: {error}")
+
+
+def issuer_of(asked: Asked, given: Sequence[Placed], others: Sequence[Certificate]) -> Certificate:
+    """The certificate that issued the first of a file: one behind it or given for it, or one of other files, but where
+    some are near not itself. Else it raises `PkiError`."""
+    near = [*asked.chain, *given]
+    far = [each for each in others if not near or each != asked.certificate]
+    for issuer in [*(each.certificate for each in near), *far]:
+        if is_pair(asked.certificate, issuer):
+            return issuer
+    if len(near) == 1:
+        raise PkiError(why_no_pair(asked.certificate, asked.name, near[0].certificate, near[0].place) or "")
+    named = text_of(asked.certificate.issuer)
+    raise PkiError(
+        f"no certificate that is given issued the one in {asked.name}",
+        f"give that of its issuer, {named}, by --issuer-certificate, or behind it in its file",
+    )

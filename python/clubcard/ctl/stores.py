@@ -1,0 +1,109 @@
+"""Stores that are asked: those of files, and those that a device has in its picked slot."""
+
+import hashlib
+import os
+from dataclasses import dataclass
+from typing import BinaryIO
+
+from ..answers import Refusal, Refused
+from ..publish.manifest import Manifest
+from ..store import Store
+from .words import NoStore
+
+# A device's fields (docs/FORMATS.md, "Device").
+_DEVICE = b"CLUBSLOT"
+_MAGIC_AT, _VERSION_AT, _CAPACITY_AT = 1, 9, 10
+_HEADER = 18
+_SLOTS_AT, _LENGTH = 4096, 8
+_GREATEST_CAPACITY = 1 << 40
+
+_AGAIN = "fetch it again, and keep the old one until then"
+_REMEDIES = {
+    Refusal.LAYOUT_SHORT: _AGAIN,
+    Refusal.LAYOUT_VALUE: _AGAIN,
+    Refusal.LAYOUT_DIGEST: _AGAIN,
+    Refusal.NOT_SNAPSHOT: "a store begins with a snapshot: make it again by `clubcard start`",
+    Refusal.NOT_DELTA: "a snapshot begins a store of its own: make it again by `clubcard start`",
+    Refusal.WRONG_PARENT: "a part is missing or of another chain: install every part in order",
+    Refusal.OLD_EPOCH: "a part is older than the one before it: install every part in order",
+    Refusal.COVERAGE_SHRINKS: "a part covers less than the one before it, and is no part of a chain: fetch it again",
+    Refusal.CHAIN_FULL: "a store has 64 parts at most: begin it with the snapshot of a newer chain",
+    Refusal.BAD_SERIAL: "a serial has 1 to 32 octets: look at it again",
+    Refusal.BAD_SIGHTINGS: "a certificate is asked about by 1 to 64 timestamps: give as many",
+    Refusal.CERT_NO_SCTS: "it carries no timestamp; ask by --issuer and --serial, with --log and --time of those that "
+    "it has elsewhere",
+    Refusal.CERT_BAD_SCTS: "its timestamps aren't of the form of RFC 6962; fetch it again",
+    Refusal.CERT_TOO_MANY_SCTS: "it carries more than 64 timestamps; ask by --issuer and --serial, with --log and "
+    "--time of some of them",
+    Refusal.CERT_MALFORMED: "it isn't a certificate that can be asked about; fetch it again",
+    Refusal.ISSUER_CERT_MALFORMED: "its issuer's certificate isn't read; fetch that again",
+    Refusal.NO_MEMORY: "memory is wanted: end other programs, or ask about fewer certificates at once",
+    Refusal.UNKNOWN: "the library is of another version than this program: install both of one",
+}
+
+
+def remedy_of(refusal: Refusal) -> str:
+    """What to do about a refusal of the library."""
+    return _REMEDIES[refusal]
+
+
+@dataclass(frozen=True)
+class Opened:
+    """A store: its bytes, and those as they are asked."""
+
+    octets: bytes
+    store: Store
+
+    def is_of(self, manifest: Manifest) -> bool:
+        """Whether it is the store that a manifest names."""
+        return hashlib.sha256(self.octets).digest() == manifest.store_sha256
+
+
+def _field(name: str, file: BinaryIO, at: int, width: int) -> bytes:
+    """A field of a device."""
+    if file.seek(0, os.SEEK_END) < at + width:
+        raise _damaged(name, at)
+    file.seek(at)
+    return file.read(width)
+
+
+def _damaged(name: str, at: int) -> NoStore:
+    return NoStore(f"{name}: the device's field at {at} is wrong; format it again by `clubcard device-format`")
+
+
+def _picked(name: str, file: BinaryIO) -> bytes:
+    """The bytes in the slot that a device's gate picks."""
+    header = _field(name, file, 0, _HEADER)
+    capacity = int.from_bytes(header[_CAPACITY_AT:], "big")
+    if header[_VERSION_AT] != 1:
+        raise _damaged(name, _VERSION_AT)
+    if not 1 <= capacity <= _GREATEST_CAPACITY:
+        raise _damaged(name, _CAPACITY_AT)
+    at = _SLOTS_AT + (header[0] & 1) * (_LENGTH + capacity)
+    length = int.from_bytes(_field(name, file, at, _LENGTH), "big")
+    if length > capacity:
+        raise _damaged(name, at)
+    return _field(name, file, at + _LENGTH, length)
+
+
+def octets_of(name: str) -> bytes:
+    """The bytes of the store in a file, or in a device."""
+    try:
+        with open(name, "rb") as file:
+            if file.read(_VERSION_AT)[_MAGIC_AT:] == _DEVICE:
+                return _picked(name, file)
+            file.seek(0)
+            return file.read()
+    except OSError as error:
+        raise NoStore(f"{name}: the store can't be read ({error.strerror}); look at its name and rights") from error
+
+
+def open_store(name: str) -> Opened:
+    """The store in a file or in a device, which is one."""
+    octets = octets_of(name)
+    store = Store(octets)
+    try:
+        store.examine()
+    except Refused as refused:
+        raise NoStore(f"{name}: it isn't a store ({refused}); {remedy_of(refused.refusal)}") from refused
+    return Opened(octets, store)
