@@ -7,7 +7,7 @@ import os
 import sys
 import traceback
 from collections.abc import Callable, Sequence
-from typing import TYPE_CHECKING, Any, TypeVar
+from typing import TYPE_CHECKING, Any, NoReturn, TypeVar
 
 import click
 
@@ -104,7 +104,7 @@ _OPTIONS = [
     ),
     click.option("--json", "as_json", is_flag=True, help="Print JSON."),
     click.argument("store", metavar="STORE|DEVICE", type=FILE),
-    click.argument("certificates", nargs=-1, metavar="CERT..", type=FILE),
+    click.argument("certificates", nargs=-1, metavar="[CERT..]", type=FILE),
 ]
 
 
@@ -149,10 +149,10 @@ def _print(answers: Sequence[Answer], as_json: bool) -> None:
     for answer in answers:
         if answer.verdict is not None:
             click.echo(f"{answer.word} {answer.name}")
-        _tell(answer)
+        tell(answer)
 
 
-def _tell(answer: Answer) -> None:
+def tell(answer: Answer) -> None:
     """Says on standard error what is to be told of an answer."""
     if answer.why:
         click.echo(f"clubcardctl: {answer.why}", err=True)
@@ -164,7 +164,14 @@ def _print_counts(answers: Sequence[Answer], as_json: bool) -> None:
     click.echo(json.dumps(counts) if as_json else "\n".join(f"{word}: {count}" for word, count in counts.items()))
     for answer in answers:
         if answer.status is not None:
-            _tell(answer)
+            tell(answer)
+
+
+def end(answers: Sequence[Answer]) -> NoReturn:
+    """Ends with the status of some answers."""
+    if not answers:
+        click.echo("clubcardctl: no file holds a certificate to ask about", err=True)
+    sys.exit(status_of(answer.status for answer in answers))
 
 
 @click.command(cls=Guarded)
@@ -191,6 +198,4 @@ def ask(store: str, manifest: str | None, max_away: str, count: bool, as_json: b
         _print_counts(answers, as_json)
     else:
         _print(kept, as_json)
-    if not kept:
-        click.echo("clubcardctl: no file holds a certificate to ask about", err=True)
-    sys.exit(status_of(answer.status for answer in kept))
+    end(kept)

@@ -1,17 +1,21 @@
-"""The words of `clubcardctl`."""
+"""The words of `clubcardctl`: those that make files for the program; those that ask stand in ask_words and
+explain_words."""
 
 import sys
 
 import click
+from click.shell_completion import BashComplete, FishComplete, ShellComplete, ZshComplete
 
 from ..publish.version import version
 from .ask_words import ask
+from .explain_words import explain
 from .files import issued_pair
 from .inspecting import inspect
 from .packing import JobWords, pack_job, pack_page, pack_queries
 from .words import WordsInFiles
 
 Many = tuple[tuple[str, ...], ...]
+_SHELLS: dict[str, type[ShellComplete]] = {"bash": BashComplete, "zsh": ZshComplete, "fish": FishComplete}
 
 
 @click.group(context_settings={"help_option_names": ["-h", "--help"]})
@@ -68,7 +72,7 @@ main.add_command(inspect)
     metavar="LOG LEAFFILE EXTRAFILE",
     help="A log's entry as it stands: the MerkleTreeLeaf and the extra data, in binary (RFC 6962, 4.6).",
 )
-@click.argument("job", metavar="JOB")
+@click.argument("job", metavar="JOB", type=click.Path())
 def job(epoch: str, moment: str, ranges: Many, crls: Many, certificates: Many, entries: Many, job: str) -> None:
     """Packs CRLs, certificates and log entries into JOB, the publisher's input.
 
@@ -94,7 +98,7 @@ def job(epoch: str, moment: str, ranges: Many, crls: Many, certificates: Many, e
     metavar="CERT ISSUERCERT TIME",
     help="A certificate that the log saw at TIME (milliseconds since 1970), and that of its issuer.",
 )
-@click.argument("page", metavar="PAGE")
+@click.argument("page", metavar="PAGE", type=click.Path())
 def page(certificates: Many, page: str) -> None:
     """Makes PAGE, as a log's get-entries answers one (RFC 6962, 4.6), of certificates.
 
@@ -105,7 +109,7 @@ def page(certificates: Many, page: str) -> None:
 
 
 @main.command()
-@click.argument("queries", metavar="QUERIES")
+@click.argument("queries", metavar="QUERIES", type=click.Path())
 def queries(queries: str) -> None:
     """Packs QUERIES, which `clubcard rehearse` asks, of the lines on standard input.
 
@@ -116,8 +120,8 @@ def queries(queries: str) -> None:
 
 
 @main.command()
-@click.argument("certificate", metavar="CERT")
-@click.argument("issuer", metavar="ISSUERCERT")
+@click.argument("certificate", metavar="CERT", type=click.Path())
+@click.argument("issuer", metavar="ISSUERCERT", type=click.Path())
 def identity(certificate: str, issuer: str) -> None:
     """Prints the words ISSUER and SERIAL by which `clubcard query` asks about CERT.
 
@@ -129,4 +133,17 @@ def identity(certificate: str, issuer: str) -> None:
     click.echo(f"{authority.key_hash().hex()} {found.serial.hex()}")
 
 
+@main.command()
+@click.argument("shell", metavar="bash|zsh|fish", type=click.Choice(sorted(_SHELLS)))
+def completion(shell: str) -> None:
+    """Prints what completes the words of clubcardctl in a shell, which reads it.
+
+    In bash and zsh by `eval "$(clubcardctl completion bash)"`, or with zsh in place of bash; in fish by
+    `clubcardctl completion fish | source`.
+    """
+    # The base's own: that of bash runs a bash, and tests its version.
+    click.echo(ShellComplete.source(_SHELLS[shell](main, {}, "clubcardctl", "_CLUBCARDCTL_COMPLETE")))
+
+
 main.add_command(ask)
+main.add_command(explain)

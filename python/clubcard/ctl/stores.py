@@ -54,9 +54,14 @@ class Opened:
     octets: bytes
     store: Store
 
+    @property
+    def store_digest(self) -> bytes:
+        """The SHA-256 by which a manifest names it."""
+        return hashlib.sha256(self.octets).digest()
+
     def is_of(self, manifest: Manifest) -> bool:
         """Whether it is the store that a manifest names."""
-        return hashlib.sha256(self.octets).digest() == manifest.store_sha256
+        return self.store_digest == manifest.store_sha256
 
 
 def _field(name: str, file: BinaryIO, at: int, width: int) -> bytes:
