@@ -130,13 +130,6 @@ class Engine:
         """Asks about an identity, with 1 to 64 sightings."""
         return self._run(_one(verdict_of), "query", store, issuer.hex(), serial.hex(), *_seen(sightings))
 
-    def device_query(
-        self, device: Name, issuer: bytes, serial: bytes, sightings: Sequence[tuple[bytes, int]]
-    ) -> Verdict:
-        """Asks the store on a device, as `query` does. The device is opened to be written, and isn't."""
-        seen = [word for log, time in sightings for word in (log.hex(), str(time))]
-        return self._run(_one(verdict_of), "device-query", device, issuer.hex(), serial.hex(), *seen)
-
     def query_cert(self, store: Name, certificate: Name, issuer: Name) -> Verdict:
         """Asks about a certificate by its own file and its issuer's, both in DER."""
         return self._run(_one(verdict_of), "query-cert", store, certificate, issuer)
@@ -182,7 +175,7 @@ class Engine:
         return self._run(_one(_store_facts), "device-install", device, part)
 
     def device_query(self, device: Name, issuer: bytes, serial: bytes, sightings: Sequence[Sighting]) -> Verdict:
-        """Asks a device's store, as `query` asks a store."""
+        """Asks a device's store, as `query` asks a store. The device is opened to be written, and isn't."""
         return self._run(_one(verdict_of), "device-query", device, issuer.hex(), serial.hex(), *_seen(sightings))
 
     def _run(self, read: Callable[[Sequence[str]], Read], command: str, *words: Name | int) -> Read:

@@ -17,7 +17,7 @@ from clubcard.answers import Refused
 from clubcard.ctl import asking, stores
 from clubcard.ctl.verdicts import ORDER, Status, status_of
 from clubcard.engine import Engine
-from clubcard.publish import manifest as manifests
+from clubcard import manifest as manifests
 from clubcard.store import Store
 from clubcard.times import DAY
 

@@ -13,7 +13,7 @@ from clubcard.ctl.asking import answers_of
 from clubcard.ctl.stores import open_store
 from clubcard.ctl.verdicts import Answer, Identity, Status
 from clubcard.pki import Sighting
-from clubcard.publish import manifest as manifests
+from clubcard import manifest as manifests
 from clubcard.times import nearest_iso
 from told import BEGIN, EPOCHS, ISSUERS, Certificate, Story
 

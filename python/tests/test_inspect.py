@@ -436,7 +436,7 @@ def test_a_bar_on_a_terminal(files: inspected.Made, monkeypatch: pytest.MonkeyPa
         def advance(self, count: int) -> None:
             shown.append(count)
 
-    monkeypatch.setattr("clubcard.publish.progress.shown", Bars)
+    monkeypatch.setattr("clubcard.progress.shown", Bars)
     monkeypatch.setattr(inspecting, "_LARGE", 100)
     assert ctl(files.store).exit_code == 0
     assert shown[0] == ("bytes read", files.store.stat().st_size)

@@ -6,7 +6,7 @@ from pathlib import Path
 
 from ..answers import Refusal, Refused, Verdict
 from ..pki import Certificate, PkiError, timestamps
-from ..publish.manifest import Manifest, ManifestError, from_json
+from ..manifest import Manifest, ManifestError, from_json
 from ..store import Query, Sighting, Store
 from ..times import to_iso
 from .questions import NO_ISSUER, Asked, Placed, Words, given_issuers, issuer_of, read_files, read_hosts

@@ -6,7 +6,7 @@ import sys
 import click
 from click.shell_completion import BashComplete, FishComplete, ShellComplete, ZshComplete
 
-from ..publish.version import version
+from ..version import version
 from .ask_words import ask
 from .explain_words import explain
 from .files import issued_pair

@@ -67,7 +67,7 @@ def watched(size: int) -> Iterator[Callable[[int], None] | None]:
         yield None
         return
     try:
-        from ..publish.progress import shown
+        from ..progress import shown
     except ImportError:
         # Without `rich` there is none.
         yield None

@@ -6,7 +6,7 @@ from dataclasses import dataclass
 from typing import BinaryIO
 
 from ..answers import Refusal, Refused
-from ..publish.manifest import Manifest
+from ..manifest import Manifest
 from ..store import Store
 from .words import NoStore
 
