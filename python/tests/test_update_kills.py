@@ -18,7 +18,7 @@ from clubcard.http import Client
 from clubcard.manifest import from_json
 from clubcard.update.run import run
 from followed import REBASED, Follower, History, Web
-from made import PROGRAM
+from made import PROGRAM, TOP
 from spooled import key_of, log_of
 from web.killing import FAILED, Steps
 
@@ -91,6 +91,7 @@ def test_killed_at_each_step(
 # ---- the program, as tools/crash_test.sh kills it
 
 CALLS = ("openat", "read", "lseek", "write", "fsync", "close")
+ORDER = "sync read slot sync gate sync".split()
 
 
 def wrapped(folder: Path, body: str) -> str:
@@ -101,34 +102,40 @@ def wrapped(folder: Path, body: str) -> str:
     return str(script)
 
 
+def order_of(trace: Path) -> list[str]:
+    """What a traced install did, in the words of tools/crash_test.sh; but for the line, which is last."""
+    words = ["sh", str(TOP / "tools" / "crash_test.sh"), "--order", str(trace)]
+    told = subprocess.run(words, capture_output=True, text=True, check=False).stdout.split()
+    return told[:-1] if told[-1:] == ["print"] else told
+
+
 @pytest.mark.skipif(shutil.which("strace") is None, reason="strace isn't installed (Debian's package strace)")
 @pytest.mark.parametrize("what", ["signal=KILL", "error=EIO"], ids=["killed", "failed"])
 def test_device_install(history: History, web: Web, tmp_path: Path, monkeypatch: pytest.MonkeyPatch, what: str) -> None:
-    """It ends at each system call on a file that it makes, by a kill or with a fault: the device has the old store or
-    the new one, and the next run makes it the new one."""
-    client = Follower(tmp_path / "client", history, web.base, True)
+    """It ends at each system call on a file that it makes, by a kill or with a fault: what was done is a front of the
+    order that an install owes, the device has the old store or the new one, and the next run makes it the new one."""
+    client = Follower(tmp_path / "client", history, web.base, True, {"capacity": 4096})
     web.show(history.shown(3))
     client.update(3)
     web.show(history.shown(4))
     shutil.copytree(client.folder, tmp_path / "before")
     trace = tmp_path / "trace"
-    words = f'exec strace -f -qq -o "{trace}" -e trace=%desc -e "inject=$INJECT" "{PROGRAM}" "$@"'
-    injecting = replace(client, words={"program": wrapped(tmp_path, words)})
+    words = f'exec strace -f -qq -y -s 0 -o "{trace}" -e trace=%desc -e "inject=$INJECT" "{PROGRAM}" "$@"'
+    injecting = replace(client, words=client.words | {"program": wrapped(tmp_path, words)})
     count = {False: 0, True: 0}
     for call in CALLS:
         for number in range(1, 1000):
             shutil.rmtree(client.folder)
             shutil.copytree(tmp_path / "before", client.folder)
             monkeypatch.setenv("INJECT", f"{call}:{what}:when={number}")
-            status = injecting.run(history.now(4)).status
-            told = trace.read_text()
+            status, told = injecting.run(history.now(4)).status, trace.read_text()
             if "INJECTED" not in told and "KILL" not in told:
                 break
-            is_new = client.is_old_or_new(3, 4)
-            assert status in (0, 5) and is_new or status == 5
+            done, is_new = order_of(trace), client.is_old_or_new(3, 4)
+            assert done == ORDER[: len(done)] and status in ((0, 5) if is_new else (5,))
             count[is_new] += 1
             client.update(4)
-        assert number > 1 and status == 0, call
+        assert number > 1 and status == 0 and order_of(trace) == ORDER, call
     assert count[False] > 10 and count[True] > 0
 
 
@@ -153,6 +160,84 @@ def test_a_program_that_goes_on(history: History, web: Web, tmp_path: Path) -> N
     while client.run(history.now(4)).status == 6:
         pass
     client.test_has(4)
+
+
+# ---- disks that write something else, and the order of what is written
+
+
+def damaging(folder: Path, command: str, place: int) -> str:
+    """A program after whose command the file of the word of this place has another last byte."""
+    script = folder / "damaging"
+    damage = f'printf x | dd of="${place}" bs=1 seek=$(($(stat -c %s "${place}") - 1)) conv=notrunc status=none'
+    script.write_text(f'#!/bin/sh\n"{PROGRAM}" "$@" || exit\n[ $1 != {command} ] || {damage}\n')
+    script.chmod(0o755)
+    return str(script)
+
+
+def test_a_disk_that_writes_something_else(history: History, web: Web, tmp_path: Path) -> None:
+    """A new store is read back before it takes the place of the former one. On a device the former one is in the other
+    slot until then, and the next run makes the device anew."""
+    for command, place, old, is_device in (
+        ("install", 4, 3, False),
+        ("start", 3, REBASED - 1, False),
+        ("device-format", 2, REBASED - 1, True),
+        ("device-install", 2, 3, True),
+    ):
+        client = Follower(tmp_path / command, history, web.base, is_device)
+        web.show(history.shown(old))
+        client.update(old)
+        new = REBASED if command in ("start", "device-format") else old + 2
+        web.show(history.shown(new))
+        client.words = {"program": damaging(tmp_path, command, place)}
+        outcome = client.run(history.now(new))
+        # Where more is put behind the damage, the program finds it before.
+        assert outcome.status in (4, 5) and "layout" in outcome.line or "otherwise than it was" in outcome.line, command
+        assert client.store() == history.epoch(old).store, command
+        client.words = {}
+        client.update(new)
+
+
+def test_a_device_that_writes_something_else(history: History, web: Web, tmp_path: Path) -> None:
+    """It is told, and the next run makes it anew."""
+    client = Follower(tmp_path / "client", history, web.base, True)
+    web.show(history.shown(3))
+    client.update(3)
+    web.show(history.shown(4))
+    client.words = {"program": damaging(tmp_path, "device-install", 2)}
+    outcome = client.run(history.now(4))
+    assert outcome.status == 5 and "otherwise than it was written" in outcome.line
+    client.words = {}
+    assert client.run(history.now(4)).line == "updated epoch 4 parts 4"
+    client.test_has(4)
+
+
+def test_order(history: History, web: Web, tmp_path: Path, monkeypatch: pytest.MonkeyPatch) -> None:
+    """A file is synced before it gets its name, and its folder behind that; what is accepted is noted before the parts,
+    and what the store is behind the store."""
+    client = Follower(tmp_path / "client", history, web.base)
+    web.show(history.shown(3))
+    client.update(3)
+    web.show(history.shown(4))
+    steps: list[str] = []
+    replace_, fsync = os.replace, os.fsync
+
+    def synced(number: int) -> None:
+        steps.append(f"sync {Path(os.readlink(f'/proc/self/fd/{number}')).name}")
+        fsync(number)
+
+    def renamed(source: Path, target: Path) -> None:
+        assert f"sync {source.name}" in steps
+        steps.append(f"name {target.name}")
+        replace_(source, target)
+
+    monkeypatch.setattr(os, "fsync", synced)
+    monkeypatch.setattr(os, "replace", renamed)
+    client.update(4)
+    part = Path(history.epoch(4).manifest.parts[-1].path).name
+    named = [step for step in steps if step.startswith("name")]
+    assert named == ["name accepted.json", f"name {part}", "name store", "name manifest.json"]
+    behind = [steps[steps.index(step) + 1] for step in named]
+    assert behind == ["sync state", "sync parts", "sync client", "sync state"]
 
 
 # ---- a full disk, and readers

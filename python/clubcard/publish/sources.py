@@ -7,7 +7,7 @@ from .heads import TreeHead
 
 
 class Client(Protocol):
-    """What asks a server; `clubcard.publish.http.Client` is one."""
+    """What asks a server; `clubcard.http.Client` is one."""
 
     def get(self, url: str, most_bytes: int) -> Response:
         """The answer of a URL. Raises FetchError."""
