@@ -51,8 +51,6 @@ def _is_taken(url: str, new: Path, client: Client, part: Part, task: Task) -> bo
     """Brings a file to the part's length, and syncs it. Whether it has the part's digest then."""
     with open(new, "ab+") as file:
         size = file.seek(0, 2)
-        if size > part.length:
-            return False
         task.advance(size)
         try:
             if size < part.length:
