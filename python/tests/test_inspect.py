@@ -5,6 +5,7 @@ import os
 import subprocess
 import sys
 import tracemalloc
+from dataclasses import replace
 from pathlib import Path
 from typing import Any
 
@@ -24,7 +25,9 @@ from clubcard.engine_lines import Block
 from clubcard.jobs import JobWriter, entry_record
 from clubcard.layout import kinds, part, sizes
 from clubcard.layout.fields import Fields
+from clubcard.publish.manifest import Coverage, Issuer, to_json
 from inspected import DATE, ELM, JOBS, OAK
+from test_manifest import MANIFEST
 
 REFERENCE = made.second_program("reference")
 FILES = made.second_program("reference_files")
@@ -244,11 +247,12 @@ def test_names(files: inspected.Made, tmp_path: Path) -> None:
     elm = pki.issuer_hash(authority.der)
     job = inspected.job_of(1, {made.LOG: 5}, {elm: [], OAK: [b"\x07"]}, [(elm, b"\x05", made.LOG, 1, DATE)])
     (tmp_path / "job").write_bytes(job.bytes())
-    manifest = {
-        "issuers": [{"issuer": OAK.hex(), "name": "Oak \x1b[31m CA"}],
-        "coverage": [{"log": made.LOG.hex(), "name": "Example log"}],
-    }
-    (tmp_path / "manifest.json").write_text(json.dumps(manifest))
+    manifest = replace(
+        MANIFEST,
+        issuers=(Issuer(OAK, "Oak \x1b[31m CA", False, None, "no CRL in time"),),
+        coverage=(Coverage(made.LOG, "Example log", 0, 5),),
+    )
+    (tmp_path / "manifest.json").write_bytes(to_json(manifest))
     words: list[str | Path] = ["--manifest", tmp_path / "manifest.json", "--certificates", tmp_path / "certificates"]
     facts = report(*words, tmp_path / "job")["facts"]
     assert {each["issuer"]: each["name"] for each in facts["issuers"]} == {
@@ -259,22 +263,14 @@ def test_names(files: inspected.Made, tmp_path: Path) -> None:
     assert f"issuer: Oak \\x1b[31m CA ({OAK.hex()}): 1 CRL, 1 serial" in ctl(*words, tmp_path / "job").stdout
 
 
-@pytest.mark.parametrize(
-    "text, why",
-    [
-        ("{", "it isn't JSON"),
-        ("[]", "its member issuers isn't a list"),
-        ('{"issuers": 5}', "its member issuers isn't a list"),
-        ('{"issuers": [{"issuer": "11", "name": "a"}]}', "an item of issuers isn't issuer and name"),
-        ('{"issuers": [{"issuer": 11}]}', "an item of issuers isn't issuer and name"),
-    ],
-)
-def test_wrong_manifests(files: inspected.Made, tmp_path: Path, text: str, why: str) -> None:
-    (tmp_path / "manifest.json").write_text(text)
-    result = ctl("--manifest", tmp_path / "manifest.json", files.store)
-    assert (result.exit_code, result.stdout) == (2, "") and why in result.stderr
+def test_wrong_files_of_names(files: inspected.Made, tmp_path: Path) -> None:
+    for text, why in (("{", "the manifest isn't JSON in UTF-8"), ("{}", "manifest.format"), ("[]", "manifest")):
+        (tmp_path / "manifest.json").write_text(text)
+        result = ctl("--manifest", tmp_path / "manifest.json", files.store)
+        assert (result.exit_code, result.stdout) == (2, "") and why in result.stderr
+        assert "give a site's manifest.json" in result.stderr
     result = ctl("--certificates", files.store, files.store)
-    assert (result.exit_code, result.stdout) == (5, "") and "there is no certificate in it" in result.stderr
+    assert (result.exit_code, result.stdout) == (2, "") and "there is no certificate in it" in result.stderr
 
 
 # ---- what is wrong

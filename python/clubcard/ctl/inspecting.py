@@ -128,7 +128,7 @@ def status_of(report: Facts) -> Status:
     "manifests",
     multiple=True,
     metavar="MANIFEST",
-    help="A site's manifest, with names of issuers and logs.",
+    help="A site's manifest.json, with names of issuers and logs; its signature isn't looked at.",
 )
 @click.option(
     "--certificates",
@@ -160,7 +160,7 @@ def inspect(
     program built it.
 
     Status 0: FILE is whole; 1: a field is wrong, or the program refuses it; 3: all fields pass their tests, and the
-    program gave no answer; 2: a word is wrong, or FILE can't be read.
+    program gave no answer; 2: a word is wrong, or a file can't be read.
     """
     report = report_of(file, kind, names_of(manifests, certificates), program)
     if is_json:

@@ -1,17 +1,15 @@
 """Names of issuers and logs, by manifests and certificates."""
 
-import json
 from collections.abc import Iterator, Sequence
 from pathlib import Path
-from typing import Any
 
 from ..names import text_of
 from ..pki import PkiError, certificates_of, read_certificate
+from ..publish.manifest import ManifestError, from_json
 from .files import octets_of
-from .words import NoCertificate, Wrong
+from .words import Wrong
 
 Names = dict[bytes, str]
-_GIVE = "give a site's manifest.json"
 
 
 def names_of(manifests: Sequence[str], certificates: Sequence[str]) -> Names:
@@ -40,28 +38,14 @@ def _of_certificates(name: str) -> Iterator[tuple[bytes, str]]:
                 yield each.key_hash(), text_of(each.subject)
         except PkiError as error:
             if not is_folder:
-                raise NoCertificate(str(error)) from error
+                raise Wrong(str(error)) from error
 
 
 def _of_manifest(name: str) -> Iterator[tuple[bytes, str]]:
-    """The names that a manifest has of issuers, and of the logs that it covers."""
+    """The names that a manifest has of issuers, and of the logs that it covers. Its signature isn't looked at."""
     try:
-        manifest = json.loads(octets_of(name))
-    except (ValueError, RecursionError) as error:
-        raise Wrong(f"{name}: it isn't JSON ({error}); {_GIVE}") from error
-    for members, key in (("issuers", "issuer"), ("coverage", "log")):
-        items = manifest.get(members, []) if isinstance(manifest, dict) else None
-        if not isinstance(items, list):
-            raise Wrong(f"{name}: its member {members} isn't a list; {_GIVE}")
-        yield from (_named(name, members, key, item) for item in items)
-
-
-def _named(name: str, members: str, key: str, item: Any) -> tuple[bytes, str]:
-    """The key and the name of an item of a manifest."""
-    try:
-        octets, text = bytes.fromhex(item[key]), item["name"]
-        if len(octets) != 32 or not isinstance(text, str):
-            raise ValueError(f"{key} has {len(octets)} bytes")
-    except (KeyError, TypeError, ValueError) as error:
-        raise Wrong(f"{name}: an item of {members} isn't {key} and name ({error}); {_GIVE}") from error
-    return octets, text
+        manifest = from_json(octets_of(name))
+    except ManifestError as error:
+        raise Wrong(f"{name}: {error}; give a site's manifest.json") from error
+    yield from ((issuer.issuer, issuer.name) for issuer in manifest.issuers)
+    yield from ((covered.log, covered.name) for covered in manifest.coverage)
