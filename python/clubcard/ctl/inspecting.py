@@ -127,23 +127,26 @@ def status_of(report: Facts) -> Status:
     "--manifest",
     "manifests",
     multiple=True,
+    type=click.Path(),
     metavar="MANIFEST",
     help="A site's manifest.json, with names of issuers and logs; its signature isn't looked at.",
 )
 @click.option(
     "--certificates",
     multiple=True,
+    type=click.Path(),
     metavar="CERTS",
     help="A file with issuers' certificates, in DER or PEM, or a folder of such files.",
 )
 @click.option(
     "--program",
     default=programs.beside,
+    type=click.Path(),
     metavar="PROGRAM",
     help="The program that is asked about FILE too; else the one that goes with this package, or is on PATH.",
 )
 @click.option("--json", "is_json", is_flag=True, help="Print one object of JSON.")
-@click.argument("file", metavar="FILE")
+@click.argument("file", metavar="FILE", type=click.Path())
 def inspect(
     kind: kinds.FileKind | None,
     manifests: tuple[str, ...],
