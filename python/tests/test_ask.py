@@ -58,6 +58,17 @@ def test_several(small: Small) -> None:
     assert counts == {"good": 2, "not-covered": 1, "not-enrolled": 1, "revoked": 1}
 
 
+def test_many(small: Small) -> None:
+    """Of many a bar shows on a terminal how many are done; the lines are the same."""
+    names = [str(small["elm-good.chain"])] * 210
+    shown, terminal = os.openpty()
+    done = called("ask", small.store, *names, stderr=terminal)
+    os.close(terminal)
+    assert (done.returncode, done.stdout.decode()) == (0, f"good {names[0]}\n" * 210)
+    with open(shown, "rb", buffering=0) as bar:
+        assert b"/210" in bar.read(1 << 16)
+
+
 def test_the_status_of_several() -> None:
     """The first that is there of revoked, a fault, not-enrolled, not-covered and good."""
     assert [status_of(ORDER[place:]) for place in range(len(ORDER))] == list(ORDER)

@@ -138,7 +138,8 @@ def test_lines(story: Story) -> None:
         else:
             epoch = story.epochs[one.first]
             until = nearest_iso(max(high for _, high in epoch.ranges.values()))
-            assert since == [f"  revoked since part {one.first} (delta of epoch {epoch.epoch}) behind {until}"]
+            part = f"part {one.first} (delta of epoch {epoch.epoch}, covers up to {until})"
+            assert since == [f"  revoked since {part}"]
         assert len(lines) == 2 + len(since) + len(one.seen) + EPOCHS
         for sighting, line in zip(one.seen, lines[2 + len(since) :]):
             assert line.startswith(f"  timestamp {nearest_iso(sighting[1])} of log {sighting[0].hex()}: ")

@@ -182,7 +182,8 @@ def ask(store: str, manifest: str | None, max_away: str, count: bool, as_json: b
 
     CERT is a file in PEM or DER, of which the first certificate is asked about, a folder of such files, or - for
     standard input. Its issuer's certificate must have issued it: its key verifies the signature. A line is a verdict
-    and the file's name; what can't be asked is said on standard error.
+    and the file's name; what can't be asked is said on standard error. Of a certificate that no job accepted either of
+    good and revoked may come (docs/GUIDE.md).
 
     Status 0: good; 1: revoked; 3: not-covered; 4: not-enrolled; 5: a file holds no certificate, or its issuer isn't
     there; 6: the certificate or its timestamps can't be read; 7: STORE or MANIFEST is none, or there is no library; 8:

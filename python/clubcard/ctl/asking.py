@@ -1,8 +1,12 @@
 """Asks a store about certificates: by their files, by what hosts show, and by serials."""
 
+import sys
 from collections.abc import Iterator, Sequence
 from dataclasses import dataclass, replace
 from pathlib import Path
+from typing import TypeVar
+
+import click
 
 from ..answers import Refusal, Refused, Verdict
 from ..pki import Certificate, PkiError, timestamps
@@ -14,13 +18,16 @@ from .stores import remedy_of
 from .verdicts import Answer, Identity, Status, word_of
 from .words import NoStore
 
+Item = TypeVar("Item")
+# From so many certificates on a bar is shown.
+_MANY = 200
 _OF_THE_STORE = (Refusal.NO_MEMORY, Refusal.UNKNOWN)
 
 
 @dataclass(frozen=True)
 class Away:
-    """Which issuers are away: those that the last epoch didn't enrol for longer than `most` milliseconds, by the
-    manifest that clubcard-update kept."""
+    """Which issuers are away, by the manifest that clubcard-update kept: those that it doesn't name, and those that no
+    epoch enrolled in the last `most` milliseconds before its moment."""
 
     manifest: Manifest
     most: int
@@ -34,7 +41,7 @@ class Away:
             return "no epoch ever enrolled it"
         if self.manifest.moment - named.enrolled_at <= self.most:
             return None
-        return f"{named.name} was last enrolled at {to_iso(named.enrolled_at)} ({named.reason or 'enrolled again'})"
+        return f"{named.name} was last enrolled at {to_iso(named.enrolled_at)} ({named.reason})"
 
     def judged(self, answer: Answer) -> Answer:
         """An answer, of which what the store says of an issuer that is away counts for nothing."""
@@ -99,6 +106,15 @@ def _identified(store: Store, asked: Asked, given: Sequence[Placed], others: Seq
     return Answer(asked.name, None, identity=Identity(issuer.key_hash(), asked.certificate.serial, tuple(seen)))
 
 
+def _shown(items: Sequence[Item]) -> Iterator[Item]:
+    """The items; where they are many, and standard error is a terminal, a bar there shows how many are done."""
+    if len(items) < _MANY or not sys.stderr.isatty():
+        yield from items
+        return
+    with click.progressbar(items, file=sys.stderr, show_pos=True) as bar:
+        yield from bar
+
+
 def identified(store: Store, words: Words) -> Iterator[Answer]:
     """What words name, each with what to ask of it, or with the whole answer where it can't be asked about."""
     by_serial = words.by_serial()
@@ -108,7 +124,7 @@ def identified(store: Store, words: Words) -> Iterator[Answer]:
     for asked in (each for each in found if isinstance(each, Asked)):
         for certificate in (asked.certificate, *(each.certificate for each in asked.chain)):
             others.setdefault(certificate.subject, []).append(certificate)
-    for each in found:
+    for each in _shown(found):
         same_name = [] if isinstance(each, Answer) else others.get(each.certificate.issuer, [])
         yield each if isinstance(each, Answer) else _identified(store, each, given, same_name)
     if by_serial is not None:

@@ -24,7 +24,7 @@ def main() -> None:
     """Makes the program's files of certificates and CRLs in PEM or DER, and asks stores by them.
 
     Status 2: a word or a file is wrong; standard error says which and what to do, and what was to be written is as
-    before. `ask` and `inspect` have statuses of their own.
+    before. `ask`, `explain` and `inspect` have statuses of their own.
     """
 
 

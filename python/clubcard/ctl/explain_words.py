@@ -15,9 +15,9 @@ def explain(store: str, manifest: str | None, max_away: str, as_json: bool, **gi
 
     CERT and the words in its place are those of `ask`, and so are the statuses. Told are the verdict; since which part
     the certificate is revoked; of each timestamp, since which part and by which range it is covered; and of each part
-    what it covers, whether it has the issuer, and what it says. A part is named by its place from 0, and by its epoch,
-    whose moment a store doesn't have: MANIFEST has that of the newest epoch; the moment of each other one lies behind
-    the latest time that it covers.
+    what it covers, whether it has the issuer, and what it says. A part is named by its place from 0, and by its epoch.
+    A store doesn't have the moments of epochs: that of the newest one stands in MANIFEST, and for the others it is told
+    up to which time they cover.
     """
     words = words_of(given)
     found, away = opened(store, manifest, max_away)

@@ -39,13 +39,13 @@ class Part:
         low, high = self.range_of(sighting) or (1, 0)
         return low <= sighting.time <= high
 
-    def enrols(self, issuer: bytes) -> bool:
-        """Whether its job enrolled an issuer."""
+    def has(self, issuer: bytes) -> bool:
+        """Whether its job enrolled an issuer; in a chain begun anew, for its first part, whether some job before did."""
         return any(block.issuer == issuer for block in self.found.blocks)
 
     @property
     def until(self) -> int:
-        """The latest time that it covers of a log, behind which its moment lies."""
+        """The latest time that it covers of a log."""
         return max((each.high for each in self.found.ranges), default=0)
 
     @property
@@ -54,11 +54,10 @@ class Part:
         return f"part {self.place} ({self.found.kind} of epoch {self.found.epoch})"
 
     @property
-    def when(self) -> str:
-        """What is told to people of its moment."""
-        if self.moment is not None:
-            return f"at {nearest_iso(self.moment)}"
-        return f"behind {nearest_iso(self.until)}"
+    def long_name(self) -> str:
+        """The name with its moment, or where that isn't known with how far it covers."""
+        when = f"covers up to {nearest_iso(self.until)}" if self.moment is None else nearest_iso(self.moment)
+        return f"{self.name[:-1]}, {when})"
 
     def members(self) -> dict[str, object]:
         """What is written of it in JSON."""
@@ -89,8 +88,8 @@ def read_parts(octets: bytes, moments: dict[int, int]) -> list[Part]:
 
 @dataclass(frozen=True)
 class Said:
-    """What a part says of a certificate: which of its timestamps it covers, whether it enrolled the issuer, and what
-    the store that ends with it says."""
+    """What a part says of a certificate: which of its timestamps it covers, whether it has the issuer, what the store
+    that ends with it says, and whether one before said that it is revoked."""
 
     part: Part
     covered: tuple[bool, ...]
@@ -113,7 +112,7 @@ class Said:
         covers = f"covers {sum(self.covered)} of {len(self.covered)} timestamps"
         enrols = "has the issuer" if self.enrolled else "hasn't the issuer"
         told = {"not-covered": "says nothing", "not-enrolled": "says nothing", "revoked-before": "revoked before"}
-        return f"  {self.part.name} {self.part.when}: {covers}, {enrols}: {told.get(self.word, self.word)}"
+        return f"  {self.part.long_name}: {covers}, {enrols}: {told.get(self.word, self.word)}"
 
     def members(self) -> dict[str, object]:
         """What is written of it in JSON."""
@@ -155,7 +154,7 @@ class Explained:
         since = self.since
         if since is not None:
             before = ", or before: the chain begins there" if since.place == 0 else ""
-            lines.append(f"  revoked since {since.name} {since.when}{before}")
+            lines.append(f"  revoked since {since.long_name}{before}")
         lines += [f"  {self._timestamp(each)}" for each in identity.sightings]
         return [*lines, *(each.line() for each in self.said)]
 
@@ -197,7 +196,7 @@ def _explained(answer: Answer, parts: Sequence[Part], verdicts: Sequence[Verdict
     identity = answer.identity or Identity(b"", b"", ())
     for part, verdict in zip(parts, verdicts, strict=True):
         covered = tuple(part.covers(each) for each in identity.sightings)
-        said.append(Said(part, covered, part.enrols(identity.issuer), verdict, was_revoked))
+        said.append(Said(part, covered, part.has(identity.issuer), verdict, was_revoked))
         was_revoked = was_revoked or verdict is Verdict.REVOKED
     return Explained(answer, tuple(said))
 

@@ -2,6 +2,7 @@
 
 import os
 from collections.abc import Iterator, Sequence
+from concurrent.futures import ThreadPoolExecutor
 from dataclasses import dataclass
 from pathlib import Path
 
@@ -16,6 +17,8 @@ from .words import NoCertificate, Wrong
 # Names of files that hold other than certificates in DER.
 _DER_NAMES = (".der", ".crt", ".cer")
 _MOST_SIGHTINGS = 64
+# So many hosts are asked at once.
+_MOST_HOSTS = 16
 NO_CERTIFICATE = "no-certificate"
 NO_ISSUER = "no-issuer"
 NO_HOST = "no-host"
@@ -114,15 +117,20 @@ def read_files(names: Sequence[str]) -> Iterator[Asked | Answer]:
             yield Answer(name, Status.NO_CERTIFICATE if is_named else None, fault=NO_CERTIFICATE, why=str(error))
 
 
+def _read_host(name: str) -> Asked | Answer:
+    """What a TLS server shows, or why it shows nothing."""
+    try:
+        return _asked(name, chain_of(name))
+    except HostError as error:
+        return Answer(name, Status.NO_HOST, fault=NO_HOST, why=str(error))
+    except PkiError as error:
+        return Answer(name, Status.NO_CERTIFICATE, fault=NO_CERTIFICATE, why=f"{name}: {error}")
+
+
 def read_hosts(names: Sequence[str]) -> Iterator[Asked | Answer]:
-    """What TLS servers show, or why they show nothing."""
-    for name in names:
-        try:
-            yield _asked(name, chain_of(name))
-        except HostError as error:
-            yield Answer(name, Status.NO_HOST, fault=NO_HOST, why=str(error))
-        except PkiError as error:
-            yield Answer(name, Status.NO_CERTIFICATE, fault=NO_CERTIFICATE, why=f"{name}: {error}")
+    """What TLS servers show, or why they show nothing, in the order of their names; some are asked at once."""
+    with ThreadPoolExecutor(_MOST_HOSTS) as threads:
+        yield from threads.map(_read_host, names)
 
 
 def issuer_of(asked: Asked, given: Sequence[Placed], others: Sequence[Certificate]) -> Certificate:
