@@ -25,7 +25,7 @@ from clubcard.engine_lines import Block
 from clubcard.jobs import JobWriter, entry_record
 from clubcard.layout import kinds, part, sizes
 from clubcard.layout.fields import Fields
-from clubcard.publish.manifest import Coverage, Issuer, to_json
+from clubcard.manifest import Coverage, Issuer, to_json
 from inspected import DATE, ELM, JOBS, OAK
 from test_manifest import MANIFEST
 

@@ -40,7 +40,7 @@ class Part:
         return low <= sighting.time <= high
 
     def has(self, issuer: bytes) -> bool:
-        """Whether its job enrolled an issuer; in a chain begun anew, for its first part, whether some job before did."""
+        """Whether its job enrolled an issuer; of the first part of a chain begun anew, whether some job before did."""
         return any(block.issuer == issuer for block in self.found.blocks)
 
     @property

@@ -5,7 +5,7 @@ from pathlib import Path
 
 from ..names import text_of
 from ..pki import PkiError, certificates_of, read_certificate
-from ..publish.manifest import ManifestError, from_json
+from ..manifest import ManifestError, from_json
 from .files import octets_of
 from .words import Wrong
 
