@@ -1,6 +1,7 @@
 """What the HTTP client asks for, and how it reads the answers: a page, or the rest of a file (RFC 9110, 14)."""
 
 import contextlib
+import io
 import re
 import threading
 from collections.abc import Callable, Iterator, Mapping
@@ -114,14 +115,13 @@ class Page(Question[Response]):
         length = response.headers.get("content-length", "")
         if length.isdecimal() and "content-encoding" not in response.headers and int(length) > self.most_bytes:
             raise too_long
-        chunks, size = [], 0
+        body = io.BytesIO()
         for chunk in response.iter_bytes():
             with late.in_time():
-                chunks.append(chunk)
-            size += len(chunk)
-            if size > self.most_bytes:
+                body.write(chunk)
+            if body.tell() > self.most_bytes:
                 raise too_long
-        return b"".join(chunks)
+        return body.getvalue()
 
 
 @dataclass(frozen=True)
