@@ -31,21 +31,23 @@ class Element(NamedTuple):
 
 def header(octets: bytes, at: int, end: int) -> tuple[int, int, int]:
     """The tag of the element that begins at a place, and where its contents begin and end. It must end before `end`."""
-    if end - at < 2:
+    start = at + 2
+    if start > end:
         raise Malformed("an element is cut short")
-    tag, length, start = octets[at], octets[at + 1], at + 2
+    tag, length = octets[at], octets[at + 1]
     if tag & 0x1F == 0x1F:
         raise Malformed("a tag has more than one byte")
     if length >= 0x80:
-        start += length - 0x80
+        at, start = start, start + length - 0x80
         if not 0x81 <= length <= 0x84 or start > end:
             raise Malformed("the length of an element is wrong")
-        length = int.from_bytes(octets[at + 2 : start], "big")
-        if octets[at + 2] == 0 or length < 0x80:
+        length = int.from_bytes(octets[at:start])
+        if octets[at] == 0 or length < 0x80:
             raise Malformed("the length of an element isn't in its least form")
-    if start + length > end:
+    stop = start + length
+    if stop > end:
         raise Malformed("an element is cut short")
-    return tag, start, start + length
+    return tag, start, stop
 
 
 def elements(octets: bytes) -> Iterator[Element]:
@@ -103,7 +105,6 @@ def truth(contents: bytes) -> bool:
     return contents == b"\xff"
 
 
-@lru_cache(maxsize=4096)
 def days(year: int, month: int, day: int) -> int:
     """The days from 1970-01-01 to a day of the Gregorian calendar, which runs back to the year 0."""
     is_leap = year % 4 == 0 and (year % 100 != 0 or year % 400 == 0)
@@ -115,6 +116,7 @@ def days(year: int, month: int, day: int) -> int:
     return 365 * since + since // 4 - since // 100 + since // 400 + in_year - 719468
 
 
+@lru_cache(maxsize=4096)
 def seconds(tag: int, contents: bytes) -> int:
     """The seconds since 1970-01-01 00:00:00 UTC of a UTCTime or a GeneralizedTime, without fraction and offset."""
     digits = contents[:-1]

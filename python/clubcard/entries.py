@@ -5,8 +5,8 @@ Entries come by millions, so places in the bytes are handed on, and not the byte
 
 import hashlib
 import struct
-from dataclasses import dataclass
 from functools import lru_cache
+from typing import NamedTuple
 
 from .der import INTEGER, OCTET_STRING, SEQUENCE, Malformed, header, seconds
 
@@ -22,8 +22,7 @@ _LONGEST_SERIAL = 32
 _REMEMBERED = 1 << 13
 
 
-@dataclass(frozen=True, slots=True)
-class EntryFacts:
+class EntryFacts(NamedTuple):
     """What is read of an entry.
 
     time: of the sighting, in milliseconds since 1970; issuer: 32 bytes; serial: the octets of serialNumber as they
