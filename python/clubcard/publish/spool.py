@@ -24,6 +24,10 @@ FIRST_RUN = 256
 """How many entries from `first` on say by when those below `first` were merged."""
 _COLUMNS = """id, key, name, mmd, first, taken, head_time, head_size, head_root, latest, bound, compact, bound_head,
     first_time"""
+_INSERT = "INSERT INTO entry (log, place, time, issuer, serial, until, start, length, aside, segment) VALUES "
+_VALUES = "(?, ?, ?, ?, ?, ?, ?, ?, ?, ?)"
+_ROWS = 64
+"""How many entries' rows one statement adds: one for each takes nearly twice the time."""
 
 
 @dataclass(frozen=True)
@@ -162,8 +166,9 @@ class Batch:
     def _note(self, place: int, leaf: bytes, facts: EntryFacts | None, length: int) -> None:
         """Notes the row of an entry, and its time where its leaf has one."""
         if facts is not None:
-            time = min(facts.time, MOST)
-            self._entries.append((place, time, facts.issuer, facts.serial, facts.until, self.length, length, None))
+            time, issuer, serial, until, _ = facts
+            time = min(time, MOST)
+            self._entries.append((place, time, issuer, serial, until, self.length, length, None))
             self._watch.look(facts, place)
         else:
             has_time = leaf[:2] == b"\0\0" and len(leaf) >= 10
@@ -181,17 +186,16 @@ class Batch:
         self._file.close()
         self._state.keep(self._path)
         with self._state.transaction() as db:
-            words = (self._state.named(self._path), self.length)
-            segment = db.execute("INSERT INTO segment (file, length) VALUES (?, ?)", words).lastrowid
+            named = (self._state.named(self._path), self.length)
+            segment = db.execute("INSERT INTO segment (file, length) VALUES (?, ?)", named).lastrowid
             keys = {entry[2] for entry in self._entries if entry[2] is not None}
             issuers = {key: self._state.issuer_id(key) for key in sorted(keys)}
-            insert = """INSERT INTO entry (log, place, time, issuer, serial, until, start, length, aside, segment)
-                VALUES (?, ?, ?, ?, ?, ?, ?, ?, ?, ?)"""
-            rows = (
-                (row.id, place, time, key and issuers[key], serial, until, start, length, aside, segment)
-                for place, time, key, serial, until, start, length, aside in self._entries
-            )
-            db.executemany(insert, rows)
+            for at in range(0, len(self._entries), _ROWS):
+                part = self._entries[at : at + _ROWS]
+                words: list[Any] = []
+                for place, time, key, serial, until, start, length, aside in part:
+                    words += row.id, place, time, key and issuers[key], serial, until, start, length, aside, segment
+                db.execute(_INSERT + ", ".join([_VALUES] * len(part)), words)
             self._watch.save(db, row.id, issuers)
             save_log(db, row)
 
