@@ -2,6 +2,7 @@
 
 from collections.abc import Iterator, Mapping
 from dataclasses import dataclass, field, replace
+from functools import cached_property
 
 from ..crls import Crl
 from ..times import nearest_iso
@@ -41,13 +42,12 @@ def begun(making: Making, enrolment: Enrolment) -> Plan:
 
 def lacking(making: Making, showing: Showing, newest: Newest, plan: Plan) -> int:
     """How many identities more the ledger would need for all that could be covered."""
-    (waiting,) = making.db.execute(f"SELECT count(*) FROM entry e WHERE {rules.WAITS}").fetchone()
     fit = _Fit(making, showing)
-    if waiting <= fit.room():
+    if making.waiting() <= fit.room:
         return 0
     showing.enrol(plan.crls)
     showing.cover(rules.ranges(_followed(making, newest.ranges), newest.ranges))
-    return max(0, showing.fresh() - fit.room())
+    return max(0, showing.fresh() - fit.room)
 
 
 def fitted(making: Making, showing: Showing, newest: Newest | None, plan: Plan) -> Plan:
@@ -90,19 +90,26 @@ class _Fit:
     def fits(self, ranges: Mapping[int, rules.Range]) -> bool:
         """Whether what these ranges show fits into a job and into the ledger."""
         self.showing.cover(ranges)
+        if self.fits_all:
+            return True
         limits, shown = self.making.limits, self.showing.count()
         if shown > limits.entries:
             self.why = f"a job takes {limits.entries} entries"
             return False
-        room = self.room()
-        if shown > room and self.showing.fresh() > room:
+        if shown > self.room and self.showing.fresh() > self.room:
             self.why = (
-                f"the ledger takes {limits.identities} identities, and {room} more fit:"
+                f"the ledger takes {limits.identities} identities, and {self.room} more fit:"
                 " publish some of the issuers by a CONFIG of their own"
             )
             return False
         return True
 
+    @cached_property
+    def fits_all(self) -> bool:
+        """Whether all that waits would fit, whatever of it is shown."""
+        return self.making.waiting() <= min(self.making.limits.entries, self.room)
+
+    @cached_property
     def room(self) -> int:
         """How many identities more the ledger takes."""
         (held,) = self.making.db.execute("SELECT count(*) FROM identity").fetchone()

@@ -10,6 +10,7 @@ from ..engine import Engine, EngineError
 from ..progress import Progress
 from .alarms import Alarms
 from .config import Config
+from .rules import WAITS
 from .state import State, StateError
 
 
@@ -52,6 +53,11 @@ class Making:
     @property
     def db(self) -> sqlite3.Connection:
         return self.state.db
+
+    def waiting(self) -> int:
+        """How many entries wait."""
+        query = f"SELECT count(*) FROM entry e INDEXED BY entry_waiting WHERE {WAITS}"
+        return int(self.db.execute(query).fetchone()[0])
 
     def issuer_name(self, number: int) -> str:
         """How an alarm names an issuer, by its number in the state."""

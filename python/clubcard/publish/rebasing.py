@@ -178,7 +178,7 @@ def _rebased_row(making: Making, newest: Newest, files: Files, raised: Sequence[
         kind="snapshot",
         length=files.part.length,
         parts=1,
-        waiting=recording.waiting(making),
+        waiting=making.waiting(),
         universe=sum(universe for universe, _ in counted.values()),
         revoked=sum(revoked for _, revoked in counted.values()),
         issuers=tuple(_counted(issuer, *counted[issuer.issuer]) for issuer in row.issuers),

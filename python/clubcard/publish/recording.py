@@ -118,12 +118,6 @@ def sizes(making: Making) -> dict[int, tuple[int, int]]:
     return {issuer: (universe, revoked) for issuer, universe, revoked in rows}
 
 
-def waiting(making: Making) -> int:
-    """How many entries wait."""
-    query = f"SELECT count(*) FROM entry e INDEXED BY entry_waiting WHERE {rules.WAITS}"
-    return int(making.db.execute(query).fetchone()[0])
-
-
 def epoch_row(making: Making, newest: Newest | None, made: Made, files: Files) -> EpochRow:
     """What an epoch came to."""
     config, counted = making.config, sizes(making)
@@ -136,7 +130,7 @@ def epoch_row(making: Making, newest: Newest | None, made: Made, files: Files) -
         length=files.part.length,
         parts=newest.parts + 1 if newest else 1,
         shown=made.shown,
-        waiting=waiting(making),
+        waiting=making.waiting(),
         late=late,
         universe=sum(universe for universe, _ in counted.values()),
         revoked=sum(revoked for _, revoked in counted.values()),
