@@ -9,7 +9,7 @@ from . import chain, checking, recording, rules
 from .alarms import Alarm
 from .chain import EpochRow, IssuerRow, Newest
 from .making import Making, NoEpoch
-from .recording import Files
+from .recording import Files, Sizes
 from .spool import log_rows
 
 
@@ -87,12 +87,13 @@ def _rebased(making: Making, newest: Newest, without: Mapping[int, int]) -> Epoc
         with making.state.transaction():
             _begin(making, newest, files, list(without))
             _forget(making, newest.generation + 1, list(without))
-            _compare(making, line)
+            sizes = recording.sizes(making)
+            _compare(making, line, sizes)
             checking.ask(making.db, making.state.path(files.store.name), checking.of_rebase(), newest.epoch)
             for issuer, count in without.items():
                 text = f"the chain began anew without {making.issuer_name(issuer)} of which {count} entries wait"
                 making.alarms.add("without", f"{text}: its certificates read not-enrolled until it is enrolled again")
-            row = _rebased_row(making, newest, files, making.alarms.raised[before:])
+            row = _rebased_row(making, newest, files, sizes, making.alarms.raised[before:])
             recording.write_row(making, row, True)
     return row
 
@@ -159,18 +160,17 @@ def _forget(making: Making, generation: int, without: list[int]) -> None:
     recording.forget(making, generation, cut)
 
 
-def _compare(making: Making, line: Rebased) -> None:
+def _compare(making: Making, line: Rebased, sizes: Sizes) -> None:
     """An alarm where the program keeps other identities than the state: one is read otherwise by the two."""
-    counted = recording.sizes(making)
-    kept = sum(universe for universe, _ in counted.values()), sum(revoked for _, revoked in counted.values())
+    kept = sum(universe for universe, _ in sizes.values()), sum(revoked for _, revoked in sizes.values())
     if kept != (line.universe, line.revoked):
         text = f"identities {line.universe} revoked {line.revoked}, and the state {kept[0]} and {kept[1]}"
         making.alarms.add("count", f"the program's rebase keeps {text}: report it")
 
 
-def _rebased_row(making: Making, newest: Newest, files: Files, raised: Sequence[Alarm]) -> EpochRow:
+def _rebased_row(making: Making, newest: Newest, files: Files, sizes: Sizes, raised: Sequence[Alarm]) -> EpochRow:
     """The newest epoch's row behind its rebase, with the alarms that this raised."""
-    row, sizes = _row(making, raised), recording.sizes(making)
+    row = _row(making, raised)
     counted = {key: sizes.get(number, (0, 0)) for number, key in making.db.execute("SELECT id, key FROM issuer")}
     return replace(
         row,

@@ -112,10 +112,16 @@ def drop_segments(making: Making) -> None:
     making.db.execute(f"DELETE FROM segment WHERE {gone}")
 
 
-def sizes(making: Making) -> dict[int, tuple[int, int]]:
-    """How many identities of each issuer the chain holds, and how many of these are revoked."""
-    rows = making.db.execute("SELECT issuer, count(*), count(revoked) FROM identity GROUP BY issuer")
-    return {issuer: (universe, revoked) for issuer, universe, revoked in rows}
+Sizes = dict[int, tuple[int, int]]
+"""How many identities of each issuer the chain holds, and how many of these are revoked."""
+
+
+def sizes(making: Making) -> Sizes:
+    """What the chain holds of each issuer."""
+    held = making.db.execute("SELECT issuer, count(*) FROM identity GROUP BY issuer").fetchall()
+    listed = making.db.execute("SELECT issuer, count(*) FROM identity WHERE revoked IS NOT NULL GROUP BY issuer")
+    revoked = dict(listed)
+    return {issuer: (universe, revoked.get(issuer, 0)) for issuer, universe in held}
 
 
 def epoch_row(making: Making, newest: Newest | None, made: Made, files: Files) -> EpochRow:
@@ -144,7 +150,7 @@ def epoch_row(making: Making, newest: Newest | None, made: Made, files: Files) -
     )
 
 
-def _issuer_rows(making: Making, plan: Plan, counted: dict[int, tuple[int, int]]) -> tuple[IssuerRow, ...]:
+def _issuer_rows(making: Making, plan: Plan, counted: Sizes) -> tuple[IssuerRow, ...]:
     """The issuers of CONFIG, in its order."""
     known = {key: (number, at) for number, key, at in making.db.execute("SELECT id, key, enrolled_at FROM issuer")}
     rows = []

@@ -72,6 +72,8 @@ CREATE TABLE identity (
     revoked INTEGER, -- the first epoch since its birth that listed it; NULL where none did
     PRIMARY KEY (issuer, serial)
 ) WITHOUT ROWID;
+-- What is revoked, to be counted by issuer.
+CREATE INDEX identity_revoked ON identity (issuer) WHERE revoked IS NOT NULL;
 
 -- The newest accepted CRL of each URL of an issuer.
 CREATE TABLE crl (
