@@ -131,12 +131,14 @@ def _made(making: Making, plan: fitting.Plan) -> tuple[EpochRow, bool]:
     files = _files(making, made, store)
     _tell_late(making)
     done = (newest.parts if newest else 0) + 1 < making.config.rebase_after
-    with ThreadPoolExecutor(1) as thread, making.progress.task("auditing the new store"), state.transaction():
-        # The program audits while the transaction is written.
-        audit = thread.submit(_audited, making, newest, made, store)
+    with ThreadPoolExecutor(2) as threads, making.progress.task("auditing the new store"), state.transaction():
+        # While the transaction is written the program audits, and the job goes to the disk.
+        audit = threads.submit(_audited, making, newest, made, store)
+        on_disk = threads.submit(state.keep, made.job)
         recording.name_part(making, newest, made, files)
         recording.accept(making, made)
         recording.revoke(making, made.plan, epoch)
+        on_disk.result()
         if not audit.result():
             checking.ask(making.db, store, checking.of_epoch(), epoch)
         recording.forget(making, generation, cut)
@@ -164,8 +166,7 @@ def _files(making: Making, made: Made, store: Path) -> Files:
 
 
 def _audited(making: Making, newest: Newest | None, made: Made, store: Path) -> bool:
-    """Whether the program audited the store by all jobs of its chain; waits until the new job is on the disk."""
-    making.state.keep(made.job)
+    """Whether the program audited the store by all jobs of its chain."""
     jobs = newest.jobs if newest else ()
     return checking.audited(making.engine, store, None if jobs is None else (*jobs, made.job))
 
