@@ -12,7 +12,7 @@ from .answers import DONE, Refusal, Verdict, answer_of, refused_by
 from .library import LIBRARY, LentFacts, LentQuery, LentSighting
 from .octets import MAX_SERIAL, BytesLike, bytes_like, key_of, lent, octets_of, serial_of
 
-_ISSUER = "an issuer's key hash"
+_ISSUER, _LOG = "an issuer's key hash", "a log's id"
 # The fields of LentSighting and of LentQuery; bytes that are too short are filled up with zeros.
 _SIGHTING = struct.Struct("=32sQ")
 _QUERY = struct.Struct("=32s32s4I")
@@ -26,7 +26,7 @@ class Sighting:
     time: int
 
     def __post_init__(self) -> None:
-        object.__setattr__(self, "log", key_of(self.log, "a log's id"))
+        object.__setattr__(self, "log", key_of(self.log, _LOG))
         object.__setattr__(self, "time", _time_of(self.time))
 
 
@@ -77,11 +77,10 @@ def _lent_sightings(sightings: Sequence[Sighting]) -> "ctypes.Array[LentSighting
     return (LentSighting * len(sightings)).from_buffer(octets)
 
 
-def _lent_query(query: Query, first_sighting: int) -> bytes:
+def _lent_query(issuer: bytes, serial: bytes, first_sighting: int, sightings: int) -> bytes:
     """A query in the layout of C, with no answer."""
     # Whatever is above the limit is refused alike; a greater number might not fit the field.
-    length = min(len(query.serial), MAX_SERIAL + 1)
-    return _QUERY.pack(query.issuer, query.serial, length, first_sighting, len(query.sightings), 0)
+    return _QUERY.pack(issuer, serial, min(len(serial), MAX_SERIAL + 1), first_sighting, sightings, 0)
 
 
 class Store:
@@ -132,15 +131,28 @@ class Store:
         for query in listed:
             if not isinstance(query, Query):
                 raise TypeError(f"a Query is wanted, and not {type(query).__name__}")
-            octets += _lent_query(query, len(seen))
+            octets += _lent_query(query.issuer, query.serial, len(seen), len(query.sightings))
             seen.extend(query.sightings)
-        places = (LentQuery * len(listed)).from_buffer(octets)
-        sightings, at = _lent_sightings(seen), ctypes.c_uint64()
+        return self._answers(octets, _lent_sightings(seen))
+
+    def query_seen(self, seen: Iterable[Tuple[bytes, bytes, bytes, int]]) -> List[Union[Verdict, Refusal]]:
+        """The answers to queries of one sighting each, without an object for each: issuer, serial, log and time, as
+        Query and Sighting have them."""
+        octets, sightings = bytearray(), bytearray()
+        for place, (issuer, serial, log, time) in enumerate(seen):
+            octets += _lent_query(key_of(issuer, _ISSUER), serial_of(serial), place, 1)
+            sightings += _SIGHTING.pack(key_of(log, _LOG), _time_of(time))
+        return self._answers(octets, (LentSighting * (len(sightings) // _SIGHTING.size)).from_buffer(sightings))
+
+    def _answers(self, octets: bytearray, sightings: "ctypes.Array[LentSighting]") -> List[Union[Verdict, Refusal]]:
+        """The answers to queries and their sightings in the layout of C."""
+        count, at = len(octets) // _QUERY.size, ctypes.c_uint64()
+        queries = (LentQuery * count).from_buffer(octets)
         with lent(self._data) as store:
-            number = LIBRARY.clubcard_query_each(*store, sightings, len(seen), places, len(listed), ctypes.byref(at))
+            number = LIBRARY.clubcard_query_each(*store, sightings, len(sightings), queries, count, ctypes.byref(at))
         if number != DONE:
             raise refused_by(number, at.value)
-        return [answer_of(place.answer) for place in places]
+        return [answer_of(answer) for *_, answer in _QUERY.iter_unpack(octets)]
 
     def examine(self) -> Facts:
         """Tests the store's bytes: how many parts they hold, and the newest one's epoch."""

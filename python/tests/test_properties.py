@@ -42,6 +42,9 @@ def test_queries_answer_alone_as_among_others(queries: List[Query]) -> None:
     assert together == [alone(store, query) for query in queries]
     for query, answer in zip(queries, together):
         assert (answer is Refusal.BAD_SERIAL) == (not 1 <= len(query.serial) <= 32)
+    once = [query for query in queries if len(query.sightings) == 1]
+    seen = [(query.issuer, query.serial, query.sightings[0].log, query.sightings[0].time) for query in once]
+    assert store.query_seen(seen) == store.query_each(once)
 
 
 @given(draw.binary(max_size=256), draw.binary(max_size=256), draw.binary(max_size=256))

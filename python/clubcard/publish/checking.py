@@ -7,7 +7,7 @@ from pathlib import Path
 
 from ..answers import Verdict
 from ..engine import Engine, PassedLimit
-from ..store import Query, Sighting, Store
+from ..store import Store
 from .making import NoEpoch
 
 AT_ONCE = 20_000
@@ -60,12 +60,12 @@ def ask(db: sqlite3.Connection, store: Path, asked: str, epoch: int) -> int:
 
 def _compare(store: Store, rows: Sequence[tuple[bytes, int, bytes, bytes, int]]) -> None:
     """Asks about rows, and tests the answers."""
-    queries = [Query(issuer, serial, (Sighting(log, time),)) for log, time, issuer, serial, _ in rows]
-    for query, answer, row in zip(queries, store.query_each(queries), rows):
-        truth = Verdict.REVOKED if row[4] else Verdict.GOOD
+    answers = store.query_seen((issuer, serial, log, time) for log, time, issuer, serial, _ in rows)
+    for answer, (log, time, issuer, serial, is_revoked) in zip(answers, rows):
+        truth = Verdict.REVOKED if is_revoked else Verdict.GOOD
         if answer is not truth:
-            identity = f"issuer {query.issuer.hex()} serial {query.serial.hex()}"
-            seen = f"seen by log {row[0].hex()} at {row[1]}"
+            identity = f"issuer {issuer.hex()} serial {serial.hex()}"
+            seen = f"seen by log {log.hex()} at {time}"
             raise NoEpoch(
                 f"the new store says {answer.name} of {identity}, {seen}, and the state {truth.name}",
                 "report it with the state's folder; the site stays as it is",
