@@ -5,9 +5,9 @@
 
 A spool gets so many precertificate entries (1,000,000) of so many issuers (200), each with one CRL that lists one
 certificate of a hundred; certificates are padded to so many bytes (1,000). In turn: a first epoch of all of them, and
-another one behind it in which each CRL lists more; with --rebase a rebase follows each of them. Told are the seconds of the epoch, of the site and of the program's
-calls, the first two together by the last, and the memory that this process took at most: before the first epoch, and
-at the end. Wants minisign, and the packages of python/debian-packages.txt.
+another one behind it in which each CRL lists more; with --rebase a rebase follows each of them. Told are the seconds of
+the epoch, of the site and of the program's calls, the first two together by the last, and the memory that this process
+took at most: before the first epoch, and at the end. Wants minisign, and the packages of python/debian-packages.txt.
 """
 
 import os
