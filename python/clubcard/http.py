@@ -13,7 +13,7 @@ from typing import BinaryIO
 
 import httpx
 
-from .questions import Again, FetchError, Late, Page, Question, Response, Rest, Said, TooLong
+from .http_questions import Again, FetchError, Late, Page, Question, Response, Rest, Said, TooLong
 from .version import version
 
 __all__ = ["BACKOFF", "Client", "FetchError", "MIB", "MOST_CRL", "MOST_WAIT", "Response", "TooLong"]
