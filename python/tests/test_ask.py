@@ -218,6 +218,9 @@ def test_damaged_devices(small: Small) -> None:
     for length, at in ((4100, 4096), (4200, 4104), (12, 0)):
         device.write_bytes(octets[:length])
         ends(f"field at {at} is wrong; format it again by", 7, "ask", device, small["elm-good.chain"])
+    # Of the gate the low bit alone counts.
+    device.write_bytes(b"\xfe" + octets[1:])
+    assert ctl("ask", device, small["elm-good.chain"]).exit_code == 0
     device.write_bytes(octets[:4104] + b"?" + octets[4105:])
     ends("it isn't a store (LAYOUT_VALUE at 0)", 7, "ask", device, small["elm-good.chain"])
 

@@ -80,6 +80,15 @@ def test_hosts(small: Small, name: str) -> None:
         assert result.stdout.split()[::2] == ["not-covered", WORDS[status]]
 
 
+def test_several_hosts(small: Small) -> None:
+    """They are asked at once, and told in the order of the words."""
+    with serving(small["good.host"]) as good, serving(small["revoked.host"]) as revoked:
+        words = [word for port in [good, revoked] * 12 for word in ("--host", f"127.0.0.1:{port}")]
+        lines = [f"good 127.0.0.1:{good}\n", f"revoked 127.0.0.1:{revoked}\n"] * 12
+        result = ctl("ask", small.store, *words)
+        assert (result.exit_code, result.stdout) == (1, "".join(lines))
+
+
 @pytest.mark.skipif(not socket.has_ipv6, reason="there is no IPv6")
 def test_addresses_of_ipv6(small: Small) -> None:
     try:
