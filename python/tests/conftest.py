@@ -4,6 +4,7 @@ import os
 import shutil
 import sys
 from collections.abc import Iterator
+from importlib.util import find_spec
 from pathlib import Path
 from typing import Any
 
@@ -27,6 +28,13 @@ def _missing() -> list[str]:
 
 
 MISSING = _missing()
+
+if find_spec("hypothesis") is not None:
+    from hypothesis import HealthCheck, settings
+
+    # On a machine that is busy a test is slow and not wrong.
+    settings.register_profile("clubcard", database=None, deadline=None, suppress_health_check=[HealthCheck.too_slow])
+    settings.load_profile("clubcard")
 
 
 BARE = ["test_clubcard.py", "test_properties.py"]

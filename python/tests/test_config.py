@@ -366,7 +366,9 @@ def toml(value: object) -> str:
     return "''" if value is None else str(value).lower()
 
 
-@settings(deadline=None, max_examples=150, suppress_health_check=[HealthCheck.function_scoped_fixture])
+@settings(
+    deadline=None, max_examples=150, suppress_health_check=[HealthCheck.function_scoped_fixture, HealthCheck.too_slow]
+)
 @given(top=st.sampled_from(KEYS.split()), table=st.sampled_from(["", "issuer", "log"]), value=VALUES)
 def test_any_value_is_told(folder: Path, top: str, table: str, value: object) -> None:
     """Whatever stands at a key, it is taken, or refused with its place."""

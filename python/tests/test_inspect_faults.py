@@ -181,7 +181,12 @@ def as_the_program(name: Path, kind: kinds.FileKind) -> None:
     assert not why or report["program"]["line"] == why
 
 
-@settings(max_examples=100, deadline=None, suppress_health_check=[HealthCheck.function_scoped_fixture], database=None)
+@settings(
+    max_examples=100,
+    deadline=None,
+    suppress_health_check=[HealthCheck.function_scoped_fixture, HealthCheck.too_slow],
+    database=None,
+)
 @given(some.data())
 def test_as_the_program(files: dict[kinds.FileKind, list[bytes]], tmp_path: Path, data: some.DataObject) -> None:
     """One byte is changed, or the file is cut; digests may be made again."""

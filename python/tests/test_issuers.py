@@ -436,7 +436,9 @@ class Partition:
         return octets
 
 
-@settings(deadline=None, max_examples=30, suppress_health_check=[HealthCheck.function_scoped_fixture])
+@settings(
+    deadline=None, max_examples=30, suppress_health_check=[HealthCheck.function_scoped_fixture, HealthCheck.too_slow]
+)
 @given(steps=st.lists(STEP, max_size=8))
 def test_histories(tmp_path: Path, steps: list[tuple[int, list[tuple[str, int]]]]) -> None:
     """In each run an issuer is enrolled exactly where the newest acceptable CRL of each partition is in time."""

@@ -544,7 +544,9 @@ GROWTHS = st.tuples(
 )
 
 
-@settings(max_examples=25, deadline=None, suppress_health_check=[HealthCheck.function_scoped_fixture])
+@settings(
+    max_examples=25, deadline=None, suppress_health_check=[HealthCheck.function_scoped_fixture, HealthCheck.too_slow]
+)
 @given(kind=st.sampled_from(KINDS), first=st.integers(0, 300), growths=st.lists(GROWTHS, min_size=1, max_size=5))
 def test_histories(
     kind: LogKind,

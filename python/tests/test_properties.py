@@ -2,15 +2,11 @@
 
 from typing import List, Union
 
-from hypothesis import given, settings
+from hypothesis import given
 from hypothesis import strategies as draw
 
 from clubcard import Query, Refusal, Refused, Sighting, Store, Verdict, serial_from_int
 from test_clubcard import ISSUER, SEEN, STORE
-
-# No example is kept in a folder, and none fails for a machine that is busy.
-settings.register_profile("clubcard", database=None, deadline=None)
-settings.load_profile("clubcard")
 
 KEYS = draw.one_of(draw.just(ISSUER), draw.just(SEEN.log), draw.binary(min_size=32, max_size=32))
 TIMES = draw.one_of(draw.integers(SEEN.time - 2, SEEN.time + 1002), draw.integers(0, (1 << 64) - 1))
