@@ -16,7 +16,7 @@ use Rattle.device_top.specs.Replies.{bad_device, disk_fault, refusal, too_long, 
 use Rattle.device_top.specs.Outcomes.{Outcome, Deed, Keeps, keeps}
 use Rattle.device_top.specs.Comes.{Comes}
 use Rattle.device_top.specs.Holding.{Answers, Leaves}
-use Rattle.device_top.specs.Calls.{DeviceCall, Ends, Gives, HasComeOf, IsDue, NoFault, Prints, WantedMemory, WasCut, all_statuses, device_of, file_of}
+use Rattle.device_top.specs.Calls.{DeviceCall, Ends, Gives, HasComeOf, IsDue, NoFault, NotCut, Prints, WantedMemory, WasCut, all_statuses, device_of, file_of}
 use Rattle.device_top.specs.Promises.{Ending, Refusals}
 use Rattle.device_top.proofs.Answering.{status_of}
 use Rattle.device_top.proofs.OutcomeKinds.{IsOfFile, Kind, no_command, unread, bad_file, broken, over, done, kind, status_is}
@@ -137,13 +137,13 @@ module _ (call : DeviceCall) where
   data End : Type 0 where
     wanted : WantedMemory call → End
     gave : (o : Outcome) → HasComeOf call o → KindOf o → Gives call o → End
-    disk : HasFailed call.before call.after → call.printed.status ≡ 13 → Prints call (disk_fault (device_of call.asked)).text → End
+    disk : (name : List ℕ) → Among (device_of call.asked) name → HasFailed call.before call.after → call.printed.status ≡ 13 → Prints call (disk_fault name).text → End
     cut : (said : Said) → WasCut call.printed said.text → Answers (HasComeOf call) (device_of call.asked) call.before call.after said → End
 
   end_of : Ends call → End
   end_of (inl memory) = wanted memory
-  end_of (inr (said, inl (status, text), inl (is, rose))) =
-      disk rose (status ∙ status_of said (disk_fault (device_of call.asked)) is)
+  end_of (inr (said, inl (status, text), inl (name, among, is, rose))) =
+      disk name among rose (status ∙ status_of said (disk_fault name) is)
       (text ∙ ap (λ (s : Said). followed_by call.printed.text_before s.text) is)
   end_of (inr (said, inl (status, text), inr (o, comes, is, leaves))) =
       gave o comes (kind_of o comes) (record {
@@ -159,13 +159,13 @@ module _ (call : DeviceCall) where
   end_status : End → Among all_statuses status
   end_status (wanted memory) = inr (inr (inr (inr (inr (inr (inr (inr (inr (inl (sym memory.0))))))))))
   end_status (gave o comes of gives) = subst (Among all_statuses) (sym gives.status) (kind_status call.asked call.files call.failed o of)
-  end_status (disk rose is text) = inr (inr (inr (inr (inr (inr (inl (sym is)))))))
+  end_status (disk name among rose is text) = inr (inr (inr (inr (inr (inr (inl (sym is)))))))
   end_status (cut said was_cut answers) = inr (inr (inr (inr (inr (inl (sym was_cut.0))))))
 
   given_of : End → status ≢ 9 → status ≢ 13 → status ≢ 70 → (o : Outcome) × HasComeOf call o × Gives call o
   given_of (wanted memory) n9 n13 n70 = absurd (n70 memory.0)
   given_of (gave o comes of gives) n9 n13 n70 = (o, comes, gives)
-  given_of (disk rose is text) n9 n13 n70 = absurd (n13 is)
+  given_of (disk name among rose is text) n9 n13 n70 = absurd (n13 is)
   given_of (cut said was_cut answers) n9 n13 n70 = absurd (n9 was_cut.0)
 
   bad_words_of : End → status ≡ 2 → (call.asked ≡ commands.Usage) × Prints call usage.text
@@ -173,7 +173,7 @@ module _ (call : DeviceCall) where
   bad_words_of (gave o comes of gives) two =
       let is = kind_usage call.asked call.files call.failed o of (sym gives.status ∙ two) in
       (is.0, gives.prints ∙ ap (λ (x : Outcome). followed_by call.printed.text_before x.said.text) is.1)
-  bad_words_of (disk rose is text) two = absurd (omega (arith, two, is))
+  bad_words_of (disk name among rose is text) two = absurd (omega (arith, two, is))
   bad_words_of (cut said was_cut answers) two = absurd (omega (arith, two, was_cut.0))
 
   unread_of : End → status ≡ 8 → (name : List ℕ) × Among (file_of call.asked) name × IsRead call.files call.failed name None × Prints call (refusal name faults.Unread).text
@@ -181,19 +181,19 @@ module _ (call : DeviceCall) where
   unread_of (gave o comes of gives) eight =
       let (name, among, read, is) = kind_unread call.asked call.files call.failed o of (sym gives.status ∙ eight) in
       (name, among, read, gives.prints ∙ ap (λ (x : Outcome). followed_by call.printed.text_before x.said.text) is)
-  unread_of (disk rose is text) eight = absurd (omega (arith, eight, is))
+  unread_of (disk name among rose is text) eight = absurd (omega (arith, eight, is))
   unread_of (cut said was_cut answers) eight = absurd (omega (arith, eight, was_cut.0))
 
   cut_of : End → status ≡ 9 → (said : Said) × WasCut call.printed said.text × Answers (HasComeOf call) (device_of call.asked) call.before call.after said
   cut_of (wanted memory) nine = absurd (omega (arith, nine, memory.0))
   cut_of (gave o comes of gives) nine = absurd ((kind_inside call.asked call.files call.failed o of).0 (sym gives.status ∙ nine))
-  cut_of (disk rose is text) nine = absurd (omega (arith, nine, is))
+  cut_of (disk name among rose is text) nine = absurd (omega (arith, nine, is))
   cut_of (cut said was_cut answers) nine = (said, was_cut, answers)
 
-  disk_of : End → status ≡ 13 → HasFailed call.before call.after × Prints call (disk_fault (device_of call.asked)).text
+  disk_of : End → status ≡ 13 → (name : List ℕ) × Among (device_of call.asked) name × HasFailed call.before call.after × Prints call (disk_fault name).text
   disk_of (wanted memory) thirteen = absurd (omega (arith, thirteen, memory.0))
   disk_of (gave o comes of gives) thirteen = absurd ((kind_inside call.asked call.files call.failed o of).1 (sym gives.status ∙ thirteen))
-  disk_of (disk rose is text) thirteen = (rose, text)
+  disk_of (disk name among rose is text) thirteen = (name, among, rose, text)
   disk_of (cut said was_cut answers) thirteen = absurd (omega (arith, thirteen, was_cut.0))
 
   nothing_behind : (told : Option (List ℕ)) → followed_by told [] ≡ told
@@ -208,7 +208,7 @@ module _ (call : DeviceCall) where
   memory_of (gave o comes of gives) seventy =
       let (text, deed) = kind_wants call.asked call.files call.failed o of (sym gives.status ∙ seventy) in
       (seventy, gives.prints ∙ ap (followed_by call.printed.text_before) text ∙ nothing_behind call.printed.text_before, kept o deed gives)
-  memory_of (disk rose is text) seventy = absurd (omega (arith, seventy, is))
+  memory_of (disk name among rose is text) seventy = absurd (omega (arith, seventy, is))
   memory_of (cut said was_cut answers) seventy = absurd (omega (arith, seventy, was_cut.0))
 
   unchanged_of : End → status ≢ 0 → status ≢ 9 → status ≢ 13 → call.after.told ≡ call.before.told
@@ -217,18 +217,23 @@ module _ (call : DeviceCall) where
     | inl is ↦ kept o is gives
     | inr zero ↦ absurd (n0 (gives.status ∙ zero))
   ]
-  unchanged_of (disk rose is text) n0 n9 n13 = absurd (n13 is)
+  unchanged_of (disk name among rose is text) n0 n9 n13 = absurd (n13 is)
   unchanged_of (cut said was_cut answers) n0 n9 n13 = absurd (n9 was_cut.0)
 
-  -- what is given, where no fault was counted
-  must_of : (o : Outcome) → ((p : Outcome) → HasComeOf call p → p ≡ o) → NoFault call → End → Gives call o ⊎ WantedMemory call
-  must_of o once well (wanted memory) = inr memory
-  must_of o once well (gave p comes of gives) = inl (subst (Gives call) (once p comes) gives)
-  must_of o once well (disk rose is text) = absurd (well.disk rose)
-  must_of o once well (cut said was_cut answers) = absurd (well.sink was_cut.2)
+  -- what is given, where no fault of the disk or of printing was counted
+  must_of : (o : Outcome) → ((p : Outcome) → HasComeOf call p → p ≡ o) → ((name : List ℕ) → Among (device_of call.asked) name → HasFailed call.before call.after → ⊥) → NotCut call → End
+      → Gives call o ⊎ WantedMemory call
+  must_of o once well uncut (wanted memory) = inr memory
+  must_of o once well uncut (gave p comes of gives) = inl (subst (Gives call) (once p comes) gives)
+  must_of o once well uncut (disk name among rose is text) = absurd (well name among rose)
+  must_of o once well uncut (cut said was_cut answers) = absurd (uncut was_cut.2)
 
   usage_once : call.asked ≡ commands.Usage → (p : Outcome) → HasComeOf call p → p ≡ keeps usage
   usage_once is p comes = subst (λ (a : DeviceCommand). Comes a call.files call.failed call.before.told p) is comes
+
+  -- words that are no command have no device
+  no_device : call.asked ≡ commands.Usage → (name : List ℕ) → Among (device_of call.asked) name → HasFailed call.before call.after → ⊥
+  no_device is name among rose = subst (λ (a : DeviceCommand). Among (device_of a) name) is among
 
   due_once : (o : Outcome) → IsDue call o → NoFault call → (p : Outcome) → HasComeOf call p → p ≡ o
   due_once o due well p comes =
@@ -241,7 +246,7 @@ module _ (call : DeviceCall) where
   refusals ends = let e = end_of ends in record {
     given = given_of e;
     bad_words = bad_words_of e;
-    no_command = λ is well. must_of (keeps usage) (usage_once is) well e;
+    no_command = λ is uncut. must_of (keeps usage) (usage_once is) (no_device is) uncut e;
     read_fault = unread_of e;
     write_fault = cut_of e;
     disk_fault = disk_of e;
@@ -253,5 +258,5 @@ module _ (call : DeviceCall) where
   ending ends = record {
     ends = ends;
     statuses = end_status (end_of ends);
-    complete = λ o due well. must_of o (due_once o due well) well (end_of ends);
+    complete = λ o due well. must_of o (due_once o due well) (λ name among. well.disk) well.sink (end_of ends);
   }

@@ -51,8 +51,8 @@ module _ (call : DeviceCall) (device : List ℕ) (told : call.before.told ≡ So
 
   done_by : Ends call → call.printed.status ≡ 0 → Done
   done_by (inl (status, text, same)) zero = absurd (omega (arith, status, zero))
-  done_by (inr (said, inl (status, text), inl (is, rose))) zero =
-      let thirteen = status_of said (disk_fault _) is in absurd (omega (arith, status, zero, thirteen))
+  done_by (inr (said, inl (status, text), inl (name, among, is, rose))) zero =
+      let thirteen = status_of said (disk_fault name) is in absurd (omega (arith, status, zero, thirteen))
   done_by (inr (said, inl (status, text), inr (o, comes, is, leaves))) zero = record {
     o = o;
     comes = comes;

@@ -1,5 +1,5 @@
 -- What is answered once a device was written.
-use Rattle.std.proofs.Common.{◌≡◌, ℕ, ◌≤◌, ◌<◌, not, inl, inr, List, length, Result, Ok, Err, IfOk, refl, sym, ap, ◌∙◌, subst, arith}
+use Rattle.std.proofs.Common.{◌≡◌, ℕ, ◌≤◌, ◌<◌, not, inl, inr, List, [], ◌∷◌, length, Result, Ok, Err, IfOk, refl, sym, ap, ◌∙◌, subst, arith}
 use Rattle.std.specs.Prelude.{◌≢◌, IsOk, OnErr, slice_index}
 use Rattle.std.proofs.lemmas.Bool.{le-ltb, lt-ltb}
 use Rattle.octets_core.specs.declared.memory.NoMemory.{NoMemory}
@@ -31,20 +31,20 @@ given_short name capacity parts count deed short = rw (le-ltb capacity count sho
 module _ (name : List ℕ) (capacity : ℕ) (parts : List SealedFields) (count : ℕ) (deed : Deed) (old new : DiskState) where
   -- it was done
   pub was_put : (said : Said) → count ≤ capacity → said ≡ stored parts → Leaves deed old new
-      → Answers (λ o. o ≡ given_to name capacity parts count deed) name old new said
+      → Answers (λ o. o ≡ given_to name capacity parts count deed) (name ∷ []) old new said
   was_put said short is leaves = inr (record { said = stored parts; deed = deed }, given_short name capacity parts count deed short, is, leaves)
 
   refused : (f : SlotFault) (said : Said) → (f ≢ slots.NoMemory) → (capacity < count → new.told ≡ old.told) → RefusesBytes capacity count old new f → said ≡ slot_refusal name f
-      → Answers (λ o. o ≡ given_to name capacity parts count deed) name old new said
+      → Answers (λ o. o ≡ given_to name capacity parts count deed) (name ∷ []) old new said
   refused (slots.BadDevice at) said some same why is = absurd why
   refused (slots.TooLong most) said some same (most_is, long) is =
       inr (keeps (too_long capacity name), given_long name capacity parts count deed long, is ∙ ap (λ (m : ℕ). too_long m name) most_is, same long)
-  refused slots.DiskFault said some same why is = inl (is, why)
+  refused slots.DiskFault said some same why is = inl (name, inl refl, is, why)
   refused slots.NoMemory said some same why is = absurd (some refl)
 
   -- it was not
   pub not_put : (f : SlotFault) (r : Result Said NoMemory) → (capacity < count → new.told ≡ old.told) → RefusesBytes capacity count old new f → IfOk r (λ s. s ≡ slot_refusal name f)
-      → IfOk r (λ s. Answers (λ o. o ≡ given_to name capacity parts count deed) name old new s)
+      → IfOk r (λ s. Answers (λ o. o ≡ given_to name capacity parts count deed) (name ∷ []) old new s)
   not_put slots.NoMemory (Ok said) same why is = absurd why
   not_put (slots.BadDevice at) (Ok said) same why is = absurd why
   not_put (slots.TooLong most) (Ok said) same why is = refused (slots.TooLong most) said (λ h. cc) same why is
@@ -91,7 +91,7 @@ module _ (name : List ℕ) (parts : List SealedFields) (bytes : List ℕ) (befor
       → (before.capacity < length bytes → (◌≡◌ {A = Result SlotsView SlotFault} (Ok after) (Err (slots.TooLong before.capacity))) × P)
       → after ≡ record { capacity = before.capacity; second = not before.second; length = length bytes }
       → ((held : List ℕ) → IsSlotsOf old before held → IsSlotsOf new after bytes) → said ≡ stored parts → Shows old.told (λ _. (held : List ℕ) × IsSlotsOf old before held)
-      → Answers (λ o. o ≡ replaced name before.capacity parts) name old new said
+      → Answers (λ o. o ≡ replaced name before.capacity parts) (name ∷ []) old new said
   was_replaced after said P long turned makes is held =
       let short = fits before.capacity (length bytes) after (slots.TooLong before.capacity) P long in
       was_put name before.capacity parts (length (store_text parts)) (Replaces before.capacity (store_text parts)) old new said
@@ -100,7 +100,7 @@ module _ (name : List ℕ) (parts : List SealedFields) (bytes : List ℕ) (befor
 
   -- it was not
   pub not_replaced : (f : SlotFault) (r : Result Said NoMemory) → (before.capacity < length bytes → new.told ≡ old.told) → RefusesBytes before.capacity (length bytes) old new f
-      → IfOk r (λ s. s ≡ slot_refusal name f) → IfOk r (λ s. Answers (λ o. o ≡ replaced name before.capacity parts) name old new s)
+      → IfOk r (λ s. s ≡ slot_refusal name f) → IfOk r (λ s. Answers (λ o. o ≡ replaced name before.capacity parts) (name ∷ []) old new s)
   not_replaced f r same why is =
       not_put name before.capacity parts (length (store_text parts)) (Replaces before.capacity (store_text parts)) old new f r
       (λ l. same (subst (λ (b : List ℕ). before.capacity < length b) (sym is_text) l))

@@ -81,12 +81,12 @@ file_of (commands.Format f) = f.store ∷ []
 file_of (commands.Install i) = i.part ∷ []
 file_of (commands.Query q) = []
 
--- the name of the device
-abbrev pub device_of : DeviceCommand → List ℕ
+-- the name of its device, if it has one
+abbrev pub device_of : DeviceCommand → List (List ℕ)
 device_of commands.Usage = []
-device_of (commands.Format f) = f.device
-device_of (commands.Install i) = i.device
-device_of (commands.Query q) = q.store
+device_of (commands.Format f) = f.device ∷ []
+device_of (commands.Install i) = i.device ∷ []
+device_of (commands.Query q) = q.store ∷ []
 
 -- Memory was wanted: nothing is printed, and the disk reads as before.
 abbrev pub WantedMemory : DeviceCall → Type 0
@@ -127,8 +127,12 @@ pub record IsDue (call : DeviceCall) (o : Outcome) : Type 0 where
   pub files_told : call.files ≡ Some files
   pub comes : Comes call.asked (Some files) none_failed (Some device) o
 
+-- printing didn't fail
+abbrev pub NotCut : DeviceCall → Type 0
+NotCut call = Rose call.printed.faults_before call.printed.faults_after → ⊥
+
 -- no read of a file failed, nor a call of the disk, nor printing
 pub record NoFault (call : DeviceCall) : Type 0 where
   pub reads : (name : List ℕ) → call.failed (Some name) → ⊥
   pub disk : HasFailed call.before call.after → ⊥
-  pub sink : Rose call.printed.faults_before call.printed.faults_after → ⊥
+  pub sink : NotCut call

@@ -1,5 +1,6 @@
 -- What a disk holds behind a command, and what is answered.
 use Rattle.std.specs.Prelude.{◌≡◌, ◌≢◌, ◌⊎◌, ℕ, not, List, slice_index, Some, Ok, Err}
+use Rattle.sets_core.specs.Among.{Among}
 use Rattle.slot_core.specs.Disk.{DiskState, HasFailed, Within}
 use Rattle.slot_core.specs.Device.{IsDevice, picks_second}
 use Rattle.slot_core.specs.Fields.{Shows}
@@ -29,11 +30,11 @@ Leaves (Replaces capacity bytes) old new =
     Shows old.told (λ device. Rests new (λ after. IsDevice capacity bytes after
     × (picks_second after ≡ not (picks_second device))))
 
--- What is said of the device of this name: that its disk failed, which a fault shows; or what comes of the command,
--- behind which the disk holds what that leaves.
-abbrev pub Answers : (Outcome → Type 0) → List ℕ → DiskState → DiskState → Said → Type 0
-Answers comes name old new said =
-    ((said ≡ disk_fault name) × HasFailed old new)
+-- What is said over the devices of these names: that the disk of one failed, which a fault shows; or what comes of the
+-- command, behind which the disk holds what that leaves.
+abbrev pub Answers : (Outcome → Type 0) → List (List ℕ) → DiskState → DiskState → Said → Type 0
+Answers comes names old new said =
+    ((name : List ℕ) × Among names name × (said ≡ disk_fault name) × HasFailed old new)
     ⊎ ((o : Outcome) × comes o × (said ≡ o.said) × Leaves o.deed old new)
 
 -- these slots hold a store of these parts, which was read from them

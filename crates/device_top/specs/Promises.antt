@@ -25,7 +25,7 @@ use Rattle.device_top.specs.Replies.{disk_fault, refusal, usage, verdict_line}
 use Rattle.device_top.specs.Outcomes.{Outcome, keeps, stored}
 use Rattle.device_top.specs.Appended.{with_part}
 use Rattle.device_top.specs.Holding.{Answers, Rests}
-use Rattle.device_top.specs.Calls.{DeviceCall, Prints, WantedMemory, WasCut, Gives, HasComeOf, Ends, NoFault, IsDue}
+use Rattle.device_top.specs.Calls.{DeviceCall, Prints, WantedMemory, WasCut, Gives, HasComeOf, Ends, NotCut, NoFault, IsDue}
 use Rattle.device_top.specs.Calls.{file_of, device_of, all_statuses}
 use Rattle.device_top.specs.Crashes.{Survives}
 
@@ -92,16 +92,16 @@ pub record Refusals (call : DeviceCall) : Type 0 where
       → call.printed.status ≢ status.no_memory → (o : Outcome) × HasComeOf call o × Gives call o
   -- words that are no command
   pub bad_words : call.printed.status ≡ status.usage → (call.asked ≡ commands.Usage) × Prints call usage.text
-  pub no_command : call.asked ≡ commands.Usage → NoFault call → Gives call (keeps usage) ⊎ WantedMemory call
+  pub no_command : call.asked ≡ commands.Usage → NotCut call → Gives call (keeps usage) ⊎ WantedMemory call
   -- STORE or PART, whose read failed and was counted, or which isn't held where files are told
   pub read_fault : call.printed.status ≡ status.read_fault → (name : List ℕ) × Among (file_of call.asked) name
       × IsRead call.files call.failed name None × Prints call (refusal name faults.Unread).text
   -- printing failed behind a prefix of what was to be said, and the disk is as that leaves it
   pub write_fault : call.printed.status ≡ status.write_fault → (said : Said) × WasCut call.printed said.text
       × Answers (HasComeOf call) (device_of call.asked) call.before call.after said
-  -- a fault of the disk was counted
-  pub disk_fault : call.printed.status ≡ status.disk_fault → HasFailed call.before call.after
-      × Prints call (disk_fault (device_of call.asked)).text
+  -- a fault of the disk was counted, and the command has a device
+  pub disk_fault : call.printed.status ≡ status.disk_fault → (name : List ℕ) × Among (device_of call.asked) name
+      × HasFailed call.before call.after × Prints call (disk_fault name).text
   pub no_memory : call.printed.status ≡ status.no_memory → WantedMemory call
   -- with each other status than these the disk reads as before
   pub unchanged : call.printed.status ≢ status.done → call.printed.status ≢ status.write_fault

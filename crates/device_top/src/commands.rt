@@ -95,7 +95,8 @@ pub fn answer_query<'a, D: Disk>(
     disk: &mut D,
 ) -> Result<Reply<'a>, NoMemory>
     ensures answers { IfOk result (λ r.
-        Answers (Queried query.now (D.state disk.old).told) query.now.store (D.state disk.old) (D.state disk.new) r) }
+        Answers (Queried query.now (D.state disk.old).told) (query.now.store ∷ [])
+        (D.state disk.old) (D.state disk.new) r) }
     ensures later { (D.state disk.old).faults ≤ (D.state disk.new).faults }
     ensures quiet { Quiet (D.state disk.old) (D.state disk.new) }
 {
@@ -116,7 +117,7 @@ fn formatted<'a, D: Disk>(
     disk: &mut D,
 ) -> Result<Reply<'a>, NoMemory>
     ensures answers { IfOk result (λ r.
-        Answers (λ o. o ≡ formats asked.now bytes.now (Ok store.now)) asked.now.device
+        Answers (λ o. o ≡ formats asked.now bytes.now (Ok store.now)) (asked.now.device ∷ [])
         (D.state disk.old) (D.state disk.new) r) }
     // It takes no memory.
     ensures some { IsOk result }
@@ -138,7 +139,7 @@ pub fn answer_format<'a, D: Disk, P: Depot>(
     ensures answers { IfOk result (λ r.
         Answers (Comes (commands.Format asked.now) (P.files depot.old)
         (WhichFailed P.Depot depot.old depot.new) (D.state disk.old).told)
-        asked.now.device (D.state disk.old) (D.state disk.new) r) }
+        (asked.now.device ∷ []) (D.state disk.old) (D.state disk.new) r) }
     ensures memory { OnErr result ((D.state disk.new).told ≡ (D.state disk.old).told) }
     ensures later { (D.state disk.old).faults ≤ (D.state disk.new).faults }
     ensures only_reads { OnlyReads P.Depot depot.old depot.new }
@@ -174,7 +175,7 @@ fn replaced<'a, D: Disk>(
     store: &Store,
 ) -> Result<Reply<'a>, NoMemory>
     ensures answers { Shows (D.state disk.old).told (λ _. (held : List ℕ) × IsSlotsOf (D.state disk.old) slots held)
-        → IfOk result (λ r. Answers (λ o. o ≡ replaced_by name.now slots.capacity store.now) name.now
+        → IfOk result (λ r. Answers (λ o. o ≡ replaced_by name.now slots.capacity store.now) (name.now ∷ [])
         (D.state disk.old) (D.state disk.new) r) }
     ensures any_moment { (held : List ℕ) → IsSlotsOf (D.state disk.old) slots held
         → LeavesOnly (D.state disk.old) (D.state disk.new) (IsEither slots.capacity held (store_text store.now)) }
@@ -198,7 +199,7 @@ pub fn answer_install<'a, D: Disk, P: Depot>(
     ensures answers { IfOk result (λ r.
         Answers (Comes (commands.Install asked.now) (P.files depot.old)
         (WhichFailed P.Depot depot.old depot.new) (D.state disk.old).told)
-        asked.now.device (D.state disk.old) (D.state disk.new) r) }
+        (asked.now.device ∷ []) (D.state disk.old) (D.state disk.new) r) }
     ensures survives { Survives (P.files depot.old) (WhichFailed P.Depot depot.old depot.new) asked.now.part
         (D.state disk.old) (D.state disk.new) }
     ensures memory { OnErr result ((D.state disk.new).told ≡ (D.state disk.old).told) }
