@@ -33,6 +33,7 @@ use Rattle.device_top.specs.Comes.{OfDevice, Queried, Comes}
 use Rattle.device_top.specs.Holding.{Leaves, Answers, HeldStore, NotHeld, IsWant, held_refusal}
 use Rattle.device_top.specs.declared.held.HeldFault.{HeldFault}
 use Rattle.device_top.specs.declared.held.HeldFault.TheVariants as held
+use Rattle.device_top.proofs.Quiet.{both_quiet}
 
 pub status_of : (one other : Said) → one ≡ other → one.status ≡ other.status
 status_of one other is = ap (λ (s : Said). s.status) is
@@ -49,14 +50,14 @@ made P said memory p = (let h : IsErr {T = Said} {E = NoMemory} (Ok said) = memo
 module _ (name : List ℕ) (old new : DiskState) (next : ℕ → List SealedFields → Outcome → Type 0) (quiet : Quiet old new) where
   by_slots : (f : SlotFault) (said : Said) → (f ≢ slots.NoMemory) → RefusesDevice old new f → said ≡ slot_refusal name f
       → Answers (OfDevice name old.told next) (name ∷ []) old new said
-  by_slots (slots.BadDevice at) said some why is = inr (keeps (bad_device at name), inl (at, why, refl), is, quiet.same)
+  by_slots (slots.BadDevice at) said some why is = inr (keeps (bad_device at name), inl (at, why, refl), is, quiet)
   by_slots (slots.TooLong c) said some why is = absurd why
   by_slots slots.DiskFault said some why is = inl (name, inl refl, is, why)
   by_slots slots.NoMemory said some why is = absurd (some refl)
 
   by_store : (f : FileFault) (said : Said) → (capacity : ℕ) × (bytes : List ℕ) × Shows old.told (IsDevice capacity bytes) × (store_in bytes ≡ Err f)
       → said ≡ refusal name f → Answers (OfDevice name old.told next) (name ∷ []) old new said
-  by_store f said (capacity, bytes, there, bad) is = inr (keeps (refusal name f), inr (capacity, bytes, there, inl (f, bad, refl)), is, quiet.same)
+  by_store f said (capacity, bytes, there, bad) is = inr (keeps (refusal name f), inr (capacity, bytes, there, inl (f, bad, refl)), is, quiet)
 
   pub not_held : (fault : HeldFault) (r : Result Said NoMemory) → NotHeld old new fault → IfOk r (λ s. s ≡ held_refusal name fault) → (IsWant fault → IsErr r)
       → IfOk r (λ s. Answers (OfDevice name old.told next) (name ∷ []) old new s)
@@ -83,13 +84,13 @@ pub queried : (q : QueryFields) (old new : DiskState) (slots : SlotsView) (parts
     → Quiet old new → HeldStore old new slots parts → said ≡ done (verdict_line (verdict (map (λ s. s.part) parts) q.id q.sightings))
     → Answers (Queried q old.told) (q.store ∷ []) old new said
 queried q old new slots parts said quiet (bytes, read, held) is =
-    inr (query_outcome q parts, inr (slots.capacity, bytes, shown_there old new slots bytes quiet held, inr (parts, read, refl)), is, quiet.same)
+    inr (query_outcome q parts, inr (slots.capacity, bytes, shown_there old new slots bytes quiet held, inr (parts, read, refl)), is, quiet)
 
 -- ---- device-install
 
 -- what a deed leaves, behind a reading of the disk
 leaves_later : (deed : Deed) (old mid new : DiskState) → Quiet old mid → Leaves deed mid new → Leaves deed old new
-leaves_later Keeps old mid new quiet leaves = leaves ∙ quiet.same
+leaves_later Keeps old mid new quiet leaves = both_quiet old mid new quiet leaves
 leaves_later (Formats capacity bytes) old mid new quiet leaves = λ device told. leaves device (quiet.same ∙ told)
 leaves_later (Replaces capacity bytes) old mid new quiet leaves = λ device told. leaves device (quiet.same ∙ told)
 
@@ -101,21 +102,21 @@ module _ (i : InstallPartFields) (told : Option Files) (failed : Option (List �
   ends_so given o said read is_o is leaves =
       inr (o, inr (slots.capacity, held.0, shown_there old mid slots held.0 quiet held.2, inr (parts, held.1, (given, read, is_o))), is, leaves)
 
-  pub no_part : {B : Type 0} (view : B → SealedFields × ℕ) (fault : FileFault) (r : Result Said NoMemory) → new.told ≡ mid.told → IsInput told failed i.part part_in view (Err fault)
+  pub no_part : {B : Type 0} (view : B → SealedFields × ℕ) (fault : FileFault) (r : Result Said NoMemory) → Quiet mid new → IsInput told failed i.part part_in view (Err fault)
       → IfOk r (λ s. s ≡ refusal i.part fault) → (fault ≡ faults.NoMemory → IsErr r)
       → IfOk r (λ s. Answers (Comes (commands.Install i) told failed old.told) (i.device ∷ []) old new s)
   no_part view fault (Ok said) same (given, read, gives, blamed) is memory =
       ends_so given (keeps (refusal i.part fault)) said read (sym (ap (install_outcome i slots.capacity parts) (gives (made (fault ≡ faults.NoMemory) said memory))))
-      is (same ∙ quiet.same)
+      is (both_quiet old mid new quiet same)
   no_part view fault (Err e) same input is memory = tt
 
-  pub not_taken : {B : Type 0} (view : B → SealedFields × ℕ) (x : B) (why : Refusal) (fault : FileFault) (r : Result Said NoMemory) → new.told ≡ mid.told
+  pub not_taken : {B : Type 0} (view : B → SealedFields × ℕ) (x : B) (why : Refusal) (fault : FileFault) (r : Result Said NoMemory) → Quiet mid new
       → IsInput told failed i.part part_in view (Ok x) → refusal_of parts (view x).0 ≡ Some why → fault ≡ faults.Chain why → IfOk r (λ s. s ≡ refusal i.part fault)
       → IfOk r (λ s. Answers (Comes (commands.Install i) told failed old.told) (i.device ∷ []) old new s)
   not_taken view x why fault (Ok said) same (given, read, gives, blamed) refused is_fault is =
       ends_so given (keeps (refusal i.part (faults.Chain why))) said read
       (sym (ap (install_outcome i slots.capacity parts) gives ∙ ap (added i slots.capacity parts (view x).0) refused))
-      (is ∙ ap (refusal i.part) is_fault) (same ∙ quiet.same)
+      (is ∙ ap (refusal i.part) is_fault) (both_quiet old mid new quiet same)
   not_taken view x why fault (Err e) same input refused is_fault is = tt
 
   put_on : (given : Option (List ℕ)) (more : List SealedFields) (said : Said) → old.faults ≤ mid.faults → IsRead told failed i.part given
@@ -141,7 +142,7 @@ whole_read None failed name bytes held = tt
 whole_read (Some files) failed name bytes (file, there, is) = there ∙ ap (λ (b : List ℕ). Some b) (sym is)
 
 module _ (f : FormatFields) (told : Option Files) (failed : Option (List ℕ) → Type 0) (old new : DiskState) where
-  pub no_store : {T : Type 0} (e : InputFault) (r : Result Said NoMemory) → new.told ≡ old.told
+  pub no_store : {T : Type 0} (e : InputFault) (r : Result Said NoMemory) → Quiet old new
       → (IsErrOf {T = T} (Err e) reads.Failed → failed (Some f.store) ⊎ (IsMissing told f.store × failed None))
       → IfOk r (λ s. s ≡ refusal f.store (of_input e)) → (of_input e ≡ faults.NoMemory → IsErr r)
       → IfOk r (λ s. Answers (Comes (commands.Format f) told failed old.told) (f.device ∷ []) old new s)
@@ -150,7 +151,7 @@ module _ (f : FormatFields) (told : Option Files) (failed : Option (List ℕ) �
   no_store reads.NoMemory (Ok said) same why is memory = absurd (made (faults.NoMemory ≡ faults.NoMemory) said memory refl)
   no_store e (Err n) same why is memory = tt
 
-  pub bad_store : {B : Type 0} (view : B → List SealedFields) (bytes : List ℕ) (fault : FileFault) (r : Result Said NoMemory) → new.told ≡ old.told
+  pub bad_store : {B : Type 0} (view : B → List SealedFields) (bytes : List ℕ) (fault : FileFault) (r : Result Said NoMemory) → Quiet old new
       → IsHeld told f.store (λ file. bytes ≡ file) → GivesUnless faults.NoMemory view (Err fault) (store_in bytes) → IfOk r (λ s. s ≡ refusal f.store fault)
       → (fault ≡ faults.NoMemory → IsErr r) → IfOk r (λ s. Answers (Comes (commands.Format f) told failed old.told) (f.device ∷ []) old new s)
   bad_store view bytes fault (Ok said) same held gives is memory =

@@ -4,7 +4,7 @@ use Rattle.std.specs.Prelude.{◌≢◌}
 use Rattle.std.proofs.lemmas.List.{append-nil}
 use Rattle.outside_core.specs.Files.{Files}
 use Rattle.outside_core.specs.Written.{followed_by}
-use Rattle.slot_core.specs.Disk.{HasFailed}
+use Rattle.slot_core.specs.Disk.{HasFailed, Quiet}
 use Rattle.sets_core.specs.Among.{Among}
 use Rattle.input_core.specs.declared.fault.FileFault.{FileFault}
 use Rattle.input_core.specs.declared.fault.FileFault.TheVariants as faults
@@ -200,7 +200,7 @@ module _ (call : DeviceCall) where
   nothing_behind None = refl
   nothing_behind (Some bytes) = ap (λ (b : List ℕ). Some b) (append-nil bytes)
 
-  kept : (o : Outcome) → o.deed ≡ Keeps → Gives call o → call.after.told ≡ call.before.told
+  kept : (o : Outcome) → o.deed ≡ Keeps → Gives call o → Quiet call.before call.after
   kept o is gives = subst (λ (d : Deed). Leaves d call.before call.after) is gives.leaves
 
   memory_of : End → status ≡ 70 → WantedMemory call
@@ -211,7 +211,7 @@ module _ (call : DeviceCall) where
   memory_of (disk name among rose is text) seventy = absurd (omega (arith, seventy, is))
   memory_of (cut said was_cut answers) seventy = absurd (omega (arith, seventy, was_cut.0))
 
-  unchanged_of : End → status ≢ 0 → status ≢ 9 → status ≢ 13 → call.after.told ≡ call.before.told
+  unchanged_of : End → status ≢ 0 → status ≢ 9 → status ≢ 13 → Quiet call.before call.after
   unchanged_of (wanted memory) n0 n9 n13 = memory.2
   unchanged_of (gave o comes of gives) n0 n9 n13 = elim (kind_plain call.asked call.files call.failed o of) [
     | inl is ↦ kept o is gives

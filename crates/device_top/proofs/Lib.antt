@@ -1,3 +1,4 @@
+pub mod Quiet
 pub mod Answering
 pub mod Putting
 pub mod Surviving

@@ -1,6 +1,6 @@
 -- What follows from how a call ends, over a disk whose bytes are told.
-use Rattle.std.proofs.Common.{◌≡◌, ℕ, ◌+◌, ◌^◌, ◌≤◌, ◌<◌, Bool, true, false, inl, inr, List, [], ◌∷◌, ◌++◌, length, map, Option, Some, None, Result, Ok, Err, refl, sym, ap, ◌∙◌, subst, arith}
-use Rattle.std.specs.Prelude.{◌≢◌, nat_lt, if◌then◌else◌, All}
+use Rattle.std.proofs.Common.{◌≡◌, ℕ, ◌≤◌, Bool, true, false, inl, inr, List, [], ◌∷◌, ◌++◌, length, map, Option, Some, None, Result, Ok, Err, refl, sym, ap, ◌∙◌, subst, arith}
+use Rattle.std.specs.Prelude.{nat_lt, if◌then◌else◌, All}
 use Rattle.ident_core.specs.declared.identity.Identity.{Identity}
 use Rattle.ident_core.specs.declared.range.Sighting.{Sighting}
 use Rattle.octets_core.specs.Reading.{value_of}
@@ -28,7 +28,7 @@ use Rattle.word_core.specs.declared.device.DeviceCommand.{DeviceCommand}
 use Rattle.word_core.specs.declared.device.DeviceCommand.TheVariants as commands
 use Rattle.device_top.specs.Said.{Said}
 use Rattle.device_top.specs.Replies.{bad_device, disk_fault, refusal, too_long, verdict_line}
-use Rattle.device_top.specs.Outcomes.{Outcome, Deed, Formats, Replaces, keeps, stored, formats, format_outcome, added, install_outcome, query_outcome}
+use Rattle.device_top.specs.Outcomes.{Outcome, Formats, Replaces, keeps, stored, formats, format_outcome, added, install_outcome, query_outcome}
 use Rattle.device_top.specs.Comes.{Comes, Queried}
 use Rattle.device_top.specs.Holding.{Leaves}
 use Rattle.device_top.specs.Calls.{DeviceCall, Ends, HasComeOf, Prints}

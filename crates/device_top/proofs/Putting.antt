@@ -7,7 +7,7 @@ use Rattle.part_text.specs.SealedFields.{SealedFields}
 use Rattle.store_core.specs.StoreLayout.{store_text}
 use Rattle.slot_core.specs.declared.fault.SlotFault.{SlotFault}
 use Rattle.slot_core.specs.declared.fault.SlotFault.TheVariants as slots
-use Rattle.slot_core.specs.Disk.{DiskState, Tells, IsSynced}
+use Rattle.slot_core.specs.Disk.{DiskState, Quiet, Tells, IsSynced}
 use Rattle.slot_core.specs.Device.{IsDevice, picks_second}
 use Rattle.slot_core.specs.Fields.{Shows}
 use Rattle.slot_core.specs.View.{SlotsView}
@@ -34,7 +34,7 @@ module _ (name : List ℕ) (capacity : ℕ) (parts : List SealedFields) (count :
       → Answers (λ o. o ≡ given_to name capacity parts count deed) (name ∷ []) old new said
   was_put said short is leaves = inr (record { said = stored parts; deed = deed }, given_short name capacity parts count deed short, is, leaves)
 
-  refused : (f : SlotFault) (said : Said) → (f ≢ slots.NoMemory) → (capacity < count → new.told ≡ old.told) → RefusesBytes capacity count old new f → said ≡ slot_refusal name f
+  refused : (f : SlotFault) (said : Said) → (f ≢ slots.NoMemory) → (capacity < count → Quiet old new) → RefusesBytes capacity count old new f → said ≡ slot_refusal name f
       → Answers (λ o. o ≡ given_to name capacity parts count deed) (name ∷ []) old new said
   refused (slots.BadDevice at) said some same why is = absurd why
   refused (slots.TooLong most) said some same (most_is, long) is =
@@ -43,7 +43,7 @@ module _ (name : List ℕ) (capacity : ℕ) (parts : List SealedFields) (count :
   refused slots.NoMemory said some same why is = absurd (some refl)
 
   -- it was not
-  pub not_put : (f : SlotFault) (r : Result Said NoMemory) → (capacity < count → new.told ≡ old.told) → RefusesBytes capacity count old new f → IfOk r (λ s. s ≡ slot_refusal name f)
+  pub not_put : (f : SlotFault) (r : Result Said NoMemory) → (capacity < count → Quiet old new) → RefusesBytes capacity count old new f → IfOk r (λ s. s ≡ slot_refusal name f)
       → IfOk r (λ s. Answers (λ o. o ≡ given_to name capacity parts count deed) (name ∷ []) old new s)
   not_put slots.NoMemory (Ok said) same why is = absurd why
   not_put (slots.BadDevice at) (Ok said) same why is = absurd why
@@ -99,7 +99,7 @@ module _ (name : List ℕ) (parts : List SealedFields) (bytes : List ℕ) (befor
       (subst (λ (b : List ℕ). Leaves (Replaces before.capacity b) old new) is_text (turned_over after turned held makes))
 
   -- it was not
-  pub not_replaced : (f : SlotFault) (r : Result Said NoMemory) → (before.capacity < length bytes → new.told ≡ old.told) → RefusesBytes before.capacity (length bytes) old new f
+  pub not_replaced : (f : SlotFault) (r : Result Said NoMemory) → (before.capacity < length bytes → Quiet old new) → RefusesBytes before.capacity (length bytes) old new f
       → IfOk r (λ s. s ≡ slot_refusal name f) → IfOk r (λ s. Answers (λ o. o ≡ replaced name before.capacity parts) (name ∷ []) old new s)
   not_replaced f r same why is =
       not_put name before.capacity parts (length (store_text parts)) (Replaces before.capacity (store_text parts)) old new f r

@@ -6,7 +6,7 @@ use Rattle.outside_core.specs.declared.depot.Depot as depots
 use Rattle.outside_core.specs.declared.sink.Sink as sinks
 use Rattle.outside_core.specs.Reads.{WhichFailed}
 use Rattle.line_core.specs.Statuses as status
-use Rattle.slot_core.specs.Disk.{DiskState, HasFailed}
+use Rattle.slot_core.specs.Disk.{DiskState, HasFailed, Quiet}
 use Rattle.word_core.specs.Devices.{device_command_of}
 use Rattle.word_core.specs.declared.device.DeviceCommand.{DeviceCommand}
 use Rattle.word_core.specs.declared.device.DeviceCommand.TheVariants as commands
@@ -88,11 +88,11 @@ device_of (commands.Format f) = f.device ∷ []
 device_of (commands.Install i) = i.device ∷ []
 device_of (commands.Query q) = q.store ∷ []
 
--- Memory was wanted: nothing is printed, and the disk reads as before.
+-- Memory was wanted: nothing is printed, and nothing changes of the disk.
 abbrev pub WantedMemory : DeviceCall → Type 0
 WantedMemory call =
     (call.printed.status ≡ status.no_memory) × (call.printed.text_after ≡ call.printed.text_before)
-    × (call.after.told ≡ call.before.told)
+    × Quiet call.before call.after
 
 -- it comes of the command, over what was told
 abbrev pub HasComeOf : DeviceCall → Outcome → Type 0

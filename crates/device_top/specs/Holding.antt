@@ -1,7 +1,7 @@
 -- What a disk holds behind a command, and what is answered.
 use Rattle.std.specs.Prelude.{◌≡◌, ◌≢◌, ◌⊎◌, ℕ, not, List, slice_index, Some, Ok, Err}
 use Rattle.sets_core.specs.Among.{Among}
-use Rattle.slot_core.specs.Disk.{DiskState, HasFailed, Within}
+use Rattle.slot_core.specs.Disk.{DiskState, HasFailed, Quiet, Within}
 use Rattle.slot_core.specs.Device.{IsDevice, picks_second}
 use Rattle.slot_core.specs.Fields.{Shows}
 use Rattle.slot_core.specs.View.{SlotsView}
@@ -21,9 +21,10 @@ use Rattle.device_top.specs.declared.held.HeldFault.TheVariants as held
 abbrev pub Rests : DiskState → (List ℕ → Type 0) → Type 0
 Rests disk P = (after : List ℕ) × (disk.told ≡ Some after) × Within disk.images (λ image. image ≡ after) × P after
 
--- What a deed leaves: the disk reads as before; or, where its bytes are told, it is a device as the deed makes it.
+-- What a deed leaves: nothing changes of the disk, also of what a crash may leave; or, where its bytes are told, it is a
+-- device as the deed makes it.
 abbrev pub Leaves : Deed → DiskState → DiskState → Type 0
-Leaves Keeps old new = new.told ≡ old.told
+Leaves Keeps old new = Quiet old new
 Leaves (Formats capacity bytes) old new =
     Shows old.told (λ _. Rests new (λ after. IsDevice capacity bytes after × (slice_index after 0 ≡ 0)))
 Leaves (Replaces capacity bytes) old new =

@@ -6,7 +6,7 @@ use Rattle.part_text.specs.SealedFields.{SealedFields}
 use Rattle.store_core.specs.Chain.{refusal_of}
 use Rattle.store_core.specs.StoreLayout.{store_text}
 use Rattle.card_core.specs.Verdict.{verdict}
-use Rattle.slot_core.specs.Disk.{HasFailed}
+use Rattle.slot_core.specs.Disk.{HasFailed, Quiet}
 use Rattle.slot_core.specs.Device.{IsDevice, picks_second}
 use Rattle.sets_core.specs.Among.{Among}
 use Rattle.universe_core.specs.History.{seen, sightings}
@@ -103,9 +103,9 @@ pub record Refusals (call : DeviceCall) : Type 0 where
   pub disk_fault : call.printed.status ≡ status.disk_fault → (name : List ℕ) × Among (device_of call.asked) name
       × HasFailed call.before call.after × Prints call (disk_fault name).text
   pub no_memory : call.printed.status ≡ status.no_memory → WantedMemory call
-  -- with each other status than these the disk reads as before
+  -- with each other status than these nothing changes of the disk, also of what a crash may leave
   pub unchanged : call.printed.status ≢ status.done → call.printed.status ≢ status.write_fault
-      → call.printed.status ≢ status.disk_fault → call.after.told ≡ call.before.told
+      → call.printed.status ≢ status.disk_fault → Quiet call.before call.after
 
 -- What a crash may leave at a moment of an install, whatever it ends with.
 pub record Crashes (call : DeviceCall) : Type 0 where

@@ -140,7 +140,7 @@ pub fn answer_format<'a, D: Disk, P: Depot>(
         Answers (Comes (commands.Format asked.now) (P.files depot.old)
         (WhichFailed P.Depot depot.old depot.new) (D.state disk.old).told)
         (asked.now.device ∷ []) (D.state disk.old) (D.state disk.new) r) }
-    ensures memory { OnErr result ((D.state disk.new).told ≡ (D.state disk.old).told) }
+    ensures memory { OnErr result (Quiet (D.state disk.old) (D.state disk.new)) }
     ensures later { (D.state disk.old).faults ≤ (D.state disk.new).faults }
     ensures only_reads { OnlyReads P.Depot depot.old depot.new }
 {
@@ -179,7 +179,7 @@ fn replaced<'a, D: Disk>(
         (D.state disk.old) (D.state disk.new) r) }
     ensures any_moment { (held : List ℕ) → IsSlotsOf (D.state disk.old) slots held
         → LeavesOnly (D.state disk.old) (D.state disk.new) (IsEither slots.capacity held (store_text store.now)) }
-    ensures memory { OnErr result ((D.state disk.new).told ≡ (D.state disk.old).told) }
+    ensures memory { OnErr result (Quiet (D.state disk.old) (D.state disk.new)) }
     ensures later { (D.state disk.old).faults ≤ (D.state disk.new).faults }
 {
     let text = encode_store(alloc, store)?;
@@ -202,7 +202,7 @@ pub fn answer_install<'a, D: Disk, P: Depot>(
         (asked.now.device ∷ []) (D.state disk.old) (D.state disk.new) r) }
     ensures survives { Survives (P.files depot.old) (WhichFailed P.Depot depot.old depot.new) asked.now.part
         (D.state disk.old) (D.state disk.new) }
-    ensures memory { OnErr result ((D.state disk.new).told ≡ (D.state disk.old).told) }
+    ensures memory { OnErr result (Quiet (D.state disk.old) (D.state disk.new)) }
     ensures later { (D.state disk.old).faults ≤ (D.state disk.new).faults }
     ensures only_reads { OnlyReads P.Depot depot.old depot.new }
 {

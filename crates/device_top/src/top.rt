@@ -41,7 +41,7 @@ fn answer_for<'a, D: Disk, P: Depot>(
         → Survives (P.files depot.old) (WhichFailed P.Depot depot.old depot.new) i.part
         (D.state disk.old) (D.state disk.new) }
     ensures quiet { (q : QueryFields) → command.now ≡ commands.Query q → Quiet (D.state disk.old) (D.state disk.new) }
-    ensures memory { OnErr result ((D.state disk.new).told ≡ (D.state disk.old).told) }
+    ensures memory { OnErr result (Quiet (D.state disk.old) (D.state disk.new)) }
     ensures later { (D.state disk.old).faults ≤ (D.state disk.new).faults }
     ensures only_reads { OnlyReads P.Depot depot.old depot.new }
 {

@@ -1,10 +1,11 @@
-use Rattle.std.proofs.Common.{ℕ, refl}
+use Rattle.std.proofs.Common.{ℕ}
 use Rattle.part_text.specs.SealedFields.{SealedFields}
 use Rattle.outside_core.specs.Reads.{WhichFailed}
 use Rattle.input_core.specs.Readings.{input_as, part_in}
 use Rattle.device_top.specs.Outcomes.{install_outcome}
 use Rattle.device_top.specs.Comes.{OfFile}
 use Rattle.device_top.proofs.Answering.{attached_mid, no_part, not_held, not_taken, taken}
+use Rattle.device_top.proofs.Quiet.{uncalled}
 use Rattle.device_top.proofs.Surviving.{goes_over, untouched}
 use Rattle.device_top.proofs.commands.answer_install.Goals as goal
 
@@ -19,7 +20,8 @@ pub returns-in-Err-part_in-clause-answers : goal.returns-in-Err-part_in-clause-a
 returns-in-Err-part_in-clause-answers g c =
     no_part c.args.asked.now (g.P.Depot.files c.args.depot.now) (WhichFailed g.P.Depot c.args.depot.now c.part_in.new.depot)
     (g.D.Disk.state c.args.disk.now) (g.D.Disk.state c.held_in.new.disk) (g.D.Disk.state c.held_in.new.disk) c.in-Ok.held.slots c.in-Ok.held.store
-    c.held_in.ensures.quiet c.in-Ok.ensures.ok {B = SealedFields × ℕ} (λ x. x) c.in-Err-part_in.fault c.refusal.result refl
+    c.held_in.ensures.quiet c.in-Ok.ensures.ok {B = SealedFields × ℕ} (λ x. x) c.in-Err-part_in.fault c.refusal.result
+    (uncalled (g.D.Disk.state c.held_in.new.disk))
     (rw c.part.ensures at c.in-Err-part_in.ensures.input) (rw c.part-in-Err-part_in.ensures at c.refusal.ensures.ok) c.refusal.ensures.memory
 
 pub returns-in-Err-part_in-clause-survives : goal.returns-in-Err-part_in-clause-survives
@@ -49,7 +51,7 @@ returns-in-Err-installed-clause-answers g c =
     not_taken c.args.asked.now (g.P.Depot.files c.args.depot.now) (WhichFailed g.P.Depot c.args.depot.now c.part_in.new.depot)
     (g.D.Disk.state c.args.disk.now) (g.D.Disk.state c.held_in.new.disk) (g.D.Disk.state c.held_in.new.disk) c.in-Ok.held.slots c.in-Ok.held.store
     c.held_in.ensures.quiet c.in-Ok.ensures.ok {B = SealedFields × ℕ} (λ x. x) (c.in-Ok-part_in.part, c.in-Ok-part_in.field-0-1) why c.in-Err-installed.fault
-    c.refusal-in-Err-installed.result refl (rw c.part.ensures at c.in-Ok-part_in.ensures.input) refused is_fault
+    c.refusal-in-Err-installed.result (uncalled (g.D.Disk.state c.held_in.new.disk)) (rw c.part.ensures at c.in-Ok-part_in.ensures.input) refused is_fault
     (rw c.part-in-Err-installed.ensures at c.refusal-in-Err-installed.ensures.ok)
 
 pub returns-in-Err-installed-clause-survives : goal.returns-in-Err-installed-clause-survives

@@ -1,7 +1,8 @@
-use Rattle.std.proofs.Common.{ap, length}
+use Rattle.std.proofs.Common.{length}
 use Rattle.slot_core.specs.declared.fault.SlotFault.TheVariants.{TooLong}
 use Rattle.device_top.specs.Outcomes.{Formats}
 use Rattle.device_top.proofs.Putting.{fits, not_put, not_wanting, rests_formatted, was_put}
+use Rattle.device_top.proofs.Quiet.{same_disk}
 use Rattle.device_top.proofs.commands.formatted.Goals as goal
 
 pub returns-in-Ok-clause-answers : goal.returns-in-Ok-clause-answers
@@ -23,5 +24,5 @@ returns-in-Err-clause-answers g c =
     let long = rw c.capacity.ensures.value at c.in-Err.ensures.too_long in
     not_put c.args.asked.now.device c.args.asked.now.capacity c.args.store.now (length c.args.bytes.now) (Formats c.args.asked.now.capacity c.args.bytes.now)
     (g.D.Disk.state c.args.disk.now) (g.D.Disk.state c.format.new.disk) c.in-Err.fault c.slot_refusal.result
-    (λ l. ap (λ d. (g.D.Disk.state d).told) (long l).1) (rw c.capacity.ensures.value at c.in-Err.ensures.refusal)
+    (λ l. same_disk g.D.Disk.state c.args.disk.now c.format.new.disk (long l).1) (rw c.capacity.ensures.value at c.in-Err.ensures.refusal)
     (rw c.device.ensures at c.slot_refusal.ensures.ok)

@@ -1,5 +1,6 @@
-use Rattle.std.proofs.Common.{ap, ◌∙◌}
+use Rattle.std.proofs.Common.{◌∙◌}
 use Rattle.device_top.proofs.Putting.{not_replaced, was_replaced}
+use Rattle.device_top.proofs.Quiet.{same_disk}
 use Rattle.device_top.proofs.commands.replaced.Goals as goal
 
 pub returns-in-Ok-clause-answers : goal.returns-in-Ok-clause-answers
@@ -11,4 +12,4 @@ pub returns-clause-answers : goal.returns-clause-answers
 returns-clause-answers g c = λ held.
     not_replaced c.args.name.now c.args.store.now c.deref.result.now c.args.slots (g.D.Disk.state c.args.disk.now) (g.D.Disk.state c.replace.new.disk)
     (c.deref.ensures.value ∙ c.in_ok-text.ensures.text) c.in-Err.fault c.slot_refusal.result
-    (λ l. ap (λ d. (g.D.Disk.state d).told) (c.in-Err.ensures.too_long l).1) c.in-Err.ensures.refusal c.slot_refusal.ensures.ok
+    (λ l. same_disk g.D.Disk.state c.args.disk.now c.replace.new.disk (c.in-Err.ensures.too_long l).1) c.in-Err.ensures.refusal c.slot_refusal.ensures.ok

@@ -1,15 +1,16 @@
-use Rattle.std.proofs.Common.{◌≡◌, inr, refl, sym, ◌∙◌, subst, arith}
+use Rattle.std.proofs.Common.{◌≡◌, inr, refl, sym, ◌∙◌, subst}
 use Rattle.outside_core.specs.Reads.{WhichFailed}
 use Rattle.word_core.specs.DeviceFields.{InstallPartFields}
 use Rattle.word_core.specs.declared.device.DeviceCommand.TheVariants as commands
 use Rattle.device_top.specs.Outcomes.{keeps}
 use Rattle.device_top.specs.Replies.{usage}
 use Rattle.device_top.specs.Crashes.{Survives}
+use Rattle.device_top.proofs.Quiet.{uncalled}
 use Rattle.device_top.proofs.top.answer_for.Goals as goal
 
 pub returns-in-Usage-clause-answers : goal.returns-in-Usage-clause-answers
 returns-in-Usage-clause-answers g c =
-    rw c.in-Usage.is (inr (keeps usage, refl, c.usage.ensures, refl))
+    rw c.in-Usage.is (inr (keeps usage, refl, c.usage.ensures, uncalled (g.D.Disk.state c.args.disk.now)))
 
 same_asked : (one other : InstallPartFields) → commands.Install one ≡ commands.Install other → one ≡ other
 same_asked one other is = cc
