@@ -3,6 +3,7 @@ use Rattle.std.proofs.Common.{◌≡◌, ◌⊎◌, ℕ, inl, inr, List, [], ◌
 use Rattle.std.specs.Prelude.{◌≢◌}
 use Rattle.std.proofs.lemmas.List.{append-nil}
 use Rattle.outside_core.specs.Files.{Files}
+use Rattle.outside_core.specs.Reads.{CouldNotRead}
 use Rattle.outside_core.specs.Written.{followed_by}
 use Rattle.slot_core.specs.Disk.{HasFailed, Quiet}
 use Rattle.sets_core.specs.Among.{Among}
@@ -142,16 +143,16 @@ module _ (call : DeviceCall) where
 
   end_of : Ends call → End
   end_of (inl memory) = wanted memory
-  end_of (inr (said, inl (status, text), inl (name, among, is, rose))) =
+  end_of (inr (said, inl (status, text), says, inl (name, among, is, rose))) =
       disk name among rose (status ∙ status_of said (disk_fault name) is)
       (text ∙ ap (λ (s : Said). followed_by call.printed.text_before s.text) is)
-  end_of (inr (said, inl (status, text), inr (o, comes, is, leaves))) =
+  end_of (inr (said, inl (status, text), says, inr (o, comes, is, leaves))) =
       gave o comes (kind_of o comes) (record {
         status = status ∙ status_of said o.said is;
         prints = text ∙ ap (λ (s : Said). followed_by call.printed.text_before s.text) is;
         leaves = leaves;
       })
-  end_of (inr (said, inr was_cut, answers)) = cut said was_cut answers
+  end_of (inr (said, inr was_cut, says, answers)) = cut said was_cut answers
 
   abbrev status : ℕ
   status = call.printed.status
@@ -183,6 +184,26 @@ module _ (call : DeviceCall) where
       (name, among, read, gives.prints ∙ ap (λ (x : Outcome). followed_by call.printed.text_before x.said.text) is)
   unread_of (disk name among rose is text) eight = absurd (omega (arith, eight, is))
   unread_of (cut said was_cut answers) eight = absurd (omega (arith, eight, was_cut.0))
+
+  -- no read failed that isn't said
+  none_unread : Ends call → status ≢ 8 → status ≢ 9 → status ≢ 70 → call.failed None
+  none_unread (inl memory) n8 n9 n70 = absurd (n70 memory.0)
+  none_unread (inr (said, inl printed, inl none, answers)) n8 n9 n70 = none
+  none_unread (inr (said, inl (status, text), inr (name, among, is, why), answers)) n8 n9 n70 = absurd (n8 (status ∙ status_of said (refusal name faults.Unread) is))
+  none_unread (inr (said, inr was_cut, says, answers)) n8 n9 n70 = absurd (n9 was_cut.0)
+
+  -- none other failed
+  alone : (name : List ℕ) → call.failed None → IsRead call.files call.failed name None → CouldNotRead call.files call.failed name
+  alone name none (inl why) = inl why
+  alone name none (inr missing) = inr (missing, none)
+
+  could_not_read : Ends call → status ≡ 8 → (name : List ℕ) × Among (file_of call.asked) name × CouldNotRead call.files call.failed name × Prints call (refusal name faults.Unread).text
+  could_not_read (inl memory) eight = absurd (omega (arith, eight, memory.0))
+  could_not_read (inr (said, inl printed, inl none, answers)) eight =
+      let (name, among, read, prints) = unread_of (end_of (inr (said, inl printed, inl none, answers))) eight in (name, among, alone name none read, prints)
+  could_not_read (inr (said, inl (status, text), inr (name, among, is, why), answers)) eight =
+      (name, among, inl why, text ∙ ap (λ (s : Said). followed_by call.printed.text_before s.text) is)
+  could_not_read (inr (said, inr was_cut, says, answers)) eight = absurd (omega (arith, eight, was_cut.0))
 
   cut_of : End → status ≡ 9 → (said : Said) × WasCut call.printed said.text × Answers (HasComeOf call) (device_of call.asked) call.before call.after said
   cut_of (wanted memory) nine = absurd (omega (arith, nine, memory.0))
@@ -247,7 +268,8 @@ module _ (call : DeviceCall) where
     given = given_of e;
     bad_words = bad_words_of e;
     no_command = λ is uncut. must_of (keeps usage) (usage_once is) (no_device is) uncut e;
-    read_fault = unread_of e;
+    read_fault = could_not_read ends;
+    no_read_fault = none_unread ends;
     write_fault = cut_of e;
     disk_fault = disk_of e;
     no_memory = memory_of e;

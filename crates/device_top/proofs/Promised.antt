@@ -51,16 +51,16 @@ module _ (call : DeviceCall) (device : List ℕ) (told : call.before.told ≡ So
 
   done_by : Ends call → call.printed.status ≡ 0 → Done
   done_by (inl (status, text, same)) zero = absurd (omega (arith, status, zero))
-  done_by (inr (said, inl (status, text), inl (name, among, is, rose))) zero =
+  done_by (inr (said, inl (status, text), says, inl (name, among, is, rose))) zero =
       let thirteen = status_of said (disk_fault name) is in absurd (omega (arith, status, zero, thirteen))
-  done_by (inr (said, inl (status, text), inr (o, comes, is, leaves))) zero = record {
+  done_by (inr (said, inl (status, text), says, inr (o, comes, is, leaves))) zero = record {
     o = o;
     comes = comes;
     zero = sym (status_of said o.said is) ∙ sym status ∙ zero;
     prints = text ∙ ap (λ (s : Said). followed_by call.printed.text_before s.text) is;
     leaves = leaves;
   }
-  done_by (inr (said, inr (status, cut, risen), answers)) zero = absurd (omega (arith, status, zero))
+  done_by (inr (said, inr (status, cut, risen), says, answers)) zero = absurd (omega (arith, status, zero))
 
   -- what an outcome says and leaves, by an equal one
   abbrev ShowsIt : Outcome → Type 0

@@ -1,16 +1,19 @@
 -- A call of `run_device`, and how it ends.
-use Rattle.std.specs.Prelude.{◌≡◌, ◌⊎◌, ℕ, List, [], ◌∷◌, Option, Some, String, map, string_bytes}
+use Rattle.std.specs.Prelude.{◌≡◌, ◌⊎◌, ℕ, List, [], ◌∷◌, Option, Some, None, String, map, string_bytes}
 use Rattle.outside_core.specs.Files.{Files, Rose}
 use Rattle.outside_core.specs.Written.{followed_by, CutShort}
 use Rattle.outside_core.specs.declared.depot.Depot as depots
 use Rattle.outside_core.specs.declared.sink.Sink as sinks
 use Rattle.outside_core.specs.Reads.{WhichFailed}
-use Rattle.line_core.specs.Statuses as status
 use Rattle.slot_core.specs.Disk.{DiskState, HasFailed, Quiet}
+use Rattle.sets_core.specs.Among.{Among}
+use Rattle.input_core.specs.declared.fault.FileFault.TheVariants as faults
+use Rattle.line_core.specs.Statuses as status
 use Rattle.word_core.specs.Devices.{device_command_of}
 use Rattle.word_core.specs.declared.device.DeviceCommand.{DeviceCommand}
 use Rattle.word_core.specs.declared.device.DeviceCommand.TheVariants as commands
 use Rattle.device_top.specs.Said.{Said}
+use Rattle.device_top.specs.Replies.{refusal}
 use Rattle.device_top.specs.Comes.{Comes}
 use Rattle.device_top.specs.Outcomes.{Outcome}
 use Rattle.device_top.specs.Holding.{Answers, Leaves}
@@ -98,11 +101,17 @@ WantedMemory call =
 abbrev pub HasComeOf : DeviceCall → Outcome → Type 0
 HasComeOf call o = Comes call.asked call.files call.failed call.before.told o
 
--- How a call ends: memory was wanted, or what comes of the command is done and said.
+-- no read of a file failed; or one of a file of these names did, and that is what is said
+abbrev pub SaysWhich : (Option (List ℕ) → Type 0) → List (List ℕ) → Said → Type 0
+SaysWhich failed names said =
+    failed None
+    ⊎ ((name : List ℕ) × Among names name × (said ≡ refusal name faults.Unread) × failed (Some name))
+
+-- How a call ends: memory was wanted, or what comes of the command is done and said, also of which read failed.
 abbrev pub Ends : DeviceCall → Type 0
 Ends call =
     WantedMemory call
-    ⊎ ((said : Said) × IsPrinted call.printed said
+    ⊎ ((said : Said) × IsPrinted call.printed said × SaysWhich call.failed (file_of call.asked) said
     × Answers (HasComeOf call) (device_of call.asked) call.before call.after said)
 
 abbrev pub Prints : DeviceCall → List ℕ → Type 0

@@ -2,6 +2,7 @@
 use Rattle.std.specs.Prelude.{◌≡◌, ◌≢◌, ◌⊎◌, ◌<◌, ◌≤◌, ℕ, List, [], ◌∷◌, ◌++◌}
 use Rattle.std.specs.Prelude.{length, map, slice_index, not, All, Some, None, Ok}
 use Rattle.ident_core.specs.declared.range.Sighting.{Sighting}
+use Rattle.outside_core.specs.Reads.{CouldNotRead}
 use Rattle.part_text.specs.SealedFields.{SealedFields}
 use Rattle.store_core.specs.Chain.{refusal_of}
 use Rattle.store_core.specs.StoreLayout.{store_text}
@@ -93,9 +94,12 @@ pub record Refusals (call : DeviceCall) : Type 0 where
   -- words that are no command
   pub bad_words : call.printed.status ≡ status.usage → (call.asked ≡ commands.Usage) × Prints call usage.text
   pub no_command : call.asked ≡ commands.Usage → NotCut call → Gives call (keeps usage) ⊎ WantedMemory call
-  -- STORE or PART, whose read failed and was counted, or which isn't held where files are told
+  -- STORE or PART, whose read failed and was counted, and no other; or files are told, it isn't held, and none failed
   pub read_fault : call.printed.status ≡ status.read_fault → (name : List ℕ) × Among (file_of call.asked) name
-      × IsRead call.files call.failed name None × Prints call (refusal name faults.Unread).text
+      × CouldNotRead call.files call.failed name × Prints call (refusal name faults.Unread).text
+  -- where no file is said to be unread, no read failed
+  pub no_read_fault : call.printed.status ≢ status.read_fault → call.printed.status ≢ status.write_fault
+      → call.printed.status ≢ status.no_memory → call.failed None
   -- printing failed behind a prefix of what was to be said, and the disk is as that leaves it
   pub write_fault : call.printed.status ≡ status.write_fault → (said : Said) × WasCut call.printed said.text
       × Answers (HasComeOf call) (device_of call.asked) call.before call.after said

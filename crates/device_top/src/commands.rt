@@ -17,6 +17,7 @@ ghost use Rattle.device_top.specs.Outcomes.{epoch_of, formats, replaced as repla
 ghost use Rattle.device_top.specs.Comes.{Comes, Queried};
 ghost use Rattle.device_top.specs.Holding.{Answers, IsWant, held_refusal};
 ghost use Rattle.device_top.specs.Crashes.{Survives};
+ghost use Rattle.device_top.specs.Calls.{SaysWhich};
 
 use crate::held::{Held, HeldFault, held_in, store_of};
 use crate::reply::Reply;
@@ -140,6 +141,7 @@ pub fn answer_format<'a, D: Disk, P: Depot>(
         Answers (Comes (commands.Format asked.now) (P.files depot.old)
         (WhichFailed P.Depot depot.old depot.new) (D.state disk.old).told)
         (asked.now.device ∷ []) (D.state disk.old) (D.state disk.new) r) }
+    ensures blamed { IfOk result (λ r. SaysWhich (WhichFailed P.Depot depot.old depot.new) (asked.now.store ∷ []) r) }
     ensures memory { OnErr result (Quiet (D.state disk.old) (D.state disk.new)) }
     ensures later { (D.state disk.old).faults ≤ (D.state disk.new).faults }
     ensures only_reads { OnlyReads P.Depot depot.old depot.new }
@@ -200,6 +202,7 @@ pub fn answer_install<'a, D: Disk, P: Depot>(
         Answers (Comes (commands.Install asked.now) (P.files depot.old)
         (WhichFailed P.Depot depot.old depot.new) (D.state disk.old).told)
         (asked.now.device ∷ []) (D.state disk.old) (D.state disk.new) r) }
+    ensures blamed { IfOk result (λ r. SaysWhich (WhichFailed P.Depot depot.old depot.new) (asked.now.part ∷ []) r) }
     ensures survives { Survives (P.files depot.old) (WhichFailed P.Depot depot.old depot.new) asked.now.part
         (D.state disk.old) (D.state disk.new) }
     ensures memory { OnErr result (Quiet (D.state disk.old) (D.state disk.new)) }

@@ -10,7 +10,7 @@ ghost use Rattle.word_core.specs.Devices.{device_command_of};
 ghost use Rattle.word_core.specs.declared.device.DeviceCommand.TheVariants as commands;
 ghost use Rattle.device_top.specs.Comes.{Comes};
 ghost use Rattle.device_top.specs.Holding.{Answers};
-ghost use Rattle.device_top.specs.Calls.{Ends, call, call_of, device_of};
+ghost use Rattle.device_top.specs.Calls.{Ends, SaysWhich, call, call_of, device_of, file_of};
 ghost use Rattle.device_top.specs.Crashes.{Survives};
 ghost use Rattle.device_top.specs.Promises.{Crashes, Ending, Promises, Refusals};
 
@@ -37,6 +37,7 @@ fn answer_for<'a, D: Disk, P: Depot>(
         Answers (Comes command.now (P.files depot.old)
         (WhichFailed P.Depot depot.old depot.new) (D.state disk.old).told)
         (device_of command.now) (D.state disk.old) (D.state disk.new) r) }
+    ensures blamed { IfOk result (λ r. SaysWhich (WhichFailed P.Depot depot.old depot.new) (file_of command.now) r) }
     ensures survives { (i : InstallPartFields) → command.now ≡ commands.Install i
         → Survives (P.files depot.old) (WhichFailed P.Depot depot.old depot.new) i.part
         (D.state disk.old) (D.state disk.new) }
