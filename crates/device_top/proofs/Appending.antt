@@ -1,5 +1,5 @@
 -- The store with a part has the bytes of the old one, with the count raised by one and the part's bytes behind them.
-use Rattle.std.proofs.Common.{◌≡◌, ℕ, ◌+◌, ◌≤◌, ◌<◌, ◌%◌, Bool, true, false, cond, inl, inr, List, [], ◌∷◌, ◌++◌, length, None, Result, Ok, Err, refl, sym, ap, ◌∙◌, subst, arith}
+use Rattle.std.proofs.Common.{◌≡◌, ℕ, ◌+◌, ◌≤◌, ◌<◌, ◌%◌, Bool, true, false, cond, inl, inr, List, [], ◌∷◌, ◌++◌, length, Option, Some, None, Result, Ok, Err, refl, sym, ap, ◌∙◌, subst, arith}
 use Rattle.std.specs.Prelude.{All, flat_map}
 use Rattle.std.proofs.lemmas.Bool.{cases_lt, ltb-false}
 use Rattle.std.proofs.lemmas.Grind.{flat_map-append}
@@ -10,6 +10,7 @@ use Rattle.octets_core.specs.Layout.{◌>>=◌, whole, mapped}
 use Rattle.octets_core.specs.Reading.{end, value_of}
 use Rattle.octets_core.proofs.Texts.{IsBytes}
 use Rattle.octets_core.proofs.Fields.{ok_is, then_read-ok, mapped-ok}
+use Rattle.outside_core.specs.Files.{Files}
 use Rattle.part_text.specs.SealedFields.{SealedFields}
 use Rattle.part_text.specs.PartLayout.{part}
 use Rattle.part_text.specs.PartText.{spelling}
@@ -26,7 +27,8 @@ use Rattle.input_core.specs.declared.fault.FileFault.TheVariants as faults
 use Rattle.input_core.specs.Faults.{of_part, of_store}
 use Rattle.input_core.specs.PartFile.{part_file}
 use Rattle.input_core.specs.Readings.{faulted, part_in, store_in}
-use Rattle.device_top.specs.Appended.{with_part}
+use Rattle.input_core.specs.Inputs.{IsRead}
+use Rattle.device_top.specs.Appended.{Grows, with_part}
 
 -- ---- the file of a part
 
@@ -86,3 +88,17 @@ appended held file parts added size is_store is_part taken held_bytes file_bytes
     ∙ ap (λ (h : List ℕ). with_part h (spelling added)) (sym found.0) ∙ ap (with_part held) (sym spelled.0) in
     let fits : All Fits (parts ++ added ∷ []) = All-append Fits parts (added ∷ []) found.1 (All-cons Fits added [] spelled.1 (All-nil Fits)) in
     (text, ap store_in (sym text) ∙ ap (faulted of_store) (store-value (parts ++ added ∷ []) longer.chain longer.some longer.few fits))
+
+abbrev pub grown : (told : Option Files) (failed : Option (List ℕ) → Type 0) (name held file : List ℕ) (parts : List SealedFields) (x : SealedFields × ℕ) → store_in held ≡ Ok parts
+    → IsRead told failed name (Some file) → part_in file ≡ Ok x → refusal_of parts x.0 ≡ None → Grows told failed name held
+grown told failed name held file parts x is_store is_read is_part taken = record {
+  parts = parts;
+  file = file;
+  added = x.0;
+  size = x.1;
+  is_store = is_store;
+  is_read = is_read;
+  is_part = is_part;
+  taken = taken;
+  appended = appended held file parts x.0 x.1 is_store is_part taken;
+}

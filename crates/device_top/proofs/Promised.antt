@@ -34,7 +34,7 @@ use Rattle.device_top.specs.Holding.{Leaves}
 use Rattle.device_top.specs.Calls.{DeviceCall, Ends, HasComeOf, Prints}
 use Rattle.device_top.specs.Promises.{Formatted, Installed, Answered, Promises}
 use Rattle.device_top.proofs.Answering.{status_of}
-use Rattle.device_top.proofs.Appending.{appended}
+use Rattle.device_top.proofs.Appending.{grown}
 use Rattle.device_top.proofs.OutcomeKinds.{not_done}
 use Rattle.device_top.proofs.Once.{held_once}
 
@@ -101,18 +101,10 @@ module _ (call : DeviceCall) (device : List ℕ) (told : call.before.told ≡ So
     install_put file x read is none false (zero, prints, leaves) = record {
       capacity = capacity;
       held = held;
-      parts = parts;
-      file = file;
-      added = x.0;
-      size = x.1;
       is_device = is_device;
-      is_store = is_store;
-      is_read = read;
-      is_part = is;
-      taken = none;
+      grows = grown call.files call.failed i.part held file parts x is_store read is none;
       prints = prints;
       rests = leaves device told;
-      appended = appended held file parts x.0 x.1 is_store is none;
     }
 
     install_added : (file : List ℕ) (x : SealedFields × ℕ) → IsRead call.files call.failed i.part (Some file) → part_in file ≡ Ok x → (r : Option Refusal) → refusal_of parts x.0 ≡ r

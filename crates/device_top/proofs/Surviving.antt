@@ -17,7 +17,7 @@ use Rattle.input_core.specs.Inputs.{IsRead, IsInput}
 use Rattle.device_top.specs.Crashes.{HoldsStore, HoldsAnOld, HoldsTheNew, Survives}
 use Rattle.device_top.specs.Holding.{HeldStore}
 use Rattle.device_top.proofs.Answering.{held_there}
-use Rattle.device_top.proofs.Appending.{appended}
+use Rattle.device_top.proofs.Appending.{grown}
 
 module _ (told : Option Files) (failed : Option (List ℕ) → Type 0) (part : List ℕ) (old : DiskState) (lawful : IsLawful old) where
   abbrev Left : List ℕ → Images
@@ -53,16 +53,8 @@ module _ (told : Option Files) (failed : Option (List ℕ) → Type 0) (part : L
         | inl kept ↦ inl (device, lawful.told_is_image device is_told, bytes, (slots.capacity, there), (slots.capacity, kept))
         | inr new_one ↦ inr (record {
           held = bytes;
-          parts = parts;
-          file = file.0;
-          added = (view x).0;
-          size = (view x).1;
           is_held = (slots.capacity, there);
-          is_store = read;
-          is_read = file.1;
-          is_part = file.2;
-          taken = none;
+          grows = grown told failed part bytes file.0 parts (view x) read file.1 file.2 none;
           holds = (slots.capacity, subst (λ (ps : List SealedFields). IsDevice slots.capacity (store_text ps) image) is_more new_one);
-          appended = λ held_bytes file_bytes. (appended bytes file.0 parts (view x).0 (view x).1 read file.2 none held_bytes file_bytes).0;
         })
       ])

@@ -1,11 +1,9 @@
 -- What `run_device` promises of a call.
-use Rattle.std.specs.Prelude.{◌≡◌, ◌≢◌, ◌⊎◌, ◌<◌, ◌≤◌, ℕ, List, [], ◌∷◌, ◌++◌}
-use Rattle.std.specs.Prelude.{length, map, slice_index, not, All, Some, None, Ok}
+use Rattle.std.specs.Prelude.{◌≡◌, ◌≢◌, ◌⊎◌, ◌≤◌, ℕ, List}
+use Rattle.std.specs.Prelude.{length, map, slice_index, not, Some, None, Ok}
 use Rattle.ident_core.specs.declared.range.Sighting.{Sighting}
 use Rattle.outside_core.specs.Reads.{CouldNotRead}
 use Rattle.part_text.specs.SealedFields.{SealedFields}
-use Rattle.store_core.specs.Chain.{refusal_of}
-use Rattle.store_core.specs.StoreLayout.{store_text}
 use Rattle.card_core.specs.Verdict.{verdict}
 use Rattle.slot_core.specs.Disk.{HasFailed, Quiet}
 use Rattle.slot_core.specs.Device.{IsDevice, picks_second}
@@ -13,7 +11,7 @@ use Rattle.sets_core.specs.Among.{Among}
 use Rattle.universe_core.specs.History.{seen, sightings}
 use Rattle.publication_core.specs.Histories.{History, members, IsHistory, releases_of, store_bytes}
 use Rattle.publication_core.specs.Truth.{truth}
-use Rattle.input_core.specs.Readings.{part_in, store_in}
+use Rattle.input_core.specs.Readings.{store_in}
 use Rattle.input_core.specs.Inputs.{IsRead}
 use Rattle.input_core.specs.declared.fault.FileFault.TheVariants as faults
 use Rattle.line_core.specs.Statuses as status
@@ -24,7 +22,7 @@ use Rattle.word_core.specs.declared.device.DeviceCommand.TheVariants as commands
 use Rattle.device_top.specs.Said.{Said}
 use Rattle.device_top.specs.Replies.{disk_fault, refusal, usage, verdict_line}
 use Rattle.device_top.specs.Outcomes.{Outcome, keeps, stored}
-use Rattle.device_top.specs.Appended.{with_part}
+use Rattle.device_top.specs.Appended.{Grows, new_parts, new_text}
 use Rattle.device_top.specs.Holding.{Answers, Rests}
 use Rattle.device_top.specs.Calls.{DeviceCall, Prints, WantedMemory, WasCut, Gives, HasComeOf, Ends, NotCut, NoFault, IsDue}
 use Rattle.device_top.specs.Calls.{file_of, device_of, all_statuses}
@@ -44,27 +42,16 @@ pub record Formatted (call : DeviceCall) (f : FormatFields) : Type 0 where
   pub prints : Prints call (stored parts).text
   pub rests : Rests call.after (λ after. IsDevice f.capacity bytes after × (slice_index after 0 ≡ 0))
 
--- The device held this store, and PART gave this part, which has nothing against it; the disk now is a device of the
--- same capacity, whose other slot is picked and holds the store with the part, and a crash leaves the same. Its bytes
--- are those of the old store with the count raised by one and those of the file behind them.
+-- The device held a store, which grows by the part in PART; the disk now is a device of the same capacity, whose other
+-- slot is picked and holds the store with the part, and a crash leaves the same.
 pub record Installed (call : DeviceCall) (device : List ℕ) (i : InstallPartFields) : Type 0 where
   pub capacity : ℕ
   pub held : List ℕ
-  pub parts : List SealedFields
-  pub file : List ℕ
-  pub added : SealedFields
-  pub size : ℕ
   pub is_device : IsDevice capacity held device
-  pub is_store : store_in held ≡ Ok parts
-  pub is_read : IsRead call.files call.failed i.part (Some file)
-  pub is_part : part_in file ≡ Ok (added, size)
-  pub taken : refusal_of parts added ≡ None
-  pub prints : Prints call (stored (parts ++ added ∷ [])).text
-  pub rests : Rests call.after (λ after. IsDevice capacity (store_text (parts ++ added ∷ [])) after
+  pub grows : Grows call.files call.failed i.part held
+  pub prints : Prints call (stored (new_parts grows)).text
+  pub rests : Rests call.after (λ after. IsDevice capacity (new_text grows) after
       × (picks_second after ≡ not (picks_second device)))
-  pub appended : All (λ b. b < 256) held → All (λ b. b < 256) file
-      → (store_text (parts ++ added ∷ []) ≡ with_part held file)
-      × (store_in (with_part held file) ≡ Ok (parts ++ added ∷ []))
 
 -- The device held this store, and what its parts say was printed.
 pub record Answered (call : DeviceCall) (device : List ℕ) (q : QueryFields) : Type 0 where
