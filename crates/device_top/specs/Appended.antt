@@ -1,5 +1,6 @@
 -- A store that grows by the part of a file, and its bytes.
-use Rattle.std.specs.Prelude.{◌≡◌, ◌<◌, ℕ, ◌+◌, List, [], ◌∷◌, ◌++◌, take, drop, slice_index, All, Option, Some, None, Ok}
+use Rattle.std.specs.Prelude.{◌≡◌, ◌<◌, ℕ, ◌+◌, List, [], ◌∷◌, ◌++◌}
+use Rattle.std.specs.Prelude.{take, drop, slice_index, All, Option, Some, None, Ok}
 use Rattle.outside_core.specs.Files.{Files}
 use Rattle.part_text.specs.SealedFields.{SealedFields}
 use Rattle.store_core.specs.Chain.{refusal_of}
@@ -27,11 +28,13 @@ pub record Grows (told : Option Files) (failed : Option (List ℕ) → Type 0) (
       → (store_text (parts ++ added ∷ []) ≡ with_part held file)
       × (store_in (with_part held file) ≡ Ok (parts ++ added ∷ []))
 
-module _ {told : Option Files} {failed : Option (List ℕ) → Type 0} {name held : List ℕ} (g : Grows told failed name held) where
-  -- the parts with the new one behind them
-  abbrev pub new_parts : List SealedFields
-  new_parts = g.parts ++ g.added ∷ []
+module _
+    {told : Option Files} {failed : Option (List ℕ) → Type 0} {name held : List ℕ} (g : Grows told failed name held)
+  where
+    -- the parts with the new one behind them
+    abbrev pub new_parts : List SealedFields
+    new_parts = g.parts ++ g.added ∷ []
 
-  -- the bytes of their store
-  abbrev pub new_text : List ℕ
-  new_text = store_text new_parts
+    -- the bytes of their store
+    abbrev pub new_text : List ℕ
+    new_text = store_text new_parts

@@ -21,8 +21,8 @@ use Rattle.device_top.specs.declared.held.HeldFault.TheVariants as held
 abbrev pub Rests : DiskState → (List ℕ → Type 0) → Type 0
 Rests disk P = (after : List ℕ) × (disk.told ≡ Some after) × Within disk.images (λ image. image ≡ after) × P after
 
--- What a deed leaves: nothing changes of the disk, also of what a crash may leave; or, where its bytes are told, it is a
--- device as the deed makes it.
+-- What a deed leaves: nothing changes of the disk, also of what a crash may leave; or, where its bytes are told, it is
+-- a device as the deed makes it.
 abbrev pub Leaves : Deed → DiskState → DiskState → Type 0
 Leaves Keeps old new = Quiet old new
 Leaves (Formats capacity bytes) old new =

@@ -24,8 +24,8 @@ use Rattle.device_top.specs.Replies.{disk_fault, refusal, usage, verdict_line}
 use Rattle.device_top.specs.Outcomes.{Outcome, keeps, stored}
 use Rattle.device_top.specs.Appended.{Grows, new_parts, new_text}
 use Rattle.device_top.specs.Holding.{Answers, Rests}
-use Rattle.device_top.specs.Calls.{DeviceCall, Prints, WantedMemory, WasCut, Gives, HasComeOf, Ends, NotCut, NoFault, IsDue}
-use Rattle.device_top.specs.Calls.{file_of, device_of, all_statuses}
+use Rattle.device_top.specs.Calls.{DeviceCall, Prints, WantedMemory, WasCut, Gives, HasComeOf, Ends, IsDue}
+use Rattle.device_top.specs.Calls.{NotCut, NoFault, file_of, device_of, all_statuses}
 use Rattle.device_top.specs.Crashes.{Survives}
 
 -- the call did what this command is for
