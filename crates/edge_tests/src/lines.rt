@@ -1,11 +1,14 @@
-//! Lines with numbers that no small file reaches, against docs/FORMATS.md, "Lines and statuses".
+//! Lines with numbers that no small file reaches, against docs/FORMATS.md, "Lines and statuses", and such a limit.
 
-use job_core::What;
+use crl_core::Crl;
+use ident_core::{Identity, Range, Serial, Sighting, ranges_fit};
+use job_core::{Job, JobCrl, Limits, What};
 use line_core::{layout_line, limit_line, rebased, rebased_without, reported, seeds_line};
+use log_core::Entry;
 use octets_core::{Field, Key32, LayoutFault, Why};
 use outside_core::{MemorySink, write_all};
 use std::test::Fail;
-use universe_core::Counts;
+use universe_core::{AdmitFault, Counts, first};
 
 const OFFSETS_AND_LIMITS: &str = "\
     layout 18446744073709551615 ledger.digest digest a b\n\
@@ -59,5 +62,47 @@ fn reports(rt: HostRuntime) -> Result<(), Fail> {
     )?;
     write_all(&mut sink, seeds_line(&Key32::new([0xef; 32]), 1).text())?;
     assert_eq!(rt; sink.bytes(), REPORTS.as_bytes());
+    Ok(())
+}
+
+// Three identities are accepted, and no more than two may be.
+#[test]
+fn one_identity_too_many(rt: HostRuntime) -> Result<(), Fail> {
+    let issuer = Key32::new([0x22; 32]);
+    let log = Key32::new([0xaa; 32]);
+    let (from, to) = (0, 9);
+    let crl = Crl {
+        this_update: 0,
+        next_update: None,
+        serials: Vec::new(rt.alloc()),
+    };
+    let mut job = Job {
+        epoch: 1,
+        moment: 0,
+        ranges: vec![in rt.alloc(); Range { log, from, to }]?,
+        crls: Vec::new(rt.alloc()),
+        entries: Vec::new(rt.alloc()),
+    };
+    job.crls.push(JobCrl {
+        issuer,
+        outcome: Ok(crl),
+    })?;
+    for number in 1..=3 {
+        let serial = Serial::new(&[number])?;
+        job.entries.push(Some(Entry {
+            id: Identity { issuer, serial },
+            sighting: Sighting { log, time: 0 },
+            until: None,
+        }))?;
+    }
+    let limits = Limits {
+        identities: 2,
+        ..Limits::PUBLISHED
+    };
+    let fits = job.ranges.len() <= 1024 && ranges_fit(&job.ranges);
+    assert!(rt; fits && job.crls.len() <= 65_535 && job.entries.len() <= 4_194_304);
+    let fault = first(rt.alloc(), &job, &limits).err();
+    let (what, limit) = (What::Identities, 2);
+    assert_eq!(rt; fault, Some(AdmitFault::TooMany { what, limit }));
     Ok(())
 }

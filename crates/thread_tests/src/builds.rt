@@ -8,7 +8,7 @@ use card_core::Part;
 use crl_core::Crl;
 use equation_core::{EquationHash, Row, Sha256Rows};
 use ident_core::{Identity, Range, Serial, Sighting, ranges_fit};
-use job_core::{Job, JobCrl, Limits, What};
+use job_core::{Job, JobCrl, Limits};
 use log_core::Entry;
 use octets_core::Key32;
 use std::alloc::Global;
@@ -16,7 +16,7 @@ use std::sync::atomic::AtomicU32;
 use std::sync::atomic::Ordering::SeqCst;
 use std::test::Fail;
 use std::thread::Threads;
-use universe_core::{AdmitFault, Admitted, first};
+use universe_core::{Admitted, first};
 
 /// Rows by which no exact stage can be solved: each chooses the first column alone, so that the equations are the same
 /// but for their targets.
@@ -156,22 +156,6 @@ fn refusals_are_the_same_for_any_workers(rt: HostRuntime) -> Result<(), Fail> {
         let by_two = part_of(&rt, alloc, &RowsAlike, &Open, &job, sharing, 2)?.err();
         assert_eq!(&rt; [by_one, by_two], [refused, refused], "{sharing:?}");
     }
-    Ok(())
-}
-
-// Three identities are accepted, and no more than two may be.
-#[test]
-fn one_identity_too_many(rt: HostRuntime) -> Result<(), Fail> {
-    let job = job_of(rt.alloc(), &[(0x22, 3, true)])?;
-    let limits = Limits {
-        identities: 2,
-        ..Limits::PUBLISHED
-    };
-    let fits = job.ranges.len() <= 1024 && ranges_fit(&job.ranges);
-    assert!(&rt; fits && job.crls.len() <= 65_535 && job.entries.len() <= 4_194_304);
-    let fault = first(rt.alloc(), &job, &limits).err();
-    let (what, limit) = (What::Identities, 2);
-    assert_eq!(&rt; fault, Some(AdmitFault::TooMany { what, limit }));
     Ok(())
 }
 
