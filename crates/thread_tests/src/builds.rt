@@ -2,18 +2,18 @@
 
 ghost use Rattle.std.specs.Prelude.{◌≡◌, ◌<◌, ◌≤◌};
 
-use crate::gates::Holds;
+use crate::gates::{Holds, MANY};
 use builder_core::{BuildFault, Format, Gate, Open, build_part, build_part_claimed};
 use card_core::Part;
 use crl_core::Crl;
-use equation_core::{EquationHash, Row, Sha256Rows};
+use equation_core::{EquationHash, Row, Sha256Rows, shard_of};
 use ident_core::{Identity, Range, Serial, Sighting, ranges_fit};
 use job_core::{Job, JobCrl, Limits};
 use log_core::Entry;
 use octets_core::Key32;
 use std::alloc::Global;
-use std::sync::atomic::AtomicU32;
 use std::sync::atomic::Ordering::SeqCst;
+use std::sync::atomic::{AtomicBool, AtomicU32};
 use std::test::Fail;
 use std::thread::Threads;
 use universe_core::{Admitted, first};
@@ -141,7 +141,7 @@ fn part_of<R: Threads + Sync, H: EquationHash + Sync, G: Gate + Sync>(
 // Both issuers have no exact stage, and then the second alone: of the first nothing is revoked. One worker refuses the
 // same issuer as two, however they share the groups.
 #[test]
-fn refusals_are_the_same_for_any_workers(rt: HostRuntime) -> Result<(), Fail> {
+fn one_worker_and_two_refuse_the_same(rt: HostRuntime) -> Result<(), Fail> {
     let alloc = rt.alloc();
     for (revokes, issuer, sharing) in [
         (true, 0x22, Sharing::Cut),
@@ -171,7 +171,7 @@ impl Gate for Watch {
     }
 }
 
-// With one worker each group enters once, in order, and so does each shard, with no other group between them.
+// With one worker each leaf enters once, in order: of three groups, and of two, the first of which has two shards.
 #[test]
 fn each_enters_in_order(rt: HostRuntime) -> Result<(), Fail> {
     for issuers in [
@@ -188,18 +188,47 @@ fn each_enters_in_order(rt: HostRuntime) -> Result<(), Fail> {
     Ok(())
 }
 
-// Two groups, and the two shards of one: one thread alone would wait at the first to the end of the turns.
+// The rows of `Sha256Rows`. The first row of each of two leaves enters a gate: of the issuers 0x22 and 0x33, or, with a
+// shift of 1, of the two shards of 0x22.
+#[derive(Drop)]
+struct Meet {
+    shift: u8,
+    begun: [AtomicBool; 2],
+    gate: Holds,
+    ghost low: { shift ≤ 1 },
+}
+
+impl EquationHash for Meet {
+    ghost use Rattle.equation_core.specs.Rows.{sha256_row};
+    ghost use Rattle.equation_core.specs.RowLaws.{sha256_row-is};
+
+    ghost row_of = { λ _ stage seed id starts. sha256_row stage seed id starts };
+
+    ghost formed = { λ _ stage seed id starts _ _ some _. sha256_row-is stage seed id starts some };
+
+    fn row(&self, stage: u8, seed: u8, id: &Identity, starts: u32) -> Row {
+        let second = id.issuer == Key32::new([0x33; 32]) || shard_of(id, self.shift) == 1;
+        if !self.begun[usize::from(second)].swap(true, SeqCst) {
+            self.gate.enter(u32::from(second));
+        }
+        Sha256Rows.row(stage, seed, id, starts)
+    }
+}
+
+// Two groups, and the two shards of one: in the first row of each leaf a thread waits for another in that of the other.
 #[test]
 fn two_workers_build_side_by_side(rt: HostRuntime) -> Result<(), Fail> {
-    for issuers in [
-        [(0x22, 2, true), (0x33, 2, true)].as_slice(),
-        [(0x22, 40_000, true)].as_slice(),
+    for (shift, issuers) in [
+        (0, [(0x22, 2, true), (0x33, 2, true)].as_slice()),
+        (1, [(0x22, 40_000, true)].as_slice()),
     ] {
         let job = job_of(rt.alloc(), issuers)?;
         for sharing in BOTH {
-            let gate = Holds::new([0, 0], 2);
-            let _ = part_of(&rt, rt.alloc(), &Sha256Rows, &gate, &job, sharing, 2)??;
-            assert_eq!(&rt; gate.passed(), 1, "{issuers:?}, {sharing:?}");
+            let begun = [AtomicBool::new(false), AtomicBool::new(false)];
+            let gate = Holds::new([0, 1], 2, MANY);
+            let rows = Meet { shift, begun, gate };
+            let _ = part_of(&rt, rt.alloc(), &rows, &Open, &job, sharing, 2)??;
+            assert_eq!(&rt; rows.gate.passed(), 2, "{issuers:?}, {sharing:?}");
         }
     }
     Ok(())

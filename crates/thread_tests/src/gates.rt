@@ -7,22 +7,30 @@ use std::thread::yield_now;
 /// Each two of four places.
 pub const PAIRS: [[u32; 2]; 6] = [[0, 1], [0, 2], [0, 3], [1, 2], [1, 3], [2, 3]];
 
-/// Keeps two places until all of the work have entered, so that a third thread has to enter the others, or until the
-/// turns are over. Works come one behind another. Where both places are the same, one is kept.
+/// Turns for a thread that has to come.
+pub const MANY: u32 = 100_000_000;
+
+/// Turns for a thread that mustn't come.
+pub const FEW: u32 = 2_000;
+
+/// Keeps two places until all of the work have entered, so that of more than two a third thread has to enter the
+/// others, or until the turns are over. Works come one behind another.
 #[derive(Drop)]
 pub struct Holds {
     kept: [u32; 2],
     places: u32,
+    turns: u32,
     entered: AtomicU32,
     passed: AtomicU32,
 }
 
 impl Holds {
     /// Of a work of so many places.
-    pub fn new(kept: [u32; 2], places: u32) -> Holds {
+    pub fn new(kept: [u32; 2], places: u32, turns: u32) -> Holds {
         Holds {
             kept,
             places,
+            turns,
             entered: AtomicU32::new(0),
             passed: AtomicU32::new(0),
         }
@@ -40,7 +48,7 @@ impl Gate for Holds {
         if !self.kept.contains(&place) {
             return;
         }
-        for _ in 0..100_000_000u32 {
+        for _ in 0..self.turns {
             if self
                 .entered
                 .load(Ordering::SeqCst)

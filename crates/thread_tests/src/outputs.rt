@@ -1,6 +1,6 @@
 //! What `claim_map` makes of work, whoever does it.
 
-use crate::gates::{Holds, PAIRS};
+use crate::gates::{FEW, Holds, MANY, PAIRS};
 use builder_core::Gate;
 use claim_core::{Work, claim_map};
 use octets_core::NoMemory;
@@ -39,11 +39,21 @@ impl Work for Squares {
 #[test]
 fn two_places_that_are_kept_hold_up_no_other(rt: HostRuntime) -> Result<(), Fail> {
     for kept in PAIRS {
-        let gate = Holds::new(kept, 4);
+        let gate = Holds::new(kept, 4, MANY);
         let jobs = Squares { places: 4, gate };
         let squares = claim_map(&rt, rt.alloc(), &jobs, 3)?;
         assert_eq!(&rt; jobs.gate.passed(), 2, "places {kept:?}");
         assert_eq!(&rt; squares.as_slice(), [0, 1, 4, 9].as_slice());
     }
+    Ok(())
+}
+
+// A third would enter the places that aren't kept. The first of two to give up does so, and the other may pass.
+#[test]
+fn two_workers_are_no_more(rt: HostRuntime) -> Result<(), Fail> {
+    let gate = Holds::new([0, 1], 4, FEW);
+    let jobs = Squares { places: 4, gate };
+    let _ = claim_map(&rt, rt.alloc(), &jobs, 2)?;
+    assert!(&rt; jobs.gate.passed() < 2);
     Ok(())
 }

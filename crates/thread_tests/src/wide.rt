@@ -1,4 +1,4 @@
-//! Blocks that are built by as many threads as there are processors.
+//! What `build_block_wide` gives. How many threads it takes is not seen.
 
 use crate::builds::{RowsAlike, identity};
 use card_core::{Block, Part};
@@ -14,7 +14,7 @@ const ISSUER: u8 = 0x11;
 
 // The equations of the exact stage are the same but for their targets.
 #[test]
-fn seeds_are_exhausted_in_threads(rt: HostRuntime) -> Result<(), Fail> {
+fn wide_seeds_are_exhausted(rt: HostRuntime) -> Result<(), Fail> {
     let first = identity(ISSUER, b"\x00\x01")?;
     let ids = [first, identity(ISSUER, b"\x00\x02")?];
     let revoked = [true, false];
@@ -35,7 +35,7 @@ const TRAILER: &str = "77b83e14c73b08b7517dadc5e10896dec182eb1af1ff09d4baa7f487d
 
 // Of 50,000 identities the first 500 are revoked, one in a hundred as in each block of a generated job of 200,000.
 #[test]
-fn a_block_is_built_in_threads(rt: HostRuntime) -> Result<(), Fail> {
+fn a_wide_block_is_that_of_reference_py(rt: HostRuntime) -> Result<(), Fail> {
     let mut ids = Vec::new(rt.alloc());
     let mut revoked = Vec::new(rt.alloc());
     for number in 0..50_000u32 {

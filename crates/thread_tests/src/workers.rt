@@ -1,6 +1,6 @@
-//! How the word WORKERS reaches the builder, and that it changes no byte.
+//! How the word WORKERS reaches the builder, and that it changes no byte of a part or a ledger.
 
-use crate::gates::{Holds, PAIRS};
+use crate::gates::{FEW, Holds, MANY, PAIRS};
 use clubcard_top::{Gate, Open, Status, run_gated};
 use outside_core::{Depot, MemoryDepot, MemorySink};
 use real_edge::FileDepot;
@@ -51,13 +51,20 @@ const BOTH: &str = "\
 
 const REBASED: &str = "rebase epoch 2 issuers 4 universe 40 revoked 4 pruned 0\n";
 
-// Each command that builds parts, with three workers, of a job of four issuers and of the same job in the next epoch;
-// how many places are kept, two of each part; and what it prints.
-const COMMANDS: [(&str, u32, &str); 4] = [
-    ("snapshot J P L 3", 2, FIRST),
-    ("delta K L D M 3", 2, SECOND),
-    ("rebase M 0 B N 3", 2, REBASED),
-    ("rehearse Q 3 J K", 4, BOTH),
+const WITHOUT: &str = "rebase-without epoch 2 issuers 4 universe 40 revoked 4 pruned 0 left 0\n";
+
+// Each command that builds parts, with W for the workers, of a job of four issuers and of the same job in the next epoch;
+// how many places are kept, two of each part; and what it prints. The issuer that is left out is none of the four.
+const COMMANDS: [(&str, u32, &str); 5] = [
+    ("snapshot J P L W", 2, FIRST),
+    ("delta K L D M W", 2, SECOND),
+    ("rebase M 0 B N W", 2, REBASED),
+    (
+        "rebase-without M 0 B N W 0000000000000000000000000000000000000000000000000000000000000000",
+        2,
+        WITHOUT,
+    ),
+    ("rehearse Q W J K", 4, BOTH),
 ];
 
 /// A sample's job under J, the same in the next epoch under K, and no query under Q.
@@ -74,17 +81,31 @@ fn jobs<R: Threads + AllocGlobal + Abort + Sync>(rt: &R) -> Result<MemoryDepot, 
     Ok(depot)
 }
 
-// Whichever two issuers are kept, the third worker builds the others: fewer would wait at a kept place to the end of the
+// Whichever two issuers are kept, the third worker enters the others: fewer would wait at a kept place to the end of the
 // turns.
 #[test]
-fn three_workers_build_side_by_side(rt: HostRuntime) -> Result<(), Fail> {
+fn three_workers_enter_side_by_side(rt: HostRuntime) -> Result<(), Fail> {
     let mut depot = jobs(&rt)?;
     for kept in PAIRS {
         for (words, passed, lines) in COMMANDS {
-            let gate = Holds::new(kept, 4);
-            assert!(&rt; prints(&rt, &mut depot, &gate, words, lines)?, "{words}");
+            let gate = Holds::new(kept, 4, MANY);
+            let words = words.replace(rt.alloc(), "W", "3")?;
+            assert!(&rt; prints(&rt, &mut depot, &gate, &words, lines)?, "{words}");
             assert_eq!(&rt; gate.passed(), passed, "{words}: {kept:?}");
         }
+    }
+    Ok(())
+}
+
+// A third would enter the issuers that aren't kept. The first of two to give up does so, and the other may pass.
+#[test]
+fn two_workers_are_no_more(rt: HostRuntime) -> Result<(), Fail> {
+    let mut depot = jobs(&rt)?;
+    for (words, kept, lines) in COMMANDS {
+        let gate = Holds::new([0, 1], 4, FEW);
+        let words = words.replace(rt.alloc(), "W", "2")?;
+        assert!(&rt; prints(&rt, &mut depot, &gate, &words, lines)?, "{words}");
+        assert!(&rt; gate.passed() <= kept / 2, "{words}");
     }
     Ok(())
 }
@@ -100,7 +121,7 @@ const MANY_REBASED: &str = "rebase epoch 1 issuers 4 universe 200000 revoked 200
 const TRAILER: &str = "bf7473715e0181a9398385190b0dad268af663e703144f1f58368492b1e6b86c";
 
 // Over real files. The trailer is the digest of all that stands before it in the part that the other program made. The
-// ledger has 10 MB.
+// ledger has 10 MB. Of the chain that begins anew the line alone is compared.
 #[test]
 fn two_hundred_thousand_by_one_and_eight(rt: HostRuntime) -> Result<(), Fail> {
     if fs::exists(&rt, "many")? {
