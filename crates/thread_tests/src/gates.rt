@@ -7,11 +7,11 @@ use std::thread::yield_now;
 /// Each two of four places.
 pub const PAIRS: [[u32; 2]; 6] = [[0, 1], [0, 2], [0, 3], [1, 2], [1, 3], [2, 3]];
 
-/// Turns for a thread that has to come.
-pub const MANY: u32 = 100_000_000;
+/// Turns for a thread that has to come: some seconds.
+pub const MANY: u32 = 4_000_000_000;
 
-/// Turns for a thread that mustn't come.
-pub const FEW: u32 = 2_000;
+/// Turns for a thread that mustn't come: some milliseconds.
+pub const FEW: u32 = 10_000_000;
 
 /// Keeps two places until all of the work have entered, so that of more than two a third thread has to enter the
 /// others, or until the turns are over. Works come one behind another.
@@ -48,7 +48,7 @@ impl Gate for Holds {
         if !self.kept.contains(&place) {
             return;
         }
-        for _ in 0..self.turns {
+        for turn in 0..self.turns {
             if self
                 .entered
                 .load(Ordering::SeqCst)
@@ -57,7 +57,9 @@ impl Gate for Holds {
                 self.passed.fetch_add(1, Ordering::SeqCst);
                 return;
             }
-            yield_now();
+            if turn % 10_000 == 0 {
+                yield_now();
+            }
         }
     }
 }
