@@ -12,6 +12,9 @@ import httpx
 
 Said = TypeVar("Said")
 _CONTENT_RANGE = re.compile(r"bytes ([0-9]{1,20})-[0-9]{1,20}/([0-9]{1,20}|\*)", re.ASCII)
+_CODINGS = ("", "identity", "gzip")
+"""The content codings that are read (RFC 9110, 8.4.1). Of several, one behind the other, each would multiply how much a
+small body takes in memory before its limit is seen."""
 
 
 class FetchError(Exception):
@@ -112,8 +115,10 @@ class Page(Question[Response]):
     def _body(self, response: httpx.Response, late: Late) -> bytes:
         """The whole body, where it has at most so many bytes."""
         too_long = TooLong(f"the body is longer than {self.most_bytes} bytes")
-        length = response.headers.get("content-length", "")
-        if length.isdecimal() and "content-encoding" not in response.headers and int(length) > self.most_bytes:
+        length, coding = (response.headers.get(name, "").strip() for name in ("content-length", "content-encoding"))
+        if coding.lower() not in _CODINGS:
+            raise FetchError(f"the body is encoded as {coding[:40]!r}, and gzip alone was asked for", 200)
+        if length.isdecimal() and not coding and int(length) > self.most_bytes:
             raise too_long
         body = io.BytesIO()
         for chunk in response.iter_bytes():

@@ -236,6 +236,22 @@ def test_compressed(server: Server, client: Client) -> None:
         client.get(url, 999)
 
 
+@pytest.mark.parametrize("coding", ["gzip, gzip", "GZIP,identity", "br", "deflate", "x-unknown", "g" * 99])
+def test_other_codings(server: Server, client: Client, coding: str) -> None:
+    """Only one gzip is decoded: of two, a body of a few hundred bytes would take gigabytes."""
+    body = gzip.compress(gzip.compress(b"x" * 1000))
+    with pytest.raises(FetchError, match="is encoded as .* gzip alone was asked for") as caught:
+        client.get(server.url("/a", says(200, body, Content_Encoding=coding)), 10_000)
+    assert caught.value.status == 200 and len(caught.value.why) < 120
+    assert len(server.asked) == 1
+
+
+@pytest.mark.parametrize("coding", ["", "identity", " GZip "])
+def test_own_codings(server: Server, client: Client, coding: str) -> None:
+    body = gzip.compress(b"body") if coding.strip() == "GZip" else b"body"
+    assert client.get(server.url("/a", says(200, body, Content_Encoding=coding)), 100).body == b"body"
+
+
 def test_wrongly_compressed(server: Server, client: Client) -> None:
     with pytest.raises(FetchError, match="DecodingError"):
         client.get(server.url("/a", says(200, b"no gzip", Content_Encoding="gzip")), 1000)
