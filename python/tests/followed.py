@@ -237,7 +237,8 @@ class Follower:
         assert store is not None and hashlib.sha256(store).digest() == epoch.manifest.store_sha256
         assert (self.folder / "state" / "manifest.json").read_bytes() == epoch.text
         left = {str(path.relative_to(self.folder)) for path in self.folder.rglob("*") if path.is_file()}
-        mine = {"client.toml", self.place.name, "state/accepted.json", "state/manifest.json", "state/lock"}
+        mine = {"client.toml", self.place.name, f".{self.place.name}.lock"}
+        mine |= {f"state/{name}" for name in ("accepted.json", "manifest.json", "lock")}
         assert {name for name in left if not name.startswith("state/work/")} == mine
 
     def is_old_or_new(self, old: int | None, new: int) -> bool:

@@ -156,6 +156,11 @@ def test_a_program_that_goes_on(history: History, web: Web, tmp_path: Path) -> N
     updater.wait()
     client.words = {}
     assert client.run(history.now(4)).status == 6
+    client.words = {"state": "another state"}
+    outcome = client.run(history.now(4))
+    assert outcome.status == 6 and f"{client.place.name}.lock: another run holds the lock" in outcome.line
+    client.words = {}
+    shutil.rmtree(client.folder / "another state")
     gate.write_text("go on\n")
     while client.run(history.now(4)).status == 6:
         pass

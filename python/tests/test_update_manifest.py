@@ -2,7 +2,9 @@
 
 import json
 import re
+import shutil
 from collections.abc import Callable
+from dataclasses import replace
 from pathlib import Path
 from typing import Any
 
@@ -171,8 +173,60 @@ def test_a_signature_that_does_not_come(client: Follower, web: Web) -> None:
     client.test_has(3)
 
 
+def moved(client: Follower, old: str, new: str) -> None:
+    """Does what is told where a site or a store was moved on purpose."""
+    accepted = client.folder / "state" / "accepted.json"
+    text = accepted.read_text()
+    assert text.count(f'"{old}"') == 1
+    accepted.write_text(text.replace(f'"{old}"', f'"{new}"'))
+
+
+def test_a_state_of_another_site(client: Follower, web: Web) -> None:
+    """It is told before the site is asked; behind the move that is told the order still holds."""
+    history, base = client.history, client.base
+    client.base = f"{base}moved/"
+    web.show({f"moved/{path}": body for path, body in history.shown(4).items()})
+    outcome = client.run(history.now(4))
+    assert outcome.status == 2 and f"belongs to the site {base}," in outcome.line and not web.asked
+    assert outcome.line.endswith(f'accepted.json: "site": "{client.base}"')
+    client.test_has(3)
+    moved(client, base, client.base)
+    client.update(4)
+    web.show({f"moved/{path}": body for path, body in history.shown(3).items()})
+    assert client.run(history.now(3)).status == 4
+
+
+def test_a_state_of_another_store(client: Follower, web: Web) -> None:
+    """Two CONFIGs in one folder each need a state of their own, and so does a device in a store's place."""
+    history, other = client.history, replace(client, words={"store": "other"})
+    web.show(history.shown(4))
+    for one in (other, replace(client, is_device=True)):
+        outcome = one.run(history.now(4))
+        assert outcome.status == 2 and "belongs to the store ../store " in outcome.line and not web.asked
+        assert not (client.folder / "other").exists() and not (client.folder / "device").exists()
+    other.words["state"] = "state of the other"
+    assert other.run(history.now(4)).status == 0
+    shutil.rmtree(client.folder / "state of the other")
+    for name in ("other", ".other.lock", ".device.lock"):
+        (client.folder / name).unlink()
+    client.update(4)
+    client.folder = client.folder.rename(client.folder.with_name("moved"))
+    web.show(history.shown(5))
+    client.update(5)
+
+
+def test_a_state_of_an_earlier_version(client: Follower, web: Web) -> None:
+    """It names neither, and does so from the next run on."""
+    accepted = client.folder / "state" / "accepted.json"
+    held = json.loads(accepted.read_text())
+    accepted.write_text(json.dumps({name: value for name, value in held.items() if name not in ("site", "place")}))
+    client.update(3)
+    assert json.loads(accepted.read_text()) == held and held["place"] == "../store"
+
+
 def test_no_network(client: Follower, history: History, tmp_path: Path) -> None:
     """Also where there is no store yet."""
+    moved(client, client.base, "http://127.0.0.1:1/")
     client.base = "http://127.0.0.1:1/"
     assert client.run(history.now(3)).status == 5
     fresh = Follower(tmp_path / "fresh", history, "http://127.0.0.1:1/")

@@ -37,6 +37,11 @@ class Config:
     program: str
     """The program: a name that is found by PATH, or a path where it has a slash."""
 
+    @property
+    def place_from_state(self) -> str:
+        """`place` as it is seen from `state`: so both may be moved together."""
+        return os.path.relpath(self.place, os.path.realpath(self.state))
+
 
 def load(path: Path) -> Config:
     """Reads CONFIG. Raises ConfigError."""

@@ -106,6 +106,11 @@ class DeviceFile:
         self.engine.device_query(path, *_NOBODY)
 
 
+def lock_beside(path: Path) -> Path:
+    """The lock of a store: whoever holds it may write there, whichever folder of state is used."""
+    return path.with_name(f".{path.name}.lock")
+
+
 def sweep_drafts(path: Path) -> None:
     """Removes what a killed run left beside a store."""
     for draft in _names(path):

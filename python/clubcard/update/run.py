@@ -5,13 +5,13 @@ from dataclasses import dataclass
 
 from ..engine import Engine
 from ..http import Client
-from ..lock import Locked, locked
+from ..lock import Locked, locked, locked_file
 from ..progress import Progress, Silent
 from ..telling import one_line, refused_by_system
 from .config import Config
 from .faults import Fault, NotReached, Refused, SetUp, Stale
 from .held import digest_of_all, length_of, parts_held
-from .installing import DeviceFile, Place, StoreFile, sweep_drafts
+from .installing import DeviceFile, Place, StoreFile, lock_beside, sweep_drafts
 from .parts import take_parts
 from .state import Accepted, State
 from .taking import past, take
@@ -41,24 +41,25 @@ def run(config: Config, now: int, client: Client | None = None, progress: Progre
     """Makes the store the site's, at a moment (`now`, milliseconds since 1970 UTC)."""
     state = State(config.state)
     try:
-        with locked(config.state) as lock:
+        with locked(config.state) as lock, locked_file(lock_beside(config.place)) as beside:
+            engine = Engine(config.program, (lock, beside))
             if client is not None:
-                return _run(config, state, now, client, lock, progress or Silent())
+                return _run(config, state, now, client, engine, progress or Silent())
             with Client(agent="clubcard-update") as own:
-                return _run(config, state, now, own, lock, progress or Silent())
+                return _run(config, state, now, own, engine, progress or Silent())
     except Locked as fault:
         return Outcome(LOCKED, str(fault))
     except OSError as fault:
         return _without(config, state, now, NotReached(refused_by_system(fault, config.state, "the updater's user")))
 
 
-def _run(config: Config, state: State, now: int, client: Client, lock: int, progress: Progress) -> Outcome:
-    """A run under the lock."""
+def _run(config: Config, state: State, now: int, client: Client, engine: Engine, progress: Progress) -> Outcome:
+    """A run under the locks."""
     try:
         state.begin()
         sweep_drafts(config.place)
         taken = take(config, state, client, now)
-        line = _update(config, state, client, Engine(config.program, (lock,)), taken, progress)
+        line = _update(config, state, client, engine, taken, progress)
     except Fault as fault:
         return _without(config, state, now, fault)
     manifest = taken.manifest

@@ -1,6 +1,6 @@
 """What the updater knows, in the files of its folder.
 
-    accepted.json   the newest manifest that was accepted, the key that signed it, and its ETag
+    accepted.json   the newest manifest that was accepted, the key that signed it, its ETag, its site, and the store
     manifest.json   the manifest of the store, which `clubcardctl ask --manifest` reads
     parts/          parts that were taken and aren't installed yet, and those that are still coming
     lock
@@ -32,6 +32,10 @@ class Accepted:
     pinned: str
     """The key of CONFIG, by which that key is trusted."""
     etag: str | None
+    site: str | None
+    """The site of CONFIG; None where an earlier version wrote the file, as with `place`."""
+    place: str | None
+    """Where CONFIG has the store, as it is seen from the state's folder."""
 
     @property
     def version(self) -> tuple[int, int]:
@@ -45,7 +49,7 @@ class State:
     def __init__(self, folder: Path) -> None:
         self.folder = folder
         self.parts, self.work = folder / "parts", folder / "work"
-        self._accepted, self._installed = folder / "accepted.json", folder / "manifest.json"
+        self.known, self._installed = folder / "accepted.json", folder / "manifest.json"
 
     def begin(self) -> None:
         """Makes the folders, and removes what a killed run left half written."""
@@ -57,16 +61,17 @@ class State:
     def accepted(self) -> Accepted | None:
         """The newest manifest that was accepted; None before the first one. Raises NotReached where it is damaged."""
         try:
-            held = json.loads(self._accepted.read_bytes())
+            held = json.loads(self.known.read_bytes())
             if held["format"] != _FORMAT:
                 raise ValueError("it is of another format")
             text = held["manifest"].encode("utf-8")
-            found = Accepted(text, from_json(text), str(held["key"]), str(held["pinned"]), held["etag"])
+            keys, owner = (str(held["key"]), str(held["pinned"])), (held.get("site"), held.get("place"))
+            found = Accepted(text, from_json(text), *keys, held["etag"], *owner)
         except FileNotFoundError:
             return None
         except (ValueError, KeyError, TypeError, AttributeError, ManifestError):
             remedy = "look at the disk, and remove this file; an older manifest could be taken once then"
-            raise NotReached(f"{self._accepted}: it is damaged, or of another version: {remedy}") from None
+            raise NotReached(f"{self.known}: it is damaged, or of another version: {remedy}") from None
         return found
 
     def accept(self, accepted: Accepted) -> None:
@@ -77,8 +82,10 @@ class State:
             "key": accepted.key,
             "pinned": accepted.pinned,
             "etag": accepted.etag,
+            "site": accepted.site,
+            "place": accepted.place,
         }
-        place(self._accepted, json.dumps(held, sort_keys=True, indent=1).encode("ascii") + b"\n")
+        place(self.known, json.dumps(held, sort_keys=True, indent=1).encode("ascii") + b"\n")
         settle(self.folder)
 
     def installed(self) -> Manifest | None:

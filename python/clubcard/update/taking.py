@@ -1,6 +1,8 @@
 """Takes the site's manifest: its signature is verified, it isn't older than the one before, and isn't past its time."""
 
 import hashlib
+import json
+from dataclasses import replace
 from pathlib import Path
 
 from .. import minisign
@@ -19,11 +21,13 @@ MOST_SIGNATURE = 1 << 16
 def take(config: Config, state: State, client: Client, now: int) -> Accepted:
     """The site's manifest, accepted now or before. Raises Stale, Refused, NotReached or SetUp."""
     known = state.accepted()
+    if known is not None:
+        _test_owner(config, state, known)
     # Under another key of CONFIG all is verified anew.
     trusted = known if known is not None and known.pinned == config.key else None
     answer = _get(client, config.site + MANIFEST, MOST_MANIFEST, trusted.etag if trusted else None)
     if trusted is not None and (answer.status == 304 or answer.body == trusted.text):
-        taken = Accepted(trusted.text, trusted.manifest, trusted.key, trusted.pinned, answer.etag)
+        taken = replace(trusted, etag=answer.etag, site=config.site, place=config.place_from_state)
     else:
         taken = _verified(config, state, client, answer, trusted)
     if known is not None:
@@ -73,7 +77,7 @@ def _verified(config: Config, state: State, client: Client, answer: Response, tr
         raise Refused(f"{config.site + MANIFEST}: {fault}: update this program, or tell the publisher") from None
     except ValueError as fault:
         raise Refused(f"{config.site + MANIFEST}: next_key: {fault}: tell the publisher") from None
-    return Accepted(answer.body, manifest, key, config.key, answer.etag)
+    return Accepted(answer.body, manifest, key, config.key, answer.etag, config.site, config.place_from_state)
 
 
 def _signature(client: Client, url: str) -> bytes:
@@ -95,6 +99,18 @@ def _signer(work: Path, text: bytes, signature: bytes, keys: list[str]) -> str |
         return next((key for key in keys if minisign.verifies(key, file, signed)), None)
     except minisign.MinisignError as fault:
         raise SetUp(str(fault)) from fault
+
+
+def _test_owner(config: Config, state: State, known: Accepted) -> None:
+    """Refuses a state that is of another site or store: its manifest would be taken for this one's."""
+    site, place = known.site or config.site, known.place or config.place_from_state
+    remedy = f"name another folder by `state`; where it was moved on purpose, write the new one into {state.known}: "
+    if site != config.site:
+        was = f"{config.state} belongs to the site {site}, and CONFIG names {config.site}"
+        raise SetUp(f'{was}: {remedy}"site": {json.dumps(config.site)}')
+    if place != config.place_from_state:
+        was = f"{config.state} belongs to the store {place} (seen from there), and CONFIG names {config.place}"
+        raise SetUp(f'{was}: {remedy}"place": {json.dumps(config.place_from_state)}')
 
 
 def _test_order(taken: Accepted, known: Accepted) -> None:
