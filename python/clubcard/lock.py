@@ -2,8 +2,11 @@
 
 import contextlib
 import fcntl
+import os
 from collections.abc import Iterator
 from pathlib import Path
+
+MODE = 0o600
 
 
 class Locked(Exception):
@@ -20,11 +23,18 @@ def locked(folder: Path) -> Iterator[int]:
 @contextlib.contextmanager
 def locked_file(path: Path) -> Iterator[int]:
     """Holds a lock, and gives its file's number. Raises Locked where another process holds it; it ends with the last
-    process that has this file open. The file stays."""
+    process that has this file open. The file stays, and its owner alone may open it: whoever may read it could hold
+    the lock."""
     path.parent.mkdir(parents=True, exist_ok=True)
-    with open(path, "a", encoding="ascii") as file:
+    number = os.open(path, os.O_RDWR | os.O_CREAT | os.O_CLOEXEC, MODE)
+    try:
+        # Earlier versions let everybody read it. Where it is another user's, it stays as that one has it.
+        with contextlib.suppress(PermissionError):
+            os.fchmod(number, MODE)
         try:
-            fcntl.flock(file, fcntl.LOCK_EX | fcntl.LOCK_NB)
+            fcntl.flock(number, fcntl.LOCK_EX | fcntl.LOCK_NB)
         except BlockingIOError:
             raise Locked(f"{path}: another run holds the lock: let it end") from None
-        yield file.fileno()
+        yield number
+    finally:
+        os.close(number)

@@ -102,8 +102,10 @@ def test_the_lock(history: History, nginx: Nginx, tmp_path: Path) -> None:
     with locked(client.config().state):
         show(nginx, history, 3)
         outcome = client.run(history.now(3))
+        late = client.run(history.epoch(2).manifest.valid_until + 1)
         assert client.store() == history.epoch(2).store
-    assert (outcome.status, "another run" in outcome.line) == (6, True)
+    assert (outcome.status, "another run" in outcome.line, "valid until" in outcome.line) == (6, True, False)
+    assert (late.status, "let it end; the store's manifest of epoch 2 was valid until" in late.line) == (6, True)
     client.update(3)
 
 

@@ -22,7 +22,13 @@ STALE = 3
 REFUSED = 4
 NOT_REACHED = 5
 LOCKED = 6
-_STATUSES: dict[type[Fault], int] = {SetUp: WRONG_WORDS, Stale: STALE, Refused: REFUSED, NotReached: NOT_REACHED}
+_STATUSES: dict[type[Exception], int] = {
+    SetUp: WRONG_WORDS,
+    Stale: STALE,
+    Refused: REFUSED,
+    NotReached: NOT_REACHED,
+    Locked: LOCKED,
+}
 
 
 @dataclass(frozen=True)
@@ -48,7 +54,7 @@ def run(config: Config, now: int, client: Client | None = None, progress: Progre
             with Client(agent="clubcard-update") as own:
                 return _run(config, state, now, own, engine, progress or Silent())
     except Locked as fault:
-        return Outcome(LOCKED, str(fault))
+        return _without(config, state, now, fault)
     except OSError as fault:
         return _without(config, state, now, NotReached(refused_by_system(fault, config.state, "the updater's user")))
 
@@ -92,14 +98,15 @@ def _place(config: Config, engine: Engine) -> Place:
     return DeviceFile(engine, config.place, config.capacity)
 
 
-def _without(config: Config, state: State, now: int, fault: Fault) -> Outcome:
-    """A run that left the store as it was: what it came to, by the fault and the store's own time."""
+def _without(config: Config, state: State, now: int, fault: Fault | Locked) -> Outcome:
+    """A run that left the store as it was: what it came to, by the fault and the store's own time. Behind a lock that
+    time is told, and the status stays."""
     status, why = _STATUSES[type(fault)], str(fault)
-    if isinstance(fault, NotReached):
+    if status in (NOT_REACHED, LOCKED):
         installed = state.installed()
         is_past = None if installed is None else past(config, installed, now)
         if is_past is not None:
-            status, why = STALE, f"{why}; the store's manifest {is_past}"
+            status, why = LOCKED if status == LOCKED else STALE, f"{why}; the store's manifest {is_past}"
     return Outcome(status, one_line(why))
 
 
