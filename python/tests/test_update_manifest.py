@@ -54,7 +54,22 @@ def test_replayed(client: Follower, web: Web) -> None:
 
 def test_another_of_the_same_epoch(client: Follower, web: Web) -> None:
     """Also a signed one, and one of a chain begun anew in the same epoch is newer."""
-    assert "another manifest" in refused(client, web, client.history.changed(3, name="other"), 3)
+    assert "another manifest" in refused(client, web, client.history.changed(3, coverage=[]), 3)
+
+
+def test_another_chain(client: Follower, web: Web) -> None:
+    """A chain of another name, such as one for tries, isn't taken by the same key, and doesn't raise the order; until
+    the client is moved as the line says."""
+    history = client.history
+    pages = history.changed(REBASED, name="of tries")
+    line = refused(client, web, pages)
+    assert "is of the chain 'of tries', and this client follows 'a chain'" in line
+    accepted = client.folder / "state" / "accepted.json"
+    assert f"remove {accepted} and run again" in line
+    web.show(pages)
+    assert client.run(history.now(REBASED)).status == 4
+    accepted.unlink()
+    assert client.run(history.now(REBASED)).status == 0
 
 
 def test_a_lower_generation(client: Follower, web: Web) -> None:

@@ -77,7 +77,7 @@ class Config:
     path: Path
     """CONFIG itself."""
     name: str
-    """The chain's name in the manifest."""
+    """The chain's name in the manifest. Once it is published it stays: clients refuse a chain of another one."""
     state: Path
     """The folder of the spool, the database, the chain and the lock."""
     site: Path

@@ -31,7 +31,7 @@ def take(config: Config, state: State, client: Client, now: int) -> Accepted:
     else:
         taken = _verified(config, state, client, answer, trusted)
     if known is not None:
-        _test_order(taken, known)
+        _test_order(taken, known, state.known)
     why = past(config, taken.manifest, now)
     if why is not None:
         raise Stale(f"the site's manifest {why}: see whether the publisher runs, and this clock is right")
@@ -113,8 +113,13 @@ def _test_owner(config: Config, state: State, known: Accepted) -> None:
         raise SetUp(f'{was}: {remedy}"place": {json.dumps(config.place_from_state)}')
 
 
-def _test_order(taken: Accepted, known: Accepted) -> None:
-    """Refuses a manifest that is older than the one before, or another one of the same generation and epoch."""
+def _test_order(taken: Accepted, known: Accepted, file: Path) -> None:
+    """Refuses a manifest of another chain than the one before, which stands in a file; one that is older, or another
+    one of the same generation and epoch."""
+    chain, former = taken.manifest.name, known.manifest.name
+    if chain != former:
+        remedy = f"compare `site` in CONFIG; to move to that chain on purpose, remove {file} and run again"
+        raise Refused(f"the site's manifest is of the chain {chain!r}, and this client follows {former!r}: {remedy}")
     named = "generation {} epoch {}"
     new, old = named.format(*taken.version), named.format(*known.version)
     remedy = "it may be replayed: tell the publisher; docs/CLIENTS.md says what else it may be"
