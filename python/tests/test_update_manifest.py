@@ -297,6 +297,35 @@ def test_the_new_key_by_hand(client: Follower, web: Web) -> None:
     assert client.run(history.now(5)).status == 0
 
 
+def test_behind_a_theft(client: Follower, web: Web) -> None:
+    """What was signed by a key that was stolen doesn't bind a client that pins another one: the order begins anew."""
+    history = client.history
+    web.show(history.changed(4, generation=1 << 63))
+    assert client.run(history.now(4)).status == 0
+    web.show(history.shown(5))
+    assert client.run(history.now(5)).status == 4
+    client.words = {"key": minisign.public_line(history.folder / "other.pub")}
+    assert client.run(history.now(5)).status == 4
+    web.show(history.changed(5, "other.key"))
+    assert client.run(history.now(5)).status == 0
+    assert client.store() == history.epoch(5).store
+    web.show(history.changed(4, "other.key"))
+    assert client.run(history.now(5)).status == 4
+
+
+def test_the_order_under_the_announced_key(client: Follower, web: Web) -> None:
+    """Where the key that is pinned now signed what was accepted before, the order goes on."""
+    history = client.history
+    other = minisign.public_line(history.folder / "other.pub")
+    for pages in (history.changed(4, next_key=other), history.changed(5, "other.key")):
+        web.show(pages)
+        assert client.run(history.now(5)).status == 0
+    client.words = {"key": other}
+    web.show(history.changed(4, "other.key"))
+    outcome = client.run(history.now(5))
+    assert outcome.status == 4 and "accepted before" in outcome.line
+
+
 def test_without_minisign(client: Follower, web: Web, monkeypatch: pytest.MonkeyPatch) -> None:
     monkeypatch.setattr(minisign, "PROGRAM", "none-of-this-name")
     assert "package minisign" in refused_then(client, web, 2)

@@ -23,6 +23,9 @@ def take(config: Config, state: State, client: Client, now: int) -> Accepted:
     known = state.accepted()
     if known is not None:
         _test_owner(config, state, known)
+        if config.key not in (known.pinned, known.key):
+            # The order begins anew: what the former key signed, which may have been stolen, binds nobody.
+            known = None
     # Under another key of CONFIG all is verified anew.
     trusted = known if known is not None and known.pinned == config.key else None
     answer = _get(client, config.site + MANIFEST, MOST_MANIFEST, trusted.etag if trusted else None)
