@@ -1,6 +1,7 @@
 """What is asked about: certificates in files and folders, those that hosts show, and serials."""
 
 import os
+import re
 from collections.abc import Iterator, Sequence
 from concurrent.futures import ThreadPoolExecutor
 from dataclasses import dataclass
@@ -14,8 +15,9 @@ from .hosts import HostError, chain_of
 from .verdicts import Answer, Identity, Status
 from .words import NoCertificate, Wrong
 
-# Names of files that hold other than certificates in DER.
+# What tells of a certificate in a file that isn't read as one: the end of its name, or a line.
 _DER_NAMES = (".der", ".crt", ".cer")
+_PEM_LINE = re.compile(rb"-----BEGIN [A-Z0-9 ]*CERTIFICATE-----")
 _MOST_SIGHTINGS = 64
 # So many hosts are asked at once.
 _MOST_HOSTS = 16
@@ -72,13 +74,16 @@ class Words:
 
 def files_of(names: Sequence[str]) -> Iterator[tuple[str, bool]]:
     """The files of some names, in order: those that are named, and those of named folders and of the folders in
-    them. With each whether it is named itself."""
+    them. With each whether it is named itself; so is a folder that can't be read."""
     for name in names:
         if not os.path.isdir(name):
             yield name, True
-        for place, folders, files in os.walk(name):
+            continue
+        unread: list[OSError] = []
+        for place, folders, files in os.walk(name, onerror=unread.append):
             folders.sort()
             yield from ((str(Path(place, file)), False) for file in sorted(files))
+        yield from ((str(error.filename), True) for error in unread)
 
 
 def _asked(name: str, ders: Sequence[bytes]) -> Asked:
@@ -96,25 +101,22 @@ def given_issuers(names: Sequence[str]) -> list[Placed]:
 
 
 def _may_hold_one(name: str) -> bool:
-    """Whether a file of a folder may hold a certificate: one in DER is known by its name, since anything may be one
-    SEQUENCE."""
+    """Whether a file that isn't read as one of certificates may hold one: also one that can't be read."""
     try:
-        with open(name, "rb") as file:
-            return file.read(1) != b"\x30" or name.endswith(_DER_NAMES)
+        return name.lower().endswith(_DER_NAMES) or _PEM_LINE.search(Path(name).read_bytes()) is not None
     except OSError:
-        return False
+        return True
 
 
 def read_files(names: Sequence[str]) -> Iterator[Asked | Answer]:
     """What is asked about of some files and folders, or why there is nothing; `-` is standard input."""
     for name, is_named in files_of(names):
         try:
-            if not is_named and not _may_hold_one(name):
-                raise PkiError(f"{name}: it isn't one of certificates")
             yield _asked(name, certificates_of("/dev/stdin" if name == "-" else name))
         except PkiError as error:
             # In a folder the files that hold none are passed over.
-            yield Answer(name, Status.NO_CERTIFICATE if is_named else None, fault=NO_CERTIFICATE, why=str(error))
+            status = Status.NO_CERTIFICATE if is_named or _may_hold_one(name) else None
+            yield Answer(name, status, fault=NO_CERTIFICATE, why=str(error))
 
 
 def _read_host(name: str) -> Asked | Answer:
