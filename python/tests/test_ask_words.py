@@ -98,31 +98,47 @@ def test_issuers_and_logs(small: Small) -> None:
     digits = made.LOG.hex()
     for log in (digits, ":".join(["AA"] * 32), b64encode(made.LOG).decode()):
         assert ctl("ask", small.store, *small.by_serial("good", log=log)).stdout == line
-    more = ["--log", "bb" * 32, "--time", "2023-11-14"]
+    more = ["--log", "bb" * 32, "--time", "2023-11-14T22:13"]
     assert ctl("ask", small.store, *small.by_serial("good"), *more).stdout == line
     assert ctl("ask", small.store, *small.by_serial("good", log="bb" * 32)).stdout == "not-covered serial 00d00a\n"
 
 
 @pytest.mark.parametrize(
-    "word, time",
+    "word, time, length",
     [
-        ("1700000000000", 1700000000000),
-        ("2023-11-14T22:13:20Z", 1700000000000),
-        ("2023-11-14T22:13:20.123Z", 1700000000123),
-        ("2023-11-14 22:13:20", 1700000000000),
-        ("2023-11-14T23:13:20.5+01:00", 1700000000500),
-        ("20231114T221320Z", 1700000000000),
-        ("2023-11-14", 1699920000000),
-        ("2023-11-14  22:13:20 UTC", 1700000000000),
-        ("Nov 14 22:13:20.123 2023 GMT", 1700000000123),
-        ("Nov 14 22:13:20 2023 GMT", 1700000000000),
+        ("1700000000000", 1700000000000, 1),
+        ("2023-11-14T22:13:20Z", 1700000000000, 1000),
+        ("2023-11-14T22:13:20.123Z", 1700000000123, 1),
+        ("2023-11-14 22:13:20", 1700000000000, 1000),
+        ("2023-11-14T23:13:20.5+01:00", 1700000000500, 1),
+        ("20231114T221320Z", 1700000000000, 1000),
+        ("20231114T221320,5-0000", 1700000000500, 1),
+        ("2023-11-14T23:13+01:00", 1699999980000, 60000),
+        ("2023-11-14t2213", 1699999980000, 60000),
+        ("2023-11-14  22:13:20 UTC", 1700000000000, 1000),
+        ("Nov 14 22:13:20.123 2023 GMT", 1700000000123, 1),
+        ("Nov 14 22:13:20 2023 GMT", 1700000000000, 1000),
     ],
 )
-def test_times(small: Small, word: str, time: int) -> None:
-    assert notations.moment(word, "--time") == time
-    covered = made.MOMENT <= time <= made.MOMENT + 1000
+def test_times(small: Small, word: str, time: int, length: int) -> None:
+    """Each is taken to its milliseconds, and where it has none to its second or minute."""
+    assert notations.moment(word, "--time") == (time, time + length - 1)
+    covered = made.MOMENT <= time and time + length - 1 <= made.MOMENT + 1000
     result = ctl("ask", small.store, *small.by_serial("good", time=word))
     assert result.stdout == f"{'good' if covered else 'not-covered'} serial 00d00a\n"
+
+
+@pytest.mark.parametrize("name, status", [("good", 0), ("revoked", 1)])
+def test_times_that_are_covered_in_part(small: Small, name: str, status: int) -> None:
+    """The range ends at the first millisecond of a second."""
+    for word, told in (
+        ("2023-11-14T22:13:21Z", f"at the first millisecond of --time it is {name}, at the last not-covered"),
+        ("Nov 14 22:13:21 2023 GMT", "write the milliseconds too"),
+    ):
+        result = ends(told, 3, "ask", small.store, *small.by_serial(name, time=word))
+        assert result.stdout.startswith("not-covered serial")
+    ends(name, status, "ask", small.store, *small.by_serial(name, time="2023-11-14T22:13:21.000Z"))
+    ends(name, status, "ask", small.store, *small.by_serial(name, time="2023-11-14T22:13:20Z"))
 
 
 def test_the_dates_of_openssl(small: Small) -> None:
@@ -130,7 +146,7 @@ def test_the_dates_of_openssl(small: Small) -> None:
     text = openssl(small["elm-late.pem"], "-text")
     log = "".join(text[text.index("Log ID") :].partition(":")[2].split("Timestamp")[0].split())
     date = text[text.index("Timestamp ") :].partition(":")[2].splitlines()[0].strip()
-    assert notations.log_id(log) == made.LOG and notations.moment(date, "--time") == LATE
+    assert notations.log_id(log) == made.LOG and notations.moment(date, "--time") == (LATE, LATE)
     assert datetime.datetime.strptime(date, "%b %d %H:%M:%S.%f %Y GMT").year == 2023
     theirs = x509.load_pem_x509_certificate(small["elm-late.pem"].read_bytes())
     assert theirs.serial_number == SERIALS["late"]
@@ -153,6 +169,10 @@ def test_the_dates_of_openssl(small: Small) -> None:
         ({"issuer": "11" * 31}, "or the SHA-256 of its SubjectPublicKeyInfo"),
         ({"time": "1700000000"}, "if these are seconds, write 1700000000000"),
         ({"time": "yesterday"}, "write 2026-11-30T19:00:00.000Z"),
+        ({"time": "2023-11-14"}, "there is no time of day to the minute behind the date; write 2026"),
+        ({"time": "2023-11-14 UTC"}, "there is no time of day"),
+        ({"time": "2023-11-14T22Z"}, "there is no time of day"),
+        ({"time": "2023-11-14+22:13"}, "there is no time of day"),
         ({"time": "1999-01-01"}, "no log of certificates is as old as this"),
         ({"time": "0001-01-01T00:00:00+23:00"}, "--time 0001"),
         ({"time": str(1 << 64)}, "not a number below 2^64"),
@@ -168,5 +188,5 @@ def test_words_that_are_missing(small: Small) -> None:
         ends("--log", 2, "ask", small.store, *whole[:place], *whole[place + 2 :])
         ends("--log", 2, "ask", small.store, *whole[place : place + 2])
     ends("stand in pairs", 2, "ask", small.store, *whole, "--log", "bb" * 32)
-    ends("stand in pairs", 2, "ask", small.store, *whole, *["--log", "bb" * 32, "--time", "2023-11-14"] * 64)
+    ends("stand in pairs", 2, "ask", small.store, *whole, *["--log", "bb" * 32, "--time", "2023-11-14T22:13"] * 64)
     ends("this is no serial", 2, "ask", small.store, *small.by_serial("good", serial=""))

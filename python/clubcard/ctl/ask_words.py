@@ -86,7 +86,8 @@ _OPTIONS = [
         "times",
         multiple=True,
         metavar="TIME",
-        help="When --log saw it: ISO 8601 (without an offset in UTC), or milliseconds since 1970.",
+        help="When --log saw it: ISO 8601 (without an offset in UTC), or milliseconds since 1970. Of a second or a "
+        "minute the first and the last millisecond are asked; where they differ it is not-covered.",
     ),
     click.option(
         "--manifest",

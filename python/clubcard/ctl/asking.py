@@ -137,6 +137,12 @@ def _with_verdict(store: Store, answer: Answer, said: Verdict | Refusal) -> Answ
     if isinstance(said, Refusal):
         return _refused(answer, said)
     judged = replace(answer, status=Status[said.name], verdict=said)
+    if answer.identity is not None and answer.identity.latest not in ((), answer.identity.sightings):
+        (latest,) = answers_of(store, [replace(answer.identity, sightings=answer.identity.latest)])
+        if latest is not said:
+            why = f"{answer.name}: at the first millisecond of --time it is {word_of(said)}, at the last"
+            why = f"{why} {word_of(latest)}: write the milliseconds too"
+            return replace(answer, status=Status.NOT_COVERED, verdict=Verdict.NOT_COVERED, why=why)
     if answer.identity is None or answer.identity.other is None:
         return judged
     (other,) = answers_of(store, [replace(answer.identity, serial=answer.identity.other)])

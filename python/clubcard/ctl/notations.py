@@ -9,7 +9,7 @@ from dataclasses import dataclass
 
 from ..octets import KEY, MAX_SERIAL, serial_from_int
 from ..pki import PkiError, certificates_of, issuer_hash
-from ..times import duration, from_iso
+from ..times import MINUTE, SECOND, duration, from_iso
 from .words import FIRST_MILLISECOND, Wrong, milliseconds
 
 _NAMED = re.compile(r"\s*serial(?: ?number)?\s*[=:]\s*", re.IGNORECASE)
@@ -17,6 +17,8 @@ _BOTH = re.compile(r"([0-9]+) \(0x([0-9a-f]+)\)", re.IGNORECASE)
 _PARTED = re.compile(r"[0-9a-f]{2}(?:[: ][0-9a-f]{2})+", re.IGNORECASE)
 _HEXADECIMAL = re.compile(r"[0-9a-f]+", re.IGNORECASE)
 _DECIMAL = re.compile(r"[0-9]+")
+# The time of day behind a date, and what may stand behind it.
+_CLOCK = re.compile(r"[T ][0-9]{2}:?[0-9]{2}(:?[0-9]{2})?([.,][0-9]+)?(?:Z|[+-][0-9:]+| [0-9]{4})?$", re.IGNORECASE)
 _AS_OPENSSL = "%b %d %H:%M:%S.%f %Y"
 _LATEST = (1 << 64) - 1
 _FORMS = "write it as 04:d0:0a, 0x04d00a, 04D00A, serial=04D00A, or as a number in decimal digits"
@@ -113,21 +115,25 @@ def _as_openssl(text: str) -> int | None:
     return from_iso(found.isoformat())
 
 
-def moment(word: str, what: str) -> int:
-    """A log's time: milliseconds since 1970, ISO 8601 (without an offset in UTC), or as openssl prints a timestamp."""
+def moment(word: str, what: str) -> tuple[int, int]:
+    """A log's time: milliseconds since 1970, ISO 8601 (without an offset in UTC), or as openssl prints a timestamp. It
+    is the first and the last millisecond of the second or minute, where no more is given; a date alone is refused."""
     text = " ".join(word.split())
     if _DECIMAL.fullmatch(text):
-        return milliseconds(text, what)
+        return milliseconds(text, what), milliseconds(text, what)
     text = re.sub(" ?(?:UTC|GMT)$", "", text)
+    how = "write 2026-11-30T19:00:00.000Z, or milliseconds since 1970"
     try:
         found = _as_openssl(text)
         found = from_iso(text) if found is None else found
     except (ValueError, OverflowError) as error:
-        how = "write 2026-11-30T19:00:00.000Z, or milliseconds since 1970"
         raise Wrong(f"{what} {word}: this is no time; {how}") from error
     if found < FIRST_MILLISECOND:
         raise Wrong(f"{what} {word}: no log of certificates is as old as this; look at the date")
-    return found
+    clock = _CLOCK.search(text)
+    if clock is None:
+        raise Wrong(f"{what} {word}: there is no time of day to the minute behind the date; {how}")
+    return found, found if clock[2] else found + (SECOND if clock[1] else MINUTE) - 1
 
 
 def away(word: str) -> int:

@@ -64,12 +64,11 @@ class Words:
             raise Wrong("a serial is asked about by all of --issuer, --serial, --log and --time")
         if len(self.logs) != len(self.times) or len(self.logs) > _MOST_SIGHTINGS:
             raise Wrong(f"--log and --time stand in pairs, 1 to {_MOST_SIGHTINGS} of them: each log's own time")
-        sightings = [
-            Sighting(notations.log_id(log), notations.moment(time, "--time"))
-            for log, time in zip(self.logs, self.times)
-        ]
+        logs = [notations.log_id(log) for log in self.logs]
+        firsts, lasts = zip(*(notations.moment(time, "--time") for time in self.times))
+        first, last = (tuple(map(Sighting, logs, times)) for times in (firsts, lasts))
         serial = notations.serial(self.serial)
-        return Identity(notations.issuer(self.issuer), serial.octets, tuple(sightings), serial.other)
+        return Identity(notations.issuer(self.issuer), serial.octets, first, serial.other, last)
 
 
 def files_of(names: Sequence[str]) -> Iterator[tuple[str, bool]]:

@@ -50,13 +50,14 @@ def word_of(answer: Verdict | Refusal) -> str:
 
 @dataclass(frozen=True)
 class Identity:
-    """Of what a store is asked: the issuer's key hash (32 bytes), the serial's octets, and when logs saw it; and the
-    octets of another serial that the same word may be."""
+    """Of what a store is asked: the issuer's key hash (32 bytes), the serial's octets, and when logs saw it; the
+    octets of another serial that the same word may be; and where times were given, when logs saw it at the latest."""
 
     issuer: bytes
     serial: bytes
     sightings: tuple[Sighting, ...]
     other: bytes | None = None
+    latest: tuple[Sighting, ...] = ()
 
 
 @dataclass(frozen=True)
