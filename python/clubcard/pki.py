@@ -4,7 +4,6 @@ import base64
 import binascii
 import hashlib
 import os
-import pathlib
 import re
 from collections.abc import Iterator
 from dataclasses import dataclass
@@ -18,6 +17,7 @@ from .signatures import Unverified, verify
 __all__ = [
     "Certificate",
     "Identity",
+    "LONGEST_FILE",
     "PkiError",
     "Sighting",
     "certificates_of",
@@ -32,6 +32,8 @@ __all__ = [
     "why_not_issued",
 ]
 
+LONGEST_FILE = 1 << 24
+"""A file of certificates has so many bytes at most."""
 _VERSION = 0xA0
 _EXTENSIONS = 0xA3
 # What the program reads of a certificate, and of its timestamps (docs/FORMATS.md, "Timestamps of a certificate").
@@ -132,10 +134,13 @@ def pem_blocks(octets: bytes, *labels: bytes) -> list[bytes]:
 def certificates_of(path: str | os.PathLike[str]) -> list[bytes]:
     """The DER of each certificate in a file in PEM (RFC 7468) or DER, one or more. Else it raises `PkiError`."""
     try:
-        octets = pathlib.Path(path).read_bytes()
+        with open(path, "rb") as file:
+            octets = file.read(LONGEST_FILE + 1)
     except (OSError, ValueError) as error:
         why = "there is no such file" if isinstance(error, FileNotFoundError) else f"it can't be read ({error})"
         raise PkiError(f"{path}: {why}", "look at its name and rights") from error
+    if len(octets) > LONGEST_FILE:
+        raise PkiError(f"{path}: it has more than {LONGEST_FILE} bytes", "give its certificates in several files")
     try:
         is_der = octets[:1] == bytes([elements.SEQUENCE])
         found = [octets] if is_der else pem_blocks(octets, b"CERTIFICATE", b"X509 CERTIFICATE")

@@ -8,7 +8,8 @@ from typing import Any
 
 import pytest
 
-from asked import Small, answers, ctl, ends
+from asked import Small, answers, called, ctl, ends
+from clubcard.pki import LONGEST_FILE
 
 
 @pytest.fixture(name="small", scope="module")
@@ -62,3 +63,22 @@ def test_folders_that_can_not_be_read(small: Small, folder: Path, monkeypatch: p
         good = {} if unread == folder else {str(folder / "good.pem"): 0}
         assert found == {**good, str(unread): 5}
         monkeypatch.undo()
+
+
+def test_special_files_in_folders(small: Small, folder: Path) -> None:
+    """Pipes and devices are passed over, also by links."""
+    os.mkfifo(folder / "pipe.der")
+    (folder / "zero.pem").symlink_to("/dev/zero")
+    done = called("ask", small.store, folder, timeout=30)
+    assert (done.returncode, done.stdout.decode(), done.stderr) == (0, f"good {folder / 'good.pem'}\n", b"")
+
+
+def test_files_that_are_too_long(small: Small, folder: Path) -> None:
+    """One that is named is a fault, and so is one of a folder in which a certificate begins."""
+    with open(folder / "long", "wb") as file:
+        file.truncate(LONGEST_FILE + 1)
+    ends("good", 0, "ask", small.store, folder)
+    ends("it has more than 16777216 bytes; give its", 5, "ask", small.store, folder / "long")
+    with open(folder / "long", "r+b") as file:
+        file.write(small["elm-revoked.chain"].read_bytes())
+    ends("it has more than 16777216 bytes", 5, "ask", small.store, folder)

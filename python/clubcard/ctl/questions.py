@@ -2,13 +2,14 @@
 
 import os
 import re
+import stat
 from collections.abc import Iterator, Sequence
 from concurrent.futures import ThreadPoolExecutor
 from dataclasses import dataclass
 from pathlib import Path
 
 from ..names import text_of
-from ..pki import Certificate, PkiError, Sighting, certificates_of, read_certificate
+from ..pki import LONGEST_FILE, Certificate, PkiError, Sighting, certificates_of, read_certificate
 from . import notations
 from .files import is_pair, why_no_pair
 from .hosts import HostError, chain_of
@@ -71,6 +72,14 @@ class Words:
         return Identity(notations.issuer(self.issuer), serial.octets, first, serial.other, last)
 
 
+def _is_special(path: Path) -> bool:
+    """Whether it is a pipe, a socket or a device, whose reading may not end."""
+    try:
+        return not stat.S_ISREG(path.stat().st_mode)
+    except OSError:
+        return False
+
+
 def files_of(names: Sequence[str]) -> Iterator[tuple[str, bool]]:
     """The files of some names, in order: those that are named, and those of named folders and of the folders in
     them. With each whether it is named itself; so is a folder that can't be read."""
@@ -81,7 +90,8 @@ def files_of(names: Sequence[str]) -> Iterator[tuple[str, bool]]:
         unread: list[OSError] = []
         for place, folders, files in os.walk(name, onerror=unread.append):
             folders.sort()
-            yield from ((str(Path(place, file)), False) for file in sorted(files))
+            paths = (Path(place, file) for file in sorted(files))
+            yield from ((str(path), False) for path in paths if not _is_special(path))
         yield from ((str(error.filename), True) for error in unread)
 
 
@@ -102,7 +112,8 @@ def given_issuers(names: Sequence[str]) -> list[Placed]:
 def _may_hold_one(name: str) -> bool:
     """Whether a file that isn't read as one of certificates may hold one: also one that can't be read."""
     try:
-        return name.lower().endswith(_DER_NAMES) or _PEM_LINE.search(Path(name).read_bytes()) is not None
+        with open(name, "rb") as file:
+            return name.lower().endswith(_DER_NAMES) or _PEM_LINE.search(file.read(LONGEST_FILE)) is not None
     except OSError:
         return True
 
