@@ -1,5 +1,6 @@
 """`clubcardctl ask` of folders and of files that aren't as they should be: no revoked certificate is passed over."""
 
+import json
 import os
 import shutil
 from collections.abc import Iterator
@@ -82,3 +83,23 @@ def test_files_that_are_too_long(small: Small, folder: Path) -> None:
     with open(folder / "long", "r+b") as file:
         file.write(small["elm-revoked.chain"].read_bytes())
     ends("it has more than 16777216 bytes", 5, "ask", small.store, folder)
+
+
+# ---- names
+
+
+@pytest.mark.parametrize("command", ["ask", "explain"])
+def test_names_that_are_not_printable(small: Small, folder: Path, command: str) -> None:
+    """A name is in one line, also where it isn't text, and is no reason to lose a verdict behind it."""
+    names = [folder / name for name in ("x\ngood y.der", os.fsdecode(b"x\xff.der"), "\u00e9.der")]
+    for name in names:
+        shutil.copy(small["elm-revoked.der"], name)
+    words: list[str | Path] = [command, "-i", small["elm.pem"], small.store, *names, folder / "absent\ngood z.der"]
+    more = {"variables": {"PYTHONIOENCODING": "utf-8:strict"}}
+    done = called(*words, **more)
+    lines = [line for line in done.stdout.decode().splitlines() if not line.startswith(" ")]
+    shown = ("x\\ngood y", "x\\udcff", "\u00e9")
+    assert (done.returncode, lines) == (1, [f"revoked {folder}/{name}.der" for name in shown])
+    assert done.stderr.decode().count("\n") == 1
+    found = json.loads(called(command, "--json", *words[1:], **more).stdout)
+    assert [each["name"] for each in found[:3]] == [str(name) for name in names]

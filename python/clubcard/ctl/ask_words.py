@@ -12,6 +12,7 @@ from typing import TYPE_CHECKING, Any, NoReturn, TypeVar
 import click
 
 from . import notations
+from .known import printed
 from .questions import Words
 from .verdicts import Answer, Status, status_of
 from .words import NoStore
@@ -144,19 +145,19 @@ def opened(store: str, manifest: str | None, max_away: str) -> tuple["Opened", "
 def _print(answers: Sequence[Answer], as_json: bool) -> None:
     """A line for each verdict, and on standard error faults and what else is to be told; or all of it in JSON."""
     if as_json:
-        rows = ",\n ".join(json.dumps(answer.members(), ensure_ascii=False) for answer in answers)
+        rows = ",\n ".join(json.dumps(answer.members()) for answer in answers)
         click.echo(f"[{rows}]")
         return
     for answer in answers:
         if answer.verdict is not None:
-            click.echo(f"{answer.word} {answer.name}")
+            click.echo(f"{answer.word} {printed(answer.name)}")
         tell(answer)
 
 
 def tell(answer: Answer) -> None:
     """Says on standard error what is to be told of an answer."""
     if answer.why:
-        click.echo(f"clubcardctl: {answer.why}", err=True)
+        click.echo(f"clubcardctl: {printed(answer.why)}", err=True)
 
 
 def _print_counts(answers: Sequence[Answer], as_json: bool) -> None:

@@ -28,7 +28,7 @@ def explain(store: str, manifest: str | None, max_away: str, as_json: bool, **gi
     parts = explaining.read_parts(found.octets, moments)
     explained = explaining.explain(parts, kept)
     if as_json:
-        click.echo("[" + ",\n ".join(json.dumps(each.members(), ensure_ascii=False) for each in explained) + "]")
+        click.echo("[" + ",\n ".join(json.dumps(each.members()) for each in explained) + "]")
     for each in () if as_json else explained:
         for line in each.lines():
             click.echo(line)

@@ -14,6 +14,7 @@ from ..pki import Sighting
 from ..store import Store
 from ..times import nearest_iso
 from .asking import answers_of
+from .known import printed
 from .verdicts import Answer, Identity, timestamp_members, word_of
 
 # Where a store's count stands (docs/FORMATS.md, "Store").
@@ -150,7 +151,8 @@ class Explained:
         answer, identity = self.answer, self.answer.identity
         if identity is None or not self.said:
             return []
-        lines = [f"{answer.word} {answer.name}", f"  issuer {identity.issuer.hex()}, serial {identity.serial.hex()}"]
+        lines = [f"{answer.word} {printed(answer.name)}"]
+        lines.append(f"  issuer {identity.issuer.hex()}, serial {identity.serial.hex()}")
         since = self.since
         if since is not None:
             before = ", or before: the chain begins there" if since.place == 0 else ""
