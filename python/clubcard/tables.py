@@ -1,8 +1,10 @@
 """Reading the tables of CONFIG: each value by its type, and each fault with its place and a remedy."""
 
 import difflib
+import tomllib
 from collections.abc import Collection, Mapping
 from dataclasses import dataclass
+from pathlib import Path
 from typing import Any
 from urllib.parse import urlsplit
 
@@ -15,6 +17,18 @@ MOST_DURATION = 36500 * DAY
 
 class ConfigError(Exception):
     """CONFIG can't be used. The text names the file, the place in it, what is wrong and what to do."""
+
+
+def read_config(path: Path) -> dict[str, object]:
+    """What stands in CONFIG. Raises ConfigError where it can't be read or is no TOML."""
+    try:
+        return tomllib.loads(path.read_text(encoding="utf-8"))
+    except OSError as fault:
+        raise ConfigError(f"{path}: it can't be read ({fault.strerror}): look at its name and rights") from None
+    except UnicodeDecodeError as fault:
+        raise ConfigError(f"{path}: byte {fault.start} is no UTF-8: save it in UTF-8") from None
+    except (ValueError, RecursionError) as fault:
+        raise ConfigError(f"{path}: it is no TOML: {fault}: texts stand in quotation marks") from None
 
 
 def url_fault(url: str) -> str | None:

@@ -6,7 +6,6 @@
 import base64
 import hashlib
 import os
-import tomllib
 from collections.abc import Mapping
 from dataclasses import dataclass
 from pathlib import Path
@@ -15,7 +14,7 @@ from typing import Literal, cast
 from .. import pki
 from .. import minisign
 from ..jobs import MOST_CRLS, MOST_RANGES
-from ..tables import ConfigError, Table
+from ..tables import ConfigError, Table, read_config
 from ..times import MINUTE
 from .heads import MOST, LogKey
 
@@ -108,7 +107,7 @@ class Config:
 
 def load(path: Path) -> Config:
     """Reads CONFIG. Raises ConfigError."""
-    table, base = Table(str(path), _read(path)), path.absolute().parent
+    table, base = Table(str(path), read_config(path)), path.absolute().parent
     table.only(_KEYS)
     issuers = tuple(_issuer(each, base) for each in table.tables("issuer"))
     logs = tuple(_log(each) for each in table.tables("log"))
@@ -151,18 +150,6 @@ def hints(config: Config) -> list[str]:
             f"rebase_after and patience are more than {MOST_PARTS} together: {most}, and none is made behind it"
         )
     return found
-
-
-def _read(path: Path) -> dict[str, object]:
-    """What stands in CONFIG."""
-    try:
-        return tomllib.loads(path.read_text(encoding="utf-8"))
-    except OSError as fault:
-        raise ConfigError(f"{path}: it can't be read ({fault.strerror}): look at its name and rights") from None
-    except UnicodeDecodeError as fault:
-        raise ConfigError(f"{path}: byte {fault.start} is no UTF-8: save it in UTF-8") from None
-    except (ValueError, RecursionError) as fault:
-        raise ConfigError(f"{path}: it is no TOML: {fault}: texts stand in quotation marks") from None
 
 
 def _next_key(table: Table, base: Path) -> str | None:

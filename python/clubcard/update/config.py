@@ -1,12 +1,11 @@
 """CONFIG: where the site is, by which key it is signed, and where the store is kept."""
 
 import os
-import tomllib
 from dataclasses import dataclass
 from pathlib import Path
 
 from .. import minisign
-from ..tables import ConfigError, Table
+from ..tables import ConfigError, Table, read_config
 
 __all__ = ["Config", "ConfigError", "load"]
 
@@ -45,7 +44,7 @@ class Config:
 
 def load(path: Path) -> Config:
     """Reads CONFIG. Raises ConfigError."""
-    table, base = Table(str(path), _read(path)), path.absolute().parent
+    table, base = Table(str(path), read_config(path)), path.absolute().parent
     table.only(_KEYS)
     program = table.text("program", '"clubcard"', "clubcard")
     config = Config(
@@ -61,18 +60,6 @@ def load(path: Path) -> Config:
     if config.place.is_relative_to(os.path.realpath(config.state)):
         raise table.wrong("state", f"{config.place} is in this folder, which is the updater's own: name another one")
     return config
-
-
-def _read(path: Path) -> dict[str, object]:
-    """What stands in CONFIG."""
-    try:
-        return tomllib.loads(path.read_text(encoding="utf-8"))
-    except OSError as fault:
-        raise ConfigError(f"{path}: it can't be read ({fault.strerror}): look at its name and rights") from None
-    except UnicodeDecodeError as fault:
-        raise ConfigError(f"{path}: byte {fault.start} is no UTF-8: save it in UTF-8") from None
-    except (ValueError, RecursionError) as fault:
-        raise ConfigError(f"{path}: it is no TOML: {fault}: texts stand in quotation marks") from None
 
 
 def _site(table: Table) -> str:
