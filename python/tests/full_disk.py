@@ -4,6 +4,7 @@
 
 copies the client of FOLDER/client to a small disk of its own, with so many free pages as there are steps, and runs it
 there; and once more with room. Each line of standard output is JSON: what the runs came to, and which store is there.
+The last line is of a disk that is full of a part that an earlier run began and the site doesn't name any more.
 """
 
 import json
@@ -58,7 +59,14 @@ def main(folder: Path, now: int) -> None:
             print(json.dumps({**told, "then": [again.status, store_of(client, folder)]}), flush=True)
             statuses.append(outcome.status)
             if statuses[-2:] == [0, 0]:
-                return
+                break
+        shutil.rmtree(client)
+        shutil.copytree(folder / "client", client)
+        left = client / "state" / "parts" / ".former.part.new"
+        left.parent.mkdir()
+        left.write_bytes(bytes(free_pages(disk) * PAGE))
+        outcome = run(load(client / "client.toml"), now, web)
+        print(json.dumps({"status": outcome.status, "line": outcome.line, "store": store_of(client, folder)}))
 
 
 if __name__ == "__main__":

@@ -266,7 +266,8 @@ def test_a_full_disk(history: History, web: Web, tmp_path: Path, is_device: bool
         words, env={**os.environ, "PYTHONPATH": str(TESTS.parent)}, capture_output=True, text=True, check=False
     )
     assert done.returncode == 0, done.stderr
-    told = [json.loads(line) for line in done.stdout.splitlines()]
+    *told, filled = [json.loads(line) for line in done.stdout.splitlines()]
+    assert (filled["status"], filled["store"]) == (0, "new"), filled
     assert all(one["store"] == ("new" if one["status"] == 0 else "old") for one in told), told
     assert all(one["then"] == [0, "new"] for one in told), told
     statuses = [one["status"] for one in told]

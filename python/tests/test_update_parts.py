@@ -182,6 +182,24 @@ def test_signed_parts_that_are_none(client: Follower, web: Web) -> None:
     client.update(REBASED)
 
 
+def test_a_disk_that_is_too_small(history: History, web: Web, tmp_path: Path) -> None:
+    """It is told before anything is taken, with the folder that would fill it."""
+    client = Follower(tmp_path / "client", history, web.base)
+    web.show(history.shown(3))
+    client.update(3)
+    told = json.loads(history.epoch(4).text)
+    more = (1 << 60) - told["parts"][-1]["length"]
+    told["parts"][-1]["length"] += more
+    told["store"]["length"] += more
+    web.show(history.changed(4, parts=told["parts"], store=told["store"]))
+    outcome = client.run(history.now(4))
+    assert outcome.status == 5 and f"state/parts: {1 << 60} bytes of parts are to come, and" in outcome.line
+    assert outcome.line.endswith("are free: make room on this disk")
+    assert not [path for path in web.paths() if path.startswith("parts/")]
+    web.show(history.shown(5))
+    client.update(5)
+
+
 def test_a_slot_that_is_too_small(history: History, web: Web, tmp_path: Path) -> None:
     """It is told before anything is taken, and a greater one is made anew."""
     client = Follower(tmp_path / "client", history, web.base, True)

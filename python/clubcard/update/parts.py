@@ -2,6 +2,7 @@
 
 import hashlib
 import os
+import shutil
 from collections.abc import Sequence
 from pathlib import Path
 
@@ -10,8 +11,12 @@ from ..http import Client, FetchError, TooLong
 from ..manifest import Part
 from ..placing import digest_of, new_name, remove_others, settle
 from ..progress import Progress, Task
+from ..telling import FULL
 from .engines import told
 from .faults import NotReached, Refused
+
+SPARE = 1 << 16
+"""How many bytes are left free where parts come: what is noted of the next manifest wants some."""
 
 
 def take_parts(
@@ -22,6 +27,7 @@ def take_parts(
     names = [Path(part.path).name for part in parts]
     remove_others(folder, "*.part", names)
     remove_others(folder, ".*.new", [new_name(folder / name).name for name in names])
+    _test_room(folder, sum(part.length for part in parts))
     files = []
     with progress.task("bytes of parts", sum(part.length for part in parts)) as task:
         for part, name in zip(parts, names):
@@ -29,6 +35,15 @@ def take_parts(
             _check(engine, folder / name, part)
             files.append(folder / name)
     return files
+
+
+def _test_room(folder: Path, length: int) -> None:
+    """Whether the disk has room for what the folder lacks of so many bytes, and some more; a system that says nothing
+    of its disk is believed to have."""
+    missing = length - sum(path.stat().st_size for path in folder.iterdir())
+    disk = shutil.disk_usage(folder)
+    if disk.total and disk.free < missing + SPARE:
+        raise NotReached(f"{folder}: {missing} bytes of parts are to come, and {disk.free} are free: {FULL}")
 
 
 def _take(url: str, path: Path, client: Client, part: Part, task: Task) -> None:

@@ -9,16 +9,20 @@ A manifest is accepted before its parts are taken, and becomes that of the store
 older one is never taken again, and manifest.json is never newer than the store.
 """
 
+import errno
 import json
 import shutil
+from collections.abc import Callable
 from dataclasses import dataclass
 from pathlib import Path
+from typing import TypeVar
 
 from ..manifest import Manifest, ManifestError, from_json
 from ..placing import make_folder, place, settle, sweep
 from .faults import NotReached
 
 _FORMAT = 1
+Done = TypeVar("Done")
 
 
 @dataclass(frozen=True)
@@ -57,6 +61,18 @@ class State:
         for folder in (self.folder, self.parts, self.work):
             make_folder(folder)
         sweep(self.folder)
+
+    def with_room(self, write: Callable[[], Done]) -> Done:
+        """What `write` comes to. Where the disk is full it is done once more without the parts that came so far: those
+        of a manifest that isn't the site's any more would fill the disk for ever."""
+        try:
+            return write()
+        except OSError as fault:
+            if fault.errno not in (errno.ENOSPC, errno.EDQUOT):
+                raise
+        shutil.rmtree(self.parts)
+        make_folder(self.parts)
+        return write()
 
     def accepted(self) -> Accepted | None:
         """The newest manifest that was accepted; None before the first one. Raises NotReached where it is damaged."""

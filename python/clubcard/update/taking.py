@@ -39,7 +39,7 @@ def take(config: Config, state: State, client: Client, now: int) -> Accepted:
     if why is not None:
         raise Stale(f"the site's manifest {why}: see whether the publisher runs, and this clock is right")
     if taken != known:
-        state.accept(taken)
+        state.with_room(lambda: state.accept(taken))
     return taken
 
 
@@ -68,7 +68,7 @@ def _verified(config: Config, state: State, client: Client, answer: Response, tr
     keys = [config.key]
     if trusted is not None:
         keys += [trusted.key, *([trusted.manifest.next_key] if trusted.manifest.next_key else [])]
-    key = _signer(state.work, answer.body, signature, list(dict.fromkeys(keys)))
+    key = state.with_room(lambda: _signer(state.work, answer.body, signature, list(dict.fromkeys(keys))))
     if key is None:
         why = "the manifest's signature isn't one by the pinned key, or by one that was announced"
         raise Refused(f"{config.site + name}: {why}: tell the publisher, and compare `key` in CONFIG with its key")
