@@ -38,7 +38,7 @@ def test_by_serial(small: Small, name: str, status: int) -> None:
     text = openssl(small[f"elm-{name}.pem"], "-text")
     of_text = text[text.index("Serial Number:") :].splitlines()
     printed = [openssl(small[f"elm-{name}.pem"], "-serial").strip(), of_text[0] if "0x" in of_text[0] else of_text[1]]
-    written = [hex(number), f"0X{octets.hex().upper()}", colons, colons.upper(), colons.replace(":", " "), str(number)]
+    written = [hex(number), f"0X{octets.hex().upper()}", colons, colons.upper(), colons.replace(":", " ")]
     for serial in [*printed, *written, f"0{number:X}" if number == 0x81 else f"00{octets.hex()}"]:
         result = ctl("ask", small.store, *small.by_serial(name, serial=serial))
         assert (result.exit_code, result.stdout) == (status, line), serial
@@ -73,18 +73,26 @@ def test_other_serials(word: str) -> None:
 
 
 def test_a_serial_with_two_readings(small: Small) -> None:
-    """Decimal digits alone are a number. Where the store says another thing of the other one, that is told."""
-    status = {word: number for number, word in WORDS.items()}
-    said = ctl("ask", small.store, *small.by_serial("revoked", serial="0x51")).stdout
-    result = ctl("ask", small.store, *small.by_serial("revoked", serial="81"))
-    assert (result.exit_code, result.stdout) == (status[said.split()[0]], said)
-    told = "the word was read as a decimal number; as hexadecimal digits it is revoked: write 0x before them"
-    assert (told in result.stderr) == (said.split()[0] == "good")
+    """Decimal digits alone are a number. Where the store says another thing of the hexadecimal ones it is a fault."""
+    same = set()
+    for word in [*map(str, SERIALS.values()), *map(str, range(70, 100)), "81", "129", "5"]:
+        said, other = (
+            ctl("ask", small.store, *small.by_serial("good", serial=each)) for each in (hex(int(word)), f"0x{word}")
+        )
+        result = ctl("ask", small.store, *small.by_serial("good", serial=word))
+        same.add(said.exit_code == other.exit_code)
+        if said.exit_code == other.exit_code:
+            assert (result.exit_code, result.stdout, result.stderr) == (said.exit_code, said.stdout, "")
+        else:
+            assert (result.exit_code, result.stdout) == (6, "")
+            assert f"the verdicts differ: write 0x{serial_from_int(int(word)).hex()} or 0x" in result.stderr
+            ends("the verdicts differ", 6, "explain", small.store, *small.by_serial("good", serial=word))
+    assert same == {True, False}
     # Nothing is told where it isn't covered, since both are the same then.
     result = ctl("ask", small.store, *small.by_serial("late", serial="81"))
     assert (result.stdout, result.stderr) == ("not-covered serial 51\n", "")
-    assert notations.serial("129").other is None and notations.serial("1" * 66).other is None
-    assert notations.serial("1000").other == b"\x10\x00"
+    assert notations.serial("1" * 66).other is None and notations.serial("9" * 64).other is None
+    assert (notations.serial("1000").other, notations.serial("129").other) == (b"\x10\x00", b"\x01\x29")
 
 
 def test_issuers_and_logs(small: Small) -> None:

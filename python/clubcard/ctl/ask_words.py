@@ -73,7 +73,8 @@ _OPTIONS = [
         "--serial",
         metavar="SERIAL",
         help="A serial as openssl, browsers and crt.sh print it: 04:d0:0a, 0x04d00a, serial=04D00A. Decimal digits "
-        "alone are a decimal number, but with a 0 in front hexadecimal.",
+        "alone are a decimal number, but with a 0 in front hexadecimal; where both may be, and the verdicts differ, it "
+        "is a fault.",
     ),
     click.option(
         "--log",
@@ -188,8 +189,8 @@ def ask(store: str, manifest: str | None, max_away: str, count: bool, as_json: b
     good and revoked may come (docs/GUIDE.md).
 
     Status 0: good; 1: revoked; 3: not-covered; 4: not-enrolled; 5: a file holds no certificate, or its issuer isn't
-    there; 6: the certificate or its timestamps can't be read; 7: STORE or MANIFEST is none, or there is no library; 8:
-    a host isn't reached; 2: words. Of several the first that is there of 1, 7, 5, 8, 6, 4, 3 and 0.
+    there; 6: the certificate, its timestamps or SERIAL can't be read; 7: STORE or MANIFEST is none, or there is no
+    library; 8: a host isn't reached; 2: words. Of several the first that is there of 1, 7, 5, 8, 6, 4, 3 and 0.
     """
     words = words_of(given)
     found, away = opened(store, manifest, max_away)

@@ -21,6 +21,7 @@ from .words import NoStore
 Item = TypeVar("Item")
 # From so many certificates on a bar is shown.
 _MANY = 200
+TWO_SERIALS = "two-serials"
 _OF_THE_STORE = (Refusal.NO_MEMORY, Refusal.UNKNOWN)
 
 
@@ -131,25 +132,31 @@ def identified(store: Store, words: Words) -> Iterator[Answer]:
         yield Answer(f"serial {by_serial.serial.hex()}", None, identity=by_serial)
 
 
+def _at_both_ends(store: Store, identity: Identity) -> list[Verdict | Refusal]:
+    """What a store says of a serial at the first and at the last of the times that its words may be."""
+    return answers_of(store, [identity, replace(identity, sightings=identity.latest)])
+
+
 def _with_verdict(store: Store, answer: Answer, said: Verdict | Refusal) -> Answer:
-    """An answer with what the store says, and with what is to be told where the serial's word, read as hexadecimal
-    digits, is another number of which it says another thing."""
+    """An answer with what the store says. Where words may be another serial, of which it says another thing, it is a
+    fault; where they may be another time, it is not-covered."""
     if isinstance(said, Refusal):
         return _refused(answer, said)
-    judged = replace(answer, status=Status[said.name], verdict=said)
-    if answer.identity is not None and answer.identity.latest not in ((), answer.identity.sightings):
-        (latest,) = answers_of(store, [replace(answer.identity, sightings=answer.identity.latest)])
-        if latest is not said:
-            why = f"{answer.name}: at the first millisecond of --time it is {word_of(said)}, at the last"
-            why = f"{why} {word_of(latest)}: write the milliseconds too"
-            return replace(answer, status=Status.NOT_COVERED, verdict=Verdict.NOT_COVERED, why=why)
-    if answer.identity is None or answer.identity.other is None:
-        return judged
-    (other,) = answers_of(store, [replace(answer.identity, serial=answer.identity.other)])
-    if other is said:
-        return judged
-    why = f"{answer.name}: the word was read as a decimal number; as hexadecimal digits it is {word_of(other)}: "
-    return replace(judged, why=f"{why}write 0x before them where they are")
+    identity = answer.identity
+    if identity is None or not identity.latest:
+        return replace(answer, status=Status[said.name], verdict=said)
+    ends = _at_both_ends(store, identity)
+    if identity.other is not None:
+        others = _at_both_ends(store, replace(identity, serial=identity.other))
+        if others != ends:
+            digits = " or ".join(f"0x{each.hex()}" for each in (identity.serial, identity.other))
+            why = f"--serial may be a decimal number or hexadecimal digits, and the verdicts differ: write {digits}"
+            return Answer(answer.name, Status.UNREAD, fault=TWO_SERIALS, why=why)
+    if ends[0] is not ends[1]:
+        why = f"{answer.name}: at the first millisecond of --time it is {word_of(ends[0])}, at the last"
+        why = f"{why} {word_of(ends[1])}: write the milliseconds too"
+        return replace(answer, status=Status.NOT_COVERED, verdict=Verdict.NOT_COVERED, why=why)
+    return replace(answer, status=Status[said.name], verdict=said)
 
 
 def ask(store: Store, words: Words, away: Away | None = None) -> list[Answer]:

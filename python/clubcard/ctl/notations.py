@@ -44,12 +44,15 @@ def _octets_of(word: str, digits: str, base: int) -> bytes:
 
 
 def _serial_of_digits(word: str, digits: str) -> Serial:
-    """A serial of decimal digits alone: a number, but with a 0 in front, as no number is printed, hexadecimal ones. An
-    even count of digits may be hexadecimal ones, as `openssl x509 -serial` prints them behind `serial=`."""
+    """A serial of decimal digits alone: a number, but with a 0 in front, as no number is printed, hexadecimal ones. The
+    digits may be hexadecimal ones too, as `openssl x509 -serial` prints them behind `serial=`."""
     if digits.startswith("0") and len(digits) > 1:
         return Serial(_octets_of(word, digits, 16))
-    may_be_both = len(digits) % 2 == 0 and len(digits) <= 2 * MAX_SERIAL
-    return Serial(_octets_of(word, digits, 10), _octets_of(word, digits, 16) if may_be_both else None)
+    octets = _octets_of(word, digits, 10)
+    try:
+        return Serial(octets, serial_from_int(int(digits, 16)))
+    except ValueError:
+        return Serial(octets)
 
 
 def serial(word: str) -> Serial:

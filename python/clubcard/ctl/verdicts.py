@@ -19,7 +19,7 @@ class Status(enum.IntEnum):
     NOT_ENROLLED = 4
     # A file holds no certificate, or its issuer isn't there.
     NO_CERTIFICATE = 5
-    # The store's reader takes a certificate, or its timestamps, for malformed.
+    # The store's reader takes a certificate, or its timestamps, for malformed; or a serial can be read in two ways.
     UNREAD = 6
     # The store or the manifest can't be read, or isn't one, or the library that asks the store isn't there.
     NO_STORE = 7
