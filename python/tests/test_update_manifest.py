@@ -283,6 +283,18 @@ def test_the_announced_key(client: Follower, web: Web) -> None:
     assert client.run(history.now(8)).status == 4
 
 
+@pytest.mark.parametrize("blanks", [" {}", "{}\n", "\t{} "])
+def test_an_announced_key_with_blanks(client: Follower, web: Web, blanks: str) -> None:
+    """It is taken as the key without them, as the one of CONFIG is."""
+    history = client.history
+    other = minisign.public_line(history.folder / "other.pub")
+    web.show(history.changed(4, next_key=blanks.format(other)))
+    assert client.run(history.now(4)).status == 0
+    web.show(history.changed(5, "other.key"))
+    outcome = client.run(history.now(5))
+    assert outcome.status == 0 and outcome.hint is not None and f'"{other}"' in outcome.hint
+
+
 def test_the_new_key_by_hand(client: Follower, web: Web) -> None:
     """With it in CONFIG a former one isn't taken any more, whatever was announced."""
     history = client.history

@@ -13,11 +13,12 @@ import errno
 import json
 import shutil
 from collections.abc import Callable
-from dataclasses import dataclass
+from dataclasses import dataclass, replace
 from pathlib import Path
 from typing import TypeVar
 
 from ..manifest import Manifest, ManifestError, from_json
+from ..minisign import key_line
 from ..placing import make_folder, place, settle, sweep
 from .faults import NotReached
 
@@ -45,6 +46,13 @@ class Accepted:
     def version(self) -> tuple[int, int]:
         """By which manifests are ordered: generation and epoch."""
         return self.manifest.generation, self.manifest.epoch
+
+
+def manifest_of(text: bytes) -> Manifest:
+    """Reads a manifest, with the next key as `minisign` takes it. Raises ManifestError, and ValueError where that is no
+    key."""
+    manifest = from_json(text)
+    return manifest if manifest.next_key is None else replace(manifest, next_key=key_line(manifest.next_key))
 
 
 class State:
@@ -82,7 +90,7 @@ class State:
                 raise ValueError("it is of another format")
             text = held["manifest"].encode("utf-8")
             keys, owner = (str(held["key"]), str(held["pinned"])), (held.get("site"), held.get("place"))
-            found = Accepted(text, from_json(text), *keys, held["etag"], *owner)
+            found = Accepted(text, manifest_of(text), *keys, held["etag"], *owner)
         except FileNotFoundError:
             return None
         except (ValueError, KeyError, TypeError, AttributeError, ManifestError):

@@ -7,11 +7,11 @@ from pathlib import Path
 
 from .. import minisign
 from ..http import MIB, Client, FetchError, Response
-from ..manifest import Manifest, ManifestError, from_json
+from ..manifest import Manifest, ManifestError
 from ..times import nearest_iso
 from .config import Config
 from .faults import NotReached, Refused, SetUp, Stale
-from .state import Accepted, State
+from .state import Accepted, State, manifest_of
 
 MANIFEST = "manifest.json"
 MOST_MANIFEST = 64 * MIB
@@ -73,9 +73,7 @@ def _verified(config: Config, state: State, client: Client, answer: Response, tr
         why = "the manifest's signature isn't one by the pinned key, or by one that was announced"
         raise Refused(f"{config.site + name}: {why}: tell the publisher, and compare `key` in CONFIG with its key")
     try:
-        manifest = from_json(answer.body)
-        if manifest.next_key is not None:
-            minisign.key_line(manifest.next_key)
+        manifest = manifest_of(answer.body)
     except ManifestError as fault:
         raise Refused(f"{config.site + MANIFEST}: {fault}: update this program, or tell the publisher") from None
     except ValueError as fault:
