@@ -361,6 +361,15 @@ def test_without_the_program(client: Follower, web: Web) -> None:
     client.update(4)
 
 
+@pytest.mark.parametrize("program", ["/bin/true", "/bin/false", "/bin/echo"])
+def test_another_program(client: Follower, web: Web, program: str) -> None:
+    """It is the set-up's fault, for which the unit fails."""
+    client.words = {"program": program}
+    assert "see that this is the program of this version" in refused_then(client, web, 2)
+    client.words = {}
+    client.update(4)
+
+
 def test_a_damaged_state(client: Follower, web: Web) -> None:
     """It is told, and nothing older is taken by it."""
     accepted = client.folder / "state" / "accepted.json"
