@@ -46,7 +46,7 @@ def test_words() -> None:
     assert set(least) == {"site", "key", "store"}
     assert set(keys()) == {"state", "max_age", "device", "capacity", "program"}
     rows = re.findall(r"(?m)^\| (\d)", TEXT)
-    assert "".join(rows) == "023456" + "012345"
+    assert "".join(rows) == "0123456" + "012345"
 
 
 def test_config(tmp_path: Path) -> None:

@@ -23,9 +23,9 @@ def _say(text: str) -> None:
 def main(file: Path, now: int | None) -> None:
     """Makes the store of CONFIG the one that its site publishes.
 
-    Status 0: it is; 2: words or CONFIG; 3: it is past its time; 4: what the site says is refused; 5: not reached, and
-    the store is still in time; 6: another run holds the lock. With each but 0 the store stays as it was, and a line on
-    standard error says why and what to do.
+    Status 0: it is; 2: words, CONFIG, its state or a program; 3: it is past its time; 4: what the site says is refused;
+    5: not reached, and the store is still in time; 6: another run holds the lock. With each but 0 the store stays as it
+    was, and a line on standard error says why and what to do. 1 is left to what nobody foresaw.
     """
     try:
         config = configuration.load(file)
