@@ -3,6 +3,7 @@
 import hashlib
 import json
 import os
+import time
 from dataclasses import replace
 from pathlib import Path
 from typing import Any
@@ -280,5 +281,16 @@ def test_issuers_that_the_manifest_does_not_know(small: Small) -> None:
     for issuers, text in (((), "the manifest has no such issuer any more"), ((never,), "no epoch ever enrolled it")):
         file = manifest_of(small, DAY, issuers=issuers)
         ends(text, 4, "ask", "--manifest", file, small.store, small["elm-revoked.chain"])
-    file = manifest_of(small, 0, store_sha256=bytes(32))
-    ends("is of another store than", 0, "ask", "--manifest", file, small.store, small["elm-good.chain"])
+
+
+def test_manifests_of_other_stores(small: Small, monkeypatch: pytest.MonkeyPatch) -> None:
+    """One says nothing of this store, unless it becomes this one's while it is waited for."""
+    waited: list[float] = []
+    monkeypatch.setattr(time, "sleep", waited.append)
+    words: list[str | Path] = ["--manifest", manifest_of(small, 0, store_sha256=bytes(32)), small.store]
+    words.append(small["elm-good.chain"])
+    for command in ("ask", "explain"):
+        assert ends("is of another store than", 7, command, *words).stdout == ""
+    assert waited == [1, 1]
+    monkeypatch.setattr(time, "sleep", lambda _: manifest_of(small, 0))
+    assert ends("good", 0, "ask", *words).stderr == ""

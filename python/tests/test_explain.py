@@ -163,14 +163,13 @@ def test_with_the_manifest(story: Story, tmp_path: Path) -> None:
     one = next(each for each in story.certificates if each.first == EPOCHS - 1)
     found, newest = open_store(str(story.store)), story.epochs[-1]
     away = manifests.Issuer(one.issuer, "Elm", False, BEGIN, "no CRL")
-    for sha256, moment in ((found.store_digest, nearest_iso(newest.moment)), (bytes(32), None)):
-        parts = (manifests.Part("snapshot", newest.epoch, 1, bytes(32)),)
-        head = ("example", 1, newest.epoch, newest.moment, newest.moment, parts, 1, sha256)
-        (tmp_path / "manifest.json").write_bytes(manifests.to_json(manifests.Manifest(*head, (), (away,), None)))
-        told = explained(story.store, one, "--manifest", tmp_path / "manifest.json", "--max-away", "1d")
-        assert (told["verdict"], told["store"]) == ("not-enrolled", "revoked")
-        assert told["revoked_since"]["moment"] == told["parts"][-1]["moment"] == moment
-        assert told["parts"][0]["moment"] is None and "its issuer is away" in told["why"]
+    parts = (manifests.Part("snapshot", newest.epoch, 1, bytes(32)),)
+    head = ("example", 1, newest.epoch, newest.moment, newest.moment, parts, 1, found.store_digest)
+    (tmp_path / "manifest.json").write_bytes(manifests.to_json(manifests.Manifest(*head, (), (away,), None)))
+    told = explained(story.store, one, "--manifest", tmp_path / "manifest.json", "--max-away", "1d")
+    assert (told["verdict"], told["store"]) == ("not-enrolled", "revoked")
+    assert told["revoked_since"]["moment"] == told["parts"][-1]["moment"] == nearest_iso(newest.moment)
+    assert told["parts"][0]["moment"] is None and "its issuer is away" in told["why"]
 
 
 def test_devices(story: Story, tmp_path: Path) -> None:

@@ -5,6 +5,7 @@ import errno
 import json
 import os
 import sys
+import time
 import traceback
 from collections.abc import Callable, Sequence
 from typing import TYPE_CHECKING, Any, NoReturn, TypeVar
@@ -139,7 +140,11 @@ def opened(store: str, manifest: str | None, max_away: str) -> tuple["Opened", "
         return found, None
     read = asking.read_manifest(manifest)
     if not found.is_of(read):
-        click.echo(f"clubcardctl: {manifest} is of another store than {store}: run clubcard-update", err=True)
+        # clubcard-update replaces the store, and then the manifest.
+        time.sleep(1)
+        found, read = stores.open_store(store), asking.read_manifest(manifest)
+    if not found.is_of(read):
+        raise NoStore(f"{manifest} is of another store than {store}: run clubcard-update, or give this store's own")
     return found, asking.Away(read, most)
 
 
@@ -189,8 +194,9 @@ def ask(store: str, manifest: str | None, max_away: str, count: bool, as_json: b
     good and revoked may come (docs/GUIDE.md).
 
     Status 0: good; 1: revoked; 3: not-covered; 4: not-enrolled; 5: a file holds no certificate, or its issuer isn't
-    there; 6: the certificate, its timestamps or SERIAL can't be read; 7: STORE or MANIFEST is none, or there is no
-    library; 8: a host isn't reached; 2: words. Of several the first that is there of 1, 7, 5, 8, 6, 4, 3 and 0.
+    there; 6: the certificate, its timestamps or SERIAL can't be read; 7: STORE or MANIFEST is none, MANIFEST is of
+    another store, or there is no library; 8: a host isn't reached; 2: words. Of several the first that is there of 1,
+    7, 5, 8, 6, 4, 3 and 0.
     """
     words = words_of(given)
     found, away = opened(store, manifest, max_away)

@@ -24,7 +24,7 @@ def explain(store: str, manifest: str | None, max_away: str, as_json: bool, **gi
     from . import asking, explaining
 
     kept = [answer for answer in asking.ask(found.store, words, away) if answer.status is not None]
-    moments = {away.manifest.epoch: away.manifest.moment} if away and found.is_of(away.manifest) else {}
+    moments = {away.manifest.epoch: away.manifest.moment} if away else {}
     parts = explaining.read_parts(found.octets, moments)
     explained = explaining.explain(parts, kept)
     if as_json:

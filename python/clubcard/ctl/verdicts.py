@@ -21,7 +21,8 @@ class Status(enum.IntEnum):
     NO_CERTIFICATE = 5
     # The store's reader takes a certificate, or its timestamps, for malformed; or a serial can be read in two ways.
     UNREAD = 6
-    # The store or the manifest can't be read, or isn't one, or the library that asks the store isn't there.
+    # The store or the manifest can't be read, or isn't one, or the manifest is of another store; or the library that
+    # asks the store isn't there.
     NO_STORE = 7
     # A host can't be reached, or shows no certificate.
     NO_HOST = 8
