@@ -154,7 +154,7 @@ metadata >"$work/METADATA" || exit 1
 place 644 "$work/METADATA" "$packages/clubcard-$(cat "$top/VERSION").dist-info/METADATA"
 launcher clubcard-publish clubcard.publish.cli >"$work/clubcard-publish" || exit 1
 launcher clubcard-update clubcard.update.cli >"$work/clubcard-update" || exit 1
-launcher clubcardctl clubcard.ctl.cli >"$work/clubcardctl" || exit 1
+launcher clubcardctl clubcard.ctl.start >"$work/clubcardctl" || exit 1
 place 755 "$work/clubcard-publish" bin/clubcard-publish
 place 755 "$work/clubcard-update" bin/clubcard-update
 place 755 "$work/clubcardctl" bin/clubcardctl

@@ -179,14 +179,30 @@ def test_nothing_else_has_status_1(small: Small, monkeypatch: pytest.MonkeyPatch
 
         monkeypatch.setattr(asking, "ask", fail)
         assert ctl("ask", small.store, small["elm-good.chain"]).exit_code == status
-    read, write = os.pipe()
-    os.close(read)
-    done = called("ask", small.store, small["elm-revoked.chain"], stdout=write)
-    os.close(write)
-    assert (done.returncode, done.stderr) == (70, b"")
-    with open("/dev/full", "wb") as full:
-        done = called("ask", small.store, small["elm-good.chain"], stdout=full)
-    assert done.returncode == 70 and b"No space left" in done.stderr
+    every: list[list[str | Path]] = [["ask", small.store, small["elm-good.chain"]], ["inspect", small.store]]
+    for words in every:
+        read, write = os.pipe()
+        os.close(read)
+        done = called(*words, stdout=write)
+        os.close(write)
+        assert (done.returncode, done.stderr) == (70, b"")
+        with open("/dev/full", "wb") as full:
+            done = called(*words, stdout=full)
+            assert done.returncode == 70 and b"No space left" in done.stderr
+            # What a fault is told on can't be written either.
+            assert called(words[0], small["absent"], small["absent"], stderr=full).returncode not in (0, 1)
+
+
+@pytest.mark.parametrize("name", ["click", "cryptography"])
+@pytest.mark.parametrize("fault", ["raise ImportError('no such file')", "raise SystemError('broken')", "raise OSError"])
+def test_packages_that_are_not_loaded(small: Small, tmp_path: Path, name: str, fault: str) -> None:
+    """Where one is missing or broken that isn't `revoked`."""
+    (tmp_path / name).mkdir()
+    (tmp_path / name / "__init__.py").write_text(fault, encoding="utf-8")
+    variables = {"PYTHONPATH": f"{tmp_path}{os.pathsep}{made.TOP / 'python'}"}
+    done = called("ask", small.store, small["elm-good.chain"], variables=variables)
+    assert (done.returncode, done.stdout) == (7, b"")
+    assert b"it can't be loaded" in done.stderr and b"install python3-click" in done.stderr
 
 
 # ---- devices

@@ -1,5 +1,5 @@
 """`python3 -m clubcard.ctl` is `clubcardctl`."""
 
-from .cli import main
+from .start import main
 
 main(prog_name="clubcardctl")

@@ -15,6 +15,7 @@ import click
 from ..layout import kinds
 from ..layout.fields import Octets
 from . import program as programs
+from .ask_words import Guarded
 from .facts import Facts, facts_of, fault_facts
 from .known import Names, names_of
 from .telling import lines_of
@@ -117,7 +118,7 @@ def status_of(report: Facts) -> Status:
     return Status.UNSAID if is_unsaid else Status.WRONG
 
 
-@click.command()
+@click.command(cls=Guarded)
 @click.option(
     "--kind",
     type=click.Choice(get_args(kinds.FileKind)),
