@@ -200,6 +200,17 @@ def test_a_disk_that_is_too_small(history: History, web: Web, tmp_path: Path) ->
     client.update(5)
 
 
+def test_a_disk_that_is_full(client: Follower, web: Web, monkeypatch: pytest.MonkeyPatch) -> None:
+    """A store that lacks nothing wants no room for parts, nor does one whose parts came before."""
+    history = client.history
+    monkeypatch.setattr("clubcard.update.parts.SPARE", 1 << 62)
+    assert client.run(history.now(4)).status == 5
+    part = client.folder / "state" / "parts" / Path(part_page(history, 4)).name
+    part.write_bytes(web.pages[part_page(history, 4)])
+    assert client.update(4).line.startswith("updated")
+    assert client.update(4).line.startswith("current")
+
+
 def test_a_slot_that_is_too_small(history: History, web: Web, tmp_path: Path) -> None:
     """It is told before anything is taken, and a greater one is made anew."""
     client = Follower(tmp_path / "client", history, web.base, True)

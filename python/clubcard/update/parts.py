@@ -38,11 +38,11 @@ def take_parts(
 
 
 def _test_room(folder: Path, length: int) -> None:
-    """Whether the disk has room for what the folder lacks of so many bytes, and some more; a system that says nothing
-    of its disk is believed to have."""
+    """Whether the disk has room for what the folder lacks of so many bytes, and some more; where it lacks nothing, or
+    the system says nothing of the disk, it has."""
     missing = length - sum(path.stat().st_size for path in folder.iterdir())
     disk = shutil.disk_usage(folder)
-    if disk.total and disk.free < missing + SPARE:
+    if missing > 0 and disk.total and disk.free < missing + SPARE:
         raise NotReached(f"{folder}: {missing} bytes of parts are to come, and {disk.free} are free: {FULL}")
 
 
