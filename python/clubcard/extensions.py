@@ -15,6 +15,7 @@ ISSUING_POINT = bytes.fromhex("551d1c")
 CERTIFICATE_ISSUER = bytes.fromhex("551d1d")
 ISSUER_NAME = bytes.fromhex("551d12")
 AUTHORITY_KEY = bytes.fromhex("551d23")
+BASIC_CONSTRAINTS = bytes.fromhex("551d13")
 FRESHEST = bytes.fromhex("551d2e")
 TIMESTAMPS = bytes.fromhex("2b06010401d679020402")
 

@@ -10,7 +10,7 @@ from dataclasses import dataclass
 from typing import NamedTuple
 
 from . import der as elements
-from .extensions import KEY_USAGE, TIMESTAMPS, Extension, point_urls, read_extensions, value_of
+from .extensions import BASIC_CONSTRAINTS, KEY_USAGE, TIMESTAMPS, Extension, point_urls, read_extensions, value_of
 from .names import are_same
 from .signatures import Unverified, verify
 
@@ -22,6 +22,7 @@ __all__ = [
     "Sighting",
     "certificates_of",
     "identity",
+    "is_authority",
     "issued_by",
     "issuer_hash",
     "may_sign",
@@ -216,6 +217,17 @@ def may_sign(der: bytes) -> bool:
         value = value_of(read_certificate(der).extensions(), KEY_USAGE)
         return value is None or bool(elements.only(value, elements.BIT_STRING)[1] & _KEY_CERT_SIGN)
     except (elements.Malformed, IndexError):
+        return False
+
+
+def is_authority(certificate: Certificate) -> bool:
+    """Whether a certificate's basic constraints say that it is an authority's (RFC 5280, 4.2.1.9)."""
+    try:
+        value = value_of(certificate.extensions(), BASIC_CONSTRAINTS)
+        walk = elements.Walk(b"" if value is None else elements.only(value, elements.SEQUENCE))
+        flag = walk.take_if(elements.BOOLEAN)
+        return flag is not None and elements.truth(flag.contents)
+    except elements.Malformed:
         return False
 
 

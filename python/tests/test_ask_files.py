@@ -8,8 +8,10 @@ from pathlib import Path
 from typing import Any
 
 import pytest
+from cryptography import x509
 
-from asked import Small, answers, called, ctl, ends
+import made
+from asked import SERIALS, Small, answers, called, ctl, ends, stamped, timestamp
 from clubcard.pki import LONGEST_FILE
 
 
@@ -83,6 +85,37 @@ def test_files_that_are_too_long(small: Small, folder: Path) -> None:
     with open(folder / "long", "r+b") as file:
         file.write(small["elm-revoked.chain"].read_bytes())
     ends("it has more than 16777216 bytes", 5, "ask", small.store, folder)
+
+
+# ---- several certificates in a file
+
+
+def test_several_certificates(small: Small, folder: Path) -> None:
+    """Each that is no issuer's is asked about, by an issuer in the file or given; one that stands twice once."""
+    file, elm = folder / "good.pem", small["elm.pem"]
+
+    def write(*names: str) -> None:
+        file.write_bytes(b"".join(small[f"{name}.pem"].read_bytes() for name in names))
+
+    every: list[tuple[list[str | Path], str]] = [(["-i", elm], "elm-good"), ([], "elm")]
+    for more, last in every:
+        write("elm-good", "elm-revoked", last, "elm-good", "elm-revoked")
+        result = ctl("ask", *more, small.store, file)
+        assert (result.exit_code, result.stdout) == (1, f"good {file}\nrevoked {file} (certificate 2)\n")
+    write("elm", "elm-revoked")
+    ends(f"revoked {file} (certificate 2)\n", 1, "ask", small.store, file)
+    write("elm-good", "oak-good", "elm")
+    ends("give that of its issuer, CN=oak", 5, "ask", small.store, file)
+
+
+@pytest.mark.parametrize("is_authority", [True, False])
+def test_authorities_behind_the_first(small: Small, folder: Path, is_authority: bool) -> None:
+    """A certificate that issued none of the file is asked about unless its basic constraints say that it may."""
+    extensions = [(x509.BasicConstraints(is_authority, None), True), stamped(timestamp(made.LOG, made.MOMENT))]
+    with open(folder / "good.pem", "ab") as file:
+        file.write(made.pem_of(small.elm.issue(SERIALS["revoked"], extensions)))
+    result = ctl("ask", small.store, folder)
+    assert (result.exit_code, result.stdout.count("\n")) == ((0, 1) if is_authority else (1, 2))
 
 
 # ---- names

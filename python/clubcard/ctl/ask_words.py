@@ -188,10 +188,10 @@ def end(answers: Sequence[Answer]) -> NoReturn:
 def ask(store: str, manifest: str | None, max_away: str, count: bool, as_json: bool, **given: Any) -> None:
     """Asks STORE, or the one in DEVICE, about each CERT, by its timestamps.
 
-    CERT is a file in PEM or DER, of which the first certificate is asked about, a folder of such files, or - for
-    standard input. Its issuer's certificate must have issued it: its key verifies the signature. A line is a verdict
-    and the file's name; what can't be asked is said on standard error. Of a certificate that no job accepted either of
-    good and revoked may come (docs/GUIDE.md).
+    CERT is a file in PEM or DER, a folder of such files, or - for standard input. Of several certificates in a file the
+    first is asked about, and each that is no authority's and issued none of them. Its issuer's certificate must
+    have issued it: its key verifies the signature. A line is a verdict and the file's name; what can't be asked is said
+    on standard error. Of a certificate that no job accepted either of good and revoked may come (docs/GUIDE.md).
 
     Status 0: good; 1: revoked; 3: not-covered; 4: not-enrolled; 5: a file holds no certificate, or its issuer isn't
     there; 6: the certificate, its timestamps or SERIAL can't be read; 7: STORE or MANIFEST is none, MANIFEST is of

@@ -121,12 +121,12 @@ def identified(store: Store, words: Words) -> Iterator[Answer]:
     by_serial = words.by_serial()
     given = given_issuers(words.issuers)
     found = [*read_files(words.certificates), *read_hosts(words.hosts)]
-    others: dict[bytes, list[Certificate]] = {}
+    others: dict[bytes, dict[Certificate, None]] = {}
     for asked in (each for each in found if isinstance(each, Asked)):
         for certificate in (asked.certificate, *(each.certificate for each in asked.chain)):
-            others.setdefault(certificate.subject, []).append(certificate)
+            others.setdefault(certificate.subject, {})[certificate] = None
     for each in _shown(found):
-        same_name = [] if isinstance(each, Answer) else others.get(each.certificate.issuer, [])
+        same_name = [] if isinstance(each, Answer) else list(others.get(each.certificate.issuer, ()))
         yield each if isinstance(each, Answer) else _identified(store, each, given, same_name)
     if by_serial is not None:
         yield Answer(f"serial {by_serial.serial.hex()}", None, identity=by_serial)
@@ -160,7 +160,7 @@ def _with_verdict(store: Store, answer: Answer, said: Verdict | Refusal) -> Answ
 
 
 def ask(store: Store, words: Words, away: Away | None = None) -> list[Answer]:
-    """What a store says of all that words name: of several certificates in a file of the first."""
+    """What a store says of all that words name."""
     found = list(identified(store, words))
     wanted = [each.identity for each in found if each.identity is not None and each.is_open]
     said = iter(answers_of(store, wanted) if wanted else [])

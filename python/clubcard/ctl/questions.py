@@ -8,8 +8,8 @@ from concurrent.futures import ThreadPoolExecutor
 from dataclasses import dataclass
 from pathlib import Path
 
-from ..names import text_of
-from ..pki import LONGEST_FILE, Certificate, PkiError, Sighting, certificates_of, read_certificate
+from ..names import are_same, text_of
+from ..pki import LONGEST_FILE, Certificate, PkiError, Sighting, certificates_of, is_authority, read_certificate
 from . import notations
 from .files import is_pair, why_no_pair
 from .hosts import HostError, chain_of
@@ -101,6 +101,22 @@ def _asked(name: str, ders: Sequence[bytes]) -> Asked:
     return Asked(name, first, tuple(Placed(each, f"{name}, behind the first") for each in chain))
 
 
+def _all_asked(name: str, ders: Sequence[bytes]) -> Iterator[Asked]:
+    """The first of a file's certificates, and each later one that is no authority's and issued none of them."""
+    first, *found = [read_certificate(each) for each in ders]
+    yield _asked(name, ders)
+    issuers = {each.issuer for each in (first, *found)}
+    alone, behind = dict[Certificate, int](), [Placed(first, f"{name}, the first")]
+    for place, each in enumerate(found, 2):
+        is_named = any(are_same(each.subject, issuer) for issuer in issuers)
+        if is_authority(each) or (is_named and any(is_pair(other, each) for other in (first, *found))):
+            behind.append(Placed(each, f"{name}, behind the first"))
+        elif each != first:
+            alone.setdefault(each, place)
+    for each, place in alone.items():
+        yield Asked(f"{name} (certificate {place})", each, tuple(behind))
+
+
 def given_issuers(names: Sequence[str]) -> list[Placed]:
     """The certificates in the files of issuers."""
     try:
@@ -122,7 +138,7 @@ def read_files(names: Sequence[str]) -> Iterator[Asked | Answer]:
     """What is asked about of some files and folders, or why there is nothing; `-` is standard input."""
     for name, is_named in files_of(names):
         try:
-            yield _asked(name, certificates_of("/dev/stdin" if name == "-" else name))
+            yield from _all_asked(name, certificates_of("/dev/stdin" if name == "-" else name))
         except PkiError as error:
             # In a folder the files that hold none are passed over.
             status = Status.NO_CERTIFICATE if is_named or _may_hold_one(name) else None
@@ -146,8 +162,8 @@ def read_hosts(names: Sequence[str]) -> Iterator[Asked | Answer]:
 
 
 def issuer_of(asked: Asked, given: Sequence[Placed], others: Sequence[Certificate]) -> Certificate:
-    """The certificate that issued the first of a file: one behind it or given for it, or one of other files, but where
-    some are near not itself. Else it raises `PkiError`."""
+    """The certificate that issued one that is asked about: one of its file, one given for it, or one of other files,
+    but where some are near not itself. Else it raises `PkiError`."""
     near = [*asked.chain, *given]
     far = [each for each in others if not near or each != asked.certificate]
     for issuer in [*(each.certificate for each in near), *far]:
