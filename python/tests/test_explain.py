@@ -1,6 +1,7 @@
 """`clubcardctl explain`, against a chain's own record."""
 
 import json
+import weakref
 from pathlib import Path
 from typing import Any
 
@@ -14,6 +15,7 @@ from clubcard.ctl.stores import open_store
 from clubcard.ctl.verdicts import Answer, Identity, Status
 from clubcard.pki import Sighting
 from clubcard import manifest as manifests
+from clubcard.store import Store
 from clubcard.times import nearest_iso
 from told import BEGIN, EPOCHS, ISSUERS, Certificate, Story
 
@@ -118,6 +120,21 @@ def test_the_stores_that_are_cut(story: Story) -> None:
         cut = explaining.cut(octets, [each.found for each in parts[: part.place + 1]])
         assert cut == (story.folder / f"store{part.place}").read_bytes()
         assert part.store.examine() == (part.place + 1, story.epochs[part.place].epoch)
+
+
+def test_one_store_at_a_time(story: Story, monkeypatch: pytest.MonkeyPatch) -> None:
+    """However many parts there are, no more than one store is cut at once."""
+    made, held = weakref.WeakSet[Store](), list[int]()
+
+    def counted(octets: bytes) -> Store:
+        store = Store(octets)
+        made.add(store)
+        held.append(len(made))
+        return store
+
+    monkeypatch.setattr(explaining, "Store", counted)
+    explained(story.store, story.certificates[0])
+    assert held == [1] * EPOCHS
 
 
 def test_lines(story: Story) -> None:

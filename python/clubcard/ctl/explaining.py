@@ -23,13 +23,19 @@ _COUNT_AT = 9
 
 @dataclass(frozen=True)
 class Part:
-    """A part of a store: its place from 0, what is read of it, the store that ends with it, and the moment of its epoch
-    where that is known."""
+    """A part of a store: its place from 0, what is read of it, the whole store and all that is read of that, and the
+    moment of its epoch where that is known."""
 
     place: int
     found: PartFound
-    store: Store
+    octets: bytes
+    parts: Sequence[PartFound]
     moment: int | None
+
+    @property
+    def store(self) -> Store:
+        """The store that ends with it, which is cut each time: all of them may be more than memory holds."""
+        return Store(cut(self.octets, self.parts[: self.place + 1]))
 
     def range_of(self, sighting: Sighting) -> tuple[int, int] | None:
         """What it covers of a timestamp's log, both ends included, where it covers something of it."""
@@ -74,7 +80,7 @@ class Part:
 def cut(octets: bytes, parts: Sequence[PartFound]) -> bytes:
     """The store of some parts at the beginning of another store."""
     end = parts[-1].offset + (parts[-1].length or 0)
-    return octets[:_COUNT_AT] + bytes([len(parts)]) + octets[_COUNT_AT + 1 : end]
+    return b"".join([octets[:_COUNT_AT], bytes([len(parts)]), memoryview(octets)[_COUNT_AT + 1 : end]])
 
 
 def read_parts(octets: bytes, moments: dict[int, int]) -> list[Part]:
@@ -82,8 +88,7 @@ def read_parts(octets: bytes, moments: dict[int, int]) -> list[Part]:
     found = StoreFound()
     read_store(Fields(octets), found)
     return [
-        Part(place, part, Store(cut(octets, found.parts[: place + 1])), moments.get(part.epoch or 0))
-        for place, part in enumerate(found.parts)
+        Part(place, part, octets, found.parts, moments.get(part.epoch or 0)) for place, part in enumerate(found.parts)
     ]
 
 
