@@ -95,6 +95,13 @@ def test_a_serial_with_two_readings(small: Small) -> None:
     assert (notations.serial("1000").other, notations.serial("129").other) == (b"\x10\x00", b"\x01\x29")
 
 
+def test_octets_of_serials_below_0(small: Small) -> None:
+    """Octets with colons are those of a number above 0, as --help says."""
+    assert ctl("ask", small.store, *small.by_serial("good", serial="D0:0A")).stdout == "good serial 00d00a\n"
+    text = " ".join(ctl("ask", "--help").stdout.split())
+    assert "D0:0A is 00d00a. Of one below 0 Firefox prints the same octets: give CERT." in text
+
+
 def test_issuers_and_logs(small: Small) -> None:
     """The issuer by its key hash or by its certificate, and the log by the ways to write its id."""
     line = "good serial 00d00a\n"
