@@ -84,7 +84,7 @@ usage "a command with another mark" "\`query-cert\` is one" query_cert a b c
 usage "too few words" "clubcard start PART STORE" start a.part
 usage "an option" "clubcard check PART" check --verbose a.part
 query "a time without its log" "LOG TIME 1 to 64 times" $key 05 $log
-query "a serial with colons" "write it without \`0x\`, colons and spaces: 00D00A" $key 00:D0:0A $log $moment
+query "a serial with colons" "write it without \`0x\`, colons and spaces: 00d00a" $key 00:d0:0a $log $moment
 query "a serial with 0x" "write it without \`0x\`, colons and spaces: 05" $key 0x05 $log $moment
 query "a serial of odd length" "write 05" $key 5 $log $moment
 query "a serial that isn't hexadecimal" "no hexadecimal digits" $key serial $log $moment

@@ -97,9 +97,9 @@ def test_a_serial_with_two_readings(small: Small) -> None:
 
 def test_octets_of_serials_below_0(small: Small) -> None:
     """Octets with colons are those of a number above 0, as --help says."""
-    assert ctl("ask", small.store, *small.by_serial("good", serial="D0:0A")).stdout == "good serial 00d00a\n"
+    assert ctl("ask", small.store, *small.by_serial("good", serial="d0:0a")).stdout == "good serial 00d00a\n"
     text = " ".join(ctl("ask", "--help").stdout.split())
-    assert "D0:0A is 00d00a. Of one below 0 Firefox prints the same octets: give CERT." in text
+    assert "d0:0a is 00d00a. Of one below 0 Firefox prints the same octets: give CERT." in text
 
 
 def test_issuers_and_logs(small: Small) -> None:

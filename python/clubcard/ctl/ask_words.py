@@ -73,7 +73,7 @@ _OPTIONS = [
     click.option(
         "--serial",
         metavar="SERIAL",
-        help="A serial above 0 as openssl, browsers and crt.sh print it: 04:d0:0a, 0x04d00a, serial=04D00A; D0:0A is "
+        help="A serial above 0 as openssl, browsers and crt.sh print it: 04:d0:0a, 0x04d00a, serial=04D00A; d0:0a is "
         "00d00a. Of one below 0 Firefox prints the same octets: give CERT. Decimal digits alone are a decimal number, "
         "but with a 0 in front hexadecimal; where both may be, and the verdicts differ, it is a fault.",
     ),
