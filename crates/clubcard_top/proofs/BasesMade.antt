@@ -32,7 +32,7 @@ use Rattle.clubcard_top.specs.ReplyFields.{Done, NamedFault}
 use Rattle.clubcard_top.specs.Commands.{only, verdict_word, query_done, Makes}
 use Rattle.clubcard_top.specs.Rebasings.{base_line, base_done, rebased_as, MakesBase, MakesRebase}
 use Rattle.clubcard_top.specs.Replies.{held_by}
-use Rattle.clubcard_top.specs.Headline.{RebasesHistory, IsRebased, IsRebasableWithout, base_of, IsKept, AsksBase, AsksStore, AsksHistory, AsksLeftOut, truth_line, truth_done}
+use Rattle.clubcard_top.specs.Headline.{RebasesHistory, Rebased, IsRebasableWithout, base_of, IsKept, AsksBase, AsksStore, AsksHistory, AsksLeftOut, truth_line, truth_done}
 use Rattle.clubcard_top.proofs.Made.{ReadBack, ledger_input}
 use Rattle.clubcard_top.proofs.Results.{ok_same}
 use Rattle.clubcard_top.proofs.Unique.{OneBase}
@@ -64,7 +64,7 @@ module _ (layers : BaseLayers) where
       (subst (λ (c : Command). Makes c (held_by c files) o) p.0 m)
 
   rebased_by : (r : RebaseFields) (h : History) (parts : List SealedFields) (d : Done) → IsHistory h parts → 1 ≤ members h → (x : Result BasePublicationFields BaseFault)
-      → PublishesBase (ledger_of (releases_of h parts)) r.moment r.without x → Ok d ≡ rebased_as r x → IsRebased r h parts d
+      → PublishesBase (ledger_of (releases_of h parts)) r.moment r.without x → Ok d ≡ rebased_as r x → Rebased r h parts d
   rebased_by r h parts d is some (Ok p) publishes is_done =
       let same : d ≡ base_done r p = ok_same {E = NamedFault} d (base_done r p) is_done in
       let begins : IsHistory (base_of h parts r.moment r.without) (p.sealed ∷ []) = layers.begins h parts r.moment r.without p is some publishes in
@@ -81,7 +81,7 @@ module _ (layers : BaseLayers) where
       absurd (let g : ◌≡◌ {A = Result Done NamedFault} (Ok d) (rebased_as r (Err fault)) = is_done in cc)
 
   pub rebased_law : (asked : Command) (files : Files) (r : RebaseFields) (h : History) (parts : List SealedFields) (d : Done) → IsHistory h parts
-      → RebasesHistory asked files r h parts → Makes asked (held_by asked files) (Ok d) → IsRebased r h parts d
+      → RebasesHistory asked files r h parts → Makes asked (held_by asked files) (Ok d) → Rebased r h parts d
   rebased_law asked files r h parts d is p m =
       let x = made asked files r h parts (Ok d) is p m in
       rebased_by r h parts d is p.1 x.result x.publishes x.is

@@ -26,8 +26,6 @@ pub mod Replying
 pub mod Results
 pub mod Succeeded
 pub mod OfHistories
-pub mod Tellings
 pub mod Unique
-pub mod Ways
 pub mod WordsApart
 pub mod Workers

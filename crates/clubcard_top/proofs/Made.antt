@@ -56,7 +56,7 @@ use Rattle.clubcard_top.specs.ReplyFields.{Done, NamedFault}
 use Rattle.clubcard_top.specs.Commands.{◌>>=◌, named, input, only, verdict_word, query_done, query_makes, query_cert_makes, epoch_of, stored, begun_by, installed_by, start_makes}
 use Rattle.clubcard_top.specs.Commands.{install_makes, publication_done, published_as, MakesPart, MakesSnapshot, MakesDelta, Makes}
 use Rattle.clubcard_top.specs.Replies.{held_by}
-use Rattle.clubcard_top.specs.Headline.{HoldsJob, HoldsLedger, PublishesJob, publishes_to, IsPublished, StoresPart, stores_to, IsStored, AsksStore, AsksHistory, truth_done}
+use Rattle.clubcard_top.specs.Headline.{HoldsJob, HoldsLedger, PublishesJob, publishes_to, Published, StoresPart, stores_to, Stored, AsksStore, AsksHistory, truth_done}
 use Rattle.clubcard_top.specs.Headline.{HoldsCert, HoldsKey, AsksCert, cert_truth_line}
 use Rattle.clubcard_top.proofs.CertTruth.{certificate_read, issuer_read, truth_of_covered}
 use Rattle.clubcard_top.proofs.Makings.{cert_last, cert_then, cert_after}
@@ -114,7 +114,7 @@ module _ (layers : Layers) where
   published_by : (asked : Command) (h : History) (parts : List SealedFields) (job : JobFields) (d : Done) (name part ledger : List ℕ) (before : LedgerFields) → IsHistory h parts
       → before ≡ ledger_of (releases_of h parts) → ((a b : List ℕ) → publishes_to asked a b ≡ record { name = part; bytes = a } ∷ record { name = ledger; bytes = b } ∷ [])
       → (fits : FitsFields job) (limits : IsWithinLimits PUBLISHED job) (r : Result PublicationFields PublishFault) → Publishes before job r
-      → Ok d ≡ published_as name part ledger r → IsPublished asked h parts job d
+      → Ok d ≡ published_as name part ledger r → Published asked h parts job d
   published_by asked h parts job d name part ledger before is ledger_is outputs fits limits (Ok p) pub_ is_done =
       let same : d ≡ publication_done part ledger p = ok_same {E = NamedFault} d (publication_done part ledger p) is_done in
       let x : Publishes (ledger_of (releases_of h parts)) job (Ok p) = subst (λ (l : LedgerFields). Publishes l job (Ok p)) ledger_is pub_ in
@@ -179,7 +179,7 @@ module _ (layers : Layers) where
   }
 
   pub published : (asked : Command) (files : Files) (h : History) (parts : List SealedFields) (job : JobFields) (d : Done) → IsHistory h parts → PublishesJob asked files h parts job
-      → Makes asked (held_by asked files) (Ok d) → IsPublished asked h parts job d
+      → Makes asked (held_by asked files) (Ok d) → Published asked h parts job d
   published asked files h parts job d is p m =
       let b = behind asked files h parts job (Ok d) is p m in
       published_by asked h parts job d b.name b.part_name b.ledger_name b.before is b.is_before b.outputs b.makes.fits b.makes.limits b.makes.result b.makes.publishes b.makes.is
@@ -231,7 +231,7 @@ module _ (layers : Layers) where
 
   stored_is : (asked : Command) (name : List ℕ) (parts : List SealedFields) (s : SealedFields) (o : Result Done NamedFault)
       → ((b : List ℕ) → stores_to asked b ≡ record { name = name; bytes = b } ∷ [])
-      → o ≡ Ok (stored name (parts ++ s ∷ [])) → (d : Done) × (o ≡ Ok d) × IsStored asked parts s d
+      → o ≡ Ok (stored name (parts ++ s ∷ [])) → (d : Done) × (o ≡ Ok d) × Stored asked parts s d
   stored_is asked name parts s o outputs is = (
     stored name (parts ++ s ∷ []),
     is,
@@ -270,7 +270,7 @@ module _ (layers : Layers) where
       ∙ ap (λ (why : Option Refusal). named i.part (installed_by why parts s) >>= (λ more. Ok (stored i.new_store more))) grown.1
 
   pub stored_law : (asked : Command) (files : Files) (h : History) (parts : List SealedFields) (s : SealedFields) (o : Result Done NamedFault) → IsHistory h (parts ++ s ∷ [])
-      → StoresPart asked files parts s → Makes asked (held_by asked files) o → (d : Done) × (o ≡ Ok d) × IsStored asked parts s d
+      → StoresPart asked files parts s → Makes asked (held_by asked files) o → (d : Done) × (o ≡ Ok d) × Stored asked parts s d
   stored_law commands.Usage files h parts s o is p m = absurd p
   stored_law (commands.Query q) files h parts s o is p m = absurd p
   stored_law (commands.QueryCert q) files h parts s o is p m = absurd p

@@ -1,5 +1,5 @@
 -- What comes of a command: its outputs, its statuses, and which inputs it rests on.
-use Rattle.std.proofs.Common.{◌≡◌, ℕ, ◌⊎◌, inl, inr, List, [], ◌∷◌, ◌++◌, Option, Some, None, Result, Ok, Err, refl, sym, ap, ◌∙◌, subst}
+use Rattle.std.proofs.Common.{◌≡◌, ℕ, Bool, true, false, ◌||◌, ◌⊎◌, inl, inr, List, [], ◌∷◌, ◌++◌, Option, Some, None, Result, Ok, Err, refl, sym, ap, ◌∙◌, subst}
 use Rattle.std.specs.Prelude.{IsTrue, IfErr, Bool, true, false, length, nat_lt, nat_le, ◌+◌, if◌then◌else◌}
 use Rattle.octets_core.specs.Layout.{Layout, then_read, with_fault, mapped, whole}
 use Rattle.octets_core.specs.Reading.{end, value_of, GivesUnless}
@@ -92,11 +92,18 @@ refusal_quiet name (faults.BadPage fault) = refl
 refusal_quiet name (faults.Disagrees job entry held truth) = refl
 refusal_quiet name faults.NoMemory = refl
 
--- the statuses of a command that isn't `Usage`
-abbrev pub of_commands : List ℕ
-of_commands = 0 ∷ 3 ∷ 4 ∷ 5 ∷ 6 ∷ 7 ∷ 8 ∷ 12 ∷ 16 ∷ 17 ∷ 70 ∷ []
+pub or_right : (a b : Bool) → b ≡ true → (a || b) ≡ true
+or_right true b h = refl
+or_right false b h = h
 
-pub fault_status : (name : List ℕ) (fault : FileFault) → IsTrue (is_one_of of_commands (refusal name fault).status)
+-- the statuses of what is wrong with a file, and those of a command that isn't `Usage`
+abbrev pub of_faults : List ℕ
+of_faults = 3 ∷ 4 ∷ 5 ∷ 6 ∷ 7 ∷ 8 ∷ 12 ∷ 16 ∷ 17 ∷ 70 ∷ []
+
+abbrev pub of_commands : List ℕ
+of_commands = 0 ∷ of_faults
+
+pub fault_status : (name : List ℕ) (fault : FileFault) → IsTrue (is_one_of of_faults (refusal name fault).status)
 fault_status name faults.Unread = refl
 fault_status name (faults.Layout f) = refl
 fault_status name faults.NotSnapshot = refl
@@ -111,7 +118,7 @@ fault_status name faults.NoMemory = refl
 
 pub outcome_status : (o : Result Done NamedFault) → IsTrue (is_one_of of_commands (reply_of o).status)
 outcome_status (Ok d) = refl
-outcome_status (Err e) = fault_status e.name e.fault
+outcome_status (Err e) = or_right _ _ (fault_status e.name e.fault)
 
 -- ---- steps
 

@@ -1,6 +1,7 @@
 -- What a call that succeeds found, left and said; and when one must succeed.
 use Rattle.std.proofs.Common.{◌≡◌, ◌≢◌, ℕ, cond, ◌⊎◌, List, [], ◌∷◌, ◌++◌, length, Option, Some, None, Result, Ok, Err, refl, sym, ap, subst, ◌∙◌}
-use Rattle.std.proofs.Common.{◌+◌, ◌≤◌, Bool, true, false, map, length-append, arith}
+use Rattle.std.proofs.Common.{◌+◌, ◌≤◌, Bool, true, false, map, length-append, arith, All}
+use Rattle.std.proofs.lemmas.List.Elements.{All-nil, All-cons}
 use Rattle.std.specs.Prelude.{nat_le, if◌then◌else◌}
 use Rattle.std.specs.Cmp.Lexicographic.{nat_list_cmp_total}
 use Rattle.std.specs.FinMap.{get, insert, get-insert}
@@ -8,78 +9,102 @@ use Rattle.std.proofs.lemmas.List.{length-map}
 use Rattle.std.proofs.lemmas.Map.Text.{is_eq-slice_cmp}
 use Rattle.std.proofs.lemmas.Slice.Eq.{bytes_eq-Decides}
 use Rattle.outside_core.specs.Files.{Files}
-use Rattle.outside_core.specs.Written.{followed_by}
 use Rattle.ident_core.specs.declared.kind.Kind.{Kind}
 use Rattle.ident_core.specs.declared.kind.Kind.TheVariants as kinds
-use Rattle.sample_core.specs.Sample.{sample_text}
 use Rattle.gather_core.specs.Pages.{PageFields}
 use Rattle.job_core.specs.declared.bounds.TheConstants.Limits as limits
 use Rattle.job_core.specs.declared.bounds.What.TheVariants as what
 use Rattle.job_core.specs.JobFields.{JobFields}
 use Rattle.universe_core.specs.History.{seen}
 use Rattle.audit_core.specs.Auditing.{releases_of as audited_releases, AllAgree}
-use Rattle.job_core.specs.JobText.{JobContents, spelling as job_text}
+use Rattle.job_core.specs.JobText.{JobContents}
 use Rattle.ledger_core.specs.LedgerFields.{LedgerFields}
-use Rattle.ledger_core.specs.LedgerText.{ledger_text}
 use Rattle.part_text.specs.SealedFields.{SealedFields}
-use Rattle.part_text.specs.PartText.{spelling}
 use Rattle.universe_core.specs.Ledgers.{no_ledger}
 use Rattle.store_core.specs.declared.chain.Refusal.{Refusal}
 use Rattle.store_core.specs.Chain.{newest_of, refusal_of}
-use Rattle.store_core.specs.StoreLayout.{store_text}
 use Rattle.publication_core.specs.declared.fault.PublishFault.{PublishFault}
 use Rattle.publication_core.specs.Publishing.{PublicationFields as Publication, CanBePublished, Publishes}
-use Rattle.publication_core.specs.declared.base.BaseCounts.{BaseCounts}
 use Rattle.publication_core.specs.declared.base_fault.BaseFault.{BaseFault}
 use Rattle.publication_core.specs.Rebasing.{BasePublicationFields, IsBasePublication, PublishesBase, CanBeRebased}
 use Rattle.word_core.specs.declared.command.Command.{Command}
+use Rattle.word_core.specs.Names.{outputs_of}
 use Rattle.word_core.specs.declared.command.Command.TheVariants as commands
 use Rattle.word_core.specs.CommandFields.{QueryFields, QueryCertFields, SnapshotFields, DeltaFields, RebaseFields, StartFields, InstallFields, SampleFields, GatherFields, AuditFields}
 use Rattle.input_core.specs.declared.certificates.Certificate.{Certificate}
 use Rattle.input_core.specs.declared.fault.FileFault.{FileFault}
 use Rattle.input_core.specs.declared.fault.FileFault.TheVariants as faults
 use Rattle.clubcard_top.specs.Faults.{of_publishing, of_rebasing}
-use Rattle.clubcard_top.specs.ReplyFields.{Done, NamedFault}
+use Rattle.clubcard_top.specs.ReplyFields.{OutputFields, Done, NamedFault}
 use Rattle.input_core.specs.Readings.{job_in, ledger_in, part_in, store_in}
 use Rattle.input_core.specs.Certificates.{certificate_in, issuer_in}
-use Rattle.clubcard_top.specs.Commands.{◌>>=◌, named, input, both_files, query_done, query_cert_done, check_done, show_done, stored, begun_by, begun, installed_by, installed}
+use Rattle.clubcard_top.specs.Commands.{◌>>=◌, named, input, query_done, query_cert_done, check_done, show_done, stored, begun_by, begun, installed_by, installed}
 use Rattle.clubcard_top.specs.Commands.{publication_done, published_as, MakesPart, MakesSnapshot, MakesDelta, sample_done}
-use Rattle.clubcard_top.specs.Commands.{head_in, page_in, room_for, pages_of, longer, gather_done, AreJobs, Makes}
-use Rattle.clubcard_top.specs.Rebasings.{base_line, base_done, rebased_as, MakesBase, MakesRebase}
-use Rattle.clubcard_top.specs.Replies.{held_by}
+use Rattle.clubcard_top.specs.Commands.{head_in, page_in, room_for, pages_of, gather_done, AreJobs, Makes}
+use Rattle.clubcard_top.specs.Rebasings.{base_done, rebased_as, MakesBase, MakesRebase}
+use Rattle.clubcard_top.specs.Replies.{done, held_by}
 use Rattle.clubcard_top.specs.Runs.{with_outputs}
-use Rattle.clubcard_top.specs.Calls.{Call, Reads, Holds, ChangesNoFile, Prints, NoFault}
-use Rattle.clubcard_top.specs.Endings.{Succeeds, Did, WantedMemory}
+use Rattle.clubcard_top.specs.Calls.{Call, Reads, NoFault}
+use Rattle.clubcard_top.specs.Endings.{Succeeds, Did, Gives, GivesDone, WantedMemory, Ends}
 use Rattle.clubcard_top.specs.Audits.{audit_jobs, audit_done, MakesAudit}
-use Rattle.clubcard_top.specs.Successes.{PublishesFile, BeginsAnew, ReadsPages, ReadsJobs, AreWithinLimits, IsAudited, SaysTheTruth}
+use Rattle.clubcard_top.specs.Successes.{ReadsPart, ReadsPages, ReadsJobs, AreWithinLimits, IsAudited, SaysTheTruth}
 use Rattle.clubcard_top.proofs.AuditsMade.{audit_done_is, audit_jobs_back, audit_makes}
-use Rattle.clubcard_top.proofs.Files.{get-other}
-use Rattle.clubcard_top.proofs.Makings.{gather_after, page_last, page_then, cert_last, cert_then, cert_after}
+use Rattle.clubcard_top.proofs.Makings.{done_names, gather_after, page_last, page_then, cert_last, cert_then, cert_after}
 use Rattle.clubcard_top.proofs.PagesPut.{behind_these, page_put}
 use Rattle.clubcard_top.proofs.Results.{ok_same}
-use Rattle.clubcard_top.proofs.Promised.{EndsOld, answers, sure}
+use Rattle.clubcard_top.proofs.Outputs.{names_of, keeps-written}
+use Rattle.clubcard_top.proofs.Promised.{answers, sure}
 use Rattle.clubcard_top.proofs.WordsApart.{IsApart}
 
 -- ---- files after a write
 
--- this holds the bytes under the name
-abbrev HoldsIn : Option Files → List ℕ → List ℕ → Type 0
-HoldsIn told name bytes = (files : Files) × (told ≡ Some files) × (get files name ≡ Some bytes)
+-- names of which no two are the same
+abbrev pub AreApart : List (List ℕ) → Type 0
+AreApart [] = Unit {0}
+AreApart (name ∷ names) = All (λ other. name ≢ other) names × AreApart names
+
+none_apart : (name : List ℕ) → AreApart (name ∷ [])
+none_apart name = (All-nil (λ other. name ≢ other), tt)
+
+two_apart : (a b : List ℕ) → a ≢ b → AreApart (a ∷ b ∷ [])
+two_apart a b apart = (All-cons (λ other. a ≢ other) b [] apart (All-nil (λ other. a ≢ other)), none_apart b)
+
+-- the names of a command's outputs
+pub outputs_apart : (c : Command) → IsApart c → AreApart (outputs_of c)
+outputs_apart (commands.Snapshot s) apart = two_apart s.part s.ledger apart
+outputs_apart (commands.Delta d) apart = two_apart d.part d.new_ledger apart
+outputs_apart (commands.Rebase r) apart = two_apart r.part r.new_ledger apart
+outputs_apart (commands.Start t) apart = none_apart t.store
+outputs_apart (commands.Install i) apart = none_apart i.new_store
+outputs_apart (commands.Sample s) apart = none_apart s.job
+outputs_apart (commands.Gather g) apart = none_apart g.job
+outputs_apart commands.Usage apart = tt
+outputs_apart (commands.Query q) apart = tt
+outputs_apart (commands.QueryCert q) apart = tt
+outputs_apart (commands.Check n) apart = tt
+outputs_apart (commands.Show n) apart = tt
+outputs_apart (commands.Rehearse r) apart = tt
+outputs_apart (commands.Audit a) apart = tt
 
 get-same : (files : Files) (name bytes : List ℕ) → get (insert files name bytes) name ≡ Some bytes
 get-same files name bytes =
     get-insert nat_list_cmp_total files name bytes name
     ∙ ap (λ t. cond t (Some bytes) (get files name)) (is_eq-slice_cmp name name ∙ (bytes_eq-Decides name name).1 refl)
 
-pub one_held : (files : Files) (name bytes : List ℕ) (after : Option Files) → after ≡ Some (insert files name bytes)
-    → HoldsIn after name bytes
-one_held files name bytes after is = (insert files name bytes, is, get-same files name bytes)
+-- each output is held once all are written
+abbrev IsHeld : Option Files → OutputFields → Type 0
+IsHeld told o = (files : Files) × (told ≡ Some files) × (get files o.name ≡ Some o.bytes)
 
-pub two_held : (files : Files) (a b x y : List ℕ) (after : Option Files) → a ≢ b
-    → after ≡ Some (insert (insert files a x) b y) → HoldsIn after a x × HoldsIn after b y
-two_held files a b x y after apart is =
-    let both = insert (insert files a x) b y in
-    ((both, is, get-other (insert files a x) b y a apart ∙ get-same files a x), (both, is, get-same (insert files a x) b y))
+held_after : (files : Files) (o : OutputFields) (outputs : List OutputFields) → All (λ other. o.name ≢ other) (names_of outputs)
+    → IsHeld (with_outputs (Some (insert files o.name o.bytes)) outputs) o
+held_after files o outputs apart =
+    let k = keeps-written (Some (insert files o.name o.bytes)) outputs in
+    (k.0, k.1, k.2 o.name apart ∙ get-same files o.name o.bytes)
+
+all_held : (files : Files) (outputs : List OutputFields) → AreApart (names_of outputs) → All (IsHeld (with_outputs (Some files) outputs)) outputs
+all_held files [] apart = All-nil (IsHeld (Some files))
+all_held files (o ∷ outputs) apart =
+    All-cons (IsHeld (with_outputs (Some files) (o ∷ outputs))) o outputs (held_after files o outputs apart.0) (all_held (insert files o.name o.bytes) outputs apart.1)
 
 some_same : (a b : Files) → ◌≡◌ {A = Option Files} (Some a) (Some b) → a ≡ b
 some_same a b h = cc
@@ -211,236 +236,27 @@ Rebasable = (before : LedgerFields) (moment : ℕ) (without : List (List ℕ)) �
 -- ---- each command
 
 module _ (call : Call) where
+  -- what came of a command that was done is given
+  pub given_done : (files : Files) → call.files_before ≡ Some files → IsApart call.asked → (d : Done)
+      → Makes call.asked (held_by call.asked files) (Ok d) → Gives call (done d) → GivesDone call d
+  given_done files told apart d m g = record {
+    gives = g;
+    held = subst (λ (t : Option Files). All (IsHeld t) d.outputs)
+        (sym (g.files ∙ ap (λ (t : Option Files). with_outputs t d.outputs) told))
+        (all_held files d.outputs
+        (subst AreApart (sym (done_names call.asked (held_by call.asked files) d m)) (outputs_apart call.asked apart)));
+  }
+
   -- what came of the command
   record Came (command : Command) (files : Files) : Type 0 where
     pub d : Done
     pub makes : Makes command (held_by command files) (Ok d)
-    pub text : Prints call d.text
-    pub files_are : call.files_after ≡ with_outputs (Some files) d.outputs
-
-  came : EndsOld call → (command : Command) (did : Did call command) → Came command did.files
-  came ends command did =
-      let a = answers call ends did.files did.told did.succeeds in
-      record {
-        d = a.done;
-        makes = subst (λ (c : Command). Makes c (held_by c did.files) (Ok a.done)) did.asked a.makes;
-        text = a.written;
-        files_are = a.files_are;
-      }
+    pub given : GivesDone call d
 
   reads : {A : Type 0} (files : Files) → call.files_before ≡ Some files
       → (name : List ℕ) (read : List ℕ → Result A FileFault) (x : A) → input name read (get files name) ≡ Ok x
       → Reads call name read x
   reads files told name read x h = let i = input_ok name read (get files name) x h in (i.0, (files, told, i.1), i.2)
-
-  pub prints : (d e : Done) → d ≡ e → Prints call d.text → Prints call e.text
-  prints d e same h = subst (λ (k : Done). Prints call k.text) same h
-
-  pub left : (files : Files) (d e : Done) → d ≡ e → call.files_after ≡ with_outputs (Some files) d.outputs
-      → call.files_after ≡ with_outputs (Some files) e.outputs
-  left files d e same h = subst (λ (k : Done). call.files_after ≡ with_outputs (Some files) k.outputs) same h
-
-  pub query : EndsOld call → (q : QueryFields) → (did : Did call (commands.Query q)) → (parts : List SealedFields)
-      × Reads call q.store store_in parts × Prints call (query_done q parts).text × ChangesNoFile call
-  query ends q did =
-      let c = came ends (commands.Query q) did in
-      let s = step_ok (input q.store store_in (get did.files q.store)) (λ parts. Ok (query_done q parts)) c.d c.makes in
-      let same = ok_same {E = NamedFault} (query_done q s.0) c.d s.2 in (
-        s.0,
-        reads did.files did.told q.store store_in s.0 s.1,
-        prints c.d (query_done q s.0) (sym same) c.text,
-        left did.files c.d (query_done q s.0) (sym same) c.files_are ∙ sym did.told,
-      )
-
-  pub query_cert : EndsOld call → (q : QueryCertFields) → (did : Did call (commands.QueryCert q)) → (parts : List SealedFields)
-      × (cert : Certificate) × (issuer : List ℕ) × Reads call q.store store_in parts
-      × Reads call q.cert certificate_in cert × Reads call q.issuer_cert issuer_in issuer
-      × Prints call (query_cert_done parts cert issuer).text × ChangesNoFile call
-  query_cert ends q did =
-      let c = came ends (commands.QueryCert q) did in
-      let k = get did.files q.cert in
-      let i = get did.files q.issuer_cert in
-      let one = step_ok (input q.store store_in (get did.files q.store)) (cert_after q k i) c.d c.makes in
-      let two = step_ok (input q.cert certificate_in k) (cert_then q i one.0) c.d (sym one.2) in
-      let three = step_ok (input q.issuer_cert issuer_in i) (cert_last one.0 two.0) c.d (sym two.2) in
-      let said = query_cert_done one.0 two.0 three.0 in
-      let same = ok_same {E = NamedFault} said c.d three.2 in (
-        one.0,
-        two.0,
-        three.0,
-        reads did.files did.told q.store store_in one.0 one.1,
-        reads did.files did.told q.cert certificate_in two.0 two.1,
-        reads did.files did.told q.issuer_cert issuer_in three.0 three.1,
-        prints c.d said (sym same) c.text,
-        left did.files c.d said (sym same) c.files_are ∙ sym did.told,
-      )
-
-  pub check : EndsOld call → (name : List ℕ) → (did : Did call (commands.Check name)) → (x : SealedFields × ℕ)
-      × Reads call name part_in x × Prints call (check_done x).text × ChangesNoFile call
-  check ends name did =
-      let c = came ends (commands.Check name) did in
-      let s = step_ok (input name part_in (get did.files name)) (λ x. Ok (check_done x)) c.d c.makes in
-      let same = ok_same {E = NamedFault} (check_done s.0) c.d s.2 in (
-        s.0,
-        reads did.files did.told name part_in s.0 s.1,
-        prints c.d (check_done s.0) (sym same) c.text,
-        left did.files c.d (check_done s.0) (sym same) c.files_are ∙ sym did.told,
-      )
-
-  pub show : EndsOld call → (name : List ℕ) → (did : Did call (commands.Show name)) → (x : SealedFields × ℕ)
-      × Reads call name part_in x × Prints call (show_done x).text × ChangesNoFile call
-  show ends name did =
-      let c = came ends (commands.Show name) did in
-      let s = step_ok (input name part_in (get did.files name)) (λ x. Ok (show_done x)) c.d c.makes in
-      let same = ok_same {E = NamedFault} (show_done s.0) c.d s.2 in (
-        s.0,
-        reads did.files did.told name part_in s.0 s.1,
-        prints c.d (show_done s.0) (sym same) c.text,
-        left did.files c.d (show_done s.0) (sym same) c.files_are ∙ sym did.told,
-      )
-
-  -- a part and the ledger after it
-  both_written : (files : Files) (part ledger : List ℕ) (sealed : SealedFields) (after : LedgerFields) (line : List ℕ) (d : Done)
-      → part ≢ ledger → d ≡ both_files part ledger sealed after line → Prints call d.text
-      → call.files_after ≡ with_outputs (Some files) d.outputs
-      → Holds call part (spelling sealed) × Holds call ledger (ledger_text after) × Prints call line
-  both_written files part ledger sealed after line d apart same text files_are =
-      let said = both_files part ledger sealed after line in
-      let two = two_held files part ledger (spelling sealed) (ledger_text after) call.files_after apart (left files d said same files_are) in
-      (two.0, two.1, prints d said same text)
-
-  publication : (files : Files) (part ledger : List ℕ) (p : Publication) (d : Done) → part ≢ ledger
-      → d ≡ publication_done part ledger p → Prints call d.text → call.files_after ≡ with_outputs (Some files) d.outputs
-      → Holds call part (spelling p.sealed) × Holds call ledger (ledger_text p.ledger)
-      × Prints call (publication_done part ledger p).text
-  publication files part ledger p d = both_written files part ledger p.sealed p.ledger (publication_done part ledger p).text d
-
-  pub apart_at : IsApart call.asked → (c : Command) → call.asked ≡ c → IsApart c
-  apart_at apart c is = subst IsApart is apart
-
-  module _ (apart : IsApart call.asked) where
-    pub snapshot : EndsOld call → (s : SnapshotFields) → (did : Did call (commands.Snapshot s))
-        → PublishesFile call no_ledger s.job s.part s.ledger
-    snapshot ends s did =
-        let c = came ends (commands.Snapshot s) did in
-        let k = snapshot_ok s (input s.job job_in (get did.files s.job)) c.d c.makes in
-        let m = k.2 in
-        let p = published_ok s.job s.part s.ledger no_ledger k.0 m.result c.d m.publishes m.is in
-        let all = publication did.files s.part s.ledger p.0 c.d (apart_at apart (commands.Snapshot s) did.asked) p.2 c.text c.files_are in
-        record {
-          read = k.0;
-          made = p.0;
-          reads = reads did.files did.told s.job job_in k.0 k.1;
-          publishes = p.1;
-          prints = all.2;
-          part_holds = all.0;
-          ledger_holds = all.1;
-        }
-
-    pub delta : EndsOld call → (t : DeltaFields) → (did : Did call (commands.Delta t)) → (before : LedgerFields)
-        × Reads call t.ledger ledger_in before × PublishesFile call before t.job t.part t.new_ledger
-    delta ends t did =
-        let c = came ends (commands.Delta t) did in
-        let k = delta_ok t (input t.job job_in (get did.files t.job)) (input t.ledger ledger_in (get did.files t.ledger)) c.d c.makes in
-        let m = k.4 in
-        let p = published_ok t.job t.part t.new_ledger k.1 k.0 m.result c.d m.publishes m.is in
-        let all = publication did.files t.part t.new_ledger p.0 c.d (apart_at apart (commands.Delta t) did.asked) p.2 c.text c.files_are in (
-          k.1,
-          reads did.files did.told t.ledger ledger_in k.1 k.3,
-          record {
-            read = k.0;
-            made = p.0;
-            reads = reads did.files did.told t.job job_in k.0 k.2;
-            publishes = p.1;
-            prints = all.2;
-            part_holds = all.0;
-            ledger_holds = all.1;
-          },
-        )
-
-    -- the two files of a base
-    pub rebase : EndsOld call → (r : RebaseFields) → (did : Did call (commands.Rebase r)) → (before : LedgerFields)
-        × Reads call r.ledger ledger_in before × BeginsAnew call before r
-    rebase ends r did =
-        let c = came ends (commands.Rebase r) did in
-        let k = rebase_ok r (input r.ledger ledger_in (get did.files r.ledger)) c.d c.makes in
-        let m = k.2 in
-        let p = based_ok r k.0 m.result c.d m.publishes m.is in
-        let epoch = p.0.sealed.part.head.epoch in
-        let all =
-        both_written did.files r.part r.new_ledger p.0.sealed p.0.ledger (base_line r.without epoch p.0.counts) c.d
-        (apart_at apart (commands.Rebase r) did.asked) p.2 c.text c.files_are in (
-          k.0,
-          reads did.files did.told r.ledger ledger_in k.0 k.1,
-          record {
-            made = p.0;
-            publishes = p.1;
-            prints = all.2 ∙ ap (λ (n : BaseCounts). followed_by call.text_before (base_line r.without epoch n)) p.1.counts;
-            part_holds = all.0;
-            ledger_holds = all.1;
-          },
-        )
-
-  -- the file of a store
-  store : (files : Files) (name : List ℕ) (parts : List SealedFields) (d : Done) → d ≡ stored name parts
-      → Prints call d.text → call.files_after ≡ with_outputs (Some files) d.outputs
-      → Holds call name (store_text parts) × Prints call (stored name parts).text
-  store files name parts d same text files_are =
-      (one_held files name (store_text parts) call.files_after (left files d (stored name parts) same files_are), prints d (stored name parts) same text)
-
-  pub start : EndsOld call → (t : StartFields) → (did : Did call (commands.Start t)) → (x : SealedFields × ℕ)
-      × Reads call t.part part_in x × (x.0.part.head.kind ≡ kinds.Snapshot)
-      × Holds call t.store (store_text (x.0 ∷ [])) × Prints call (stored t.store (x.0 ∷ [])).text
-  start ends t did =
-      let c = came ends (commands.Start t) did in
-      let one = step_ok (input t.part part_in (get did.files t.part)) (λ x. named t.part (begun x.0) >>= λ parts. Ok (stored t.store parts)) c.d c.makes in
-      let x = one.0 in
-      let two = step_ok (named t.part (begun x.0)) (λ parts. Ok (stored t.store parts)) c.d (sym one.2) in
-      let b = begun_ok x.0 x.0.part.head.kind two.0 (named_ok t.part (begun x.0) two.0 two.1) in
-      let same : c.d ≡ stored t.store (x.0 ∷ []) = sym (ok_same {E = NamedFault} (stored t.store two.0) c.d two.2) ∙ ap (stored t.store) b.1 in
-      let all = store did.files t.store (x.0 ∷ []) c.d same c.text c.files_are in
-      (x, reads did.files did.told t.part part_in x one.1, b.0, all.0, all.1)
-
-  pub install : EndsOld call → (i : InstallFields) → (did : Did call (commands.Install i)) → (parts : List SealedFields)
-      × (x : SealedFields × ℕ) × Reads call i.store store_in parts × Reads call i.part part_in x
-      × (refusal_of parts x.0 ≡ None) × Holds call i.new_store (store_text (parts ++ x.0 ∷ []))
-      × Prints call (stored i.new_store (parts ++ x.0 ∷ [])).text
-  install ends i did =
-      let c = came ends (commands.Install i) did in
-      let one =
-      step_ok (input i.store store_in (get did.files i.store))
-      (λ parts. input i.part part_in (get did.files i.part) >>= λ x.
-      named i.part (installed parts x.0) >>= λ more. Ok (stored i.new_store more))
-      c.d c.makes in
-      let parts = one.0 in
-      let two =
-      step_ok (input i.part part_in (get did.files i.part))
-      (λ x. named i.part (installed parts x.0) >>= λ more. Ok (stored i.new_store more))
-      c.d (sym one.2) in
-      let x = two.0 in
-      let three = step_ok (named i.part (installed parts x.0)) (λ more. Ok (stored i.new_store more)) c.d (sym two.2) in
-      let b = installed_ok (refusal_of parts x.0) parts x.0 three.0 (named_ok i.part (installed parts x.0) three.0 three.1) in
-      let same : c.d ≡ stored i.new_store (parts ++ x.0 ∷ []) =
-      sym (ok_same {E = NamedFault} (stored i.new_store three.0) c.d three.2) ∙ ap (stored i.new_store) b.1 in
-      let all = store did.files i.new_store (parts ++ x.0 ∷ []) c.d same c.text c.files_are in (
-        parts,
-        x,
-        reads did.files did.told i.store store_in parts one.1,
-        reads did.files did.told i.part part_in x two.1,
-        b.0,
-        all.0,
-        all.1,
-      )
-
-  pub sample : EndsOld call → (s : SampleFields) → (did : Did call (commands.Sample s)) → Prints call (sample_done s).text
-      × Holds call s.job (sample_text s.number s.count)
-  sample ends s did =
-      let c = came ends (commands.Sample s) did in
-      let same = ok_same {E = NamedFault} c.d (sample_done s) c.makes in
-      let kept = left did.files c.d (sample_done s) same c.files_are in (
-        prints c.d (sample_done s) same c.text,
-        one_held did.files s.job (sample_text s.number s.count) call.files_after kept,
-      )
 
   pages_read : (files : Files) → call.files_before ≡ Some files → (job : List ℕ) (before : ℕ) (names : List (List ℕ)) (entries : List PageFields)
       → Ok entries ≡ pages_of job before names (map (get files) names) → ReadsPages call names entries
@@ -458,45 +274,178 @@ module _ (call : Call) where
         pages_read files told job (before + length two.0) names three.0 (sym three.1),
       )
 
-  pub gather : EndsOld call → (g : GatherFields) → (did : Did call (commands.Gather g)) → (head : JobContents)
-      × (entries : List PageFields) × Reads call g.head head_in head × ReadsPages call g.pages entries
-      × Prints call (gather_done g head entries).text × Holds call g.job (job_text (longer g head entries))
-  gather ends g did =
-      let c = came ends (commands.Gather g) did in
-      let others = map (get did.files) g.pages in
-      let one = step_ok (input g.head head_in (get did.files g.head)) (gather_after g others) c.d c.makes in
-      let two = step_ok (pages_of g.job (length one.0.entries) g.pages others) (λ entries. Ok (gather_done g one.0 entries)) c.d (sym one.2) in
-      let same : c.d ≡ gather_done g one.0 two.0 = sym (ok_same {E = NamedFault} (gather_done g one.0 two.0) c.d two.2) in (
-        one.0,
-        two.0,
-        reads did.files did.told g.head head_in one.0 one.1,
-        pages_read did.files did.told g.job (length one.0.entries) g.pages two.0 (sym two.1),
-        prints c.d (gather_done g one.0 two.0) same c.text,
-        one_held did.files g.job (job_text (longer g one.0 two.0)) call.files_after (left did.files c.d (gather_done g one.0 two.0) same c.files_are),
-      )
-
   jobs_read : (files : Files) → call.files_before ≡ Some files → (names : List (List ℕ)) (jobs : List JobFields) → AreJobs names (map (get files) names) jobs → ReadsJobs call names jobs
   jobs_read files told [] [] are = tt
   jobs_read files told [] (j ∷ jobs) are = absurd are
   jobs_read files told (name ∷ names) [] are = absurd are
   jobs_read files told (name ∷ names) (j ∷ jobs) are = (reads files told name job_in j are.0, jobs_read files told names jobs are.1)
 
-  pub audit : Truthful → EndsOld call → (a : AuditFields) → (did : Did call (commands.Audit a)) → (parts : List SealedFields) × (jobs : List JobFields)
-      × Reads call a.store store_in parts × ReadsJobs call a.jobs jobs × IsAudited parts jobs × SaysTheTruth parts jobs
-      × Prints call (audit_done jobs (record { entries = length (seen (audited_releases jobs)) })).text × ChangesNoFile call
-  audit truthful ends a did =
-      let c = came ends (commands.Audit a) did in
-      let x = audit_done_is a (input a.store store_in (get did.files a.store)) (map (get did.files) a.jobs) c.d (length-map a.jobs (get did.files)) c.makes in
-      let said = audit_done x.jobs (record { entries = length (seen (audited_releases x.jobs)) }) in (
-        x.parts,
-        x.jobs,
-        reads did.files did.told a.store store_in x.parts x.store,
-        jobs_read did.files did.told a.jobs x.jobs x.are,
-        x.audited,
-        truthful x.parts x.jobs x.audited.agree,
-        prints c.d said x.said c.text,
-        left did.files c.d said x.said c.files_are ∙ sym did.told,
-      )
+  -- the same of what is equal
+  pub same_done : (d e : Done) → d ≡ e → GivesDone call d → GivesDone call e
+  same_done d e same h = subst (GivesDone call) same h
+
+  module _ (ends : Ends call) (apart : IsApart call.asked) where
+    came : (command : Command) (did : Did call command) → Came command did.files
+    came command did =
+        let a = answers call ends did.files did.told did.succeeds in
+        record {
+          d = a.d;
+          makes = subst (λ (c : Command). Makes c (held_by c did.files) (Ok a.d)) did.asked a.makes;
+          given = given_done did.files did.told apart a.d a.makes a.gives;
+        }
+
+    pub query : (q : QueryFields) → (did : Did call (commands.Query q)) → (parts : List SealedFields)
+        × Reads call q.store store_in parts × GivesDone call (query_done q parts)
+    query q did =
+        let c = came (commands.Query q) did in
+        let s = step_ok (input q.store store_in (get did.files q.store)) (λ parts. Ok (query_done q parts)) c.d c.makes in
+        (s.0, reads did.files did.told q.store store_in s.0 s.1, same_done c.d (query_done q s.0) (sym (ok_same {E = NamedFault} (query_done q s.0) c.d s.2)) c.given)
+
+    pub query_cert : (q : QueryCertFields) → (did : Did call (commands.QueryCert q)) → (parts : List SealedFields)
+        × (cert : Certificate) × (issuer : List ℕ) × Reads call q.store store_in parts
+        × Reads call q.cert certificate_in cert × Reads call q.issuer_cert issuer_in issuer
+        × GivesDone call (query_cert_done parts cert issuer)
+    query_cert q did =
+        let c = came (commands.QueryCert q) did in
+        let k = get did.files q.cert in
+        let i = get did.files q.issuer_cert in
+        let one = step_ok (input q.store store_in (get did.files q.store)) (cert_after q k i) c.d c.makes in
+        let two = step_ok (input q.cert certificate_in k) (cert_then q i one.0) c.d (sym one.2) in
+        let three = step_ok (input q.issuer_cert issuer_in i) (cert_last one.0 two.0) c.d (sym two.2) in
+        let said = query_cert_done one.0 two.0 three.0 in (
+          one.0,
+          two.0,
+          three.0,
+          reads did.files did.told q.store store_in one.0 one.1,
+          reads did.files did.told q.cert certificate_in two.0 two.1,
+          reads did.files did.told q.issuer_cert issuer_in three.0 three.1,
+          same_done c.d said (sym (ok_same {E = NamedFault} said c.d three.2)) c.given,
+        )
+
+    pub check : (name : List ℕ) → (did : Did call (commands.Check name)) → (s : SealedFields) × (size : ℕ)
+        × Reads call name part_in (s, size) × GivesDone call (check_done (s, size))
+    check name did =
+        let c = came (commands.Check name) did in
+        let s = step_ok (input name part_in (get did.files name)) (λ x. Ok (check_done x)) c.d c.makes in
+        (s.0.0, s.0.1, reads did.files did.told name part_in s.0 s.1, same_done c.d (check_done s.0) (sym (ok_same {E = NamedFault} (check_done s.0) c.d s.2)) c.given)
+
+    pub show : (name : List ℕ) → (did : Did call (commands.Show name)) → (s : SealedFields) × (size : ℕ)
+        × Reads call name part_in (s, size) × GivesDone call (show_done (s, size))
+    show name did =
+        let c = came (commands.Show name) did in
+        let s = step_ok (input name part_in (get did.files name)) (λ x. Ok (show_done x)) c.d c.makes in
+        (s.0.0, s.0.1, reads did.files did.told name part_in s.0 s.1, same_done c.d (show_done s.0) (sym (ok_same {E = NamedFault} (show_done s.0) c.d s.2)) c.given)
+
+    pub snapshot : (s : SnapshotFields) → (did : Did call (commands.Snapshot s)) → (job : JobFields) × (made : Publication)
+        × Reads call s.job job_in job × Publishes no_ledger job (Ok made) × GivesDone call (publication_done s.part s.ledger made)
+    snapshot s did =
+        let c = came (commands.Snapshot s) did in
+        let k = snapshot_ok s (input s.job job_in (get did.files s.job)) c.d c.makes in
+        let m = k.2 in
+        let p = published_ok s.job s.part s.ledger no_ledger k.0 m.result c.d m.publishes m.is in
+        (k.0, p.0, reads did.files did.told s.job job_in k.0 k.1, p.1, same_done c.d (publication_done s.part s.ledger p.0) p.2 c.given)
+
+    pub delta : (t : DeltaFields) → (did : Did call (commands.Delta t))
+        → (before : LedgerFields) × (job : JobFields) × (made : Publication)
+        × Reads call t.ledger ledger_in before × Reads call t.job job_in job
+        × Publishes before job (Ok made) × GivesDone call (publication_done t.part t.new_ledger made)
+    delta t did =
+        let c = came (commands.Delta t) did in
+        let k = delta_ok t (input t.job job_in (get did.files t.job)) (input t.ledger ledger_in (get did.files t.ledger)) c.d c.makes in
+        let m = k.4 in
+        let p = published_ok t.job t.part t.new_ledger k.1 k.0 m.result c.d m.publishes m.is in (
+          k.1,
+          k.0,
+          p.0,
+          reads did.files did.told t.ledger ledger_in k.1 k.3,
+          reads did.files did.told t.job job_in k.0 k.2,
+          p.1,
+          same_done c.d (publication_done t.part t.new_ledger p.0) p.2 c.given,
+        )
+
+    pub rebase : (r : RebaseFields) → (did : Did call (commands.Rebase r)) → (before : LedgerFields) × (made : BasePublicationFields)
+        × Reads call r.ledger ledger_in before × IsBasePublication before r.moment r.without made × GivesDone call (base_done r made)
+    rebase r did =
+        let c = came (commands.Rebase r) did in
+        let k = rebase_ok r (input r.ledger ledger_in (get did.files r.ledger)) c.d c.makes in
+        let m = k.2 in
+        let p = based_ok r k.0 m.result c.d m.publishes m.is in
+        (k.0, p.0, reads did.files did.told r.ledger ledger_in k.0 k.1, p.1, same_done c.d (base_done r p.0) p.2 c.given)
+
+    pub start : (t : StartFields) → (did : Did call (commands.Start t)) → (s : SealedFields) × ReadsPart call t.part s
+        × (s.part.head.kind ≡ kinds.Snapshot) × GivesDone call (stored t.store (s ∷ []))
+    start t did =
+        let c = came (commands.Start t) did in
+        let one = step_ok (input t.part part_in (get did.files t.part)) (λ x. named t.part (begun x.0) >>= λ parts. Ok (stored t.store parts)) c.d c.makes in
+        let x = one.0 in
+        let two = step_ok (named t.part (begun x.0)) (λ parts. Ok (stored t.store parts)) c.d (sym one.2) in
+        let b = begun_ok x.0 x.0.part.head.kind two.0 (named_ok t.part (begun x.0) two.0 two.1) in
+        let same : c.d ≡ stored t.store (x.0 ∷ []) = sym (ok_same {E = NamedFault} (stored t.store two.0) c.d two.2) ∙ ap (stored t.store) b.1 in
+        (x.0, (x.1, reads did.files did.told t.part part_in x one.1), b.0, same_done c.d (stored t.store (x.0 ∷ [])) same c.given)
+
+    pub install : (i : InstallFields) → (did : Did call (commands.Install i)) → (parts : List SealedFields) × (s : SealedFields)
+        × Reads call i.store store_in parts × ReadsPart call i.part s
+        × (refusal_of parts s ≡ None) × GivesDone call (stored i.new_store (parts ++ s ∷ []))
+    install i did =
+        let c = came (commands.Install i) did in
+        let one =
+        step_ok (input i.store store_in (get did.files i.store))
+        (λ parts. input i.part part_in (get did.files i.part) >>= λ x.
+        named i.part (installed parts x.0) >>= λ more. Ok (stored i.new_store more))
+        c.d c.makes in
+        let parts = one.0 in
+        let two =
+        step_ok (input i.part part_in (get did.files i.part))
+        (λ x. named i.part (installed parts x.0) >>= λ more. Ok (stored i.new_store more))
+        c.d (sym one.2) in
+        let x = two.0 in
+        let three = step_ok (named i.part (installed parts x.0)) (λ more. Ok (stored i.new_store more)) c.d (sym two.2) in
+        let b = installed_ok (refusal_of parts x.0) parts x.0 three.0 (named_ok i.part (installed parts x.0) three.0 three.1) in
+        let same : c.d ≡ stored i.new_store (parts ++ x.0 ∷ []) =
+        sym (ok_same {E = NamedFault} (stored i.new_store three.0) c.d three.2) ∙ ap (stored i.new_store) b.1 in (
+          parts,
+          x.0,
+          reads did.files did.told i.store store_in parts one.1,
+          (x.1, reads did.files did.told i.part part_in x two.1),
+          b.0,
+          same_done c.d (stored i.new_store (parts ++ x.0 ∷ [])) same c.given,
+        )
+
+    pub sample : (s : SampleFields) → (did : Did call (commands.Sample s)) → GivesDone call (sample_done s)
+    sample s did =
+        let c = came (commands.Sample s) did in
+        same_done c.d (sample_done s) (ok_same {E = NamedFault} c.d (sample_done s) c.makes) c.given
+
+    pub gather : (g : GatherFields) → (did : Did call (commands.Gather g)) → (head : JobContents)
+        × (entries : List PageFields) × Reads call g.head head_in head × ReadsPages call g.pages entries
+        × GivesDone call (gather_done g head entries)
+    gather g did =
+        let c = came (commands.Gather g) did in
+        let others = map (get did.files) g.pages in
+        let one = step_ok (input g.head head_in (get did.files g.head)) (gather_after g others) c.d c.makes in
+        let two = step_ok (pages_of g.job (length one.0.entries) g.pages others) (λ entries. Ok (gather_done g one.0 entries)) c.d (sym one.2) in (
+          one.0,
+          two.0,
+          reads did.files did.told g.head head_in one.0 one.1,
+          pages_read did.files did.told g.job (length one.0.entries) g.pages two.0 (sym two.1),
+          same_done c.d (gather_done g one.0 two.0) (sym (ok_same {E = NamedFault} (gather_done g one.0 two.0) c.d two.2)) c.given,
+        )
+
+    pub audit : Truthful → (a : AuditFields) → (did : Did call (commands.Audit a)) → (parts : List SealedFields) × (jobs : List JobFields)
+        × Reads call a.store store_in parts × ReadsJobs call a.jobs jobs × IsAudited parts jobs × SaysTheTruth parts jobs
+        × GivesDone call (audit_done jobs (record { entries = length (seen (audited_releases jobs)) }))
+    audit truthful a did =
+        let c = came (commands.Audit a) did in
+        let x = audit_done_is a (input a.store store_in (get did.files a.store)) (map (get did.files) a.jobs) c.d (length-map a.jobs (get did.files)) c.makes in
+        let said = audit_done x.jobs (record { entries = length (seen (audited_releases x.jobs)) }) in (
+          x.parts,
+          x.jobs,
+          reads did.files did.told a.store store_in x.parts x.store,
+          jobs_read did.files did.told a.jobs x.jobs x.are,
+          x.audited,
+          truthful x.parts x.jobs x.audited.agree,
+          same_done c.d said x.said c.given,
+        )
 
   -- ---- what can be published
 
@@ -522,7 +471,7 @@ module _ (call : Call) where
   jobs_back files told (name ∷ names) [] are = absurd are
   jobs_back files told (name ∷ names) (j ∷ jobs) are = (read_in files told name job_in j are.0, jobs_back files told names jobs are.1)
 
-  module _ (one : OneOutcome) (publishable : Publishable) (ends : EndsOld call) where
+  module _ (one : OneOutcome) (publishable : Publishable) (ends : Ends call) where
     -- what is sure to come of the command that was asked
     sure_of : (command : Command) (files : Files) (d : Done) → call.files_before ≡ Some files → call.asked ≡ command
         → (command ≡ commands.Usage → ⊥)

@@ -1,13 +1,13 @@
 -- How a call ends.
-use Rattle.std.specs.Prelude.{◌≡◌, ℕ, ◌⊎◌, List, Some, IsTrue}
+use Rattle.std.specs.Prelude.{◌≡◌, ℕ, ◌⊎◌, List, Some, All, IsTrue}
 use Rattle.outside_core.specs.Files.{Files}
 use Rattle.outside_core.specs.Written.{CutShort}
 use Rattle.word_core.specs.declared.command.Command.{Command}
-use Rattle.clubcard_top.specs.ReplyFields.{ReplyFields}
+use Rattle.clubcard_top.specs.ReplyFields.{ReplyFields, Done}
 use Rattle.clubcard_top.specs.Statuses as status
-use Rattle.clubcard_top.specs.Replies.{write_fault, held_by, IsReplyOver, IsReply}
+use Rattle.clubcard_top.specs.Replies.{write_fault, done, held_by, IsReplyOver, IsReply}
 use Rattle.clubcard_top.specs.Runs.{IsTorn}
-use Rattle.clubcard_top.specs.Calls.{Call, Found, Writes, ChangesNoFile, Prints, HasRisen, NoFault}
+use Rattle.clubcard_top.specs.Calls.{Call, Found, Holds, Writes, ChangesNoFile, Prints, HasRisen, NoFault}
 
 -- ---- with a success
 
@@ -28,6 +28,12 @@ pub record Gives (call : Call) (reply : ReplyFields) : Type 0 where
   pub status : call.status ≡ reply.status
   pub text : Prints call reply.text
   pub files : Writes call reply.outputs
+
+-- What a command makes was given: its text was printed, its outputs were written and no other file, and the file of each
+-- output holds its bytes.
+pub record GivesDone (call : Call) (d : Done) : Type 0 where
+  pub gives : Gives call (done d)
+  pub held : All (λ o. Holds call o.name o.bytes) d.outputs
 
 -- the command's one reply over the files that the call found was given whole
 abbrev pub GivesTheReply : Call → Type 0
@@ -64,6 +70,10 @@ pub record Torn (call : Call) (reply : ReplyFields) (name : List ℕ) : Type 0 w
   pub files : IsTorn call.files_before call.files_after reply.outputs name
   pub printing : PrintsOrFails call (write_fault name)
 
+-- one of the two
+abbrev pub SentOrTorn : Call → ReplyFields → Type 0
+SentOrTorn call reply = Sent call reply ⊎ ((name : List ℕ) × Torn call reply name)
+
 -- ---- in one of these ways
 
 -- Memory was wanted. Or there is a reply, whose status is none of memory or of writes, and it was sent, or a write to an
@@ -73,7 +83,7 @@ Ends call =
     WantedMemory call
     ⊎ ((reply : ReplyFields) × IsReply call.asked call.files_before call.failed reply
     × IsTrue (status.is_one_of status.of_replies reply.status)
-    × (Sent call reply ⊎ ((name : List ℕ) × Torn call reply name)))
+    × SentOrTorn call reply)
 
 -- ---- for certain
 

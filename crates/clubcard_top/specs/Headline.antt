@@ -21,7 +21,7 @@ use Rattle.sets_core.specs.Among.{Among}
 use Rattle.universe_core.specs.Formats.{in_format}
 use Rattle.universe_core.specs.Jobs.{Entry, is_enrolled, facts_of}
 use Rattle.sets_core.specs.Sets.{has, has_key}
-use Rattle.universe_core.specs.History.{Release, past_of, seen, sightings}
+use Rattle.universe_core.specs.History.{Release, seen, sightings}
 use Rattle.universe_core.specs.Counting.{counts}
 use Rattle.history_core.specs.Bases.{kept_by, releases_without, is_lasting_by, newest_epoch}
 use Rattle.publication_core.specs.Formats.{current}
@@ -33,11 +33,11 @@ use Rattle.publication_core.specs.Truth.{truth}
 use Rattle.word_core.specs.declared.command.Command.{Command}
 use Rattle.word_core.specs.declared.command.Command.TheVariants as commands
 use Rattle.word_core.specs.CommandFields.{QueryFields, QueryCertFields, RebaseFields}
-use Rattle.line_core.specs.Lines.{line, report_line, store_line}
+use Rattle.line_core.specs.Lines.{line, store_line}
 use Rattle.clubcard_top.specs.ReplyFields.{OutputFields, Done}
 use Rattle.clubcard_top.specs.Commands.{verdict_word, only, report_behind, verdict_line}
 use Rattle.clubcard_top.specs.Rebasings.{base_line}
-use Rattle.clubcard_top.specs.Calls.{Call, Found, Holds, Prints, Writes}
+use Rattle.clubcard_top.specs.Calls.{Call, Found, Holds}
 
 -- ---- publishing
 
@@ -62,20 +62,6 @@ PublishesJob command files h parts job = ⊥
 abbrev pub AsksToPublish : Call → History → List SealedFields → JobFields → Type 0
 AsksToPublish call h parts job = Found call (λ files. PublishesJob call.asked files h parts job)
 
--- PART
-abbrev pub part_name : Command → List ℕ
-part_name (commands.Snapshot s) = s.part
-part_name (commands.Delta d) = d.part
--- no other command has one: it is asked where `PublishesJob` holds
-part_name command = []
-
--- LEDGER of `snapshot`, NEWLEDGER of `delta`
-abbrev pub ledger_name : Command → List ℕ
-ledger_name (commands.Snapshot s) = s.ledger
-ledger_name (commands.Delta d) = d.new_ledger
--- no other command has one, as above
-ledger_name command = []
-
 -- the outputs: a part and a ledger, in the order of writing
 abbrev pub publishes_to : Command → List ℕ → List ℕ → List OutputFields
 publishes_to (commands.Snapshot s) part ledger =
@@ -85,34 +71,19 @@ publishes_to (commands.Delta d) part ledger =
 -- no other command writes them, as above
 publishes_to command part ledger = []
 
--- The job may follow the history, and makes a history with it. Its report was printed, PART holds the bytes of its
--- part, and LEDGER those of the ledger of them all.
-pub record Published (call : Call) (h : History) (parts : List SealedFields) (job : JobFields) : Type 0 where
+-- This is made of a job that may follow the history, and makes a history with it: its report, the bytes of its part, and
+-- those of the ledger of them all, in this order and nothing else.
+pub record Published
+    (asked : Command) (h : History) (parts : List SealedFields) (job : JobFields) (d : Done)
+    : Type 0 where
   pub sealed : SealedFields
   -- keys, serials and times fit their fields, those of its CRLs too
   pub fits : FitsFields job
   pub admissible : IsAdmissible (releases_of h parts) (in_format current job)
   pub is_history : IsHistory (with_job h (in_format current job)) (parts ++ sealed ∷ [])
-  pub prints : Prints call (report_behind h parts job)
-  -- the two files in their order, and no other
-  pub writes : Writes call
-      (publishes_to call.asked (part_bytes sealed)
-      (ledger_bytes (with_job h (in_format current job)) (parts ++ sealed ∷ [])))
-  pub part_holds : Holds call (part_name call.asked) (part_bytes sealed)
-  pub ledger_holds : Holds call (ledger_name call.asked)
-      (ledger_bytes (with_job h (in_format current job)) (parts ++ sealed ∷ []))
-
--- The same of what the command makes, with no call.
-pub record IsPublished
-    (asked : Command) (h : History) (parts : List SealedFields) (job : JobFields) (d : Done)
-    : Type 0 where
-  pub sealed : SealedFields
-  pub fits : FitsFields job
-  pub admissible : IsAdmissible (releases_of h parts) (in_format current job)
-  pub is_history : IsHistory (with_job h (in_format current job)) (parts ++ sealed ∷ [])
+  pub report : d.text ≡ report_behind h parts job
   pub outputs : d.outputs
       ≡ publishes_to asked (part_bytes sealed) (ledger_bytes (with_job h (in_format current job)) (parts ++ sealed ∷ []))
-  pub report : d.text ≡ report_line job.epoch (members h) (counts (past_of (releases_of h parts)) (facts_of job))
 
 -- ---- beginning a chain anew
 
@@ -136,28 +107,15 @@ IsRebasableWithout moment without h parts = IsRebasable moment (releases_without
 abbrev pub rebases_to : RebaseFields → List ℕ → List ℕ → List OutputFields
 rebases_to r part ledger = record { name = r.part; bytes = part } ∷ record { name = r.new_ledger; bytes = ledger } ∷ []
 
--- A base without the issuers of ISSUER .. may stand for the history at MOMENT, and is one with this part. The epoch of
--- the history's newest member and the counts of the base were printed, PART holds the bytes of its part, and NEWLEDGER
--- those of its ledger.
-pub record Rebased (call : Call) (r : RebaseFields) (h : History) (parts : List SealedFields) : Type 0 where
+-- This is made of a base without the issuers of ISSUER .., which may stand for the history at MOMENT: the epoch of the
+-- history's newest member and the counts of the base, the bytes of its part, and those of its ledger, and nothing else.
+pub record Rebased (r : RebaseFields) (h : History) (parts : List SealedFields) (d : Done) : Type 0 where
   pub sealed : SealedFields
   pub rebasable : IsRebasableWithout r.moment r.without h parts
   pub is_history : IsHistory (base_of h parts r.moment r.without) (sealed ∷ [])
-  pub prints : Prints call (base_line r.without (newest_epoch 0 (releases_of h parts)) (base_counts r.moment r.without (releases_of h parts)))
-  -- the two files in their order, and no other
-  pub writes : Writes call
-      (rebases_to r (part_bytes sealed) (ledger_bytes (base_of h parts r.moment r.without) (sealed ∷ [])))
-  pub part_holds : Holds call r.part (part_bytes sealed)
-  pub ledger_holds : Holds call r.new_ledger (ledger_bytes (base_of h parts r.moment r.without) (sealed ∷ []))
-
--- The same of what the command makes, with no call.
-pub record IsRebased (r : RebaseFields) (h : History) (parts : List SealedFields) (d : Done) : Type 0 where
-  pub sealed : SealedFields
-  pub rebasable : IsRebasableWithout r.moment r.without h parts
-  pub is_history : IsHistory (base_of h parts r.moment r.without) (sealed ∷ [])
+  pub text : d.text ≡ base_line r.without (newest_epoch 0 (releases_of h parts)) (base_counts r.moment r.without (releases_of h parts))
   pub outputs : d.outputs
       ≡ rebases_to r (part_bytes sealed) (ledger_bytes (base_of h parts r.moment r.without) (sealed ∷ []))
-  pub text : d.text ≡ base_line r.without (newest_epoch 0 (releases_of h parts)) (base_counts r.moment r.without (releases_of h parts))
 
 -- ---- stores
 
@@ -174,13 +132,6 @@ StoresPart command files parts s = ⊥
 abbrev pub AsksToStore : Call → List SealedFields → SealedFields → Type 0
 AsksToStore call parts s = Found call (λ files. StoresPart call.asked files parts s)
 
--- STORE of `start`, NEWSTORE of `install`
-abbrev pub store_name : Command → List ℕ
-store_name (commands.Start t) = t.store
-store_name (commands.Install i) = i.new_store
--- no other command has one: it is asked where `StoresPart` holds
-store_name command = []
-
 -- the output: a store
 abbrev pub stores_to : Command → List ℕ → List OutputFields
 stores_to (commands.Start t) store = record { name = t.store; bytes = store } ∷ []
@@ -188,18 +139,11 @@ stores_to (commands.Install i) store = record { name = i.new_store; bytes = stor
 -- no other command writes one, as above
 stores_to command store = []
 
--- The number of parts and the newest one's epoch were printed, and STORE holds the bytes of the store of the parts with
--- this one.
-pub record Stored (call : Call) (parts : List SealedFields) (s : SealedFields) : Type 0 where
-  pub prints : Prints call (store_line (length (parts ++ s ∷ [])) s.part.head.epoch)
-  -- that file, and no other
-  pub writes : Writes call (stores_to call.asked (store_bytes (parts ++ s ∷ [])))
-  pub store_holds : Holds call (store_name call.asked) (store_bytes (parts ++ s ∷ []))
-
--- The same of what the command makes, with no call.
-pub record IsStored (asked : Command) (parts : List SealedFields) (s : SealedFields) (d : Done) : Type 0 where
-  pub outputs : d.outputs ≡ stores_to asked (store_bytes (parts ++ s ∷ []))
+-- This is made of the parts with this one behind them: how many they are and its epoch, the bytes of their store, and
+-- nothing else.
+pub record Stored (asked : Command) (parts : List SealedFields) (s : SealedFields) (d : Done) : Type 0 where
   pub text : d.text ≡ store_line (length (parts ++ s ∷ [])) s.part.head.epoch
+  pub outputs : d.outputs ≡ stores_to asked (store_bytes (parts ++ s ∷ []))
 
 -- ---- asking
 

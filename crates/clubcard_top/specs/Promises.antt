@@ -1,55 +1,48 @@
 -- What the program promises of a call: the contract of `run`.
-use Rattle.std.specs.Prelude.{◌≡◌, ◌≢◌, ℕ, ◌+◌, ◌≤◌, ◌⊎◌, List, [], ◌∷◌, ◌++◌, map, length, None, Ok, Err, IsTrue}
-use Rattle.octets_core.specs.declared.fault.LayoutFault.{LayoutFault}
+use Rattle.std.specs.Prelude.{◌≡◌, ◌≢◌, ℕ, ◌+◌, ◌≤◌, ◌⊎◌, List, [], ◌∷◌, ◌++◌, length, None, Ok, Err, IsTrue}
 use Rattle.ident_core.specs.declared.identity.Identity.{Identity}
 use Rattle.ident_core.specs.declared.kind.Kind.TheVariants as kinds
 use Rattle.ident_core.specs.declared.range.Sighting.{Sighting}
-use Rattle.crl_core.specs.declared.crl.CrlFault.{CrlFault}
-use Rattle.sct_core.specs.declared.fault.CertFault.{CertFault}
-use Rattle.gather_core.specs.declared.fault.PageFault.{PageFault}
 use Rattle.gather_core.specs.Pages.{PageFields}
 use Rattle.query_core.specs.Queries.{Query}
 use Rattle.part_text.specs.SealedFields.{SealedFields}
-use Rattle.job_core.specs.declared.bounds.What.{What}
 use Rattle.job_core.specs.declared.bounds.TheConstants.Limits as limits
 use Rattle.job_core.specs.JobFields.{JobFields}
-use Rattle.job_core.specs.JobText.{JobContents, spelling as job_text}
-use Rattle.sample_core.specs.Sample.{sample_text, sample_revoked}
+use Rattle.job_core.specs.JobText.{JobContents}
 use Rattle.ledger_core.specs.LedgerFields.{LedgerFields}
 use Rattle.universe_core.specs.Formats.{in_format}
 use Rattle.universe_core.specs.Jobs.{Entry}
 use Rattle.universe_core.specs.Ledgers.{no_ledger}
 use Rattle.sets_core.specs.Among.{Among}
-use Rattle.store_core.specs.declared.chain.Refusal.{Refusal}
 use Rattle.store_core.specs.Chain.{refusal_of}
-use Rattle.card_core.specs.declared.verdict.Verdict.{Verdict}
 use Rattle.card_core.specs.declared.verdict.Verdict.TheVariants.{NotEnrolled}
-use Rattle.card_core.specs.Verdict.{verdict}
 use Rattle.universe_core.specs.History.{seen}
 use Rattle.audit_core.specs.Auditing.{releases_of as audited_releases}
 use Rattle.publication_core.specs.Formats.{current}
 use Rattle.publication_core.specs.Histories.{IsAdmissible, History, with_job, chain, IsHistory, releases_of, LeavesOut}
-use Rattle.publication_core.specs.Publishing.{CanBePublished}
-use Rattle.publication_core.specs.Rebasing.{CanBeRebased}
+use Rattle.publication_core.specs.Publishing.{PublicationFields, Publishes, CanBePublished}
+use Rattle.publication_core.specs.Rebasing.{BasePublicationFields, IsBasePublication, CanBeRebased}
 use Rattle.word_core.specs.declared.command.Command.TheVariants as commands
 use Rattle.word_core.specs.CommandFields.{QueryFields, QueryCertFields, SnapshotFields, DeltaFields, StartFields}
 use Rattle.word_core.specs.CommandFields.{RebaseFields, InstallFields, RehearseFields, SampleFields, GatherFields, AuditFields}
 use Rattle.word_core.specs.Names.{inputs_of, outputs_of}
-use Rattle.line_core.specs.Lines.{line, check_line, show_text, sample_line, gather_line, audit_line}
+use Rattle.line_core.specs.Lines.{line, audit_line}
 use Rattle.input_core.specs.declared.certificates.Certificate.{Certificate}
-use Rattle.input_core.specs.declared.fault.FileFault.TheVariants as faults
+use Rattle.input_core.specs.declared.fault.FileFault.{FileFault}
 use Rattle.clubcard_top.specs.ReplyFields.{ReplyFields, Done, NamedFault}
 use Rattle.clubcard_top.specs.Statuses as status
 use Rattle.input_core.specs.Readings.{job_in, ledger_in, part_in, store_in}
 use Rattle.input_core.specs.Certificates.{certificate_in, issuer_in}
 use Rattle.outside_core.specs.Reads.{CouldNotRead}
-use Rattle.clubcard_top.specs.Commands.{verdict_word, issued_by, rehearsed, head_in, longer}
+use Rattle.clubcard_top.specs.Commands.{verdict_word, only, query_done, query_cert_done, check_done, show_done, publication_done, stored}
+use Rattle.clubcard_top.specs.Commands.{rehearsed, sample_done, head_in, gather_done}
+use Rattle.clubcard_top.specs.Rebasings.{base_done}
 use Rattle.clubcard_top.specs.Replies.{usage, read_fault, refusal, done, IsReply}
 use Rattle.clubcard_top.specs.Runs.{KeepsAllBut}
-use Rattle.clubcard_top.specs.Calls.{Call, FilesAreTold, Reads, Holds, Writes, ChangesNoFile, Prints, NoFault}
+use Rattle.clubcard_top.specs.Calls.{Call, FilesAreTold, Reads, Writes, ChangesNoFile, Prints, NoFault}
 use Rattle.clubcard_top.specs.Endings.{Succeeds, Did, GivesTheReply, WantedMemory, SinkFailed, Torn, Ends}
-use Rattle.clubcard_top.specs.Endings.{MustSucceed, MustGive}
-use Rattle.clubcard_top.specs.Successes.{ReadsPart, PublishesFile, BeginsAnew, NewStore, ReadsPages, ReadsJobs}
+use Rattle.clubcard_top.specs.Endings.{GivesDone, MustSucceed, MustGive}
+use Rattle.clubcard_top.specs.Successes.{ReadsPart, ReadsPages, ReadsJobs}
 use Rattle.clubcard_top.specs.Successes.{AreWithinLimits, IsAudited, SaysTheTruth}
 use Rattle.clubcard_top.specs.Headline.{AsksToPublish, AsksToStore, AsksTruth, AsksCertTruth, AsksToRehearse}
 use Rattle.clubcard_top.specs.Headline.{AsksToRebase, IsRebasableWithout, AsksTheBase, AsksOfLeftOut, Brings}
@@ -57,73 +50,69 @@ use Rattle.clubcard_top.specs.Headline.{base_of, truth_line, cert_truth_line}
 use Rattle.clubcard_top.specs.Headline.{Published, Rebased, Stored, IsRehearsed}
 use Rattle.clubcard_top.specs.Refusals.{Comes, Refused}
 
--- Each command that succeeds: what the files held that it read, what it printed, and what those hold that it wrote. And
--- when one must succeed: `complete` is the rule for all of them, and what ends with that name says when a success comes of
--- a command in other words than those of `Makes`.
+-- Each command that succeeds: what the files held that it read, and what it gave of that, which is printed and held by
+-- the files that it wrote. And when one must succeed: `complete` is the rule for all of them, and what ends with that name
+-- says when a success comes of a command in other words than those of `Makes`.
 pub record Successes (call : Call) : Type 0 where
   -- what the parts of STORE say of the certificate
   pub query : (q : QueryFields) → Did call (commands.Query q)
-      → (parts : List SealedFields) × Reads call q.store store_in parts
-      × Prints call (line (verdict_word (verdict (map (λ s. s.part) parts) q.id q.sightings))) × ChangesNoFile call
+      → (parts : List SealedFields) × Reads call q.store store_in parts × GivesDone call (query_done q parts)
   -- what the parts of STORE say of the certificate of CERT, with the sightings of its timestamps, under the key of
   -- ISSUERCERT; and where all three are read, the call must succeed
   pub query_cert : (q : QueryCertFields) → Did call (commands.QueryCert q)
       → (parts : List SealedFields) × (cert : Certificate) × (issuer : List ℕ)
       × Reads call q.store store_in parts × Reads call q.cert certificate_in cert
-      × Reads call q.issuer_cert issuer_in issuer
-      × Prints call (line (verdict_word (verdict (map (λ s. s.part) parts) (issued_by issuer cert) cert.scts)))
-      × ChangesNoFile call
+      × Reads call q.issuer_cert issuer_in issuer × GivesDone call (query_cert_done parts cert issuer)
   pub query_cert_complete : (q : QueryCertFields) (parts : List SealedFields) (cert : Certificate) (issuer : List ℕ)
       → call.asked ≡ commands.QueryCert q → Reads call q.store store_in parts → Reads call q.cert certificate_in cert
       → Reads call q.issuer_cert issuer_in issuer → MustSucceed call
   -- PART is one part: its head in short, and how many bytes it has
   pub check : (part : List ℕ) → Did call (commands.Check part)
-      → (s : SealedFields) × (size : ℕ) × Reads call part part_in (s, size)
-      × Prints call (check_line s size) × ChangesNoFile call
+      → (s : SealedFields) × (size : ℕ) × Reads call part part_in (s, size) × GivesDone call (check_done (s, size))
   -- all that PART holds
   pub show : (part : List ℕ) → Did call (commands.Show part)
-      → (s : SealedFields) × ReadsPart call part s × Prints call (show_text s) × ChangesNoFile call
+      → (s : SealedFields) × (size : ℕ) × Reads call part part_in (s, size) × GivesDone call (show_done (s, size))
   -- the job of JOB, published as the first of a chain; and where it can be published, the call must succeed
   pub snapshot : (s : SnapshotFields) → Did call (commands.Snapshot s)
-      → PublishesFile call no_ledger s.job s.part s.ledger
+      → (job : JobFields) × (made : PublicationFields) × Reads call s.job job_in job
+      × Publishes no_ledger job (Ok made) × GivesDone call (publication_done s.part s.ledger made)
   pub snapshot_complete : (s : SnapshotFields) (job : JobFields) → call.asked ≡ commands.Snapshot s
       → Reads call s.job job_in job → CanBePublished no_ledger job → MustSucceed call
   -- the job of JOB, published behind the ledger of LEDGER; and where it can be published, the call must succeed
-  pub delta : (d : DeltaFields) → Did call (commands.Delta d) → (before : LedgerFields)
-      × Reads call d.ledger ledger_in before × PublishesFile call before d.job d.part d.new_ledger
+  pub delta : (d : DeltaFields) → Did call (commands.Delta d)
+      → (before : LedgerFields) × (job : JobFields) × (made : PublicationFields)
+      × Reads call d.ledger ledger_in before × Reads call d.job job_in job
+      × Publishes before job (Ok made) × GivesDone call (publication_done d.part d.new_ledger made)
   pub delta_complete : (d : DeltaFields) (before : LedgerFields) (job : JobFields) → call.asked ≡ commands.Delta d
       → Reads call d.ledger ledger_in before → Reads call d.job job_in job → CanBePublished before job
       → MustSucceed call
   -- `rebase` and `rebase-without`: the ledger of LEDGER, without what has expired at MOMENT and without the issuers of
   -- ISSUER .., begins a chain anew; and where its parts have few enough other issuers and each of these has a block, the
   -- call must succeed
-  pub rebase : (r : RebaseFields) → Did call (commands.Rebase r) → (before : LedgerFields)
-      × Reads call r.ledger ledger_in before × BeginsAnew call before r
+  pub rebase : (r : RebaseFields) → Did call (commands.Rebase r)
+      → (before : LedgerFields) × (made : BasePublicationFields) × Reads call r.ledger ledger_in before
+      × IsBasePublication before r.moment r.without made × GivesDone call (base_done r made)
   pub rebase_complete : (r : RebaseFields) (before : LedgerFields) → call.asked ≡ commands.Rebase r
       → Reads call r.ledger ledger_in before → CanBeRebased before r.moment r.without → MustSucceed call
   -- the part of PART, which is a snapshot, begins a store
   pub start : (t : StartFields) → Did call (commands.Start t)
-      → (s : SealedFields) × ReadsPart call t.part s × (s.part.head.kind ≡ kinds.Snapshot) × NewStore call t.store [] s
+      → (s : SealedFields) × ReadsPart call t.part s × (s.part.head.kind ≡ kinds.Snapshot)
+      × GivesDone call (stored t.store (s ∷ []))
   -- the part of PART, which has nothing against it, is added to the parts of STORE
   pub install : (i : InstallFields) → Did call (commands.Install i) → (parts : List SealedFields) × (s : SealedFields)
       × Reads call i.store store_in parts × ReadsPart call i.part s
-      × (refusal_of parts s ≡ None) × NewStore call i.new_store parts s
+      × (refusal_of parts s ≡ None) × GivesDone call (stored i.new_store (parts ++ s ∷ []))
   -- the jobs are a history, and their reports and the verdicts of its parts are printed
   pub rehearse : (r : RehearseFields) → Did call (commands.Rehearse r)
       → (queries : List Query) × (jobs : List JobFields) × (parts : List SealedFields)
-      × AsksToRehearse call queries jobs × IsRehearsed queries jobs parts
-      × Prints call (rehearsed queries jobs parts).text × ChangesNoFile call
+      × AsksToRehearse call queries jobs × IsRehearsed queries jobs parts × GivesDone call (rehearsed queries jobs parts)
   -- the job that is made from NUMBER with COUNT entries
-  pub sample : (s : SampleFields) → Did call (commands.Sample s)
-      → Prints call (sample_line s.number s.count (sample_revoked s.count) (length (sample_text s.number s.count)))
-      × Holds call s.job (sample_text s.number s.count)
+  pub sample : (s : SampleFields) → Did call (commands.Sample s) → GivesDone call (sample_done s)
   -- the raw job of HEAD with the entries of the pages, of the log LOG, behind its own; and where HEAD and the pages are
   -- read, and these are no more entries than a job may have, the call must succeed
   pub gather : (g : GatherFields) → Did call (commands.Gather g)
       → (head : JobContents) × (entries : List PageFields)
-      × Reads call g.head head_in head × ReadsPages call g.pages entries
-      × Prints call (gather_line (length g.pages) (length entries) (length (job_text (longer g head entries))))
-      × Holds call g.job (job_text (longer g head entries))
+      × Reads call g.head head_in head × ReadsPages call g.pages entries × GivesDone call (gather_done g head entries)
   pub gather_complete : (g : GatherFields) (head : JobContents) (entries : List PageFields)
       → call.asked ≡ commands.Gather g → Reads call g.head head_in head → ReadsPages call g.pages entries
       → length head.entries + length entries ≤ limits.PUBLISHED.entries → MustSucceed call
@@ -132,7 +121,7 @@ pub record Successes (call : Call) : Type 0 where
   -- within the limits of one, their CRLs are accepted, and all that is so, the call must succeed
   pub audit : (a : AuditFields) → Did call (commands.Audit a) → (parts : List SealedFields) × (jobs : List JobFields)
       × Reads call a.store store_in parts × ReadsJobs call a.jobs jobs × IsAudited parts jobs × SaysTheTruth parts jobs
-      × Prints call (audit_line (length jobs) (length (seen (audited_releases jobs)))) × ChangesNoFile call
+      × GivesDone call (only (audit_line (length jobs) (length (seen (audited_releases jobs)))))
   pub audit_complete : (a : AuditFields) (parts : List SealedFields) (jobs : List JobFields)
       → call.asked ≡ commands.Audit a → Reads call a.store store_in parts → ReadsJobs call a.jobs jobs
       → AreWithinLimits jobs → IsAudited parts jobs → MustSucceed call
@@ -145,17 +134,18 @@ pub record Successes (call : Call) : Type 0 where
 pub record Histories (call : Call) : Type 0 where
   -- `snapshot` and `delta`
   pub published : (h : History) (parts : List SealedFields) (job : JobFields) → IsHistory h parts
-      → AsksToPublish call h parts job → Succeeds call → Published call h parts job
+      → AsksToPublish call h parts job → Succeeds call
+      → (d : Done) × Published call.asked h parts job d × GivesDone call d
   pub admitted : (h : History) (parts : List SealedFields) (job : JobFields) → IsHistory h parts
       → AsksToPublish call h parts job → IsAdmissible (releases_of h parts) (in_format current job) → MustSucceed call
   -- `rebase` and `rebase-without`
   pub rebased : (r : RebaseFields) (h : History) (parts : List SealedFields) → IsHistory h parts
-      → AsksToRebase call r h parts → Succeeds call → Rebased call r h parts
+      → AsksToRebase call r h parts → Succeeds call → (d : Done) × Rebased r h parts d × GivesDone call d
   pub rebasable : (r : RebaseFields) (h : History) (parts : List SealedFields) → IsHistory h parts
       → AsksToRebase call r h parts → IsRebasableWithout r.moment r.without h parts → MustSucceed call
   -- `start` and `install`
   pub stored : (h : History) (parts : List SealedFields) (s : SealedFields) → IsHistory h (parts ++ s ∷ [])
-      → AsksToStore call parts s → Succeeds call → Stored call parts s
+      → AsksToStore call parts s → Succeeds call → (d : Done) × Stored call.asked parts s d × GivesDone call d
   pub taken : (h : History) (parts : List SealedFields) (s : SealedFields) → IsHistory h (parts ++ s ∷ [])
       → AsksToStore call parts s → MustSucceed call
   -- `query`
@@ -173,8 +163,8 @@ pub record Histories (call : Call) : Type 0 where
       → AsksOfLeftOut call q h parts → Succeeds call → Prints call (line (verdict_word NotEnrolled))
   -- and it can come back: the first job that enrolls it accepts each of its entries that the job covers, also those that
   -- were accepted before the base, so that `truth` holds of them from then on
-  pub comes_back : (h : History) (parts : List SealedFields) (job : JobFields) (e : Entry) → IsHistory h parts
-      → LeavesOut h e.id.issuer → Brings job e → (p : Published call h parts job)
+  pub comes_back : (h : History) (parts : List SealedFields) (job : JobFields) (d : Done) (e : Entry) → IsHistory h parts
+      → LeavesOut h e.id.issuer → Brings job e → (p : Published call.asked h parts job d)
       → Among (seen (releases_of (with_job h (in_format current job)) (parts ++ p.sealed ∷ []))) e
   -- `query-cert`
   pub cert_truth : (q : QueryCertFields) (x : Identity) (ss : List Sighting)
@@ -187,32 +177,12 @@ pub record Histories (call : Call) : Type 0 where
   pub followed : (queries : List Query) (jobs : List JobFields) (parts : List SealedFields) → IsHistory (chain jobs) parts
       → AsksToRehearse call queries jobs → MustSucceed call
 
--- What each refusal says of the files, where they are told; and that what is wrong with them must be said.
+-- What a refusal says of the files, where they are told; and that what is wrong with them must be said.
 pub record Refusals (call : Call) : Type 0 where
-  pub bad_layout : call.status ≡ status.bad_layout → FilesAreTold call
-      → (name : List ℕ) × (fault : LayoutFault) × Refused call name (faults.Layout fault)
-  pub bad_crl : call.status ≡ status.bad_crl → FilesAreTold call
-      → (name : List ℕ) × (place : ℕ) × (fault : CrlFault) × Refused call name (faults.BadCrl place fault)
-  -- a part or a job that a chain doesn't take
-  pub chain : call.status ≡ status.chain → FilesAreTold call
-      → (name : List ℕ)
-      × (Refused call name faults.NotSnapshot ⊎ ((why : Refusal) × Refused call name (faults.Chain why)))
-  -- of a job, or of a ledger that is rebased
-  pub too_many : call.status ≡ status.too_many → FilesAreTold call
-      → (name : List ℕ) × (what : What) × (limit : ℕ) × Refused call name (faults.TooMany what limit)
-  -- an issuer of the job, or of the ledger that is rebased, has no block
-  pub seeds : call.status ≡ status.seeds → FilesAreTold call
-      → (name : List ℕ) × (issuer : List ℕ) × (stage : ℕ) × Refused call name (faults.Seeds issuer stage)
-  -- CERT or ISSUERCERT
-  pub bad_cert : call.status ≡ status.bad_cert → FilesAreTold call
-      → (name : List ℕ) × (fault : CertFault) × Refused call name (faults.BadCert fault)
-  -- a page of a log
-  pub bad_page : call.status ≡ status.bad_page → FilesAreTold call
-      → (name : List ℕ) × (fault : PageFault) × Refused call name (faults.BadPage fault)
-  -- STORE doesn't say the truth of the entry at this place of the job at this place
-  pub disagrees : call.status ≡ status.disagrees → FilesAreTold call
-      → (name : List ℕ) × (job : ℕ) × (entry : ℕ) × (held : Verdict) × (truth : Verdict)
-      × Refused call name (faults.Disagrees job entry held truth)
+  -- With which file something is wrong, and what: it has this status (`refusal` says which status each fault has, and no
+  -- two kinds have the same but those of a chain), and it is what comes of the command over the files.
+  pub wrong : IsTrue (status.is_one_of status.of_refusals call.status) → FilesAreTold call
+      → (name : List ℕ) × (fault : FileFault) × Refused call name fault
   -- what is wrong with a file, also that it can't be read, must be said
   pub refused : (e : NamedFault) → Comes call (Err e) → MustGive call (refusal e.name e.fault)
   -- words that are no command

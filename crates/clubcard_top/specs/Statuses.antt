@@ -6,9 +6,13 @@ pub use Rattle.line_core.specs.Statuses.{done, usage, bad_layout, bad_crl, chain
 abbrev pub is_one_of : List ℕ → ℕ → Bool
 is_one_of statuses n = list_any (λ m. nat_eq m n) statuses
 
+-- the statuses that say what is wrong with a file that was read
+abbrev pub of_refusals : List ℕ
+of_refusals = bad_layout ∷ bad_crl ∷ chain ∷ too_many ∷ seeds ∷ bad_cert ∷ bad_page ∷ disagrees ∷ []
+
 -- the statuses that a reply has: all but that of a failed write and that of want of memory
 abbrev pub of_replies : List ℕ
-of_replies = done ∷ usage ∷ bad_layout ∷ bad_crl ∷ chain ∷ too_many ∷ seeds ∷ read_fault ∷ bad_cert ∷ bad_page ∷ disagrees ∷ []
+of_replies = done ∷ usage ∷ read_fault ∷ of_refusals
 
 -- all statuses
 abbrev pub all : List ℕ

@@ -1,59 +1,25 @@
--- What comes of a command that succeeds.
-use Rattle.std.specs.Prelude.{◌≡◌, ℕ, ◌≤◌, List, [], ◌∷◌, ◌++◌, map, length, All, Ok, IsOk}
+-- What a command that succeeds read, and what an audit says.
+use Rattle.std.specs.Prelude.{◌≡◌, ℕ, ◌≤◌, List, [], ◌∷◌, ◌++◌, map, length, All, IsOk}
 use Rattle.std.specs.List.{AllZip}
 use Rattle.ident_core.specs.declared.identity.Identity.{Identity}
 use Rattle.ident_core.specs.declared.range.Sighting.{Sighting}
 use Rattle.card_core.specs.Verdict.{verdict}
 use Rattle.part_text.specs.SealedFields.{SealedFields}
-use Rattle.part_text.specs.PartText.{spelling}
 use Rattle.gather_core.specs.Pages.{PageFields}
 use Rattle.job_core.specs.declared.bounds.TheConstants.Limits as limits
 use Rattle.job_core.specs.JobFields.{JobFields}
-use Rattle.ledger_core.specs.LedgerFields.{LedgerFields}
-use Rattle.ledger_core.specs.LedgerText.{ledger_text}
 use Rattle.sets_core.specs.Among.{Among}
 use Rattle.universe_core.specs.History.{seen, sightings}
 use Rattle.history_core.specs.Truth.{truth}
-use Rattle.store_core.specs.StoreLayout.{store_text}
 use Rattle.audit_core.specs.Auditing.{releases_of as audited_releases, entries_of, AreAdmitted, AllAgree}
-use Rattle.publication_core.specs.Publishing.{PublicationFields as Publication, Publishes}
-use Rattle.publication_core.specs.Rebasing.{BasePublicationFields, IsBasePublication, base_counts_after}
-use Rattle.word_core.specs.CommandFields.{RebaseFields}
-use Rattle.line_core.specs.Lines.{report_line, store_line}
 use Rattle.input_core.specs.Readings.{job_in, part_in}
 use Rattle.clubcard_top.specs.Commands.{page_in}
 use Rattle.clubcard_top.specs.Audits.{serials_of}
-use Rattle.clubcard_top.specs.Rebasings.{base_line}
-use Rattle.clubcard_top.specs.Calls.{Call, Reads, Holds, Prints}
+use Rattle.clubcard_top.specs.Calls.{Call, Reads}
 
 -- the file of this name held this part and nothing else
 abbrev pub ReadsPart : Call → List ℕ → SealedFields → Type 0
 ReadsPart call name s = (size : ℕ) × Reads call name part_in (s, size)
-
--- The job that JOB held is admitted behind this ledger and published: its report was printed, PART holds its part, and
--- LEDGER the ledger that goes on from this one.
-pub record PublishesFile (call : Call) (before : LedgerFields) (job part ledger : List ℕ) : Type 0 where
-  pub read : JobFields
-  pub made : Publication
-  pub reads : Reads call job job_in read
-  pub publishes : Publishes before read (Ok made)
-  pub prints : Prints call (report_line made.sealed.part.head.epoch made.place made.counts)
-  pub part_holds : Holds call part (spelling made.sealed)
-  pub ledger_holds : Holds call ledger (ledger_text made.ledger)
-
--- This ledger without what has expired at MOMENT, and without the issuers of ISSUER .., begins a chain anew: its counts
--- were printed with the part's epoch, PART holds the part, and NEWLEDGER the ledger after it.
-pub record BeginsAnew (call : Call) (before : LedgerFields) (r : RebaseFields) : Type 0 where
-  pub made : BasePublicationFields
-  pub publishes : IsBasePublication before r.moment r.without made
-  pub prints : Prints call (base_line r.without made.sealed.part.head.epoch (base_counts_after r.moment r.without before))
-  pub part_holds : Holds call r.part (spelling made.sealed)
-  pub ledger_holds : Holds call r.new_ledger (ledger_text made.ledger)
-
--- The number of parts and the newest one's epoch were printed, and STORE holds these parts with this one behind them.
-pub record NewStore (call : Call) (store : List ℕ) (parts : List SealedFields) (s : SealedFields) : Type 0 where
-  pub prints : Prints call (store_line (length (parts ++ s ∷ [])) s.part.head.epoch)
-  pub holds : Holds call store (store_text (parts ++ s ∷ []))
 
 -- the files of these names held pages, whose entries are these, one page behind the other
 abbrev pub ReadsPages : Call → List (List ℕ) → List PageFields → Type 0

@@ -28,9 +28,9 @@ ghost use Rattle.clubcard_top.specs.Commands.{Makes, Rehearses, only, query_done
 ghost use Rattle.clubcard_top.specs.Workers.{with_workers};
 ghost use Rattle.clubcard_top.specs.Steps.{RehearsesOn};
 ghost use Rattle.clubcard_top.specs.Replies.{HasFewJobs, IsOctets, IsReplyOver, held_by};
-ghost use Rattle.clubcard_top.specs.Headline.{PublishesJob, IsPublished, StoresPart, IsStored, AsksHistory, truth_done};
+ghost use Rattle.clubcard_top.specs.Headline.{PublishesJob, Published, StoresPart, Stored, AsksHistory, truth_done};
 ghost use Rattle.clubcard_top.specs.Headline.{AsksCert, cert_truth_line, RehearsesJobs, IsRehearsed};
-ghost use Rattle.clubcard_top.specs.Headline.{RebasesHistory, IsRebased, IsRebasableWithout, base_of, IsKept, AsksBase, truth_line};
+ghost use Rattle.clubcard_top.specs.Headline.{RebasesHistory, Rebased, IsRebasableWithout, base_of, IsKept, AsksBase, truth_line};
 ghost use Rattle.clubcard_top.specs.Headline.{AsksStore, AsksLeftOut, Brings};
 
 use audit_core::{audits_are_unique, audits_exist};
@@ -84,7 +84,7 @@ pub fn histories_are_made()
     ensures published { (command : Command) (files : Files)
         (h : History) (parts : List SealedFields) (job : JobFields) (d : Done)
         → IsHistory h parts → PublishesJob command files h parts job
-        → Makes command (held_by command files) (Ok d) → IsPublished command h parts job d }
+        → Makes command (held_by command files) (Ok d) → Published command h parts job d }
     ensures admitted { (command : Command) (files : Files)
         (h : History) (parts : List SealedFields) (job : JobFields) (o : Result Done NamedFault)
         → IsHistory h parts → PublishesJob command files h parts job → IsAdmissible (releases_of h parts) (in_format current job)
@@ -92,7 +92,7 @@ pub fn histories_are_made()
     ensures stored { (command : Command) (files : Files)
         (h : History) (parts : List SealedFields) (s : SealedFields) (o : Result Done NamedFault)
         → IsHistory h (parts ++ s ∷ []) → StoresPart command files parts s
-        → Makes command (held_by command files) o → (d : Done) × (o ≡ Ok d) × IsStored command parts s d }
+        → Makes command (held_by command files) o → (d : Done) × (o ≡ Ok d) × Stored command parts s d }
     ensures told { (command : Command) (files : Files) (q : QueryFields)
         (h : History) (parts : List SealedFields) (o : Result Done NamedFault)
         → IsHistory h parts → AsksStore command files q h parts
@@ -138,7 +138,7 @@ pub fn bases_are_made()
     ensures rebased { (command : Command) (files : Files) (r : RebaseFields)
         (h : History) (parts : List SealedFields) (d : Done)
         → IsHistory h parts → RebasesHistory command files r h parts
-        → Makes command (held_by command files) (Ok d) → IsRebased r h parts d }
+        → Makes command (held_by command files) (Ok d) → Rebased r h parts d }
     ensures rebasable { (command : Command) (files : Files) (r : RebaseFields)
         (h : History) (parts : List SealedFields) (o : Result Done NamedFault)
         → IsHistory h parts → RebasesHistory command files r h parts → IsRebasableWithout r.moment r.without h parts

@@ -2,28 +2,29 @@ use Rattle.std.proofs.Common.{map}
 use Rattle.std.specs.Prelude.{string_bytes}
 use Rattle.part_text.specs.SealedFields.{SealedFields}
 use Rattle.clubcard_top.specs.Calls.{call_of_words}
+use Rattle.clubcard_top.proofs.Endings as endings
 use Rattle.clubcard_top.proofs.Promised as promised
 use Rattle.clubcard_top.proofs.WordsApart as apart
 use Rattle.clubcard_top.proofs.OfHistories as of_histories
 use Rattle.clubcard_top.proofs.top.run_gated.Goals as goal
 
 pub returns-clause-ending : goal.returns-clause-ending
-returns-clause-ending g c = promised.ending _ (promised.parts _ c.run_words.ensures.ends)
+returns-clause-ending g c = promised.ending _ c.run_words.ensures.ends
 
 pub returns-clause-outside : goal.returns-clause-outside
-returns-clause-outside g c = promised.outside _ c.run_words.ensures.check (promised.parts _ c.run_words.ensures.ends)
+returns-clause-outside g c = promised.outside _ c.run_words.ensures.check c.run_words.ensures.ends
 
 pub returns-clause-refusals : goal.returns-clause-refusals
-returns-clause-refusals g c = promised.refusals _ (λ inputs a b x y. c.replies_are_unique.ensures.reply _ inputs a b x y) (promised.parts _ c.run_words.ensures.ends)
+returns-clause-refusals g c = promised.refusals _ (λ inputs a b x y. c.replies_are_unique.ensures.reply _ inputs a b x y) c.run_words.ensures.ends
 
 pub returns-clause-frame : goal.returns-clause-frame
 returns-clause-frame g c =
     let call = call_of_words g.D.Depot g.K.Sink c.args.words.now c.args.depot.now c.run_words.new.depot c.args.out.now c.run_words.new.out c.run_words.result.0 in
-    let ends = promised.parts call c.run_words.ensures.ends in
+    let ends = c.run_words.ensures.ends in
     record {
-      unchanged = promised.unchanged call ends;
-      other_files = promised.other_files call ends;
-      reading = λ none. (promised.reading call ends none, c.run_words.ensures.reading none);
+      unchanged = endings.unchanged call ends;
+      other_files = endings.other_files call ends;
+      reading = λ none. (endings.reading call ends none, c.run_words.ensures.reading none);
       later_reads = c.run_words.ensures.later_reads;
       later_writes = c.run_words.ensures.later_writes;
       later_sink = c.run_words.ensures.later_out;
@@ -46,11 +47,10 @@ returns-clause-successes g c =
       comes_back = c.bases_are_made.ensures.comes_back;
       follows = c.histories_are_made.ensures.followed _;
     })
-    (promised.parts _ c.run_words.ensures.ends) (λ inputs a b x y. c.replies_are_unique.ensures.reply _ inputs a b x y) (λ command inputs a b x y. c.replies_are_unique.ensures.outcome command inputs a b x y)
+    c.run_words.ensures.ends (apart.words_apart (map string_bytes c.args.words.now)) (λ inputs a b x y. c.replies_are_unique.ensures.reply _ inputs a b x y) (λ command inputs a b x y. c.replies_are_unique.ensures.outcome command inputs a b x y)
     (λ before job can. c.histories_are_made.ensures.publishable before job can)
     (λ before moment without can. c.bases_are_made.ensures.publishable before moment without can)
     (λ parts jobs agree. c.agreement_is_enough.ensures (map (λ (s : SealedFields). s.part) parts) jobs agree)
-    (apart.words_apart (map string_bytes c.args.words.now))
 
 pub returns-clause-histories : goal.returns-clause-histories
 returns-clause-histories g c =
@@ -69,4 +69,4 @@ returns-clause-histories g c =
       comes_back = c.bases_are_made.ensures.comes_back;
       follows = c.histories_are_made.ensures.followed _;
     })
-    (promised.parts _ c.run_words.ensures.ends) (apart.words_apart (map string_bytes c.args.words.now))
+    c.run_words.ensures.ends (apart.words_apart (map string_bytes c.args.words.now))
