@@ -28,8 +28,8 @@ use Rattle.gather_core.specs.Pages.{page_of}
 use Rattle.gather_core.specs.declared.fault.PageFault.{PageFault}
 use Rattle.gather_core.specs.declared.fault.PageFault.TheVariants as of_page_faults
 use Rattle.gather_core.specs.declared.page.TheConstants.{MAX_PAGE}
-use Rattle.extend_core.specs.Raw.{raw_job}
-use Rattle.extend_core.proofs.NoReads.{no_read}
+use Rattle.gather_core.specs.Raw.{raw_job}
+use Rattle.gather_core.proofs.NoReads.{no_read}
 use Rattle.job_core.specs.declared.fault.JobFault.{JobFault}
 use Rattle.job_core.specs.declared.fault.JobFault.TheVariants as of_job_faults
 use Rattle.job_core.proofs.JobBounds.{never-of}

@@ -15,9 +15,9 @@ use Rattle.job_core.specs.declared.bounds.What.TheVariants as what
 use Rattle.job_core.specs.JobLayout.{EntryText}
 use Rattle.job_core.specs.JobText.{JobContents, spelling as job_text}
 use Rattle.line_core.specs.Lines.{gather_line}
-use Rattle.extend_core.specs.declared.job.OpenJob.{OpenJob}
-use Rattle.extend_core.specs.Opened.{Opens}
-use Rattle.extend_core.specs.Raw.{with_entries, of_log}
+use Rattle.gather_core.specs.declared.job.OpenJob.{OpenJob}
+use Rattle.gather_core.specs.Opened.{Opens}
+use Rattle.gather_core.specs.Raw.{with_entries, of_log}
 use Rattle.word_core.specs.declared.command.Command.TheVariants as commands
 use Rattle.word_core.specs.CommandFields.{GatherFields}
 use Rattle.clubcard_top.specs.declared.answer.Answer.{Answer}

@@ -9,9 +9,9 @@ use Rattle.gather_core.specs.declared.page.TheConstants.{MAX_PAGE}
 use Rattle.gather_core.specs.Pages.{page_of}
 use Rattle.job_core.specs.declared.bounds.TheConstants.Limits as limits
 use Rattle.job_core.specs.JobText.{JobContents, spelling}
-use Rattle.extend_core.specs.declared.job.OpenJob.{OpenJob}
-use Rattle.extend_core.specs.Opened.{Opens}
-use Rattle.extend_core.specs.Raw.{raw_job}
+use Rattle.gather_core.specs.declared.job.OpenJob.{OpenJob}
+use Rattle.gather_core.specs.Opened.{Opens}
+use Rattle.gather_core.specs.Raw.{raw_job}
 use Rattle.input_core.specs.declared.fault.FileFault.TheVariants as faults
 use Rattle.input_core.specs.declared.input.InputFault.TheVariants as reads
 use Rattle.input_core.specs.Faults.{of_job, of_page}

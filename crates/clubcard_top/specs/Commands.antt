@@ -8,7 +8,7 @@ use Rattle.part_text.specs.SealedFields.{SealedFields}
 use Rattle.query_core.specs.Queries.{Query}
 use Rattle.sample_core.specs.Sample.{sample_text, sample_revoked}
 use Rattle.gather_core.specs.Pages.{PageFields}
-use Rattle.extend_core.specs.Raw.{with_entries, of_log}
+use Rattle.gather_core.specs.Raw.{with_entries, of_log}
 use Rattle.job_core.specs.declared.bounds.TheConstants.Limits as limits
 use Rattle.job_core.specs.JobText.{JobContents, spelling as job_text}
 use Rattle.job_core.specs.JobFields.{JobFields}

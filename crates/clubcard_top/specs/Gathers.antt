@@ -3,8 +3,8 @@ use Rattle.std.specs.Prelude.{◌≡◌, ℕ, List, length, Option, None, Ok, Er
 use Rattle.outside_core.specs.Files.{Files}
 use Rattle.gather_core.specs.Pages.{PageFields}
 use Rattle.job_core.specs.JobText.{JobContents}
-use Rattle.extend_core.specs.declared.job.OpenJob.{OpenJob}
-use Rattle.extend_core.specs.Opened.{Opens}
+use Rattle.gather_core.specs.declared.job.OpenJob.{OpenJob}
+use Rattle.gather_core.specs.Opened.{Opens}
 use Rattle.word_core.specs.CommandFields.{GatherFields}
 use Rattle.input_core.specs.Inputs.{AreRead}
 use Rattle.clubcard_top.specs.ReplyFields.{NamedFault}

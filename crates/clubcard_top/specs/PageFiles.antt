@@ -6,7 +6,7 @@ use Rattle.gather_core.specs.Pages.{PageFields, page_of}
 use Rattle.job_core.specs.declared.bounds.TheConstants.Limits as limits
 use Rattle.job_core.specs.declared.bounds.What.TheVariants as what
 use Rattle.job_core.specs.JobText.{JobContents}
-use Rattle.extend_core.specs.Raw.{raw_job}
+use Rattle.gather_core.specs.Raw.{raw_job}
 use Rattle.input_core.specs.declared.fault.FileFault.{FileFault}
 use Rattle.input_core.specs.declared.fault.FileFault.TheVariants as faults
 use Rattle.input_core.specs.Faults.{of_job, of_page}

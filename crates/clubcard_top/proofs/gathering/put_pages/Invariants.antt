@@ -1,6 +1,6 @@
 use Rattle.std.proofs.Common.{◌≡◌, ◌≤◌, None}
 use Rattle.job_core.specs.JobText.{JobContents}
-use Rattle.extend_core.specs.Opened.{Opens}
+use Rattle.gather_core.specs.Opened.{Opens}
 use Rattle.outside_core.specs.Reads.{WhichFailed}
 use Rattle.clubcard_top.proofs.PagesPut.{Gone}
 use Rattle.clubcard_top.proofs.gathering.put_pages.Given as goal

@@ -1,6 +1,6 @@
 use Rattle.std.proofs.Common.{arith}
-use Rattle.extend_core.proofs.Joining.{opened-new}
-use Rattle.extend_core.proofs.job.OpenJob.new.Goals as goal
+use Rattle.gather_core.proofs.Joining.{opened-new}
+use Rattle.gather_core.proofs.job.OpenJob.new.Goals as goal
 
 pub returns-clause-ok : goal.returns-clause-ok
 returns-clause-ok c =

@@ -10,7 +10,7 @@ use Rattle.job_core.specs.JobText.{record_text, FitsItem, Pass}
 use Rattle.job_core.specs.Reader.{no_serials}
 use Rattle.job_core.proofs.RecordTexts.{next-read}
 use Rattle.job_core.proofs.Passing.{texts_of}
-use Rattle.extend_core.specs.Raw.{entries_in}
+use Rattle.gather_core.specs.Raw.{entries_in}
 
 -- it might be the first record of a job
 abbrev pub Fits : Item → Type 0

@@ -1,7 +1,7 @@
 //! The entries of a job that is read record by record.
 
 ghost use Rattle.std.specs.Prelude.{◌≡◌, ◌≢◌, ◌↔◌, IfErr, IsTrue};
-ghost use Rattle.extend_core.specs.Opened.{Counts, entries_given};
+ghost use Rattle.gather_core.specs.Opened.{Counts, entries_given};
 
 use job_core::{JobFault, JobReader, Limits, Record, SliceDepot};
 use outside_core::Feed;

@@ -10,10 +10,10 @@ use Rattle.job_core.specs.JobLayout.{EntryText}
 use Rattle.job_core.specs.JobText.{JobContents, FitsEntry, opening_text, range_record, crl_record, entry_record, spelling}
 use Rattle.gather_core.specs.declared.page.PageEntry.{PageEntry}
 use Rattle.gather_core.specs.Pages.{PageFields, fields_of, EntryFits}
-use Rattle.extend_core.specs.declared.job.OpenJob.{OpenJob}
+use Rattle.gather_core.specs.declared.job.OpenJob.{OpenJob}
 use Rattle.std.proofs.Math.Seq.{take-append_seam}
-use Rattle.extend_core.specs.Raw.{of_log, raw_job, with_entries, opened_text}
-use Rattle.extend_core.specs.Opened.{Counts, Opens}
+use Rattle.gather_core.specs.Raw.{of_log, raw_job, with_entries, opened_text}
+use Rattle.gather_core.specs.Opened.{Counts, Opens}
 
 regrouped : (o r c e z : List ℕ) → o ++ r ++ c ++ e ++ z ≡ (o ++ (r ++ (c ++ e))) ++ z
 regrouped o r c e z = ap (λ (l : List ℕ). l ++ z) (append_assoc (o ++ r) c e ∙ append_assoc o r (c ++ e))

@@ -6,8 +6,8 @@ use Rattle.job_core.specs.declared.reader.Record.{Record}
 use Rattle.job_core.specs.declared.reader.Record.TheVariants as records
 use Rattle.job_core.specs.JobText.{JobContents, FitsJob, spelling}
 use Rattle.job_core.specs.Pulling.{IsOfBytes}
-use Rattle.extend_core.specs.declared.job.OpenJob.{OpenJob}
-use Rattle.extend_core.specs.Raw.{raw_job, opened_text}
+use Rattle.gather_core.specs.declared.job.OpenJob.{OpenJob}
+use Rattle.gather_core.specs.Raw.{raw_job, opened_text}
 
 -- how many entries it has
 abbrev pub entries_of : OpenJob → ℕ

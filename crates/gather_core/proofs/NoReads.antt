@@ -16,7 +16,7 @@ use Rattle.job_core.specs.JobLayout.{fielded, record_kind, crl, entry, opening, 
 use Rattle.job_core.specs.JobLayout.{with_others, records_within, records, JobTexts, job}
 use Rattle.job_core.specs.JobText.{JobContents}
 use Rattle.job_core.specs.Reader.{no_serials}
-use Rattle.extend_core.specs.Raw.{raw_by, raw_job}
+use Rattle.gather_core.specs.Raw.{raw_by, raw_job}
 
 record Never {A : Type 0} (layout : Layout JobFault A) : Type 0 where
   each : (bytes : List ℕ) (at : ℕ) → layout bytes at ≡ Err faults.ReadFault → ⊥

@@ -1,7 +1,7 @@
 use Rattle.std.proofs.Common.{◌-◌, length}
 use Rattle.outside_core.specs.Standing.{place_of}
-use Rattle.extend_core.proofs.Reading.{Going}
-use Rattle.extend_core.proofs.counting.count_entries.Given as goal
+use Rattle.gather_core.proofs.Reading.{Going}
+use Rattle.gather_core.proofs.counting.count_entries.Given as goal
 
 abbrev pub invariant-loop-given : goal.invariant-loop-given
 invariant-loop-given l = Going l.bytes l.reader l.feed l.entries

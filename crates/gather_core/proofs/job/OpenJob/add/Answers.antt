@@ -1,7 +1,7 @@
 use Rattle.std.proofs.Common.{arith}
 use Rattle.std.proofs.lemmas.List.{take_all}
-use Rattle.extend_core.proofs.Joining.{fits-at, put-all}
-use Rattle.extend_core.proofs.job.OpenJob.add.Goals as goal
+use Rattle.gather_core.proofs.Joining.{fits-at, put-all}
+use Rattle.gather_core.proofs.job.OpenJob.add.Goals as goal
 
 pub put_entry-requires : goal.put_entry-requires
 put_entry-requires c = fits-at c.args.entries.now c.loop-entry.entry-index c.entry-item.result c.requires.fits c.loop-entry-test.true c.entry-item.is

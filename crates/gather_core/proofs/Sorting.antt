@@ -10,7 +10,7 @@ use Rattle.job_core.specs.JobLayout.{CrlText, EntryText, Held, Item, OneRange, O
 use Rattle.job_core.specs.JobText.{FitsCrl, FitsEntry, Pass}
 use Rattle.job_core.specs.Reader.{no_serials}
 use Rattle.job_core.proofs.Items.{items}
-use Rattle.extend_core.specs.Raw.{ranges_in, crls_in, entries_in}
+use Rattle.gather_core.specs.Raw.{ranges_in, crls_in, entries_in}
 
 pub record Sorts (limits : Limits) (h : Held) (xs : List Item) : Type 0 where
   pub is : items (ranges_in xs) (crls_in xs) (entries_in xs) ≡ xs

@@ -1,9 +1,9 @@
 use Rattle.std.proofs.Common.{◌+◌, ◌∙◌, Ok, Err, arith}
 use Rattle.std.proofs.lemmas.Result.{err_from_is_err_and}
 use Rattle.outside_core.specs.Standing.{place_of}
-use Rattle.extend_core.specs.Opened.{entries_given}
-use Rattle.extend_core.proofs.Reading.{at-first, going-first, going-next, going-ended, going-fault, read-well, nearer, few-so-far, gives-of}
-use Rattle.extend_core.proofs.counting.count_entries.Goals as goal
+use Rattle.gather_core.specs.Opened.{entries_given}
+use Rattle.gather_core.proofs.Reading.{at-first, going-first, going-next, going-ended, going-fault, read-well, nearer, few-so-far, gives-of}
+use Rattle.gather_core.proofs.counting.count_entries.Goals as goal
 
 pub loop-given-init : goal.loop-given-init
 loop-given-init c =

@@ -9,10 +9,10 @@ use Rattle.job_core.specs.JobLayout.{Item, Held}
 use Rattle.job_core.specs.JobText.{opening_text, record_text}
 use Rattle.job_core.specs.Reader.{Begins, StandsAt}
 use Rattle.job_core.proofs.Passing.{texts_of}
-use Rattle.extend_core.specs.Raw.{contents_in, entries_in}
-use Rattle.extend_core.specs.Opened.{Counts}
-use Rattle.extend_core.proofs.Records.{Fits, AllFit, pass-fits, same_texts, texts-more, fits-more, entries-more, entries-few}
-use Rattle.extend_core.proofs.Reread.{read-job, spelled, fits-job}
+use Rattle.gather_core.specs.Raw.{contents_in, entries_in}
+use Rattle.gather_core.specs.Opened.{Counts}
+use Rattle.gather_core.proofs.Records.{Fits, AllFit, pass-fits, same_texts, texts-more, fits-more, entries-more, entries-few}
+use Rattle.gather_core.proofs.Reread.{read-job, spelled, fits-job}
 
 -- the opening and records that fit, of which so many are entries
 pub record Front (b : List ℕ) (n : ℕ) : Type 0 where

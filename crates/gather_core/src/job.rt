@@ -3,11 +3,11 @@
 ghost use Rattle.std.specs.Prelude.{◌≡◌, ◌≢◌, ◌+◌, ◌++◌, ◌≤◌, ◌↔◌, List, length, map, All, Ok, Err, IfOk, IfErr, OnOk, IsTrue};
 ghost use Rattle.job_core.specs.JobText.{JobContents, entry_record, spelling};
 ghost use Rattle.gather_core.specs.Pages.{EntryFits, fields_of};
-ghost use Rattle.extend_core.specs.Opened.{entries_of, Opens};
-ghost use Rattle.extend_core.specs.Raw.{of_log, raw_job, with_entries};
+ghost use Rattle.gather_core.specs.Opened.{entries_of, Opens};
+ghost use Rattle.gather_core.specs.Raw.{of_log, raw_job, with_entries};
 
 use crate::counting::count_entries;
-use gather_core::PageEntry;
+use crate::page::PageEntry;
 use job_core::{JobFault, Limits};
 use octets_core::{Key32, NoMemory, put_bytes, put_u8, put_u24};
 use std::alloc::Global;

@@ -12,8 +12,8 @@ use Rattle.job_core.proofs.JobReads.{opening-read, behind-opening, ends-at, spel
 use Rattle.job_core.proofs.Passing.{texts_of, passes}
 use Rattle.job_core.proofs.RecordTexts.{next-none}
 use Rattle.job_core.proofs.Steps.{ends}
-use Rattle.extend_core.specs.Raw.{contents_in, raw_by, raw_job}
-use Rattle.extend_core.proofs.Sorting.{sorted}
+use Rattle.gather_core.specs.Raw.{contents_in, raw_by, raw_job}
+use Rattle.gather_core.proofs.Sorting.{sorted}
 
 records-end : (limits : Limits) (xs : List Item) (before : List ℕ) → Pass no_serials limits nothing_held 0 xs
     → records no_serials limits nothing_held 0 (before ++ (texts_of xs ++ to_be_bytes w8 0)) (length before) ≡ Ok (xs, length (before ++ (texts_of xs ++ to_be_bytes w8 0)))
