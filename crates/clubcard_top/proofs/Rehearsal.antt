@@ -14,7 +14,7 @@ use Rattle.job_core.specs.JobFields.{JobFields}
 use Rattle.universe_core.specs.Formats.{in_format}
 use Rattle.publication_core.specs.Formats.{current}
 use Rattle.publication_core.specs.Histories.{History, of_jobs, with_job, with_jobs, chain}
-use Rattle.rehearsal_core.specs.Rehearsing.{RehearsalFields, IsOf}
+use Rattle.publication_core.specs.Rehearsing.{RehearsalFields, IsOf}
 use Rattle.word_core.specs.declared.command.Command.TheVariants as commands
 use Rattle.word_core.specs.CommandFields.{RehearseFields}
 use Rattle.clubcard_top.specs.declared.answer.Answer.{Answer}

@@ -8,7 +8,7 @@ use Rattle.job_core.specs.JobFacts.{FitsFields}
 use Rattle.universe_core.specs.Formats.{in_format}
 use Rattle.publication_core.specs.Formats.{current}
 use Rattle.publication_core.specs.Histories.{History, of_jobs, with_job}
-use Rattle.rehearsal_core.specs.Rehearsing.{RehearsalFields, IsOf}
+use Rattle.publication_core.specs.Rehearsing.{RehearsalFields, IsOf}
 use Rattle.clubcard_top.specs.ReplyFields.{NamedFault}
 use Rattle.clubcard_top.specs.Commands.{report_behind, reports, rehearsed}
 use Rattle.clubcard_top.specs.Steps.{RehearsesOn}

@@ -15,7 +15,7 @@ use Rattle.universe_core.specs.declared.admitted.Group.{Group}
 use Rattle.universe_core.specs.Formats.{dated}
 use Rattle.universe_core.specs.Groups.{GroupFields, group_fields}
 use Rattle.universe_core.specs.Rebases.{ledger_without, count_left, is_lasting, issuers_in, kept, kept_revoked, count_pruned, group_among, rebased_head, rebased_groups, rebased_item, rebased_ledger}
-use Rattle.rebase_core.proofs.Kept.{lasts_rebased}
+use Rattle.publication_core.proofs.Kept.{lasts_rebased}
 use Rattle.builder_core.specs.Building.{AreGroupBlocks, issuers_of, identities_in}
 use Rattle.builder_core.proofs.Admitted.{issuers_among, identities_among}
 use Rattle.publication_core.specs.declared.base.BaseCounts.{BaseCounts}

@@ -51,9 +51,9 @@ use Rattle.universe_core.proofs.Beginning.{issuers_few}
 use Rattle.universe_core.proofs.Continuing.{before_none, before_ledger, find_all, is_next, next_is}
 use Rattle.universe_core.proofs.Greatest.{greatest_is, greatest_keeps}
 use Rattle.universe_core.proofs.Members.{Among-dates}
-use Rattle.rebase_core.proofs.Built.{is_ledger}
-use Rattle.rebase_core.proofs.Parts.{newest_fits}
-use Rattle.rebase_core.proofs.Without.{IsLedger-without}
+use Rattle.publication_core.proofs.Built.{is_ledger}
+use Rattle.publication_core.proofs.Parts.{newest_fits}
+use Rattle.publication_core.proofs.Without.{IsLedger-without}
 use Rattle.history_core.specs.Bases.{all_issuers, releases_without, base_at}
 use Rattle.history_core.specs.Facts.{IsSound}
 use Rattle.history_core.proofs.Accepting.{accepted_cases, shown_entry}

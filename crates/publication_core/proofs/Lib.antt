@@ -17,3 +17,8 @@ pub mod Bases
 pub mod BaseOutcomes
 pub mod BasePublishing
 pub mod LeftOut
+pub mod Kept
+pub mod Without
+pub mod Parts
+pub mod Built
+pub mod Adding

@@ -6,3 +6,4 @@ pub mod Building
 pub mod Truth
 pub mod Rebasing
 pub mod BaseFaults
+pub mod Rehearsing

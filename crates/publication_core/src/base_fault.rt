@@ -1,10 +1,11 @@
 ghost use Rattle.std.specs.Prelude.{◌≡◌};
-ghost use Rattle.publication_core.specs.BaseFaults.{of_rebasing, of_building};
+ghost use Rattle.publication_core.specs.BaseFaults.{of_building};
+ghost use Rattle.publication_core.specs.declared.base_fault.BaseFault.TheVariants as bases;
 
 use builder_core::BuildFault;
 use job_core::What;
 use octets_core::Key32;
-use rebase_core::RebaseFault;
+use std::alloc::AllocError;
 
 /// Why a ledger isn't rebased.
 #[derive(Clone, Copy, Debug, PartialEq, Eq)]
@@ -18,14 +19,11 @@ pub enum BaseFault {
     NoMemory,
 }
 
-impl From<RebaseFault> for BaseFault {
-    ghost from_gives = { λ fault e. e ≡ of_rebasing fault };
+impl From<AllocError> for BaseFault {
+    ghost from_gives = { λ _ e. e ≡ bases.NoMemory };
 
-    fn from(fault: RebaseFault) -> BaseFault {
-        match fault {
-            RebaseFault::TooMany { what, limit } => BaseFault::TooMany { what, limit },
-            RebaseFault::NoMemory => BaseFault::NoMemory,
-        }
+    fn from(_: AllocError) -> BaseFault {
+        BaseFault::NoMemory
     }
 }
 

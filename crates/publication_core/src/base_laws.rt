@@ -1,10 +1,11 @@
-//! What follows for the base of every history, with no call.
+//! What follows for the base of every history, and what a ledger without some issuers is, with no call.
 
-ghost use Rattle.std.specs.Prelude.{◌≡◌, ◌≤◌, ◌∷◌, ◌++◌, [], ℕ, List, Ok, Result, Some, length, map, true, false, if◌then◌else◌};
+ghost use Rattle.std.specs.Prelude.{◌≡◌, ◌≤◌, ◌+◌, ◌∷◌, ◌++◌, [], ℕ, Bool, List, Ok, Result, Some, filter, length, map, true, false, if◌then◌else◌};
 ghost use Rattle.std.specs.List.{list_any};
 ghost use Rattle.ident_core.specs.declared.identity.Identity.{Identity};
 ghost use Rattle.ident_core.specs.declared.range.Sighting.{Sighting};
 ghost use Rattle.part_text.specs.SealedFields.{SealedFields};
+ghost use Rattle.ledger_core.specs.declared.fields.LedgerItem.{LedgerItem};
 ghost use Rattle.ledger_core.specs.LedgerFields.{LedgerFields};
 ghost use Rattle.sets_core.specs.Among.{Among};
 ghost use Rattle.sets_core.specs.Sets.{has, has_key};
@@ -13,6 +14,8 @@ ghost use Rattle.universe_core.specs.Formats.{JobIn, facts_in};
 ghost use Rattle.universe_core.specs.Jobs.{Entry, is_enrolled};
 ghost use Rattle.universe_core.specs.History.{seen, sightings};
 ghost use Rattle.universe_core.specs.Ledgers.{ledger_of};
+ghost use Rattle.universe_core.specs.Rebases.{is_other, is_of_other, ledger_without, issuers_in, kept, count_pruned, count_left};
+ghost use Rattle.universe_core.specs.Rebases.{rebased_head};
 ghost use Rattle.history_core.specs.Bases.{kept_by, releases_without, is_lasting_by};
 ghost use Rattle.card_core.specs.declared.verdict.Verdict.TheVariants as Verdict;
 ghost use Rattle.card_core.specs.Consulting.{covers_some};
@@ -72,4 +75,20 @@ pub fn issuers_that_are_left_out_come_back()
     ensures come_back { (h : History) (parts : List SealedFields) (j : JobIn) (s : SealedFields) (e : Entry) → IsHistory h parts
         → LeavesOut h e.id.issuer → Among (facts_in j).entries (Some e) → covers (facts_in j).ranges e.sighting ≡ true
         → is_enrolled (facts_in j) e.id.issuer ≡ true → Among (seen (releases_of (with_job h j) (parts ++ s ∷ []))) e }
+{}
+
+/// A ledger is rebased without some issuers where the ledger without them is rebased. That has the same head, a block
+/// for each issuer but these, and of the kept items those of other issuers. Each item is kept, pruned or left out. And
+/// without no issuer, it is the ledger itself.
+pub fn issuers_are_left_out()
+    ensures head { (without : List (List ℕ)) (ledger : LedgerFields)
+        → rebased_head (ledger_without without ledger).parts ≡ rebased_head ledger.parts }
+    ensures issuers { (without : List (List ℕ)) (ledger : LedgerFields)
+        → issuers_in (ledger_without without ledger).parts ≡ filter (is_other without) (issuers_in ledger.parts) }
+    ensures items { (without : List (List ℕ)) (keeps : LedgerItem → Bool) (ledger : LedgerFields)
+        → kept keeps (ledger_without without ledger) ≡ filter (is_of_other without) (kept keeps ledger) }
+    ensures each { (without : List (List ℕ)) (keeps : LedgerItem → Bool) (ledger : LedgerFields)
+        → length (kept keeps (ledger_without without ledger)) + count_pruned keeps (ledger_without without ledger) + count_left without ledger
+        ≡ length ledger.items }
+    ensures none { (ledger : LedgerFields) → ledger_without [] ledger ≡ ledger }
 {}

@@ -7,10 +7,11 @@ ghost use Rattle.publication_core.specs.Rebasing.{PublishesBaseUnless};
 use crate::base::{BaseCounts, BasePublication};
 use crate::base_fault::BaseFault;
 use crate::publish::built;
+use crate::rebased::Rebased;
+use crate::rebasing::rebase;
 use builder_core::Gate;
 use ledger_core::{Ledger, LedgerItem};
 use octets_core::Key32;
-use rebase_core::{Rebased, rebase};
 use std::alloc::Global;
 use std::thread::Threads;
 

@@ -1,6 +1,6 @@
 use Rattle.std.proofs.Common.{arith, refl, ap, ◌∙◌}
 use Rattle.outside_core.specs.Effects.{OnlyReads}
-use Rattle.rehearsal_core.specs.Rehearsing.{RehearsalFields}
+use Rattle.publication_core.specs.Rehearsing.{RehearsalFields}
 use Rattle.outside_core.specs.Reads.{WhichFailed}
 use Rattle.outside_core.proofs.Effects.{WhichFailed-then}
 use Rattle.input_core.proofs.FilesRead.{none_failed}

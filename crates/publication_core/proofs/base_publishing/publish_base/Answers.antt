@@ -5,7 +5,7 @@ use Rattle.ledger_core.specs.declared.fields.LedgerItem.{LedgerItem}
 use Rattle.ledger_core.specs.LedgerFields.{IsLedger}
 use Rattle.universe_core.specs.Groups.{group_fields}
 use Rattle.universe_core.specs.Rebases.{ledger_without, is_lasting}
-use Rattle.rebase_core.proofs.Without.{IsLedger-without}
+use Rattle.publication_core.proofs.Without.{IsLedger-without}
 use Rattle.publication_core.proofs.BasePublishing.{base_ascends, base_many, base_identities, base_publishes}
 use Rattle.publication_core.proofs.base_publishing.publish_base.Goals as goal
 

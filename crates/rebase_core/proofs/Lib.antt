@@ -1,4 +1,0 @@
-pub mod Kept
-pub mod Without
-pub mod Parts
-pub mod Built

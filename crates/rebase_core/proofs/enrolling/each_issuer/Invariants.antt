@@ -1,6 +1,0 @@
-use Rattle.std.proofs.Common.{◌≡◌, take}
-use Rattle.rebase_core.proofs.Parts.{issuers_each}
-use Rattle.rebase_core.proofs.enrolling.each_issuer.Given as goal
-
-abbrev pub invariant-loop-part : goal.invariant-loop-part
-invariant-loop-part l = l.keys.items ≡ issuers_each l.left_out (take l.part-index l.parts)
