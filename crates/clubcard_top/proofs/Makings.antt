@@ -127,7 +127,7 @@ pub after_ok : {A B : Type 0} (r : Result A NamedFault) (next : A → Result B N
 after_ok (Ok x) next b h = (x, refl, h)
 after_ok {A} {B} (Err e) next b h = absurd (let g : ◌≡◌ {A = Result B NamedFault} (Ok b) (Err e) = h in cc)
 
-err_same : {A E : Type 0} (x y : E) → ◌≡◌ {A = Result A E} (Err x) (Err y) → x ≡ y
+pub err_same : {A E : Type 0} (x y : E) → ◌≡◌ {A = Result A E} (Err x) (Err y) → x ≡ y
 err_same {A} {E} x y h = cc
 
 -- a fault is one of the first step, or of what follows it

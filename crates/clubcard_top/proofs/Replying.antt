@@ -1,5 +1,5 @@
 -- The reply of a command, from what was read of its inputs.
-use Rattle.std.proofs.Common.{◌≡◌, ℕ, inl, inr, List, [], ◌∷◌, Option, Some, None, Result, Ok, Err, IfOk, refl, sym, ap, ◌∙◌, subst}
+use Rattle.std.proofs.Common.{◌≡◌, ◌≢◌, ℕ, inl, inr, List, [], ◌∷◌, Option, Some, None, Result, Ok, Err, IfOk, refl, sym, ap, ◌∙◌, subst}
 use Rattle.std.specs.Prelude.{IsErr}
 use Rattle.octets_core.specs.declared.memory.NoMemory.{NoMemory}
 use Rattle.octets_core.specs.Reading.{GivesUnless}
@@ -15,10 +15,10 @@ use Rattle.ledger_core.specs.LedgerFields.{LedgerFields}
 use Rattle.universe_core.specs.Ledgers.{no_ledger}
 use Rattle.publication_core.specs.declared.fault.PublishFault.{PublishFault}
 use Rattle.publication_core.specs.declared.fault.PublishFault.TheVariants as publish
-use Rattle.publication_core.specs.Publishing.{PublicationFields, Publishes, PublishesUnless}
+use Rattle.publication_core.specs.Publishing.{PublicationFields, Publishes}
 use Rattle.publication_core.specs.declared.base_fault.BaseFault.{BaseFault}
 use Rattle.publication_core.specs.declared.base_fault.BaseFault.TheVariants as bases
-use Rattle.publication_core.specs.Rebasing.{BasePublicationFields, PublishesBase, PublishesBaseUnless}
+use Rattle.publication_core.specs.Rebasing.{BasePublicationFields, PublishesBase}
 use Rattle.word_core.specs.declared.command.Command.{Command}
 use Rattle.word_core.specs.declared.command.Command.TheVariants as commands
 use Rattle.word_core.specs.CommandFields.{QueryFields, SnapshotFields, DeltaFields, RebaseFields, StartFields, InstallFields}
@@ -38,7 +38,7 @@ use Rattle.clubcard_top.specs.Rebasings.{base_done, MakesBase, MakesRebase}
 use Rattle.clubcard_top.specs.Replies.{done, refusal, reply_of, SaysWhich, IsReply}
 use Rattle.clubcard_top.specs.Answering.{reply_fields}
 use Rattle.clubcard_top.proofs.Results.{not_ok}
-use Rattle.clubcard_top.proofs.Makings.{start_after, install_then, install_after}
+use Rattle.clubcard_top.proofs.Makings.{err_same, start_after, install_then, install_after}
 
 -- ---- files
 
@@ -168,28 +168,30 @@ module _ (told : Option Files) (failed : Option (List ℕ) → Type 0) (r : Resu
 
   pub snapshot_made : {B : Type 0} (s : SnapshotFields) (view : B → JobFields) (x : B) (p : PublicationFields) → IsInput told failed s.job job_in view (Ok x)
       → FitsFields (view x) → IsWithinLimits PUBLISHED (view x)
-      → PublishesUnless no_ledger (view x) (Ok p) → IfOk r (λ a. reply_fields a ≡ done (publication_done s.part s.ledger p)) → IfOk r (λ a. IsReply (commands.Snapshot s) told failed (reply_fields a))
+      → Publishes no_ledger (view x) (Ok p) → IfOk r (λ a. reply_fields a ≡ done (publication_done s.part s.ledger p)) → IfOk r (λ a. IsReply (commands.Snapshot s) told failed (reply_fields a))
   snapshot_made s view x p (given, read, gives, blamed) fits limits publishes is =
       made (commands.Snapshot s) told failed (given ∷ []) (Ok (publication_done s.part s.ledger p)) r (read, tt) (inl (none_failed failed s.job faults.Unread x blamed))
       (snapshot_step s (view x) given (Ok (publication_done s.part s.ledger p)) gives (record { fits = fits; limits = limits; result = Ok p; publishes = publishes; is = refl })) is
 
--- a fault of publishing that isn't want of memory
-publishes_err : (before : LedgerFields) (j : JobFields) (fault : PublishFault) → PublishesUnless before j (Err fault) → (of_publishing fault ≡ faults.NoMemory → ⊥) → Publishes before j (Err fault)
-publishes_err before j (publish.Admission fault) h refute = h
-publishes_err before j (publish.SeedsExhausted issuer stage) h refute = h
-publishes_err before j publish.NoMemory h refute = absurd (refute refl)
+-- what a fault says of what is published of a job, and of a rebase, where it isn't want of memory
+abbrev NotPublished : LedgerFields → JobFields → PublishFault → Type 0
+NotPublished before j fault = ◌≢◌ {A = Result PublicationFields PublishFault} (Err fault) (Err publish.NoMemory) → Publishes before j (Err fault)
 
--- and one of a rebase
-base_err : (before : LedgerFields) (moment : ℕ) (without : List (List ℕ)) (fault : BaseFault) → PublishesBaseUnless before moment without (Err fault)
+abbrev pub NotRebased : LedgerFields → ℕ → List (List ℕ) → BaseFault → Type 0
+NotRebased before moment without fault =
+    ◌≢◌ {A = Result BasePublicationFields BaseFault} (Err fault) (Err bases.NoMemory) → PublishesBase before moment without (Err fault)
+
+publishes_err : (before : LedgerFields) (j : JobFields) (fault : PublishFault) → NotPublished before j fault → (of_publishing fault ≡ faults.NoMemory → ⊥) → Publishes before j (Err fault)
+publishes_err before j fault h refute = h (λ e. refute (ap of_publishing (err_same {A = PublicationFields} fault publish.NoMemory e)))
+
+base_err : (before : LedgerFields) (moment : ℕ) (without : List (List ℕ)) (fault : BaseFault) → NotRebased before moment without fault
     → (of_rebasing fault ≡ faults.NoMemory → ⊥) → PublishesBase before moment without (Err fault)
-base_err before moment without (bases.TooMany what limit) h refute = h
-base_err before moment without (bases.SeedsExhausted issuer stage) h refute = h
-base_err before moment without bases.NoMemory h refute = absurd (refute refl)
+base_err before moment without fault h refute = h (λ e. refute (ap of_rebasing (err_same {A = BasePublicationFields} fault bases.NoMemory e)))
 
 module _ (told : Option Files) (failed : Option (List ℕ) → Type 0) (r : Result Answer NoMemory) where
   pub snapshot_not : {B : Type 0} (s : SnapshotFields) (view : B → JobFields) (x : B) (fault : PublishFault) → IsInput told failed s.job job_in view (Ok x)
       → FitsFields (view x) → IsWithinLimits PUBLISHED (view x)
-      → PublishesUnless no_ledger (view x) (Err fault) → (of_publishing fault ≡ faults.NoMemory → IsErr r) → IfOk r (λ a. reply_fields a ≡ refusal s.job (of_publishing fault))
+      → NotPublished no_ledger (view x) fault → (of_publishing fault ≡ faults.NoMemory → IsErr r) → IfOk r (λ a. reply_fields a ≡ refusal s.job (of_publishing fault))
       → IfOk r (λ a. IsReply (commands.Snapshot s) told failed (reply_fields a))
   snapshot_not s view x fault (given, read, gives, blamed) fits limits publishes memory is =
       made_unless (commands.Snapshot s) told failed (given ∷ []) s.job (of_publishing fault) r (read, tt) (inl (none_failed failed s.job faults.Unread x blamed))
@@ -209,13 +211,13 @@ module _ (told : Option Files) (failed : Option (List ℕ) → Type 0) (r : Resu
   rebase_step b l given o gives m = subst (λ (x : Result LedgerFields FileFault). MakesRebase b (named b.ledger x) o) (sym gives) m
 
   pub rebase_made : {B : Type 0} (b : RebaseFields) (view : B → LedgerFields) (x : B) (p : BasePublicationFields) → IsInput told failed b.ledger ledger_in view (Ok x)
-      → PublishesBaseUnless (view x) b.moment b.without (Ok p) → IfOk r (λ a. reply_fields a ≡ done (base_done b p)) → IfOk r (λ a. IsReply (commands.Rebase b) told failed (reply_fields a))
+      → PublishesBase (view x) b.moment b.without (Ok p) → IfOk r (λ a. reply_fields a ≡ done (base_done b p)) → IfOk r (λ a. IsReply (commands.Rebase b) told failed (reply_fields a))
   rebase_made b view x p (given, read, gives, blamed) publishes is =
       made (commands.Rebase b) told failed (given ∷ []) (Ok (base_done b p)) r (read, tt) (inl (none_failed failed b.ledger faults.Unread x blamed))
       (rebase_step b (view x) given (Ok (base_done b p)) gives (record { result = Ok p; publishes = publishes; is = refl })) is
 
   pub rebase_not : {B : Type 0} (b : RebaseFields) (view : B → LedgerFields) (x : B) (fault : BaseFault) → IsInput told failed b.ledger ledger_in view (Ok x)
-      → PublishesBaseUnless (view x) b.moment b.without (Err fault) → (of_rebasing fault ≡ faults.NoMemory → IsErr r) → IfOk r (λ a. reply_fields a ≡ refusal b.ledger (of_rebasing fault))
+      → NotRebased (view x) b.moment b.without fault → (of_rebasing fault ≡ faults.NoMemory → IsErr r) → IfOk r (λ a. reply_fields a ≡ refusal b.ledger (of_rebasing fault))
       → IfOk r (λ a. IsReply (commands.Rebase b) told failed (reply_fields a))
   rebase_not b view x fault (given, read, gives, blamed) publishes memory is =
       made_unless (commands.Rebase b) told failed (given ∷ []) b.ledger (of_rebasing fault) r (read, tt) (inl (none_failed failed b.ledger faults.Unread x blamed))
@@ -278,7 +280,7 @@ module _ {D : Type 0} (g : Ghosts D) (old mid new : D) (reads_ : OnlyReads g old
       (subst (λ (y : Result LedgerFields FileFault). MakesDelta t (Ok (view x)) (named t.ledger y) (Err (record { name = t.ledger; fault = fault }))) (sym (gives_ledger refute)) refl)) memory is
 
   pub delta_made : {B C : Type 0} (t : DeltaFields) (view : B → JobFields) (x : B) (shape : C → LedgerFields) (l : C) (p : PublicationFields) → IsInput (g.files old) First t.job job_in view (Ok x)
-      → IsInput (g.files mid) Second t.ledger ledger_in shape (Ok l) → FitsFields (view x) → IsWithinLimits PUBLISHED (view x) → PublishesUnless (shape l) (view x) (Ok p)
+      → IsInput (g.files mid) Second t.ledger ledger_in shape (Ok l) → FitsFields (view x) → IsWithinLimits PUBLISHED (view x) → Publishes (shape l) (view x) (Ok p)
       → IfOk r (λ a. reply_fields a ≡ done (publication_done t.part t.new_ledger p)) → IfOk r (λ a. IsReply (commands.Delta t) (g.files old) Both (reply_fields a))
   delta_made t view x shape l p (given, read, gives, blamed) (more, read_ledger, gives_ledger, blamed_ledger) fits limits publishes is =
       made (commands.Delta t) (g.files old) Both (given ∷ more ∷ []) (Ok (publication_done t.part t.new_ledger p)) r
@@ -287,7 +289,7 @@ module _ {D : Type 0} (g : Ghosts D) (old mid new : D) (reads_ : OnlyReads g old
       (record { fits = fits; limits = limits; result = Ok p; publishes = publishes; is = refl })) is
 
   pub delta_not : {B C : Type 0} (t : DeltaFields) (view : B → JobFields) (x : B) (shape : C → LedgerFields) (l : C) (fault : PublishFault) → IsInput (g.files old) First t.job job_in view (Ok x)
-      → IsInput (g.files mid) Second t.ledger ledger_in shape (Ok l) → FitsFields (view x) → IsWithinLimits PUBLISHED (view x) → PublishesUnless (shape l) (view x) (Err fault)
+      → IsInput (g.files mid) Second t.ledger ledger_in shape (Ok l) → FitsFields (view x) → IsWithinLimits PUBLISHED (view x) → NotPublished (shape l) (view x) fault
       → (of_publishing fault ≡ faults.NoMemory → IsErr r) → IfOk r (λ a. reply_fields a ≡ refusal t.job (of_publishing fault))
       → IfOk r (λ a. IsReply (commands.Delta t) (g.files old) Both (reply_fields a))
   delta_not t view x shape l fault (given, read, gives, blamed) (more, read_ledger, gives_ledger, blamed_ledger) fits limits publishes memory is =

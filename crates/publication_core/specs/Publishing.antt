@@ -1,5 +1,6 @@
 -- What is published of a job in the current format behind a ledger, which need not be that of a history; and why
--- nothing is.
+-- nothing is. `Publishes` ties a job to the one or the other: to a publication (`PublicationFields`), which is the job's
+-- (`IsPublication`), or to a fault. `CanBePublished` says when the first must come.
 use Rattle.std.specs.Prelude.{◌≡◌, ℕ, length, Some, None, Result, Ok, Err, Contains}
 use Rattle.sha2.specs.Sha256.{sha256}
 use Rattle.equation_core.specs.Rows.{sha256_row}
@@ -42,12 +43,6 @@ Publishes ledger job (Err (Admission fault)) = refusal limits.PUBLISHED ledger j
 Publishes ledger job (Err (SeedsExhausted issuer stage)) =
     (refusal limits.PUBLISHED ledger job ≡ None) × IsFirstRefused (blocks_in current) sha256_row (groups_after ledger (facts_of job)) issuer stage
 Publishes ledger job (Err NoMemory) = ⊥
-
--- the same, or want of memory
-abbrev pub PublishesUnless : LedgerFields → JobFields → Result PublicationFields PublishFault → Type 0
-PublishesUnless ledger job (Ok p) = Publishes ledger job (Ok p)
-PublishesUnless ledger job (Err NoMemory) = Unit {0}
-PublishesUnless ledger job (Err fault) = Publishes ledger job (Err fault)
 
 -- Nothing refuses the job behind this ledger, and each enrolled issuer has a block.
 pub record CanBePublished (ledger : LedgerFields) (job : JobFields) : Type 0 where

@@ -75,12 +75,6 @@ PublishesBase ledger moment without (Err (SeedsExhausted issuer stage)) =
     × IsFirstRefused (blocks_in dated) sha256_row (rebased_groups (is_lasting moment) (ledger_without without ledger)) issuer stage
 PublishesBase ledger moment without (Err NoMemory) = ⊥
 
--- the same, or want of memory
-abbrev pub PublishesBaseUnless : LedgerFields → ℕ → List (List ℕ) → Result BasePublicationFields BaseFault → Type 0
-PublishesBaseUnless ledger moment without (Ok p) = PublishesBase ledger moment without (Ok p)
-PublishesBaseUnless ledger moment without (Err NoMemory) = Unit {0}
-PublishesBaseUnless ledger moment without (Err fault) = PublishesBase ledger moment without (Err fault)
-
 -- The ledger's parts have few other issuers, and each of these has a block at the moment.
 pub record CanBeRebased (ledger : LedgerFields) (moment : ℕ) (without : List (List ℕ)) : Type 0 where
   pub few_issuers : length (issuers_in (ledger_without without ledger).parts) ≤ MAX_ISSUERS

@@ -1,8 +1,8 @@
 //! What is published of a ledger alone: a chain that begins anew.
 
-ghost use Rattle.std.specs.Prelude.{◌≡◌, ◌≤◌, length, filter, is_some};
+ghost use Rattle.std.specs.Prelude.{◌≡◌, ◌≢◌, ◌≤◌, Err, length, filter, is_some};
 ghost use Rattle.ident_core.specs.declared.bounds.TheConstants.{MAX_WORKERS};
-ghost use Rattle.publication_core.specs.Rebasing.{PublishesBaseUnless};
+ghost use Rattle.publication_core.specs.Rebasing.{PublishesBase};
 
 use crate::base::{BaseCounts, BasePublication};
 use crate::base_fault::BaseFault;
@@ -37,7 +37,7 @@ pub fn publish_base<R: Threads + Sync, G: Gate + Sync>(
 ) -> Result<BasePublication, BaseFault>
     requires some_workers { 1 ≤ workers }
     requires few_workers { workers ≤ MAX_WORKERS }
-    ensures { PublishesBaseUnless ledger moment without.now result }
+    ensures { result ≢ Err BaseFault.NoMemory → PublishesBase ledger moment without.now result }
 {
     let rebased = rebase(alloc, &ledger, moment, without)?;
     let Rebased {

@@ -1,6 +1,6 @@
 //! What is published of a job.
 
-ghost use Rattle.std.specs.Prelude.{◌≤◌, All, length, map};
+ghost use Rattle.std.specs.Prelude.{◌≢◌, ◌≤◌, All, length, map, Err};
 ghost use Rattle.std.specs.List.Sorted.{IsStrictlySortedBy};
 ghost use Rattle.ident_core.specs.declared.bounds.TheConstants.{MAX_WORKERS};
 ghost use Rattle.ident_core.specs.Order.{octets_cmp};
@@ -10,7 +10,7 @@ ghost use Rattle.universe_core.specs.Groups.{group_fields, IsGroup};
 ghost use Rattle.universe_core.specs.Ledgers.{no_ledger};
 ghost use Rattle.builder_core.specs.Building.{identities_in, issuers_of};
 ghost use Rattle.publication_core.specs.Building.{Builds, BuildsAs};
-ghost use Rattle.publication_core.specs.Publishing.{PublishesUnless};
+ghost use Rattle.publication_core.specs.Publishing.{Publishes};
 
 use crate::fault::PublishFault;
 use crate::publication::Publication;
@@ -90,7 +90,7 @@ pub fn publish_first<R: Threads + Sync, G: Gate + Sync>(
     requires within { IsWithinLimits Limits.PUBLISHED (fields_of_job job) }
     requires some_workers { 1 ≤ workers }
     requires few_workers { workers ≤ MAX_WORKERS }
-    ensures { PublishesUnless no_ledger (fields_of_job job) result }
+    ensures { result ≢ Err PublishFault.NoMemory → Publishes no_ledger (fields_of_job job) result }
 {
     let admitted = first_of(rt, alloc, job, &Limits::PUBLISHED, workers)?;
     published(rt, alloc, gate, 0, admitted, workers)
@@ -111,7 +111,7 @@ pub fn publish_after<R: Threads + Sync, G: Gate + Sync>(
     requires within { IsWithinLimits Limits.PUBLISHED (fields_of_job job) }
     requires some_workers { 1 ≤ workers }
     requires few_workers { workers ≤ MAX_WORKERS }
-    ensures { PublishesUnless ledger (fields_of_job job) result }
+    ensures { result ≢ Err PublishFault.NoMemory → Publishes ledger (fields_of_job job) result }
 {
     let place = ledger.parts().len() as u32;
     let admitted = admit_of(rt, alloc, &ledger, job, &Limits::PUBLISHED, workers)?;

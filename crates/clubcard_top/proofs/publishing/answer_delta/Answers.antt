@@ -18,7 +18,7 @@ pub returns-in-Ok-publish_after-clause-reply : goal.returns-in-Ok-publish_after-
 returns-in-Ok-publish_after-clause-reply g c =
     delta_made g.D.Depot c.args.depot.now _ _ c.in-Ok.ensures.only_reads c.published.result c.args.delta.now fields_of_job c.in-Ok.job (λ l. l) c.in-Ok-ledger_in.ledger
     c.in-Ok-publish_after.publication (rw c.job.ensures at c.in-Ok.ensures.input) (rw c.ledger.ensures at c.in-Ok-ledger_in.ensures.input) c.in-Ok.ensures.fits c.in-Ok.ensures.within
-    c.in-Ok-publish_after.ensures (rw (c.part.ensures, c.new_ledger.ensures) at c.published.ensures)
+    (c.in-Ok-publish_after.ensures (λ e. cc)) (rw (c.part.ensures, c.new_ledger.ensures) at c.published.ensures)
 
 pub returns-in-Err-publish_after-clause-reply : goal.returns-in-Err-publish_after-clause-reply
 returns-in-Err-publish_after-clause-reply g c =

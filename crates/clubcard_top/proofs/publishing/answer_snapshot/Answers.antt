@@ -12,7 +12,7 @@ pub returns-in-Ok-publish_first-clause-reply : goal.returns-in-Ok-publish_first-
 returns-in-Ok-publish_first-clause-reply g c =
     snapshot_made (g.D.Depot.files c.args.depot.now) (WhichFailed g.D.Depot c.args.depot.now _) c.published.result c.args.snapshot.now fields_of_job c.in-Ok.job c.in-Ok-publish_first.publication
     (rw c.job.ensures at c.in-Ok.ensures.input) c.in-Ok.ensures.fits
-    c.in-Ok.ensures.within c.in-Ok-publish_first.ensures (rw (c.part.ensures, c.ledger.ensures) at c.published.ensures)
+    c.in-Ok.ensures.within (c.in-Ok-publish_first.ensures (λ e. cc)) (rw (c.part.ensures, c.ledger.ensures) at c.published.ensures)
 
 pub returns-in-Err-publish_first-clause-reply : goal.returns-in-Err-publish_first-clause-reply
 returns-in-Err-publish_first-clause-reply g c =

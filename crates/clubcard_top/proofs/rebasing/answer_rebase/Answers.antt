@@ -1,7 +1,6 @@
-use Rattle.std.proofs.Common.{ℕ, List, Err, subst}
-use Rattle.publication_core.specs.Rebasing.{PublishesBaseUnless}
+use Rattle.std.proofs.Common.{ℕ, List, subst}
 use Rattle.outside_core.specs.Reads.{WhichFailed}
-use Rattle.clubcard_top.proofs.Replying.{rebase_made, rebase_refused, rebase_not}
+use Rattle.clubcard_top.proofs.Replying.{NotRebased, rebase_made, rebase_refused, rebase_not}
 use Rattle.clubcard_top.proofs.rebasing.answer_rebase.Goals as goal
 
 pub returns-in-Err-clause-reply : goal.returns-in-Err-clause-reply
@@ -12,13 +11,13 @@ returns-in-Err-clause-reply g c =
 pub returns-in-Ok-publish_base-clause-reply : goal.returns-in-Ok-publish_base-clause-reply
 returns-in-Ok-publish_base-clause-reply g c =
     rebase_made (g.D.Depot.files c.args.depot.now) (WhichFailed g.D.Depot c.args.depot.now _) c.rebased.result c.args.rebase.now (λ l. l) c.in-Ok.ledger c.in-Ok-publish_base.publication
-    (rw c.ledger.ensures at c.in-Ok.ensures.input) (rw (c.moment.ensures, c.without.ensures.value) at c.in-Ok-publish_base.ensures) c.rebased.ensures
+    (rw c.ledger.ensures at c.in-Ok.ensures.input) (rw (c.moment.ensures, c.without.ensures.value) at (c.in-Ok-publish_base.ensures (λ e. cc))) c.rebased.ensures
 
 pub returns-in-Err-publish_base-clause-reply : goal.returns-in-Err-publish_base-clause-reply
 returns-in-Err-publish_base-clause-reply g c =
     rebase_not (g.D.Depot.files c.args.depot.now) (WhichFailed g.D.Depot c.args.depot.now _) c.refused-in-Err-publish_base.result c.args.rebase.now (λ l. l) c.in-Ok.ledger
     c.in-Err-publish_base.fault (rw c.ledger.ensures at c.in-Ok.ensures.input)
-    (subst (λ (m : ℕ). PublishesBaseUnless c.in-Ok.ledger m c.args.rebase.now.without (Err c.in-Err-publish_base.fault)) c.moment.ensures
-    (subst (λ (w : List (List ℕ)). PublishesBaseUnless c.in-Ok.ledger c.moment.result w (Err c.in-Err-publish_base.fault)) c.without.ensures.value c.in-Err-publish_base.ensures))
+    (subst (λ (m : ℕ). NotRebased c.in-Ok.ledger m c.args.rebase.now.without c.in-Err-publish_base.fault) c.moment.ensures
+    (subst (λ (w : List (List ℕ)). NotRebased c.in-Ok.ledger c.moment.result w c.in-Err-publish_base.fault) c.without.ensures.value c.in-Err-publish_base.ensures))
     (rw c.unrebased.ensures at c.refused-in-Err-publish_base.ensures.memory)
     (rw (c.unrebased.ensures, c.ledger-in-Err-publish_base.ensures) at c.refused-in-Err-publish_base.ensures.ok)

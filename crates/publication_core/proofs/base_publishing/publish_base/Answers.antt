@@ -28,7 +28,7 @@ built-requires-clause-identities g c κs within =
     (IsLedger-without c.args.without.now c.args.ledger (subst IsLedger c.ledger.view_is c.ledger.invariant))
 
 pub returns : goal.returns
-returns g c =
+returns g c = λ settled.
     let rebased = c.in_ok-rebased.rebased in
     let made = c.in_ok-made.made in
     base_publishes c.args.ledger c.args.moment c.args.without.now rebased.head rebased.groups.items rebased.next made.1 made.0

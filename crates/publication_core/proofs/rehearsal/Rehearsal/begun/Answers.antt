@@ -21,7 +21,7 @@ invariant_of-result g c =
     } in
     rw (c.in-Ok.ensures.store, c.into_sealed_and_ledger-sealed.ensures) (
       of_jobs (in_format current (fields_of_job c.args.job) ∷ []),
-      after_is layers (of_jobs []) of_none (fields_of_job c.args.job) c.in_ok-publication.publication (none_is layers) c.requires.fits c.requires.within c.in_ok-publication.ensures,
+      after_is layers (of_jobs []) of_none (fields_of_job c.args.job) c.in_ok-publication.publication (none_is layers) c.requires.fits c.requires.within (c.in_ok-publication.ensures (λ e. cc)),
     )
 
 pub returns-in-Ok-clause-added : goal.returns-in-Ok-clause-added
@@ -38,4 +38,4 @@ returns-in-Ok-clause-added g c =
     } in
     λ h of.
     rw (c.in-Ok.ensures.store, c.into_sealed_and_ledger-sealed.ensures, c.report_on-report.ensures)
-    (adds layers h of_none (fields_of_job c.args.job) c.in_ok-publication.publication of c.requires.fits c.requires.within c.in_ok-publication.ensures)
+    (adds layers h of_none (fields_of_job c.args.job) c.in_ok-publication.publication of c.requires.fits c.requires.within (c.in_ok-publication.ensures (λ e. cc)))

@@ -20,7 +20,7 @@ invariant_of-result g c =
     rw (c.in-Ok.ensures.added, c.into_sealed_and_ledger-sealed.ensures) (
       with_job c.requires.held.0 (in_format current (fields_of_job c.args.job)),
       after_is layers c.requires.held.0 (record { parts = c.args.store; ledger = c.args.ledger }) (fields_of_job c.args.job) c.in_ok-publication.publication
-          c.requires.held.1 c.requires.fits c.requires.within c.in_ok-publication.ensures,
+          c.requires.held.1 c.requires.fits c.requires.within (c.in_ok-publication.ensures (λ e. cc)),
     )
 
 pub unreachable-requires : goal.unreachable-requires
@@ -37,7 +37,7 @@ unreachable-requires g c =
     } in
     not_refused _ _ (taken layers c.requires.held.0 (record { parts = c.args.store; ledger = c.args.ledger }) (fields_of_job c.args.job)
     c.in_ok-publication.publication c.requires.held.1 c.requires.fits c.requires.within
-    c.in_ok-publication.ensures (rw c.store.view_is at c.store.invariant.0.some)) (rw c.into_sealed_and_ledger-sealed.ensures at c.in-Err.ensures.refused.1)
+    (c.in_ok-publication.ensures (λ e. cc)) (rw c.store.view_is at c.store.invariant.0.some)) (rw c.into_sealed_and_ledger-sealed.ensures at c.in-Err.ensures.refused.1)
 
 pub returns-clause-added : goal.returns-clause-added
 returns-clause-added g c =
@@ -54,4 +54,4 @@ returns-clause-added g c =
     λ h of.
     rw (c.in-Ok.ensures.added, c.into_sealed_and_ledger-sealed.ensures, c.report_on-report.ensures)
     (adds layers h (record { parts = c.args.store; ledger = c.args.ledger }) (fields_of_job c.args.job) c.in_ok-publication.publication of c.requires.fits
-    c.requires.within c.in_ok-publication.ensures)
+    c.requires.within (c.in_ok-publication.ensures (λ e. cc)))
