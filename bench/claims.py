@@ -1,7 +1,7 @@
 #!/usr/bin/env python3
 """Times the builder whose workers draw the leaves from one counter beside the one that cuts them into shares before the
 work, by the clock, in both formats, for groups of very different sizes and for equal ones. Run it at the top of the
-repository once `rt run` in crates/builder_benches has built the program, on a machine that does nothing else:
+repository once `rt run` in crates/benches has built the program, on a machine that does nothing else:
 
     python3 bench/claims.py [RUNS [ROUNDS [WORKERS]]]
 
@@ -14,7 +14,7 @@ import subprocess
 import sys
 import time
 
-PROGRAM = "crates/builder_benches/out/builder_benches"
+PROGRAM = "crates/benches/out/benches"
 SHARINGS = ("cut", "claimed")
 FORMATS = ("plain", "sharded")
 
@@ -27,7 +27,7 @@ SIZES = {
 
 def run(sharing, cutting, workers, rounds, sizes):
     """The seconds of a run by the clock, and what it prints."""
-    command = [PROGRAM, sharing, cutting, *map(str, (workers, rounds, *sizes))]
+    command = [PROGRAM, "building", sharing, cutting, *map(str, (workers, rounds, *sizes))]
     start = time.monotonic()
     done = subprocess.run(command, stdout=subprocess.PIPE, text=True, check=True)
     return time.monotonic() - start, done.stdout.strip()
@@ -52,7 +52,7 @@ def compare(name, cutting, sizes, runs, rounds, workers):
 
 def main():
     if not os.access(PROGRAM, os.X_OK):
-        sys.exit("build the program first: (cd crates/builder_benches && rt run)")
+        sys.exit("build the program first: (cd crates/benches && rt run)")
     runs, rounds, workers = (list(map(int, sys.argv[1:])) + [9, 3, 4][len(sys.argv) - 1 :])[:3]
     for name, sizes in SIZES.items():
         for cutting in FORMATS:

@@ -7,24 +7,28 @@ ghost use Rattle.ident_core.specs.Order.{octets_cmp};
 ghost use Rattle.universe_core.specs.Groups.{group_fields, IsGroup};
 ghost use Rattle.builder_core.specs.Building.{identities_in, issuers_of};
 
+use crate::job::{Sizes, job_of};
 use builder_core::{BuildFault, Format, Open, build_part, build_part_claimed};
 use card_core::Part;
 use equation_core::Sha256Rows;
 use ident_core::{Head, Kind, MAX_IDENTITIES, MAX_ISSUERS, MAX_RANGES, ranges_fit};
 use job_core::{Job, Limits};
 use octets_core::Key32;
+use part_codec::seal;
 use std::alloc::Global;
+use std::io::{self, Print};
+use std::test::Fail;
 use std::thread::Threads;
 use universe_core::{Admitted, Group, first};
 
-/// Whether workers draw the leaves from one counter or get shares of them, how blocks are cut, how many workers there
-/// are, and how often the part is built.
+// Whether workers draw the leaves from one counter or get shares of them, how blocks are cut, how many workers there
+// are, and how often the part is built.
 #[derive(Clone, Copy)]
-pub struct Plan {
-    pub claimed: bool,
-    pub format: Format,
-    pub workers: u32,
-    pub rounds: u32,
+struct Plan {
+    claimed: bool,
+    format: Format,
+    workers: u32,
+    rounds: u32,
 }
 
 fn head_of(alloc: Global) -> Head {
@@ -63,8 +67,8 @@ fn built<R: Threads + Sync>(
     Ok(last)
 }
 
-/// The part of the job's groups, which was built so many times over.
-pub(crate) fn last_part<R: Threads + Sync>(
+// The part of the job's groups, which was built so many times over.
+fn last_part<R: Threads + Sync>(
     rt: &R,
     alloc: Global,
     job: &Job,
@@ -85,4 +89,60 @@ pub(crate) fn last_part<R: Threads + Sync>(
         return Ok(None);
     }
     built(rt, alloc, groups.as_slice(), plan)
+}
+
+// The first four bytes of the part's trailer as a number, where a part is built.
+fn number<R: Threads + Sync>(rt: &R, alloc: Global, plan: Plan, sizes: Sizes) -> Option<u32>
+    requires some_workers { 1 ≤ plan.workers }
+    requires few_workers { plan.workers ≤ MAX_WORKERS }
+{
+    let job = job_of(alloc, sizes).ok()?;
+    let part = last_part(rt, alloc, &job, plan).ok()??;
+    let trailer = seal(part).trailer();
+    let bytes = trailer.bytes();
+    Some(u32::from_be_bytes([bytes[0], bytes[1], bytes[2], bytes[3]]))
+}
+
+/// Builds the part of one issuer with LARGE certificates and of MANY with SMALL, by WORKERS, ROUNDS times over, and
+/// prints the first four bytes of its trailer as a number. The numbers are WORKERS, ROUNDS, LARGE, MANY and SMALL.
+pub(crate) fn run<R: Threads + Sync + Print>(
+    rt: &R,
+    alloc: Global,
+    claimed: bool,
+    sharded: bool,
+    numbers: [u32; 5],
+) -> io::Result<()> {
+    let [workers, rounds, large, many, small] = numbers;
+    let plan = Plan {
+        claimed,
+        format: if sharded {
+            Format::Sharded
+        } else {
+            Format::Plain
+        },
+        workers: workers.clamp(1, 64),
+        rounds,
+    };
+    match number(rt, alloc, plan, Sizes { large, many, small }) {
+        Some(number) => println!(rt; "{number}"),
+        None => println!(rt; "no part"),
+    }
+}
+
+// The number is that of tools/reference.py.
+#[test]
+fn part_of_a_small_job(rt: HostRuntime) -> Result<(), Fail> {
+    let plan = Plan {
+        claimed: true,
+        format: Format::Sharded,
+        workers: 2,
+        rounds: 1,
+    };
+    let sizes = Sizes {
+        large: 300,
+        many: 2,
+        small: 60,
+    };
+    assert_eq!(rt; number(&rt, rt.alloc(), plan, sizes), Some(2_242_486_873));
+    Ok(())
 }

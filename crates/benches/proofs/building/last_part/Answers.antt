@@ -4,7 +4,7 @@ use Rattle.universe_core.specs.Groups.{group_fields}
 use Rattle.universe_core.specs.Jobs.{facts_of_job}
 use Rattle.universe_core.specs.Ledgers.{no_ledger}
 use Rattle.builder_core.proofs.Admitted.{groups_ascend, identities_few}
-use Rattle.builder_benches.proofs.parts.last_part.Goals as goal
+use Rattle.benches.proofs.building.last_part.Goals as goal
 
 pub built-requires-clause-ascending : goal.built-requires-clause-ascending
 built-requires-clause-ascending g c κs within =
