@@ -22,5 +22,5 @@ pub use leaf::Leaf;
 pub use mixed::Mixed;
 pub use part::{MAX_BLOCKS, Part};
 pub use sharded::Sharded;
-pub use stage::{Stage, accepts};
+pub use stage::{Stage, accepts, accepts_row};
 pub use verdict::Verdict;

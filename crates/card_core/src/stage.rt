@@ -1,8 +1,9 @@
-ghost use Rattle.std.specs.Prelude.{◌≡◌, ◌≤◌, ◌+◌, ◌*◌, length};
+ghost use Rattle.std.specs.Prelude.{◌≡◌, ◌<◌, ◌≤◌, ◌+◌, ◌*◌, length};
+ghost use Rattle.ident_core.specs.declared.identity.Identity.{Identity};
 ghost use Rattle.equation_core.specs.declared.hash.TheConstants.{MAX_PLANES};
 ghost use Rattle.card_core.specs.Leaf.{accepts as is_accepted, exact_sum};
 
-use equation_core::EquationHash;
+use equation_core::{EquationHash, Row};
 use ident_core::Identity;
 use octets_core::Steps;
 use ribbon_core::Planes;
@@ -15,8 +16,21 @@ pub struct Stage {
     pub planes: Planes,
 }
 
-/// Whether an approximate stage accepts the identity: in each plane, the sum for the identity's row is the bit of its
+/// Whether an approximate stage accepts an identity that has this row: in each plane, the row's sum is the bit of its
 /// tag. Each word of the planes that is read takes a step.
+pub fn accepts_row<M: Ledger>(stage: &Stage, row: &Row, words: &mut Steps<M>) -> bool
+    requires { row.now.start < stage.now.planes.starts }
+    ensures value { (id : Identity) → result ≡ is_accepted (λ _ _ _ _. row.now) stage.now id }
+    ensures few { length stage.now.planes.columns ≤ MAX_PLANES }
+    ensures more { words.old ≤ words.new }
+    ensures steps { words.new ≤ words.old + 3 * length stage.now.planes.columns }
+{
+    let modulus = 1u32 << stage.planes.planes();
+    let sums = stage.planes.parity(row, words);
+    u32::from(sums) == u32::from(row.tag) % modulus
+}
+
+/// Whether an approximate stage accepts the identity, by its row.
 pub fn accepts<H: EquationHash, M: Ledger>(
     stage: &Stage,
     hash: &H,
@@ -29,9 +43,7 @@ pub fn accepts<H: EquationHash, M: Ledger>(
     ensures steps { words.new ≤ words.old + 3 * length stage.now.planes.columns }
 {
     let row = hash.row(1, stage.seed, id, stage.planes.starts());
-    let modulus = 1u32 << stage.planes.planes();
-    let sums = stage.planes.parity(&row, words);
-    u32::from(sums) == u32::from(row.tag) % modulus
+    accepts_row(stage, &row, words)
 }
 
 // The sum for the identity in the one plane of an exact stage.

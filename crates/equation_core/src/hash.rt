@@ -1,4 +1,4 @@
-ghost use Rattle.std.specs.Prelude.{◌≡◌, ◌<◌, ◌≤◌, ◌^◌, ℕ};
+ghost use Rattle.std.specs.Prelude.{◌≡◌, ◌<◌, ◌≤◌, ◌^◌, ℕ, [], ◌∷◌};
 ghost use Rattle.ident_core.specs.declared.identity.Identity.{Identity};
 ghost use Rattle.equation_core.specs.declared.hash.Row.{Row};
 ghost use Rattle.equation_core.specs.Rows.{IsRow};
@@ -30,6 +30,30 @@ pub trait EquationHash {
         requires { 1 ≤ starts }
         ensures value { result ≡ row_of self.now stage seed id.now starts }
         ensures formed { IsRow starts result };
+
+    /// The rows of four identities, which a hash may draw side by side.
+    fn four_rows(
+        &self,
+        stage: u8,
+        seed: u8,
+        a: &Identity,
+        b: &Identity,
+        c: &Identity,
+        d: &Identity,
+        starts: u32,
+    ) -> [Row; 4]
+        requires { 1 ≤ starts }
+        ensures { result
+            ≡ row_of self.now stage seed a.now starts ∷ row_of self.now stage seed b.now starts
+            ∷ row_of self.now stage seed c.now starts ∷ row_of self.now stage seed d.now starts ∷ [] }
+    {
+        [
+            self.row(stage, seed, a, starts),
+            self.row(stage, seed, b, starts),
+            self.row(stage, seed, c, starts),
+            self.row(stage, seed, d, starts),
+        ]
+    }
 
     /// Each row begins at one of the starts with an odd coefficient, and fits its fields.
     ghost formed: { (hash : Self) (stage seed : ℕ) (id : Identity) (starts : ℕ)

@@ -11,5 +11,5 @@ mod sizes;
 
 pub use hash::{EquationHash, MAX_PLANES, Row};
 pub use sha256_rows::Sha256Rows;
-pub use shards::{MAX_SHIFT, shard_of};
+pub use shards::{MAX_SHIFT, four_shards, shard_of};
 pub use sizes::{MAX_STARTS, starts_for, words_for};

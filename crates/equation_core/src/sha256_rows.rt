@@ -1,11 +1,12 @@
-ghost use Rattle.std.specs.Prelude.{◌≡◌, ◌+◌, length, take};
+ghost use Rattle.std.specs.Prelude.{◌≡◌, ◌≤◌, ◌+◌, length, take};
 ghost use Rattle.equation_core.specs.declared.sha256_rows.TheConstants.{FRONT};
-ghost use Rattle.equation_core.specs.Rows.{row_text, sha256_row};
+ghost use Rattle.equation_core.specs.Rows.{IsRow, row_text, row_of_digest, sha256_row};
 ghost use Rattle.equation_core.specs.RowLaws.{sha256_row-is};
 
 use crate::hash::{EquationHash, Row};
 use crate::message::{IDENTITY, put_identity};
 use ident_core::Identity;
+use lane_core::digests;
 use sha2::{Digest, Sha256};
 
 /// The bytes of a row's message before the identity.
@@ -23,6 +24,27 @@ fn message_of(stage: u8, seed: u8, id: &Identity) -> [u8; FRONT + IDENTITY]
     message
 }
 
+/// The row that a digest spells: bytes 0 to 15 are the coefficient, whose bit 0 is set, bytes 16 to 23 give the start,
+/// and bytes 24 and 25 are the tag.
+#[inline(always)]
+fn row_in(d: &[u8; 32], starts: u32) -> Row
+    requires { 1 ≤ starts }
+    ensures value { result ≡ row_of_digest d.now starts }
+    ensures formed { IsRow starts result }
+{
+    let coeff = u128::from_be_bytes([
+        d[0], d[1], d[2], d[3], d[4], d[5], d[6], d[7], d[8], d[9], d[10], d[11], d[12], d[13],
+        d[14], d[15],
+    ]) | 1;
+    let start = u64::from_be_bytes([d[16], d[17], d[18], d[19], d[20], d[21], d[22], d[23]]);
+    let tag = u16::from_be_bytes([d[24], d[25]]);
+    Row {
+        start: (start % starts as u64) as u32,
+        coeff,
+        tag,
+    }
+}
+
 /// Rows by SHA-256 (FIPS 180-4), cut from the digest of this project's own row message: the mark `CCROW1`, the stage,
 /// the seed, the issuer, the serial's length and the serial.
 #[derive(Clone, Copy, Debug, PartialEq, Eq)]
@@ -33,22 +55,33 @@ impl EquationHash for Sha256Rows {
 
     ghost formed = { λ _ stage seed id starts _ _ some _. sha256_row-is stage seed id starts some };
 
-    // Bytes 0 to 15 of the digest are the coefficient, whose bit 0 is set, bytes 16 to 23 give the start, and bytes 24
-    // and 25 are the tag.
     fn row(&self, stage: u8, seed: u8, id: &Identity, starts: u32) -> Row {
         let message = message_of(stage, seed, id);
         let len = FRONT + 33 + id.serial.bytes().len();
-        let d = Sha256::digest(&message[..len]);
-        let coeff = u128::from_be_bytes([
-            d[0], d[1], d[2], d[3], d[4], d[5], d[6], d[7], d[8], d[9], d[10], d[11], d[12], d[13],
-            d[14], d[15],
-        ]) | 1;
-        let start = u64::from_be_bytes([d[16], d[17], d[18], d[19], d[20], d[21], d[22], d[23]]);
-        let tag = u16::from_be_bytes([d[24], d[25]]);
-        Row {
-            start: (start % starts as u64) as u32,
-            coeff,
-            tag,
-        }
+        row_in(&Sha256::digest(&message[..len]), starts)
+    }
+
+    fn four_rows(
+        &self,
+        stage: u8,
+        seed: u8,
+        a: &Identity,
+        b: &Identity,
+        c: &Identity,
+        d: &Identity,
+        starts: u32,
+    ) -> [Row; 4] {
+        let [p, q, r, s] = digests(
+            &message_of(stage, seed, a)[..FRONT + 33 + a.serial.bytes().len()],
+            &message_of(stage, seed, b)[..FRONT + 33 + b.serial.bytes().len()],
+            &message_of(stage, seed, c)[..FRONT + 33 + c.serial.bytes().len()],
+            &message_of(stage, seed, d)[..FRONT + 33 + d.serial.bytes().len()],
+        );
+        [
+            row_in(&p, starts),
+            row_in(&q, starts),
+            row_in(&r, starts),
+            row_in(&s, starts),
+        ]
     }
 }

@@ -1,0 +1,5 @@
+use Rattle.lane_core.proofs.Vectors.{most}
+use Rattle.lane_core.proofs.words.maj.Goals as goal
+
+pub returns : goal.returns
+returns c j h = most c.args.x c.args.y c.args.z j c.fits-x.0 c.fits-y.0 c.fits-z.0 h

@@ -1,0 +1,81 @@
+// The functions of the standard (4.1.2) on four words side by side.
+
+ghost use Rattle.std.specs.Prelude.{◌≡◌, ◌<◌, ◌/◌, ◌^◌, ℕ, bit_xor, slice_index};
+ghost use Rattle.std.specs.Int.{w32, rotate_right};
+ghost use Rattle.sha2.specs.Sha256.{add32, big_sigma0, big_sigma1, ch, maj, small_sigma0, small_sigma1};
+
+use std::simd::u32x4;
+
+#[inline(always)]
+pub(crate) fn add(x: u32x4, y: u32x4) -> u32x4
+    ensures { (j : ℕ) → j < 4 → slice_index result j ≡ add32 (slice_index x j) (slice_index y j) }
+{
+    x + y
+}
+
+#[inline(always)]
+fn rotate(x: u32x4, k: u32) -> u32x4
+    requires { (0 < k) × (k < 32) }
+    ensures { (j : ℕ) → j < 4 → slice_index result j ≡ rotate_right w32 (slice_index x j) k }
+{
+    (x >> u32x4::splat(k)) | (x << u32x4::splat(32 - k))
+}
+
+#[inline(always)]
+fn shift(x: u32x4, k: u32) -> u32x4
+    requires { k < 32 }
+    ensures { (j : ℕ) → j < 4 → slice_index result j ≡ slice_index x j / 2 ^ k }
+{
+    x >> u32x4::splat(k)
+}
+
+#[inline(always)]
+fn xor(x: u32x4, y: u32x4, z: u32x4) -> u32x4
+    ensures { (j : ℕ) → j < 4
+        → slice_index result j ≡ bit_xor (bit_xor (slice_index x j) (slice_index y j)) (slice_index z j) }
+{
+    x ^ y ^ z
+}
+
+#[inline(always)]
+pub(crate) fn ch(x: u32x4, y: u32x4, z: u32x4) -> u32x4
+    ensures { (j : ℕ) → j < 4 → slice_index result j ≡ ch (slice_index x j) (slice_index y j) (slice_index z j) }
+{
+    (x & y) ^ (!x & z)
+}
+
+// The `x ^ y` of a round is the `y ^ z` of the next, so this takes fewer operations than the standard's form.
+#[inline(always)]
+pub(crate) fn maj(x: u32x4, y: u32x4, z: u32x4) -> u32x4
+    ensures { (j : ℕ) → j < 4 → slice_index result j ≡ maj (slice_index x j) (slice_index y j) (slice_index z j) }
+{
+    y ^ ((x ^ y) & (y ^ z))
+}
+
+#[inline(always)]
+pub(crate) fn big_sigma0(x: u32x4) -> u32x4
+    ensures { (j : ℕ) → j < 4 → slice_index result j ≡ big_sigma0 (slice_index x j) }
+{
+    xor(rotate(x, 2), rotate(x, 13), rotate(x, 22))
+}
+
+#[inline(always)]
+pub(crate) fn big_sigma1(x: u32x4) -> u32x4
+    ensures { (j : ℕ) → j < 4 → slice_index result j ≡ big_sigma1 (slice_index x j) }
+{
+    xor(rotate(x, 6), rotate(x, 11), rotate(x, 25))
+}
+
+#[inline(always)]
+pub(crate) fn small_sigma0(x: u32x4) -> u32x4
+    ensures { (j : ℕ) → j < 4 → slice_index result j ≡ small_sigma0 (slice_index x j) }
+{
+    xor(rotate(x, 7), rotate(x, 18), shift(x, 3))
+}
+
+#[inline(always)]
+pub(crate) fn small_sigma1(x: u32x4) -> u32x4
+    ensures { (j : ℕ) → j < 4 → slice_index result j ≡ small_sigma1 (slice_index x j) }
+{
+    xor(rotate(x, 17), rotate(x, 19), shift(x, 10))
+}
