@@ -108,37 +108,3 @@ pub passed_few : (p : Identity → Bool) (xs passed : List Identity) (fs : List 
     → length (flagged xs fs) + length passed ≤ n
 passed_few p xs passed fs n same e le =
     omega (arith, flagged_lengths xs fs same, filter_le p (flagged xs (map not fs)), ap (λ (t : List Identity). length t) e)
-
--- a flag more, behind as many as the loop has come
-push_suc : (xs : List Identity) (gs : List Bool) (i : ℕ) (b : Bool) (d : Identity) → i < length xs → length gs ≡ i
-    → flagged (take (suc i) xs) (gs ++ (b ∷ [])) ≡ flagged (take i xs) gs ++ cond b (get_or xs i d ∷ []) []
-push_suc [] gs i b d lt len = absurd (omega arith)
-push_suc (x ∷ xs) [] zero true d lt len = refl
-push_suc (x ∷ xs) [] zero false d lt len = refl
-push_suc (x ∷ xs) [] (suc i) b d lt len = absurd (omega arith)
-push_suc (x ∷ xs) (g ∷ gs) zero b d lt len = absurd (omega arith)
-push_suc (x ∷ xs) (g ∷ gs) (suc i) b d lt len = step x g _ _ _ (push_suc xs gs i b d (omega arith) (omega arith))
-
-kept_one : (p : Identity → Bool) (f : Bool) (x : Identity) → cond (not f && p x) (x ∷ []) [] ≡ filter p (cond (not f) (x ∷ []) [])
-kept_one p true x = refl
-kept_one p false x = refl
-
--- the false positives so far
-pub passed_more : (p : Identity → Bool) (xs : List Identity) (fs gs : List Bool) (i : ℕ) (b : Bool) (x : Identity) → i < length xs → length fs ≡ length xs → length gs ≡ i
-    → x ≡ get_or xs i x → b ≡ (not (get_or fs i false) && p x) → flagged (take i xs) gs ≡ filter p (flagged (take i xs) (take i (map not fs)))
-    → flagged (take (i + 1) xs) (gs ++ (b ∷ [])) ≡ filter p (flagged (take (i + 1) xs) (take (i + 1) (map not fs)))
-passed_more p xs fs gs i b x lt same len is flag so_far =
-    let f : Bool = get_or fs i false in
-    let l : List Identity = flagged (take i xs) (take i (map not fs)) in
-    let lt' : i < length fs = omega (arith, same) in
-    let pushed : flagged (take (i + 1) xs) (gs ++ (b ∷ [])) ≡ flagged (take i xs) gs ++ cond b (get_or xs i x ∷ []) [] = rw add-one (push_suc xs gs i b x lt len) in
-    let turned : get_or (map not fs) i false ≡ not f = get_or-map not fs i false false lt' in
-    pushed
-    ∙ ap (λ (y : Identity). flagged (take i xs) gs ++ cond b (y ∷ []) []) (sym is)
-    ∙ ap (λ (c : Bool). flagged (take i xs) gs ++ cond c (x ∷ []) []) flag
-    ∙ ap (λ (t : List Identity). flagged (take i xs) gs ++ t) (kept_one p f x)
-    ∙ ap (λ (t : List Identity). t ++ filter p (cond (not f) (x ∷ []) [])) so_far
-    ∙ sym (filter-append p l (cond (not f) (x ∷ []) []))
-    ∙ ap (λ (c : Bool). filter p (l ++ cond c (x ∷ []) [])) (sym turned)
-    ∙ ap (λ (y : Identity). filter p (l ++ cond (get_or (map not fs) i false) (y ∷ []) [])) is
-    ∙ ap (filter p) (sym (flagged_more xs (map not fs) i x lt (omega (arith, length-map fs not, same))))

@@ -1,4 +1,5 @@
 pub mod Flags
+pub mod Fours
 pub mod Runs
 pub mod Stages
 pub mod Widths
