@@ -1,8 +1,7 @@
 -- The members of a list whose flag is set, as far as a loop has come.
-use Rattle.std.proofs.Common.{◌≡◌, ◌<◌, ◌≤◌, ◌+◌, ◌&&◌, ℕ, zero, suc, Bool, true, false, not, cond, List, [], ◌∷◌, ◌++◌, length, map, take, drop, get_or, refl, sym, ap, ◌∙◌, arith, add-one}
+use Rattle.std.proofs.Common.{◌≡◌, ◌<◌, ◌≤◌, ◌+◌, ℕ, zero, suc, Bool, true, false, not, cond, List, [], ◌∷◌, ◌++◌, length, map, take, drop, get_or, refl, sym, ap, ◌∙◌, arith, add-one}
 use Rattle.std.specs.List.{filter}
-use Rattle.std.proofs.lemmas.List.{drop_all, get_or-map, length-map, append-nil}
-use Rattle.std.proofs.lemmas.List.Elements.{filter-append}
+use Rattle.std.proofs.lemmas.List.{drop_all, append-nil}
 use Rattle.ident_core.specs.declared.identity.Identity.{Identity}
 use Rattle.card_core.specs.Leaf.{flagged}
 
@@ -40,20 +39,10 @@ module _ (xs : List Identity) (fs : List Bool) (i : ℕ) (d : Identity) (lt : i 
   pub flagged_left : get_or fs i false ≡ false → flagged (take i xs) (take i fs) ≡ flagged (take (i + 1) xs) (take (i + 1) fs)
   flagged_left e = sym (flagged_more xs fs i d lt lt' ∙ ap (λ (b : Bool). flagged (take i xs) (take i fs) ++ cond b (get_or xs i d ∷ []) []) e ∙ append-nil _)
 
-  -- a flagged one comes behind those before it
-  pub flagged_around : get_or fs i false ≡ true
-      → flagged xs fs ≡ (flagged (take i xs) (take i fs) ++ (get_or xs i d ∷ [])) ++ flagged (drop (i + 1) xs) (drop (i + 1) fs)
-  flagged_around e = flagged_split (i + 1) xs fs ∙ ap (λ (l : List Identity). l ++ flagged (drop (i + 1) xs) (drop (i + 1) fs)) (sym (flagged_taken e))
-
 -- the same for the flag and the identity that a loop reads at i
 module _ (xs : List Identity) (fs : List Bool) (i : ℕ) (x : Identity) (few : length fs ≤ length xs) (lt : i < length fs) where
   pub taken_at : x ≡ get_or xs i x → get_or fs i false ≡ true → flagged (take i xs) (take i fs) ++ (x ∷ []) ≡ flagged (take (i + 1) xs) (take (i + 1) fs)
   taken_at is e = ap (λ (y : Identity). flagged (take i xs) (take i fs) ++ (y ∷ [])) is ∙ flagged_taken xs fs i x (omega (arith, few, lt)) lt e
-
-  pub around_at : x ≡ get_or xs i x → get_or fs i false ≡ true → flagged xs fs ≡ (flagged (take i xs) (take i fs) ++ (x ∷ [])) ++ flagged (drop (i + 1) xs) (drop (i + 1) fs)
-  around_at is e =
-      flagged_around xs fs i x (omega (arith, few, lt)) lt e
-      ∙ ap (λ (y : Identity). (flagged (take i xs) (take i fs) ++ (y ∷ [])) ++ flagged (drop (i + 1) xs) (drop (i + 1) fs)) (sym is)
 
 pub left_at : (xs : List Identity) (fs : List Bool) (i : ℕ) → length fs ≤ length xs → i < length fs → get_or fs i false ≡ false
     → flagged (take i xs) (take i fs) ≡ flagged (take (i + 1) xs) (take (i + 1) fs)

@@ -1,43 +1,43 @@
 -- Lists that threads give, as those of the flagged.
-use Rattle.std.proofs.Common.{◌≡◌, ◌&&◌, ℕ, Bool, true, false, not, cond, All, List, [], ◌∷◌, length, map, zip, refl, sym, ap, ◌∙◌, arith, Bor}
-use Rattle.std.specs.List.{AllZip, filter}
-use Rattle.std.proofs.lemmas.Slice.Zip.{AllZip-map, length-zip}
-use Rattle.std.proofs.lemmas.List.{length-map}
+use Rattle.std.proofs.Common.{◌≡◌, ◌&&◌, ℕ, zero, suc, Bool, true, false, not, cond, All, List, [], ◌∷◌, ◌++◌, length, map, zip, take, drop, refl, sym, ap, ◌∙◌, arith}
+use Rattle.std.specs.List.{filter}
+use Rattle.std.proofs.lemmas.Slice.Zip.{length-zip}
+use Rattle.std.proofs.lemmas.List.{length-map, map-append}
 use Rattle.std.proofs.lemmas.List.Elements.{All-nil, All-cons}
-use Rattle.rayon.specs.Lists.{filter_by_mask}
-use Rattle.rayon.proofs.ToStd.{filter_by_mask-filter, filter-map}
 use Rattle.ident_core.specs.declared.identity.Identity.{Identity}
 use Rattle.equation_core.specs.declared.hash.Row.{Row}
 use Rattle.equation_core.specs.Rows.{IsRow}
 use Rattle.card_core.specs.Leaf.{flagged}
+use Rattle.stage_core.proofs.Flags.{flagged_split}
 
 pub map_twice : {A B C : Type 0} (f : B → C) (g : A → B) (xs : List A) → map f (map g xs) ≡ map (λ x. f (g x)) xs
 map_twice f g [] = refl
 map_twice f g (x ∷ xs) = ap (λ l. f (g x) ∷ l) (map_twice f g xs)
 
-kept : (f : Identity → Row) (x : Identity) (b : Bool) (ps : List (Identity × Bool)) (l : List Identity) → map (λ p. f p.0) ps ≡ map f l
-    → map (λ p. f p.0) (cond b ((x, b) ∷ ps) ps) ≡ map f (cond b (x ∷ l) l)
-kept f x true ps l e = ap (λ t. f x ∷ t) e
-kept f x false ps l e = e
+-- the rows of a front and of what is left
+pub rows_halved : (f : Identity → Row) (n : ℕ) (xs ys zs : List Identity) (fs gs hs : List Bool) (one two : List Row)
+    → ys ≡ take n xs → zs ≡ drop n xs → gs ≡ take n fs → hs ≡ drop n fs → one ≡ map f (flagged ys gs) → two ≡ map f (flagged zs hs)
+    → one ++ two ≡ map f (flagged xs fs)
+rows_halved f n xs ys zs fs gs hs one two y z g h a b =
+    rw (a, b, y, z, g, h) (sym (map-append f (flagged (take n xs) (take n fs)) (flagged (drop n xs) (drop n fs))) ∙ ap (map f) (sym (flagged_split n xs fs)))
 
-flagged_pairs : (f : Identity → Row) (xs : List Identity) (bs : List Bool) → map (λ p. f p.0) (filter (λ p. p.1) (zip xs bs)) ≡ map f (flagged xs bs)
-flagged_pairs f [] bs = refl
-flagged_pairs f (x ∷ xs) [] = refl
-flagged_pairs f (x ∷ xs) (b ∷ bs) = kept f x b (filter (λ p. p.1) (zip xs bs)) (flagged xs bs) (flagged_pairs f xs bs)
+zip_none : (xs : List Identity) (fs : List Bool) → length fs ≡ 0 → zip xs fs ≡ []
+zip_none [] fs none = refl
+zip_none (x ∷ xs) [] none = refl
+zip_none (x ∷ xs) (f ∷ fs) none = absurd (omega arith)
 
-abbrev pub both : Bor Identity × Bor Bool → Identity × Bool
-both p = (p.0.now, p.1.now)
+zip_split : (n : ℕ) (xs : List Identity) (fs : List Bool) → zip xs fs ≡ zip (take n xs) (take n fs) ++ zip (drop n xs) (drop n fs)
+zip_split zero xs fs = refl
+zip_split (suc n) [] fs = refl
+zip_split (suc n) (x ∷ xs) [] = sym (zip_none (drop n xs) [] refl)
+zip_split (suc n) (x ∷ xs) (f ∷ fs) = ap (λ (l : List (Identity × Bool)). (x, f) ∷ l) (zip_split n xs fs)
 
--- what a filter by the flag and a map give
-pub rows_given : (f : Identity → Row) (zs : List (Bor Identity × Bor Bool)) (mask : List Bool) (rows : List Row) (xs : List Identity) (bs : List Bool)
-    → map both zs ≡ zip xs bs → AllZip (λ z b. b ≡ z.1.now) zs mask → AllZip (λ z r. r ≡ f z.0.now) (filter_by_mask zs mask) rows → rows ≡ map f (flagged xs bs)
-rows_given f zs mask rows xs bs pairs masked each =
-    let p : Bor Identity × Bor Bool → Bool = λ z. z.1.now in
-    AllZip-map (λ z. f z.0.now) (filter_by_mask zs mask) rows each
-    ∙ ap (map (λ z. f z.0.now)) (filter_by_mask-filter p zs mask masked)
-    ∙ sym (map_twice (λ (q : Identity × Bool). f q.0) both (filter p zs))
-    ∙ ap (map (λ (q : Identity × Bool). f q.0)) (sym (filter-map (λ (q : Identity × Bool). q.1) both zs) ∙ ap (filter (λ q. q.1)) pairs)
-    ∙ flagged_pairs f xs bs
+-- the same of flags
+pub flags_halved : (f : Identity × Bool → Bool) (n : ℕ) (xs ys zs : List Identity) (fs gs hs one two : List Bool)
+    → ys ≡ take n xs → zs ≡ drop n xs → gs ≡ take n fs → hs ≡ drop n fs → one ≡ map f (zip ys gs) → two ≡ map f (zip zs hs)
+    → one ++ two ≡ map f (zip xs fs)
+flags_halved f n xs ys zs fs gs hs one two y z g h a b =
+    rw (a, b, y, z, g, h) (sym (map-append f (zip (take n xs) (take n fs)) (zip (drop n xs) (drop n fs))) ∙ ap (map f) (sym (zip_split n xs fs)))
 
 passed_step : (p : Identity → Bool) (x : Identity) (b : Bool) (l m : List Identity) → l ≡ filter p m → cond (not b && p x) (x ∷ l) l ≡ filter p (cond (not b) (x ∷ m) m)
 passed_step p x true l m e = e

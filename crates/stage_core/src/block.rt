@@ -13,11 +13,15 @@ use card_core::{Block, Leaf, Stage};
 use equation_core::{EquationHash, Row};
 use ident_core::Identity;
 use octets_core::Key32;
+use rayon::current_num_threads;
 use std::alloc::Global;
 use std::thread::Threads;
 
+// The fewest members that are worth a thread.
+const FEW: usize = 512;
+
 /// The leaf of a universe, or of one of its shards, and of the identities among these whose flag is set, the revoked.
-/// It takes a byte for each identity, and the systems of one seed at a time.
+/// It takes a byte for each identity, and the rows and the system of one seed at a time.
 pub fn build_leaf<H: EquationHash>(
     alloc: Global,
     hash: &H,
@@ -32,7 +36,7 @@ pub fn build_leaf<H: EquationHash>(
 }
 
 /// The block of an issuer, which isn't cut: the leaf of its universe, and of the identities among these whose flag is
-/// set, the revoked. It takes a byte for each identity, and the systems of one seed at a time.
+/// set, the revoked. It takes a byte for each identity, and the rows and the system of one seed at a time.
 pub fn build_block<H: EquationHash>(
     alloc: Global,
     hash: &H,
@@ -54,7 +58,7 @@ pub fn build_block<H: EquationHash>(
 }
 
 /// The same block. The rows of a seed, and the false positives, are found by as many threads as there are processors,
-/// and the rows are added by the caller's. It takes memory for the rows of one seed as well.
+/// or fewer where each would have few members, and the rows are added by the caller's.
 pub fn build_block_wide<R: Threads + Sync, H: EquationHash + Sync>(
     rt: &R,
     alloc: Global,
@@ -67,24 +71,25 @@ pub fn build_block_wide<R: Threads + Sync, H: EquationHash + Sync>(
     requires few { length universe.now ≤ MAX_IDENTITIES }
     ensures { BuildsBlock (H.row_of hash.now) issuer universe.now revoked.now result }
 {
+    let most = universe.len().div_ceil(current_num_threads(rt)).max(FEW);
     let rows = |stage: u8, seed: u8, starts: u32, universe: &[Identity], flags: &[bool]| -> Result<
         Vec<Row>,
         BlockFault,
     >
-        requires { IsSync R.row × IsSync H.row × (1 ≤ starts) }
+        requires { IsSync R.row × IsSync H.row × (1 ≤ most) × (1 ≤ starts) × (length flags.now ≤ length universe.now) }
         ensures ok { IfOk result (λ v. v.items ≡ map (λ x. H.row_of hash.entry.now stage seed x starts) (flagged universe.entry.now flags.entry.now)) }
         ensures err { IfErr result (λ e. e ≡ NoMemory) }
-    { Ok(rows_in_threads(rt, alloc, hash, stage, seed, starts, universe, flags)?) };
+    { Ok(rows_in_threads(rt, alloc, hash, stage, seed, starts, universe, flags, most)?) };
     let passed = |approx: &Option<Stage>, universe: &[Identity], revoked: &[bool]| -> Result<
         Vec<bool>,
         BlockFault,
     >
-        requires { IsSync R.row × IsSync H.row × (length revoked.now ≡ length universe.now) }
+        requires { IsSync R.row × IsSync H.row × (1 ≤ most) × (length revoked.now ≡ length universe.now) }
         ensures len { IfOk result (λ v. length v.items ≡ length universe.entry.now) }
         ensures ok { IfOk result (λ v. flagged universe.entry.now v.items
             ≡ false_positives (H.row_of hash.entry.now) approx.entry.now (flagged universe.entry.now (map not revoked.entry.now))) }
         ensures err { IfErr result (λ e. e ≡ NoMemory) }
-    { Ok(false_positives_in_threads(rt, alloc, hash, approx, universe, revoked)?) };
+    { Ok(false_positives_in_threads(rt, alloc, hash, approx, universe, revoked, most)?) };
     let hashing = ByCalls {
         hash,
         rows: &rows,

@@ -4,21 +4,18 @@ ghost use Rattle.std.specs.declared.alloc.Global.{Global};
 ghost use Rattle.std.specs.declared.vec.Vec.{Vec};
 ghost use Rattle.ident_core.specs.declared.identity.Identity.{Identity};
 ghost use Rattle.equation_core.specs.declared.hash.Row.{Row};
-ghost use Rattle.equation_core.specs.declared.hash.TheConstants.{MAX_PLANES};
 ghost use Rattle.equation_core.specs.Rows.{IsRow, Rows};
 ghost use Rattle.card_core.specs.declared.stage.Stage.{Stage};
 ghost use Rattle.card_core.specs.Leaf.{flagged, false_positives};
-ghost use Rattle.stage_core.specs.Keys.{flagged_equations, Adds};
 ghost use Rattle.stage_core.specs.declared.fault.BlockFault.{BlockFault};
 ghost use Rattle.stage_core.specs.declared.fault.BlockFault.TheVariants.{NoMemory};
 
 use crate::fault::BlockFault;
-use crate::keys::{KeyTarget, Shape, add_keys, add_rows};
 use crate::passing::false_positives_of;
+use crate::rows::rows_alone;
 use card_core::Stage;
 use equation_core::{EquationHash, Row};
 use ident_core::Identity;
-use ribbon_core::{Inconsistent, System};
 use std::alloc::Global;
 
 /// A hash with a way to go over a universe by it.
@@ -28,29 +25,20 @@ pub trait Hashing {
     /// What its threads may share.
     ghost shared: { Self → Type 0 };
 
-    /// Adds the equation of each identity whose flag is set.
-    fn add_keys(
+    /// The rows of the members whose flag is set, in order.
+    fn rows(
         &self,
         alloc: Global,
-        system: &mut System,
-        shape: Shape,
+        stage: u8,
         seed: u8,
-        target: KeyTarget,
+        starts: u32,
         universe: &[Identity],
         flags: &[bool],
-    ) -> Result<Result<(), Inconsistent>, BlockFault>
+    ) -> Result<Vec<Row>, BlockFault>
         requires shared { shared self.now }
-        requires starts { system.old.starts ≡ shape.starts }
-        requires some_starts { 1 ≤ shape.starts }
-        requires planes { system.old.planes ≡ shape.planes }
-        requires some { 1 ≤ shape.planes }
-        requires few { shape.planes ≤ MAX_PLANES }
+        requires some { 1 ≤ starts }
         requires flags { length flags.now ≤ length universe.now }
-        ensures starts { system.new.starts ≡ system.old.starts }
-        ensures planes { system.new.planes ≡ system.old.planes }
-        ensures ok { IfOk result (Adds shape.planes system.old.equations
-            (flagged_equations (row_of self.now) target shape seed universe.now flags.now)
-            system.new.equations) }
+        ensures ok { IfOk result (λ v. v.items ≡ map (λ x. row_of self.now stage seed x starts) (flagged universe.now flags.now)) }
         ensures err { IfErr result (λ e. e ≡ NoMemory) };
 
     /// Of each member of the universe, in order, whether it is a false positive.
@@ -73,7 +61,7 @@ pub trait Hashing {
         → IsRow starts (row_of hashing stage seed id starts) };
 }
 
-/// One identity after the other, on the caller's thread. No row is kept.
+/// All on the caller's thread.
 #[derive(Clone, Copy)]
 pub struct OneThread<'a, H> {
     pub hash: &'a H,
@@ -86,17 +74,16 @@ impl<'a, H: EquationHash> Hashing for OneThread<'a, H> {
 
     ghost formed = { λ hashing. H.formed hashing.hash.now };
 
-    fn add_keys(
+    fn rows(
         &self,
         alloc: Global,
-        system: &mut System,
-        shape: Shape,
+        stage: u8,
         seed: u8,
-        target: KeyTarget,
+        starts: u32,
         universe: &[Identity],
         flags: &[bool],
-    ) -> Result<Result<(), Inconsistent>, BlockFault> {
-        Ok(add_keys(system, self.hash, shape, seed, target, universe, flags))
+    ) -> Result<Vec<Row>, BlockFault> {
+        Ok(rows_alone(alloc, self.hash, stage, seed, starts, universe, flags)?)
     }
 
     fn passed(
@@ -111,7 +98,7 @@ impl<'a, H: EquationHash> Hashing for OneThread<'a, H> {
 }
 
 /// A hash, and calls that go over a universe by it in several threads: one for the rows of the members whose flag is
-/// set, and one for the flags of the false positives. The rows of a seed are kept until all are added.
+/// set, and one for the flags of the false positives.
 #[derive(Clone, Copy)]
 pub struct ByCalls<'a, H, F, P> {
     pub hash: &'a H,
@@ -142,18 +129,16 @@ impl<
 
     ghost formed = { λ hashing. H.formed hashing.hash.now };
 
-    fn add_keys(
+    fn rows(
         &self,
         alloc: Global,
-        system: &mut System,
-        shape: Shape,
+        stage: u8,
         seed: u8,
-        target: KeyTarget,
+        starts: u32,
         universe: &[Identity],
         flags: &[bool],
-    ) -> Result<Result<(), Inconsistent>, BlockFault> {
-        let rows = (self.rows)(shape.stage, seed, shape.starts, universe, flags)?;
-        Ok(add_rows(system, target, shape.planes, &rows))
+    ) -> Result<Vec<Row>, BlockFault> {
+        (self.rows)(stage, seed, starts, universe, flags)
     }
 
     fn passed(

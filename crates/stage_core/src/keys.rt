@@ -1,12 +1,16 @@
-ghost use Rattle.std.specs.Prelude.{◌≡◌, ◌≤◌, ◌↔◌, ℕ, All, length, OnOk, OnErr};
+ghost use Rattle.std.specs.Prelude.{◌≡◌, ◌≤◌, ◌↔◌, ℕ, All, length, OnOk, OnErr, IfOk, IfErr};
 ghost use Rattle.equation_core.specs.declared.hash.TheConstants.{MAX_PLANES};
 ghost use Rattle.equation_core.specs.Rows.{IsRow};
-ghost use Rattle.ribbon_core.specs.Equations.{SolvesAll, IsAdded, IsContradicted};
-ghost use Rattle.stage_core.specs.Keys.{key_equation, flagged_equations, row_equations, HasNoSolution};
+ghost use Rattle.ribbon_core.specs.Equations.{SolvesAll};
+ghost use Rattle.stage_core.specs.Keys.{Adds, flagged_equations, row_equations, HasNoSolution};
+ghost use Rattle.stage_core.specs.declared.fault.BlockFault.TheVariants.{NoMemory};
 
-use equation_core::{EquationHash, Row};
+use crate::fault::BlockFault;
+use crate::hashing::Hashing;
+use equation_core::Row;
 use ident_core::Identity;
 use ribbon_core::{Inconsistent, System};
+use std::alloc::Global;
 
 /// The target of a key's equation in each plane: a bit of its row's tag, or one, or zero.
 #[derive(Clone, Copy)]
@@ -44,67 +48,6 @@ impl KeyTarget {
     }
 }
 
-// Adds the equation of a key.
-fn add_key<H: EquationHash>(
-    system: &mut System,
-    hash: &H,
-    shape: Shape,
-    seed: u8,
-    target: KeyTarget,
-    key: &Identity,
-) -> Result<(), Inconsistent>
-    requires starts { system.old.starts ≡ shape.starts }
-    requires some_starts { 1 ≤ shape.starts }
-    requires planes { system.old.planes ≡ shape.planes }
-    requires some { 1 ≤ shape.planes }
-    requires few { shape.planes ≤ MAX_PLANES }
-    ensures starts { system.new.starts ≡ system.old.starts }
-    ensures planes { system.new.planes ≡ system.old.planes }
-    ensures ok { OnOk result (IsAdded
-        system.old.equations
-        (key_equation (H.row_of hash.now) target shape.stage shape.planes shape.starts seed key.now)
-        system.new.equations) }
-    ensures err { OnErr result (IsContradicted
-        shape.planes
-        system.old.equations
-        (key_equation (H.row_of hash.now) target shape.stage shape.planes shape.starts seed key.now)) }
-{
-    let row = hash.row(shape.stage, seed, key, shape.starts);
-    system.add(&row, target.bits(&row, shape.planes))
-}
-
-/// Adds the equation of each identity whose flag is set.
-pub fn add_keys<H: EquationHash>(
-    system: &mut System,
-    hash: &H,
-    shape: Shape,
-    seed: u8,
-    target: KeyTarget,
-    universe: &[Identity],
-    flags: &[bool],
-) -> Result<(), Inconsistent>
-    requires starts { system.old.starts ≡ shape.starts }
-    requires some_starts { 1 ≤ shape.starts }
-    requires planes { system.old.planes ≡ shape.planes }
-    requires some { 1 ≤ shape.planes }
-    requires few { shape.planes ≤ MAX_PLANES }
-    requires flags { length flags.now ≤ length universe.now }
-    ensures starts { system.new.starts ≡ system.old.starts }
-    ensures planes { system.new.planes ≡ system.old.planes }
-    ensures ok { OnOk result ((plane Z : ℕ) → SolvesAll plane system.new.equations Z
-        ↔ (SolvesAll plane system.old.equations Z
-        × SolvesAll plane (flagged_equations (H.row_of hash.now) target shape seed universe.now flags.now) Z)) }
-    ensures err { OnErr result (HasNoSolution shape.planes system.old.equations
-        (flagged_equations (H.row_of hash.now) target shape seed universe.now flags.now)) }
-{
-    for (i, flag) in flags.iter().enumerate() {
-        if *flag {
-            add_key(system, hash, shape, seed, target, &universe[i])?;
-        }
-    }
-    Ok(())
-}
-
 /// Adds the equation of each row.
 pub fn add_rows(
     system: &mut System,
@@ -126,4 +69,33 @@ pub fn add_rows(
         system.add(row, target.bits(row, planes))?;
     }
     Ok(())
+}
+
+/// Adds the equation of each identity whose flag is set. The rows of all are made first.
+pub fn add_keys<W: Hashing>(
+    alloc: Global,
+    hashing: &W,
+    system: &mut System,
+    shape: Shape,
+    seed: u8,
+    target: KeyTarget,
+    universe: &[Identity],
+    flags: &[bool],
+) -> Result<Result<(), Inconsistent>, BlockFault>
+    requires shared { W.shared hashing.now }
+    requires starts { system.old.starts ≡ shape.starts }
+    requires some_starts { 1 ≤ shape.starts }
+    requires planes { system.old.planes ≡ shape.planes }
+    requires some { 1 ≤ shape.planes }
+    requires few { shape.planes ≤ MAX_PLANES }
+    requires flags { length flags.now ≤ length universe.now }
+    ensures starts { system.new.starts ≡ system.old.starts }
+    ensures planes { system.new.planes ≡ system.old.planes }
+    ensures ok { IfOk result (Adds shape.planes system.old.equations
+        (flagged_equations (W.row_of hashing.now) target shape seed universe.now flags.now)
+        system.new.equations) }
+    ensures err { IfErr result (λ e. e ≡ NoMemory) }
+{
+    let rows = hashing.rows(alloc, shape.stage, seed, shape.starts, universe, flags)?;
+    Ok(add_rows(system, target, shape.planes, &rows))
 }

@@ -9,6 +9,7 @@ mod in_threads;
 mod keys;
 mod leaf;
 mod passing;
+mod rows;
 mod seeds;
 mod shift;
 mod width;

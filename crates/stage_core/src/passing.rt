@@ -123,8 +123,8 @@ fn four_flags<H: EquationHash>(
     }
 }
 
-// Whether each pair is an identity that is a false positive, and no set flag.
-fn flags_alone<H: EquationHash>(
+/// Whether each pair is an identity that is a false positive, and no set flag.
+pub fn flags_alone<H: EquationHash>(
     alloc: Global,
     hash: &H,
     approx: &Option<Stage>,
@@ -138,7 +138,7 @@ fn flags_alone<H: EquationHash>(
     let fours = universe.len() / 4;
     'fours: for i in 0..fours {
         let at = 4 * i;
-        let few = [
+        let four_revoked = [
             revoked[at],
             revoked[at + 1],
             revoked[at + 2],
@@ -151,7 +151,7 @@ fn flags_alone<H: EquationHash>(
             &universe[at + 1],
             &universe[at + 2],
             &universe[at + 3],
-            few,
+            four_revoked,
         ))?;
     }
     'rest: for i in 4 * fours..universe.len() {

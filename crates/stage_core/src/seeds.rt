@@ -7,7 +7,7 @@ ghost use Rattle.stage_core.specs.declared.fault.BlockFault.TheVariants.{NoMemor
 
 use crate::fault::BlockFault;
 use crate::hashing::Hashing;
-use crate::keys::{KeyTarget, Shape};
+use crate::keys::{KeyTarget, Shape, add_keys};
 use card_core::Stage;
 use ident_core::Identity;
 use ribbon_core::{Planes, System};
@@ -38,12 +38,31 @@ fn solve_at<W: Hashing>(
 {
     let mut system = System::new(alloc, shape.starts, shape.planes)?;
     let target = shape.target;
-    let Ok(()) = hashing.add_keys(alloc, &mut system, shape, seed, target, universe, revoked)?
+    let Ok(()) = add_keys(
+        alloc,
+        hashing,
+        &mut system,
+        shape,
+        seed,
+        target,
+        universe,
+        revoked,
+    )?
     else {
         return Ok(None);
     };
     let target = KeyTarget::Zero;
-    let Ok(()) = hashing.add_keys(alloc, &mut system, shape, seed, target, universe, passed)? else {
+    let Ok(()) = add_keys(
+        alloc,
+        hashing,
+        &mut system,
+        shape,
+        seed,
+        target,
+        universe,
+        passed,
+    )?
+    else {
         return Ok(None);
     };
     Ok(Some(system.solve()))

@@ -1,0 +1,12 @@
+use Rattle.std.proofs.Common.{◌+◌, ◌*◌, length}
+use Rattle.stage_core.proofs.in_threads.+flags_in_threads.Given as goal
+
+-- a closure comes just above the call in it
+abbrev pub decreases-flags_in_threads : goal.decreases-flags_in_threads
+decreases-flags_in_threads g l = length l.universe.now * 2
+
+abbrev pub decreases-front : goal.decreases-front
+decreases-front g l = length l.first.now * 2 + 1
+
+abbrev pub decreases-back : goal.decreases-back
+decreases-back g l = length l.rest.now * 2 + 1
