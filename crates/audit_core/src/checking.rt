@@ -6,13 +6,13 @@ ghost use Rattle.ledger_core.specs.LedgerFields.{part_fields};
 ghost use Rattle.universe_core.specs.Judging.{IsSearchable};
 ghost use Rattle.audit_core.specs.Checking.{is_truth as is_truth_of, listing as listing_of, agreement_of, AreFine, is_told, IsFirstOf};
 
-use crate::asking::verdict_on;
 use crate::fault::AuditFault;
 use crate::listing::listing;
 use card_core::Verdict;
 use ledger_core::{Ledger, LedgerPart};
 use log_core::Entry;
 use part_codec::Sealed;
+use store_core::parts_say;
 
 /// Whether the parts say the truth of an entry.
 #[derive(Clone, Copy, Debug, PartialEq, Eq)]
@@ -45,7 +45,7 @@ fn ask(store: &[Sealed], ledger: &Ledger, part: &LedgerPart, entry: &Option<Entr
     let Some(listed) = listing(ledger, part, entry) else {
         return Agreement::Skipped;
     };
-    let held = verdict_on(store, entry);
+    let held = parts_say(store, &entry.id, &[entry.sighting]);
     if is_truth(held, listed) {
         Agreement::Agrees
     } else {

@@ -3,7 +3,6 @@
 #![tactic(auto)]
 
 mod admitting;
-mod asking;
 mod auditing;
 mod checking;
 mod fault;

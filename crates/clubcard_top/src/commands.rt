@@ -1,8 +1,7 @@
 //! The commands that ask: what each answers, from what its file holds.
 
-ghost use Rattle.std.specs.Prelude.{◌≡◌, ◌<◌, IfOk, OnErr, IsErr, map};
+ghost use Rattle.std.specs.Prelude.{◌≡◌, IfOk, OnErr, IsErr};
 ghost use Rattle.outside_core.specs.Effects.{OnlyReads};
-ghost use Rattle.card_core.specs.Verdict.{verdict as verdict_of};
 ghost use Rattle.word_core.specs.declared.command.Command.{Command};
 ghost use Rattle.clubcard_top.specs.Answering.{reply_fields, scan_reply as reply_of_scan};
 ghost use Rattle.clubcard_top.specs.Replies.{refusal, IsReply};
@@ -10,18 +9,15 @@ ghost use Rattle.outside_core.specs.Reads.{WhichFailed};
 
 use crate::answer::Answer;
 use crate::reply::Reply;
-use ident_core::{Identity, Sighting};
+use ident_core::Identity;
 use input_core::{
     Certificate, FileFault, ScanFault, certificate_in, issuer_in, part_in, scan_file, store_in,
 };
 use line_core::checked;
-use octets_core::{NoMemory, Steps};
+use octets_core::NoMemory;
 use outside_core::Depot;
 use part_codec::PartNote;
 use std::alloc::Global;
-use std::marker::Brand;
-use std::sync::ledger::{Blank, Ledger};
-use store_core::{Store, Verdict};
 use word_core::{FileName, Query, QueryCert};
 
 /// The answer about what is wrong with the file of this name. No memory is taken: want of it is handed on.
@@ -31,34 +27,6 @@ pub(crate) fn refused(name: &str, fault: FileFault) -> Result<Answer<'_>, NoMemo
     ensures no_other { OnErr result (fault ≡ FileFault.NoMemory) }
 {
     Ok(Answer::Reply(Reply::refusal(name, fault)?))
-}
-
-/// The verdict of a store, with counters of probes and of words that nothing reads.
-fn verdict_by<L: Ledger, M: Ledger>(
-    store: &Store,
-    id: &Identity,
-    sightings: &[Sighting],
-    probes: Blank,
-    words: Blank,
-) -> Verdict
-    requires probes_name { probes.name ≡ L.name }
-    requires probes_parts { probes.parts ≡ L.parts }
-    requires some_probes { 0 < L.parts }
-    requires words_name { words.name ≡ M.name }
-    requires words_parts { words.parts ≡ M.parts }
-    requires some_words { 0 < M.parts }
-    ensures { result ≡ verdict_of (map (λ s. s.part) store.now) id.now sightings.now }
-{
-    let mut probes: Steps<L> = Steps::new(probes);
-    let mut words: Steps<M> = Steps::new(words);
-    store.verdict(id, sightings, &mut probes, &mut words)
-}
-
-/// The verdict of a store.
-pub fn verdict_on(store: &Store, id: &Identity, sightings: &[Sighting]) -> Verdict
-    ensures { result ≡ verdict_of (map (λ s. s.part) store.now) id.now sightings.now }
-{
-    verdict_by::<Brand, Brand>(store, id, sightings, Blank::new(1), Blank::new(1))
 }
 
 /// The answer to a query.
@@ -73,7 +41,7 @@ pub fn answer_query<'a, D: Depot>(
 {
     match store_in(alloc, depot, query.store()) {
         Ok(store) => {
-            let verdict = verdict_on(&store, query.id(), query.sightings());
+            let verdict = store.says(query.id(), query.sightings());
             Ok(Answer::Reply(Reply::verdict(verdict)))
         }
         Err(fault) => refused(query.store(), fault),
@@ -101,7 +69,7 @@ pub fn answer_query_cert<'a, D: Depot>(
     match issuer_in(alloc, depot, query.issuer_cert()) {
         Ok(issuer) => {
             let id = Identity { issuer, serial };
-            let verdict = verdict_on(&store, &id, scts.sightings());
+            let verdict = store.says(&id, scts.sightings());
             Ok(Answer::Reply(Reply::verdict(verdict)))
         }
         Err(fault) => refused(query.issuer_cert(), fault),

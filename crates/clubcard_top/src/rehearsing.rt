@@ -16,7 +16,7 @@ ghost use Rattle.clubcard_top.specs.Answering.{reply_fields};
 ghost use Rattle.clubcard_top.specs.Replies.{IsReply};
 
 use crate::answer::Answer;
-use crate::commands::{refused, verdict_on};
+use crate::commands::refused;
 use crate::fault::unpublished;
 use crate::reply::verdict_line;
 use input_core::{FileFault, job_in, queries_in};
@@ -118,7 +118,7 @@ fn put_verdict(text: &mut Vec<u8>, rehearsal: &Rehearsal, query: &Asked) -> Resu
 {
     let verdict = match rehearsal.store() {
         None => Verdict::NotCovered,
-        Some(store) => verdict_on(store, &query.identity, query.sightings.as_slice()),
+        Some(store) => store.says(&query.identity, query.sightings.as_slice()),
     };
     put_bytes(text, verdict_line(verdict).text())
 }

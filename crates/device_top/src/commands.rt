@@ -1,6 +1,6 @@
 //! What each command answers, from what its device and its file hold.
 
-ghost use Rattle.std.specs.Prelude.{◌≡◌, ◌≤◌, ◌<◌, ◌++◌, List, ℕ, [], ◌∷◌, map};
+ghost use Rattle.std.specs.Prelude.{◌≡◌, ◌≤◌, ◌++◌, List, ℕ, [], ◌∷◌};
 ghost use Rattle.std.specs.Prelude.{Some, None, Ok, IfOk, IfErr, IsOk, IsErr, OnErr};
 ghost use Rattle.outside_core.specs.Effects.{OnlyReads};
 ghost use Rattle.slot_core.specs.Disk.{Quiet};
@@ -10,7 +10,6 @@ ghost use Rattle.slot_core.specs.Moments.{LeavesOnly};
 ghost use Rattle.store_core.specs.declared.chain.Refusal.{Refusal};
 ghost use Rattle.store_core.specs.Chain.{newest_of, refusal_of};
 ghost use Rattle.store_core.specs.StoreLayout.{store_text};
-ghost use Rattle.card_core.specs.Verdict.{verdict as verdict_of};
 ghost use Rattle.outside_core.specs.Reads.{WhichFailed};
 ghost use Rattle.word_core.specs.declared.device.DeviceCommand.TheVariants as commands;
 ghost use Rattle.device_top.specs.Outcomes.{epoch_of, formats, replaced as replaced_by, stored as stored_as};
@@ -21,17 +20,14 @@ ghost use Rattle.device_top.specs.Calls.{SaysWhich};
 
 use crate::held::{Held, HeldFault, held_in, store_of};
 use crate::reply::Reply;
-use ident_core::{Identity, Sighting};
 use input_core::{FileFault, part_in, read_up_to};
 use line_core::stored as stored_line;
-use octets_core::{NoMemory, Steps};
+use octets_core::NoMemory;
 use outside_core::Depot;
 use part_codec::Sealed;
 use slot_core::{Disk, Slots, format};
 use std::alloc::Global;
-use std::marker::Brand;
-use std::sync::ledger::{Blank, Ledger};
-use store_core::{Store, Verdict, encode_store};
+use store_core::{Store, encode_store};
 use word_core::{Format, InstallPart, Query};
 
 /// The epoch of a store's newest part.
@@ -47,34 +43,6 @@ fn stored<'a>(store: &Store) -> Reply<'a>
     ensures { result ≡ stored_as store.now }
 {
     Reply::done(stored_line(store.parts().len(), newest_epoch(store)))
-}
-
-/// The verdict of a store, with counters of probes and of words that nothing reads.
-fn verdict_by<L: Ledger, M: Ledger>(
-    store: &Store,
-    id: &Identity,
-    sightings: &[Sighting],
-    probes: Blank,
-    words: Blank,
-) -> Verdict
-    requires probes_name { probes.name ≡ L.name }
-    requires probes_parts { probes.parts ≡ L.parts }
-    requires some_probes { 0 < L.parts }
-    requires words_name { words.name ≡ M.name }
-    requires words_parts { words.parts ≡ M.parts }
-    requires some_words { 0 < M.parts }
-    ensures { result ≡ verdict_of (map (λ s. s.part) store.now) id.now sightings.now }
-{
-    let mut probes: Steps<L> = Steps::new(probes);
-    let mut words: Steps<M> = Steps::new(words);
-    store.verdict(id, sightings, &mut probes, &mut words)
-}
-
-/// The verdict of a store.
-fn verdict_on(store: &Store, id: &Identity, sightings: &[Sighting]) -> Verdict
-    ensures { result ≡ verdict_of (map (λ s. s.part) store.now) id.now sightings.now }
-{
-    verdict_by::<Brand, Brand>(store, id, sightings, Blank::new(1), Blank::new(1))
 }
 
 /// The reply about the device of this name, from which no store was read.
@@ -103,7 +71,7 @@ pub fn answer_query<'a, D: Disk>(
 {
     match held_in(alloc, disk) {
         Ok(held) => {
-            let verdict = verdict_on(&held.store, query.id(), query.sightings());
+            let verdict = held.store.says(query.id(), query.sightings());
             Ok(Reply::verdict(verdict))
         }
         Err(fault) => not_held(query.store(), fault),

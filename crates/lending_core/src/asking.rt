@@ -1,8 +1,7 @@
 //! What is asked of a store that is lent.
 
-ghost use Rattle.std.specs.Prelude.{◌≡◌, ◌<◌, map, Ok, IfOk};
+ghost use Rattle.std.specs.Prelude.{◌≡◌, map, Ok, IfOk};
 ghost use Rattle.octets_core.specs.Reading.{GivesUnless};
-ghost use Rattle.card_core.specs.Verdict.{verdict as verdict_of};
 ghost use Rattle.lending_core.specs.Lent.{sighting_of};
 ghost use Rattle.lending_core.specs.Asking.{store_of, issuer_of, query_gives, query_cert_gives, each_says};
 ghost use Rattle.lending_core.specs.Replies.{answer_of, verdict_number, with_number};
@@ -16,41 +15,11 @@ use crate::numbers;
 use crate::replies::{Answer, StoreFacts, alone, facts_of, fault_answer, verdict_answer};
 use ident_core::{Identity, Sighting};
 use log_core::issuer_hash;
-use octets_core::{Key32, Steps};
+use octets_core::Key32;
 use sct_core::bounds::MAX_CERTIFICATE;
 use sct_core::{cert_serial, scts};
 use std::alloc::Global;
-use std::marker::Brand;
-use std::sync::ledger::{Blank, Ledger};
 use store_core::{Store, Verdict, decode_store};
-
-/// The verdict of a store, with counters of probes and of words that nothing reads.
-fn verdict_by<L: Ledger, M: Ledger>(
-    store: &Store,
-    id: &Identity,
-    sightings: &[Sighting],
-    probes: Blank,
-    words: Blank,
-) -> Verdict
-    requires probes_name { probes.name ≡ L.name }
-    requires probes_parts { probes.parts ≡ L.parts }
-    requires some_probes { 0 < L.parts }
-    requires words_name { words.name ≡ M.name }
-    requires words_parts { words.parts ≡ M.parts }
-    requires some_words { 0 < M.parts }
-    ensures { result ≡ verdict_of (map (λ s. s.part) store.now) id.now sightings.now }
-{
-    let mut probes: Steps<L> = Steps::new(probes);
-    let mut words: Steps<M> = Steps::new(words);
-    store.verdict(id, sightings, &mut probes, &mut words)
-}
-
-/// The verdict of a store.
-fn verdict_on(store: &Store, id: &Identity, sightings: &[Sighting]) -> Verdict
-    ensures { result ≡ verdict_of (map (λ s. s.part) store.now) id.now sightings.now }
-{
-    verdict_by::<Brand, Brand>(store, id, sightings, Blank::new(1), Blank::new(1))
-}
 
 /// The store that is lent.
 fn lent_store(alloc: Global, bytes: &[u8]) -> Result<Store, LentFault>
@@ -74,7 +43,7 @@ fn queried(
     let sightings = sightings_of(alloc, sightings)?;
     let issuer = Key32::new(*issuer);
     let id = Identity { issuer, serial };
-    Ok(verdict_on(&store, &id, &sightings))
+    Ok(store.says(&id, &sightings))
 }
 
 /// The verdict on the certificate with this issuer key's hash and this serial, which logs saw. The first fault is that
@@ -115,7 +84,7 @@ fn queried_cert(
     let scts = scts(cert)?;
     let issuer = issuer_in(issuer_cert)?;
     let id = Identity { issuer, serial };
-    Ok(verdict_on(&store, &id, scts.sightings()))
+    Ok(store.says(&id, scts.sightings()))
 }
 
 /// The verdict on a certificate with its timestamps, by its issuer's certificate, both in DER. The first fault is that
@@ -153,7 +122,7 @@ fn verdict_on_one(store: &Store, all: &[Sighting], query: &LentQuery) -> Result<
     let sightings = sightings_within(query, all)?;
     let issuer = Key32::new(query.issuer);
     let id = Identity { issuer, serial };
-    Ok(verdict_on(store, &id, sightings))
+    Ok(store.says(&id, sightings))
 }
 
 /// Writes into each query its answer.

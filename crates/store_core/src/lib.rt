@@ -2,6 +2,7 @@
 //! of a certificate, and the bytes that it is written as.
 #![tactic(auto)]
 
+mod asking;
 mod chain;
 mod decode;
 mod encode;
@@ -9,6 +10,7 @@ mod fault;
 mod laws;
 mod store;
 
+pub use asking::parts_say;
 pub use card_core::Verdict;
 pub use chain::{Refusal, Refused};
 pub use decode::decode_store;

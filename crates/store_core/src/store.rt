@@ -6,6 +6,7 @@ ghost use Rattle.ident_core.specs.declared.bounds.TheConstants.{MAX_PARTS};
 ghost use Rattle.store_core.specs.Chain.{newest_of, refusal_of, IsChain};
 ghost use Rattle.store_core.specs.Starting.{IsNotBegun};
 
+use crate::asking::{counted_verdict, parts_say};
 use crate::chain::{Refusal, Refused, broken_by};
 use card_core::Verdict;
 use ident_core::{Identity, Kind, MAX_PARTS, Sighting};
@@ -115,11 +116,13 @@ impl Store {
         ensures more_words { words.old ≤ words.new }
         ensures few_words { words.new ≤ words.old + 51 * length (covering sightings.now (map (λ s. s.part) self.now)) }
     {
-        let mut verdict = Verdict::NotCovered;
-        for sealed in self.parts() {
-            let said = sealed.part().verdict(id, sightings, probes, words);
-            verdict = verdict.joined_with(said);
-        }
-        verdict
+        counted_verdict(self.parts(), id, sightings, probes, words)
+    }
+
+    /// What the parts together say of the certificate. No memory is taken.
+    pub fn says(&self, id: &Identity, sightings: &[Sighting]) -> Verdict
+        ensures { result ≡ verdict (map (λ s. s.part) self.now) id.now sightings.now }
+    {
+        parts_say(self.parts(), id, sightings)
     }
 }

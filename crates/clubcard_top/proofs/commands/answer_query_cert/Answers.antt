@@ -34,7 +34,7 @@ returns-in-Ok-issuer_in-clause-reply g c =
     (well_before g.D.Depot c.args.depot.now _ _ c.args.query.now.cert certificate_in (λ x. x) c.in-Ok-certificate_in.cert cert) (λ x. x) c.in-Ok-issuer_in.issuer
     (input_behind g.D.Depot c.args.depot.now _ _ c.args.query.now.issuer_cert issuer_in (λ x. x) (Ok c.in-Ok-issuer_in.issuer) reads_ none_yet
     (rw c.issuer_cert.ensures at c.in-Ok-issuer_in.ensures.input))
-    (rw (c.verdict_on-verdict.ensures, c.sightings.ensures.value) at c.verdict.ensures)
+    (rw (c.says-verdict.ensures, c.sightings.ensures.value) at c.verdict.ensures)
 
 pub returns-clause-reply : goal.returns-clause-reply
 returns-clause-reply g c =

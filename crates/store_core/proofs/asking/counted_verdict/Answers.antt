@@ -1,7 +1,7 @@
-use Rattle.std.proofs.Common.{◌≡◌, ◌∷◌, [], get_or, length, ap, subst, arith}
+use Rattle.std.proofs.Common.{◌∷◌, [], subst}
 use Rattle.card_core.proofs.Verdicts.{IsAsked, asked-none}
 use Rattle.store_core.proofs.Verdicts.{asked-more, asked-all}
-use Rattle.store_core.proofs.store.Store.verdict.Goals as goal
+use Rattle.store_core.proofs.asking.counted_verdict.Goals as goal
 
 pub loop-sealed-init : goal.loop-sealed-init
 loop-sealed-init g c = asked-none c.args.id.now c.args.sightings.now c.args.probes.now c.args.words.now
@@ -13,16 +13,14 @@ loop-sealed-preserved g c =
     c.verdict-said.new.probes c.loop-sealed.words c.verdict-said.new.words
     = record { value = e.value; more_probes = e.more_probes; few_probes = e.few_probes; more_words = e.more_words; few_words = e.few_words } in
     rw c.joined_with-verdict.ensures
-    (asked-more c.args.id.now c.args.sightings.now c.args.self.now c.loop-sealed.sealed-index c.sealed-item.result c.loop-sealed.verdict
+    (asked-more c.args.id.now c.args.sightings.now c.args.parts.now c.loop-sealed.sealed-index c.sealed-item.result c.loop-sealed.verdict
     c.verdict-said.result c.args.probes.now c.loop-sealed.probes
-    c.verdict-said.new.probes c.args.words.now c.loop-sealed.words c.verdict-said.new.words
-    (let t = c.loop-sealed-test.true in omega (arith, ap length c.parts-sealed-items.ensures.value))
-    (subst (λ l. c.sealed-item.result ≡ get_or l c.loop-sealed.sealed-index c.sealed-item.result) c.parts-sealed-items.ensures.value c.sealed-item.is)
+    c.verdict-said.new.probes c.args.words.now c.loop-sealed.words c.verdict-said.new.words c.loop-sealed-test.true c.sealed-item.is
     c.loop-sealed.invariant (subst (λ p. IsAsked c.args.id.now c.args.sightings.now (p ∷ []) c.verdict-said.result c.loop-sealed.probes
     c.verdict-said.new.probes c.loop-sealed.words c.verdict-said.new.words) c.part.ensures one))
 
 pub returns : goal.returns
 returns g c =
-    let all = asked-all c.args.id.now c.args.sightings.now c.args.self.now c.loop-sealed.sealed-index c.loop-sealed.verdict c.args.probes.now c.loop-sealed.probes c.args.words.now c.loop-sealed.words
-    (let t = c.loop-sealed-test.false in omega (arith, ap length c.parts-sealed-items.ensures.value)) c.loop-sealed.invariant in
+    let all = asked-all c.args.id.now c.args.sightings.now c.args.parts.now c.loop-sealed.sealed-index c.loop-sealed.verdict c.args.probes.now c.loop-sealed.probes c.args.words.now c.loop-sealed.words
+    c.loop-sealed-test.false c.loop-sealed.invariant in
     record { value = all.value; more_probes = all.more_probes; few_probes = all.few_probes; more_words = all.more_words; few_words = all.few_words }
