@@ -10,6 +10,7 @@ pub mod Endings
 pub mod Existing
 pub mod Files
 pub mod Made
+pub mod ReplyStatuses
 pub mod Makings
 pub mod Newest
 pub mod Outputs

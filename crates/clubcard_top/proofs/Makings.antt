@@ -80,17 +80,7 @@ use Rattle.clubcard_top.proofs.Prefixes.{from_first}
 -- ---- replies of refusals
 
 pub refusal_quiet : (name : List ℕ) (fault : FileFault) → (refusal name fault).outputs ≡ []
-refusal_quiet name faults.Unread = refl
-refusal_quiet name (faults.Layout f) = refl
-refusal_quiet name faults.NotSnapshot = refl
-refusal_quiet name (faults.Chain why) = refl
-refusal_quiet name (faults.BadCrl place fault) = refl
-refusal_quiet name (faults.TooMany thing limit) = refl
-refusal_quiet name (faults.Seeds issuer stage) = refl
-refusal_quiet name (faults.BadCert fault) = refl
-refusal_quiet name (faults.BadPage fault) = refl
-refusal_quiet name (faults.Disagrees job entry held truth) = refl
-refusal_quiet name faults.NoMemory = refl
+refusal_quiet name fault = refl
 
 pub or_right : (a b : Bool) → b ≡ true → (a || b) ≡ true
 or_right true b h = refl

@@ -6,16 +6,12 @@ use Rattle.input_core.specs.declared.scanning.ScanFault.{ScanFault}
 use Rattle.input_core.specs.Faults.{of_scan}
 use Rattle.clubcard_top.specs.declared.answer.Answer.{Answer}
 use Rattle.clubcard_top.specs.declared.answer.Answer.TheVariants as answers
-use Rattle.clubcard_top.specs.ReplyFields.{OutputFields, ReplyFields}
+use Rattle.clubcard_top.specs.ReplyFields.{ReplyFields}
 use Rattle.clubcard_top.specs.Commands.{only}
-use Rattle.clubcard_top.specs.Replies.{done, refusal}
-
--- a reply behind these outputs
-abbrev pub with_files : List OutputFields → ReplyFields → ReplyFields
-with_files outputs r = record { status = r.status; text = r.text; outputs = outputs }
+use Rattle.clubcard_top.specs.Replies.{done, refusal, with_files}
 
 abbrev pub reply_fields : Answer → ReplyFields
-reply_fields (answers.Reply r) = r
+reply_fields (answers.Reply r) = with_files [] r
 reply_fields (answers.Lines text) = done (only text.items)
 reply_fields (answers.Part s) = done (only (show_text s))
 reply_fields (answers.Files outputs r) = with_files outputs.items r

@@ -1,16 +1,17 @@
 //! Answers, which are sent when all has been read and made.
 
-ghost use Rattle.std.specs.Prelude.{◌≡◌, ◌≤◌, [], ◌∷◌, IsTrue};
+ghost use Rattle.std.specs.Prelude.{◌≡◌, ◌≤◌, [], ◌∷◌, false};
 ghost use Rattle.outside_core.specs.Effects.{OnlyWrites};
 ghost use Rattle.clubcard_top.specs.Statuses as statuses;
-ghost use Rattle.clubcard_top.specs.Answering.{reply_fields, with_files};
+ghost use Rattle.clubcard_top.specs.Answering.{reply_fields};
+ghost use Rattle.clubcard_top.specs.Replies.{with_files};
 ghost use Rattle.clubcard_top.specs.Sending.{printing, writing, IsPrinted, IsSent};
 
 use crate::output::{Output, SampleOutput, write_outputs};
-use crate::reply::Reply;
 use line_core::{Message, Status, about_file, write_sealed};
 use outside_core::{Depot, Failed, Sink, write_all};
 use part_codec::Sealed;
+use reply_core::Reply;
 use std::thread::Threads;
 
 /// What a command answers.
@@ -54,9 +55,8 @@ fn send_message<K: Sink>(message: &Message<'_>, status: Status, out: &mut K) -> 
 
 /// Sends a reply.
 fn send_reply<K: Sink>(reply: &Reply<'_>, out: &mut K) -> Status
-    ensures sent { IsPrinted (printing K.Sink out.old out.new result.0) reply.now }
-    ensures own { IsTrue (statuses.is_one_of statuses.of_replies reply.now.status) }
-    ensures none { reply.now.outputs ≡ [] }
+    ensures sent { IsPrinted (printing K.Sink out.old out.new result.0) (with_files [] reply.now) }
+    ensures own { statuses.is_one_of statuses.unsaid reply.now.status ≡ false }
     ensures later { K.faults out.old ≤ K.faults out.new }
 {
     let status = reply.status();
@@ -84,7 +84,7 @@ fn send_files<R: Threads, D: Depot, K: Sink>(
 ) -> Status
     ensures ends { IsSent (writing D.Depot depot.old depot.new) (printing K.Sink out.old out.new result.0)
         (with_files outputs.now reply.now) }
-    ensures own { IsTrue (statuses.is_one_of statuses.of_replies reply.now.status) }
+    ensures own { statuses.is_one_of statuses.unsaid reply.now.status ≡ false }
     ensures quiet { outputs.now ≡ [] → D.write_faults depot.new ≡ D.write_faults depot.old }
     ensures only_writes { OnlyWrites D.Depot depot.old depot.new }
     ensures later_out { K.faults out.old ≤ K.faults out.new }
@@ -105,7 +105,7 @@ fn send_sample<D: Depot, K: Sink>(
 ) -> Status
     ensures ends { IsSent (writing D.Depot depot.old depot.new) (printing K.Sink out.old out.new result.0)
         (with_files (output.entry ∷ []) reply.now) }
-    ensures own { IsTrue (statuses.is_one_of statuses.of_replies reply.now.status) }
+    ensures own { statuses.is_one_of statuses.unsaid reply.now.status ≡ false }
     ensures only_writes { OnlyWrites D.Depot depot.old depot.new }
     ensures later_out { K.faults out.old ≤ K.faults out.new }
 {
@@ -126,7 +126,7 @@ pub fn send<R: Threads, D: Depot, K: Sink>(
 ) -> Status
     ensures ends { IsSent (writing D.Depot depot.old depot.new) (printing K.Sink out.old out.new result.0)
         (reply_fields answer.entry) }
-    ensures own { IsTrue (statuses.is_one_of statuses.of_replies (reply_fields answer.entry).status) }
+    ensures own { statuses.is_one_of statuses.unsaid (reply_fields answer.entry).status ≡ false }
     ensures quiet { (reply_fields answer.entry).outputs ≡ [] → D.write_faults depot.new ≡ D.write_faults depot.old }
     ensures only_writes { OnlyWrites D.Depot depot.old depot.new }
     ensures later_out { K.faults out.old ≤ K.faults out.new }

@@ -1,14 +1,13 @@
 //! The commands that ask: what each answers, from what its file holds.
 
-ghost use Rattle.std.specs.Prelude.{◌≡◌, IfOk, OnErr, IsErr};
+ghost use Rattle.std.specs.Prelude.{◌≡◌, [], IfOk, OnErr, IsErr};
 ghost use Rattle.outside_core.specs.Effects.{OnlyReads};
 ghost use Rattle.word_core.specs.declared.command.Command.{Command};
 ghost use Rattle.clubcard_top.specs.Answering.{reply_fields, scan_reply as reply_of_scan};
-ghost use Rattle.clubcard_top.specs.Replies.{refusal, IsReply};
+ghost use Rattle.clubcard_top.specs.Replies.{refusal, with_files, IsReply};
 ghost use Rattle.outside_core.specs.Reads.{WhichFailed};
 
 use crate::answer::Answer;
-use crate::reply::Reply;
 use ident_core::Identity;
 use input_core::{
     Certificate, FileFault, ScanFault, certificate_in, issuer_in, part_in, scan_file, store_in,
@@ -17,6 +16,7 @@ use line_core::checked;
 use octets_core::NoMemory;
 use outside_core::Depot;
 use part_codec::PartNote;
+use reply_core::Reply;
 use std::alloc::Global;
 use word_core::{FileName, Query, QueryCert};
 
@@ -78,7 +78,7 @@ pub fn answer_query_cert<'a, D: Depot>(
 
 /// The reply about the file of this name, which was scanned.
 fn scan_reply(name: &str, scan: Result<PartNote, ScanFault>) -> Reply<'_>
-    ensures { result ≡ reply_of_scan name.now scan }
+    ensures { with_files [] result ≡ reply_of_scan name.now scan }
 {
     match scan {
         Ok(note) => Reply::done(checked(&note)),

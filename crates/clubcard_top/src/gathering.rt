@@ -18,13 +18,13 @@ use crate::answer::Answer;
 use crate::commands::refused;
 use crate::output::Output;
 use crate::rehearsing::BadFile;
-use crate::reply::Reply;
 use gather_core::{MAX_PAGE, OpenJob, PageEntry, PageFault, read_page};
 use input_core::{FileFault, read_up_to};
 use job_core::{Limits, What};
 use line_core::gathered as gathered_line;
 use octets_core::{Key32, NoMemory};
 use outside_core::Depot;
+use reply_core::Reply;
 use std::alloc::Global;
 use word_core::Gather;
 

@@ -13,7 +13,6 @@ mod pieces;
 mod publishing;
 mod rebasing;
 mod rehearsing;
-mod reply;
 mod sampling;
 mod storing;
 mod top;

@@ -7,9 +7,9 @@ ghost use Rattle.clubcard_top.specs.Replies.{done};
 
 use crate::answer::Answer;
 use crate::output::SampleOutput;
-use crate::reply::Reply;
 use line_core::sampled;
 use octets_core::NoMemory;
+use reply_core::Reply;
 use sample_core::SampleJob;
 use std::alloc::Global;
 use word_core::Sample;

@@ -26,8 +26,9 @@ use Rattle.input_core.specs.Inputs.{IsHeld, IsRead, IsInput}
 use Rattle.word_core.specs.declared.device.DeviceCommand.TheVariants as commands
 use Rattle.word_core.specs.CommandFields.{QueryFields}
 use Rattle.word_core.specs.DeviceFields.{FormatFields, InstallPartFields}
-use Rattle.device_top.specs.Said.{Said}
-use Rattle.device_top.specs.Replies.{done, refusal, slot_refusal, bad_device, verdict_line}
+use Rattle.reply_core.specs.Said.{Said}
+use Rattle.reply_core.specs.Replies.{done, refusal, slot_refusal, bad_device}
+use Rattle.line_core.specs.Lines.{verdict_line}
 use Rattle.device_top.specs.Outcomes.{Outcome, Deed, Keeps, Formats, Replaces, keeps, formats, replaced, added, install_outcome, query_outcome}
 use Rattle.device_top.specs.Comes.{OfDevice, Queried, Comes}
 use Rattle.device_top.specs.Holding.{Leaves, Answers, HeldStore, NotHeld, IsWant, held_refusal}

@@ -12,8 +12,8 @@ use Rattle.input_core.specs.declared.fault.FileFault.TheVariants as faults
 use Rattle.input_core.specs.Inputs.{IsRead}
 use Rattle.word_core.specs.declared.device.DeviceCommand.{DeviceCommand}
 use Rattle.word_core.specs.declared.device.DeviceCommand.TheVariants as commands
-use Rattle.device_top.specs.Said.{Said}
-use Rattle.device_top.specs.Replies.{bad_device, disk_fault, refusal, too_long, usage}
+use Rattle.reply_core.specs.Said.{Said}
+use Rattle.reply_core.specs.Replies.{bad_device, disk_fault, refusal, too_long, usage}
 use Rattle.device_top.specs.Outcomes.{Outcome, Deed, Keeps, keeps}
 use Rattle.device_top.specs.Comes.{Comes}
 use Rattle.device_top.specs.Holding.{Answers, Leaves}

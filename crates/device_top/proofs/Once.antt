@@ -13,7 +13,7 @@ use Rattle.input_core.specs.Inputs.{IsRead}
 use Rattle.input_core.specs.Readings.{input_as, part_in}
 use Rattle.word_core.specs.declared.device.DeviceCommand.{DeviceCommand}
 use Rattle.word_core.specs.declared.device.DeviceCommand.TheVariants as commands
-use Rattle.device_top.specs.Replies.{refusal, bad_device}
+use Rattle.reply_core.specs.Replies.{refusal, bad_device}
 use Rattle.device_top.specs.Outcomes.{Outcome, keeps, format_outcome, install_outcome, query_outcome}
 use Rattle.device_top.specs.Comes.{Comes, OfDevice, OfFile, OfSlot}
 use Rattle.device_top.specs.Calls.{none_failed}

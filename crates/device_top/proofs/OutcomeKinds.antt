@@ -24,7 +24,7 @@ use Rattle.input_core.specs.Readings.{faulted, input_as, part_in, store_in}
 use Rattle.word_core.specs.DeviceFields.{FormatFields, InstallPartFields}
 use Rattle.word_core.specs.declared.device.DeviceCommand.{DeviceCommand}
 use Rattle.word_core.specs.declared.device.DeviceCommand.TheVariants as commands
-use Rattle.device_top.specs.Replies.{usage, refusal, bad_device, too_long}
+use Rattle.reply_core.specs.Replies.{usage, refusal, bad_device, too_long}
 use Rattle.device_top.specs.Outcomes.{Outcome, Deed, keeps, stored, formats, format_outcome, added, install_outcome, query_outcome}
 use Rattle.device_top.specs.Comes.{Comes, OfFile, OfSlot, OfDevice}
 use Rattle.device_top.specs.Calls.{file_of}

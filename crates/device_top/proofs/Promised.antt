@@ -26,8 +26,9 @@ use Rattle.word_core.specs.CommandFields.{QueryFields}
 use Rattle.word_core.specs.DeviceFields.{FormatFields, InstallPartFields}
 use Rattle.word_core.specs.declared.device.DeviceCommand.{DeviceCommand}
 use Rattle.word_core.specs.declared.device.DeviceCommand.TheVariants as commands
-use Rattle.device_top.specs.Said.{Said}
-use Rattle.device_top.specs.Replies.{bad_device, disk_fault, refusal, too_long, verdict_line}
+use Rattle.reply_core.specs.Said.{Said}
+use Rattle.reply_core.specs.Replies.{bad_device, disk_fault, refusal, too_long}
+use Rattle.line_core.specs.Lines.{verdict_line}
 use Rattle.device_top.specs.Outcomes.{Outcome, Formats, Replaces, keeps, stored, formats, format_outcome, added, install_outcome, query_outcome}
 use Rattle.device_top.specs.Comes.{Comes, Queried}
 use Rattle.device_top.specs.Holding.{Leaves}

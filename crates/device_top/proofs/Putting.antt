@@ -13,8 +13,8 @@ use Rattle.slot_core.specs.Fields.{Shows}
 use Rattle.slot_core.specs.View.{SlotsView}
 use Rattle.slot_core.specs.Attached.{IsSlotsOf}
 use Rattle.slot_core.specs.Refusals.{RefusesBytes}
-use Rattle.device_top.specs.Said.{Said}
-use Rattle.device_top.specs.Replies.{slot_refusal, too_long}
+use Rattle.reply_core.specs.Said.{Said}
+use Rattle.reply_core.specs.Replies.{slot_refusal, too_long}
 use Rattle.device_top.specs.Outcomes.{Deed, Formats, Replaces, keeps, stored, given_to, replaced}
 use Rattle.device_top.specs.Holding.{Leaves, Answers}
 use Rattle.device_top.proofs.Answering.{same_some}

@@ -12,8 +12,8 @@ use Rattle.line_core.specs.Statuses as status
 use Rattle.word_core.specs.Devices.{device_command_of}
 use Rattle.word_core.specs.declared.device.DeviceCommand.{DeviceCommand}
 use Rattle.word_core.specs.declared.device.DeviceCommand.TheVariants as commands
-use Rattle.device_top.specs.Said.{Said}
-use Rattle.device_top.specs.Replies.{refusal}
+use Rattle.reply_core.specs.Said.{Said}
+use Rattle.reply_core.specs.Replies.{refusal}
 use Rattle.device_top.specs.Comes.{Comes}
 use Rattle.device_top.specs.Outcomes.{Outcome}
 use Rattle.device_top.specs.Holding.{Answers, Leaves}

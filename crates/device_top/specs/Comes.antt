@@ -12,7 +12,7 @@ use Rattle.input_core.specs.declared.fault.FileFault.{FileFault}
 use Rattle.input_core.specs.Readings.{input_as, part_in, store_in}
 use Rattle.input_core.specs.Inputs.{IsRead}
 use Rattle.device_top.specs.Outcomes.{Outcome, keeps, format_outcome, install_outcome, query_outcome}
-use Rattle.device_top.specs.Replies.{usage, refusal, bad_device}
+use Rattle.reply_core.specs.Replies.{usage, refusal, bad_device}
 
 -- the bytes of a slot are no store, or the command goes on with its parts
 abbrev pub OfSlot : List ℕ → List ℕ → (List SealedFields → Outcome → Type 0) → Outcome → Type 0

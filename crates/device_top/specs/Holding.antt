@@ -11,8 +11,8 @@ use Rattle.slot_core.specs.Refusals.{RefusesDevice}
 use Rattle.slot_core.specs.declared.fault.SlotFault.TheVariants as slots
 use Rattle.input_core.specs.Readings.{store_in}
 use Rattle.input_core.specs.declared.fault.FileFault.TheVariants as faults
-use Rattle.device_top.specs.Said.{Said}
-use Rattle.device_top.specs.Replies.{disk_fault, refusal, slot_refusal}
+use Rattle.reply_core.specs.Said.{Said}
+use Rattle.reply_core.specs.Replies.{disk_fault, refusal, slot_refusal}
 use Rattle.device_top.specs.Outcomes.{Deed, Keeps, Formats, Replaces, Outcome}
 use Rattle.device_top.specs.declared.held.HeldFault.{HeldFault}
 use Rattle.device_top.specs.declared.held.HeldFault.TheVariants as held

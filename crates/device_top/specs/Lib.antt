@@ -1,5 +1,3 @@
-pub mod Said
-pub mod Replies
 pub mod Outcomes
 pub mod Appended
 pub mod Comes

@@ -5,14 +5,14 @@ use Rattle.store_core.specs.declared.chain.Refusal.{Refusal}
 use Rattle.store_core.specs.Chain.{newest_of, refusal_of}
 use Rattle.store_core.specs.StoreLayout.{store_text}
 use Rattle.card_core.specs.Verdict.{verdict}
-use Rattle.line_core.specs.Lines.{store_line}
+use Rattle.line_core.specs.Lines.{store_line, verdict_line}
 use Rattle.input_core.specs.declared.fault.FileFault.{FileFault}
 use Rattle.input_core.specs.declared.fault.FileFault.TheVariants as faults
 use Rattle.input_core.specs.Readings.{store_in}
 use Rattle.word_core.specs.CommandFields.{QueryFields}
 use Rattle.word_core.specs.DeviceFields.{FormatFields, InstallPartFields}
-use Rattle.device_top.specs.Said.{Said}
-use Rattle.device_top.specs.Replies.{done, refusal, too_long, verdict_line}
+use Rattle.reply_core.specs.Said.{Said}
+use Rattle.reply_core.specs.Replies.{done, refusal, too_long}
 
 -- What is done to a device: nothing; it is made with this capacity, to hold these bytes; or these bytes are put in the
 -- place of those that its picked slot held.

@@ -19,8 +19,9 @@ use Rattle.word_core.specs.CommandFields.{QueryFields}
 use Rattle.word_core.specs.DeviceFields.{FormatFields, InstallPartFields}
 use Rattle.word_core.specs.declared.device.DeviceCommand.{DeviceCommand}
 use Rattle.word_core.specs.declared.device.DeviceCommand.TheVariants as commands
-use Rattle.device_top.specs.Said.{Said}
-use Rattle.device_top.specs.Replies.{disk_fault, refusal, usage, verdict_line}
+use Rattle.reply_core.specs.Said.{Said}
+use Rattle.reply_core.specs.Replies.{disk_fault, refusal, usage}
+use Rattle.line_core.specs.Lines.{verdict_line}
 use Rattle.device_top.specs.Outcomes.{Outcome, keeps, stored}
 use Rattle.device_top.specs.Appended.{Grows, new_parts, new_text}
 use Rattle.device_top.specs.Holding.{Answers, Rests}

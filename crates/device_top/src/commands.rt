@@ -19,12 +19,12 @@ ghost use Rattle.device_top.specs.Crashes.{Survives};
 ghost use Rattle.device_top.specs.Calls.{SaysWhich};
 
 use crate::held::{Held, HeldFault, held_in, store_of};
-use crate::reply::Reply;
 use input_core::{FileFault, part_in, read_up_to};
 use line_core::stored as stored_line;
 use octets_core::NoMemory;
 use outside_core::Depot;
 use part_codec::Sealed;
+use reply_core::Reply;
 use slot_core::{Disk, Slots, format};
 use std::alloc::Global;
 use store_core::{Store, encode_store};

@@ -4,7 +4,6 @@
 
 mod commands;
 mod held;
-mod reply;
 mod top;
 
 pub use line_core::Status;

@@ -10,16 +10,16 @@ ghost use Rattle.word_core.specs.Devices.{device_command_of};
 ghost use Rattle.word_core.specs.declared.device.DeviceCommand.TheVariants as commands;
 ghost use Rattle.device_top.specs.Comes.{Comes};
 ghost use Rattle.device_top.specs.Holding.{Answers};
-ghost use Rattle.device_top.specs.Calls.{Ends, SaysWhich, call, call_of, device_of, file_of};
+ghost use Rattle.device_top.specs.Calls.{Ends, IsPrinted, SaysWhich, call, call_of, device_of, file_of, printing};
 ghost use Rattle.device_top.specs.Crashes.{Survives};
 ghost use Rattle.device_top.specs.Promises.{Crashes, Ending, Promises, Refusals};
 
 use crate::commands::{answer_format, answer_install, answer_query};
-use crate::reply::Reply;
 use line_core::Status;
 use octets_core::NoMemory;
-use outside_core::{Depot, Sink};
+use outside_core::{Depot, Failed, Sink};
 use publication_core::{parts_are_chains, verdicts_are_the_truth};
+use reply_core::Reply;
 use slot_core::Disk;
 use std::alloc::Global;
 use std::thread::Threads;
@@ -54,6 +54,17 @@ fn answer_for<'a, D: Disk, P: Depot>(
     }
 }
 
+/// Prints the line, behind which the call ends with the status.
+fn send<K: Sink>(reply: &Reply<'_>, out: &mut K) -> Status
+    ensures sent { IsPrinted (printing K.Sink out.old out.new result.0) reply.now }
+    ensures later { K.faults out.old ≤ K.faults out.new }
+{
+    match reply.message().write(out) {
+        Ok(()) => reply.status(),
+        Err(Failed) => Status::WRITE_FAULT,
+    }
+}
+
 /// Runs a command, and prints what it says.
 fn run_command<D: Disk, P: Depot, K: Sink>(
     alloc: Global,
@@ -73,7 +84,7 @@ fn run_command<D: Disk, P: Depot, K: Sink>(
     ensures only_reads { OnlyReads P.Depot depot.old depot.new }
 {
     match answer_for(alloc, command, disk, depot) {
-        Ok(reply) => reply.send(out),
+        Ok(reply) => send(&reply, out),
         Err(NoMemory) => Status::NO_MEMORY,
     }
 }

@@ -181,6 +181,10 @@ verdict_word verdicts.NotEnrolled = codes "not-enrolled"
 verdict_word verdicts.Good = codes "good"
 verdict_word verdicts.Revoked = codes "revoked"
 
+-- the line of a verdict
+abbrev pub verdict_line : Verdict → List ℕ
+verdict_line verdict = line (verdict_word verdict)
+
 -- audit jobs J entries N agree
 abbrev pub audit_line : (jobs entries : ℕ) → List ℕ
 audit_line jobs entries = codes "audit jobs " ++ decimal jobs ++ codes " entries " ++ decimal entries ++ codes " agree" ++ 10 ∷ []

@@ -5,7 +5,7 @@ ghost use Rattle.hex.specs.Hex.{encode_lower};
 ghost use Rattle.part_text.specs.PartText.{width_of};
 ghost use Rattle.line_core.specs.Lines.{stage_words, approx_words, mixed_words, leaf_words, body_words, note_line, report_line};
 ghost use Rattle.line_core.specs.Lines.{store_line, rebase_line, rebase_without_line, sample_line, gather_line};
-ghost use Rattle.line_core.specs.Lines.{audit_line, disagreement_line};
+ghost use Rattle.line_core.specs.Lines.{audit_line, disagreement_line, verdict_line};
 ghost use Rattle.line_core.specs.Lines.{head_line, range_line, block_line, shard_line, trailer_line};
 ghost use Rattle.line_core.specs.Lines.{seeds_line};
 
@@ -272,6 +272,16 @@ pub fn audited(jobs: usize, entries: u32) -> Line
     line.push_count(b"audit jobs ", jobs as u64);
     line.push_count(b" entries ", entries as u64);
     line.push(b" agree\n");
+    line
+}
+
+/// The line of a verdict.
+pub fn verdict_line(verdict: Verdict) -> Line
+    ensures { result ≡ verdict_line verdict }
+{
+    let mut line = Line::new();
+    line.push(verdict_text(verdict));
+    line.push(b"\n");
     line
 }
 

@@ -1,4 +1,4 @@
-use Rattle.std.proofs.Common.{ℕ, List, Err, map, length, sym, ap, subst, ◌∙◌}
+use Rattle.std.proofs.Common.{ℕ, List, [], Err, map, length, sym, ap, subst, ◌∙◌}
 use Rattle.std.proofs.lemmas.List.{length-map}
 use Rattle.part_text.specs.SealedFields.{SealedFields}
 use Rattle.job_core.specs.JobFields.{fields_of_job}
@@ -6,7 +6,7 @@ use Rattle.audit_core.specs.Auditing.{IsFound}
 use Rattle.line_core.specs.Lines.{audit_line}
 use Rattle.clubcard_top.specs.declared.answer.Answer.TheVariants as answers
 use Rattle.clubcard_top.specs.Outcomes.{only}
-use Rattle.clubcard_top.specs.Replies.{done}
+use Rattle.clubcard_top.specs.Replies.{done, with_files}
 use Rattle.clubcard_top.proofs.AuditCode.{auditable, accepted_by, names_one, bad_comes, found_comes, fault_comes}
 use Rattle.clubcard_top.proofs.auditing.audited.Goals as goal
 
@@ -29,7 +29,7 @@ pub returns-in-Ok : goal.returns-in-Ok
 returns-in-Ok c =
     found_comes c.args.asked.now c.args.store.now (map fields_of_job c.args.jobs.now) c.in-Ok.found (answers.Reply c.done.result) (sym (rw c.jobs.ensures.value at c.in_default.ensures))
     (rw c.parts.ensures.value at c.in-Ok.ensures.found)
-    (c.done.ensures ∙ ap (λ (l : List ℕ). done (only l))
+    (ap (with_files []) c.done.ensures ∙ ap (λ (l : List ℕ). done (only l))
     (c.audited-line.ensures ∙ ap (λ (n : ℕ). audit_line n c.in-Ok.found.entries) (sym (length-map c.args.jobs.now fields_of_job))))
 
 pub returns-in-Err : goal.returns-in-Err

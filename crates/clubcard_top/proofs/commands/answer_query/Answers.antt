@@ -1,13 +1,14 @@
-use Rattle.std.proofs.Common.{Ok}
+use Rattle.std.proofs.Common.{[], Ok, ap}
 use Rattle.clubcard_top.specs.declared.answer.Answer.TheVariants as answers
 use Rattle.outside_core.specs.Reads.{WhichFailed}
+use Rattle.clubcard_top.specs.Replies.{with_files}
 use Rattle.clubcard_top.proofs.Replying.{query_made, query_refused}
 use Rattle.clubcard_top.proofs.commands.answer_query.Goals as goal
 
 pub returns-in-Ok-clause-reply : goal.returns-in-Ok-clause-reply
 returns-in-Ok-clause-reply g c =
     query_made (g.D.Depot.files c.args.depot.now) (WhichFailed g.D.Depot c.args.depot.now _) (Ok (answers.Reply c.verdict.result)) c.args.query.now (λ s. s) c.in-Ok.store
-    (rw c.store.ensures at c.in-Ok.ensures.input) (rw (c.says-verdict.ensures, c.id.ensures, c.sightings.ensures) at c.verdict.ensures)
+    (rw c.store.ensures at c.in-Ok.ensures.input) (ap (with_files []) (rw (c.says-verdict.ensures, c.id.ensures, c.sightings.ensures) at c.verdict.ensures))
 
 pub returns-in-Err-clause-reply : goal.returns-in-Err-clause-reply
 returns-in-Err-clause-reply g c =

@@ -1,8 +1,9 @@
-use Rattle.std.proofs.Common.{Ok, Err}
+use Rattle.std.proofs.Common.{[], Ok, Err, ap}
 use Rattle.clubcard_top.specs.declared.answer.Answer.TheVariants as answers
 use Rattle.input_core.specs.Readings.{store_in}
 use Rattle.input_core.specs.Certificates.{certificate_in, issuer_in}
 use Rattle.outside_core.specs.Reads.{WhichFailed}
+use Rattle.clubcard_top.specs.Replies.{with_files}
 use Rattle.clubcard_top.proofs.QueryCerts.{both_only, well_before, none_before, input_behind, no_store, no_cert, no_issuer, query_cert_made}
 use Rattle.clubcard_top.proofs.commands.answer_query_cert.Goals as goal
 
@@ -34,7 +35,7 @@ returns-in-Ok-issuer_in-clause-reply g c =
     (well_before g.D.Depot c.args.depot.now _ _ c.args.query.now.cert certificate_in (λ x. x) c.in-Ok-certificate_in.cert cert) (λ x. x) c.in-Ok-issuer_in.issuer
     (input_behind g.D.Depot c.args.depot.now _ _ c.args.query.now.issuer_cert issuer_in (λ x. x) (Ok c.in-Ok-issuer_in.issuer) reads_ none_yet
     (rw c.issuer_cert.ensures at c.in-Ok-issuer_in.ensures.input))
-    (rw (c.says-verdict.ensures, c.sightings.ensures.value) at c.verdict.ensures)
+    (ap (with_files []) (rw (c.says-verdict.ensures, c.sightings.ensures.value) at c.verdict.ensures))
 
 pub returns-clause-reply : goal.returns-clause-reply
 returns-clause-reply g c =

@@ -17,7 +17,7 @@ returns-in-Ok-clause-answers g c =
 pub returns-in-Err-clause-some : goal.returns-in-Err-clause-some
 returns-in-Err-clause-some g c =
     not_wanting _ _ (g.D.Disk.state c.args.disk.now) (g.D.Disk.state c.format.new.disk) c.in-Err.fault c.slot_refusal.result c.in-Err.ensures.refusal
-    c.slot_refusal.ensures.err
+    c.slot_refusal.ensures.no_other
 
 pub returns-in-Err-clause-answers : goal.returns-in-Err-clause-answers
 returns-in-Err-clause-answers g c =

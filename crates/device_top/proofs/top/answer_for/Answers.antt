@@ -3,7 +3,7 @@ use Rattle.outside_core.specs.Reads.{WhichFailed}
 use Rattle.word_core.specs.DeviceFields.{InstallPartFields}
 use Rattle.word_core.specs.declared.device.DeviceCommand.TheVariants as commands
 use Rattle.device_top.specs.Outcomes.{keeps}
-use Rattle.device_top.specs.Replies.{usage}
+use Rattle.reply_core.specs.Replies.{usage}
 use Rattle.device_top.specs.Crashes.{Survives}
 use Rattle.device_top.proofs.Quiet.{uncalled}
 use Rattle.device_top.proofs.top.answer_for.Goals as goal

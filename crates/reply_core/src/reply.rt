@@ -1,22 +1,24 @@
-//! What the program answers: how it ends, and the line that it writes, which is made before anything is written. A
-//! file's name is lent beside the words, so that no memory is taken.
+//! What is said of a command: how the program ends, and the line, which is made before anything is written. A file's
+//! name is lent beside the words, so that no memory is taken.
 
-ghost use Rattle.std.specs.Prelude.{◌≡◌, ◌≤◌, [], length, IfOk, OnErr, IsErr, IsTrue};
-ghost use Rattle.clubcard_top.specs.Statuses as statuses;
-ghost use Rattle.line_core.specs.Lines.{line as line_of_words, verdict_word};
-ghost use Rattle.clubcard_top.specs.Commands.{only};
-ghost use Rattle.clubcard_top.specs.Replies.{chain_text, done, read_fault, refusal, says, usage};
+ghost use Rattle.std.specs.Prelude.{◌≡◌, ◌≤◌, length, false, IfOk, OnErr, IsErr};
+ghost use Rattle.slot_core.specs.declared.fault.SlotFault.TheVariants as slots;
+ghost use Rattle.line_core.specs.Lines.{verdict_line};
+ghost use Rattle.reply_core.specs.Said.{is_one_of, unsaid};
+ghost use Rattle.reply_core.specs.Replies.{chain_text, done, read_fault, refusal, says, slot_refusal, usage};
 
 use input_core::FileFault;
 use line_core::{
-    Line, Message, Status, about_file, cert_line, coverage_line, crl_line, disagreement_line,
-    epoch_line, layout_line, limit_line, line_of, page_line, parent_line, seeds_line,
+    Line, Message, Status, about_file, cert_line, coverage_line, crl_line, device_line,
+    disagreement_line, epoch_line, full_line, layout_line, limit_line, line_of, page_line,
+    parent_line, seeds_line, verdict_line,
 };
 use octets_core::{LayoutFault, NoMemory};
+use slot_core::SlotFault;
 use std::marker::Model;
 use store_core::{Refusal, Verdict};
 
-/// How the program ends unless a write fails, and what it writes to its sink.
+/// How the program ends unless a write fails, and the line that it writes to its sink.
 #[derive(Drop)]
 pub struct Reply<'a> {
     status: Status,
@@ -24,27 +26,14 @@ pub struct Reply<'a> {
 }
 
 impl<'a> Model for Reply<'a> {
-    ghost use Rattle.std.specs.Prelude.{IsTrue, []};
-    ghost use Rattle.clubcard_top.specs.ReplyFields.{ReplyFields};
-    ghost use Rattle.clubcard_top.specs.Statuses as statuses;
+    ghost use Rattle.std.specs.Prelude.{◌≡◌, false};
+    ghost use Rattle.reply_core.specs.Said.{Said, is_one_of, unsaid};
 
-    ghost Value = { ReplyFields };
+    ghost Value = { Said };
 
-    ghost view = { λ r. record { status = r.status.0; text = r.message; outputs = [] } };
+    ghost view = { λ r. record { status = r.status.0; text = r.message } };
 
-    ghost invariant = { λ r. IsTrue (statuses.is_one_of statuses.of_replies r.status.0) };
-}
-
-/// The line of a verdict.
-pub fn verdict_line(verdict: Verdict) -> Line
-    ensures { result ≡ line_of_words (verdict_word verdict) }
-{
-    match verdict {
-        Verdict::NotCovered => line_of("not-covered"),
-        Verdict::NotEnrolled => line_of("not-enrolled"),
-        Verdict::Good => line_of("good"),
-        Verdict::Revoked => line_of("revoked"),
-    }
+    ghost invariant = { λ r. is_one_of unsaid r.status.0 ≡ false };
 }
 
 /// The line about a file whose part, or job, a chain doesn't take.
@@ -63,7 +52,7 @@ fn chain_line(name: &str, why: Refusal) -> Message<'_>
 impl<'a> Reply<'a> {
     /// The reply of a line.
     fn of(status: Status, message: Message<'a>) -> Reply<'a>
-        requires { IsTrue (statuses.is_one_of statuses.of_replies status.0) }
+        requires { is_one_of unsaid status.0 ≡ false }
         ensures { result ≡ says status.0 message.entry }
     {
         Reply { status, message }
@@ -71,7 +60,7 @@ impl<'a> Reply<'a> {
 
     /// The reply of a line about no file.
     fn alone(status: Status, line: Line) -> Reply<'a>
-        requires { IsTrue (statuses.is_one_of statuses.of_replies status.0) }
+        requires { is_one_of unsaid status.0 ≡ false }
         ensures { result ≡ says status.0 line }
     {
         Reply::of(status, Message::alone(line))
@@ -86,14 +75,14 @@ impl<'a> Reply<'a> {
 
     /// The reply of a command that was done: this line.
     pub fn done(line: Line) -> Reply<'a>
-        ensures { result ≡ done (only line) }
+        ensures { result ≡ done line }
     {
         Reply::alone(Status::DONE, line)
     }
 
     /// The reply of a command that was done: the line of a verdict.
     pub fn verdict(verdict: Verdict) -> Reply<'a>
-        ensures { result ≡ done (only (line_of_words (verdict_word verdict))) }
+        ensures { result ≡ done (verdict_line verdict) }
     {
         Reply::done(verdict_line(verdict))
     }
@@ -112,7 +101,8 @@ impl<'a> Reply<'a> {
         Reply::of(Status::BAD_LAYOUT, layout_line(fault, name))
     }
 
-    /// The reply about what is wrong with the file of this name. No memory is taken: want of it is handed on.
+    /// The reply about what is wrong with the file of this name, or with the store in the device of this name. No
+    /// memory is taken: want of it is handed on.
     pub fn refusal(name: &'a str, fault: FileFault) -> Result<Reply<'a>, NoMemory>
         ensures ok { IfOk result (λ r. r ≡ refusal name.now fault) }
         ensures memory { fault ≡ FileFault.NoMemory → IsErr result }
@@ -150,11 +140,31 @@ impl<'a> Reply<'a> {
         }
     }
 
+    /// The reply about what is wrong with the device of this name.
+    pub fn slot_refusal(name: &'a str, fault: SlotFault) -> Result<Reply<'a>, NoMemory>
+        ensures ok { IfOk result (λ r. r ≡ slot_refusal name.now fault) }
+        ensures memory { fault ≡ slots.NoMemory → IsErr result }
+        ensures no_other { OnErr result (fault ≡ slots.NoMemory) }
+    {
+        match fault {
+            SlotFault::BadDevice { at } => {
+                Ok(Reply::of(Status::BAD_DEVICE, device_line(at, name)))
+            }
+            SlotFault::TooLong { capacity } => {
+                Ok(Reply::of(Status::TOO_LONG, full_line(capacity, name)))
+            }
+            SlotFault::DiskFault => Ok(Reply::of(
+                Status::DISK_FAULT,
+                about_file("disk-fault", name),
+            )),
+            SlotFault::NoMemory => Err(NoMemory),
+        }
+    }
+
     /// How the program ends.
     pub fn status(&self) -> Status
         ensures value { result.0 ≡ self.now.status }
-        ensures own { IsTrue (statuses.is_one_of statuses.of_replies self.now.status) }
-        ensures no_outputs { self.now.outputs ≡ [] }
+        ensures own { is_one_of unsaid self.now.status ≡ false }
     {
         self.status
     }

@@ -1,18 +1,17 @@
--- What is said of a file, of a device and of a store that it holds (docs/FORMATS.md, "Lines and statuses").
+-- What is said of a command that was done, of a file, of a device and of a store that it holds (docs/FORMATS.md, "Lines
+-- and statuses").
 use Rattle.std.specs.Prelude.{ℕ, List, [], codes}
+use Rattle.store_core.specs.declared.chain.Refusal.{Refusal}
+use Rattle.store_core.specs.declared.chain.Refusal.TheVariants as refusals
+use Rattle.slot_core.specs.declared.fault.SlotFault.{SlotFault}
+use Rattle.slot_core.specs.declared.fault.SlotFault.TheVariants as slots
+use Rattle.input_core.specs.declared.fault.FileFault.{FileFault}
+use Rattle.input_core.specs.declared.fault.FileFault.TheVariants as faults
 use Rattle.line_core.specs.Lines.{line, line_about, layout_line, crl_line, limit_line}
 use Rattle.line_core.specs.Lines.{parent_line, epoch_line, coverage_line, seeds_line, cert_line, page_line, disagreement_line}
 use Rattle.line_core.specs.Devices.{device_line, full_line}
 use Rattle.line_core.specs.Statuses as status
-use Rattle.store_core.specs.declared.chain.Refusal.{Refusal}
-use Rattle.store_core.specs.declared.chain.Refusal.TheVariants as refusals
-use Rattle.card_core.specs.declared.verdict.Verdict.{Verdict}
-use Rattle.card_core.specs.declared.verdict.Verdict.TheVariants as verdicts
-use Rattle.input_core.specs.declared.fault.FileFault.{FileFault}
-use Rattle.input_core.specs.declared.fault.FileFault.TheVariants as faults
-use Rattle.slot_core.specs.declared.fault.SlotFault.{SlotFault}
-use Rattle.slot_core.specs.declared.fault.SlotFault.TheVariants as slots
-use Rattle.device_top.specs.Said.{Said}
+use Rattle.reply_core.specs.Said.{Said}
 
 abbrev pub says : ℕ → List ℕ → Said
 says ended text = record { status = ended; text = text }
@@ -23,18 +22,19 @@ done text = says status.done text
 abbrev pub usage : Said
 usage = says status.usage (line (codes "usage"))
 
+-- a file can't be read
+abbrev pub read_fault : List ℕ → Said
+read_fault name = says status.read_fault (line_about (codes "read-fault") name)
+
+-- a file can't be written
+abbrev pub write_fault : List ℕ → Said
+write_fault name = says status.write_fault (line_about (codes "write-fault") name)
+
 -- nothing is written
 abbrev pub no_memory : Said
 no_memory = says status.no_memory []
 
--- the line of a verdict
-abbrev pub verdict_line : Verdict → List ℕ
-verdict_line verdicts.NotCovered = line (codes "not-covered")
-verdict_line verdicts.NotEnrolled = line (codes "not-enrolled")
-verdict_line verdicts.Good = line (codes "good")
-verdict_line verdicts.Revoked = line (codes "revoked")
-
--- a chain doesn't take the part of the file of this name
+-- a chain doesn't take the part, or the job, of the file of this name
 abbrev pub chain_text : List ℕ → Refusal → List ℕ
 chain_text name refusals.NotDelta = line_about (codes "chain not-delta") name
 chain_text name (refusals.WrongParent held given) = parent_line held given name
@@ -44,7 +44,7 @@ chain_text name refusals.Full = line_about (codes "chain full") name
 
 -- what is wrong with the file of this name, or with the store in the device of this name
 abbrev pub refusal : List ℕ → FileFault → Said
-refusal name faults.Unread = says status.read_fault (line_about (codes "read-fault") name)
+refusal name faults.Unread = read_fault name
 refusal name (faults.Layout f) = says status.bad_layout (layout_line f name)
 refusal name faults.NotSnapshot = says status.chain (line_about (codes "chain not-snapshot") name)
 refusal name (faults.Chain why) = says status.chain (chain_text name why)
