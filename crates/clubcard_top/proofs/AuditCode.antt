@@ -18,7 +18,7 @@ use Rattle.audit_core.specs.declared.auditing.Audited.{Audited}
 use Rattle.audit_core.specs.declared.fault.AuditFault.{AuditFault}
 use Rattle.audit_core.specs.declared.fault.AuditFault.TheVariants as audits
 use Rattle.audit_core.specs.Auditing.{IsAuditable, IsFound}
-use Rattle.word_core.specs.CommandFields.{AuditFields}
+use Rattle.word_core.specs.declared.command.Audit.{Audit}
 use Rattle.clubcard_top.specs.declared.answer.Answer.{Answer}
 use Rattle.input_core.specs.declared.fault.FileFault.{FileFault}
 use Rattle.input_core.specs.declared.fault.FileFault.TheVariants as faults
@@ -120,16 +120,16 @@ names_one parts jobs n audits.NoMemory many is = tt
 -- ---- the answer
 
 -- what comes of a store and of jobs that were read
-abbrev pub Comes : AuditFields → List SealedFields → List JobFields → Answer → Type 0
+abbrev pub Comes : Audit → List SealedFields → List JobFields → Answer → Type 0
 Comes a parts jobs x = (o : Result Done NamedFault) × MakesAudit a (Ok parts) (unless (bad_crl a.jobs jobs) jobs) o × (reply_fields x ≡ reply_of o)
 
-pub bad_comes : (a : AuditFields) (parts : List SealedFields) (jobs : List JobFields) (e : NamedFault) (r : Result Answer NoMemory) → Some e ≡ bad_crl a.jobs jobs
+pub bad_comes : (a : Audit) (parts : List SealedFields) (jobs : List JobFields) (e : NamedFault) (r : Result Answer NoMemory) → Some e ≡ bad_crl a.jobs jobs
     → IfOk r (λ x. reply_fields x ≡ refusal e.name e.fault) → IfOk r (λ x. Comes a parts jobs x)
 bad_comes a parts jobs e (Ok x) bad is =
     (Err e, subst (λ (o : Option NamedFault). MakesAudit a (Ok parts) (unless o jobs) (Err e)) bad refl, is)
 bad_comes a parts jobs e (Err none) bad is = tt
 
-pub found_comes : (a : AuditFields) (parts : List SealedFields) (jobs : List JobFields) (found : Audited) (x : Answer) → bad_crl a.jobs jobs ≡ None
+pub found_comes : (a : Audit) (parts : List SealedFields) (jobs : List JobFields) (found : Audited) (x : Answer) → bad_crl a.jobs jobs ≡ None
     → IsFound (map (λ (s : SealedFields). s.part) parts) jobs (Ok found) → reply_fields x ≡ done (audit_done jobs found) → Comes a parts jobs x
 found_comes a parts jobs found x none is said =
     let o : Result Done NamedFault = Ok (audit_done jobs found) in (
@@ -143,10 +143,10 @@ found_comes a parts jobs found x none is said =
       said,
     )
 
-settled_by : (a : AuditFields) (fault : AuditFault) (e : NamedFault) → e ≡ of_audit a fault → (e.fault ≡ faults.NoMemory → ⊥) → fault ≡ audits.NoMemory → ⊥
+settled_by : (a : Audit) (fault : AuditFault) (e : NamedFault) → e ≡ of_audit a fault → (e.fault ≡ faults.NoMemory → ⊥) → fault ≡ audits.NoMemory → ⊥
 settled_by a fault e is refute none = refute (ap (λ (k : NamedFault). k.fault) is ∙ ap (λ (f : AuditFault). (of_audit a f).fault) none)
 
-pub fault_comes : (a : AuditFields) (parts : List SealedFields) (jobs : List JobFields) (fault : AuditFault) (e : NamedFault) (r : Result Answer NoMemory) → bad_crl a.jobs jobs ≡ None
+pub fault_comes : (a : Audit) (parts : List SealedFields) (jobs : List JobFields) (fault : AuditFault) (e : NamedFault) (r : Result Answer NoMemory) → bad_crl a.jobs jobs ≡ None
     → IsFound (map (λ (s : SealedFields). s.part) parts) jobs (Err fault) → e ≡ of_audit a fault → (e.fault ≡ faults.NoMemory → IsErr r)
     → IfOk r (λ x. reply_fields x ≡ refusal e.name e.fault) → IfOk r (λ x. Comes a parts jobs x)
 fault_comes a parts jobs fault e (Ok x) none found is memory said =

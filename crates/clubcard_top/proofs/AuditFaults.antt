@@ -13,7 +13,7 @@ use Rattle.audit_core.specs.declared.auditing.Audited.{Audited}
 use Rattle.audit_core.specs.declared.fault.AuditFault.{AuditFault}
 use Rattle.audit_core.specs.declared.fault.AuditFault.TheVariants as audits
 use Rattle.audit_core.specs.Auditing.{entries_of}
-use Rattle.word_core.specs.CommandFields.{AuditFields}
+use Rattle.word_core.specs.declared.command.Audit.{Audit}
 use Rattle.input_core.specs.declared.fault.FileFault.{FileFault}
 use Rattle.input_core.specs.declared.fault.FileFault.TheVariants as faults
 use Rattle.input_core.specs.Readings.{job_in}
@@ -29,11 +29,11 @@ fault_same {A} {E} x y h = cc
 
 -- ---- an audit writes no file
 
-audited_names : (a : AuditFields) (jobs : List JobFields) (found : Result Audited AuditFault) (d : Done) → Ok d ≡ audited_as a jobs found → names_of d.outputs ≡ []
+audited_names : (a : Audit) (jobs : List JobFields) (found : Result Audited AuditFault) (d : Done) → Ok d ≡ audited_as a jobs found → names_of d.outputs ≡ []
 audited_names a jobs (Ok found) d h = ap (λ (e : Done). names_of e.outputs) (ok_same {E = NamedFault} d (audit_done jobs found) h)
 audited_names a jobs (Err fault) d h = absurd (not_err d (of_audit a fault) h)
 
-pub audit_names : (a : AuditFields) (store : Result (List SealedFields) NamedFault) (jobs : Result (List JobFields) NamedFault) (d : Done) → MakesAudit a store jobs (Ok d) → names_of d.outputs ≡ []
+pub audit_names : (a : Audit) (store : Result (List SealedFields) NamedFault) (jobs : Result (List JobFields) NamedFault) (d : Done) → MakesAudit a store jobs (Ok d) → names_of d.outputs ≡ []
 audit_names a (Ok parts) (Ok jobs) d m = audited_names a jobs m.result d m.is
 audit_names a (Ok parts) (Err e) d m = absurd (not_err d e m)
 audit_names a (Err e) jobs d m = absurd (not_err d e m)
@@ -105,13 +105,13 @@ jobs_stop names inputs e h u = stop_by names (jobs_behind [] names inputs) e h u
 
 -- ---- what is found
 
-found_read : (a : AuditFields) (fault : AuditFault) → fault ≢ audits.NoMemory → IsRead (of_audit a fault).fault
+found_read : (a : Audit) (fault : AuditFault) → fault ≢ audits.NoMemory → IsRead (of_audit a fault).fault
 found_read a (audits.OldEpoch job held given) settled = λ h. cc
 found_read a (audits.CoverageShrinks job log) settled = λ h. cc
 found_read a (audits.Disagrees job entry held listed) settled = λ h. cc
 found_read a audits.NoMemory settled = absurd (settled refl)
 
-audited_read : (a : AuditFields) (jobs : List JobFields) (found : Result Audited AuditFault) (e : NamedFault) → found ≢ Err audits.NoMemory → Err e ≡ audited_as a jobs found
+audited_read : (a : Audit) (jobs : List JobFields) (found : Result Audited AuditFault) (e : NamedFault) → found ≢ Err audits.NoMemory → Err e ≡ audited_as a jobs found
     → e.fault ≡ faults.Unread → ⊥
 audited_read a jobs (Ok found) e settled h u = not_ok (audit_done jobs found) e h
 audited_read a jobs (Err fault) e settled h u =
@@ -119,7 +119,7 @@ audited_read a jobs (Err fault) e settled h u =
     (ap (λ (k : NamedFault). k.fault) (sym (fault_same {A = Done} e (of_audit a fault) h)) ∙ u)
 
 -- an input that can't be read is the store, or one of the jobs
-pub store_or_jobs : (a : AuditFields) (store : Result (List SealedFields) NamedFault) (jobs : Result (List JobFields) NamedFault) (e : NamedFault) → MakesAudit a store jobs (Err e)
+pub store_or_jobs : (a : Audit) (store : Result (List SealedFields) NamedFault) (jobs : Result (List JobFields) NamedFault) (e : NamedFault) → MakesAudit a store jobs (Err e)
     → e.fault ≡ faults.Unread → (store ≡ Err e) ⊎ (jobs ≡ Err e)
 store_or_jobs a (Ok parts) (Ok jobs) e m u = absurd (audited_read a jobs m.result e m.settled m.is u)
 store_or_jobs a (Ok parts) (Err f) e m u = inr (ap (λ (k : NamedFault). Err k) (sym (fault_same {A = Done} e f m)))

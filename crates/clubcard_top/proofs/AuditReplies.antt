@@ -10,7 +10,7 @@ use Rattle.outside_core.specs.Files.{Files}
 use Rattle.part_text.specs.SealedFields.{SealedFields}
 use Rattle.job_core.specs.JobFields.{JobFields}
 use Rattle.word_core.specs.declared.command.Command.TheVariants as commands
-use Rattle.word_core.specs.CommandFields.{AuditFields}
+use Rattle.word_core.specs.declared.command.Audit.{Audit}
 use Rattle.clubcard_top.specs.declared.answer.Answer.{Answer}
 use Rattle.input_core.specs.declared.fault.FileFault.{FileFault}
 use Rattle.input_core.specs.declared.fault.FileFault.TheVariants as faults
@@ -110,7 +110,7 @@ module _ (told : Option Files) (names : List (List ℕ)) where
 -- ---- the reply
 
 -- the store is at fault
-pub audit_refused : {B : Type 0} (told : Option Files) (failed : Option (List ℕ) → Type 0) (r : Result Answer NoMemory) (a : AuditFields) (view : B → List SealedFields)
+pub audit_refused : {B : Type 0} (told : Option Files) (failed : Option (List ℕ) → Type 0) (r : Result Answer NoMemory) (a : Audit) (view : B → List SealedFields)
     (fault : FileFault) → IsInput told failed a.store store_in view (Err fault) → (fault ≡ faults.NoMemory → IsErr r)
     → IfOk r (λ x. reply_fields x ≡ refusal a.store fault) → IfOk r (λ x. IsReply (commands.Audit a) told failed (reply_fields x))
 audit_refused told failed r a view fault (g, read, gives, blamed) memory is =
@@ -120,7 +120,7 @@ audit_refused told failed r a view fault (g, read, gives, blamed) memory is =
     (blames_file failed (a.store ∷ a.jobs) a.store fault (inl refl) blamed)
     (λ refute. subst (λ (x : Result (List SealedFields) FileFault). MakesAudit a (named a.store x) (audit_jobs a.jobs rest.0) (Err e)) (sym (gives refute)) refl) memory is
 
-module _ {D : Type 0} (d : Ghosts D) (old mid new : D) (reads_ : OnlyReads d old mid) (a : AuditFields) (parts : List SealedFields) where
+module _ {D : Type 0} (d : Ghosts D) (old mid new : D) (reads_ : OnlyReads d old mid) (a : Audit) (parts : List SealedFields) where
   abbrev First : Option (List ℕ) → Type 0
   First = WhichFailed d old mid
 

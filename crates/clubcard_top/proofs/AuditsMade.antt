@@ -22,7 +22,7 @@ use Rattle.audit_core.specs.declared.auditing.Audited.{Audited}
 use Rattle.audit_core.specs.declared.fault.AuditFault.{AuditFault}
 use Rattle.audit_core.specs.declared.fault.AuditFault.TheVariants as audits
 use Rattle.audit_core.specs.Auditing.{releases_of, entries_of, AreAdmitted, AllAgree, IsFound}
-use Rattle.word_core.specs.CommandFields.{AuditFields}
+use Rattle.word_core.specs.declared.command.Audit.{Audit}
 use Rattle.input_core.specs.declared.fault.FileFault.{FileFault}
 use Rattle.input_core.specs.declared.fault.FileFault.TheVariants as faults
 use Rattle.input_core.specs.Readings.{job_in, input_as}
@@ -264,7 +264,7 @@ audit_jobs_back names inputs jobs are w accepted =
 -- ---- what a success is
 
 -- what an audit that was done found
-pub record IsDone (a : AuditFields) (r : Result (List SealedFields) NamedFault) (inputs : List (Option (List ℕ))) (d : Done) : Type 0 where
+pub record IsDone (a : Audit) (r : Result (List SealedFields) NamedFault) (inputs : List (Option (List ℕ))) (d : Done) : Type 0 where
   pub parts : List SealedFields
   pub jobs : List JobFields
   pub store : r ≡ Ok parts
@@ -272,14 +272,14 @@ pub record IsDone (a : AuditFields) (r : Result (List SealedFields) NamedFault) 
   pub audited : IsAudited parts jobs
   pub said : d ≡ audit_done jobs (record { entries = length (seen (releases_of jobs)) })
 
-found_done : (a : AuditFields) (parts : List SealedFields) (jobs : List JobFields) (result : Result Audited AuditFault) (d : Done)
+found_done : (a : Audit) (parts : List SealedFields) (jobs : List JobFields) (result : Result Audited AuditFault) (d : Done)
     → IsFound (map (λ (s : SealedFields). s.part) parts) jobs result → Ok d ≡ audited_as a jobs result
     → AreAdmitted jobs (length jobs) × AllAgree (map (λ (s : SealedFields). s.part) parts) jobs × (d ≡ audit_done jobs (record { entries = length (seen (releases_of jobs)) }))
 found_done a parts jobs (Ok found) d is h =
     (is.0, is.1, ok_same {E = NamedFault} d (audit_done jobs found) h ∙ ap (λ (n : ℕ). audit_done jobs (record { entries = n })) is.2)
 found_done a parts jobs (Err fault) d is h = absurd (not_err d (of_audit a fault) h)
 
-done_by : (a : AuditFields) (r : Result (List SealedFields) NamedFault) (inputs : List (Option (List ℕ))) (j : Result (List JobFields) NamedFault) (d : Done)
+done_by : (a : Audit) (r : Result (List SealedFields) NamedFault) (inputs : List (Option (List ℕ))) (j : Result (List JobFields) NamedFault) (d : Done)
     → length inputs ≡ length a.jobs → audit_jobs a.jobs inputs ≡ j → MakesAudit a r j (Ok d) → IsDone a r inputs d
 done_by a (Ok parts) inputs (Ok jobs) d same is m =
     let f = audit_jobs_are a.jobs inputs jobs same is in
@@ -295,12 +295,12 @@ done_by a (Ok parts) inputs (Ok jobs) d same is m =
 done_by a (Ok parts) inputs (Err e) d same is m = absurd (not_err d e m)
 done_by a (Err e) inputs j d same is m = absurd (not_err d e m)
 
-pub audit_done_is : (a : AuditFields) (r : Result (List SealedFields) NamedFault) (inputs : List (Option (List ℕ))) (d : Done) → length inputs ≡ length a.jobs
+pub audit_done_is : (a : Audit) (r : Result (List SealedFields) NamedFault) (inputs : List (Option (List ℕ))) (d : Done) → length inputs ≡ length a.jobs
     → MakesAudit a r (audit_jobs a.jobs inputs) (Ok d) → IsDone a r inputs d
 audit_done_is a r inputs d same m = done_by a r inputs (audit_jobs a.jobs inputs) d same refl m
 
 -- and back
-pub audit_makes : (a : AuditFields) (parts : List SealedFields) (jobs : List JobFields) → IsAudited parts jobs
+pub audit_makes : (a : Audit) (parts : List SealedFields) (jobs : List JobFields) → IsAudited parts jobs
     → MakesAudit a (Ok parts) (Ok jobs) (Ok (audit_done jobs (record { entries = length (seen (releases_of jobs)) })))
 audit_makes a parts jobs i = record {
   result = Ok (record { entries = length (seen (releases_of jobs)) });

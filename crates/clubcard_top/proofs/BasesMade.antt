@@ -26,7 +26,7 @@ use Rattle.publication_core.specs.declared.base_fault.BaseFault.{BaseFault}
 use Rattle.publication_core.specs.Histories.{History, members, IsHistory, releases_of, LeavesOut}
 use Rattle.publication_core.specs.Rebasing.{BasePublicationFields, PublishesBase, base_counts}
 use Rattle.word_core.specs.declared.command.Command.{Command}
-use Rattle.word_core.specs.CommandFields.{QueryFields, RebaseFields}
+use Rattle.word_core.specs.declared.command.{Query.Query, Rebase.Rebase}
 use Rattle.line_core.specs.Lines.{line}
 use Rattle.clubcard_top.specs.ReplyFields.{Done, NamedFault}
 use Rattle.clubcard_top.specs.Commands.{only, verdict_word, query_done, Makes}
@@ -57,13 +57,13 @@ pub record BaseLayers : Type 0 where
 
 module _ (layers : BaseLayers) where
   -- what is made of the ledger of a history
-  made : (asked : Command) (files : Files) (r : RebaseFields) (h : History) (parts : List SealedFields) (o : Result Done NamedFault) → IsHistory h parts
+  made : (asked : Command) (files : Files) (r : Rebase) (h : History) (parts : List SealedFields) (o : Result Done NamedFault) → IsHistory h parts
       → RebasesHistory asked files r h parts → Makes asked (held_by asked files) o → MakesBase r (ledger_of (releases_of h parts)) o
   made asked files r h parts o is p m =
       subst (λ (l : Result LedgerFields NamedFault). MakesRebase r l o) (ledger_input layers.ledgers files r.ledger h parts is p.1 p.2)
       (subst (λ (c : Command). Makes c (held_by c files) o) p.0 m)
 
-  rebased_by : (r : RebaseFields) (h : History) (parts : List SealedFields) (d : Done) → IsHistory h parts → 1 ≤ members h → (x : Result BasePublicationFields BaseFault)
+  rebased_by : (r : Rebase) (h : History) (parts : List SealedFields) (d : Done) → IsHistory h parts → 1 ≤ members h → (x : Result BasePublicationFields BaseFault)
       → PublishesBase (ledger_of (releases_of h parts)) r.moment r.without x → Ok d ≡ rebased_as r x → Rebased r h parts d
   rebased_by r h parts d is some (Ok p) publishes is_done =
       let same : d ≡ base_done r p = ok_same {E = NamedFault} d (base_done r p) is_done in
@@ -80,19 +80,19 @@ module _ (layers : BaseLayers) where
   rebased_by r h parts d is some (Err fault) publishes is_done =
       absurd (let g : ◌≡◌ {A = Result Done NamedFault} (Ok d) (rebased_as r (Err fault)) = is_done in cc)
 
-  pub rebased_law : (asked : Command) (files : Files) (r : RebaseFields) (h : History) (parts : List SealedFields) (d : Done) → IsHistory h parts
+  pub rebased_law : (asked : Command) (files : Files) (r : Rebase) (h : History) (parts : List SealedFields) (d : Done) → IsHistory h parts
       → RebasesHistory asked files r h parts → Makes asked (held_by asked files) (Ok d) → Rebased r h parts d
   rebased_law asked files r h parts d is p m =
       let x = made asked files r h parts (Ok d) is p m in
       rebased_by r h parts d is p.1 x.result x.publishes x.is
 
-  done_by : (r : RebaseFields) (before : LedgerFields) (o : Result Done NamedFault) (p : BasePublicationFields) → PublishesBase before r.moment r.without (Ok p) → (x : Result BasePublicationFields BaseFault)
+  done_by : (r : Rebase) (before : LedgerFields) (o : Result Done NamedFault) (p : BasePublicationFields) → PublishesBase before r.moment r.without (Ok p) → (x : Result BasePublicationFields BaseFault)
       → PublishesBase before r.moment r.without x → o ≡ rebased_as r x → (d : Done) × (o ≡ Ok d)
   done_by r before o p can (Ok q) publishes is = (base_done r q, is)
   done_by r before o p can (Err fault) publishes is =
       absurd (let g : ◌≡◌ {A = Result BasePublicationFields BaseFault} (Ok p) (Err fault) = layers.one before r.moment r.without (Ok p) (Err fault) can publishes in cc)
 
-  pub rebasable_law : (asked : Command) (files : Files) (r : RebaseFields) (h : History) (parts : List SealedFields) (o : Result Done NamedFault) → IsHistory h parts
+  pub rebasable_law : (asked : Command) (files : Files) (r : Rebase) (h : History) (parts : List SealedFields) (o : Result Done NamedFault) → IsHistory h parts
       → RebasesHistory asked files r h parts → IsRebasableWithout r.moment r.without h parts → Makes asked (held_by asked files) o → (d : Done) × (o ≡ Ok d)
   rebasable_law asked files r h parts o is p may m =
       let x = made asked files r h parts o is p m in
@@ -112,11 +112,11 @@ pub record Keeping : Type 0 where
   pub listing_left : (without : List (List ℕ)) (rs : List Release) (x : Identity) → has_key without x.issuer ≡ false → is_listed (releases_without without rs) x ≡ is_listed rs x
   pub left_kept : (moment : ℕ) (without : List (List ℕ)) (rs : List Release) (x : Identity) → has_key without x.issuer ≡ false
       → has (kept_by (is_lasting_by moment (releases_without without rs)) (releases_without without rs)) x ≡ has (kept_by (is_lasting_by moment rs) rs) x
-  pub asked : (command : Command) (files : Files) (q : QueryFields) (h : History) (parts : List SealedFields) (o : Result Done NamedFault)
+  pub asked : (command : Command) (files : Files) (q : Query) (h : History) (parts : List SealedFields) (o : Result Done NamedFault)
       → IsHistory h parts → AsksHistory command files q h parts → Makes command (held_by command files) o → o ≡ Ok (truth_done h parts q)
 
 module _ (keeping : Keeping) where
-  pub kept_law : (h : History) (parts : List SealedFields) (moment : ℕ) (without : List (List ℕ)) (s : SealedFields) (q : QueryFields) → IsKept moment (releases_of h parts) q.id
+  pub kept_law : (h : History) (parts : List SealedFields) (moment : ℕ) (without : List (List ℕ)) (s : SealedFields) (q : Query) → IsKept moment (releases_of h parts) q.id
       → has_key without q.id.issuer ≡ false → (sightings q.id (seen (releases_of (base_of h parts moment without) (s ∷ []))) ≡ sightings q.id (seen (releases_of h parts)))
       × (truth_line (base_of h parts moment without) (s ∷ []) q ≡ truth_line h parts q)
   kept_law h parts moment without s q kept other =
@@ -127,7 +127,7 @@ module _ (keeping : Keeping) where
         ap (λ (b : Bool). line (verdict_word (if b then Revoked else Good))) (keeping.listing_kept keeps rest s.trailer q.id stays ∙ keeping.listing_left without (releases_of h parts) q.id other),
       )
 
-  pub base_asked : (command : Command) (files : Files) (q : QueryFields) (h : History) (parts : List SealedFields) (moment : ℕ) (without : List (List ℕ)) (s : SealedFields)
+  pub base_asked : (command : Command) (files : Files) (q : Query) (h : History) (parts : List SealedFields) (moment : ℕ) (without : List (List ℕ)) (s : SealedFields)
       (o : Result Done NamedFault) → IsHistory (base_of h parts moment without) (s ∷ []) → AsksBase command files q h parts moment without s
       → Makes command (held_by command files) o → o ≡ Ok (truth_done h parts q)
   base_asked command files q h parts moment without s o is a m =
@@ -147,7 +147,7 @@ module _ (keeping : Keeping) where
 pub record Leaving : Type 0 where
   pub unenrolled : (h : History) (parts : List SealedFields) (x : Identity) (ss : List Sighting) → IsHistory h parts → LeavesOut h x.issuer
       → verdict (map (λ t. t.part) parts) x ss ≡ (if list_any (covers_some ss) (map (λ t. t.part) parts) then NotEnrolled else NotCovered)
-  pub told : (command : Command) (files : Files) (q : QueryFields) (h : History) (parts : List SealedFields) (o : Result Done NamedFault)
+  pub told : (command : Command) (files : Files) (q : Query) (h : History) (parts : List SealedFields) (o : Result Done NamedFault)
       → IsHistory h parts → AsksStore command files q h parts → Makes command (held_by command files) o → o ≡ Ok (query_done q parts)
 
 module _ (leaving : Leaving) where
@@ -157,7 +157,7 @@ module _ (leaving : Leaving) where
       any_at (covers_some ss) (map (λ (t : SealedFields). t.part) parts) t.part (Among-in_map (λ (t : SealedFields). t.part) parts t b)
       (any_at (covers t.part.head.ranges) ss s a c)
 
-  pub left_out_law : (command : Command) (files : Files) (q : QueryFields) (h : History) (parts : List SealedFields) (o : Result Done NamedFault)
+  pub left_out_law : (command : Command) (files : Files) (q : Query) (h : History) (parts : List SealedFields) (o : Result Done NamedFault)
       → IsHistory h parts → AsksLeftOut command files q h parts → Makes command (held_by command files) o → o ≡ Ok (only (line (verdict_word NotEnrolled)))
   left_out_law command files q h parts o is a m =
       let n = a.4 in

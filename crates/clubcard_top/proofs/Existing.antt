@@ -27,8 +27,9 @@ use Rattle.audit_core.specs.declared.auditing.Audited.{Audited}
 use Rattle.audit_core.specs.declared.fault.AuditFault.{AuditFault}
 use Rattle.audit_core.specs.declared.fault.AuditFault.TheVariants.{NoMemory}
 use Rattle.audit_core.specs.Auditing.{IsAuditable, entries_of, IsFound}
-use Rattle.word_core.specs.CommandFields.{SnapshotFields, DeltaFields, RebaseFields, RehearseFields, AuditFields}
-use Rattle.word_core.specs.Names.{inputs_of}
+use Rattle.word_core.specs.declared.command.{Snapshot.Snapshot, Delta.Delta, Rebase.Rebase, Rehearse.Rehearse}
+use Rattle.word_core.specs.declared.command.{Audit.Audit}
+use Rattle.word_core.specs.Names.{HasFewJobs, inputs_of}
 use Rattle.input_core.specs.Readings.{queries_in, job_in, ledger_in, store_in}
 use Rattle.clubcard_top.specs.ReplyFields.{Done, NamedFault, ReplyFields}
 use Rattle.clubcard_top.specs.Faults.{of_publishing}
@@ -38,7 +39,7 @@ use Rattle.clubcard_top.specs.Commands.{AreJobs}
 use Rattle.clubcard_top.specs.Audits.{audit_jobs, audited_as, MakesAudit}
 use Rattle.clubcard_top.specs.Rebasings.{rebased_as, MakesRebase}
 use Rattle.clubcard_top.specs.Steps.{RehearsesOn}
-use Rattle.clubcard_top.specs.Replies.{usage, reply_of, IsReplyOver, IsOctets, HasFewJobs}
+use Rattle.clubcard_top.specs.Replies.{usage, reply_of, IsReplyOver, IsOctets}
 use Rattle.clubcard_top.proofs.AuditsMade.{AreAccepted, audit_jobs_are}
 use Rattle.clubcard_top.proofs.Chains.{chain_push}
 use Rattle.clubcard_top.proofs.Prefixes.{first_of}
@@ -72,18 +73,18 @@ module _ (layers : Existence) where
       let r = layers.something before job in
       (published_as name part ledger r.0, record { fits = facts.0; limits = facts.1; result = r.0; publishes = r.1; is = refl })
 
-  snapshot_made : (s : SnapshotFields) (r : Result JobFields NamedFault) → ((job : JobFields) → r ≡ Ok job → FitsFields job × IsWithinLimits PUBLISHED job)
+  snapshot_made : (s : Snapshot) (r : Result JobFields NamedFault) → ((job : JobFields) → r ≡ Ok job → FitsFields job × IsWithinLimits PUBLISHED job)
       → (o : Result Done NamedFault) × MakesSnapshot s r o
   snapshot_made s (Ok job) facts = part_made s.job s.part s.ledger no_ledger job (facts job refl)
   snapshot_made s (Err e) facts = (Err e, refl)
 
-  delta_made : (d : DeltaFields) (r : Result JobFields NamedFault) (l : Result LedgerFields NamedFault)
+  delta_made : (d : Delta) (r : Result JobFields NamedFault) (l : Result LedgerFields NamedFault)
       → ((job : JobFields) → r ≡ Ok job → FitsFields job × IsWithinLimits PUBLISHED job) → (o : Result Done NamedFault) × MakesDelta d r l o
   delta_made d (Ok job) (Ok l) facts = part_made d.job d.part d.new_ledger l job (facts job refl)
   delta_made d (Ok job) (Err e) facts = (Err e, refl)
   delta_made d (Err e) l facts = (Err e, refl)
 
-  rebase_made : (b : RebaseFields) (l : Result LedgerFields NamedFault) → (o : Result Done NamedFault) × MakesRebase b l o
+  rebase_made : (b : Rebase) (l : Result LedgerFields NamedFault) → (o : Result Done NamedFault) × MakesRebase b l o
   rebase_made b (Ok l) =
       let r = layers.rebases l b.moment b.without in
       (rebased_as b r.0, record { result = r.0; publishes = r.1; is = refl })
@@ -128,7 +129,7 @@ module _ (layers : Existence) where
       (λ job more is_more. files_on queries (jobs ++ job ∷ []) more names inputs (omega (arith, many)) (All-tail IsOctets g inputs octets) is_more)
       (input name job_in g) refl
 
-  rehearsal_made : (r : RehearseFields) (queries : Result (List Query) NamedFault) (inputs : List (Option (List ℕ))) → length inputs ≡ length r.jobs
+  rehearsal_made : (r : Rehearse) (queries : Result (List Query) NamedFault) (inputs : List (Option (List ℕ))) → length inputs ≡ length r.jobs
       → All IsOctets inputs → (o : Result Done NamedFault) × MakesRehearsal r queries inputs o
   rehearsal_made r (Ok queries) inputs many octets =
       let o = files_on queries [] [] r.jobs inputs many octets tt in
@@ -157,7 +158,7 @@ module _ (layers : Existence) where
       } in
       All-cons IsAuditable job jobs one (auditable names inputs jobs are.1 (All-tail IsOctets g inputs octets) (All-tail CrlsAccepted job jobs accepted))
 
-  audit_by : (a : AuditFields) (parts : List SealedFields) (inputs : List (Option (List ℕ))) → length a.jobs ≤ 64 → length inputs ≡ length a.jobs → All IsOctets inputs
+  audit_by : (a : Audit) (parts : List SealedFields) (inputs : List (Option (List ℕ))) → length a.jobs ≤ 64 → length inputs ≡ length a.jobs → All IsOctets inputs
       → (jobs : Result (List JobFields) NamedFault) → audit_jobs a.jobs inputs ≡ jobs → (o : Result Done NamedFault) × MakesAudit a (Ok parts) jobs o
   audit_by a parts inputs few many octets (Err e) is = (Err e, refl)
   audit_by a parts inputs few many octets (Ok jobs) is =
@@ -166,7 +167,7 @@ module _ (layers : Existence) where
       let r = layers.found (map (λ (s : SealedFields). s.part) parts) jobs (omega (arith, few, same)) (auditable a.jobs inputs jobs f.are octets f.accepted) f.within.entries in
       (audited_as a jobs r.0, record { result = r.0; found = r.1; settled = r.2; is = refl })
 
-  audit_made : (a : AuditFields) (store : Result (List SealedFields) NamedFault) (inputs : List (Option (List ℕ))) → length a.jobs ≤ 64 → length inputs ≡ length a.jobs → All IsOctets inputs
+  audit_made : (a : Audit) (store : Result (List SealedFields) NamedFault) (inputs : List (Option (List ℕ))) → length a.jobs ≤ 64 → length inputs ≡ length a.jobs → All IsOctets inputs
       → (o : Result Done NamedFault) × MakesAudit a store (audit_jobs a.jobs inputs) o
   audit_made a (Ok parts) inputs few many octets = audit_by a parts inputs few many octets (audit_jobs a.jobs inputs) refl
   audit_made a (Err e) inputs few many octets = (Err e, refl)

@@ -28,5 +28,4 @@ pub mod Results
 pub mod Succeeded
 pub mod OfHistories
 pub mod Unique
-pub mod WordsApart
 pub mod Workers

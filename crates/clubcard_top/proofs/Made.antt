@@ -44,7 +44,7 @@ use Rattle.publication_core.specs.Publishing.{PublicationFields, Publishes}
 use Rattle.publication_core.specs.Truth.{truth}
 use Rattle.word_core.specs.declared.command.Command.{Command}
 use Rattle.word_core.specs.declared.command.Command.TheVariants as commands
-use Rattle.word_core.specs.CommandFields.{QueryFields, QueryCertFields, StartFields, InstallFields}
+use Rattle.word_core.specs.declared.command.{Query.Query, QueryCert.QueryCert, Start.Start, Install.Install}
 use Rattle.line_core.specs.Lines.{line, report_line, store_line}
 use Rattle.input_core.specs.declared.certificates.Certificate.{Certificate}
 use Rattle.input_core.specs.declared.fault.FileFault.{FileFault}
@@ -245,14 +245,14 @@ module _ (layers : Layers) where
   begun_with s kinds.Snapshot h = refl
   begun_with s kinds.Delta h = absurd cc
 
-  start_stored : (t : StartFields) (files : Files) (h : History) (s : SealedFields) (o : Result Done NamedFault) → IsHistory h (s ∷ []) → get files t.part ≡ Some (part_bytes s)
+  start_stored : (t : Start) (files : Files) (h : History) (s : SealedFields) (o : Result Done NamedFault) → IsHistory h (s ∷ []) → get files t.part ≡ Some (part_bytes s)
       → o ≡ start_makes t (get files t.part) → o ≡ Ok (stored t.store (s ∷ []))
   start_stored t files h s o is held m =
       let fits : Fits s = All-head Fits s [] (layers.texts h (s ∷ []) is) in
       m ∙ ap (λ (r : Result (SealedFields × ℕ) NamedFault). r >>= (λ x. named t.part (begun_by x.0 x.0.part.head.kind) >>= (λ parts. Ok (stored t.store parts)))) (part_input files t.part s fits held)
       ∙ ap (λ (r : Result (List SealedFields) FileFault). named t.part r >>= (λ parts. Ok (stored t.store parts))) (begun_with s s.part.head.kind (layers.chain h (s ∷ []) is).0)
 
-  install_stored : (i : InstallFields) (files : Files) (h : History) (parts : List SealedFields) (s : SealedFields) (o : Result Done NamedFault)
+  install_stored : (i : Install) (files : Files) (h : History) (parts : List SealedFields) (s : SealedFields) (o : Result Done NamedFault)
       → IsHistory h (parts ++ s ∷ []) → 1 ≤ length parts
       → get files i.store ≡ Some (store_bytes parts) → get files i.part ≡ Some (part_bytes s) → o ≡ install_makes i (get files i.store) (get files i.part)
       → o ≡ Ok (stored i.new_store (parts ++ s ∷ []))
@@ -292,14 +292,14 @@ module _ (layers : Layers) where
   some_parts : (h : History) (parts : List SealedFields) → IsHistory h parts → 1 ≤ members h → 1 ≤ length parts
   some_parts h parts is some = omega (arith, layers.many h parts is, some)
 
-  pub told_law : (asked : Command) (files : Files) (q : QueryFields) (h : History) (parts : List SealedFields) (o : Result Done NamedFault)
+  pub told_law : (asked : Command) (files : Files) (q : Query) (h : History) (parts : List SealedFields) (o : Result Done NamedFault)
       → IsHistory h parts → AsksStore asked files q h parts → Makes asked (held_by asked files) o → o ≡ Ok (query_done q parts)
   told_law asked files q h parts o is p m =
       let made : o ≡ query_makes q (get files q.store) = subst (λ (c : Command). Makes c (held_by c files) o) p.0 m in
       made ∙ ap (λ (r : Result (List SealedFields) NamedFault). r >>= (λ ps. Ok (query_done q ps)))
       (store_input files q.store parts (layers.chain h parts is) (some_parts h parts is p.1) (layers.few h parts is) (layers.texts h parts is) p.2)
 
-  pub asked_law : (asked : Command) (files : Files) (q : QueryFields) (h : History) (parts : List SealedFields) (o : Result Done NamedFault)
+  pub asked_law : (asked : Command) (files : Files) (q : Query) (h : History) (parts : List SealedFields) (o : Result Done NamedFault)
       → IsHistory h parts → AsksHistory asked files q h parts
       → Makes asked (held_by asked files) o → o ≡ Ok (truth_done h parts q)
   asked_law asked files q h parts o is p m =
@@ -315,7 +315,7 @@ module _ (layers : Layers) where
   issuer_input : (files : Files) (name hash : List ℕ) → HoldsKey files name hash → input name issuer_in (get files name) ≡ Ok hash
   issuer_input files name hash (bytes, key, held, small, has, is) = rw held (ap (named name) (issuer_read bytes key hash small has is))
 
-  cert_asked : (files : Files) (q : QueryCertFields) (x : Identity) (ss : List Sighting) (h : History) (parts : List SealedFields) (o : Result Done NamedFault)
+  cert_asked : (files : Files) (q : QueryCert) (x : Identity) (ss : List Sighting) (h : History) (parts : List SealedFields) (o : Result Done NamedFault)
       → IsHistory h parts → AsksCert (commands.QueryCert q) files q x ss h parts
       → o ≡ query_cert_makes q (get files q.store) (get files q.cert) (get files q.issuer_cert) → o ≡ Ok (only (cert_truth_line h parts x))
   cert_asked files q x ss h parts o is a m =
@@ -326,7 +326,7 @@ module _ (layers : Layers) where
       ∙ ap (λ (r : Result (List ℕ) NamedFault). r >>= cert_last parts cert) (issuer_input files q.issuer_cert x.issuer a.issuer)
       ∙ ap (λ (v : Verdict). Ok (only (line (verdict_word v)))) (truth_of_covered layers.truths h parts x ss is a.one a.covered)
 
-  pub cert_law : (asked : Command) (files : Files) (q : QueryCertFields) (x : Identity) (ss : List Sighting) (h : History) (parts : List SealedFields)
+  pub cert_law : (asked : Command) (files : Files) (q : QueryCert) (x : Identity) (ss : List Sighting) (h : History) (parts : List SealedFields)
       (o : Result Done NamedFault) → IsHistory h parts → AsksCert asked files q x ss h parts
       → Makes asked (held_by asked files) o → o ≡ Ok (only (cert_truth_line h parts x))
   cert_law asked files q x ss h parts o is a m =

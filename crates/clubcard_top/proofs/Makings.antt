@@ -52,7 +52,9 @@ use Rattle.publication_core.specs.Rebasing.{BasePublicationFields}
 use Rattle.publication_core.specs.Histories.{History, chain}
 use Rattle.word_core.specs.declared.command.Command.{Command}
 use Rattle.word_core.specs.declared.command.Command.TheVariants as commands
-use Rattle.word_core.specs.CommandFields.{QueryCertFields, SnapshotFields, DeltaFields, RebaseFields, StartFields, InstallFields, RehearseFields, GatherFields, AuditFields}
+use Rattle.word_core.specs.declared.command.{QueryCert.QueryCert, Snapshot.Snapshot, Delta.Delta, Rebase.Rebase}
+use Rattle.word_core.specs.declared.command.{Start.Start, Install.Install, Rehearse.Rehearse, Audit.Audit}
+use Rattle.word_core.specs.declared.command.{Gather.Gather}
 use Rattle.word_core.specs.Names.{inputs_of, outputs_of}
 use Rattle.input_core.specs.declared.certificates.Certificate.{Certificate}
 use Rattle.input_core.specs.declared.fault.FileFault.{FileFault}
@@ -139,20 +141,20 @@ published_names : (of part_name ledger_name : List ℕ) (r : Result PublicationF
 published_names of part_name ledger_name (Ok p) d h = ap (λ (e : Done). names_of e.outputs) (ok_same {E = NamedFault} d (publication_done part_name ledger_name p) h)
 published_names of part_name ledger_name (Err fault) d h = absurd (let g : ◌≡◌ {A = Result Done NamedFault} (Ok d) (Err (record { name = of; fault = of_publishing fault })) = h in cc)
 
-snapshot_names : (s : SnapshotFields) (r : Result JobFields NamedFault) (d : Done) → MakesSnapshot s r (Ok d) → names_of d.outputs ≡ outputs_of (commands.Snapshot s)
+snapshot_names : (s : Snapshot) (r : Result JobFields NamedFault) (d : Done) → MakesSnapshot s r (Ok d) → names_of d.outputs ≡ outputs_of (commands.Snapshot s)
 snapshot_names s (Ok j) d m = published_names s.job s.part s.ledger m.result d m.is
 snapshot_names s (Err e) d m = absurd (not_err d e m)
 
-delta_names : (t : DeltaFields) (r : Result JobFields NamedFault) (l : Result LedgerFields NamedFault) (d : Done) → MakesDelta t r l (Ok d) → names_of d.outputs ≡ outputs_of (commands.Delta t)
+delta_names : (t : Delta) (r : Result JobFields NamedFault) (l : Result LedgerFields NamedFault) (d : Done) → MakesDelta t r l (Ok d) → names_of d.outputs ≡ outputs_of (commands.Delta t)
 delta_names t (Ok j) (Ok l) d m = published_names t.job t.part t.new_ledger m.result d m.is
 delta_names t (Ok j) (Err e) d m = absurd (not_err d e m)
 delta_names t (Err e) l d m = absurd (not_err d e m)
 
-based_names : (b : RebaseFields) (r : Result BasePublicationFields BaseFault) (d : Done) → Ok d ≡ rebased_as b r → names_of d.outputs ≡ outputs_of (commands.Rebase b)
+based_names : (b : Rebase) (r : Result BasePublicationFields BaseFault) (d : Done) → Ok d ≡ rebased_as b r → names_of d.outputs ≡ outputs_of (commands.Rebase b)
 based_names b (Ok p) d h = ap (λ (e : Done). names_of e.outputs) (ok_same {E = NamedFault} d (base_done b p) h)
 based_names b (Err fault) d h = absurd (not_err d (record { name = b.ledger; fault = of_rebasing fault }) h)
 
-rebase_names : (b : RebaseFields) (l : Result LedgerFields NamedFault) (d : Done) → MakesRebase b l (Ok d) → names_of d.outputs ≡ outputs_of (commands.Rebase b)
+rebase_names : (b : Rebase) (l : Result LedgerFields NamedFault) (d : Done) → MakesRebase b l (Ok d) → names_of d.outputs ≡ outputs_of (commands.Rebase b)
 rebase_names b (Ok l) d m = based_names b m.result d m.is
 rebase_names b (Err e) d m = absurd (not_err d e m)
 
@@ -166,30 +168,30 @@ rehearses_names queries jobs parts (name ∷ names) [] d m = absurd m
 rehearses_names queries jobs parts (name ∷ names) (g ∷ inputs) d (inl (e, refused, is)) = absurd (not_err d e is)
 rehearses_names queries jobs parts (name ∷ names) (g ∷ inputs) d (inr (job, more, read, fits, is, rest)) = rehearses_names queries (jobs ++ job ∷ []) more names inputs d rest
 
-rehearsal_names : (r : RehearseFields) (queries : Result (List Query) NamedFault) (inputs : List (Option (List ℕ))) (d : Done) → MakesRehearsal r queries inputs (Ok d) → names_of d.outputs ≡ []
+rehearsal_names : (r : Rehearse) (queries : Result (List Query) NamedFault) (inputs : List (Option (List ℕ))) (d : Done) → MakesRehearsal r queries inputs (Ok d) → names_of d.outputs ≡ []
 rehearsal_names r (Ok queries) inputs d m = rehearses_names queries [] [] r.jobs inputs d (from_first queries r.jobs inputs (Ok d) m)
 rehearsal_names r (Err e) inputs d m = absurd (not_err d e m)
 
 -- what follows an input
-abbrev pub start_after : StartFields → SealedFields × ℕ → Result Done NamedFault
+abbrev pub start_after : Start → SealedFields × ℕ → Result Done NamedFault
 start_after t x = named t.part (begun x.0) >>= (λ parts. Ok (stored t.store parts))
 
-abbrev pub install_then : InstallFields → List SealedFields → SealedFields × ℕ → Result Done NamedFault
+abbrev pub install_then : Install → List SealedFields → SealedFields × ℕ → Result Done NamedFault
 install_then i parts x = named i.part (installed parts x.0) >>= (λ more. Ok (stored i.new_store more))
 
-abbrev pub install_after : InstallFields → Option (List ℕ) → List SealedFields → Result Done NamedFault
+abbrev pub install_after : Install → Option (List ℕ) → List SealedFields → Result Done NamedFault
 install_after i p parts = input i.part part_in p >>= install_then i parts
 
-abbrev pub gather_after : GatherFields → List (Option (List ℕ)) → JobContents → Result Done NamedFault
+abbrev pub gather_after : Gather → List (Option (List ℕ)) → JobContents → Result Done NamedFault
 gather_after f inputs j = pages_of f.job (length j.entries) f.pages inputs >>= (λ entries. Ok (gather_done f j entries))
 
 abbrev pub cert_last : List SealedFields → Certificate → List ℕ → Result Done NamedFault
 cert_last parts cert issuer = Ok (query_cert_done parts cert issuer)
 
-abbrev pub cert_then : QueryCertFields → Option (List ℕ) → List SealedFields → Certificate → Result Done NamedFault
+abbrev pub cert_then : QueryCert → Option (List ℕ) → List SealedFields → Certificate → Result Done NamedFault
 cert_then q i parts cert = input q.issuer_cert issuer_in i >>= cert_last parts cert
 
-abbrev pub cert_after : QueryCertFields → (cert issuer_cert : Option (List ℕ)) → List SealedFields → Result Done NamedFault
+abbrev pub cert_after : QueryCert → (cert issuer_cert : Option (List ℕ)) → List SealedFields → Result Done NamedFault
 cert_after q k i parts = input q.cert certificate_in k >>= cert_then q i parts
 
 -- The outputs of a command that is done are those that it names.
@@ -392,22 +394,22 @@ published_read of part_name ledger_name (Ok p) e h u = not_ok (publication_done 
 published_read of part_name ledger_name (Err fault) e h u =
     publish_fault_read fault (sym (ap (λ (k : NamedFault). k.fault) (err_same {A = Done} e (record { name = of; fault = of_publishing fault }) h)) ∙ u)
 
-snapshot_unread : (s : SnapshotFields) (r : Result JobFields NamedFault) (e : NamedFault) → MakesSnapshot s r (Err e) → e.fault ≡ faults.Unread → r ≡ Err e
+snapshot_unread : (s : Snapshot) (r : Result JobFields NamedFault) (e : NamedFault) → MakesSnapshot s r (Err e) → e.fault ≡ faults.Unread → r ≡ Err e
 snapshot_unread s (Ok j) e m u = absurd (published_read s.job s.part s.ledger m.result e m.is u)
 snapshot_unread s (Err f) e m u = ap (λ (k : NamedFault). Err k) (sym (err_same {A = Done} e f m))
 
-delta_unread : (t : DeltaFields) (r : Result JobFields NamedFault) (l : Result LedgerFields NamedFault) (e : NamedFault) → MakesDelta t r l (Err e) → e.fault ≡ faults.Unread
+delta_unread : (t : Delta) (r : Result JobFields NamedFault) (l : Result LedgerFields NamedFault) (e : NamedFault) → MakesDelta t r l (Err e) → e.fault ≡ faults.Unread
     → (r ≡ Err e) ⊎ (l ≡ Err e)
 delta_unread t (Ok j) (Ok l) e m u = absurd (published_read t.job t.part t.new_ledger m.result e m.is u)
 delta_unread t (Ok j) (Err f) e m u = inr (ap (λ (k : NamedFault). Err k) (sym (err_same {A = Done} e f m)))
 delta_unread t (Err f) l e m u = inl (ap (λ (k : NamedFault). Err k) (sym (err_same {A = Done} e f m)))
 
-based_read : (b : RebaseFields) (r : Result BasePublicationFields BaseFault) (e : NamedFault) → Err e ≡ rebased_as b r → e.fault ≡ faults.Unread → ⊥
+based_read : (b : Rebase) (r : Result BasePublicationFields BaseFault) (e : NamedFault) → Err e ≡ rebased_as b r → e.fault ≡ faults.Unread → ⊥
 based_read b (Ok p) e h u = not_ok (base_done b p) e h
 based_read b (Err fault) e h u =
     base_fault_read fault (sym (ap (λ (k : NamedFault). k.fault) (err_same {A = Done} e (record { name = b.ledger; fault = of_rebasing fault }) h)) ∙ u)
 
-rebase_unread : (b : RebaseFields) (l : Result LedgerFields NamedFault) (e : NamedFault) → MakesRebase b l (Err e) → e.fault ≡ faults.Unread → l ≡ Err e
+rebase_unread : (b : Rebase) (l : Result LedgerFields NamedFault) (e : NamedFault) → MakesRebase b l (Err e) → e.fault ≡ faults.Unread → l ≡ Err e
 rebase_unread b (Ok l) e m u = absurd (based_read b m.result e m.is u)
 rebase_unread b (Err f) e m u = ap (λ (k : NamedFault). Err k) (sym (err_same {A = Done} e f m))
 
@@ -417,11 +419,11 @@ made_read : {A : Type 0} (name : List ℕ) (r : Result A FileFault) (f : A → D
 made_read name r f e refute (inl h) u = refute ((named_err name r e h).0 ∙ ap (λ (k : FileFault). Err k) u)
 made_read name r f e refute (inr (x, is, h)) u = not_ok (f x) e h
 
-start_unread : (t : StartFields) (x : SealedFields × ℕ) (e : NamedFault) → Err e ≡ start_after t x → e.fault ≡ faults.Unread → ⊥
+start_unread : (t : Start) (x : SealedFields × ℕ) (e : NamedFault) → Err e ≡ start_after t x → e.fault ≡ faults.Unread → ⊥
 start_unread t x e h u =
     made_read t.part (begun x.0) (stored t.store) e (begun_read x.0 x.0.part.head.kind) (after_err (named t.part (begun x.0)) (λ parts. Ok (stored t.store parts)) e h) u
 
-install_unread : (i : InstallFields) (parts : List SealedFields) (x : SealedFields × ℕ) (e : NamedFault) → Err e ≡ install_then i parts x → e.fault ≡ faults.Unread → ⊥
+install_unread : (i : Install) (parts : List SealedFields) (x : SealedFields × ℕ) (e : NamedFault) → Err e ≡ install_then i parts x → e.fault ≡ faults.Unread → ⊥
 install_unread i parts x e h u =
     made_read i.part (installed parts x.0) (stored i.new_store) e (installed_read (refusal_of parts x.0) parts x.0)
     (after_err (named i.part (installed parts x.0)) (λ more. Ok (stored i.new_store more)) e h) u
@@ -471,38 +473,38 @@ module _ (told : Option Files) (failed : Option (List ℕ) → Type 0) (e : Name
   cause_of names name given among read (none, is) =
       subst (λ (n : List ℕ). Among names n × (failed (Some n) ⊎ IsMissing told n)) is (among, subst (λ (g : Option (List ℕ)). IsRead told failed name g) none read)
 
-  second_unread : (i : InstallFields) (s p : Option (List ℕ)) (parts : List SealedFields) → IsRead told failed i.part p → Err e ≡ install_after i p parts → Cause (i.store ∷ i.part ∷ [])
+  second_unread : (i : Install) (s p : Option (List ℕ)) (parts : List SealedFields) → IsRead told failed i.part p → Err e ≡ install_after i p parts → Cause (i.store ∷ i.part ∷ [])
   second_unread i s p parts read h =
       cause_of (i.store ∷ i.part ∷ []) i.part p (inr (inl refl)) read
       (first_unread i.part part_in p (install_then i parts) e part_read (λ x g. install_unread i parts x e g u) (after_err (input i.part part_in p) (install_then i parts) e h) u)
 
-  install_by : (i : InstallFields) (s p : Option (List ℕ)) → IsRead told failed i.store s → IsRead told failed i.part p
+  install_by : (i : Install) (s p : Option (List ℕ)) → IsRead told failed i.store s → IsRead told failed i.part p
       → (input i.store store_in s ≡ Err e) ⊎ ((parts : List SealedFields) × (input i.store store_in s ≡ Ok parts) × (Err e ≡ install_after i p parts)) → Cause (i.store ∷ i.part ∷ [])
   install_by i s p first second (inl h) = cause_of (i.store ∷ i.part ∷ []) i.store s (inl refl) first (input_unread i.store store_in s e store_read h u)
   install_by i s p first second (inr (parts, is, h)) = second_unread i s p parts second h
 
-  abbrev certs : QueryCertFields → List (List ℕ)
+  abbrev certs : QueryCert → List (List ℕ)
   certs q = inputs_of (commands.QueryCert q)
 
-  issuer_unread : (q : QueryCertFields) (i : Option (List ℕ)) (parts : List SealedFields) (cert : Certificate) → IsRead told failed q.issuer_cert i → Err e ≡ cert_then q i parts cert
+  issuer_unread : (q : QueryCert) (i : Option (List ℕ)) (parts : List SealedFields) (cert : Certificate) → IsRead told failed q.issuer_cert i → Err e ≡ cert_then q i parts cert
       → Cause (certs q)
   issuer_unread q i parts cert read h =
       cause_of (certs q) q.issuer_cert i (inr (inr (inl refl))) read
       (first_unread q.issuer_cert issuer_in i (cert_last parts cert) e issuer_read (λ x g. not_ok (query_cert_done parts cert x) e g)
       (after_err (input q.issuer_cert issuer_in i) (cert_last parts cert) e h) u)
 
-  cert_unread : (q : QueryCertFields) (k i : Option (List ℕ)) (parts : List SealedFields) → IsRead told failed q.cert k → IsRead told failed q.issuer_cert i
+  cert_unread : (q : QueryCert) (k i : Option (List ℕ)) (parts : List SealedFields) → IsRead told failed q.cert k → IsRead told failed q.issuer_cert i
       → (input q.cert certificate_in k ≡ Err e) ⊎ ((cert : Certificate) × (input q.cert certificate_in k ≡ Ok cert) × (Err e ≡ cert_then q i parts cert)) → Cause (certs q)
   cert_unread q k i parts second third (inl h) = cause_of (certs q) q.cert k (inr (inl refl)) second (input_unread q.cert certificate_in k e certificate_read h u)
   cert_unread q k i parts second third (inr (cert, is, h)) = issuer_unread q i parts cert third h
 
-  query_cert_by : (q : QueryCertFields) (s k i : Option (List ℕ)) → IsRead told failed q.store s → IsRead told failed q.cert k → IsRead told failed q.issuer_cert i
+  query_cert_by : (q : QueryCert) (s k i : Option (List ℕ)) → IsRead told failed q.store s → IsRead told failed q.cert k → IsRead told failed q.issuer_cert i
       → (input q.store store_in s ≡ Err e) ⊎ ((parts : List SealedFields) × (input q.store store_in s ≡ Ok parts) × (Err e ≡ cert_after q k i parts)) → Cause (certs q)
   query_cert_by q s k i first second third (inl h) = cause_of (certs q) q.store s (inl refl) first (input_unread q.store store_in s e store_read h u)
   query_cert_by q s k i first second third (inr (parts, is, h)) =
       cert_unread q k i parts second third (after_err (input q.cert certificate_in k) (cert_then q i parts) e h)
 
-  delta_by : (t : DeltaFields) (j l : Option (List ℕ)) → IsRead told failed t.job j → IsRead told failed t.ledger l → (input t.job job_in j ≡ Err e) ⊎ (input t.ledger ledger_in l ≡ Err e)
+  delta_by : (t : Delta) (j l : Option (List ℕ)) → IsRead told failed t.job j → IsRead told failed t.ledger l → (input t.job job_in j ≡ Err e) ⊎ (input t.ledger ledger_in l ≡ Err e)
       → Cause (t.job ∷ t.ledger ∷ [])
   delta_by t j l first second (inl h) = cause_of (t.job ∷ t.ledger ∷ []) t.job j (inl refl) first (input_unread t.job job_in j e job_read h u)
   delta_by t j l first second (inr h) = cause_of (t.job ∷ t.ledger ∷ []) t.ledger l (inr (inl refl)) second (input_unread t.ledger ledger_in l e ledger_read h u)
@@ -522,7 +524,7 @@ module _ (told : Option Files) (failed : Option (List ℕ) → Type 0) (e : Name
   rehearses_by queries jobs parts (name ∷ names) (g ∷ inputs) read (inr (job, more, is_read, fits, is, rest)) =
       let c = rehearses_by queries (jobs ++ job ∷ []) more names inputs read.1 rest in (inr c.0, c.1)
 
-  rehearsal_by : (r : RehearseFields) (given : Option (List ℕ)) (inputs : List (Option (List ℕ))) (queries : Result (List Query) NamedFault)
+  rehearsal_by : (r : Rehearse) (given : Option (List ℕ)) (inputs : List (Option (List ℕ))) (queries : Result (List Query) NamedFault)
       → IsRead told failed r.queries given → AreRead told failed r.jobs inputs
       → input r.queries queries_in given ≡ queries → MakesRehearsal r queries inputs (Err e) → Cause (r.queries ∷ r.jobs)
   rehearsal_by r given inputs (Ok queries) first others is m =
@@ -555,7 +557,7 @@ module _ (told : Option Files) (failed : Option (List ℕ) → Type 0) (e : Name
   pages_by job before (name ∷ names) (g ∷ inputs) read m =
       page_by job before name names g inputs read.0 (λ n h. pages_by job n names inputs read.1 h) (after_err_of (input name page_in g) (page_then job before names inputs) e m)
 
-  gather_by : (f : GatherFields) (h : Option (List ℕ)) (inputs : List (Option (List ℕ))) → IsRead told failed f.head h → AreRead told failed f.pages inputs
+  gather_by : (f : Gather) (h : Option (List ℕ)) (inputs : List (Option (List ℕ))) → IsRead told failed f.head h → AreRead told failed f.pages inputs
       → (input f.head head_in h ≡ Err e) ⊎ ((j : JobContents) × (input f.head head_in h ≡ Ok j) × (Err e ≡ gather_after f inputs j)) → Cause (f.head ∷ f.pages)
   gather_by f h inputs first others (inl is) = cause_of (f.head ∷ f.pages) f.head h (inl refl) first (input_unread f.head head_in h e head_read is u)
   gather_by f h inputs first others (inr (j, is, m)) =
@@ -579,7 +581,7 @@ module _ (told : Option Files) (failed : Option (List ℕ) → Type 0) (e : Name
       job_by before name names g inputs read.0 (λ js h. jobs_by js names inputs read.1 h)
       (after_err_of (input name (job_behind before) g) (λ j. jobs_behind (before ++ j ∷ []) names inputs) e m)
 
-  audit_by : (a : AuditFields) (s : Option (List ℕ)) (inputs : List (Option (List ℕ))) → IsRead told failed a.store s → AreRead told failed a.jobs inputs
+  audit_by : (a : Audit) (s : Option (List ℕ)) (inputs : List (Option (List ℕ))) → IsRead told failed a.store s → AreRead told failed a.jobs inputs
       → (input a.store store_in s ≡ Err e) ⊎ (audit_jobs a.jobs inputs ≡ Err e) → Cause (a.store ∷ a.jobs)
   audit_by a s inputs first others (inl is) = cause_of (a.store ∷ a.jobs) a.store s (inl refl) first (input_unread a.store store_in s e store_read is u)
   audit_by a s inputs first others (inr is) = let c = jobs_by [] a.jobs inputs others (jobs_stop a.jobs inputs e is u) in (inr c.0, c.1)

@@ -15,7 +15,8 @@ use Rattle.publication_core.specs.Formats.{current}
 use Rattle.publication_core.specs.Histories.{IsAdmissible, History, with_job, chain, IsHistory, releases_of, LeavesOut}
 use Rattle.word_core.specs.declared.command.Command.{Command}
 use Rattle.word_core.specs.declared.command.Command.TheVariants as commands
-use Rattle.word_core.specs.CommandFields.{QueryFields, QueryCertFields, RebaseFields, RehearseFields}
+use Rattle.word_core.specs.declared.command.{Query.Query as StoreQuery, QueryCert.QueryCert, Rebase.Rebase}
+use Rattle.word_core.specs.declared.command.{Rehearse.Rehearse}
 use Rattle.line_core.specs.Lines.{line}
 use Rattle.clubcard_top.specs.ReplyFields.{Done, NamedFault}
 use Rattle.clubcard_top.specs.Commands.{only, verdict_word}
@@ -31,7 +32,7 @@ use Rattle.clubcard_top.specs.Headline.{RebasesHistory, Rebased, AsksToRebase, I
 use Rattle.clubcard_top.specs.Promises.{Successes, Histories}
 use Rattle.clubcard_top.proofs.Results.{ok_same}
 use Rattle.clubcard_top.proofs.Promised.{Unique, answers, given, sure}
-use Rattle.clubcard_top.proofs.WordsApart.{IsApart}
+use Rattle.word_core.specs.Names.{IsApart}
 use Rattle.clubcard_top.proofs.Succeeded as succeeded
 use Rattle.clubcard_top.proofs.Succeeded.{given_done, OneOutcome, Publishable, Rebasable, Truthful}
 
@@ -48,29 +49,29 @@ module _ (call : Call) where
     pub stored : (files : Files) (h : History) (parts : List SealedFields) (s : SealedFields)
         (o : Result Done NamedFault) → IsHistory h (parts ++ s ∷ []) → StoresPart call.asked files parts s
         → Makes call.asked (held_by call.asked files) o → (d : Done) × (o ≡ Ok d) × Stored call.asked parts s d
-    pub asks : (files : Files) (q : QueryFields) (h : History) (parts : List SealedFields)
+    pub asks : (files : Files) (q : StoreQuery) (h : History) (parts : List SealedFields)
         (o : Result Done NamedFault) → IsHistory h parts → AsksHistory call.asked files q h parts
         → Makes call.asked (held_by call.asked files) o → o ≡ Ok (truth_done h parts q)
-    pub certifies : (files : Files) (q : QueryCertFields) (x : Identity) (ss : List Sighting) (h : History)
+    pub certifies : (files : Files) (q : QueryCert) (x : Identity) (ss : List Sighting) (h : History)
         (parts : List SealedFields) (o : Result Done NamedFault) → IsHistory h parts
         → AsksCert call.asked files q x ss h parts
         → Makes call.asked (held_by call.asked files) o → o ≡ Ok (only (cert_truth_line h parts x))
-    pub rehearses : (files : Files) (r : RehearseFields) (d : Done) → call.asked ≡ commands.Rehearse r
+    pub rehearses : (files : Files) (r : Rehearse) (d : Done) → call.asked ≡ commands.Rehearse r
         → Makes call.asked (held_by call.asked files) (Ok d)
         → (queries : List Query) × (jobs : List JobFields) × (parts : List SealedFields)
         × RehearsesJobs call.asked files queries jobs × IsRehearsed queries jobs parts
         × (d ≡ rehearsed queries jobs parts)
-    pub rebases : (files : Files) (r : RebaseFields) (h : History) (parts : List SealedFields) (d : Done)
+    pub rebases : (files : Files) (r : Rebase) (h : History) (parts : List SealedFields) (d : Done)
         → IsHistory h parts → RebasesHistory call.asked files r h parts
         → Makes call.asked (held_by call.asked files) (Ok d) → Rebased r h parts d
-    pub rebasable : (files : Files) (r : RebaseFields) (h : History) (parts : List SealedFields)
+    pub rebasable : (files : Files) (r : Rebase) (h : History) (parts : List SealedFields)
         (o : Result Done NamedFault) → IsHistory h parts → RebasesHistory call.asked files r h parts
         → IsRebasableWithout r.moment r.without h parts → Makes call.asked (held_by call.asked files) o → (d : Done) × (o ≡ Ok d)
-    pub keeps : (files : Files) (q : QueryFields) (h : History) (parts : List SealedFields) (moment : ℕ)
+    pub keeps : (files : Files) (q : StoreQuery) (h : History) (parts : List SealedFields) (moment : ℕ)
         (without : List (List ℕ)) (s : SealedFields) (o : Result Done NamedFault)
         → IsHistory (base_of h parts moment without) (s ∷ []) → AsksBase call.asked files q h parts moment without s
         → Makes call.asked (held_by call.asked files) o → o ≡ Ok (truth_done h parts q)
-    pub leaves : (files : Files) (q : QueryFields) (h : History) (parts : List SealedFields)
+    pub leaves : (files : Files) (q : StoreQuery) (h : History) (parts : List SealedFields)
         (o : Result Done NamedFault) → IsHistory h parts → AsksLeftOut call.asked files q h parts
         → Makes call.asked (held_by call.asked files) o → o ≡ Ok (only (line (verdict_word NotEnrolled)))
     pub comes_back : (h : History) (parts : List SealedFields) (job : JobFields) (s : SealedFields) (e : Entry)
@@ -107,13 +108,13 @@ module _ (call : Call) where
         sure call ends files told (λ none. subst (λ (c : Command). PublishesJob c files h parts job) none p)
         (λ o m. laws.admitted files h parts job o is_history p may m) quiet
 
-    rebased_clause : (r : RebaseFields) (h : History) (parts : List SealedFields)
+    rebased_clause : (r : Rebase) (h : History) (parts : List SealedFields)
         → IsHistory h parts → AsksToRebase call r h parts → Succeeds call → (d : Done) × Rebased r h parts d × GivesDone call d
     rebased_clause r h parts is_history (files, told, p) zero =
         let a = came files told zero in
         (a.0, laws.rebases files r h parts a.0 is_history p a.1, a.2)
 
-    rebasable : (r : RebaseFields) (h : History) (parts : List SealedFields) → IsHistory h parts
+    rebasable : (r : Rebase) (h : History) (parts : List SealedFields) → IsHistory h parts
         → AsksToRebase call r h parts → IsRebasableWithout r.moment r.without h parts → MustSucceed call
     rebasable r h parts is_history (files, told, p) may quiet =
         sure call ends files told (λ none. let g : commands.Rebase r ≡ commands.Usage = sym p.0 ∙ none in cc)
@@ -132,34 +133,34 @@ module _ (call : Call) where
         sure call ends files told (λ none. subst (λ (c : Command). StoresPart c files parts s) none p)
         (λ o m. let l = laws.stored files h parts s o is_history p m in (l.0, l.1)) quiet
 
-    truth_clause : (q : QueryFields) (h : History) (parts : List SealedFields) → IsHistory h parts
+    truth_clause : (q : StoreQuery) (h : History) (parts : List SealedFields) → IsHistory h parts
         → AsksTruth call q h parts → Succeeds call → Prints call (truth_line h parts q)
     truth_clause q h parts is_history (files, told, p) = prints files told (truth_done h parts q) (λ o m. laws.asks files q h parts o is_history p m)
 
-    kept_clause : (q : QueryFields) (h : History) (parts : List SealedFields) (moment : ℕ) (without : List (List ℕ))
+    kept_clause : (q : StoreQuery) (h : History) (parts : List SealedFields) (moment : ℕ) (without : List (List ℕ))
         (s : SealedFields) → IsHistory (base_of h parts moment without) (s ∷ [])
         → AsksTheBase call q h parts moment without s → Succeeds call → Prints call (truth_line h parts q)
     kept_clause q h parts moment without s is_history (files, told, p) =
         prints files told (truth_done h parts q) (λ o m. laws.keeps files q h parts moment without s o is_history p m)
 
-    left_out_clause : (q : QueryFields) (h : History) (parts : List SealedFields) → IsHistory h parts
+    left_out_clause : (q : StoreQuery) (h : History) (parts : List SealedFields) → IsHistory h parts
         → AsksOfLeftOut call q h parts → Succeeds call → Prints call (line (verdict_word NotEnrolled))
     left_out_clause q h parts is_history (files, told, p) =
         prints files told (only (line (verdict_word NotEnrolled))) (λ o m. laws.leaves files q h parts o is_history p m)
 
-    answered : (q : QueryFields) (h : History) (parts : List SealedFields) → IsHistory h parts
+    answered : (q : StoreQuery) (h : History) (parts : List SealedFields) → IsHistory h parts
         → AsksTruth call q h parts → MustSucceed call
     answered q h parts is_history (files, told, p) quiet =
         sure call ends files told (λ none. let g : commands.Query q ≡ commands.Usage = sym p.0 ∙ none in cc)
         (λ o m. (truth_done h parts q, laws.asks files q h parts o is_history p m)) quiet
 
-    cert_truth : (q : QueryCertFields) (x : Identity) (ss : List Sighting) (h : History)
+    cert_truth : (q : QueryCert) (x : Identity) (ss : List Sighting) (h : History)
         (parts : List SealedFields) → IsHistory h parts → AsksCertTruth call q x ss h parts → Succeeds call
         → Prints call (cert_truth_line h parts x)
     cert_truth q x ss h parts is_history (files, told, p) =
         prints files told (only (cert_truth_line h parts x)) (λ o m. laws.certifies files q x ss h parts o is_history p m)
 
-    cert_answered : (q : QueryCertFields) (x : Identity) (ss : List Sighting) (h : History)
+    cert_answered : (q : QueryCert) (x : Identity) (ss : List Sighting) (h : History)
         (parts : List SealedFields) → IsHistory h parts → AsksCertTruth call q x ss h parts → MustSucceed call
     cert_answered q x ss h parts is_history (files, told, p) quiet =
         sure call ends files told (λ none. let g : commands.QueryCert q ≡ commands.Usage = sym p.is ∙ none in cc)
@@ -189,7 +190,7 @@ module _ (call : Call) where
       followed = followed;
     }
 
-    rehearse : (r : RehearseFields) → (did : Did call (commands.Rehearse r)) → (queries : List Query)
+    rehearse : (r : Rehearse) → (did : Did call (commands.Rehearse r)) → (queries : List Query)
         × (jobs : List JobFields) × (parts : List SealedFields) × AsksToRehearse call queries jobs
         × IsRehearsed queries jobs parts × GivesDone call (rehearsed queries jobs parts)
     rehearse r did =

@@ -11,7 +11,8 @@ use Rattle.part_text.specs.SealedFields.{SealedFields}
 use Rattle.publication_core.specs.Histories.{History, chain}
 use Rattle.word_core.specs.declared.command.Command.{Command}
 use Rattle.word_core.specs.declared.command.Command.TheVariants as commands
-use Rattle.word_core.specs.CommandFields.{QueryCertFields, DeltaFields, InstallFields, RehearseFields, GatherFields, AuditFields}
+use Rattle.word_core.specs.declared.command.{QueryCert.QueryCert, Delta.Delta, Install.Install, Rehearse.Rehearse}
+use Rattle.word_core.specs.declared.command.{Audit.Audit, Gather.Gather}
 use Rattle.word_core.specs.Names.{inputs_of}
 use Rattle.input_core.specs.declared.fault.FileFault.{FileFault}
 use Rattle.input_core.specs.declared.fault.FileFault.TheVariants as faults
@@ -57,17 +58,17 @@ IsSeen o = (e : NamedFault) → o ≡ Err e → e.fault ≡ faults.Unread → �
 abbrev unread : List ℕ → NamedFault
 unread name = record { name = name; fault = faults.Unread }
 
-delta_other : (t : DeltaFields) (r : Result JobFields NamedFault) (l : Result LedgerFields NamedFault) (o : Result Done NamedFault) → IsSeen o
+delta_other : (t : Delta) (r : Result JobFields NamedFault) (l : Result LedgerFields NamedFault) (o : Result Done NamedFault) → IsSeen o
     → MakesDelta t r (Err (unread t.ledger)) o → MakesDelta t r l o
 delta_other t (Ok j) l o seen m = absurd (seen (unread t.ledger) m refl)
 delta_other t (Err e) l o seen m = m
 
-install_other : (i : InstallFields) (r : Result (List SealedFields) NamedFault) (p : Option (List ℕ)) (o : Result Done NamedFault) → IsSeen o
+install_other : (i : Install) (r : Result (List SealedFields) NamedFault) (p : Option (List ℕ)) (o : Result Done NamedFault) → IsSeen o
     → o ≡ (r >>= install_after i None) → o ≡ (r >>= install_after i p)
 install_other i (Ok parts) p o seen m = absurd (seen (unread i.part) m refl)
 install_other i (Err e) p o seen m = m
 
-delta_over : (files : Files) (failed : Option (List ℕ) → Type 0) (t : DeltaFields) (j l : Option (List ℕ)) (o : Result Done NamedFault) → IsSeen o
+delta_over : (files : Files) (failed : Option (List ℕ) → Type 0) (t : Delta) (j l : Option (List ℕ)) (o : Result Done NamedFault) → IsSeen o
     → IsRead (Some files) failed t.job j → IsRead (Some files) failed t.ledger l
     → MakesDelta t (input t.job job_in j) (input t.ledger ledger_in l) o → MakesDelta t (input t.job job_in (get files t.job)) (input t.ledger ledger_in (get files t.ledger)) o
 delta_over files failed t None l o seen first second m = absurd (seen (unread t.job) m refl)
@@ -75,7 +76,7 @@ delta_over files failed t (Some b) None o seen first second m =
     rw first (delta_other t (input t.job job_in (Some b)) (input t.ledger ledger_in (get files t.ledger)) o seen m)
 delta_over files failed t (Some b) (Some c) o seen first second m = rw (first, second) m
 
-install_over : (files : Files) (failed : Option (List ℕ) → Type 0) (i : InstallFields) (s p : Option (List ℕ)) (o : Result Done NamedFault) → IsSeen o
+install_over : (files : Files) (failed : Option (List ℕ) → Type 0) (i : Install) (s p : Option (List ℕ)) (o : Result Done NamedFault) → IsSeen o
     → IsRead (Some files) failed i.store s → IsRead (Some files) failed i.part p
     → o ≡ install_makes i s p → o ≡ install_makes i (get files i.store) (get files i.part)
 install_over files failed i None p o seen first second m = absurd (seen (unread i.store) m refl)
@@ -94,7 +95,7 @@ after_over : {A : Type 0} (files : Files) (failed : Option (List ℕ) → Type 0
 after_over files failed name read None next other o seen is_read then m = absurd (seen (unread name) m refl)
 after_over files failed name read (Some b) next other o seen is_read then m = rw is_read (after_same (input name read (Some b)) next other o then m)
 
-query_cert_over : (files : Files) (failed : Option (List ℕ) → Type 0) (q : QueryCertFields) (s k i : Option (List ℕ)) (o : Result Done NamedFault) → IsSeen o
+query_cert_over : (files : Files) (failed : Option (List ℕ) → Type 0) (q : QueryCert) (s k i : Option (List ℕ)) (o : Result Done NamedFault) → IsSeen o
     → IsRead (Some files) failed q.store s → IsRead (Some files) failed q.cert k → IsRead (Some files) failed q.issuer_cert i
     → o ≡ query_cert_makes q s k i → o ≡ query_cert_makes q (get files q.store) (get files q.cert) (get files q.issuer_cert)
 query_cert_over files failed q s k i o seen first second third m =
@@ -132,14 +133,14 @@ rehearses_over files failed queries jobs parts (name ∷ names) (Some b ∷ inpu
       rehearses_over files failed queries (jobs ++ job ∷ []) more names inputs o seen read.1 rest,
     )
 
-rehearsal_by : (files : Files) (failed : Option (List ℕ) → Type 0) (r : RehearseFields) (queries : Result (List Query) NamedFault)
+rehearsal_by : (files : Files) (failed : Option (List ℕ) → Type 0) (r : Rehearse) (queries : Result (List Query) NamedFault)
     (inputs : List (Option (List ℕ))) (o : Result Done NamedFault) → IsSeen o
     → AreRead (Some files) failed r.jobs inputs → MakesRehearsal r queries inputs o → MakesRehearsal r queries (map (get files) r.jobs) o
 rehearsal_by files failed r (Ok queries) inputs o seen read m =
     first_of queries r.jobs (map (get files) r.jobs) o (rehearses_over files failed queries [] [] r.jobs inputs o seen read (from_first queries r.jobs inputs o m))
 rehearsal_by files failed r (Err e) inputs o seen read m = m
 
-rehearsal_over : (files : Files) (failed : Option (List ℕ) → Type 0) (r : RehearseFields) (q : Option (List ℕ)) (inputs : List (Option (List ℕ))) (o : Result Done NamedFault)
+rehearsal_over : (files : Files) (failed : Option (List ℕ) → Type 0) (r : Rehearse) (q : Option (List ℕ)) (inputs : List (Option (List ℕ))) (o : Result Done NamedFault)
     → IsSeen o → IsRead (Some files) failed r.queries q
     → AreRead (Some files) failed r.jobs inputs → MakesRehearsal r (input r.queries queries_in q) inputs o
     → MakesRehearsal r (input r.queries queries_in (get files r.queries)) (map (get files) r.jobs) o
@@ -177,7 +178,7 @@ pages_over files failed o seen job before (name ∷ names) (Some b ∷ inputs) r
     (pages_over files failed o seen job (before + length few) names inputs read.1 (λ others. next (few ++ others))
     (parted (pages_of job (before + length few) names inputs) few next o k))) h) m)
 
-gather_over : (files : Files) (failed : Option (List ℕ) → Type 0) (f : GatherFields) (h : Option (List ℕ)) (inputs : List (Option (List ℕ))) (o : Result Done NamedFault) → IsSeen o
+gather_over : (files : Files) (failed : Option (List ℕ) → Type 0) (f : Gather) (h : Option (List ℕ)) (inputs : List (Option (List ℕ))) (o : Result Done NamedFault) → IsSeen o
     → IsRead (Some files) failed f.head h → AreRead (Some files) failed f.pages inputs
     → o ≡ gather_makes f h inputs → o ≡ gather_makes f (get files f.head) (map (get files) f.pages)
 gather_over files failed f h inputs o seen first others m =
@@ -206,7 +207,7 @@ jobs_over files failed before (name ∷ names) (None ∷ inputs) read = inr (nam
 jobs_over files failed before (name ∷ names) (Some b ∷ inputs) read =
     rw read.0 (job_over files names inputs before (input name (job_behind before) (Some b)) (λ js. jobs_over files failed js names inputs read.1))
 
-audit_by : (a : AuditFields) (files : Files) (inputs : List (Option (List ℕ))) (store : Result (List SealedFields) NamedFault) (o : Result Done NamedFault) → IsSeen o
+audit_by : (a : Audit) (files : Files) (inputs : List (Option (List ℕ))) (store : Result (List SealedFields) NamedFault) (o : Result Done NamedFault) → IsSeen o
     → SameJobs files [] a.jobs inputs → MakesAudit a store (audit_jobs a.jobs inputs) o → MakesAudit a store (audit_jobs a.jobs (map (get files) a.jobs)) o
 audit_by a files inputs (Err e) o seen same m = m
 audit_by a files inputs (Ok parts) o seen (inl same) m =
@@ -214,7 +215,7 @@ audit_by a files inputs (Ok parts) o seen (inl same) m =
 audit_by a files inputs (Ok parts) o seen (inr (name, is)) m =
     absurd (seen (unread name) (subst (λ (r : Result (List JobFields) NamedFault). MakesAudit a (Ok parts) (r >>= (λ js. unless (bad_crl a.jobs js) js)) o) is m) refl)
 
-audit_over : (files : Files) (failed : Option (List ℕ) → Type 0) (a : AuditFields) (s : Option (List ℕ)) (inputs : List (Option (List ℕ))) (o : Result Done NamedFault) → IsSeen o
+audit_over : (files : Files) (failed : Option (List ℕ) → Type 0) (a : Audit) (s : Option (List ℕ)) (inputs : List (Option (List ℕ))) (o : Result Done NamedFault) → IsSeen o
     → IsRead (Some files) failed a.store s → AreRead (Some files) failed a.jobs inputs → MakesAudit a (input a.store store_in s) (audit_jobs a.jobs inputs) o
     → MakesAudit a (input a.store store_in (get files a.store)) (audit_jobs a.jobs (map (get files) a.jobs)) o
 audit_over files failed a None inputs o seen first others m = absurd (seen (unread a.store) m refl)

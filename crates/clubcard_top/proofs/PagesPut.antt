@@ -19,7 +19,7 @@ use Rattle.gather_core.specs.declared.job.OpenJob.{OpenJob}
 use Rattle.gather_core.specs.Opened.{Opens}
 use Rattle.gather_core.specs.Raw.{with_entries, of_log}
 use Rattle.word_core.specs.declared.command.Command.TheVariants as commands
-use Rattle.word_core.specs.CommandFields.{GatherFields}
+use Rattle.word_core.specs.declared.command.Gather.{Gather}
 use Rattle.clubcard_top.specs.declared.answer.Answer.{Answer}
 use Rattle.input_core.specs.declared.fault.FileFault.{FileFault}
 use Rattle.input_core.specs.declared.fault.FileFault.TheVariants as faults
@@ -84,7 +84,7 @@ page_fault job name names before g rest e is =
 -- ---- the first pages
 
 -- The first pages were read and put behind the job, and what comes of the rest behind them comes of all.
-pub record Gone (told : Option Files) (f : GatherFields) (j : JobContents) (i : ℕ) (job : OpenJob) : Type 0 where
+pub record Gone (told : Option Files) (f : Gather) (j : JobContents) (i : ℕ) (job : OpenJob) : Type 0 where
   pub inputs : List (Option (List ℕ))
   pub read : AreRead told nothing (take i f.pages) inputs
   pub entries : List PageFields
@@ -93,18 +93,18 @@ pub record Gone (told : Option Files) (f : GatherFields) (j : JobContents) (i : 
       → pages_of f.job (length j.entries) f.pages (inputs ++ rest) ≡ behind_these entries (pages_of f.job (length j.entries + length entries) (drop i f.pages) rest)
 
 -- how many entries a longer job has
-longer-size : (f : GatherFields) (j : JobContents) (entries : List PageFields) → length (longer f j entries).entries ≡ length j.entries + length entries
+longer-size : (f : Gather) (j : JobContents) (entries : List PageFields) → length (longer f j entries).entries ≡ length j.entries + length entries
 longer-size f j entries = length-append j.entries (map (of_log f.log) entries) ∙ ap (λ (n : ℕ). length j.entries + n) (length-map entries (of_log f.log))
 
-longer-more : (f : GatherFields) (j : JobContents) (entries page : List PageFields) → with_entries (longer f j entries) (map (of_log f.log) page) ≡ longer f j (entries ++ page)
+longer-more : (f : Gather) (j : JobContents) (entries page : List PageFields) → with_entries (longer f j entries) (map (of_log f.log) page) ≡ longer f j (entries ++ page)
 longer-more f j entries page =
     ap (λ (l : List EntryText). record j { entries = l })
     (append_assoc j.entries (map (of_log f.log) entries) (map (of_log f.log) page) ∙ ap (λ (l : List EntryText). j.entries ++ l) (sym (map-append (of_log f.log) entries page)))
 
-longer-none : (f : GatherFields) (j : JobContents) → longer f j [] ≡ j
+longer-none : (f : Gather) (j : JobContents) → longer f j [] ≡ j
 longer-none f j = ap (λ (l : List EntryText). record j { entries = l }) (append-nil j.entries)
 
-module _ (told : Option Files) (f : GatherFields) (j : JobContents) where
+module _ (told : Option Files) (f : Gather) (j : JobContents) where
   pub none_gone : (job : OpenJob) → Opens job j → Gone told f j 0 job
   none_gone job opens = record {
     inputs = [];
@@ -223,12 +223,12 @@ pub full_as : (job : OpenJob) (page : List PageEntry) → ((k : JobContents) →
 full_as job page full k opens = let many = full k opens in omega (arith, many, length-map page fields_of)
 
 -- no entry is lost
-pub fewer-before : (told : Option Files) (failed : Option (List ℕ) → Type 0) (f : GatherFields) (j : JobContents) (before : ℕ) (job : OpenJob) → before ≡ length j.entries
+pub fewer-before : (told : Option Files) (failed : Option (List ℕ) → Type 0) (f : Gather) (j : JobContents) (before : ℕ) (job : OpenJob) → before ≡ length j.entries
     → IsGatheredFrom told failed f j job → before ≤ job.entries
 fewer-before told failed f j before job is n = omega (arith, is, n.opens.count, longer-size f j n.entries)
 
 -- the lines and the output of a job that was closed
-pub closed_done : (f : GatherFields) (j : JobContents) (entries : List PageFields) (pages count size before : ℕ) (name text : List ℕ) (job : OpenJob)
+pub closed_done : (f : Gather) (j : JobContents) (entries : List PageFields) (pages count size before : ℕ) (name text : List ℕ) (job : OpenJob)
     → pages ≡ length f.pages → count + before ≡ job.entries → before ≡ length j.entries → Opens job (longer f j entries) → text ≡ job_text (longer f j entries) → size ≡ length text → name ≡ f.job
     → record { status = 0; text = gather_line pages count size; outputs = record { name = name; bytes = text } ∷ [] } ≡ done (gather_done f j entries)
 closed_done f j entries pages count size before name text job pages_are counted before_is opens text_is size_is name_is =
@@ -239,7 +239,7 @@ closed_done f j entries pages count size before name text job pages_are counted 
 -- ---- the reply
 
 -- the head is at fault
-pub gather_refused : {B : Type 0} (told : Option Files) (failed : Option (List ℕ) → Type 0) (a : Result Answer NoMemory) (f : GatherFields) (view : B → JobContents)
+pub gather_refused : {B : Type 0} (told : Option Files) (failed : Option (List ℕ) → Type 0) (a : Result Answer NoMemory) (f : Gather) (view : B → JobContents)
     (fault : FileFault) → IsInput told failed f.head head_in view (Err fault) → (fault ≡ faults.NoMemory → IsErr a)
     → IfOk a (λ x. reply_fields x ≡ refusal f.head fault) → IfOk a (λ x. IsReply (commands.Gather f) told failed (reply_fields x))
 gather_refused told failed a f view fault (g, read, gives, blamed) memory is =
@@ -249,7 +249,7 @@ gather_refused told failed a f view fault (g, read, gives, blamed) memory is =
     (λ refute. sym (ap (λ (x : Result JobContents FileFault). named f.head x
     >>= (λ j. pages_of f.job (length j.entries) f.pages rest.0 >>= (λ entries. Ok (gather_done f j entries)))) (gives refute))) memory is
 
-module _ {D : Type 0} (d : Ghosts D) (old mid new : D) (reads_ : OnlyReads d old mid) (f : GatherFields) (j : JobContents) where
+module _ {D : Type 0} (d : Ghosts D) (old mid new : D) (reads_ : OnlyReads d old mid) (f : Gather) (j : JobContents) where
   abbrev First : Option (List ℕ) → Type 0
   First = WhichFailed d old mid
 

@@ -7,7 +7,7 @@ use Rattle.outside_core.specs.Effects.{OnlyReads}
 use Rattle.outside_core.specs.Files.{Files}
 use Rattle.part_text.specs.SealedFields.{SealedFields}
 use Rattle.word_core.specs.declared.command.Command.TheVariants as commands
-use Rattle.word_core.specs.CommandFields.{QueryCertFields}
+use Rattle.word_core.specs.declared.command.QueryCert.{QueryCert}
 use Rattle.word_core.specs.Names.{inputs_of}
 use Rattle.clubcard_top.specs.declared.answer.Answer.{Answer}
 use Rattle.input_core.specs.declared.certificates.Certificate.{Certificate}
@@ -79,7 +79,7 @@ fault_at : {A : Type 0} (name : List ℕ) (read : List ℕ → Result A FileFaul
     → input_as read given ≡ Err fault → Err (record { name = name; fault = fault }) ≡ (input name read given >>= next)
 fault_at {A} name read given fault next gives = sym (ap (λ (z : Result A FileFault). named name z >>= next) gives)
 
-module _ (told : Option Files) (failed : Option (List ℕ) → Type 0) (r : Result Answer NoMemory) (q : QueryCertFields) where
+module _ (told : Option Files) (failed : Option (List ℕ) → Type 0) (r : Result Answer NoMemory) (q : QueryCert) where
   abbrev Refusing : List ℕ → FileFault → Type 0
   Refusing name fault = (fault ≡ faults.NoMemory → IsErr r) → IfOk r (λ a. reply_fields a ≡ refusal name fault) → IfOk r (λ a. IsReply (commands.QueryCert q) told failed (reply_fields a))
 

@@ -16,7 +16,7 @@ use Rattle.publication_core.specs.Formats.{current}
 use Rattle.publication_core.specs.Histories.{History, of_jobs, with_job, with_jobs, chain}
 use Rattle.publication_core.specs.Rehearsing.{RehearsalFields, IsOf}
 use Rattle.word_core.specs.declared.command.Command.TheVariants as commands
-use Rattle.word_core.specs.CommandFields.{RehearseFields}
+use Rattle.word_core.specs.declared.command.Rehearse.{Rehearse}
 use Rattle.clubcard_top.specs.declared.answer.Answer.{Answer}
 use Rattle.input_core.specs.declared.fault.FileFault.{FileFault}
 use Rattle.input_core.specs.declared.fault.FileFault.TheVariants as faults
@@ -191,7 +191,7 @@ module _ (told : Option Files) (names : List (List ℕ)) where
 -- ---- the reply
 
 -- the queries are at fault
-pub rehearse_refused : {B : Type 0} (told : Option Files) (failed : Option (List ℕ) → Type 0) (a : Result Answer NoMemory) (r : RehearseFields) (view : B → List Query)
+pub rehearse_refused : {B : Type 0} (told : Option Files) (failed : Option (List ℕ) → Type 0) (a : Result Answer NoMemory) (r : Rehearse) (view : B → List Query)
     (fault : FileFault) → IsInput told failed r.queries queries_in view (Err fault) → (fault ≡ faults.NoMemory → IsErr a)
     → IfOk a (λ x. reply_fields x ≡ refusal r.queries fault) → IfOk a (λ x. IsReply (commands.Rehearse r) told failed (reply_fields x))
 rehearse_refused told failed a r view fault (g, read, gives, blamed) memory is =
@@ -200,7 +200,7 @@ rehearse_refused told failed a r view fault (g, read, gives, blamed) memory is =
     (blames_file failed (r.queries ∷ r.jobs) r.queries fault (inl refl) blamed)
     (λ refute. subst (λ (x : Result (List Query) FileFault). MakesRehearsal r (named r.queries x) rest.0 (Err (record { name = r.queries; fault = fault }))) (sym (gives refute)) refl) memory is
 
-module _ {D : Type 0} (d : Ghosts D) (old mid new : D) (reads_ : OnlyReads d old mid) (r : RehearseFields) where
+module _ {D : Type 0} (d : Ghosts D) (old mid new : D) (reads_ : OnlyReads d old mid) (r : Rehearse) where
   abbrev First : Option (List ℕ) → Type 0
   First = WhichFailed d old mid
 

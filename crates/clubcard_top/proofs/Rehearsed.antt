@@ -19,7 +19,7 @@ use Rattle.card_core.specs.declared.verdict.Verdict.{Verdict}
 use Rattle.publication_core.specs.Histories.{chain, IsHistory}
 use Rattle.word_core.specs.declared.command.Command.{Command}
 use Rattle.word_core.specs.declared.command.Command.TheVariants as commands
-use Rattle.word_core.specs.CommandFields.{RehearseFields}
+use Rattle.word_core.specs.declared.command.Rehearse.{Rehearse}
 use Rattle.line_core.specs.Lines.{line}
 use Rattle.input_core.specs.declared.fault.FileFault.TheVariants as faults
 use Rattle.input_core.specs.Faults.{of_queries, of_job}
@@ -99,7 +99,7 @@ module _ (layers : Layers) (files : Files) where
   IsRehearsal asked d = (queries : List Query) × (jobs : List JobFields) × (parts : List SealedFields) × RehearsesJobs asked files queries jobs
       × IsRehearsed queries jobs parts × (d ≡ rehearsed queries jobs parts)
 
-  rehearsed_as : (r : RehearseFields) (d : Done) (queries : List Query) → HoldsQueries files r.queries queries → Follows queries [] r.jobs d → IsRehearsal (commands.Rehearse r) d
+  rehearsed_as : (r : Rehearse) (d : Done) (queries : List Query) → HoldsQueries files r.queries queries → Follows queries [] r.jobs d → IsRehearsal (commands.Rehearse r) d
   rehearsed_as r d queries held f = (
     queries,
     f.others,
@@ -113,14 +113,14 @@ module _ (layers : Layers) (files : Files) where
     f.done,
   )
 
-  rehearsed_by : (r : RehearseFields) (d : Done) (queries : Result (List Query) NamedFault) → input r.queries queries_in (get files r.queries) ≡ queries
+  rehearsed_by : (r : Rehearse) (d : Done) (queries : Result (List Query) NamedFault) → input r.queries queries_in (get files r.queries) ≡ queries
       → MakesRehearsal r queries (map (get files) r.jobs) (Ok d)
       → IsRehearsal (commands.Rehearse r) d
   rehearsed_by r d (Ok queries) is m = rehearsed_as r d queries (queries_held files r.queries queries (get files r.queries) refl is)
       (follows queries [] [] r.jobs d tt (from_first queries r.jobs (map (get files) r.jobs) (Ok d) m))
   rehearsed_by r d (Err e) is m = absurd (not_ok d e (sym m))
 
-  pub rehearsed_law : (asked : Command) (r : RehearseFields) (d : Done) → asked ≡ commands.Rehearse r → Makes asked (held_by asked files) (Ok d) → IsRehearsal asked d
+  pub rehearsed_law : (asked : Command) (r : Rehearse) (d : Done) → asked ≡ commands.Rehearse r → Makes asked (held_by asked files) (Ok d) → IsRehearsal asked d
   rehearsed_law asked r d is m =
       subst (λ (c : Command). IsRehearsal c d) (sym is)
       (rehearsed_by r d (input r.queries queries_in (get files r.queries)) refl (subst (λ (c : Command). Makes c (held_by c files) (Ok d)) is m))

@@ -21,7 +21,8 @@ use Rattle.publication_core.specs.declared.base_fault.BaseFault.TheVariants as b
 use Rattle.publication_core.specs.Rebasing.{BasePublicationFields, PublishesBase}
 use Rattle.word_core.specs.declared.command.Command.{Command}
 use Rattle.word_core.specs.declared.command.Command.TheVariants as commands
-use Rattle.word_core.specs.CommandFields.{QueryFields, SnapshotFields, DeltaFields, RebaseFields, StartFields, InstallFields}
+use Rattle.word_core.specs.declared.command.{Query.Query, Snapshot.Snapshot, Delta.Delta, Rebase.Rebase, Start.Start}
+use Rattle.word_core.specs.declared.command.{Install.Install}
 use Rattle.word_core.specs.Names.{inputs_of}
 use Rattle.clubcard_top.specs.declared.answer.Answer.{Answer}
 use Rattle.input_core.specs.declared.fault.FileFault.{FileFault}
@@ -101,13 +102,13 @@ module _ (told : Option Files) (failed : Option (List ℕ) → Type 0) (r : Resu
       made_unless c told failed (given ∷ []) name fault r (reads_ given is_read) (blames_file failed (inputs_of c) name fault among blamed)
       (λ refute. makes given (ap (named name) (gives refute))) memory is
 
-  pub query_refused : {B : Type 0} (q : QueryFields) (view : B → List SealedFields) (fault : FileFault) → IsInput told failed q.store store_in view (Err fault) → (fault ≡ faults.NoMemory → IsErr r)
+  pub query_refused : {B : Type 0} (q : Query) (view : B → List SealedFields) (fault : FileFault) → IsInput told failed q.store store_in view (Err fault) → (fault ≡ faults.NoMemory → IsErr r)
       → IfOk r (λ a. reply_fields a ≡ refusal q.store fault) → IfOk r (λ a. IsReply (commands.Query q) told failed (reply_fields a))
   query_refused q view fault in_ memory is =
       one_refused (commands.Query q) q.store store_in view fault (λ g read. (read, tt))
       (λ g h. sym (ap (λ (x : Result (List SealedFields) NamedFault). x >>= (λ ps. Ok (query_done q ps))) h)) (inl refl) in_ memory is
 
-  pub query_made : {B : Type 0} (q : QueryFields) (view : B → List SealedFields) (x : B) → IsInput told failed q.store store_in view (Ok x)
+  pub query_made : {B : Type 0} (q : Query) (view : B → List SealedFields) (x : B) → IsInput told failed q.store store_in view (Ok x)
       → IfOk r (λ a. reply_fields a ≡ done (query_done q (view x)))
       → IfOk r (λ a. IsReply (commands.Query q) told failed (reply_fields a))
   query_made q view x (given, read, gives, blamed) is =
@@ -128,26 +129,26 @@ module _ (told : Option Files) (failed : Option (List ℕ) → Type 0) (r : Resu
 
   -- ---- start
 
-  pub start_refused : {B : Type 0} (t : StartFields) (view : B → SealedFields × ℕ) (fault : FileFault) → IsInput told failed t.part part_in view (Err fault) → (fault ≡ faults.NoMemory → IsErr r)
+  pub start_refused : {B : Type 0} (t : Start) (view : B → SealedFields × ℕ) (fault : FileFault) → IsInput told failed t.part part_in view (Err fault) → (fault ≡ faults.NoMemory → IsErr r)
       → IfOk r (λ a. reply_fields a ≡ refusal t.part fault) → IfOk r (λ a. IsReply (commands.Start t) told failed (reply_fields a))
   start_refused t view fault in_ memory is =
       one_refused (commands.Start t) t.part part_in view fault (λ g read. (read, tt)) (λ g h. sym (ap (λ (x : Result (SealedFields × ℕ) NamedFault). x >>= start_after t) h)) (inl refl) in_ memory is
 
   -- what follows the part that was read
-  start_step : (t : StartFields) (x : SealedFields × ℕ) (given : Option (List ℕ)) (y : Result (List SealedFields) FileFault) → input_as part_in given ≡ Ok x → begun x.0 ≡ y
+  start_step : (t : Start) (x : SealedFields × ℕ) (given : Option (List ℕ)) (y : Result (List SealedFields) FileFault) → input_as part_in given ≡ Ok x → begun x.0 ≡ y
       → (named t.part y >>= (λ parts. Ok (stored t.store parts))) ≡ (input t.part part_in given >>= start_after t)
   start_step t x given y gives is =
       ap (λ (z : Result (List SealedFields) FileFault). named t.part z >>= (λ parts. Ok (stored t.store parts))) (sym is)
       ∙ sym (ap (λ (z : Result (SealedFields × ℕ) FileFault). named t.part z >>= start_after t) gives)
 
-  pub start_made : {B C : Type 0} (t : StartFields) (view : B → SealedFields × ℕ) (x : B) (shape : C → List SealedFields) (y : C) → IsInput told failed t.part part_in view (Ok x)
+  pub start_made : {B C : Type 0} (t : Start) (view : B → SealedFields × ℕ) (x : B) (shape : C → List SealedFields) (y : C) → IsInput told failed t.part part_in view (Ok x)
       → GivesUnless faults.NoMemory shape (Ok y) (begun (view x).0) → IfOk r (λ a. reply_fields a ≡ done (stored t.store (shape y)))
       → IfOk r (λ a. IsReply (commands.Start t) told failed (reply_fields a))
   start_made t view x shape y (given, read, gives, blamed) is_begun is =
       made (commands.Start t) told failed (given ∷ []) (Ok (stored t.store (shape y))) r (read, tt) (inl (none_failed failed t.part faults.Unread x blamed))
       (start_step t (view x) given (Ok (shape y)) gives is_begun) is
 
-  pub start_not : {B C : Type 0} (t : StartFields) (view : B → SealedFields × ℕ) (x : B) (shape : C → List SealedFields) (fault : FileFault) → IsInput told failed t.part part_in view (Ok x)
+  pub start_not : {B C : Type 0} (t : Start) (view : B → SealedFields × ℕ) (x : B) (shape : C → List SealedFields) (fault : FileFault) → IsInput told failed t.part part_in view (Ok x)
       → GivesUnless faults.NoMemory shape (Err fault) (begun (view x).0) → (fault ≡ faults.NoMemory → IsErr r) → IfOk r (λ a. reply_fields a ≡ refusal t.part fault)
       → IfOk r (λ a. IsReply (commands.Start t) told failed (reply_fields a))
   start_not t view x shape fault (given, read, gives, blamed) not_begun memory is =
@@ -156,17 +157,17 @@ module _ (told : Option Files) (failed : Option (List ℕ) → Type 0) (r : Resu
 
   -- ---- snapshot
 
-  pub snapshot_refused : {B : Type 0} (s : SnapshotFields) (view : B → JobFields) (fault : FileFault) → IsInput told failed s.job job_in view (Err fault) → (fault ≡ faults.NoMemory → IsErr r)
+  pub snapshot_refused : {B : Type 0} (s : Snapshot) (view : B → JobFields) (fault : FileFault) → IsInput told failed s.job job_in view (Err fault) → (fault ≡ faults.NoMemory → IsErr r)
       → IfOk r (λ a. reply_fields a ≡ refusal s.job fault) → IfOk r (λ a. IsReply (commands.Snapshot s) told failed (reply_fields a))
   snapshot_refused s view fault in_ memory is =
       one_refused (commands.Snapshot s) s.job job_in view fault (λ g read. (read, tt))
       (λ g h. subst (λ (x : Result JobFields NamedFault). MakesSnapshot s x (Err (record { name = s.job; fault = fault }))) (sym h) refl) (inl refl) in_ memory is
 
-  snapshot_step : (s : SnapshotFields) (j : JobFields) (given : Option (List ℕ)) (o : Result Done NamedFault) → input_as job_in given ≡ Ok j → MakesPart s.job s.part s.ledger no_ledger j o
+  snapshot_step : (s : Snapshot) (j : JobFields) (given : Option (List ℕ)) (o : Result Done NamedFault) → input_as job_in given ≡ Ok j → MakesPart s.job s.part s.ledger no_ledger j o
       → Makes (commands.Snapshot s) (given ∷ []) o
   snapshot_step s j given o gives m = subst (λ (x : Result JobFields FileFault). MakesSnapshot s (named s.job x) o) (sym gives) m
 
-  pub snapshot_made : {B : Type 0} (s : SnapshotFields) (view : B → JobFields) (x : B) (p : PublicationFields) → IsInput told failed s.job job_in view (Ok x)
+  pub snapshot_made : {B : Type 0} (s : Snapshot) (view : B → JobFields) (x : B) (p : PublicationFields) → IsInput told failed s.job job_in view (Ok x)
       → FitsFields (view x) → IsWithinLimits PUBLISHED (view x)
       → Publishes no_ledger (view x) (Ok p) → IfOk r (λ a. reply_fields a ≡ done (publication_done s.part s.ledger p)) → IfOk r (λ a. IsReply (commands.Snapshot s) told failed (reply_fields a))
   snapshot_made s view x p (given, read, gives, blamed) fits limits publishes is =
@@ -189,7 +190,7 @@ base_err : (before : LedgerFields) (moment : ℕ) (without : List (List ℕ)) (f
 base_err before moment without fault h refute = h (λ e. refute (ap of_rebasing (err_same {A = BasePublicationFields} fault bases.NoMemory e)))
 
 module _ (told : Option Files) (failed : Option (List ℕ) → Type 0) (r : Result Answer NoMemory) where
-  pub snapshot_not : {B : Type 0} (s : SnapshotFields) (view : B → JobFields) (x : B) (fault : PublishFault) → IsInput told failed s.job job_in view (Ok x)
+  pub snapshot_not : {B : Type 0} (s : Snapshot) (view : B → JobFields) (x : B) (fault : PublishFault) → IsInput told failed s.job job_in view (Ok x)
       → FitsFields (view x) → IsWithinLimits PUBLISHED (view x)
       → NotPublished no_ledger (view x) fault → (of_publishing fault ≡ faults.NoMemory → IsErr r) → IfOk r (λ a. reply_fields a ≡ refusal s.job (of_publishing fault))
       → IfOk r (λ a. IsReply (commands.Snapshot s) told failed (reply_fields a))
@@ -200,23 +201,23 @@ module _ (told : Option Files) (failed : Option (List ℕ) → Type 0) (r : Resu
 
   -- ---- rebase
 
-  pub rebase_refused : {B : Type 0} (b : RebaseFields) (view : B → LedgerFields) (fault : FileFault) → IsInput told failed b.ledger ledger_in view (Err fault) → (fault ≡ faults.NoMemory → IsErr r)
+  pub rebase_refused : {B : Type 0} (b : Rebase) (view : B → LedgerFields) (fault : FileFault) → IsInput told failed b.ledger ledger_in view (Err fault) → (fault ≡ faults.NoMemory → IsErr r)
       → IfOk r (λ a. reply_fields a ≡ refusal b.ledger fault) → IfOk r (λ a. IsReply (commands.Rebase b) told failed (reply_fields a))
   rebase_refused b view fault in_ memory is =
       one_refused told failed r (commands.Rebase b) b.ledger ledger_in view fault (λ g read. (read, tt))
       (λ g h. subst (λ (x : Result LedgerFields NamedFault). MakesRebase b x (Err (record { name = b.ledger; fault = fault }))) (sym h) refl) (inl refl) in_ memory is
 
-  rebase_step : (b : RebaseFields) (l : LedgerFields) (given : Option (List ℕ)) (o : Result Done NamedFault) → input_as ledger_in given ≡ Ok l → MakesBase b l o
+  rebase_step : (b : Rebase) (l : LedgerFields) (given : Option (List ℕ)) (o : Result Done NamedFault) → input_as ledger_in given ≡ Ok l → MakesBase b l o
       → Makes (commands.Rebase b) (given ∷ []) o
   rebase_step b l given o gives m = subst (λ (x : Result LedgerFields FileFault). MakesRebase b (named b.ledger x) o) (sym gives) m
 
-  pub rebase_made : {B : Type 0} (b : RebaseFields) (view : B → LedgerFields) (x : B) (p : BasePublicationFields) → IsInput told failed b.ledger ledger_in view (Ok x)
+  pub rebase_made : {B : Type 0} (b : Rebase) (view : B → LedgerFields) (x : B) (p : BasePublicationFields) → IsInput told failed b.ledger ledger_in view (Ok x)
       → PublishesBase (view x) b.moment b.without (Ok p) → IfOk r (λ a. reply_fields a ≡ done (base_done b p)) → IfOk r (λ a. IsReply (commands.Rebase b) told failed (reply_fields a))
   rebase_made b view x p (given, read, gives, blamed) publishes is =
       made (commands.Rebase b) told failed (given ∷ []) (Ok (base_done b p)) r (read, tt) (inl (none_failed failed b.ledger faults.Unread x blamed))
       (rebase_step b (view x) given (Ok (base_done b p)) gives (record { result = Ok p; publishes = publishes; is = refl })) is
 
-  pub rebase_not : {B : Type 0} (b : RebaseFields) (view : B → LedgerFields) (x : B) (fault : BaseFault) → IsInput told failed b.ledger ledger_in view (Ok x)
+  pub rebase_not : {B : Type 0} (b : Rebase) (view : B → LedgerFields) (x : B) (fault : BaseFault) → IsInput told failed b.ledger ledger_in view (Ok x)
       → NotRebased (view x) b.moment b.without fault → (of_rebasing fault ≡ faults.NoMemory → IsErr r) → IfOk r (λ a. reply_fields a ≡ refusal b.ledger (of_rebasing fault))
       → IfOk r (λ a. IsReply (commands.Rebase b) told failed (reply_fields a))
   rebase_not b view x fault (given, read, gives, blamed) publishes memory is =
@@ -260,17 +261,17 @@ module _ {D : Type 0} (g : Ghosts D) (old mid new : D) (reads_ : OnlyReads g old
 
   -- ---- delta
 
-  delta_step : (t : DeltaFields) (j : JobFields) (given : Option (List ℕ)) (l : Option (List ℕ)) (o : Result Done NamedFault) → input_as job_in given ≡ Ok j
+  delta_step : (t : Delta) (j : JobFields) (given : Option (List ℕ)) (l : Option (List ℕ)) (o : Result Done NamedFault) → input_as job_in given ≡ Ok j
       → MakesDelta t (Ok j) (input t.ledger ledger_in l) o → Makes (commands.Delta t) (given ∷ l ∷ []) o
   delta_step t j given l o gives m = subst (λ (x : Result JobFields FileFault). MakesDelta t (named t.job x) (input t.ledger ledger_in l) o) (sym gives) m
 
-  delta_then : (t : DeltaFields) (j : JobFields) (l : LedgerFields) (given given_ledger : Option (List ℕ)) (o : Result Done NamedFault)
+  delta_then : (t : Delta) (j : JobFields) (l : LedgerFields) (given given_ledger : Option (List ℕ)) (o : Result Done NamedFault)
       → input_as job_in given ≡ Ok j → input_as ledger_in given_ledger ≡ Ok l
       → MakesPart t.job t.part t.new_ledger l j o → Makes (commands.Delta t) (given ∷ given_ledger ∷ []) o
   delta_then t j l given given_ledger o gives gives_ledger m =
       delta_step t j given given_ledger o gives (subst (λ (x : Result LedgerFields FileFault). MakesDelta t (Ok j) (named t.ledger x) o) (sym gives_ledger) m)
 
-  pub delta_no_ledger : {B C : Type 0} (t : DeltaFields) (view : B → JobFields) (x : B) (shape : C → LedgerFields) (fault : FileFault) → IsInput (g.files old) First t.job job_in view (Ok x)
+  pub delta_no_ledger : {B C : Type 0} (t : Delta) (view : B → JobFields) (x : B) (shape : C → LedgerFields) (fault : FileFault) → IsInput (g.files old) First t.job job_in view (Ok x)
       → IsInput (g.files mid) Second t.ledger ledger_in shape (Err fault) → (fault ≡ faults.NoMemory → IsErr r) → IfOk r (λ a. reply_fields a ≡ refusal t.ledger fault)
       → IfOk r (λ a. IsReply (commands.Delta t) (g.files old) Both (reply_fields a))
   delta_no_ledger {B} {C} t view x shape fault (given, read, gives, blamed) (more, read_ledger, gives_ledger, blamed_ledger) memory is =
@@ -279,7 +280,7 @@ module _ {D : Type 0} (g : Ghosts D) (old mid new : D) (reads_ : OnlyReads g old
       (λ refute. delta_step t (view x) given more (Err (record { name = t.ledger; fault = fault })) gives
       (subst (λ (y : Result LedgerFields FileFault). MakesDelta t (Ok (view x)) (named t.ledger y) (Err (record { name = t.ledger; fault = fault }))) (sym (gives_ledger refute)) refl)) memory is
 
-  pub delta_made : {B C : Type 0} (t : DeltaFields) (view : B → JobFields) (x : B) (shape : C → LedgerFields) (l : C) (p : PublicationFields) → IsInput (g.files old) First t.job job_in view (Ok x)
+  pub delta_made : {B C : Type 0} (t : Delta) (view : B → JobFields) (x : B) (shape : C → LedgerFields) (l : C) (p : PublicationFields) → IsInput (g.files old) First t.job job_in view (Ok x)
       → IsInput (g.files mid) Second t.ledger ledger_in shape (Ok l) → FitsFields (view x) → IsWithinLimits PUBLISHED (view x) → Publishes (shape l) (view x) (Ok p)
       → IfOk r (λ a. reply_fields a ≡ done (publication_done t.part t.new_ledger p)) → IfOk r (λ a. IsReply (commands.Delta t) (g.files old) Both (reply_fields a))
   delta_made t view x shape l p (given, read, gives, blamed) (more, read_ledger, gives_ledger, blamed_ledger) fits limits publishes is =
@@ -288,7 +289,7 @@ module _ {D : Type 0} (g : Ghosts D) (old mid new : D) (reads_ : OnlyReads g old
       (delta_then t (view x) (shape l) given more (Ok (publication_done t.part t.new_ledger p)) gives gives_ledger
       (record { fits = fits; limits = limits; result = Ok p; publishes = publishes; is = refl })) is
 
-  pub delta_not : {B C : Type 0} (t : DeltaFields) (view : B → JobFields) (x : B) (shape : C → LedgerFields) (l : C) (fault : PublishFault) → IsInput (g.files old) First t.job job_in view (Ok x)
+  pub delta_not : {B C : Type 0} (t : Delta) (view : B → JobFields) (x : B) (shape : C → LedgerFields) (l : C) (fault : PublishFault) → IsInput (g.files old) First t.job job_in view (Ok x)
       → IsInput (g.files mid) Second t.ledger ledger_in shape (Ok l) → FitsFields (view x) → IsWithinLimits PUBLISHED (view x) → NotPublished (shape l) (view x) fault
       → (of_publishing fault ≡ faults.NoMemory → IsErr r) → IfOk r (λ a. reply_fields a ≡ refusal t.job (of_publishing fault))
       → IfOk r (λ a. IsReply (commands.Delta t) (g.files old) Both (reply_fields a))
@@ -300,18 +301,18 @@ module _ {D : Type 0} (g : Ghosts D) (old mid new : D) (reads_ : OnlyReads g old
 
   -- ---- install
 
-  install_step : (i : InstallFields) (parts : List SealedFields) (given more : Option (List ℕ)) (y : Result (SealedFields × ℕ) FileFault)
+  install_step : (i : Install) (parts : List SealedFields) (given more : Option (List ℕ)) (y : Result (SealedFields × ℕ) FileFault)
       → input_as store_in given ≡ Ok parts → input_as part_in more ≡ y
       → (named i.part y >>= install_then i parts) ≡ (input i.store store_in given >>= install_after i more)
   install_step i parts given more y gives is =
       ap (λ (z : Result (SealedFields × ℕ) FileFault). named i.part z >>= install_then i parts) (sym is)
       ∙ sym (ap (λ (z : Result (List SealedFields) FileFault). named i.store z >>= install_after i more) gives)
 
-  install_last : (i : InstallFields) (parts : List SealedFields) (x : SealedFields × ℕ) (y : Result (List SealedFields) FileFault) → installed parts x.0 ≡ y
+  install_last : (i : Install) (parts : List SealedFields) (x : SealedFields × ℕ) (y : Result (List SealedFields) FileFault) → installed parts x.0 ≡ y
       → (named i.part y >>= (λ more. Ok (stored i.new_store more))) ≡ install_then i parts x
   install_last i parts x y is = ap (λ (z : Result (List SealedFields) FileFault). named i.part z >>= (λ more. Ok (stored i.new_store more))) (sym is)
 
-  pub install_no_part : {B C : Type 0} (i : InstallFields) (view : B → List SealedFields) (x : B) (shape : C → SealedFields × ℕ) (fault : FileFault)
+  pub install_no_part : {B C : Type 0} (i : Install) (view : B → List SealedFields) (x : B) (shape : C → SealedFields × ℕ) (fault : FileFault)
       → IsInput (g.files old) First i.store store_in view (Ok x)
       → IsInput (g.files mid) Second i.part part_in shape (Err fault) → (fault ≡ faults.NoMemory → IsErr r) → IfOk r (λ a. reply_fields a ≡ refusal i.part fault)
       → IfOk r (λ a. IsReply (commands.Install i) (g.files old) Both (reply_fields a))
@@ -320,7 +321,7 @@ module _ {D : Type 0} (g : Ghosts D) (old mid new : D) (reads_ : OnlyReads g old
       (both_read i.store x blamed i.part store_in (view x) given more gives read read_part) (second_blamed i.store x blamed {C = C} i.part fault blamed_part)
       (λ refute. install_step i (view x) given more (Err fault) gives (gives_part refute)) memory is
 
-  pub install_made : {B C E : Type 0} (i : InstallFields) (view : B → List SealedFields) (x : B) (shape : C → SealedFields × ℕ) (p : C) (form : E → List SealedFields) (y : E)
+  pub install_made : {B C E : Type 0} (i : Install) (view : B → List SealedFields) (x : B) (shape : C → SealedFields × ℕ) (p : C) (form : E → List SealedFields) (y : E)
       → IsInput (g.files old) First i.store store_in view (Ok x) → IsInput (g.files mid) Second i.part part_in shape (Ok p)
       → GivesUnless faults.NoMemory form (Ok y) (installed (view x) (shape p).0)
       → IfOk r (λ a. reply_fields a ≡ done (stored i.new_store (form y))) → IfOk r (λ a. IsReply (commands.Install i) (g.files old) Both (reply_fields a))
@@ -329,7 +330,7 @@ module _ {D : Type 0} (g : Ghosts D) (old mid new : D) (reads_ : OnlyReads g old
       (both_read i.store x blamed i.part store_in (view x) given more gives read read_part) (inl (both_well i.store x blamed i.part p blamed_part))
       (install_last i (view x) (shape p) (Ok (form y)) grown ∙ install_step i (view x) given more (Ok (shape p)) gives gives_part) is
 
-  pub install_not : {B C : Type 0} (i : InstallFields) (view : B → List SealedFields) (x : B) (shape : C → SealedFields × ℕ) (p : C) (fault : FileFault)
+  pub install_not : {B C : Type 0} (i : Install) (view : B → List SealedFields) (x : B) (shape : C → SealedFields × ℕ) (p : C) (fault : FileFault)
       → IsInput (g.files old) First i.store store_in view (Ok x) → IsInput (g.files mid) Second i.part part_in shape (Ok p)
       → installed (view x) (shape p).0 ≡ Err fault
       → (fault ≡ faults.NoMemory → IsErr r) → IfOk r (λ a. reply_fields a ≡ refusal i.part fault) → IfOk r (λ a. IsReply (commands.Install i) (g.files old) Both (reply_fields a))
@@ -340,7 +341,7 @@ module _ {D : Type 0} (g : Ghosts D) (old mid new : D) (reads_ : OnlyReads g old
 
 -- the first of two inputs is at fault
 module _ (told : Option Files) (failed : Option (List ℕ) → Type 0) (r : Result Answer NoMemory) where
-  pub delta_refused : {B : Type 0} (t : DeltaFields) (view : B → JobFields) (fault : FileFault) → IsInput told failed t.job job_in view (Err fault) → (fault ≡ faults.NoMemory → IsErr r)
+  pub delta_refused : {B : Type 0} (t : Delta) (view : B → JobFields) (fault : FileFault) → IsInput told failed t.job job_in view (Err fault) → (fault ≡ faults.NoMemory → IsErr r)
       → IfOk r (λ a. reply_fields a ≡ refusal t.job fault) → IfOk r (λ a. IsReply (commands.Delta t) told failed (reply_fields a))
   delta_refused t view fault (given, read, gives, blamed) memory is =
       let l = some_read told failed t.ledger in
@@ -349,7 +350,7 @@ module _ (told : Option Files) (failed : Option (List ℕ) → Type 0) (r : Resu
       (λ refute. subst (λ (x : Result JobFields FileFault). MakesDelta t (named t.job x) (input t.ledger ledger_in l.0)
       (Err (record { name = t.job; fault = fault }))) (sym (gives refute)) refl) memory is
 
-  pub install_refused : {B : Type 0} (i : InstallFields) (view : B → List SealedFields) (fault : FileFault)
+  pub install_refused : {B : Type 0} (i : Install) (view : B → List SealedFields) (fault : FileFault)
       → IsInput told failed i.store store_in view (Err fault) → (fault ≡ faults.NoMemory → IsErr r)
       → IfOk r (λ a. reply_fields a ≡ refusal i.store fault) → IfOk r (λ a. IsReply (commands.Install i) told failed (reply_fields a))
   install_refused i view fault (given, read, gives, blamed) memory is =

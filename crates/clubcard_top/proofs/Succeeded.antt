@@ -28,9 +28,12 @@ use Rattle.publication_core.specs.Publishing.{PublicationFields as Publication, 
 use Rattle.publication_core.specs.declared.base_fault.BaseFault.{BaseFault}
 use Rattle.publication_core.specs.Rebasing.{BasePublicationFields, IsBasePublication, PublishesBase, CanBeRebased}
 use Rattle.word_core.specs.declared.command.Command.{Command}
-use Rattle.word_core.specs.Names.{outputs_of}
+use Rattle.word_core.specs.Names.{inputs_of, outputs_of, IsApart}
+use Rattle.word_core.proofs.Asked.{AreApart, names_apart}
 use Rattle.word_core.specs.declared.command.Command.TheVariants as commands
-use Rattle.word_core.specs.CommandFields.{QueryFields, QueryCertFields, SnapshotFields, DeltaFields, RebaseFields, StartFields, InstallFields, SampleFields, GatherFields, AuditFields}
+use Rattle.word_core.specs.declared.command.{Query.Query, QueryCert.QueryCert, Snapshot.Snapshot, Delta.Delta}
+use Rattle.word_core.specs.declared.command.{Rebase.Rebase, Start.Start, Install.Install, Audit.Audit, Sample.Sample}
+use Rattle.word_core.specs.declared.command.{Gather.Gather}
 use Rattle.input_core.specs.declared.certificates.Certificate.{Certificate}
 use Rattle.input_core.specs.declared.fault.FileFault.{FileFault}
 use Rattle.input_core.specs.declared.fault.FileFault.TheVariants as faults
@@ -54,37 +57,8 @@ use Rattle.clubcard_top.proofs.PagesPut.{behind_these, page_put}
 use Rattle.clubcard_top.proofs.Results.{ok_same}
 use Rattle.clubcard_top.proofs.Outputs.{names_of, keeps-written}
 use Rattle.clubcard_top.proofs.Promised.{answers, sure}
-use Rattle.clubcard_top.proofs.WordsApart.{IsApart}
 
 -- ---- files after a write
-
--- names of which no two are the same
-abbrev pub AreApart : List (List ℕ) → Type 0
-AreApart [] = Unit {0}
-AreApart (name ∷ names) = All (λ other. name ≢ other) names × AreApart names
-
-none_apart : (name : List ℕ) → AreApart (name ∷ [])
-none_apart name = (All-nil (λ other. name ≢ other), tt)
-
-two_apart : (a b : List ℕ) → a ≢ b → AreApart (a ∷ b ∷ [])
-two_apart a b apart = (All-cons (λ other. a ≢ other) b [] apart (All-nil (λ other. a ≢ other)), none_apart b)
-
--- the names of a command's outputs
-pub outputs_apart : (c : Command) → IsApart c → AreApart (outputs_of c)
-outputs_apart (commands.Snapshot s) apart = two_apart s.part s.ledger apart
-outputs_apart (commands.Delta d) apart = two_apart d.part d.new_ledger apart
-outputs_apart (commands.Rebase r) apart = two_apart r.part r.new_ledger apart
-outputs_apart (commands.Start t) apart = none_apart t.store
-outputs_apart (commands.Install i) apart = none_apart i.new_store
-outputs_apart (commands.Sample s) apart = none_apart s.job
-outputs_apart (commands.Gather g) apart = none_apart g.job
-outputs_apart commands.Usage apart = tt
-outputs_apart (commands.Query q) apart = tt
-outputs_apart (commands.QueryCert q) apart = tt
-outputs_apart (commands.Check n) apart = tt
-outputs_apart (commands.Show n) apart = tt
-outputs_apart (commands.Rehearse r) apart = tt
-outputs_apart (commands.Audit a) apart = tt
 
 get-same : (files : Files) (name bytes : List ℕ) → get (insert files name bytes) name ≡ Some bytes
 get-same files name bytes =
@@ -167,12 +141,12 @@ published_ok job part ledger before j (Ok p) d is h =
 published_ok job part ledger before j (Err fault) d is h =
     absurd (not_fault d (record { name = job; fault = of_publishing fault }) (sym h))
 
-snapshot_ok : (s : SnapshotFields) (r : Result JobFields NamedFault) (d : Done) → MakesSnapshot s r (Ok d)
+snapshot_ok : (s : Snapshot) (r : Result JobFields NamedFault) (d : Done) → MakesSnapshot s r (Ok d)
     → (j : JobFields) × (r ≡ Ok j) × MakesPart s.job s.part s.ledger no_ledger j (Ok d)
 snapshot_ok s (Ok j) d m = (j, refl, m)
 snapshot_ok s (Err e) d m = absurd (not_fault d e (sym m))
 
-delta_ok : (t : DeltaFields) (r : Result JobFields NamedFault) (l : Result LedgerFields NamedFault) (d : Done)
+delta_ok : (t : Delta) (r : Result JobFields NamedFault) (l : Result LedgerFields NamedFault) (d : Done)
     → MakesDelta t r l (Ok d)
     → (j : JobFields) × (before : LedgerFields) × (r ≡ Ok j) × (l ≡ Ok before)
     × MakesPart t.job t.part t.new_ledger before j (Ok d)
@@ -180,12 +154,12 @@ delta_ok t (Ok j) (Ok before) d m = (j, before, refl, refl, m)
 delta_ok t (Ok j) (Err e) d m = absurd (not_fault d e (sym m))
 delta_ok t (Err e) l d m = absurd (not_fault d e (sym m))
 
-rebase_ok : (r : RebaseFields) (l : Result LedgerFields NamedFault) (d : Done) → MakesRebase r l (Ok d)
+rebase_ok : (r : Rebase) (l : Result LedgerFields NamedFault) (d : Done) → MakesRebase r l (Ok d)
     → (before : LedgerFields) × (l ≡ Ok before) × MakesBase r before (Ok d)
 rebase_ok r (Ok before) d m = (before, refl, m)
 rebase_ok r (Err e) d m = absurd (not_fault d e (sym m))
 
-based_ok : (r : RebaseFields) (before : LedgerFields) (x : Result BasePublicationFields BaseFault) (d : Done)
+based_ok : (r : Rebase) (before : LedgerFields) (x : Result BasePublicationFields BaseFault) (d : Done)
     → PublishesBase before r.moment r.without x → Ok d ≡ rebased_as r x
     → (p : BasePublicationFields) × IsBasePublication before r.moment r.without p × (d ≡ base_done r p)
 based_ok r before (Ok p) d is h = (p, is, ok_same {E = NamedFault} d (base_done r p) h)
@@ -200,7 +174,7 @@ makes_this job part ledger before j o p x m =
     record { fits = m.fits; limits = m.limits; result = Ok p; publishes = x; is = refl }
 
 -- `delta` over inputs that were read
-both_read : (t : DeltaFields) (files : Files) (job : JobFields) (before : LedgerFields) (o : Result Done NamedFault)
+both_read : (t : Delta) (files : Files) (job : JobFields) (before : LedgerFields) (o : Result Done NamedFault)
     → input t.job job_in (get files t.job) ≡ Ok job → input t.ledger ledger_in (get files t.ledger) ≡ Ok before
     → Makes (commands.Delta t) (held_by (commands.Delta t) files) o
     → MakesPart t.job t.part t.new_ledger before job o
@@ -208,7 +182,7 @@ both_read t files job before o job_is ledger_is m =
     subst (λ (l : Result LedgerFields NamedFault). MakesDelta t (Ok job) l o) ledger_is
     (subst (λ (r : Result JobFields NamedFault). MakesDelta t r (input t.ledger ledger_in (get files t.ledger)) o) job_is m)
 
-both_back : (t : DeltaFields) (files : Files) (job : JobFields) (before : LedgerFields) (o : Result Done NamedFault)
+both_back : (t : Delta) (files : Files) (job : JobFields) (before : LedgerFields) (o : Result Done NamedFault)
     → input t.job job_in (get files t.job) ≡ Ok job → input t.ledger ledger_in (get files t.ledger) ≡ Ok before
     → MakesPart t.job t.part t.new_ledger before job o
     → Makes (commands.Delta t) (held_by (commands.Delta t) files) o
@@ -244,7 +218,7 @@ module _ (call : Call) where
     held = subst (λ (t : Option Files). All (IsHeld t) d.outputs)
         (sym (g.files ∙ ap (λ (t : Option Files). with_outputs t d.outputs) told))
         (all_held files d.outputs
-        (subst AreApart (sym (done_names call.asked (held_by call.asked files) d m)) (outputs_apart call.asked apart)));
+        (subst AreApart (sym (done_names call.asked (held_by call.asked files) d m)) (names_apart (inputs_of call.asked) (outputs_of call.asked) apart)));
   }
 
   -- what came of the command
@@ -294,14 +268,14 @@ module _ (call : Call) where
           given = given_done did.files did.told apart a.d a.makes a.gives;
         }
 
-    pub query : (q : QueryFields) → (did : Did call (commands.Query q)) → (parts : List SealedFields)
+    pub query : (q : Query) → (did : Did call (commands.Query q)) → (parts : List SealedFields)
         × Reads call q.store store_in parts × GivesDone call (query_done q parts)
     query q did =
         let c = came (commands.Query q) did in
         let s = step_ok (input q.store store_in (get did.files q.store)) (λ parts. Ok (query_done q parts)) c.d c.makes in
         (s.0, reads did.files did.told q.store store_in s.0 s.1, same_done c.d (query_done q s.0) (sym (ok_same {E = NamedFault} (query_done q s.0) c.d s.2)) c.given)
 
-    pub query_cert : (q : QueryCertFields) → (did : Did call (commands.QueryCert q)) → (parts : List SealedFields)
+    pub query_cert : (q : QueryCert) → (did : Did call (commands.QueryCert q)) → (parts : List SealedFields)
         × (cert : Certificate) × (issuer : List ℕ) × Reads call q.store store_in parts
         × Reads call q.cert certificate_in cert × Reads call q.issuer_cert issuer_in issuer
         × GivesDone call (query_cert_done parts cert issuer)
@@ -336,7 +310,7 @@ module _ (call : Call) where
         let s = step_ok (input name part_in (get did.files name)) (λ x. Ok (show_done x)) c.d c.makes in
         (s.0.0, s.0.1, reads did.files did.told name part_in s.0 s.1, same_done c.d (show_done s.0) (sym (ok_same {E = NamedFault} (show_done s.0) c.d s.2)) c.given)
 
-    pub snapshot : (s : SnapshotFields) → (did : Did call (commands.Snapshot s)) → (job : JobFields) × (made : Publication)
+    pub snapshot : (s : Snapshot) → (did : Did call (commands.Snapshot s)) → (job : JobFields) × (made : Publication)
         × Reads call s.job job_in job × Publishes no_ledger job (Ok made) × GivesDone call (publication_done s.part s.ledger made)
     snapshot s did =
         let c = came (commands.Snapshot s) did in
@@ -345,7 +319,7 @@ module _ (call : Call) where
         let p = published_ok s.job s.part s.ledger no_ledger k.0 m.result c.d m.publishes m.is in
         (k.0, p.0, reads did.files did.told s.job job_in k.0 k.1, p.1, same_done c.d (publication_done s.part s.ledger p.0) p.2 c.given)
 
-    pub delta : (t : DeltaFields) → (did : Did call (commands.Delta t))
+    pub delta : (t : Delta) → (did : Did call (commands.Delta t))
         → (before : LedgerFields) × (job : JobFields) × (made : Publication)
         × Reads call t.ledger ledger_in before × Reads call t.job job_in job
         × Publishes before job (Ok made) × GivesDone call (publication_done t.part t.new_ledger made)
@@ -363,7 +337,7 @@ module _ (call : Call) where
           same_done c.d (publication_done t.part t.new_ledger p.0) p.2 c.given,
         )
 
-    pub rebase : (r : RebaseFields) → (did : Did call (commands.Rebase r)) → (before : LedgerFields) × (made : BasePublicationFields)
+    pub rebase : (r : Rebase) → (did : Did call (commands.Rebase r)) → (before : LedgerFields) × (made : BasePublicationFields)
         × Reads call r.ledger ledger_in before × IsBasePublication before r.moment r.without made × GivesDone call (base_done r made)
     rebase r did =
         let c = came (commands.Rebase r) did in
@@ -372,7 +346,7 @@ module _ (call : Call) where
         let p = based_ok r k.0 m.result c.d m.publishes m.is in
         (k.0, p.0, reads did.files did.told r.ledger ledger_in k.0 k.1, p.1, same_done c.d (base_done r p.0) p.2 c.given)
 
-    pub start : (t : StartFields) → (did : Did call (commands.Start t)) → (s : SealedFields) × ReadsPart call t.part s
+    pub start : (t : Start) → (did : Did call (commands.Start t)) → (s : SealedFields) × ReadsPart call t.part s
         × (s.part.head.kind ≡ kinds.Snapshot) × GivesDone call (stored t.store (s ∷ []))
     start t did =
         let c = came (commands.Start t) did in
@@ -383,7 +357,7 @@ module _ (call : Call) where
         let same : c.d ≡ stored t.store (x.0 ∷ []) = sym (ok_same {E = NamedFault} (stored t.store two.0) c.d two.2) ∙ ap (stored t.store) b.1 in
         (x.0, (x.1, reads did.files did.told t.part part_in x one.1), b.0, same_done c.d (stored t.store (x.0 ∷ [])) same c.given)
 
-    pub install : (i : InstallFields) → (did : Did call (commands.Install i)) → (parts : List SealedFields) × (s : SealedFields)
+    pub install : (i : Install) → (did : Did call (commands.Install i)) → (parts : List SealedFields) × (s : SealedFields)
         × Reads call i.store store_in parts × ReadsPart call i.part s
         × (refusal_of parts s ≡ None) × GivesDone call (stored i.new_store (parts ++ s ∷ []))
     install i did =
@@ -411,12 +385,12 @@ module _ (call : Call) where
           same_done c.d (stored i.new_store (parts ++ x.0 ∷ [])) same c.given,
         )
 
-    pub sample : (s : SampleFields) → (did : Did call (commands.Sample s)) → GivesDone call (sample_done s)
+    pub sample : (s : Sample) → (did : Did call (commands.Sample s)) → GivesDone call (sample_done s)
     sample s did =
         let c = came (commands.Sample s) did in
         same_done c.d (sample_done s) (ok_same {E = NamedFault} c.d (sample_done s) c.makes) c.given
 
-    pub gather : (g : GatherFields) → (did : Did call (commands.Gather g)) → (head : JobContents)
+    pub gather : (g : Gather) → (did : Did call (commands.Gather g)) → (head : JobContents)
         × (entries : List PageFields) × Reads call g.head head_in head × ReadsPages call g.pages entries
         × GivesDone call (gather_done g head entries)
     gather g did =
@@ -431,7 +405,7 @@ module _ (call : Call) where
           same_done c.d (gather_done g one.0 two.0) (sym (ok_same {E = NamedFault} (gather_done g one.0 two.0) c.d two.2)) c.given,
         )
 
-    pub audit : Truthful → (a : AuditFields) → (did : Did call (commands.Audit a)) → (parts : List SealedFields) × (jobs : List JobFields)
+    pub audit : Truthful → (a : Audit) → (did : Did call (commands.Audit a)) → (parts : List SealedFields) × (jobs : List JobFields)
         × Reads call a.store store_in parts × ReadsJobs call a.jobs jobs × IsAudited parts jobs × SaysTheTruth parts jobs
         × GivesDone call (audit_done jobs (record { entries = length (seen (audited_releases jobs)) }))
     audit truthful a did =
@@ -484,7 +458,7 @@ module _ (call : Call) where
         (d, one command (held_by command files) o (Ok d) x (law o x)))
         quiet
 
-    pub snapshot_complete : (s : SnapshotFields) (job : JobFields) → call.asked ≡ commands.Snapshot s
+    pub snapshot_complete : (s : Snapshot) (job : JobFields) → call.asked ≡ commands.Snapshot s
         → Reads call s.job job_in job → CanBePublished no_ledger job → NoFault call → Succeeds call ⊎ WantedMemory call
     snapshot_complete s job asked (bytes, (files, told, held), is) can quiet =
         let made = (publishable no_ledger job can).0 in
@@ -498,7 +472,7 @@ module _ (call : Call) where
         (subst (λ (r : Result JobFields NamedFault). MakesSnapshot s r o) job_is m)))
         quiet
 
-    pub delta_complete : (t : DeltaFields) (before : LedgerFields) (job : JobFields) → call.asked ≡ commands.Delta t
+    pub delta_complete : (t : Delta) (before : LedgerFields) (job : JobFields) → call.asked ≡ commands.Delta t
         → Reads call t.ledger ledger_in before → Reads call t.job job_in job → CanBePublished before job → NoFault call
         → Succeeds call ⊎ WantedMemory call
     delta_complete t before job asked ledger_reads (bytes, (files, told, held), is) can quiet =
@@ -513,7 +487,7 @@ module _ (call : Call) where
         (makes_this t.job t.part t.new_ledger before job o made x (both_read t files job before o job_is ledger_is m)))
         quiet
 
-    pub rebase_complete : Rebasable → (r : RebaseFields) (before : LedgerFields) → call.asked ≡ commands.Rebase r
+    pub rebase_complete : Rebasable → (r : Rebase) (before : LedgerFields) → call.asked ≡ commands.Rebase r
         → Reads call r.ledger ledger_in before → CanBeRebased before r.moment r.without → NoFault call
         → Succeeds call ⊎ WantedMemory call
     rebase_complete rebasable r before asked (bytes, (files, told, held), is) can quiet =
@@ -527,7 +501,7 @@ module _ (call : Call) where
         quiet
 
     -- three inputs that are read are asked
-    pub query_cert_complete : (q : QueryCertFields) (parts : List SealedFields) (cert : Certificate) (issuer : List ℕ)
+    pub query_cert_complete : (q : QueryCert) (parts : List SealedFields) (cert : Certificate) (issuer : List ℕ)
         → call.asked ≡ commands.QueryCert q → Reads call q.store store_in parts
         → Reads call q.cert certificate_in cert → Reads call q.issuer_cert issuer_in issuer
         → NoFault call → Succeeds call ⊎ WantedMemory call
@@ -547,7 +521,7 @@ module _ (call : Call) where
         quiet
 
     -- pages that are read and aren't too many are gathered
-    pub gather_complete : (g : GatherFields) (head : JobContents) (entries : List PageFields) → call.asked ≡ commands.Gather g
+    pub gather_complete : (g : Gather) (head : JobContents) (entries : List PageFields) → call.asked ≡ commands.Gather g
         → Reads call g.head head_in head → ReadsPages call g.pages entries → length head.entries + length entries ≤ limits.PUBLISHED.entries
         → NoFault call → Succeeds call ⊎ WantedMemory call
     gather_complete g head entries asked (bytes, (files, told, held), is) page_reads few quiet =
@@ -562,7 +536,7 @@ module _ (call : Call) where
         quiet
 
     -- a store that says the truth of the accepted entries of jobs that are admitted is found to do so
-    pub audit_complete : (a : AuditFields) (parts : List SealedFields) (jobs : List JobFields) → call.asked ≡ commands.Audit a
+    pub audit_complete : (a : Audit) (parts : List SealedFields) (jobs : List JobFields) → call.asked ≡ commands.Audit a
         → Reads call a.store store_in parts → ReadsJobs call a.jobs jobs → AreWithinLimits jobs → IsAudited parts jobs
         → NoFault call → Succeeds call ⊎ WantedMemory call
     audit_complete a parts jobs asked (bytes, (files, told, held), is) job_reads few audited quiet =

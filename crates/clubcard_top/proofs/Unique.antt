@@ -19,7 +19,8 @@ use Rattle.audit_core.specs.declared.auditing.Audited.{Audited}
 use Rattle.audit_core.specs.declared.fault.AuditFault.{AuditFault}
 use Rattle.audit_core.specs.declared.fault.AuditFault.TheVariants.{NoMemory}
 use Rattle.audit_core.specs.Auditing.{IsFound}
-use Rattle.word_core.specs.CommandFields.{SnapshotFields, DeltaFields, RebaseFields, RehearseFields, AuditFields}
+use Rattle.word_core.specs.declared.command.{Snapshot.Snapshot, Delta.Delta, Rebase.Rebase, Rehearse.Rehearse}
+use Rattle.word_core.specs.declared.command.{Audit.Audit}
 use Rattle.clubcard_top.specs.ReplyFields.{Done, NamedFault, ReplyFields}
 use Rattle.input_core.specs.Readings.{queries_in, job_in, ledger_in, store_in}
 use Rattle.clubcard_top.specs.Commands.{input, published_as, MakesPart, MakesSnapshot, MakesDelta, IsRefused, MakesRehearsal, Makes}
@@ -66,11 +67,11 @@ module _ (publishing : Publishing) where
   part_unique : (job part ledger : List ℕ) (before : LedgerFields) (j : JobFields) (a b : Result Done NamedFault) → MakesPart job part ledger before j a → MakesPart job part ledger before j b → a ≡ b
   part_unique job part ledger before j a b x y = x.is ∙ ap (published_as job part ledger) (one before j x.result y.result x.publishes y.publishes) ∙ sym y.is
 
-  snapshot_unique : (s : SnapshotFields) (r : Result JobFields NamedFault) (a b : Result Done NamedFault) → MakesSnapshot s r a → MakesSnapshot s r b → a ≡ b
+  snapshot_unique : (s : Snapshot) (r : Result JobFields NamedFault) (a b : Result Done NamedFault) → MakesSnapshot s r a → MakesSnapshot s r b → a ≡ b
   snapshot_unique s (Ok j) a b x y = part_unique s.job s.part s.ledger _ j a b x y
   snapshot_unique s (Err e) a b x y = x ∙ sym y
 
-  delta_unique : (t : DeltaFields) (r : Result JobFields NamedFault) (l : Result LedgerFields NamedFault) (a b : Result Done NamedFault) → MakesDelta t r l a → MakesDelta t r l b → a ≡ b
+  delta_unique : (t : Delta) (r : Result JobFields NamedFault) (l : Result LedgerFields NamedFault) (a b : Result Done NamedFault) → MakesDelta t r l a → MakesDelta t r l b → a ≡ b
   delta_unique t (Ok j) (Ok l) a b x y = part_unique t.job t.part t.new_ledger l j a b x y
   delta_unique t (Ok j) (Err e) a b x y = x ∙ sym y
   delta_unique t (Err e) l a b x y = x ∙ sym y
@@ -138,7 +139,7 @@ module _ (publishing : Publishing) where
       (subst (λ (ps : List SealedFields). RehearsesOn queries (jobs ++ job ∷ []) ps names inputs b) m
       (subst (λ (k : JobFields). RehearsesOn queries (jobs ++ k ∷ []) more_other names inputs b) j rest_other))
 
-  rehearsal_unique : (r : RehearseFields) (queries : Result (List Query) NamedFault) (inputs : List (Option (List ℕ))) (a b : Result Done NamedFault)
+  rehearsal_unique : (r : Rehearse) (queries : Result (List Query) NamedFault) (inputs : List (Option (List ℕ))) (a b : Result Done NamedFault)
       → MakesRehearsal r queries inputs a → MakesRehearsal r queries inputs b
       → a ≡ b
   rehearsal_unique r (Ok queries) inputs a b x y = rehearses_unique queries [] [] r.jobs inputs a b tt (from_first queries r.jobs inputs a x) (from_first queries r.jobs inputs b y)
@@ -146,7 +147,7 @@ module _ (publishing : Publishing) where
 
   -- ---- audits
 
-  audit_unique : OneAudit → (a : AuditFields) (store : Result (List SealedFields) NamedFault) (jobs : Result (List JobFields) NamedFault) (o p : Result Done NamedFault)
+  audit_unique : OneAudit → (a : Audit) (store : Result (List SealedFields) NamedFault) (jobs : Result (List JobFields) NamedFault) (o p : Result Done NamedFault)
       → MakesAudit a store jobs o → MakesAudit a store jobs p → o ≡ p
   audit_unique audits a (Ok parts) (Ok jobs) o p x y =
       x.is ∙ ap (audited_as a jobs) (audits (map (λ (s : SealedFields). s.part) parts) jobs x.result y.result x.found y.found x.settled y.settled) ∙ sym y.is
@@ -155,7 +156,7 @@ module _ (publishing : Publishing) where
 
   -- ---- rebases
 
-  rebase_unique : OneBase → (r : RebaseFields) (l : Result LedgerFields NamedFault) (a b : Result Done NamedFault) → MakesRebase r l a → MakesRebase r l b → a ≡ b
+  rebase_unique : OneBase → (r : Rebase) (l : Result LedgerFields NamedFault) (a b : Result Done NamedFault) → MakesRebase r l a → MakesRebase r l b → a ≡ b
   rebase_unique bases r (Ok l) a b x y = x.is ∙ ap (rebased_as r) (bases l r.moment r.without x.result y.result x.publishes y.publishes) ∙ sym y.is
   rebase_unique bases r (Err e) a b x y = x ∙ sym y
 

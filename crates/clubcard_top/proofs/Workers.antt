@@ -8,7 +8,7 @@ use Rattle.publication_core.specs.declared.base_fault.BaseFault.{BaseFault}
 use Rattle.publication_core.specs.Rebasing.{BasePublicationFields}
 use Rattle.word_core.specs.declared.command.Command.{Command}
 use Rattle.word_core.specs.declared.command.Command.TheVariants as commands
-use Rattle.word_core.specs.CommandFields.{SnapshotFields, DeltaFields, RebaseFields, RehearseFields}
+use Rattle.word_core.specs.declared.command.{Snapshot.Snapshot, Delta.Delta, Rebase.Rebase, Rehearse.Rehearse}
 use Rattle.word_core.specs.Names.{inputs_of, outputs_of}
 use Rattle.clubcard_top.specs.ReplyFields.{ReplyFields, Done, NamedFault}
 use Rattle.input_core.specs.Readings.{queries_in, job_in, ledger_in}
@@ -20,35 +20,35 @@ use Rattle.clubcard_top.specs.Workers.{with_workers}
 both : (P : Type 0) → P ↔ P
 both P = (λ p. p, λ p. p)
 
-snapshot_same : (n : ℕ) (s : SnapshotFields) (r : Result JobFields NamedFault) (o : Result Done NamedFault)
+snapshot_same : (n : ℕ) (s : Snapshot) (r : Result JobFields NamedFault) (o : Result Done NamedFault)
     → MakesSnapshot s r o ↔ MakesSnapshot (record s { workers = n }) r o
 snapshot_same n s (Ok j) o = both (MakesSnapshot s (Ok j) o)
 snapshot_same n s (Err e) o = both (MakesSnapshot s (Err e) o)
 
-delta_same : (n : ℕ) (d : DeltaFields) (r : Result JobFields NamedFault) (l : Result LedgerFields NamedFault)
+delta_same : (n : ℕ) (d : Delta) (r : Result JobFields NamedFault) (l : Result LedgerFields NamedFault)
     (o : Result Done NamedFault) → MakesDelta d r l o ↔ MakesDelta (record d { workers = n }) r l o
 delta_same n d (Ok j) (Ok l) o = both (MakesDelta d (Ok j) (Ok l) o)
 delta_same n d (Ok j) (Err e) o = both (MakesDelta d (Ok j) (Err e) o)
 delta_same n d (Err e) l o = both (MakesDelta d (Err e) l o)
 
-as_same : (n : ℕ) (r : RebaseFields) (x : Result BasePublicationFields BaseFault) → rebased_as r x ≡ rebased_as (record r { workers = n }) x
+as_same : (n : ℕ) (r : Rebase) (x : Result BasePublicationFields BaseFault) → rebased_as r x ≡ rebased_as (record r { workers = n }) x
 as_same n r (Ok p) = refl
 as_same n r (Err fault) = refl
 
 -- the same, since no field of what is made holds the number of workers
-based_same : (n : ℕ) (r : RebaseFields) (before : LedgerFields) (o : Result Done NamedFault)
+based_same : (n : ℕ) (r : Rebase) (before : LedgerFields) (o : Result Done NamedFault)
     → MakesBase r before o ↔ MakesBase (record r { workers = n }) before o
 based_same n r before o = (
   λ m. record { result = m.result; publishes = m.publishes; is = m.is ∙ as_same n r m.result },
   λ m. record { result = m.result; publishes = m.publishes; is = m.is ∙ sym (as_same n r m.result) },
 )
 
-rebase_same : (n : ℕ) (r : RebaseFields) (l : Result LedgerFields NamedFault) (o : Result Done NamedFault)
+rebase_same : (n : ℕ) (r : Rebase) (l : Result LedgerFields NamedFault) (o : Result Done NamedFault)
     → MakesRebase r l o ↔ MakesRebase (record r { workers = n }) l o
 rebase_same n r (Ok l) o = based_same n r l o
 rebase_same n r (Err e) o = both (MakesRebase r (Err e) o)
 
-rehearse_same : (n : ℕ) (r : RehearseFields) (q : Result (List Query) NamedFault) (inputs : List (Option (List ℕ)))
+rehearse_same : (n : ℕ) (r : Rehearse) (q : Result (List Query) NamedFault) (inputs : List (Option (List ℕ)))
     (o : Result Done NamedFault) → MakesRehearsal r q inputs o ↔ MakesRehearsal (record r { workers = n }) q inputs o
 rehearse_same n r (Ok queries) inputs o = both (MakesRehearsal r (Ok queries) inputs o)
 rehearse_same n r (Err e) inputs o = both (MakesRehearsal r (Err e) inputs o)
@@ -112,16 +112,16 @@ outputs_same n (commands.Audit a) = refl
 
 -- ---- replies
 
-snapshot_some : (s : SnapshotFields) → commands.Snapshot s ≡ commands.Usage → ⊥
+snapshot_some : (s : Snapshot) → commands.Snapshot s ≡ commands.Usage → ⊥
 snapshot_some s e = cc
 
-delta_some : (d : DeltaFields) → commands.Delta d ≡ commands.Usage → ⊥
+delta_some : (d : Delta) → commands.Delta d ≡ commands.Usage → ⊥
 delta_some d e = cc
 
-rebase_some : (r : RebaseFields) → commands.Rebase r ≡ commands.Usage → ⊥
+rebase_some : (r : Rebase) → commands.Rebase r ≡ commands.Usage → ⊥
 rebase_some r e = cc
 
-rehearse_some : (r : RehearseFields) → commands.Rehearse r ≡ commands.Usage → ⊥
+rehearse_some : (r : Rehearse) → commands.Rehearse r ≡ commands.Usage → ⊥
 rehearse_some r e = cc
 
 -- where the same comes of both, and the first is a command

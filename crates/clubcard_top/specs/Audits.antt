@@ -14,7 +14,7 @@ use Rattle.audit_core.specs.declared.fault.AuditFault.{AuditFault}
 use Rattle.audit_core.specs.declared.fault.AuditFault.TheVariants as audits
 use Rattle.audit_core.specs.Auditing.{entries_of, IsFound}
 use Rattle.audit_core.specs.Checking.{truth_by}
-use Rattle.word_core.specs.CommandFields.{AuditFields}
+use Rattle.word_core.specs.declared.command.Audit.{Audit}
 use Rattle.line_core.specs.Lines.{audit_line}
 use Rattle.input_core.specs.declared.fault.FileFault.{FileFault}
 use Rattle.input_core.specs.declared.fault.FileFault.TheVariants as faults
@@ -81,7 +81,7 @@ audit_done jobs found = only (audit_line (length jobs) found.entries)
 
 -- A job that isn't admitted breaks the chain as its part would; and a store that doesn't say the truth is itself at
 -- fault.
-abbrev pub of_audit : AuditFields → AuditFault → NamedFault
+abbrev pub of_audit : Audit → AuditFault → NamedFault
 of_audit a (audits.OldEpoch job held given) =
     record { name = get_or a.jobs job []; fault = faults.Chain (refusals.OldEpoch held given) }
 of_audit a (audits.CoverageShrinks job log) =
@@ -90,18 +90,18 @@ of_audit a (audits.Disagrees job entry held listed) =
     record { name = a.store; fault = faults.Disagrees job entry held (truth_by listed) }
 of_audit a audits.NoMemory = record { name = a.store; fault = faults.NoMemory }
 
-abbrev pub audited_as : AuditFields → List JobFields → Result Audited AuditFault → Result Done NamedFault
+abbrev pub audited_as : Audit → List JobFields → Result Audited AuditFault → Result Done NamedFault
 audited_as a jobs (Ok found) = Ok (audit_done jobs found)
 audited_as a jobs (Err fault) = Err (of_audit a fault)
 
 -- what an audit of the parts of a store by these jobs finds, which isn't want of memory
-pub record Finds (a : AuditFields) (parts : List SealedFields) (jobs : List JobFields) (o : Result Done NamedFault) : Type 0 where
+pub record Finds (a : Audit) (parts : List SealedFields) (jobs : List JobFields) (o : Result Done NamedFault) : Type 0 where
   pub result : Result Audited AuditFault
   pub found : IsFound (map (λ s. s.part) parts) jobs result
   pub settled : result ≢ Err audits.NoMemory
   pub is : o ≡ audited_as a jobs result
 
-abbrev pub MakesAudit : AuditFields → Result (List SealedFields) NamedFault → Result (List JobFields) NamedFault
+abbrev pub MakesAudit : Audit → Result (List SealedFields) NamedFault → Result (List JobFields) NamedFault
     → Result Done NamedFault → Type 0
 MakesAudit a (Ok parts) (Ok jobs) o = Finds a parts jobs o
 MakesAudit a (Ok parts) (Err e) o = o ≡ Err e

@@ -29,8 +29,9 @@ use Rattle.publication_core.specs.Formats.{current}
 use Rattle.publication_core.specs.Histories.{History, of_jobs, members, with_job, chain, IsHistory, releases_of}
 use Rattle.word_core.specs.declared.command.Command.{Command}
 use Rattle.word_core.specs.declared.command.Command.TheVariants as commands
-use Rattle.word_core.specs.CommandFields.{QueryFields, QueryCertFields, SnapshotFields, DeltaFields, StartFields}
-use Rattle.word_core.specs.CommandFields.{InstallFields, RehearseFields, SampleFields, GatherFields}
+use Rattle.word_core.specs.declared.command.{Query.Query as StoreQuery, QueryCert.QueryCert, Snapshot.Snapshot}
+use Rattle.word_core.specs.declared.command.{Delta.Delta, Start.Start, Install.Install, Rehearse.Rehearse}
+use Rattle.word_core.specs.declared.command.{Sample.Sample, Gather.Gather}
 use Rattle.line_core.specs.Lines.{line, check_line, show_text, store_line, report_line, sample_line, gather_line}
 pub use Rattle.line_core.specs.Lines.{verdict_word}
 use Rattle.input_core.specs.declared.certificates.Certificate.{Certificate}
@@ -48,10 +49,10 @@ use Rattle.clubcard_top.specs.Rebasings.{MakesRebase}
 -- ---- asking
 
 -- the verdict of the store's parts
-abbrev pub query_done : QueryFields → List SealedFields → Done
+abbrev pub query_done : StoreQuery → List SealedFields → Done
 query_done q parts = only (line (verdict_word (verdict (map (λ s. s.part) parts) q.id q.sightings)))
 
-abbrev pub query_makes : QueryFields → Option (List ℕ) → Result Done NamedFault
+abbrev pub query_makes : StoreQuery → Option (List ℕ) → Result Done NamedFault
 query_makes q store = do
   parts ← input q.store store_in store
   Ok (query_done q parts)
@@ -65,7 +66,7 @@ abbrev pub query_cert_done : List SealedFields → Certificate → List ℕ → 
 query_cert_done parts cert issuer =
     only (line (verdict_word (verdict (map (λ s. s.part) parts) (issued_by issuer cert) cert.scts)))
 
-abbrev pub query_cert_makes : QueryCertFields → (store cert issuer_cert : Option (List ℕ)) → Result Done NamedFault
+abbrev pub query_cert_makes : QueryCert → (store cert issuer_cert : Option (List ℕ)) → Result Done NamedFault
 query_cert_makes q store cert issuer_cert = do
   parts ← input q.store store_in store
   c ← input q.cert certificate_in cert
@@ -111,7 +112,7 @@ begun_by s kinds.Delta = Err faults.NotSnapshot
 abbrev pub begun : SealedFields → Result (List SealedFields) FileFault
 begun s = begun_by s s.part.head.kind
 
-abbrev pub start_makes : StartFields → Option (List ℕ) → Result Done NamedFault
+abbrev pub start_makes : Start → Option (List ℕ) → Result Done NamedFault
 start_makes t part = do
   x ← input t.part part_in part
   parts ← named t.part (begun x.0)
@@ -125,7 +126,7 @@ installed_by (Some why) parts s = Err (faults.Chain why)
 abbrev pub installed : List SealedFields → SealedFields → Result (List SealedFields) FileFault
 installed parts s = installed_by (refusal_of parts s) parts s
 
-abbrev pub install_makes : InstallFields → Option (List ℕ) → Option (List ℕ) → Result Done NamedFault
+abbrev pub install_makes : Install → Option (List ℕ) → Option (List ℕ) → Result Done NamedFault
 install_makes i store part = do
   parts ← input i.store store_in store
   x ← input i.part part_in part
@@ -153,11 +154,11 @@ pub record MakesPart
   pub publishes : Publishes before j result
   pub is : o ≡ published_as job part ledger result
 
-abbrev pub MakesSnapshot : SnapshotFields → Result JobFields NamedFault → Result Done NamedFault → Type 0
+abbrev pub MakesSnapshot : Snapshot → Result JobFields NamedFault → Result Done NamedFault → Type 0
 MakesSnapshot s (Ok j) o = MakesPart s.job s.part s.ledger no_ledger j o
 MakesSnapshot s (Err e) o = o ≡ Err e
 
-abbrev pub MakesDelta : DeltaFields → Result JobFields NamedFault → Result LedgerFields NamedFault
+abbrev pub MakesDelta : Delta → Result JobFields NamedFault → Result LedgerFields NamedFault
     → Result Done NamedFault → Type 0
 MakesDelta d (Ok j) (Ok l) o = MakesPart d.job d.part d.new_ledger l j o
 MakesDelta d (Ok j) (Err e) o = o ≡ Err e
@@ -217,7 +218,7 @@ pub record Rehearses
       × (slice_get names n ≡ Some name) × (slice_get inputs n ≡ Some given)
       × IsRefused (chain jobs) parts name given e × (o ≡ Err e))
 
-abbrev pub MakesRehearsal : RehearseFields → Result (List Query) NamedFault → List (Option (List ℕ))
+abbrev pub MakesRehearsal : Rehearse → Result (List Query) NamedFault → List (Option (List ℕ))
     → Result Done NamedFault → Type 0
 MakesRehearsal r (Ok queries) inputs o = Rehearses queries r.jobs inputs o
 MakesRehearsal r (Err e) inputs o = o ≡ Err e
@@ -225,7 +226,7 @@ MakesRehearsal r (Err e) inputs o = o ≡ Err e
 -- ---- making jobs
 
 -- the job of the number, and how many entries, revoked certificates and bytes it has
-abbrev pub sample_done : SampleFields → Done
+abbrev pub sample_done : Sample → Done
 sample_done s = record {
   text = sample_line s.number s.count (sample_revoked s.count) (length (sample_text s.number s.count));
   outputs = record { name = s.job; bytes = sample_text s.number s.count } ∷ [];
@@ -244,17 +245,17 @@ pages_of job before (name ∷ names) (given ∷ inputs) = do
 pages_of job before names inputs = Ok []
 
 -- the job with these entries of the log behind its own
-abbrev pub longer : GatherFields → JobContents → List PageFields → JobContents
+abbrev pub longer : Gather → JobContents → List PageFields → JobContents
 longer g head entries = with_entries head (map (of_log g.log) entries)
 
 -- how many pages and entries there are, and how many bytes the job has
-abbrev pub gather_done : GatherFields → JobContents → List PageFields → Done
+abbrev pub gather_done : Gather → JobContents → List PageFields → Done
 gather_done g head entries = record {
   text = gather_line (length g.pages) (length entries) (length (job_text (longer g head entries)));
   outputs = record { name = g.job; bytes = job_text (longer g head entries) } ∷ [];
 }
 
-abbrev pub gather_makes : GatherFields → Option (List ℕ) → List (Option (List ℕ)) → Result Done NamedFault
+abbrev pub gather_makes : Gather → Option (List ℕ) → List (Option (List ℕ)) → Result Done NamedFault
 gather_makes g head inputs = do
   j ← input g.head head_in head
   entries ← pages_of g.job (length j.entries) g.pages inputs

@@ -5,7 +5,7 @@ use Rattle.gather_core.specs.Pages.{PageFields}
 use Rattle.job_core.specs.JobText.{JobContents}
 use Rattle.gather_core.specs.declared.job.OpenJob.{OpenJob}
 use Rattle.gather_core.specs.Opened.{Opens}
-use Rattle.word_core.specs.CommandFields.{GatherFields}
+use Rattle.word_core.specs.declared.command.Gather.{Gather}
 use Rattle.input_core.specs.Inputs.{AreRead}
 use Rattle.clubcard_top.specs.ReplyFields.{NamedFault}
 use Rattle.clubcard_top.specs.Commands.{longer, pages_of}
@@ -13,7 +13,7 @@ use Rattle.clubcard_top.specs.Replies.{refusal, SaysWhich}
 
 -- the pages were read, and their entries stand behind those of the job
 pub record IsGatheredFrom
-    (told : Option Files) (failed : Option (List ℕ) → Type 0) (g : GatherFields) (j : JobContents) (job : OpenJob)
+    (told : Option Files) (failed : Option (List ℕ) → Type 0) (g : Gather) (j : JobContents) (job : OpenJob)
     : Type 0 where
   pub inputs : List (Option (List ℕ))
   pub read : AreRead told failed g.pages inputs
@@ -24,7 +24,7 @@ pub record IsGatheredFrom
 
 -- this is wrong with one of the pages, or with so many entries
 pub record IsNotGathered
-    (told : Option Files) (failed : Option (List ℕ) → Type 0) (g : GatherFields) (j : JobContents) (e : NamedFault)
+    (told : Option Files) (failed : Option (List ℕ) → Type 0) (g : Gather) (j : JobContents) (e : NamedFault)
     : Type 0 where
   pub inputs : List (Option (List ℕ))
   pub read : AreRead told failed g.pages inputs

@@ -32,7 +32,7 @@ use Rattle.publication_core.specs.Rebasing.{base_counts}
 use Rattle.publication_core.specs.Truth.{truth}
 use Rattle.word_core.specs.declared.command.Command.{Command}
 use Rattle.word_core.specs.declared.command.Command.TheVariants as commands
-use Rattle.word_core.specs.CommandFields.{QueryFields, QueryCertFields, RebaseFields}
+use Rattle.word_core.specs.declared.command.{Query.Query as StoreQuery, QueryCert.QueryCert, Rebase.Rebase}
 use Rattle.line_core.specs.Lines.{line, store_line}
 use Rattle.clubcard_top.specs.ReplyFields.{OutputFields, Done}
 use Rattle.clubcard_top.specs.Commands.{verdict_word, only, report_behind, verdict_line}
@@ -88,11 +88,11 @@ pub record Published
 -- ---- beginning a chain anew
 
 -- the command rebases this history, whose ledger LEDGER holds
-abbrev pub RebasesHistory : Command → Files → RebaseFields → History → List SealedFields → Type 0
+abbrev pub RebasesHistory : Command → Files → Rebase → History → List SealedFields → Type 0
 RebasesHistory asked files r h parts = (asked ≡ commands.Rebase r) × (1 ≤ members h) × HoldsLedger files r.ledger h parts
 
 -- the call asks to rebase the history with these parts
-abbrev pub AsksToRebase : Call → RebaseFields → History → List SealedFields → Type 0
+abbrev pub AsksToRebase : Call → Rebase → History → List SealedFields → Type 0
 AsksToRebase call r h parts = Found call (λ files. RebasesHistory call.asked files r h parts)
 
 -- the history that its base at the moment, without these issuers, begins, with no job behind it yet
@@ -104,12 +104,12 @@ abbrev pub IsRebasableWithout : ℕ → List (List ℕ) → History → List Sea
 IsRebasableWithout moment without h parts = IsRebasable moment (releases_without without (releases_of h parts))
 
 -- the outputs: a part and a ledger, in the order of writing
-abbrev pub rebases_to : RebaseFields → List ℕ → List ℕ → List OutputFields
+abbrev pub rebases_to : Rebase → List ℕ → List ℕ → List OutputFields
 rebases_to r part ledger = record { name = r.part; bytes = part } ∷ record { name = r.new_ledger; bytes = ledger } ∷ []
 
 -- This is made of a base without the issuers of ISSUER .., which may stand for the history at MOMENT: the epoch of the
 -- history's newest member and the counts of the base, the bytes of its part, and those of its ledger, and nothing else.
-pub record Rebased (r : RebaseFields) (h : History) (parts : List SealedFields) (d : Done) : Type 0 where
+pub record Rebased (r : Rebase) (h : History) (parts : List SealedFields) (d : Done) : Type 0 where
   pub sealed : SealedFields
   pub rebasable : IsRebasableWithout r.moment r.without h parts
   pub is_history : IsHistory (base_of h parts r.moment r.without) (sealed ∷ [])
@@ -148,26 +148,26 @@ pub record Stored (asked : Command) (parts : List SealedFields) (s : SealedField
 -- ---- asking
 
 -- the command asks the store of a history about a certificate
-abbrev pub AsksStore : Command → Files → QueryFields → History → List SealedFields → Type 0
+abbrev pub AsksStore : Command → Files → StoreQuery → History → List SealedFields → Type 0
 AsksStore asked files q h parts = (asked ≡ commands.Query q) × (1 ≤ members h) × (get files q.store ≡ Some (store_bytes parts))
 
 -- The same, with sightings of its accepted entries alone.
-abbrev pub AsksHistory : Command → Files → QueryFields → History → List SealedFields → Type 0
+abbrev pub AsksHistory : Command → Files → StoreQuery → History → List SealedFields → Type 0
 AsksHistory asked files q h parts =
     (asked ≡ commands.Query q) × (1 ≤ members h) × (get files q.store ≡ Some (store_bytes parts))
     × (1 ≤ length q.sightings)
     × ((s : Sighting) → Among q.sightings s → Among (sightings q.id (seen (releases_of h parts))) s)
 
 -- the call asks the store of this history so
-abbrev pub AsksTruth : Call → QueryFields → History → List SealedFields → Type 0
+abbrev pub AsksTruth : Call → StoreQuery → History → List SealedFields → Type 0
 AsksTruth call q h parts = Found call (λ files. AsksHistory call.asked files q h parts)
 
 -- the line of what the history tells of the certificate, which is the truth
-abbrev pub truth_line : History → List SealedFields → QueryFields → List ℕ
+abbrev pub truth_line : History → List SealedFields → StoreQuery → List ℕ
 truth_line h parts q = line (verdict_word (truth (releases_of h parts) q.id))
 
 -- that line alone
-abbrev pub truth_done : History → List SealedFields → QueryFields → Done
+abbrev pub truth_done : History → List SealedFields → StoreQuery → Done
 truth_done h parts q = only (truth_line h parts q)
 
 -- ---- asking the store that a base begins
@@ -178,27 +178,27 @@ IsKept moment rs x = has (kept_by (is_lasting_by moment rs) rs) x ≡ true
 
 -- The command asks the store of this part alone, that of a history's base without some issuers, about a certificate of
 -- another issuer that the base keeps, with sightings of the history's accepted entries alone.
-abbrev pub AsksBase : Command → Files → QueryFields → History → List SealedFields → ℕ → List (List ℕ) → SealedFields → Type 0
+abbrev pub AsksBase : Command → Files → StoreQuery → History → List SealedFields → ℕ → List (List ℕ) → SealedFields → Type 0
 AsksBase asked files q h parts moment without s =
     (asked ≡ commands.Query q) × IsKept moment (releases_of h parts) q.id × (has_key without q.id.issuer ≡ false)
     × (get files q.store ≡ Some (store_bytes (s ∷ []))) × (1 ≤ length q.sightings)
     × ((t : Sighting) → Among q.sightings t → Among (sightings q.id (seen (releases_of h parts))) t)
 
 -- the call asks the store of the base so
-abbrev pub AsksTheBase : Call → QueryFields → History → List SealedFields → ℕ → List (List ℕ) → SealedFields → Type 0
+abbrev pub AsksTheBase : Call → StoreQuery → History → List SealedFields → ℕ → List (List ℕ) → SealedFields → Type 0
 AsksTheBase call q h parts moment without s = Found call (λ files. AsksBase call.asked files q h parts moment without s)
 
 -- ---- issuers that a base leaves out
 
 -- The command asks the store of a history about a certificate whose issuer its base leaves out and no job enrolls since,
 -- with a sighting that some part covers.
-abbrev pub AsksLeftOut : Command → Files → QueryFields → History → List SealedFields → Type 0
+abbrev pub AsksLeftOut : Command → Files → StoreQuery → History → List SealedFields → Type 0
 AsksLeftOut asked files q h parts =
     (asked ≡ commands.Query q) × (1 ≤ members h) × (get files q.store ≡ Some (store_bytes parts)) × LeavesOut h q.id.issuer
     × ((s : Sighting) × (t : SealedFields) × Among q.sightings s × Among parts t × (covers t.part.head.ranges s ≡ true))
 
 -- the call asks the store of this history so
-abbrev pub AsksOfLeftOut : Call → QueryFields → History → List SealedFields → Type 0
+abbrev pub AsksOfLeftOut : Call → StoreQuery → History → List SealedFields → Type 0
 AsksOfLeftOut call q h parts = Found call (λ files. AsksLeftOut call.asked files q h parts)
 
 -- The job has the entry, covers its sighting, and enrolls its issuer.
@@ -223,7 +223,7 @@ HoldsKey files name hash =
 -- The command asks the store of a history about a certificate with these sightings, by its file and by its issuer's.
 -- One of the sightings is of its accepted entries, and so is each that some part covers.
 pub record AsksCert
-    (asked : Command) (files : Files) (q : QueryCertFields) (x : Identity) (ss : List Sighting)
+    (asked : Command) (files : Files) (q : QueryCert) (x : Identity) (ss : List Sighting)
     (h : History) (parts : List SealedFields)
     : Type 0 where
   pub is : asked ≡ commands.QueryCert q
@@ -236,7 +236,7 @@ pub record AsksCert
       → Among (sightings x (seen (releases_of h parts))) s
 
 -- the call asks the store of this history so
-abbrev pub AsksCertTruth : Call → QueryCertFields → Identity → List Sighting → History → List SealedFields → Type 0
+abbrev pub AsksCertTruth : Call → QueryCert → Identity → List Sighting → History → List SealedFields → Type 0
 AsksCertTruth call q x ss h parts = Found call (λ files. AsksCert call.asked files q x ss h parts)
 
 -- the line of what the history tells of the certificate, which is the truth

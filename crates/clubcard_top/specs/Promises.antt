@@ -23,8 +23,9 @@ use Rattle.publication_core.specs.Histories.{IsAdmissible, History, with_job, ch
 use Rattle.publication_core.specs.Publishing.{PublicationFields, Publishes, CanBePublished}
 use Rattle.publication_core.specs.Rebasing.{BasePublicationFields, IsBasePublication, CanBeRebased}
 use Rattle.word_core.specs.declared.command.Command.TheVariants as commands
-use Rattle.word_core.specs.CommandFields.{QueryFields, QueryCertFields, SnapshotFields, DeltaFields, StartFields}
-use Rattle.word_core.specs.CommandFields.{RebaseFields, InstallFields, RehearseFields, SampleFields, GatherFields, AuditFields}
+use Rattle.word_core.specs.declared.command.{Query.Query as StoreQuery, QueryCert.QueryCert, Snapshot.Snapshot}
+use Rattle.word_core.specs.declared.command.{Delta.Delta, Rebase.Rebase, Start.Start, Install.Install}
+use Rattle.word_core.specs.declared.command.{Rehearse.Rehearse, Audit.Audit, Sample.Sample, Gather.Gather}
 use Rattle.word_core.specs.Names.{inputs_of, outputs_of}
 use Rattle.line_core.specs.Lines.{line, audit_line}
 use Rattle.input_core.specs.declared.certificates.Certificate.{Certificate}
@@ -55,15 +56,15 @@ use Rattle.clubcard_top.specs.Refusals.{Comes, Refused}
 -- says when a success comes of a command in other words than those of `Makes`.
 pub record Successes (call : Call) : Type 0 where
   -- what the parts of STORE say of the certificate
-  pub query : (q : QueryFields) → Did call (commands.Query q)
+  pub query : (q : StoreQuery) → Did call (commands.Query q)
       → (parts : List SealedFields) × Reads call q.store store_in parts × GivesDone call (query_done q parts)
   -- what the parts of STORE say of the certificate of CERT, with the sightings of its timestamps, under the key of
   -- ISSUERCERT; and where all three are read, the call must succeed
-  pub query_cert : (q : QueryCertFields) → Did call (commands.QueryCert q)
+  pub query_cert : (q : QueryCert) → Did call (commands.QueryCert q)
       → (parts : List SealedFields) × (cert : Certificate) × (issuer : List ℕ)
       × Reads call q.store store_in parts × Reads call q.cert certificate_in cert
       × Reads call q.issuer_cert issuer_in issuer × GivesDone call (query_cert_done parts cert issuer)
-  pub query_cert_complete : (q : QueryCertFields) (parts : List SealedFields) (cert : Certificate) (issuer : List ℕ)
+  pub query_cert_complete : (q : QueryCert) (parts : List SealedFields) (cert : Certificate) (issuer : List ℕ)
       → call.asked ≡ commands.QueryCert q → Reads call q.store store_in parts → Reads call q.cert certificate_in cert
       → Reads call q.issuer_cert issuer_in issuer → MustSucceed call
   -- PART is one part: its head in short, and how many bytes it has
@@ -73,56 +74,56 @@ pub record Successes (call : Call) : Type 0 where
   pub show : (part : List ℕ) → Did call (commands.Show part)
       → (s : SealedFields) × (size : ℕ) × Reads call part part_in (s, size) × GivesDone call (show_done (s, size))
   -- the job of JOB, published as the first of a chain; and where it can be published, the call must succeed
-  pub snapshot : (s : SnapshotFields) → Did call (commands.Snapshot s)
+  pub snapshot : (s : Snapshot) → Did call (commands.Snapshot s)
       → (job : JobFields) × (made : PublicationFields) × Reads call s.job job_in job
       × Publishes no_ledger job (Ok made) × GivesDone call (publication_done s.part s.ledger made)
-  pub snapshot_complete : (s : SnapshotFields) (job : JobFields) → call.asked ≡ commands.Snapshot s
+  pub snapshot_complete : (s : Snapshot) (job : JobFields) → call.asked ≡ commands.Snapshot s
       → Reads call s.job job_in job → CanBePublished no_ledger job → MustSucceed call
   -- the job of JOB, published behind the ledger of LEDGER; and where it can be published, the call must succeed
-  pub delta : (d : DeltaFields) → Did call (commands.Delta d)
+  pub delta : (d : Delta) → Did call (commands.Delta d)
       → (before : LedgerFields) × (job : JobFields) × (made : PublicationFields)
       × Reads call d.ledger ledger_in before × Reads call d.job job_in job
       × Publishes before job (Ok made) × GivesDone call (publication_done d.part d.new_ledger made)
-  pub delta_complete : (d : DeltaFields) (before : LedgerFields) (job : JobFields) → call.asked ≡ commands.Delta d
+  pub delta_complete : (d : Delta) (before : LedgerFields) (job : JobFields) → call.asked ≡ commands.Delta d
       → Reads call d.ledger ledger_in before → Reads call d.job job_in job → CanBePublished before job
       → MustSucceed call
   -- `rebase` and `rebase-without`: the ledger of LEDGER, without what has expired at MOMENT and without the issuers of
   -- ISSUER .., begins a chain anew; and where its parts have few enough other issuers and each of these has a block, the
   -- call must succeed
-  pub rebase : (r : RebaseFields) → Did call (commands.Rebase r)
+  pub rebase : (r : Rebase) → Did call (commands.Rebase r)
       → (before : LedgerFields) × (made : BasePublicationFields) × Reads call r.ledger ledger_in before
       × IsBasePublication before r.moment r.without made × GivesDone call (base_done r made)
-  pub rebase_complete : (r : RebaseFields) (before : LedgerFields) → call.asked ≡ commands.Rebase r
+  pub rebase_complete : (r : Rebase) (before : LedgerFields) → call.asked ≡ commands.Rebase r
       → Reads call r.ledger ledger_in before → CanBeRebased before r.moment r.without → MustSucceed call
   -- the part of PART, which is a snapshot, begins a store
-  pub start : (t : StartFields) → Did call (commands.Start t)
+  pub start : (t : Start) → Did call (commands.Start t)
       → (s : SealedFields) × ReadsPart call t.part s × (s.part.head.kind ≡ kinds.Snapshot)
       × GivesDone call (stored t.store (s ∷ []))
   -- the part of PART, which has nothing against it, is added to the parts of STORE
-  pub install : (i : InstallFields) → Did call (commands.Install i) → (parts : List SealedFields) × (s : SealedFields)
+  pub install : (i : Install) → Did call (commands.Install i) → (parts : List SealedFields) × (s : SealedFields)
       × Reads call i.store store_in parts × ReadsPart call i.part s
       × (refusal_of parts s ≡ None) × GivesDone call (stored i.new_store (parts ++ s ∷ []))
   -- the jobs are a history, and their reports and the verdicts of its parts are printed
-  pub rehearse : (r : RehearseFields) → Did call (commands.Rehearse r)
+  pub rehearse : (r : Rehearse) → Did call (commands.Rehearse r)
       → (queries : List Query) × (jobs : List JobFields) × (parts : List SealedFields)
       × AsksToRehearse call queries jobs × IsRehearsed queries jobs parts × GivesDone call (rehearsed queries jobs parts)
   -- the job that is made from NUMBER with COUNT entries
-  pub sample : (s : SampleFields) → Did call (commands.Sample s) → GivesDone call (sample_done s)
+  pub sample : (s : Sample) → Did call (commands.Sample s) → GivesDone call (sample_done s)
   -- the raw job of HEAD with the entries of the pages, of the log LOG, behind its own; and where HEAD and the pages are
   -- read, and these are no more entries than a job may have, the call must succeed
-  pub gather : (g : GatherFields) → Did call (commands.Gather g)
+  pub gather : (g : Gather) → Did call (commands.Gather g)
       → (head : JobContents) × (entries : List PageFields)
       × Reads call g.head head_in head × ReadsPages call g.pages entries × GivesDone call (gather_done g head entries)
-  pub gather_complete : (g : GatherFields) (head : JobContents) (entries : List PageFields)
+  pub gather_complete : (g : Gather) (head : JobContents) (entries : List PageFields)
       → call.asked ≡ commands.Gather g → Reads call g.head head_in head → ReadsPages call g.pages entries
       → length head.entries + length entries ≤ limits.PUBLISHED.entries → MustSucceed call
   -- the jobs are admitted in order, and of each entry that they accept the parts of STORE say the truth: so they do of
   -- each certificate of the jobs' history, whoever built them; and where the files are read, the jobs together are
   -- within the limits of one, their CRLs are accepted, and all that is so, the call must succeed
-  pub audit : (a : AuditFields) → Did call (commands.Audit a) → (parts : List SealedFields) × (jobs : List JobFields)
+  pub audit : (a : Audit) → Did call (commands.Audit a) → (parts : List SealedFields) × (jobs : List JobFields)
       × Reads call a.store store_in parts × ReadsJobs call a.jobs jobs × IsAudited parts jobs × SaysTheTruth parts jobs
       × GivesDone call (only (audit_line (length jobs) (length (seen (audited_releases jobs)))))
-  pub audit_complete : (a : AuditFields) (parts : List SealedFields) (jobs : List JobFields)
+  pub audit_complete : (a : Audit) (parts : List SealedFields) (jobs : List JobFields)
       → call.asked ≡ commands.Audit a → Reads call a.store store_in parts → ReadsJobs call a.jobs jobs
       → AreWithinLimits jobs → IsAudited parts jobs → MustSucceed call
   -- every command: where what comes of it over the files that the call found is a success, that must be given. So a call
@@ -139,9 +140,9 @@ pub record Histories (call : Call) : Type 0 where
   pub admitted : (h : History) (parts : List SealedFields) (job : JobFields) → IsHistory h parts
       → AsksToPublish call h parts job → IsAdmissible (releases_of h parts) (in_format current job) → MustSucceed call
   -- `rebase` and `rebase-without`
-  pub rebased : (r : RebaseFields) (h : History) (parts : List SealedFields) → IsHistory h parts
+  pub rebased : (r : Rebase) (h : History) (parts : List SealedFields) → IsHistory h parts
       → AsksToRebase call r h parts → Succeeds call → (d : Done) × Rebased r h parts d × GivesDone call d
-  pub rebasable : (r : RebaseFields) (h : History) (parts : List SealedFields) → IsHistory h parts
+  pub rebasable : (r : Rebase) (h : History) (parts : List SealedFields) → IsHistory h parts
       → AsksToRebase call r h parts → IsRebasableWithout r.moment r.without h parts → MustSucceed call
   -- `start` and `install`
   pub stored : (h : History) (parts : List SealedFields) (s : SealedFields) → IsHistory h (parts ++ s ∷ [])
@@ -149,17 +150,17 @@ pub record Histories (call : Call) : Type 0 where
   pub taken : (h : History) (parts : List SealedFields) (s : SealedFields) → IsHistory h (parts ++ s ∷ [])
       → AsksToStore call parts s → MustSucceed call
   -- `query`
-  pub truth : (q : QueryFields) (h : History) (parts : List SealedFields) → IsHistory h parts
+  pub truth : (q : StoreQuery) (h : History) (parts : List SealedFields) → IsHistory h parts
       → AsksTruth call q h parts → Succeeds call → Prints call (truth_line h parts q)
-  pub answered : (q : QueryFields) (h : History) (parts : List SealedFields) → IsHistory h parts
+  pub answered : (q : StoreQuery) (h : History) (parts : List SealedFields) → IsHistory h parts
       → AsksTruth call q h parts → MustSucceed call
   -- `query` of the store that the base of a history begins: of what has not expired and is of no issuer that is left
   -- out, it says what the history tells
-  pub kept : (q : QueryFields) (h : History) (parts : List SealedFields) (moment : ℕ) (without : List (List ℕ))
+  pub kept : (q : StoreQuery) (h : History) (parts : List SealedFields) (moment : ℕ) (without : List (List ℕ))
       (s : SealedFields) → IsHistory (base_of h parts moment without) (s ∷ [])
       → AsksTheBase call q h parts moment without s → Succeeds call → Prints call (truth_line h parts q)
   -- of an issuer that is left out, and that no job enrolls since, the store says that it isn't enrolled wherever it covers
-  pub left_out : (q : QueryFields) (h : History) (parts : List SealedFields) → IsHistory h parts
+  pub left_out : (q : StoreQuery) (h : History) (parts : List SealedFields) → IsHistory h parts
       → AsksOfLeftOut call q h parts → Succeeds call → Prints call (line (verdict_word NotEnrolled))
   -- and it can come back: the first job that enrolls it accepts each of its entries that the job covers, also those that
   -- were accepted before the base, so that `truth` holds of them from then on
@@ -167,10 +168,10 @@ pub record Histories (call : Call) : Type 0 where
       → LeavesOut h e.id.issuer → Brings job e → (p : Published call.asked h parts job d)
       → Among (seen (releases_of (with_job h (in_format current job)) (parts ++ p.sealed ∷ []))) e
   -- `query-cert`
-  pub cert_truth : (q : QueryCertFields) (x : Identity) (ss : List Sighting)
+  pub cert_truth : (q : QueryCert) (x : Identity) (ss : List Sighting)
       (h : History) (parts : List SealedFields) → IsHistory h parts
       → AsksCertTruth call q x ss h parts → Succeeds call → Prints call (cert_truth_line h parts x)
-  pub cert_answered : (q : QueryCertFields) (x : Identity) (ss : List Sighting)
+  pub cert_answered : (q : QueryCert) (x : Identity) (ss : List Sighting)
       (h : History) (parts : List SealedFields) → IsHistory h parts
       → AsksCertTruth call q x ss h parts → MustSucceed call
   -- `rehearse`

@@ -1,8 +1,7 @@
 -- What is answered. What comes of a command, a `Done` or a `NamedFault`, has one reply, `reply_of`. `IsReplyOver` ties it
 -- to the inputs of the command, and `IsReply` to files, which may not be told, and of which a read may have failed.
-use Rattle.std.specs.Prelude.{◌≡◌, ◌<◌, ◌≤◌, ◌⊎◌, ℕ, List, [], map, length, get_or, Option, Some, None, IfSome, Result, Ok, Err}
+use Rattle.std.specs.Prelude.{◌≡◌, ◌<◌, ◌⊎◌, ℕ, List, [], map, get_or, Option, Some, None, IfSome, Result, Ok, Err}
 use Rattle.std.specs.FinMap.{get}
-use Rattle.ident_core.specs.declared.bounds.TheConstants.{MAX_PARTS}
 use Rattle.outside_core.specs.Files.{Files}
 use Rattle.sets_core.specs.Among.{Among}
 use Rattle.word_core.specs.declared.command.Command.{Command}
@@ -51,11 +50,6 @@ IsReplyOver command inputs reply =
 -- an input that can't be read, or that holds octets
 abbrev pub IsOctets : Option (List ℕ) → Type 0
 IsOctets given = IfSome given (λ bytes. (i : ℕ) → get_or bytes i 0 < 256)
-
--- of an audit: no more jobs than a chain may have parts, as of each command that words spell; nothing is asked of others
-abbrev pub HasFewJobs : Command → Type 0
-HasFewJobs (commands.Audit a) = length a.jobs ≤ MAX_PARTS
-HasFewJobs command = Unit {0}
 
 -- what the files hold under a command's inputs
 abbrev pub held_by : Command → Files → List (Option (List ℕ))

@@ -232,11 +232,11 @@ fn file_at_fault<'a>(asked: &Audit<'a>, fault: AuditFault) -> BadFile<'a>
 {
     match fault {
         AuditFault::OldEpoch { job, held, given } => BadFile {
-            name: asked.jobs()[job as usize].as_str(),
+            name: asked.jobs.as_slice()[job as usize].as_str(),
             fault: FileFault::Chain(Refusal::OldEpoch { held, given }),
         },
         AuditFault::CoverageShrinks { job, log } => BadFile {
-            name: asked.jobs()[job as usize].as_str(),
+            name: asked.jobs.as_slice()[job as usize].as_str(),
             fault: FileFault::Chain(Refusal::CoverageShrinks { log }),
         },
         AuditFault::Disagrees {
@@ -245,7 +245,7 @@ fn file_at_fault<'a>(asked: &Audit<'a>, fault: AuditFault) -> BadFile<'a>
             held,
             truth,
         } => BadFile {
-            name: asked.store(),
+            name: asked.store.as_str(),
             fault: FileFault::Disagrees {
                 job,
                 entry,
@@ -254,7 +254,7 @@ fn file_at_fault<'a>(asked: &Audit<'a>, fault: AuditFault) -> BadFile<'a>
             },
         },
         AuditFault::NoMemory => BadFile {
-            name: asked.store(),
+            name: asked.store.as_str(),
             fault: FileFault::NoMemory,
         },
     }
@@ -273,7 +273,7 @@ fn audited<'a>(
         (unless (bad_crl_of asked.now.jobs (map fields_of_job jobs.now)) (map fields_of_job jobs.now)) o
         × (reply_fields a ≡ reply_of o)) }
 {
-    if let Some(file) = file_of_bad_crl(asked.jobs(), jobs) {
+    if let Some(file) = file_of_bad_crl(asked.jobs.as_slice(), jobs) {
         return refused(file.name, file.fault);
     }
     match audit(alloc, store.parts(), jobs) {
@@ -298,12 +298,12 @@ pub fn answer_audit<'a, D: Depot>(
         (WhichFailed D.Depot depot.old depot.new) (reply_fields a)) }
     ensures only_reads { OnlyReads D.Depot depot.old depot.new }
 {
-    let store = match store_in(alloc, depot, asked.store()) {
+    let store = match store_in(alloc, depot, asked.store.as_str()) {
         Ok(store) => store,
-        Err(fault) => return refused(asked.store(), fault),
+        Err(fault) => return refused(asked.store.as_str(), fault),
     };
-    let mut jobs = AuditJobs::new(alloc, asked.jobs().len())?;
-    match jobs.add_files(alloc, asked.jobs(), depot) {
+    let mut jobs = AuditJobs::new(alloc, asked.jobs.as_slice().len())?;
+    match jobs.add_files(alloc, asked.jobs.as_slice(), depot) {
         Ok(()) => audited(alloc, asked, &store, jobs.as_slice()),
         Err(file) => refused(file.name, file.fault),
     }

@@ -39,12 +39,12 @@ pub fn answer_query<'a, D: Depot>(
         (WhichFailed D.Depot depot.old depot.new) (reply_fields a)) }
     ensures only_reads { OnlyReads D.Depot depot.old depot.new }
 {
-    match store_in(alloc, depot, query.store()) {
+    match store_in(alloc, depot, query.store.as_str()) {
         Ok(store) => {
-            let verdict = store.says(query.id(), query.sightings());
+            let verdict = store.says(&query.id, query.sightings.as_slice());
             Ok(Answer::Reply(Reply::verdict(verdict)))
         }
-        Err(fault) => refused(query.store(), fault),
+        Err(fault) => refused(query.store.as_str(), fault),
     }
 }
 
@@ -58,21 +58,21 @@ pub fn answer_query_cert<'a, D: Depot>(
         (WhichFailed D.Depot depot.old depot.new) (reply_fields a)) }
     ensures only_reads { OnlyReads D.Depot depot.old depot.new }
 {
-    let store = match store_in(alloc, depot, query.store()) {
+    let store = match store_in(alloc, depot, query.store.as_str()) {
         Ok(store) => store,
-        Err(fault) => return refused(query.store(), fault),
+        Err(fault) => return refused(query.store.as_str(), fault),
     };
-    let Certificate { serial, scts } = match certificate_in(alloc, depot, query.cert()) {
+    let Certificate { serial, scts } = match certificate_in(alloc, depot, query.cert.as_str()) {
         Ok(cert) => cert,
-        Err(fault) => return refused(query.cert(), fault),
+        Err(fault) => return refused(query.cert.as_str(), fault),
     };
-    match issuer_in(alloc, depot, query.issuer_cert()) {
+    match issuer_in(alloc, depot, query.issuer_cert.as_str()) {
         Ok(issuer) => {
             let id = Identity { issuer, serial };
             let verdict = store.says(&id, scts.sightings());
             Ok(Answer::Reply(Reply::verdict(verdict)))
         }
-        Err(fault) => refused(query.issuer_cert(), fault),
+        Err(fault) => refused(query.issuer_cert.as_str(), fault),
     }
 }
 

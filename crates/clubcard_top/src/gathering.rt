@@ -111,16 +111,16 @@ fn put_pages<'a, D: Depot>(
         (record { name = e.name.now; fault = e.fault })) }
     ensures only_reads { OnlyReads D.Depot depot.old depot.new }
 {
-    for file in gather.pages() {
+    for file in gather.pages.as_slice() {
         let name = file.as_str();
         let page = match page_in(alloc, depot, name) {
             Ok(page) => page,
             Err(fault) => return Err(BadFile { name, fault }),
         };
-        match put_page(job, gather.log(), &page) {
+        match put_page(job, &gather.log, &page) {
             Ok(()) => {}
             Err(fault) => return Err(BadFile {
-                name: gather.job(),
+                name: gather.job.as_str(),
                 fault,
             }),
         }
@@ -142,9 +142,9 @@ fn gathered<'a>(
 {
     let count = job.entries() - before;
     let text = job.close()?;
-    let line = gathered_line(gather.pages().len(), count, text.len() as u64);
+    let line = gathered_line(gather.pages.as_slice().len(), count, text.len() as u64);
     let mut outputs = Vec::with_capacity(alloc, 1)?;
-    outputs.push(Output::new(gather.job(), text))?;
+    outputs.push(Output::new(gather.job.as_str(), text))?;
     Ok(Answer::Files(outputs, Reply::done(line)))
 }
 
@@ -158,9 +158,9 @@ pub fn answer_gather<'a, D: Depot>(
         (WhichFailed D.Depot depot.old depot.new) (reply_fields a)) }
     ensures only_reads { OnlyReads D.Depot depot.old depot.new }
 {
-    let mut job = match head_in(alloc, depot, gather.head()) {
+    let mut job = match head_in(alloc, depot, gather.head.as_str()) {
         Ok(job) => job,
-        Err(fault) => return refused(gather.head(), fault),
+        Err(fault) => return refused(gather.head.as_str(), fault),
     };
     let before = job.entries();
     match put_pages(alloc, gather, &mut job, depot) {

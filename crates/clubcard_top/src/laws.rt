@@ -20,14 +20,15 @@ ghost use Rattle.publication_core.specs.Histories.{IsAdmissible, History, with_j
 ghost use Rattle.publication_core.specs.Publishing.{CanBePublished, PublicationFields, Publishes};
 ghost use Rattle.publication_core.specs.Rebasing.{CanBeRebased, BasePublicationFields, PublishesBase};
 ghost use Rattle.word_core.specs.declared.command.Command.{Command};
-ghost use Rattle.word_core.specs.CommandFields.{QueryFields, QueryCertFields, RebaseFields, RehearseFields};
-ghost use Rattle.word_core.specs.Names.{inputs_of, outputs_of};
+ghost use Rattle.word_core.specs.declared.command.{Query.Query as StoreQuery, QueryCert.QueryCert, Rebase.Rebase};
+ghost use Rattle.word_core.specs.declared.command.{Rehearse.Rehearse};
+ghost use Rattle.word_core.specs.Names.{HasFewJobs, inputs_of, outputs_of};
 ghost use Rattle.word_core.specs.Words.{command_of};
 ghost use Rattle.clubcard_top.specs.ReplyFields.{Done, NamedFault, ReplyFields};
 ghost use Rattle.clubcard_top.specs.Commands.{Makes, Rehearses, only, query_done, rehearsed, verdict_word};
 ghost use Rattle.clubcard_top.specs.Workers.{with_workers};
 ghost use Rattle.clubcard_top.specs.Steps.{RehearsesOn};
-ghost use Rattle.clubcard_top.specs.Replies.{HasFewJobs, IsOctets, IsReplyOver, held_by};
+ghost use Rattle.clubcard_top.specs.Replies.{IsOctets, IsReplyOver, held_by};
 ghost use Rattle.clubcard_top.specs.Headline.{PublishesJob, Published, StoresPart, Stored, AsksHistory, truth_done};
 ghost use Rattle.clubcard_top.specs.Headline.{AsksCert, cert_truth_line, RehearsesJobs, IsRehearsed};
 ghost use Rattle.clubcard_top.specs.Headline.{RebasesHistory, Rebased, IsRebasableWithout, base_of, IsKept, AsksBase, truth_line};
@@ -93,19 +94,19 @@ pub fn histories_are_made()
         (h : History) (parts : List SealedFields) (s : SealedFields) (o : Result Done NamedFault)
         → IsHistory h (parts ++ s ∷ []) → StoresPart command files parts s
         → Makes command (held_by command files) o → (d : Done) × (o ≡ Ok d) × Stored command parts s d }
-    ensures told { (command : Command) (files : Files) (q : QueryFields)
+    ensures told { (command : Command) (files : Files) (q : StoreQuery)
         (h : History) (parts : List SealedFields) (o : Result Done NamedFault)
         → IsHistory h parts → AsksStore command files q h parts
         → Makes command (held_by command files) o → o ≡ Ok (query_done q parts) }
-    ensures asked { (command : Command) (files : Files) (q : QueryFields)
+    ensures asked { (command : Command) (files : Files) (q : StoreQuery)
         (h : History) (parts : List SealedFields) (o : Result Done NamedFault)
         → IsHistory h parts → AsksHistory command files q h parts
         → Makes command (held_by command files) o → o ≡ Ok (truth_done h parts q) }
-    ensures certified { (command : Command) (files : Files) (q : QueryCertFields) (x : Identity) (ss : List Sighting)
+    ensures certified { (command : Command) (files : Files) (q : QueryCert) (x : Identity) (ss : List Sighting)
         (h : History) (parts : List SealedFields) (o : Result Done NamedFault)
         → IsHistory h parts → AsksCert command files q x ss h parts
         → Makes command (held_by command files) o → o ≡ Ok (only (cert_truth_line h parts x)) }
-    ensures rehearsed { (command : Command) (files : Files) (r : RehearseFields) (d : Done)
+    ensures rehearsed { (command : Command) (files : Files) (r : Rehearse) (d : Done)
         → command ≡ Command.Rehearse r → Makes command (held_by command files) (Ok d)
         → (queries : List Query) × (jobs : List JobFields) × (parts : List SealedFields)
         × RehearsesJobs command files queries jobs × IsRehearsed queries jobs parts
@@ -135,23 +136,23 @@ pub fn histories_are_made()
 /// history does (`asked`). Of an issuer that is left out the store says that it isn't enrolled wherever it covers, until
 /// a job enrolls it (`left_out`); and the first that does accepts each of its entries that it covers (`comes_back`).
 pub fn bases_are_made()
-    ensures rebased { (command : Command) (files : Files) (r : RebaseFields)
+    ensures rebased { (command : Command) (files : Files) (r : Rebase)
         (h : History) (parts : List SealedFields) (d : Done)
         → IsHistory h parts → RebasesHistory command files r h parts
         → Makes command (held_by command files) (Ok d) → Rebased r h parts d }
-    ensures rebasable { (command : Command) (files : Files) (r : RebaseFields)
+    ensures rebasable { (command : Command) (files : Files) (r : Rebase)
         (h : History) (parts : List SealedFields) (o : Result Done NamedFault)
         → IsHistory h parts → RebasesHistory command files r h parts → IsRebasableWithout r.moment r.without h parts
         → Makes command (held_by command files) o → (d : Done) × (o ≡ Ok d) }
     ensures kept { (h : History) (parts : List SealedFields) (moment : ℕ) (without : List (List ℕ)) (s : SealedFields)
-        (q : QueryFields) → IsKept moment (releases_of h parts) q.id → has_key without q.id.issuer ≡ false
+        (q : StoreQuery) → IsKept moment (releases_of h parts) q.id → has_key without q.id.issuer ≡ false
         → (sightings q.id (seen (releases_of (base_of h parts moment without) (s ∷ []))) ≡ sightings q.id (seen (releases_of h parts)))
         × (truth_line (base_of h parts moment without) (s ∷ []) q ≡ truth_line h parts q) }
-    ensures asked { (command : Command) (files : Files) (q : QueryFields)
+    ensures asked { (command : Command) (files : Files) (q : StoreQuery)
         (h : History) (parts : List SealedFields) (moment : ℕ) (without : List (List ℕ)) (s : SealedFields) (o : Result Done NamedFault)
         → IsHistory (base_of h parts moment without) (s ∷ []) → AsksBase command files q h parts moment without s
         → Makes command (held_by command files) o → o ≡ Ok (truth_done h parts q) }
-    ensures left_out { (command : Command) (files : Files) (q : QueryFields)
+    ensures left_out { (command : Command) (files : Files) (q : StoreQuery)
         (h : History) (parts : List SealedFields) (o : Result Done NamedFault)
         → IsHistory h parts → AsksLeftOut command files q h parts
         → Makes command (held_by command files) o → o ≡ Ok (only (line (verdict_word NotEnrolled))) }

@@ -104,20 +104,20 @@ pub fn answer_snapshot<'a, R: Threads + Sync, G: Gate + Sync, D: Depot>(
         (WhichFailed D.Depot depot.old depot.new) (reply_fields a)) }
     ensures only_reads { OnlyReads D.Depot depot.old depot.new }
 {
-    let job = match job_in(alloc, depot, snapshot.job()) {
+    let job = match job_in(alloc, depot, snapshot.job.as_str()) {
         Ok(job) => job,
-        Err(fault) => return refused(snapshot.job(), fault),
+        Err(fault) => return refused(snapshot.job.as_str(), fault),
     };
-    match publish_first(rt, alloc, gate, job, snapshot.workers()) {
+    match publish_first(rt, alloc, gate, job, snapshot.workers.get()) {
         Ok(publication) => published(
             rt,
             alloc,
-            snapshot.part(),
-            snapshot.ledger(),
+            snapshot.part.as_str(),
+            snapshot.ledger.as_str(),
             &publication,
-            snapshot.workers(),
+            snapshot.workers.get(),
         ),
-        Err(fault) => refused(snapshot.job(), unpublished(fault)),
+        Err(fault) => refused(snapshot.job.as_str(), unpublished(fault)),
     }
 }
 
@@ -133,23 +133,23 @@ pub fn answer_delta<'a, R: Threads + Sync, G: Gate + Sync, D: Depot>(
         (WhichFailed D.Depot depot.old depot.new) (reply_fields a)) }
     ensures only_reads { OnlyReads D.Depot depot.old depot.new }
 {
-    let job = match job_in(alloc, depot, delta.job()) {
+    let job = match job_in(alloc, depot, delta.job.as_str()) {
         Ok(job) => job,
-        Err(fault) => return refused(delta.job(), fault),
+        Err(fault) => return refused(delta.job.as_str(), fault),
     };
-    let ledger = match ledger_in(alloc, depot, delta.ledger()) {
+    let ledger = match ledger_in(alloc, depot, delta.ledger.as_str()) {
         Ok(ledger) => ledger,
-        Err(fault) => return refused(delta.ledger(), fault),
+        Err(fault) => return refused(delta.ledger.as_str(), fault),
     };
-    match publish_after(rt, alloc, gate, ledger, job, delta.workers()) {
+    match publish_after(rt, alloc, gate, ledger, job, delta.workers.get()) {
         Ok(publication) => published(
             rt,
             alloc,
-            delta.part(),
-            delta.new_ledger(),
+            delta.part.as_str(),
+            delta.new_ledger.as_str(),
             &publication,
-            delta.workers(),
+            delta.workers.get(),
         ),
-        Err(fault) => refused(delta.job(), unpublished(fault)),
+        Err(fault) => refused(delta.job.as_str(), unpublished(fault)),
     }
 }

@@ -55,16 +55,16 @@ fn rebased<'a, R: Threads + Sync>(
 {
     let sealed = publication.sealed();
     let epoch = sealed.part().head().epoch();
-    let line = line_of(rebase.without(), epoch, publication.counts());
+    let line = line_of(rebase.without.as_slice(), epoch, publication.counts());
     written(
         rt,
         alloc,
-        rebase.part(),
-        rebase.new_ledger(),
+        rebase.part.as_str(),
+        rebase.new_ledger.as_str(),
         sealed,
         publication.ledger(),
         line,
-        rebase.workers(),
+        rebase.workers.get(),
     )
 }
 
@@ -80,20 +80,20 @@ pub fn answer_rebase<'a, R: Threads + Sync, G: Gate + Sync, D: Depot>(
         (WhichFailed D.Depot depot.old depot.new) (reply_fields a)) }
     ensures only_reads { OnlyReads D.Depot depot.old depot.new }
 {
-    let ledger = match ledger_in(alloc, depot, rebase.ledger()) {
+    let ledger = match ledger_in(alloc, depot, rebase.ledger.as_str()) {
         Ok(ledger) => ledger,
-        Err(fault) => return refused(rebase.ledger(), fault),
+        Err(fault) => return refused(rebase.ledger.as_str(), fault),
     };
     match publish_base(
         rt,
         alloc,
         gate,
         ledger,
-        rebase.moment(),
-        rebase.without(),
-        rebase.workers(),
+        rebase.moment,
+        rebase.without.as_slice(),
+        rebase.workers.get(),
     ) {
         Ok(publication) => rebased(rt, alloc, rebase, &publication),
-        Err(fault) => refused(rebase.ledger(), unrebased(fault)),
+        Err(fault) => refused(rebase.ledger.as_str(), unrebased(fault)),
     }
 }

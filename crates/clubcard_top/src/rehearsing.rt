@@ -149,15 +149,15 @@ pub fn answer_rehearse<'a, R: Threads + Sync, G: Gate + Sync, D: Depot>(
         (WhichFailed D.Depot depot.old depot.new) (reply_fields a)) }
     ensures only_reads { OnlyReads D.Depot depot.old depot.new }
 {
-    let queries = match queries_in(alloc, depot, rehearse.queries()) {
+    let queries = match queries_in(alloc, depot, rehearse.queries.as_str()) {
         Ok(queries) => queries,
-        Err(fault) => return refused(rehearse.queries(), fault),
+        Err(fault) => return refused(rehearse.queries.as_str(), fault),
     };
-    let names = rehearse.jobs();
+    let names = rehearse.jobs.as_slice();
     let verdicts = queries.len().saturating_mul(VERDICT);
     let room = verdicts.saturating_add(names.len() * REPORT);
     let text = Vec::with_capacity(alloc, room)?;
-    match with_files(rt, alloc, gate, names, rehearse.workers(), text, depot) {
+    match with_files(rt, alloc, gate, names, rehearse.workers.get(), text, depot) {
         Ok((rehearsal, mut text)) => {
             put_verdicts(&mut text, &rehearsal, &queries)?;
             Ok(Answer::Lines(text))

@@ -75,13 +75,13 @@ pub fn answer_start<'a, D: Depot>(
         (WhichFailed D.Depot depot.old depot.new) (reply_fields a)) }
     ensures only_reads { OnlyReads D.Depot depot.old depot.new }
 {
-    let part = match part_in(alloc, depot, start.part()) {
+    let part = match part_in(alloc, depot, start.part.as_str()) {
         Ok((part, _)) => part,
-        Err(fault) => return refused(start.part(), fault),
+        Err(fault) => return refused(start.part.as_str(), fault),
     };
     match begun(alloc, part) {
-        Ok(store) => stored(alloc, start.store(), &store),
-        Err(fault) => refused(start.part(), fault),
+        Ok(store) => stored(alloc, start.store.as_str(), &store),
+        Err(fault) => refused(start.part.as_str(), fault),
     }
 }
 
@@ -95,16 +95,16 @@ pub fn answer_install<'a, D: Depot>(
         (WhichFailed D.Depot depot.old depot.new) (reply_fields a)) }
     ensures only_reads { OnlyReads D.Depot depot.old depot.new }
 {
-    let store = match store_in(alloc, depot, install.store()) {
+    let store = match store_in(alloc, depot, install.store.as_str()) {
         Ok(store) => store,
-        Err(fault) => return refused(install.store(), fault),
+        Err(fault) => return refused(install.store.as_str(), fault),
     };
-    let part = match part_in(alloc, depot, install.part()) {
+    let part = match part_in(alloc, depot, install.part.as_str()) {
         Ok((part, _)) => part,
-        Err(fault) => return refused(install.part(), fault),
+        Err(fault) => return refused(install.part.as_str(), fault),
     };
     match installed(store, part) {
-        Ok(store) => stored(alloc, install.new_store(), &store),
-        Err(fault) => refused(install.part(), fault),
+        Ok(store) => stored(alloc, install.new_store.as_str(), &store),
+        Err(fault) => refused(install.part.as_str(), fault),
     }
 }

@@ -24,8 +24,8 @@ use Rattle.input_core.specs.Faults.{of_input}
 use Rattle.input_core.specs.Readings.{part_in, store_in, input_as}
 use Rattle.input_core.specs.Inputs.{IsHeld, IsRead, IsInput}
 use Rattle.word_core.specs.declared.device.DeviceCommand.TheVariants as commands
-use Rattle.word_core.specs.CommandFields.{QueryFields}
-use Rattle.word_core.specs.DeviceFields.{FormatFields, InstallPartFields}
+use Rattle.word_core.specs.declared.command.Query.{Query}
+use Rattle.word_core.specs.declared.device.{Format.Format, InstallPart.InstallPart}
 use Rattle.reply_core.specs.Said.{Said}
 use Rattle.reply_core.specs.Replies.{done, refusal, slot_refusal, bad_device}
 use Rattle.line_core.specs.Lines.{verdict_line}
@@ -81,7 +81,7 @@ pub attached_mid : (old mid : DiskState) (slots : SlotsView) (parts : List Seale
     → Shows mid.told (λ _. (bytes : List ℕ) × IsSlotsOf mid slots bytes)
 attached_mid old mid slots parts quiet (bytes, read, held) = λ device told. (bytes, held device (sym quiet.same ∙ told))
 
-pub queried : (q : QueryFields) (old new : DiskState) (slots : SlotsView) (parts : List SealedFields) (said : Said)
+pub queried : (q : Query) (old new : DiskState) (slots : SlotsView) (parts : List SealedFields) (said : Said)
     → Quiet old new → HeldStore old new slots parts → said ≡ done (verdict_line (verdict (map (λ s. s.part) parts) q.id q.sightings))
     → Answers (Queried q old.told) (q.store ∷ []) old new said
 queried q old new slots parts said quiet (bytes, read, held) is =
@@ -95,7 +95,7 @@ leaves_later Keeps old mid new quiet leaves = both_quiet old mid new quiet leave
 leaves_later (Formats capacity bytes) old mid new quiet leaves = λ device told. leaves device (quiet.same ∙ told)
 leaves_later (Replaces capacity bytes) old mid new quiet leaves = λ device told. leaves device (quiet.same ∙ told)
 
-module _ (i : InstallPartFields) (told : Option Files) (failed : Option (List ℕ) → Type 0) (old mid new : DiskState) (slots : SlotsView) (parts : List SealedFields)
+module _ (i : InstallPart) (told : Option Files) (failed : Option (List ℕ) → Type 0) (old mid new : DiskState) (slots : SlotsView) (parts : List SealedFields)
     (quiet : Quiet old mid) (held : HeldStore old mid slots parts) where
   -- the command ends with an outcome of the store and the file
   ends_so : (given : Option (List ℕ)) (o : Outcome) (said : Said) → IsRead told failed i.part given → o ≡ install_outcome i slots.capacity parts (input_as part_in given)
@@ -142,7 +142,7 @@ whole_read : (told : Option Files) (failed : Option (List ℕ) → Type 0) (name
 whole_read None failed name bytes held = tt
 whole_read (Some files) failed name bytes (file, there, is) = there ∙ ap (λ (b : List ℕ). Some b) (sym is)
 
-module _ (f : FormatFields) (told : Option Files) (failed : Option (List ℕ) → Type 0) (old new : DiskState) where
+module _ (f : Format) (told : Option Files) (failed : Option (List ℕ) → Type 0) (old new : DiskState) where
   pub no_store : {T : Type 0} (e : InputFault) (r : Result Said NoMemory) → Quiet old new
       → (IsErrOf {T = T} (Err e) reads.Failed → failed (Some f.store) ⊎ (IsMissing told f.store × failed None))
       → IfOk r (λ s. s ≡ refusal f.store (of_input e)) → (of_input e ≡ faults.NoMemory → IsErr r)

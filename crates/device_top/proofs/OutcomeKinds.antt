@@ -21,7 +21,7 @@ use Rattle.input_core.specs.Faults.{of_part, of_store}
 use Rattle.input_core.specs.Inputs.{IsRead}
 use Rattle.input_core.specs.PartFile.{part_file}
 use Rattle.input_core.specs.Readings.{faulted, input_as, part_in, store_in}
-use Rattle.word_core.specs.DeviceFields.{FormatFields, InstallPartFields}
+use Rattle.word_core.specs.declared.device.{Format.Format, InstallPart.InstallPart}
 use Rattle.word_core.specs.declared.device.DeviceCommand.{DeviceCommand}
 use Rattle.word_core.specs.declared.device.DeviceCommand.TheVariants as commands
 use Rattle.reply_core.specs.Replies.{usage, refusal, bad_device, too_long}
@@ -91,24 +91,24 @@ module _ (asked : DeviceCommand) (told : Option Files) (failed : Option (List �
   kind_if true name capacity parts deed is = over name capacity is
   kind_if false name capacity parts deed is = done (status_is o (record { said = stored parts; deed = deed }) is)
 
-  kind_formats : (f : FormatFields) (bytes : List ℕ) (r : Result (List SealedFields) FileFault) → store_in bytes ≡ r → o ≡ formats f bytes r → Kind asked told failed o
+  kind_formats : (f : Format) (bytes : List ℕ) (r : Result (List SealedFields) FileFault) → store_in bytes ≡ r → o ≡ formats f bytes r → Kind asked told failed o
   kind_formats f bytes (Err fault) read is = bad_file f.store fault (faulted-file (value_of (store bytes 0)) fault read) is
   kind_formats f bytes (Ok parts) read is = kind_if (nat_lt f.capacity (length bytes)) f.device f.capacity parts _ is
 
-  kind_format : (f : FormatFields) → asked ≡ commands.Format f → (given : Option (List ℕ)) → IsRead told failed f.store given → o ≡ format_outcome f given → Kind asked told failed o
+  kind_format : (f : Format) → asked ≡ commands.Format f → (given : Option (List ℕ)) → IsRead told failed f.store given → o ≡ format_outcome f given → Kind asked told failed o
   kind_format f is_asked None read is = unread f.store (subst (λ (a : DeviceCommand). Among (file_of a) f.store) (sym is_asked) (inl refl)) read is
   kind_format f is_asked (Some bytes) read is = kind_formats f bytes (store_in bytes) refl is
 
-  kind_added : (i : InstallPartFields) (capacity : ℕ) (parts : List SealedFields) (s : SealedFields) (r : Option Refusal) → o ≡ added i capacity parts s r → Kind asked told failed o
+  kind_added : (i : InstallPart) (capacity : ℕ) (parts : List SealedFields) (s : SealedFields) (r : Option Refusal) → o ≡ added i capacity parts s r → Kind asked told failed o
   kind_added i capacity parts s None is = kind_if (nat_lt capacity (length (store_text (parts ++ s ∷ [])))) i.device capacity (parts ++ s ∷ []) _ is
   kind_added i capacity parts s (Some why) is = bad_file i.part (faults.Chain why) tt is
 
-  kind_install : (i : InstallPartFields) (capacity : ℕ) (parts : List SealedFields) (file : List ℕ) (r : Result (SealedFields × ℕ) FileFault) → part_in file ≡ r
+  kind_install : (i : InstallPart) (capacity : ℕ) (parts : List SealedFields) (file : List ℕ) (r : Result (SealedFields × ℕ) FileFault) → part_in file ≡ r
       → o ≡ install_outcome i capacity parts r → Kind asked told failed o
   kind_install i capacity parts file (Err fault) read is = bad_file i.part fault (part_in-file file fault read) is
   kind_install i capacity parts file (Ok x) read is = kind_added i capacity parts x.0 (refusal_of parts x.0) is
 
-  kind_part : (i : InstallPartFields) → asked ≡ commands.Install i → (capacity : ℕ) (parts : List SealedFields) (given : Option (List ℕ)) → IsRead told failed i.part given
+  kind_part : (i : InstallPart) → asked ≡ commands.Install i → (capacity : ℕ) (parts : List SealedFields) (given : Option (List ℕ)) → IsRead told failed i.part given
       → o ≡ install_outcome i capacity parts (input_as part_in given) → Kind asked told failed o
   kind_part i is_asked capacity parts None read is = unread i.part (subst (λ (a : DeviceCommand). Among (file_of a) i.part) (sym is_asked) (inl refl)) read is
   kind_part i is_asked capacity parts (Some file) read is = kind_install i capacity parts file (part_in file) refl is

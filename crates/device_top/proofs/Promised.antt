@@ -22,8 +22,8 @@ use Rattle.input_core.specs.declared.fault.FileFault.TheVariants as faults
 use Rattle.input_core.specs.Faults.{of_store}
 use Rattle.input_core.specs.Readings.{faulted, input_as, part_in, store_in}
 use Rattle.input_core.specs.Inputs.{IsRead}
-use Rattle.word_core.specs.CommandFields.{QueryFields}
-use Rattle.word_core.specs.DeviceFields.{FormatFields, InstallPartFields}
+use Rattle.word_core.specs.declared.command.Query.{Query}
+use Rattle.word_core.specs.declared.device.{Format.Format, InstallPart.InstallPart}
 use Rattle.word_core.specs.declared.device.DeviceCommand.{DeviceCommand}
 use Rattle.word_core.specs.declared.device.DeviceCommand.TheVariants as commands
 use Rattle.reply_core.specs.Said.{Said}
@@ -75,26 +75,26 @@ module _ (call : DeviceCall) (device : List ℕ) (told : call.before.told ≡ So
 
   -- ---- device-format
 
-  format_put : (f : FormatFields) (bytes : List ℕ) (parts : List SealedFields) → store_in bytes ≡ Ok parts → IsRead call.files call.failed f.store (Some bytes) → (b : Bool)
+  format_put : (f : Format) (bytes : List ℕ) (parts : List SealedFields) → store_in bytes ≡ Ok parts → IsRead call.files call.failed f.store (Some bytes) → (b : Bool)
       → ShowsIt (if b then keeps (too_long f.capacity f.device) else record { said = stored parts; deed = Formats f.capacity bytes }) → Formatted call f
   format_put f bytes parts is read true (zero, prints, leaves) = absurd (omega (arith, zero))
   format_put f bytes parts is read false (zero, prints, leaves) = record { bytes = bytes; parts = parts; is_read = read; is_store = is; prints = prints; rests = leaves device told }
 
-  format_read : (f : FormatFields) (bytes : List ℕ) (r : Result (List SealedFields) FileFault) → store_in bytes ≡ r → IsRead call.files call.failed f.store (Some bytes)
+  format_read : (f : Format) (bytes : List ℕ) (r : Result (List SealedFields) FileFault) → store_in bytes ≡ r → IsRead call.files call.failed f.store (Some bytes)
       → ShowsIt (formats f bytes r) → Formatted call f
   format_read f bytes (Err fault) is read (zero, prints, leaves) = absurd (not_done f.store fault zero)
   format_read f bytes (Ok parts) is read shows = format_put f bytes parts is read (nat_lt f.capacity (length bytes)) shows
 
-  format_given : (f : FormatFields) (given : Option (List ℕ)) → IsRead call.files call.failed f.store given → ShowsIt (format_outcome f given) → Formatted call f
+  format_given : (f : Format) (given : Option (List ℕ)) → IsRead call.files call.failed f.store given → ShowsIt (format_outcome f given) → Formatted call f
   format_given f None read (zero, prints, leaves) = absurd (not_done f.store faults.Unread zero)
   format_given f (Some bytes) read shows = format_read f bytes (store_in bytes) refl read shows
 
-  format_done : (f : FormatFields) (d : Done) → Comes (commands.Format f) call.files call.failed call.before.told d.o → Formatted call f
+  format_done : (f : Format) (d : Done) → Comes (commands.Format f) call.files call.failed call.before.told d.o → Formatted call f
   format_done f d (given, read, is) = format_given f given read (shown d (format_outcome f given) is)
 
   -- ---- device-install
 
-  module _ (i : InstallPartFields) (capacity : ℕ) (held : List ℕ) (parts : List SealedFields) (is_device : IsDevice capacity held device) (is_store : store_in held ≡ Ok parts) where
+  module _ (i : InstallPart) (capacity : ℕ) (held : List ℕ) (parts : List SealedFields) (is_device : IsDevice capacity held device) (is_store : store_in held ≡ Ok parts) where
     install_put : (file : List ℕ) (x : SealedFields × ℕ) → IsRead call.files call.failed i.part (Some file) → part_in file ≡ Ok x → refusal_of parts x.0 ≡ None → (b : Bool)
         → ShowsIt (if b then keeps (too_long capacity i.device)
         else record { said = stored (parts ++ x.0 ∷ []); deed = Replaces capacity (store_text (parts ++ x.0 ∷ [])) }) → Installed call device i
@@ -122,7 +122,7 @@ module _ (call : DeviceCall) (device : List ℕ) (told : call.before.told ≡ So
     install_given None read (zero, prints, leaves) = absurd (not_done i.part faults.Unread zero)
     install_given (Some file) read shows = install_read file (part_in file) refl read shows
 
-  install_done : (i : InstallPartFields) (d : Done) → Comes (commands.Install i) call.files call.failed call.before.told d.o → Installed call device i
+  install_done : (i : InstallPart) (d : Done) → Comes (commands.Install i) call.files call.failed call.before.told d.o → Installed call device i
   install_done i d (inl (at, breaks, is)) = let s = shown d (keeps (bad_device at i.device)) is in absurd (let z : 14 ≡ 0 = s.0 in omega (arith, z))
   install_done i d (inr (capacity, bytes, holds, inl (fault, bad, is))) = absurd (not_done i.device fault (shown d (keeps (refusal i.device fault)) is).0)
   install_done i d (inr (capacity, bytes, holds, inr (parts, good, (given, read, is)))) =
@@ -130,7 +130,7 @@ module _ (call : DeviceCall) (device : List ℕ) (told : call.before.told ≡ So
 
   -- ---- device-query
 
-  query_done : (q : QueryFields) (d : Done) → Queried q call.before.told d.o → Answered call device q
+  query_done : (q : Query) (d : Done) → Queried q call.before.told d.o → Answered call device q
   query_done q d (inl (at, breaks, is)) = let s = shown d (keeps (bad_device at q.store)) is in absurd (let z : 14 ≡ 0 = s.0 in omega (arith, z))
   query_done q d (inr (capacity, bytes, holds, inl (fault, bad, is))) = absurd (not_done q.store fault (shown d (keeps (refusal q.store fault)) is).0)
   query_done q d (inr (capacity, bytes, holds, inr (parts, good, is))) = record {
@@ -157,7 +157,7 @@ module _ (call : DeviceCall) (device : List ℕ) (told : call.before.told ≡ So
   same_parts : (one other : List SealedFields) → ◌≡◌ {A = Result (List SealedFields) FileFault} (Ok one) (Ok other) → one ≡ other
   same_parts one other is = cc
 
-  truth_done : Laws → (q : QueryFields) (h : History) (parts : List SealedFields) (capacity : ℕ) → IsHistory h parts → 1 ≤ members h
+  truth_done : Laws → (q : Query) (h : History) (parts : List SealedFields) (capacity : ℕ) → IsHistory h parts → 1 ≤ members h
       → IsDevice capacity (store_bytes parts) device → 1 ≤ length q.sightings → ((s : Sighting) → Among q.sightings s → Among (sightings q.id (seen (releases_of h parts))) s)
       → Answered call device q → Prints call (verdict_line (truth (releases_of h parts) q.id))
   truth_done laws q h parts capacity is some holds asked accepted a =

@@ -5,7 +5,7 @@ use Rattle.outside_core.specs.Files.{Files}
 use Rattle.part_text.specs.SealedFields.{SealedFields}
 use Rattle.slot_core.specs.Device.{IsDevice, BreaksAt}
 use Rattle.slot_core.specs.Fields.{Shows}
-use Rattle.word_core.specs.CommandFields.{QueryFields}
+use Rattle.word_core.specs.declared.command.Query.{Query}
 use Rattle.word_core.specs.declared.device.DeviceCommand.{DeviceCommand}
 use Rattle.word_core.specs.declared.device.DeviceCommand.TheVariants as commands
 use Rattle.input_core.specs.declared.fault.FileFault.{FileFault}
@@ -32,7 +32,7 @@ abbrev pub OfFile : Option Files → (Option (List ℕ) → Type 0) → List ℕ
 OfFile told failed name next o = (given : Option (List ℕ)) × IsRead told failed name given × (o ≡ next given)
 
 -- what comes of a query over a disk of these bytes
-abbrev pub Queried : QueryFields → Option (List ℕ) → Outcome → Type 0
+abbrev pub Queried : Query → Option (List ℕ) → Outcome → Type 0
 Queried q disk o = OfDevice q.store disk (λ capacity parts o. o ≡ query_outcome q parts) o
 
 -- what comes of a command over files, with these reads of them that failed, and over a disk of these bytes

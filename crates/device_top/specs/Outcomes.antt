@@ -9,8 +9,8 @@ use Rattle.line_core.specs.Lines.{store_line, verdict_line}
 use Rattle.input_core.specs.declared.fault.FileFault.{FileFault}
 use Rattle.input_core.specs.declared.fault.FileFault.TheVariants as faults
 use Rattle.input_core.specs.Readings.{store_in}
-use Rattle.word_core.specs.CommandFields.{QueryFields}
-use Rattle.word_core.specs.DeviceFields.{FormatFields, InstallPartFields}
+use Rattle.word_core.specs.declared.command.Query.{Query}
+use Rattle.word_core.specs.declared.device.{Format.Format, InstallPart.InstallPart}
 use Rattle.reply_core.specs.Said.{Said}
 use Rattle.reply_core.specs.Replies.{done, refusal, too_long}
 
@@ -44,11 +44,11 @@ given_to name capacity parts count deed =
 
 -- ---- device-format, of the bytes of STORE
 
-abbrev pub formats : FormatFields → List ℕ → Result (List SealedFields) FileFault → Outcome
+abbrev pub formats : Format → List ℕ → Result (List SealedFields) FileFault → Outcome
 formats f bytes (Err fault) = keeps (refusal f.store fault)
 formats f bytes (Ok parts) = given_to f.device f.capacity parts (length bytes) (Formats f.capacity bytes)
 
-abbrev pub format_outcome : FormatFields → Option (List ℕ) → Outcome
+abbrev pub format_outcome : Format → Option (List ℕ) → Outcome
 format_outcome f None = keeps (refusal f.store faults.Unread)
 format_outcome f (Some bytes) = formats f bytes (store_in bytes)
 
@@ -60,15 +60,15 @@ replaced name capacity parts =
     given_to name capacity parts (length (store_text parts)) (Replaces capacity (store_text parts))
 
 -- the part is added where nothing is against it
-abbrev pub added : InstallPartFields → ℕ → List SealedFields → SealedFields → Option Refusal → Outcome
+abbrev pub added : InstallPart → ℕ → List SealedFields → SealedFields → Option Refusal → Outcome
 added i capacity parts s None = replaced i.device capacity (parts ++ s ∷ [])
 added i capacity parts s (Some why) = keeps (refusal i.part (faults.Chain why))
 
-abbrev pub install_outcome : InstallPartFields → ℕ → List SealedFields → Result (SealedFields × ℕ) FileFault → Outcome
+abbrev pub install_outcome : InstallPart → ℕ → List SealedFields → Result (SealedFields × ℕ) FileFault → Outcome
 install_outcome i capacity parts (Err fault) = keeps (refusal i.part fault)
 install_outcome i capacity parts (Ok x) = added i capacity parts x.0 (refusal_of parts x.0)
 
 -- ---- device-query
 
-abbrev pub query_outcome : QueryFields → List SealedFields → Outcome
+abbrev pub query_outcome : Query → List SealedFields → Outcome
 query_outcome q parts = keeps (done (verdict_line (verdict (map (λ s. s.part) parts) q.id q.sightings)))

@@ -15,8 +15,8 @@ use Rattle.input_core.specs.Readings.{store_in}
 use Rattle.input_core.specs.Inputs.{IsRead}
 use Rattle.input_core.specs.declared.fault.FileFault.TheVariants as faults
 use Rattle.line_core.specs.Statuses as status
-use Rattle.word_core.specs.CommandFields.{QueryFields}
-use Rattle.word_core.specs.DeviceFields.{FormatFields, InstallPartFields}
+use Rattle.word_core.specs.declared.command.Query.{Query}
+use Rattle.word_core.specs.declared.device.{Format.Format, InstallPart.InstallPart}
 use Rattle.word_core.specs.declared.device.DeviceCommand.{DeviceCommand}
 use Rattle.word_core.specs.declared.device.DeviceCommand.TheVariants as commands
 use Rattle.reply_core.specs.Said.{Said}
@@ -35,7 +35,7 @@ Did call asked = (call.asked ≡ asked) × (call.printed.status ≡ status.done)
 
 -- STORE gave these bytes, which are a store; the disk now is a device of that capacity with gate 0, whose first slot
 -- holds them, and a crash leaves the same.
-pub record Formatted (call : DeviceCall) (f : FormatFields) : Type 0 where
+pub record Formatted (call : DeviceCall) (f : Format) : Type 0 where
   pub bytes : List ℕ
   pub parts : List SealedFields
   pub is_read : IsRead call.files call.failed f.store (Some bytes)
@@ -45,7 +45,7 @@ pub record Formatted (call : DeviceCall) (f : FormatFields) : Type 0 where
 
 -- The device held a store, which grows by the part in PART; the disk now is a device of the same capacity, whose other
 -- slot is picked and holds the store with the part, and a crash leaves the same.
-pub record Installed (call : DeviceCall) (device : List ℕ) (i : InstallPartFields) : Type 0 where
+pub record Installed (call : DeviceCall) (device : List ℕ) (i : InstallPart) : Type 0 where
   pub capacity : ℕ
   pub held : List ℕ
   pub is_device : IsDevice capacity held device
@@ -55,7 +55,7 @@ pub record Installed (call : DeviceCall) (device : List ℕ) (i : InstallPartFie
       × (picks_second after ≡ not (picks_second device)))
 
 -- The device held this store, and what its parts say was printed.
-pub record Answered (call : DeviceCall) (device : List ℕ) (q : QueryFields) : Type 0 where
+pub record Answered (call : DeviceCall) (device : List ℕ) (q : Query) : Type 0 where
   pub capacity : ℕ
   pub held : List ℕ
   pub parts : List SealedFields
@@ -65,11 +65,11 @@ pub record Answered (call : DeviceCall) (device : List ℕ) (q : QueryFields) : 
 
 -- Each success over a disk whose bytes are told: they were this device.
 pub record Promises (call : DeviceCall) (device : List ℕ) : Type 0 where
-  pub format : (f : FormatFields) → Did call (commands.Format f) → Formatted call f
-  pub install : (i : InstallPartFields) → Did call (commands.Install i) → Installed call device i
-  pub query : (q : QueryFields) → Did call (commands.Query q) → Answered call device q
+  pub format : (f : Format) → Did call (commands.Format f) → Formatted call f
+  pub install : (i : InstallPart) → Did call (commands.Install i) → Installed call device i
+  pub query : (q : Query) → Did call (commands.Query q) → Answered call device q
   -- where the slot holds the bytes of a history's store, asked with accepted sightings of the certificate alone
-  pub truth : (q : QueryFields) (h : History) (parts : List SealedFields) (capacity : ℕ) → IsHistory h parts
+  pub truth : (q : Query) (h : History) (parts : List SealedFields) (capacity : ℕ) → IsHistory h parts
       → 1 ≤ members h → IsDevice capacity (store_bytes parts) device → 1 ≤ length q.sightings
       → ((s : Sighting) → Among q.sightings s → Among (sightings q.id (seen (releases_of h parts))) s)
       → Did call (commands.Query q) → Prints call (verdict_line (truth (releases_of h parts) q.id))
@@ -101,7 +101,7 @@ pub record Refusals (call : DeviceCall) : Type 0 where
 
 -- What a crash may leave at a moment of an install, whatever it ends with.
 pub record Crashes (call : DeviceCall) : Type 0 where
-  pub install : (i : InstallPartFields) → call.asked ≡ commands.Install i
+  pub install : (i : InstallPart) → call.asked ≡ commands.Install i
       → Survives call.files call.failed i.part call.before call.after
 
 -- How each call ends, told or not. The promises follow from it.

@@ -71,10 +71,10 @@ pub fn answer_query<'a, D: Disk>(
 {
     match held_in(alloc, disk) {
         Ok(held) => {
-            let verdict = held.store.says(query.id(), query.sightings());
+            let verdict = held.store.says(&query.id, query.sightings.as_slice());
             Ok(Reply::verdict(verdict))
         }
-        Err(fault) => not_held(query.store(), fault),
+        Err(fault) => not_held(query.store.as_str(), fault),
     }
 }
 
@@ -92,9 +92,9 @@ fn formatted<'a, D: Disk>(
     ensures some { IsOk result }
     ensures later { (D.state disk.old).faults ≤ (D.state disk.new).faults }
 {
-    match format(disk, asked.capacity(), bytes) {
+    match format(disk, asked.capacity.get(), bytes) {
         Ok(()) => Ok(stored(store)),
-        Err(fault) => Reply::slot_refusal(asked.device(), fault),
+        Err(fault) => Reply::slot_refusal(asked.device.as_str(), fault),
     }
 }
 
@@ -114,13 +114,13 @@ pub fn answer_format<'a, D: Disk, P: Depot>(
     ensures later { (D.state disk.old).faults ≤ (D.state disk.new).faults }
     ensures only_reads { OnlyReads P.Depot depot.old depot.new }
 {
-    let bytes = match read_up_to(alloc, depot, asked.store(), usize::MAX) {
+    let bytes = match read_up_to(alloc, depot, asked.store.as_str(), usize::MAX) {
         Ok(bytes) => bytes,
-        Err(fault) => return Reply::refusal(asked.store(), FileFault::from(fault)),
+        Err(fault) => return Reply::refusal(asked.store.as_str(), FileFault::from(fault)),
     };
     match store_of(alloc, &bytes) {
         Ok(store) => formatted(asked, &bytes, &store, disk),
-        Err(fault) => Reply::refusal(asked.store(), fault),
+        Err(fault) => Reply::refusal(asked.store.as_str(), fault),
     }
 }
 
@@ -179,14 +179,14 @@ pub fn answer_install<'a, D: Disk, P: Depot>(
 {
     let Held { slots, store } = match held_in(alloc, disk) {
         Ok(held) => held,
-        Err(fault) => return not_held(asked.device(), fault),
+        Err(fault) => return not_held(asked.device.as_str(), fault),
     };
-    let part = match part_in(alloc, depot, asked.part()) {
+    let part = match part_in(alloc, depot, asked.part.as_str()) {
         Ok((part, _)) => part,
-        Err(fault) => return Reply::refusal(asked.part(), fault),
+        Err(fault) => return Reply::refusal(asked.part.as_str(), fault),
     };
     match installed(store, part) {
-        Ok(store) => replaced(alloc, slots, disk, asked.device(), &store),
-        Err(fault) => Reply::refusal(asked.part(), fault),
+        Ok(store) => replaced(alloc, slots, disk, asked.device.as_str(), &store),
+        Err(fault) => Reply::refusal(asked.part.as_str(), fault),
     }
 }

@@ -4,8 +4,8 @@ ghost use Rattle.std.specs.Prelude.{◌≡◌, ◌≤◌, List, ℕ, Some, IfOk,
 ghost use Rattle.outside_core.specs.Effects.{OnlyReads};
 ghost use Rattle.slot_core.specs.Disk.{Quiet};
 ghost use Rattle.outside_core.specs.Reads.{WhichFailed};
-ghost use Rattle.word_core.specs.DeviceFields.{InstallPartFields};
-ghost use Rattle.word_core.specs.CommandFields.{QueryFields};
+ghost use Rattle.word_core.specs.declared.device.InstallPart.{InstallPart};
+ghost use Rattle.word_core.specs.declared.command.Query.{Query};
 ghost use Rattle.word_core.specs.Devices.{device_command_of};
 ghost use Rattle.word_core.specs.declared.device.DeviceCommand.TheVariants as commands;
 ghost use Rattle.device_top.specs.Comes.{Comes};
@@ -38,10 +38,10 @@ fn answer_for<'a, D: Disk, P: Depot>(
         (WhichFailed P.Depot depot.old depot.new) (D.state disk.old).told)
         (device_of command.now) (D.state disk.old) (D.state disk.new) r) }
     ensures blamed { IfOk result (λ r. SaysWhich (WhichFailed P.Depot depot.old depot.new) (file_of command.now) r) }
-    ensures survives { (i : InstallPartFields) → command.now ≡ commands.Install i
+    ensures survives { (i : InstallPart) → command.now ≡ commands.Install i
         → Survives (P.files depot.old) (WhichFailed P.Depot depot.old depot.new) i.part
         (D.state disk.old) (D.state disk.new) }
-    ensures quiet { (q : QueryFields) → command.now ≡ commands.Query q → Quiet (D.state disk.old) (D.state disk.new) }
+    ensures quiet { (q : Query) → command.now ≡ commands.Query q → Quiet (D.state disk.old) (D.state disk.new) }
     ensures memory { OnErr result (Quiet (D.state disk.old) (D.state disk.new)) }
     ensures later { (D.state disk.old).faults ≤ (D.state disk.new).faults }
     ensures only_reads { OnlyReads P.Depot depot.old depot.new }
@@ -75,10 +75,10 @@ fn run_command<D: Disk, P: Depot, K: Sink>(
 ) -> Status
     ensures ends { Ends (call_of P.Depot K.Sink command.now (D.state disk.old) (D.state disk.new)
         depot.old depot.new out.old out.new result.0) }
-    ensures survives { (i : InstallPartFields) → command.now ≡ commands.Install i
+    ensures survives { (i : InstallPart) → command.now ≡ commands.Install i
         → Survives (P.files depot.old) (WhichFailed P.Depot depot.old depot.new) i.part
         (D.state disk.old) (D.state disk.new) }
-    ensures quiet { (q : QueryFields) → command.now ≡ commands.Query q → Quiet (D.state disk.old) (D.state disk.new) }
+    ensures quiet { (q : Query) → command.now ≡ commands.Query q → Quiet (D.state disk.old) (D.state disk.new) }
     ensures later { (D.state disk.old).faults ≤ (D.state disk.new).faults }
     ensures later_out { K.faults out.old ≤ K.faults out.new }
     ensures only_reads { OnlyReads P.Depot depot.old depot.new }
@@ -99,10 +99,10 @@ fn run_words<D: Disk, P: Depot, K: Sink>(
 ) -> Status
     ensures ends { Ends (call P.Depot K.Sink words.now (D.state disk.old) (D.state disk.new)
         depot.old depot.new out.old out.new result.0) }
-    ensures survives { (i : InstallPartFields) → device_command_of (map string_bytes words.now) ≡ commands.Install i
+    ensures survives { (i : InstallPart) → device_command_of (map string_bytes words.now) ≡ commands.Install i
         → Survives (P.files depot.old) (WhichFailed P.Depot depot.old depot.new) i.part
         (D.state disk.old) (D.state disk.new) }
-    ensures quiet { (q : QueryFields) → device_command_of (map string_bytes words.now) ≡ commands.Query q
+    ensures quiet { (q : Query) → device_command_of (map string_bytes words.now) ≡ commands.Query q
         → Quiet (D.state disk.old) (D.state disk.new) }
     ensures later { (D.state disk.old).faults ≤ (D.state disk.new).faults }
     ensures later_out { K.faults out.old ≤ K.faults out.new }
@@ -140,7 +140,7 @@ pub fn run_device<R: Threads + Sync, D: Disk, P: Depot, K: Sink>(
     ensures ending { Ending (call P.Depot K.Sink words.now (D.state disk.old) (D.state disk.new)
         depot.old depot.new out.old out.new result.0) }
     // A query changes nothing of the disk.
-    ensures quiet { (q : QueryFields) → device_command_of (map string_bytes words.now) ≡ commands.Query q
+    ensures quiet { (q : Query) → device_command_of (map string_bytes words.now) ≡ commands.Query q
         → Quiet (D.state disk.old) (D.state disk.new) }
     // No other file changes, and no count falls.
     ensures only_reads { OnlyReads P.Depot depot.old depot.new }

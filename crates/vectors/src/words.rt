@@ -13,13 +13,13 @@ fn put_command(alloc: Global, text: &mut String, command: &Command<'_>) -> Resul
         Command::Usage => text.push_str("usage")?,
         Command::Query(query) => {
             text.push_str("query ")?;
-            put_identity(alloc, text, query.id())?;
-            for seen in query.sightings() {
+            put_identity(alloc, text, &query.id)?;
+            for seen in query.sightings.as_slice() {
                 put_sighting(alloc, text, seen)?;
             }
         }
         Command::Sample(sample) => {
-            let (number, count) = (sample.number(), sample.count());
+            let (number, count) = (sample.number, sample.count.get());
             write!(text, "sample {number} entries {count}")?;
         }
         _ => text.push_str("command")?,

@@ -5,7 +5,7 @@ use Rattle.std.specs.Str.{bytes_eq}
 use Rattle.std.proofs.lemmas.Bool.{false_from_ne_true}
 use Rattle.std.proofs.lemmas.Slice.Eq.{bytes_eq-Decides}
 use Rattle.word_core.specs.declared.command.Command.TheVariants as commands
-use Rattle.word_core.specs.CommandFields.{QueryFields}
+use Rattle.word_core.specs.declared.command.Query.{Query}
 use Rattle.word_core.specs.Words.{query_of, asks, command_of}
 
 bytes_same : (a b : List ℕ) → bytes_eq a b ≡ true → a ≡ b
@@ -38,7 +38,7 @@ no_command name rest query query_cert check show snapshot delta rebase rebase_wi
       other name (codes "audit") audit,
     ) refl
 
-asked_not_check : (o : Option QueryFields) (name : List ℕ) → asks commands.Query o ≡ commands.Check name → ⊥
+asked_not_check : (o : Option Query) (name : List ℕ) → asks commands.Query o ≡ commands.Check name → ⊥
 asked_not_check None name h = cc
 asked_not_check (Some q) name h = cc
 

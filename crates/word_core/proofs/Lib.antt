@@ -4,3 +4,4 @@ pub mod Numbers
 pub mod Apart
 pub mod Commands
 pub mod DeviceCommands
+pub mod Asked

@@ -3,9 +3,8 @@ use Rattle.std.specs.Prelude.{ℕ, List, [], ◌∷◌, Option, Some, None, code
 use Rattle.std.specs.Str.{bytes_eq}
 use Rattle.octets_core.specs.Layout.{within}
 use Rattle.slot_core.specs.declared.device.TheConstants.{MAX_CAPACITY}
-use Rattle.word_core.specs.DeviceFields.{FormatFields, InstallPartFields}
 use Rattle.word_core.specs.Words.{◌>>=◌, name_of, number_of, query_of, are_apart}
-use Rattle.word_core.specs.declared.device.DeviceCommand.{DeviceCommand}
+use Rattle.word_core.specs.declared.device.{DeviceCommand.DeviceCommand, Format.Format, InstallPart.InstallPart}
 use Rattle.word_core.specs.declared.device.DeviceCommand.TheVariants as commands
 
 -- one or more, and no more than a slot may hold
@@ -15,7 +14,7 @@ capacity_of word = do
   if within 1 MAX_CAPACITY n then Some n else None
 
 -- DEVICE CAPACITY STORE
-abbrev pub format_of : List (List ℕ) → Option FormatFields
+abbrev pub format_of : List (List ℕ) → Option Format
 format_of (device ∷ capacity ∷ store ∷ []) = do
   d ← name_of device
   c ← capacity_of capacity
@@ -24,7 +23,7 @@ format_of (device ∷ capacity ∷ store ∷ []) = do
 format_of words = None
 
 -- DEVICE PART
-abbrev pub install_part_of : List (List ℕ) → Option InstallPartFields
+abbrev pub install_part_of : List (List ℕ) → Option InstallPart
 install_part_of (device ∷ part ∷ []) = do
   d ← name_of device
   p ← name_of part

@@ -1,8 +1,10 @@
 -- The files that a command reads and writes.
-use Rattle.std.specs.Prelude.{ℕ, List, [], ◌∷◌}
+use Rattle.std.specs.Prelude.{◌≡◌, ◌≤◌, ℕ, true, List, [], ◌∷◌, length}
+use Rattle.ident_core.specs.declared.bounds.TheConstants.{MAX_PARTS}
 use Rattle.word_core.specs.declared.command.Command.{Command}
 use Rattle.word_core.specs.declared.command.Command.TheVariants.{Usage, Query, QueryCert, Check, Show, Snapshot, Delta}
 use Rattle.word_core.specs.declared.command.Command.TheVariants.{Rebase, Start, Install, Rehearse, Sample, Gather, Audit}
+use Rattle.word_core.specs.Words.{are_apart}
 
 -- the names of the files that a command reads, in the order of reading
 abbrev pub inputs_of : Command → List (List ℕ)
@@ -37,3 +39,12 @@ outputs_of (Rehearse rehearse) = []
 outputs_of (Sample sample) = sample.job ∷ []
 outputs_of (Gather gather) = gather.job ∷ []
 outputs_of (Audit audit) = []
+
+-- no output of the command has the name of an input or of another output
+abbrev pub IsApart : Command → Type 0
+IsApart command = are_apart (inputs_of command) (outputs_of command) ≡ true
+
+-- the command, where it audits a store, names no more jobs than a chain may have parts
+abbrev pub HasFewJobs : Command → Type 0
+HasFewJobs (Audit audit) = length audit.jobs ≤ MAX_PARTS
+HasFewJobs command = Unit {0}

@@ -1,5 +1,5 @@
 -- What the words of a call spell (docs/FORMATS.md, "Words").
-use Rattle.std.specs.Prelude.{ℕ, ◌^◌, List, [], ◌∷◌, length, take, drop, Bool, true, ◌&&◌, not, ◌==◌, nat_le, nat_lt, if◌then◌else◌}
+use Rattle.std.specs.Prelude.{ℕ, ◌*◌, ◌^◌, List, [], ◌∷◌, length, take, drop, Bool, true, ◌&&◌, not, ◌==◌, nat_le, nat_lt, if◌then◌else◌}
 use Rattle.std.specs.Prelude.{Option, Some, None, Result, Ok, Err, codes}
 use Rattle.std.specs.Char.{is_ascii_digit}
 use Rattle.std.specs.List.{list_all, list_any}
@@ -10,10 +10,10 @@ use Rattle.hex.specs.declared.error.FromHexError.{FromHexError}
 use Rattle.octets_core.specs.Layout.{within}
 use Rattle.ident_core.specs.declared.bounds.TheConstants.{MAX_PARTS, MAX_WORKERS, MAX_SAMPLE}
 use Rattle.ident_core.specs.declared.range.Sighting.{Sighting}
-use Rattle.word_core.specs.CommandFields.{QueryFields, QueryCertFields, SnapshotFields, DeltaFields, RebaseFields}
-use Rattle.word_core.specs.CommandFields.{StartFields, InstallFields, RehearseFields, AuditFields, SampleFields, GatherFields}
-use Rattle.word_core.specs.declared.publishing.TheConstants.{MAX_PAGES, MAX_WITHOUT}
-use Rattle.word_core.specs.declared.command.Command.{Command}
+use Rattle.word_core.specs.declared.command.TheConstants.{MAX_PAGES, MAX_SIGHTINGS, MAX_WITHOUT}
+use Rattle.word_core.specs.declared.command.{Audit.Audit, Command.Command, Delta.Delta, Gather.Gather, Install.Install, Query.Query}
+use Rattle.word_core.specs.declared.command.{QueryCert.QueryCert, Rebase.Rebase, Rehearse.Rehearse, Sample.Sample}
+use Rattle.word_core.specs.declared.command.{Snapshot.Snapshot, Start.Start}
 use Rattle.word_core.specs.declared.command.Command.TheVariants as commands
 
 infixl 10 ◌>>=◌
@@ -61,10 +61,10 @@ name_of word = if is_name word then Some word else None
 
 -- 1 to 64 pairs
 abbrev pub sightings_of : List (List ℕ) → Option (List Sighting)
-sightings_of words = if within 2 128 (length words) then pairs_of words else None
+sightings_of words = if within 2 (2 * MAX_SIGHTINGS) (length words) then pairs_of words else None
 
 -- STORE ISSUER SERIAL, and the pairs
-abbrev pub query_of : List (List ℕ) → Option QueryFields
+abbrev pub query_of : List (List ℕ) → Option Query
 query_of (store ∷ issuer ∷ serial ∷ pairs) = do
   name ← name_of store
   i ← key_word issuer
@@ -74,7 +74,7 @@ query_of (store ∷ issuer ∷ serial ∷ pairs) = do
 query_of words = None
 
 -- STORE CERT ISSUERCERT
-abbrev pub query_cert_of : List (List ℕ) → Option QueryCertFields
+abbrev pub query_cert_of : List (List ℕ) → Option QueryCert
 query_cert_of (store ∷ cert ∷ issuer_cert ∷ []) = do
   s ← name_of store
   c ← name_of cert
@@ -102,7 +102,7 @@ are_apart inputs [] = true
 are_apart inputs (output ∷ others) = not (is_among output inputs) && not (is_among output others) && are_apart inputs others
 
 -- JOB PART LEDGER WORKERS
-abbrev pub snapshot_of : List (List ℕ) → Option SnapshotFields
+abbrev pub snapshot_of : List (List ℕ) → Option Snapshot
 snapshot_of (job ∷ part ∷ ledger ∷ workers ∷ []) = do
   j ← name_of job
   p ← name_of part
@@ -117,27 +117,27 @@ two_names_of first second = do
   b ← name_of second
   Some (a, b)
 
-abbrev pub named_delta : (job ledger part new_ledger : List ℕ) → ℕ → Option DeltaFields
+abbrev pub named_delta : (job ledger part new_ledger : List ℕ) → ℕ → Option Delta
 named_delta job ledger part new_ledger workers = do
   inputs ← two_names_of job ledger
   outputs ← two_names_of part new_ledger
   Some (record { job = inputs.0; ledger = inputs.1; part = outputs.0; new_ledger = outputs.1; workers = workers })
 
 -- JOB LEDGER PART NEWLEDGER WORKERS
-abbrev pub delta_of : List (List ℕ) → Option DeltaFields
+abbrev pub delta_of : List (List ℕ) → Option Delta
 delta_of (job ∷ ledger ∷ part ∷ new_ledger ∷ workers ∷ []) = do
   n ← workers_of workers
   if are_apart (job ∷ ledger ∷ []) (part ∷ new_ledger ∷ []) then named_delta job ledger part new_ledger n else None
 delta_of words = None
 
-abbrev pub named_rebase : (ledger : List ℕ) (moment : ℕ) (part new_ledger : List ℕ) → ℕ → List (List ℕ) → Option RebaseFields
+abbrev pub named_rebase : (ledger : List ℕ) (moment : ℕ) (part new_ledger : List ℕ) → ℕ → List (List ℕ) → Option Rebase
 named_rebase ledger moment part new_ledger workers without = do
   l ← name_of ledger
   outputs ← two_names_of part new_ledger
   Some (record { ledger = l; moment = moment; part = outputs.0; new_ledger = outputs.1; workers = workers; without = without })
 
 -- LEDGER MOMENT PART NEWLEDGER WORKERS, of a chain without these issuers
-abbrev pub rebase_of : List (List ℕ) → List (List ℕ) → Option RebaseFields
+abbrev pub rebase_of : List (List ℕ) → List (List ℕ) → Option Rebase
 rebase_of (ledger ∷ moment ∷ part ∷ new_ledger ∷ workers ∷ []) without = do
   m ← number_of moment
   n ← workers_of workers
@@ -157,13 +157,13 @@ abbrev pub without_of : List (List ℕ) → Option (List (List ℕ))
 without_of words = if within 1 MAX_WITHOUT (length words) then keys_of words else None
 
 -- the words of `rebase`, and behind them the issuers that are left out
-abbrev pub rebase_without_of : List (List ℕ) → Option RebaseFields
+abbrev pub rebase_without_of : List (List ℕ) → Option Rebase
 rebase_without_of words = do
   without ← without_of (drop 5 words)
   rebase_of (take 5 words) without
 
 -- PART STORE
-abbrev pub start_of : List (List ℕ) → Option StartFields
+abbrev pub start_of : List (List ℕ) → Option Start
 start_of (part ∷ store ∷ []) = do
   p ← name_of part
   s ← name_of store
@@ -171,7 +171,7 @@ start_of (part ∷ store ∷ []) = do
 start_of words = None
 
 -- STORE PART NEWSTORE
-abbrev pub install_of : List (List ℕ) → Option InstallFields
+abbrev pub install_of : List (List ℕ) → Option Install
 install_of (store ∷ part ∷ new_store ∷ []) = do
   s ← name_of store
   p ← name_of part
@@ -192,7 +192,7 @@ abbrev pub jobs_of : List (List ℕ) → Option (List (List ℕ))
 jobs_of words = if within 1 MAX_PARTS (length words) then names_of words else None
 
 -- QUERIES WORKERS, and the jobs
-abbrev pub rehearse_of : List (List ℕ) → Option RehearseFields
+abbrev pub rehearse_of : List (List ℕ) → Option Rehearse
 rehearse_of (queries ∷ workers ∷ jobs) = do
   q ← name_of queries
   n ← workers_of workers
@@ -201,7 +201,7 @@ rehearse_of (queries ∷ workers ∷ jobs) = do
 rehearse_of words = None
 
 -- STORE, and the jobs
-abbrev pub audit_of : List (List ℕ) → Option AuditFields
+abbrev pub audit_of : List (List ℕ) → Option Audit
 audit_of (store ∷ jobs) = do
   s ← name_of store
   names ← jobs_of jobs
@@ -215,7 +215,7 @@ count_of word = do
   if within 1 MAX_SAMPLE n then Some n else None
 
 -- NUMBER COUNT JOB
-abbrev pub sample_of : List (List ℕ) → Option SampleFields
+abbrev pub sample_of : List (List ℕ) → Option Sample
 sample_of (number ∷ count ∷ job ∷ []) = do
   n ← number_of number
   c ← count_of count
@@ -227,7 +227,7 @@ sample_of words = None
 abbrev pub pages_of : List (List ℕ) → Option (List (List ℕ))
 pages_of words = if within 1 MAX_PAGES (length words) then names_of words else None
 
-abbrev pub named_gather : (head log job : List ℕ) → List (List ℕ) → Option GatherFields
+abbrev pub named_gather : (head log job : List ℕ) → List (List ℕ) → Option Gather
 named_gather head log job pages = do
   l ← key_word log
   names ← two_names_of head job
@@ -235,7 +235,7 @@ named_gather head log job pages = do
   Some (record { head = names.0; log = l; job = names.1; pages = p })
 
 -- HEAD LOG JOB, and the pages; JOB is another file than HEAD and than each page
-abbrev pub gather_of : List (List ℕ) → Option GatherFields
+abbrev pub gather_of : List (List ℕ) → Option Gather
 gather_of (head ∷ log ∷ job ∷ pages) =
     if are_apart (head ∷ []) (job ∷ []) && are_apart pages (job ∷ []) then named_gather head log job pages else None
 gather_of words = None

@@ -1,10 +1,18 @@
-//! What the words of a call ask for, and the commands that ask about a certificate.
+//! What the words of a call ask for. The words lend the names of files.
 
-use crate::publishing::{Delta, Gather, Rebase, Snapshot};
-use crate::storing::{Install, Start};
-use crate::trying::{Audit, Rehearse, Sample};
-use ident_core::{Identity, Sighting};
+use crate::bounded::{Listed, SampleCount, Workers};
+use ident_core::{Identity, MAX_PARTS, Sighting};
+use octets_core::Key32;
 use std::marker::Model;
+
+/// The most sightings that one query names.
+pub const MAX_SIGHTINGS: usize = 64;
+
+/// The most pages that one call gathers.
+pub const MAX_PAGES: usize = 1024;
+
+/// The most issuers that one call leaves out.
+pub const MAX_WITHOUT: usize = 1024;
 
 /// The name of a file, which the words of a call lend.
 #[derive(Debug, Drop)]
@@ -41,105 +49,97 @@ impl<'a> FileName<'a> {
 /// A question about one certificate, asked of the store in a file.
 #[derive(Debug, Drop)]
 pub struct Query<'a> {
-    store: FileName<'a>,
-    id: Identity,
-    sightings: Vec<Sighting>,
-}
-
-impl<'a> Model for Query<'a> {
-    ghost use Rattle.word_core.specs.CommandFields.{QueryFields};
-
-    ghost Value = { QueryFields };
-
-    ghost view = { λ q. record { store = q.store; id = q.id; sightings = q.sightings.items } };
-}
-
-impl<'a> Query<'a> {
-    ghost use Rattle.std.specs.Prelude.{◌≡◌};
-
-    /// The query of these.
-    pub fn new(store: FileName<'a>, id: Identity, sightings: Vec<Sighting>) -> Query<'a>
-        ensures { result ≡ record { store = store.entry; id = id; sightings = sightings.items } }
-    {
-        Query {
-            store,
-            id,
-            sightings,
-        }
-    }
-
-    /// The name of the file that holds the store.
-    pub fn store(&self) -> &'a str
-        ensures { result.now ≡ self.now.store }
-    {
-        self.store.as_str()
-    }
-
-    /// The certificate.
-    pub fn id(&self) -> &Identity
-        ensures { result.now ≡ self.now.id }
-    {
-        &self.id
-    }
-
-    /// When logs saw the certificate.
-    pub fn sightings(&self) -> &[Sighting]
-        ensures { result.now ≡ self.now.sightings }
-    {
-        self.sightings.as_slice()
-    }
+    pub store: FileName<'a>,
+    pub id: Identity,
+    pub sightings: Listed<Sighting, 1, MAX_SIGHTINGS>,
 }
 
 /// A question about the certificate in one file, issued by the one in another, asked of the store in a third.
 #[derive(Debug, Drop)]
 pub struct QueryCert<'a> {
-    store: FileName<'a>,
-    cert: FileName<'a>,
-    issuer_cert: FileName<'a>,
+    pub store: FileName<'a>,
+    pub cert: FileName<'a>,
+    pub issuer_cert: FileName<'a>,
 }
 
-impl<'a> Model for QueryCert<'a> {
-    ghost use Rattle.word_core.specs.CommandFields.{QueryCertFields};
-
-    ghost Value = { QueryCertFields };
-
-    ghost view = { λ q. record { store = q.store; cert = q.cert; issuer_cert = q.issuer_cert } };
+/// A job to be published as the first of a chain.
+#[derive(Debug, Drop)]
+pub struct Snapshot<'a> {
+    pub job: FileName<'a>,
+    pub part: FileName<'a>,
+    pub ledger: FileName<'a>,
+    pub workers: Workers,
 }
 
-impl<'a> QueryCert<'a> {
-    ghost use Rattle.std.specs.Prelude.{◌≡◌};
+/// A job to be published behind the part that a ledger names.
+#[derive(Debug, Drop)]
+pub struct Delta<'a> {
+    pub job: FileName<'a>,
+    pub ledger: FileName<'a>,
+    pub part: FileName<'a>,
+    pub new_ledger: FileName<'a>,
+    pub workers: Workers,
+}
 
-    /// The query of the certificate in the file `cert`, whose issuer's is in the file `issuer_cert`.
-    pub fn new(store: FileName<'a>, cert: FileName<'a>, issuer_cert: FileName<'a>) -> QueryCert<'a>
-        ensures { result ≡ record { store = store.entry; cert = cert.entry; issuer_cert = issuer_cert.entry } }
-    {
-        QueryCert {
-            store,
-            cert,
-            issuer_cert,
-        }
-    }
+/// A chain to be begun anew from a ledger, without what has expired before a moment, in milliseconds, and without some
+/// issuers.
+#[derive(Debug, Drop)]
+pub struct Rebase<'a> {
+    pub ledger: FileName<'a>,
+    pub moment: u64,
+    pub part: FileName<'a>,
+    pub new_ledger: FileName<'a>,
+    pub workers: Workers,
+    pub without: Listed<Key32, 0, MAX_WITHOUT>,
+}
 
-    /// The name of the file that holds the store.
-    pub fn store(&self) -> &'a str
-        ensures { result.now ≡ self.now.store }
-    {
-        self.store.as_str()
-    }
+/// A part that a store is begun with.
+#[derive(Debug, Drop)]
+pub struct Start<'a> {
+    pub part: FileName<'a>,
+    pub store: FileName<'a>,
+}
 
-    /// The name of the file that holds the certificate.
-    pub fn cert(&self) -> &'a str
-        ensures { result.now ≡ self.now.cert }
-    {
-        self.cert.as_str()
-    }
+/// A part that is added to a store.
+#[derive(Debug, Drop)]
+pub struct Install<'a> {
+    pub store: FileName<'a>,
+    pub part: FileName<'a>,
+    pub new_store: FileName<'a>,
+}
 
-    /// The name of the file that holds its issuer's certificate.
-    pub fn issuer_cert(&self) -> &'a str
-        ensures { result.now ≡ self.now.issuer_cert }
-    {
-        self.issuer_cert.as_str()
-    }
+/// Jobs that are published one after the other, with no file written, and queries that are asked of the store they
+/// make.
+#[derive(Debug, Drop)]
+pub struct Rehearse<'a> {
+    pub queries: FileName<'a>,
+    pub workers: Workers,
+    pub jobs: Listed<FileName<'a>, 1, MAX_PARTS>,
+}
+
+/// Jobs by which a store is audited, whoever built it, in the order in which they are admitted.
+#[derive(Debug, Drop)]
+pub struct Audit<'a> {
+    pub store: FileName<'a>,
+    pub jobs: Listed<FileName<'a>, 1, MAX_PARTS>,
+}
+
+/// A job that is made from a number.
+#[derive(Debug, Drop)]
+pub struct Sample<'a> {
+    pub number: u64,
+    pub count: SampleCount,
+    pub job: FileName<'a>,
+}
+
+/// Pages of the log with this id, whose entries are put behind those of the job in the file `head`. The longer job is
+/// written to the file `job`.
+#[derive(Debug, Drop)]
+pub struct Gather<'a> {
+    pub head: FileName<'a>,
+    pub log: Key32,
+    pub job: FileName<'a>,
+    pub pages: Listed<FileName<'a>, 1, MAX_PAGES>,
 }
 
 /// What the words of a call ask for. The words lend the names of files.

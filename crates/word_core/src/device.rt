@@ -1,7 +1,6 @@
 //! The commands on a device, which holds a store in two slots.
 
-ghost use Rattle.std.specs.Prelude.{◌≡◌, ◌≤◌, ◌∷◌, IfOk, IfSome, map, string_bytes};
-ghost use Rattle.slot_core.specs.declared.device.TheConstants.{MAX_CAPACITY};
+ghost use Rattle.std.specs.Prelude.{◌≡◌, ◌∷◌, IfOk, map, string_bytes};
 ghost use Rattle.word_core.specs.Devices.{capacity_of, device_command_of, format_of, install_part_of};
 
 use crate::command::{FileName, Query};
@@ -12,103 +11,49 @@ use slot_core::MAX_CAPACITY;
 use std::alloc::Global;
 use std::marker::Model;
 
-/// A device that is made, with a store.
+/// The most bytes that a slot of a device holds, 1 to `MAX_CAPACITY`.
 #[derive(Debug, Drop)]
-pub struct Format<'a> {
-    device: FileName<'a>,
-    capacity: u64,
-    store: FileName<'a>,
+pub struct Capacity {
+    bytes: u64,
 }
 
-impl<'a> Model for Format<'a> {
-    ghost use Rattle.std.specs.Prelude.{◌≤◌};
-    ghost use Rattle.word_core.specs.DeviceFields.{FormatFields};
+impl Model for Capacity {
+    ghost use Rattle.std.specs.Prelude.{ℕ, ◌≤◌};
     ghost use Rattle.slot_core.specs.declared.device.TheConstants.{MAX_CAPACITY};
 
-    ghost Value = { FormatFields };
+    ghost Value = { ℕ };
 
-    ghost view = { λ f. record { device = f.device; capacity = f.capacity; store = f.store } };
+    ghost view = { λ c. c.bytes };
 
-    ghost invariant = { λ f. (1 ≤ f.capacity) × (f.capacity ≤ MAX_CAPACITY) };
+    ghost invariant = { λ c. (1 ≤ c.bytes) × (c.bytes ≤ MAX_CAPACITY) };
 }
 
-impl<'a> Format<'a> {
+impl Capacity {
     ghost use Rattle.std.specs.Prelude.{◌≡◌, ◌≤◌};
     ghost use Rattle.slot_core.specs.declared.device.TheConstants.{MAX_CAPACITY};
 
-    /// The device `device` whose slots have this capacity, to hold the store in the file `store`.
-    pub fn new(device: FileName<'a>, capacity: u64, store: FileName<'a>) -> Format<'a>
-        requires { (1 ≤ capacity) × (capacity ≤ MAX_CAPACITY) }
-        ensures { result ≡ record { device = device.entry; capacity = capacity; store = store.entry } }
-    {
-        Format {
-            device,
-            capacity,
-            store,
-        }
-    }
-
-    /// The name of the device.
-    pub fn device(&self) -> &'a str
-        ensures { result.now ≡ self.now.device }
-    {
-        self.device.as_str()
-    }
-
-    /// The most bytes that a slot of it holds.
-    pub fn capacity(&self) -> u64
-        ensures value { result ≡ self.now.capacity }
+    /// How many bytes.
+    pub fn get(&self) -> u64
+        ensures value { result ≡ self.now }
         ensures bounds { (1 ≤ result) × (result ≤ MAX_CAPACITY) }
     {
-        self.capacity
+        self.bytes
     }
+}
 
-    /// The name of the file that holds the store.
-    pub fn store(&self) -> &'a str
-        ensures { result.now ≡ self.now.store }
-    {
-        self.store.as_str()
-    }
+/// A device that is made, to hold the store in a file.
+#[derive(Debug, Drop)]
+pub struct Format<'a> {
+    pub device: FileName<'a>,
+    pub capacity: Capacity,
+    pub store: FileName<'a>,
 }
 
 /// A part that is added to the store of a device.
 #[derive(Debug, Drop)]
 pub struct InstallPart<'a> {
-    device: FileName<'a>,
-    part: FileName<'a>,
-}
-
-impl<'a> Model for InstallPart<'a> {
-    ghost use Rattle.word_core.specs.DeviceFields.{InstallPartFields};
-
-    ghost Value = { InstallPartFields };
-
-    ghost view = { λ i. record { device = i.device; part = i.part } };
-}
-
-impl<'a> InstallPart<'a> {
-    ghost use Rattle.std.specs.Prelude.{◌≡◌};
-
-    /// The part in the file `part`, to be added to the store of the device `device`.
-    pub fn new(device: FileName<'a>, part: FileName<'a>) -> InstallPart<'a>
-        ensures { result ≡ record { device = device.entry; part = part.entry } }
-    {
-        InstallPart { device, part }
-    }
-
-    /// The name of the device.
-    pub fn device(&self) -> &'a str
-        ensures { result.now ≡ self.now.device }
-    {
-        self.device.as_str()
-    }
-
-    /// The name of the file that holds the part.
-    pub fn part(&self) -> &'a str
-        ensures { result.now ≡ self.now.part }
-    {
-        self.part.as_str()
-    }
+    pub device: FileName<'a>,
+    pub part: FileName<'a>,
 }
 
 /// What the words of a call ask of a device. The words lend the names.
@@ -125,15 +70,14 @@ pub enum DeviceCommand<'a> {
 }
 
 /// The capacity that a word spells, 1 to `MAX_CAPACITY`.
-fn capacity_word(word: &str) -> Option<u64>
-    ensures value { result ≡ capacity_of word.now }
-    ensures bounds { IfSome result (λ n. (1 ≤ n) × (n ≤ MAX_CAPACITY)) }
+fn capacity_word(word: &str) -> Option<Capacity>
+    ensures { result ≡ capacity_of word.now }
 {
-    let n = number_word(word)?;
-    if n < 1 || n > MAX_CAPACITY {
+    let bytes = number_word(word)?;
+    if bytes < 1 || bytes > MAX_CAPACITY {
         return None;
     }
-    Some(n)
+    Some(Capacity { bytes })
 }
 
 /// The device that words spell, if they spell one.
@@ -149,7 +93,11 @@ fn read_format(words: &[String]) -> Option<Format<'_>>
     let device = read_name(device.as_str())?;
     let capacity = capacity_word(capacity.as_str())?;
     let store = read_name(store.as_str())?;
-    Some(Format::new(device, capacity, store))
+    Some(Format {
+        device,
+        capacity,
+        store,
+    })
 }
 
 /// The part for a device that words spell, if they spell one.
@@ -164,7 +112,7 @@ fn read_install_part(words: &[String]) -> Option<InstallPart<'_>>
     }
     let device = read_name(device.as_str())?;
     let part = read_name(part.as_str())?;
-    Some(InstallPart::new(device, part))
+    Some(InstallPart { device, part })
 }
 
 /// What a word and those behind it ask of a device.

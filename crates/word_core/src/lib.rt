@@ -1,17 +1,16 @@
 //! The words of a call: what they ask for, and which files the command reads and writes.
 #![tactic(auto)]
 
+mod bounded;
 mod command;
 mod device;
-mod publishing;
 mod reading;
-mod storing;
-mod trying;
 mod words;
 
-pub use command::{Command, FileName, Query, QueryCert};
-pub use device::{DeviceCommand, Format, InstallPart, read_device_words};
-pub use publishing::{Delta, Gather, MAX_PAGES, MAX_WITHOUT, Rebase, Snapshot};
+pub use bounded::{Count, Listed, SampleCount, Workers};
+pub use command::{
+    Audit, Command, Delta, FileName, Gather, Install, MAX_PAGES, MAX_SIGHTINGS, MAX_WITHOUT, Query,
+    QueryCert, Rebase, Rehearse, Sample, Snapshot, Start,
+};
+pub use device::{Capacity, DeviceCommand, Format, InstallPart, read_device_words};
 pub use reading::read_words;
-pub use storing::{Install, Start};
-pub use trying::{Audit, Rehearse, Sample};

@@ -1,17 +1,15 @@
 //! The commands that words spell together (docs/FORMATS.md, "Words").
 
-ghost use Rattle.std.specs.Prelude.{◌≡◌, ◌≤◌, ℕ, List, ◌∷◌, length, IfOk, IfSome, IsOk, map, string_bytes};
-ghost use Rattle.std.specs.Option.{option_map};
-ghost use Rattle.ident_core.specs.declared.bounds.TheConstants.{MAX_PARTS, MAX_WORKERS};
+ghost use Rattle.std.specs.Prelude.{◌≡◌, ℕ, List, ◌∷◌, IfOk, IsOk, map, string_bytes};
 ghost use Rattle.word_core.specs.Words.{command_of, query_of, query_cert_of, name_alone, snapshot_of};
 ghost use Rattle.word_core.specs.Words.{named_delta, delta_of, named_rebase, rebase_of, rebase_without_of, start_of};
 ghost use Rattle.word_core.specs.Words.{install_of, jobs_of, rehearse_of, audit_of, sample_of, gather_of, named_gather};
-ghost use Rattle.word_core.specs.declared.publishing.TheConstants.{MAX_WITHOUT};
 
-use crate::command::{Command, FileName, Query, QueryCert};
-use crate::publishing::{Delta, Gather, MAX_PAGES, MAX_WITHOUT, Rebase, Snapshot};
-use crate::storing::{Install, Start};
-use crate::trying::{Audit, Rehearse, Sample};
+use crate::bounded::{Listed, Workers};
+use crate::command::{
+    Audit, Command, Delta, FileName, Gather, Install, MAX_PAGES, MAX_SIGHTINGS, MAX_WITHOUT, Query,
+    QueryCert, Rebase, Rehearse, Sample, Snapshot, Start,
+};
 use crate::words::{
     are_apart, count_word, key_word, number_word, read_keys, read_name, read_names, read_pairs,
     read_two_names, serial_word, workers_word,
@@ -33,7 +31,7 @@ pub(crate) fn read_query(alloc: Global, words: &[String]) -> Result<Option<Query
     let Some(serial) = serial_word(serial.as_str()) else {
         return Ok(None);
     };
-    if pairs.len() < 2 || pairs.len() > 128 {
+    if pairs.len() < 2 || pairs.len() > 2 * MAX_SIGHTINGS {
         return Ok(None);
     }
     let Some(sightings) = read_pairs(alloc, pairs)? else {
@@ -42,7 +40,11 @@ pub(crate) fn read_query(alloc: Global, words: &[String]) -> Result<Option<Query
     let Some(store) = read_name(store.as_str()) else {
         return Ok(None);
     };
-    Ok(Some(Query::new(store, Identity { issuer, serial }, sightings)))
+    Ok(Some(Query {
+        store,
+        id: Identity { issuer, serial },
+        sightings: Listed::new(sightings),
+    }))
 }
 
 /// The query of a certificate in a file that words spell, if they spell one.
@@ -55,7 +57,11 @@ fn read_query_cert(words: &[String]) -> Option<QueryCert<'_>>
     let store = read_name(store.as_str())?;
     let cert = read_name(cert.as_str())?;
     let issuer_cert = read_name(issuer_cert.as_str())?;
-    Some(QueryCert::new(store, cert, issuer_cert))
+    Some(QueryCert {
+        store,
+        cert,
+        issuer_cert,
+    })
 }
 
 /// The name that words spell, if they are one word that spells one.
@@ -82,7 +88,12 @@ fn read_snapshot(words: &[String]) -> Option<Snapshot<'_>>
     let job = read_name(job.as_str())?;
     let part = read_name(part.as_str())?;
     let ledger = read_name(ledger.as_str())?;
-    Some(Snapshot::new(job, part, ledger, workers))
+    Some(Snapshot {
+        job,
+        part,
+        ledger,
+        workers,
+    })
 }
 
 /// The later part of a chain with names that words spell, if each spells one.
@@ -91,14 +102,19 @@ fn delta_named<'a>(
     ledger: &'a str,
     part: &'a str,
     new_ledger: &'a str,
-    workers: u32,
+    workers: Workers,
 ) -> Option<Delta<'a>>
-    requires { (1 ≤ workers) × (workers ≤ MAX_WORKERS) }
     ensures { result ≡ named_delta job.now ledger.now part.now new_ledger.now workers }
 {
     let (job, ledger) = read_two_names(job, ledger)?;
     let (part, new_ledger) = read_two_names(part, new_ledger)?;
-    Some(Delta::new(job, ledger, part, new_ledger, workers))
+    Some(Delta {
+        job,
+        ledger,
+        part,
+        new_ledger,
+        workers,
+    })
 }
 
 /// The later part of a chain that words spell, if they spell one.
@@ -127,22 +143,26 @@ fn rebase_named<'a>(
     moment: u64,
     part: &'a str,
     new_ledger: &'a str,
-    workers: u32,
-    without: Vec<Key32>,
+    workers: Workers,
+    without: Listed<Key32, 0, MAX_WITHOUT>,
 ) -> Option<Rebase<'a>>
-    requires bounds { (1 ≤ workers) × (workers ≤ MAX_WORKERS) }
-    requires few { length without.items ≤ MAX_WITHOUT }
-    ensures { result ≡ named_rebase ledger.now moment part.now new_ledger.now workers without.items }
+    ensures { result ≡ named_rebase ledger.now moment part.now new_ledger.now workers without }
 {
     let ledger = read_name(ledger)?;
     let (part, new_ledger) = read_two_names(part, new_ledger)?;
-    Some(Rebase::new(ledger, moment, part, new_ledger, workers, without))
+    Some(Rebase {
+        ledger,
+        moment,
+        part,
+        new_ledger,
+        workers,
+        without,
+    })
 }
 
 /// The chain begun anew without these issuers that words spell, if they spell one.
-fn read_rebase(words: &[String], without: Vec<Key32>) -> Option<Rebase<'_>>
-    requires { length without.items ≤ MAX_WITHOUT }
-    ensures { result ≡ rebase_of (map string_bytes words.now) without.items }
+fn read_rebase(words: &[String], without: Listed<Key32, 0, MAX_WITHOUT>) -> Option<Rebase<'_>>
+    ensures { result ≡ rebase_of (map string_bytes words.now) without }
 {
     let [ledger, moment, part, new_ledger, workers] = words else {
         return None;
@@ -172,7 +192,7 @@ fn read_rebase_without(alloc: Global, words: &[String]) -> Result<Option<Rebase<
     let Some(without) = read_keys(alloc, &words[5..])? else {
         return Ok(None);
     };
-    Ok(read_rebase(&words[..5], without))
+    Ok(read_rebase(&words[..5], Listed::new(without)))
 }
 
 /// The beginning of a store that words spell, if they spell one.
@@ -187,7 +207,7 @@ fn read_start(words: &[String]) -> Option<Start<'_>>
     }
     let part = read_name(part.as_str())?;
     let store = read_name(store.as_str())?;
-    Some(Start::new(part, store))
+    Some(Start { part, store })
 }
 
 /// The longer store that words spell, if they spell one.
@@ -203,19 +223,27 @@ fn read_install(words: &[String]) -> Option<Install<'_>>
     let store = read_name(store.as_str())?;
     let part = read_name(part.as_str())?;
     let new_store = read_name(new_store.as_str())?;
-    Some(Install::new(store, part, new_store))
+    Some(Install {
+        store,
+        part,
+        new_store,
+    })
 }
 
 /// The names of jobs that words spell, if they spell some and not too many.
-fn read_jobs(alloc: Global, words: &[String]) -> Result<Option<Vec<FileName<'_>>>, NoMemory>
-    ensures value { IfOk result (λ o. option_map (λ v. v.items) o ≡ jobs_of (map string_bytes words.now)) }
-    ensures some { IfOk result (λ o. IfSome o (λ v. 1 ≤ length v.items)) }
-    ensures few { IfOk result (λ o. IfSome o (λ v. length v.items ≤ MAX_PARTS)) }
+fn read_jobs(
+    alloc: Global,
+    words: &[String],
+) -> Result<Option<Listed<FileName<'_>, 1, MAX_PARTS>>, NoMemory>
+    ensures { IfOk result (λ o. o ≡ jobs_of (map string_bytes words.now)) }
 {
     if words.is_empty() || words.len() > MAX_PARTS {
         return Ok(None);
     }
-    read_names(alloc, words)
+    let Some(names) = read_names(alloc, words)? else {
+        return Ok(None);
+    };
+    Ok(Some(Listed::new(names)))
 }
 
 /// The rehearsal with these names of files that words spell, if they spell one.
@@ -236,7 +264,11 @@ fn rehearse_named<'a>(
     let Some(queries) = read_name(queries) else {
         return Ok(None);
     };
-    Ok(Some(Rehearse::new(queries, workers, jobs)))
+    Ok(Some(Rehearse {
+        queries,
+        workers,
+        jobs,
+    }))
 }
 
 /// The rehearsal that words spell, if they spell one.
@@ -267,7 +299,7 @@ fn read_audit(alloc: Global, words: &[String]) -> Result<Option<Audit<'_>>, NoMe
     let Some(store) = read_name(store.as_str()) else {
         return Ok(None);
     };
-    Ok(Some(Audit::new(store, jobs)))
+    Ok(Some(Audit { store, jobs }))
 }
 
 /// The job made from a number that words spell, if they spell one.
@@ -280,7 +312,7 @@ fn read_sample(words: &[String]) -> Option<Sample<'_>>
     let number = number_word(number.as_str())?;
     let count = count_word(count.as_str())?;
     let job = read_name(job.as_str())?;
-    Some(Sample::new(number, count, job))
+    Some(Sample { number, count, job })
 }
 
 /// The job with pages behind it with names that words spell, if each spells one.
@@ -305,7 +337,12 @@ fn gather_named<'a>(
     let Some(pages) = read_names(alloc, pages)? else {
         return Ok(None);
     };
-    Ok(Some(Gather::new(head, log, job, pages)))
+    Ok(Some(Gather {
+        head,
+        log,
+        job,
+        pages: Listed::new(pages),
+    }))
 }
 
 /// The job with pages behind it that words spell, if they spell one.
@@ -341,7 +378,10 @@ fn read_command<'a>(
         "show" => Ok(read_name_alone(rest).map_or(Command::Usage, Command::Show)),
         "snapshot" => Ok(read_snapshot(rest).map_or(Command::Usage, Command::Snapshot)),
         "delta" => Ok(read_delta(rest).map_or(Command::Usage, Command::Delta)),
-        "rebase" => Ok(read_rebase(rest, Vec::new(alloc)).map_or(Command::Usage, Command::Rebase)),
+        "rebase" => Ok(read_rebase(rest, Listed::new(Vec::new(alloc))).map_or(
+            Command::Usage,
+            Command::Rebase,
+        )),
         "rebase-without" => Ok(read_rebase_without(alloc, rest)?.map_or(
             Command::Usage,
             Command::Rebase,

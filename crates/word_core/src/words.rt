@@ -1,14 +1,14 @@
 //! The pieces that words spell: names, keys, serials, numbers (docs/FORMATS.md, "Words").
 
-ghost use Rattle.std.specs.Prelude.{◌≡◌, ◌≤◌, IfOk, IfSome, length, map, string_bytes};
+ghost use Rattle.std.specs.Prelude.{◌≡◌, ◌*◌, IfOk, IfSome, length, map, string_bytes};
 ghost use Rattle.std.specs.List.{list_all, list_any};
 ghost use Rattle.std.specs.Str.{bytes_eq};
 ghost use Rattle.std.specs.Char.{is_ascii_digit};
 ghost use Rattle.std.specs.Option.{option_map};
-ghost use Rattle.ident_core.specs.declared.bounds.TheConstants.{MAX_SAMPLE, MAX_WORKERS};
 ghost use Rattle.word_core.specs.Words.{name_of, names_of, two_names_of, pairs_of, key_word, keys_of, serial_of, number_of};
 ghost use Rattle.word_core.specs.Words.{workers_of, count_of, are_apart, is_name, is_plain};
 
+use crate::bounded::{Count, SampleCount, Workers};
 use crate::command::FileName;
 use hex::FromHex;
 use ident_core::{MAX_SAMPLE, MAX_WORKERS, Serial, Sighting};
@@ -71,32 +71,31 @@ pub(crate) fn number_word(word: &str) -> Option<u64>
 }
 
 /// The number of workers that a word spells, 1 to `MAX_WORKERS`.
-pub(crate) fn workers_word(word: &str) -> Option<u32>
-    ensures value { result ≡ workers_of word.now }
-    ensures bounds { IfSome result (λ n. (1 ≤ n) × (n ≤ MAX_WORKERS)) }
+pub(crate) fn workers_word(word: &str) -> Option<Workers>
+    ensures { result ≡ workers_of word.now }
 {
     let n = number_word(word)?;
     if n < 1 || n > MAX_WORKERS as u64 {
         return None;
     }
-    Some(n as u32)
+    Some(Count::new(n as u32))
 }
 
 /// The count that a word spells, 1 to `MAX_SAMPLE`.
-pub(crate) fn count_word(word: &str) -> Option<u32>
-    ensures value { result ≡ count_of word.now }
-    ensures bounds { IfSome result (λ n. (1 ≤ n) × (n ≤ MAX_SAMPLE)) }
+pub(crate) fn count_word(word: &str) -> Option<SampleCount>
+    ensures { result ≡ count_of word.now }
 {
     let n = number_word(word)?;
     if n < 1 || n > MAX_SAMPLE as u64 {
         return None;
     }
-    Some(n as u32)
+    Some(Count::new(n as u32))
 }
 
 /// The sightings that words spell, two words each.
 pub(crate) fn read_pairs(alloc: Global, words: &[String]) -> Result<Option<Vec<Sighting>>, NoMemory>
-    ensures { IfOk result (λ o. option_map (λ v. v.items) o ≡ pairs_of (map string_bytes words.now)) }
+    ensures value { IfOk result (λ o. option_map (λ v. v.items) o ≡ pairs_of (map string_bytes words.now)) }
+    ensures len { IfOk result (λ o. IfSome o (λ v. 2 * length v.items ≡ length words.now)) }
 {
     let mut sightings = Vec::new(alloc);
     let mut rest = words;

@@ -13,12 +13,12 @@ use Rattle.clubcard_top.proofs.auditing.audited.Goals as goal
 pub returns-in-Some : goal.returns-in-Some
 returns-in-Some c =
     bad_comes c.args.asked.now c.args.store.now (map fields_of_job c.args.jobs.now) (record { name = c.in-Some.file.name.now; fault = c.in-Some.file.fault }) c.refused.result
-    (rw c.jobs.ensures.value at c.in-Some.ensures) c.refused.ensures.ok
+    (rw c.as_slice.ensures.value at c.in-Some.ensures) c.refused.ensures.ok
 
 pub audit-requires-clause-jobs : goal.audit-requires-clause-jobs
 audit-requires-clause-jobs c =
     auditable (map fields_of_job c.args.jobs.now) c.requires.counted
-    (accepted_by c.args.asked.now.jobs c.args.jobs.now c.requires.many (sym (rw c.jobs.ensures.value at c.in_default.ensures)))
+    (accepted_by c.args.asked.now.jobs c.args.jobs.now c.requires.many (sym (rw c.as_slice.ensures.value at c.in_default.ensures)))
 
 pub file_at_fault-file-requires : goal.file_at_fault-file-requires
 file_at_fault-file-requires c =
@@ -27,7 +27,7 @@ file_at_fault-file-requires c =
 
 pub returns-in-Ok : goal.returns-in-Ok
 returns-in-Ok c =
-    found_comes c.args.asked.now c.args.store.now (map fields_of_job c.args.jobs.now) c.in-Ok.found (answers.Reply c.done.result) (sym (rw c.jobs.ensures.value at c.in_default.ensures))
+    found_comes c.args.asked.now c.args.store.now (map fields_of_job c.args.jobs.now) c.in-Ok.found (answers.Reply c.done.result) (sym (rw c.as_slice.ensures.value at c.in_default.ensures))
     (rw c.parts.ensures.value at c.in-Ok.ensures.found)
     (ap (with_files []) c.done.ensures ∙ ap (λ (l : List ℕ). done (only l))
     (c.audited-line.ensures ∙ ap (λ (n : ℕ). audit_line n c.in-Ok.found.entries) (sym (length-map c.args.jobs.now fields_of_job))))
@@ -36,7 +36,7 @@ pub returns-in-Err : goal.returns-in-Err
 returns-in-Err c =
     fault_comes c.args.asked.now c.args.store.now (map fields_of_job c.args.jobs.now) c.in-Err.fault
     (record { name = c.file_at_fault-file.result.name.now; fault = c.file_at_fault-file.result.fault }) c.refused-in-Err.result
-    (sym (rw c.jobs.ensures.value at c.in_default.ensures))
+    (sym (rw c.as_slice.ensures.value at c.in_default.ensures))
     (subst (λ (parts : List SealedFields). IsFound (map (λ s. s.part) parts) (map fields_of_job c.args.jobs.now) (Err c.in-Err.fault)) c.parts.ensures.value c.in-Err.ensures.found)
     c.file_at_fault-file.ensures c.refused-in-Err.ensures.memory
     c.refused-in-Err.ensures.ok

@@ -7,7 +7,7 @@ use Rattle.clubcard_top.proofs.gathering.answer_gather.Goals as goal
 pub returns-in-Err-clause-reply : goal.returns-in-Err-clause-reply
 returns-in-Err-clause-reply g c =
     gather_refused (g.D.Depot.files c.args.depot.now) (WhichFailed g.D.Depot c.args.depot.now _) c.refused.result c.args.gather.now (λ (x : JobContents). x) c.in-Err.fault
-    (rw c.head.ensures at c.in-Err.ensures.refused) c.refused.ensures.memory (rw c.head-in-Err.ensures at c.refused.ensures.ok)
+    (rw c.as_str.ensures at c.in-Err.ensures.refused) c.refused.ensures.memory (rw c.as_str-in-Err.ensures at c.refused.ensures.ok)
 
 pub gathered-requires : goal.gathered-requires
 gathered-requires g c =
@@ -16,12 +16,12 @@ gathered-requires g c =
 
 pub returns-in-Ok-put_pages-clause-reply : goal.returns-in-Ok-put_pages-clause-reply
 returns-in-Ok-put_pages-clause-reply g c =
-    let (j, opens, is_input) = rw c.head.ensures at c.in-Ok.ensures.opened in
+    let (j, opens, is_input) = rw c.as_str.ensures at c.in-Ok.ensures.opened in
     gather_made g.D.Depot c.args.depot.now _ _ c.in-Ok.ensures.only_reads c.args.gather.now j c.gathered.result c.put_pages.new.job is_input
     (c.in-Ok-put_pages.ensures.gathered j opens) (λ entries longer. c.gathered.ensures j entries (c.entries-before.ensures ∙ opens.count) longer)
 
 pub returns-clause-reply : goal.returns-clause-reply
 returns-clause-reply g c =
-    let (j, opens, is_input) = rw c.head.ensures at c.in-Ok.ensures.opened in
+    let (j, opens, is_input) = rw c.as_str.ensures at c.in-Ok.ensures.opened in
     gather_not g.D.Depot c.args.depot.now _ _ c.in-Ok.ensures.only_reads c.args.gather.now j c.in-Err-put_pages.file.name.now c.in-Err-put_pages.file.fault is_input
     (λ differ. c.in-Err-put_pages.ensures.refused differ j opens) c.refused-in-Err-put_pages.result c.refused-in-Err-put_pages.ensures.memory c.refused-in-Err-put_pages.ensures.ok

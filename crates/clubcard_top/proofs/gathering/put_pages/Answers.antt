@@ -19,8 +19,8 @@ loop-file-init g c = record {
 pub returns-in-Err-clause-refused : goal.returns-in-Err-clause-refused
 returns-in-Err-clause-refused g c = rw c.as_str-name.ensures (λ differ j opens.
     let (given, read, gives, blamed) = rw c.as_str-name.ensures at c.in-Err.ensures.input in
-    let lt = rw c.pages-file-items.ensures.value at c.loop-file-test.true in
-    let at = rw c.pages-file-items.ensures.value at c.file-item.is in
+    let lt = rw c.as_slice-file-items.ensures.value at c.loop-file-test.true in
+    let at = rw c.as_slice-file-items.ensures.value at c.file-item.is in
     let reads : OnlyReads g.D.Depot c.args.depot.now c.loop-file.depot = record {
       later = c.loop-file.invariant.later;
       same_files = c.loop-file.invariant.same_files;
@@ -34,8 +34,8 @@ returns-in-Err-clause-refused g c = rw c.as_str-name.ensures (λ differ j opens.
 pub loop-file-preserved : goal.loop-file-preserved
 loop-file-preserved g c =
     let (given, read, gives, blamed) = rw c.as_str-name.ensures at c.in-Ok.ensures.input in
-    let lt = rw c.pages-file-items.ensures.value at c.loop-file-test.true in
-    let at = rw c.pages-file-items.ensures.value at c.file-item.is in
+    let lt = rw c.as_slice-file-items.ensures.value at c.loop-file-test.true in
+    let at = rw c.as_slice-file-items.ensures.value at c.file-item.is in
     record {
       gone = λ j opens.
           gone_more (g.D.Depot.files c.args.depot.now) c.args.gather.now j (WhichFailed g.D.Depot c.loop-file.depot c.page_in.new.depot) (g.D.Depot.files c.loop-file.depot)
@@ -50,15 +50,15 @@ loop-file-preserved g c =
 
 pub returns-clause-gathered : goal.returns-clause-gathered
 returns-clause-gathered g c = λ j opens.
-    let le = rw c.pages-file-items.ensures.value at c.loop-file-test.false in
+    let le = rw c.as_slice-file-items.ensures.value at c.loop-file-test.false in
     gone_all (g.D.Depot.files c.args.depot.now) c.args.gather.now j (WhichFailed g.D.Depot c.args.depot.now c.loop-file.depot) c.loop-file.file-index c.loop-file.job le
     (c.loop-file.invariant.gone j opens) c.loop-file.invariant.none_failed
 
 pub returns-in-Err-put_page-clause-refused : goal.returns-in-Err-put_page-clause-refused
-returns-in-Err-put_page-clause-refused g c = rw c.job.ensures (λ differ j opens.
+returns-in-Err-put_page-clause-refused g c = rw c.as_str.ensures (λ differ j opens.
     let (given, read, gives, blamed) = rw c.as_str-name.ensures at c.in-Ok.ensures.input in
-    let lt = rw c.pages-file-items.ensures.value at c.loop-file-test.true in
-    let at = rw c.pages-file-items.ensures.value at c.file-item.is in
+    let lt = rw c.as_slice-file-items.ensures.value at c.loop-file-test.true in
+    let at = rw c.as_slice-file-items.ensures.value at c.file-item.is in
     let reads : OnlyReads g.D.Depot c.args.depot.now c.loop-file.depot = record {
       later = c.loop-file.invariant.later;
       same_files = c.loop-file.invariant.same_files;

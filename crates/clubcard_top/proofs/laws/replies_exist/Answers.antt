@@ -1,5 +1,5 @@
 use Rattle.clubcard_top.proofs.Existing.{Existence, outcome_exists, reply_exists}
-use Rattle.clubcard_top.proofs.WordsApart.{few_jobs}
+use Rattle.word_core.proofs.Asked.{few_jobs}
 use Rattle.clubcard_top.proofs.laws.replies_exist.Goals as goal
 
 pub returns : goal.returns

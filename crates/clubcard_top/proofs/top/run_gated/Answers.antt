@@ -4,7 +4,7 @@ use Rattle.part_text.specs.SealedFields.{SealedFields}
 use Rattle.clubcard_top.specs.Calls.{call_of_words}
 use Rattle.clubcard_top.proofs.Endings as endings
 use Rattle.clubcard_top.proofs.Promised as promised
-use Rattle.clubcard_top.proofs.WordsApart as apart
+use Rattle.word_core.proofs.Asked as asked
 use Rattle.clubcard_top.proofs.OfHistories as of_histories
 use Rattle.clubcard_top.proofs.top.run_gated.Goals as goal
 
@@ -47,7 +47,7 @@ returns-clause-successes g c =
       comes_back = c.bases_are_made.ensures.comes_back;
       follows = c.histories_are_made.ensures.followed _;
     })
-    c.run_words.ensures.ends (apart.words_apart (map string_bytes c.args.words.now)) (λ inputs a b x y. c.replies_are_unique.ensures.reply _ inputs a b x y) (λ command inputs a b x y. c.replies_are_unique.ensures.outcome command inputs a b x y)
+    c.run_words.ensures.ends (asked.words_apart (map string_bytes c.args.words.now)) (λ inputs a b x y. c.replies_are_unique.ensures.reply _ inputs a b x y) (λ command inputs a b x y. c.replies_are_unique.ensures.outcome command inputs a b x y)
     (λ before job can. c.histories_are_made.ensures.publishable before job can)
     (λ before moment without can. c.bases_are_made.ensures.publishable before moment without can)
     (λ parts jobs agree. c.agreement_is_enough.ensures (map (λ (s : SealedFields). s.part) parts) jobs agree)
@@ -69,4 +69,4 @@ returns-clause-histories g c =
       comes_back = c.bases_are_made.ensures.comes_back;
       follows = c.histories_are_made.ensures.followed _;
     })
-    c.run_words.ensures.ends (apart.words_apart (map string_bytes c.args.words.now))
+    c.run_words.ensures.ends (asked.words_apart (map string_bytes c.args.words.now))

@@ -14,7 +14,7 @@ returns-in-Err-clause-answers g c =
     not_held c.args.asked.now.device (g.D.Disk.state c.args.disk.now) (g.D.Disk.state c.held_in.new.disk)
     (λ capacity parts. OfFile (g.P.Depot.files c.args.depot.now) (WhichFailed g.P.Depot c.args.depot.now c.args.depot.now) c.args.asked.now.part
     (λ given. install_outcome c.args.asked.now capacity parts (input_as part_in given)))
-    c.held_in.ensures.quiet c.in-Err.fault c.not_held.result c.in-Err.ensures.refusal (rw c.device.ensures at c.not_held.ensures.ok) c.not_held.ensures.memory
+    c.held_in.ensures.quiet c.in-Err.fault c.not_held.result c.in-Err.ensures.refusal (rw c.as_str.ensures at c.not_held.ensures.ok) c.not_held.ensures.memory
 
 pub returns-in-Err-part_in-clause-answers : goal.returns-in-Err-part_in-clause-answers
 returns-in-Err-part_in-clause-answers g c =
@@ -22,7 +22,7 @@ returns-in-Err-part_in-clause-answers g c =
     (g.D.Disk.state c.args.disk.now) (g.D.Disk.state c.held_in.new.disk) (g.D.Disk.state c.held_in.new.disk) c.in-Ok.held.slots c.in-Ok.held.store
     c.held_in.ensures.quiet c.in-Ok.ensures.ok {B = SealedFields × ℕ} (λ x. x) c.in-Err-part_in.fault c.refusal.result
     (uncalled (g.D.Disk.state c.held_in.new.disk))
-    (rw c.part.ensures at c.in-Err-part_in.ensures.input) (rw c.part-in-Err-part_in.ensures at c.refusal.ensures.ok) c.refusal.ensures.memory
+    (rw c.as_str-2.ensures at c.in-Err-part_in.ensures.input) (rw c.as_str-in-Err-part_in.ensures at c.refusal.ensures.ok) c.refusal.ensures.memory
 
 pub returns-in-Err-part_in-clause-survives : goal.returns-in-Err-part_in-clause-survives
 returns-in-Err-part_in-clause-survives g c =
@@ -34,8 +34,8 @@ returns-in-Ok-installed-clause-answers g c =
     taken c.args.asked.now (g.P.Depot.files c.args.depot.now) (WhichFailed g.P.Depot c.args.depot.now c.part_in.new.depot)
     (g.D.Disk.state c.args.disk.now) (g.D.Disk.state c.held_in.new.disk) (g.D.Disk.state c.replaced.new.disk) c.in-Ok.held.slots c.in-Ok.held.store
     c.held_in.ensures.quiet c.in-Ok.ensures.ok {B = SealedFields × ℕ} (λ x. x) (c.in-Ok-part_in.part, c.in-Ok-part_in.field-0-1) c.in-Ok-installed.store c.replaced.result
-    c.held_in.ensures.later (rw c.part.ensures at c.in-Ok-part_in.ensures.input) c.in-Ok-installed.ensures.ok.0 c.in-Ok-installed.ensures.ok.1
-    (rw c.device-in-Ok-installed.ensures at (c.replaced.ensures.answers
+    c.held_in.ensures.later (rw c.as_str-2.ensures at c.in-Ok-part_in.ensures.input) c.in-Ok-installed.ensures.ok.0 c.in-Ok-installed.ensures.ok.1
+    (rw c.as_str-in-Ok-installed.ensures at (c.replaced.ensures.answers
     (attached_mid (g.D.Disk.state c.args.disk.now) (g.D.Disk.state c.held_in.new.disk) c.in-Ok.held.slots c.in-Ok.held.store c.held_in.ensures.quiet c.in-Ok.ensures.ok)))
 
 pub returns-in-Ok-installed-clause-survives : goal.returns-in-Ok-installed-clause-survives
@@ -43,7 +43,7 @@ returns-in-Ok-installed-clause-survives g c =
     goes_over (g.P.Depot.files c.args.depot.now) (WhichFailed g.P.Depot c.args.depot.now c.part_in.new.depot) c.args.asked.now.part (g.D.Disk.state c.args.disk.now)
     (g.met.D.Disk.lawful c.args.disk.now) {B = SealedFields × ℕ} (g.D.Disk.state c.held_in.new.disk) (g.D.Disk.state c.replaced.new.disk) c.in-Ok.held.slots
     c.in-Ok.held.store c.in-Ok-installed.store (λ x. x) (c.in-Ok-part_in.part, c.in-Ok-part_in.field-0-1) c.held_in.ensures.quiet c.in-Ok.ensures.ok
-    (rw c.part.ensures at c.in-Ok-part_in.ensures.input) c.in-Ok-installed.ensures.ok.0 c.in-Ok-installed.ensures.ok.1 c.replaced.ensures.any_moment
+    (rw c.as_str-2.ensures at c.in-Ok-part_in.ensures.input) c.in-Ok-installed.ensures.ok.0 c.in-Ok-installed.ensures.ok.1 c.replaced.ensures.any_moment
 
 pub returns-in-Err-installed-clause-answers : goal.returns-in-Err-installed-clause-answers
 returns-in-Err-installed-clause-answers g c =
@@ -51,8 +51,8 @@ returns-in-Err-installed-clause-answers g c =
     not_taken c.args.asked.now (g.P.Depot.files c.args.depot.now) (WhichFailed g.P.Depot c.args.depot.now c.part_in.new.depot)
     (g.D.Disk.state c.args.disk.now) (g.D.Disk.state c.held_in.new.disk) (g.D.Disk.state c.held_in.new.disk) c.in-Ok.held.slots c.in-Ok.held.store
     c.held_in.ensures.quiet c.in-Ok.ensures.ok {B = SealedFields × ℕ} (λ x. x) (c.in-Ok-part_in.part, c.in-Ok-part_in.field-0-1) why c.in-Err-installed.fault
-    c.refusal-in-Err-installed.result (uncalled (g.D.Disk.state c.held_in.new.disk)) (rw c.part.ensures at c.in-Ok-part_in.ensures.input) refused is_fault
-    (rw c.part-in-Err-installed.ensures at c.refusal-in-Err-installed.ensures.ok)
+    c.refusal-in-Err-installed.result (uncalled (g.D.Disk.state c.held_in.new.disk)) (rw c.as_str-2.ensures at c.in-Ok-part_in.ensures.input) refused is_fault
+    (rw c.as_str-in-Err-installed.ensures at c.refusal-in-Err-installed.ensures.ok)
 
 pub returns-in-Err-installed-clause-survives : goal.returns-in-Err-installed-clause-survives
 returns-in-Err-installed-clause-survives g c =

@@ -4,5 +4,5 @@ use Rattle.word_core.proofs.OneByOne.{with_first}
 use Rattle.word_core.proofs.Pairs.{pairs_of-odd}
 use Rattle.word_core.proofs.words.read_pairs.Goals as goal
 
-pub returns-then-rest-ne0 : goal.returns-then-rest-ne0
-returns-then-rest-ne0 c = ap (with_first c.loop-rest.sightings.items) (sym (pairs_of-odd string_bytes c.loop-rest.rest.now c.in_default.len_below c.if-rest-ne0.true)) ∙ c.loop-rest.invariant
+pub returns-then-rest-ne0-clause-value : goal.returns-then-rest-ne0-clause-value
+returns-then-rest-ne0-clause-value c = ap (with_first c.loop-rest.sightings.items) (sym (pairs_of-odd string_bytes c.loop-rest.rest.now c.in_default.len_below c.if-rest-ne0.true)) ∙ c.loop-rest.invariant.read
