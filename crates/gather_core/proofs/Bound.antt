@@ -1,6 +1,8 @@
 -- A text has no more items than bytes.
-use Rattle.std.proofs.Common.{◌≡◌, ℕ, zero, suc, ◌+◌, ◌≤◌, Bool, true, false, List, [], ◌∷◌, length, Option, Some, None, option_and_then, option_map, refl, sym, subst, arith}
+use Rattle.std.proofs.Common.{◌≡◌, ℕ, ◌+◌, ◌≤◌, Bool, true, false, List, [], ◌∷◌, ◌++◌, length, Option, Some, None, option_and_then, option_map, refl, sym, ap, subst, arith}
 use Rattle.std.proofs.Common.{Ordering, Less, Equal, Greater}
+use Rattle.std.proofs.lemmas.List.{length-append}
+use Rattle.std.proofs.lemmas.Option.{IfSome_then}
 use Rattle.std.specs.Prelude.{⊤, ◌^◌, if◌then◌else◌, IfSome, Ok, Err, codes}
 use Rattle.std.specs.Str.{is_utf8}
 use Rattle.std.specs.Ordering.{match_ordering, nat_cmp}
@@ -9,246 +11,91 @@ use Rattle.json.specs.Token.{Token}
 use Rattle.json.specs.Lex.{Lexeme, token, comma, colon, Class, quote, backslash, operator, space, other, class, Mode, between, in_word, in_string, in_escape, lex_byte, lex}
 use Rattle.json.specs.Lex.{Place, fresh, after_value, after_comma, after_key, if_allowed, may_begin, may_close, begins_colon, place_token, punctuate, tokens}
 use Rattle.json.specs.Json as json
-use Rattle.serde_json.specs.Data.{Data, null, boolean, number, string, array, object, Items, no_items, item, Members, no_members, member, put}
+use Rattle.json.specs.Tree.{json_tokens, items_tokens, members_tokens}
+use Rattle.json.proofs.Unique.Spelling.{value-json_tokens_back}
+use Rattle.serde_json.specs.Data.{Data, array, object, Items, item, Members, no_members, member, put}
 use Rattle.serde_json.specs.Find.{get, get_member, as_array}
 use Rattle.serde_json.specs.Read.{number_of, of_json, of_items, of_members, max_depth, read}
 use Rattle.serde_json.specs.View.{items_view}
 use Rattle.serde_json.specs.declared.value.Value.{Value}
 use Rattle.gather_core.specs.declared.fault.PageFault.TheVariants as faults
 use Rattle.gather_core.specs.declared.page.TheConstants.{MAX_PAGE}
-use Rattle.gather_core.specs.Pages.{there, json_of, count_items, AreNumbered}
+use Rattle.gather_core.specs.Pages.{there, json_of, listed_items, count_items, AreNumbered}
 
--- ---- how many values there are, a value and those inside it
+-- what comes of a value that there is, and of that again
+and_then : {A B : Type 0} {P : A → Type 0} (Q : B → Type 0) (f : A → Option B) → ((a : A) → P a → IfSome (f a) Q) → (o : Option A) → IfSome o P → IfSome (option_and_then f o) Q
+and_then Q f k None x = tt
+and_then Q f k (Some a) x = k a x
 
-abbrev mutual
-  pub weight : Data → ℕ
-  weight null = 1
-  weight (boolean b) = 1
-  weight (number n) = 1
-  weight (string s) = 1
-  weight (array ds) = items_weight ds + 1
-  weight (object ms) = members_weight ms + 1
+mapped : {A B : Type 0} {P : A → Type 0} (Q : B → Type 0) (f : A → B) → ((a : A) → P a → Q (f a)) → (o : Option A) → IfSome o P → IfSome (option_map f o) Q
+mapped Q f k None x = tt
+mapped Q f k (Some a) x = k a x
 
-  pub items_weight : Items → ℕ
-  items_weight no_items = 0
-  items_weight (item d ds) = weight d + items_weight ds
+any : {A : Type 0} (o : Option A) → IfSome o (λ a. ⊤)
+any None = tt
+any (Some a) = tt
 
-  pub members_weight : Members → ℕ
-  members_weight no_members = 0
-  members_weight (member k d ms) = weight d + members_weight ms
+-- ---- a value of a text's tree, and its members: an array has no more items than tokens
 
-abbrev mutual
-  json_weight : json.Json → ℕ
-  json_weight json.null = 1
-  json_weight (json.boolean b) = 1
-  json_weight (json.number s) = 1
-  json_weight (json.string s) = 1
-  json_weight (json.array js) = json_items_weight js + 1
-  json_weight (json.object ms) = json_members_weight ms + 1
+-- a value that is an array has at most so many items
+abbrev Few : ℕ → Data → Type 0
+Few n d = IfSome (as_array d) (λ ds. count_items ds ≤ n)
 
-  json_items_weight : json.Items → ℕ
-  json_items_weight json.no_items = 0
-  json_items_weight (json.item j js) = json_weight j + json_items_weight js
+more : (m n : ℕ) (d : Data) → m ≤ n → Few m d → Few n d
+more m n d le few = IfSome_then (as_array d) {Q = λ ds. count_items ds ≤ n} few (λ ds x. omega arith)
 
-  json_members_weight : json.Members → ℕ
-  json_members_weight json.no_members = 0
-  json_members_weight (json.member k j ms) = json_weight j + json_members_weight ms
+abbrev AreFew : ℕ → Members → Type 0
+AreFew n no_members = ⊤
+AreFew n (member k d ms) = Few n d × AreFew n ms
 
-some_weight : (d : Data) → 1 ≤ weight d
-some_weight null = omega arith
-some_weight (boolean b) = omega arith
-some_weight (number n) = omega arith
-some_weight (string s) = omega arith
-some_weight (array ds) = omega arith
-some_weight (object ms) = omega arith
+choice : {A : Type 0} (P : A → Type 0) (o : Ordering) (a b c : A) → P a → P b → P c → P (match_ordering o a b c)
+choice P Less a b c p q r = p
+choice P Equal a b c p q r = q
+choice P Greater a b c p q r = r
 
-count-weight : (ds : Items) → count_items ds ≤ items_weight ds
-count-weight no_items = omega arith
-count-weight (item d ds) = omega (arith, some_weight d, count-weight ds)
+get-few : (n : ℕ) (k : List ℕ) (ms : Members) → AreFew n ms → IfSome (get_member k ms) (Few n)
+get-few n k no_members few = tt
+get-few n k (member l e ms) few = choice (λ o. IfSome o (Few n)) (slice_cmp nat_cmp k l) _ (Some e) _ (get-few n k ms few.1) few.0 (get-few n k ms few.1)
 
--- ---- the entries of a value
+put-few : (n : ℕ) (k : List ℕ) (d : Data) (ms : Members) → Few n d → AreFew n ms → AreFew n (put k d ms)
+put-few n k d no_members few all = (few, tt)
+put-few n k d (member l e ms) few all = choice (AreFew n) (slice_cmp nat_cmp k l) _ (member l d ms) (member l e (put k d ms)) (few, all) (few, all.1) (all.0, put-few n k d ms few all.1)
 
-abbrev AtMost : {A : Type 0} → (A → ℕ) → ℕ → Option A → Type 0
-AtMost f n None = ⊤
-AtMost f n (Some a) = f a ≤ n
+some_token : (j : json.Json) → 1 ≤ length (json_tokens j)
+some_token json.null = omega arith
+some_token (json.boolean b) = omega arith
+some_token (json.number s) = omega arith
+some_token (json.string s) = omega arith
+some_token (json.array js) = omega arith
+some_token (json.object ms) = omega arith
 
-member-choice : (o : Ordering) (n : ℕ) (a b c : Option Data) → AtMost weight n a → AtMost weight n b → AtMost weight n c → AtMost weight n (match_ordering o a b c)
-member-choice Less n a b c p q r = p
-member-choice Equal n a b c p q r = q
-member-choice Greater n a b c p q r = r
+items-few : (js : json.Items) → IfSome (of_items js) (λ ds. count_items ds ≤ length (items_tokens js))
+items-few json.no_items = omega arith
+items-few (json.item j js) =
+    let long = length-append (json_tokens j) (items_tokens js) in
+    and_then _ _ (λ d x. mapped _ (item d) (λ ds few. omega (arith, long, some_token j, few)) (of_items js) (items-few js)) (of_json j) (any (of_json j))
 
-member-weight : (k : List ℕ) (ms : Members) (n : ℕ) → members_weight ms ≤ n → AtMost weight n (get_member k ms)
-member-weight k no_members n h = tt
-member-weight k (member l e ms) n h =
-    member-choice (slice_cmp nat_cmp k l) n (get_member k ms) (Some e) (get_member k ms) (member-weight k ms n (omega arith)) (omega arith) (member-weight k ms n (omega arith))
+value-few : (j : json.Json) → IfSome (of_json j) (Few (length (json_tokens j)))
+value-few json.null = tt
+value-few (json.boolean b) = tt
+value-few (json.number s) = mapped _ _ (λ a x. tt) (number_of s) (any (number_of s))
+value-few (json.string s) = tt
+value-few (json.array js) = mapped _ array (λ ds few. omega (arith, few)) (of_items js) (items-few js)
+value-few (json.object ms) = mapped _ object (λ a x. tt) (of_members ms no_members) (any (of_members ms no_members))
 
-get-weight : (k : List ℕ) (d : Data) (n : ℕ) → weight d ≤ n → AtMost weight n (get k d)
-get-weight k null n h = tt
-get-weight k (boolean b) n h = tt
-get-weight k (number m) n h = tt
-get-weight k (string s) n h = tt
-get-weight k (array ds) n h = tt
-get-weight k (object ms) n h = member-weight k ms n (omega arith)
+members-few : (n : ℕ) (ms : json.Members) (found : Members) → length (members_tokens ms) ≤ n → AreFew n found → IfSome (of_members ms found) (AreFew n)
+members-few n json.no_members found le all = all
+members-few n (json.member k j ms) found le all =
+    let long = length-append (json_tokens j) (members_tokens ms) in
+    and_then _ _ (λ d few. members-few n ms (put k d found) (omega (arith, long)) (put-few n k d found (more _ n d (omega (arith, long)) few) all)) (of_json j) (value-few j)
 
-array-weight : (d : Data) (n : ℕ) → weight d ≤ n → AtMost count_items n (as_array d)
-array-weight null n h = tt
-array-weight (boolean b) n h = tt
-array-weight (number m) n h = tt
-array-weight (string s) n h = tt
-array-weight (array ds) n h = omega (arith, count-weight ds)
-array-weight (object ms) n h = tt
-
-AtMost-and_then : {A B : Type 0} (f : A → ℕ) (g : B → ℕ) (m n : ℕ) (h : A → Option B) → ((a : A) → f a ≤ m → AtMost g n (h a)) → (o : Option A) → AtMost f m o → AtMost g n (option_and_then h o)
-AtMost-and_then f g m n h k None x = tt
-AtMost-and_then f g m n h k (Some a) x = k a x
-
-listed-few : (k : List ℕ) (d : Data) (n : ℕ) → weight d ≤ n → AtMost count_items n (option_and_then as_array (get k d))
-listed-few k d n h = AtMost-and_then weight count_items n n as_array (λ e few. array-weight e n few) (get k d) (get-weight k d n h)
-
-numbered : (n : ℕ) (o : Option Items) → n ≤ 2 ^ 32 → AtMost count_items n o → IfSome o (λ ds. count_items ds ≤ 2 ^ 32)
-numbered n None le few = tt
-numbered n (Some ds) le few = omega arith
-
--- ---- a value of a text's tree
-
-AtMost-map : {A B : Type 0} (f : A → ℕ) (g : B → ℕ) (m n : ℕ) (h : A → B) → ((a : A) → f a ≤ m → g (h a) ≤ n) → (o : Option A) → AtMost f m o → AtMost g n (option_map h o)
-AtMost-map f g m n h k None x = tt
-AtMost-map f g m n h k (Some a) x = k a x
-
-flat : {A : Type 0} (o : Option A) → AtMost (λ _. 0) 0 o
-flat None = tt
-flat (Some a) = omega arith
-
-put-choice : (o : Ordering) (a b c : Members) (n : ℕ) → members_weight a ≤ n → members_weight b ≤ n → members_weight c ≤ n → members_weight (match_ordering o a b c) ≤ n
-put-choice Less a b c n p q r = p
-put-choice Equal a b c n p q r = q
-put-choice Greater a b c n p q r = r
-
-put-weight : (k : List ℕ) (d : Data) (ms : Members) → members_weight (put k d ms) ≤ weight d + members_weight ms
-put-weight k d no_members = omega arith
-put-weight k d (member l e ms) =
-    put-choice _ (member k d (member l e ms)) (member l d ms) (member l e (put k d ms)) (weight d + members_weight (member l e ms)) (omega arith) (omega arith)
-    (omega (arith, put-weight k d ms))
-
-mutual
-  json-weight : (j : json.Json) (n : ℕ) → json_weight j ≤ n → AtMost weight n (of_json j)
-  json-weight json.null n h = omega arith
-  json-weight (json.boolean b) n h = omega arith
-  json-weight (json.number s) n h = AtMost-map (λ _. 0) weight 0 n number (λ a x. omega arith) (number_of s) (flat _)
-  json-weight (json.string s) n h = omega arith
-  json-weight (json.array js) n h = AtMost-map items_weight weight (json_items_weight js) n array (λ a x. omega arith) _ (items-weight js _ (omega arith))
-  json-weight (json.object ms) n h = AtMost-map members_weight weight (json_members_weight ms) n object (λ a x. omega arith) _ (members-weight ms no_members _ (omega arith))
-
-  items-weight : (js : json.Items) (n : ℕ) → json_items_weight js ≤ n → AtMost items_weight n (of_items js)
-  items-weight json.no_items n h = omega arith
-  items-weight (json.item j js) n h =
-      AtMost-and_then weight items_weight (json_weight j) n _ (λ d x. AtMost-map items_weight items_weight (json_items_weight js) n (item d) (λ ds y. omega arith) _ (items-weight js _ (omega arith)))
-      _ (json-weight j _ (omega arith))
-
-  members-weight : (ms : json.Members) (found : Members) (n : ℕ) → json_members_weight ms + members_weight found ≤ n → AtMost members_weight n (of_members ms found)
-  members-weight json.no_members found n h = omega arith
-  members-weight (json.member name j ms) found n h =
-      AtMost-and_then weight members_weight (json_weight j) n _ (λ d x. members-weight ms (put name d found) n (omega (arith, put-weight name d found))) _ (json-weight j _ (omega arith))
-
--- ---- a value takes a token, and so does each value inside it
-
-abbrev Took : {A : Type 0} → (A → ℕ) → ℕ → Option (A × List Token) → Type 0
-Took f n None = ⊤
-Took f n (Some p) = f p.0 + length p.1 ≤ n
-
-abbrev Takes : {A : Type 0} → (A → ℕ) → json.Parse A → Type 0
-Takes f parse = (ts : List Token) → Took f (length ts) (parse ts)
-
-took-map : {A B : Type 0} (f : A → ℕ) (g : B → ℕ) (m n : ℕ) (h : A → B) → ((a : A) (k : ℕ) → f a + k ≤ m → g (h a) + k ≤ n) → (o : Option (A × List Token)) → Took f m o → Took g n (json.parse_map h o)
-took-map f g m n h k None x = tt
-took-map f g m n h k (Some p) x = k p.0 (length p.1) x
-
-took-more : {B : Type 0} (g : B → ℕ) (n : ℕ) (h : json.Json → B → B) → ((j : json.Json) (b : B) → g (h j b) ≡ json_weight j + g b) → (more : json.Parse B) → Takes g more
-    → (o : Option (json.Json × List Token)) → Took json_weight n o → Took g n (option_and_then (λ q. json.parse_map (h q.0) (more q.1)) o)
-took-more g n h is more takes None x = tt
-took-more g n h is more takes (Some q) x = took-map g g (length q.1) n (h q.0) (λ b k y. omega (arith, is q.0 b)) _ (takes q.1)
-
-abbrev Fewer : ℕ → Option (List Token) → Type 0
-Fewer n None = ⊤
-Fewer n (Some r) = length r ≤ n
-
-end_array-fewer : (ts : List Token) → Fewer (length ts) (json.after_end_array ts)
-end_array-fewer [] = tt
-end_array-fewer (Token.begin_object ∷ ts) = tt
-end_array-fewer (Token.end_object ∷ ts) = tt
-end_array-fewer (Token.begin_array ∷ ts) = tt
-end_array-fewer (Token.end_array ∷ ts) = omega arith
-end_array-fewer (Token.key s ∷ ts) = tt
-end_array-fewer (Token.string s ∷ ts) = tt
-end_array-fewer (Token.number s ∷ ts) = tt
-end_array-fewer (Token.boolean b ∷ ts) = tt
-end_array-fewer (Token.null ∷ ts) = tt
-end_array-fewer (Token.bad ∷ ts) = tt
-
-key-fewer : (ts : List Token) → Took (λ _. 0) (length ts) (json.read_key ts)
-key-fewer [] = tt
-key-fewer (Token.begin_object ∷ ts) = tt
-key-fewer (Token.end_object ∷ ts) = omega arith
-key-fewer (Token.begin_array ∷ ts) = tt
-key-fewer (Token.end_array ∷ ts) = tt
-key-fewer (Token.key s ∷ ts) = omega arith
-key-fewer (Token.string s ∷ ts) = tt
-key-fewer (Token.number s ∷ ts) = tt
-key-fewer (Token.boolean b ∷ ts) = tt
-key-fewer (Token.null ∷ ts) = tt
-key-fewer (Token.bad ∷ ts) = tt
-
-took-up : {A : Type 0} (f : A → ℕ) (m n : ℕ) → m ≤ n → (o : Option (A × List Token)) → Took f m o → Took f n o
-took-up f m n le None x = tt
-took-up f m n le (Some p) x = omega arith
-
-module _ (p : json.Parse json.Json) (takes : Takes json_weight p) where
-  item-turn : (more : json.Parse json.Items) → Takes json_items_weight more → (ts : List Token) (o : Option (List Token)) → Fewer (length ts) o
-      → Took json_items_weight (length ts) (json.items_step p more ts o)
-  item-turn more again ts (Some r) few = omega arith
-  item-turn more again ts None few = took-more json_items_weight (length ts) json.item (λ j b. refl) more again (p ts) (takes ts)
-
-  items-take : (n : ℕ) → Takes json_items_weight (json.items p n)
-  unfolding json.items
-  items-take zero ts = tt
-  items-take (suc n) ts = item-turn (json.items p n) (items-take n) ts (json.after_end_array ts) (end_array-fewer ts)
-
-  member-turn : (more : json.Parse json.Members) → Takes json_members_weight more → (n : ℕ) (o : Option (Option (List ℕ) × List Token)) → Took (λ _. 0) n o
-      → Took json_members_weight n (option_and_then (λ q. json.members_step p more q.0 q.1) o)
-  member-turn more again n None few = tt
-  member-turn more again n (Some (None, s)) few = omega arith
-  member-turn more again n (Some (Some k, s)) few =
-      took-up json_members_weight (length s) n (omega arith) _ (took-more json_members_weight (length s) (json.member k) (λ j b. refl) more again (p s) (takes s))
-
-  members-take : (n : ℕ) → Takes json_members_weight (json.members p n)
-  unfolding json.members
-  members-take zero ts = tt
-  members-take (suc n) ts = member-turn (json.members p n) (members-take n) (length ts) (json.read_key ts) (key-fewer ts)
-
-one-level : (a : json.Parse json.Items) (o : json.Parse json.Members) → Takes json_items_weight a → Takes json_members_weight o → Takes json_weight (json.value_with a o)
-one-level a o p q [] = tt
-one-level a o p q (Token.begin_object ∷ ts) = took-map json_members_weight json_weight (length ts) (suc (length ts)) json.object (λ ms k x. omega arith) (o ts) (q ts)
-one-level a o p q (Token.end_object ∷ ts) = tt
-one-level a o p q (Token.begin_array ∷ ts) = took-map json_items_weight json_weight (length ts) (suc (length ts)) json.array (λ js k x. omega arith) (a ts) (p ts)
-one-level a o p q (Token.end_array ∷ ts) = tt
-one-level a o p q (Token.key s ∷ ts) = tt
-one-level a o p q (Token.string s ∷ ts) = omega arith
-one-level a o p q (Token.number s ∷ ts) = omega arith
-one-level a o p q (Token.boolean b ∷ ts) = omega arith
-one-level a o p q (Token.null ∷ ts) = omega arith
-one-level a o p q (Token.bad ∷ ts) = tt
-
-value-takes : (depth : ℕ) → Takes json_weight (json.value depth)
-unfolding json.value
-value-takes zero = one-level (λ ts. None) (λ ts. None) (λ ts. tt) (λ ts. tt)
-value-takes (suc depth) =
-    one-level (λ ts. json.items (json.value depth) (length ts) ts) (λ ts. json.members (json.value depth) (length ts) ts)
-    (λ ts. items-take (json.value depth) (value-takes depth) (length ts) ts) (λ ts. members-take (json.value depth) (value-takes depth) (length ts) ts)
-
-last-few : (o : Option (json.Json × List Token)) (n : ℕ) → Took json_weight n o → AtMost json_weight n (option_and_then (λ p. json.if_last p.0 p.1) o)
-last-few None n h = tt
-last-few (Some (j, [])) n h = omega arith
-last-few (Some (j, t ∷ r)) n h = tt
+tree-few : (k : List ℕ) (j : json.Json) → IfSome (of_json j) (λ d. IfSome (get k d) (Few (length (json_tokens j))))
+tree-few k json.null = tt
+tree-few k (json.boolean b) = tt
+tree-few k (json.number s) = mapped _ _ (λ a x. tt) (number_of s) (any (number_of s))
+tree-few k (json.string s) = tt
+tree-few k (json.array js) = mapped _ array (λ a x. tt) (of_items js) (any (of_items js))
+tree-few k (json.object ms) = mapped _ object (λ a all. get-few _ k a all) (of_members ms no_members) (members-few _ ms no_members (omega arith) tt)
 
 -- ---- a lexeme takes a byte, and a token a lexeme, but for one at the end that is bad
 
@@ -314,12 +161,20 @@ punctuate-few after_key (colon ∷ ls) = omega (arith, punctuate-few fresh ls)
 tokens-few : (text : List ℕ) → length (tokens text) ≤ length text + 1
 tokens-few text = omega (arith, punctuate-few fresh (lex between text), lex-few between text)
 
-read-few : (text : List ℕ) (d : Data) → read text ≡ Some d → weight d ≤ length text + 1
-read-few text d is =
-    let n : ℕ = length text + 1 in
-    subst (AtMost weight n) is
-    (AtMost-and_then json_weight weight n n of_json (λ j x. json-weight j n x) _
-    (last-few _ n (took-up json_weight (length (tokens text)) n (tokens-few text) _ (value-takes max_depth (tokens text)))))
+-- the tree of a text has no more tokens than the text
+last-few : (ts : List Token) (o : Option (json.Json × List Token)) → ((j : json.Json) (r : List Token) → o ≡ Some (j, r) → ts ≡ json_tokens j ++ r)
+    → IfSome (option_and_then (λ p. json.if_last p.0 p.1) o) (λ j. length (json_tokens j) ≤ length ts)
+last-few ts None back = tt
+last-few ts (Some (j, [])) back = omega (arith, ap length (back j [] refl), length-append (json_tokens j) [])
+last-few ts (Some (j, t ∷ r)) back = tt
+
+-- an array at a key of a text's value has no more items than the text has bytes and one
+read-few : (k : List ℕ) (text : List ℕ) → IfSome (read text) (λ d. IfSome (get k d) (Few (length text + 1)))
+read-few k text =
+    let ts = tokens text in
+    and_then {P = λ j. length (json_tokens j) ≤ length ts} _ of_json
+    (λ j few. IfSome_then (of_json j) (tree-few k j) (λ d x. IfSome_then (get k d) x (λ e y. more (length (json_tokens j)) (length text + 1) e (omega (arith, few, tokens-few text)) y)))
+    _ (last-few ts (json.value max_depth ts) (λ j r is. value-json_tokens_back max_depth ts r j is))
 
 value-read : (b : Bool) (o : Option Data) (d : Data) → (if b then there faults.Json o else Err faults.Json) ≡ Ok d → o ≡ Some d
 value-read true (Some x) d is = cc
@@ -332,15 +187,16 @@ json-read text d is = value-read (is_utf8 text) (read text) d is
 -- the entries of a text's value have indices of 32 bits
 pub entries-numbered : (text : List ℕ) (d : Data) → json_of text ≡ Ok d → length text ≤ MAX_PAGE → AreNumbered d
 entries-numbered text d is few =
-    let n : ℕ = length text + 1 in
-    numbered n (option_and_then as_array (get (codes "entries") d)) (omega arith) (listed-few (codes "entries") d n (read-few text d (json-read text d is)))
+    let at : IfSome (Some d) (λ d. IfSome (get (codes "entries") d) (Few (length text + 1))) =
+    subst (λ (o : Option Data). IfSome o (λ d. IfSome (get (codes "entries") d) (Few (length text + 1)))) (json-read text d is) (read-few (codes "entries") text) in
+    and_then _ as_array (λ e x. more _ (2 ^ 32) e (omega arith) x) (get (codes "entries") d) at
 
 -- the items of a vector are as many as its values
 count-view : (vs : List Value) → count_items (items_view vs) ≡ length vs
 count-view [] = refl
 count-view (v ∷ vs) = omega (arith, count-view vs)
 
-pub few-items : (vs : List Value) (d : Data) → Some (items_view vs) ≡ option_and_then as_array (get (codes "entries") d) → AreNumbered d → length vs ≤ 2 ^ 32
+pub few-items : (vs : List Value) (d : Data) → Some (items_view vs) ≡ listed_items d → AreNumbered d → length vs ≤ 2 ^ 32
 few-items vs d is few =
     let at : IfSome (Some (items_view vs)) (λ ds. count_items ds ≤ 2 ^ 32) = subst (λ (o : Option Items). IfSome o (λ ds. count_items ds ≤ 2 ^ 32)) (sym is) few in
     omega (arith, at, count-view vs)

@@ -82,9 +82,12 @@ items_from index (item d ds) = do
 abbrev pub json_of : List ℕ → Result Data PageFault
 json_of bytes = if is_utf8 bytes then there faults.Json (read bytes) else Err faults.Json
 
--- the items of an object with an array `entries`
+-- the items of an object with an array `entries`, if there is one
+abbrev pub listed_items : Data → Option Items
+listed_items d = option_and_then as_array (get (codes "entries") d)
+
 abbrev pub listed : Data → Result Items PageFault
-listed d = there (faults.Shape 0) (option_and_then as_array (get (codes "entries") d))
+listed d = there (faults.Shape 0) (listed_items d)
 
 abbrev pub entries_of : Data → Result (List PageFields) PageFault
 entries_of d = do
@@ -104,7 +107,7 @@ count_items (item d ds) = count_items ds + 1
 
 -- an index of 32 bits is enough for each of its entries
 abbrev pub AreNumbered : Data → Type 0
-AreNumbered d = IfSome (option_and_then as_array (get (codes "entries") d)) (λ ds. count_items ds ≤ 2 ^ 32)
+AreNumbered d = IfSome (listed_items d) (λ ds. count_items ds ≤ 2 ^ 32)
 
 -- neither the leaf nor the extra data is too long
 abbrev pub EntryFits : PageFields → Type 0

@@ -1,12 +1,11 @@
 //! Pages from bytes.
 
-ghost use Rattle.std.specs.Prelude.{◌≡◌, ◌≤◌, ◌^◌, length, map, All, None, IfOk, IfErr, IsSome, string_bytes, option_and_then, codes};
+ghost use Rattle.std.specs.Prelude.{◌≡◌, ◌≤◌, ◌^◌, length, map, All, None, IfOk, IfErr, IsSome, string_bytes};
 ghost use Rattle.std.specs.Option.{option_map};
 ghost use Rattle.std.specs.Str.{IsUtf8};
 ghost use Rattle.octets_core.specs.Reading.{GivesUnless};
-ghost use Rattle.serde_json.specs.Find.{get, as_array, as_str};
 ghost use Rattle.serde_json.specs.View.{view, items_view};
-ghost use Rattle.gather_core.specs.Pages.{PageFields, fields_of, json_of, listed, text_at, decoded, item_of, items_from, entries_of};
+ghost use Rattle.gather_core.specs.Pages.{PageFields, fields_of, json_of, listed, listed_items, text_at, decoded, item_of, items_from, entries_of};
 ghost use Rattle.gather_core.specs.Pages.{page_of, AreNumbered, EntryFits};
 
 use crate::fault::PageFault;
@@ -45,7 +44,7 @@ fn parse(alloc: Global, text: &str) -> Result<Value, PageFault>
 
 /// The items of an object with an array `entries`.
 fn items_in(value: &Value) -> Option<&Vec<Value>>
-    ensures { option_map (λ v. items_view v.now.items) result ≡ option_and_then as_array (get (codes "entries") (view value.now)) }
+    ensures { option_map (λ v. items_view v.now.items) result ≡ listed_items (view value.now) }
 {
     value.get("entries").and_then(Value::as_array)
 }
