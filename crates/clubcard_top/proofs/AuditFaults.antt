@@ -16,6 +16,7 @@ use Rattle.audit_core.specs.Auditing.{entries_of}
 use Rattle.word_core.specs.declared.command.Audit.{Audit}
 use Rattle.input_core.specs.declared.fault.FileFault.{FileFault}
 use Rattle.input_core.specs.declared.fault.FileFault.TheVariants as faults
+use Rattle.input_core.specs.Inputs.{Inputs}
 use Rattle.input_core.specs.Readings.{job_in}
 use Rattle.clubcard_top.specs.ReplyFields.{Done, NamedFault}
 use Rattle.clubcard_top.specs.Faults.{of_admission}
@@ -100,7 +101,7 @@ stop_by names (Ok jobs) e h u = absurd (crl_stop (bad_crl names jobs) jobs e (cr
 stop_by names (Err f) e h u = sym h
 
 -- where a job can't be read, it is one that was read for the audit
-pub jobs_stop : (names : List (List ℕ)) (inputs : List (Option (List ℕ))) (e : NamedFault) → audit_jobs names inputs ≡ Err e → e.fault ≡ faults.Unread → Err e ≡ jobs_behind [] names inputs
+pub jobs_stop : (names : List (List ℕ)) (inputs : Inputs) (e : NamedFault) → audit_jobs names inputs ≡ Err e → e.fault ≡ faults.Unread → Err e ≡ jobs_behind [] names inputs
 jobs_stop names inputs e h u = stop_by names (jobs_behind [] names inputs) e h u
 
 -- ---- what is found

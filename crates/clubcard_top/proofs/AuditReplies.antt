@@ -1,8 +1,8 @@
 -- Jobs that are read for an audit file by file, and the reply of `audit`.
-use Rattle.std.proofs.Common.{◌≡◌, ℕ, ◌+◌, ◌<◌, ◌≤◌, inl, List, [], ◌∷◌, ◌++◌, take, drop, get_or, length, append_assoc, length-append, Option, None, Result, Ok}
+use Rattle.std.proofs.Common.{◌≡◌, ℕ, ◌+◌, ◌<◌, ◌≤◌, inl, List, [], ◌∷◌, drop, get_or, length, length-append, Option, None, Result, Ok}
 use Rattle.std.proofs.Common.{Err, IfOk, refl, sym, ap, ◌∙◌, subst, arith}
 use Rattle.std.specs.Prelude.{IsErr}
-use Rattle.std.proofs.lemmas.List.{append-nil, take_more, drop_more, take_all, drop_all, take-append-drop}
+use Rattle.std.proofs.lemmas.List.{drop_all}
 use Rattle.octets_core.specs.declared.memory.NoMemory.{NoMemory}
 use Rattle.outside_core.specs.declared.depot.Depot.{Ghosts}
 use Rattle.outside_core.specs.Effects.{OnlyReads}
@@ -19,30 +19,28 @@ use Rattle.input_core.specs.Readings.{store_in, input_as}
 use Rattle.clubcard_top.specs.Outcomes.{◌>>=◌, named, input}
 use Rattle.clubcard_top.specs.Audits.{unless, job_behind, jobs_behind, bad_crl, audit_jobs, MakesAudit}
 use Rattle.outside_core.specs.Reads.{WhichFailed}
-use Rattle.input_core.specs.Inputs.{IsRead, AreRead, IsInput}
+use Rattle.input_core.specs.Inputs.{Inputs, IsRead, IsInput}
 use Rattle.clubcard_top.specs.AuditJobs.{IsAdded, IsNotAdded, AreAdded, AreNotAdded}
 use Rattle.clubcard_top.specs.Replies.{refusal, reply_of, IsReply}
 use Rattle.clubcard_top.specs.Answering.{reply_fields}
 use Rattle.outside_core.proofs.Effects.{WhichFailed-then}
 use Rattle.input_core.proofs.FilesRead.{later_read, none_failed, blamed_later}
 use Rattle.clubcard_top.proofs.AuditsMade.{behind_next, behind_stop}
+use Rattle.clubcard_top.proofs.Fronts.{no_inputs, ahead, these, ahead_push, nothing, later_reads, some_reads, Front, no_front, from_place, is_among, front_more, read_on, front_all}
 use Rattle.clubcard_top.proofs.Replying.{read_well, blames_file, says_wider, made, made_unless}
-use Rattle.clubcard_top.proofs.Rehearsal.{nothing, wider_all, read_both, some_reads, at_among}
 
 -- ---- the first files
 
 -- The first files were read and counted, and what comes of the rest behind them comes of all.
 pub record Gone (told : Option Files) (names : List (List ℕ)) (i : ℕ) (jobs : List JobFields) : Type 0 where
-  pub inputs : List (Option (List ℕ))
-  pub read : AreRead told nothing (take i names) inputs
+  pub front : Front told names i
   pub many : length jobs ≡ i
-  pub next : (rest : List (Option (List ℕ))) → jobs_behind [] names (inputs ++ rest) ≡ jobs_behind jobs (drop i names) rest
+  pub next : (rest : Inputs) → jobs_behind [] names (ahead front.inputs rest) ≡ jobs_behind jobs (drop i names) rest
 
 module _ (told : Option Files) (names : List (List ℕ)) where
   pub none_gone : (jobs : List JobFields) → jobs ≡ [] → Gone told names 0 jobs
   none_gone jobs none = record {
-    inputs = [];
-    read = tt;
+    front = no_front told names;
     many = ap (λ (l : List JobFields). length l) none;
     next = λ rest. ap (λ (l : List JobFields). jobs_behind l names rest) (sym none);
   }
@@ -50,14 +48,9 @@ module _ (told : Option Files) (names : List (List ℕ)) where
   -- the file at a place, behind the first ones
   module _ (here : Option (List ℕ) → Type 0) (mid : Option Files) (same : mid ≡ told) (i : ℕ) (name : List ℕ)
       (lt : i < length names) (is : name ≡ get_or names i name) (jobs : List JobFields) (gone : Gone told names i jobs) where
-    up_to : take (i + 1) names ≡ take i names ++ name ∷ []
-    up_to = take_more names i name lt ∙ ap (λ (n : List ℕ). take i names ++ n ∷ []) (sym is)
-
-    from_place : drop i names ≡ name ∷ drop (i + 1) names
-    from_place = drop_more names i name lt ∙ ap (λ (n : List ℕ). n ∷ drop (i + 1) names) (sym is)
-
-    next_is : (g : Option (List ℕ)) (rest : List (Option (List ℕ))) → jobs_behind [] names (gone.inputs ++ g ∷ rest) ≡ jobs_behind jobs (name ∷ drop (i + 1) names) (g ∷ rest)
-    next_is g rest = gone.next (g ∷ rest) ∙ ap (λ (ns : List (List ℕ)). jobs_behind jobs ns (g ∷ rest)) from_place
+    next_is : (g : Option (List ℕ)) (rest : Inputs)
+        → jobs_behind [] names (ahead gone.front.inputs (ahead (g ∷ []) rest)) ≡ jobs_behind jobs (name ∷ drop (i + 1) names) (ahead (g ∷ []) rest)
+    next_is g rest = gone.next (ahead (g ∷ []) rest) ∙ ap (λ (ns : List (List ℕ)). jobs_behind jobs ns (ahead (g ∷ []) rest)) (from_place told names i name lt is)
 
     pub gone_more : (after : List JobFields) → IsAdded mid here name jobs after → Gone told names (i + 1) after
     gone_more after a =
@@ -65,14 +58,12 @@ module _ (told : Option Files) (names : List (List ℕ)) where
         let grown = ap (λ (l : List JobFields). length l) a.grown in
         let many = gone.many in
         record {
-          inputs = gone.inputs ++ a.given ∷ [];
-          read = subst (λ (ns : List (List ℕ)). AreRead told nothing ns (gone.inputs ++ a.given ∷ [])) (sym up_to)
-              (read_both told nothing (take i names) (name ∷ []) gone.inputs (a.given ∷ []) gone.read
-              (subst (λ (t : Option Files). IsRead t nothing name a.given) same (read_well mid here nothing name (job_behind jobs) a.given a.job a.gives a.read), tt));
+          front = front_more told names i name lt is gone.front a.given
+              (subst (λ (t : Option Files). IsRead t nothing name a.given) same (read_well mid here nothing name (job_behind jobs) a.given a.job a.gives a.read));
           many = omega (arith, size, grown, many);
           next = λ rest.
-              ap (λ (gs : List (Option (List ℕ))). jobs_behind [] names gs) (append_assoc gone.inputs (a.given ∷ []) rest)
-              ∙ next_is a.given rest ∙ behind_next jobs name (drop (i + 1) names) a.given rest a.job a.gives
+              ap (λ (gs : Inputs). jobs_behind [] names gs) (ahead_push gone.front.inputs a.given rest)
+              ∙ next_is a.given rest ∙ behind_next jobs name (drop (i + 1) names) (ahead (a.given ∷ []) rest) a.job a.gives
               ∙ ap (λ (l : List JobFields). jobs_behind l (drop (i + 1) names) rest) (sym a.grown);
         }
 
@@ -82,15 +73,11 @@ module _ (told : Option Files) (names : List (List ℕ)) where
     gone_refused later fault wider n =
         let rest = some_reads told later (drop (i + 1) names) in
         record {
-          inputs = gone.inputs ++ n.given ∷ rest.0;
-          read = subst (λ (ns : List (List ℕ)). AreRead told later ns (gone.inputs ++ n.given ∷ rest.0))
-              (ap (λ (ns : List (List ℕ)). take i names ++ ns) (sym from_place) ∙ take-append-drop i names)
-              (read_both told later (take i names) (name ∷ drop (i + 1) names) gone.inputs (n.given ∷ rest.0)
-              (wider_all told nothing later (take i names) gone.inputs (λ which none. absurd none) gone.read)
-              (later_read told mid here later name n.given same wider n.read, rest.1));
-          blames = blames_file {A = JobFields} later names name fault (at_among names i name (drop (i + 1) names) from_place)
+          inputs = ahead gone.front.inputs (ahead (n.given ∷ []) rest.0);
+          read = read_on told names i name lt is gone.front n.given later (later_read told mid here later name n.given same wider n.read) rest.0 rest.1;
+          blames = blames_file {A = JobFields} later names name fault (is_among told names i name lt is)
               (blamed_later {A = JobFields} here later name faults.Unread (Err fault) wider n.blamed);
-          makes = next_is n.given rest.0 ∙ behind_stop jobs name (drop (i + 1) names) n.given rest.0 fault n.gives;
+          makes = next_is n.given rest.0 ∙ behind_stop jobs name (drop (i + 1) names) (ahead (n.given ∷ []) rest.0) fault n.gives;
         }
 
   -- all files are gone
@@ -98,12 +85,10 @@ module _ (told : Option Files) (names : List (List ℕ)) where
   gone_all failed i jobs up le gone none =
       let many = gone.many in
       record {
-        inputs = gone.inputs;
-        read = subst (λ (ns : List (List ℕ)). AreRead told failed ns gone.inputs) (take_all i names le)
-            (wider_all told nothing failed (take i names) gone.inputs (λ which refute. absurd refute) gone.read);
+        inputs = these gone.front.inputs;
+        read = front_all told names failed i le gone.front;
         none_failed = none;
-        makes = ap (λ (gs : List (Option (List ℕ))). jobs_behind [] names gs) (sym (append-nil gone.inputs)) ∙ gone.next []
-            ∙ ap (λ (ns : List (List ℕ)). jobs_behind jobs ns []) (drop_all i names le);
+        makes = gone.next no_inputs ∙ ap (λ (ns : List (List ℕ)). jobs_behind jobs ns no_inputs) (drop_all i names le);
         many = omega (arith, up, le, many);
       }
 
@@ -116,7 +101,7 @@ pub audit_refused : {B : Type 0} (told : Option Files) (failed : Option (List �
 audit_refused told failed r a view fault (g, read, gives, blamed) memory is =
     let rest = some_reads told failed a.jobs in
     let e : NamedFault = record { name = a.store; fault = fault } in
-    made_unless (commands.Audit a) told failed (g ∷ rest.0) a.store fault r (read, rest.1)
+    made_unless (commands.Audit a) told failed (ahead (g ∷ []) rest.0) a.store fault r (read, rest.1)
     (blames_file failed (a.store ∷ a.jobs) a.store fault (inl refl) blamed)
     (λ refute. subst (λ (x : Result (List SealedFields) FileFault). MakesAudit a (named a.store x) (audit_jobs a.jobs rest.0) (Err e)) (sym (gives refute)) refl) memory is
 
@@ -130,12 +115,7 @@ module _ {D : Type 0} (d : Ghosts D) (old mid new : D) (reads_ : OnlyReads d old
   abbrev Each : Option (List ℕ) → Type 0
   Each = WhichFailed d old new
 
-  jobs_read : (inputs : List (Option (List ℕ))) → First None → AreRead (d.files mid) Others a.jobs inputs → AreRead (d.files old) Each a.jobs inputs
-  jobs_read inputs well read =
-      wider_all (d.files old) Others Each a.jobs inputs (WhichFailed-then d old mid new reads_ well)
-      (subst (λ (k : Option Files). AreRead k Others a.jobs inputs) reads_.same_files read)
-
-  step : (g : Option (List ℕ)) (inputs : List (Option (List ℕ))) (jobs : Result (List JobFields) NamedFault) (o : Result Done NamedFault) → input_as store_in g ≡ Ok parts
+  step : (g : Option (List ℕ)) (inputs : Inputs) (jobs : Result (List JobFields) NamedFault) (o : Result Done NamedFault) → input_as store_in g ≡ Ok parts
       → jobs_behind [] a.jobs inputs ≡ jobs → MakesAudit a (Ok parts) (jobs >>= (λ js. unless (bad_crl a.jobs js) js)) o
       → MakesAudit a (input a.store store_in g) (audit_jobs a.jobs inputs) o
   step g inputs jobs o gives is m =
@@ -150,8 +130,8 @@ module _ {D : Type 0} (d : Ghosts D) (old mid new : D) (reads_ : OnlyReads d old
       let n = refused (λ none. let h : IsErr {T = Answer} {E = NoMemory} (Ok b) = memory none in cc) in
       let well = none_failed First a.store faults.Unread parts blamed in
       let e : NamedFault = record { name = name; fault = fault } in
-      made (commands.Audit a) (d.files old) Each (g ∷ n.inputs) (Err e) (Ok b)
-      (read_well (d.files old) First Each a.store store_in g parts gives read, jobs_read n.inputs well n.read)
+      made (commands.Audit a) (d.files old) Each (ahead (g ∷ []) n.inputs) (Err e) (Ok b)
+      (read_well (d.files old) First Each a.store store_in g parts gives read, later_reads (d.files old) (d.files mid) Others Each a.jobs n.inputs reads_.same_files (WhichFailed-then d old mid new reads_ well) n.read)
       (says_wider Others Each a.store a.jobs (refusal name fault) (WhichFailed-then d old mid new reads_ well) n.blames) (step g n.inputs (Err e) (Err e) gives n.makes refl) is
   audit_not name fault in_ refused (Err e) memory is = tt
 
@@ -163,7 +143,7 @@ module _ {D : Type 0} (d : Ghosts D) (old mid new : D) (reads_ : OnlyReads d old
   audit_made (Ok b) jobs (g, read, gives, blamed) n (o, m, is) =
       let well = none_failed First a.store faults.Unread parts blamed in
       let none = WhichFailed-then d old mid new reads_ well None n.none_failed in
-      made (commands.Audit a) (d.files old) Each (g ∷ n.inputs) o (Ok b)
-      (read_well (d.files old) First Each a.store store_in g parts gives read, jobs_read n.inputs well n.read)
+      made (commands.Audit a) (d.files old) Each (ahead (g ∷ []) n.inputs) o (Ok b)
+      (read_well (d.files old) First Each a.store store_in g parts gives read, later_reads (d.files old) (d.files mid) Others Each a.jobs n.inputs reads_.same_files (WhichFailed-then d old mid new reads_ well) n.read)
       (inl none) (step g n.inputs (Ok jobs) o gives n.makes m) is
   audit_made (Err e) jobs in_ n h = tt

@@ -25,6 +25,7 @@ use Rattle.audit_core.specs.Auditing.{releases_of, entries_of, AreAdmitted, AllA
 use Rattle.word_core.specs.declared.command.Audit.{Audit}
 use Rattle.input_core.specs.declared.fault.FileFault.{FileFault}
 use Rattle.input_core.specs.declared.fault.FileFault.TheVariants as faults
+use Rattle.input_core.specs.Inputs.{Inputs, rest_of}
 use Rattle.input_core.specs.Readings.{job_in, input_as}
 use Rattle.clubcard_top.specs.ReplyFields.{Done, NamedFault}
 use Rattle.clubcard_top.specs.Faults.{of_admission}
@@ -120,18 +121,18 @@ behind_fault before None fault h = ap (λ (f : FileFault). Err f) (unread_is fau
 behind_fault before (Some bytes) fault h = ap (counted before) h
 
 -- one file more is read
-pub behind_next : (before : List JobFields) (name : List ℕ) (names : List (List ℕ)) (given : Option (List ℕ)) (inputs : List (Option (List ℕ))) (job : JobFields)
-    → input_as (job_behind before) given ≡ Ok job → jobs_behind before (name ∷ names) (given ∷ inputs) ≡ jobs_behind (before ++ job ∷ []) names inputs
-behind_next before name names given inputs job h = ap (λ (r : Result JobFields FileFault). named name r >>= (λ j. jobs_behind (before ++ j ∷ []) names inputs)) h
+pub behind_next : (before : List JobFields) (name : List ℕ) (names : List (List ℕ)) (inputs : Inputs) (job : JobFields)
+    → input_as (job_behind before) (inputs 0) ≡ Ok job → jobs_behind before (name ∷ names) inputs ≡ jobs_behind (before ++ job ∷ []) names (rest_of inputs)
+behind_next before name names inputs job h = ap (λ (r : Result JobFields FileFault). named name r >>= (λ j. jobs_behind (before ++ j ∷ []) names (rest_of inputs))) h
 
-pub behind_stop : (before : List JobFields) (name : List ℕ) (names : List (List ℕ)) (given : Option (List ℕ)) (inputs : List (Option (List ℕ))) (fault : FileFault)
-    → input_as (job_behind before) given ≡ Err fault → jobs_behind before (name ∷ names) (given ∷ inputs) ≡ Err (record { name = name; fault = fault })
-behind_stop before name names given inputs fault h = ap (λ (r : Result JobFields FileFault). named name r >>= (λ j. jobs_behind (before ++ j ∷ []) names inputs)) h
+pub behind_stop : (before : List JobFields) (name : List ℕ) (names : List (List ℕ)) (inputs : Inputs) (fault : FileFault)
+    → input_as (job_behind before) (inputs 0) ≡ Err fault → jobs_behind before (name ∷ names) inputs ≡ Err (record { name = name; fault = fault })
+behind_stop before name names inputs fault h = ap (λ (r : Result JobFields FileFault). named name r >>= (λ j. jobs_behind (before ++ j ∷ []) names (rest_of inputs))) h
 
 -- ---- all jobs
 
 -- the jobs that were read behind others, and their limits
-pub record Behind (before : List JobFields) (names : List (List ℕ)) (inputs : List (Option (List ℕ))) (jobs : List JobFields) : Type 0 where
+pub record Behind (before : List JobFields) (names : List (List ℕ)) (inputs : Inputs) (jobs : List JobFields) : Type 0 where
   pub rest : List JobFields
   pub grown : jobs ≡ before ++ rest
   pub are : AreJobs names inputs rest
@@ -142,17 +143,15 @@ first_input : {A B : Type 0} (r : Result A NamedFault) (next : A → Result B Na
 first_input (Ok x) next y h = (x, refl, h)
 first_input (Err e) next y h = absurd (not_ok y e h)
 
-pub behind_jobs : (before : List JobFields) (names : List (List ℕ)) (inputs : List (Option (List ℕ))) (jobs : List JobFields) → length inputs ≡ length names
+pub behind_jobs : (before : List JobFields) (names : List (List ℕ)) (inputs : Inputs) (jobs : List JobFields)
     → jobs_behind before names inputs ≡ Ok jobs → Behind before names inputs jobs
-behind_jobs before [] [] jobs many h =
+behind_jobs before [] inputs jobs h =
     let same = ok_same {E = NamedFault} before jobs h in
     record { rest = []; grown = sym same ∙ sym (append-nil before); are = tt; many = refl; within = λ w. subst AreWithinLimits same w }
-behind_jobs before [] (g ∷ inputs) jobs many h = absurd (omega (arith, many))
-behind_jobs before (name ∷ names) [] jobs many h = absurd (omega (arith, many))
-behind_jobs before (name ∷ names) (g ∷ inputs) jobs many h =
-    let one = first_input (input name (job_behind before) g) (λ j. jobs_behind (before ++ j ∷ []) names inputs) jobs h in
-    let read = behind_read before g one.0 (named_value name (input_as (job_behind before) g) one.0 one.1) in
-    let others = behind_jobs (before ++ one.0 ∷ []) names inputs jobs (omega (arith, many)) one.2 in
+behind_jobs before (name ∷ names) inputs jobs h =
+    let one = first_input (input name (job_behind before) (inputs 0)) (λ j. jobs_behind (before ++ j ∷ []) names (rest_of inputs)) jobs h in
+    let read = behind_read before (inputs 0) one.0 (named_value name (input_as (job_behind before) (inputs 0)) one.0 one.1) in
+    let others = behind_jobs (before ++ one.0 ∷ []) names (rest_of inputs) jobs one.2 in
     record {
       rest = one.0 ∷ others.rest;
       grown = others.grown ∙ append_assoc before (one.0 ∷ []) others.rest;
@@ -162,21 +161,19 @@ behind_jobs before (name ∷ names) (g ∷ inputs) jobs many h =
     }
 
 -- and back
-pub jobs_back : (before : List JobFields) (names : List (List ℕ)) (inputs : List (Option (List ℕ))) (rest : List JobFields) → AreJobs names inputs rest
+pub jobs_back : (before : List JobFields) (names : List (List ℕ)) (inputs : Inputs) (rest : List JobFields) → AreJobs names inputs rest
     → AreWithinLimits (before ++ rest) → jobs_behind before names inputs ≡ Ok (before ++ rest)
-jobs_back before [] [] [] are w = ap (λ (l : List JobFields). Ok l) (sym (append-nil before))
-jobs_back before [] [] (j ∷ rest) are w = absurd are
-jobs_back before [] (g ∷ inputs) rest are w = absurd are
-jobs_back before (name ∷ names) [] rest are w = absurd are
-jobs_back before (name ∷ names) (g ∷ inputs) [] are w = absurd are
-jobs_back before (name ∷ names) (g ∷ inputs) (j ∷ rest) are w =
+jobs_back before [] inputs [] are w = ap (λ (l : List JobFields). Ok l) (sym (append-nil before))
+jobs_back before [] inputs (j ∷ rest) are w = absurd are
+jobs_back before (name ∷ names) inputs [] are w = absurd are
+jobs_back before (name ∷ names) inputs (j ∷ rest) are w =
     let whole = append_assoc before (j ∷ []) rest in
     let few : AreWithinLimits ((before ++ j ∷ []) ++ rest) = subst AreWithinLimits (sym whole) w in
     let e = entries_both (before ++ j ∷ []) rest in
     let s = serials_both (before ++ j ∷ []) rest in
     let none = none_passed (before ++ j ∷ []) (omega (arith, e, few.entries)) (omega (arith, s, few.serials)) in
-    behind_next before name names g inputs j (behind_within before g j (named_value name (input_as job_in g) j are.0) none)
-    ∙ jobs_back (before ++ j ∷ []) names inputs rest are.1 few ∙ ap (λ (l : List JobFields). Ok l) whole
+    behind_next before name names inputs j (behind_within before (inputs 0) j (named_value name (input_as job_in (inputs 0)) j are.0) none)
+    ∙ jobs_back (before ++ j ∷ []) names (rest_of inputs) rest are.1 few ∙ ap (λ (l : List JobFields). Ok l) whole
 
 -- ---- CRLs that aren't accepted
 
@@ -231,7 +228,7 @@ accepted_none (name ∷ names) (j ∷ jobs) h =
 -- ---- the jobs of an audit
 
 -- the jobs that were read are these, within the limits, and their CRLs are accepted
-pub record AuditsJobs (names : List (List ℕ)) (inputs : List (Option (List ℕ))) (jobs : List JobFields) : Type 0 where
+pub record AuditsJobs (names : List (List ℕ)) (inputs : Inputs) (jobs : List JobFields) : Type 0 where
   pub are : AreJobs names inputs jobs
   pub many : length jobs ≡ length names
   pub within : AreWithinLimits jobs
@@ -240,12 +237,12 @@ pub record AuditsJobs (names : List (List ℕ)) (inputs : List (Option (List ℕ
 no_jobs : AreWithinLimits []
 no_jobs = record { entries = omega arith; serials = omega arith }
 
-pub audit_jobs_are : (names : List (List ℕ)) (inputs : List (Option (List ℕ))) (jobs : List JobFields) → length inputs ≡ length names
+pub audit_jobs_are : (names : List (List ℕ)) (inputs : Inputs) (jobs : List JobFields)
     → audit_jobs names inputs ≡ Ok jobs → AuditsJobs names inputs jobs
-audit_jobs_are names inputs jobs same h =
+audit_jobs_are names inputs jobs h =
     let read = first_input (jobs_behind [] names inputs) (λ js. unless (bad_crl names js) js) jobs h in
     let u = unless_ok (bad_crl names read.0) read.0 jobs read.2 in
-    let b = behind_jobs [] names inputs read.0 same read.1 in
+    let b = behind_jobs [] names inputs read.0 read.1 in
     let is : b.rest ≡ jobs = sym b.grown ∙ u.1 in
     let many : length jobs ≡ length names = ap (λ (l : List JobFields). length l) (sym is) ∙ b.many in
     record {
@@ -255,7 +252,7 @@ audit_jobs_are names inputs jobs same h =
       accepted = jobs_ok names jobs many (ap (bad_crl names) (sym u.1) ∙ u.0);
     }
 
-pub audit_jobs_back : (names : List (List ℕ)) (inputs : List (Option (List ℕ))) (jobs : List JobFields) → AreJobs names inputs jobs → AreWithinLimits jobs → AreAccepted jobs
+pub audit_jobs_back : (names : List (List ℕ)) (inputs : Inputs) (jobs : List JobFields) → AreJobs names inputs jobs → AreWithinLimits jobs → AreAccepted jobs
     → audit_jobs names inputs ≡ Ok jobs
 audit_jobs_back names inputs jobs are w accepted =
     ap (λ (r : Result (List JobFields) NamedFault). r >>= (λ js. unless (bad_crl names js) js)) (jobs_back [] names inputs jobs are w)
@@ -264,7 +261,7 @@ audit_jobs_back names inputs jobs are w accepted =
 -- ---- what a success is
 
 -- what an audit that was done found
-pub record IsDone (a : Audit) (r : Result (List SealedFields) NamedFault) (inputs : List (Option (List ℕ))) (d : Done) : Type 0 where
+pub record IsDone (a : Audit) (r : Result (List SealedFields) NamedFault) (inputs : Inputs) (d : Done) : Type 0 where
   pub parts : List SealedFields
   pub jobs : List JobFields
   pub store : r ≡ Ok parts
@@ -279,10 +276,10 @@ found_done a parts jobs (Ok found) d is h =
     (is.0, is.1, ok_same {E = NamedFault} d (audit_done jobs found) h ∙ ap (λ (n : ℕ). audit_done jobs (record { entries = n })) is.2)
 found_done a parts jobs (Err fault) d is h = absurd (not_err d (of_audit a fault) h)
 
-done_by : (a : Audit) (r : Result (List SealedFields) NamedFault) (inputs : List (Option (List ℕ))) (j : Result (List JobFields) NamedFault) (d : Done)
-    → length inputs ≡ length a.jobs → audit_jobs a.jobs inputs ≡ j → MakesAudit a r j (Ok d) → IsDone a r inputs d
-done_by a (Ok parts) inputs (Ok jobs) d same is m =
-    let f = audit_jobs_are a.jobs inputs jobs same is in
+done_by : (a : Audit) (r : Result (List SealedFields) NamedFault) (inputs : Inputs) (j : Result (List JobFields) NamedFault) (d : Done)
+    → audit_jobs a.jobs inputs ≡ j → MakesAudit a r j (Ok d) → IsDone a r inputs d
+done_by a (Ok parts) inputs (Ok jobs) d is m =
+    let f = audit_jobs_are a.jobs inputs jobs is in
     let done = found_done a parts jobs m.result d m.found m.is in
     record {
       parts = parts;
@@ -292,12 +289,12 @@ done_by a (Ok parts) inputs (Ok jobs) d same is m =
       audited = record { crls = f.accepted; admitted = done.0; agree = done.1 };
       said = done.2;
     }
-done_by a (Ok parts) inputs (Err e) d same is m = absurd (not_err d e m)
-done_by a (Err e) inputs j d same is m = absurd (not_err d e m)
+done_by a (Ok parts) inputs (Err e) d is m = absurd (not_err d e m)
+done_by a (Err e) inputs j d is m = absurd (not_err d e m)
 
-pub audit_done_is : (a : Audit) (r : Result (List SealedFields) NamedFault) (inputs : List (Option (List ℕ))) (d : Done) → length inputs ≡ length a.jobs
+pub audit_done_is : (a : Audit) (r : Result (List SealedFields) NamedFault) (inputs : Inputs) (d : Done)
     → MakesAudit a r (audit_jobs a.jobs inputs) (Ok d) → IsDone a r inputs d
-audit_done_is a r inputs d same m = done_by a r inputs (audit_jobs a.jobs inputs) d same refl m
+audit_done_is a r inputs d m = done_by a r inputs (audit_jobs a.jobs inputs) d refl m
 
 -- and back
 pub audit_makes : (a : Audit) (parts : List SealedFields) (jobs : List JobFields) → IsAudited parts jobs

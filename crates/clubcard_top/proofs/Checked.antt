@@ -16,6 +16,7 @@ use Rattle.word_core.specs.declared.command.Command.TheVariants as commands
 use Rattle.clubcard_top.specs.Commands.{◌>>=◌, named, only, check_done, check_makes}
 use Rattle.clubcard_top.specs.Replies.{done, refusal, reply_of, SaysWhich, IsReply}
 use Rattle.clubcard_top.specs.Answering.{scan_reply}
+use Rattle.clubcard_top.proofs.Fronts.{these}
 
 ok_note : (m n : PartNote) → ◌≡◌ {A = Result PartNote FileFault} (Ok m) (Ok n) → m ≡ n
 ok_note m n is = cc
@@ -37,4 +38,4 @@ says_by failed name r (inr (is, why)) = inr (name, inl refl, ap (scan_reply name
 pub check_scanned : (told : Option Files) (failed : Option (List ℕ) → Type 0) (name : List ℕ) (r : Result PartNote ScanFault) → IsScan told failed name r
     → IsReply (commands.Check name) told failed (scan_reply name r)
 check_scanned told failed name r (given, read, is, blamed) =
-    (given ∷ [], (read, tt), inr (check_makes name given, refl, reply_by name (input_as part_in given) r is), says_by failed name r blamed)
+    (these (given ∷ []), (read, λ i. refl), inr (check_makes name given, refl, reply_by name (input_as part_in given) r is), says_by failed name r blamed)

@@ -11,7 +11,7 @@ use Rattle.input_core.specs.declared.fault.FileFault.{FileFault}
 use Rattle.input_core.specs.declared.fault.FileFault.TheVariants as faults
 use Rattle.clubcard_top.specs.ReplyFields.{OutputFields, ReplyFields, Done, NamedFault}
 use Rattle.clubcard_top.specs.Statuses.{is_one_of, all, of_replies}
-use Rattle.input_core.specs.Inputs.{AreRead}
+use Rattle.input_core.specs.Inputs.{Inputs, AreRead}
 use Rattle.clubcard_top.specs.Commands.{Makes}
 use Rattle.clubcard_top.specs.Replies.{usage, read_fault, write_fault, refusal, reply_of, IsReplyOver, SaysWhich, IsReply}
 use Rattle.clubcard_top.specs.Runs.{IsTorn, KeepsAllBut, with_outputs}
@@ -57,7 +57,7 @@ AreOf names outputs = (names_of outputs ≡ names) ⊎ (outputs ≡ [])
 outputs_as : (reply other : ReplyFields) → reply ≡ other → reply.outputs ≡ other.outputs
 outputs_as reply other is = ap (λ (r : ReplyFields). r.outputs) is
 
-module _ (c : Command) (inputs : List (Option (List ℕ))) (reply : ReplyFields) where
+module _ (c : Command) (inputs : Inputs) (reply : ReplyFields) where
   quiet_by : (o : Result Done NamedFault) → reply ≡ reply_of o → (reply.status ≡ 0 → ⊥) → reply.outputs ≡ []
   quiet_by (Ok d) is not = absurd (not (ap (λ (r : ReplyFields). r.status) is))
   quiet_by (Err e) is not = outputs_as reply (refusal e.name e.fault) is ∙ refusal_quiet e.name e.fault
@@ -166,7 +166,7 @@ module _ (call : Call) where
 
   -- ---- its lines
 
-  usage_by : (reply : ReplyFields) → Gives call reply → call.status ≡ 2 → (inputs : List (Option (List ℕ))) → IsReplyOver call.asked inputs reply
+  usage_by : (reply : ReplyFields) → Gives call reply → call.status ≡ 2 → (inputs : Inputs) → IsReplyOver call.asked inputs reply
       → (call.asked ≡ commands.Usage) × Prints call usage.text
   usage_by reply g two inputs (inl (none, is)) = (none, g.text ∙ ap (λ (r : ReplyFields). followed_by call.text_before r.text) is)
   usage_by reply g two inputs (inr (o, m, is)) =
@@ -191,14 +191,14 @@ module _ (call : Call) where
   unread_cause_of name none (inr missing) = inr (missing, none)
 
   -- where no read failed
-  unread_by : (reply : ReplyFields) → Gives call reply → call.failed None → (e : NamedFault) (inputs : List (Option (List ℕ)))
+  unread_by : (reply : ReplyFields) → Gives call reply → call.failed None → (e : NamedFault) (inputs : Inputs)
       → AreRead call.files_before call.failed (inputs_of call.asked) inputs → Makes call.asked inputs (Err e) → reply ≡ refusal e.name e.fault → e.fault ≡ faults.Unread
       → IsUnread
   unread_by reply g none e inputs read m is unread =
       let cause = unread_cause call.files_before call.failed e unread call.asked inputs read m in
       (e.name, cause.0, unread_cause_of e.name none cause.1, g.text ∙ ap (λ (r : ReplyFields). followed_by call.text_before r.text) (is ∙ ap (refusal e.name) unread))
 
-  unread_over : (reply : ReplyFields) → Gives call reply → call.failed None → call.status ≡ 8 → (inputs : List (Option (List ℕ)))
+  unread_over : (reply : ReplyFields) → Gives call reply → call.failed None → call.status ≡ 8 → (inputs : Inputs)
       → AreRead call.files_before call.failed (inputs_of call.asked) inputs → IsReplyOver call.asked inputs reply → IsUnread
   unread_over reply g none eight inputs read (inl (refute, is)) = other_reply reply usage g is eight (λ e. omega (arith, e))
   unread_over reply g none eight inputs read (inr (Ok d, m, is)) = other_reply reply (reply_of (Ok d)) g is eight (λ e. omega (arith, e))

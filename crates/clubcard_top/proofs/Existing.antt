@@ -1,5 +1,5 @@
 -- Something comes of each command, whatever its files hold.
-use Rattle.std.proofs.Common.{◌≡◌, ◌≢◌, ◌≤◌, ℕ, inl, inr, List, [], ◌∷◌, ◌++◌, map, length, Option, Some, None, Result, Ok, Err, refl, sym, subst, arith}
+use Rattle.std.proofs.Common.{◌≡◌, ◌≢◌, ◌≤◌, ℕ, suc, inl, inr, List, [], ◌∷◌, ◌++◌, map, length, Option, Some, None, Result, Ok, Err, refl, sym, subst, arith}
 use Rattle.std.specs.List.{All}
 use Rattle.std.specs.Prelude.{IsOk}
 use Rattle.std.proofs.lemmas.List.Elements.{All-nil, All-cons, All-head, All-tail}
@@ -29,7 +29,8 @@ use Rattle.audit_core.specs.declared.fault.AuditFault.TheVariants.{NoMemory}
 use Rattle.audit_core.specs.Auditing.{IsAuditable, entries_of, IsFound}
 use Rattle.word_core.specs.declared.command.{Snapshot.Snapshot, Delta.Delta, Rebase.Rebase, Rehearse.Rehearse}
 use Rattle.word_core.specs.declared.command.{Audit.Audit}
-use Rattle.word_core.specs.Names.{HasFewJobs, inputs_of}
+use Rattle.word_core.specs.Names.{HasFewJobs}
+use Rattle.input_core.specs.Inputs.{Inputs, rest_of}
 use Rattle.input_core.specs.Readings.{queries_in, job_in, ledger_in, store_in}
 use Rattle.clubcard_top.specs.ReplyFields.{Done, NamedFault, ReplyFields}
 use Rattle.clubcard_top.specs.Faults.{of_publishing}
@@ -39,7 +40,7 @@ use Rattle.clubcard_top.specs.Commands.{AreJobs}
 use Rattle.clubcard_top.specs.Audits.{audit_jobs, audited_as, MakesAudit}
 use Rattle.clubcard_top.specs.Rebasings.{rebased_as, MakesRebase}
 use Rattle.clubcard_top.specs.Steps.{RehearsesOn}
-use Rattle.clubcard_top.specs.Replies.{usage, reply_of, IsReplyOver, IsOctets}
+use Rattle.clubcard_top.specs.Replies.{usage, reply_of, IsReplyOver, IsOctets, AreOctets}
 use Rattle.clubcard_top.proofs.AuditsMade.{AreAccepted, audit_jobs_are}
 use Rattle.clubcard_top.proofs.Chains.{chain_push}
 use Rattle.clubcard_top.proofs.Prefixes.{first_of}
@@ -92,49 +93,47 @@ module _ (layers : Existence) where
 
   -- ---- rehearsing
 
-  abbrev On : List Query → List JobFields → List SealedFields → List (List ℕ) → List (Option (List ℕ)) → Type 0
+  abbrev On : List Query → List JobFields → List SealedFields → List (List ℕ) → Inputs → Type 0
   On queries jobs parts names inputs = (o : Result Done NamedFault) × RehearsesOn queries jobs parts names inputs o
 
   -- a job that was read goes on, or is refused
-  job_on : (queries : List Query) (jobs : List JobFields) (parts : List SealedFields) (name : List ℕ) (names : List (List ℕ)) (given : Option (List ℕ))
-      (inputs : List (Option (List ℕ))) (job : JobFields) → input name job_in given ≡ Ok job → FitsFields job × IsWithinLimits PUBLISHED job → IsHistory (chain jobs) parts
-      → ((more : List SealedFields) → IsHistory (chain (jobs ++ job ∷ [])) more → On queries (jobs ++ job ∷ []) more names inputs)
-      → (r : Result PublicationFields PublishFault) → Publishes (ledger_of (releases_of (chain jobs) parts)) job r → On queries jobs parts (name ∷ names) (given ∷ inputs)
-  job_on queries jobs parts name names given inputs job is facts is_history rest (Err fault) publishes =
+  job_on : (queries : List Query) (jobs : List JobFields) (parts : List SealedFields) (name : List ℕ) (names : List (List ℕ))
+      (at : Inputs) (job : JobFields) → input name job_in (at 0) ≡ Ok job → FitsFields job × IsWithinLimits PUBLISHED job → IsHistory (chain jobs) parts
+      → ((more : List SealedFields) → IsHistory (chain (jobs ++ job ∷ [])) more → On queries (jobs ++ job ∷ []) more names (rest_of at))
+      → (r : Result PublicationFields PublishFault) → Publishes (ledger_of (releases_of (chain jobs) parts)) job r → On queries jobs parts (name ∷ names) at
+  job_on queries jobs parts name names at job is facts is_history rest (Err fault) publishes =
       let e : NamedFault = record { name = name; fault = of_publishing fault } in
       (Err e, inl (e, inr (job, fault, is, publishes, refl), refl))
-  job_on queries jobs parts name names given inputs job is facts is_history rest (Ok p) publishes =
+  job_on queries jobs parts name names at job is facts is_history rest (Ok p) publishes =
       let more : List SealedFields = parts ++ p.sealed ∷ [] in
       let next : IsHistory (with_job (chain jobs) (in_format current job)) more = layers.next (chain jobs) parts job p is_history facts.0.publishing facts.1 publishes in
       let next_is : IsHistory (chain (jobs ++ job ∷ [])) more = subst (λ (h : History). IsHistory h more) (sym (chain_push jobs job)) next in
       let o = rest more next_is in
       (o.0, inr (job, more, is, facts.0, next_is, o.1))
 
-  file_on : (queries : List Query) (jobs : List JobFields) (parts : List SealedFields) (name : List ℕ) (names : List (List ℕ)) (given : Option (List ℕ))
-      (inputs : List (Option (List ℕ))) → IsOctets given → IsHistory (chain jobs) parts
-      → ((job : JobFields) (more : List SealedFields) → IsHistory (chain (jobs ++ job ∷ [])) more → On queries (jobs ++ job ∷ []) more names inputs)
-      → (r : Result JobFields NamedFault) → input name job_in given ≡ r → On queries jobs parts (name ∷ names) (given ∷ inputs)
-  file_on queries jobs parts name names given inputs octets is_history rest (Err e) is = (Err e, inl (e, inl is, refl))
-  file_on queries jobs parts name names given inputs octets is_history rest (Ok job) is =
+  file_on : (queries : List Query) (jobs : List JobFields) (parts : List SealedFields) (name : List ℕ) (names : List (List ℕ))
+      (at : Inputs) → AreOctets at → IsHistory (chain jobs) parts
+      → ((job : JobFields) (more : List SealedFields) → IsHistory (chain (jobs ++ job ∷ [])) more → On queries (jobs ++ job ∷ []) more names (rest_of at))
+      → (r : Result JobFields NamedFault) → input name job_in (at 0) ≡ r → On queries jobs parts (name ∷ names) at
+  file_on queries jobs parts name names at octets is_history rest (Err e) is = (Err e, inl (e, inl is, refl))
+  file_on queries jobs parts name names at octets is_history rest (Ok job) is =
       let o = layers.something (ledger_of (releases_of (chain jobs) parts)) job in
-      job_on queries jobs parts name names given inputs job is (job_fits name given job octets is) is_history (rest job) o.0 o.1
+      job_on queries jobs parts name names at job is (job_fits name (at 0) job (octets 0) is) is_history (rest job) o.0 o.1
 
-  files_on : (queries : List Query) (jobs : List JobFields) (parts : List SealedFields) (names : List (List ℕ)) (inputs : List (Option (List ℕ)))
-      → length inputs ≡ length names → All IsOctets inputs → IsHistory (chain jobs) parts → On queries jobs parts names inputs
-  files_on queries jobs parts [] [] many octets is_history = (Ok (rehearsed queries jobs parts), refl)
-  files_on queries jobs parts [] (g ∷ inputs) many octets is_history = absurd (omega (arith, many))
-  files_on queries jobs parts (name ∷ names) [] many octets is_history = absurd (omega (arith, many))
-  files_on queries jobs parts (name ∷ names) (g ∷ inputs) many octets is_history =
-      file_on queries jobs parts name names g inputs (All-head IsOctets g inputs octets) is_history
-      (λ job more is_more. files_on queries (jobs ++ job ∷ []) more names inputs (omega (arith, many)) (All-tail IsOctets g inputs octets) is_more)
-      (input name job_in g) refl
+  files_on : (queries : List Query) (jobs : List JobFields) (parts : List SealedFields) (names : List (List ℕ)) (at : Inputs)
+      → AreOctets at → IsHistory (chain jobs) parts → On queries jobs parts names at
+  files_on queries jobs parts [] at octets is_history = (Ok (rehearsed queries jobs parts), refl)
+  files_on queries jobs parts (name ∷ names) at octets is_history =
+      file_on queries jobs parts name names at octets is_history
+      (λ job more is_more. files_on queries (jobs ++ job ∷ []) more names (rest_of at) (λ i. octets (suc i)) is_more)
+      (input name job_in (at 0)) refl
 
-  rehearsal_made : (r : Rehearse) (queries : Result (List Query) NamedFault) (inputs : List (Option (List ℕ))) → length inputs ≡ length r.jobs
-      → All IsOctets inputs → (o : Result Done NamedFault) × MakesRehearsal r queries inputs o
-  rehearsal_made r (Ok queries) inputs many octets =
-      let o = files_on queries [] [] r.jobs inputs many octets tt in
-      (o.0, first_of queries r.jobs inputs o.0 o.1)
-  rehearsal_made r (Err e) inputs many octets = (Err e, refl)
+  rehearsal_made : (r : Rehearse) (queries : Result (List Query) NamedFault) (at : Inputs)
+      → AreOctets at → (o : Result Done NamedFault) × MakesRehearsal r queries at o
+  rehearsal_made r (Ok queries) at octets =
+      let o = files_on queries [] [] r.jobs at octets tt in
+      (o.0, first_of queries r.jobs at o.0 o.1)
+  rehearsal_made r (Err e) at octets = (Err e, refl)
 
   -- ---- auditing
 
@@ -142,104 +141,69 @@ module _ (layers : Existence) where
   CrlsAccepted job = All (λ (c : CrlMeaning). IsOk c.outcome) job.crls
 
   -- jobs that were read can be audited, where their CRLs are accepted
-  auditable : (names : List (List ℕ)) (inputs : List (Option (List ℕ))) (jobs : List JobFields) → AreJobs names inputs jobs → All IsOctets inputs → AreAccepted jobs → All IsAuditable jobs
-  auditable [] [] [] are octets accepted = All-nil IsAuditable
-  auditable [] [] (job ∷ jobs) are octets accepted = absurd are
-  auditable [] (g ∷ inputs) jobs are octets accepted = absurd are
-  auditable (name ∷ names) [] jobs are octets accepted = absurd are
-  auditable (name ∷ names) (g ∷ inputs) [] are octets accepted = absurd are
-  auditable (name ∷ names) (g ∷ inputs) (job ∷ jobs) are octets accepted =
-      let facts = job_fits name g job (All-head IsOctets g inputs octets) are.0 in
+  auditable : (names : List (List ℕ)) (at : Inputs) (jobs : List JobFields) → AreJobs names at jobs → AreOctets at → AreAccepted jobs → All IsAuditable jobs
+  auditable [] at [] are octets accepted = All-nil IsAuditable
+  auditable [] at (job ∷ jobs) are octets accepted = absurd are
+  auditable (name ∷ names) at [] are octets accepted = absurd are
+  auditable (name ∷ names) at (job ∷ jobs) are octets accepted =
+      let facts = job_fits name (at 0) job (octets 0) are.0 in
       let limits = facts.1 in
       let one : IsAuditable job = record {
         ranges = facts.0.publishing.ranges_fit;
         limits = record { ranges = limits.ranges; crls = limits.crls; entries = limits.entries };
         crls = All-head CrlsAccepted job jobs accepted;
       } in
-      All-cons IsAuditable job jobs one (auditable names inputs jobs are.1 (All-tail IsOctets g inputs octets) (All-tail CrlsAccepted job jobs accepted))
+      All-cons IsAuditable job jobs one (auditable names (rest_of at) jobs are.1 (λ i. octets (suc i)) (All-tail CrlsAccepted job jobs accepted))
 
-  audit_by : (a : Audit) (parts : List SealedFields) (inputs : List (Option (List ℕ))) → length a.jobs ≤ 64 → length inputs ≡ length a.jobs → All IsOctets inputs
-      → (jobs : Result (List JobFields) NamedFault) → audit_jobs a.jobs inputs ≡ jobs → (o : Result Done NamedFault) × MakesAudit a (Ok parts) jobs o
-  audit_by a parts inputs few many octets (Err e) is = (Err e, refl)
-  audit_by a parts inputs few many octets (Ok jobs) is =
-      let f = audit_jobs_are a.jobs inputs jobs many is in
+  audit_by : (a : Audit) (parts : List SealedFields) (at : Inputs) → length a.jobs ≤ 64 → AreOctets at
+      → (jobs : Result (List JobFields) NamedFault) → audit_jobs a.jobs at ≡ jobs → (o : Result Done NamedFault) × MakesAudit a (Ok parts) jobs o
+  audit_by a parts at few octets (Err e) is = (Err e, refl)
+  audit_by a parts at few octets (Ok jobs) is =
+      let f = audit_jobs_are a.jobs at jobs is in
       let same = f.many in
-      let r = layers.found (map (λ (s : SealedFields). s.part) parts) jobs (omega (arith, few, same)) (auditable a.jobs inputs jobs f.are octets f.accepted) f.within.entries in
+      let r = layers.found (map (λ (s : SealedFields). s.part) parts) jobs (omega (arith, few, same)) (auditable a.jobs at jobs f.are octets f.accepted) f.within.entries in
       (audited_as a jobs r.0, record { result = r.0; found = r.1; settled = r.2; is = refl })
 
-  audit_made : (a : Audit) (store : Result (List SealedFields) NamedFault) (inputs : List (Option (List ℕ))) → length a.jobs ≤ 64 → length inputs ≡ length a.jobs → All IsOctets inputs
-      → (o : Result Done NamedFault) × MakesAudit a store (audit_jobs a.jobs inputs) o
-  audit_made a (Ok parts) inputs few many octets = audit_by a parts inputs few many octets (audit_jobs a.jobs inputs) refl
-  audit_made a (Err e) inputs few many octets = (Err e, refl)
+  audit_made : (a : Audit) (store : Result (List SealedFields) NamedFault) (at : Inputs) → length a.jobs ≤ 64 → AreOctets at
+      → (o : Result Done NamedFault) × MakesAudit a store (audit_jobs a.jobs at) o
+  audit_made a (Ok parts) at few octets = audit_by a parts at few octets (audit_jobs a.jobs at) refl
+  audit_made a (Err e) at few octets = (Err e, refl)
 
   -- ---- commands
 
-  -- a job that was read of an input fits
-  read_fits : (name : List ℕ) (g : Option (List ℕ)) (inputs : List (Option (List ℕ))) → All IsOctets (g ∷ inputs)
-      → (job : JobFields) → input name job_in g ≡ Ok job → FitsFields job × IsWithinLimits PUBLISHED job
-  read_fits name g inputs octets job is = job_fits name g job (All-head IsOctets g inputs octets) is
+  pub outcome_exists : (c : Command) (at : Inputs) → c ≢ commands.Usage → HasFewJobs c → AreOctets at
+      → (o : Result Done NamedFault) × Makes c at o
+  outcome_exists commands.Usage at some few octets = absurd (some refl)
+  outcome_exists (commands.Query q) at some few octets = (query_makes q (at 0), refl)
+  outcome_exists (commands.QueryCert q) at some few octets = (query_cert_makes q (at 0) (at 1) (at 2), refl)
+  outcome_exists (commands.Check name) at some few octets = (check_makes name (at 0), refl)
+  outcome_exists (commands.Show name) at some few octets = (show_makes name (at 0), refl)
+  outcome_exists (commands.Snapshot s) at some few octets = snapshot_made s (input s.job job_in (at 0)) (λ job is. job_fits s.job (at 0) job (octets 0) is)
+  outcome_exists (commands.Delta t) at some few octets =
+      delta_made t (input t.job job_in (at 0)) (input t.ledger ledger_in (at 1)) (λ job is. job_fits t.job (at 0) job (octets 0) is)
+  outcome_exists (commands.Rebase b) at some few octets = rebase_made b (input b.ledger ledger_in (at 0))
+  outcome_exists (commands.Start t) at some few octets = (start_makes t (at 0), refl)
+  outcome_exists (commands.Install i) at some few octets = (install_makes i (at 0) (at 1), refl)
+  outcome_exists (commands.Rehearse r) at some few octets = rehearsal_made r (input r.queries queries_in (at 0)) (rest_of at) (λ i. octets (suc i))
+  outcome_exists (commands.Sample s) at some few octets = (Ok (sample_done s), refl)
+  outcome_exists (commands.Gather g) at some few octets = (gather_makes g (at 0) (rest_of at), refl)
+  outcome_exists (commands.Audit a) at some few octets = audit_made a (input a.store store_in (at 0)) (rest_of at) few (λ i. octets (suc i))
 
-  pub outcome_exists : (c : Command) (inputs : List (Option (List ℕ))) → c ≢ commands.Usage → HasFewJobs c → length inputs ≡ length (inputs_of c) → All IsOctets inputs
-      → (o : Result Done NamedFault) × Makes c inputs o
-  outcome_exists commands.Usage inputs some few many octets = absurd (some refl)
-  outcome_exists (commands.Query q) (g ∷ []) some few many octets = (query_makes q g, refl)
-  outcome_exists (commands.QueryCert q) (g ∷ h ∷ k ∷ []) some few many octets = (query_cert_makes q g h k, refl)
-  outcome_exists (commands.Check name) (g ∷ []) some few many octets = (check_makes name g, refl)
-  outcome_exists (commands.Show name) (g ∷ []) some few many octets = (show_makes name g, refl)
-  outcome_exists (commands.Snapshot s) (g ∷ []) some few many octets = snapshot_made s (input s.job job_in g) (read_fits s.job g [] octets)
-  outcome_exists (commands.Delta t) (g ∷ h ∷ []) some few many octets =
-      delta_made t (input t.job job_in g) (input t.ledger ledger_in h) (read_fits t.job g (h ∷ []) octets)
-  outcome_exists (commands.Rebase b) (g ∷ []) some few many octets = rebase_made b (input b.ledger ledger_in g)
-  outcome_exists (commands.Start t) (g ∷ []) some few many octets = (start_makes t g, refl)
-  outcome_exists (commands.Install i) (g ∷ h ∷ []) some few many octets = (install_makes i g h, refl)
-  outcome_exists (commands.Rehearse r) (g ∷ inputs) some few many octets =
-      rehearsal_made r (input r.queries queries_in g) inputs (omega (arith, many)) (All-tail IsOctets g inputs octets)
-  outcome_exists (commands.Sample s) [] some few many octets = (Ok (sample_done s), refl)
-  outcome_exists (commands.Gather f) (g ∷ inputs) some few many octets = (gather_makes f g inputs, refl)
-  outcome_exists (commands.Gather f) [] some few many octets = absurd (omega (arith, many))
-  outcome_exists (commands.Audit a) (g ∷ inputs) some few many octets =
-      audit_made a (input a.store store_in g) inputs few (omega (arith, many)) (All-tail IsOctets g inputs octets)
-  outcome_exists (commands.Audit a) [] some few many octets = absurd (omega (arith, many))
-  outcome_exists (commands.Rehearse r) [] some few many octets = absurd (omega (arith, many))
-  outcome_exists (commands.Sample s) (g ∷ cs) some few many octets = absurd (omega (arith, many))
-  outcome_exists (commands.Query q) [] some few many octets = absurd (omega (arith, many))
-  outcome_exists (commands.Query q) (g ∷ h ∷ cs) some few many octets = absurd (omega (arith, many))
-  outcome_exists (commands.QueryCert q) [] some few many octets = absurd (omega (arith, many))
-  outcome_exists (commands.QueryCert q) (g ∷ []) some few many octets = absurd (omega (arith, many))
-  outcome_exists (commands.QueryCert q) (g ∷ h ∷ []) some few many octets = absurd (omega (arith, many))
-  outcome_exists (commands.QueryCert q) (g ∷ h ∷ k ∷ l ∷ cs) some few many octets = absurd (omega (arith, many))
-  outcome_exists (commands.Check name) [] some few many octets = absurd (omega (arith, many))
-  outcome_exists (commands.Check name) (g ∷ h ∷ cs) some few many octets = absurd (omega (arith, many))
-  outcome_exists (commands.Show name) [] some few many octets = absurd (omega (arith, many))
-  outcome_exists (commands.Show name) (g ∷ h ∷ cs) some few many octets = absurd (omega (arith, many))
-  outcome_exists (commands.Snapshot s) [] some few many octets = absurd (omega (arith, many))
-  outcome_exists (commands.Snapshot s) (g ∷ h ∷ cs) some few many octets = absurd (omega (arith, many))
-  outcome_exists (commands.Delta t) [] some few many octets = absurd (omega (arith, many))
-  outcome_exists (commands.Delta t) (g ∷ []) some few many octets = absurd (omega (arith, many))
-  outcome_exists (commands.Delta t) (g ∷ h ∷ k ∷ cs) some few many octets = absurd (omega (arith, many))
-  outcome_exists (commands.Rebase b) [] some few many octets = absurd (omega (arith, many))
-  outcome_exists (commands.Rebase b) (g ∷ h ∷ cs) some few many octets = absurd (omega (arith, many))
-  outcome_exists (commands.Start t) [] some few many octets = absurd (omega (arith, many))
-  outcome_exists (commands.Start t) (g ∷ h ∷ cs) some few many octets = absurd (omega (arith, many))
-  outcome_exists (commands.Install i) [] some few many octets = absurd (omega (arith, many))
-  outcome_exists (commands.Install i) (g ∷ []) some few many octets = absurd (omega (arith, many))
-  outcome_exists (commands.Install i) (g ∷ h ∷ k ∷ cs) some few many octets = absurd (omega (arith, many))
-
-  made_reply : (c : Command) (inputs : List (Option (List ℕ))) → (o : Result Done NamedFault) × Makes c inputs o → (r : ReplyFields) × IsReplyOver c inputs r
+  made_reply : (c : Command) (inputs : Inputs) → (o : Result Done NamedFault) × Makes c inputs o → (r : ReplyFields) × IsReplyOver c inputs r
   made_reply c inputs o = (reply_of o.0, inr (o.0, o.1, refl))
 
-  pub reply_exists : (c : Command) (inputs : List (Option (List ℕ))) → HasFewJobs c → length inputs ≡ length (inputs_of c) → All IsOctets inputs → (r : ReplyFields) × IsReplyOver c inputs r
-  reply_exists commands.Usage inputs few many octets = (usage, inl (refl, refl))
-  reply_exists (commands.Query q) inputs few many octets = made_reply (commands.Query q) inputs (outcome_exists (commands.Query q) inputs (λ none. cc) few many octets)
-  reply_exists (commands.QueryCert q) inputs few many octets = made_reply (commands.QueryCert q) inputs (outcome_exists (commands.QueryCert q) inputs (λ none. cc) few many octets)
-  reply_exists (commands.Check n) inputs few many octets = made_reply (commands.Check n) inputs (outcome_exists (commands.Check n) inputs (λ none. cc) few many octets)
-  reply_exists (commands.Show n) inputs few many octets = made_reply (commands.Show n) inputs (outcome_exists (commands.Show n) inputs (λ none. cc) few many octets)
-  reply_exists (commands.Snapshot s) inputs few many octets = made_reply (commands.Snapshot s) inputs (outcome_exists (commands.Snapshot s) inputs (λ none. cc) few many octets)
-  reply_exists (commands.Delta t) inputs few many octets = made_reply (commands.Delta t) inputs (outcome_exists (commands.Delta t) inputs (λ none. cc) few many octets)
-  reply_exists (commands.Rebase b) inputs few many octets = made_reply (commands.Rebase b) inputs (outcome_exists (commands.Rebase b) inputs (λ none. cc) few many octets)
-  reply_exists (commands.Start t) inputs few many octets = made_reply (commands.Start t) inputs (outcome_exists (commands.Start t) inputs (λ none. cc) few many octets)
-  reply_exists (commands.Install i) inputs few many octets = made_reply (commands.Install i) inputs (outcome_exists (commands.Install i) inputs (λ none. cc) few many octets)
-  reply_exists (commands.Rehearse r) inputs few many octets = made_reply (commands.Rehearse r) inputs (outcome_exists (commands.Rehearse r) inputs (λ none. cc) few many octets)
-  reply_exists (commands.Sample s) inputs few many octets = made_reply (commands.Sample s) inputs (outcome_exists (commands.Sample s) inputs (λ none. cc) few many octets)
-  reply_exists (commands.Gather f) inputs few many octets = made_reply (commands.Gather f) inputs (outcome_exists (commands.Gather f) inputs (λ none. cc) few many octets)
-  reply_exists (commands.Audit a) inputs few many octets = made_reply (commands.Audit a) inputs (outcome_exists (commands.Audit a) inputs (λ none. cc) few many octets)
+  pub reply_exists : (c : Command) (inputs : Inputs) → HasFewJobs c → AreOctets inputs → (r : ReplyFields) × IsReplyOver c inputs r
+  reply_exists commands.Usage inputs few octets = (usage, inl (refl, refl))
+  reply_exists (commands.Query q) inputs few octets = made_reply (commands.Query q) inputs (outcome_exists (commands.Query q) inputs (λ none. cc) few octets)
+  reply_exists (commands.QueryCert q) inputs few octets = made_reply (commands.QueryCert q) inputs (outcome_exists (commands.QueryCert q) inputs (λ none. cc) few octets)
+  reply_exists (commands.Check n) inputs few octets = made_reply (commands.Check n) inputs (outcome_exists (commands.Check n) inputs (λ none. cc) few octets)
+  reply_exists (commands.Show n) inputs few octets = made_reply (commands.Show n) inputs (outcome_exists (commands.Show n) inputs (λ none. cc) few octets)
+  reply_exists (commands.Snapshot s) inputs few octets = made_reply (commands.Snapshot s) inputs (outcome_exists (commands.Snapshot s) inputs (λ none. cc) few octets)
+  reply_exists (commands.Delta t) inputs few octets = made_reply (commands.Delta t) inputs (outcome_exists (commands.Delta t) inputs (λ none. cc) few octets)
+  reply_exists (commands.Rebase b) inputs few octets = made_reply (commands.Rebase b) inputs (outcome_exists (commands.Rebase b) inputs (λ none. cc) few octets)
+  reply_exists (commands.Start t) inputs few octets = made_reply (commands.Start t) inputs (outcome_exists (commands.Start t) inputs (λ none. cc) few octets)
+  reply_exists (commands.Install i) inputs few octets = made_reply (commands.Install i) inputs (outcome_exists (commands.Install i) inputs (λ none. cc) few octets)
+  reply_exists (commands.Rehearse r) inputs few octets = made_reply (commands.Rehearse r) inputs (outcome_exists (commands.Rehearse r) inputs (λ none. cc) few octets)
+  reply_exists (commands.Sample s) inputs few octets = made_reply (commands.Sample s) inputs (outcome_exists (commands.Sample s) inputs (λ none. cc) few octets)
+  reply_exists (commands.Gather f) inputs few octets = made_reply (commands.Gather f) inputs (outcome_exists (commands.Gather f) inputs (λ none. cc) few octets)
+  reply_exists (commands.Audit a) inputs few octets = made_reply (commands.Audit a) inputs (outcome_exists (commands.Audit a) inputs (λ none. cc) few octets)

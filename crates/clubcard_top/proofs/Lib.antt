@@ -9,6 +9,7 @@ pub mod Chains
 pub mod Endings
 pub mod Existing
 pub mod Files
+pub mod Fronts
 pub mod Made
 pub mod ReplyStatuses
 pub mod Makings

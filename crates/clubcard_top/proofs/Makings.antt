@@ -73,7 +73,7 @@ use Rattle.clubcard_top.specs.Audits.{job_behind, jobs_behind, audit_jobs}
 use Rattle.clubcard_top.specs.Rebasings.{base_done, rebased_as, MakesRebase}
 use Rattle.clubcard_top.specs.Steps.{RehearsesOn}
 use Rattle.clubcard_top.specs.Replies.{refusal, reply_of}
-use Rattle.input_core.specs.Inputs.{IsRead, AreRead}
+use Rattle.input_core.specs.Inputs.{Inputs, rest_of, IsRead, AreRead}
 use Rattle.clubcard_top.proofs.Outputs.{names_of}
 use Rattle.clubcard_top.proofs.Results.{ok_same, not_ok, not_err}
 use Rattle.clubcard_top.proofs.AuditFaults.{audit_names, store_or_jobs, job_behind_read, jobs_stop}
@@ -159,16 +159,14 @@ rebase_names b (Ok l) d m = based_names b m.result d m.is
 rebase_names b (Err e) d m = absurd (not_err d e m)
 
 -- a rehearsal writes no file
-rehearses_names : (queries : List Query) (jobs : List JobFields) (parts : List SealedFields) (names : List (List ℕ)) (inputs : List (Option (List ℕ)))
+rehearses_names : (queries : List Query) (jobs : List JobFields) (parts : List SealedFields) (names : List (List ℕ)) (inputs : Inputs)
     (d : Done) → RehearsesOn queries jobs parts names inputs (Ok d)
     → names_of d.outputs ≡ []
-rehearses_names queries jobs parts [] [] d m = ap (λ (e : Done). names_of e.outputs) (ok_same {E = NamedFault} d (rehearsed queries jobs parts) m)
-rehearses_names queries jobs parts [] (g ∷ inputs) d m = absurd m
-rehearses_names queries jobs parts (name ∷ names) [] d m = absurd m
-rehearses_names queries jobs parts (name ∷ names) (g ∷ inputs) d (inl (e, refused, is)) = absurd (not_err d e is)
-rehearses_names queries jobs parts (name ∷ names) (g ∷ inputs) d (inr (job, more, read, fits, is, rest)) = rehearses_names queries (jobs ++ job ∷ []) more names inputs d rest
+rehearses_names queries jobs parts [] inputs d m = ap (λ (e : Done). names_of e.outputs) (ok_same {E = NamedFault} d (rehearsed queries jobs parts) m)
+rehearses_names queries jobs parts (name ∷ names) inputs d (inl (e, refused, is)) = absurd (not_err d e is)
+rehearses_names queries jobs parts (name ∷ names) inputs d (inr (job, more, read, fits, is, rest)) = rehearses_names queries (jobs ++ job ∷ []) more names (rest_of inputs) d rest
 
-rehearsal_names : (r : Rehearse) (queries : Result (List Query) NamedFault) (inputs : List (Option (List ℕ))) (d : Done) → MakesRehearsal r queries inputs (Ok d) → names_of d.outputs ≡ []
+rehearsal_names : (r : Rehearse) (queries : Result (List Query) NamedFault) (inputs : Inputs) (d : Done) → MakesRehearsal r queries inputs (Ok d) → names_of d.outputs ≡ []
 rehearsal_names r (Ok queries) inputs d m = rehearses_names queries [] [] r.jobs inputs d (from_first queries r.jobs inputs (Ok d) m)
 rehearsal_names r (Err e) inputs d m = absurd (not_err d e m)
 
@@ -182,7 +180,7 @@ install_then i parts x = named i.part (installed parts x.0) >>= (λ more. Ok (st
 abbrev pub install_after : Install → Option (List ℕ) → List SealedFields → Result Done NamedFault
 install_after i p parts = input i.part part_in p >>= install_then i parts
 
-abbrev pub gather_after : Gather → List (Option (List ℕ)) → JobContents → Result Done NamedFault
+abbrev pub gather_after : Gather → Inputs → JobContents → Result Done NamedFault
 gather_after f inputs j = pages_of f.job (length j.entries) f.pages inputs >>= (λ entries. Ok (gather_done f j entries))
 
 abbrev pub cert_last : List SealedFields → Certificate → List ℕ → Result Done NamedFault
@@ -195,57 +193,31 @@ abbrev pub cert_after : QueryCert → (cert issuer_cert : Option (List ℕ)) →
 cert_after q k i parts = input q.cert certificate_in k >>= cert_then q i parts
 
 -- The outputs of a command that is done are those that it names.
-pub done_names : (c : Command) (inputs : List (Option (List ℕ))) (d : Done) → Makes c inputs (Ok d) → names_of d.outputs ≡ outputs_of c
-done_names commands.Usage inputs d m = absurd m
-done_names (commands.Query q) (s ∷ []) d m = names_after [] (query_done q) (λ x. refl) (input q.store store_in s) d m
-done_names (commands.QueryCert q) (s ∷ k ∷ i ∷ []) d m =
-    let x = after_ok (input q.store store_in s) (cert_after q k i) d m in
-    let y = after_ok (input q.cert certificate_in k) (cert_then q i x.0) d x.2 in
-    names_after [] (query_cert_done x.0 y.0) (λ z. refl) (input q.issuer_cert issuer_in i) d y.2
-done_names (commands.Check name) (p ∷ []) d m = names_after [] check_done (λ x. refl) (input name part_in p) d m
-done_names (commands.Show name) (p ∷ []) d m = names_after [] show_done (λ x. refl) (input name part_in p) d m
-done_names (commands.Snapshot s) (j ∷ []) d m = snapshot_names s (input s.job job_in j) d m
-done_names (commands.Delta t) (j ∷ l ∷ []) d m = delta_names t (input t.job job_in j) (input t.ledger ledger_in l) d m
-done_names (commands.Rebase b) (l ∷ []) d m = rebase_names b (input b.ledger ledger_in l) d m
-done_names (commands.Start t) (p ∷ []) d m =
-    let x = after_ok (input t.part part_in p) (start_after t) d m in
+pub done_names : (c : Command) (inputs : Inputs) (d : Done) → Makes c inputs (Ok d) → names_of d.outputs ≡ outputs_of c
+done_names commands.Usage at d m = absurd m
+done_names (commands.Query q) at d m = names_after [] (query_done q) (λ x. refl) (input q.store store_in (at 0)) d m
+done_names (commands.QueryCert q) at d m =
+    let x = after_ok (input q.store store_in (at 0)) (cert_after q (at 1) (at 2)) d m in
+    let y = after_ok (input q.cert certificate_in (at 1)) (cert_then q (at 2) x.0) d x.2 in
+    names_after [] (query_cert_done x.0 y.0) (λ z. refl) (input q.issuer_cert issuer_in (at 2)) d y.2
+done_names (commands.Check name) at d m = names_after [] check_done (λ x. refl) (input name part_in (at 0)) d m
+done_names (commands.Show name) at d m = names_after [] show_done (λ x. refl) (input name part_in (at 0)) d m
+done_names (commands.Snapshot s) at d m = snapshot_names s (input s.job job_in (at 0)) d m
+done_names (commands.Delta t) at d m = delta_names t (input t.job job_in (at 0)) (input t.ledger ledger_in (at 1)) d m
+done_names (commands.Rebase b) at d m = rebase_names b (input b.ledger ledger_in (at 0)) d m
+done_names (commands.Start t) at d m =
+    let x = after_ok (input t.part part_in (at 0)) (start_after t) d m in
     names_after (t.store ∷ []) (stored t.store) (λ y. refl) (named t.part (begun x.0.0)) d x.2
-done_names (commands.Install i) (s ∷ p ∷ []) d m =
-    let x = after_ok (input i.store store_in s) (install_after i p) d m in
-    let y = after_ok (input i.part part_in p) (install_then i x.0) d x.2 in
+done_names (commands.Install i) at d m =
+    let x = after_ok (input i.store store_in (at 0)) (install_after i (at 1)) d m in
+    let y = after_ok (input i.part part_in (at 1)) (install_then i x.0) d x.2 in
     names_after (i.new_store ∷ []) (stored i.new_store) (λ z. refl) (named i.part (installed x.0 y.0.0)) d y.2
-done_names (commands.Rehearse r) (q ∷ inputs) d m = rehearsal_names r (input r.queries queries_in q) inputs d m
-done_names (commands.Sample s) [] d m = ap (λ (e : Done). names_of e.outputs) (ok_same {E = NamedFault} d (sample_done s) m)
-done_names (commands.Rehearse r) [] d m = absurd m
-done_names (commands.Gather f) (h ∷ inputs) d m =
-    let x = after_ok (input f.head head_in h) (gather_after f inputs) d m in
-    names_after (f.job ∷ []) (gather_done f x.0) (λ y. refl) (pages_of f.job (length x.0.entries) f.pages inputs) d x.2
-done_names (commands.Gather f) [] d m = absurd m
-done_names (commands.Audit a) (s ∷ inputs) d m = audit_names a (input a.store store_in s) (audit_jobs a.jobs inputs) d m
-done_names (commands.Audit a) [] d m = absurd m
-done_names (commands.Sample s) (a ∷ cs) d m = absurd m
-done_names (commands.Query q) [] d m = absurd m
-done_names (commands.Query q) (a ∷ b ∷ cs) d m = absurd m
-done_names (commands.QueryCert q) [] d m = absurd m
-done_names (commands.QueryCert q) (a ∷ []) d m = absurd m
-done_names (commands.QueryCert q) (a ∷ b ∷ []) d m = absurd m
-done_names (commands.QueryCert q) (a ∷ b ∷ e ∷ f ∷ cs) d m = absurd m
-done_names (commands.Check name) [] d m = absurd m
-done_names (commands.Check name) (a ∷ b ∷ cs) d m = absurd m
-done_names (commands.Show name) [] d m = absurd m
-done_names (commands.Show name) (a ∷ b ∷ cs) d m = absurd m
-done_names (commands.Snapshot s) [] d m = absurd m
-done_names (commands.Snapshot s) (a ∷ b ∷ cs) d m = absurd m
-done_names (commands.Delta t) [] d m = absurd m
-done_names (commands.Delta t) (a ∷ []) d m = absurd m
-done_names (commands.Delta t) (a ∷ b ∷ e ∷ cs) d m = absurd m
-done_names (commands.Rebase b) [] d m = absurd m
-done_names (commands.Rebase b) (a ∷ e ∷ cs) d m = absurd m
-done_names (commands.Start t) [] d m = absurd m
-done_names (commands.Start t) (a ∷ b ∷ cs) d m = absurd m
-done_names (commands.Install i) [] d m = absurd m
-done_names (commands.Install i) (a ∷ []) d m = absurd m
-done_names (commands.Install i) (a ∷ b ∷ e ∷ cs) d m = absurd m
+done_names (commands.Rehearse r) at d m = rehearsal_names r (input r.queries queries_in (at 0)) (rest_of at) d m
+done_names (commands.Sample s) at d m = ap (λ (e : Done). names_of e.outputs) (ok_same {E = NamedFault} d (sample_done s) m)
+done_names (commands.Gather f) at d m =
+    let x = after_ok (input f.head head_in (at 0)) (gather_after f (rest_of at)) d m in
+    names_after (f.job ∷ []) (gather_done f x.0) (λ y. refl) (pages_of f.job (length x.0.entries) f.pages (rest_of at)) d x.2
+done_names (commands.Audit a) at d m = audit_names a (input a.store store_in (at 0)) (audit_jobs a.jobs (rest_of at)) d m
 
 -- ---- inputs that can't be read
 
@@ -428,23 +400,12 @@ install_unread i parts x e h u =
     made_read i.part (installed parts x.0) (stored i.new_store) e (installed_read (refusal_of parts x.0) parts x.0)
     (after_err (named i.part (installed parts x.0)) (λ more. Ok (stored i.new_store more)) e h) u
 
--- a fault of an input, where what follows it has none
-first_unread : {A : Type 0} (name : List ℕ) (read : List ℕ → Result A FileFault) (given : Option (List ℕ)) (next : A → Result Done NamedFault) (e : NamedFault)
-    → ((bytes : List ℕ) → read bytes ≡ Err faults.Unread → ⊥) → ((x : A) → Err e ≡ next x → ⊥)
-    → (input name read given ≡ Err e) ⊎ ((x : A) × (input name read given ≡ Ok x) × (Err e ≡ next x)) → e.fault ≡ faults.Unread → (given ≡ None) × (name ≡ e.name)
-first_unread name read given next e refute rest (inl h) u = input_unread name read given e refute h u
-first_unread name read given next e refute rest (inr (x, is, h)) u = absurd (rest x h)
-
 -- what follows a page that was read, and one for which there is room
-abbrev pub page_last : List ℕ → ℕ → List (List ℕ) → List (Option (List ℕ)) → List PageFields → Result (List PageFields) NamedFault
+abbrev pub page_last : List ℕ → ℕ → List (List ℕ) → Inputs → List PageFields → Result (List PageFields) NamedFault
 page_last job before names inputs page = pages_of job (before + length page) names inputs >>= (λ others. Ok (page ++ others))
 
-abbrev pub page_then : List ℕ → ℕ → List (List ℕ) → List (Option (List ℕ)) → List PageFields → Result (List PageFields) NamedFault
+abbrev pub page_then : List ℕ → ℕ → List (List ℕ) → Inputs → List PageFields → Result (List PageFields) NamedFault
 page_then job before names inputs read = room_for job before read >>= page_last job before names inputs
-
-after_err_of : {A B : Type 0} (r : Result A NamedFault) (next : A → Result B NamedFault) (e : NamedFault) → Err e ≡ (r >>= next) → (r ≡ Err e) ⊎ ((x : A) × (r ≡ Ok x) × (Err e ≡ next x))
-after_err_of (Ok x) next e h = inr (x, refl, h)
-after_err_of {A} {B} (Err f) next e h = inl (ap (λ (g : NamedFault). Err g) (sym (err_same {A = B} e f h)))
 
 last_err : (page : List PageFields) (r : Result (List PageFields) NamedFault) (e : NamedFault) → Err e ≡ (r >>= (λ others. Ok (page ++ others))) → Err e ≡ r
 last_err page (Ok others) e h = absurd (not_err (page ++ others) e (sym h))
@@ -473,36 +434,18 @@ module _ (told : Option Files) (failed : Option (List ℕ) → Type 0) (e : Name
   cause_of names name given among read (none, is) =
       subst (λ (n : List ℕ). Among names n × (failed (Some n) ⊎ IsMissing told n)) is (among, subst (λ (g : Option (List ℕ)). IsRead told failed name g) none read)
 
-  second_unread : (i : Install) (s p : Option (List ℕ)) (parts : List SealedFields) → IsRead told failed i.part p → Err e ≡ install_after i p parts → Cause (i.store ∷ i.part ∷ [])
-  second_unread i s p parts read h =
-      cause_of (i.store ∷ i.part ∷ []) i.part p (inr (inl refl)) read
-      (first_unread i.part part_in p (install_then i parts) e part_read (λ x g. install_unread i parts x e g u) (after_err (input i.part part_in p) (install_then i parts) e h) u)
+  -- an input, and what follows it
+  step_by : {A B : Type 0} (names : List (List ℕ)) (name : List ℕ) (read : List ℕ → Result A FileFault) (given : Option (List ℕ)) (next : A → Result B NamedFault)
+      → ((bytes : List ℕ) → read bytes ≡ Err faults.Unread → ⊥) → Among names name → IsRead told failed name given → ((x : A) → Err e ≡ next x → Cause names)
+      → (input name read given ≡ Err e) ⊎ ((x : A) × (input name read given ≡ Ok x) × (Err e ≡ next x)) → Cause names
+  step_by names name read given next refute among is_read rest (inl is) = cause_of names name given among is_read (input_unread name read given e refute is u)
+  step_by names name read given next refute among is_read rest (inr (x, is, h)) = rest x h
 
-  install_by : (i : Install) (s p : Option (List ℕ)) → IsRead told failed i.store s → IsRead told failed i.part p
-      → (input i.store store_in s ≡ Err e) ⊎ ((parts : List SealedFields) × (input i.store store_in s ≡ Ok parts) × (Err e ≡ install_after i p parts)) → Cause (i.store ∷ i.part ∷ [])
-  install_by i s p first second (inl h) = cause_of (i.store ∷ i.part ∷ []) i.store s (inl refl) first (input_unread i.store store_in s e store_read h u)
-  install_by i s p first second (inr (parts, is, h)) = second_unread i s p parts second h
-
-  abbrev certs : QueryCert → List (List ℕ)
-  certs q = inputs_of (commands.QueryCert q)
-
-  issuer_unread : (q : QueryCert) (i : Option (List ℕ)) (parts : List SealedFields) (cert : Certificate) → IsRead told failed q.issuer_cert i → Err e ≡ cert_then q i parts cert
-      → Cause (certs q)
-  issuer_unread q i parts cert read h =
-      cause_of (certs q) q.issuer_cert i (inr (inr (inl refl))) read
-      (first_unread q.issuer_cert issuer_in i (cert_last parts cert) e issuer_read (λ x g. not_ok (query_cert_done parts cert x) e g)
-      (after_err (input q.issuer_cert issuer_in i) (cert_last parts cert) e h) u)
-
-  cert_unread : (q : QueryCert) (k i : Option (List ℕ)) (parts : List SealedFields) → IsRead told failed q.cert k → IsRead told failed q.issuer_cert i
-      → (input q.cert certificate_in k ≡ Err e) ⊎ ((cert : Certificate) × (input q.cert certificate_in k ≡ Ok cert) × (Err e ≡ cert_then q i parts cert)) → Cause (certs q)
-  cert_unread q k i parts second third (inl h) = cause_of (certs q) q.cert k (inr (inl refl)) second (input_unread q.cert certificate_in k e certificate_read h u)
-  cert_unread q k i parts second third (inr (cert, is, h)) = issuer_unread q i parts cert third h
-
-  query_cert_by : (q : QueryCert) (s k i : Option (List ℕ)) → IsRead told failed q.store s → IsRead told failed q.cert k → IsRead told failed q.issuer_cert i
-      → (input q.store store_in s ≡ Err e) ⊎ ((parts : List SealedFields) × (input q.store store_in s ≡ Ok parts) × (Err e ≡ cert_after q k i parts)) → Cause (certs q)
-  query_cert_by q s k i first second third (inl h) = cause_of (certs q) q.store s (inl refl) first (input_unread q.store store_in s e store_read h u)
-  query_cert_by q s k i first second third (inr (parts, is, h)) =
-      cert_unread q k i parts second third (after_err (input q.cert certificate_in k) (cert_then q i parts) e h)
+  step_unread : {A B : Type 0} (names : List (List ℕ)) (name : List ℕ) (read : List ℕ → Result A FileFault) (given : Option (List ℕ)) (next : A → Result B NamedFault)
+      → ((bytes : List ℕ) → read bytes ≡ Err faults.Unread → ⊥) → Among names name → IsRead told failed name given → ((x : A) → Err e ≡ next x → Cause names)
+      → Err e ≡ (input name read given >>= next) → Cause names
+  step_unread names name read given next refute among is_read rest h =
+      step_by names name read given next refute among is_read rest (after_err (input name read given) next e h)
 
   delta_by : (t : Delta) (j l : Option (List ℕ)) → IsRead told failed t.job j → IsRead told failed t.ledger l → (input t.job job_in j ≡ Err e) ⊎ (input t.ledger ledger_in l ≡ Err e)
       → Cause (t.job ∷ t.ledger ∷ [])
@@ -514,17 +457,15 @@ module _ (told : Option Files) (failed : Option (List ℕ) → Type 0) (e : Name
   refused_by h parts name given names read (inl is) = cause_of (name ∷ names) name given (inl refl) read (input_unread name job_in given e job_read is u)
   refused_by h parts name given names read (inr (job, fault, is, publishes, same)) = absurd (publish_fault_read fault (sym (ap (λ (k : NamedFault). k.fault) same) ∙ u))
 
-  rehearses_by : (queries : List Query) (jobs : List JobFields) (parts : List SealedFields) (names : List (List ℕ)) (inputs : List (Option (List ℕ))) → AreRead told failed names inputs
+  rehearses_by : (queries : List Query) (jobs : List JobFields) (parts : List SealedFields) (names : List (List ℕ)) (inputs : Inputs) → AreRead told failed names inputs
       → RehearsesOn queries jobs parts names inputs (Err e) → Cause names
-  rehearses_by queries jobs parts [] [] read m = absurd (not_ok (rehearsed queries jobs parts) e m)
-  rehearses_by queries jobs parts [] (g ∷ inputs) read m = absurd m
-  rehearses_by queries jobs parts (name ∷ names) [] read m = absurd m
-  rehearses_by queries jobs parts (name ∷ names) (g ∷ inputs) read (inl (f, refused, is)) =
-      refused_by (chain jobs) parts name g names read.0 (subst (IsRefused (chain jobs) parts name g) (sym (err_same {A = Done} e f is)) refused)
-  rehearses_by queries jobs parts (name ∷ names) (g ∷ inputs) read (inr (job, more, is_read, fits, is, rest)) =
-      let c = rehearses_by queries (jobs ++ job ∷ []) more names inputs read.1 rest in (inr c.0, c.1)
+  rehearses_by queries jobs parts [] inputs read m = absurd (not_ok (rehearsed queries jobs parts) e m)
+  rehearses_by queries jobs parts (name ∷ names) inputs read (inl (f, refused, is)) =
+      refused_by (chain jobs) parts name (inputs 0) names read.0 (subst (IsRefused (chain jobs) parts name (inputs 0)) (sym (err_same {A = Done} e f is)) refused)
+  rehearses_by queries jobs parts (name ∷ names) inputs read (inr (job, more, is_read, fits, is, rest)) =
+      let c = rehearses_by queries (jobs ++ job ∷ []) more names (rest_of inputs) read.1 rest in (inr c.0, c.1)
 
-  rehearsal_by : (r : Rehearse) (given : Option (List ℕ)) (inputs : List (Option (List ℕ))) (queries : Result (List Query) NamedFault)
+  rehearsal_by : (r : Rehearse) (given : Option (List ℕ)) (inputs : Inputs) (queries : Result (List Query) NamedFault)
       → IsRead told failed r.queries given → AreRead told failed r.jobs inputs
       → input r.queries queries_in given ≡ queries → MakesRehearsal r queries inputs (Err e) → Cause (r.queries ∷ r.jobs)
   rehearsal_by r given inputs (Ok queries) first others is m =
@@ -534,111 +475,69 @@ module _ (told : Option Files) (failed : Option (List ℕ) → Type 0) (e : Name
       (input_unread r.queries queries_in given e queries_read (is ∙ ap (λ (k : NamedFault). Err k) (sym (err_same {A = Done} e f m))) u)
 
   -- the entries behind those of a page
-  room_by : (job : List ℕ) (before : ℕ) (name : List ℕ) (names : List (List ℕ)) (inputs : List (Option (List ℕ))) (page : List PageFields)
+  room_by : (job : List ℕ) (before : ℕ) (name : List ℕ) (names : List (List ℕ)) (inputs : Inputs) (page : List PageFields)
       → ((n : ℕ) → Err e ≡ pages_of job n names inputs → Cause names)
       → (room_for job before page ≡ Err e) ⊎ ((few : List PageFields) × (room_for job before page ≡ Ok few) × (Err e ≡ page_last job before names inputs few)) → Cause (name ∷ names)
   room_by job before name names inputs page rest (inl h) = absurd (room_read job before page e h u)
   room_by job before name names inputs page rest (inr (few, is, h)) =
       let c = rest (before + length few) (last_err few (pages_of job (before + length few) names inputs) e h) in (inr c.0, c.1)
 
-  -- a page, behind which others are read
-  page_by : (job : List ℕ) (before : ℕ) (name : List ℕ) (names : List (List ℕ)) (g : Option (List ℕ)) (inputs : List (Option (List ℕ)))
-      → IsRead told failed name g → ((n : ℕ) → Err e ≡ pages_of job n names inputs → Cause names)
-      → (input name page_in g ≡ Err e) ⊎ ((read : List PageFields) × (input name page_in g ≡ Ok read) × (Err e ≡ page_then job before names inputs read)) → Cause (name ∷ names)
-  page_by job before name names g inputs read rest (inl h) = cause_of (name ∷ names) name g (inl refl) read (input_unread name page_in g e page_read h u)
-  page_by job before name names g inputs read rest (inr (page, is, h)) =
-      room_by job before name names inputs page rest (after_err_of (room_for job before page) (page_last job before names inputs) e h)
-
-  pages_by : (job : List ℕ) (before : ℕ) (names : List (List ℕ)) (inputs : List (Option (List ℕ))) → AreRead told failed names inputs
+  pages_by : (job : List ℕ) (before : ℕ) (names : List (List ℕ)) (inputs : Inputs) → AreRead told failed names inputs
       → Err e ≡ pages_of job before names inputs → Cause names
-  pages_by job before [] [] read m = absurd (not_ok [] e m)
-  pages_by job before [] (g ∷ inputs) read m = absurd read
-  pages_by job before (name ∷ names) [] read m = absurd read
-  pages_by job before (name ∷ names) (g ∷ inputs) read m =
-      page_by job before name names g inputs read.0 (λ n h. pages_by job n names inputs read.1 h) (after_err_of (input name page_in g) (page_then job before names inputs) e m)
+  pages_by job before [] inputs read m = absurd (not_ok [] e m)
+  pages_by job before (name ∷ names) inputs read m =
+      step_unread (name ∷ names) name page_in (inputs 0) (page_then job before names (rest_of inputs)) page_read (inl refl) read.0
+      (λ page h. room_by job before name names (rest_of inputs) page (λ n k. pages_by job n names (rest_of inputs) read.1 k)
+      (after_err (room_for job before page) (page_last job before names (rest_of inputs)) e h)) m
 
-  gather_by : (f : Gather) (h : Option (List ℕ)) (inputs : List (Option (List ℕ))) → IsRead told failed f.head h → AreRead told failed f.pages inputs
-      → (input f.head head_in h ≡ Err e) ⊎ ((j : JobContents) × (input f.head head_in h ≡ Ok j) × (Err e ≡ gather_after f inputs j)) → Cause (f.head ∷ f.pages)
-  gather_by f h inputs first others (inl is) = cause_of (f.head ∷ f.pages) f.head h (inl refl) first (input_unread f.head head_in h e head_read is u)
-  gather_by f h inputs first others (inr (j, is, m)) =
-      let c = pages_by f.job (length j.entries) f.pages inputs others (done_err (gather_done f j) (pages_of f.job (length j.entries) f.pages inputs) e m) in (inr c.0, c.1)
-
-  -- a job behind others
-  job_by : (before : List JobFields) (name : List ℕ) (names : List (List ℕ)) (g : Option (List ℕ)) (inputs : List (Option (List ℕ))) → IsRead told failed name g
-      → ((js : List JobFields) → Err e ≡ jobs_behind js names inputs → Cause names)
-      → (input name (job_behind before) g ≡ Err e) ⊎ ((j : JobFields) × (input name (job_behind before) g ≡ Ok j) × (Err e ≡ jobs_behind (before ++ j ∷ []) names inputs))
-      → Cause (name ∷ names)
-  job_by before name names g inputs read rest (inl h) =
-      cause_of (name ∷ names) name g (inl refl) read (input_unread name (job_behind before) g e (job_behind_read before job_read) h u)
-  job_by before name names g inputs read rest (inr (j, is, h)) = let c = rest (before ++ j ∷ []) h in (inr c.0, c.1)
-
-  jobs_by : (before : List JobFields) (names : List (List ℕ)) (inputs : List (Option (List ℕ))) → AreRead told failed names inputs
+  jobs_by : (before : List JobFields) (names : List (List ℕ)) (inputs : Inputs) → AreRead told failed names inputs
       → Err e ≡ jobs_behind before names inputs → Cause names
-  jobs_by before [] [] read m = absurd (not_ok before e m)
-  jobs_by before [] (g ∷ inputs) read m = absurd read
-  jobs_by before (name ∷ names) [] read m = absurd read
-  jobs_by before (name ∷ names) (g ∷ inputs) read m =
-      job_by before name names g inputs read.0 (λ js h. jobs_by js names inputs read.1 h)
-      (after_err_of (input name (job_behind before) g) (λ j. jobs_behind (before ++ j ∷ []) names inputs) e m)
+  jobs_by before [] inputs read m = absurd (not_ok before e m)
+  jobs_by before (name ∷ names) inputs read m =
+      step_unread (name ∷ names) name (job_behind before) (inputs 0) (λ j. jobs_behind (before ++ j ∷ []) names (rest_of inputs)) (job_behind_read before job_read)
+      (inl refl) read.0 (λ j h. let c = jobs_by (before ++ j ∷ []) names (rest_of inputs) read.1 h in (inr c.0, c.1)) m
 
-  audit_by : (a : Audit) (s : Option (List ℕ)) (inputs : List (Option (List ℕ))) → IsRead told failed a.store s → AreRead told failed a.jobs inputs
+  audit_by : (a : Audit) (s : Option (List ℕ)) (inputs : Inputs) → IsRead told failed a.store s → AreRead told failed a.jobs inputs
       → (input a.store store_in s ≡ Err e) ⊎ (audit_jobs a.jobs inputs ≡ Err e) → Cause (a.store ∷ a.jobs)
   audit_by a s inputs first others (inl is) = cause_of (a.store ∷ a.jobs) a.store s (inl refl) first (input_unread a.store store_in s e store_read is u)
   audit_by a s inputs first others (inr is) = let c = jobs_by [] a.jobs inputs others (jobs_stop a.jobs inputs e is u) in (inr c.0, c.1)
 
   -- An input that can't be read has its cause.
-  pub unread_cause : (c : Command) (inputs : List (Option (List ℕ))) → AreRead told failed (inputs_of c) inputs → Makes c inputs (Err e) → Cause (inputs_of c)
-  unread_cause commands.Usage inputs read m = absurd m
-  unread_cause (commands.Query q) (s ∷ []) read m =
-      cause_of (q.store ∷ []) q.store s (inl refl) read.0
-      (first_unread q.store store_in s (λ parts. Ok (query_done q parts)) e store_read (λ x h. not_ok (query_done q x) e h)
-      (after_err (input q.store store_in s) (λ parts. Ok (query_done q parts)) e m) u)
-  unread_cause (commands.QueryCert q) (s ∷ k ∷ i ∷ []) read m =
-      query_cert_by q s k i read.0 read.1.0 read.1.1.0 (after_err (input q.store store_in s) (cert_after q k i) e m)
-  unread_cause (commands.Check name) (p ∷ []) read m =
-      cause_of (name ∷ []) name p (inl refl) read.0
-      (first_unread name part_in p (λ x. Ok (check_done x)) e part_read (λ x h. not_ok (check_done x) e h) (after_err (input name part_in p) (λ x. Ok (check_done x)) e m) u)
-  unread_cause (commands.Show name) (p ∷ []) read m =
-      cause_of (name ∷ []) name p (inl refl) read.0
-      (first_unread name part_in p (λ x. Ok (show_done x)) e part_read (λ x h. not_ok (show_done x) e h) (after_err (input name part_in p) (λ x. Ok (show_done x)) e m) u)
-  unread_cause (commands.Snapshot s) (j ∷ []) read m =
-      cause_of (s.job ∷ []) s.job j (inl refl) read.0 (input_unread s.job job_in j e job_read (snapshot_unread s (input s.job job_in j) e m u) u)
-  unread_cause (commands.Delta t) (j ∷ l ∷ []) read m = delta_by t j l read.0 read.1.0 (delta_unread t (input t.job job_in j) (input t.ledger ledger_in l) e m u)
-  unread_cause (commands.Rebase b) (l ∷ []) read m =
-      cause_of (b.ledger ∷ []) b.ledger l (inl refl) read.0 (input_unread b.ledger ledger_in l e ledger_read (rebase_unread b (input b.ledger ledger_in l) e m u) u)
-  unread_cause (commands.Start t) (p ∷ []) read m =
-      cause_of (t.part ∷ []) t.part p (inl refl) read.0
-      (first_unread t.part part_in p (start_after t) e part_read (λ x h. start_unread t x e h u) (after_err (input t.part part_in p) (start_after t) e m) u)
-  unread_cause (commands.Install i) (s ∷ p ∷ []) read m = install_by i s p read.0 read.1.0 (after_err (input i.store store_in s) (install_after i p) e m)
-  unread_cause (commands.Rehearse r) (q ∷ inputs) read m = rehearsal_by r q inputs (input r.queries queries_in q) read.0 read.1 refl m
-  unread_cause (commands.Sample s) [] read m = absurd (not_ok (sample_done s) e m)
-  unread_cause (commands.Rehearse r) [] read m = absurd m
-  unread_cause (commands.Sample s) (a ∷ cs) read m = absurd m
-  unread_cause (commands.Gather f) (h ∷ inputs) read m =
-      gather_by f h inputs read.0 read.1 (after_err (input f.head head_in h) (gather_after f inputs) e m)
-  unread_cause (commands.Gather f) [] read m = absurd m
-  unread_cause (commands.Audit a) (s ∷ inputs) read m =
-      audit_by a s inputs read.0 read.1 (store_or_jobs a (input a.store store_in s) (audit_jobs a.jobs inputs) e m u)
-  unread_cause (commands.Audit a) [] read m = absurd m
-  unread_cause (commands.Query q) [] read m = absurd m
-  unread_cause (commands.Query q) (a ∷ b ∷ cs) read m = absurd m
-  unread_cause (commands.QueryCert q) [] read m = absurd m
-  unread_cause (commands.QueryCert q) (a ∷ []) read m = absurd m
-  unread_cause (commands.QueryCert q) (a ∷ b ∷ []) read m = absurd m
-  unread_cause (commands.QueryCert q) (a ∷ b ∷ c ∷ d ∷ cs) read m = absurd m
-  unread_cause (commands.Check name) [] read m = absurd m
-  unread_cause (commands.Check name) (a ∷ b ∷ cs) read m = absurd m
-  unread_cause (commands.Show name) [] read m = absurd m
-  unread_cause (commands.Show name) (a ∷ b ∷ cs) read m = absurd m
-  unread_cause (commands.Snapshot s) [] read m = absurd m
-  unread_cause (commands.Snapshot s) (a ∷ b ∷ cs) read m = absurd m
-  unread_cause (commands.Delta t) [] read m = absurd m
-  unread_cause (commands.Delta t) (a ∷ []) read m = absurd m
-  unread_cause (commands.Delta t) (a ∷ b ∷ k ∷ cs) read m = absurd m
-  unread_cause (commands.Rebase b) [] read m = absurd m
-  unread_cause (commands.Rebase b) (a ∷ c ∷ cs) read m = absurd m
-  unread_cause (commands.Start t) [] read m = absurd m
-  unread_cause (commands.Start t) (a ∷ b ∷ cs) read m = absurd m
-  unread_cause (commands.Install i) [] read m = absurd m
-  unread_cause (commands.Install i) (a ∷ []) read m = absurd m
-  unread_cause (commands.Install i) (a ∷ b ∷ k ∷ cs) read m = absurd m
+  pub unread_cause : (c : Command) (inputs : Inputs) → AreRead told failed (inputs_of c) inputs → Makes c inputs (Err e) → Cause (inputs_of c)
+  unread_cause commands.Usage at read m = absurd m
+  unread_cause (commands.Query q) at read m =
+      step_unread (q.store ∷ []) q.store store_in (at 0) (λ parts. Ok (query_done q parts)) store_read (inl refl) read.0
+      (λ parts h. absurd (not_ok (query_done q parts) e h)) m
+  unread_cause (commands.QueryCert q) at read m =
+      let names = inputs_of (commands.QueryCert q) in
+      step_unread names q.store store_in (at 0) (cert_after q (at 1) (at 2)) store_read (inl refl) read.0
+      (λ parts. step_unread names q.cert certificate_in (at 1) (cert_then q (at 2) parts) certificate_read (inr (inl refl)) read.1.0
+      (λ cert. step_unread names q.issuer_cert issuer_in (at 2) (cert_last parts cert) issuer_read (inr (inr (inl refl))) read.1.1.0
+      (λ issuer h. absurd (not_ok (query_cert_done parts cert issuer) e h)))) m
+  unread_cause (commands.Check name) at read m =
+      step_unread (name ∷ []) name part_in (at 0) (λ x. Ok (check_done x)) part_read (inl refl) read.0 (λ x h. absurd (not_ok (check_done x) e h)) m
+  unread_cause (commands.Show name) at read m =
+      step_unread (name ∷ []) name part_in (at 0) (λ x. Ok (show_done x)) part_read (inl refl) read.0 (λ x h. absurd (not_ok (show_done x) e h)) m
+  unread_cause (commands.Snapshot s) at read m =
+      cause_of (s.job ∷ []) s.job (at 0) (inl refl) read.0
+      (input_unread s.job job_in (at 0) e job_read (snapshot_unread s (input s.job job_in (at 0)) e m u) u)
+  unread_cause (commands.Delta t) at read m =
+      delta_by t (at 0) (at 1) read.0 read.1.0 (delta_unread t (input t.job job_in (at 0)) (input t.ledger ledger_in (at 1)) e m u)
+  unread_cause (commands.Rebase b) at read m =
+      cause_of (b.ledger ∷ []) b.ledger (at 0) (inl refl) read.0
+      (input_unread b.ledger ledger_in (at 0) e ledger_read (rebase_unread b (input b.ledger ledger_in (at 0)) e m u) u)
+  unread_cause (commands.Start t) at read m =
+      step_unread (t.part ∷ []) t.part part_in (at 0) (start_after t) part_read (inl refl) read.0 (λ x h. absurd (start_unread t x e h u)) m
+  unread_cause (commands.Install i) at read m =
+      step_unread (i.store ∷ i.part ∷ []) i.store store_in (at 0) (install_after i (at 1)) store_read (inl refl) read.0
+      (λ parts. step_unread (i.store ∷ i.part ∷ []) i.part part_in (at 1) (install_then i parts) part_read (inr (inl refl)) read.1.0
+      (λ x h. absurd (install_unread i parts x e h u))) m
+  unread_cause (commands.Rehearse r) at read m =
+      rehearsal_by r (at 0) (rest_of at) (input r.queries queries_in (at 0)) read.0 read.1 refl m
+  unread_cause (commands.Sample s) at read m = absurd (not_ok (sample_done s) e m)
+  unread_cause (commands.Gather f) at read m =
+      step_unread (f.head ∷ f.pages) f.head head_in (at 0) (gather_after f (rest_of at)) head_read (inl refl) read.0
+      (λ j h. let c = pages_by f.job (length j.entries) f.pages (rest_of at) read.1
+      (done_err (gather_done f j) (pages_of f.job (length j.entries) f.pages (rest_of at)) e h) in (inr c.0, c.1)) m
+  unread_cause (commands.Audit a) at read m =
+      audit_by a (at 0) (rest_of at) read.0 read.1 (store_or_jobs a (input a.store store_in (at 0)) (audit_jobs a.jobs (rest_of at)) e m u)

@@ -1,5 +1,5 @@
 -- What comes of a command over what the files hold, from what was read of them.
-use Rattle.std.proofs.Common.{◌≡◌, ℕ, ◌⊎◌, inl, inr, List, [], ◌∷◌, ◌++◌, map, Option, Some, None, Result, Ok, Err, refl, sym, ap, subst}
+use Rattle.std.proofs.Common.{◌≡◌, ℕ, zero, suc, ◌⊎◌, inl, inr, List, [], ◌∷◌, ◌++◌, Option, Some, None, Result, Ok, Err, refl, sym, ap, ◌∙◌, subst}
 use Rattle.std.specs.Prelude.{◌+◌, length}
 use Rattle.std.specs.FinMap.{get}
 use Rattle.outside_core.specs.Files.{Files}
@@ -12,20 +12,22 @@ use Rattle.publication_core.specs.Histories.{History, chain}
 use Rattle.word_core.specs.declared.command.Command.{Command}
 use Rattle.word_core.specs.declared.command.Command.TheVariants as commands
 use Rattle.word_core.specs.declared.command.{QueryCert.QueryCert, Delta.Delta, Install.Install, Rehearse.Rehearse}
-use Rattle.word_core.specs.declared.command.{Audit.Audit, Gather.Gather}
+use Rattle.word_core.specs.declared.command.{Audit.Audit}
 use Rattle.word_core.specs.Names.{inputs_of}
 use Rattle.input_core.specs.declared.fault.FileFault.{FileFault}
 use Rattle.input_core.specs.declared.fault.FileFault.TheVariants as faults
 use Rattle.clubcard_top.specs.ReplyFields.{Done, NamedFault}
 use Rattle.input_core.specs.Readings.{queries_in, job_in, ledger_in, store_in}
 use Rattle.input_core.specs.Certificates.{certificate_in, issuer_in}
-use Rattle.input_core.specs.Inputs.{IsRead, AreRead}
+use Rattle.input_core.specs.Inputs.{Inputs, rest_of, IsRead, AreRead}
 use Rattle.clubcard_top.specs.Commands.{◌>>=◌, input, query_makes, query_cert_makes, check_makes, show_makes, start_makes, install_makes}
-use Rattle.clubcard_top.specs.Commands.{MakesDelta, IsRefused, MakesRehearsal, head_in, page_in, room_for, pages_of, gather_done, gather_makes, Makes}
+use Rattle.clubcard_top.specs.Commands.{MakesSnapshot, MakesDelta, IsRefused, MakesRehearsal, head_in, page_in, room_for, pages_of, gather_done, Makes}
 use Rattle.clubcard_top.specs.Audits.{unless, job_behind, jobs_behind, bad_crl, audit_jobs, MakesAudit}
 use Rattle.clubcard_top.specs.Steps.{RehearsesOn}
-use Rattle.clubcard_top.specs.Replies.{held_by}
+use Rattle.clubcard_top.specs.Rebasings.{MakesRebase}
+use Rattle.clubcard_top.specs.Replies.{held_under, held_by}
 use Rattle.clubcard_top.proofs.Makings.{install_after, gather_after, page_last, page_then, cert_last, cert_then, cert_after}
+use Rattle.clubcard_top.proofs.Results.{not_err}
 use Rattle.clubcard_top.proofs.Prefixes.{first_of, from_first}
 
 pub some_is : (f g : Files) → ◌≡◌ {A = Option Files} (Some f) (Some g) → f ≡ g
@@ -39,24 +41,30 @@ held_one files failed name None quiet (inl why) = absurd (quiet name why)
 held_one files failed name None quiet (inr (told, same, none)) = sym (subst (λ (f : Files). get f name ≡ None) (some_is told files (sym same)) none)
 held_one files failed name (Some bytes) quiet read = sym read
 
-pub held_all : (files : Files) (failed : Option (List ℕ) → Type 0) (names : List (List ℕ)) (inputs : List (Option (List ℕ)))
-    → ((name : List ℕ) → failed (Some name) → ⊥) → AreRead (Some files) failed names inputs → inputs ≡ map (get files) names
-held_all files failed [] [] quiet read = refl
-held_all files failed [] (g ∷ inputs) quiet read = absurd read
-held_all files failed (name ∷ names) [] quiet read = absurd read
-held_all files failed (name ∷ names) (g ∷ inputs) quiet read =
-    let one = held_one files failed name g quiet read.0 in
-    let rest = held_all files failed names inputs quiet read.1 in
-    λ i. one i ∷ rest i
+held_at : (files : Files) (failed : Option (List ℕ) → Type 0) (names : List (List ℕ)) (inputs : Inputs)
+    → ((name : List ℕ) → failed (Some name) → ⊥) → AreRead (Some files) failed names inputs → (n : ℕ) → inputs n ≡ held_under files names n
+held_at files failed [] inputs quiet read n = read n
+held_at files failed (name ∷ names) inputs quiet read zero = held_one files failed name (inputs 0) quiet read.0
+held_at files failed (name ∷ names) inputs quiet read (suc n) = held_at files failed names (rest_of inputs) quiet read.1 n
+
+pub held_all : (files : Files) (failed : Option (List ℕ) → Type 0) (names : List (List ℕ)) (inputs : Inputs)
+    → ((name : List ℕ) → failed (Some name) → ⊥) → AreRead (Some files) failed names inputs → inputs ≡ held_under files names
+held_all files failed names inputs quiet read = λ i n. held_at files failed names inputs quiet read n i
 
 -- ---- where the answer isn't that an input can't be read
 
 -- an outcome that isn't that an input can't be read
-abbrev pub IsSeen : Result Done NamedFault → Type 0
+abbrev pub IsSeen : {B : Type 0} → Result B NamedFault → Type 0
 IsSeen o = (e : NamedFault) → o ≡ Err e → e.fault ≡ faults.Unread → ⊥
 
 abbrev unread : List ℕ → NamedFault
 unread name = record { name = name; fault = faults.Unread }
+
+-- of one input
+one_over : (files : Files) (failed : Option (List ℕ) → Type 0) (name : List ℕ) (P : Option (List ℕ) → Type 0) (given : Option (List ℕ)) → (P None → ⊥)
+    → IsRead (Some files) failed name given → P given → P (get files name)
+one_over files failed name P None refute read m = absurd (refute m)
+one_over files failed name P (Some bytes) refute read m = subst P (sym read) m
 
 delta_other : (t : Delta) (r : Result JobFields NamedFault) (l : Result LedgerFields NamedFault) (o : Result Done NamedFault) → IsSeen o
     → MakesDelta t r (Err (unread t.ledger)) o → MakesDelta t r l o
@@ -84,13 +92,13 @@ install_over files failed i (Some b) None o seen first second m = rw first (inst
 install_over files failed i (Some b) (Some c) o seen first second m = rw (first, second) m
 
 -- an input, and what follows it
-after_same : {A : Type 0} (r : Result A NamedFault) (next other : A → Result Done NamedFault) (o : Result Done NamedFault) → ((x : A) → o ≡ next x → o ≡ other x)
+after_same : {A B : Type 0} (r : Result A NamedFault) (next other : A → Result B NamedFault) (o : Result B NamedFault) → ((x : A) → o ≡ next x → o ≡ other x)
     → o ≡ (r >>= next) → o ≡ (r >>= other)
 after_same (Ok x) next other o then m = then x m
 after_same (Err e) next other o then m = m
 
-after_over : {A : Type 0} (files : Files) (failed : Option (List ℕ) → Type 0) (name : List ℕ) (read : List ℕ → Result A FileFault) (given : Option (List ℕ))
-    (next other : A → Result Done NamedFault) (o : Result Done NamedFault) → IsSeen o → IsRead (Some files) failed name given
+after_over : {A B : Type 0} (files : Files) (failed : Option (List ℕ) → Type 0) (name : List ℕ) (read : List ℕ → Result A FileFault) (given : Option (List ℕ))
+    (next other : A → Result B NamedFault) (o : Result B NamedFault) → IsSeen o → IsRead (Some files) failed name given
     → ((x : A) → o ≡ next x → o ≡ other x) → o ≡ (input name read given >>= next) → o ≡ (input name read (get files name) >>= other)
 after_over files failed name read None next other o seen is_read then m = absurd (seen (unread name) m refl)
 after_over files failed name read (Some b) next other o seen is_read then m = rw is_read (after_same (input name read (Some b)) next other o then m)
@@ -105,170 +113,131 @@ query_cert_over files failed q s k i o seen first second third m =
     (λ parts. after_over files failed q.cert certificate_in k (cert_then q i parts) (cert_then q held_issuer parts) o seen second
     (λ cert. after_over files failed q.issuer_cert issuer_in i (cert_last parts cert) (cert_last parts cert) o seen third (λ x h. h))) m
 
--- what is wrong with a job that isn't given is that it can't be read
-unread_job : (h : History) (parts : List SealedFields) (name : List ℕ) (e : NamedFault) → IsRefused h parts name None e → e.fault ≡ faults.Unread
-unread_job h parts name e (inl is) =
-    let same : unread name ≡ e = let g : ◌≡◌ {A = Result JobFields NamedFault} (Err (unread name)) (Err e) = is in cc in
-    sym (ap (λ (k : NamedFault). k.fault) same)
-unread_job h parts name e (inr (job, fault, is, not, same)) = absurd (let g : ◌≡◌ {A = Result JobFields NamedFault} (Err (unread name)) (Ok job) = is in cc)
+-- a job that was read is read of what the file holds
+job_over : (files : Files) (failed : Option (List ℕ) → Type 0) (name : List ℕ) (given : Option (List ℕ)) (r : Result JobFields NamedFault)
+    → IsSeen r → IsRead (Some files) failed name given → input name job_in given ≡ r → input name job_in (get files name) ≡ r
+job_over files failed name given r seen read is =
+    sym (one_over files failed name (λ g. r ≡ input name job_in g) given (λ h. seen (unread name) h refl) read (sym is))
+
+err_same : {A : Type 0} (e f : NamedFault) → ◌≡◌ {A = Result A NamedFault} (Err e) (Err f) → e ≡ f
+err_same e f h = cc
+
+refused_over : (files : Files) (failed : Option (List ℕ) → Type 0) (h : History) (parts : List SealedFields) (name : List ℕ) (given : Option (List ℕ)) (e : NamedFault)
+    → (e.fault ≡ faults.Unread → ⊥) → IsRead (Some files) failed name given → IsRefused h parts name given e → IsRefused h parts name (get files name) e
+refused_over files failed h parts name given e seen read (inl is) =
+    inl (job_over files failed name given (Err e) (λ f k u. seen (ap (λ (n : NamedFault). n.fault) (err_same {A = JobFields} e f k) ∙ u)) read is)
+refused_over files failed h parts name given e seen read (inr (job, fault, is, not, same)) =
+    inr (job, fault, job_over files failed name given (Ok job) (λ f k u. not_err job f k) read is, not, same)
 
 rehearses_over : (files : Files) (failed : Option (List ℕ) → Type 0) (queries : List Query) (jobs : List JobFields) (parts : List SealedFields) (names : List (List ℕ))
-    (inputs : List (Option (List ℕ))) (o : Result Done NamedFault) → IsSeen o
-    → AreRead (Some files) failed names inputs → RehearsesOn queries jobs parts names inputs o → RehearsesOn queries jobs parts names (map (get files) names) o
-rehearses_over files failed queries jobs parts [] [] o seen read m = m
-rehearses_over files failed queries jobs parts [] (g ∷ inputs) o seen read m = absurd m
-rehearses_over files failed queries jobs parts (name ∷ names) [] o seen read m = absurd m
-rehearses_over files failed queries jobs parts (name ∷ names) (None ∷ inputs) o seen read (inl (e, refused, is)) = absurd (seen e is (unread_job (chain jobs) parts name e refused))
-rehearses_over files failed queries jobs parts (name ∷ names) (None ∷ inputs) o seen read (inr (job, more, is_job, fits, is_more, rest)) =
-    absurd (let g : ◌≡◌ {A = Result JobFields NamedFault} (Err (unread name)) (Ok job) = is_job in cc)
-rehearses_over files failed queries jobs parts (name ∷ names) (Some b ∷ inputs) o seen read (inl (e, refused, is)) =
-    inl (e, subst (λ (g : Option (List ℕ)). IsRefused (chain jobs) parts name g e) (sym read.0) refused, is)
-rehearses_over files failed queries jobs parts (name ∷ names) (Some b ∷ inputs) o seen read (inr (job, more, is_job, fits, is_more, rest)) =
+    (inputs : Inputs) (o : Result Done NamedFault) → IsSeen o
+    → AreRead (Some files) failed names inputs → RehearsesOn queries jobs parts names inputs o → RehearsesOn queries jobs parts names (held_under files names) o
+rehearses_over files failed queries jobs parts [] inputs o seen read m = m
+rehearses_over files failed queries jobs parts (name ∷ names) inputs o seen read (inl (e, refused, is)) =
+    inl (e, refused_over files failed (chain jobs) parts name (inputs 0) e (seen e is) read.0 refused, is)
+rehearses_over files failed queries jobs parts (name ∷ names) inputs o seen read (inr (job, more, is_job, fits, is_more, rest)) =
     inr (
       job,
       more,
-      subst (λ (g : Option (List ℕ)). input name job_in g ≡ Ok job) (sym read.0) is_job,
+      job_over files failed name (inputs 0) (Ok job) (λ f k u. not_err job f k) read.0 is_job,
       fits,
       is_more,
-      rehearses_over files failed queries (jobs ++ job ∷ []) more names inputs o seen read.1 rest,
+      rehearses_over files failed queries (jobs ++ job ∷ []) more names (rest_of inputs) o seen read.1 rest,
     )
 
 rehearsal_by : (files : Files) (failed : Option (List ℕ) → Type 0) (r : Rehearse) (queries : Result (List Query) NamedFault)
-    (inputs : List (Option (List ℕ))) (o : Result Done NamedFault) → IsSeen o
-    → AreRead (Some files) failed r.jobs inputs → MakesRehearsal r queries inputs o → MakesRehearsal r queries (map (get files) r.jobs) o
+    (inputs : Inputs) (o : Result Done NamedFault) → IsSeen o
+    → AreRead (Some files) failed r.jobs inputs → MakesRehearsal r queries inputs o → MakesRehearsal r queries (held_under files r.jobs) o
 rehearsal_by files failed r (Ok queries) inputs o seen read m =
-    first_of queries r.jobs (map (get files) r.jobs) o (rehearses_over files failed queries [] [] r.jobs inputs o seen read (from_first queries r.jobs inputs o m))
+    first_of queries r.jobs (held_under files r.jobs) o (rehearses_over files failed queries [] [] r.jobs inputs o seen read (from_first queries r.jobs inputs o m))
 rehearsal_by files failed r (Err e) inputs o seen read m = m
 
-rehearsal_over : (files : Files) (failed : Option (List ℕ) → Type 0) (r : Rehearse) (q : Option (List ℕ)) (inputs : List (Option (List ℕ))) (o : Result Done NamedFault)
-    → IsSeen o → IsRead (Some files) failed r.queries q
-    → AreRead (Some files) failed r.jobs inputs → MakesRehearsal r (input r.queries queries_in q) inputs o
-    → MakesRehearsal r (input r.queries queries_in (get files r.queries)) (map (get files) r.jobs) o
-rehearsal_over files failed r None inputs o seen first others m = absurd (seen (unread r.queries) m refl)
-rehearsal_over files failed r (Some b) inputs o seen first others m = rw first (rehearsal_by files failed r (input r.queries queries_in (Some b)) inputs o seen others m)
-
 -- a step between two others
-through : {A C B : Type 0} (r : Result A NamedFault) (one other : A → Result C NamedFault) (next : C → Result B NamedFault) (o : Result B NamedFault)
-    → ((x : A) → o ≡ (one x >>= next) → o ≡ (other x >>= next)) → o ≡ ((r >>= one) >>= next) → o ≡ ((r >>= other) >>= next)
-through (Ok x) one other next o then m = then x m
-through (Err e) one other next o then m = m
+through : {A C B : Type 0} (r : Result A NamedFault) (one : A → Result C NamedFault) (next : C → Result B NamedFault) (o : Result B NamedFault)
+    → o ≡ ((r >>= one) >>= next) → o ≡ (r >>= (λ x. one x >>= next))
+through (Ok x) one next o m = m
+through (Err e) one next o m = m
 
-parted : {B : Type 0} (r : Result (List PageFields) NamedFault) (few : List PageFields) (next : List PageFields → Result B NamedFault) (o : Result B NamedFault)
-    → o ≡ ((r >>= (λ others. Ok (few ++ others))) >>= next) → o ≡ (r >>= (λ others. next (few ++ others)))
-parted (Ok others) few next o m = m
-parted (Err e) few next o m = m
-
-joined : {B : Type 0} (r : Result (List PageFields) NamedFault) (few : List PageFields) (next : List PageFields → Result B NamedFault) (o : Result B NamedFault)
-    → o ≡ (r >>= (λ others. next (few ++ others))) → o ≡ ((r >>= (λ others. Ok (few ++ others))) >>= next)
-joined (Ok others) few next o m = m
-joined (Err e) few next o m = m
+back_through : {A C B : Type 0} (r : Result A NamedFault) (one : A → Result C NamedFault) (next : C → Result B NamedFault) (o : Result B NamedFault)
+    → o ≡ (r >>= (λ x. one x >>= next)) → o ≡ ((r >>= one) >>= next)
+back_through (Ok x) one next o m = m
+back_through (Err e) one next o m = m
 
 -- pages, behind which a step follows
-pages_over : {B : Type 0} (files : Files) (failed : Option (List ℕ) → Type 0) (o : Result B NamedFault) → ((e : NamedFault) → o ≡ Err e → e.fault ≡ faults.Unread → ⊥)
-    → (job : List ℕ) (before : ℕ) (names : List (List ℕ)) (inputs : List (Option (List ℕ))) → AreRead (Some files) failed names inputs
-    → (next : List PageFields → Result B NamedFault) → o ≡ (pages_of job before names inputs >>= next) → o ≡ (pages_of job before names (map (get files) names) >>= next)
-pages_over files failed o seen job before [] [] read next m = m
-pages_over files failed o seen job before [] (g ∷ inputs) read next m = absurd read
-pages_over files failed o seen job before (name ∷ names) [] read next m = absurd read
-pages_over files failed o seen job before (name ∷ names) (None ∷ inputs) read next m = absurd (seen (unread name) m refl)
-pages_over files failed o seen job before (name ∷ names) (Some b ∷ inputs) read next m =
-    rw read.0 (through (input name page_in (Some b)) (page_then job before names inputs) (page_then job before names (map (get files) names)) next o
-    (λ page h. through (room_for job before page) (page_last job before names inputs) (page_last job before names (map (get files) names)) next o
-    (λ few k. joined (pages_of job (before + length few) names (map (get files) names)) few next o
-    (pages_over files failed o seen job (before + length few) names inputs read.1 (λ others. next (few ++ others))
-    (parted (pages_of job (before + length few) names inputs) few next o k))) h) m)
-
-gather_over : (files : Files) (failed : Option (List ℕ) → Type 0) (f : Gather) (h : Option (List ℕ)) (inputs : List (Option (List ℕ))) (o : Result Done NamedFault) → IsSeen o
-    → IsRead (Some files) failed f.head h → AreRead (Some files) failed f.pages inputs
-    → o ≡ gather_makes f h inputs → o ≡ gather_makes f (get files f.head) (map (get files) f.pages)
-gather_over files failed f h inputs o seen first others m =
-    after_over files failed f.head head_in h (gather_after f inputs) (gather_after f (map (get files) f.pages)) o seen first
-    (λ j. pages_over files failed o seen f.job (length j.entries) f.pages inputs others (λ entries. Ok (gather_done f j entries))) m
+pages_over : {B : Type 0} (files : Files) (failed : Option (List ℕ) → Type 0) (o : Result B NamedFault) → IsSeen o
+    → (job : List ℕ) (before : ℕ) (names : List (List ℕ)) (inputs : Inputs) → AreRead (Some files) failed names inputs
+    → (next : List PageFields → Result B NamedFault) → o ≡ (pages_of job before names inputs >>= next) → o ≡ (pages_of job before names (held_under files names) >>= next)
+pages_over files failed o seen job before [] inputs read next m = m
+pages_over files failed o seen job before (name ∷ names) inputs read next m =
+    let others = rest_of inputs in
+    let held = held_under files names in
+    back_through (input name page_in (get files name)) (page_then job before names held) next o
+    (after_over files failed name page_in (inputs 0) (λ page. page_then job before names others page >>= next) (λ page. page_then job before names held page >>= next) o seen read.0
+    (λ page h. back_through (room_for job before page) (page_last job before names held) next o
+    (after_same (room_for job before page) (λ few. page_last job before names others few >>= next) (λ few. page_last job before names held few >>= next) o
+    (λ few k. back_through (pages_of job (before + length few) names held) (λ more. Ok (few ++ more)) next o
+    (pages_over files failed o seen job (before + length few) names others read.1 (λ more. next (few ++ more))
+    (through (pages_of job (before + length few) names others) (λ more. Ok (few ++ more)) next o k)))
+    (through (room_for job before page) (page_last job before names others) next o h)))
+    (through (input name page_in (inputs 0)) (page_then job before names others) next o m))
 
 -- jobs of an audit: they are those that the files hold, or one can't be read
-abbrev SameJobs : Files → List JobFields → List (List ℕ) → List (Option (List ℕ)) → Type 0
+abbrev SameJobs : Files → List JobFields → List (List ℕ) → Inputs → Type 0
 SameJobs files before names inputs =
-    (jobs_behind before names inputs ≡ jobs_behind before names (map (get files) names))
+    (jobs_behind before names inputs ≡ jobs_behind before names (held_under files names))
     ⊎ ((name : List ℕ) × (jobs_behind before names inputs ≡ Err (unread name)))
 
-job_over : (files : Files) (names : List (List ℕ)) (inputs : List (Option (List ℕ))) (before : List JobFields) (r : Result JobFields NamedFault)
+same_next : (files : Files) (names : List (List ℕ)) (inputs : Inputs) (before : List JobFields) (r : Result JobFields NamedFault)
     → ((js : List JobFields) → SameJobs files js names inputs)
-    → ((r >>= (λ j. jobs_behind (before ++ j ∷ []) names inputs)) ≡ (r >>= (λ j. jobs_behind (before ++ j ∷ []) names (map (get files) names))))
+    → ((r >>= (λ j. jobs_behind (before ++ j ∷ []) names inputs)) ≡ (r >>= (λ j. jobs_behind (before ++ j ∷ []) names (held_under files names))))
     ⊎ ((name : List ℕ) × ((r >>= (λ j. jobs_behind (before ++ j ∷ []) names inputs)) ≡ Err (unread name)))
-job_over files names inputs before (Ok j) rest = rest (before ++ j ∷ [])
-job_over files names inputs before (Err e) rest = inl refl
+same_next files names inputs before (Ok j) rest = rest (before ++ j ∷ [])
+same_next files names inputs before (Err e) rest = inl refl
 
-jobs_over : (files : Files) (failed : Option (List ℕ) → Type 0) (before : List JobFields) (names : List (List ℕ)) (inputs : List (Option (List ℕ)))
+same_first : (files : Files) (failed : Option (List ℕ) → Type 0) (before : List JobFields) (name : List ℕ) (names : List (List ℕ)) (g : Option (List ℕ)) (inputs : Inputs)
+    → IsRead (Some files) failed name g → ((js : List JobFields) → SameJobs files js names inputs)
+    → ((input name (job_behind before) g >>= (λ j. jobs_behind (before ++ j ∷ []) names inputs))
+    ≡ (input name (job_behind before) (get files name) >>= (λ j. jobs_behind (before ++ j ∷ []) names (held_under files names))))
+    ⊎ ((n : List ℕ) × ((input name (job_behind before) g >>= (λ j. jobs_behind (before ++ j ∷ []) names inputs)) ≡ Err (unread n)))
+same_first files failed before name names None inputs read rest = inr (name, refl)
+same_first files failed before name names (Some b) inputs read rest = rw read (same_next files names inputs before (input name (job_behind before) (Some b)) rest)
+
+jobs_over : (files : Files) (failed : Option (List ℕ) → Type 0) (before : List JobFields) (names : List (List ℕ)) (inputs : Inputs)
     → AreRead (Some files) failed names inputs → SameJobs files before names inputs
-jobs_over files failed before [] [] read = inl refl
-jobs_over files failed before [] (g ∷ inputs) read = absurd read
-jobs_over files failed before (name ∷ names) [] read = absurd read
-jobs_over files failed before (name ∷ names) (None ∷ inputs) read = inr (name, refl)
-jobs_over files failed before (name ∷ names) (Some b ∷ inputs) read =
-    rw read.0 (job_over files names inputs before (input name (job_behind before) (Some b)) (λ js. jobs_over files failed js names inputs read.1))
+jobs_over files failed before [] inputs read = inl refl
+jobs_over files failed before (name ∷ names) inputs read =
+    same_first files failed before name names (inputs 0) (rest_of inputs) read.0 (λ js. jobs_over files failed js names (rest_of inputs) read.1)
 
-audit_by : (a : Audit) (files : Files) (inputs : List (Option (List ℕ))) (store : Result (List SealedFields) NamedFault) (o : Result Done NamedFault) → IsSeen o
-    → SameJobs files [] a.jobs inputs → MakesAudit a store (audit_jobs a.jobs inputs) o → MakesAudit a store (audit_jobs a.jobs (map (get files) a.jobs)) o
+audit_by : (a : Audit) (files : Files) (inputs : Inputs) (store : Result (List SealedFields) NamedFault) (o : Result Done NamedFault) → IsSeen o
+    → SameJobs files [] a.jobs inputs → MakesAudit a store (audit_jobs a.jobs inputs) o → MakesAudit a store (audit_jobs a.jobs (held_under files a.jobs)) o
 audit_by a files inputs (Err e) o seen same m = m
 audit_by a files inputs (Ok parts) o seen (inl same) m =
     subst (λ (r : Result (List JobFields) NamedFault). MakesAudit a (Ok parts) (r >>= (λ js. unless (bad_crl a.jobs js) js)) o) same m
 audit_by a files inputs (Ok parts) o seen (inr (name, is)) m =
     absurd (seen (unread name) (subst (λ (r : Result (List JobFields) NamedFault). MakesAudit a (Ok parts) (r >>= (λ js. unless (bad_crl a.jobs js) js)) o) is m) refl)
 
-audit_over : (files : Files) (failed : Option (List ℕ) → Type 0) (a : Audit) (s : Option (List ℕ)) (inputs : List (Option (List ℕ))) (o : Result Done NamedFault) → IsSeen o
-    → IsRead (Some files) failed a.store s → AreRead (Some files) failed a.jobs inputs → MakesAudit a (input a.store store_in s) (audit_jobs a.jobs inputs) o
-    → MakesAudit a (input a.store store_in (get files a.store)) (audit_jobs a.jobs (map (get files) a.jobs)) o
-audit_over files failed a None inputs o seen first others m = absurd (seen (unread a.store) m refl)
-audit_over files failed a (Some b) inputs o seen first others m =
-    rw first (audit_by a files inputs (input a.store store_in (Some b)) o seen (jobs_over files failed [] a.jobs inputs others) m)
-
--- of one input
-one_over : (files : Files) (failed : Option (List ℕ) → Type 0) (name : List ℕ) (P : Option (List ℕ) → Type 0) (given : Option (List ℕ)) → (P None → ⊥)
-    → IsRead (Some files) failed name given → P given → P (get files name)
-one_over files failed name P None refute read m = absurd (refute m)
-one_over files failed name P (Some bytes) refute read m = subst P (sym read) m
-
-pub over_files : (files : Files) (failed : Option (List ℕ) → Type 0) (c : Command) (inputs : List (Option (List ℕ))) (o : Result Done NamedFault) → IsSeen o
-    → AreRead (Some files) failed (inputs_of c) inputs → Makes c inputs o
-    → Makes c (held_by c files) o
-over_files files failed commands.Usage inputs o seen read m = absurd m
-over_files files failed (commands.Query q) (s ∷ []) o seen read m = one_over files failed q.store (λ g. o ≡ query_makes q g) s (λ h. seen (unread q.store) h refl) read.0 m
-over_files files failed (commands.QueryCert q) (s ∷ k ∷ i ∷ []) o seen read m = query_cert_over files failed q s k i o seen read.0 read.1.0 read.1.1.0 m
-over_files files failed (commands.Check name) (p ∷ []) o seen read m = one_over files failed name (λ g. o ≡ check_makes name g) p (λ h. seen (unread name) h refl) read.0 m
-over_files files failed (commands.Show name) (p ∷ []) o seen read m = one_over files failed name (λ g. o ≡ show_makes name g) p (λ h. seen (unread name) h refl) read.0 m
-over_files files failed (commands.Snapshot s) (j ∷ []) o seen read m = one_over files failed s.job (λ g. Makes (commands.Snapshot s) (g ∷ []) o) j (λ h. seen (unread s.job) h refl) read.0 m
-over_files files failed (commands.Delta t) (j ∷ l ∷ []) o seen read m = delta_over files failed t j l o seen read.0 read.1.0 m
-over_files files failed (commands.Rebase b) (l ∷ []) o seen read m =
-    one_over files failed b.ledger (λ g. Makes (commands.Rebase b) (g ∷ []) o) l (λ h. seen (unread b.ledger) h refl) read.0 m
-over_files files failed (commands.Start t) (p ∷ []) o seen read m = one_over files failed t.part (λ g. o ≡ start_makes t g) p (λ h. seen (unread t.part) h refl) read.0 m
-over_files files failed (commands.Install i) (s ∷ p ∷ []) o seen read m = install_over files failed i s p o seen read.0 read.1.0 m
-over_files files failed (commands.Rehearse r) (q ∷ inputs) o seen read m = rehearsal_over files failed r q inputs o seen read.0 read.1 m
-over_files files failed (commands.Sample s) [] o seen read m = m
-over_files files failed (commands.Rehearse r) [] o seen read m = absurd m
-over_files files failed (commands.Sample s) (a ∷ cs) o seen read m = absurd m
-over_files files failed (commands.Gather f) (h ∷ inputs) o seen read m = gather_over files failed f h inputs o seen read.0 read.1 m
-over_files files failed (commands.Gather f) [] o seen read m = absurd m
-over_files files failed (commands.Audit a) (s ∷ inputs) o seen read m = audit_over files failed a s inputs o seen read.0 read.1 m
-over_files files failed (commands.Audit a) [] o seen read m = absurd m
-over_files files failed (commands.Query q) [] o seen read m = absurd m
-over_files files failed (commands.Query q) (a ∷ b ∷ cs) o seen read m = absurd m
-over_files files failed (commands.QueryCert q) [] o seen read m = absurd m
-over_files files failed (commands.QueryCert q) (a ∷ []) o seen read m = absurd m
-over_files files failed (commands.QueryCert q) (a ∷ b ∷ []) o seen read m = absurd m
-over_files files failed (commands.QueryCert q) (a ∷ b ∷ k ∷ l ∷ cs) o seen read m = absurd m
-over_files files failed (commands.Check name) [] o seen read m = absurd m
-over_files files failed (commands.Check name) (a ∷ b ∷ cs) o seen read m = absurd m
-over_files files failed (commands.Show name) [] o seen read m = absurd m
-over_files files failed (commands.Show name) (a ∷ b ∷ cs) o seen read m = absurd m
-over_files files failed (commands.Snapshot s) [] o seen read m = absurd m
-over_files files failed (commands.Snapshot s) (a ∷ b ∷ cs) o seen read m = absurd m
-over_files files failed (commands.Delta t) [] o seen read m = absurd m
-over_files files failed (commands.Delta t) (a ∷ []) o seen read m = absurd m
-over_files files failed (commands.Delta t) (a ∷ b ∷ k ∷ cs) o seen read m = absurd m
-over_files files failed (commands.Rebase b) [] o seen read m = absurd m
-over_files files failed (commands.Rebase b) (a ∷ l ∷ cs) o seen read m = absurd m
-over_files files failed (commands.Start t) [] o seen read m = absurd m
-over_files files failed (commands.Start t) (a ∷ b ∷ cs) o seen read m = absurd m
-over_files files failed (commands.Install i) [] o seen read m = absurd m
-over_files files failed (commands.Install i) (a ∷ []) o seen read m = absurd m
-over_files files failed (commands.Install i) (a ∷ b ∷ k ∷ cs) o seen read m = absurd m
+pub over_files : (files : Files) (failed : Option (List ℕ) → Type 0) (c : Command) (at : Inputs) (o : Result Done NamedFault) → IsSeen o
+    → AreRead (Some files) failed (inputs_of c) at → Makes c at o → Makes c (held_by c files) o
+over_files files failed commands.Usage at o seen read m = absurd m
+over_files files failed (commands.Query q) at o seen read m = one_over files failed q.store (λ g. o ≡ query_makes q g) (at 0) (λ h. seen (unread q.store) h refl) read.0 m
+over_files files failed (commands.QueryCert q) at o seen read m = query_cert_over files failed q (at 0) (at 1) (at 2) o seen read.0 read.1.0 read.1.1.0 m
+over_files files failed (commands.Check name) at o seen read m = one_over files failed name (λ g. o ≡ check_makes name g) (at 0) (λ h. seen (unread name) h refl) read.0 m
+over_files files failed (commands.Show name) at o seen read m = one_over files failed name (λ g. o ≡ show_makes name g) (at 0) (λ h. seen (unread name) h refl) read.0 m
+over_files files failed (commands.Snapshot s) at o seen read m =
+    one_over files failed s.job (λ g. MakesSnapshot s (input s.job job_in g) o) (at 0) (λ h. seen (unread s.job) h refl) read.0 m
+over_files files failed (commands.Delta t) at o seen read m = delta_over files failed t (at 0) (at 1) o seen read.0 read.1.0 m
+over_files files failed (commands.Rebase b) at o seen read m =
+    one_over files failed b.ledger (λ g. MakesRebase b (input b.ledger ledger_in g) o) (at 0) (λ h. seen (unread b.ledger) h refl) read.0 m
+over_files files failed (commands.Start t) at o seen read m = one_over files failed t.part (λ g. o ≡ start_makes t g) (at 0) (λ h. seen (unread t.part) h refl) read.0 m
+over_files files failed (commands.Install i) at o seen read m = install_over files failed i (at 0) (at 1) o seen read.0 read.1.0 m
+over_files files failed (commands.Rehearse r) at o seen read m =
+    one_over files failed r.queries (λ g. MakesRehearsal r (input r.queries queries_in g) (held_under files r.jobs) o) (at 0)
+    (λ h. seen (unread r.queries) h refl) read.0 (rehearsal_by files failed r (input r.queries queries_in (at 0)) (rest_of at) o seen read.1 m)
+over_files files failed (commands.Sample s) at o seen read m = m
+over_files files failed (commands.Gather f) at o seen read m =
+    after_over files failed f.head head_in (at 0) (gather_after f (rest_of at)) (gather_after f (held_under files f.pages)) o seen read.0
+    (λ j. pages_over files failed o seen f.job (length j.entries) f.pages (rest_of at) read.1 (λ entries. Ok (gather_done f j entries))) m
+over_files files failed (commands.Audit a) at o seen read m =
+    one_over files failed a.store (λ g. MakesAudit a (input a.store store_in g) (audit_jobs a.jobs (held_under files a.jobs)) o) (at 0)
+    (λ h. seen (unread a.store) h refl) read.0
+    (audit_by a files (rest_of at) (input a.store store_in (at 0)) o seen (jobs_over files failed [] a.jobs (rest_of at) read.1) m)

@@ -1,9 +1,9 @@
 -- Pages that are put behind a job file by file, and the reply of `gather`.
-use Rattle.std.proofs.Common.{◌≡◌, ℕ, ◌+◌, ◌<◌, ◌≤◌, inl, List, [], ◌∷◌, ◌++◌, map, take, drop, get_or, length, append_assoc, length-append, Option, None, Result, Ok}
+use Rattle.std.proofs.Common.{◌≡◌, ℕ, ◌+◌, ◌<◌, ◌≤◌, inl, List, [], ◌∷◌, ◌++◌, map, drop, get_or, length, append_assoc, length-append, Option, None, Result, Ok}
 use Rattle.std.proofs.Common.{Err, IfOk, refl, sym, ap, ◌∙◌, subst, arith}
 use Rattle.std.specs.Prelude.{IsErr}
 use Rattle.std.proofs.lemmas.Bool.{le-leb, lt-leb}
-use Rattle.std.proofs.lemmas.List.{append-nil, map-append, length-map, take_more, drop_more, take_all, drop_all, take-append-drop}
+use Rattle.std.proofs.lemmas.List.{append-nil, map-append, length-map, drop_all}
 use Rattle.octets_core.specs.declared.memory.NoMemory.{NoMemory}
 use Rattle.outside_core.specs.declared.depot.Depot.{Ghosts}
 use Rattle.outside_core.specs.Effects.{OnlyReads}
@@ -27,14 +27,15 @@ use Rattle.clubcard_top.specs.ReplyFields.{NamedFault}
 use Rattle.input_core.specs.Readings.{input_as}
 use Rattle.clubcard_top.specs.Commands.{◌>>=◌, named, input, head_in, page_in, room_for, pages_of, longer, gather_done}
 use Rattle.outside_core.specs.Reads.{WhichFailed}
-use Rattle.input_core.specs.Inputs.{IsBlamed, IsRead, AreRead, IsInput}
+use Rattle.input_core.specs.Inputs.{Inputs, rest_of, IsBlamed, IsRead, AreRead, IsInput}
 use Rattle.clubcard_top.specs.Gathers.{IsGatheredFrom, IsNotGathered}
 use Rattle.clubcard_top.specs.Replies.{done, refusal, IsReply}
 use Rattle.clubcard_top.specs.Answering.{reply_fields}
 use Rattle.outside_core.proofs.Effects.{WhichFailed-then}
 use Rattle.input_core.proofs.FilesRead.{later_read, none_failed, blamed_later}
+use Rattle.clubcard_top.proofs.Fronts.{no_inputs, ahead, these, ahead_push, nothing, later_reads, some_reads, Front, no_front, from_place, is_among, front_more, read_on, front_all}
+use Rattle.clubcard_top.proofs.Makings.{page_last, page_then}
 use Rattle.clubcard_top.proofs.Replying.{read_well, blames_file, says_wider, made, made_unless}
-use Rattle.clubcard_top.proofs.Rehearsal.{nothing, wider_all, read_both, some_reads, at_among}
 
 -- entries before those of a result
 abbrev pub behind_these : List PageFields → Result (List PageFields) NamedFault → Result (List PageFields) NamedFault
@@ -62,35 +63,34 @@ no_room : (job : List ℕ) (before : ℕ) (page : List PageFields) → limits.PU
     → room_for job before page ≡ Err (record { name = job; fault = faults.TooMany what.Entries limits.PUBLISHED.entries })
 no_room job before page lt = rw (lt-leb (before + length page) limits.PUBLISHED.entries lt) refl
 
-pub page_put : (job name : List ℕ) (names : List (List ℕ)) (before : ℕ) (g : Option (List ℕ)) (rest : List (Option (List ℕ))) (page : List PageFields) → input name page_in g ≡ Ok page
-    → before + length page ≤ limits.PUBLISHED.entries → pages_of job before (name ∷ names) (g ∷ rest) ≡ behind_these page (pages_of job (before + length page) names rest)
-page_put job name names before g rest page is le =
-    ap (λ (r : Result (List PageFields) NamedFault). r >>= (λ read. room_for job before read >>= (λ p. pages_of job (before + length p) names rest >>= (λ others. Ok (p ++ others))))) is
-    ∙ ap (λ (r : Result (List PageFields) NamedFault). r >>= (λ p. pages_of job (before + length p) names rest >>= (λ others. Ok (p ++ others)))) (room job before page le)
-    ∙ these_of page (pages_of job (before + length page) names rest)
+-- what follows a page that was read, and one for which there is room
+pub page_put : (job name : List ℕ) (names : List (List ℕ)) (before : ℕ) (at : Inputs) (page : List PageFields) → input name page_in (at 0) ≡ Ok page
+    → before + length page ≤ limits.PUBLISHED.entries → pages_of job before (name ∷ names) at ≡ behind_these page (pages_of job (before + length page) names (rest_of at))
+page_put job name names before at page is le =
+    ap (λ (r : Result (List PageFields) NamedFault). r >>= page_then job before names (rest_of at)) is
+    ∙ ap (λ (r : Result (List PageFields) NamedFault). r >>= page_last job before names (rest_of at)) (room job before page le)
+    ∙ these_of page (pages_of job (before + length page) names (rest_of at))
 
-page_over : (job name : List ℕ) (names : List (List ℕ)) (before : ℕ) (g : Option (List ℕ)) (rest : List (Option (List ℕ))) (page : List PageFields) → input name page_in g ≡ Ok page
+page_over : (job name : List ℕ) (names : List (List ℕ)) (before : ℕ) (at : Inputs) (page : List PageFields) → input name page_in (at 0) ≡ Ok page
     → limits.PUBLISHED.entries < before + length page
-    → pages_of job before (name ∷ names) (g ∷ rest) ≡ Err (record { name = job; fault = faults.TooMany what.Entries limits.PUBLISHED.entries })
-page_over job name names before g rest page is lt =
-    ap (λ (r : Result (List PageFields) NamedFault). r >>= (λ read. room_for job before read >>= (λ p. pages_of job (before + length p) names rest >>= (λ others. Ok (p ++ others))))) is
-    ∙ ap (λ (r : Result (List PageFields) NamedFault). r >>= (λ p. pages_of job (before + length p) names rest >>= (λ others. Ok (p ++ others)))) (no_room job before page lt)
+    → pages_of job before (name ∷ names) at ≡ Err (record { name = job; fault = faults.TooMany what.Entries limits.PUBLISHED.entries })
+page_over job name names before at page is lt =
+    ap (λ (r : Result (List PageFields) NamedFault). r >>= page_then job before names (rest_of at)) is
+    ∙ ap (λ (r : Result (List PageFields) NamedFault). r >>= page_last job before names (rest_of at)) (no_room job before page lt)
 
-page_fault : (job name : List ℕ) (names : List (List ℕ)) (before : ℕ) (g : Option (List ℕ)) (rest : List (Option (List ℕ))) (e : NamedFault) → input name page_in g ≡ Err e
-    → pages_of job before (name ∷ names) (g ∷ rest) ≡ Err e
-page_fault job name names before g rest e is =
-    ap (λ (r : Result (List PageFields) NamedFault). r >>= (λ read. room_for job before read >>= (λ p. pages_of job (before + length p) names rest >>= (λ others. Ok (p ++ others))))) is
+page_fault : (job name : List ℕ) (names : List (List ℕ)) (before : ℕ) (at : Inputs) (e : NamedFault) → input name page_in (at 0) ≡ Err e
+    → pages_of job before (name ∷ names) at ≡ Err e
+page_fault job name names before at e is = ap (λ (r : Result (List PageFields) NamedFault). r >>= page_then job before names (rest_of at)) is
 
 -- ---- the first pages
 
 -- The first pages were read and put behind the job, and what comes of the rest behind them comes of all.
 pub record Gone (told : Option Files) (f : Gather) (j : JobContents) (i : ℕ) (job : OpenJob) : Type 0 where
-  pub inputs : List (Option (List ℕ))
-  pub read : AreRead told nothing (take i f.pages) inputs
+  pub front : Front told f.pages i
   pub entries : List PageFields
   pub opens : Opens job (longer f j entries)
-  pub next : (rest : List (Option (List ℕ)))
-      → pages_of f.job (length j.entries) f.pages (inputs ++ rest) ≡ behind_these entries (pages_of f.job (length j.entries + length entries) (drop i f.pages) rest)
+  pub next : (rest : Inputs)
+      → pages_of f.job (length j.entries) f.pages (ahead front.inputs rest) ≡ behind_these entries (pages_of f.job (length j.entries + length entries) (drop i f.pages) rest)
 
 -- how many entries a longer job has
 longer-size : (f : Gather) (j : JobContents) (entries : List PageFields) → length (longer f j entries).entries ≡ length j.entries + length entries
@@ -107,8 +107,7 @@ longer-none f j = ap (λ (l : List EntryText). record j { entries = l }) (append
 module _ (told : Option Files) (f : Gather) (j : JobContents) where
   pub none_gone : (job : OpenJob) → Opens job j → Gone told f j 0 job
   none_gone job opens = record {
-    inputs = [];
-    read = tt;
+    front = no_front told f.pages;
     entries = [];
     opens = subst (λ (k : JobContents). Opens job k) (sym (longer-none f j)) opens;
     next = λ rest.
@@ -119,17 +118,12 @@ module _ (told : Option Files) (f : Gather) (j : JobContents) where
   module _ (here : Option (List ℕ) → Type 0) (mid : Option Files) (same : mid ≡ told) (i : ℕ) (name : List ℕ)
       (lt : i < length f.pages) (is : name ≡ get_or f.pages i name)
       (job : OpenJob) (gone : Gone told f j i job) (g : Option (List ℕ)) (read : IsRead mid here name g) where
-    up_to : take (i + 1) f.pages ≡ take i f.pages ++ name ∷ []
-    up_to = take_more f.pages i name lt ∙ ap (λ (n : List ℕ). take i f.pages ++ n ∷ []) (sym is)
-
-    from_place : drop i f.pages ≡ name ∷ drop (i + 1) f.pages
-    from_place = drop_more f.pages i name lt ∙ ap (λ (n : List ℕ). n ∷ drop (i + 1) f.pages) (sym is)
-
-    next_is : (rest : List (Option (List ℕ))) → pages_of f.job (length j.entries) f.pages (gone.inputs ++ g ∷ rest)
-        ≡ behind_these gone.entries (pages_of f.job (length j.entries + length gone.entries) (name ∷ drop (i + 1) f.pages) (g ∷ rest))
+    next_is : (rest : Inputs) → pages_of f.job (length j.entries) f.pages (ahead gone.front.inputs (ahead (g ∷ []) rest))
+        ≡ behind_these gone.entries (pages_of f.job (length j.entries + length gone.entries) (name ∷ drop (i + 1) f.pages) (ahead (g ∷ []) rest))
     next_is rest =
-        gone.next (g ∷ rest)
-        ∙ ap (λ (ns : List (List ℕ)). behind_these gone.entries (pages_of f.job (length j.entries + length gone.entries) ns (g ∷ rest))) from_place
+        gone.next (ahead (g ∷ []) rest)
+        ∙ ap (λ (ns : List (List ℕ)). behind_these gone.entries (pages_of f.job (length j.entries + length gone.entries) ns (ahead (g ∷ []) rest)))
+        (from_place told f.pages i name lt is)
 
     pub gone_more : (page : List PageFields) (after : OpenJob) → input_as page_in g ≡ Ok page
         → ((k : JobContents) → Opens job k → (length k.entries + length page ≤ limits.PUBLISHED.entries) × Opens after (with_entries k (map (of_log f.log) page)))
@@ -139,27 +133,22 @@ module _ (told : Option Files) (f : Gather) (j : JobContents) where
         let few : length j.entries + length gone.entries + length page ≤ limits.PUBLISHED.entries = omega (arith, put.0, longer-size f j gone.entries) in
         let is_page : input name page_in g ≡ Ok page = ap (named name) gives in
         record {
-          inputs = gone.inputs ++ g ∷ [];
-          read = subst (λ (ns : List (List ℕ)). AreRead told nothing ns (gone.inputs ++ g ∷ [])) (sym up_to)
-              (read_both told nothing (take i f.pages) (name ∷ []) gone.inputs (g ∷ []) gone.read
-              (subst (λ (t : Option Files). IsRead t nothing name g) same (read_well mid here nothing name page_in g page gives read), tt));
+          front = front_more told f.pages i name lt is gone.front g
+              (subst (λ (t : Option Files). IsRead t nothing name g) same (read_well mid here nothing name page_in g page gives read));
           entries = gone.entries ++ page;
           opens = subst (λ (k : JobContents). Opens after k) (longer-more f j gone.entries page) put.1;
           next = λ rest.
-              ap (λ (gs : List (Option (List ℕ))). pages_of f.job (length j.entries) f.pages gs) (append_assoc gone.inputs (g ∷ []) rest)
+              ap (λ (gs : Inputs). pages_of f.job (length j.entries) f.pages gs) (ahead_push gone.front.inputs g rest)
               ∙ next_is rest
-              ∙ ap (behind_these gone.entries) (page_put f.job name (drop (i + 1) f.pages) (length j.entries + length gone.entries) g rest page is_page few)
+              ∙ ap (behind_these gone.entries) (page_put f.job name (drop (i + 1) f.pages) (length j.entries + length gone.entries) (ahead (g ∷ []) rest) page is_page few)
               ∙ these_twice gone.entries page (pages_of f.job (length j.entries + length gone.entries + length page) (drop (i + 1) f.pages) rest)
               ∙ ap (λ (n : ℕ). behind_these (gone.entries ++ page) (pages_of f.job n (drop (i + 1) f.pages) rest)) (omega (arith, length-append gone.entries page));
         }
 
     all_read : (later : Option (List ℕ) → Type 0) → ((which : Option (List ℕ)) → here which → later which)
-        → (rest : List (Option (List ℕ))) → AreRead told later (drop (i + 1) f.pages) rest → AreRead told later f.pages (gone.inputs ++ g ∷ rest)
-    all_read later wider rest rest_read =
-        subst (λ (ns : List (List ℕ)). AreRead told later ns (gone.inputs ++ g ∷ rest)) (ap (λ (ns : List (List ℕ)). take i f.pages ++ ns) (sym from_place) ∙ take-append-drop i f.pages)
-        (read_both told later (take i f.pages) (name ∷ drop (i + 1) f.pages) gone.inputs (g ∷ rest)
-        (wider_all told nothing later (take i f.pages) gone.inputs (λ which none. absurd none) gone.read)
-        (later_read told mid here later name g same wider read, rest_read))
+        → (rest : Inputs) → AreRead told later (drop (i + 1) f.pages) rest → AreRead told later f.pages (ahead gone.front.inputs (ahead (g ∷ []) rest))
+    all_read later wider rest read_rest =
+        read_on told f.pages i name lt is gone.front g later (later_read told mid here later name g same wider read) rest read_rest
 
     -- what is wrong with it is what is wrong with all
     pub gone_refused : {A : Type 0} (later : Option (List ℕ) → Type 0) (fault : FileFault) → ((which : Option (List ℕ)) → here which → later which)
@@ -168,12 +157,12 @@ module _ (told : Option Files) (f : Gather) (j : JobContents) where
     gone_refused {A} later fault wider blamed refused =
         let rest = some_reads told later (drop (i + 1) f.pages) in
         record {
-          inputs = gone.inputs ++ g ∷ rest.0;
+          inputs = ahead gone.front.inputs (ahead (g ∷ []) rest.0);
           read = all_read later wider rest.0 rest.1;
-          blames = blames_file {A = A} later f.pages name fault (at_among f.pages i name (drop (i + 1) f.pages) from_place)
+          blames = blames_file {A = A} later f.pages name fault (is_among told f.pages i name lt is)
               (blamed_later {A = A} here later name faults.Unread (Err fault) wider blamed);
           makes = next_is rest.0
-              ∙ ap (behind_these gone.entries) (page_fault f.job name (drop (i + 1) f.pages) (length j.entries + length gone.entries) g rest.0
+              ∙ ap (behind_these gone.entries) (page_fault f.job name (drop (i + 1) f.pages) (length j.entries + length gone.entries) (ahead (g ∷ []) rest.0)
               (record { name = name; fault = fault }) (ap (named name) refused));
         }
 
@@ -187,24 +176,23 @@ module _ (told : Option Files) (f : Gather) (j : JobContents) where
         let many : limits.PUBLISHED.entries < length j.entries + length gone.entries + length page
         = omega (arith, full (longer f j gone.entries) gone.opens, longer-size f j gone.entries) in
         record {
-          inputs = gone.inputs ++ g ∷ rest.0;
+          inputs = ahead gone.front.inputs (ahead (g ∷ []) rest.0);
           read = all_read later wider rest.0 rest.1;
           blames = inl none;
           makes = next_is rest.0
-              ∙ ap (behind_these gone.entries) (page_over f.job name (drop (i + 1) f.pages) (length j.entries + length gone.entries) g rest.0 page (ap (named name) gives) many)
+              ∙ ap (behind_these gone.entries) (page_over f.job name (drop (i + 1) f.pages) (length j.entries + length gone.entries) (ahead (g ∷ []) rest.0) page (ap (named name) gives) many)
               ∙ ap (λ (k : FileFault). Err (record { name = f.job; fault = k })) (sym is_full);
         }
 
   -- all pages are gone
   pub gone_all : (failed : Option (List ℕ) → Type 0) (i : ℕ) (job : OpenJob) → length f.pages ≤ i → Gone told f j i job → failed None → IsGatheredFrom told failed f j job
   gone_all failed i job le gone none = record {
-    inputs = gone.inputs;
-    read = subst (λ (ns : List (List ℕ)). AreRead told failed ns gone.inputs) (take_all i f.pages le)
-        (wider_all told nothing failed (take i f.pages) gone.inputs (λ which refute. absurd refute) gone.read);
+    inputs = these gone.front.inputs;
+    read = front_all told f.pages failed i le gone.front;
     none_failed = none;
     entries = gone.entries;
-    makes = ap (λ (gs : List (Option (List ℕ))). pages_of f.job (length j.entries) f.pages gs) (sym (append-nil gone.inputs)) ∙ gone.next []
-        ∙ ap (λ (ns : List (List ℕ)). behind_these gone.entries (pages_of f.job (length j.entries + length gone.entries) ns [])) (drop_all i f.pages le)
+    makes = gone.next no_inputs
+        ∙ ap (λ (ns : List (List ℕ)). behind_these gone.entries (pages_of f.job (length j.entries + length gone.entries) ns no_inputs)) (drop_all i f.pages le)
         ∙ ap (λ (l : List PageFields). Ok l) (append-nil gone.entries);
     opens = gone.opens;
   }
@@ -244,7 +232,7 @@ pub gather_refused : {B : Type 0} (told : Option Files) (failed : Option (List �
     → IfOk a (λ x. reply_fields x ≡ refusal f.head fault) → IfOk a (λ x. IsReply (commands.Gather f) told failed (reply_fields x))
 gather_refused told failed a f view fault (g, read, gives, blamed) memory is =
     let rest = some_reads told failed f.pages in
-    made_unless (commands.Gather f) told failed (g ∷ rest.0) f.head fault a (read, rest.1)
+    made_unless (commands.Gather f) told failed (ahead (g ∷ []) rest.0) f.head fault a (read, rest.1)
     (blames_file failed (f.head ∷ f.pages) f.head fault (inl refl) blamed)
     (λ refute. sym (ap (λ (x : Result JobContents FileFault). named f.head x
     >>= (λ j. pages_of f.job (length j.entries) f.pages rest.0 >>= (λ entries. Ok (gather_done f j entries)))) (gives refute))) memory is
@@ -259,12 +247,7 @@ module _ {D : Type 0} (d : Ghosts D) (old mid new : D) (reads_ : OnlyReads d old
   abbrev All : Option (List ℕ) → Type 0
   All = WhichFailed d old new
 
-  pages_read : (inputs : List (Option (List ℕ))) → First None → AreRead (d.files mid) Others f.pages inputs → AreRead (d.files old) All f.pages inputs
-  pages_read inputs well read =
-      wider_all (d.files old) Others All f.pages inputs (WhichFailed-then d old mid new reads_ well)
-      (subst (λ (k : Option Files). AreRead k Others f.pages inputs) reads_.same_files read)
-
-  step : (g : Option (List ℕ)) (inputs : List (Option (List ℕ))) (o : Result (List PageFields) NamedFault) → input_as head_in g ≡ Ok j → pages_of f.job (length j.entries) f.pages inputs ≡ o
+  step : (g : Option (List ℕ)) (inputs : Inputs) (o : Result (List PageFields) NamedFault) → input_as head_in g ≡ Ok j → pages_of f.job (length j.entries) f.pages inputs ≡ o
       → (o >>= (λ entries. Ok (gather_done f j entries)))
       ≡ (input f.head head_in g >>= (λ k. pages_of f.job (length k.entries) f.pages inputs >>= (λ entries. Ok (gather_done f k entries))))
   step g inputs o gives makes =
@@ -279,8 +262,8 @@ module _ {D : Type 0} (d : Ghosts D) (old mid new : D) (reads_ : OnlyReads d old
   gather_not name fault (g, read, gives, blamed) refused (Ok b) memory is =
       let n = refused (λ none. let h : IsErr {T = Answer} {E = NoMemory} (Ok b) = memory none in cc) in
       let well = none_failed First f.head faults.Unread j blamed in
-      made (commands.Gather f) (d.files old) All (g ∷ n.inputs) (Err (record { name = name; fault = fault })) (Ok b)
-      (read_well (d.files old) First All f.head head_in g j gives read, pages_read n.inputs well n.read)
+      made (commands.Gather f) (d.files old) All (ahead (g ∷ []) n.inputs) (Err (record { name = name; fault = fault })) (Ok b)
+      (read_well (d.files old) First All f.head head_in g j gives read, later_reads (d.files old) (d.files mid) Others All f.pages n.inputs reads_.same_files (WhichFailed-then d old mid new reads_ well) n.read)
       (says_wider Others All f.head f.pages (refusal name fault) (WhichFailed-then d old mid new reads_ well) n.blames)
       (step g n.inputs (Err (record { name = name; fault = fault })) gives n.makes) is
   gather_not name fault in_ refused (Err e) memory is = tt
@@ -291,7 +274,7 @@ module _ {D : Type 0} (d : Ghosts D) (old mid new : D) (reads_ : OnlyReads d old
       → IfOk a (λ y. IsReply (commands.Gather f) (d.files old) All (reply_fields y))
   gather_made a job (g, read, gives, blamed) n is =
       let well = none_failed First f.head faults.Unread j blamed in
-      made (commands.Gather f) (d.files old) All (g ∷ n.inputs) (Ok (gather_done f j n.entries)) a
-      (read_well (d.files old) First All f.head head_in g j gives read, pages_read n.inputs well n.read)
+      made (commands.Gather f) (d.files old) All (ahead (g ∷ []) n.inputs) (Ok (gather_done f j n.entries)) a
+      (read_well (d.files old) First All f.head head_in g j gives read, later_reads (d.files old) (d.files mid) Others All f.pages n.inputs reads_.same_files (WhichFailed-then d old mid new reads_ well) n.read)
       (inl (WhichFailed-then d old mid new reads_ well None n.none_failed))
       (step g n.inputs (Ok n.entries) gives n.makes) (is n.entries n.opens)

@@ -9,24 +9,24 @@ use Rattle.job_core.specs.JobFields.{JobFields}
 use Rattle.job_core.specs.JobFacts.{FitsFields}
 use Rattle.publication_core.specs.Histories.{chain, IsHistory}
 use Rattle.publication_core.proofs.Unique.{history_unique}
+use Rattle.input_core.specs.Inputs.{Inputs, rest_of}
 use Rattle.clubcard_top.specs.ReplyFields.{Done, NamedFault}
 use Rattle.clubcard_top.specs.Commands.{rehearsed, IsRefused, AreJobs, Rehearses}
 use Rattle.clubcard_top.specs.Steps.{RehearsesOn}
 use Rattle.clubcard_top.proofs.Chains.{chain_next}
 
 -- the files are all taken, or the next one is refused
-abbrev Then : List Query → List JobFields → List SealedFields → ℕ → List (List ℕ) → List (Option (List ℕ))
-    → Result Done NamedFault → Type 0
+abbrev Then : List Query → List JobFields → List SealedFields → ℕ → List (List ℕ) → Inputs → Result Done NamedFault → Type 0
 Then queries all parts n names inputs o =
-    ((n ≡ length names) × (n ≡ length inputs) × (o ≡ Ok (rehearsed queries all parts)))
-    ⊎ ((name : List ℕ) × (given : Option (List ℕ)) × (e : NamedFault) × (slice_get names n ≡ Some name) × (slice_get inputs n ≡ Some given)
-    × IsRefused (chain all) parts name given e × (o ≡ Err e))
+    ((n ≡ length names) × (o ≡ Ok (rehearsed queries all parts)))
+    ⊎ ((name : List ℕ) × (e : NamedFault) × (slice_get names n ≡ Some name)
+    × IsRefused (chain all) parts name (inputs n) e × (o ≡ Err e))
 
 -- ---- from file by file
 
 -- the same behind other jobs
 record Behind
-    (queries : List Query) (before : List JobFields) (names : List (List ℕ)) (inputs : List (Option (List ℕ)))
+    (queries : List Query) (before : List JobFields) (names : List (List ℕ)) (inputs : Inputs)
     (o : Result Done NamedFault)
     : Type 0 where
   pub n : ℕ
@@ -34,26 +34,23 @@ record Behind
   pub all : List JobFields
   pub are : all ≡ before ++ jobs
   pub parts : List SealedFields
-  pub hold : AreJobs (take n names) (take n inputs) jobs
+  pub hold : AreJobs (take n names) inputs jobs
   pub fit : All FitsFields jobs
   pub is_history : IsHistory (chain all) parts
   pub then : Then queries all parts n names inputs o
 
 then_more : (queries : List Query) (all : List JobFields) (parts : List SealedFields) (n : ℕ) (name : List ℕ)
-    (names : List (List ℕ)) (given : Option (List ℕ)) (inputs : List (Option (List ℕ))) (o : Result Done NamedFault)
-    → Then queries all parts n names inputs o → Then queries all parts (suc n) (name ∷ names) (given ∷ inputs) o
-then_more queries all parts n name names given inputs o (inl (is, is_too, done)) =
-    inl (ap (λ (k : ℕ). suc k) is, ap (λ (k : ℕ). suc k) is_too, done)
-then_more queries all parts n name names given inputs o (inr refused) = inr refused
+    (names : List (List ℕ)) (inputs : Inputs) (o : Result Done NamedFault)
+    → Then queries all parts n names (rest_of inputs) o → Then queries all parts (suc n) (name ∷ names) inputs o
+then_more queries all parts n name names inputs o (inl (is, done)) = inl (ap (λ (k : ℕ). suc k) is, done)
+then_more queries all parts n name names inputs o (inr refused) = inr refused
 
 behind : (queries : List Query) (before : List JobFields) (parts : List SealedFields) (names : List (List ℕ))
-    (inputs : List (Option (List ℕ))) (o : Result Done NamedFault) → IsHistory (chain before) parts
+    (inputs : Inputs) (o : Result Done NamedFault) → IsHistory (chain before) parts
     → RehearsesOn queries before parts names inputs o → Behind queries before names inputs o
-behind queries before parts [] [] o is m =
-    record { n = 0; jobs = []; all = before; are = sym (append-nil before); parts = parts; hold = tt; fit = All-nil FitsFields; is_history = is; then = inl (refl, refl, m) }
-behind queries before parts [] (g ∷ inputs) o is m = absurd m
-behind queries before parts (name ∷ names) [] o is m = absurd m
-behind queries before parts (name ∷ names) (g ∷ inputs) o is (inl (e, refused, same)) = record {
+behind queries before parts [] inputs o is m =
+    record { n = 0; jobs = []; all = before; are = sym (append-nil before); parts = parts; hold = tt; fit = All-nil FitsFields; is_history = is; then = inl (refl, m) }
+behind queries before parts (name ∷ names) inputs o is (inl (e, refused, same)) = record {
   n = 0;
   jobs = [];
   all = before;
@@ -62,10 +59,10 @@ behind queries before parts (name ∷ names) (g ∷ inputs) o is (inl (e, refuse
   hold = tt;
   fit = All-nil FitsFields;
   is_history = is;
-  then = inr (name, g, e, refl, refl, refused, same);
+  then = inr (name, e, refl, refused, same);
 }
-behind queries before parts (name ∷ names) (g ∷ inputs) o is (inr (job, more, is_job, fits, is_more, rest)) =
-    let b = behind queries (before ++ job ∷ []) more names inputs o is_more rest in
+behind queries before parts (name ∷ names) inputs o is (inr (job, more, is_job, fits, is_more, rest)) =
+    let b = behind queries (before ++ job ∷ []) more names (rest_of inputs) o is_more rest in
     record {
       n = suc b.n;
       jobs = job ∷ b.jobs;
@@ -75,10 +72,10 @@ behind queries before parts (name ∷ names) (g ∷ inputs) o is (inr (job, more
       hold = (is_job, b.hold);
       fit = All-cons FitsFields job b.jobs fits b.fit;
       is_history = b.is_history;
-      then = then_more queries b.all b.parts b.n name names g inputs o b.then;
+      then = then_more queries b.all b.parts b.n name names inputs o b.then;
     }
 
-pub first_of : (queries : List Query) (names : List (List ℕ)) (inputs : List (Option (List ℕ)))
+pub first_of : (queries : List Query) (names : List (List ℕ)) (inputs : Inputs)
     (o : Result Done NamedFault) → RehearsesOn queries [] [] names inputs o → Rehearses queries names inputs o
 first_of queries names inputs o m =
     let b = behind queries [] [] names inputs o tt m in
@@ -86,7 +83,7 @@ first_of queries names inputs o m =
       n = b.n;
       jobs = b.all;
       parts = b.parts;
-      hold = subst (λ (js : List JobFields). AreJobs (take b.n names) (take b.n inputs) js) (sym b.are) b.hold;
+      hold = subst (λ (js : List JobFields). AreJobs (take b.n names) inputs js) (sym b.are) b.hold;
       fit = subst (All FitsFields) (sym b.are) b.fit;
       is_history = b.is_history;
       then = b.then;
@@ -97,57 +94,36 @@ first_of queries names inputs o m =
 some_name : (a b : List ℕ) → ◌≡◌ {A = Option (List ℕ)} (Some a) (Some b) → a ≡ b
 some_name a b h = cc
 
-some_given : (a b : Option (List ℕ)) → ◌≡◌ {A = Option (Option (List ℕ))} (Some a) (Some b) → a ≡ b
-some_given a b h = cc
-
 no_name : (name : List ℕ) → ◌≡◌ {A = Option (List ℕ)} None (Some name) → ⊥
 no_name name h = cc
 
-no_given : (given : Option (List ℕ)) → ◌≡◌ {A = Option (Option (List ℕ))} None (Some given) → ⊥
-no_given given h = cc
-
 none_left : (queries : List Query) (before all : List JobFields) (parts others : List SealedFields) (n : ℕ)
-    (o : Result Done NamedFault) → all ≡ before → others ≡ parts → Then queries all others n [] [] o
+    (inputs : Inputs) (o : Result Done NamedFault) → all ≡ before → others ≡ parts → Then queries all others n [] inputs o
     → o ≡ Ok (rehearsed queries before parts)
-none_left queries before all parts others n o js ps (inl (is, is_too, done)) =
+none_left queries before all parts others n inputs o js ps (inl (is, done)) =
     done ∙ ap (λ (j : List JobFields). Ok (rehearsed queries j others)) js
     ∙ ap (λ (p : List SealedFields). Ok (rehearsed queries before p)) ps
-none_left queries before all parts others n o js ps (inr (name, given, e, at, at_too, refused, is)) =
-    absurd (no_name name at)
+none_left queries before all parts others n inputs o js ps (inr (name, e, at, refused, is)) = absurd (no_name name at)
 
 refused_here : (queries : List Query) (before all : List JobFields) (parts others : List SealedFields) (name : List ℕ)
-    (names : List (List ℕ)) (given : Option (List ℕ)) (inputs : List (Option (List ℕ)))
+    (names : List (List ℕ)) (inputs : Inputs)
     (o : Result Done NamedFault) → all ≡ before → others ≡ parts
-    → Then queries all others 0 (name ∷ names) (given ∷ inputs) o
-    → (e : NamedFault) × IsRefused (chain before) parts name given e × (o ≡ Err e)
-refused_here queries before all parts others name names given inputs o js ps (inl (is, is_too, done)) =
-    absurd (omega (arith, is))
-refused_here queries before all parts others name names given inputs o js ps (inr (m, g, e, at, at_too, refused, is)) = (
+    → Then queries all others 0 (name ∷ names) inputs o
+    → (e : NamedFault) × IsRefused (chain before) parts name (inputs 0) e × (o ≡ Err e)
+refused_here queries before all parts others name names inputs o js ps (inl (is, done)) = absurd (omega (arith, is))
+refused_here queries before all parts others name names inputs o js ps (inr (m, e, at, refused, is)) = (
   e,
-  subst (λ (k : List ℕ). IsRefused (chain before) parts k given e) (sym (some_name name m at))
-      (subst (λ (k : Option (List ℕ)). IsRefused (chain before) parts m k e) (sym (some_given given g at_too))
-      (subst (λ (p : List SealedFields). IsRefused (chain before) p m g e) ps (subst (λ (j : List JobFields). IsRefused (chain j) others m g e) js refused))),
+  subst (λ (k : List ℕ). IsRefused (chain before) parts k (inputs 0) e) (sym (some_name name m at))
+      (subst (λ (p : List SealedFields). IsRefused (chain before) p m (inputs 0) e) ps
+      (subst (λ (j : List JobFields). IsRefused (chain j) others m (inputs 0) e) js refused)),
   is,
 )
 
 then_rest : (queries : List Query) (all : List JobFields) (others : List SealedFields) (n : ℕ) (name : List ℕ)
-    (names : List (List ℕ)) (given : Option (List ℕ)) (inputs : List (Option (List ℕ))) (o : Result Done NamedFault)
-    → Then queries all others (suc n) (name ∷ names) (given ∷ inputs) o → Then queries all others n names inputs o
-then_rest queries all others n name names given inputs o (inl (is, is_too, done)) =
-    inl (omega (arith, is), omega (arith, is_too), done)
-then_rest queries all others n name names given inputs o (inr refused) = inr refused
-
-too_few : (queries : List Query) (all : List JobFields) (others : List SealedFields) (n : ℕ) (given : Option (List ℕ))
-    (inputs : List (Option (List ℕ))) (o : Result Done NamedFault)
-    → Then queries all others n [] (given ∷ inputs) o → ⊥
-too_few queries all others n given inputs o (inl (is, is_too, done)) = omega (arith, is, is_too)
-too_few queries all others n given inputs o (inr (m, g, e, at, at_too, refused, is)) = no_name m at
-
-too_many : (queries : List Query) (all : List JobFields) (others : List SealedFields) (n : ℕ) (name : List ℕ)
-    (names : List (List ℕ)) (o : Result Done NamedFault)
-    → Then queries all others n (name ∷ names) [] o → ⊥
-too_many queries all others n name names o (inl (is, is_too, done)) = omega (arith, is, is_too)
-too_many queries all others n name names o (inr (m, g, e, at, at_too, refused, is)) = no_given g at_too
+    (names : List (List ℕ)) (inputs : Inputs) (o : Result Done NamedFault)
+    → Then queries all others (suc n) (name ∷ names) inputs o → Then queries all others n names (rest_of inputs) o
+then_rest queries all others n name names inputs o (inl (is, done)) = inl (omega (arith, is), done)
+then_rest queries all others n name names inputs o (inr refused) = inr refused
 
 -- a history that is another's jobs has its parts
 same_parts : (before all : List JobFields) (parts others : List SealedFields) → all ≡ before → IsHistory (chain before) parts
@@ -156,28 +132,24 @@ same_parts before all parts others are is is_all =
     history_unique (chain before) others parts (subst (λ (js : List JobFields). IsHistory (chain js) others) are is_all) is
 
 back : (queries : List Query) (before : List JobFields) (parts : List SealedFields) (names : List (List ℕ))
-    (inputs : List (Option (List ℕ))) (o : Result Done NamedFault) (n : ℕ)
+    (inputs : Inputs) (o : Result Done NamedFault) (n : ℕ)
     (jobs all : List JobFields) (others : List SealedFields)
-    → all ≡ before ++ jobs → IsHistory (chain before) parts → AreJobs (take n names) (take n inputs) jobs
+    → all ≡ before ++ jobs → IsHistory (chain before) parts → AreJobs (take n names) inputs jobs
     → All FitsFields jobs → IsHistory (chain all) others → Then queries all others n names inputs o → RehearsesOn queries before parts names inputs o
-back queries before parts [] [] o zero [] all others are is hold fit is_all then =
+back queries before parts [] inputs o zero [] all others are is hold fit is_all then =
     let same = are ∙ append-nil before in
-    none_left queries before all parts others 0 o same (same_parts before all parts others same is is_all) then
-back queries before parts [] [] o (suc n) [] all others are is hold fit is_all then =
+    none_left queries before all parts others 0 inputs o same (same_parts before all parts others same is is_all) then
+back queries before parts [] inputs o (suc n) [] all others are is hold fit is_all then =
     let same = are ∙ append-nil before in
-    none_left queries before all parts others (suc n) o same (same_parts before all parts others same is is_all) then
-back queries before parts [] [] o zero (job ∷ jobs) all others are is hold fit is_all then = absurd hold
-back queries before parts [] [] o (suc n) (job ∷ jobs) all others are is hold fit is_all then = absurd hold
-back queries before parts [] (g ∷ inputs) o n jobs all others are is hold fit is_all then =
-    absurd (too_few queries all others n g inputs o then)
-back queries before parts (name ∷ names) [] o n jobs all others are is hold fit is_all then =
-    absurd (too_many queries all others n name names o then)
-back queries before parts (name ∷ names) (g ∷ inputs) o zero [] all others are is hold fit is_all then =
+    none_left queries before all parts others (suc n) inputs o same (same_parts before all parts others same is is_all) then
+back queries before parts [] inputs o zero (job ∷ jobs) all others are is hold fit is_all then = absurd hold
+back queries before parts [] inputs o (suc n) (job ∷ jobs) all others are is hold fit is_all then = absurd hold
+back queries before parts (name ∷ names) inputs o zero [] all others are is hold fit is_all then =
     let same = are ∙ append-nil before in
-    inl (refused_here queries before all parts others name names g inputs o same (same_parts before all parts others same is is_all) then)
-back queries before parts (name ∷ names) (g ∷ inputs) o zero (job ∷ jobs) all others are is hold fit is_all then = absurd hold
-back queries before parts (name ∷ names) (g ∷ inputs) o (suc n) [] all others are is hold fit is_all then = absurd hold
-back queries before parts (name ∷ names) (g ∷ inputs) o (suc n) (job ∷ jobs) all others are is hold fit is_all then =
+    inl (refused_here queries before all parts others name names inputs o same (same_parts before all parts others same is is_all) then)
+back queries before parts (name ∷ names) inputs o zero (job ∷ jobs) all others are is hold fit is_all then = absurd hold
+back queries before parts (name ∷ names) inputs o (suc n) [] all others are is hold fit is_all then = absurd hold
+back queries before parts (name ∷ names) inputs o (suc n) (job ∷ jobs) all others are is hold fit is_all then =
     let next = chain_next before parts job jobs others is (subst (λ (js : List JobFields). IsHistory (chain js) others) are is_all) in
     inr (
       job,
@@ -185,10 +157,10 @@ back queries before parts (name ∷ names) (g ∷ inputs) o (suc n) (job ∷ job
       hold.0,
       All-head FitsFields job jobs fit,
       next.1,
-      back queries (before ++ job ∷ []) next.0 names inputs o n jobs all others (are ∙ sym (append_assoc before (job ∷ []) jobs)) next.1 hold.1 (All-tail FitsFields job jobs fit) is_all
-          (then_rest queries all others n name names g inputs o then),
+      back queries (before ++ job ∷ []) next.0 names (rest_of inputs) o n jobs all others (are ∙ sym (append_assoc before (job ∷ []) jobs)) next.1 hold.1 (All-tail FitsFields job jobs fit) is_all
+          (then_rest queries all others n name names inputs o then),
     )
 
-pub from_first : (queries : List Query) (names : List (List ℕ)) (inputs : List (Option (List ℕ)))
+pub from_first : (queries : List Query) (names : List (List ℕ)) (inputs : Inputs)
     (o : Result Done NamedFault) → Rehearses queries names inputs o → RehearsesOn queries [] [] names inputs o
 from_first queries names inputs o r = back queries [] [] names inputs o r.n r.jobs r.jobs r.parts refl tt r.hold r.fit r.is_history r.then

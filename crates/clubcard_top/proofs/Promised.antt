@@ -12,7 +12,7 @@ use Rattle.word_core.specs.Names.{inputs_of}
 use Rattle.input_core.specs.declared.fault.FileFault.{FileFault}
 use Rattle.clubcard_top.specs.ReplyFields.{ReplyFields, Done, NamedFault}
 use Rattle.clubcard_top.specs.Statuses.{is_one_of, of_replies, of_refusals}
-use Rattle.input_core.specs.Inputs.{AreRead}
+use Rattle.input_core.specs.Inputs.{Inputs, AreRead}
 use Rattle.clubcard_top.specs.Commands.{Makes}
 use Rattle.clubcard_top.specs.Replies.{usage, done, refusal, reply_of, write_fault, IsReplyOver, held_by, SaysWhich, IsReply}
 use Rattle.clubcard_top.specs.Runs.{IsTorn, with_outputs}
@@ -25,7 +25,7 @@ use Rattle.clubcard_top.proofs.Endings as endings
 use Rattle.clubcard_top.proofs.Makings.{refusal_quiet}
 use Rattle.clubcard_top.proofs.Overs.{IsSeen, over_files, held_all}
 use Rattle.clubcard_top.proofs.Outputs.{none-written}
-use Rattle.clubcard_top.proofs.Rehearsal.{wider_all}
+use Rattle.clubcard_top.proofs.Fronts.{later_reads}
 
 -- ---- a step that reads, and one that writes
 
@@ -44,7 +44,7 @@ pub read_later : {D : Type 0} (g : depots.Ghosts D) (old mid new : D) (asked : C
 read_later g old mid new asked told reply writes (inputs, read, over, says) =
     let same = same_read g old mid new writes in (
       inputs,
-      wider_all told (WhichFailed g old mid) (WhichFailed g old new) (inputs_of asked) inputs same read,
+      later_reads told told (WhichFailed g old mid) (WhichFailed g old new) (inputs_of asked) inputs refl same read,
       over,
       same_said (WhichFailed g old mid) (WhichFailed g old new) (inputs_of asked) reply same says,
     )
@@ -81,7 +81,7 @@ module _ (call : Call) where
   give quiet reply (inl sent) = give_printed quiet reply sent.files sent.printing
   give quiet reply (inr (name, torn)) = absurd (quiet.writes torn.cause)
 
-  is_read : (files : Files) → call.files_before ≡ Some files → (inputs : List (Option (List ℕ)))
+  is_read : (files : Files) → call.files_before ≡ Some files → (inputs : Inputs)
       → AreRead call.files_before call.failed (inputs_of call.asked) inputs → AreRead (Some files) call.failed (inputs_of call.asked) inputs
   is_read files told inputs read = subst (λ (t : Option Files). AreRead t call.failed (inputs_of call.asked) inputs) told read
 
@@ -89,7 +89,7 @@ module _ (call : Call) where
   over_quiet : (files : Files) → call.files_before ≡ Some files → (reply : ReplyFields) → NoFault call
       → IsReply call.asked call.files_before call.failed reply → IsReplyOver call.asked (held_by call.asked files) reply
   over_quiet files told reply quiet (inputs, read, over, says) =
-      subst (λ (g : List (Option (List ℕ))). IsReplyOver call.asked g reply)
+      subst (λ (g : Inputs). IsReplyOver call.asked g reply)
       (held_all files call.failed (inputs_of call.asked) inputs quiet.reads (is_read files told inputs read)) over
 
   seen_by : (o : Result Done NamedFault) → ((reply_of o).status ≡ 8 → ⊥) → IsSeen o
@@ -206,7 +206,7 @@ module _ (call : Call) where
 
   -- there is one reply at most
   abbrev pub Unique : Type 0
-  Unique = (inputs : List (Option (List ℕ))) (a b : ReplyFields) → IsReplyOver call.asked inputs a → IsReplyOver call.asked inputs b → a ≡ b
+  Unique = (inputs : Inputs) (a b : ReplyFields) → IsReplyOver call.asked inputs a → IsReplyOver call.asked inputs b → a ≡ b
 
   -- what comes of the command over the files must be given
   given_by : Unique → Ends call → (o : Result Done NamedFault) → Comes call o → NoFault call → Gives call (reply_of o) ⊎ WantedMemory call

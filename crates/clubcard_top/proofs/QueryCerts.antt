@@ -24,6 +24,7 @@ use Rattle.clubcard_top.specs.Answering.{reply_fields}
 use Rattle.clubcard_top.proofs.Makings.{cert_last, cert_then, cert_after}
 use Rattle.outside_core.proofs.Effects.{WhichFailed-then}
 use Rattle.input_core.proofs.FilesRead.{some_read, later_read, none_failed, blamed_later}
+use Rattle.clubcard_top.proofs.Fronts.{these}
 use Rattle.clubcard_top.proofs.Replying.{read_well, blames_file, made, made_unless}
 
 -- ---- files that were read one after the other
@@ -88,7 +89,7 @@ module _ (told : Option Files) (failed : Option (List ℕ) → Type 0) (r : Resu
   no_store view fault (given, is_read, gives, blamed) memory is =
       let k = some_read told failed q.cert in
       let i = some_read told failed q.issuer_cert in
-      made_unless (commands.QueryCert q) told failed (given ∷ k.0 ∷ i.0 ∷ []) q.store fault r (is_read, (k.1, (i.1, tt)))
+      made_unless (commands.QueryCert q) told failed (these (given ∷ k.0 ∷ i.0 ∷ [])) q.store fault r (is_read, (k.1, (i.1, λ n. refl)))
       (blames_file failed (inputs_of (commands.QueryCert q)) q.store fault (inl refl) blamed)
       (λ refute. fault_at q.store store_in given fault (cert_after q k.0 i.0) (gives refute)) memory is
 
@@ -97,7 +98,7 @@ module _ (told : Option Files) (failed : Option (List ℕ) → Type 0) (r : Resu
     pub no_cert : {B : Type 0} (view : B → Certificate) (fault : FileFault) → IsInput told failed q.cert certificate_in view (Err fault) → Refusing q.cert fault
     no_cert view fault (given, is_read, gives, blamed) memory is =
         let i = some_read told failed q.issuer_cert in
-        made_unless (commands.QueryCert q) told failed (s.given ∷ given ∷ i.0 ∷ []) q.cert fault r (s.is_read, (is_read, (i.1, tt)))
+        made_unless (commands.QueryCert q) told failed (these (s.given ∷ given ∷ i.0 ∷ [])) q.cert fault r (s.is_read, (is_read, (i.1, λ n. refl)))
         (blames_file failed (inputs_of (commands.QueryCert q)) q.cert fault (inr (inl refl)) blamed)
         (λ refute. fault_at q.cert certificate_in given fault (cert_then q i.0 parts) (gives refute)
         ∙ step_to q.store store_in s.given parts (cert_after q given i.0) s.gives) memory is
@@ -113,7 +114,7 @@ module _ (told : Option Files) (failed : Option (List ℕ) → Type 0) (r : Resu
       -- ISSUERCERT is
       pub no_issuer : {B : Type 0} (view : B → List ℕ) (fault : FileFault) → IsInput told failed q.issuer_cert issuer_in view (Err fault) → Refusing q.issuer_cert fault
       no_issuer view fault (given, is_read, gives, blamed) memory is =
-          made_unless (commands.QueryCert q) told failed (s.given ∷ k.given ∷ given ∷ []) q.issuer_cert fault r (s.is_read, (k.is_read, (is_read, tt)))
+          made_unless (commands.QueryCert q) told failed (these (s.given ∷ k.given ∷ given ∷ [])) q.issuer_cert fault r (s.is_read, (k.is_read, (is_read, λ n. refl)))
           (blames_file failed (inputs_of (commands.QueryCert q)) q.issuer_cert fault (inr (inr (inl refl))) blamed)
           (λ refute. behind_two given (Err (record { name = q.issuer_cert; fault = fault }))
           (fault_at q.issuer_cert issuer_in given fault (cert_last parts cert) (gives refute))) memory is
@@ -122,6 +123,6 @@ module _ (told : Option Files) (failed : Option (List ℕ) → Type 0) (r : Resu
       pub query_cert_made : {B : Type 0} (view : B → List ℕ) (x : B) → IsInput told failed q.issuer_cert issuer_in view (Ok x)
           → IfOk r (λ a. reply_fields a ≡ done (query_cert_done parts cert (view x))) → IfOk r (λ a. IsReply (commands.QueryCert q) told failed (reply_fields a))
       query_cert_made view x (given, is_read, gives, blamed) is =
-          made (commands.QueryCert q) told failed (s.given ∷ k.given ∷ given ∷ []) (Ok (query_cert_done parts cert (view x))) r (s.is_read, (k.is_read, (is_read, tt)))
+          made (commands.QueryCert q) told failed (these (s.given ∷ k.given ∷ given ∷ [])) (Ok (query_cert_done parts cert (view x))) r (s.is_read, (k.is_read, (is_read, λ n. refl)))
           (inl (none_failed failed q.issuer_cert faults.Unread x blamed))
           (behind_two given (Ok (query_cert_done parts cert (view x))) (step_to q.issuer_cert issuer_in given (view x) (cert_last parts cert) gives)) is

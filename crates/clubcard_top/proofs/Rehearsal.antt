@@ -1,13 +1,12 @@
 -- Jobs that are rehearsed file by file, and the reply of `rehearse`.
-use Rattle.std.proofs.Common.{◌≡◌, ℕ, zero, suc, ◌+◌, ◌<◌, ◌≤◌, inl, inr, List, [], ◌∷◌, ◌++◌, map, flat_map, take, drop, get_or, length, append_assoc, Option, None, Result, Ok}
+use Rattle.std.proofs.Common.{◌≡◌, ℕ, ◌+◌, ◌<◌, ◌≤◌, inl, inr, List, [], ◌∷◌, ◌++◌, map, flat_map, drop, get_or, length, append_assoc, Option, None, Result, Ok}
 use Rattle.std.proofs.Common.{Err, IfOk, refl, sym, ap, ◌∙◌, subst, arith}
 use Rattle.std.specs.Prelude.{IsErr}
-use Rattle.std.proofs.lemmas.List.{append-nil, length_push, take_more, drop_more, take_all, drop_all, take-append-drop}
+use Rattle.std.proofs.lemmas.List.{append-nil, length_push, drop_all}
 use Rattle.octets_core.specs.declared.memory.NoMemory.{NoMemory}
 use Rattle.outside_core.specs.declared.depot.Depot.{Ghosts}
 use Rattle.outside_core.specs.Effects.{OnlyReads}
 use Rattle.outside_core.specs.Files.{Files}
-use Rattle.sets_core.specs.Among.{Among}
 use Rattle.query_core.specs.Queries.{Query}
 use Rattle.part_text.specs.SealedFields.{SealedFields}
 use Rattle.job_core.specs.JobFields.{JobFields}
@@ -25,52 +24,16 @@ use Rattle.input_core.specs.Readings.{queries_in, job_in, input_as}
 use Rattle.clubcard_top.specs.Commands.{named, input, report_behind, reports, rehearsed, verdict_line, IsRefused, MakesRehearsal}
 use Rattle.clubcard_top.specs.Steps.{RehearsesOn}
 use Rattle.outside_core.specs.Reads.{WhichFailed}
-use Rattle.input_core.specs.Inputs.{IsBlamed, IsRead, AreRead, IsInput}
+use Rattle.input_core.specs.Inputs.{Inputs, IsBlamed, IsRead, IsInput}
 use Rattle.clubcard_top.specs.Rehearsals.{AddsJob, IsRehearsedFrom, IsRefusedFrom}
 use Rattle.clubcard_top.specs.Replies.{done, refusal, IsReply}
 use Rattle.clubcard_top.specs.Answering.{reply_fields}
 use Rattle.outside_core.proofs.Effects.{WhichFailed-then}
-use Rattle.input_core.proofs.FilesRead.{some_read, later_read, none_failed, blamed_later}
+use Rattle.input_core.proofs.FilesRead.{later_read, none_failed, blamed_later}
+use Rattle.clubcard_top.proofs.Fronts.{no_inputs, ahead, these, ahead_push, nothing, later_reads, some_reads, Front, no_front, from_place, is_among, front_more, read_on, front_all}
 use Rattle.clubcard_top.proofs.Replying.{read_well, read_named, blames_file, says_wider, made, made_unless}
 use Rattle.clubcard_top.proofs.Chains.{chain_push}
 use Rattle.clubcard_top.proofs.Prefixes.{first_of}
-
--- ---- files that were read
-
--- no read failed, so none is blamed
-abbrev pub nothing : Option (List ℕ) → Type 0
-nothing which = ⊥
-
-pub wider_all : (told : Option Files) (failed other : Option (List ℕ) → Type 0) (names : List (List ℕ)) (inputs : List (Option (List ℕ)))
-    → ((which : Option (List ℕ)) → failed which → other which) → AreRead told failed names inputs → AreRead told other names inputs
-wider_all told failed other [] [] wider read = tt
-wider_all told failed other [] (g ∷ inputs) wider read = absurd read
-wider_all told failed other (name ∷ names) [] wider read = absurd read
-wider_all told failed other (name ∷ names) (g ∷ inputs) wider read =
-    (later_read told told failed other name g refl wider read.0, wider_all told failed other names inputs wider read.1)
-
-pub read_both : (told : Option Files) (failed : Option (List ℕ) → Type 0) (names others : List (List ℕ)) (inputs more : List (Option (List ℕ)))
-    → AreRead told failed names inputs → AreRead told failed others more
-    → AreRead told failed (names ++ others) (inputs ++ more)
-read_both told failed [] others [] more read read_more = read_more
-read_both told failed [] others (g ∷ inputs) more read read_more = absurd read
-read_both told failed (name ∷ names) others [] more read read_more = absurd read
-read_both told failed (name ∷ names) others (g ∷ inputs) more read read_more = (read.0, read_both told failed names others inputs more read.1 read_more)
-
--- files that need not be read
-pub some_reads : (told : Option Files) (failed : Option (List ℕ) → Type 0) (names : List (List ℕ)) → (inputs : List (Option (List ℕ))) × AreRead told failed names inputs
-some_reads told failed [] = ([], tt)
-some_reads told failed (name ∷ names) =
-    let one = some_read told failed name in
-    let rest = some_reads told failed names in
-    (one.0 ∷ rest.0, (one.1, rest.1))
-
--- a name at a place is one of the names
-pub at_among : (names : List (List ℕ)) (i : ℕ) (name : List ℕ) (rest : List (List ℕ)) → drop i names ≡ name ∷ rest → Among names name
-at_among [] zero name rest is = absurd (let h : ◌≡◌ {A = List (List ℕ)} [] (name ∷ rest) = is in cc)
-at_among [] (suc i) name rest is = absurd (let h : ◌≡◌ {A = List (List ℕ)} [] (name ∷ rest) = is in cc)
-at_among (n ∷ names) zero name rest is = inl (let h : ◌≡◌ {A = List (List ℕ)} (n ∷ names) (name ∷ rest) = is in cc)
-at_among (n ∷ names) (suc i) name rest is = inr (at_among names i name rest is)
 
 -- ---- reports
 
@@ -91,20 +54,18 @@ reports_more h before (j ∷ jobs) (t ∷ parts) job s same =
 
 -- The first files were read as jobs of a history, and what comes of the rest behind it comes of all.
 pub record Gone (told : Option Files) (names : List (List ℕ)) (i : ℕ) (r : RehearsalFields) (text : List ℕ) : Type 0 where
-  pub inputs : List (Option (List ℕ))
-  pub read : AreRead told nothing (take i names) inputs
+  pub front : Front told names i
   pub jobs : List JobFields
   pub as_many : length jobs ≡ length r.parts
   pub is_of : IsOf (chain jobs) r
   pub lines : text ≡ reports (of_jobs []) [] jobs r.parts
-  pub next : (queries : List Query) (rest : List (Option (List ℕ))) (o : Result Done NamedFault) → RehearsesOn queries jobs r.parts (drop i names) rest o
-      → RehearsesOn queries [] [] names (inputs ++ rest) o
+  pub next : (queries : List Query) (rest : Inputs) (o : Result Done NamedFault) → RehearsesOn queries jobs r.parts (drop i names) rest o
+      → RehearsesOn queries [] [] names (ahead front.inputs rest) o
 
 module _ (told : Option Files) (names : List (List ℕ)) where
   pub none_gone : (r : RehearsalFields) (text : List ℕ) → r.parts ≡ [] → IsOf (of_jobs []) r → text ≡ [] → Gone told names 0 r text
   none_gone r text none is_of empty = record {
-    inputs = [];
-    read = tt;
+    front = no_front told names;
     jobs = [];
     as_many = ap (λ (ps : List SealedFields). length ps) (sym none);
     is_of = is_of;
@@ -116,15 +77,12 @@ module _ (told : Option Files) (names : List (List ℕ)) where
   module _ (here : Option (List ℕ) → Type 0) (mid : Option Files) (same : mid ≡ told) (i : ℕ) (name : List ℕ)
       (lt : i < length names) (is : name ≡ get_or names i name)
       (r : RehearsalFields) (text : List ℕ) (gone : Gone told names i r text) (g : Option (List ℕ)) (read : IsRead mid here name g) where
-    up_to : take (i + 1) names ≡ take i names ++ name ∷ []
-    up_to = take_more names i name lt ∙ ap (λ (n : List ℕ). take i names ++ n ∷ []) (sym is)
-
-    from_place : drop i names ≡ name ∷ drop (i + 1) names
-    from_place = drop_more names i name lt ∙ ap (λ (n : List ℕ). n ∷ drop (i + 1) names) (sym is)
-
-    next_of : (queries : List Query) (rest : List (Option (List ℕ))) (o : Result Done NamedFault)
-        → RehearsesOn queries gone.jobs r.parts (name ∷ drop (i + 1) names) rest o → RehearsesOn queries [] [] names (gone.inputs ++ rest) o
-    next_of queries rest o m = gone.next queries rest o (subst (λ (ns : List (List ℕ)). RehearsesOn queries gone.jobs r.parts ns rest o) (sym from_place) m)
+    next_of : (queries : List Query) (rest : Inputs) (o : Result Done NamedFault)
+        → RehearsesOn queries gone.jobs r.parts (name ∷ drop (i + 1) names) (ahead (g ∷ []) rest) o
+        → RehearsesOn queries [] [] names (ahead gone.front.inputs (ahead (g ∷ []) rest)) o
+    next_of queries rest o m =
+        gone.next queries (ahead (g ∷ []) rest) o
+        (subst (λ (ns : List (List ℕ)). RehearsesOn queries gone.jobs r.parts ns (ahead (g ∷ []) rest) o) (sym (from_place told names i name lt is)) m)
 
     -- a job was read of it
     job_was_read : (job : JobFields) → input name job_in g ≡ Ok job → IsRead told nothing name g
@@ -136,9 +94,7 @@ module _ (told : Option Files) (names : List (List ℕ)) where
 
     more_by : (after : RehearsalFields) (line : List ℕ) → AddsJob (chain gone.jobs) r (input name job_in g) after line → Gone told names (i + 1) after (text ++ line)
     more_by after line a = record {
-      inputs = gone.inputs ++ g ∷ [];
-      read = subst (λ (ns : List (List ℕ)). AreRead told nothing ns (gone.inputs ++ g ∷ [])) (sym up_to)
-          (read_both told nothing (take i names) (name ∷ []) gone.inputs (g ∷ []) gone.read (job_was_read a.job a.is_read, tt));
+      front = front_more told names i name lt is gone.front g (job_was_read a.job a.is_read);
       jobs = gone.jobs ++ a.job ∷ [];
       as_many =
           omega (arith, length_push gone.jobs a.job, gone.as_many, length_push r.parts a.sealed, ap (λ (ps : List SealedFields). length ps) a.parts);
@@ -146,8 +102,8 @@ module _ (told : Option Files) (names : List (List ℕ)) where
       lines = ap (λ (t : List ℕ). t ++ line) gone.lines ∙ ap (λ (l : List ℕ). reports (of_jobs []) [] gone.jobs r.parts ++ l) a.report
           ∙ sym (reports_more (of_jobs []) [] gone.jobs r.parts a.job a.sealed gone.as_many) ∙ ap (reports (of_jobs []) [] (gone.jobs ++ a.job ∷ [])) (sym a.parts);
       next = λ queries rest o m.
-          subst (λ (gs : List (Option (List ℕ))). RehearsesOn queries [] [] names gs o) (sym (append_assoc gone.inputs (g ∷ []) rest))
-          (next_of queries (g ∷ rest) o (inr (a.job, after.parts, a.is_read, a.fits, (is_of_more after a.job a.is_of).is_history, m)));
+          subst (λ (gs : Inputs). RehearsesOn queries [] [] names gs o) (sym (ahead_push gone.front.inputs g rest))
+          (next_of queries rest o (inr (a.job, after.parts, a.is_read, a.fits, (is_of_more after a.job a.is_of).is_history, m)));
     }
 
     pub gone_more : (after : RehearsalFields) (line : List ℕ) → ((h : History) → IsOf h r → AddsJob h r (input name job_in g) after line)
@@ -162,30 +118,24 @@ module _ (told : Option Files) (names : List (List ℕ)) where
     gone_refused {A} later fault wider blamed refused =
         let rest = some_reads told later (drop (i + 1) names) in
         record {
-          inputs = gone.inputs ++ g ∷ rest.0;
-          read = subst (λ (ns : List (List ℕ)). AreRead told later ns (gone.inputs ++ g ∷ rest.0)) (ap (λ (ns : List (List ℕ)). take i names ++ ns) (sym from_place) ∙ take-append-drop i names)
-              (read_both told later (take i names) (name ∷ drop (i + 1) names) gone.inputs (g ∷ rest.0)
-              (wider_all told nothing later (take i names) gone.inputs (λ which none. absurd none) gone.read)
-              (later_read told mid here later name g same wider read, rest.1));
-          blames = blames_file {A = A} later names name fault (at_among names i name (drop (i + 1) names) from_place)
+          inputs = ahead gone.front.inputs (ahead (g ∷ []) rest.0);
+          read = read_on told names i name lt is gone.front g later (later_read told mid here later name g same wider read) rest.0 rest.1;
+          blames = blames_file {A = A} later names name fault (is_among told names i name lt is)
               (blamed_later {A = A} here later name faults.Unread (Err fault) wider blamed);
-          makes = λ queries. next_of queries (g ∷ rest.0) (Err (record { name = name; fault = fault })) (inl (record { name = name; fault = fault }, refused (chain gone.jobs) gone.is_of, refl));
+          makes = λ queries. next_of queries rest.0 (Err (record { name = name; fault = fault })) (inl (record { name = name; fault = fault }, refused (chain gone.jobs) gone.is_of, refl));
         }
 
   -- all files are gone
   pub gone_all : (failed : Option (List ℕ) → Type 0) (i : ℕ) (r : RehearsalFields) (text : List ℕ) → length names ≤ i → Gone told names i r text → failed None
       → IsRehearsedFrom told failed names r text
   gone_all failed i r text le gone none = record {
-    inputs = gone.inputs;
-    read = subst (λ (ns : List (List ℕ)). AreRead told failed ns gone.inputs) (take_all i names le)
-        (wider_all told nothing failed (take i names) gone.inputs (λ which refute. absurd refute) gone.read);
+    inputs = these gone.front.inputs;
+    read = front_all told names failed i le gone.front;
     none_failed = none;
     jobs = gone.jobs;
     lines = gone.lines;
-    makes = λ queries.
-        subst (λ (gs : List (Option (List ℕ))). RehearsesOn queries [] [] names gs (Ok (rehearsed queries gone.jobs r.parts))) (append-nil gone.inputs)
-        (gone.next queries [] (Ok (rehearsed queries gone.jobs r.parts))
-        (subst (λ (ns : List (List ℕ)). RehearsesOn queries gone.jobs r.parts ns [] (Ok (rehearsed queries gone.jobs r.parts))) (sym (drop_all i names le)) refl));
+    makes = λ queries. gone.next queries no_inputs (Ok (rehearsed queries gone.jobs r.parts))
+        (subst (λ (ns : List (List ℕ)). RehearsesOn queries gone.jobs r.parts ns no_inputs (Ok (rehearsed queries gone.jobs r.parts))) (sym (drop_all i names le)) refl);
   }
 
 -- ---- the reply
@@ -196,7 +146,7 @@ pub rehearse_refused : {B : Type 0} (told : Option Files) (failed : Option (List
     → IfOk a (λ x. reply_fields x ≡ refusal r.queries fault) → IfOk a (λ x. IsReply (commands.Rehearse r) told failed (reply_fields x))
 rehearse_refused told failed a r view fault (g, read, gives, blamed) memory is =
     let rest = some_reads told failed r.jobs in
-    made_unless (commands.Rehearse r) told failed (g ∷ rest.0) r.queries fault a (read, rest.1)
+    made_unless (commands.Rehearse r) told failed (ahead (g ∷ []) rest.0) r.queries fault a (read, rest.1)
     (blames_file failed (r.queries ∷ r.jobs) r.queries fault (inl refl) blamed)
     (λ refute. subst (λ (x : Result (List Query) FileFault). MakesRehearsal r (named r.queries x) rest.0 (Err (record { name = r.queries; fault = fault }))) (sym (gives refute)) refl) memory is
 
@@ -210,12 +160,7 @@ module _ {D : Type 0} (d : Ghosts D) (old mid new : D) (reads_ : OnlyReads d old
   abbrev All : Option (List ℕ) → Type 0
   All = WhichFailed d old new
 
-  jobs_read : (inputs : List (Option (List ℕ))) → First None → AreRead (d.files mid) Others r.jobs inputs → AreRead (d.files old) All r.jobs inputs
-  jobs_read inputs well read =
-      wider_all (d.files old) Others All r.jobs inputs (WhichFailed-then d old mid new reads_ well)
-      (subst (λ (f : Option Files). AreRead f Others r.jobs inputs) reads_.same_files read)
-
-  step : (queries : List Query) (g : Option (List ℕ)) (inputs : List (Option (List ℕ))) (o : Result Done NamedFault) → input_as queries_in g ≡ Ok queries → RehearsesOn queries [] [] r.jobs inputs o
+  step : (queries : List Query) (g : Option (List ℕ)) (inputs : Inputs) (o : Result Done NamedFault) → input_as queries_in g ≡ Ok queries → RehearsesOn queries [] [] r.jobs inputs o
       → MakesRehearsal r (input r.queries queries_in g) inputs o
   step queries g inputs o gives m = subst (λ (x : Result (List Query) FileFault). MakesRehearsal r (named r.queries x) inputs o) (sym gives) (first_of queries r.jobs inputs o m)
 
@@ -226,8 +171,8 @@ module _ {D : Type 0} (d : Ghosts D) (old mid new : D) (reads_ : OnlyReads d old
   rehearse_not view x name fault (g, read, gives, blamed) refused (Ok b) memory is =
       let f = refused (λ none. let h : IsErr {T = Answer} {E = NoMemory} (Ok b) = memory none in cc) in
       let well = none_failed First r.queries faults.Unread x blamed in
-      made (commands.Rehearse r) (d.files old) All (g ∷ f.inputs) (Err (record { name = name; fault = fault })) (Ok b)
-      (read_well (d.files old) First All r.queries queries_in g (view x) gives read, jobs_read f.inputs well f.read)
+      made (commands.Rehearse r) (d.files old) All (ahead (g ∷ []) f.inputs) (Err (record { name = name; fault = fault })) (Ok b)
+      (read_well (d.files old) First All r.queries queries_in g (view x) gives read, later_reads (d.files old) (d.files mid) Others All r.jobs f.inputs reads_.same_files (WhichFailed-then d old mid new reads_ well) f.read)
       (says_wider Others All r.queries r.jobs (refusal name fault) (WhichFailed-then d old mid new reads_ well) f.blames)
       (step (view x) g f.inputs (Err (record { name = name; fault = fault })) gives (f.makes (view x))) is
   rehearse_not view x name fault in_ refused (Err e) memory is = tt
@@ -239,8 +184,8 @@ module _ {D : Type 0} (d : Ghosts D) (old mid new : D) (reads_ : OnlyReads d old
   rehearse_made a view x after text all (g, read, gives, blamed) f lines is =
       let same_text : all ≡ (rehearsed (view x) f.jobs after.parts).text = lines ∙ ap (λ (t : List ℕ). t ++ flat_map (verdict_line after.parts) (view x)) f.lines in
       let well = none_failed First r.queries faults.Unread x blamed in
-      made (commands.Rehearse r) (d.files old) All (g ∷ f.inputs) (Ok (rehearsed (view x) f.jobs after.parts)) a
-      (read_well (d.files old) First All r.queries queries_in g (view x) gives read, jobs_read f.inputs well f.read)
+      made (commands.Rehearse r) (d.files old) All (ahead (g ∷ []) f.inputs) (Ok (rehearsed (view x) f.jobs after.parts)) a
+      (read_well (d.files old) First All r.queries queries_in g (view x) gives read, later_reads (d.files old) (d.files mid) Others All r.jobs f.inputs reads_.same_files (WhichFailed-then d old mid new reads_ well) f.read)
       (inl (WhichFailed-then d old mid new reads_ well None f.none_failed))
       (step (view x) g f.inputs (Ok (rehearsed (view x) f.jobs after.parts)) gives (f.makes (view x)))
       (subst (λ (t : List ℕ). IfOk a (λ y. reply_fields y ≡ done (record { text = t; outputs = [] }))) same_text is)

@@ -1,5 +1,5 @@
 -- What comes of commands that rehearse jobs: a history of them, and its truth.
-use Rattle.std.proofs.Common.{◌≡◌, ℕ, inl, inr, List, [], ◌∷◌, ◌++◌, map, append_assoc, Option, Some, None, Result, Ok, Err, refl, sym, ap, ◌∙◌, subst}
+use Rattle.std.proofs.Common.{◌≡◌, ℕ, inl, inr, List, [], ◌∷◌, ◌++◌, append_assoc, Option, Some, None, Result, Ok, Err, refl, sym, ap, ◌∙◌, subst}
 use Rattle.std.specs.FinMap.{get}
 use Rattle.std.specs.List.{AllZip}
 use Rattle.std.specs.Prelude.{All}
@@ -27,7 +27,7 @@ use Rattle.input_core.specs.Readings.{faulted, queries_in, job_in}
 use Rattle.clubcard_top.specs.ReplyFields.{Done, NamedFault}
 use Rattle.clubcard_top.specs.Commands.{named, input, verdict_word, rehearsed, MakesRehearsal, Makes}
 use Rattle.clubcard_top.specs.Steps.{RehearsesOn}
-use Rattle.clubcard_top.specs.Replies.{held_by}
+use Rattle.clubcard_top.specs.Replies.{held_under, held_by}
 use Rattle.clubcard_top.specs.Headline.{HoldsJob, HoldsQueries, RehearsesJobs, IsRehearsed}
 use Rattle.clubcard_top.proofs.Results.{ok_same, not_ok}
 use Rattle.clubcard_top.proofs.Unique.{job_same, refused_follows}
@@ -89,7 +89,7 @@ module _ (layers : Layers) (files : Files) where
   }
 
   follows : (queries : List Query) (jobs : List JobFields) (parts : List SealedFields) (names : List (List ℕ)) (d : Done) → IsHistory (chain jobs) parts
-      → RehearsesOn queries jobs parts names (map (get files) names) (Ok d) → Follows queries jobs names d
+      → RehearsesOn queries jobs parts names (held_under files names) (Ok d) → Follows queries jobs names d
   follows queries jobs parts [] d is m = follows_none queries jobs parts d is (ok_same {E = NamedFault} d (rehearsed queries jobs parts) m)
   follows queries jobs parts (name ∷ names) d is (inl (e, refused, same)) = absurd (not_ok d e (sym same))
   follows queries jobs parts (name ∷ names) d is (inr (job, more, is_job, fits, is_more, rest)) =
@@ -114,10 +114,10 @@ module _ (layers : Layers) (files : Files) where
   )
 
   rehearsed_by : (r : Rehearse) (d : Done) (queries : Result (List Query) NamedFault) → input r.queries queries_in (get files r.queries) ≡ queries
-      → MakesRehearsal r queries (map (get files) r.jobs) (Ok d)
+      → MakesRehearsal r queries (held_under files r.jobs) (Ok d)
       → IsRehearsal (commands.Rehearse r) d
   rehearsed_by r d (Ok queries) is m = rehearsed_as r d queries (queries_held files r.queries queries (get files r.queries) refl is)
-      (follows queries [] [] r.jobs d tt (from_first queries r.jobs (map (get files) r.jobs) (Ok d) m))
+      (follows queries [] [] r.jobs d tt (from_first queries r.jobs (held_under files r.jobs) (Ok d) m))
   rehearsed_by r d (Err e) is m = absurd (not_ok d e (sym m))
 
   pub rehearsed_law : (asked : Command) (r : Rehearse) (d : Done) → asked ≡ commands.Rehearse r → Makes asked (held_by asked files) (Ok d) → IsRehearsal asked d
@@ -129,7 +129,7 @@ module _ (layers : Layers) (files : Files) where
 
   goes_on : (queries : List Query) (jobs : List JobFields) (parts : List SealedFields) (names : List (List ℕ)) (others : List JobFields)
       (all : List SealedFields) (o : Result Done NamedFault) → IsHistory (chain jobs) parts
-      → IsHistory (chain (jobs ++ others)) all → AllZip (HoldsJob files) names others → RehearsesOn queries jobs parts names (map (get files) names) o → o ≡ Ok (rehearsed queries (jobs ++ others) all)
+      → IsHistory (chain (jobs ++ others)) all → AllZip (HoldsJob files) names others → RehearsesOn queries jobs parts names (held_under files names) o → o ≡ Ok (rehearsed queries (jobs ++ others) all)
   goes_on queries jobs parts [] [] all o is is_all held m =
       let same : parts ≡ all = layers.publishing.parts (chain jobs) parts all is (subst (λ (js : List JobFields). IsHistory (chain js) all) (append-nil jobs) is_all) in
       m ∙ ap (λ (ps : List SealedFields). Ok (rehearsed queries jobs ps)) same ∙ ap (λ (js : List JobFields). Ok (rehearsed queries js all)) (sym (append-nil jobs))
@@ -141,7 +141,7 @@ module _ (layers : Layers) (files : Files) where
       let same : job ≡ j = job_same layers.publishing job j (input name job_in (get files name)) is_job (job_input files name j held.0) in
       goes_on queries (jobs ++ j ∷ []) more names others all o (subst (λ (k : JobFields). IsHistory (chain (jobs ++ k ∷ [])) more) same is_more)
       (subst (λ (js : List JobFields). IsHistory (chain js) all) (sym (append_assoc jobs (j ∷ []) others)) is_all) held.1
-      (subst (λ (k : JobFields). RehearsesOn queries (jobs ++ k ∷ []) more names (map (get files) names) o) same rest)
+      (subst (λ (k : JobFields). RehearsesOn queries (jobs ++ k ∷ []) more names (held_under files names) o) same rest)
       ∙ ap (λ (js : List JobFields). Ok (rehearsed queries js all)) (append_assoc jobs (j ∷ []) others)
 
   pub done_law : (asked : Command) (queries : List Query) (jobs : List JobFields) (parts : List SealedFields) (o : Result Done NamedFault)
@@ -162,5 +162,5 @@ module _ (layers : Layers) (files : Files) where
   done_law (commands.Audit a) queries jobs parts o is p m = absurd p
   done_law (commands.Rehearse r) queries jobs parts o is p m =
       goes_on queries [] [] r.jobs jobs parts o tt is p.1
-      (from_first queries r.jobs (map (get files) r.jobs) o (subst (λ (q : Result (List Query) NamedFault). MakesRehearsal r q (map (get files) r.jobs) o)
+      (from_first queries r.jobs (held_under files r.jobs) o (subst (λ (q : Result (List Query) NamedFault). MakesRehearsal r q (held_under files r.jobs) o)
       (queries_input files r.queries queries p.0) m))

@@ -5,7 +5,6 @@ use Rattle.std.proofs.lemmas.List.Elements.{All-nil, All-cons}
 use Rattle.std.specs.Prelude.{nat_le, if◌then◌else◌}
 use Rattle.std.specs.Cmp.Lexicographic.{nat_list_cmp_total}
 use Rattle.std.specs.FinMap.{get, insert, get-insert}
-use Rattle.std.proofs.lemmas.List.{length-map}
 use Rattle.std.proofs.lemmas.Map.Text.{is_eq-slice_cmp}
 use Rattle.std.proofs.lemmas.Slice.Eq.{bytes_eq-Decides}
 use Rattle.outside_core.specs.Files.{Files}
@@ -39,13 +38,14 @@ use Rattle.input_core.specs.declared.fault.FileFault.{FileFault}
 use Rattle.input_core.specs.declared.fault.FileFault.TheVariants as faults
 use Rattle.clubcard_top.specs.Faults.{of_publishing, of_rebasing}
 use Rattle.clubcard_top.specs.ReplyFields.{OutputFields, Done, NamedFault}
+use Rattle.input_core.specs.Inputs.{Inputs}
 use Rattle.input_core.specs.Readings.{job_in, ledger_in, part_in, store_in}
 use Rattle.input_core.specs.Certificates.{certificate_in, issuer_in}
 use Rattle.clubcard_top.specs.Commands.{◌>>=◌, named, input, query_done, query_cert_done, check_done, show_done, stored, begun_by, begun, installed_by, installed}
 use Rattle.clubcard_top.specs.Commands.{publication_done, published_as, MakesPart, MakesSnapshot, MakesDelta, sample_done}
 use Rattle.clubcard_top.specs.Commands.{head_in, page_in, room_for, pages_of, gather_done, AreJobs, Makes}
 use Rattle.clubcard_top.specs.Rebasings.{base_done, rebased_as, MakesBase, MakesRebase}
-use Rattle.clubcard_top.specs.Replies.{done, held_by}
+use Rattle.clubcard_top.specs.Replies.{done, held_under, held_by}
 use Rattle.clubcard_top.specs.Runs.{with_outputs}
 use Rattle.clubcard_top.specs.Calls.{Call, Reads, NoFault}
 use Rattle.clubcard_top.specs.Endings.{Succeeds, Did, Gives, GivesDone, WantedMemory, Ends}
@@ -193,7 +193,7 @@ both_back t files job before o job_is ledger_is m =
 -- one thing comes of a command and its inputs
 abbrev pub OneOutcome : Type 0
 OneOutcome =
-    (command : Command) (inputs : List (Option (List ℕ))) (a b : Result Done NamedFault) → Makes command inputs a
+    (command : Command) (inputs : Inputs) (a b : Result Done NamedFault) → Makes command inputs a
     → Makes command inputs b → a ≡ b
 
 -- parts that say the truth of accepted entries say the truth
@@ -233,10 +233,10 @@ module _ (call : Call) where
   reads files told name read x h = let i = input_ok name read (get files name) x h in (i.0, (files, told, i.1), i.2)
 
   pages_read : (files : Files) → call.files_before ≡ Some files → (job : List ℕ) (before : ℕ) (names : List (List ℕ)) (entries : List PageFields)
-      → Ok entries ≡ pages_of job before names (map (get files) names) → ReadsPages call names entries
+      → Ok entries ≡ pages_of job before names (held_under files names) → ReadsPages call names entries
   pages_read files told job before [] entries h = ok_same {E = NamedFault} entries [] h
   pages_read files told job before (name ∷ names) entries h =
-      let others = map (get files) names in
+      let others = held_under files names in
       let one = step_ok (input name page_in (get files name)) (page_then job before names others) entries h in
       let two = step_ok (room_for job before one.0) (page_last job before names others) entries (sym one.2) in
       let three = step_ok (pages_of job (before + length two.0) names others) (λ more. Ok (two.0 ++ more)) entries (sym two.2) in (
@@ -248,7 +248,7 @@ module _ (call : Call) where
         pages_read files told job (before + length two.0) names three.0 (sym three.1),
       )
 
-  jobs_read : (files : Files) → call.files_before ≡ Some files → (names : List (List ℕ)) (jobs : List JobFields) → AreJobs names (map (get files) names) jobs → ReadsJobs call names jobs
+  jobs_read : (files : Files) → call.files_before ≡ Some files → (names : List (List ℕ)) (jobs : List JobFields) → AreJobs names (held_under files names) jobs → ReadsJobs call names jobs
   jobs_read files told [] [] are = tt
   jobs_read files told [] (j ∷ jobs) are = absurd are
   jobs_read files told (name ∷ names) [] are = absurd are
@@ -395,7 +395,7 @@ module _ (call : Call) where
         × GivesDone call (gather_done g head entries)
     gather g did =
         let c = came (commands.Gather g) did in
-        let others = map (get did.files) g.pages in
+        let others = held_under did.files g.pages in
         let one = step_ok (input g.head head_in (get did.files g.head)) (gather_after g others) c.d c.makes in
         let two = step_ok (pages_of g.job (length one.0.entries) g.pages others) (λ entries. Ok (gather_done g one.0 entries)) c.d (sym one.2) in (
           one.0,
@@ -410,7 +410,7 @@ module _ (call : Call) where
         × GivesDone call (audit_done jobs (record { entries = length (seen (audited_releases jobs)) }))
     audit truthful a did =
         let c = came (commands.Audit a) did in
-        let x = audit_done_is a (input a.store store_in (get did.files a.store)) (map (get did.files) a.jobs) c.d (length-map a.jobs (get did.files)) c.makes in
+        let x = audit_done_is a (input a.store store_in (get did.files a.store)) (held_under did.files a.jobs) c.d c.makes in
         let said = audit_done x.jobs (record { entries = length (seen (audited_releases x.jobs)) }) in (
           x.parts,
           x.jobs,
@@ -431,15 +431,15 @@ module _ (call : Call) where
       ap (input name read) (ap (λ (f : Files). get f name) (sym same) ∙ held) ∙ ap (named name) is
 
   pages_back : (files : Files) → call.files_before ≡ Some files → (job : List ℕ) (before : ℕ) (names : List (List ℕ)) (entries : List PageFields)
-      → ReadsPages call names entries → before + length entries ≤ limits.PUBLISHED.entries → pages_of job before names (map (get files) names) ≡ Ok entries
+      → ReadsPages call names entries → before + length entries ≤ limits.PUBLISHED.entries → pages_of job before names (held_under files names) ≡ Ok entries
   pages_back files told job before [] entries is few = ap (λ (l : List PageFields). Ok l) (sym is)
   pages_back files told job before (name ∷ names) entries (page, others, page_reads, is, rest) few =
       let size : length entries ≡ length page + length others = ap (λ (l : List PageFields). length l) is ∙ length-append page others in
-      page_put job name names before (get files name) (map (get files) names) page (read_in files told name page_in page page_reads) (omega (arith, few, size))
+      page_put job name names before (held_under files (name ∷ names)) page (read_in files told name page_in page page_reads) (omega (arith, few, size))
       ∙ ap (behind_these page) (pages_back files told job (before + length page) names others rest (omega (arith, few, size)))
       ∙ ap (λ (l : List PageFields). Ok l) (sym is)
 
-  jobs_back : (files : Files) → call.files_before ≡ Some files → (names : List (List ℕ)) (jobs : List JobFields) → ReadsJobs call names jobs → AreJobs names (map (get files) names) jobs
+  jobs_back : (files : Files) → call.files_before ≡ Some files → (names : List (List ℕ)) (jobs : List JobFields) → ReadsJobs call names jobs → AreJobs names (held_under files names) jobs
   jobs_back files told [] [] are = tt
   jobs_back files told [] (j ∷ jobs) are = absurd are
   jobs_back files told (name ∷ names) [] are = absurd are
@@ -525,7 +525,7 @@ module _ (call : Call) where
         → Reads call g.head head_in head → ReadsPages call g.pages entries → length head.entries + length entries ≤ limits.PUBLISHED.entries
         → NoFault call → Succeeds call ⊎ WantedMemory call
     gather_complete g head entries asked (bytes, (files, told, held), is) page_reads few quiet =
-        let others = map (get files) g.pages in
+        let others = held_under files g.pages in
         let head_is = read_in files told g.head head_in head (bytes, (files, told, held), is) in
         let pages_are = pages_back files told g.job (length head.entries) g.pages entries page_reads few in
         sure_of (commands.Gather g) files (gather_done g head entries) told asked
@@ -541,10 +541,10 @@ module _ (call : Call) where
         → NoFault call → Succeeds call ⊎ WantedMemory call
     audit_complete a parts jobs asked (bytes, (files, told, held), is) job_reads few audited quiet =
         let store_is = read_in files told a.store store_in parts (bytes, (files, told, held), is) in
-        let jobs_are = audit_jobs_back a.jobs (map (get files) a.jobs) jobs (jobs_back files told a.jobs jobs job_reads) few audited.crls in
+        let jobs_are = audit_jobs_back a.jobs (held_under files a.jobs) jobs (jobs_back files told a.jobs jobs job_reads) few audited.crls in
         let d = audit_done jobs (record { entries = length (seen (audited_releases jobs)) }) in
         sure_of (commands.Audit a) files d told asked
         (λ none. cc)
-        (λ o m. subst (λ (r : Result (List SealedFields) NamedFault). MakesAudit a r (audit_jobs a.jobs (map (get files) a.jobs)) (Ok d)) (sym store_is)
+        (λ o m. subst (λ (r : Result (List SealedFields) NamedFault). MakesAudit a r (audit_jobs a.jobs (held_under files a.jobs)) (Ok d)) (sym store_is)
         (subst (λ (js : Result (List JobFields) NamedFault). MakesAudit a (Ok parts) js (Ok d)) (sym jobs_are) (audit_makes a parts jobs audited)))
         quiet

@@ -22,6 +22,7 @@ use Rattle.audit_core.specs.Auditing.{IsFound}
 use Rattle.word_core.specs.declared.command.{Snapshot.Snapshot, Delta.Delta, Rebase.Rebase, Rehearse.Rehearse}
 use Rattle.word_core.specs.declared.command.{Audit.Audit}
 use Rattle.clubcard_top.specs.ReplyFields.{Done, NamedFault, ReplyFields}
+use Rattle.input_core.specs.Inputs.{Inputs, rest_of}
 use Rattle.input_core.specs.Readings.{queries_in, job_in, ledger_in, store_in}
 use Rattle.clubcard_top.specs.Commands.{input, published_as, MakesPart, MakesSnapshot, MakesDelta, IsRefused, MakesRehearsal, Makes}
 use Rattle.clubcard_top.specs.Audits.{audit_jobs, audited_as, MakesAudit}
@@ -119,27 +120,25 @@ module _ (publishing : Publishing) where
       not_published jobs parts job others all fault is is_all
       (subst (λ (k : JobFields). Publishes (ledger_of (releases_of (chain jobs) parts)) k (Err fault)) (job_same other job (input name job_in given) is_other is_job) not)
 
-  rehearses_unique : (queries : List Query) (jobs : List JobFields) (parts : List SealedFields) (names : List (List ℕ)) (inputs : List (Option (List ℕ)))
+  rehearses_unique : (queries : List Query) (jobs : List JobFields) (parts : List SealedFields) (names : List (List ℕ)) (inputs : Inputs)
       (a b : Result Done NamedFault) → IsHistory (chain jobs) parts
       → RehearsesOn queries jobs parts names inputs a → RehearsesOn queries jobs parts names inputs b → a ≡ b
-  rehearses_unique queries jobs parts [] [] a b is x y = x ∙ sym y
-  rehearses_unique queries jobs parts [] (g ∷ inputs) a b is x y = absurd x
-  rehearses_unique queries jobs parts (name ∷ names) [] a b is x y = absurd x
-  rehearses_unique queries jobs parts (name ∷ names) (g ∷ inputs) a b is (inl (e, refused, x)) (inl (f, refused_too, y)) =
-      x ∙ ap (λ (k : NamedFault). Err k) (refused_same (chain jobs) parts name g e f refused refused_too) ∙ sym y
-  rehearses_unique queries jobs parts (name ∷ names) (g ∷ inputs) a b is (inl (e, refused, x)) (inr (job, more, is_job, fits, is_more, rest)) =
-      absurd (refused_follows jobs parts name g e job [] more is is_job is_more refused)
-  rehearses_unique queries jobs parts (name ∷ names) (g ∷ inputs) a b is (inr (job, more, is_job, fits, is_more, rest)) (inl (e, refused, y)) =
-      absurd (refused_follows jobs parts name g e job [] more is is_job is_more refused)
-  rehearses_unique queries jobs parts (name ∷ names) (g ∷ inputs) a b is (inr (job, more, is_job, fits, is_more, rest)) (inr (other, more_other, is_other, fits_other, is_more_other, rest_other)) =
-      let j : other ≡ job = job_same other job (input name job_in g) is_other is_job in
+  rehearses_unique queries jobs parts [] inputs a b is x y = x ∙ sym y
+  rehearses_unique queries jobs parts (name ∷ names) inputs a b is (inl (e, refused, x)) (inl (f, refused_too, y)) =
+      x ∙ ap (λ (k : NamedFault). Err k) (refused_same (chain jobs) parts name (inputs 0) e f refused refused_too) ∙ sym y
+  rehearses_unique queries jobs parts (name ∷ names) inputs a b is (inl (e, refused, x)) (inr (job, more, is_job, fits, is_more, rest)) =
+      absurd (refused_follows jobs parts name (inputs 0) e job [] more is is_job is_more refused)
+  rehearses_unique queries jobs parts (name ∷ names) inputs a b is (inr (job, more, is_job, fits, is_more, rest)) (inl (e, refused, y)) =
+      absurd (refused_follows jobs parts name (inputs 0) e job [] more is is_job is_more refused)
+  rehearses_unique queries jobs parts (name ∷ names) inputs a b is (inr (job, more, is_job, fits, is_more, rest)) (inr (other, more_other, is_other, fits_other, is_more_other, rest_other)) =
+      let j : other ≡ job = job_same other job (input name job_in (inputs 0)) is_other is_job in
       let m : more_other ≡ more = publishing.parts (chain (jobs ++ job ∷ [])) more_other more
       (subst (λ (k : JobFields). IsHistory (chain (jobs ++ k ∷ [])) more_other) j is_more_other) is_more in
-      rehearses_unique queries (jobs ++ job ∷ []) more names inputs a b is_more rest
-      (subst (λ (ps : List SealedFields). RehearsesOn queries (jobs ++ job ∷ []) ps names inputs b) m
-      (subst (λ (k : JobFields). RehearsesOn queries (jobs ++ k ∷ []) more_other names inputs b) j rest_other))
+      rehearses_unique queries (jobs ++ job ∷ []) more names (rest_of inputs) a b is_more rest
+      (subst (λ (ps : List SealedFields). RehearsesOn queries (jobs ++ job ∷ []) ps names (rest_of inputs) b) m
+      (subst (λ (k : JobFields). RehearsesOn queries (jobs ++ k ∷ []) more_other names (rest_of inputs) b) j rest_other))
 
-  rehearsal_unique : (r : Rehearse) (queries : Result (List Query) NamedFault) (inputs : List (Option (List ℕ))) (a b : Result Done NamedFault)
+  rehearsal_unique : (r : Rehearse) (queries : Result (List Query) NamedFault) (inputs : Inputs) (a b : Result Done NamedFault)
       → MakesRehearsal r queries inputs a → MakesRehearsal r queries inputs b
       → a ≡ b
   rehearsal_unique r (Ok queries) inputs a b x y = rehearses_unique queries [] [] r.jobs inputs a b tt (from_first queries r.jobs inputs a x) (from_first queries r.jobs inputs b y)
@@ -162,52 +161,26 @@ module _ (publishing : Publishing) where
 
   -- ---- commands
 
-  pub outcome_unique : Others → (c : Command) (inputs : List (Option (List ℕ))) (a b : Result Done NamedFault) → Makes c inputs a → Makes c inputs b → a ≡ b
-  outcome_unique others commands.Usage inputs a b x y = absurd x
-  outcome_unique others (commands.Query q) (g ∷ []) a b x y = x ∙ sym y
-  outcome_unique others (commands.QueryCert q) (g ∷ h ∷ k ∷ []) a b x y = x ∙ sym y
-  outcome_unique others (commands.Check name) (g ∷ []) a b x y = x ∙ sym y
-  outcome_unique others (commands.Show name) (g ∷ []) a b x y = x ∙ sym y
-  outcome_unique others (commands.Snapshot s) (g ∷ []) a b x y = snapshot_unique s (input s.job job_in g) a b x y
-  outcome_unique others (commands.Delta t) (g ∷ h ∷ []) a b x y = delta_unique t (input t.job job_in g) (input t.ledger ledger_in h) a b x y
-  outcome_unique others (commands.Rebase r) (g ∷ []) a b x y = rebase_unique others.bases r (input r.ledger ledger_in g) a b x y
-  outcome_unique others (commands.Start t) (g ∷ []) a b x y = x ∙ sym y
-  outcome_unique others (commands.Install i) (g ∷ h ∷ []) a b x y = x ∙ sym y
-  outcome_unique others (commands.Rehearse r) (g ∷ inputs) a b x y = rehearsal_unique r (input r.queries queries_in g) inputs a b x y
-  outcome_unique others (commands.Sample s) [] a b x y = x ∙ sym y
-  outcome_unique others (commands.Gather f) (g ∷ inputs) a b x y = x ∙ sym y
-  outcome_unique others (commands.Gather f) [] a b x y = absurd x
-  outcome_unique others (commands.Audit f) (g ∷ inputs) a b x y = audit_unique others.audits f (input f.store store_in g) (audit_jobs f.jobs inputs) a b x y
-  outcome_unique others (commands.Audit f) [] a b x y = absurd x
-  outcome_unique others (commands.Rehearse r) [] a b x y = absurd x
-  outcome_unique others (commands.Sample s) (g ∷ cs) a b x y = absurd x
-  outcome_unique others (commands.Query q) [] a b x y = absurd x
-  outcome_unique others (commands.Query q) (g ∷ h ∷ cs) a b x y = absurd x
-  outcome_unique others (commands.QueryCert q) [] a b x y = absurd x
-  outcome_unique others (commands.QueryCert q) (g ∷ []) a b x y = absurd x
-  outcome_unique others (commands.QueryCert q) (g ∷ h ∷ []) a b x y = absurd x
-  outcome_unique others (commands.QueryCert q) (g ∷ h ∷ k ∷ l ∷ cs) a b x y = absurd x
-  outcome_unique others (commands.Check name) [] a b x y = absurd x
-  outcome_unique others (commands.Check name) (g ∷ h ∷ cs) a b x y = absurd x
-  outcome_unique others (commands.Show name) [] a b x y = absurd x
-  outcome_unique others (commands.Show name) (g ∷ h ∷ cs) a b x y = absurd x
-  outcome_unique others (commands.Snapshot s) [] a b x y = absurd x
-  outcome_unique others (commands.Snapshot s) (g ∷ h ∷ cs) a b x y = absurd x
-  outcome_unique others (commands.Delta t) [] a b x y = absurd x
-  outcome_unique others (commands.Delta t) (g ∷ []) a b x y = absurd x
-  outcome_unique others (commands.Delta t) (g ∷ h ∷ k ∷ cs) a b x y = absurd x
-  outcome_unique others (commands.Rebase r) [] a b x y = absurd x
-  outcome_unique others (commands.Rebase r) (g ∷ h ∷ cs) a b x y = absurd x
-  outcome_unique others (commands.Start t) [] a b x y = absurd x
-  outcome_unique others (commands.Start t) (g ∷ h ∷ cs) a b x y = absurd x
-  outcome_unique others (commands.Install i) [] a b x y = absurd x
-  outcome_unique others (commands.Install i) (g ∷ []) a b x y = absurd x
-  outcome_unique others (commands.Install i) (g ∷ h ∷ k ∷ cs) a b x y = absurd x
+  pub outcome_unique : Others → (c : Command) (inputs : Inputs) (a b : Result Done NamedFault) → Makes c inputs a → Makes c inputs b → a ≡ b
+  outcome_unique others commands.Usage at a b x y = absurd x
+  outcome_unique others (commands.Query q) at a b x y = x ∙ sym y
+  outcome_unique others (commands.QueryCert q) at a b x y = x ∙ sym y
+  outcome_unique others (commands.Check name) at a b x y = x ∙ sym y
+  outcome_unique others (commands.Show name) at a b x y = x ∙ sym y
+  outcome_unique others (commands.Snapshot s) at a b x y = snapshot_unique s (input s.job job_in (at 0)) a b x y
+  outcome_unique others (commands.Delta t) at a b x y = delta_unique t (input t.job job_in (at 0)) (input t.ledger ledger_in (at 1)) a b x y
+  outcome_unique others (commands.Rebase r) at a b x y = rebase_unique others.bases r (input r.ledger ledger_in (at 0)) a b x y
+  outcome_unique others (commands.Start t) at a b x y = x ∙ sym y
+  outcome_unique others (commands.Install i) at a b x y = x ∙ sym y
+  outcome_unique others (commands.Rehearse r) at a b x y = rehearsal_unique r (input r.queries queries_in (at 0)) (rest_of at) a b x y
+  outcome_unique others (commands.Sample s) at a b x y = x ∙ sym y
+  outcome_unique others (commands.Gather f) at a b x y = x ∙ sym y
+  outcome_unique others (commands.Audit f) at a b x y = audit_unique others.audits f (input f.store store_in (at 0)) (audit_jobs f.jobs (rest_of at)) a b x y
 
-  usage_makes : (c : Command) (inputs : List (Option (List ℕ))) (o : Result Done NamedFault) → c ≡ commands.Usage → Makes c inputs o → ⊥
+  usage_makes : (c : Command) (inputs : Inputs) (o : Result Done NamedFault) → c ≡ commands.Usage → Makes c inputs o → ⊥
   usage_makes c inputs o is m = subst (λ (k : Command). Makes k inputs o) is m
 
-  pub reply_unique : Others → (c : Command) (inputs : List (Option (List ℕ))) (a b : ReplyFields) → IsReplyOver c inputs a → IsReplyOver c inputs b → a ≡ b
+  pub reply_unique : Others → (c : Command) (inputs : Inputs) (a b : ReplyFields) → IsReplyOver c inputs a → IsReplyOver c inputs b → a ≡ b
   reply_unique others c inputs a b (inl (u, x)) (inl (v, y)) = x ∙ sym y
   reply_unique others c inputs a b (inl (u, x)) (inr (o, m, y)) = absurd (usage_makes c inputs o u m)
   reply_unique others c inputs a b (inr (o, m, x)) (inl (v, y)) = absurd (usage_makes c inputs o v m)

@@ -1,5 +1,5 @@
 -- What comes of a command, and what it is answered, doesn't depend on its number of workers.
-use Rattle.std.proofs.Common.{◌≡◌, ℕ, inl, inr, List, [], ◌∷◌, Option, Result, Ok, Err, refl, sym, ◌∙◌}
+use Rattle.std.proofs.Common.{◌≡◌, ℕ, inl, inr, List, Result, Ok, Err, refl, sym, ◌∙◌}
 use Rattle.std.specs.Prelude.{◌↔◌}
 use Rattle.query_core.specs.Queries.{Query}
 use Rattle.job_core.specs.JobFields.{JobFields}
@@ -11,6 +11,7 @@ use Rattle.word_core.specs.declared.command.Command.TheVariants as commands
 use Rattle.word_core.specs.declared.command.{Snapshot.Snapshot, Delta.Delta, Rebase.Rebase, Rehearse.Rehearse}
 use Rattle.word_core.specs.Names.{inputs_of, outputs_of}
 use Rattle.clubcard_top.specs.ReplyFields.{ReplyFields, Done, NamedFault}
+use Rattle.input_core.specs.Inputs.{Inputs, rest_of}
 use Rattle.input_core.specs.Readings.{queries_in, job_in, ledger_in}
 use Rattle.clubcard_top.specs.Commands.{input, MakesSnapshot, MakesDelta, MakesRehearsal, Makes}
 use Rattle.clubcard_top.specs.Rebasings.{rebased_as, MakesBase, MakesRebase}
@@ -48,25 +49,17 @@ rebase_same : (n : ℕ) (r : Rebase) (l : Result LedgerFields NamedFault) (o : R
 rebase_same n r (Ok l) o = based_same n r l o
 rebase_same n r (Err e) o = both (MakesRebase r (Err e) o)
 
-rehearse_same : (n : ℕ) (r : Rehearse) (q : Result (List Query) NamedFault) (inputs : List (Option (List ℕ)))
+rehearse_same : (n : ℕ) (r : Rehearse) (q : Result (List Query) NamedFault) (inputs : Inputs)
     (o : Result Done NamedFault) → MakesRehearsal r q inputs o ↔ MakesRehearsal (record r { workers = n }) q inputs o
 rehearse_same n r (Ok queries) inputs o = both (MakesRehearsal r (Ok queries) inputs o)
 rehearse_same n r (Err e) inputs o = both (MakesRehearsal r (Err e) inputs o)
 
-pub makes_same : (n : ℕ) (c : Command) (inputs : List (Option (List ℕ))) (o : Result Done NamedFault)
+pub makes_same : (n : ℕ) (c : Command) (inputs : Inputs) (o : Result Done NamedFault)
     → Makes c inputs o ↔ Makes (with_workers n c) inputs o
-makes_same n (commands.Snapshot s) [] o = both ⊥
-makes_same n (commands.Snapshot s) (j ∷ []) o = snapshot_same n s (input s.job job_in j) o
-makes_same n (commands.Snapshot s) (j ∷ k ∷ ks) o = both ⊥
-makes_same n (commands.Delta d) [] o = both ⊥
-makes_same n (commands.Delta d) (j ∷ []) o = both ⊥
-makes_same n (commands.Delta d) (j ∷ l ∷ []) o = delta_same n d (input d.job job_in j) (input d.ledger ledger_in l) o
-makes_same n (commands.Delta d) (j ∷ l ∷ k ∷ ks) o = both ⊥
-makes_same n (commands.Rebase r) [] o = both ⊥
-makes_same n (commands.Rebase r) (l ∷ []) o = rebase_same n r (input r.ledger ledger_in l) o
-makes_same n (commands.Rebase r) (l ∷ k ∷ ks) o = both ⊥
-makes_same n (commands.Rehearse r) [] o = both ⊥
-makes_same n (commands.Rehearse r) (q ∷ inputs) o = rehearse_same n r (input r.queries queries_in q) inputs o
+makes_same n (commands.Snapshot s) inputs o = snapshot_same n s (input s.job job_in (inputs 0)) o
+makes_same n (commands.Delta d) inputs o = delta_same n d (input d.job job_in (inputs 0)) (input d.ledger ledger_in (inputs 1)) o
+makes_same n (commands.Rebase r) inputs o = rebase_same n r (input r.ledger ledger_in (inputs 0)) o
+makes_same n (commands.Rehearse r) inputs o = rehearse_same n r (input r.queries queries_in (inputs 0)) (rest_of inputs) o
 makes_same n commands.Usage inputs o = both (Makes commands.Usage inputs o)
 makes_same n (commands.Query q) inputs o = both (Makes (commands.Query q) inputs o)
 makes_same n (commands.QueryCert q) inputs o = both (Makes (commands.QueryCert q) inputs o)
@@ -125,13 +118,13 @@ rehearse_some : (r : Rehearse) → commands.Rehearse r ≡ commands.Usage → �
 rehearse_some r e = cc
 
 -- where the same comes of both, and the first is a command
-over_same : (a b : Command) (inputs : List (Option (List ℕ))) (reply : ReplyFields) → (a ≡ commands.Usage → ⊥)
+over_same : (a b : Command) (inputs : Inputs) (reply : ReplyFields) → (a ≡ commands.Usage → ⊥)
     → ((o : Result Done NamedFault) → Makes a inputs o → Makes b inputs o)
     → IsReplyOver a inputs reply → IsReplyOver b inputs reply
 over_same a b inputs reply some f (inl (none, same)) = absurd (some none)
 over_same a b inputs reply some f (inr (o, m, same)) = inr (o, f o m, same)
 
-pub replies_same : (n : ℕ) (c : Command) (inputs : List (Option (List ℕ))) (reply : ReplyFields)
+pub replies_same : (n : ℕ) (c : Command) (inputs : Inputs) (reply : ReplyFields)
     → IsReplyOver c inputs reply ↔ IsReplyOver (with_workers n c) inputs reply
 replies_same n (commands.Snapshot s) inputs reply =
     let c : Command = commands.Snapshot s in

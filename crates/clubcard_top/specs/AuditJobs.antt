@@ -11,7 +11,7 @@ use Rattle.audit_core.specs.Auditing.{entries_of}
 use Rattle.input_core.specs.declared.fault.FileFault.{FileFault}
 use Rattle.input_core.specs.declared.fault.FileFault.TheVariants as faults
 use Rattle.input_core.specs.Readings.{input_as}
-use Rattle.input_core.specs.Inputs.{IsRead, AreRead, IsBlamed}
+use Rattle.input_core.specs.Inputs.{Inputs, IsRead, AreRead, IsBlamed}
 use Rattle.clubcard_top.specs.ReplyFields.{NamedFault}
 use Rattle.clubcard_top.specs.Audits.{serials_of, job_behind, jobs_behind}
 use Rattle.clubcard_top.specs.Replies.{refusal, SaysWhich}
@@ -51,7 +51,7 @@ pub record IsNotAdded
 pub record AreAdded
     (told : Option Files) (failed : Option (List ℕ) → Type 0) (names : List (List ℕ)) (jobs : List JobFields)
     : Type 0 where
-  pub inputs : List (Option (List ℕ))
+  pub inputs : Inputs
   pub read : AreRead told failed names inputs
   pub none_failed : failed None
   pub makes : jobs_behind [] names inputs ≡ Ok jobs
@@ -61,7 +61,7 @@ pub record AreAdded
 pub record AreNotAdded
     (told : Option Files) (failed : Option (List ℕ) → Type 0) (names : List (List ℕ)) (e : NamedFault)
     : Type 0 where
-  pub inputs : List (Option (List ℕ))
+  pub inputs : Inputs
   pub read : AreRead told failed names inputs
   pub blames : SaysWhich failed names (refusal e.name e.fault)
   pub makes : jobs_behind [] names inputs ≡ Err e

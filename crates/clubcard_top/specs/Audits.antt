@@ -18,6 +18,7 @@ use Rattle.word_core.specs.declared.command.Audit.{Audit}
 use Rattle.line_core.specs.Lines.{audit_line}
 use Rattle.input_core.specs.declared.fault.FileFault.{FileFault}
 use Rattle.input_core.specs.declared.fault.FileFault.TheVariants as faults
+use Rattle.input_core.specs.Inputs.{Inputs, rest_of}
 use Rattle.input_core.specs.Readings.{job_in}
 use Rattle.clubcard_top.specs.Faults.{of_admission}
 use Rattle.clubcard_top.specs.ReplyFields.{Done, NamedFault}
@@ -49,12 +50,11 @@ abbrev pub job_behind : List JobFields → List ℕ → Result JobFields FileFau
 job_behind before bytes = counted before (job_in bytes)
 
 -- the jobs with those of these files behind them, each of which is counted before the next is read
-abbrev pub jobs_behind : List JobFields → List (List ℕ) → List (Option (List ℕ)) → Result (List JobFields) NamedFault
-jobs_behind before (name ∷ names) (given ∷ inputs) = do
-  job ← input name (job_behind before) given
-  jobs_behind (before ++ job ∷ []) names inputs
--- all jobs are read: there are as many inputs as names
-jobs_behind before names inputs = Ok before
+abbrev pub jobs_behind : List JobFields → List (List ℕ) → Inputs → Result (List JobFields) NamedFault
+jobs_behind before [] inputs = Ok before
+jobs_behind before (name ∷ names) inputs = do
+  job ← input name (job_behind before) (inputs 0)
+  jobs_behind (before ++ job ∷ []) names (rest_of inputs)
 
 -- the first CRL of a job that isn't accepted
 abbrev pub bad_crl_in : JobFields → Option FileFault
@@ -68,7 +68,7 @@ bad_crl (name ∷ names) (job ∷ jobs) =
 bad_crl names jobs = None
 
 -- the jobs of these files, all of whose CRLs are accepted
-abbrev pub audit_jobs : List (List ℕ) → List (Option (List ℕ)) → Result (List JobFields) NamedFault
+abbrev pub audit_jobs : List (List ℕ) → Inputs → Result (List JobFields) NamedFault
 audit_jobs names inputs = do
   jobs ← jobs_behind [] names inputs
   unless (bad_crl names jobs) jobs

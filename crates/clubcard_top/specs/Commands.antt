@@ -39,6 +39,7 @@ use Rattle.input_core.specs.declared.fault.FileFault.{FileFault}
 use Rattle.input_core.specs.declared.fault.FileFault.TheVariants as faults
 use Rattle.clubcard_top.specs.Faults.{of_publishing}
 use Rattle.clubcard_top.specs.ReplyFields.{Done, NamedFault}
+use Rattle.input_core.specs.Inputs.{Inputs, rest_of}
 use Rattle.input_core.specs.Readings.{queries_in, job_in, ledger_in, part_in, store_in}
 use Rattle.input_core.specs.Certificates.{certificate_in, issuer_in}
 pub use Rattle.clubcard_top.specs.PageFiles.{head_in, page_in, room_for}
@@ -195,31 +196,30 @@ IsRefused h parts name given e =
     × (e ≡ record { name = name; fault = of_publishing fault }))
 
 -- the inputs of these names were read as these jobs
-abbrev pub AreJobs : List (List ℕ) → List (Option (List ℕ)) → List JobFields → Type 0
-AreJobs [] [] [] = Unit {0}
-AreJobs (name ∷ names) (given ∷ inputs) (job ∷ jobs) = (input name job_in given ≡ Ok job) × AreJobs names inputs jobs
--- as many of each: others aren't
+abbrev pub AreJobs : List (List ℕ) → Inputs → List JobFields → Type 0
+AreJobs [] inputs [] = Unit {0}
+AreJobs (name ∷ names) inputs (job ∷ jobs) =
+    (input name job_in (inputs 0) ≡ Ok job) × AreJobs names (rest_of inputs) jobs
+-- as many jobs as names: others aren't
 AreJobs names inputs jobs = ⊥
 
 -- What comes of files that are rehearsed. The first n of them hold the jobs of a history. Either these are all, and the
 -- parts of the history are asked the queries; or the next file doesn't follow it, and that is what is wrong.
 pub record Rehearses
-    (queries : List Query) (names : List (List ℕ)) (inputs : List (Option (List ℕ))) (o : Result Done NamedFault)
+    (queries : List Query) (names : List (List ℕ)) (inputs : Inputs) (o : Result Done NamedFault)
     : Type 0 where
   pub n : ℕ
   pub jobs : List JobFields
   pub parts : List SealedFields
-  pub hold : AreJobs (take n names) (take n inputs) jobs
+  pub hold : AreJobs (take n names) inputs jobs
   -- keys, serials and times fit their fields
   pub fit : All FitsFields jobs
   pub is_history : IsHistory (chain jobs) parts
-  pub then : ((n ≡ length names) × (n ≡ length inputs) × (o ≡ Ok (rehearsed queries jobs parts)))
-      ⊎ ((name : List ℕ) × (given : Option (List ℕ)) × (e : NamedFault)
-      × (slice_get names n ≡ Some name) × (slice_get inputs n ≡ Some given)
-      × IsRefused (chain jobs) parts name given e × (o ≡ Err e))
+  pub then : ((n ≡ length names) × (o ≡ Ok (rehearsed queries jobs parts)))
+      ⊎ ((name : List ℕ) × (e : NamedFault) × (slice_get names n ≡ Some name)
+      × IsRefused (chain jobs) parts name (inputs n) e × (o ≡ Err e))
 
-abbrev pub MakesRehearsal : Rehearse → Result (List Query) NamedFault → List (Option (List ℕ))
-    → Result Done NamedFault → Type 0
+abbrev pub MakesRehearsal : Rehearse → Result (List Query) NamedFault → Inputs → Result Done NamedFault → Type 0
 MakesRehearsal r (Ok queries) inputs o = Rehearses queries r.jobs inputs o
 MakesRehearsal r (Err e) inputs o = o ≡ Err e
 
@@ -235,14 +235,13 @@ sample_done s = record {
 -- ---- gathering
 
 -- The entries of the pages, behind so many others. Each page is read and then its entries are counted, before the next.
-abbrev pub pages_of : (job : List ℕ) (before : ℕ) → List (List ℕ) → List (Option (List ℕ)) → Result (List PageFields) NamedFault
-pages_of job before (name ∷ names) (given ∷ inputs) = do
-  read ← input name page_in given
+abbrev pub pages_of : (job : List ℕ) (before : ℕ) → List (List ℕ) → Inputs → Result (List PageFields) NamedFault
+pages_of job before [] inputs = Ok []
+pages_of job before (name ∷ names) inputs = do
+  read ← input name page_in (inputs 0)
   page ← room_for job before read
-  others ← pages_of job (before + length page) names inputs
+  others ← pages_of job (before + length page) names (rest_of inputs)
   Ok (page ++ others)
--- all pages are read: there are as many inputs as names
-pages_of job before names inputs = Ok []
 
 -- the job with these entries of the log behind its own
 abbrev pub longer : Gather → JobContents → List PageFields → JobContents
@@ -255,7 +254,7 @@ gather_done g head entries = record {
   outputs = record { name = g.job; bytes = job_text (longer g head entries) } ∷ [];
 }
 
-abbrev pub gather_makes : Gather → Option (List ℕ) → List (Option (List ℕ)) → Result Done NamedFault
+abbrev pub gather_makes : Gather → Option (List ℕ) → Inputs → Result Done NamedFault
 gather_makes g head inputs = do
   j ← input g.head head_in head
   entries ← pages_of g.job (length j.entries) g.pages inputs
@@ -263,21 +262,19 @@ gather_makes g head inputs = do
 
 -- ---- commands
 
--- What comes of a command: what it writes, or what is wrong with which file. The inputs are in the order of reading.
-abbrev pub Makes : Command → List (Option (List ℕ)) → Result Done NamedFault → Type 0
-Makes (commands.Query q) (store ∷ []) o = o ≡ query_makes q store
-Makes (commands.QueryCert q) (store ∷ cert ∷ issuer_cert ∷ []) o = o ≡ query_cert_makes q store cert issuer_cert
-Makes (commands.Check name) (part ∷ []) o = o ≡ check_makes name part
-Makes (commands.Show name) (part ∷ []) o = o ≡ show_makes name part
-Makes (commands.Snapshot s) (job ∷ []) o = MakesSnapshot s (input s.job job_in job) o
-Makes (commands.Delta d) (job ∷ ledger ∷ []) o =
-    MakesDelta d (input d.job job_in job) (input d.ledger ledger_in ledger) o
-Makes (commands.Rebase r) (ledger ∷ []) o = MakesRebase r (input r.ledger ledger_in ledger) o
-Makes (commands.Start t) (part ∷ []) o = o ≡ start_makes t part
-Makes (commands.Install i) (store ∷ part ∷ []) o = o ≡ install_makes i store part
-Makes (commands.Rehearse r) (queries ∷ jobs) o = MakesRehearsal r (input r.queries queries_in queries) jobs o
-Makes (commands.Sample s) [] o = o ≡ Ok (sample_done s)
-Makes (commands.Gather g) (head ∷ inputs) o = o ≡ gather_makes g head inputs
-Makes (commands.Audit a) (store ∷ inputs) o = MakesAudit a (input a.store store_in store) (audit_jobs a.jobs inputs) o
--- `Usage` makes nothing, and nothing comes of more inputs, or fewer, than a command has
-Makes command inputs o = ⊥
+-- What comes of a command: what it writes, or what is wrong with which file. `Usage` makes nothing.
+abbrev pub Makes : Command → Inputs → Result Done NamedFault → Type 0
+Makes commands.Usage at o = ⊥
+Makes (commands.Query q) at o = o ≡ query_makes q (at 0)
+Makes (commands.QueryCert q) at o = o ≡ query_cert_makes q (at 0) (at 1) (at 2)
+Makes (commands.Check name) at o = o ≡ check_makes name (at 0)
+Makes (commands.Show name) at o = o ≡ show_makes name (at 0)
+Makes (commands.Snapshot s) at o = MakesSnapshot s (input s.job job_in (at 0)) o
+Makes (commands.Delta d) at o = MakesDelta d (input d.job job_in (at 0)) (input d.ledger ledger_in (at 1)) o
+Makes (commands.Rebase r) at o = MakesRebase r (input r.ledger ledger_in (at 0)) o
+Makes (commands.Start t) at o = o ≡ start_makes t (at 0)
+Makes (commands.Install i) at o = o ≡ install_makes i (at 0) (at 1)
+Makes (commands.Rehearse r) at o = MakesRehearsal r (input r.queries queries_in (at 0)) (rest_of at) o
+Makes (commands.Sample s) at o = o ≡ Ok (sample_done s)
+Makes (commands.Gather g) at o = o ≡ gather_makes g (at 0) (rest_of at)
+Makes (commands.Audit a) at o = MakesAudit a (input a.store store_in (at 0)) (audit_jobs a.jobs (rest_of at)) o

@@ -6,7 +6,7 @@ use Rattle.job_core.specs.JobText.{JobContents}
 use Rattle.gather_core.specs.declared.job.OpenJob.{OpenJob}
 use Rattle.gather_core.specs.Opened.{Opens}
 use Rattle.word_core.specs.declared.command.Gather.{Gather}
-use Rattle.input_core.specs.Inputs.{AreRead}
+use Rattle.input_core.specs.Inputs.{Inputs, AreRead}
 use Rattle.clubcard_top.specs.ReplyFields.{NamedFault}
 use Rattle.clubcard_top.specs.Commands.{longer, pages_of}
 use Rattle.clubcard_top.specs.Replies.{refusal, SaysWhich}
@@ -15,7 +15,7 @@ use Rattle.clubcard_top.specs.Replies.{refusal, SaysWhich}
 pub record IsGatheredFrom
     (told : Option Files) (failed : Option (List ℕ) → Type 0) (g : Gather) (j : JobContents) (job : OpenJob)
     : Type 0 where
-  pub inputs : List (Option (List ℕ))
+  pub inputs : Inputs
   pub read : AreRead told failed g.pages inputs
   pub none_failed : failed None
   pub entries : List PageFields
@@ -26,7 +26,7 @@ pub record IsGatheredFrom
 pub record IsNotGathered
     (told : Option Files) (failed : Option (List ℕ) → Type 0) (g : Gather) (j : JobContents) (e : NamedFault)
     : Type 0 where
-  pub inputs : List (Option (List ℕ))
+  pub inputs : Inputs
   pub read : AreRead told failed g.pages inputs
   pub blames : SaysWhich failed g.pages (refusal e.name e.fault)
   pub makes : pages_of g.job (length j.entries) g.pages inputs ≡ Err e

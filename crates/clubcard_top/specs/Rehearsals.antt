@@ -12,7 +12,7 @@ use Rattle.publication_core.specs.Rehearsing.{RehearsalFields, IsOf}
 use Rattle.clubcard_top.specs.ReplyFields.{NamedFault}
 use Rattle.clubcard_top.specs.Commands.{report_behind, reports, rehearsed}
 use Rattle.clubcard_top.specs.Steps.{RehearsesOn}
-use Rattle.input_core.specs.Inputs.{AreRead}
+use Rattle.input_core.specs.Inputs.{Inputs, AreRead}
 use Rattle.clubcard_top.specs.Replies.{refusal, SaysWhich}
 
 -- A job was read, and goes on with the history: the rehearsal holds one part more, and this is the line of its report.
@@ -33,7 +33,7 @@ pub record IsRehearsedFrom
     (told : Option Files) (failed : Option (List ℕ) → Type 0) (names : List (List ℕ))
     (r : RehearsalFields) (text : List ℕ)
     : Type 0 where
-  pub inputs : List (Option (List ℕ))
+  pub inputs : Inputs
   pub read : AreRead told failed names inputs
   pub none_failed : failed None
   pub jobs : List JobFields
@@ -44,7 +44,7 @@ pub record IsRehearsedFrom
 pub record IsRefusedFrom
     (told : Option Files) (failed : Option (List ℕ) → Type 0) (names : List (List ℕ)) (e : NamedFault)
     : Type 0 where
-  pub inputs : List (Option (List ℕ))
+  pub inputs : Inputs
   pub read : AreRead told failed names inputs
   pub blames : SaysWhich failed names (refusal e.name e.fault)
   pub makes : (queries : List Query) → RehearsesOn queries [] [] names inputs (Err e)

@@ -1,14 +1,15 @@
 -- What is answered. What comes of a command, a `Done` or a `NamedFault`, has one reply, `reply_of`. `IsReplyOver` ties it
 -- to the inputs of the command, and `IsReply` to files, which may not be told, and of which a read may have failed.
-use Rattle.std.specs.Prelude.{◌≡◌, ◌<◌, ◌⊎◌, ℕ, List, [], map, get_or, Option, Some, None, IfSome, Result, Ok, Err}
+use Rattle.std.specs.Prelude.{◌≡◌, ◌<◌, ◌⊎◌, ℕ, List, [], get_or, slice_get, Option, Some, None, IfSome, Result, Ok, Err}
 use Rattle.std.specs.FinMap.{get}
+use Rattle.std.specs.Option.{option_map_or}
 use Rattle.outside_core.specs.Files.{Files}
 use Rattle.sets_core.specs.Among.{Among}
 use Rattle.word_core.specs.declared.command.Command.{Command}
 use Rattle.word_core.specs.declared.command.Command.TheVariants as commands
 use Rattle.word_core.specs.Names.{inputs_of}
 use Rattle.input_core.specs.declared.fault.FileFault.{FileFault}
-use Rattle.input_core.specs.Inputs.{AreRead}
+use Rattle.input_core.specs.Inputs.{Inputs, AreRead}
 use Rattle.reply_core.specs.Said.{Said}
 use Rattle.reply_core.specs.Replies as says
 use Rattle.clubcard_top.specs.ReplyFields.{OutputFields, ReplyFields, Done, NamedFault}
@@ -40,9 +41,8 @@ abbrev pub reply_of : Result Done NamedFault → ReplyFields
 reply_of (Ok d) = done d
 reply_of (Err e) = refusal e.name e.fault
 
--- The reply to a command whose inputs are these, in the order of reading; none is one that can't be read. There is one
--- at most.
-abbrev pub IsReplyOver : Command → List (Option (List ℕ)) → ReplyFields → Type 0
+-- The reply to a command whose inputs are these. There is one at most.
+abbrev pub IsReplyOver : Command → Inputs → ReplyFields → Type 0
 IsReplyOver command inputs reply =
     ((command ≡ commands.Usage) × (reply ≡ usage))
     ⊎ ((o : Result Done NamedFault) × Makes command inputs o × (reply ≡ reply_of o))
@@ -51,9 +51,16 @@ IsReplyOver command inputs reply =
 abbrev pub IsOctets : Option (List ℕ) → Type 0
 IsOctets given = IfSome given (λ bytes. (i : ℕ) → get_or bytes i 0 < 256)
 
+abbrev pub AreOctets : Inputs → Type 0
+AreOctets inputs = (i : ℕ) → IsOctets (inputs i)
+
+-- what the files hold under these names, by place
+abbrev pub held_under : Files → List (List ℕ) → Inputs
+held_under files names = λ i. option_map_or (get files) (slice_get names i) None
+
 -- what the files hold under a command's inputs
-abbrev pub held_by : Command → Files → List (Option (List ℕ))
-held_by command files = map (get files) (inputs_of command)
+abbrev pub held_by : Command → Files → Inputs
+held_by command files = held_under files (inputs_of command)
 
 -- ---- over files that were read
 
@@ -66,5 +73,5 @@ SaysWhich failed names reply =
 -- failed, if one did.
 abbrev pub IsReply : Command → Option Files → (Option (List ℕ) → Type 0) → ReplyFields → Type 0
 IsReply command told failed reply =
-    (inputs : List (Option (List ℕ))) × AreRead told failed (inputs_of command) inputs
+    (inputs : Inputs) × AreRead told failed (inputs_of command) inputs
     × IsReplyOver command inputs reply × SaysWhich failed (inputs_of command) reply

@@ -1,6 +1,6 @@
 //! What follows for every command and every history, with no call.
 
-ghost use Rattle.std.specs.Prelude.{◌≡◌, ◌≢◌, ◌↔◌, false, ℕ, List, [], ◌∷◌, ◌++◌, All, length, Option, Result, Ok};
+ghost use Rattle.std.specs.Prelude.{◌≡◌, ◌≢◌, ◌↔◌, false, ℕ, List, [], ◌∷◌, ◌++◌, Result, Ok};
 ghost use Rattle.ident_core.specs.declared.identity.Identity.{Identity};
 ghost use Rattle.ident_core.specs.declared.range.Sighting.{Sighting};
 ghost use Rattle.outside_core.specs.Files.{Files};
@@ -24,11 +24,12 @@ ghost use Rattle.word_core.specs.declared.command.{Query.Query as StoreQuery, Qu
 ghost use Rattle.word_core.specs.declared.command.{Rehearse.Rehearse};
 ghost use Rattle.word_core.specs.Names.{HasFewJobs, inputs_of, outputs_of};
 ghost use Rattle.word_core.specs.Words.{command_of};
+ghost use Rattle.input_core.specs.Inputs.{Inputs};
 ghost use Rattle.clubcard_top.specs.ReplyFields.{Done, NamedFault, ReplyFields};
 ghost use Rattle.clubcard_top.specs.Commands.{Makes, Rehearses, only, query_done, rehearsed, verdict_word};
 ghost use Rattle.clubcard_top.specs.Workers.{with_workers};
 ghost use Rattle.clubcard_top.specs.Steps.{RehearsesOn};
-ghost use Rattle.clubcard_top.specs.Replies.{IsOctets, IsReplyOver, held_by};
+ghost use Rattle.clubcard_top.specs.Replies.{AreOctets, IsReplyOver, held_by};
 ghost use Rattle.clubcard_top.specs.Headline.{PublishesJob, Published, StoresPart, Stored, AsksHistory, truth_done};
 ghost use Rattle.clubcard_top.specs.Headline.{AsksCert, cert_truth_line, RehearsesJobs, IsRehearsed};
 ghost use Rattle.clubcard_top.specs.Headline.{RebasesHistory, Rebased, IsRebasableWithout, base_of, IsKept, AsksBase, truth_line};
@@ -45,9 +46,9 @@ use store_core::{chains_grow, stores_are_read_back};
 
 /// One thing comes of a command and its inputs, and there is one reply to it at most.
 pub fn replies_are_unique()
-    ensures outcome { (command : Command) (inputs : List (Option (List ℕ))) (a b : Result Done NamedFault)
+    ensures outcome { (command : Command) (inputs : Inputs) (a b : Result Done NamedFault)
         → Makes command inputs a → Makes command inputs b → a ≡ b }
-    ensures reply { (command : Command) (inputs : List (Option (List ℕ))) (a b : ReplyFields)
+    ensures reply { (command : Command) (inputs : Inputs) (a b : ReplyFields)
         → IsReplyOver command inputs a → IsReplyOver command inputs b → a ≡ b }
 {
     publications_are_unique();
@@ -60,11 +61,11 @@ pub fn replies_are_unique()
 /// whether or not they can be read. So no definition is without a value at some input, which want of memory would hide.
 /// An audit has as few jobs as words name.
 pub fn replies_exist()
-    ensures outcome { (command : Command) (inputs : List (Option (List ℕ))) → command ≢ Command.Usage
-        → HasFewJobs command → length inputs ≡ length (inputs_of command) → All IsOctets inputs
+    ensures outcome { (command : Command) (inputs : Inputs) → command ≢ Command.Usage
+        → HasFewJobs command → AreOctets inputs
         → (o : Result Done NamedFault) × Makes command inputs o }
-    ensures reply { (command : Command) (inputs : List (Option (List ℕ)))
-        → HasFewJobs command → length inputs ≡ length (inputs_of command) → All IsOctets inputs
+    ensures reply { (command : Command) (inputs : Inputs)
+        → HasFewJobs command → AreOctets inputs
         → (reply : ReplyFields) × IsReplyOver command inputs reply }
     ensures words { (words : List (List ℕ)) → HasFewJobs (command_of words) }
 {
@@ -174,9 +175,9 @@ pub fn bases_are_made()
 /// Commands that differ in WORKERS alone make the same of the same inputs, are answered alike over them, and read and
 /// write files of the same names. So no byte that is published depends on how many workers there are.
 pub fn workers_are_free()
-    ensures same { (n : ℕ) (command : Command) (inputs : List (Option (List ℕ))) (o : Result Done NamedFault)
+    ensures same { (n : ℕ) (command : Command) (inputs : Inputs) (o : Result Done NamedFault)
         → Makes command inputs o ↔ Makes (with_workers n command) inputs o }
-    ensures reply { (n : ℕ) (command : Command) (inputs : List (Option (List ℕ))) (reply : ReplyFields)
+    ensures reply { (n : ℕ) (command : Command) (inputs : Inputs) (reply : ReplyFields)
         → IsReplyOver command inputs reply ↔ IsReplyOver (with_workers n command) inputs reply }
     ensures reads { (n : ℕ) (command : Command) → inputs_of (with_workers n command) ≡ inputs_of command }
     ensures writes { (n : ℕ) (command : Command) → outputs_of (with_workers n command) ≡ outputs_of command }
@@ -184,7 +185,7 @@ pub fn workers_are_free()
 
 /// What comes of files that are rehearsed, stated of them all, is what comes of them stated file by file.
 pub fn rehearsals_go_file_by_file()
-    ensures { (queries : List Query) (names : List (List ℕ)) (inputs : List (Option (List ℕ)))
+    ensures { (queries : List Query) (names : List (List ℕ)) (inputs : Inputs)
         (o : Result Done NamedFault)
         → Rehearses queries names inputs o ↔ RehearsesOn queries [] [] names inputs o }
 {}

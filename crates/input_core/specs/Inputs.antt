@@ -1,7 +1,6 @@
 -- What is known of files that were read.
-use Rattle.std.specs.Prelude.{◌≡◌, ◌⊎◌, ℕ, List, Option, Some, None, Result, Err, IfSome}
+use Rattle.std.specs.Prelude.{◌≡◌, ◌⊎◌, ℕ, suc, List, [], ◌∷◌, Option, Some, None, Result, Err, IfSome}
 use Rattle.std.specs.FinMap.{get}
-use Rattle.std.specs.List.{AllZip}
 use Rattle.octets_core.specs.Reading.{GivesUnless}
 use Rattle.outside_core.specs.Files.{Files, IsMissing}
 use Rattle.input_core.specs.declared.fault.FileFault.{FileFault}
@@ -30,8 +29,19 @@ abbrev pub IsRead : Option Files → (Option (List ℕ) → Type 0) → List ℕ
 IsRead told failed name None = failed (Some name) ⊎ IsMissing told name
 IsRead told failed name (Some bytes) = IfSome told (λ files. get files name ≡ Some bytes)
 
-abbrev pub AreRead : Option Files → (Option (List ℕ) → Type 0) → List (List ℕ) → List (Option (List ℕ)) → Type 0
-AreRead told failed names inputs = AllZip (IsRead told failed) names inputs
+-- The inputs of a command, by their places in the order of reading: each can't be read, or holds bytes. A name that
+-- stands at two places is read twice.
+abbrev pub Inputs : Type 0
+Inputs = ℕ → Option (List ℕ)
+
+-- the inputs behind the first
+abbrev pub rest_of : Inputs → Inputs
+rest_of inputs = λ i. inputs (suc i)
+
+-- the files of these names were read so, in their order, and no others
+abbrev pub AreRead : Option Files → (Option (List ℕ) → Type 0) → List (List ℕ) → Inputs → Type 0
+AreRead told failed [] inputs = (i : ℕ) → inputs i ≡ None
+AreRead told failed (name ∷ names) inputs = IsRead told failed name (inputs 0) × AreRead told failed names (rest_of inputs)
 
 -- what came of a file that was read so, unless memory was wanted
 abbrev pub IsInput : {A B : Type 0} → Option Files → (Option (List ℕ) → Type 0) → List ℕ

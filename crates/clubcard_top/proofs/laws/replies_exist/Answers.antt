@@ -13,7 +13,7 @@ returns c =
       found = c.audits_exist.ensures;
     } in
     record {
-      outcome = λ command inputs some few many octets. outcome_exists layers command inputs some few many octets;
-      reply = λ command inputs few many octets. reply_exists layers command inputs few many octets;
+      outcome = λ command inputs some few octets. outcome_exists layers command inputs some few octets;
+      reply = λ command inputs few octets. reply_exists layers command inputs few octets;
       words = few_jobs;
     }
