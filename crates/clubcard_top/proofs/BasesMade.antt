@@ -28,14 +28,14 @@ use Rattle.publication_core.specs.Rebasing.{BasePublicationFields, PublishesBase
 use Rattle.word_core.specs.declared.command.Command.{Command}
 use Rattle.word_core.specs.declared.command.{Query.Query, Rebase.Rebase}
 use Rattle.line_core.specs.Lines.{line}
-use Rattle.clubcard_top.specs.ReplyFields.{Done, NamedFault}
-use Rattle.clubcard_top.specs.Commands.{only, verdict_word, query_done, Makes}
-use Rattle.clubcard_top.specs.Rebasings.{base_line, base_done, rebased_as, MakesBase, MakesRebase}
-use Rattle.clubcard_top.specs.Replies.{held_by}
+use Rattle.command_core.specs.ReplyFields.{Done, NamedFault}
+use Rattle.command_core.specs.Commands.{only, verdict_word, query_done, Makes}
+use Rattle.command_core.specs.Rebasings.{base_line, base_done, rebased_as, MakesBase, MakesRebase}
+use Rattle.command_core.specs.Replies.{held_by}
 use Rattle.clubcard_top.specs.Headline.{RebasesHistory, Rebased, IsRebasableWithout, base_of, IsKept, AsksBase, AsksStore, AsksHistory, AsksLeftOut, truth_line, truth_done}
 use Rattle.clubcard_top.proofs.Made.{ReadBack, ledger_input}
-use Rattle.clubcard_top.proofs.Results.{ok_same}
-use Rattle.clubcard_top.proofs.Unique.{OneBase}
+use Rattle.command_core.proofs.Results.{ok_same}
+use Rattle.command_core.proofs.Unique.{OneBase}
 
 -- What the layers promise of bases.
 pub record BaseLayers : Type 0 where

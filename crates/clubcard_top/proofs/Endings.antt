@@ -9,18 +9,18 @@ use Rattle.word_core.specs.declared.command.Command.TheVariants as commands
 use Rattle.word_core.specs.Names.{inputs_of, outputs_of}
 use Rattle.input_core.specs.declared.fault.FileFault.{FileFault}
 use Rattle.input_core.specs.declared.fault.FileFault.TheVariants as faults
-use Rattle.clubcard_top.specs.ReplyFields.{OutputFields, ReplyFields, Done, NamedFault}
-use Rattle.clubcard_top.specs.Statuses.{is_one_of, all, of_replies}
+use Rattle.command_core.specs.ReplyFields.{OutputFields, ReplyFields, Done, NamedFault}
+use Rattle.command_core.specs.Statuses.{is_one_of, all, of_replies}
 use Rattle.input_core.specs.Inputs.{Inputs, AreRead}
-use Rattle.clubcard_top.specs.Commands.{Makes}
-use Rattle.clubcard_top.specs.Replies.{usage, read_fault, write_fault, refusal, reply_of, IsReplyOver, SaysWhich, IsReply}
-use Rattle.clubcard_top.specs.Runs.{IsTorn, KeepsAllBut, with_outputs}
+use Rattle.command_core.specs.Commands.{Makes}
+use Rattle.command_core.specs.Replies.{usage, read_fault, write_fault, refusal, reply_of, IsReplyOver, SaysWhich, IsReply}
+use Rattle.command_core.specs.Runs.{IsTorn, KeepsAllBut, with_outputs}
 use Rattle.outside_core.specs.Reads.{CouldNotRead}
 use Rattle.sets_core.specs.Among.{Among}
 use Rattle.clubcard_top.specs.Calls.{Call, ChangesNoFile, Prints}
 use Rattle.clubcard_top.specs.Endings.{Gives, PrintsOrFails, Sent, Torn, SentOrTorn, Ends}
-use Rattle.clubcard_top.proofs.Outputs.{names_of, keeps-same, keeps-written, keeps-torn, none-torn, none-written}
-use Rattle.clubcard_top.proofs.Makings.{or_right, refusal_quiet, fault_status, outcome_status, of_faults, of_commands, done_names, unread_cause}
+use Rattle.command_core.proofs.Outputs.{names_of, keeps-same, keeps-written, keeps-torn, none-torn, none-written}
+use Rattle.command_core.proofs.Makings.{or_right, refusal_quiet, fault_status, outcome_status, of_faults, of_commands, done_names, unread_cause}
 
 -- a number that is among some is none that isn't
 pub not_among : (ns : List ℕ) (n m : ℕ) → IsTrue (is_one_of ns n) → n ≡ m → is_one_of ns m ≡ false → ⊥

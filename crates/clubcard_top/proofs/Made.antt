@@ -52,16 +52,16 @@ use Rattle.input_core.specs.Faults.{of_job, of_ledger, of_store}
 use Rattle.input_core.specs.PartFile.{part_file}
 use Rattle.input_core.specs.Readings.{faulted, job_in, ledger_in, part_in, store_in}
 use Rattle.input_core.specs.Certificates.{certificate_in, issuer_in}
-use Rattle.clubcard_top.specs.ReplyFields.{Done, NamedFault}
-use Rattle.clubcard_top.specs.Commands.{◌>>=◌, named, input, only, verdict_word, query_done, query_makes, query_cert_makes, epoch_of, stored, begun_by, installed_by, start_makes}
-use Rattle.clubcard_top.specs.Commands.{install_makes, publication_done, published_as, MakesPart, MakesSnapshot, MakesDelta, Makes}
-use Rattle.clubcard_top.specs.Replies.{held_by}
+use Rattle.command_core.specs.ReplyFields.{Done, NamedFault}
+use Rattle.command_core.specs.Commands.{◌>>=◌, named, input, only, verdict_word, query_done, query_makes, query_cert_makes, epoch_of, stored, begun_by, installed_by, start_makes}
+use Rattle.command_core.specs.Commands.{install_makes, publication_done, published_as, MakesPart, MakesSnapshot, MakesDelta, Makes}
+use Rattle.command_core.specs.Replies.{held_by}
 use Rattle.clubcard_top.specs.Headline.{HoldsJob, HoldsLedger, PublishesJob, publishes_to, Published, StoresPart, stores_to, Stored, AsksStore, AsksHistory, truth_done}
 use Rattle.clubcard_top.specs.Headline.{HoldsCert, HoldsKey, AsksCert, cert_truth_line}
 use Rattle.clubcard_top.proofs.CertTruth.{certificate_read, issuer_read, truth_of_covered}
-use Rattle.clubcard_top.proofs.Makings.{cert_last, cert_then, cert_after}
-use Rattle.clubcard_top.proofs.Results.{ok_same}
-use Rattle.clubcard_top.proofs.Unique.{Publishing}
+use Rattle.command_core.proofs.Makings.{cert_last, cert_then, cert_after}
+use Rattle.command_core.proofs.Results.{ok_same}
+use Rattle.command_core.proofs.Unique.{Publishing}
 
 -- The ledger of a history is read back, in either version.
 pub record ReadBack : Type 0 where

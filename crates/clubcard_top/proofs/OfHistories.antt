@@ -18,10 +18,10 @@ use Rattle.word_core.specs.declared.command.Command.TheVariants as commands
 use Rattle.word_core.specs.declared.command.{Query.Query as StoreQuery, QueryCert.QueryCert, Rebase.Rebase}
 use Rattle.word_core.specs.declared.command.{Rehearse.Rehearse}
 use Rattle.line_core.specs.Lines.{line}
-use Rattle.clubcard_top.specs.ReplyFields.{Done, NamedFault}
-use Rattle.clubcard_top.specs.Commands.{only, verdict_word}
-use Rattle.clubcard_top.specs.Commands.{rehearsed, Makes}
-use Rattle.clubcard_top.specs.Replies.{held_by}
+use Rattle.command_core.specs.ReplyFields.{Done, NamedFault}
+use Rattle.command_core.specs.Commands.{only, verdict_word}
+use Rattle.command_core.specs.Commands.{rehearsed, Makes}
+use Rattle.command_core.specs.Replies.{held_by}
 use Rattle.clubcard_top.specs.Calls.{Call, Prints}
 use Rattle.clubcard_top.specs.Endings.{Succeeds, Did, GivesDone, MustSucceed, Ends}
 use Rattle.clubcard_top.specs.Headline.{AsksHistory, Published, IsRehearsed, Stored, PublishesJob, RehearsesJobs}
@@ -30,7 +30,7 @@ use Rattle.clubcard_top.specs.Headline.{AsksToPublish, AsksToStore, AsksTruth, A
 use Rattle.clubcard_top.specs.Headline.{AsksCert, AsksCertTruth, cert_truth_line}
 use Rattle.clubcard_top.specs.Headline.{RebasesHistory, Rebased, AsksToRebase, IsRebasableWithout, base_of, AsksBase, AsksTheBase, AsksLeftOut, AsksOfLeftOut, Brings}
 use Rattle.clubcard_top.specs.Promises.{Successes, Histories}
-use Rattle.clubcard_top.proofs.Results.{ok_same}
+use Rattle.command_core.proofs.Results.{ok_same}
 use Rattle.clubcard_top.proofs.Promised.{Unique, answers, given, sure}
 use Rattle.word_core.specs.Names.{IsApart}
 use Rattle.clubcard_top.proofs.Succeeded as succeeded

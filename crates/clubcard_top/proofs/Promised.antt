@@ -10,22 +10,22 @@ use Rattle.word_core.specs.declared.command.Command.{Command}
 use Rattle.word_core.specs.declared.command.Command.TheVariants as commands
 use Rattle.word_core.specs.Names.{inputs_of}
 use Rattle.input_core.specs.declared.fault.FileFault.{FileFault}
-use Rattle.clubcard_top.specs.ReplyFields.{ReplyFields, Done, NamedFault}
-use Rattle.clubcard_top.specs.Statuses.{is_one_of, of_replies, of_refusals}
+use Rattle.command_core.specs.ReplyFields.{ReplyFields, Done, NamedFault}
+use Rattle.command_core.specs.Statuses.{is_one_of, of_replies, of_refusals}
 use Rattle.input_core.specs.Inputs.{Inputs, AreRead}
-use Rattle.clubcard_top.specs.Commands.{Makes}
-use Rattle.clubcard_top.specs.Replies.{usage, done, refusal, reply_of, write_fault, IsReplyOver, held_by, SaysWhich, IsReply}
-use Rattle.clubcard_top.specs.Runs.{IsTorn, with_outputs}
+use Rattle.command_core.specs.Commands.{Makes}
+use Rattle.command_core.specs.Replies.{usage, done, refusal, reply_of, write_fault, IsReplyOver, held_by, SaysWhich, IsReply}
+use Rattle.command_core.specs.Runs.{IsTorn, with_outputs}
 use Rattle.clubcard_top.specs.Sending.{printing, writing, IsPrinted, IsSent}
 use Rattle.clubcard_top.specs.Calls.{Call, call_of, FilesAreTold, Writes, Prints, NoFault}
 use Rattle.clubcard_top.specs.Endings.{Succeeds, Gives, WantedMemory, SinkFailed, PrintsOrFails, Sent, Torn, SentOrTorn, GivesTheReply, Ends}
 use Rattle.clubcard_top.specs.Refusals.{Comes, Refused}
 use Rattle.clubcard_top.specs.Promises.{Ending, Outside, Refusals}
 use Rattle.clubcard_top.proofs.Endings as endings
-use Rattle.clubcard_top.proofs.Makings.{refusal_quiet}
-use Rattle.clubcard_top.proofs.Overs.{IsSeen, over_files, held_all}
-use Rattle.clubcard_top.proofs.Outputs.{none-written}
-use Rattle.clubcard_top.proofs.Fronts.{later_reads}
+use Rattle.command_core.proofs.Makings.{refusal_quiet}
+use Rattle.command_core.proofs.Overs.{IsSeen, over_files, held_all}
+use Rattle.command_core.proofs.Outputs.{none-written}
+use Rattle.command_core.proofs.Fronts.{later_reads}
 
 -- ---- a step that reads, and one that writes
 

@@ -11,7 +11,6 @@ use Rattle.query_core.specs.QueryReading.{queries_in as queries_of}
 use Rattle.query_core.specs.declared.fault.QueriesFault.{QueriesFault}
 use Rattle.part_text.specs.SealedFields.{SealedFields}
 use Rattle.job_core.specs.declared.bounds.TheConstants.Limits.{PUBLISHED}
-use Rattle.job_core.specs.declared.fault.JobFault.{JobFault}
 use Rattle.job_core.specs.JobFields.{JobFields}
 use Rattle.job_core.specs.JobFacts.{FitsFields}
 use Rattle.job_core.specs.JobLayout.{job_of}
@@ -22,23 +21,20 @@ use Rattle.word_core.specs.declared.command.Command.TheVariants as commands
 use Rattle.word_core.specs.declared.command.Rehearse.{Rehearse}
 use Rattle.line_core.specs.Lines.{line}
 use Rattle.input_core.specs.declared.fault.FileFault.TheVariants as faults
-use Rattle.input_core.specs.Faults.{of_queries, of_job}
+use Rattle.input_core.specs.Faults.{of_queries}
 use Rattle.input_core.specs.Readings.{faulted, queries_in, job_in}
-use Rattle.clubcard_top.specs.ReplyFields.{Done, NamedFault}
-use Rattle.clubcard_top.specs.Commands.{named, input, verdict_word, rehearsed, MakesRehearsal, Makes}
-use Rattle.clubcard_top.specs.Steps.{RehearsesOn}
-use Rattle.clubcard_top.specs.Replies.{held_under, held_by}
+use Rattle.command_core.specs.ReplyFields.{Done, NamedFault}
+use Rattle.command_core.specs.Commands.{named, input, verdict_word, rehearsed, MakesRehearsal, Makes}
+use Rattle.command_core.specs.Steps.{RehearsesOn}
+use Rattle.command_core.specs.Replies.{held_under, held_by}
 use Rattle.clubcard_top.specs.Headline.{HoldsJob, HoldsQueries, RehearsesJobs, IsRehearsed}
-use Rattle.clubcard_top.proofs.Results.{ok_same, not_ok}
-use Rattle.clubcard_top.proofs.Unique.{job_same, refused_follows}
+use Rattle.command_core.proofs.Existing.{job_value}
+use Rattle.command_core.proofs.Results.{ok_same, not_ok}
+use Rattle.command_core.proofs.Unique.{job_same, refused_follows}
 use Rattle.clubcard_top.proofs.Made.{Layers, job_input}
-use Rattle.clubcard_top.proofs.Prefixes.{from_first}
+use Rattle.command_core.proofs.Prefixes.{from_first}
 
 -- ---- what is read
-
-pub job_value : (name : List ℕ) (job : JobFields) (r : Result JobFields JobFault) → named name (faulted of_job r) ≡ Ok job → r ≡ Ok job
-job_value name job (Ok x) h = ap (λ (j : JobFields). Ok j) (ok_same {E = NamedFault} x job h)
-job_value name job (Err e) h = absurd (not_ok job (record { name = name; fault = of_job e }) h)
 
 job_held : (files : Files) (name : List ℕ) (job : JobFields) (given : Option (List ℕ)) → get files name ≡ given → input name job_in given ≡ Ok job → HoldsJob files name job
 job_held files name job None held h = absurd (not_ok job (record { name = name; fault = faults.Unread }) h)

@@ -36,26 +36,26 @@ use Rattle.word_core.specs.declared.command.{Gather.Gather}
 use Rattle.input_core.specs.declared.certificates.Certificate.{Certificate}
 use Rattle.input_core.specs.declared.fault.FileFault.{FileFault}
 use Rattle.input_core.specs.declared.fault.FileFault.TheVariants as faults
-use Rattle.clubcard_top.specs.Faults.{of_publishing, of_rebasing}
-use Rattle.clubcard_top.specs.ReplyFields.{OutputFields, Done, NamedFault}
+use Rattle.command_core.specs.Faults.{of_publishing, of_rebasing}
+use Rattle.command_core.specs.ReplyFields.{OutputFields, Done, NamedFault}
 use Rattle.input_core.specs.Inputs.{Inputs}
 use Rattle.input_core.specs.Readings.{job_in, ledger_in, part_in, store_in}
 use Rattle.input_core.specs.Certificates.{certificate_in, issuer_in}
-use Rattle.clubcard_top.specs.Commands.{◌>>=◌, named, input, query_done, query_cert_done, check_done, show_done, stored, begun_by, begun, installed_by, installed}
-use Rattle.clubcard_top.specs.Commands.{publication_done, published_as, MakesPart, MakesSnapshot, MakesDelta, sample_done}
-use Rattle.clubcard_top.specs.Commands.{head_in, page_in, room_for, pages_of, gather_done, AreJobs, Makes}
-use Rattle.clubcard_top.specs.Rebasings.{base_done, rebased_as, MakesBase, MakesRebase}
-use Rattle.clubcard_top.specs.Replies.{done, held_under, held_by}
-use Rattle.clubcard_top.specs.Runs.{with_outputs}
+use Rattle.command_core.specs.Commands.{◌>>=◌, named, input, query_done, query_cert_done, check_done, show_done, stored, begun_by, begun, installed_by, installed}
+use Rattle.command_core.specs.Commands.{publication_done, published_as, MakesPart, MakesSnapshot, MakesDelta, sample_done}
+use Rattle.command_core.specs.Commands.{head_in, page_in, room_for, pages_of, gather_done, AreJobs, Makes}
+use Rattle.command_core.specs.Rebasings.{base_done, rebased_as, MakesBase, MakesRebase}
+use Rattle.command_core.specs.Replies.{done, held_under, held_by}
+use Rattle.command_core.specs.Runs.{with_outputs}
 use Rattle.clubcard_top.specs.Calls.{Call, Reads, NoFault}
 use Rattle.clubcard_top.specs.Endings.{Succeeds, Did, Gives, GivesDone, WantedMemory, Ends}
-use Rattle.clubcard_top.specs.Audits.{audit_jobs, audit_done, MakesAudit}
-use Rattle.clubcard_top.specs.Successes.{ReadsPart, ReadsPages, ReadsJobs, AreWithinLimits, IsAudited, SaysTheTruth}
-use Rattle.clubcard_top.proofs.AuditsMade.{audit_done_is, audit_jobs_back, audit_makes}
-use Rattle.clubcard_top.proofs.Makings.{done_names, gather_after, page_last, page_then, cert_last, cert_then, cert_after}
-use Rattle.clubcard_top.proofs.PagesPut.{behind_these, page_put}
-use Rattle.clubcard_top.proofs.Results.{ok_same}
-use Rattle.clubcard_top.proofs.Outputs.{names_of, keeps-written}
+use Rattle.command_core.specs.Audits.{audit_jobs, audit_done, MakesAudit, AreWithinLimits, IsAudited}
+use Rattle.clubcard_top.specs.Successes.{ReadsPart, ReadsPages, ReadsJobs, SaysTheTruth}
+use Rattle.command_core.proofs.AuditsMade.{audit_done_is, audit_jobs_back, audit_makes}
+use Rattle.command_core.proofs.Makings.{done_names, gather_after, page_last, page_then, cert_last, cert_then, cert_after}
+use Rattle.command_core.proofs.PagesPut.{behind_these, page_put}
+use Rattle.command_core.proofs.Results.{ok_same}
+use Rattle.command_core.proofs.Outputs.{names_of, keeps-written}
 use Rattle.clubcard_top.proofs.Promised.{answers, sure}
 
 -- ---- files after a write

@@ -9,8 +9,8 @@ use Rattle.word_core.specs.declared.command.Command.{Command}
 use Rattle.word_core.specs.Words.{command_of}
 use Rattle.input_core.specs.declared.fault.FileFault.{FileFault}
 use Rattle.outside_core.specs.Reads.{WhichFailed}
-use Rattle.clubcard_top.specs.ReplyFields.{OutputFields}
-use Rattle.clubcard_top.specs.Runs.{with_outputs}
+use Rattle.command_core.specs.ReplyFields.{OutputFields}
+use Rattle.command_core.specs.Runs.{with_outputs}
 
 -- how many faults of one kind had been counted, before the call and after it
 pub record Count : Type 0 where

@@ -3,10 +3,10 @@ use Rattle.std.specs.Prelude.{◌≡◌, ℕ, ◌⊎◌, List, Some, All, IsTrue
 use Rattle.outside_core.specs.Files.{Files}
 use Rattle.outside_core.specs.Written.{CutShort}
 use Rattle.word_core.specs.declared.command.Command.{Command}
-use Rattle.clubcard_top.specs.ReplyFields.{ReplyFields, Done}
-use Rattle.clubcard_top.specs.Statuses as status
-use Rattle.clubcard_top.specs.Replies.{write_fault, done, held_by, IsReplyOver, IsReply}
-use Rattle.clubcard_top.specs.Runs.{IsTorn}
+use Rattle.command_core.specs.ReplyFields.{ReplyFields, Done}
+use Rattle.command_core.specs.Statuses as status
+use Rattle.command_core.specs.Replies.{write_fault, done, held_by, IsReplyOver, IsReply}
+use Rattle.command_core.specs.Runs.{IsTorn}
 use Rattle.clubcard_top.specs.Calls.{Call, Found, Holds, Writes, ChangesNoFile, Prints, HasRisen, NoFault}
 
 -- ---- with a success

@@ -34,9 +34,9 @@ use Rattle.word_core.specs.declared.command.Command.{Command}
 use Rattle.word_core.specs.declared.command.Command.TheVariants as commands
 use Rattle.word_core.specs.declared.command.{Query.Query as StoreQuery, QueryCert.QueryCert, Rebase.Rebase}
 use Rattle.line_core.specs.Lines.{line, store_line}
-use Rattle.clubcard_top.specs.ReplyFields.{OutputFields, Done}
-use Rattle.clubcard_top.specs.Commands.{verdict_word, only, report_behind, verdict_line}
-use Rattle.clubcard_top.specs.Rebasings.{base_line}
+use Rattle.command_core.specs.ReplyFields.{OutputFields, Done}
+use Rattle.command_core.specs.Commands.{verdict_word, only, report_behind, verdict_line}
+use Rattle.command_core.specs.Rebasings.{base_line}
 use Rattle.clubcard_top.specs.Calls.{Call, Found, Holds}
 
 -- ---- publishing

@@ -30,21 +30,21 @@ use Rattle.word_core.specs.Names.{inputs_of, outputs_of}
 use Rattle.line_core.specs.Lines.{line, audit_line}
 use Rattle.input_core.specs.declared.certificates.Certificate.{Certificate}
 use Rattle.input_core.specs.declared.fault.FileFault.{FileFault}
-use Rattle.clubcard_top.specs.ReplyFields.{ReplyFields, Done, NamedFault}
-use Rattle.clubcard_top.specs.Statuses as status
+use Rattle.command_core.specs.ReplyFields.{ReplyFields, Done, NamedFault}
+use Rattle.command_core.specs.Statuses as status
 use Rattle.input_core.specs.Readings.{job_in, ledger_in, part_in, store_in}
 use Rattle.input_core.specs.Certificates.{certificate_in, issuer_in}
 use Rattle.outside_core.specs.Reads.{CouldNotRead}
-use Rattle.clubcard_top.specs.Commands.{verdict_word, only, query_done, query_cert_done, check_done, show_done, publication_done, stored}
-use Rattle.clubcard_top.specs.Commands.{rehearsed, sample_done, head_in, gather_done}
-use Rattle.clubcard_top.specs.Rebasings.{base_done}
-use Rattle.clubcard_top.specs.Replies.{usage, read_fault, refusal, done, IsReply}
-use Rattle.clubcard_top.specs.Runs.{KeepsAllBut}
+use Rattle.command_core.specs.Commands.{verdict_word, only, query_done, query_cert_done, check_done, show_done, publication_done, stored}
+use Rattle.command_core.specs.Commands.{rehearsed, sample_done, head_in, gather_done}
+use Rattle.command_core.specs.Rebasings.{base_done}
+use Rattle.command_core.specs.Replies.{usage, read_fault, refusal, done, IsReply}
+use Rattle.command_core.specs.Runs.{KeepsAllBut}
 use Rattle.clubcard_top.specs.Calls.{Call, FilesAreTold, Reads, Writes, ChangesNoFile, Prints, NoFault}
 use Rattle.clubcard_top.specs.Endings.{Succeeds, Did, GivesTheReply, WantedMemory, SinkFailed, Torn, Ends}
 use Rattle.clubcard_top.specs.Endings.{GivesDone, MustSucceed, MustGive}
-use Rattle.clubcard_top.specs.Successes.{ReadsPart, ReadsPages, ReadsJobs}
-use Rattle.clubcard_top.specs.Successes.{AreWithinLimits, IsAudited, SaysTheTruth}
+use Rattle.command_core.specs.Audits.{AreWithinLimits, IsAudited}
+use Rattle.clubcard_top.specs.Successes.{ReadsPart, ReadsPages, ReadsJobs, SaysTheTruth}
 use Rattle.clubcard_top.specs.Headline.{AsksToPublish, AsksToStore, AsksTruth, AsksCertTruth, AsksToRehearse}
 use Rattle.clubcard_top.specs.Headline.{AsksToRebase, IsRebasableWithout, AsksTheBase, AsksOfLeftOut, Brings}
 use Rattle.clubcard_top.specs.Headline.{base_of, truth_line, cert_truth_line}

@@ -1,9 +1,9 @@
 -- What a call says of a file that something is wrong with.
 use Rattle.std.specs.Prelude.{◌≡◌, List, ℕ, Result, Err}
 use Rattle.input_core.specs.declared.fault.FileFault.{FileFault}
-use Rattle.clubcard_top.specs.ReplyFields.{Done, NamedFault}
-use Rattle.clubcard_top.specs.Commands.{Makes}
-use Rattle.clubcard_top.specs.Replies.{refusal, held_by}
+use Rattle.command_core.specs.ReplyFields.{Done, NamedFault}
+use Rattle.command_core.specs.Commands.{Makes}
+use Rattle.command_core.specs.Replies.{refusal, held_by}
 use Rattle.clubcard_top.specs.Calls.{Call, Found, ChangesNoFile, Prints}
 
 -- this comes of the command over the files that the call found

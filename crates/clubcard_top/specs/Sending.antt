@@ -4,10 +4,10 @@ use Rattle.outside_core.specs.Files.{Files}
 use Rattle.outside_core.specs.Written.{followed_by, CutShort}
 use Rattle.outside_core.specs.declared.depot.Depot as depots
 use Rattle.outside_core.specs.declared.sink.Sink as sinks
-use Rattle.clubcard_top.specs.ReplyFields.{ReplyFields}
-use Rattle.clubcard_top.specs.Statuses as status
-use Rattle.clubcard_top.specs.Replies.{write_fault}
-use Rattle.clubcard_top.specs.Runs.{IsTorn, with_outputs}
+use Rattle.command_core.specs.ReplyFields.{ReplyFields}
+use Rattle.command_core.specs.Statuses as status
+use Rattle.command_core.specs.Replies.{write_fault}
+use Rattle.command_core.specs.Runs.{IsTorn, with_outputs}
 use Rattle.clubcard_top.specs.Calls.{Count, HasRisen}
 
 -- What was printed before and after, where the sink tells it, the exit status that came, and the faults of printing.

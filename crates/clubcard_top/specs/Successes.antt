@@ -1,20 +1,18 @@
 -- What a command that succeeds read, and what an audit says.
-use Rattle.std.specs.Prelude.{◌≡◌, ℕ, ◌≤◌, List, [], ◌∷◌, ◌++◌, map, length, All, IsOk}
+use Rattle.std.specs.Prelude.{◌≡◌, ℕ, ◌≤◌, List, [], ◌∷◌, ◌++◌, map, length, All}
 use Rattle.std.specs.List.{AllZip}
 use Rattle.ident_core.specs.declared.identity.Identity.{Identity}
 use Rattle.ident_core.specs.declared.range.Sighting.{Sighting}
 use Rattle.card_core.specs.Verdict.{verdict}
 use Rattle.part_text.specs.SealedFields.{SealedFields}
 use Rattle.gather_core.specs.Pages.{PageFields}
-use Rattle.job_core.specs.declared.bounds.TheConstants.Limits as limits
 use Rattle.job_core.specs.JobFields.{JobFields}
 use Rattle.sets_core.specs.Among.{Among}
 use Rattle.universe_core.specs.History.{seen, sightings}
 use Rattle.history_core.specs.Truth.{truth}
-use Rattle.audit_core.specs.Auditing.{releases_of as audited_releases, entries_of, AreAdmitted, AllAgree}
+use Rattle.audit_core.specs.Auditing.{releases_of as audited_releases}
 use Rattle.input_core.specs.Readings.{job_in, part_in}
-use Rattle.clubcard_top.specs.Commands.{page_in}
-use Rattle.clubcard_top.specs.Audits.{serials_of}
+use Rattle.command_core.specs.Commands.{page_in}
 use Rattle.clubcard_top.specs.Calls.{Call, Reads}
 
 -- the file of this name held this part and nothing else
@@ -31,18 +29,6 @@ ReadsPages call (name ∷ names) entries =
 -- the files of these names held these jobs
 abbrev pub ReadsJobs : Call → List (List ℕ) → List JobFields → Type 0
 ReadsJobs call names jobs = AllZip (λ name job. Reads call name job_in job) names jobs
-
--- together the jobs have no more entries, and no more kept serials, than one job may have
-pub record AreWithinLimits (jobs : List JobFields) : Type 0 where
-  pub entries : entries_of jobs ≤ limits.PUBLISHED.entries
-  pub serials : serials_of jobs ≤ limits.PUBLISHED.serials
-
--- The CRLs of the jobs are accepted, each job is admitted behind those before it, and the parts say the truth of each
--- entry that a job accepts, asked with its one sighting.
-pub record IsAudited (parts : List SealedFields) (jobs : List JobFields) : Type 0 where
-  pub crls : All (λ job. All (λ c. IsOk c.outcome) job.crls) jobs
-  pub admitted : AreAdmitted jobs (length jobs)
-  pub agree : AllAgree (map (λ s. s.part) parts) jobs
 
 -- The parts say the truth of each certificate of the jobs' history, asked with one or more of the sightings of its
 -- accepted entries.

@@ -1,68 +1,24 @@
 //! The top call.
 
-ghost use Rattle.std.specs.Prelude.{◌≡◌, ◌≢◌, ◌≤◌, ℕ, List, [], IfOk, IsOk, map, string_bytes};
-ghost use Rattle.outside_core.specs.Effects.{OnlyReads};
+ghost use Rattle.std.specs.Prelude.{◌≡◌, ◌≢◌, ◌≤◌, ℕ, List, [], map, string_bytes};
 ghost use Rattle.word_core.specs.Names.{outputs_of};
 ghost use Rattle.word_core.specs.Words.{command_of};
-ghost use Rattle.clubcard_top.specs.Answering.{reply_fields};
-ghost use Rattle.outside_core.specs.Reads.{WhichFailed};
-ghost use Rattle.clubcard_top.specs.Replies.{IsReply};
-ghost use Rattle.clubcard_top.specs.Statuses as statuses;
+ghost use Rattle.command_core.specs.Statuses as statuses;
 ghost use Rattle.clubcard_top.specs.Calls.{call_of, call_of_words};
 ghost use Rattle.clubcard_top.specs.Endings.{Ends};
 ghost use Rattle.clubcard_top.specs.Promises.{Ending, Frame, Histories, Outside, Refusals, Successes};
 
-use crate::answer::{Answer, send};
-use crate::auditing::answer_audit;
-use crate::commands::{answer_check, answer_query, answer_query_cert, answer_show};
-use crate::gathering::answer_gather;
-use crate::laws::{bases_are_made, histories_are_made, replies_are_unique};
-use crate::publishing::{answer_delta, answer_snapshot};
-use crate::rebasing::answer_rebase;
-use crate::rehearsing::answer_rehearse;
-use crate::sampling::answer_sample;
-use crate::storing::{answer_install, answer_start};
+use crate::laws::{bases_are_made, histories_are_made};
+use crate::sending::send;
 use audit_core::agreement_is_enough;
+use command_core::{answer_to, replies_are_unique};
 use line_core::Status;
 use octets_core::NoMemory;
 use outside_core::{Depot, Sink};
 use publication_core::{Gate, Open};
-use reply_core::Reply;
 use std::alloc::Global;
 use std::thread::Threads;
 use word_core::{Command, read_words};
-
-/// The answer to a command.
-fn answer_for<'a, R: Threads + Sync, G: Gate + Sync, D: Depot>(
-    rt: &R,
-    alloc: Global,
-    gate: &G,
-    command: &Command<'a>,
-    depot: &mut D,
-) -> Result<Answer<'a>, NoMemory>
-    ensures reply { IfOk result (λ a. IsReply command.now (D.files depot.old)
-        (WhichFailed D.Depot depot.old depot.new) (reply_fields a)) }
-    ensures usage { command.now ≡ Command.Usage → IsOk result }
-    ensures check { (name : List ℕ) → command.now ≡ Command.Check name → IsOk result }
-    ensures only_reads { OnlyReads D.Depot depot.old depot.new }
-{
-    match command {
-        Command::Usage => Ok(Answer::Reply(Reply::usage())),
-        Command::Query(asked) => answer_query(alloc, asked, depot),
-        Command::QueryCert(asked) => answer_query_cert(alloc, asked, depot),
-        Command::Check(name) => Ok(answer_check(name, depot)),
-        Command::Show(name) => answer_show(alloc, name, depot),
-        Command::Snapshot(asked) => answer_snapshot(rt, alloc, gate, asked, depot),
-        Command::Delta(asked) => answer_delta(rt, alloc, gate, asked, depot),
-        Command::Rebase(asked) => answer_rebase(rt, alloc, gate, asked, depot),
-        Command::Start(asked) => answer_start(alloc, asked, depot),
-        Command::Install(asked) => answer_install(alloc, asked, depot),
-        Command::Rehearse(asked) => answer_rehearse(rt, alloc, gate, asked, depot),
-        Command::Sample(asked) => answer_sample(alloc, asked),
-        Command::Gather(asked) => answer_gather(alloc, asked, depot),
-        Command::Audit(asked) => answer_audit(alloc, asked, depot),
-    }
-}
 
 /// Runs a command: writes its outputs and its answer.
 fn run_command<R: Threads + Sync, G: Gate + Sync, D: Depot, K: Sink>(
@@ -80,7 +36,7 @@ fn run_command<R: Threads + Sync, G: Gate + Sync, D: Depot, K: Sink>(
     ensures later_writes { D.write_faults depot.old ≤ D.write_faults depot.new }
     ensures later_out { K.faults out.old ≤ K.faults out.new }
 {
-    match answer_for(rt, alloc, gate, command, depot) {
+    match answer_to(rt, alloc, gate, command, depot) {
         Ok(answer) => send(rt, answer, depot, out),
         Err(NoMemory) => Status::NO_MEMORY,
     }

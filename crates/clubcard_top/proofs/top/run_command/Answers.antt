@@ -1,12 +1,12 @@
 use Rattle.std.proofs.Common.{◌∙◌}
 use Rattle.word_core.specs.Names.{outputs_of}
 use Rattle.outside_core.specs.Reads.{WhichFailed}
-use Rattle.clubcard_top.specs.Answering.{reply_fields}
+use Rattle.command_core.specs.Answering.{reply_fields}
 use Rattle.clubcard_top.proofs.Endings.{named, unwritten, not_memory}
 use Rattle.std.proofs.Common.{inr}
 use Rattle.clubcard_top.specs.Calls.{call_of}
 use Rattle.clubcard_top.proofs.Promised.{sent_later, read_later}
-use Rattle.clubcard_top.proofs.ReplyStatuses.{status_of_reply}
+use Rattle.command_core.proofs.ReplyStatuses.{status_of_reply}
 use Rattle.clubcard_top.proofs.top.run_command.Goals as goal
 
 pub returns-in-Ok-clause-reading : goal.returns-in-Ok-clause-reading

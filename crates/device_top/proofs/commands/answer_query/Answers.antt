@@ -6,7 +6,7 @@ use Rattle.device_top.proofs.commands.answer_query.Goals as goal
 pub returns-in-Ok-clause-answers : goal.returns-in-Ok-clause-answers
 returns-in-Ok-clause-answers g c =
     queried c.args.query.now (g.D.Disk.state c.args.disk.now) (g.D.Disk.state c.held_in.new.disk) c.in-Ok.held.slots c.in-Ok.held.store c.verdict.result
-    c.held_in.ensures.quiet c.in-Ok.ensures.ok (rw (c.says-verdict.ensures, c.id.ensures, c.as_slice.ensures) at c.verdict.ensures)
+    c.held_in.ensures.quiet c.in-Ok.ensures.ok (rw (c.says-verdict.ensures, c.as_slice.ensures.value) at c.verdict.ensures)
 
 pub returns-in-Err-clause-answers : goal.returns-in-Err-clause-answers
 returns-in-Err-clause-answers g c =

@@ -1,5 +1,0 @@
-use Rattle.clubcard_top.proofs.Prefixes.{first_of, from_first}
-use Rattle.clubcard_top.proofs.laws.rehearsals_go_file_by_file.Goals as goal
-
-pub returns : goal.returns
-returns c = λ queries names inputs o. (from_first queries names inputs o, first_of queries names inputs o)

@@ -1,9 +1,0 @@
-use Rattle.std.proofs.Common.{◌≡◌, ◌++◌, map, flat_map, take}
-use Rattle.query_core.specs.Queries.{as_query}
-use Rattle.clubcard_top.specs.Commands.{verdict_line}
-use Rattle.clubcard_top.proofs.rehearsing.put_verdicts.Given as goal
-
-abbrev pub invariant-loop-query : goal.invariant-loop-query
-invariant-loop-query l = record {
-  text : l.text.items ≡ l.fn.text.items ++ flat_map (verdict_line l.rehearsal.parts) (map as_query (take l.query-index l.queries));
-}

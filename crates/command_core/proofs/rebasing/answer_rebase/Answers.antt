@@ -1,0 +1,22 @@
+use Rattle.std.proofs.Common.{ℕ, List, subst}
+use Rattle.outside_core.specs.Reads.{WhichFailed}
+use Rattle.command_core.proofs.Replying.{NotRebased, rebase_made, rebase_refused, rebase_not}
+use Rattle.command_core.proofs.rebasing.answer_rebase.Goals as goal
+
+pub returns-in-Err-clause-reply : goal.returns-in-Err-clause-reply
+returns-in-Err-clause-reply g c =
+    rebase_refused (g.D.Depot.files c.args.depot.now) (WhichFailed g.D.Depot c.args.depot.now _) c.refused.result c.args.rebase.now (λ l. l) c.in-Err.fault
+    (rw c.as_str.ensures at c.in-Err.ensures.input) c.refused.ensures.memory (rw c.as_str-in-Err.ensures at c.refused.ensures.ok)
+
+pub returns-in-Ok-publish_base-clause-reply : goal.returns-in-Ok-publish_base-clause-reply
+returns-in-Ok-publish_base-clause-reply g c =
+    rebase_made (g.D.Depot.files c.args.depot.now) (WhichFailed g.D.Depot c.args.depot.now _) c.rebased.result c.args.rebase.now (λ l. l) c.in-Ok.ledger c.in-Ok-publish_base.publication
+    (rw c.as_str.ensures at c.in-Ok.ensures.input) (rw c.as_slice.ensures.value at (c.in-Ok-publish_base.ensures (λ e. cc))) c.rebased.ensures
+
+pub returns-in-Err-publish_base-clause-reply : goal.returns-in-Err-publish_base-clause-reply
+returns-in-Err-publish_base-clause-reply g c =
+    rebase_not (g.D.Depot.files c.args.depot.now) (WhichFailed g.D.Depot c.args.depot.now _) c.refused-in-Err-publish_base.result c.args.rebase.now (λ l. l) c.in-Ok.ledger
+    c.in-Err-publish_base.fault (rw c.as_str.ensures at c.in-Ok.ensures.input)
+    (subst (λ (w : List (List ℕ)). NotRebased c.in-Ok.ledger c.args.rebase.now.moment w c.in-Err-publish_base.fault) c.as_slice.ensures.value c.in-Err-publish_base.ensures)
+    (rw c.unrebased.ensures at c.refused-in-Err-publish_base.ensures.memory)
+    (rw (c.unrebased.ensures, c.as_str-in-Err-publish_base.ensures) at c.refused-in-Err-publish_base.ensures.ok)

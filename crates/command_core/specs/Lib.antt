@@ -1,0 +1,17 @@
+pub mod Statuses
+pub mod ReplyFields
+pub mod Digested
+pub mod Faults
+pub mod Gathers
+pub mod PageFiles
+pub mod Outcomes
+pub mod Audits
+pub mod AuditJobs
+pub mod Rebasings
+pub mod Commands
+pub mod Replies
+pub mod Runs
+pub mod Workers
+pub mod Steps
+pub mod Rehearsals
+pub mod Answering

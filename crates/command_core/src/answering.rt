@@ -1,0 +1,56 @@
+//! The answer to each command.
+
+ghost use Rattle.std.specs.Prelude.{◌≡◌, ℕ, List, IfOk, IsOk};
+ghost use Rattle.outside_core.specs.Effects.{OnlyReads};
+ghost use Rattle.outside_core.specs.Reads.{WhichFailed};
+ghost use Rattle.command_core.specs.Answering.{reply_fields};
+ghost use Rattle.command_core.specs.Replies.{IsReply};
+
+use crate::answer::Answer;
+use crate::auditing::answer_audit;
+use crate::commands::{answer_check, answer_query, answer_query_cert, answer_show};
+use crate::gathering::answer_gather;
+use crate::publishing::{answer_delta, answer_snapshot};
+use crate::rebasing::answer_rebase;
+use crate::rehearsing::answer_rehearse;
+use crate::sampling::answer_sample;
+use crate::storing::{answer_install, answer_start};
+use octets_core::NoMemory;
+use outside_core::Depot;
+use publication_core::Gate;
+use reply_core::Reply;
+use std::alloc::Global;
+use std::thread::Threads;
+use word_core::Command;
+
+/// The answer to a command, of what its files hold.
+pub fn answer_to<'a, R: Threads + Sync, G: Gate + Sync, D: Depot>(
+    rt: &R,
+    alloc: Global,
+    gate: &G,
+    command: &Command<'a>,
+    depot: &mut D,
+) -> Result<Answer<'a>, NoMemory>
+    ensures reply { IfOk result (λ a. IsReply command.now (D.files depot.old)
+        (WhichFailed D.Depot depot.old depot.new) (reply_fields a)) }
+    ensures usage { command.now ≡ Command.Usage → IsOk result }
+    ensures check { (name : List ℕ) → command.now ≡ Command.Check name → IsOk result }
+    ensures only_reads { OnlyReads D.Depot depot.old depot.new }
+{
+    match command {
+        Command::Usage => Ok(Answer::Reply(Reply::usage())),
+        Command::Query(asked) => answer_query(alloc, asked, depot),
+        Command::QueryCert(asked) => answer_query_cert(alloc, asked, depot),
+        Command::Check(name) => Ok(answer_check(name, depot)),
+        Command::Show(name) => answer_show(alloc, name, depot),
+        Command::Snapshot(asked) => answer_snapshot(rt, alloc, gate, asked, depot),
+        Command::Delta(asked) => answer_delta(rt, alloc, gate, asked, depot),
+        Command::Rebase(asked) => answer_rebase(rt, alloc, gate, asked, depot),
+        Command::Start(asked) => answer_start(alloc, asked, depot),
+        Command::Install(asked) => answer_install(alloc, asked, depot),
+        Command::Rehearse(asked) => answer_rehearse(rt, alloc, gate, asked, depot),
+        Command::Sample(asked) => answer_sample(alloc, asked),
+        Command::Gather(asked) => answer_gather(alloc, asked, depot),
+        Command::Audit(asked) => answer_audit(alloc, asked, depot),
+    }
+}
