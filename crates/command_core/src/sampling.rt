@@ -18,13 +18,9 @@ use word_core::Sample;
 pub fn answer_sample<'a>(alloc: Global, sample: &Sample<'a>) -> Result<Answer<'a>, NoMemory>
     ensures { IfOk result (λ a. reply_fields a ≡ done (sample_done sample.now)) }
 {
-    let job = SampleJob::new(alloc, sample.number, sample.count.get())?;
-    let line = sampled(
-        sample.number,
-        sample.count.get(),
-        job.revoked(),
-        job.bytes(),
-    );
+    let count = sample.count.get();
+    let job = SampleJob::new(alloc, sample.number, count)?;
+    let line = sampled(sample.number, count, job.revoked(), job.bytes());
     let output = SampleOutput::new(sample.job.as_str(), job);
     Ok(Answer::Sample(output, Reply::done(line)))
 }
