@@ -6,9 +6,9 @@ use Rattle.std.specs.Prelude.{All}
 use Rattle.std.proofs.lemmas.List.{append-nil}
 use Rattle.std.proofs.lemmas.List.Elements.{All-nil, All-cons}
 use Rattle.outside_core.specs.Files.{Files}
-use Rattle.query_core.specs.Queries.{Query}
-use Rattle.query_core.specs.QueryReading.{queries_in as queries_of}
-use Rattle.query_core.specs.declared.fault.QueriesFault.{QueriesFault}
+use Rattle.input_core.specs.Queries.{Query}
+use Rattle.input_core.specs.QueryReading.{queries_in as queries_of}
+use Rattle.input_core.specs.declared.fault.QueriesFault.{QueriesFault}
 use Rattle.part_text.specs.SealedFields.{SealedFields}
 use Rattle.job_core.specs.declared.bounds.TheConstants.Limits.{PUBLISHED}
 use Rattle.job_core.specs.JobFields.{JobFields}

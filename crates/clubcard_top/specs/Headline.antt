@@ -7,8 +7,8 @@ use Rattle.ident_core.specs.declared.identity.Identity.{Identity}
 use Rattle.ident_core.specs.declared.range.Sighting.{Sighting}
 use Rattle.ident_core.specs.Coverage.{covers}
 use Rattle.outside_core.specs.Files.{Files}
-use Rattle.query_core.specs.Queries.{Query}
-use Rattle.query_core.specs.QueryReading.{queries_in}
+use Rattle.input_core.specs.Queries.{Query}
+use Rattle.input_core.specs.QueryReading.{queries_in}
 use Rattle.part_text.specs.SealedFields.{SealedFields}
 use Rattle.log_core.specs.CertificateGrammar.{IsCertificate, HasKey}
 use Rattle.sct_core.specs.declared.bounds.TheConstants.{MAX_CERTIFICATE}

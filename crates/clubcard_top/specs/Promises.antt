@@ -4,7 +4,7 @@ use Rattle.ident_core.specs.declared.identity.Identity.{Identity}
 use Rattle.ident_core.specs.declared.kind.Kind.TheVariants as kinds
 use Rattle.ident_core.specs.declared.range.Sighting.{Sighting}
 use Rattle.gather_core.specs.Pages.{PageFields}
-use Rattle.query_core.specs.Queries.{Query}
+use Rattle.input_core.specs.Queries.{Query}
 use Rattle.part_text.specs.SealedFields.{SealedFields}
 use Rattle.job_core.specs.declared.bounds.TheConstants.Limits as limits
 use Rattle.job_core.specs.JobFields.{JobFields}

@@ -4,7 +4,7 @@ ghost use Rattle.std.specs.Prelude.{◌≡◌, false, ℕ, List, [], ◌∷◌, 
 ghost use Rattle.ident_core.specs.declared.identity.Identity.{Identity};
 ghost use Rattle.ident_core.specs.declared.range.Sighting.{Sighting};
 ghost use Rattle.outside_core.specs.Files.{Files};
-ghost use Rattle.query_core.specs.Queries.{Query};
+ghost use Rattle.input_core.specs.Queries.{Query};
 ghost use Rattle.part_text.specs.SealedFields.{SealedFields};
 ghost use Rattle.job_core.specs.JobFields.{JobFields};
 ghost use Rattle.ledger_core.specs.LedgerFields.{LedgerFields};

@@ -4,7 +4,7 @@ use Rattle.std.specs.List.{All}
 use Rattle.std.specs.Prelude.{IsOk}
 use Rattle.std.proofs.lemmas.List.Elements.{All-nil, All-cons, All-head, All-tail}
 use Rattle.octets_core.proofs.Texts.{IsBytes}
-use Rattle.query_core.specs.Queries.{Query}
+use Rattle.input_core.specs.Queries.{Query}
 use Rattle.card_core.specs.PartFields.{PartFields}
 use Rattle.part_text.specs.SealedFields.{SealedFields}
 use Rattle.job_core.specs.declared.bounds.Limits.{Limits}

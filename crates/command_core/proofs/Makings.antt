@@ -10,10 +10,10 @@ use Rattle.part_text.specs.SealedFields.{SealedFields}
 use Rattle.part_text.specs.PartLayout.{part}
 use Rattle.part_text.specs.declared.fault.PartFault.{PartFault}
 use Rattle.part_text.specs.declared.fault.PartFault.TheVariants as of_part_faults
-use Rattle.query_core.specs.Queries.{Query}
-use Rattle.query_core.specs.QueryReading.{queries_in as queries_of}
-use Rattle.query_core.specs.declared.fault.QueriesFault.{QueriesFault}
-use Rattle.query_core.specs.declared.fault.QueriesFault.TheVariants as of_query_faults
+use Rattle.input_core.specs.Queries.{Query}
+use Rattle.input_core.specs.QueryReading.{queries_in as queries_of}
+use Rattle.input_core.specs.declared.fault.QueriesFault.{QueriesFault}
+use Rattle.input_core.specs.declared.fault.QueriesFault.TheVariants as of_query_faults
 use Rattle.ledger_core.specs.LedgerReading.{ledger_of}
 use Rattle.ledger_core.specs.LedgerFields.{LedgerFields}
 use Rattle.ledger_core.specs.declared.fault.LedgerFault.{LedgerFault}

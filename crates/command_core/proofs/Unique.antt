@@ -1,6 +1,6 @@
 -- One thing comes of a command and its inputs, and there is one reply to it over files.
 use Rattle.std.proofs.Common.{◌≡◌, ◌≢◌, ℕ, inl, inr, List, [], ◌∷◌, ◌++◌, map, Option, Result, Ok, Err, sym, ap, ◌∙◌, subst}
-use Rattle.query_core.specs.Queries.{Query}
+use Rattle.input_core.specs.Queries.{Query}
 use Rattle.card_core.specs.PartFields.{PartFields}
 use Rattle.part_text.specs.SealedFields.{SealedFields}
 use Rattle.job_core.specs.JobFields.{JobFields}

@@ -1,7 +1,7 @@
 -- What comes of a command, and what it is answered, doesn't depend on its number of workers.
 use Rattle.std.proofs.Common.{◌≡◌, ℕ, inl, inr, List, Result, Ok, Err, refl, sym, ◌∙◌}
 use Rattle.std.specs.Prelude.{◌↔◌}
-use Rattle.query_core.specs.Queries.{Query}
+use Rattle.input_core.specs.Queries.{Query}
 use Rattle.job_core.specs.JobFields.{JobFields}
 use Rattle.ledger_core.specs.LedgerFields.{LedgerFields}
 use Rattle.publication_core.specs.declared.base_fault.BaseFault.{BaseFault}

@@ -5,7 +5,7 @@ use Rattle.ident_core.specs.declared.identity.Identity.{Identity}
 use Rattle.ident_core.specs.declared.kind.Kind.{Kind}
 use Rattle.ident_core.specs.declared.kind.Kind.TheVariants as kinds
 use Rattle.part_text.specs.SealedFields.{SealedFields}
-use Rattle.query_core.specs.Queries.{Query}
+use Rattle.input_core.specs.Queries.{Query}
 use Rattle.sample_core.specs.Sample.{sample_text, sample_revoked}
 use Rattle.gather_core.specs.Pages.{PageFields}
 use Rattle.gather_core.specs.Raw.{with_entries, of_log}

@@ -1,7 +1,7 @@
 -- What is known of jobs that were rehearsed from their files.
 use Rattle.std.specs.Prelude.{◌≡◌, ℕ, List, [], ◌∷◌, ◌++◌, Option, None, Result, Ok, Err}
 use Rattle.outside_core.specs.Files.{Files}
-use Rattle.query_core.specs.Queries.{Query}
+use Rattle.input_core.specs.Queries.{Query}
 use Rattle.part_text.specs.SealedFields.{SealedFields}
 use Rattle.job_core.specs.JobFields.{JobFields}
 use Rattle.job_core.specs.JobFacts.{FitsFields}

@@ -1,7 +1,7 @@
 //! What follows for every command, whatever its files hold.
 
 ghost use Rattle.std.specs.Prelude.{◌≡◌, ◌≢◌, ◌↔◌, ℕ, List, [], Result};
-ghost use Rattle.query_core.specs.Queries.{Query};
+ghost use Rattle.input_core.specs.Queries.{Query};
 ghost use Rattle.word_core.specs.declared.command.Command.{Command};
 ghost use Rattle.word_core.specs.Names.{HasFewJobs, inputs_of, outputs_of};
 ghost use Rattle.word_core.specs.Words.{command_of};

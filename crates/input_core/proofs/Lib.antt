@@ -8,3 +8,9 @@ pub mod PartsTaken
 pub mod Reading
 pub mod Scans
 pub mod StoresTaken
+mod Steps
+pub mod QueryTexts
+pub mod QueryReads
+mod QueryBounds
+mod Decodes
+pub mod One

@@ -8,11 +8,11 @@ use Rattle.octets_core.specs.declared.fault.LayoutFault.{LayoutFault}
 use Rattle.ident_core.specs.declared.bounds.TheConstants.{MAX_SERIAL}
 use Rattle.ident_core.specs.declared.range.Sighting.{Sighting}
 use Rattle.ident_core.specs.declared.identity.Identity.{Identity}
-use Rattle.query_core.specs.declared.query.TheConstants.{MAX_QUERIES, MAX_SIGHTINGS}
-use Rattle.query_core.specs.declared.fault.QueriesFault.TheVariants as faults
-use Rattle.query_core.specs.Queries.{Query}
-use Rattle.query_core.specs.QueryLayout.{sighting, identity, query, body, query_file}
-use Rattle.query_core.specs.QueryReading.{queries_in}
+use Rattle.input_core.specs.declared.query.TheConstants.{MAX_QUERIES, MAX_SIGHTINGS}
+use Rattle.input_core.specs.declared.fault.QueriesFault.TheVariants as faults
+use Rattle.input_core.specs.Queries.{Query}
+use Rattle.input_core.specs.QueryLayout.{sighting, identity, query, body, query_file}
+use Rattle.input_core.specs.QueryReading.{queries_in}
 use Rattle.octets_core.specs.Layout.{with_fault}
 use Rattle.input_core.specs.declared.inputs.TheConstants.{LONGEST_QUERIES}
 use Rattle.input_core.proofs.Extents.{ReadsAtMost, Any, wider, bytes-at_most, number-at_most, whole-at_most, ◌>>>◌, several, front-same}

@@ -1,6 +1,6 @@
 -- What is wrong with a file, from what is wrong with what it holds.
-use Rattle.query_core.specs.declared.fault.QueriesFault.{QueriesFault}
-use Rattle.query_core.specs.declared.fault.QueriesFault.TheVariants as queries
+use Rattle.input_core.specs.declared.fault.QueriesFault.{QueriesFault}
+use Rattle.input_core.specs.declared.fault.QueriesFault.TheVariants as queries
 use Rattle.job_core.specs.declared.fault.JobFault.{JobFault}
 use Rattle.job_core.specs.declared.fault.JobFault.TheVariants as job
 use Rattle.ledger_core.specs.declared.fault.LedgerFault.{LedgerFault}

@@ -6,3 +6,7 @@ pub mod Readings
 pub mod Scanned
 pub mod Stores
 pub mod Taking
+pub mod Queries
+pub mod QueryText
+pub mod QueryLayout
+pub mod QueryReading

@@ -1,8 +1,8 @@
 -- What the bytes of each kind of file are read as.
 use Rattle.std.specs.Prelude.{ℕ, List, Option, Some, None, Result, Ok, Err}
 use Rattle.octets_core.specs.Reading.{value_of}
-use Rattle.query_core.specs.Queries.{Query}
-use Rattle.query_core.specs.QueryReading.{queries_in as queries_of}
+use Rattle.input_core.specs.Queries.{Query}
+use Rattle.input_core.specs.QueryReading.{queries_in as queries_of}
 use Rattle.job_core.specs.declared.bounds.TheConstants.Limits as limits
 use Rattle.job_core.specs.JobFields.{JobFields}
 use Rattle.job_core.specs.JobLayout.{job_of}

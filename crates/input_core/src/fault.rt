@@ -7,9 +7,10 @@ use job_core::{JobFault, What};
 use ledger_core::LedgerFault;
 use octets_core::{Key32, LayoutFault};
 use part_codec::PartFault;
-use query_core::QueriesFault;
 use sct_core::CertFault;
+use std::alloc::{AllocError, AllocFailed};
 use store_core::{Refusal, StoreFault};
+use thiserror::Error;
 
 /// What is wrong with a file that a command reads.
 #[derive(Clone, Copy, Debug, PartialEq, Eq)]
@@ -152,5 +153,46 @@ impl From<CertFault> for FileFault {
 
     fn from(fault: CertFault) -> FileFault {
         FileFault::BadCert(fault)
+    }
+}
+
+/// Why bytes give no queries.
+#[derive(Clone, Copy, Debug, PartialEq, Eq, Error)]
+pub enum QueriesFault {
+    /// A field is short or fails its test.
+    #[error("a field is short or has a value that it may not have")]
+    Layout(LayoutFault),
+    /// Want of memory.
+    #[error("want of memory")]
+    NoMemory,
+}
+
+impl From<LayoutFault> for QueriesFault {
+    ghost use Rattle.input_core.specs.declared.fault.QueriesFault.TheVariants.{Layout};
+
+    ghost from_gives = { λ f e. e ≡ Layout f };
+
+    fn from(fault: LayoutFault) -> QueriesFault {
+        QueriesFault::Layout(fault)
+    }
+}
+
+impl From<AllocError> for QueriesFault {
+    ghost use Rattle.input_core.specs.declared.fault.QueriesFault.TheVariants.{NoMemory};
+
+    ghost from_gives = { λ _ e. e ≡ NoMemory };
+
+    fn from(_: AllocError) -> QueriesFault {
+        QueriesFault::NoMemory
+    }
+}
+
+impl<T: Drop> From<AllocFailed<T>> for QueriesFault {
+    ghost use Rattle.input_core.specs.declared.fault.QueriesFault.TheVariants.{NoMemory};
+
+    ghost from_gives = { λ _ e. e ≡ NoMemory };
+
+    fn from(_: AllocFailed<T>) -> QueriesFault {
+        QueriesFault::NoMemory
     }
 }

@@ -2,17 +2,18 @@
 
 ghost use Rattle.std.specs.Prelude.{map};
 ghost use Rattle.outside_core.specs.Effects.{OnlyReads};
-ghost use Rattle.query_core.specs.Queries.{as_query};
+ghost use Rattle.input_core.specs.Queries.{as_query};
 ghost use Rattle.input_core.specs.Readings.{queries_in as queries_of, ledger_in as ledger_of};
 ghost use Rattle.outside_core.specs.Reads.{WhichFailed};
 ghost use Rattle.input_core.specs.Inputs.{IsInput};
 
 use crate::fault::FileFault;
 use crate::input::read_up_to;
+use crate::query::{Asked, MAX_QUERIES, MAX_SIGHTINGS};
+use crate::query_reading::read_queries;
 use ident_core::{MAX_IDENTITIES, MAX_ISSUERS, MAX_PARTS, MAX_RANGES, MAX_SERIAL};
 use ledger_core::{Ledger, decode_ledger};
 use outside_core::Depot;
-use query_core::{Asked, MAX_QUERIES, MAX_SIGHTINGS, read_queries};
 use std::alloc::Global;
 
 /// The most bytes of a range, of a ledger's part and of its identity.

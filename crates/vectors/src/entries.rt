@@ -1,9 +1,9 @@
 //! Log entries, certificates with timestamps, and query files.
 
 use ident_core::{Identity, Sighting};
+use input_core::{QueriesFault, read_queries};
 use log_core::{Entry, issuer_hash, read_entry};
 use octets_core::{Key32, LayoutFault};
-use query_core::{QueriesFault, read_queries};
 use sct_core::{cert_serial, scts};
 use std::alloc::Global;
 use std::fmt::Write;

@@ -1,6 +1,6 @@
 use Rattle.std.proofs.Common.{map, Ok, Vec, Global, refl}
-use Rattle.query_core.specs.declared.query.Asked.{Asked}
-use Rattle.query_core.specs.Queries.{as_query}
+use Rattle.input_core.specs.declared.query.Asked.{Asked}
+use Rattle.input_core.specs.Queries.{as_query}
 use Rattle.command_core.specs.declared.answer.Answer.TheVariants as answers
 use Rattle.outside_core.specs.Reads.{WhichFailed}
 use Rattle.command_core.proofs.Rehearsal.{rehearse_refused, rehearse_made, rehearse_not}

@@ -1,5 +1,5 @@
 use Rattle.std.proofs.Common.{◌≡◌, ◌++◌, map, flat_map, take}
-use Rattle.query_core.specs.Queries.{as_query}
+use Rattle.input_core.specs.Queries.{as_query}
 use Rattle.command_core.specs.Commands.{verdict_line}
 use Rattle.command_core.proofs.rehearsing.put_verdicts.Given as goal
 

@@ -1,8 +1,8 @@
 use Rattle.std.proofs.Common.{map, refl, ap, ◌+◌, Ok, Err, Vec, Global}
 use Rattle.std.proofs.lemmas.Result.{err_from_is_err_and}
-use Rattle.query_core.specs.declared.query.Asked.{Asked}
-use Rattle.query_core.specs.Queries.{as_query}
-use Rattle.query_core.specs.declared.fault.QueriesFault.TheVariants as faults
+use Rattle.input_core.specs.declared.query.Asked.{Asked}
+use Rattle.input_core.specs.Queries.{as_query}
+use Rattle.input_core.specs.declared.fault.QueriesFault.TheVariants as faults
 use Rattle.input_core.specs.Faults.{of_queries}
 use Rattle.input_core.specs.declared.inputs.TheConstants.{LONGEST_QUERIES}
 use Rattle.input_core.specs.Readings.{faulted, queries_in}

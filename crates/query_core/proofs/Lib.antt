@@ -1,6 +1,0 @@
-mod Steps
-pub mod QueryTexts
-pub mod QueryReads
-mod QueryBounds
-mod Decodes
-pub mod One

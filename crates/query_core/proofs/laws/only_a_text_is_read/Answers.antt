@@ -1,5 +1,0 @@
-use Rattle.query_core.proofs.QueryReads.{queries-found}
-use Rattle.query_core.proofs.laws.only_a_text_is_read.Goals as goal
-
-pub returns : goal.returns
-returns c = λ bytes qs n fits h. queries-found bytes qs n fits h

@@ -1,4 +1,0 @@
-pub mod Queries
-pub mod QueryText
-pub mod QueryLayout
-pub mod QueryReading
