@@ -6,7 +6,7 @@ ghost use Rattle.equation_core.specs.declared.shards.TheConstants.{MAX_SHIFT};
 ghost use Rattle.equation_core.specs.Shards.{shard};
 
 use claim_core::{Work, claim_map};
-use equation_core::shard_of;
+use equation_core::{four_shards, shard_of};
 use ident_core::Identity;
 use octets_core::NoMemory;
 use rayon::current_num_threads;
@@ -51,7 +51,7 @@ impl<'a, 'b> Work for Runs<'a, 'b> {
     }
 }
 
-/// The shard of each identity.
+/// The shard of each identity. Four at a time are digested side by side.
 pub(crate) fn shards_alone(
     alloc: Global,
     universe: &[Identity],
@@ -61,8 +61,20 @@ pub(crate) fn shards_alone(
     ensures { IfOk result (λ v. v.items ≡ map (λ x. shard x shift) universe.now) }
 {
     let mut shards = Vec::with_capacity(alloc, universe.len())?;
-    for id in universe {
-        shards.push(shard_of(id, shift))?;
+    let fours = universe.len() / 4;
+    'fours: for i in 0..fours {
+        let at = 4 * i;
+        let four = four_shards(
+            &universe[at],
+            &universe[at + 1],
+            &universe[at + 2],
+            &universe[at + 3],
+            shift,
+        );
+        shards.extend_from_slice(&four)?;
+    }
+    'rest: for i in 4 * fours..universe.len() {
+        shards.push(shard_of(&universe[i], shift))?;
     }
     Ok(shards)
 }
