@@ -32,7 +32,7 @@ use Rattle.command_core.specs.ReplyFields.{Done, NamedFault}
 use Rattle.command_core.specs.Commands.{only, verdict_word, query_done, Makes}
 use Rattle.command_core.specs.Rebasings.{base_line, base_done, rebased_as, MakesBase, MakesRebase}
 use Rattle.command_core.specs.Replies.{held_by}
-use Rattle.clubcard_top.specs.Headline.{RebasesHistory, Rebased, IsRebasableWithout, base_of, IsKept, AsksBase, AsksStore, AsksHistory, AsksLeftOut, truth_line, truth_done}
+use Rattle.clubcard_top.specs.Headline.{AsksToRebase, Rebased, IsRebasableWithout, base_of, IsKept, AsksTheBase, AsksStore, AsksTruth, AsksOfLeftOut, truth_line, truth_done}
 use Rattle.clubcard_top.proofs.Made.{ReadBack, ledger_input}
 use Rattle.command_core.proofs.Results.{ok_same}
 use Rattle.command_core.proofs.Unique.{OneBase}
@@ -58,7 +58,7 @@ pub record BaseLayers : Type 0 where
 module _ (layers : BaseLayers) where
   -- what is made of the ledger of a history
   made : (asked : Command) (files : Files) (r : Rebase) (h : History) (parts : List SealedFields) (o : Result Done NamedFault) → IsHistory h parts
-      → RebasesHistory asked files r h parts → Makes asked (held_by asked files) o → MakesBase r (ledger_of (releases_of h parts)) o
+      → AsksToRebase asked r h parts files → Makes asked (held_by asked files) o → MakesBase r (ledger_of (releases_of h parts)) o
   made asked files r h parts o is p m =
       subst (λ (l : Result LedgerFields NamedFault). MakesRebase r l o) (ledger_input layers.ledgers files r.ledger h parts is p.1 p.2)
       (subst (λ (c : Command). Makes c (held_by c files) o) p.0 m)
@@ -81,7 +81,7 @@ module _ (layers : BaseLayers) where
       absurd (let g : ◌≡◌ {A = Result Done NamedFault} (Ok d) (rebased_as r (Err fault)) = is_done in cc)
 
   pub rebased_law : (asked : Command) (files : Files) (r : Rebase) (h : History) (parts : List SealedFields) (d : Done) → IsHistory h parts
-      → RebasesHistory asked files r h parts → Makes asked (held_by asked files) (Ok d) → Rebased r h parts d
+      → AsksToRebase asked r h parts files → Makes asked (held_by asked files) (Ok d) → Rebased r h parts d
   rebased_law asked files r h parts d is p m =
       let x = made asked files r h parts (Ok d) is p m in
       rebased_by r h parts d is p.1 x.result x.publishes x.is
@@ -93,7 +93,7 @@ module _ (layers : BaseLayers) where
       absurd (let g : ◌≡◌ {A = Result BasePublicationFields BaseFault} (Ok p) (Err fault) = layers.one before r.moment r.without (Ok p) (Err fault) can publishes in cc)
 
   pub rebasable_law : (asked : Command) (files : Files) (r : Rebase) (h : History) (parts : List SealedFields) (o : Result Done NamedFault) → IsHistory h parts
-      → RebasesHistory asked files r h parts → IsRebasableWithout r.moment r.without h parts → Makes asked (held_by asked files) o → (d : Done) × (o ≡ Ok d)
+      → AsksToRebase asked r h parts files → IsRebasableWithout r.moment r.without h parts → Makes asked (held_by asked files) o → (d : Done) × (o ≡ Ok d)
   rebasable_law asked files r h parts o is p may m =
       let x = made asked files r h parts o is p m in
       let can = layers.complete h parts r.moment r.without is may in
@@ -113,7 +113,7 @@ pub record Keeping : Type 0 where
   pub left_kept : (moment : ℕ) (without : List (List ℕ)) (rs : List Release) (x : Identity) → has_key without x.issuer ≡ false
       → has (kept_by (is_lasting_by moment (releases_without without rs)) (releases_without without rs)) x ≡ has (kept_by (is_lasting_by moment rs) rs) x
   pub asked : (command : Command) (files : Files) (q : Query) (h : History) (parts : List SealedFields) (o : Result Done NamedFault)
-      → IsHistory h parts → AsksHistory command files q h parts → Makes command (held_by command files) o → o ≡ Ok (truth_done h parts q)
+      → IsHistory h parts → AsksTruth command q h parts files → Makes command (held_by command files) o → o ≡ Ok (truth_done h parts q)
 
 module _ (keeping : Keeping) where
   pub kept_law : (h : History) (parts : List SealedFields) (moment : ℕ) (without : List (List ℕ)) (s : SealedFields) (q : Query) → IsKept moment (releases_of h parts) q.id
@@ -128,11 +128,11 @@ module _ (keeping : Keeping) where
       )
 
   pub base_asked : (command : Command) (files : Files) (q : Query) (h : History) (parts : List SealedFields) (moment : ℕ) (without : List (List ℕ)) (s : SealedFields)
-      (o : Result Done NamedFault) → IsHistory (base_of h parts moment without) (s ∷ []) → AsksBase command files q h parts moment without s
+      (o : Result Done NamedFault) → IsHistory (base_of h parts moment without) (s ∷ []) → AsksTheBase command q h parts moment without s files
       → Makes command (held_by command files) o → o ≡ Ok (truth_done h parts q)
   base_asked command files q h parts moment without s o is a m =
       let k = kept_law h parts moment without s q a.1 a.2 in
-      let again : AsksHistory command files q (base_of h parts moment without) (s ∷ []) = (
+      let again : AsksTruth command q (base_of h parts moment without) (s ∷ []) files = (
         a.0,
         omega arith,
         a.3,
@@ -148,7 +148,7 @@ pub record Leaving : Type 0 where
   pub unenrolled : (h : History) (parts : List SealedFields) (x : Identity) (ss : List Sighting) → IsHistory h parts → LeavesOut h x.issuer
       → verdict (map (λ t. t.part) parts) x ss ≡ (if list_any (covers_some ss) (map (λ t. t.part) parts) then NotEnrolled else NotCovered)
   pub told : (command : Command) (files : Files) (q : Query) (h : History) (parts : List SealedFields) (o : Result Done NamedFault)
-      → IsHistory h parts → AsksStore command files q h parts → Makes command (held_by command files) o → o ≡ Ok (query_done q parts)
+      → IsHistory h parts → AsksStore command q h parts files → Makes command (held_by command files) o → o ≡ Ok (query_done q parts)
 
 module _ (leaving : Leaving) where
   some_cover : (ss : List Sighting) (parts : List SealedFields) (s : Sighting) (t : SealedFields) → Among ss s → Among parts t → covers t.part.head.ranges s ≡ true
@@ -158,7 +158,7 @@ module _ (leaving : Leaving) where
       (any_at (covers t.part.head.ranges) ss s a c)
 
   pub left_out_law : (command : Command) (files : Files) (q : Query) (h : History) (parts : List SealedFields) (o : Result Done NamedFault)
-      → IsHistory h parts → AsksLeftOut command files q h parts → Makes command (held_by command files) o → o ≡ Ok (only (line (verdict_word NotEnrolled)))
+      → IsHistory h parts → AsksOfLeftOut command q h parts files → Makes command (held_by command files) o → o ≡ Ok (only (line (verdict_word NotEnrolled)))
   left_out_law command files q h parts o is a m =
       let n = a.4 in
       leaving.told command files q h parts o is (a.0, a.1, a.2) m

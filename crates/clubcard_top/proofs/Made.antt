@@ -56,8 +56,8 @@ use Rattle.command_core.specs.ReplyFields.{Done, NamedFault}
 use Rattle.command_core.specs.Commands.{◌>>=◌, named, input, only, verdict_word, query_done, query_makes, query_cert_makes, epoch_of, stored, begun_by, installed_by, start_makes}
 use Rattle.command_core.specs.Commands.{install_makes, publication_done, published_as, MakesPart, MakesSnapshot, MakesDelta, Makes}
 use Rattle.command_core.specs.Replies.{held_by}
-use Rattle.clubcard_top.specs.Headline.{HoldsJob, HoldsLedger, PublishesJob, publishes_to, Published, StoresPart, stores_to, Stored, AsksStore, AsksHistory, truth_done}
-use Rattle.clubcard_top.specs.Headline.{HoldsCert, HoldsKey, AsksCert, cert_truth_line}
+use Rattle.clubcard_top.specs.Headline.{HoldsJob, HoldsLedger, AsksToPublish, publishes_to, Published, AsksToStore, stores_to, Stored, AsksStore, AsksTruth, truth_done}
+use Rattle.clubcard_top.specs.Headline.{HoldsCert, HoldsKey, AsksCertTruth, cert_truth_line}
 use Rattle.clubcard_top.proofs.CertTruth.{certificate_read, issuer_read, truth_of_covered}
 use Rattle.command_core.proofs.Makings.{cert_last, cert_then, cert_after}
 use Rattle.command_core.proofs.Results.{ok_same}
@@ -144,7 +144,7 @@ module _ (layers : Layers) where
     pub makes : MakesPart name part_name ledger_name before job o
 
   behind : (asked : Command) (files : Files) (h : History) (parts : List SealedFields) (job : JobFields) (o : Result Done NamedFault)
-      → IsHistory h parts → PublishesJob asked files h parts job
+      → IsHistory h parts → AsksToPublish asked h parts job files
       → Makes asked (held_by asked files) o → Behind asked h parts job o
   behind commands.Usage files h parts job o is p m = absurd p
   behind (commands.Query q) files h parts job o is p m = absurd p
@@ -178,7 +178,7 @@ module _ (layers : Layers) where
         (subst (λ (r : Result JobFields NamedFault). MakesDelta t r (input t.ledger ledger_in (get files t.ledger)) o) (job_input files t.job job p.2) m);
   }
 
-  pub published : (asked : Command) (files : Files) (h : History) (parts : List SealedFields) (job : JobFields) (d : Done) → IsHistory h parts → PublishesJob asked files h parts job
+  pub published : (asked : Command) (files : Files) (h : History) (parts : List SealedFields) (job : JobFields) (d : Done) → IsHistory h parts → AsksToPublish asked h parts job files
       → Makes asked (held_by asked files) (Ok d) → Published asked h parts job d
   published asked files h parts job d is p m =
       let b = behind asked files h parts job (Ok d) is p m in
@@ -191,7 +191,7 @@ module _ (layers : Layers) where
       absurd (let h : ◌≡◌ {A = Result PublicationFields PublishFault} (Ok p) (Err fault) = layers.publishing.one before job (Ok p) (Err fault) x y in cc)
 
   pub admitted : (asked : Command) (files : Files) (h : History) (parts : List SealedFields) (job : JobFields) (o : Result Done NamedFault)
-      → IsHistory h parts → PublishesJob asked files h parts job
+      → IsHistory h parts → AsksToPublish asked h parts job files
       → IsAdmissible (releases_of h parts) (in_format current job) → Makes asked (held_by asked files) o → (d : Done) × (o ≡ Ok d)
   admitted asked files h parts job o is p a m =
       let b = behind asked files h parts job o is p m in
@@ -270,7 +270,7 @@ module _ (layers : Layers) where
       ∙ ap (λ (why : Option Refusal). named i.part (installed_by why parts s) >>= (λ more. Ok (stored i.new_store more))) grown.1
 
   pub stored_law : (asked : Command) (files : Files) (h : History) (parts : List SealedFields) (s : SealedFields) (o : Result Done NamedFault) → IsHistory h (parts ++ s ∷ [])
-      → StoresPart asked files parts s → Makes asked (held_by asked files) o → (d : Done) × (o ≡ Ok d) × Stored asked parts s d
+      → AsksToStore asked parts s files → Makes asked (held_by asked files) o → (d : Done) × (o ≡ Ok d) × Stored asked parts s d
   stored_law commands.Usage files h parts s o is p m = absurd p
   stored_law (commands.Query q) files h parts s o is p m = absurd p
   stored_law (commands.QueryCert q) files h parts s o is p m = absurd p
@@ -293,14 +293,14 @@ module _ (layers : Layers) where
   some_parts h parts is some = omega (arith, layers.many h parts is, some)
 
   pub told_law : (asked : Command) (files : Files) (q : Query) (h : History) (parts : List SealedFields) (o : Result Done NamedFault)
-      → IsHistory h parts → AsksStore asked files q h parts → Makes asked (held_by asked files) o → o ≡ Ok (query_done q parts)
+      → IsHistory h parts → AsksStore asked q h parts files → Makes asked (held_by asked files) o → o ≡ Ok (query_done q parts)
   told_law asked files q h parts o is p m =
       let made : o ≡ query_makes q (get files q.store) = subst (λ (c : Command). Makes c (held_by c files) o) p.0 m in
       made ∙ ap (λ (r : Result (List SealedFields) NamedFault). r >>= (λ ps. Ok (query_done q ps)))
       (store_input files q.store parts (layers.chain h parts is) (some_parts h parts is p.1) (layers.few h parts is) (layers.texts h parts is) p.2)
 
   pub asked_law : (asked : Command) (files : Files) (q : Query) (h : History) (parts : List SealedFields) (o : Result Done NamedFault)
-      → IsHistory h parts → AsksHistory asked files q h parts
+      → IsHistory h parts → AsksTruth asked q h parts files
       → Makes asked (held_by asked files) o → o ≡ Ok (truth_done h parts q)
   asked_law asked files q h parts o is p m =
       told_law asked files q h parts o is (p.0, p.1, p.2) m
@@ -316,7 +316,7 @@ module _ (layers : Layers) where
   issuer_input files name hash (bytes, key, held, small, has, is) = rw held (ap (named name) (issuer_read bytes key hash small has is))
 
   cert_asked : (files : Files) (q : QueryCert) (x : Identity) (ss : List Sighting) (h : History) (parts : List SealedFields) (o : Result Done NamedFault)
-      → IsHistory h parts → AsksCert (commands.QueryCert q) files q x ss h parts
+      → IsHistory h parts → AsksCertTruth (commands.QueryCert q) q x ss h parts files
       → o ≡ query_cert_makes q (get files q.store) (get files q.cert) (get files q.issuer_cert) → o ≡ Ok (only (cert_truth_line h parts x))
   cert_asked files q x ss h parts o is a m =
       let cert : Certificate = record { serial = x.serial; scts = ss } in
@@ -327,8 +327,8 @@ module _ (layers : Layers) where
       ∙ ap (λ (v : Verdict). Ok (only (line (verdict_word v)))) (truth_of_covered layers.truths h parts x ss is a.one a.covered)
 
   pub cert_law : (asked : Command) (files : Files) (q : QueryCert) (x : Identity) (ss : List Sighting) (h : History) (parts : List SealedFields)
-      (o : Result Done NamedFault) → IsHistory h parts → AsksCert asked files q x ss h parts
+      (o : Result Done NamedFault) → IsHistory h parts → AsksCertTruth asked q x ss h parts files
       → Makes asked (held_by asked files) o → o ≡ Ok (only (cert_truth_line h parts x))
   cert_law asked files q x ss h parts o is a m =
-      let b : AsksCert (commands.QueryCert q) files q x ss h parts = subst (λ (c : Command). AsksCert c files q x ss h parts) a.is a in
+      let b : AsksCertTruth (commands.QueryCert q) q x ss h parts files = subst (λ (c : Command). AsksCertTruth c q x ss h parts files) a.is a in
       cert_asked files q x ss h parts o is b (subst (λ (c : Command). Makes c (held_by c files) o) a.is m)

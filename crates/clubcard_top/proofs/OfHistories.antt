@@ -22,13 +22,12 @@ use Rattle.command_core.specs.ReplyFields.{Done, NamedFault}
 use Rattle.command_core.specs.Commands.{only, verdict_word}
 use Rattle.command_core.specs.Commands.{rehearsed, Makes}
 use Rattle.command_core.specs.Replies.{held_by}
-use Rattle.clubcard_top.specs.Calls.{Call, Prints}
+use Rattle.clubcard_top.specs.Calls.{Call, Found, Prints}
 use Rattle.clubcard_top.specs.Endings.{Succeeds, Did, GivesDone, MustSucceed, Ends}
-use Rattle.clubcard_top.specs.Headline.{AsksHistory, Published, IsRehearsed, Stored, PublishesJob, RehearsesJobs}
-use Rattle.clubcard_top.specs.Headline.{StoresPart, truth_line, truth_done}
-use Rattle.clubcard_top.specs.Headline.{AsksToPublish, AsksToStore, AsksTruth, AsksToRehearse}
-use Rattle.clubcard_top.specs.Headline.{AsksCert, AsksCertTruth, cert_truth_line}
-use Rattle.clubcard_top.specs.Headline.{RebasesHistory, Rebased, AsksToRebase, IsRebasableWithout, base_of, AsksBase, AsksTheBase, AsksLeftOut, AsksOfLeftOut, Brings}
+use Rattle.clubcard_top.specs.Headline.{AsksTruth, Published, IsRehearsed, Stored, AsksToPublish, AsksToRehearse}
+use Rattle.clubcard_top.specs.Headline.{AsksToStore, truth_line, truth_done}
+use Rattle.clubcard_top.specs.Headline.{AsksCertTruth, cert_truth_line}
+use Rattle.clubcard_top.specs.Headline.{AsksToRebase, Rebased, IsRebasableWithout, base_of, AsksTheBase, AsksOfLeftOut, Brings}
 use Rattle.clubcard_top.specs.Promises.{Successes, Histories}
 use Rattle.command_core.proofs.Results.{ok_same}
 use Rattle.clubcard_top.proofs.Promised.{Unique, answers, given, sure}
@@ -40,45 +39,45 @@ module _ (call : Call) where
   -- the laws of what comes of a command over files, as `histories_are_made` and `bases_are_made` say them
   pub record Laws : Type 0 where
     pub published : (files : Files) (h : History) (parts : List SealedFields) (job : JobFields) (d : Done)
-        → IsHistory h parts → PublishesJob call.asked files h parts job
+        → IsHistory h parts → AsksToPublish call.asked h parts job files
         → Makes call.asked (held_by call.asked files) (Ok d) → Published call.asked h parts job d
     pub admitted : (files : Files) (h : History) (parts : List SealedFields) (job : JobFields)
-        (o : Result Done NamedFault) → IsHistory h parts → PublishesJob call.asked files h parts job
+        (o : Result Done NamedFault) → IsHistory h parts → AsksToPublish call.asked h parts job files
         → IsAdmissible (releases_of h parts) (in_format current job) → Makes call.asked (held_by call.asked files) o → (d : Done)
         × (o ≡ Ok d)
     pub stored : (files : Files) (h : History) (parts : List SealedFields) (s : SealedFields)
-        (o : Result Done NamedFault) → IsHistory h (parts ++ s ∷ []) → StoresPart call.asked files parts s
+        (o : Result Done NamedFault) → IsHistory h (parts ++ s ∷ []) → AsksToStore call.asked parts s files
         → Makes call.asked (held_by call.asked files) o → (d : Done) × (o ≡ Ok d) × Stored call.asked parts s d
     pub asks : (files : Files) (q : StoreQuery) (h : History) (parts : List SealedFields)
-        (o : Result Done NamedFault) → IsHistory h parts → AsksHistory call.asked files q h parts
+        (o : Result Done NamedFault) → IsHistory h parts → AsksTruth call.asked q h parts files
         → Makes call.asked (held_by call.asked files) o → o ≡ Ok (truth_done h parts q)
     pub certifies : (files : Files) (q : QueryCert) (x : Identity) (ss : List Sighting) (h : History)
         (parts : List SealedFields) (o : Result Done NamedFault) → IsHistory h parts
-        → AsksCert call.asked files q x ss h parts
+        → AsksCertTruth call.asked q x ss h parts files
         → Makes call.asked (held_by call.asked files) o → o ≡ Ok (only (cert_truth_line h parts x))
     pub rehearses : (files : Files) (r : Rehearse) (d : Done) → call.asked ≡ commands.Rehearse r
         → Makes call.asked (held_by call.asked files) (Ok d)
         → (queries : List Query) × (jobs : List JobFields) × (parts : List SealedFields)
-        × RehearsesJobs call.asked files queries jobs × IsRehearsed queries jobs parts
+        × AsksToRehearse call.asked queries jobs files × IsRehearsed queries jobs parts
         × (d ≡ rehearsed queries jobs parts)
     pub rebases : (files : Files) (r : Rebase) (h : History) (parts : List SealedFields) (d : Done)
-        → IsHistory h parts → RebasesHistory call.asked files r h parts
+        → IsHistory h parts → AsksToRebase call.asked r h parts files
         → Makes call.asked (held_by call.asked files) (Ok d) → Rebased r h parts d
     pub rebasable : (files : Files) (r : Rebase) (h : History) (parts : List SealedFields)
-        (o : Result Done NamedFault) → IsHistory h parts → RebasesHistory call.asked files r h parts
+        (o : Result Done NamedFault) → IsHistory h parts → AsksToRebase call.asked r h parts files
         → IsRebasableWithout r.moment r.without h parts → Makes call.asked (held_by call.asked files) o → (d : Done) × (o ≡ Ok d)
     pub keeps : (files : Files) (q : StoreQuery) (h : History) (parts : List SealedFields) (moment : ℕ)
         (without : List (List ℕ)) (s : SealedFields) (o : Result Done NamedFault)
-        → IsHistory (base_of h parts moment without) (s ∷ []) → AsksBase call.asked files q h parts moment without s
+        → IsHistory (base_of h parts moment without) (s ∷ []) → AsksTheBase call.asked q h parts moment without s files
         → Makes call.asked (held_by call.asked files) o → o ≡ Ok (truth_done h parts q)
     pub leaves : (files : Files) (q : StoreQuery) (h : History) (parts : List SealedFields)
-        (o : Result Done NamedFault) → IsHistory h parts → AsksLeftOut call.asked files q h parts
+        (o : Result Done NamedFault) → IsHistory h parts → AsksOfLeftOut call.asked q h parts files
         → Makes call.asked (held_by call.asked files) o → o ≡ Ok (only (line (verdict_word NotEnrolled)))
     pub comes_back : (h : History) (parts : List SealedFields) (job : JobFields) (s : SealedFields) (e : Entry)
         → IsHistory h parts → LeavesOut h e.id.issuer → Brings job e
         → Among (seen (releases_of (with_job h (in_format current job)) (parts ++ s ∷ []))) e
     pub follows : (files : Files) (queries : List Query) (jobs : List JobFields) (parts : List SealedFields)
-        (o : Result Done NamedFault) → IsHistory (chain jobs) parts → RehearsesJobs call.asked files queries jobs
+        (o : Result Done NamedFault) → IsHistory (chain jobs) parts → AsksToRehearse call.asked queries jobs files
         → Makes call.asked (held_by call.asked files) o → o ≡ Ok (rehearsed queries jobs parts)
 
   module _ (laws : Laws) (ends : Ends call) (apart : IsApart call.asked) where
@@ -96,80 +95,80 @@ module _ (call : Call) where
         let a = came files told zero in
         subst (λ (d : Done). Prints call d.text) (ok_same {E = NamedFault} a.0 said (law (Ok a.0) a.1)) a.2.gives.text
 
-    published : (h : History) (parts : List SealedFields) (job : JobFields) → IsHistory h parts → AsksToPublish call h parts job → Succeeds call
+    published : (h : History) (parts : List SealedFields) (job : JobFields) → IsHistory h parts → Found call (AsksToPublish call.asked h parts job) → Succeeds call
         → (d : Done) × Published call.asked h parts job d × GivesDone call d
     published h parts job is_history (files, told, p) zero =
         let a = came files told zero in
         (a.0, laws.published files h parts job a.0 is_history p a.1, a.2)
 
     admitted : (h : History) (parts : List SealedFields) (job : JobFields) → IsHistory h parts
-        → AsksToPublish call h parts job → IsAdmissible (releases_of h parts) (in_format current job) → MustSucceed call
+        → Found call (AsksToPublish call.asked h parts job) → IsAdmissible (releases_of h parts) (in_format current job) → MustSucceed call
     admitted h parts job is_history (files, told, p) may quiet =
-        sure call ends files told (λ none. subst (λ (c : Command). PublishesJob c files h parts job) none p)
+        sure call ends files told (λ none. subst (λ (c : Command). AsksToPublish c h parts job files) none p)
         (λ o m. laws.admitted files h parts job o is_history p may m) quiet
 
     rebased_clause : (r : Rebase) (h : History) (parts : List SealedFields)
-        → IsHistory h parts → AsksToRebase call r h parts → Succeeds call → (d : Done) × Rebased r h parts d × GivesDone call d
+        → IsHistory h parts → Found call (AsksToRebase call.asked r h parts) → Succeeds call → (d : Done) × Rebased r h parts d × GivesDone call d
     rebased_clause r h parts is_history (files, told, p) zero =
         let a = came files told zero in
         (a.0, laws.rebases files r h parts a.0 is_history p a.1, a.2)
 
     rebasable : (r : Rebase) (h : History) (parts : List SealedFields) → IsHistory h parts
-        → AsksToRebase call r h parts → IsRebasableWithout r.moment r.without h parts → MustSucceed call
+        → Found call (AsksToRebase call.asked r h parts) → IsRebasableWithout r.moment r.without h parts → MustSucceed call
     rebasable r h parts is_history (files, told, p) may quiet =
         sure call ends files told (λ none. let g : commands.Rebase r ≡ commands.Usage = sym p.0 ∙ none in cc)
         (λ o m. laws.rebasable files r h parts o is_history p may m) quiet
 
     stored_clause : (h : History) (parts : List SealedFields) (s : SealedFields) → IsHistory h (parts ++ s ∷ [])
-        → AsksToStore call parts s → Succeeds call → (d : Done) × Stored call.asked parts s d × GivesDone call d
+        → Found call (AsksToStore call.asked parts s) → Succeeds call → (d : Done) × Stored call.asked parts s d × GivesDone call d
     stored_clause h parts s is_history (files, told, p) zero =
         let a = came files told zero in
         let l = laws.stored files h parts s (Ok a.0) is_history p a.1 in
         (a.0, subst (Stored call.asked parts s) (sym (ok_same {E = NamedFault} a.0 l.0 l.1)) l.2, a.2)
 
     taken : (h : History) (parts : List SealedFields) (s : SealedFields) → IsHistory h (parts ++ s ∷ [])
-        → AsksToStore call parts s → MustSucceed call
+        → Found call (AsksToStore call.asked parts s) → MustSucceed call
     taken h parts s is_history (files, told, p) quiet =
-        sure call ends files told (λ none. subst (λ (c : Command). StoresPart c files parts s) none p)
+        sure call ends files told (λ none. subst (λ (c : Command). AsksToStore c parts s files) none p)
         (λ o m. let l = laws.stored files h parts s o is_history p m in (l.0, l.1)) quiet
 
     truth_clause : (q : StoreQuery) (h : History) (parts : List SealedFields) → IsHistory h parts
-        → AsksTruth call q h parts → Succeeds call → Prints call (truth_line h parts q)
+        → Found call (AsksTruth call.asked q h parts) → Succeeds call → Prints call (truth_line h parts q)
     truth_clause q h parts is_history (files, told, p) = prints files told (truth_done h parts q) (λ o m. laws.asks files q h parts o is_history p m)
 
     kept_clause : (q : StoreQuery) (h : History) (parts : List SealedFields) (moment : ℕ) (without : List (List ℕ))
         (s : SealedFields) → IsHistory (base_of h parts moment without) (s ∷ [])
-        → AsksTheBase call q h parts moment without s → Succeeds call → Prints call (truth_line h parts q)
+        → Found call (AsksTheBase call.asked q h parts moment without s) → Succeeds call → Prints call (truth_line h parts q)
     kept_clause q h parts moment without s is_history (files, told, p) =
         prints files told (truth_done h parts q) (λ o m. laws.keeps files q h parts moment without s o is_history p m)
 
     left_out_clause : (q : StoreQuery) (h : History) (parts : List SealedFields) → IsHistory h parts
-        → AsksOfLeftOut call q h parts → Succeeds call → Prints call (line (verdict_word NotEnrolled))
+        → Found call (AsksOfLeftOut call.asked q h parts) → Succeeds call → Prints call (line (verdict_word NotEnrolled))
     left_out_clause q h parts is_history (files, told, p) =
         prints files told (only (line (verdict_word NotEnrolled))) (λ o m. laws.leaves files q h parts o is_history p m)
 
     answered : (q : StoreQuery) (h : History) (parts : List SealedFields) → IsHistory h parts
-        → AsksTruth call q h parts → MustSucceed call
+        → Found call (AsksTruth call.asked q h parts) → MustSucceed call
     answered q h parts is_history (files, told, p) quiet =
         sure call ends files told (λ none. let g : commands.Query q ≡ commands.Usage = sym p.0 ∙ none in cc)
         (λ o m. (truth_done h parts q, laws.asks files q h parts o is_history p m)) quiet
 
     cert_truth : (q : QueryCert) (x : Identity) (ss : List Sighting) (h : History)
-        (parts : List SealedFields) → IsHistory h parts → AsksCertTruth call q x ss h parts → Succeeds call
+        (parts : List SealedFields) → IsHistory h parts → Found call (AsksCertTruth call.asked q x ss h parts) → Succeeds call
         → Prints call (cert_truth_line h parts x)
     cert_truth q x ss h parts is_history (files, told, p) =
         prints files told (only (cert_truth_line h parts x)) (λ o m. laws.certifies files q x ss h parts o is_history p m)
 
     cert_answered : (q : QueryCert) (x : Identity) (ss : List Sighting) (h : History)
-        (parts : List SealedFields) → IsHistory h parts → AsksCertTruth call q x ss h parts → MustSucceed call
+        (parts : List SealedFields) → IsHistory h parts → Found call (AsksCertTruth call.asked q x ss h parts) → MustSucceed call
     cert_answered q x ss h parts is_history (files, told, p) quiet =
         sure call ends files told (λ none. let g : commands.QueryCert q ≡ commands.Usage = sym p.is ∙ none in cc)
         (λ o m. (only (cert_truth_line h parts x), laws.certifies files q x ss h parts o is_history p m)) quiet
 
     followed : (queries : List Query) (jobs : List JobFields) (parts : List SealedFields) → IsHistory (chain jobs) parts
-        → AsksToRehearse call queries jobs → MustSucceed call
+        → Found call (AsksToRehearse call.asked queries jobs) → MustSucceed call
     followed queries jobs parts is_history (files, told, p) quiet =
-        sure call ends files told (λ none. subst (λ (c : Command). RehearsesJobs c files queries jobs) none p)
+        sure call ends files told (λ none. subst (λ (c : Command). AsksToRehearse c queries jobs files) none p)
         (λ o m. (rehearsed queries jobs parts, laws.follows files queries jobs parts o is_history p m)) quiet
 
     pub histories : Histories call
@@ -191,7 +190,7 @@ module _ (call : Call) where
     }
 
     rehearse : (r : Rehearse) → (did : Did call (commands.Rehearse r)) → (queries : List Query)
-        × (jobs : List JobFields) × (parts : List SealedFields) × AsksToRehearse call queries jobs
+        × (jobs : List JobFields) × (parts : List SealedFields) × Found call (AsksToRehearse call.asked queries jobs)
         × IsRehearsed queries jobs parts × GivesDone call (rehearsed queries jobs parts)
     rehearse r did =
         let a = came did.files did.told did.succeeds in

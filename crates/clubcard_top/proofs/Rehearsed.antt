@@ -27,7 +27,7 @@ use Rattle.command_core.specs.ReplyFields.{Done, NamedFault}
 use Rattle.command_core.specs.Commands.{named, input, verdict_word, rehearsed, MakesRehearsal, Makes}
 use Rattle.command_core.specs.Steps.{RehearsesOn}
 use Rattle.command_core.specs.Replies.{held_under, held_by}
-use Rattle.clubcard_top.specs.Headline.{HoldsJob, HoldsQueries, RehearsesJobs, IsRehearsed}
+use Rattle.clubcard_top.specs.Headline.{HoldsJob, HoldsQueries, AsksToRehearse, IsRehearsed}
 use Rattle.command_core.proofs.Existing.{job_value}
 use Rattle.command_core.proofs.Results.{ok_same, not_ok}
 use Rattle.command_core.proofs.Unique.{job_same, refused_follows}
@@ -92,7 +92,7 @@ module _ (layers : Layers) (files : Files) where
       follows_one queries jobs job name names d (job_held files name job (get files name) refl is_job) fits (follows queries (jobs ++ job ∷ []) more names d is_more rest)
 
   abbrev pub IsRehearsal : Command → Done → Type 0
-  IsRehearsal asked d = (queries : List Query) × (jobs : List JobFields) × (parts : List SealedFields) × RehearsesJobs asked files queries jobs
+  IsRehearsal asked d = (queries : List Query) × (jobs : List JobFields) × (parts : List SealedFields) × AsksToRehearse asked queries jobs files
       × IsRehearsed queries jobs parts × (d ≡ rehearsed queries jobs parts)
 
   rehearsed_as : (r : Rehearse) (d : Done) (queries : List Query) → HoldsQueries files r.queries queries → Follows queries [] r.jobs d → IsRehearsal (commands.Rehearse r) d
@@ -141,7 +141,7 @@ module _ (layers : Layers) (files : Files) where
       ∙ ap (λ (js : List JobFields). Ok (rehearsed queries js all)) (append_assoc jobs (j ∷ []) others)
 
   pub done_law : (asked : Command) (queries : List Query) (jobs : List JobFields) (parts : List SealedFields) (o : Result Done NamedFault)
-      → IsHistory (chain jobs) parts → RehearsesJobs asked files queries jobs
+      → IsHistory (chain jobs) parts → AsksToRehearse asked queries jobs files
       → Makes asked (held_by asked files) o → o ≡ Ok (rehearsed queries jobs parts)
   done_law commands.Usage queries jobs parts o is p m = absurd p
   done_law (commands.Query q) queries jobs parts o is p m = absurd p

@@ -37,7 +37,7 @@ use Rattle.line_core.specs.Lines.{line, store_line}
 use Rattle.command_core.specs.ReplyFields.{OutputFields, Done}
 use Rattle.command_core.specs.Commands.{verdict_word, only, report_behind, verdict_line}
 use Rattle.command_core.specs.Rebasings.{base_line}
-use Rattle.clubcard_top.specs.Calls.{Call, Found, Holds}
+use Rattle.clubcard_top.specs.Calls.{Holds}
 
 -- ---- publishing
 
@@ -47,20 +47,17 @@ HoldsJob files name job = (bytes : List ℕ) × (get files name ≡ Some bytes) 
 
 -- the file of this name holds the ledger of the history, in version 2, or in version 1 where no job reads dates
 abbrev pub HoldsLedger : Files → List ℕ → History → List SealedFields → Type 0
-HoldsLedger files name h parts = (get files name ≡ Some (ledger_bytes h parts)) ⊎ ((get files name ≡ Some (old_ledger_bytes h parts)) × IsUndated h)
+HoldsLedger files name h parts =
+    (get files name ≡ Some (ledger_bytes h parts)) ⊎ ((get files name ≡ Some (old_ledger_bytes h parts)) × IsUndated h)
 
 -- The command publishes a job behind a history: `snapshot` behind that of no jobs, and `delta` behind that whose
 -- ledger LEDGER holds.
-abbrev pub PublishesJob : Command → Files → History → List SealedFields → JobFields → Type 0
-PublishesJob (commands.Snapshot s) files h parts job = (h ≡ of_jobs []) × (parts ≡ []) × HoldsJob files s.job job
-PublishesJob (commands.Delta d) files h parts job =
+abbrev pub AsksToPublish : Command → History → List SealedFields → JobFields → Files → Type 0
+AsksToPublish (commands.Snapshot s) h parts job files = (h ≡ of_jobs []) × (parts ≡ []) × HoldsJob files s.job job
+AsksToPublish (commands.Delta d) h parts job files =
     (1 ≤ members h) × HoldsLedger files d.ledger h parts × HoldsJob files d.job job
 -- no other command publishes a job behind a history
-PublishesJob command files h parts job = ⊥
-
--- the call asks to publish this job behind the history with these parts
-abbrev pub AsksToPublish : Call → History → List SealedFields → JobFields → Type 0
-AsksToPublish call h parts job = Found call (λ files. PublishesJob call.asked files h parts job)
+AsksToPublish command h parts job files = ⊥
 
 -- the outputs: a part and a ledger, in the order of writing
 abbrev pub publishes_to : Command → List ℕ → List ℕ → List OutputFields
@@ -88,12 +85,8 @@ pub record Published
 -- ---- beginning a chain anew
 
 -- the command rebases this history, whose ledger LEDGER holds
-abbrev pub RebasesHistory : Command → Files → Rebase → History → List SealedFields → Type 0
-RebasesHistory asked files r h parts = (asked ≡ commands.Rebase r) × (1 ≤ members h) × HoldsLedger files r.ledger h parts
-
--- the call asks to rebase the history with these parts
-abbrev pub AsksToRebase : Call → Rebase → History → List SealedFields → Type 0
-AsksToRebase call r h parts = Found call (λ files. RebasesHistory call.asked files r h parts)
+abbrev pub AsksToRebase : Command → Rebase → History → List SealedFields → Files → Type 0
+AsksToRebase asked r h parts files = (asked ≡ commands.Rebase r) × (1 ≤ members h) × HoldsLedger files r.ledger h parts
 
 -- the history that its base at the moment, without these issuers, begins, with no job behind it yet
 abbrev pub base_of : History → List SealedFields → ℕ → List (List ℕ) → History
@@ -113,7 +106,8 @@ pub record Rebased (r : Rebase) (h : History) (parts : List SealedFields) (d : D
   pub sealed : SealedFields
   pub rebasable : IsRebasableWithout r.moment r.without h parts
   pub is_history : IsHistory (base_of h parts r.moment r.without) (sealed ∷ [])
-  pub text : d.text ≡ base_line r.without (newest_epoch 0 (releases_of h parts)) (base_counts r.moment r.without (releases_of h parts))
+  pub text : d.text
+      ≡ base_line r.without (newest_epoch 0 (releases_of h parts)) (base_counts r.moment r.without (releases_of h parts))
   pub outputs : d.outputs
       ≡ rebases_to r (part_bytes sealed) (ledger_bytes (base_of h parts r.moment r.without) (sealed ∷ []))
 
@@ -121,16 +115,12 @@ pub record Rebased (r : Rebase) (h : History) (parts : List SealedFields) (d : D
 
 -- The command adds a part to the parts of a store: `start` to none, and `install` to those whose store's bytes STORE
 -- holds.
-abbrev pub StoresPart : Command → Files → List SealedFields → SealedFields → Type 0
-StoresPart (commands.Start t) files parts s = (parts ≡ []) × (get files t.part ≡ Some (part_bytes s))
-StoresPart (commands.Install i) files parts s =
+abbrev pub AsksToStore : Command → List SealedFields → SealedFields → Files → Type 0
+AsksToStore (commands.Start t) parts s files = (parts ≡ []) × (get files t.part ≡ Some (part_bytes s))
+AsksToStore (commands.Install i) parts s files =
     (1 ≤ length parts) × (get files i.store ≡ Some (store_bytes parts)) × (get files i.part ≡ Some (part_bytes s))
 -- no other command adds a part to a store
-StoresPart command files parts s = ⊥
-
--- the call asks to add this part to the store of these
-abbrev pub AsksToStore : Call → List SealedFields → SealedFields → Type 0
-AsksToStore call parts s = Found call (λ files. StoresPart call.asked files parts s)
+AsksToStore command parts s files = ⊥
 
 -- the output: a store
 abbrev pub stores_to : Command → List ℕ → List OutputFields
@@ -148,19 +138,16 @@ pub record Stored (asked : Command) (parts : List SealedFields) (s : SealedField
 -- ---- asking
 
 -- the command asks the store of a history about a certificate
-abbrev pub AsksStore : Command → Files → StoreQuery → History → List SealedFields → Type 0
-AsksStore asked files q h parts = (asked ≡ commands.Query q) × (1 ≤ members h) × (get files q.store ≡ Some (store_bytes parts))
+abbrev pub AsksStore : Command → StoreQuery → History → List SealedFields → Files → Type 0
+AsksStore asked q h parts files =
+    (asked ≡ commands.Query q) × (1 ≤ members h) × (get files q.store ≡ Some (store_bytes parts))
 
 -- The same, with sightings of its accepted entries alone.
-abbrev pub AsksHistory : Command → Files → StoreQuery → History → List SealedFields → Type 0
-AsksHistory asked files q h parts =
+abbrev pub AsksTruth : Command → StoreQuery → History → List SealedFields → Files → Type 0
+AsksTruth asked q h parts files =
     (asked ≡ commands.Query q) × (1 ≤ members h) × (get files q.store ≡ Some (store_bytes parts))
     × (1 ≤ length q.sightings)
     × ((s : Sighting) → Among q.sightings s → Among (sightings q.id (seen (releases_of h parts))) s)
-
--- the call asks the store of this history so
-abbrev pub AsksTruth : Call → StoreQuery → History → List SealedFields → Type 0
-AsksTruth call q h parts = Found call (λ files. AsksHistory call.asked files q h parts)
 
 -- the line of what the history tells of the certificate, which is the truth
 abbrev pub truth_line : History → List SealedFields → StoreQuery → List ℕ
@@ -178,28 +165,21 @@ IsKept moment rs x = has (kept_by (is_lasting_by moment rs) rs) x ≡ true
 
 -- The command asks the store of this part alone, that of a history's base without some issuers, about a certificate of
 -- another issuer that the base keeps, with sightings of the history's accepted entries alone.
-abbrev pub AsksBase : Command → Files → StoreQuery → History → List SealedFields → ℕ → List (List ℕ) → SealedFields → Type 0
-AsksBase asked files q h parts moment without s =
+abbrev pub AsksTheBase : Command → StoreQuery → History → List SealedFields → ℕ → List (List ℕ) → SealedFields → Files
+    → Type 0
+AsksTheBase asked q h parts moment without s files =
     (asked ≡ commands.Query q) × IsKept moment (releases_of h parts) q.id × (has_key without q.id.issuer ≡ false)
     × (get files q.store ≡ Some (store_bytes (s ∷ []))) × (1 ≤ length q.sightings)
     × ((t : Sighting) → Among q.sightings t → Among (sightings q.id (seen (releases_of h parts))) t)
-
--- the call asks the store of the base so
-abbrev pub AsksTheBase : Call → StoreQuery → History → List SealedFields → ℕ → List (List ℕ) → SealedFields → Type 0
-AsksTheBase call q h parts moment without s = Found call (λ files. AsksBase call.asked files q h parts moment without s)
 
 -- ---- issuers that a base leaves out
 
 -- The command asks the store of a history about a certificate whose issuer its base leaves out and no job enrolls since,
 -- with a sighting that some part covers.
-abbrev pub AsksLeftOut : Command → Files → StoreQuery → History → List SealedFields → Type 0
-AsksLeftOut asked files q h parts =
+abbrev pub AsksOfLeftOut : Command → StoreQuery → History → List SealedFields → Files → Type 0
+AsksOfLeftOut asked q h parts files =
     (asked ≡ commands.Query q) × (1 ≤ members h) × (get files q.store ≡ Some (store_bytes parts)) × LeavesOut h q.id.issuer
     × ((s : Sighting) × (t : SealedFields) × Among q.sightings s × Among parts t × (covers t.part.head.ranges s ≡ true))
-
--- the call asks the store of this history so
-abbrev pub AsksOfLeftOut : Call → StoreQuery → History → List SealedFields → Type 0
-AsksOfLeftOut call q h parts = Found call (λ files. AsksLeftOut call.asked files q h parts)
 
 -- The job has the entry, covers its sighting, and enrolls its issuer.
 pub record Brings (job : JobFields) (e : Entry) : Type 0 where
@@ -222,9 +202,9 @@ HoldsKey files name hash =
 
 -- The command asks the store of a history about a certificate with these sightings, by its file and by its issuer's.
 -- One of the sightings is of its accepted entries, and so is each that some part covers.
-pub record AsksCert
-    (asked : Command) (files : Files) (q : QueryCert) (x : Identity) (ss : List Sighting)
-    (h : History) (parts : List SealedFields)
+pub record AsksCertTruth
+    (asked : Command) (q : QueryCert) (x : Identity) (ss : List Sighting)
+    (h : History) (parts : List SealedFields) (files : Files)
     : Type 0 where
   pub is : asked ≡ commands.QueryCert q
   pub some : 1 ≤ members h
@@ -234,10 +214,6 @@ pub record AsksCert
   pub one : (s : Sighting) × Among ss s × Among (sightings x (seen (releases_of h parts))) s
   pub covered : (s : Sighting) (t : SealedFields) → Among ss s → Among parts t → IsTrue (covers t.part.head.ranges s)
       → Among (sightings x (seen (releases_of h parts))) s
-
--- the call asks the store of this history so
-abbrev pub AsksCertTruth : Call → QueryCert → Identity → List Sighting → History → List SealedFields → Type 0
-AsksCertTruth call q x ss h parts = Found call (λ files. AsksCert call.asked files q x ss h parts)
 
 -- the line of what the history tells of the certificate, which is the truth
 abbrev pub cert_truth_line : History → List SealedFields → Identity → List ℕ
@@ -250,15 +226,11 @@ abbrev pub HoldsQueries : Files → List ℕ → List Query → Type 0
 HoldsQueries files name queries = (bytes : List ℕ) × (get files name ≡ Some bytes) × (queries_in bytes ≡ Ok queries)
 
 -- The command rehearses these jobs, which its files hold in their order, and asks these queries.
-abbrev pub RehearsesJobs : Command → Files → List Query → List JobFields → Type 0
-RehearsesJobs (commands.Rehearse r) files queries jobs =
+abbrev pub AsksToRehearse : Command → List Query → List JobFields → Files → Type 0
+AsksToRehearse (commands.Rehearse r) queries jobs files =
     HoldsQueries files r.queries queries × AllZip (HoldsJob files) r.jobs jobs
 -- no other command rehearses
-RehearsesJobs command files queries jobs = ⊥
-
--- the call asks to rehearse these jobs, and then these queries
-abbrev pub AsksToRehearse : Call → List Query → List JobFields → Type 0
-AsksToRehearse call queries jobs = Found call (λ files. RehearsesJobs call.asked files queries jobs)
+AsksToRehearse command queries jobs files = ⊥
 
 -- the query asks with one or more sightings, all of them of its certificate's accepted entries
 abbrev pub AsksAccepted : List Release → Query → Type 0

@@ -35,12 +35,13 @@ use Rattle.command_core.specs.Statuses as status
 use Rattle.input_core.specs.Readings.{job_in, ledger_in, part_in, store_in}
 use Rattle.input_core.specs.Certificates.{certificate_in, issuer_in}
 use Rattle.outside_core.specs.Reads.{CouldNotRead}
-use Rattle.command_core.specs.Commands.{verdict_word, only, query_done, query_cert_done, check_done, show_done, publication_done, stored}
+use Rattle.command_core.specs.Commands.{verdict_word, only, query_done, query_cert_done, check_done, show_done, stored}
+use Rattle.command_core.specs.Commands.{publication_done}
 use Rattle.command_core.specs.Commands.{rehearsed, sample_done, head_in, gather_done}
 use Rattle.command_core.specs.Rebasings.{base_done}
 use Rattle.command_core.specs.Replies.{usage, read_fault, refusal, done, IsReply}
 use Rattle.command_core.specs.Runs.{KeepsAllBut}
-use Rattle.clubcard_top.specs.Calls.{Call, FilesAreTold, Reads, Writes, ChangesNoFile, Prints, NoFault}
+use Rattle.clubcard_top.specs.Calls.{Call, Found, FilesAreTold, Reads, Writes, ChangesNoFile, Prints, NoFault}
 use Rattle.clubcard_top.specs.Endings.{Succeeds, Did, GivesTheReply, WantedMemory, SinkFailed, Torn, Ends}
 use Rattle.clubcard_top.specs.Endings.{GivesDone, MustSucceed, MustGive}
 use Rattle.command_core.specs.Audits.{AreWithinLimits, IsAudited}
@@ -52,8 +53,8 @@ use Rattle.clubcard_top.specs.Headline.{Published, Rebased, Stored, IsRehearsed}
 use Rattle.clubcard_top.specs.Refusals.{Comes, Refused}
 
 -- Each command that succeeds: what the files held that it read, and what it gave of that, which is printed and held by
--- the files that it wrote. And when one must succeed: `complete` is the rule for all of them, and what ends with that name
--- says when a success comes of a command in other words than those of `Makes`.
+-- the files that it wrote. And when one must succeed: `complete` is the rule for all of them, and what ends with that
+-- name says when a success comes of a command in other words than those of `Makes`.
 pub record Successes (call : Call) : Type 0 where
   -- what the parts of STORE say of the certificate
   pub query : (q : StoreQuery) → Did call (commands.Query q)
@@ -106,7 +107,8 @@ pub record Successes (call : Call) : Type 0 where
   -- the jobs are a history, and their reports and the verdicts of its parts are printed
   pub rehearse : (r : Rehearse) → Did call (commands.Rehearse r)
       → (queries : List Query) × (jobs : List JobFields) × (parts : List SealedFields)
-      × AsksToRehearse call queries jobs × IsRehearsed queries jobs parts × GivesDone call (rehearsed queries jobs parts)
+      × Found call (AsksToRehearse call.asked queries jobs) × IsRehearsed queries jobs parts
+      × GivesDone call (rehearsed queries jobs parts)
   -- the job that is made from NUMBER with COUNT entries
   pub sample : (s : Sample) → Did call (commands.Sample s) → GivesDone call (sample_done s)
   -- the raw job of HEAD with the entries of the pages, of the log LOG, behind its own; and where HEAD and the pages are
@@ -135,33 +137,39 @@ pub record Successes (call : Call) : Type 0 where
 pub record Histories (call : Call) : Type 0 where
   -- `snapshot` and `delta`
   pub published : (h : History) (parts : List SealedFields) (job : JobFields) → IsHistory h parts
-      → AsksToPublish call h parts job → Succeeds call
+      → Found call (AsksToPublish call.asked h parts job) → Succeeds call
       → (d : Done) × Published call.asked h parts job d × GivesDone call d
   pub admitted : (h : History) (parts : List SealedFields) (job : JobFields) → IsHistory h parts
-      → AsksToPublish call h parts job → IsAdmissible (releases_of h parts) (in_format current job) → MustSucceed call
+      → Found call (AsksToPublish call.asked h parts job)
+      → IsAdmissible (releases_of h parts) (in_format current job) → MustSucceed call
   -- `rebase` and `rebase-without`
   pub rebased : (r : Rebase) (h : History) (parts : List SealedFields) → IsHistory h parts
-      → AsksToRebase call r h parts → Succeeds call → (d : Done) × Rebased r h parts d × GivesDone call d
+      → Found call (AsksToRebase call.asked r h parts) → Succeeds call
+      → (d : Done) × Rebased r h parts d × GivesDone call d
   pub rebasable : (r : Rebase) (h : History) (parts : List SealedFields) → IsHistory h parts
-      → AsksToRebase call r h parts → IsRebasableWithout r.moment r.without h parts → MustSucceed call
+      → Found call (AsksToRebase call.asked r h parts) → IsRebasableWithout r.moment r.without h parts → MustSucceed call
   -- `start` and `install`
   pub stored : (h : History) (parts : List SealedFields) (s : SealedFields) → IsHistory h (parts ++ s ∷ [])
-      → AsksToStore call parts s → Succeeds call → (d : Done) × Stored call.asked parts s d × GivesDone call d
+      → Found call (AsksToStore call.asked parts s) → Succeeds call
+      → (d : Done) × Stored call.asked parts s d × GivesDone call d
   pub taken : (h : History) (parts : List SealedFields) (s : SealedFields) → IsHistory h (parts ++ s ∷ [])
-      → AsksToStore call parts s → MustSucceed call
+      → Found call (AsksToStore call.asked parts s) → MustSucceed call
   -- `query`
   pub truth : (q : StoreQuery) (h : History) (parts : List SealedFields) → IsHistory h parts
-      → AsksTruth call q h parts → Succeeds call → Prints call (truth_line h parts q)
+      → Found call (AsksTruth call.asked q h parts) → Succeeds call → Prints call (truth_line h parts q)
   pub answered : (q : StoreQuery) (h : History) (parts : List SealedFields) → IsHistory h parts
-      → AsksTruth call q h parts → MustSucceed call
+      → Found call (AsksTruth call.asked q h parts) → MustSucceed call
   -- `query` of the store that the base of a history begins: of what has not expired and is of no issuer that is left
   -- out, it says what the history tells
   pub kept : (q : StoreQuery) (h : History) (parts : List SealedFields) (moment : ℕ) (without : List (List ℕ))
       (s : SealedFields) → IsHistory (base_of h parts moment without) (s ∷ [])
-      → AsksTheBase call q h parts moment without s → Succeeds call → Prints call (truth_line h parts q)
-  -- of an issuer that is left out, and that no job enrolls since, the store says that it isn't enrolled wherever it covers
+      → Found call (AsksTheBase call.asked q h parts moment without s) → Succeeds call
+      → Prints call (truth_line h parts q)
+  -- of an issuer that is left out, and that no job enrolls since, the store says that it isn't enrolled wherever it
+  -- covers
   pub left_out : (q : StoreQuery) (h : History) (parts : List SealedFields) → IsHistory h parts
-      → AsksOfLeftOut call q h parts → Succeeds call → Prints call (line (verdict_word NotEnrolled))
+      → Found call (AsksOfLeftOut call.asked q h parts) → Succeeds call
+      → Prints call (line (verdict_word NotEnrolled))
   -- and it can come back: the first job that enrolls it accepts each of its entries that the job covers, also those that
   -- were accepted before the base, so that `truth` holds of them from then on
   pub comes_back : (h : History) (parts : List SealedFields) (job : JobFields) (d : Done) (e : Entry) → IsHistory h parts
@@ -170,18 +178,18 @@ pub record Histories (call : Call) : Type 0 where
   -- `query-cert`
   pub cert_truth : (q : QueryCert) (x : Identity) (ss : List Sighting)
       (h : History) (parts : List SealedFields) → IsHistory h parts
-      → AsksCertTruth call q x ss h parts → Succeeds call → Prints call (cert_truth_line h parts x)
+      → Found call (AsksCertTruth call.asked q x ss h parts) → Succeeds call → Prints call (cert_truth_line h parts x)
   pub cert_answered : (q : QueryCert) (x : Identity) (ss : List Sighting)
       (h : History) (parts : List SealedFields) → IsHistory h parts
-      → AsksCertTruth call q x ss h parts → MustSucceed call
+      → Found call (AsksCertTruth call.asked q x ss h parts) → MustSucceed call
   -- `rehearse`
   pub followed : (queries : List Query) (jobs : List JobFields) (parts : List SealedFields) → IsHistory (chain jobs) parts
-      → AsksToRehearse call queries jobs → MustSucceed call
+      → Found call (AsksToRehearse call.asked queries jobs) → MustSucceed call
 
 -- What a refusal says of the files, where they are told; and that what is wrong with them must be said.
 pub record Refusals (call : Call) : Type 0 where
-  -- With which file something is wrong, and what: it has this status (`refusal` says which status each fault has, and no
-  -- two kinds have the same but those of a chain), and it is what comes of the command over the files.
+  -- With which file something is wrong, and what: it has this status (`refusal` says which status each fault has, and
+  -- no two kinds have the same but those of a chain), and it is what comes of the command over the files.
   pub wrong : IsTrue (status.is_one_of status.of_refusals call.status) → FilesAreTold call
       → (name : List ℕ) × (fault : FileFault) × Refused call name fault
   -- what is wrong with a file, also that it can't be read, must be said

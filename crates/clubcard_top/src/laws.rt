@@ -25,10 +25,10 @@ ghost use Rattle.word_core.specs.declared.command.{Rehearse.Rehearse};
 ghost use Rattle.command_core.specs.ReplyFields.{Done, NamedFault};
 ghost use Rattle.command_core.specs.Commands.{Makes, only, query_done, rehearsed, verdict_word};
 ghost use Rattle.command_core.specs.Replies.{held_by};
-ghost use Rattle.clubcard_top.specs.Headline.{PublishesJob, Published, StoresPart, Stored, AsksHistory, truth_done};
-ghost use Rattle.clubcard_top.specs.Headline.{AsksCert, cert_truth_line, RehearsesJobs, IsRehearsed};
-ghost use Rattle.clubcard_top.specs.Headline.{RebasesHistory, Rebased, IsRebasableWithout, base_of, IsKept, AsksBase, truth_line};
-ghost use Rattle.clubcard_top.specs.Headline.{AsksStore, AsksLeftOut, Brings};
+ghost use Rattle.clubcard_top.specs.Headline.{AsksToPublish, Published, AsksToStore, Stored, AsksTruth, truth_done};
+ghost use Rattle.clubcard_top.specs.Headline.{AsksCertTruth, cert_truth_line, AsksToRehearse, IsRehearsed};
+ghost use Rattle.clubcard_top.specs.Headline.{AsksToRebase, Rebased, IsRebasableWithout, base_of, IsKept, AsksTheBase, truth_line};
+ghost use Rattle.clubcard_top.specs.Headline.{AsksStore, AsksOfLeftOut, Brings};
 
 use history_core::{base_stands_for_its_history, issuers_are_left_out};
 use publication_core::{
@@ -47,36 +47,36 @@ use store_core::{chains_grow, stores_are_read_back};
 pub fn histories_are_made()
     ensures published { (command : Command) (files : Files)
         (h : History) (parts : List SealedFields) (job : JobFields) (d : Done)
-        → IsHistory h parts → PublishesJob command files h parts job
+        → IsHistory h parts → AsksToPublish command h parts job files
         → Makes command (held_by command files) (Ok d) → Published command h parts job d }
     ensures admitted { (command : Command) (files : Files)
         (h : History) (parts : List SealedFields) (job : JobFields) (o : Result Done NamedFault)
-        → IsHistory h parts → PublishesJob command files h parts job → IsAdmissible (releases_of h parts) (in_format current job)
+        → IsHistory h parts → AsksToPublish command h parts job files → IsAdmissible (releases_of h parts) (in_format current job)
         → Makes command (held_by command files) o → (d : Done) × (o ≡ Ok d) }
     ensures stored { (command : Command) (files : Files)
         (h : History) (parts : List SealedFields) (s : SealedFields) (o : Result Done NamedFault)
-        → IsHistory h (parts ++ s ∷ []) → StoresPart command files parts s
+        → IsHistory h (parts ++ s ∷ []) → AsksToStore command parts s files
         → Makes command (held_by command files) o → (d : Done) × (o ≡ Ok d) × Stored command parts s d }
     ensures told { (command : Command) (files : Files) (q : StoreQuery)
         (h : History) (parts : List SealedFields) (o : Result Done NamedFault)
-        → IsHistory h parts → AsksStore command files q h parts
+        → IsHistory h parts → AsksStore command q h parts files
         → Makes command (held_by command files) o → o ≡ Ok (query_done q parts) }
     ensures asked { (command : Command) (files : Files) (q : StoreQuery)
         (h : History) (parts : List SealedFields) (o : Result Done NamedFault)
-        → IsHistory h parts → AsksHistory command files q h parts
+        → IsHistory h parts → AsksTruth command q h parts files
         → Makes command (held_by command files) o → o ≡ Ok (truth_done h parts q) }
     ensures certified { (command : Command) (files : Files) (q : QueryCert) (x : Identity) (ss : List Sighting)
         (h : History) (parts : List SealedFields) (o : Result Done NamedFault)
-        → IsHistory h parts → AsksCert command files q x ss h parts
+        → IsHistory h parts → AsksCertTruth command q x ss h parts files
         → Makes command (held_by command files) o → o ≡ Ok (only (cert_truth_line h parts x)) }
     ensures rehearsed { (command : Command) (files : Files) (r : Rehearse) (d : Done)
         → command ≡ Command.Rehearse r → Makes command (held_by command files) (Ok d)
         → (queries : List Query) × (jobs : List JobFields) × (parts : List SealedFields)
-        × RehearsesJobs command files queries jobs × IsRehearsed queries jobs parts
+        × AsksToRehearse command queries jobs files × IsRehearsed queries jobs parts
         × (d ≡ rehearsed queries jobs parts) }
     ensures followed { (command : Command) (files : Files) (queries : List Query)
         (jobs : List JobFields) (parts : List SealedFields) (o : Result Done NamedFault)
-        → IsHistory (chain jobs) parts → RehearsesJobs command files queries jobs
+        → IsHistory (chain jobs) parts → AsksToRehearse command queries jobs files
         → Makes command (held_by command files) o → o ≡ Ok (rehearsed queries jobs parts) }
     ensures publishable { (before : LedgerFields) (job : JobFields) → CanBePublished before job
         → (made : PublicationFields) × Publishes before job (Ok made) }
@@ -101,11 +101,11 @@ pub fn histories_are_made()
 pub fn bases_are_made()
     ensures rebased { (command : Command) (files : Files) (r : Rebase)
         (h : History) (parts : List SealedFields) (d : Done)
-        → IsHistory h parts → RebasesHistory command files r h parts
+        → IsHistory h parts → AsksToRebase command r h parts files
         → Makes command (held_by command files) (Ok d) → Rebased r h parts d }
     ensures rebasable { (command : Command) (files : Files) (r : Rebase)
         (h : History) (parts : List SealedFields) (o : Result Done NamedFault)
-        → IsHistory h parts → RebasesHistory command files r h parts → IsRebasableWithout r.moment r.without h parts
+        → IsHistory h parts → AsksToRebase command r h parts files → IsRebasableWithout r.moment r.without h parts
         → Makes command (held_by command files) o → (d : Done) × (o ≡ Ok d) }
     ensures kept { (h : History) (parts : List SealedFields) (moment : ℕ) (without : List (List ℕ)) (s : SealedFields)
         (q : StoreQuery) → IsKept moment (releases_of h parts) q.id → has_key without q.id.issuer ≡ false
@@ -113,11 +113,11 @@ pub fn bases_are_made()
         × (truth_line (base_of h parts moment without) (s ∷ []) q ≡ truth_line h parts q) }
     ensures asked { (command : Command) (files : Files) (q : StoreQuery)
         (h : History) (parts : List SealedFields) (moment : ℕ) (without : List (List ℕ)) (s : SealedFields) (o : Result Done NamedFault)
-        → IsHistory (base_of h parts moment without) (s ∷ []) → AsksBase command files q h parts moment without s
+        → IsHistory (base_of h parts moment without) (s ∷ []) → AsksTheBase command q h parts moment without s files
         → Makes command (held_by command files) o → o ≡ Ok (truth_done h parts q) }
     ensures left_out { (command : Command) (files : Files) (q : StoreQuery)
         (h : History) (parts : List SealedFields) (o : Result Done NamedFault)
-        → IsHistory h parts → AsksLeftOut command files q h parts
+        → IsHistory h parts → AsksOfLeftOut command q h parts files
         → Makes command (held_by command files) o → o ≡ Ok (only (line (verdict_word NotEnrolled))) }
     ensures comes_back { (h : History) (parts : List SealedFields) (job : JobFields) (s : SealedFields) (e : Entry)
         → IsHistory h parts → LeavesOut h e.id.issuer → Brings job e
