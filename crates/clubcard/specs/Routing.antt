@@ -1,7 +1,7 @@
 -- Which words go to a device, and how the program ends where it has no words.
 use Rattle.std.specs.Prelude.{◌≡◌, ◌⊎◌, ℕ, List, ◌∷◌, Option, Some, None, codes, if◌then◌else◌, nat_eq}
 use Rattle.std.specs.List.{starts_with}
-use Rattle.clubcard_top.specs.Statuses as status
+use Rattle.line_core.specs.Statuses as status
 
 -- the second word, where the first begins with `device-`
 abbrev pub device_named : List (List ℕ) → Option (List ℕ)

@@ -5,7 +5,7 @@
 ghost use Rattle.std.specs.Prelude.{◌≡◌, ◌≢◌, IfErr, map, string_bytes};
 ghost use Rattle.std.specs.Option.{option_map};
 ghost use Rattle.std.specs.Process.{exit_status};
-ghost use Rattle.clubcard_top.specs.Statuses as statuses;
+ghost use Rattle.line_core.specs.Statuses as statuses;
 ghost use Rattle.clubcard.specs.Routing.{IsOfWords, device_named};
 
 use clubcard_top::{Status, run};
