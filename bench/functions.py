@@ -17,7 +17,7 @@ import tempfile
 from instructions import callgrind, of_functions
 from publishing import PROGRAM, best
 
-HASH = "sha2::block256::compress"
+HASHES = ("sha2::block256::compress", "lane_core::compression::compress")
 
 
 def table(counts, rows, count, whole):
@@ -36,7 +36,8 @@ def main():
         best([PROGRAM, "sample", "7", str(count), job], 1)
         print(callgrind([PROGRAM, "snapshot", job, part, ledger, "1"], profile)[0])
         alone, with_calls = of_functions(profile, False), of_functions(profile, True)
-    whole, hashed = sum(alone.values()), alone.pop(HASH)
+    whole = sum(alone.values())
+    hashed = sum(alone.pop(name, 0) for name in HASHES)
     print(f"{whole} instructions, {hashed / whole:.1%} of them the compression of SHA-256")
     print("\n| function | an entry | of the rest |\n|---|---|---|")
     table(alone, rows, count, whole - hashed)

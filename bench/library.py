@@ -84,7 +84,7 @@ def main():
         rattle = (
             by_program["input_core::stores::store_in"]
             - by_program["real_edge::files::FileDepotDepot::read_at"]
-            + by_program["store_core::store::Store::verdict"]
+            + by_program["store_core::store::Store::says"]
         )
         one, many = by_library["clubcard_query"], by_library["clubcard_query_each"]
         print(f"a store of {os.path.getsize(path['store'])} bytes: {line}")

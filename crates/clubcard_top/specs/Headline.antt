@@ -65,7 +65,7 @@ publishes_to (commands.Snapshot s) part ledger =
     record { name = s.part; bytes = part } ∷ record { name = s.ledger; bytes = ledger } ∷ []
 publishes_to (commands.Delta d) part ledger =
     record { name = d.part; bytes = part } ∷ record { name = d.new_ledger; bytes = ledger } ∷ []
--- no other command writes them, as above
+-- no other command writes them: it is asked where `AsksToPublish` holds
 publishes_to command part ledger = []
 
 -- This is made of a job that may follow the history, and makes a history with it: its report, the bytes of its part, and
@@ -126,7 +126,7 @@ AsksToStore command parts s files = ⊥
 abbrev pub stores_to : Command → List ℕ → List OutputFields
 stores_to (commands.Start t) store = record { name = t.store; bytes = store } ∷ []
 stores_to (commands.Install i) store = record { name = i.new_store; bytes = store } ∷ []
--- no other command writes one, as above
+-- no other command writes one: it is asked where `AsksToStore` holds
 stores_to command store = []
 
 -- This is made of the parts with this one behind them: how many they are and its epoch, the bytes of their store, and
