@@ -5,7 +5,7 @@ from collections.abc import Callable
 from pathlib import Path
 
 import pytest
-from hypothesis import HealthCheck, given, settings
+from hypothesis import HealthCheck, example, given, settings
 from hypothesis import strategies as st
 
 from clubcard.http import Client
@@ -76,6 +76,7 @@ def test_any_lies(history: History, web: Web, tmp_path: Path, old: int, new: int
     paths = list(dict.fromkeys(web.paths()))
 
     @settings(max_examples=40, deadline=None, suppress_health_check=ALL)
+    @example([(0, "status", 4, False)])
     @given(st.lists(LIES, min_size=1, max_size=3))
     def lied(lies: list[tuple[int, str, int, bool]]) -> None:
         shutil.rmtree(client.folder)

@@ -97,7 +97,7 @@ class _Fetch:
         try:
             answer = self._client.get(url, MOST_CRL, etag, modified)
             if answer.status == 304:
-                return Tried(url, answer.etag, answer.modified)
+                return Tried(url, etag, modified)
             crl = _vet(self._issuer, url, answer.body)
         except FetchError as fault:
             return Tried(url, why=fault.why)

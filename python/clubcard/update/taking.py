@@ -28,9 +28,11 @@ def take(config: Config, state: State, client: Client, now: int) -> Accepted:
             known = None
     # Under another key of CONFIG all is verified anew.
     trusted = known if known is not None and known.pinned == config.key else None
-    answer = _get(client, config.site + MANIFEST, MOST_MANIFEST, trusted.etag if trusted else None)
-    if trusted is not None and (answer.status == 304 or answer.body == trusted.text):
-        taken = replace(trusted, etag=answer.etag, site=config.site, place=config.place_from_state)
+    # The ETag stays the one that came with the text: with the same text, or with 304, a site may tell that of another.
+    etag = trusted.etag if trusted is not None and trusted.site == config.site else None
+    answer = _get(client, config.site + MANIFEST, MOST_MANIFEST, etag)
+    if trusted is not None and ((answer.status == 304 and etag is not None) or answer.body == trusted.text):
+        taken = replace(trusted, etag=etag or answer.etag, site=config.site, place=config.place_from_state)
     else:
         taken = _verified(config, state, client, answer, trusted)
     if known is not None:
