@@ -17,7 +17,7 @@ import tempfile
 from instructions import callgrind, of_functions
 from publishing import PROGRAM, best
 
-HASHES = ("sha2::block256::compress", "lane_core::compression::compress")
+HASHES = ("sha2::block256::compress", "lane_core::states::after_block")
 
 
 def table(counts, rows, count, whole):
