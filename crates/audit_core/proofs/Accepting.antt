@@ -7,9 +7,9 @@ use Rattle.ident_core.specs.declared.range.Sighting.{Sighting}
 use Rattle.ident_core.specs.Coverage.{covers}
 use Rattle.ident_core.specs.HeadFields.{zero_key}
 use Rattle.log_core.specs.declared.Entry.{Entry}
-use Rattle.sets_core.specs.Among.{Among}
-use Rattle.sets_core.specs.Sets.{has, has_key}
-use Rattle.sets_core.proofs.Elements.{Among-cases, Among-left, Among-right, found, any_at}
+use Rattle.ident_core.specs.Among.{Among}
+use Rattle.ident_core.specs.Sets.{has, has_key}
+use Rattle.ident_core.proofs.Elements.{Among-cases, Among-left, Among-right, found, any_at}
 use Rattle.universe_core.specs.Jobs.{Job, enrolled}
 use Rattle.universe_core.specs.History.{Release, class_by, class_of, is_lacked_by, is_listed, past_of, released, shown}
 use Rattle.universe_core.specs.Ledgers.{ledger_of, part_from}
@@ -73,9 +73,6 @@ abbrev pub told_by : Class → Bool → Option Bool
 told_by c t = cond (is_class Accepted c) (Some t) None
 
 module _ (before after : List Release) (job : Job) (sound : IsSound (before ++ released (past_of before) job zero_key ∷ after)) where
-  whole : List Release
-  whole = before ++ released (past_of before) job zero_key ∷ after
-
   same_late : (e : Entry) → Among job.entries (Some e) → covers job.ranges e.sighting ≡ true → has_key (enrolled job) e.id.issuer ≡ true
       → (b : Bool) → is_lacked_by before e.id e.sighting ≡ b → b ≡ is_lacked_by (before ++ released (past_of before) job zero_key ∷ after) e.id e.sighting
   unfolding past_of

@@ -19,7 +19,7 @@ use Rattle.crl_core.specs.Outcome.{CrlFields}
 use Rattle.job_core.specs.declared.bounds.TheConstants.Limits.{PUBLISHED}
 use Rattle.job_core.specs.JobFields.{CrlMeaning, JobFields}
 use Rattle.ledger_core.specs.LedgerFields.{LedgerFields, LedgerPartFields, newest}
-use Rattle.sets_core.specs.Sets.{all_inserted}
+use Rattle.ident_core.specs.Sets.{all_inserted}
 use Rattle.universe_core.specs.Jobs.{Job, facts_of}
 use Rattle.universe_core.specs.History.{Past, Release, class_of, if_accepted, shown, accepted_with, accepted_by, past_of}
 use Rattle.universe_core.specs.Ledgers.{past_in, ledger_of}

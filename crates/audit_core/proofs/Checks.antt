@@ -5,7 +5,7 @@ use Rattle.std.proofs.Common.{◌≡◌, ◌⊎◌, ℕ, zero, suc, ◌+◌, ◌
 use Rattle.card_core.specs.PartFields.{PartFields}
 use Rattle.card_core.specs.declared.verdict.Verdict.{Verdict}
 use Rattle.log_core.specs.declared.Entry.{Entry}
-use Rattle.sets_core.proofs.Elements.{some_item}
+use Rattle.ident_core.proofs.Elements.{some_item}
 use Rattle.audit_core.specs.declared.checking.Agreement.TheVariants as agreements
 use Rattle.audit_core.specs.Checking.{agreement_by, agreement_of, IsFine, AreFine, is_told}
 

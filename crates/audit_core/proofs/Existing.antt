@@ -8,7 +8,7 @@ use Rattle.card_core.specs.PartFields.{PartFields}
 use Rattle.card_core.specs.Verdict.{verdict}
 use Rattle.log_core.specs.declared.Entry.{Entry}
 use Rattle.job_core.specs.JobFields.{JobFields}
-use Rattle.sets_core.proofs.Elements.{some_item}
+use Rattle.ident_core.proofs.Elements.{some_item}
 use Rattle.universe_core.specs.Jobs.{facts_of}
 use Rattle.universe_core.specs.History.{past_of, class_of, seen, is_listed}
 use Rattle.universe_core.specs.Ledgers.{ledger_of}

@@ -10,8 +10,8 @@ use Rattle.card_core.specs.PartFields.{PartFields}
 use Rattle.card_core.specs.Verdict.{verdict}
 use Rattle.log_core.specs.declared.Entry.{Entry}
 use Rattle.job_core.specs.JobFields.{JobFields}
-use Rattle.sets_core.specs.Among.{Among}
-use Rattle.sets_core.proofs.Elements.{Among-cases}
+use Rattle.ident_core.specs.Among.{Among}
+use Rattle.ident_core.proofs.Elements.{Among-cases}
 use Rattle.universe_core.specs.Jobs.{facts_of}
 use Rattle.universe_core.specs.History.{class_by, class_of, past_of, seen, sightings, shown, is_listed, accepted_by}
 use Rattle.universe_core.specs.Ledgers.{no_ledger, ledger_of}
@@ -23,7 +23,6 @@ use Rattle.history_core.proofs.Sightings.{Among-sightings}
 use Rattle.audit_core.specs.declared.auditing.Audited.{Audited}
 use Rattle.audit_core.specs.declared.fault.AuditFault.{AuditFault}
 use Rattle.audit_core.specs.declared.fault.AuditFault.TheVariants as faults
-use Rattle.audit_core.specs.Admitting.{IsRefusal}
 use Rattle.audit_core.specs.Auditing.{releases_of, AreAdmitted, IsAccepted, Agrees, AllAgree, IsDisagreement, IsFound}
 use Rattle.audit_core.specs.Checking.{truth_by, IsFirstIn}
 use Rattle.audit_core.proofs.Lists.{at_place, place_of}
@@ -50,12 +49,6 @@ disagreement_found parts jobs a (faults.OldEpoch j held given) d = absurd d
 disagreement_found parts jobs a (faults.CoverageShrinks j log) d = absurd d
 disagreement_found parts jobs a (faults.Disagrees j n held listed) d = (a, d)
 disagreement_found parts jobs a faults.NoMemory d = absurd d
-
-pub refusal_found : (parts : List PartFields) (jobs : List JobFields) (e : AuditFault) → IsRefusal jobs e → IsFound parts jobs (Err e)
-refusal_found parts jobs (faults.OldEpoch j held given) r = r
-refusal_found parts jobs (faults.CoverageShrinks j log) r = r
-refusal_found parts jobs (faults.Disagrees j n held listed) r = absurd r
-refusal_found parts jobs faults.NoMemory r = tt
 
 -- ---- no job
 

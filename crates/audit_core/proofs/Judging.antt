@@ -12,8 +12,8 @@ use Rattle.card_core.specs.Verdict.{verdict}
 use Rattle.log_core.specs.declared.Entry.{Entry}
 use Rattle.job_core.specs.JobFields.{JobFields}
 use Rattle.ledger_core.specs.LedgerFields.{LedgerPartFields, LedgerFields}
-use Rattle.sets_core.specs.Among.{Among}
-use Rattle.sets_core.proofs.Elements.{Among-from_place, some_item}
+use Rattle.ident_core.specs.Among.{Among}
+use Rattle.ident_core.proofs.Elements.{Among-from_place, some_item}
 use Rattle.universe_core.specs.Jobs.{facts_of}
 use Rattle.universe_core.specs.History.{Release, class_by, class_of, if_accepted, is_listed, past_of, seen, shown}
 use Rattle.universe_core.specs.Ledgers.{ledger_of, part_from}

@@ -13,8 +13,8 @@ use Rattle.ident_core.specs.declared.identity.Identity.{Identity}
 use Rattle.ident_core.specs.Order.{identity_cmp, is_same}
 use Rattle.ledger_core.specs.declared.fields.LedgerItem.{LedgerItem}
 use Rattle.ledger_core.specs.LedgerFields.{ids}
-use Rattle.sets_core.proofs.Keyed.{get_map}
-use Rattle.sets_core.proofs.Sets.{identity_total}
+use Rattle.ident_core.proofs.Keyed.{get_map}
+use Rattle.ident_core.proofs.Sets.{identity_total}
 use Rattle.universe_core.proofs.Searching.{bare_item, found, missed, find_at, find_none}
 
 -- the identity can only stand from low up to high

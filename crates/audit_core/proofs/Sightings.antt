@@ -10,8 +10,8 @@ use Rattle.card_core.specs.PartFields.{PartFields}
 use Rattle.card_core.specs.Consulting.{consulted, covers_some}
 use Rattle.card_core.specs.declared.verdict.Verdict.TheVariants.{Good, Revoked}
 use Rattle.card_core.specs.Verdict.{covering, answers, by_answers, by_covering, verdict}
-use Rattle.sets_core.specs.Among.{Among}
-use Rattle.sets_core.proofs.Elements.{Among-filter, Among-in_filter, Among-filter_map, Among-in_filter_map, found, any_at}
+use Rattle.ident_core.specs.Among.{Among}
+use Rattle.ident_core.proofs.Elements.{Among-filter, Among-in_filter, Among-filter_map, Among-in_filter_map, found, any_at}
 
 -- ---- answers
 

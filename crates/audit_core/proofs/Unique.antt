@@ -8,7 +8,7 @@ use Rattle.card_core.specs.declared.verdict.Verdict.{Verdict}
 use Rattle.card_core.specs.Verdict.{verdict}
 use Rattle.log_core.specs.declared.Entry.{Entry}
 use Rattle.job_core.specs.JobFields.{JobFields}
-use Rattle.sets_core.proofs.Elements.{some_item}
+use Rattle.ident_core.proofs.Elements.{some_item}
 use Rattle.universe_core.specs.History.{is_listed}
 use Rattle.universe_core.specs.declared.fault.AdmitFault.{AdmitFault}
 use Rattle.universe_core.specs.declared.fault.AdmitFault.TheVariants as admission

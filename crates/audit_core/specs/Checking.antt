@@ -7,7 +7,7 @@ use Rattle.card_core.specs.declared.verdict.Verdict.TheVariants.{Good, Revoked}
 use Rattle.card_core.specs.Verdict.{verdict}
 use Rattle.log_core.specs.declared.Entry.{Entry}
 use Rattle.ledger_core.specs.LedgerFields.{LedgerPartFields, LedgerFields}
-use Rattle.sets_core.specs.Sets.{has_key}
+use Rattle.ident_core.specs.Sets.{has_key}
 use Rattle.universe_core.specs.Ledgers.{past_in}
 use Rattle.job_core.specs.JobFields.{JobFields}
 use Rattle.universe_core.specs.History.{is_listed}

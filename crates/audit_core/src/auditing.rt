@@ -5,7 +5,7 @@ ghost use Rattle.ident_core.specs.declared.bounds.TheConstants.{MAX_IDENTITIES, 
 ghost use Rattle.ident_core.specs.declared.identity.Identity.{Identity};
 ghost use Rattle.ident_core.specs.declared.range.Sighting.{Sighting};
 ghost use Rattle.card_core.specs.Verdict.{verdict};
-ghost use Rattle.sets_core.specs.Among.{Among};
+ghost use Rattle.ident_core.specs.Among.{Among};
 ghost use Rattle.universe_core.specs.History.{seen, sightings};
 ghost use Rattle.universe_core.specs.Ledgers.{ledger_of};
 ghost use Rattle.history_core.specs.Truth.{truth};

@@ -6,7 +6,7 @@ ghost use Rattle.card_core.specs.PartFields.{PartFields};
 ghost use Rattle.card_core.specs.declared.verdict.Verdict.TheVariants.{Good, Revoked};
 ghost use Rattle.card_core.specs.Verdict.{verdict};
 ghost use Rattle.job_core.specs.JobFields.{JobFields};
-ghost use Rattle.sets_core.specs.Among.{Among};
+ghost use Rattle.ident_core.specs.Among.{Among};
 ghost use Rattle.universe_core.specs.History.{seen, sightings};
 ghost use Rattle.history_core.specs.Truth.{truth};
 ghost use Rattle.audit_core.specs.declared.auditing.Audited.{Audited};

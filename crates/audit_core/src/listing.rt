@@ -8,9 +8,9 @@ ghost use Rattle.universe_core.specs.Ledgers.{birth_or, last_or_none, lacked_by}
 ghost use Rattle.audit_core.specs.Checking.{is_seen, listing as listing_of};
 
 use crate::searching::item_of;
+use ident_core::{covers_sorted, holds_key};
 use ledger_core::{Ledger, LedgerItem, LedgerPart};
 use log_core::Entry;
-use sets_core::{covers_sorted, holds_key};
 
 /// Whether a part covers the entry and enrolls its issuer.
 fn sees(part: &LedgerPart, entry: &Entry) -> bool

@@ -14,8 +14,8 @@ use Rattle.job_core.specs.declared.bounds.Limits.{Limits}
 use Rattle.job_core.specs.declared.bounds.What.TheVariants as what
 use Rattle.job_core.specs.JobFields.{JobFields}
 use Rattle.ledger_core.specs.LedgerFields.{LedgerFields, newest}
-use Rattle.sets_core.proofs.Runs.{other_issuer}
-use Rattle.sets_core.proofs.Sets.{bytes_same, bytes_refl}
+use Rattle.ident_core.proofs.Runs.{other_issuer}
+use Rattle.ident_core.proofs.Sets.{bytes_same, bytes_refl}
 use Rattle.universe_core.specs.declared.fault.AdmitFault.{AdmitFault}
 use Rattle.universe_core.specs.declared.fault.AdmitFault.TheVariants as faults
 use Rattle.universe_core.specs.Jobs.{Job, facts_of, enrolled}

@@ -36,14 +36,6 @@ module _ (p : Identity → Bool) where
   members_more : (xs : List Identity) (i : ℕ) (d : Identity) → i < length xs → filter p (take (i + 1) xs) ≡ filter p (take i xs) ++ cond (p (get_or xs i d)) (get_or xs i d ∷ []) []
   members_more xs i d lt = ap (filter p) (take_more xs i d lt) ∙ filter-append p (take i xs) (get_or xs i d ∷ [])
 
-pub none_drawn : (shift : ℕ) (xs : List Identity) → shift ≡ 0 → [] ≡ shards_in shift xs
-none_drawn zero xs e = refl
-none_drawn (suc s) xs e = absurd (omega (arith, e))
-
-pub all_drawn : (shift : ℕ) (xs : List Identity) (ss : List ℕ) → (shift ≡ 0 → ⊥) → ss ≡ map (λ x. shard x shift) xs → ss ≡ shards_in shift xs
-all_drawn zero xs ss some is = absurd (some refl)
-all_drawn (suc s) xs ss some is = is
-
 -- the shard that was drawn for an identity
 drawn_at : (shift : ℕ) (xs : List Identity) (ss : List ℕ) (i : ℕ) (d : ℕ) (x : Identity) → 1 ≤ shift → ss ≡ shards_in shift xs → i < length xs
     → get_or ss i d ≡ shard (get_or xs i x) shift

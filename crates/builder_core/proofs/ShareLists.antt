@@ -24,12 +24,6 @@ module _ {X : Type 0} (gives : ℕ → X → Type 0) where
     each = λ k o f. each_of from xs ys a.each (λ j r g. subst (λ (n : ℕ). gives (n + j) r) (sym a.count) (b.each j r g)) k o (subst (λ (l : List X). slice_get l k ≡ Some o) e f);
   }
 
-  pub none_shared : (from : ℕ) (xs : List X) → xs ≡ [] → IsShare gives from from xs
-  none_shared from xs e = record {
-    count = omega (arith, ap length e);
-    each = λ k o f. absurd (nothing xs k o e f);
-  }
-
   the_one : (at : ℕ) (x : X) → gives at x → (k : ℕ) (o : X) → slice_get (x ∷ []) k ≡ Some o → gives (at + k) o
   the_one at x h zero o e = let same : x ≡ o = cc in subst (λ (n : ℕ). gives n o) (omega arith) (subst (gives at) same h)
   the_one at x h (suc k) o e = absurd (nothing [] k o refl e)

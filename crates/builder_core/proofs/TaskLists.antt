@@ -71,12 +71,6 @@ cut_more format groups i g cuts more c lt is so_far one e =
     ∙ ap (λ (l : List TaskFields). tasks_in format (map group_fields (take i groups)) ++ l) one
     ∙ sym (flat_map_behind (tasks_of format) (map group_fields (take i groups)) (map group_fields (take (i + 1) groups)) (group_fields g) taken)
 
-pub tasks_more : (cuts : List Cut) (i : ℕ) (c : Cut) (old new : List TaskFields) → i < length cuts → c ≡ get_or cuts i c
-    → old ≡ flat_map tasks_of_cut (take i cuts) → new ≡ old ++ tasks_of_cut c → new ≡ flat_map tasks_of_cut (take (i + 1) cuts)
-tasks_more cuts i c old new lt is so_far e =
-    let taken : take (i + 1) cuts ≡ take i cuts ++ (c ∷ []) = take_more cuts i c lt ∙ ap (λ (x : Cut). take i cuts ++ (x ∷ [])) (sym is) in
-    e ∙ ap (λ (l : List TaskFields). l ++ tasks_of_cut c) so_far ∙ sym (flat_map_behind tasks_of_cut (take i cuts) (take (i + 1) cuts) c taken)
-
 -- ---- how many there are
 
 greatest_step : (s n : ℕ) (b : Bool) → greatest_shift s n ≤ s → cond b (suc s) (greatest_shift s n) ≤ suc s

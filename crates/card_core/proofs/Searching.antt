@@ -24,11 +24,6 @@ pub record Halving (n before now low high : ℕ) : Type 0 where
   pub room : 2 ^ (now - before) * (high - low) ≤ n
   pub few : 2 ^ (now - before) ≤ 2 * n + 1
 
-pub halving_begun : (n now : ℕ) → Halving n now now 0 n
-halving_begun n now =
-    let z : now - now ≡ 0 = omega arith in
-    record { later = omega arith; order = omega arith; within = omega arith; room = rw z (omega arith); few = rw z (omega arith) }
-
 double : (before now : ℕ) → before ≤ now → 2 ^ (now + 1 - before) ≡ 2 * 2 ^ (now - before)
 double before now le =
     let e : now + 1 - before ≡ suc (now - before) = omega arith in
@@ -71,9 +66,6 @@ equal_bytes a b e = sym (is_eq-slice_cmp a b) ∙ ap is_eq e
 pub record Missed (blocks : List Block) (issuer : List ℕ) (low high : ℕ) : Type 0 where
   pub below : (k : ℕ) (d : Block) → k < low → bytes_eq (get_or blocks k d).issuer issuer ≡ false
   pub above : (k : ℕ) (d : Block) → high ≤ k → k < length blocks → bytes_eq (get_or blocks k d).issuer issuer ≡ false
-
-pub missed_begun : (blocks : List Block) (issuer : List ℕ) → Missed blocks issuer 0 (length blocks)
-missed_begun blocks issuer = record { below = λ k d lt. absurd (omega arith); above = λ k d le lt. absurd (omega arith) }
 
 module _ (blocks : List Block) (issuer : List ℕ) (sorted : IsStrictlySortedBy block_cmp blocks) (low high middle : ℕ) (b : Block)
     (within : middle < length blocks) (is : b ≡ get_or blocks middle b) (m : Missed blocks issuer low high) where

@@ -6,9 +6,8 @@ ghost use Rattle.card_core.specs.Consulting.{IsPlaceOf, consulted, covers_some};
 
 use crate::block::Block;
 use equation_core::EquationHash;
-use ident_core::{Head, Identity, Range, Sighting};
+use ident_core::{Head, Identity, Range, Sighting, covers_sorted};
 use octets_core::{Key32, Steps};
-use sets_core::covers_sorted;
 use std::cmp::Ordering;
 use std::marker::Model;
 use std::sync::ledger::Ledger;

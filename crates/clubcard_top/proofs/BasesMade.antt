@@ -12,9 +12,9 @@ use Rattle.part_text.specs.SealedFields.{SealedFields}
 use Rattle.part_text.specs.PartText.{spelling}
 use Rattle.ledger_core.specs.LedgerFields.{LedgerFields}
 use Rattle.ledger_core.specs.LedgerText.{ledger_text}
-use Rattle.sets_core.specs.Among.{Among}
-use Rattle.sets_core.specs.Sets.{has, has_key}
-use Rattle.sets_core.proofs.Elements.{Among-in_map, any_at}
+use Rattle.ident_core.specs.Among.{Among}
+use Rattle.ident_core.specs.Sets.{has, has_key}
+use Rattle.ident_core.proofs.Elements.{Among-in_map, any_at}
 use Rattle.universe_core.specs.History.{Release, seen, sightings, is_listed}
 use Rattle.universe_core.specs.Ledgers.{ledger_of}
 use Rattle.history_core.specs.Bases.{kept_by, base_with, base_head, releases_without, is_lasting_by, newest_epoch}

@@ -15,8 +15,8 @@ use Rattle.sct_core.proofs.SightingLaws.{sightings-read}
 use Rattle.card_core.specs.PartFields.{PartFields}
 use Rattle.card_core.specs.Consulting.{covers_some}
 use Rattle.part_text.specs.SealedFields.{SealedFields}
-use Rattle.sets_core.specs.Among.{Among}
-use Rattle.sets_core.proofs.Elements.{Among-filter, Among-in_filter, Among-map, found, any_at, bool_same}
+use Rattle.ident_core.specs.Among.{Among}
+use Rattle.ident_core.proofs.Elements.{Among-filter, Among-in_filter, Among-map, found, any_at, bool_same}
 use Rattle.universe_core.specs.History.{seen, sightings}
 use Rattle.card_core.specs.Verdict.{by_covering, verdict}
 use Rattle.publication_core.specs.Histories.{History, IsHistory, releases_of}

@@ -16,7 +16,7 @@ use Rattle.command_core.specs.Commands.{Makes}
 use Rattle.command_core.specs.Replies.{usage, read_fault, write_fault, refusal, reply_of, IsReplyOver, SaysWhich, IsReply}
 use Rattle.command_core.specs.Runs.{IsTorn, KeepsAllBut, with_outputs}
 use Rattle.outside_core.specs.Reads.{CouldNotRead}
-use Rattle.sets_core.specs.Among.{Among}
+use Rattle.ident_core.specs.Among.{Among}
 use Rattle.clubcard_top.specs.Calls.{Call, ChangesNoFile, Prints}
 use Rattle.clubcard_top.specs.Endings.{Gives, PrintsOrFails, Sent, Torn, SentOrTorn, Ends}
 use Rattle.command_core.proofs.Outputs.{names_of, keeps-same, keeps-written, keeps-torn, none-torn, none-written}

@@ -24,7 +24,7 @@ use Rattle.ledger_core.specs.LedgerFields.{LedgerFields}
 use Rattle.ledger_core.specs.LedgerText.{ledger_text}
 use Rattle.ledger_core.specs.LedgerReading.{ledger_of as ledger_of_bytes}
 use Rattle.ledger_core.specs.declared.fault.LedgerFault.{LedgerFault}
-use Rattle.sets_core.specs.Among.{Among}
+use Rattle.ident_core.specs.Among.{Among}
 use Rattle.universe_core.specs.Formats.{in_format}
 use Rattle.universe_core.specs.Jobs.{facts_of}
 use Rattle.universe_core.specs.History.{past_of, seen, sightings}

@@ -6,7 +6,7 @@ use Rattle.ident_core.specs.declared.range.Sighting.{Sighting}
 use Rattle.input_core.specs.Queries.{Query}
 use Rattle.job_core.specs.JobFields.{JobFields}
 use Rattle.card_core.specs.declared.verdict.Verdict.TheVariants.{NotEnrolled}
-use Rattle.sets_core.specs.Among.{Among}
+use Rattle.ident_core.specs.Among.{Among}
 use Rattle.universe_core.specs.Formats.{in_format}
 use Rattle.universe_core.specs.Jobs.{Entry}
 use Rattle.universe_core.specs.History.{seen}

@@ -21,7 +21,7 @@ use Rattle.ledger_core.specs.LedgerFields.{LedgerFields}
 use Rattle.part_text.specs.SealedFields.{SealedFields}
 use Rattle.universe_core.specs.Ledgers.{no_ledger}
 use Rattle.store_core.specs.declared.chain.Refusal.{Refusal}
-use Rattle.store_core.specs.Chain.{newest_of, refusal_of}
+use Rattle.store_core.specs.Chain.{refusal_of}
 use Rattle.publication_core.specs.declared.fault.PublishFault.{PublishFault}
 use Rattle.publication_core.specs.Publishing.{PublicationFields as Publication, CanBePublished, Publishes}
 use Rattle.publication_core.specs.declared.base_fault.BaseFault.{BaseFault}
@@ -113,11 +113,6 @@ room_ok : (job : List ℕ) (before : ℕ) (page few : List PageFields) → room_
 room_ok job before page few h = room_ok_by job page few (nat_le (before + length page) limits.PUBLISHED.entries) h
 
 -- ---- parts of stores
-
-pub newest_last : (parts : List SealedFields) (s : SealedFields) → newest_of (parts ++ s ∷ []) ≡ Some s
-newest_last [] s = refl
-newest_last (p ∷ []) s = refl
-newest_last (p ∷ q ∷ parts) s = newest_last (q ∷ parts) s
 
 begun_ok : (s : SealedFields) (k : Kind) (parts : List SealedFields) → begun_by s k ≡ Ok parts → (k ≡ kinds.Snapshot)
     × (parts ≡ s ∷ [])

@@ -17,10 +17,10 @@ use Rattle.job_core.specs.declared.bounds.TheConstants.Limits as limits
 use Rattle.job_core.specs.JobFields.{JobFields}
 use Rattle.job_core.specs.JobFacts.{FitsFields}
 use Rattle.job_core.specs.JobLayout.{job_of}
-use Rattle.sets_core.specs.Among.{Among}
+use Rattle.ident_core.specs.Among.{Among}
 use Rattle.universe_core.specs.Formats.{in_format}
 use Rattle.universe_core.specs.Jobs.{Entry, is_enrolled, facts_of}
-use Rattle.sets_core.specs.Sets.{has, has_key}
+use Rattle.ident_core.specs.Sets.{has, has_key}
 use Rattle.universe_core.specs.History.{Release, seen, sightings}
 use Rattle.universe_core.specs.Counting.{counts}
 use Rattle.history_core.specs.Bases.{kept_by, releases_without, is_lasting_by, newest_epoch}

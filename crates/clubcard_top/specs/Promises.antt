@@ -13,7 +13,7 @@ use Rattle.ledger_core.specs.LedgerFields.{LedgerFields}
 use Rattle.universe_core.specs.Formats.{in_format}
 use Rattle.universe_core.specs.Jobs.{Entry}
 use Rattle.universe_core.specs.Ledgers.{no_ledger}
-use Rattle.sets_core.specs.Among.{Among}
+use Rattle.ident_core.specs.Among.{Among}
 use Rattle.store_core.specs.Chain.{refusal_of}
 use Rattle.card_core.specs.declared.verdict.Verdict.TheVariants.{NotEnrolled}
 use Rattle.universe_core.specs.History.{seen}

@@ -7,7 +7,7 @@ use Rattle.card_core.specs.Verdict.{verdict}
 use Rattle.part_text.specs.SealedFields.{SealedFields}
 use Rattle.gather_core.specs.Pages.{PageFields}
 use Rattle.job_core.specs.JobFields.{JobFields}
-use Rattle.sets_core.specs.Among.{Among}
+use Rattle.ident_core.specs.Among.{Among}
 use Rattle.universe_core.specs.History.{seen, sightings}
 use Rattle.history_core.specs.Truth.{truth}
 use Rattle.audit_core.specs.Auditing.{releases_of as audited_releases}

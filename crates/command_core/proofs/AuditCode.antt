@@ -81,14 +81,6 @@ left_more names jobs i job lt many is none left =
     ∙ ap (λ (o : Option FileFault). option_or (option_map (λ (f : FileFault). record { name = get_or names i []; fault = f }) o)
     (bad_crl (drop (i + 1) names) (map fields_of_job (drop (i + 1) jobs)))) (sym none)
 
-pub left_found : (names : List (List ℕ)) (jobs : List Job) (i : ℕ) (name : List ℕ) (job : Job) (fault : FileFault) → i < length jobs → length jobs ≡ length names → job ≡ get_or jobs i job
-    → name ≡ get_or names i name → Some fault ≡ bad_crl_in (fields_of_job job) → BadLeft names jobs i
-    → Some (record { name = name; fault = fault }) ≡ bad_crl names (map fields_of_job jobs)
-left_found names jobs i name job fault lt many is at some left =
-    sym (left ∙ left_at names jobs i name job lt many is at
-    ∙ ap (λ (o : Option FileFault). option_or (option_map (λ (f : FileFault). record { name = name; fault = f }) o)
-    (bad_crl (drop (i + 1) names) (map fields_of_job (drop (i + 1) jobs)))) (sym some))
-
 -- ---- what an audit asks for, and says
 
 pub auditable : (jobs : List JobFields) → AreCounted jobs → AreAccepted jobs → All IsAuditable jobs

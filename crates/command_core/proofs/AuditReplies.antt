@@ -26,7 +26,7 @@ use Rattle.command_core.specs.Answering.{reply_fields}
 use Rattle.outside_core.proofs.Effects.{WhichFailed-then}
 use Rattle.input_core.proofs.FilesRead.{later_read, none_failed, blamed_later}
 use Rattle.command_core.proofs.AuditsMade.{behind_next, behind_stop}
-use Rattle.command_core.proofs.Fronts.{no_inputs, ahead, these, ahead_push, nothing, later_reads, some_reads, Front, no_front, from_place, is_among, front_more, read_on, front_all}
+use Rattle.command_core.proofs.Fronts.{no_inputs, ahead, these, ahead_push, nothing, later_reads, some_reads, Front, from_place, is_among, front_more, read_on, front_all}
 use Rattle.command_core.proofs.Replying.{read_well, blames_file, says_wider, made, made_unless}
 
 -- ---- the first files
@@ -38,13 +38,6 @@ pub record Gone (told : Option Files) (names : List (List ℕ)) (i : ℕ) (jobs 
   pub next : (rest : Inputs) → jobs_behind [] names (ahead front.inputs rest) ≡ jobs_behind jobs (drop i names) rest
 
 module _ (told : Option Files) (names : List (List ℕ)) where
-  pub none_gone : (jobs : List JobFields) → jobs ≡ [] → Gone told names 0 jobs
-  none_gone jobs none = record {
-    front = no_front told names;
-    many = ap (λ (l : List JobFields). length l) none;
-    next = λ rest. ap (λ (l : List JobFields). jobs_behind l names rest) (sym none);
-  }
-
   -- the file at a place, behind the first ones
   module _ (here : Option (List ℕ) → Type 0) (mid : Option Files) (same : mid ≡ told) (i : ℕ) (name : List ℕ)
       (lt : i < length names) (is : name ≡ get_or names i name) (jobs : List JobFields) (gone : Gone told names i jobs) where

@@ -1,13 +1,13 @@
 -- What comes of the files of an audit: which jobs they hold, and what is wrong with them.
-use Rattle.std.proofs.Common.{◌≡◌, ℕ, suc, ◌+◌, ◌<◌, ◌≤◌, Bool, true, false, List, [], ◌∷◌, ◌++◌, map, length, append_assoc, Option, Some, None, Result, Ok}
+use Rattle.std.proofs.Common.{◌≡◌, ℕ, suc, ◌+◌, ◌≤◌, Bool, true, false, List, [], ◌∷◌, ◌++◌, map, length, append_assoc, Option, Some, None, Result, Ok}
 use Rattle.std.proofs.Common.{Err, refl, sym, ap, ◌∙◌, subst, arith}
 use Rattle.std.specs.Prelude.{All, IsOk, nat_lt, if◌then◌else◌}
 use Rattle.std.specs.Option.{option_map, option_or}
-use Rattle.std.proofs.lemmas.Bool.{le-ltb, lt-ltb}
+use Rattle.std.proofs.lemmas.Bool.{le-ltb}
 use Rattle.std.proofs.lemmas.Bool.Decides.{nat_tests}
 use Rattle.std.proofs.lemmas.List.{append-nil}
 use Rattle.std.proofs.lemmas.List.Elements.{All-nil, All-cons, All-head, All-tail}
-use Rattle.std.proofs.lemmas.List.Sums.{sum_by-append, sum_by_push}
+use Rattle.std.proofs.lemmas.List.Sums.{sum_by-append}
 use Rattle.part_text.specs.SealedFields.{SealedFields}
 use Rattle.crl_core.specs.declared.crl.CrlFault.{CrlFault}
 use Rattle.crl_core.specs.Outcome.{CrlFields}
@@ -45,12 +45,6 @@ too_many_entries = faults.TooMany what.Entries PUBLISHED.entries
 abbrev too_many_serials : FileFault
 too_many_serials = faults.TooMany what.Serials PUBLISHED.serials
 
-pub entries_push : (jobs : List JobFields) (job : JobFields) → entries_of (jobs ++ job ∷ []) ≡ entries_of jobs + length job.entries
-entries_push jobs job = sum_by_push (λ (j : JobFields). length j.entries) jobs job
-
-pub serials_push : (jobs : List JobFields) (job : JobFields) → serials_of (jobs ++ job ∷ []) ≡ serials_of jobs + kept_in job.crls
-serials_push jobs job = sum_by_push (λ (j : JobFields). kept_in j.crls) jobs job
-
 entries_both : (a b : List JobFields) → entries_of (a ++ b) ≡ entries_of a + entries_of b
 entries_both a b = sum_by-append (λ (j : JobFields). length j.entries) a b
 
@@ -59,12 +53,6 @@ serials_both a b = sum_by-append (λ (j : JobFields). kept_in j.crls) a b
 
 pub none_passed : (jobs : List JobFields) → entries_of jobs ≤ PUBLISHED.entries → serials_of jobs ≤ PUBLISHED.serials → passed jobs ≡ None
 none_passed jobs e s = rw (le-ltb PUBLISHED.entries (entries_of jobs) e, le-ltb PUBLISHED.serials (serials_of jobs) s) refl
-
-pub entries_passed : (jobs : List JobFields) → PUBLISHED.entries < entries_of jobs → passed jobs ≡ Some too_many_entries
-entries_passed jobs e = rw (lt-ltb PUBLISHED.entries (entries_of jobs) e) refl
-
-pub serials_passed : (jobs : List JobFields) → entries_of jobs ≤ PUBLISHED.entries → PUBLISHED.serials < serials_of jobs → passed jobs ≡ Some too_many_serials
-serials_passed jobs e s = rw (le-ltb PUBLISHED.entries (entries_of jobs) e, lt-ltb PUBLISHED.serials (serials_of jobs) s) refl
 
 not_past : (limit n : ℕ) → nat_lt limit n ≡ false → n ≤ limit
 not_past limit n h = grind (arith, nat_tests)
@@ -106,18 +94,6 @@ pub behind_within : (before : List JobFields) (given : Option (List ℕ)) (job :
     → input_as (job_behind before) given ≡ Ok job
 behind_within before None job h none = absurd (not_ok job faults.Unread h)
 behind_within before (Some bytes) job h none = ap (counted before) h ∙ ap (λ (o : Option FileFault). unless o job) none
-
-pub behind_past : (before : List JobFields) (given : Option (List ℕ)) (job : JobFields) (fault : FileFault) → input_as job_in given ≡ Ok job → passed (before ++ job ∷ []) ≡ Some fault
-    → input_as (job_behind before) given ≡ Err fault
-behind_past before None job fault h past = absurd (not_ok job faults.Unread h)
-behind_past before (Some bytes) job fault h past = ap (counted before) h ∙ ap (λ (o : Option FileFault). unless o job) past
-
-pub behind_fault : (before : List JobFields) (given : Option (List ℕ)) (fault : FileFault) → input_as job_in given ≡ Err fault → input_as (job_behind before) given ≡ Err fault
-behind_fault before None fault h = ap (λ (f : FileFault). Err f) (unread_is fault h)
-  where
-    unread_is : (f : FileFault) → ◌≡◌ {A = Result JobFields FileFault} (Err faults.Unread) (Err f) → faults.Unread ≡ f
-    unread_is f e = cc
-behind_fault before (Some bytes) fault h = ap (counted before) h
 
 -- one file more is read
 pub behind_next : (before : List JobFields) (name : List ℕ) (names : List (List ℕ)) (inputs : Inputs) (job : JobFields)

@@ -3,7 +3,7 @@ use Rattle.std.proofs.Common.{◌≡◌, ℕ, zero, suc, ◌+◌, ◌<◌, ◌�
 use Rattle.std.specs.List.{AllZip}
 use Rattle.std.proofs.lemmas.List.{append-nil, take_more, drop_more, take_all, take-append-drop}
 use Rattle.outside_core.specs.Files.{Files}
-use Rattle.sets_core.specs.Among.{Among}
+use Rattle.ident_core.specs.Among.{Among}
 use Rattle.input_core.specs.Inputs.{Inputs, rest_of, IsRead, AreRead}
 use Rattle.input_core.proofs.FilesRead.{some_read, later_read}
 

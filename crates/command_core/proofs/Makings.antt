@@ -5,7 +5,7 @@ use Rattle.octets_core.specs.Layout.{Layout, then_read, with_fault, mapped, whol
 use Rattle.octets_core.specs.Reading.{end, value_of, GivesUnless}
 use Rattle.octets_core.specs.declared.fault.LayoutFault.{LayoutFault}
 use Rattle.outside_core.specs.Files.{Files, IsMissing}
-use Rattle.sets_core.specs.Among.{Among}
+use Rattle.ident_core.specs.Among.{Among}
 use Rattle.part_text.specs.SealedFields.{SealedFields}
 use Rattle.part_text.specs.PartLayout.{part}
 use Rattle.part_text.specs.declared.fault.PartFault.{PartFault}

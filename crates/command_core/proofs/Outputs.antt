@@ -1,6 +1,6 @@
 -- Outputs that are written one after the other, and what is left of the other files.
 use Rattle.std.proofs.Common.{◌≡◌, ℕ, suc, ◌+◌, ◌<◌, inl, inr, List, [], ◌∷◌, ◌++◌, map, take, drop, get_or, length, append_assoc, Option, Some, None, Result}
-use Rattle.std.proofs.Common.{Ok, Err, ◌⊎◌, refl, sym, ap, subst, ◌∙◌, arith}
+use Rattle.std.proofs.Common.{Ok, Err, refl, sym, ap, subst, ◌∙◌, arith}
 use Rattle.std.specs.Prelude.{OnOk, OnErr}
 use Rattle.std.proofs.lemmas.List.{take-append-drop, take_more}
 use Rattle.outside_core.specs.Files.{Files, putting, extending, Torn}
@@ -92,11 +92,6 @@ pub left-torn : (told mid new : Option Files) (o : OutputFields) (r : Result (Un
     → OnErr r (IsLeft told new o)
 left-torn told mid new o (Ok x) begun torn = tt
 left-torn told mid new o (Err e) begun torn = inr (Torn-putting told new o.name o.bytes (subst (λ (t : Option Files). Torn t new o.name o.bytes) begun torn))
-
--- to begin it failed
-pub left-begun : (told new : Option Files) (o : OutputFields) → (new ≡ told) ⊎ (new ≡ putting told o.name []) → IsLeft told new o
-left-begun told new o (inl same) = inl same
-left-begun told new o (inr begun) = inr (0, omega arith, begun)
 
 -- ---- a text and its digest
 

@@ -13,8 +13,7 @@ use Rattle.gather_core.specs.Pages.{PageFields, fields_of}
 use Rattle.job_core.specs.declared.bounds.TheConstants.Limits as limits
 use Rattle.job_core.specs.declared.bounds.What.TheVariants as what
 use Rattle.job_core.specs.JobLayout.{EntryText}
-use Rattle.job_core.specs.JobText.{JobContents, spelling as job_text}
-use Rattle.line_core.specs.Lines.{gather_line}
+use Rattle.job_core.specs.JobText.{JobContents}
 use Rattle.gather_core.specs.declared.job.OpenJob.{OpenJob}
 use Rattle.gather_core.specs.Opened.{Opens}
 use Rattle.gather_core.specs.Raw.{with_entries, of_log}
@@ -214,15 +213,6 @@ full_as job page full k opens = let many = full k opens in omega (arith, many, l
 pub fewer-before : (told : Option Files) (failed : Option (List ℕ) → Type 0) (f : Gather) (j : JobContents) (before : ℕ) (job : OpenJob) → before ≡ length j.entries
     → IsGatheredFrom told failed f j job → before ≤ job.entries
 fewer-before told failed f j before job is n = omega (arith, is, n.opens.count, longer-size f j n.entries)
-
--- the lines and the output of a job that was closed
-pub closed_done : (f : Gather) (j : JobContents) (entries : List PageFields) (pages count size before : ℕ) (name text : List ℕ) (job : OpenJob)
-    → pages ≡ length f.pages → count + before ≡ job.entries → before ≡ length j.entries → Opens job (longer f j entries) → text ≡ job_text (longer f j entries) → size ≡ length text → name ≡ f.job
-    → record { status = 0; text = gather_line pages count size; outputs = record { name = name; bytes = text } ∷ [] } ≡ done (gather_done f j entries)
-closed_done f j entries pages count size before name text job pages_are counted before_is opens text_is size_is name_is =
-    let many : count ≡ length entries = omega (arith, counted, before_is, opens.count, longer-size f j entries) in
-    let long : size ≡ length (job_text (longer f j entries)) = size_is ∙ ap (λ (l : List ℕ). length l) text_is in
-    rw (pages_are, many, long, name_is, text_is) refl
 
 -- ---- the reply
 

@@ -6,7 +6,7 @@ use Rattle.octets_core.specs.Reading.{GivesUnless}
 use Rattle.outside_core.specs.declared.depot.Depot.{Ghosts}
 use Rattle.outside_core.specs.Effects.{OnlyReads}
 use Rattle.outside_core.specs.Files.{Files}
-use Rattle.sets_core.specs.Among.{Among}
+use Rattle.ident_core.specs.Among.{Among}
 use Rattle.part_text.specs.SealedFields.{SealedFields}
 use Rattle.job_core.specs.declared.bounds.TheConstants.Limits.{PUBLISHED}
 use Rattle.job_core.specs.JobFields.{JobFields}

@@ -6,7 +6,7 @@ use Rattle.outside_core.specs.Files.{Files}
 use Rattle.outside_core.specs.Reads.{CouldNotRead}
 use Rattle.outside_core.specs.Written.{followed_by}
 use Rattle.slot_core.specs.Disk.{HasFailed, Quiet}
-use Rattle.sets_core.specs.Among.{Among}
+use Rattle.ident_core.specs.Among.{Among}
 use Rattle.input_core.specs.declared.fault.FileFault.{FileFault}
 use Rattle.input_core.specs.declared.fault.FileFault.TheVariants as faults
 use Rattle.input_core.specs.Inputs.{IsRead}

@@ -14,7 +14,7 @@ use Rattle.store_core.specs.declared.fault.StoreFault.{StoreFault}
 use Rattle.store_core.specs.declared.fault.StoreFault.TheVariants as in_store
 use Rattle.store_core.specs.Chain.{refusal_of}
 use Rattle.store_core.specs.StoreLayout.{store, store_text}
-use Rattle.sets_core.specs.Among.{Among}
+use Rattle.ident_core.specs.Among.{Among}
 use Rattle.input_core.specs.declared.fault.FileFault.{FileFault}
 use Rattle.input_core.specs.declared.fault.FileFault.TheVariants as faults
 use Rattle.input_core.specs.Faults.{of_part, of_store}

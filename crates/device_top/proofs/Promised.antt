@@ -13,7 +13,7 @@ use Rattle.store_core.specs.Chain.{IsChain, refusal_of}
 use Rattle.store_core.specs.StoreLayout.{store, store_text}
 use Rattle.card_core.specs.Verdict.{verdict}
 use Rattle.slot_core.specs.Device.{IsDevice}
-use Rattle.sets_core.specs.Among.{Among}
+use Rattle.ident_core.specs.Among.{Among}
 use Rattle.universe_core.specs.History.{seen, sightings}
 use Rattle.publication_core.specs.Histories.{History, members, IsHistory, releases_of, store_bytes}
 use Rattle.publication_core.specs.Truth.{truth}

@@ -6,7 +6,7 @@ use Rattle.outside_core.specs.declared.depot.Depot as depots
 use Rattle.outside_core.specs.declared.sink.Sink as sinks
 use Rattle.outside_core.specs.Reads.{WhichFailed}
 use Rattle.slot_core.specs.Disk.{DiskState, HasFailed, Quiet}
-use Rattle.sets_core.specs.Among.{Among}
+use Rattle.ident_core.specs.Among.{Among}
 use Rattle.input_core.specs.declared.fault.FileFault.TheVariants as faults
 use Rattle.line_core.specs.Statuses as status
 use Rattle.word_core.specs.Devices.{device_command_of}

@@ -1,6 +1,6 @@
 -- What a disk holds behind a command, and what is answered.
 use Rattle.std.specs.Prelude.{◌≡◌, ◌≢◌, ◌⊎◌, ℕ, not, List, slice_index, Some, Ok, Err}
-use Rattle.sets_core.specs.Among.{Among}
+use Rattle.ident_core.specs.Among.{Among}
 use Rattle.slot_core.specs.Disk.{DiskState, HasFailed, Quiet, Within}
 use Rattle.slot_core.specs.Device.{IsDevice, picks_second}
 use Rattle.slot_core.specs.Fields.{Shows}

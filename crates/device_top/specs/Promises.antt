@@ -7,7 +7,7 @@ use Rattle.part_text.specs.SealedFields.{SealedFields}
 use Rattle.card_core.specs.Verdict.{verdict}
 use Rattle.slot_core.specs.Disk.{HasFailed, Quiet}
 use Rattle.slot_core.specs.Device.{IsDevice, picks_second}
-use Rattle.sets_core.specs.Among.{Among}
+use Rattle.ident_core.specs.Among.{Among}
 use Rattle.universe_core.specs.History.{seen, sightings}
 use Rattle.publication_core.specs.Histories.{History, members, IsHistory, releases_of, store_bytes}
 use Rattle.publication_core.specs.Truth.{truth}

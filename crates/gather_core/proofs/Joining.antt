@@ -2,7 +2,7 @@
 use Rattle.std.proofs.Common.{◌≡◌, ℕ, zero, suc, ◌+◌, ◌-◌, ◌≤◌, ◌<◌, List, [], ◌∷◌, ◌++◌, length, map, take, get_or, Ok, sym, ap, subst, ◌∙◌, append_assoc, length-append, arith}
 use Rattle.std.specs.Prelude.{All, flat_map}
 use Rattle.std.specs.Int.{w8, to_be_bytes}
-use Rattle.std.proofs.lemmas.List.{append-nil, take_more, map-append, length-map}
+use Rattle.std.proofs.lemmas.List.{length-map}
 use Rattle.std.proofs.lemmas.List.Elements.{All-append, All-nil, All-cons}
 use Rattle.std.proofs.lemmas.Grind.{flat_map-append}
 use Rattle.job_core.specs.declared.bounds.TheConstants.Limits as limits
@@ -80,33 +80,10 @@ put-all old new log entries n key fits room p all size j o = record {
   };
 }
 
-one-more : (log : List ℕ) (entries : List PageEntry) (n : ℕ) (e : PageEntry) → n < length entries → e ≡ get_or entries n e
-    → flat_map entry_record (texts log (take (n + 1) entries)) ≡ flat_map entry_record (texts log (take n entries)) ++ entry_record (of_log log (fields_of e))
-one-more log entries n e lt at =
-    let T : List PageEntry = take n entries in
-    ap (λ (l : List PageEntry). flat_map entry_record (texts log l)) (take_more entries n e lt)
-    ∙ ap (λ (l : List PageFields). flat_map entry_record (map (of_log log) l)) (map-append fields_of T (get_or entries n e ∷ []))
-    ∙ ap (λ (l : List EntryText). flat_map entry_record l) (map-append (of_log log) (map fields_of T) (fields_of (get_or entries n e) ∷ []))
-    ∙ flat_map-append entry_record (texts log T) (of_log log (fields_of (get_or entries n e)) ∷ [])
-    ∙ ap (λ (l : List ℕ). flat_map entry_record (texts log T) ++ l)
-    (append-nil (entry_record (of_log log (fields_of (get_or entries n e)))) ∙ ap (λ (x : PageEntry). entry_record (of_log log (fields_of x))) (sym at))
-
-pub put-more : (old mid new : OpenJob) (log : List ℕ) (entries : List PageEntry) (n : ℕ) (e : PageEntry) → n < length entries → e ≡ get_or entries n e → Put old mid log entries n
-    → new.text.items ≡ mid.text.items ++ entry_record (of_log log (fields_of e)) → new.entries ≡ mid.entries + 1 → Put old new log entries (n + 1)
-put-more old mid new log entries n e lt at p text count = record {
-  text = text ∙ ap (λ (l : List ℕ). l ++ entry_record (of_log log (fields_of e))) p.text
-      ∙ append_assoc old.text.items (flat_map entry_record (texts log (take n entries))) (entry_record (of_log log (fields_of e)))
-      ∙ ap (λ (l : List ℕ). old.text.items ++ l) (sym (one-more log entries n e lt at));
-  count = omega (arith, p.count, count);
-}
-
 pub fits-at : (entries : List PageEntry) (n : ℕ) (e : PageEntry) → All EntryFits (map fields_of entries) → n < length entries → e ≡ get_or entries n e → EntryFits (fields_of e)
 fits-at [] n e fits lt at = absurd (omega (arith, lt))
 fits-at (x ∷ xs) zero e fits lt at = subst (λ (y : PageEntry). EntryFits (fields_of y)) (sym at) (fits 0 (fields_of x) (omega arith))
 fits-at (x ∷ xs) (suc n) e fits lt at = fits-at xs n e (λ k d less. fits (suc k) d (omega (arith, less))) (omega (arith, lt)) at
-
-pub put-none : (old : OpenJob) (log : List ℕ) (entries : List PageEntry) → Put old old log entries 0
-put-none old log entries = record { text = sym (append-nil old.text.items); count = omega arith }
 
 -- the end of a text was taken off
 opens-popped : (bytes text : List ℕ) (size n : ℕ) (j : JobContents) → bytes ≡ spelling j → size ≡ length bytes → text ≡ take (size - 1) bytes → text ≡ opened_text j

@@ -8,11 +8,11 @@ use Rattle.std.proofs.lemmas.Cmp.{nat_list_cmp_total}
 use Rattle.ident_core.specs.declared.identity.Identity.{Identity}
 use Rattle.ident_core.specs.Order.{octets_cmp, identity_cmp}
 use Rattle.ident_core.specs.Coverage.{covers}
-use Rattle.sets_core.specs.Among.{Among}
-use Rattle.sets_core.specs.Sets.{has, has_key, key_set}
-use Rattle.sets_core.proofs.Elements.{Among-filter, Among-in_filter, Among-map, Among-in_map, Among-filter_map, Among-in_filter_map}
-use Rattle.sets_core.proofs.Sets.{Among-from_has, has-from_Among, Among-with_all, Among-in_with_all, identity_total}
-use Rattle.sets_core.proofs.Order.{sorted_all_inserted, sorted_none}
+use Rattle.ident_core.specs.Among.{Among}
+use Rattle.ident_core.specs.Sets.{has, has_key, key_set}
+use Rattle.ident_core.proofs.Elements.{Among-filter, Among-in_filter, Among-map, Among-in_map, Among-filter_map, Among-in_filter_map}
+use Rattle.ident_core.proofs.Sets.{Among-from_has, has-from_Among, Among-with_all, Among-in_with_all, identity_total}
+use Rattle.ident_core.proofs.Order.{sorted_all_inserted, sorted_none}
 use Rattle.universe_core.specs.Jobs.{Entry, Job, enrolled, lists, is_stale, crls_of}
 use Rattle.universe_core.specs.History.{Past, class_by, class_of, if_accepted, shown, sightings, accepted_with, universe, listed_now, is_revoked, revoked}
 use Rattle.universe_core.specs.declared.class.Class.{Class}

@@ -1,33 +1,18 @@
 -- The answers of the parts of a history are the truth.
-use Rattle.std.specs.List.{list_any, filter, filter_map, cons_option, AllZip}
-use Rattle.std.proofs.Common.{◌≡◌, inl, ⊎_elim, List, [], ◌∷◌, map, Bool, true, false, cond, Option, Some, None, refl, sym, ap, ◌∙◌}
+use Rattle.std.specs.List.{list_any, filter, filter_map, AllZip}
+use Rattle.std.proofs.Common.{◌≡◌, inl, ⊎_elim, List, [], ◌∷◌, Bool, true, Option, Some, None, refl, sym, ap, ◌∙◌}
 use Rattle.std.proofs.lemmas.Bool.{cases_Bool}
 use Rattle.ident_core.specs.declared.identity.Identity.{Identity}
 use Rattle.ident_core.specs.declared.range.Sighting.{Sighting}
 use Rattle.ident_core.specs.Coverage.{covers}
-use Rattle.sets_core.specs.Among.{Among}
-use Rattle.sets_core.specs.Sets.{has, has_key}
-use Rattle.sets_core.proofs.Elements.{Among-filter, Among-in_filter, Among-filter_map, Among-in_filter_map, found, any_at, zip_left, zip_right, bool_same}
+use Rattle.ident_core.specs.Among.{Among}
+use Rattle.ident_core.specs.Sets.{has, has_key}
+use Rattle.ident_core.proofs.Elements.{Among-filter, Among-in_filter, Among-filter_map, Among-in_filter_map, found, any_at, zip_left, zip_right, bool_same}
 use Rattle.universe_core.specs.History.{Release, sightings, seen, is_listed}
 use Rattle.history_core.specs.Facts.{IsSound}
 use Rattle.history_core.specs.Showing.{PartView, Shows, covers_some, answers_of}
 use Rattle.history_core.proofs.Sightings.{Among-sightings}
 use Rattle.history_core.proofs.Releases.{settled_parts}
-
--- ---- parts of another type, seen as views
-
-through_step : {A : Type 0} (view : A → PartView) (x : Identity) (p : A) (b : Bool) (viewed : List PartView) (parts : List A)
-    → filter_map (λ q. q.consulted x) viewed ≡ filter_map (λ a. (view a).consulted x) parts
-    → filter_map (λ q. q.consulted x) (cond b (view p ∷ viewed) viewed) ≡ filter_map (λ a. (view a).consulted x) (cond b (p ∷ parts) parts)
-through_step view x p true viewed parts h = ap (cons_option ((view p).consulted x)) h
-through_step view x p false viewed parts h = h
-
-pub answers_through : {A : Type 0} (view : A → PartView) (x : Identity) (ss : List Sighting) (parts : List A)
-    → answers_of x ss (map view parts) ≡ filter_map (λ a. (view a).consulted x) (filter (λ a. covers_some ss (view a)) parts)
-unfolding answers_of
-answers_through view x ss [] = refl
-answers_through view x ss (p ∷ parts) =
-    through_step view x p (covers_some ss (view p)) (filter (covers_some ss) (map view parts)) (filter (λ a. covers_some ss (view a)) parts) (answers_through view x ss parts)
 
 -- ---- the answers
 

@@ -3,8 +3,8 @@ use Rattle.std.specs.List.{AllZip}
 use Rattle.std.proofs.Common.{◌≡◌, ℕ, List, [], ◌∷◌, Bool, true, Some, sym, ap, ◌∙◌, subst}
 use Rattle.ident_core.specs.declared.identity.Identity.{Identity}
 use Rattle.ident_core.specs.declared.range.Sighting.{Sighting}
-use Rattle.sets_core.specs.Among.{Among}
-use Rattle.sets_core.specs.Sets.{has}
+use Rattle.ident_core.specs.Among.{Among}
+use Rattle.ident_core.specs.Sets.{has}
 use Rattle.universe_core.specs.History.{Release, seen, sightings, is_listed}
 use Rattle.history_core.specs.Facts.{IsSound}
 use Rattle.history_core.specs.Showing.{PartView, Shows, answers_of, said}

@@ -8,9 +8,9 @@ use Rattle.ident_core.specs.declared.kind.Kind.TheVariants as kinds
 use Rattle.ident_core.specs.HeadFields.{zero_key}
 use Rattle.ledger_core.specs.LedgerFields.{LedgerPartFields, ids, newest}
 use Rattle.ledger_core.specs.declared.fields.LedgerItem.{LedgerItem}
-use Rattle.sets_core.specs.Sets.{has, key_set}
-use Rattle.sets_core.proofs.Elements.{map_agree}
-use Rattle.sets_core.proofs.Sets.{has-from_Among}
+use Rattle.ident_core.specs.Sets.{has, key_set}
+use Rattle.ident_core.proofs.Elements.{map_agree}
+use Rattle.ident_core.proofs.Sets.{has-from_Among}
 use Rattle.universe_core.specs.History.{Release, accepted_by, is_listed, birth}
 use Rattle.universe_core.specs.Ledgers.{later, last, last_place, item_from, part_from, ledger_of}
 use Rattle.universe_core.specs.Groups.{groups}

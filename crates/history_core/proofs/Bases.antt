@@ -8,11 +8,11 @@ use Rattle.ident_core.specs.declared.range.Sighting.{Sighting}
 use Rattle.ident_core.specs.declared.range.Range.{Range}
 use Rattle.ident_core.specs.Order.{identity_cmp}
 use Rattle.ident_core.specs.Coverage.{covers}
-use Rattle.sets_core.specs.Among.{Among}
-use Rattle.sets_core.specs.Sets.{has, has_key}
-use Rattle.sets_core.proofs.Elements.{Among-filter, Among-in_filter, Among-left, Among-right}
-use Rattle.sets_core.proofs.Order.{sorted_none}
-use Rattle.sets_core.proofs.Sets.{Among-from_has, has-from_Among, has_key-from_Among, Among-from_has_key, Among-key_set, identity_total, key_set_ascends}
+use Rattle.ident_core.specs.Among.{Among}
+use Rattle.ident_core.specs.Sets.{has, has_key}
+use Rattle.ident_core.proofs.Elements.{Among-filter, Among-in_filter, Among-left, Among-right}
+use Rattle.ident_core.proofs.Order.{sorted_none}
+use Rattle.ident_core.proofs.Sets.{Among-from_has, has-from_Among, has_key-from_Among, Among-from_has_key, Among-key_set, identity_total, key_set_ascends}
 use Rattle.universe_core.specs.Jobs.{Entry}
 use Rattle.universe_core.specs.History.{Release, accepted_by, seen, sightings, is_listed, is_settled_by}
 use Rattle.history_core.specs.Bases.{newest_ranges, all_issuers, kept_by, base_with}

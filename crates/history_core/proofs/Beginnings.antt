@@ -5,10 +5,10 @@ use Rattle.ident_core.specs.declared.identity.Identity.{Identity}
 use Rattle.ident_core.specs.declared.range.Sighting.{Sighting}
 use Rattle.ident_core.specs.Order.{is_same}
 use Rattle.ident_core.specs.Coverage.{covers}
-use Rattle.sets_core.specs.Among.{Among}
-use Rattle.sets_core.specs.Sets.{has, has_key}
-use Rattle.sets_core.proofs.Elements.{found, any_at, bool_same}
-use Rattle.sets_core.proofs.Sets.{same_is, same_refl}
+use Rattle.ident_core.specs.Among.{Among}
+use Rattle.ident_core.specs.Sets.{has, has_key}
+use Rattle.ident_core.proofs.Elements.{found, any_at, bool_same}
+use Rattle.ident_core.proofs.Sets.{same_is, same_refl}
 use Rattle.universe_core.specs.Jobs.{Entry, Job, enrolled, lists}
 use Rattle.universe_core.specs.History.{Release, past_of, accepted_by, shown, accepted_with, universe, listed_now, is_revoked, revoked, is_listed, is_settled_by, is_lacked_by, released, releases}
 use Rattle.universe_core.specs.Groups.{groups}

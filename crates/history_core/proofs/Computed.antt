@@ -1,6 +1,6 @@
 -- The two jobs of the example, computed.
 use Rattle.std.proofs.Common.{◌≡◌, [], ◌∷◌, Some, None, pos, refl}
-use Rattle.sets_core.specs.Sets.{all_inserted}
+use Rattle.ident_core.specs.Sets.{all_inserted}
 use Rattle.universe_core.specs.Jobs.{enrolled, lists}
 use Rattle.universe_core.specs.History.{past_of, releases, shown, class_by, sightings, accepted_with, universe, listed_now, is_revoked, revoked, accepted_by}
 use Rattle.universe_core.specs.History.{seen, is_listed, is_settled_by, is_lacked_by, birth}

@@ -6,9 +6,9 @@ use Rattle.std.proofs.lemmas.Bool.{and_parts, and_from, leb-true, le-leb}
 use Rattle.ident_core.specs.declared.range.Range.{Range}
 use Rattle.ident_core.specs.declared.range.Sighting.{Sighting}
 use Rattle.ident_core.specs.Coverage.{covers, is_within, lies_in}
-use Rattle.sets_core.specs.Among.{Among}
-use Rattle.sets_core.proofs.Elements.{found, any_at, all_at}
-use Rattle.sets_core.proofs.Sets.{bytes_same, bytes_refl}
+use Rattle.ident_core.specs.Among.{Among}
+use Rattle.ident_core.proofs.Elements.{found, any_at, all_at}
+use Rattle.ident_core.proofs.Sets.{bytes_same, bytes_refl}
 use Rattle.universe_core.specs.Jobs.{Job}
 use Rattle.universe_core.specs.History.{lie_within, Release}
 use Rattle.history_core.specs.Facts.{Widens, KeepsCoverage}

@@ -8,11 +8,11 @@ use Rattle.std.proofs.lemmas.List.Elements.{filter-append}
 use Rattle.std.proofs.lemmas.Grind.{fold-append}
 use Rattle.ident_core.specs.declared.identity.Identity.{Identity}
 use Rattle.ident_core.specs.Order.{is_same}
-use Rattle.sets_core.specs.Among.{Among}
-use Rattle.sets_core.specs.Sets.{has}
-use Rattle.sets_core.proofs.Elements.{Among-in_filter, Among-in_map}
-use Rattle.sets_core.proofs.Runs.{filter_none}
-use Rattle.sets_core.proofs.Sets.{same_is, same_refl}
+use Rattle.ident_core.specs.Among.{Among}
+use Rattle.ident_core.specs.Sets.{has}
+use Rattle.ident_core.proofs.Elements.{Among-in_filter, Among-in_map}
+use Rattle.ident_core.proofs.Runs.{filter_none}
+use Rattle.ident_core.proofs.Sets.{same_is, same_refl}
 use Rattle.universe_core.specs.Jobs.{Entry, Job}
 use Rattle.universe_core.specs.History.{Release, past_of, released, shown, accepted_by, seen}
 use Rattle.universe_core.specs.Dates.{later_of, greatest, dates, until}

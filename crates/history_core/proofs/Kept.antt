@@ -5,9 +5,9 @@ use Rattle.std.proofs.lemmas.Bool.{true≢false}
 use Rattle.std.proofs.lemmas.List.{append-nil}
 use Rattle.ident_core.specs.declared.identity.Identity.{Identity}
 use Rattle.ident_core.specs.Order.{is_same}
-use Rattle.sets_core.specs.Sets.{has}
-use Rattle.sets_core.proofs.Sets.{same_is, Among-from_has}
-use Rattle.sets_core.proofs.Elements.{Among-filter}
+use Rattle.ident_core.specs.Sets.{has}
+use Rattle.ident_core.proofs.Sets.{same_is, Among-from_has}
+use Rattle.ident_core.proofs.Elements.{Among-filter}
 use Rattle.universe_core.specs.Jobs.{Entry}
 use Rattle.universe_core.specs.History.{Release, accepted_by, seen, sightings, is_listed}
 use Rattle.universe_core.specs.Dates.{dates, greatest, until}

@@ -12,10 +12,10 @@ use Rattle.ident_core.specs.Order.{is_same}
 use Rattle.ident_core.specs.Coverage.{covers}
 use Rattle.ledger_core.specs.LedgerFields.{LedgerPartFields}
 use Rattle.ledger_core.specs.declared.fields.LedgerItem.{LedgerItem}
-use Rattle.sets_core.specs.Among.{Among}
-use Rattle.sets_core.specs.Sets.{has, has_key}
-use Rattle.sets_core.proofs.Elements.{Among-cases, Among-right, all_at, all_from, bool_same, map_agree, map_back}
-use Rattle.sets_core.proofs.Sets.{same_is, has-from_Among}
+use Rattle.ident_core.specs.Among.{Among}
+use Rattle.ident_core.specs.Sets.{has, has_key}
+use Rattle.ident_core.proofs.Elements.{Among-cases, Among-right, all_at, all_from, bool_same, map_agree, map_back}
+use Rattle.ident_core.proofs.Sets.{same_is, has-from_Among}
 use Rattle.universe_core.specs.Jobs.{Job}
 use Rattle.universe_core.specs.History.{Release, past_of, released, shown, revoked, accepted_with, accepted_by, seen, sightings, is_listed, is_settled_by, birth, covers_all}
 use Rattle.universe_core.specs.Dates.{greatest, dates, until}

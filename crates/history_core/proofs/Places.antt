@@ -7,8 +7,8 @@ use Rattle.ident_core.specs.declared.identity.Identity.{Identity}
 use Rattle.ident_core.specs.declared.range.Sighting.{Sighting}
 use Rattle.ident_core.specs.Coverage.{covers}
 use Rattle.ledger_core.specs.LedgerFields.{LedgerPartFields}
-use Rattle.sets_core.specs.Among.{Among}
-use Rattle.sets_core.specs.Sets.{has, has_key}
+use Rattle.ident_core.specs.Among.{Among}
+use Rattle.ident_core.specs.Sets.{has, has_key}
 use Rattle.universe_core.specs.History.{Release, birth, is_lacked_by}
 use Rattle.universe_core.specs.Ledgers.{later, last_place, last, part_from}
 use Rattle.history_core.specs.Facts.{IsWider, Widens}

@@ -2,12 +2,12 @@
 use Rattle.std.specs.List.{find, AllZip}
 use Rattle.std.specs.Option.{option_map}
 use Rattle.std.specs.Str.{bytes_eq}
-use Rattle.std.proofs.Common.{◌≡◌, ℕ, inl, inr, List, [], ◌∷◌, map, Bool, true, false, cond, ◌||◌, Option, Some, None, refl, sym, ap, ◌∙◌, subst}
+use Rattle.std.proofs.Common.{◌≡◌, ℕ, inl, inr, List, [], ◌∷◌, map, Bool, true, false, cond, ◌||◌, Some, None, refl, sym, ap, ◌∙◌, subst}
 use Rattle.ident_core.specs.declared.identity.Identity.{Identity}
-use Rattle.sets_core.specs.Among.{Among}
-use Rattle.sets_core.specs.Sets.{has, has_key}
-use Rattle.sets_core.proofs.Elements.{Among-in_filter, Among-in_map, bool_same}
-use Rattle.sets_core.proofs.Sets.{bytes_same, bytes_refl, Among-from_has, has-from_Among, Among-from_has_key}
+use Rattle.ident_core.specs.Among.{Among}
+use Rattle.ident_core.specs.Sets.{has, has_key}
+use Rattle.ident_core.proofs.Elements.{Among-in_filter, Among-in_map, bool_same}
+use Rattle.ident_core.proofs.Sets.{bytes_same, bytes_refl, Among-from_has, has-from_Among, Among-from_has_key}
 use Rattle.universe_core.specs.History.{Release}
 use Rattle.universe_core.specs.Groups.{GroupFields, group_of, groups}
 use Rattle.history_core.specs.Showing.{Shows}
@@ -64,18 +64,3 @@ exact_from_flags positive r h = record {
   at = λ issuer k x u. flag_at (λ y b. positive (group_of r issuer) y ≡ b) (has r.revoked) (group_of r issuer).universe x
       (h (group_of r issuer) (Among-in_map (group_of r) r.issuers issuer (Among-from_has_key r.issuers issuer k))) (Among-from_has (group_of r issuer).universe x u);
 }
-
--- ---- blocks of another type, made from the groups
-
-module _ {B : Type 0} (block : GroupFields → B) (issuer : B → List ℕ) (test : B → Identity → Bool) (kept : (g : GroupFields) → issuer (block g) ≡ g.issuer) (x : Identity) where
-  found_through : (b : Bool) (g : GroupFields) (o : Option B) (q : Option GroupFields) → option_map (λ c. test c x) o ≡ option_map (λ h. test (block h) x) q
-      → option_map (λ c. test c x) (cond b (Some (block g)) o) ≡ option_map (λ h. test (block h) x) (cond b (Some g) q)
-  found_through true g o q h = refl
-  found_through false g o q h = h
-
-  pub consulted_through : (gs : List GroupFields) → option_map (λ b. test b x) (find (λ b. bytes_eq (issuer b) x.issuer) (map block gs))
-      ≡ option_map (λ g. test (block g) x) (find (λ g. bytes_eq g.issuer x.issuer) gs)
-  consulted_through [] = refl
-  consulted_through (g ∷ gs) =
-      ap (λ k. option_map (λ b. test b x) (cond (bytes_eq k x.issuer) (Some (block g)) (find (λ b. bytes_eq (issuer b) x.issuer) (map block gs)))) (kept g)
-      ∙ found_through (bytes_eq g.issuer x.issuer) g (find (λ b. bytes_eq (issuer b) x.issuer) (map block gs)) (find (λ h. bytes_eq h.issuer x.issuer) gs) (consulted_through gs)

@@ -5,10 +5,10 @@ use Rattle.std.proofs.lemmas.Bool.{true≢false}
 use Rattle.ident_core.specs.declared.identity.Identity.{Identity}
 use Rattle.ident_core.specs.declared.range.Sighting.{Sighting}
 use Rattle.ident_core.specs.Coverage.{covers}
-use Rattle.sets_core.specs.Among.{Among}
-use Rattle.sets_core.specs.Sets.{has, has_key}
-use Rattle.sets_core.proofs.Elements.{Among-filter, Among-map, Among-right, Among-cases}
-use Rattle.sets_core.proofs.Sets.{Among-from_has_key, Among-from_key_set}
+use Rattle.ident_core.specs.Among.{Among}
+use Rattle.ident_core.specs.Sets.{has, has_key}
+use Rattle.ident_core.proofs.Elements.{Among-filter, Among-map, Among-right, Among-cases}
+use Rattle.ident_core.proofs.Sets.{Among-from_has_key, Among-from_key_set}
 use Rattle.universe_core.specs.Jobs.{Entry, Job, enrolled}
 use Rattle.universe_core.specs.History.{Release, past_of, released, shown, seen, is_lacked_by}
 use Rattle.universe_core.specs.Rebases.{is_other}

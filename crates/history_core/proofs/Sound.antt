@@ -6,11 +6,11 @@ use Rattle.ident_core.specs.declared.identity.Identity.{Identity}
 use Rattle.ident_core.specs.declared.range.Sighting.{Sighting}
 use Rattle.ident_core.specs.Order.{identity_cmp}
 use Rattle.ident_core.specs.Coverage.{covers}
-use Rattle.sets_core.specs.Among.{Among}
-use Rattle.sets_core.specs.Sets.{has, has_key}
-use Rattle.sets_core.proofs.Elements.{Among-left, Among-right, Among-push, Among-push_cases, Among-cases}
-use Rattle.sets_core.proofs.Sets.{identity_total}
-use Rattle.sets_core.proofs.Order.{sorted_none}
+use Rattle.ident_core.specs.Among.{Among}
+use Rattle.ident_core.specs.Sets.{has, has_key}
+use Rattle.ident_core.proofs.Elements.{Among-left, Among-right, Among-push, Among-push_cases, Among-cases}
+use Rattle.ident_core.proofs.Sets.{identity_total}
+use Rattle.ident_core.proofs.Order.{sorted_none}
 use Rattle.universe_core.specs.Jobs.{Entry, Job, enrolled}
 use Rattle.universe_core.specs.History.{Release, past_of, released, sightings, accepted_by, seen, is_listed, is_settled_by, shown, accepted_with, universe, listed_now, revoked}
 use Rattle.history_core.specs.Facts.{Widens, IsFormed, IsSound, KeepsCoverage}

@@ -12,10 +12,10 @@ use Rattle.ident_core.specs.declared.kind.Kind.TheVariants as kinds
 use Rattle.ident_core.specs.HeadFields.{zero_key}
 use Rattle.ident_core.specs.Order.{identity_cmp, octets_cmp}
 use Rattle.ident_core.specs.Coverage.{covers}
-use Rattle.sets_core.specs.Among.{Among}
-use Rattle.sets_core.specs.Sets.{has, has_key}
-use Rattle.sets_core.proofs.Elements.{Among-filter, Among-in_filter, Among-map, Among-in_map, map_agree}
-use Rattle.sets_core.proofs.Sets.{Among-from_has, has-from_Among, has_key-from_Among, Among-from_has_key}
+use Rattle.ident_core.specs.Among.{Among}
+use Rattle.ident_core.specs.Sets.{has, has_key}
+use Rattle.ident_core.proofs.Elements.{Among-filter, Among-in_filter, Among-map, Among-in_map, map_agree}
+use Rattle.ident_core.proofs.Sets.{Among-from_has, has-from_Among, has_key-from_Among, Among-from_has_key}
 use Rattle.universe_core.specs.Dates.{dates, greatest, until}
 use Rattle.universe_core.specs.Jobs.{Entry, is_stale}
 use Rattle.universe_core.specs.History.{Release, accepted_by, seen, sightings, birth, is_listed}
@@ -210,10 +210,6 @@ ledger_without-of w rs = λ i. record { parts = parts_less w rs i; items = items
 pub head_without : (w : List (List ℕ)) (rs : List Release) → base_head (releases_without w rs) ≡ base_head rs
 unfolding releases_without
 head_without w rs = λ i. record { kind = kinds.Snapshot; epoch = epoch_less w 0 rs i; parent = zero_key; ranges = ranges_less w [] rs i }
-
-pub epoch_without : (w : List (List ℕ)) (rs : List Release) → newest_epoch 0 (releases_without w rs) ≡ newest_epoch 0 rs
-unfolding releases_without
-epoch_without w rs = epoch_less w 0 rs
 
 pub accepted_without : (w : List (List ℕ)) (rs : List Release) → accepted_by [] (releases_without w rs) ≡ filter (λ x. is_other w x.issuer) (accepted_by [] rs)
 unfolding releases_without

@@ -12,9 +12,9 @@ use Rattle.ident_core.specs.declared.identity.Identity.{Identity}
 use Rattle.ident_core.specs.declared.range.Sighting.{Sighting}
 use Rattle.ident_core.specs.Order.{is_same}
 use Rattle.ident_core.specs.Coverage.{covers}
-use Rattle.sets_core.specs.Among.{Among}
-use Rattle.sets_core.specs.Sets.{has, has_key}
-use Rattle.sets_core.proofs.Sets.{same_is}
+use Rattle.ident_core.specs.Among.{Among}
+use Rattle.ident_core.specs.Sets.{has, has_key}
+use Rattle.ident_core.proofs.Sets.{same_is}
 use Rattle.universe_core.specs.Jobs.{Entry, Job, enrolled, lists}
 use Rattle.universe_core.specs.Counting.{is_class, count}
 use Rattle.universe_core.specs.History.{class_of, Release, Past, past_of, released, releases, shown, revoked, is_revoked, universe, listed_now, accepted_with}

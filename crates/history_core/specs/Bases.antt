@@ -5,7 +5,7 @@ use Rattle.ident_core.specs.declared.identity.Identity.{Identity}
 use Rattle.ident_core.specs.declared.range.Range.{Range}
 use Rattle.ident_core.specs.declared.kind.Kind.TheVariants as kinds
 use Rattle.ident_core.specs.HeadFields.{HeadFields, zero_key}
-use Rattle.sets_core.specs.Sets.{key_set}
+use Rattle.ident_core.specs.Sets.{key_set}
 use Rattle.universe_core.specs.Jobs.{is_stale}
 use Rattle.universe_core.specs.History.{Release, accepted_by, seen, is_listed}
 use Rattle.universe_core.specs.Dates.{until}

@@ -5,8 +5,8 @@ use Rattle.ident_core.specs.declared.identity.Identity.{Identity}
 use Rattle.ident_core.specs.declared.range.Sighting.{Sighting}
 use Rattle.ident_core.specs.Order.{octets_cmp, identity_cmp}
 use Rattle.ident_core.specs.Coverage.{covers}
-use Rattle.sets_core.specs.Among.{Among}
-use Rattle.sets_core.specs.Sets.{has, has_key}
+use Rattle.ident_core.specs.Among.{Among}
+use Rattle.ident_core.specs.Sets.{has, has_key}
 use Rattle.universe_core.specs.Jobs.{Entry, Job, enrolled, lists}
 use Rattle.universe_core.specs.History.{Release, accepted_by, seen, is_listed, is_settled_by, sightings, past_of, released, lie_within}
 

@@ -3,7 +3,7 @@ use Rattle.std.specs.Prelude.{◌≡◌, ℕ, List, find, Bool, true}
 use Rattle.std.specs.Option.{option_map}
 use Rattle.std.specs.Str.{bytes_eq}
 use Rattle.ident_core.specs.declared.identity.Identity.{Identity}
-use Rattle.sets_core.specs.Sets.{has, has_key}
+use Rattle.ident_core.specs.Sets.{has, has_key}
 use Rattle.universe_core.specs.History.{Release}
 use Rattle.universe_core.specs.Groups.{GroupFields, group_of, groups}
 use Rattle.history_core.specs.Showing.{PartView}

@@ -5,7 +5,7 @@ use Rattle.ident_core.specs.declared.identity.Identity.{Identity}
 use Rattle.ident_core.specs.declared.range.Sighting.{Sighting}
 use Rattle.ident_core.specs.declared.range.Range.{Range}
 use Rattle.ident_core.specs.Coverage.{covers}
-use Rattle.sets_core.specs.Sets.{has, has_key}
+use Rattle.ident_core.specs.Sets.{has, has_key}
 use Rattle.universe_core.specs.History.{Release}
 
 -- What a part is to its reader: what it covers, and what its block of a certificate's issuer says, if it has one.

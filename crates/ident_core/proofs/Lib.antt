@@ -2,3 +2,12 @@ pub mod Serials
 pub mod Within
 pub mod RangeTexts
 pub mod RangeFacts
+pub mod Elements
+pub mod Order
+pub mod Sets
+pub mod Canonical
+pub mod Keys
+pub mod Marks
+pub mod Runs
+pub mod Keyed
+pub mod Ranges

@@ -4,3 +4,5 @@ pub mod Coverage
 pub mod HeadFields
 pub mod RangeLayout
 pub mod RangeText
+pub mod Among
+pub mod Sets

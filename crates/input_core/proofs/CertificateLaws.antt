@@ -1,41 +1,15 @@
 -- What is read of the file of a certificate, and of as many of its bytes as there may be and one more.
-use Rattle.std.proofs.Common.{◌≡◌, ℕ, ◌+◌, ◌<◌, ◌≤◌, List, length, take, Bool, true, false, nat_lt, Option, Some, None, Result, Ok, Err, refl, sym, ap, ◌∙◌, arith}
+use Rattle.std.proofs.Common.{◌≡◌, ℕ, ◌+◌, ◌<◌, ◌≤◌, List, length, take, Bool, true, false, nat_lt, Option, Some, None, Err, refl, sym, ap, ◌∙◌, arith}
 use Rattle.std.proofs.lemmas.Bool.Decides.{nat_tests}
 use Rattle.std.proofs.lemmas.List.{take_all, length-take-le}
-use Rattle.ident_core.specs.declared.range.Sighting.{Sighting}
 use Rattle.log_core.specs.Certificates.{certificate_serial}
-use Rattle.log_core.specs.Leaves.{GivesHash}
-use Rattle.log_core.specs.declared.Unread.{Unread}
 use Rattle.sct_core.specs.declared.bounds.TheConstants.{MAX_CERTIFICATE}
-use Rattle.sct_core.specs.declared.fault.CertFault.{CertFault}
 use Rattle.sct_core.specs.declared.fault.CertFault.TheVariants.{Malformed}
-use Rattle.sct_core.specs.Outcome.{GivesSerial}
 use Rattle.input_core.specs.declared.fault.FileFault.TheVariants.{BadCert}
 use Rattle.input_core.specs.Readings.{faulted}
-use Rattle.input_core.specs.Certificates.{certified, certificate_of, hashed, issuer_of, certificate_in, issuer_in}
-
--- ---- the certificate
-
-pub no_serial : (serial : Option (List ℕ)) (seen : Result (List Sighting) CertFault) (e : CertFault) → GivesSerial serial (Err e) → Err e ≡ certified serial seen
-no_serial serial seen e (none, is) = rw (none, is) refl
-
-pub no_sightings : (serial : Option (List ℕ)) (seen : Result (List Sighting) CertFault) (x : List ℕ) (e : CertFault) → GivesSerial serial (Ok x) → Err e ≡ seen → Err e ≡ certified serial seen
-no_sightings serial seen x e some is = rw (some, ← is) refl
-
-pub both_there : (serial : Option (List ℕ)) (seen : Result (List Sighting) CertFault) (x : List ℕ) (ss : List Sighting) → GivesSerial serial (Ok x) → Ok ss ≡ seen
-    → Ok (record { serial = x; scts = ss }) ≡ certified serial seen
-both_there serial seen x ss some is = rw (some, ← is) refl
-
--- ---- the issuer's
-
--- the hash that there is, or that there is none
-key_hash : (key : Option (List ℕ)) (r : Result (List ℕ) Unread) (given : Result (List ℕ) CertFault) → GivesHash key r → given ≡ hashed key → given ≡ hashed key
-key_hash key r given h is = is
+use Rattle.input_core.specs.Certificates.{certified, certificate_of, issuer_of, certificate_in, issuer_in}
 
 -- ---- files that are longer than a certificate may be
-
-over : ℕ
-over = MAX_CERTIFICATE + 1
 
 none_certified : (serial : Option (List ℕ)) → certified serial (Err Malformed) ≡ Err Malformed
 none_certified None = refl

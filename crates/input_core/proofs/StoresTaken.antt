@@ -31,11 +31,11 @@ use Rattle.store_core.specs.StoreLayout.{moved, first_part, chain, store_parts, 
 use Rattle.store_core.proofs.Reading.{step, fails, first-fault, not-begun, is-begun, goes-on, breaks}
 use Rattle.input_core.specs.declared.fault.FileFault.{FileFault}
 use Rattle.input_core.specs.declared.fault.FileFault.TheVariants as faults
-use Rattle.input_core.specs.Faults.{of_part, of_store}
+use Rattle.input_core.specs.Faults.{of_store}
 use Rattle.input_core.specs.Inputs.{IsHeld, IsRead, IsInput}
 use Rattle.input_core.specs.Readings.{store_in}
-use Rattle.input_core.specs.Stores.{opening, shifted, StoreFails, Fails, HasOpening, HasParts, ComesOfOpening, ComesOfPartAt, ComesOfStore, ComesOfNext}
-use Rattle.input_core.specs.Taking.{AreTaken, PartFollows, ComesOfPart, ComesOfEnd}
+use Rattle.input_core.specs.Stores.{opening, StoreFails, Fails, HasOpening, HasParts, ComesOfOpening, ComesOfPartAt, ComesOfStore, ComesOfNext}
+use Rattle.input_core.specs.Taking.{AreTaken, PartFollows, ComesOfEnd}
 use Rattle.input_core.proofs.Extents.{ReadsAtMost, bytes-at_most, number-at_most, ◌>>>◌}
 use Rattle.input_core.proofs.FilesRead.{fault_input, no_memory_input}
 use Rattle.input_core.proofs.Scans.{Begins, begins, held_piece, where_held}
@@ -189,28 +189,6 @@ is-opened told failed name front at n count none taken is few value =
     )
 
 -- ---- a part at its place
-
-shifted-part : (at : ℕ) (f : PartFault) → of_store (moved at f) ≡ shifted at (of_part f)
-shifted-part at of.NoMemory = refl
-shifted-part at (of.Layout f) = refl
-
-with-shift : (at : ℕ) (e : FileFault) (r : Result (SealedFields × ℕ) PartFault) → with_fault of_part r ≡ Err e → with_fault (λ f. of_store (moved at f)) r ≡ Err (shifted at e)
-with-shift at e (Ok x) is = absurd cc
-with-shift at e (Err f) is = let same : of_part f ≡ e = cc in ap (λ (k : FileFault). Err k) (shifted-part at f ∙ ap (shifted at) same)
-
-pub part-shifted : (told : Option Files) (failed : Option (List ℕ) → Type 0) (name before : List ℕ) (at to : ℕ) (e : FileFault) → length before ≡ at
-    → ComesOfPart told failed name before to (Err e) → ComesOfPartAt told failed name before to (Err (shifted at e))
-part-shifted told failed name before at to e is (inl (unread, why)) = inl (ap (shifted at) unread, why)
-part-shifted told failed name before at to e is (inr (none, falls)) = inr (
-  none,
-  λ some.
-      let f = falls (λ h. some (ap (shifted at) h)) in
-      record {
-        rest = f.rest;
-        read = f.read;
-        is = subst (λ (i : ℕ). with_fault (λ k. of_store (moved i k)) (part f.rest 0) ≡ Err (shifted at e)) (sym is) (with-shift at e (part f.rest 0) f.is);
-      },
-)
 
 behind-it : (b rest : List ℕ) → drop (length b) (b ++ rest) ≡ rest
 behind-it b rest = drop-append-le (length b) b rest (omega arith) ∙ ap (λ (l : List ℕ). l ++ rest) (drop_all (length b) b (omega arith))

@@ -94,11 +94,6 @@ with_fault-err : {A : Type 0} (r : Result (A × ℕ) LayoutFault) (e : JobFault)
 with_fault-err (Ok x) e is = absurd cc
 with_fault-err (Err d) e is = (d, refl, cc)
 
-pub opening-comes : (limits : Limits) (bytes : List ℕ) (e : JobFault) → fielded opening bytes 0 ≡ Err e → job_of limits bytes ≡ Err e
-opening-comes limits bytes e is =
-    let (d, fails_so, same) = with_fault-err (opening bytes 0) e is in
-    opening-fails limits bytes d fails_so ∙ ap (λ (c : JobFault). Err c) same
-
 pub end-comes : (limits : Limits) (bytes : List ℕ) (o : ℕ × ℕ) (at : ℕ) → opening bytes 0 ≡ Ok (o, at) → (f : JobFields) (q : ℕ) (e : JobFault)
     → records_saying limits (begun o.0 o.1) bytes at ≡ Ok (f, q)
     → fielded end bytes q ≡ Err e → job_of limits bytes ≡ Err e

@@ -1,23 +1,14 @@
 -- A chain with one part more.
-use Rattle.std.proofs.Common.{◌≡◌, ℕ, ◌≤◌, ◌<◌, List, [], ◌∷◌, ◌++◌, Option, Some, None, refl, arith}
+use Rattle.std.proofs.Common.{ℕ, ◌≤◌, ◌<◌, List, [], ◌∷◌, ◌++◌, Option, Some, None, arith}
 use Rattle.std.specs.Prelude.{IfSome}
 use Rattle.octets_core.specs.Linked.{Linked}
 use Rattle.ledger_core.specs.declared.fields.LedgerItem.{LedgerItem}
-use Rattle.ledger_core.specs.LedgerFields.{LedgerPartFields, newest, IsPartAfter, IsItemOf}
+use Rattle.ledger_core.specs.LedgerFields.{LedgerPartFields, IsPartAfter, IsItemOf}
 
 -- the last of some parts, or what stands before them
 abbrev pub newest_after : Option LedgerPartFields → List LedgerPartFields → Option LedgerPartFields
 newest_after previous [] = previous
 newest_after previous (p ∷ ps) = newest_after (Some p) ps
-
-pub newest-is : (ps : List LedgerPartFields) → newest ps ≡ newest_after None ps
-newest-is [] = refl
-newest-is (p ∷ []) = refl
-newest-is (p ∷ q ∷ ps) = newest-is (q ∷ ps)
-
-pub newest-append : (previous : Option LedgerPartFields) (ps : List LedgerPartFields) (p : LedgerPartFields) → newest_after previous (ps ++ p ∷ []) ≡ Some p
-newest-append previous [] p = refl
-newest-append previous (q ∷ ps) p = newest-append (Some q) ps p
 
 pub parts-append : (previous : Option LedgerPartFields) (ps : List LedgerPartFields) (p : LedgerPartFields) → Linked IsPartAfter (λ previous p. Some p) previous ps
     → IsPartAfter (newest_after previous ps) p → Linked IsPartAfter (λ previous p. Some p) previous (ps ++ p ∷ [])

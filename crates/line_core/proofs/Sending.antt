@@ -73,11 +73,6 @@ Sends-list f xs i x told mid new first then last e lt is before le h =
     rw (flat_map-split f xs i x lt is)
     (Sends-front told new first last e (flat_map f (take i xs) ++ f x) (flat_map f (drop (i + 1) xs)) (Sends-then told mid new first then last (Err e) (flat_map f (take i xs)) (f x) before le h))
 
--- nothing was written
-pub Sends-none : (told : Option (List ℕ)) (faults : ℕ) → Sends told told faults faults (Ok tt) []
-Sends-none None faults = record { ok = refl; err = tt; cause = tt; later = omega arith }
-Sends-none (Some bytes) faults = record { ok = ap (λ (l : List ℕ). Some l) (sym (append-nil bytes)); err = tt; cause = tt; later = omega arith }
-
 -- ---- the lines of shards
 
 shards-split : (place i : ℕ) (leaves : List Leaf) (l : Leaf) → i < length leaves → l ≡ get_or leaves i l

@@ -5,9 +5,9 @@ use Rattle.std.specs.Str.{bytes_eq}
 use Rattle.std.proofs.lemmas.Bool.{cases_lt, le-ltb, lt-ltb}
 use Rattle.std.proofs.lemmas.List.{take-append-le, drop-append-le, length-append, length-drop}
 use Rattle.octets_core.specs.Position.{piece}
-use Rattle.octets_core.specs.Layout.{Layout, then_read, ◌>>=◌, whole, bytes_field, number_field, sum_field, repeated, with_fault, mapped}
+use Rattle.octets_core.specs.Layout.{Layout, then_read, ◌>>=◌, whole, bytes_field, number_field, sum_field, repeated}
 use Rattle.octets_core.specs.OfFields.{IsOfFields}
-use Rattle.octets_core.proofs.Fields.{then_read-ok, bytes_field-ok, number_field-ok, mapped-ok}
+use Rattle.octets_core.proofs.Fields.{then_read-ok, bytes_field-ok, number_field-ok}
 
 piece-more : (width : ℕ) (bytes more : List ℕ) (at : ℕ) → at + width ≤ length bytes → piece width (bytes ++ more) at ≡ piece width bytes at
 piece-more width bytes more at room =
@@ -119,17 +119,3 @@ pub repeated-of : {E S X : Type 0} {IsShort : E → Type 0} (item : S → Layout
 unfolding repeated
 repeated-of item next each zero s = whole-of _
 repeated-of item next each (suc n) s = each s >>> λ x. repeated-of item next each n (next s x) >>> λ others. whole-of (x ∷ others)
-
-with_fault-err : {E F A : Type 0} (wrap : E → F) (r : Result (A × ℕ) E) (f : F) → with_fault wrap r ≡ Err f → (e : E) × (r ≡ Err e) × (wrap e ≡ f)
-with_fault-err wrap (Ok x) f h = absurd cc
-with_fault-err wrap (Err e) f h = (e, refl, cc)
-
--- under another type of faults
-pub mapped-of : {E F A : Type 0} {IsShort : E → Type 0} (IsOuterShort : F → Type 0) (wrap : E → F) (layout : Layout E A)
-    → ((e : E) → IsShort e → IsOuterShort (wrap e)) → IsOfFields IsShort layout → IsOfFields IsOuterShort (mapped wrap layout)
-mapped-of {E} {F} {A} {IsShort} IsOuterShort wrap layout short of = record {
-  read = λ bytes more at x h. ap (with_fault wrap) (of.read bytes more at x (mapped-ok wrap layout bytes at x h));
-  refused = λ bytes more at f h long.
-      let g = with_fault-err wrap (layout bytes at) f h in
-      ap (with_fault wrap) (of.refused bytes more at g.0 g.1 (λ s. long (subst IsOuterShort g.2 (short g.0 s)))) ∙ ap Err g.2;
-}

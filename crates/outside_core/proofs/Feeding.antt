@@ -5,9 +5,9 @@ use Rattle.std.specs.Option.{option_map}
 use Rattle.std.specs.FinMap.{get}
 use Rattle.std.proofs.lemmas.Bool.{cases_lt}
 use Rattle.std.proofs.Math.Seq.{take-add}
-use Rattle.std.proofs.lemmas.List.{drop-take, drop-drop, take-take, take_all, length-take, nil_from_length}
+use Rattle.std.proofs.lemmas.List.{drop-take, drop-drop, take-take, length-take, nil_from_length}
 use Rattle.outside_core.specs.Files.{Files}
-use Rattle.outside_core.specs.Feeding.{IsWindow, InOrder, IsTaken, Offers}
+use Rattle.outside_core.specs.Feeding.{IsWindow, InOrder, Offers}
 use Rattle.outside_core.specs.Standing.{file_in}
 
 -- a window after bytes were taken from its front
@@ -36,11 +36,6 @@ pub taken-more : (bytes : List ℕ) (at : ℕ) (window : List ℕ) (n : ℕ) →
 taken-more bytes at window n le is =
     ap (λ (piece : List ℕ). take at bytes ++ piece) (ap (take n) is.same ∙ take-take n (length window) (drop at bytes) le)
     ∙ sym (take-add at n bytes)
-
--- where nothing is left to take, all was taken that can be numbered
-pub taken-all : (bytes : List ℕ) (at : ℕ) → at < 2 ^ 64 → IsTaken bytes at → take at bytes ≡ take (2 ^ 64 - 1) bytes
-taken-all bytes at fits (inl short) = take_all at bytes short ∙ sym (take_all (2 ^ 64 - 1) bytes (omega arith))
-taken-all bytes at fits (inr last) = ap (λ (n : ℕ). take n bytes) last
 
 -- ---- the file as a feed gives it
 

@@ -1,6 +1,6 @@
 -- What a depot tells: a finite map from names to bytes, or nothing.
 use Rattle.std.specs.Prelude.{◌≡◌, ◌≢◌, ℕ, ◌+◌, ◌-◌, ◌^◌, ◌≤◌, ◌<◌, ◌⊎◌, min, List, [], ◌∷◌, ◌++◌, take, drop, length, Option, None, Some, unwrap_or}
-use Rattle.std.specs.Option.{option_map, option_map_or}
+use Rattle.std.specs.Option.{option_map}
 use Rattle.std.specs.Ordering.{nat_cmp}
 use Rattle.std.specs.Cmp.Lexicographic.{slice_cmp}
 use Rattle.std.specs.FinMap.{FinMap, get, insert}
@@ -12,10 +12,6 @@ Files = FinMap (slice_cmp nat_cmp) (List ℕ)
 -- what a name holds; a name that isn't held counts as one that holds nothing
 abbrev pub held : Files → List ℕ → List ℕ
 held files name = unwrap_or (get files name) []
-
--- the same where files may not be told
-abbrev pub held_in : Option Files → List ℕ → List ℕ
-held_in told name = option_map_or (λ files. held files name) told []
 
 -- the files with this name holding these bytes; nothing where nothing is told
 abbrev pub putting : Option Files → List ℕ → List ℕ → Option Files

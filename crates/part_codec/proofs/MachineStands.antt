@@ -70,14 +70,6 @@ stands-fills m n s b t held st fits field kept at passed filled here is = record
       ap (λ (k : ℕ). drop k (b ++ t)) e ∙ drop-append-le (m.at + m.passed) b t (omega (arith, st.place)) ∙ ap (λ (l : List ℕ). l ++ t) st.held ∙ sym is ∙ here;
 }
 
-pub stands-skips : (m n : Machine) (s : Seen) (b t : List ℕ) → Stands m s b → IsBytes t → n.field ≡ m.field → n.kept ≡ m.kept → n.at ≡ m.at → n.passed ≡ m.passed + length t
-    → n.filled ≡ 0 → m.filled ≡ 0 → Stands n s (b ++ t)
-stands-skips m n s b t st fits field kept at passed filled none = record {
-  opens = Opened-same m n s (b ++ t) field kept at (Opened-more m s b t fits st.opens);
-  place = omega (arith, st.place, at, passed, filled, none, length-append b t);
-  held = drop-all (n.at + n.passed) (b ++ t) (omega (arith, st.place, at, passed, none, length-append b t)) ∙ sym (ap (λ (k : ℕ). take k n.held) filled);
-}
-
 -- all of the open field came, and its last bytes are held, or came now
 pub whole-full : (m : Machine) (s : Seen) (b : List ℕ) → Stands m s b → m.passed ≡ skips m.field m.kept → m.filled ≡ tail_of m.field → IsWhole m (take m.filled m.held) b
 whole-full m s b st passed full = record {
@@ -256,9 +248,6 @@ partial-settled (Err e) n o field empty = tt
 
 -- ---- pieces
 
-pub moved-none : (m n : Machine) (b : List ℕ) → n.field ≡ m.field → n.kept ≡ m.kept → n.at ≡ m.at → Moved false m n b
-moved-none m n b field kept at = record { field = field; kept = kept; at = at }
-
 pub moved-from : (w : Bool) (m l n : Machine) (b : List ℕ) → l.field ≡ m.field → l.kept ≡ m.kept → l.at ≡ m.at → Moved w l n b → Moved w m n b
 moved-from true m l n b field kept at v = record {
   passed = subst (λ (q : Open). Passed q m.kept (drop m.at b)) field (subst (λ (q : Kept). Passed l.field q (drop m.at b)) kept (subst (λ (q : ℕ). Passed l.field l.kept (drop q b)) at v.passed));
@@ -287,9 +276,6 @@ pub settled-same : (w : Bool) (m n : Machine) (s : Seen) (b : List ℕ) → n.fi
 settled-same true m n s b field kept at =
     ap (λ (o : Open). seen_after o n.kept s (drop n.at b)) field ∙ ap (λ (k : Kept). seen_after m.field k s (drop n.at b)) kept ∙ ap (λ (k : ℕ). seen_after m.field m.kept s (drop k b)) at
 settled-same false m n s b field kept at = refl
-
-pub Stands-more : (m : Machine) (s : Seen) (b piece : List ℕ) (n k : ℕ) (r : List ℕ) → r ≡ drop n piece → Stands m s ((b ++ take n piece) ++ take k r) → Stands m s (b ++ take (n + k) piece)
-Stands-more m s b piece n k r is h = subst (λ (l : List ℕ). Stands m s l) (pieces-join b piece n k r is) h
 
 -- ---- what was hashed
 
@@ -354,12 +340,6 @@ front-moved false m n b front v = ap (λ (q : Open). hashed_to q n.at (length b)
 -- at the trailer all before it was hashed
 pub trailer-hashed : (m : Machine) (h : Sha256) (b : List ℕ) → m.field ≡ opens.Trailer → Hashes m h b → Holds256 h (take m.at b)
 trailer-hashed m h b is hashed = subst (λ (o : Open). Holds256 h (take (hashed_to o m.at (length b)) b)) is hashed
-
-pub hashes-trailer : (n : Machine) (h : Sha256) (b t : List ℕ) (at : ℕ) → n.field ≡ opens.Trailer → n.at ≡ at → at ≤ length b → Holds256 h (take at b) → Hashes n h (b ++ t)
-hashes-trailer n h b t at is same le hashed =
-    let e : take at b ≡ take (hashed_to n.field n.at (length (b ++ t))) (b ++ t)
-    = sym (front-same at b t le) ∙ ap (λ (k : ℕ). take k (b ++ t)) (sym same) ∙ ap (λ (o : Open). take (hashed_to o n.at (length (b ++ t))) (b ++ t)) (sym is) in
-    subst (Holds256 h) e hashed
 
 pub hashes-done : (n : Machine) (h : Sha256) (b : List ℕ) (at : ℕ) → n.field ≡ opens.Done → n.at ≡ at + TRAILER → Holds256 h (take at b) → Hashes n h b
 hashes-done n h b at is end hashed =

@@ -10,7 +10,7 @@ use Rattle.equation_core.specs.Rows.{sha256_row}
 use Rattle.part_text.specs.SealedFields.{SealedFields}
 use Rattle.ledger_core.specs.declared.fields.LedgerItem.{LedgerItem}
 use Rattle.ledger_core.specs.LedgerFields.{LedgerPartFields, LedgerFields, IsLedger, ids, sealed_with}
-use Rattle.sets_core.proofs.Sets.{key_set_ascends}
+use Rattle.ident_core.proofs.Sets.{key_set_ascends}
 use Rattle.universe_core.specs.declared.admitted.Group.{Group}
 use Rattle.universe_core.specs.Formats.{dated}
 use Rattle.universe_core.specs.Groups.{GroupFields, group_fields}

@@ -16,7 +16,7 @@ use Rattle.ident_core.specs.declared.kind.Kind.TheVariants as kinds
 use Rattle.ident_core.specs.HeadFields.{zero_key}
 use Rattle.ledger_core.specs.LedgerFields.{LedgerPartFields, LedgerFields, IsLedger, IsItemOf, ids, newest, sealed_with}
 use Rattle.ledger_core.specs.declared.fields.LedgerItem.{LedgerItem}
-use Rattle.sets_core.specs.Sets.{has_key}
+use Rattle.ident_core.specs.Sets.{has_key}
 use Rattle.universe_core.specs.Groups.{GroupFields, IsGroup}
 use Rattle.universe_core.specs.History.{Release}
 use Rattle.universe_core.specs.Members.{first_part}

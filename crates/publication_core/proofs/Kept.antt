@@ -8,13 +8,13 @@ use Rattle.std.proofs.Common.{◌≡◌, ℕ, inl, inr, List, [], ◌∷◌, map
 use Rattle.ident_core.specs.Order.{identity_cmp}
 use Rattle.ledger_core.specs.LedgerFields.{ids}
 use Rattle.ledger_core.specs.declared.fields.LedgerItem.{LedgerItem}
-use Rattle.sets_core.specs.Among.{Among}
-use Rattle.sets_core.specs.Sets.{has}
-use Rattle.sets_core.proofs.Canonical.{sorted_cons}
-use Rattle.sets_core.proofs.Elements.{Among-filter, Among-in_filter, Among-map, Among-in_map, bool_same, map_agree}
-use Rattle.sets_core.proofs.Keys.{less_other}
-use Rattle.sets_core.proofs.Order.{sorted_head, sorted_tail}
-use Rattle.sets_core.proofs.Sets.{Among-from_has, has-from_Among}
+use Rattle.ident_core.specs.Among.{Among}
+use Rattle.ident_core.specs.Sets.{has}
+use Rattle.ident_core.proofs.Canonical.{sorted_cons}
+use Rattle.ident_core.proofs.Elements.{Among-filter, Among-in_filter, Among-map, Among-in_map, bool_same, map_agree}
+use Rattle.ident_core.proofs.Keys.{less_other}
+use Rattle.ident_core.proofs.Order.{sorted_head, sorted_tail}
+use Rattle.ident_core.proofs.Sets.{Among-from_has, has-from_Among}
 use Rattle.universe_core.specs.Rebases.{rebased_item}
 
 -- ---- their order

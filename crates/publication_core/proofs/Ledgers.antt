@@ -32,11 +32,11 @@ use Rattle.ledger_core.specs.LedgerReading.{ledger_of as read_ledger}
 use Rattle.ledger_core.specs.LedgerText.{HasNoDates}
 use Rattle.ledger_core.proofs.LedgerTexts.{ledger-again, old-again}
 use Rattle.ledger_core.proofs.Seals.{IsLedger-sealed}
-use Rattle.sets_core.specs.Among.{Among}
-use Rattle.sets_core.specs.Sets.{has, key_set}
-use Rattle.sets_core.proofs.Elements.{Among-filter, Among-map, Among-filter_map, Among-cases, some_item}
-use Rattle.sets_core.proofs.Sets.{Among-from_has, has-from_Among, Among-from_key_set, key_set_ascends}
-use Rattle.sets_core.proofs.Canonical.{Contains-from_Among, all_from}
+use Rattle.ident_core.specs.Among.{Among}
+use Rattle.ident_core.specs.Sets.{has, key_set}
+use Rattle.ident_core.proofs.Elements.{Among-filter, Among-map, Among-filter_map, Among-cases, some_item}
+use Rattle.ident_core.proofs.Sets.{Among-from_has, has-from_Among, Among-from_key_set, key_set_ascends}
+use Rattle.ident_core.proofs.Canonical.{Contains-from_Among, all_from}
 use Rattle.universe_core.specs.Jobs.{Crl, Entry, crl_by, accepted_crl, facts_of, is_stale, crls_of, enrolled}
 use Rattle.universe_core.specs.Formats.{JobIn, read_in}
 use Rattle.universe_core.specs.History.{Release, past_of, shown, accepted_with}

@@ -11,9 +11,9 @@ use Rattle.card_core.specs.PartFields.{PartFields}
 use Rattle.card_core.specs.Consulting.{consulted, covers_some}
 use Rattle.card_core.specs.Verdict.{covering, answers, by_answers, by_covering, verdict}
 use Rattle.part_text.specs.SealedFields.{SealedFields}
-use Rattle.sets_core.specs.Among.{Among}
-use Rattle.sets_core.specs.Sets.{has_key}
-use Rattle.sets_core.proofs.Elements.{Among-filter, Among-in_map, Among-push_cases, zip_left}
+use Rattle.ident_core.specs.Among.{Among}
+use Rattle.ident_core.specs.Sets.{has_key}
+use Rattle.ident_core.proofs.Elements.{Among-filter, Among-in_map, Among-push_cases, zip_left}
 use Rattle.universe_core.specs.Formats.{JobIn, facts_in}
 use Rattle.universe_core.specs.Jobs.{Entry, is_enrolled}
 use Rattle.universe_core.specs.History.{Release, seen}

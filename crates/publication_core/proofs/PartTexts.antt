@@ -27,11 +27,11 @@ use Rattle.ledger_core.specs.LedgerFields.{LedgerPartFields, IsPartAfter, newest
 use Rattle.ledger_core.specs.Fitting.{IsKey, PartFits}
 use Rattle.ledger_core.specs.Fitting.{Fits as LedgerFits}
 use Rattle.ledger_core.proofs.Orders.{keys-linked}
-use Rattle.sets_core.specs.Among.{Among}
-use Rattle.sets_core.specs.Sets.{key_set}
-use Rattle.sets_core.proofs.Elements.{Among-filter, Among-map, Among-filter_map, some_item}
-use Rattle.sets_core.proofs.Sets.{Among-from_key_set}
-use Rattle.sets_core.proofs.Canonical.{Contains-from_Among}
+use Rattle.ident_core.specs.Among.{Among}
+use Rattle.ident_core.specs.Sets.{key_set}
+use Rattle.ident_core.proofs.Elements.{Among-filter, Among-map, Among-filter_map, some_item}
+use Rattle.ident_core.proofs.Sets.{Among-from_key_set}
+use Rattle.ident_core.proofs.Canonical.{Contains-from_Among}
 use Rattle.universe_core.specs.Jobs.{Crl, accepted_crl, crl_by, crls_of, enrolled, is_stale, facts_of}
 use Rattle.universe_core.specs.Formats.{JobIn, dated, read_in}
 use Rattle.universe_core.specs.History.{Release, accepted_by, past_of, released}

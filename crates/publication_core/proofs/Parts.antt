@@ -5,7 +5,7 @@ use Rattle.octets_core.specs.Linked.{Linked}
 use Rattle.ident_core.specs.Coverage.{RangesFit}
 use Rattle.ledger_core.specs.LedgerFields.{LedgerPartFields, IsPartAfter, part_fields, newest}
 use Rattle.ledger_core.specs.declared.fields.LedgerPart.{LedgerPart}
-use Rattle.sets_core.proofs.Elements.{some_item}
+use Rattle.ident_core.proofs.Elements.{some_item}
 use Rattle.universe_core.specs.Rebases.{is_other}
 
 -- the issuers of each but for these, one part after the other

@@ -9,8 +9,8 @@ use Rattle.part_text.specs.SealedFields.{SealedFields}
 use Rattle.job_core.specs.JobFacts.{EntryFieldsFit, FitsPublishing}
 use Rattle.ledger_core.specs.declared.fields.LedgerItem.{LedgerItem}
 use Rattle.ledger_core.specs.LedgerText.{HasNoDates}
-use Rattle.sets_core.specs.Among.{Among}
-use Rattle.sets_core.proofs.Elements.{Among-map, Among-cases}
+use Rattle.ident_core.specs.Among.{Among}
+use Rattle.ident_core.proofs.Elements.{Among-map, Among-cases}
 use Rattle.universe_core.specs.Jobs.{Entry}
 use Rattle.universe_core.specs.Formats.{JobIn, undated, reads_dates, read_in, facts_in}
 use Rattle.universe_core.specs.History.{Release, past_of, released, shown, accepted_by, seen}

@@ -13,10 +13,10 @@ use Rattle.card_core.specs.Filter.{is_positive}
 use Rattle.card_core.specs.PartFields.{PartFields}
 use Rattle.card_core.specs.Consulting.{block_of, consulted}
 use Rattle.part_text.specs.SealedFields.{SealedFields}
-use Rattle.sets_core.specs.Sets.{has, has_key}
-use Rattle.sets_core.proofs.Elements.{Among-in_filter, bool_same}
-use Rattle.sets_core.proofs.Sets.{Among-from_has, bytes_same, bytes_refl}
-use Rattle.sets_core.proofs.Canonical.{Contains-from_Among}
+use Rattle.ident_core.specs.Sets.{has, has_key}
+use Rattle.ident_core.proofs.Elements.{Among-in_filter, bool_same}
+use Rattle.ident_core.proofs.Sets.{Among-from_has, bytes_same, bytes_refl}
+use Rattle.ident_core.proofs.Canonical.{Contains-from_Among}
 use Rattle.universe_core.specs.Formats.{JobIn, dated}
 use Rattle.universe_core.specs.History.{Release}
 use Rattle.universe_core.specs.Groups.{members_of, group_of, groups}

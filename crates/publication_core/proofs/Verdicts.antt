@@ -9,8 +9,8 @@ use Rattle.equation_core.specs.Rows.{sha256_row}
 use Rattle.card_core.specs.PartFields.{PartFields}
 use Rattle.card_core.specs.Consulting.{consulted, covers_some}
 use Rattle.part_text.specs.SealedFields.{SealedFields}
-use Rattle.sets_core.specs.Among.{Among}
-use Rattle.sets_core.specs.Sets.{has, has_key}
+use Rattle.ident_core.specs.Among.{Among}
+use Rattle.ident_core.specs.Sets.{has, has_key}
 use Rattle.universe_core.specs.Formats.{JobIn}
 use Rattle.universe_core.specs.History.{Release, seen, sightings}
 use Rattle.history_core.specs.Bases.{kept_by, is_lasting_by, releases_without, base_at}

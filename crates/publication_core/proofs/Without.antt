@@ -15,10 +15,10 @@ use Rattle.ident_core.specs.HeadFields.{zero_key}
 use Rattle.ident_core.specs.Order.{octets_cmp}
 use Rattle.ledger_core.specs.LedgerFields.{LedgerPartFields, LedgerFields, Continues, IsPartAfter, IsLedger, IsItemOf, newest}
 use Rattle.ledger_core.specs.declared.fields.LedgerItem.{LedgerItem}
-use Rattle.sets_core.specs.Sets.{has_key, key_set}
-use Rattle.sets_core.proofs.Elements.{Among-filter, Among-in_filter, bool_same}
-use Rattle.sets_core.proofs.Order.{sorted_unique}
-use Rattle.sets_core.proofs.Sets.{Among-from_has_key, has_key-from_Among, Among-key_set, Among-from_key_set, key_set_ascends}
+use Rattle.ident_core.specs.Sets.{has_key, key_set}
+use Rattle.ident_core.proofs.Elements.{Among-filter, Among-in_filter, bool_same}
+use Rattle.ident_core.proofs.Order.{sorted_unique}
+use Rattle.ident_core.proofs.Sets.{Among-from_has_key, has_key-from_Among, Among-key_set, Among-from_key_set, key_set_ascends}
 use Rattle.universe_core.specs.Rebases.{is_other, is_of_other, part_without, ledger_without, count_left, kept, issuers_in, epoch_by, ranges_by, rebased_head}
 use Rattle.publication_core.proofs.Kept.{sorted_kept}
 

@@ -13,8 +13,8 @@ use Rattle.job_core.specs.JobFields.{JobFields}
 use Rattle.job_core.specs.JobFacts.{FitsPublishing, IsWithinLimits}
 use Rattle.ident_core.specs.declared.bounds.TheConstants.{MAX_ISSUERS, MAX_PARTS}
 use Rattle.ledger_core.specs.LedgerText.{ledger_text, old_ledger_text}
-use Rattle.sets_core.specs.Among.{Among}
-use Rattle.sets_core.specs.Sets.{has_key}
+use Rattle.ident_core.specs.Among.{Among}
+use Rattle.ident_core.specs.Sets.{has_key}
 use Rattle.universe_core.specs.Jobs.{Job, is_enrolled}
 use Rattle.universe_core.specs.Formats.{JobFormat, dated, JobIn, in_format, reads_dates, facts_in}
 use Rattle.universe_core.specs.History.{Release, past_of, released, accepted_with}

@@ -8,7 +8,7 @@ use Rattle.part_text.specs.SealedFields.{SealedFields}
 use Rattle.part_text.specs.PartText.{unsealed_text}
 use Rattle.job_core.specs.declared.bounds.What.TheVariants.{Issuers}
 use Rattle.ledger_core.specs.LedgerFields.{LedgerFields}
-use Rattle.sets_core.specs.Sets.{has_key}
+use Rattle.ident_core.specs.Sets.{has_key}
 use Rattle.universe_core.specs.Formats.{dated}
 use Rattle.universe_core.specs.Groups.{GroupFields}
 use Rattle.universe_core.specs.History.{Release, accepted_by, is_listed}

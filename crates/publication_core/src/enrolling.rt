@@ -2,13 +2,13 @@ ghost use Rattle.std.specs.Prelude.{◌≡◌, ◌++◌, IfOk, OnOk, map, filter
 ghost use Rattle.std.specs.List.Sorted.{IsStrictlySortedBy};
 ghost use Rattle.ident_core.specs.Order.{octets_cmp};
 ghost use Rattle.ledger_core.specs.LedgerFields.{part_fields};
-ghost use Rattle.sets_core.specs.Sets.{key_set};
+ghost use Rattle.ident_core.specs.Sets.{key_set};
 ghost use Rattle.universe_core.specs.Rebases.{is_other};
 
 use crate::leaving::LeftOut;
+use ident_core::sort_keys_once;
 use ledger_core::LedgerPart;
 use octets_core::Key32;
-use sets_core::sort_keys_once;
 use std::alloc::{AllocError, Global};
 
 /// How many keys hold the issuers of each part.

@@ -1,5 +1,5 @@
 ghost use Rattle.std.specs.Prelude.{◌≡◌, ◌&&◌, IfOk, map, filter, is_some, count_by};
-ghost use Rattle.sets_core.specs.Sets.{has_key};
+ghost use Rattle.ident_core.specs.Sets.{has_key};
 ghost use Rattle.universe_core.specs.Jobs.{is_stale};
 ghost use Rattle.universe_core.specs.Rebases.{is_lasting, is_of_other, rebased_item};
 

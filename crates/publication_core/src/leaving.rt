@@ -1,5 +1,5 @@
+use ident_core::{holds_key, sort_keys_once};
 use octets_core::Key32;
-use sets_core::{holds_key, sort_keys_once};
 use std::alloc::{AllocError, Global};
 use std::marker::Model;
 
@@ -23,7 +23,7 @@ impl Model for LeftOut {
 
 impl LeftOut {
     ghost use Rattle.std.specs.Prelude.{◌≡◌, IfOk};
-    ghost use Rattle.sets_core.specs.Sets.{has_key, key_set};
+    ghost use Rattle.ident_core.specs.Sets.{has_key, key_set};
 
     /// The set of these.
     pub(crate) fn new(alloc: Global, issuers: &[Key32]) -> Result<LeftOut, AllocError>

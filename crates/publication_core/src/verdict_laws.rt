@@ -4,7 +4,7 @@ ghost use Rattle.std.specs.Prelude.{◌≡◌, ◌≤◌, List, length, map};
 ghost use Rattle.ident_core.specs.declared.identity.Identity.{Identity};
 ghost use Rattle.ident_core.specs.declared.range.Sighting.{Sighting};
 ghost use Rattle.part_text.specs.SealedFields.{SealedFields};
-ghost use Rattle.sets_core.specs.Among.{Among};
+ghost use Rattle.ident_core.specs.Among.{Among};
 ghost use Rattle.universe_core.specs.History.{seen, sightings};
 ghost use Rattle.card_core.specs.Verdict.{verdict};
 ghost use Rattle.publication_core.specs.Histories.{History, IsHistory, releases_of};

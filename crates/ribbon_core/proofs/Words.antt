@@ -1,7 +1,6 @@
 -- The words of a number.
-use Rattle.std.proofs.Common.{◌≡◌, ℕ, zero, suc, ◌+◌, ◌-◌, ◌*◌, ◌/◌, ◌%◌, ◌^◌, ◌<◌, ◌≤◌, refl, ◌∙◌, arith}
-use Rattle.std.proofs.lemmas.Nat.{pow-add, shr-shr, rows, mod-pow-add, mod_low, mod_below, pow_pos}
-use Rattle.std.proofs.Math.Nat.{div-lt_iff_lt-mul}
+use Rattle.std.proofs.Common.{◌≡◌, ℕ, zero, suc, ◌+◌, ◌-◌, ◌*◌, ◌/◌, ◌%◌, ◌^◌, ◌<◌, ◌≤◌, refl, arith}
+use Rattle.std.proofs.lemmas.Nat.{shr-shr, rows, mod-pow-add, mod_low, mod_below, pow_pos}
 use Rattle.ribbon_core.specs.PlaneWords.{number_by}
 use Rattle.ribbon_core.proofs.Bands.{div_one}
 
@@ -42,22 +41,3 @@ pub mod_shorter : (Y j k : ℕ) → Y % 2 ^ (j + k) % 2 ^ k ≡ Y % 2 ^ k
 mod_shorter Y j k =
     let p = mod-pow-add Y j k in
     rw (p, mod_low (Y / 2 ^ k % 2 ^ j) k (Y % 2 ^ k) (mod_below Y (2 ^ k) (pow_pos k))) refl
-
--- a number of words has its padding bits zero where its last word has
-module _ (f : ℕ → ℕ) (fits : (k : ℕ) → f k < 2 ^ 64) where
-  last_word : (n : ℕ) → number_by f 0 (n + 1) / 2 ^ (64 * n) ≡ f n
-  unfolding number_by
-  last_word n =
-      let a = number_drop f fits n 0 (n + 1) (omega arith) in
-      let b : 0 + n ≡ n = omega arith in
-      let d : n + 1 - n ≡ suc 0 = omega arith in
-      a ∙ rw (b, d) (omega arith)
-
-  pub padded_from_last : (n r : ℕ) → f n < 2 ^ r → number_by f 0 (n + 1) < 2 ^ (64 * n + r)
-  padded_from_last n r lt =
-      let e = last_word n in
-      let h : number_by f 0 (n + 1) / 2 ^ (64 * n) < 2 ^ r = rw e lt in
-      let k = (div-lt_iff_lt-mul (pow_pos (64 * n))).0 h in
-      let p : 2 ^ (r + 64 * n) ≡ 2 ^ r * 2 ^ (64 * n) = pow-add 2 r (64 * n) in
-      let w : 64 * n + r ≡ r + 64 * n = omega arith in
-      rw (w, p) k

@@ -57,19 +57,6 @@ Torn-then old mid new name a x b y first torn =
 pub KeepsOthers-Moved : (old new : Option Files) (name a x b : List ℕ) → Moved old new name a x b → KeepsOthers old new name
 KeepsOthers-Moved old new name a x b moved = KeepsOthers-extending old new name moved.sent moved.files
 
--- a full buffer was written
-pub Moved-full : (old new : Option Files) (name held bytes full rest : List ℕ) (room : ℕ) → full ≡ held ++ take room bytes → rest ≡ drop room bytes
-    → new ≡ extending old name full → Moved old new name held bytes rest
-Moved-full old new name held bytes full rest room is left files = record {
-  sent = full;
-  files = files;
-  whole =
-      ap (λ (l : List ℕ). held ++ l) (sym (take-append-drop room bytes))
-      ∙ sym (append_assoc held (take room bytes) (drop room bytes))
-      ∙ ap (λ (l : List ℕ). l ++ drop room bytes) (sym is)
-      ∙ ap (λ (l : List ℕ). full ++ l) (sym left);
-}
-
 pub Torn-full : (old new : Option Files) (name held bytes full : List ℕ) (room : ℕ) → full ≡ held ++ take room bytes → Torn old new name full → Torn old new name (held ++ bytes)
 Torn-full old new name held bytes full room is torn =
     let same : full ++ drop room bytes ≡ held ++ bytes =

@@ -14,8 +14,8 @@ use Rattle.sha2.specs.Sha256.{sha256}
 use Rattle.sha2.proofs.Facts256.{length-sha256}
 use Rattle.octets_core.specs.Numbers.{three_bytes}
 use Rattle.job_core.specs.JobText.{range_record, crl_record, entry_record, spelling}
-use Rattle.sample_core.specs.Sample.{moment, log_of, issuer_of, entry_digest, serial_of, leaf_front, leaf_of, entry, is_listed, is_listed_by, sequence}
-use Rattle.sample_core.specs.Sample.{sequence_of_some, date, revoked_entry, revoked_entries, range_of, crl, sample_contents, sample_text, sample_revoked}
+use Rattle.sample_core.specs.Sample.{moment, log_of, issuer_of, entry_digest, serial_of, leaf_front, leaf_of, entry, is_listed, is_listed_by}
+use Rattle.sample_core.specs.Sample.{date, revoked_entry, revoked_entries, range_of, crl, sample_contents, sample_text, sample_revoked}
 use Rattle.sample_core.specs.Parts.{head_front, head_text, entries_text}
 
 -- ---- counting
@@ -183,14 +183,6 @@ pub revoked-longer : (number i j : ℕ) (before now : List ℕ) → length befor
     → now ≡ before ++ cond (is_listed_by j i) (revoked_entry number i) [] → length now ≤ 35 * (i + 1)
 revoked-longer number i j before now so_far one =
     omega (arith, ap length one, length-append before (cond (is_listed_by j i) (revoked_entry number i) []), revoked-length number i (is_listed_by j i))
-
-pub some-is : (contents : List ℕ) → 0 < length contents → sequence_of_some contents ≡ sequence contents
-some-is [] some = absurd (omega arith)
-some-is (x ∷ contents) some = refl
-
-pub none-is : (contents : List ℕ) → length contents ≡ 0 → sequence_of_some contents ≡ []
-none-is [] none = refl
-none-is (x ∷ contents) none = absurd (omega arith)
 
 -- ---- the whole
 

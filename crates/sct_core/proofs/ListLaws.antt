@@ -13,16 +13,12 @@ use Rattle.sct_core.specs.declared.fault.CertFault.{CertFault}
 use Rattle.sct_core.specs.declared.fault.CertFault.TheVariants as fault
 use Rattle.sct_core.specs.declared.bounds.TheConstants.{MAX_SCTS}
 use Rattle.sct_core.specs.Timestamps.{timestamp_in, timestamp, sightings_among}
-use Rattle.sct_core.specs.Outcome.{of_sightings, of_timestamps}
+use Rattle.sct_core.specs.Outcome.{of_sightings}
 
 -- what comes of the sightings so far, and of the timestamps that follow
 abbrev pub continued : List Sighting → Bool → Option (List (Option Sighting)) → Result (List Sighting) CertFault
 continued have many None = Err fault.BadScts
 continued have many (Some xs) = if many then Err fault.TooManyScts else of_sightings (have ++ sightings_among xs)
-
-pub start : (r : Option (List (Option Sighting))) → continued [] false r ≡ of_timestamps r
-start None = refl
-start (Some xs) = refl
 
 other : (have : List Sighting) (many : Bool) (r : Option (List (Option Sighting))) → continued have many (and_more (Some None) r) ≡ continued have many r
 other have many None = refl

@@ -42,15 +42,6 @@ slot-there at capacity count device stands few there =
       sym size,
     )
 
--- no slot is there where its length is too large, or where its last byte is missing
-pub no-slot : (at capacity count : ℕ) (device : List ℕ) → StandsAt at count device → count < 2 ^ 64 → capacity < 2 ^ 64
-    → (capacity < count) ⊎ (length device - (at + 8) < count) → (bytes : List ℕ) → IsSlot at capacity bytes device → ⊥
-no-slot at capacity count device stands low high bad bytes slot =
-    let same : count ≡ length bytes = stands-once at count (length bytes) device stands slot.stands low (omega (arith, slot.within)) in
-    let size = ap length slot.held in
-    ⊎_elim (λ large. absurd (omega (arith, large, same, slot.within)))
-    (λ short. absurd (omega (arith, size, short, same, length-take (length bytes) (drop (at + 8) device), length-drop (at + 8) device))) bad
-
 pub short-slot : (at capacity : ℕ) (device : List ℕ) → length device < at + 8 → (bytes : List ℕ) → IsSlot at capacity bytes device → ⊥
 short-slot at capacity device short bytes slot =
     omega (arith, ap length slot.stands, length-take 8 (drop at device), length-drop at device)

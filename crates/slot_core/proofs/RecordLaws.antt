@@ -1,6 +1,6 @@
 -- What a call leaves of a disk in memory, by its steps before and after.
-use Rattle.std.proofs.Common.{◌≡◌, ℕ, List, [], ◌∷◌, ◌++◌, length, Some, inl, refl, sym, ap, ◌∙◌, subst, arith}
-use Rattle.slot_core.specs.Disk.{Written, Tells, any_bytes, IsSynced, Quiet, Tears}
+use Rattle.std.proofs.Common.{◌≡◌, ℕ, List, [], ◌∷◌, ◌++◌, length, Some, refl, sym, ap, ◌∙◌, subst}
+use Rattle.slot_core.specs.Disk.{Written, Tells, IsSynced, Quiet, Tears}
 use Rattle.slot_core.specs.Steps.{Step, Write, Sync, overwritten, content, images_of, recorded_state}
 use Rattle.slot_core.proofs.StepLaws.{Written-overwritten, content-write, content-sync, images-after-write, images-after-sync, elapses-write, elapses-sync}
 use Rattle.slot_core.specs.Lawful.{told_is_image_of}
@@ -32,20 +32,3 @@ module _ (steps : List Step) (faults later : ℕ) where
     images = λ image now. subst (images_of steps) (sym (images-after-sync steps image now)) (told_is_image_of steps (content [] steps) refl);
     time = elapses-sync steps faults later;
   }
-
-  -- a call that did nothing
-  pub quiet_nothing : Quiet (recorded_state steps faults) (recorded_state steps later)
-  quiet_nothing = record {
-    same = refl;
-    images = λ image now. now;
-    time = record { later = omega arith; keeps = λ t image le past. past; joins = λ t image le since. inl since };
-  }
-
-  pub tears_nothing : (at n : ℕ) → Tears at n (recorded_state steps faults) (recorded_state steps later)
-  tears_nothing at n = record {
-    images = λ image now. (image, now, record { no_shorter = omega arith; elsewhere = λ k here where_. refl });
-    time = record { later = omega arith; keeps = λ t image le past. past; joins = λ t image le since. inl since };
-  }
-
-  pub told_nothing : Tells any_bytes (recorded_state steps faults) (recorded_state steps later)
-  told_nothing = record { some = λ b told. (content [] steps, refl, tt); none = λ is. absurd (cc) }

@@ -2,7 +2,7 @@
 use Rattle.std.proofs.Common.{◌≡◌, ◌⊎◌, inl, inr, ⊎_elim, ℕ, ◌+◌, ◌-◌, ◌<◌, ◌≤◌, List, length, get_or, drop, refl, sym, ap, ◌∙◌, arith, length-take, length-drop}
 use Rattle.std.specs.Int.{w64, to_be_bytes}
 use Rattle.std.proofs.lemmas.List.{same_lists, get_or-take, get_or-drop, get_or_default}
-use Rattle.slot_core.specs.Disk.{DiskState, Torn, Written, Tells, any_bytes, Within, After, Tears, piece}
+use Rattle.slot_core.specs.Disk.{DiskState, Torn, Written, Tells, piece}
 use Rattle.slot_core.specs.Fields.{WritesSlot}
 
 -- a piece that isn't empty lies within the file
@@ -39,40 +39,6 @@ Torn-then at n k old mid new a b = record {
       ∙ a.elsewhere j here (⊎_elim (λ front. inl front) (λ back. inr (omega arith)) where_);
 }
 
--- a write that isn't begun
-pub Torn-more : (at n k : ℕ) (old new : List ℕ) → Torn at n old new → Torn at (n + k) old new
-Torn-more at n k old new a = record {
-  no_shorter = a.no_shorter;
-  elsewhere = λ j here where_. a.elsewhere j here (⊎_elim (λ front. inl front) (λ back. inr (omega arith)) where_);
-}
-
-pub Tears-then : (old mid new : DiskState) (at n k : ℕ) → Tears at n old mid → Tears (at + n) k mid new → Tears at (n + k) old new
-Tears-then old mid new at n k first second = record {
-  images = λ i now. both i (second.images i now);
-  time = record {
-    later = omega (arith, first.time.later, second.time.later);
-    keeps = λ t i le past. second.time.keeps t i (omega (arith, le, first.time.later)) (first.time.keeps t i le past);
-    joins = λ t i le now.
-        ⊎_elim
-        (λ mids. ⊎_elim (λ past. inl past) (λ joined. inr (joined.0, joined.1, Torn-more at n k joined.0 i joined.2)) (first.time.joins t i le mids))
-        (λ joined. inr (both i joined))
-        (second.time.joins t i (omega (arith, le, first.time.later)) now);
-  };
-}
-  where
-    both : Within (After (Torn (at + n) k) mid.images) (After (Torn at (n + k)) old.images)
-    both i (m, was, b) = let a = first.images m was in (a.0, a.1, Torn-then at n k a.0 m i a.2 b)
-
-pub Tears-more : (old new : DiskState) (at n k : ℕ) → Tears at n old new → Tears at (n + k) old new
-Tears-more old new at n k tears = record {
-  images = λ i now. let a = tears.images i now in (a.0, a.1, Torn-more at n k a.0 i a.2);
-  time = record {
-    later = tears.time.later;
-    keeps = tears.time.keeps;
-    joins = λ t i le here. ⊎_elim (λ past. inl past) (λ a. inr (a.0, a.1, Torn-more at n k a.0 i a.2)) (tears.time.joins t i le here);
-  };
-}
-
 -- a length of eight bytes and then the bytes
 pub WritesSlot-two : (at : ℕ) (bytes old mid new : List ℕ) → Written at (to_be_bytes w64 (length bytes)) old mid → Written (at + 8) bytes mid new → WritesSlot at bytes old new
 WritesSlot-two at bytes old mid new a b = record {
@@ -88,11 +54,5 @@ Tells-two at bytes old mid new a b = record {
       let m = a.some was told in
       let n = b.some m.0 m.1 in
       (n.0, n.1, WritesSlot-two at bytes was m.0 n.0 m.2 n.2);
-  none = λ nothing. b.none (a.none nothing);
-}
-
-pub Tells-any : {R S : List ℕ → List ℕ → Type 0} (old mid new : DiskState) → Tells R old mid → Tells S mid new → Tells any_bytes old new
-Tells-any old mid new a b = record {
-  some = λ was told. let m = a.some was told in let n = b.some m.0 m.1 in (n.0, n.1, tt);
   none = λ nothing. b.none (a.none nothing);
 }

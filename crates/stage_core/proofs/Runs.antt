@@ -1,7 +1,7 @@
 -- A system after the equations of any list, of keys or of their rows.
 use Rattle.std.proofs.Common.{◌≡◌, ℕ, ◌↔◌, List, [], ◌∷◌, ◌++◌, length, map, refl, sym, subst}
 use Rattle.std.proofs.lemmas.List.{take_at, drop_at, map-append}
-use Rattle.std.proofs.lemmas.List.Elements.{All-nil, All-take, All-drop, All-head, All-push}
+use Rattle.std.proofs.lemmas.List.Elements.{All-take, All-drop, All-head, All-push}
 use Rattle.ribbon_core.specs.Equations.{Equation, Solves, SolvesAll}
 
 module _ (plane Z : ℕ) where
@@ -43,6 +43,3 @@ module _ {A : Type 0} (plane Z : ℕ) (f : A → Equation) where
     keys_refused all rest x is a refused b s =
         let t : SolvesAll plane (map f (xs ++ (x ∷ []))) Z = first_mapped (xs ++ (x ∷ [])) rest (subst (λ (l : List A). SolvesAll plane (map f l) Z) is s) in
         refused (a.1 (b, first_mapped xs (x ∷ []) t)) (last_mapped xs x t)
-
-  pub keys_none : (B : Type 0) → B ↔ (B × SolvesAll plane (map f []) Z)
-  keys_none B = (λ b. (b, All-nil (λ e. Solves plane e Z)), λ p. p.0)

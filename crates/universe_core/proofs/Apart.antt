@@ -16,12 +16,11 @@ use Rattle.ident_core.specs.declared.identity.Identity.{Identity}
 use Rattle.ident_core.specs.Order.{is_same, identity_cmp}
 use Rattle.ledger_core.specs.LedgerFields.{ids}
 use Rattle.ledger_core.specs.declared.fields.LedgerItem.{LedgerItem}
-use Rattle.sets_core.specs.Among.{Among}
-use Rattle.sets_core.proofs.Elements.{Among-left, Among-right, Among-cases}
-use Rattle.sets_core.proofs.Groups.{lt_less}
-use Rattle.sets_core.proofs.Keys.{same_other}
-use Rattle.sets_core.proofs.Order.{sorted_unique, sorted_all_inserted}
-use Rattle.sets_core.proofs.Sets.{identity_exact, identity_total, Among-with_all, Among-in_with_all}
+use Rattle.ident_core.specs.Among.{Among}
+use Rattle.ident_core.proofs.Elements.{Among-left, Among-right, Among-cases}
+use Rattle.ident_core.proofs.Keys.{same_other}
+use Rattle.ident_core.proofs.Order.{lt_less, sorted_all_inserted, sorted_unique}
+use Rattle.ident_core.proofs.Sets.{identity_exact, identity_total, Among-with_all, Among-in_with_all}
 use Rattle.universe_core.specs.Jobs.{Entry}
 use Rattle.universe_core.specs.Merging.{all_ids, count_told, merged}
 use Rattle.universe_core.proofs.Ascending.{both_ascend, parts_ascend}

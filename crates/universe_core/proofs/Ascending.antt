@@ -4,10 +4,10 @@ use Rattle.std.specs.declared.cmp.Ordering.{Ordering}
 use Rattle.std.specs.declared.cmp.Ordering.TheVariants.{Less}
 use Rattle.std.proofs.Common.{◌≡◌, ℕ, inl, inr, ⊎_elim, List, [], ◌∷◌, ◌++◌, take, drop, refl, sym, subst}
 use Rattle.std.proofs.lemmas.List.{take-append-drop}
-use Rattle.sets_core.specs.Among.{Among}
-use Rattle.sets_core.proofs.Canonical.{sorted_cons}
-use Rattle.sets_core.proofs.Elements.{Among-left, Among-cases}
-use Rattle.sets_core.proofs.Order.{sorted_head, sorted_tail}
+use Rattle.ident_core.specs.Among.{Among}
+use Rattle.ident_core.proofs.Canonical.{sorted_cons}
+use Rattle.ident_core.proofs.Elements.{Among-left, Among-cases}
+use Rattle.ident_core.proofs.Order.{sorted_head, sorted_tail}
 
 module _ {K : Type 0} (cmp : K → K → Ordering) where
   pub none_ascend : IsStrictlySortedBy cmp []

@@ -4,7 +4,7 @@ use Rattle.ident_core.specs.declared.identity.Identity.{Identity}
 use Rattle.job_core.specs.declared.meaning.JobCrl.{JobCrl}
 use Rattle.ledger_core.specs.declared.fields.LedgerItem.{LedgerItem}
 use Rattle.ledger_core.specs.LedgerFields.{LedgerFields, ids}
-use Rattle.sets_core.specs.Sets.{has}
+use Rattle.ident_core.specs.Sets.{has}
 use Rattle.universe_core.specs.Jobs.{Job, enrolled}
 use Rattle.universe_core.specs.History.{accepted_with, revoked}
 use Rattle.universe_core.specs.Ledgers.{past_in, next_item}

@@ -4,7 +4,7 @@ use Rattle.std.specs.List.{filter_map, cons_option, count_by}
 use Rattle.std.specs.Option.{option_map, option_map_or}
 use Rattle.std.specs.Prelude.{ℤ, pos, All, IfSome, is_some, nat_le, slice_get, unwrap_or}
 use Rattle.std.specs.Str.{bytes_eq}
-use Rattle.std.proofs.Common.{map, subst, ◌≡◌, ℕ, ◌+◌, ◌<◌, List, [], ◌∷◌, ◌++◌, length, get_or, take, Bool, true, false, cond, not, ◌&&◌, Option, Some, None, refl, sym, ap, ◌∙◌, arith}
+use Rattle.std.proofs.Common.{map, subst, ◌≡◌, ℕ, ◌+◌, ◌<◌, List, [], ◌∷◌, ◌++◌, length, get_or, take, Bool, true, false, cond, ◌&&◌, Option, Some, None, refl, sym, ap, ◌∙◌, arith}
 use Rattle.std.proofs.lemmas.Bool.{and_parts}
 use Rattle.std.proofs.lemmas.List.{append-nil}
 use Rattle.std.proofs.lemmas.List.Elements.{All-push, filter_map-append}
@@ -13,11 +13,11 @@ use Rattle.ident_core.specs.declared.identity.Identity.{Identity}
 use Rattle.ident_core.specs.declared.range.Sighting.{Sighting}
 use Rattle.ident_core.specs.declared.range.Range.{Range}
 use Rattle.ident_core.specs.Coverage.{covers, is_within}
-use Rattle.sets_core.specs.Sets.{has_key}
-use Rattle.sets_core.proofs.Keys.{take_is}
-use Rattle.sets_core.proofs.Sets.{bytes_same}
+use Rattle.ident_core.specs.Sets.{has_key}
+use Rattle.ident_core.proofs.Keys.{take_is}
+use Rattle.ident_core.proofs.Sets.{bytes_same}
 use Rattle.universe_core.specs.Jobs.{Entry}
-use Rattle.universe_core.specs.History.{Past, class_by, if_accepted}
+use Rattle.universe_core.specs.History.{Past, class_by}
 use Rattle.universe_core.specs.Ledgers.{no_ledger, past_in, parts_before, item_of}
 use Rattle.universe_core.specs.Reading.{if_read, entry_fields, class_alone, one_if}
 use Rattle.universe_core.specs.declared.class.Class.TheVariants.{Unread, Uncovered, Unenrolled, Late, Accepted}
@@ -61,18 +61,6 @@ module _ (ranges : List Range) (issuers : List (List ℕ)) where
 
   pub class_accepted : (e : Entry) → covers ranges e.sighting ≡ true → has_key issuers e.id.issuer ≡ true → Accepted ≡ class_alone ranges issuers (Some e)
   class_accepted e c n = told_accepted ranges issuers (past_in no_ledger) e c n (none_late e.id e.sighting)
-
-  taken_by : (c n l : Bool) (e : Entry) → l ≡ false → if_accepted (cond (not c) Uncovered (cond (not n) Unenrolled (cond l Late Accepted))) (Some e) ≡ cond (c && n) (Some e) None
-  taken_by true true true e h = absurd cc
-  taken_by true true false e h = refl
-  taken_by true false l e h = refl
-  taken_by false n l e h = refl
-
-  -- what is taken of an entry is what is read of it
-  pub taken_is : (o : Option Entry) → if_accepted (class_alone ranges issuers o) o ≡ if_read ranges issuers o
-  unfolding class_by
-  taken_is None = refl
-  taken_is (Some e) = taken_by (covers ranges e.sighting) (has_key issuers e.id.issuer) ((past_in no_ledger).lacked e.id e.sighting) e (none_late e.id e.sighting)
 
 -- ---- one more
 

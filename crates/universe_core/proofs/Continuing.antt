@@ -23,11 +23,11 @@ use Rattle.ledger_core.specs.declared.fields.LedgerPart.{LedgerPart}
 use Rattle.ledger_core.specs.LedgerFields.{LedgerPartFields, LedgerFields, Continues, IsLedger, IsItemOf, ids, part_fields, ledger_fields, sealed_with, newest}
 use Rattle.ledger_core.proofs.Chains.{newest_after, parts-append, IsItemOf-more}
 use Rattle.ledger_core.proofs.Seals.{sealed-append}
-use Rattle.sets_core.specs.Among.{Among}
-use Rattle.sets_core.specs.Sets.{has}
-use Rattle.sets_core.proofs.Canonical.{Contains-from_Among}
-use Rattle.sets_core.proofs.Order.{sorted_none}
-use Rattle.sets_core.proofs.Sets.{identity_total, with_all_ascends}
+use Rattle.ident_core.specs.Among.{Among}
+use Rattle.ident_core.specs.Sets.{has}
+use Rattle.ident_core.proofs.Canonical.{Contains-from_Among}
+use Rattle.ident_core.proofs.Order.{sorted_none}
+use Rattle.ident_core.proofs.Sets.{identity_total, with_all_ascends}
 use Rattle.universe_core.specs.Jobs.{Job, facts_of, enrolled}
 use Rattle.universe_core.specs.History.{shown, accepted_with, universe, revoked, released}
 use Rattle.universe_core.specs.Ledgers.{no_ledger, past_in, item_of, birth_or, last_or_none, next_item, next_ledger}

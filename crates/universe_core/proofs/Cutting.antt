@@ -12,13 +12,13 @@ use Rattle.std.proofs.lemmas.List.{take_all, length-drop, length-map, map-append
 use Rattle.std.proofs.lemmas.Map.Lookups.{exact_bytes}
 use Rattle.ident_core.specs.declared.identity.Identity.{Identity}
 use Rattle.ident_core.specs.Order.{octets_cmp, identity_cmp}
-use Rattle.sets_core.proofs.Sets.{identity_total, identity_exact}
-use Rattle.sets_core.proofs.Keys.{below_later, take_is}
-use Rattle.sets_core.proofs.Runs.{then_less}
-use Rattle.sets_core.proofs.Groups.{lt_less}
+use Rattle.ident_core.proofs.Sets.{identity_total, identity_exact}
+use Rattle.ident_core.proofs.Keys.{below_later, take_is}
+use Rattle.ident_core.proofs.Runs.{then_less}
+use Rattle.ident_core.proofs.Order.{lt_less}
 use Rattle.universe_core.specs.Groups.{GroupFields, members_of}
 use Rattle.universe_core.specs.Members.{group_with}
-use Rattle.sets_core.proofs.Keyed.{get_map}
+use Rattle.ident_core.proofs.Keyed.{get_map}
 
 abbrev pub is_below : List ℕ → Identity → Bool
 is_below k x = is_lt (octets_cmp x.issuer k)

@@ -5,9 +5,9 @@ use Rattle.std.proofs.Common.{◌≡◌, ℕ, List, [], ◌∷◌, map, filter, 
 use Rattle.std.proofs.lemmas.Bool.{and_parts, and_from}
 use Rattle.job_core.specs.declared.meaning.JobCrl.{JobCrl}
 use Rattle.job_core.specs.JobFields.{crl_view}
-use Rattle.sets_core.specs.Sets.{has_key, key_set}
-use Rattle.sets_core.proofs.Elements.{bool_same, Among-filter, Among-in_filter}
-use Rattle.sets_core.proofs.Sets.{Among-from_has_key, has_key-from_Among, Among-key_set, Among-from_key_set}
+use Rattle.ident_core.specs.Sets.{has_key, key_set}
+use Rattle.ident_core.proofs.Elements.{bool_same, Among-filter, Among-in_filter}
+use Rattle.ident_core.proofs.Sets.{Among-from_has_key, has_key-from_Among, Among-key_set, Among-from_key_set}
 use Rattle.universe_core.specs.Jobs.{Crl, Job, accepted_crl, is_stale, crls_of, enrolled, is_enrolled}
 use Rattle.universe_core.specs.Enrolling.{facts_of_crl, is_of, is_stale_of}
 

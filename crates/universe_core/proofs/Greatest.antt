@@ -5,7 +5,7 @@ use Rattle.std.proofs.lemmas.Int.{ints, clamps}
 use Rattle.std.specs.Int.{int_max}
 use Rattle.std.specs.Option.{option_map, option_flatten}
 use Rattle.std.specs.Int.Signed.{≤ℤ_refl}
-use Rattle.sets_core.specs.Among.{Among}
+use Rattle.ident_core.specs.Among.{Among}
 use Rattle.ledger_core.specs.declared.fields.LedgerItem.{LedgerItem}
 use Rattle.universe_core.specs.Dates.{later_of, greatest, IsGreatest}
 use Rattle.universe_core.specs.Ledgers.{old_dates}

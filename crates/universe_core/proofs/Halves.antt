@@ -11,11 +11,11 @@ use Rattle.ident_core.specs.declared.range.Range.{Range}
 use Rattle.ident_core.specs.Order.{identity_cmp, octets_cmp}
 use Rattle.ledger_core.specs.LedgerFields.{ids}
 use Rattle.ledger_core.specs.declared.fields.LedgerItem.{LedgerItem}
-use Rattle.sets_core.specs.Among.{Among}
-use Rattle.sets_core.proofs.Canonical.{all_from}
-use Rattle.sets_core.proofs.Elements.{Among-cases}
-use Rattle.sets_core.proofs.Order.{all_among}
-use Rattle.sets_core.proofs.Sets.{identity_total}
+use Rattle.ident_core.specs.Among.{Among}
+use Rattle.ident_core.proofs.Canonical.{all_from}
+use Rattle.ident_core.proofs.Elements.{Among-cases}
+use Rattle.ident_core.proofs.Order.{all_among}
+use Rattle.ident_core.proofs.Sets.{identity_total}
 use Rattle.universe_core.specs.Jobs.{Entry}
 use Rattle.universe_core.specs.Judging.{is_late_beside, judge_of}
 use Rattle.universe_core.specs.Members.{as_item}

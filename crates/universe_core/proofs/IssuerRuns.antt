@@ -18,16 +18,15 @@ use Rattle.ident_core.specs.declared.identity.Identity.{Identity}
 use Rattle.ident_core.specs.Order.{octets_cmp, serial_cmp, identity_cmp, is_same}
 use Rattle.ledger_core.specs.LedgerFields.{ids}
 use Rattle.ledger_core.specs.declared.fields.LedgerItem.{LedgerItem}
-use Rattle.sets_core.specs.Among.{Among}
-use Rattle.sets_core.specs.Sets.{has_key}
-use Rattle.sets_core.proofs.Canonical.{Among-from_Contains, Contains-from_Among, sorted_cons}
-use Rattle.sets_core.proofs.Elements.{Among-from_place, Among-filter, Among-in_filter, Among-map, Among-in_map, bool_same, map_agree, some_item}
-use Rattle.sets_core.proofs.Groups.{lt_less, no_gt}
-use Rattle.sets_core.proofs.Keyed as keyed
-use Rattle.sets_core.proofs.Keys.{below_later, has_none, not_greater, not_has}
-use Rattle.sets_core.proofs.Order.{sorted_head, sorted_tail, not_below_itself}
-use Rattle.sets_core.proofs.Runs.{above, other_issuer}
-use Rattle.sets_core.proofs.Sets.{bytes_same, bytes_refl, then_equal, Among-from_has_key, has_key-from_Among}
+use Rattle.ident_core.specs.Among.{Among}
+use Rattle.ident_core.specs.Sets.{has_key}
+use Rattle.ident_core.proofs.Canonical.{Among-from_Contains, Contains-from_Among, sorted_cons}
+use Rattle.ident_core.proofs.Elements.{Among-from_place, Among-filter, Among-in_filter, Among-map, Among-in_map, bool_same, map_agree, some_item}
+use Rattle.ident_core.proofs.Keyed as keyed
+use Rattle.ident_core.proofs.Keys.{below_later, has_none, not_greater, not_has}
+use Rattle.ident_core.proofs.Order.{lt_less, no_gt, not_below_itself, sorted_head, sorted_tail}
+use Rattle.ident_core.proofs.Runs.{above, other_issuer}
+use Rattle.ident_core.proofs.Sets.{bytes_same, bytes_refl, then_equal, Among-from_has_key, has_key-from_Among}
 use Rattle.universe_core.specs.declared.listing.Listed.{Listed}
 use Rattle.universe_core.specs.declared.marking.Run.{Run}
 use Rattle.universe_core.specs.Groups.{members_of}

@@ -7,9 +7,9 @@ use Rattle.std.proofs.lemmas.List.Kept.{IsStrictlySortedBy-filter}
 use Rattle.ident_core.specs.Order.{octets_cmp}
 use Rattle.job_core.specs.declared.meaning.JobCrl.{JobCrl}
 use Rattle.job_core.specs.JobFields.{crl_view}
-use Rattle.sets_core.specs.Sets.{has_key, key_set}
-use Rattle.sets_core.proofs.Elements.{bool_same}
-use Rattle.sets_core.proofs.Sets.{Among-from_has_key, has_key-from_Among, Among-key_set, Among-from_key_set, key_set_ascends}
+use Rattle.ident_core.specs.Sets.{has_key, key_set}
+use Rattle.ident_core.proofs.Elements.{bool_same}
+use Rattle.ident_core.proofs.Sets.{Among-from_has_key, has_key-from_Among, Among-key_set, Among-from_key_set, key_set_ascends}
 use Rattle.universe_core.specs.Jobs.{Crl, Job, accepted_crl, is_stale, crls_of, enrolled}
 use Rattle.universe_core.specs.Enrolling.{facts_of_crl, issuer_if, stale_issuer_if}
 

@@ -13,13 +13,13 @@ use Rattle.std.proofs.lemmas.List.Sums.{sum_by-cons, count_by-le-length}
 use Rattle.std.proofs.lemmas.List.Folds.{list_all-map}
 use Rattle.std.proofs.lemmas.Option.{slice_get-map}
 use Rattle.std.proofs.lemmas.List.Kept.{IsStrictlySortedBy-filter}
-use Rattle.sets_core.specs.Among.{Among}
+use Rattle.ident_core.specs.Among.{Among}
 use Rattle.ident_core.specs.declared.identity.Identity.{Identity}
 use Rattle.ident_core.specs.declared.range.Sighting.{Sighting}
 use Rattle.ident_core.specs.declared.range.Range.{Range}
 use Rattle.universe_core.specs.Jobs.{Entry, Job, enrolled}
 use Rattle.ident_core.specs.Order.{is_same, identity_cmp}
-use Rattle.sets_core.specs.Sets.{has_key}
+use Rattle.ident_core.specs.Sets.{has_key}
 use Rattle.ident_core.specs.Coverage.{covers}
 use Rattle.universe_core.specs.declared.class.Class.TheVariants.{Uncovered, Unenrolled, Late, Accepted}
 use Rattle.universe_core.specs.History.{Past, class_by, class_of, if_accepted, shown, sightings, accepted_with, covers_all}
@@ -28,9 +28,9 @@ use Rattle.universe_core.specs.Ledgers.{past_in, parts_before, item_of, birth_or
 use Rattle.ledger_core.specs.LedgerFields.{LedgerFields, LedgerPartFields, part_fields, ledger_fields}
 use Rattle.ledger_core.specs.declared.fields.LedgerPart.{LedgerPart}
 use Rattle.ledger_core.specs.declared.fields.LedgerItem.{LedgerItem}
-use Rattle.sets_core.proofs.Elements.{Among-filter, Among-in_filter, Among-map, Among-in_map, Among-filter_map, Among-in_filter_map, found, any_at, all_at, all_from, bool_same, map_agree}
-use Rattle.sets_core.proofs.Sets.{same_is, same_refl, identity_total, Among-with_all, Among-in_with_all}
-use Rattle.sets_core.proofs.Order.{sorted_unique, sorted_all_inserted}
+use Rattle.ident_core.proofs.Elements.{Among-filter, Among-in_filter, Among-map, Among-in_map, Among-filter_map, Among-in_filter_map, found, any_at, all_at, all_from, bool_same, map_agree}
+use Rattle.ident_core.proofs.Sets.{same_is, same_refl, identity_total, Among-with_all, Among-in_with_all}
+use Rattle.ident_core.proofs.Order.{sorted_unique, sorted_all_inserted}
 use Rattle.universe_core.specs.declared.member.Member.{Member}
 use Rattle.universe_core.specs.Merging.{all_ids, count_told, merged}
 use Rattle.universe_core.specs.Judging.{is_late_beside, is_timely, timely, sightings_of, dates_of, is_member_of, member_of, judge_of}

@@ -11,17 +11,17 @@ use Rattle.std.proofs.lemmas.Cmp.{tied_itself}
 use Rattle.std.proofs.lemmas.Bool.{true≢false}
 use Rattle.std.proofs.lemmas.List.{append-nil, drop-map}
 use Rattle.std.proofs.lemmas.List.Sums.{sum_by-cons, count_by-le-length}
-use Rattle.sets_core.specs.Among.{Among}
+use Rattle.ident_core.specs.Among.{Among}
 use Rattle.ident_core.specs.declared.identity.Identity.{Identity}
 use Rattle.ident_core.specs.Order.{is_same, identity_cmp}
-use Rattle.sets_core.specs.Sets.{with_all, all_inserted}
+use Rattle.ident_core.specs.Sets.{with_all, all_inserted}
 use Rattle.ledger_core.specs.declared.fields.LedgerItem.{LedgerItem}
-use Rattle.sets_core.proofs.Sets.{same_is, same_refl, identity_exact, identity_total, Among-with_all, Among-in_with_all}
-use Rattle.sets_core.proofs.Order.{sorted_unique, sorted_all_inserted, sorted_head, sorted_tail}
+use Rattle.ident_core.proofs.Sets.{same_is, same_refl, identity_exact, identity_total, Among-with_all, Among-in_with_all}
+use Rattle.ident_core.proofs.Order.{sorted_unique, sorted_all_inserted, sorted_head, sorted_tail}
 use Rattle.universe_core.specs.Jobs.{Entry}
 use Rattle.universe_core.specs.Merging.{IsRising, lower, least_of, run_of, after_run, first_of, after_first, count_told, all_ids, merged}
-use Rattle.sets_core.proofs.Canonical.{sorted_cons, all_from}
-use Rattle.sets_core.proofs.Keys.{same_other, less_other}
+use Rattle.ident_core.proofs.Canonical.{sorted_cons, all_from}
+use Rattle.ident_core.proofs.Keys.{same_other, less_other}
 
 -- ---- the union without its least
 
@@ -390,18 +390,11 @@ drop_run : (x : Identity) (es : List Entry) → drop (length (run_of x es)) es �
 drop_run x [] = refl
 drop_run x (e ∷ es) = elim (is_same x e.id) as (λ b. drop (length (cond b (e ∷ run_of x es) [])) (e ∷ es) ≡ cond b (after_run x es) (e ∷ es)) [ true ↦ drop_run x es | false ↦ refl ]
 
-run_short : (x : Identity) (es : List Entry) → length (run_of x es) ≤ length es
-run_short x [] = omega arith
-run_short x (e ∷ es) = elim (is_same x e.id) as (λ b. length (cond b (e ∷ run_of x es) []) ≤ length (e ∷ es)) [ true ↦ (let h = run_short x es in omega arith) | false ↦ omega arith ]
-
 pub run_taken : (n : ℕ) (x : Identity) (es : List Entry) → n ≡ length (run_of x es) → take n es ≡ run_of x es
 run_taken n x es h = ap (λ k. take k es) h ∙ take_run x es
 
 pub run_dropped : (n : ℕ) (x : Identity) (es : List Entry) → n ≡ length (run_of x es) → drop n es ≡ after_run x es
 run_dropped n x es h = ap (λ k. drop k es) h ∙ drop_run x es
-
-pub run_within : (n : ℕ) (x : Identity) (es : List Entry) → n ≡ length (run_of x es) → n ≤ length es
-run_within n x es h = let k = run_short x es in omega arith
 
 -- ---- the measure
 

@@ -15,8 +15,8 @@ use Rattle.std.proofs.lemmas.Option.{slice_get-get_or, unwrap_or-slice_get}
 use Rattle.octets_core.specs.Numbers.{number}
 use Rattle.ident_core.specs.Order.{octets_cmp, serial_cmp, identity_cmp}
 use Rattle.octets_core.proofs.Heads.{first_cmp}
-use Rattle.sets_core.proofs.Elements.{Among-from_place, some_item}
-use Rattle.sets_core.proofs.Order.{sorted_head, sorted_tail}
+use Rattle.ident_core.proofs.Elements.{Among-from_place, some_item}
+use Rattle.ident_core.proofs.Order.{sorted_head, sorted_tail}
 use Rattle.universe_core.specs.declared.read_entry.ReadEntry.{ReadEntry}
 use Rattle.universe_core.specs.declared.serial_key.SerialKey.{SerialKey}
 use Rattle.universe_core.specs.Placing.{IsKeyOf, keyed_cmp, placed_cmp, head_of}

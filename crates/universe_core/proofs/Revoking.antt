@@ -11,9 +11,9 @@ use Rattle.job_core.specs.declared.meaning.JobCrl.{JobCrl}
 use Rattle.job_core.specs.JobFields.{crl_view}
 use Rattle.ledger_core.specs.LedgerFields.{LedgerFields, ids}
 use Rattle.ledger_core.specs.declared.fields.LedgerItem.{LedgerItem}
-use Rattle.sets_core.specs.Sets.{has, has_key}
-use Rattle.sets_core.proofs.Elements.{Among-filter, Among-in_filter, bool_same, map_agree}
-use Rattle.sets_core.proofs.Sets.{Among-from_has, has-from_Among}
+use Rattle.ident_core.specs.Sets.{has, has_key}
+use Rattle.ident_core.proofs.Elements.{Among-filter, Among-in_filter, bool_same, map_agree}
+use Rattle.ident_core.proofs.Sets.{Among-from_has, has-from_Among}
 use Rattle.universe_core.specs.Jobs.{Crl, Job, accepted_crl, enrolled, lists}
 use Rattle.universe_core.specs.Enrolling.{facts_of_crl, holds}
 use Rattle.universe_core.specs.History.{Past, shown, sightings, accepted_with, universe, listed_now, is_revoked, revoked}

@@ -8,12 +8,12 @@ use Rattle.ident_core.specs.declared.identity.Identity.{Identity}
 use Rattle.ident_core.specs.Order.{is_same, identity_cmp}
 use Rattle.ledger_core.specs.declared.fields.LedgerItem.{LedgerItem}
 use Rattle.ledger_core.specs.LedgerFields.{ids}
-use Rattle.sets_core.specs.Sets.{has}
-use Rattle.sets_core.proofs.Elements.{Among-from_place, some_item}
-use Rattle.sets_core.proofs.Order.{sorted_head, sorted_tail}
-use Rattle.sets_core.proofs.Sets.{identity_total, identity_exact, same_refl}
-use Rattle.sets_core.proofs.Keyed as keyed
-use Rattle.sets_core.proofs.Keys.{has_none, same_other, less_other}
+use Rattle.ident_core.specs.Sets.{has}
+use Rattle.ident_core.proofs.Elements.{Among-from_place, some_item}
+use Rattle.ident_core.proofs.Order.{sorted_head, sorted_tail}
+use Rattle.ident_core.proofs.Sets.{identity_total, identity_exact, same_refl}
+use Rattle.ident_core.proofs.Keyed as keyed
+use Rattle.ident_core.proofs.Keys.{has_none, same_other, less_other}
 
 abbrev pub bare_item : Identity → LedgerItem
 bare_item x = record { id = x; birth = 0; last = None; until = None }

@@ -8,21 +8,21 @@ use Rattle.std.specs.declared.cmp.Ordering.TheVariants.{Less, Equal, Greater}
 use Rattle.std.specs.Ordering.{is_lt, is_gt, ordering_reverse}
 use Rattle.std.proofs.lemmas.Bool.{true≢false, and_parts, and_from}
 use Rattle.std.proofs.lemmas.List.Sorted.{sorted_far, All-permutation, Contains-permutation, IsPermutation-sym}
-use Rattle.sets_core.specs.Among.{Among}
+use Rattle.ident_core.specs.Among.{Among}
 use Rattle.ident_core.specs.declared.range.Range.{Range}
-use Rattle.sets_core.specs.Sets.{has_key}
+use Rattle.ident_core.specs.Sets.{has_key}
 use Rattle.ident_core.specs.Order.{identity_cmp, octets_cmp}
 use Rattle.ident_core.specs.Coverage.{covers}
 use Rattle.universe_core.specs.Jobs.{Job, Entry, enrolled}
-use Rattle.sets_core.proofs.Elements.{Among-filter_map, Among-in_filter_map, Among-map}
+use Rattle.ident_core.proofs.Elements.{Among-filter_map, Among-in_filter_map, Among-map}
 use Rattle.universe_core.specs.declared.read_entry.ReadEntry.{ReadEntry}
 use Rattle.universe_core.specs.Merging.{IsRising}
 use Rattle.universe_core.specs.Placing.{placed_cmp}
 use Rattle.universe_core.specs.Reading.{if_read, IsPlaced, id_in, entry_fields, entries_of}
-use Rattle.sets_core.proofs.Canonical.{all_from, Among-from_Contains, Contains-from_Among}
+use Rattle.ident_core.proofs.Canonical.{all_from, Among-from_Contains, Contains-from_Among}
 use Rattle.universe_core.proofs.Members.{AreRead}
 use Rattle.universe_core.proofs.Placing.{placed_is, placed_ranks}
-use Rattle.sets_core.proofs.Sets.{identity_total}
+use Rattle.ident_core.proofs.Sets.{identity_total}
 
 pub no_gt : (o : Ordering) → is_lt (ordering_reverse o) ≡ false → is_gt o ≡ false
 no_gt Less h = refl

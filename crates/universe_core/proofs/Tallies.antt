@@ -1,6 +1,6 @@
 -- The counts of a job.
 use Rattle.std.specs.List.{count_by, filter_map}
-use Rattle.std.proofs.Common.{◌≡◌, ℕ, suc, inl, inr, List, [], ◌∷◌, map, filter, length, Bool, true, false, cond, not, ◌&&◌, Option, Some, None, refl, sym, ap, ◌∙◌, subst, All}
+use Rattle.std.proofs.Common.{◌≡◌, ℕ, suc, inl, inr, List, [], ◌∷◌, map, filter, length, Bool, true, false, cond, ◌&&◌, Option, refl, sym, ap, ◌∙◌, subst, All}
 use Rattle.std.proofs.lemmas.Bool.{false_from_ne_true, true≢false}
 use Rattle.std.proofs.lemmas.List.Sums.{length-filter}
 use Rattle.ident_core.specs.declared.identity.Identity.{Identity}
@@ -8,23 +8,19 @@ use Rattle.ident_core.specs.declared.range.Range.{Range}
 use Rattle.job_core.specs.declared.meaning.Job.{Job as CodeJob}
 use Rattle.ledger_core.specs.LedgerFields.{LedgerFields}
 use Rattle.ledger_core.specs.declared.fields.LedgerItem.{LedgerItem}
-use Rattle.ident_core.specs.Coverage.{covers}
-use Rattle.sets_core.specs.Among.{Among}
-use Rattle.sets_core.specs.Sets.{has, has_key}
-use Rattle.sets_core.proofs.Elements.{bool_same}
-use Rattle.sets_core.proofs.Sets.{has-from_Among}
-use Rattle.sets_core.proofs.Runs.{filter_none}
+use Rattle.ident_core.specs.Among.{Among}
+use Rattle.ident_core.specs.Sets.{has, has_key}
+use Rattle.ident_core.proofs.Elements.{bool_same}
+use Rattle.ident_core.proofs.Sets.{has-from_Among}
 use Rattle.universe_core.specs.Jobs.{Entry, Job, facts_of_job, enrolled}
-use Rattle.universe_core.specs.History.{Past, class_by, class_of, accepted_with, universe, is_revoked, revoked}
+use Rattle.universe_core.specs.History.{Past, accepted_with, universe, is_revoked, revoked}
 use Rattle.universe_core.specs.Ledgers.{no_ledger, past_in}
 use Rattle.universe_core.specs.Counting.{is_class, count}
 use Rattle.universe_core.specs.Reading.{class_alone, if_read, IsPlaced, entries_of}
 use Rattle.universe_core.specs.Members.{as_item, member_in, members_in}
 use Rattle.universe_core.specs.declared.class.Class.{Class}
-use Rattle.universe_core.specs.declared.class.Class.TheVariants.{Uncovered, Unenrolled, Late, Accepted}
 use Rattle.universe_core.specs.declared.member.Member.{Member}
 use Rattle.universe_core.specs.declared.read_entry.ReadEntry.{ReadEntry}
-use Rattle.universe_core.proofs.Classes.{none_late}
 use Rattle.universe_core.proofs.Revoking.{universe_is, universe_has, revoked_is, revoked_has}
 
 length_mapped : {A B : Type 0} (p : B → Bool) (f : A → B) (xs : List A) → length (filter p (map f xs)) ≡ length (filter (λ x. p (f x)) xs)
@@ -61,23 +57,6 @@ read_again issuers keys ranges shown left whole k s h = (λ i. entries_of (k i) 
 pub placed_again : (issuers keys : List (List ℕ)) (ranges shown : List Range) (left : List ReadEntry) → keys ≡ issuers → shown ≡ ranges
     → All (IsPlaced issuers ranges) left → All (IsPlaced keys shown) left
 placed_again issuers keys ranges shown left k s h = subst (λ is. All (IsPlaced is shown) left) (sym k) (subst (λ rs. All (IsPlaced issuers rs) left) (sym s) h)
-
-count_none : {A : Type 0} (p : A → Bool) (xs : List A) → ((x : A) → p x ≡ false) → count_by p xs ≡ 0
-count_none p xs f = sym (length-filter p xs) ∙ ap length (filter_none p xs (λ x a. f x))
-
-not_late : (c n l : Bool) → l ≡ false → is_class Late (cond (not c) Uncovered (cond (not n) Unenrolled (cond l Late Accepted))) ≡ false
-not_late true true true h = h
-not_late true true false h = refl
-not_late true false l h = refl
-not_late false n l h = refl
-
-pub late_none : (job : Job) → 0 ≡ count Late (past_in no_ledger) job
-unfolding class_by
-late_none job = sym (count_none (λ e. is_class Late (class_of (past_in no_ledger) job e)) job.entries (none job))
-  where
-    none : (job : Job) (e : Option Entry) → is_class Late (class_of (past_in no_ledger) job e) ≡ false
-    none job None = refl
-    none job (Some e) = not_late (covers job.ranges e.sighting) (has_key (enrolled job) e.id.issuer) ((past_in no_ledger).lacked e.id e.sighting) (none_late e.id e.sighting)
 
 -- ---- the universe and the revoked set
 

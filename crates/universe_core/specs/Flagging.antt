@@ -3,7 +3,7 @@ use Rattle.std.specs.Prelude.{◌≡◌, ◌&&◌, ◌||◌, ℕ, List, Bool, no
 use Rattle.std.specs.List.{count_by}
 use Rattle.ident_core.specs.declared.identity.Identity.{Identity}
 use Rattle.ledger_core.specs.declared.fields.LedgerItem.{LedgerItem}
-use Rattle.sets_core.specs.Sets.{has_key}
+use Rattle.ident_core.specs.Sets.{has_key}
 
 -- A flag beside each member, where its issuer is enrolled, it was listed or is, and it isn't settled; and how many are
 -- of the universe.

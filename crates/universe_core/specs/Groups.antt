@@ -4,7 +4,7 @@ use Rattle.std.specs.List.Sorted.{IsStrictlySortedBy}
 use Rattle.std.specs.Str.{bytes_eq}
 use Rattle.ident_core.specs.declared.identity.Identity.{Identity}
 use Rattle.ident_core.specs.Order.{identity_cmp}
-use Rattle.sets_core.specs.Sets.{has}
+use Rattle.ident_core.specs.Sets.{has}
 use Rattle.universe_core.specs.History.{Release}
 use Rattle.universe_core.specs.declared.admitted.Group.{Group}
 

@@ -7,7 +7,7 @@ use Rattle.ident_core.specs.declared.range.Sighting.{Sighting}
 use Rattle.ident_core.specs.declared.range.Range.{Range}
 use Rattle.ident_core.specs.Order.{is_same}
 use Rattle.ident_core.specs.Coverage.{covers, lies_in_some}
-use Rattle.sets_core.specs.Sets.{has, has_key, with_all}
+use Rattle.ident_core.specs.Sets.{has, has_key, with_all}
 use Rattle.universe_core.specs.Jobs.{Entry, Job, enrolled, lists}
 use Rattle.universe_core.specs.declared.class.Class.{Class}
 use Rattle.universe_core.specs.declared.class.Class.TheVariants.{Unread, Uncovered, Unenrolled, Late, Accepted}

@@ -10,7 +10,7 @@ use Rattle.crl_core.specs.Outcome.{CrlFields}
 pub use Rattle.log_core.specs.declared.Entry.{Entry}
 use Rattle.job_core.specs.declared.meaning.Job.{Job as JobInCode}
 use Rattle.job_core.specs.JobFields.{CrlMeaning, JobFields, fields_of_job}
-use Rattle.sets_core.specs.Sets.{has_key, key_set}
+use Rattle.ident_core.specs.Sets.{has_key, key_set}
 
 -- an issuer's CRL: when it goes out of date, in seconds since 1970, and the serials that it holds
 pub record Crl : Type 0 where

@@ -9,7 +9,7 @@ use Rattle.ident_core.specs.Coverage.{covers}
 use Rattle.ledger_core.specs.declared.fields.LedgerItem.{LedgerItem}
 use Rattle.ledger_core.specs.declared.fields.LedgerPart.{LedgerPart}
 use Rattle.ledger_core.specs.LedgerFields.{LedgerPartFields, LedgerFields, ledger_fields}
-use Rattle.sets_core.specs.Sets.{has, has_key}
+use Rattle.ident_core.specs.Sets.{has, has_key}
 use Rattle.universe_core.specs.Jobs.{Job, enrolled}
 use Rattle.universe_core.specs.History.{Release, Past, covers_all, shown, accepted_with, revoked, birth, accepted_by}
 use Rattle.universe_core.specs.Dates.{greatest, dates, until}

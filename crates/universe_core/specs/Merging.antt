@@ -4,7 +4,7 @@ use Rattle.std.specs.List.{AllByRecursion, count_by}
 use Rattle.std.specs.Ordering.{is_lt, is_gt}
 use Rattle.ident_core.specs.declared.identity.Identity.{Identity}
 use Rattle.ident_core.specs.Order.{is_same, identity_cmp}
-use Rattle.sets_core.specs.Sets.{with_all}
+use Rattle.ident_core.specs.Sets.{with_all}
 use Rattle.ledger_core.specs.declared.fields.LedgerItem.{LedgerItem}
 use Rattle.universe_core.specs.Jobs.{Entry}
 

@@ -8,7 +8,7 @@ use Rattle.ident_core.specs.declared.range.Range.{Range}
 use Rattle.ident_core.specs.declared.range.Sighting.{Sighting}
 use Rattle.ident_core.specs.Coverage.{covers}
 use Rattle.ledger_core.specs.LedgerFields.{LedgerFields}
-use Rattle.sets_core.specs.Sets.{has_key}
+use Rattle.ident_core.specs.Sets.{has_key}
 use Rattle.universe_core.specs.Jobs.{Entry}
 use Rattle.universe_core.specs.History.{class_by}
 use Rattle.universe_core.specs.Ledgers.{no_ledger, past_in}

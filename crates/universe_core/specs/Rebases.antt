@@ -8,7 +8,7 @@ use Rattle.ident_core.specs.declared.kind.Kind.TheVariants as kinds
 use Rattle.ident_core.specs.HeadFields.{HeadFields, zero_key}
 use Rattle.ledger_core.specs.declared.fields.LedgerItem.{LedgerItem}
 use Rattle.ledger_core.specs.LedgerFields.{LedgerPartFields, LedgerFields, ids, newest}
-use Rattle.sets_core.specs.Sets.{has, has_key, key_set}
+use Rattle.ident_core.specs.Sets.{has, has_key, key_set}
 use Rattle.universe_core.specs.Jobs.{is_stale}
 use Rattle.universe_core.specs.Groups.{GroupFields, members_of}
 

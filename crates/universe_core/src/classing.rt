@@ -12,10 +12,10 @@ ghost use Rattle.universe_core.specs.Ledgers.{ledger_or_none, past_by, past_in};
 use crate::class::Class;
 use crate::enrolling::is_enrolled;
 use crate::lateness::is_late_sighting;
+use ident_core::place_covering;
 use job_core::Job;
 use ledger_core::{Ledger, LedgerItem, LedgerPart};
 use log_core::Entry;
-use sets_core::place_covering;
 
 /// What an entry that is read is, behind these parts and items.
 fn class_read(parts: &[LedgerPart], items: &[LedgerItem], job: &Job, entry: &Entry) -> Class

@@ -2,13 +2,13 @@ ghost use Rattle.std.specs.Prelude.{◌≡◌, IfOk, filter, filter_map, not};
 ghost use Rattle.std.specs.List.{list_any};
 ghost use Rattle.std.specs.List.Sorted.{IsStrictlySortedBy};
 ghost use Rattle.ident_core.specs.Order.{octets_cmp};
-ghost use Rattle.sets_core.specs.Sets.{has_key};
+ghost use Rattle.ident_core.specs.Sets.{has_key};
 ghost use Rattle.universe_core.specs.Jobs.{facts_of_job, is_stale, enrolled as enrolled_of, is_enrolled as is_enrolled_by};
 ghost use Rattle.universe_core.specs.Enrolling.{facts_of_crl, issuer_if, stale_issuer_if, is_of, is_stale_of};
 
+use ident_core::{holds_key, sort_keys_once};
 use job_core::{Job, JobCrl};
 use octets_core::Key32;
-use sets_core::{holds_key, sort_keys_once};
 use std::alloc::{AllocError, Global};
 
 /// Whether a CRL is out of date at a moment, in milliseconds. Its nextUpdate is in seconds.

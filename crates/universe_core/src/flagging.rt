@@ -5,7 +5,7 @@ ghost use Rattle.std.specs.Thread.{IsSync};
 ghost use Rattle.ident_core.specs.Order.{octets_cmp, identity_cmp};
 ghost use Rattle.ident_core.specs.declared.identity.Identity.{Identity as IdentityFields};
 ghost use Rattle.ledger_core.specs.LedgerFields.{LedgerFields, ids};
-ghost use Rattle.sets_core.specs.Sets.{has, has_key};
+ghost use Rattle.ident_core.specs.Sets.{has, has_key};
 ghost use Rattle.universe_core.specs.Flagging.{AreFlags};
 ghost use Rattle.universe_core.specs.Jobs.{Job as JobMeaning};
 ghost use Rattle.universe_core.specs.History.{accepted_with, revoked as revoked_of};
@@ -15,11 +15,11 @@ ghost use Rattle.universe_core.specs.Reading.{one_if};
 
 use crate::marking::listed_now;
 use crate::threading::{FEW, Threading};
+use ident_core::place_of_key_near;
 use job_core::JobCrl;
 use ledger_core::LedgerItem;
 use octets_core::Key32;
 use rayon::current_num_threads;
-use sets_core::place_of_key_near;
 use std::alloc::{AllocError, Global};
 use std::thread::{Threads, join};
 

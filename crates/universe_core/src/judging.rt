@@ -3,7 +3,7 @@ ghost use Rattle.std.specs.Prelude.{◌≡◌, filter, length, map, take, fold, 
 ghost use Rattle.std.specs.Option.{option_map};
 ghost use Rattle.universe_core.specs.Ledgers.{birth_or, last_or_none, last_covers};
 ghost use Rattle.ident_core.specs.Coverage.{covers};
-ghost use Rattle.sets_core.specs.Sets.{has_key};
+ghost use Rattle.ident_core.specs.Sets.{has_key};
 ghost use Rattle.ledger_core.specs.LedgerFields.{part_fields};
 ghost use Rattle.universe_core.specs.Judging.{IsSearchable, judge_of, is_late_beside, is_late_in, is_timely, is_timely_in, sightings_of};
 ghost use Rattle.universe_core.specs.Judging.{with_date as date_with};
@@ -12,10 +12,9 @@ ghost use Rattle.universe_core.specs.Reading.{IsPlaced, entries_of, sighting_in,
 
 use crate::member::Member;
 use crate::read_entry::ReadEntry;
-use ident_core::{Identity, Range, Sighting};
+use ident_core::{Identity, Range, Sighting, covers_near, holds_key};
 use ledger_core::{LedgerItem, LedgerPart};
 use octets_core::Key32;
-use sets_core::{covers_near, holds_key};
 
 /// Whether a part covers the sighting and enrolls the issuer. The place of the log's range is guessed.
 fn part_lacks(part: &LedgerPart, issuer: &Key32, sighting: &Sighting, near: usize) -> bool

@@ -1,5 +1,5 @@
 ghost use Rattle.std.specs.Prelude.{◌≡◌, ℕ, List, All, Option, None, IfSome};
-ghost use Rattle.sets_core.specs.Sets.{has_key};
+ghost use Rattle.ident_core.specs.Sets.{has_key};
 ghost use Rattle.universe_core.specs.Jobs.{Entry, Job, enrolled, is_enrolled};
 ghost use Rattle.universe_core.specs.Formats.{plain, sharded, dated, entries_in};
 

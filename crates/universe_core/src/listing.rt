@@ -1,5 +1,5 @@
 ghost use Rattle.std.specs.Prelude.{◌≡◌, ℕ, List, IfOk, All, IsPermutation};
-ghost use Rattle.sets_core.specs.Sets.{has_key};
+ghost use Rattle.ident_core.specs.Sets.{has_key};
 ghost use Rattle.universe_core.specs.Marking.{IsListed, listed_in};
 
 use crate::serial_key::{SerialKey, key_of, order_serials};

@@ -5,7 +5,7 @@ ghost use Rattle.std.specs.Prelude.{◌≡◌, ◌<◌, ◌-◌, ◌||◌, ◌&&
 ghost use Rattle.ident_core.specs.Order.{identity_cmp, serial_cmp, is_same as same};
 ghost use Rattle.ident_core.specs.declared.identity.Identity.{Identity as IdentityFields};
 ghost use Rattle.ledger_core.specs.LedgerFields.{ids};
-ghost use Rattle.sets_core.specs.Sets.{has_key};
+ghost use Rattle.ident_core.specs.Sets.{has_key};
 ghost use Rattle.universe_core.specs.Enrolling.{facts_of_crl, holds};
 ghost use Rattle.universe_core.specs.Marking.{IsListed, IsRunOf, IsWindow, listed_in, serials_of};
 ghost use Rattle.std.specs.declared.cmp.Ordering.TheVariants.{Less, Greater};

@@ -13,10 +13,9 @@ ghost use Rattle.universe_core.specs.declared.class.Class.TheVariants as class;
 use crate::class::Class;
 use crate::read_entry::ReadEntry;
 use crate::serial_key::{key_of, order_serials};
-use ident_core::Range;
+use ident_core::{Range, place_covering, place_of_key};
 use log_core::Entry;
 use octets_core::Key32;
-use sets_core::{place_covering, place_of_key};
 use std::alloc::{AllocError, Global};
 use std::cmp::Ordering;
 

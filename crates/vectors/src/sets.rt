@@ -2,7 +2,7 @@
 
 use crate::entries::put_identity;
 use crate::rows::identity_in;
-use sets_core::{place_of, sort_identities_once};
+use ident_core::{place_of, sort_identities_once};
 use std::alloc::Global;
 use std::fmt::Write;
 use std::test::Fail;

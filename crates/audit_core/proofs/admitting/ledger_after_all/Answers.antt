@@ -3,7 +3,7 @@ use Rattle.std.specs.List.{slice_get}
 use Rattle.std.proofs.lemmas.List.{length-map}
 use Rattle.std.proofs.lemmas.Option.{slice_get_within}
 use Rattle.ident_core.specs.HeadFields.{zero_key}
-use Rattle.sets_core.proofs.Elements.{some_item}
+use Rattle.ident_core.proofs.Elements.{some_item}
 use Rattle.job_core.specs.declared.bounds.TheConstants.Limits.{PUBLISHED}
 use Rattle.job_core.specs.JobFields.{fields_of_job}
 use Rattle.universe_core.specs.Jobs.{facts_of}

@@ -1,5 +1,5 @@
 use Rattle.std.proofs.Common.{◌∙◌, ◌+◌, ◌<◌, ℕ, length, sym, arith}
-use Rattle.sets_core.proofs.Keys.{code_cmp_at}
+use Rattle.ident_core.proofs.Keys.{code_cmp_at}
 use Rattle.audit_core.proofs.Narrowing.{begun, nowhere, here, behind, before}
 use Rattle.audit_core.proofs.searching.item_of.Goals as goal
 

@@ -2,7 +2,7 @@ use Rattle.std.specs.List.{filter}
 use Rattle.std.specs.Prelude.{is_some}
 use Rattle.std.proofs.Common.{◌∙◌}
 use Rattle.ledger_core.specs.LedgerFields.{ids}
-use Rattle.sets_core.specs.Sets.{has}
+use Rattle.ident_core.specs.Sets.{has}
 use Rattle.publication_core.proofs.Kept.{flags_are}
 use Rattle.publication_core.proofs.rebasing.groups_of.Goals as goal
 

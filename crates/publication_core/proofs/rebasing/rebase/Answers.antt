@@ -3,7 +3,7 @@ use Rattle.std.specs.Prelude.{is_some}
 use Rattle.std.proofs.Common.{◌≡◌, ℕ, List, [], ◌∷◌, None, map, length, All, ap, sym, ◌∙◌, subst, arith}
 use Rattle.std.proofs.lemmas.Result.{err_from_is_err_and}
 use Rattle.ledger_core.specs.LedgerFields.{LedgerFields, IsLedger, ids, newest, part_fields}
-use Rattle.sets_core.specs.Sets.{key_set}
+use Rattle.ident_core.specs.Sets.{key_set}
 use Rattle.universe_core.specs.Groups.{group_fields, IsGroup}
 use Rattle.universe_core.specs.Rebases.{is_lasting, issuers_in, count_left, count_pruned, ledger_without, rebased_groups, rebased_ledger}
 use Rattle.publication_core.proofs.Built.{kept_of, counted, kept_ascend, groups_are, groups_facts, is_ledger, head_is, next_is}

@@ -2,7 +2,7 @@ use Rattle.std.proofs.Common.{◌≡◌, ◌∙◌, ap, sym, subst, map, length,
 use Rattle.std.specs.List.Sorted.{IsStrictlySortedBy}
 use Rattle.ident_core.specs.Order.{identity_cmp}
 use Rattle.ledger_core.specs.LedgerFields.{ids}
-use Rattle.sets_core.proofs.Marks.{written_back}
+use Rattle.ident_core.proofs.Marks.{written_back}
 use Rattle.universe_core.specs.Groups.{group_fields}
 use Rattle.universe_core.specs.Ledgers.{past_in}
 use Rattle.universe_core.proofs.Building.{groups_in, items_in, shown_of}

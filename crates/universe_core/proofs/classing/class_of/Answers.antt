@@ -1,8 +1,8 @@
 use Rattle.std.proofs.Common.{sym, subst, None}
 use Rattle.ident_core.specs.Order.{identity_cmp}
 use Rattle.ledger_core.specs.LedgerFields.{AreParts}
-use Rattle.sets_core.proofs.Order.{sorted_none}
-use Rattle.sets_core.proofs.Sets.{identity_total}
+use Rattle.ident_core.proofs.Order.{sorted_none}
+use Rattle.ident_core.proofs.Sets.{identity_total}
 use Rattle.universe_core.proofs.Searchable.{parts_searchable}
 use Rattle.universe_core.proofs.classing.class_of.Goals as goal
 

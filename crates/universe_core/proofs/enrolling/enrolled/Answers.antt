@@ -1,6 +1,6 @@
 use Rattle.std.specs.List.{filter_map}
 use Rattle.std.proofs.Common.{◌∙◌, ap, refl}
-use Rattle.sets_core.specs.Sets.{key_set}
+use Rattle.ident_core.specs.Sets.{key_set}
 use Rattle.universe_core.specs.Jobs.{facts_of_job}
 use Rattle.universe_core.specs.Enrolling.{facts_of_crl, issuer_if, stale_issuer_if}
 use Rattle.universe_core.proofs.Issuers.{enrolled_from}

@@ -1,5 +1,5 @@
 use Rattle.std.proofs.Common.{◌≡◌, filter, take, not}
-use Rattle.sets_core.specs.Sets.{has_key}
+use Rattle.ident_core.specs.Sets.{has_key}
 use Rattle.universe_core.proofs.enrolling.without.Given as goal
 
 abbrev pub invariant-loop-key : goal.invariant-loop-key

@@ -3,7 +3,7 @@ use Rattle.std.specs.Prelude.{is_some}
 use Rattle.std.proofs.Common.{◌≤◌, ◌∙◌, ◌+◌, ◌&&◌, ◌||◌, ap, not, length, arith}
 use Rattle.std.proofs.lemmas.List.{take_all}
 use Rattle.ledger_core.specs.declared.fields.LedgerItem.{LedgerItem}
-use Rattle.sets_core.specs.Sets.{has_key}
+use Rattle.ident_core.specs.Sets.{has_key}
 use Rattle.universe_core.proofs.Classes.{count_more}
 use Rattle.universe_core.proofs.Cutting.{made_all}
 use Rattle.universe_core.proofs.Revoking.{flags_more}

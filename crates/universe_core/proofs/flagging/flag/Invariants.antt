@@ -2,7 +2,7 @@ use Rattle.std.specs.List.{count_by}
 use Rattle.std.specs.Prelude.{is_some}
 use Rattle.std.proofs.Common.{◌≡◌, ◌&&◌, ◌||◌, map, take, not, Bool, length}
 use Rattle.ident_core.specs.declared.identity.Identity.{Identity}
-use Rattle.sets_core.specs.Sets.{has_key}
+use Rattle.ident_core.specs.Sets.{has_key}
 use Rattle.universe_core.proofs.flagging.flag.Given as goal
 
 abbrev pub invariant-loop-i : goal.invariant-loop-i

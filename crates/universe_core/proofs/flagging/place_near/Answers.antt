@@ -1,4 +1,4 @@
-use Rattle.sets_core.proofs.Sets.{has_key-from_place}
+use Rattle.ident_core.proofs.Sets.{has_key-from_place}
 use Rattle.universe_core.proofs.flagging.place_near.Goals as goal
 
 pub returns : goal.returns

@@ -6,9 +6,9 @@ use Rattle.ident_core.specs.declared.identity.Identity.{Identity}
 use Rattle.ident_core.specs.Order.{identity_cmp}
 use Rattle.ledger_core.specs.LedgerFields.{ids}
 use Rattle.ledger_core.specs.declared.fields.LedgerItem.{LedgerItem}
-use Rattle.sets_core.proofs.Groups.{lt_less}
-use Rattle.sets_core.proofs.Keys.{code_cmp, code_cmp_at}
-use Rattle.sets_core.proofs.Sets.{identity_total}
+use Rattle.ident_core.proofs.Order.{lt_less}
+use Rattle.ident_core.proofs.Keys.{code_cmp, code_cmp_at}
+use Rattle.ident_core.proofs.Sets.{identity_total}
 use Rattle.universe_core.proofs.Apart.{comes_before}
 use Rattle.universe_core.proofs.Cutting.{keyed_partitioned}
 use Rattle.universe_core.proofs.Parting.{behind_it, in_front, Fails, Passes}

@@ -2,7 +2,7 @@ use Rattle.std.specs.List.{list_any}
 use Rattle.std.proofs.Common.{[], ◌∙◌, Bool, ◌&&◌, ap, sym, take}
 use Rattle.std.proofs.lemmas.List.Elements.{All-take}
 use Rattle.ident_core.specs.Coverage.{covers}
-use Rattle.sets_core.specs.Sets.{has_key}
+use Rattle.ident_core.specs.Sets.{has_key}
 use Rattle.ledger_core.specs.declared.fields.LedgerPart.{LedgerPart}
 use Rattle.universe_core.specs.Judging.{IsSearchable}
 use Rattle.universe_core.proofs.Members.{any_parts}

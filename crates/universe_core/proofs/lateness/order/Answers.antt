@@ -1,5 +1,5 @@
 use Rattle.std.proofs.Common.{◌∙◌}
-use Rattle.sets_core.proofs.Keys.{code_cmp_at}
+use Rattle.ident_core.proofs.Keys.{code_cmp_at}
 use Rattle.universe_core.proofs.lateness.order.Goals as goal
 
 pub returns : goal.returns

@@ -1,6 +1,6 @@
 use Rattle.std.proofs.Common.{◌∙◌, ap}
 use Rattle.std.proofs.lemmas.List.Sorted.{All-permutation}
-use Rattle.sets_core.specs.Sets.{has_key}
+use Rattle.ident_core.specs.Sets.{has_key}
 use Rattle.universe_core.specs.Marking.{IsListed}
 use Rattle.universe_core.proofs.IssuerRuns.{same_listed}
 use Rattle.universe_core.proofs.listing.sorted.Goals as goal

@@ -1,6 +1,6 @@
 use Rattle.std.proofs.Common.{◌≡◌, ◌∙◌, ap, sym, length, false, arith}
 use Rattle.ident_core.specs.declared.identity.Identity.{Identity}
-use Rattle.sets_core.proofs.Marks.{written_back}
+use Rattle.ident_core.proofs.Marks.{written_back}
 use Rattle.ledger_core.specs.declared.fields.LedgerItem.{LedgerItem}
 use Rattle.universe_core.proofs.Revoking.{map_map}
 use Rattle.universe_core.proofs.marking.listed_now.Goals as goal

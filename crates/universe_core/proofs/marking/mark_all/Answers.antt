@@ -2,7 +2,7 @@ use Rattle.std.specs.List.{list_any}
 use Rattle.std.proofs.Common.{◌∙◌, take, ◌||◌}
 use Rattle.ident_core.specs.declared.identity.Identity.{Identity}
 use Rattle.job_core.specs.declared.meaning.JobCrl.{JobCrl}
-use Rattle.sets_core.proofs.Marks.{all_step}
+use Rattle.ident_core.proofs.Marks.{all_step}
 use Rattle.universe_core.specs.Enrolling.{facts_of_crl, holds}
 use Rattle.ledger_core.specs.LedgerFields.{ids}
 use Rattle.universe_core.proofs.marking.mark_all.Goals as goal

@@ -1,5 +1,5 @@
 use Rattle.std.proofs.Common.{◌+◌, ◌∙◌, refl}
-use Rattle.sets_core.proofs.Marks.{marked, unmarked}
+use Rattle.ident_core.proofs.Marks.{marked, unmarked}
 use Rattle.ledger_core.specs.LedgerFields.{ids}
 use Rattle.universe_core.proofs.IssuerRuns.{of_issuer, run_sorted, run_place, run_none}
 use Rattle.universe_core.proofs.marking.mark_serial.Goals as goal

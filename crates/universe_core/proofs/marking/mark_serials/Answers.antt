@@ -2,9 +2,9 @@ use Rattle.std.specs.Str.{bytes_eq}
 use Rattle.std.proofs.Common.{◌∙◌, take, ◌||◌, ◌&&◌, ap, sym, arith}
 use Rattle.std.proofs.lemmas.List.{length-map}
 use Rattle.ident_core.specs.declared.identity.Identity.{Identity}
-use Rattle.sets_core.specs.Sets.{has_key}
-use Rattle.sets_core.proofs.Keyed.{get_map}
-use Rattle.sets_core.proofs.Marks.{marks_step}
+use Rattle.ident_core.specs.Sets.{has_key}
+use Rattle.ident_core.proofs.Keyed.{get_map}
+use Rattle.ident_core.proofs.Marks.{marks_step}
 use Rattle.universe_core.specs.Marking.{listed_in}
 use Rattle.ledger_core.specs.LedgerFields.{ids}
 use Rattle.universe_core.specs.declared.listing.Listed.{Listed}

@@ -1,7 +1,7 @@
 use Rattle.std.specs.Str.{bytes_eq}
 use Rattle.std.proofs.Common.{◌≡◌, ◌||◌, ◌&&◌, map, take, Bool}
 use Rattle.ident_core.specs.declared.identity.Identity.{Identity}
-use Rattle.sets_core.specs.Sets.{has_key}
+use Rattle.ident_core.specs.Sets.{has_key}
 use Rattle.universe_core.specs.Marking.{listed_in}
 use Rattle.ledger_core.specs.LedgerFields.{ids}
 use Rattle.universe_core.proofs.marking.mark_serials.Given as goal

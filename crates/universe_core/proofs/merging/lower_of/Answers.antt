@@ -1,6 +1,6 @@
 use Rattle.std.proofs.Common.{◌∙◌, ap}
 use Rattle.std.specs.Ordering.{is_lt}
-use Rattle.sets_core.proofs.Keys.{code_cmp_at}
+use Rattle.ident_core.proofs.Keys.{code_cmp_at}
 use Rattle.universe_core.proofs.Merge.{lower_yes, lower_no}
 use Rattle.universe_core.proofs.merging.lower_of.Goals as goal
 

@@ -5,8 +5,8 @@ use Rattle.std.specs.Prelude.{is_some}
 use Rattle.std.proofs.lemmas.Int.{to_z-of_z, ints}
 use Rattle.std.proofs.lemmas.Option.{slice_get_within}
 use Rattle.ident_core.specs.Coverage.{is_within}
-use Rattle.sets_core.proofs.Elements.{Among-from_place}
-use Rattle.sets_core.proofs.Sets.{has_key-from_Among}
+use Rattle.ident_core.proofs.Elements.{Among-from_place}
+use Rattle.ident_core.proofs.Sets.{has_key-from_Among}
 use Rattle.universe_core.specs.Reading.{entry_fields}
 use Rattle.universe_core.specs.declared.reading.Told.{Told}
 use Rattle.universe_core.proofs.Classes.{class_uncovered, class_unenrolled, class_accepted, date_again, entry_is, read_is, not_covered, not_enrolled}
