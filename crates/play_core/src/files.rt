@@ -8,7 +8,7 @@ use std::test::Fail;
 pub type Files = BTreeMap<String, Vec<u8>>;
 
 /// Puts these files in the place of those of their names.
-pub fn put_all(files: &mut Files, these: &Files) -> Result<(), Fail> {
+pub(crate) fn put_all(files: &mut Files, these: &Files) -> Result<(), Fail> {
     for (name, bytes) in these.iter() {
         files.insert(name.clone()?, bytes.clone()?)?;
     }
@@ -16,7 +16,7 @@ pub fn put_all(files: &mut Files, these: &Files) -> Result<(), Fail> {
 }
 
 /// Files of the same names and bytes.
-pub fn copied(alloc: Global, files: &Files) -> Result<Files, Fail> {
+pub(crate) fn copied(alloc: Global, files: &Files) -> Result<Files, Fail> {
     let mut copy = BTreeMap::new(alloc);
     put_all(&mut copy, files)?;
     Ok(copy)

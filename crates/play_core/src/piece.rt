@@ -170,7 +170,7 @@ fn put_record(alloc: Global, bytes: &mut Vec<u8>, words: &[&str]) -> Result<(), 
 }
 
 /// Sets the byte at a place.
-pub fn set_byte(bytes: &mut Vec<u8>, at: usize, value: u8) -> Result<(), Fail> {
+pub(crate) fn set_byte(bytes: &mut Vec<u8>, at: usize, value: u8) -> Result<(), Fail> {
     match bytes.get_mut(at) {
         Some(byte) => {
             *byte = value;
@@ -188,7 +188,7 @@ fn put_digest(bytes: &mut Vec<u8>, from: usize) -> Result<(), Fail> {
 }
 
 /// Does with the bytes of a file, as they stand so far, what the words of a piece say.
-pub fn put_piece(
+pub(crate) fn put_piece(
     alloc: Global,
     files: &Files,
     bytes: &mut Vec<u8>,

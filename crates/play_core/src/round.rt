@@ -44,7 +44,7 @@ fn put_line(all: &mut String, line: &str) -> Result<(), AllocError> {
 }
 
 /// The lines of a file of scenarios, with those of each round as often as they are played.
-pub fn unrolled(alloc: Global, text: &str) -> Result<String, Fail> {
+pub(crate) fn unrolled(alloc: Global, text: &str) -> Result<String, Fail> {
     let mut all = String::new(alloc);
     let mut open = None;
     for line in text.lines() {

@@ -40,7 +40,11 @@ fn said(alloc: Global, names: &Names, word: &str) -> Result<String, AllocError> 
 }
 
 /// What the words of a line say.
-pub fn words_of(alloc: Global, names: &Names, line: &str) -> Result<Vec<String>, AllocError> {
+pub(crate) fn words_of(
+    alloc: Global,
+    names: &Names,
+    line: &str,
+) -> Result<Vec<String>, AllocError> {
     let mut words = Vec::new(alloc);
     for word in line.split_whitespace() {
         words.push(said(alloc, names, word)?)?;
