@@ -43,14 +43,17 @@ passed_step : (p : Identity → Bool) (x : Identity) (b : Bool) (l m : List Iden
 passed_step p x true l m e = e
 passed_step p x false l m e = ap (λ t. cond (p x) (x ∷ t) t) e
 
--- the flags of the false positives
-pub passed_given : (p : Identity → Bool) (xs : List Identity) (bs : List Bool) → flagged xs (map (λ q. not q.1 && p q.0) (zip xs bs)) ≡ filter p (flagged xs (map not bs))
-passed_given p [] bs = refl
-passed_given p (x ∷ xs) [] = refl
-passed_given p (x ∷ xs) (b ∷ bs) = passed_step p x b _ _ (passed_given p xs bs)
+passed_all : (p : Identity → Bool) (xs : List Identity) (bs : List Bool) → flagged xs (map (λ q. not q.1 && p q.0) (zip xs bs)) ≡ filter p (flagged xs (map not bs))
+passed_all p [] bs = refl
+passed_all p (x ∷ xs) [] = refl
+passed_all p (x ∷ xs) (b ∷ bs) = passed_step p x b _ _ (passed_all p xs bs)
 
-pub flags_long : (f : Identity × Bool → Bool) (xs : List Identity) (bs : List Bool) → length bs ≡ length xs → length (map f (zip xs bs)) ≡ length xs
-flags_long f xs bs same = omega (arith, length-map (zip xs bs) f, length-zip xs bs, same)
+-- the flags of the false positives
+pub passed_given : (p : Identity → Bool) (xs : List Identity) (bs fs : List Bool) → fs ≡ map (λ q. not q.1 && p q.0) (zip xs bs) → flagged xs fs ≡ filter p (flagged xs (map not bs))
+passed_given p xs bs fs is = ap (flagged xs) is ∙ passed_all p xs bs
+
+pub flags_long : (f : Identity × Bool → Bool) (xs : List Identity) (bs fs : List Bool) → length bs ≡ length xs → fs ≡ map f (zip xs bs) → length fs ≡ length xs
+flags_long f xs bs fs same is = rw is (omega (arith, length-map (zip xs bs) f, length-zip xs bs, same))
 
 pub rows_formed : (f : Identity → Row) (starts : ℕ) → ((x : Identity) → IsRow starts (f x)) → (xs : List Identity) → All (IsRow starts) (map f xs)
 rows_formed f starts h [] = All-nil (IsRow starts)

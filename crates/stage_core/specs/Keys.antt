@@ -29,9 +29,9 @@ abbrev pub row_equations : KeyTarget → ℕ → List Row → List Equation
 row_equations target planes rows = map (λ row. equation_with (target_of target planes row) row) rows
 
 -- those of the members whose flag is set
-abbrev pub flagged_equations : Rows → KeyTarget → Shape → ℕ → List Identity → List Bool → List Equation
-flagged_equations rows target shape seed universe flags =
-    key_equations rows target shape.stage shape.planes shape.starts (flagged universe flags) seed
+abbrev pub flagged_equations : Rows → Shape → ℕ → List Identity → List Bool → List Equation
+flagged_equations rows shape seed universe flags =
+    key_equations rows shape.target shape.stage shape.planes shape.starts (flagged universe flags) seed
 
 -- in some plane no columns solve both lists
 abbrev pub HasNoSolution : ℕ → List Equation → List Equation → Type 0

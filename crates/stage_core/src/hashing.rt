@@ -1,22 +1,22 @@
-ghost use Rattle.std.specs.Prelude.{◌≡◌, ◌≤◌, ◌<◌, ◌^◌, ℕ, Bool, List, Result, Option, not, map, length, IfOk, IfErr};
+ghost use Rattle.std.specs.Prelude.{◌≡◌, ◌≤◌, ◌<◌, ◌^◌, ℕ, Bool, List, Result, Option, length, IfOk};
 ghost use Rattle.std.specs.Borrow.{Bor};
+ghost use Rattle.std.specs.declared.alloc.AllocError.{AllocError};
 ghost use Rattle.std.specs.declared.alloc.Global.{Global};
 ghost use Rattle.std.specs.declared.vec.Vec.{Vec};
 ghost use Rattle.ident_core.specs.declared.identity.Identity.{Identity};
 ghost use Rattle.equation_core.specs.declared.hash.Row.{Row};
 ghost use Rattle.equation_core.specs.Rows.{IsRow, Rows};
 ghost use Rattle.card_core.specs.declared.stage.Stage.{Stage};
-ghost use Rattle.card_core.specs.Leaf.{flagged, false_positives};
-ghost use Rattle.stage_core.specs.declared.fault.BlockFault.{BlockFault};
-ghost use Rattle.stage_core.specs.declared.fault.BlockFault.TheVariants.{NoMemory};
+ghost use Rattle.stage_core.specs.Members.{flagged_rows, false_positive_flags};
+ghost use Rattle.stage_core.specs.declared.keys.Shape.{Shape};
 
-use crate::fault::BlockFault;
-use crate::passing::false_positives_of;
+use crate::keys::Shape;
+use crate::passing::flags_alone;
 use crate::rows::rows_alone;
 use card_core::Stage;
 use equation_core::{EquationHash, Row};
 use ident_core::Identity;
-use std::alloc::Global;
+use std::alloc::{AllocError, Global};
 
 /// A hash with a way to go over a universe by it.
 pub trait Hashing {
@@ -25,21 +25,19 @@ pub trait Hashing {
     /// What its threads may share.
     ghost shared: { Self → Type 0 };
 
-    /// The rows of the members whose flag is set, in order.
+    /// The rows of the members whose flag is set, in order, for a stage and a seed.
     fn rows(
         &self,
         alloc: Global,
-        stage: u8,
+        shape: Shape,
         seed: u8,
-        starts: u32,
         universe: &[Identity],
         flags: &[bool],
-    ) -> Result<Vec<Row>, BlockFault>
+    ) -> Result<Vec<Row>, AllocError>
         requires shared { shared self.now }
-        requires some { 1 ≤ starts }
+        requires some { 1 ≤ shape.starts }
         requires flags { length flags.now ≤ length universe.now }
-        ensures ok { IfOk result (λ v. v.items ≡ map (λ x. row_of self.now stage seed x starts) (flagged universe.now flags.now)) }
-        ensures err { IfErr result (λ e. e ≡ NoMemory) };
+        ensures { IfOk result (λ v. v.items ≡ flagged_rows (row_of self.now) shape seed universe.now flags.now) };
 
     /// Of each member of the universe, in order, whether it is a false positive.
     fn passed(
@@ -48,13 +46,10 @@ pub trait Hashing {
         approx: &Option<Stage>,
         universe: &[Identity],
         revoked: &[bool],
-    ) -> Result<Vec<bool>, BlockFault>
+    ) -> Result<Vec<bool>, AllocError>
         requires shared { shared self.now }
         requires flags { length revoked.now ≡ length universe.now }
-        ensures len { IfOk result (λ v. length v.items ≡ length universe.now) }
-        ensures ok { IfOk result (λ v. flagged universe.now v.items
-            ≡ false_positives (row_of self.now) approx.now (flagged universe.now (map not revoked.now))) }
-        ensures err { IfErr result (λ e. e ≡ NoMemory) };
+        ensures { IfOk result (λ v. v.items ≡ false_positive_flags (row_of self.now) approx.now universe.now revoked.now) };
 
     ghost formed: { (hashing : Self) (stage seed : ℕ) (id : Identity) (starts : ℕ)
         → stage < 2 ^ 8 → seed < 2 ^ 8 → 1 ≤ starts → starts < 2 ^ 32
@@ -77,13 +72,12 @@ impl<'a, H: EquationHash> Hashing for OneThread<'a, H> {
     fn rows(
         &self,
         alloc: Global,
-        stage: u8,
+        shape: Shape,
         seed: u8,
-        starts: u32,
         universe: &[Identity],
         flags: &[bool],
-    ) -> Result<Vec<Row>, BlockFault> {
-        Ok(rows_alone(alloc, self.hash, stage, seed, starts, universe, flags)?)
+    ) -> Result<Vec<Row>, AllocError> {
+        rows_alone(alloc, self.hash, shape, seed, universe, flags)
     }
 
     fn passed(
@@ -92,8 +86,8 @@ impl<'a, H: EquationHash> Hashing for OneThread<'a, H> {
         approx: &Option<Stage>,
         universe: &[Identity],
         revoked: &[bool],
-    ) -> Result<Vec<bool>, BlockFault> {
-        false_positives_of(alloc, self.hash, approx, universe, revoked)
+    ) -> Result<Vec<bool>, AllocError> {
+        flags_alone(alloc, self.hash, approx, universe, revoked)
     }
 }
 
@@ -109,36 +103,34 @@ pub struct ByCalls<'a, H, F, P> {
 impl<
     'a,
     H: EquationHash,
-    F: Fn(u8, u8, u32, &[Identity], &[bool]) -> Result<Vec<Row>, BlockFault>,
-    P: Fn(&Option<Stage>, &[Identity], &[bool]) -> Result<Vec<bool>, BlockFault>,
+    F: Fn(Shape, u8, &[Identity], &[bool]) -> Result<Vec<Row>, AllocError>,
+    P: Fn(&Option<Stage>, &[Identity], &[bool]) -> Result<Vec<bool>, AllocError>,
 > Hashing for ByCalls<'a, H, F, P> {
     ghost row_of = { λ hashing. H.row_of hashing.hash.now };
 
     ghost shared = { λ hashing.
-        ((stage seed starts : ℕ) (universe : Bor (List Identity)) (flags : Bor (List Bool)) → 1 ≤ starts → length flags.now ≤ length universe.now
-        → F.pre hashing.rows.now stage seed starts universe flags
-        × ((r : Result (Vec Row Global) BlockFault) → F.post hashing.rows.now stage seed starts universe flags r
-        → IfOk r (λ v. v.items ≡ map (λ x. H.row_of hashing.hash.now stage seed x starts) (flagged universe.now flags.now))
-        × IfErr r (λ e. e ≡ NoMemory)))
-        × ((approx : Bor (Option Stage)) (universe : Bor (List Identity)) (revoked : Bor (List Bool)) → length revoked.now ≡ length universe.now
+        ((shape : Shape) (seed : ℕ) (universe : Bor (List Identity)) (flags : Bor (List Bool))
+        → 1 ≤ shape.starts → length flags.now ≤ length universe.now
+        → F.pre hashing.rows.now shape seed universe flags
+        × ((r : Result (Vec Row Global) AllocError) → F.post hashing.rows.now shape seed universe flags r
+        → IfOk r (λ v. v.items ≡ flagged_rows (H.row_of hashing.hash.now) shape seed universe.now flags.now)))
+        × ((approx : Bor (Option Stage)) (universe : Bor (List Identity)) (revoked : Bor (List Bool))
+        → length revoked.now ≡ length universe.now
         → P.pre hashing.passed.now approx universe revoked
-        × ((r : Result (Vec Bool Global) BlockFault) → P.post hashing.passed.now approx universe revoked r
-        → IfOk r (λ v. length v.items ≡ length universe.now)
-        × IfOk r (λ v. flagged universe.now v.items ≡ false_positives (H.row_of hashing.hash.now) approx.now (flagged universe.now (map not revoked.now)))
-        × IfErr r (λ e. e ≡ NoMemory))) };
+        × ((r : Result (Vec Bool Global) AllocError) → P.post hashing.passed.now approx universe revoked r
+        → IfOk r (λ v. v.items ≡ false_positive_flags (H.row_of hashing.hash.now) approx.now universe.now revoked.now))) };
 
     ghost formed = { λ hashing. H.formed hashing.hash.now };
 
     fn rows(
         &self,
         alloc: Global,
-        stage: u8,
+        shape: Shape,
         seed: u8,
-        starts: u32,
         universe: &[Identity],
         flags: &[bool],
-    ) -> Result<Vec<Row>, BlockFault> {
-        (self.rows)(stage, seed, starts, universe, flags)
+    ) -> Result<Vec<Row>, AllocError> {
+        (self.rows)(shape, seed, universe, flags)
     }
 
     fn passed(
@@ -147,7 +139,7 @@ impl<
         approx: &Option<Stage>,
         universe: &[Identity],
         revoked: &[bool],
-    ) -> Result<Vec<bool>, BlockFault> {
+    ) -> Result<Vec<bool>, AllocError> {
         (self.passed)(approx, universe, revoked)
     }
 }

@@ -20,7 +20,7 @@ pub enum KeyTarget {
     Zero,
 }
 
-/// A stage: its number, the target of the revoked, and its planes and starts.
+/// A stage: its number, the target of its keys, and its planes and starts.
 #[derive(Clone, Copy)]
 pub struct Shape {
     pub stage: u8,
@@ -78,7 +78,6 @@ pub fn add_keys<W: Hashing>(
     system: &mut System,
     shape: Shape,
     seed: u8,
-    target: KeyTarget,
     universe: &[Identity],
     flags: &[bool],
 ) -> Result<Result<(), Inconsistent>, BlockFault>
@@ -92,10 +91,10 @@ pub fn add_keys<W: Hashing>(
     ensures starts { system.new.starts ≡ system.old.starts }
     ensures planes { system.new.planes ≡ system.old.planes }
     ensures ok { IfOk result (Adds shape.planes system.old.equations
-        (flagged_equations (W.row_of hashing.now) target shape seed universe.now flags.now)
+        (flagged_equations (W.row_of hashing.now) shape seed universe.now flags.now)
         system.new.equations) }
     ensures err { IfErr result (λ e. e ≡ NoMemory) }
 {
-    let rows = hashing.rows(alloc, shape.stage, seed, shape.starts, universe, flags)?;
-    Ok(add_rows(system, target, shape.planes, &rows))
+    let rows = hashing.rows(alloc, shape, seed, universe, flags)?;
+    Ok(add_rows(system, shape.target, shape.planes, &rows))
 }

@@ -1,9 +1,8 @@
-ghost use Rattle.std.specs.Prelude.{◌≡◌, ◌<◌, ◌&&◌, [], ◌∷◌, length, slice_index_or, map, zip, not, false, IfOk, IfErr};
+ghost use Rattle.std.specs.Prelude.{◌≡◌, ◌<◌, ◌&&◌, [], ◌∷◌, length, slice_index_or, not, false, IfOk};
 ghost use Rattle.ident_core.specs.declared.identity.Identity.{Identity};
-ghost use Rattle.card_core.specs.Leaf.{accepts as is_accepted, flagged, passes as is_passed, false_positives};
-ghost use Rattle.stage_core.specs.declared.fault.BlockFault.TheVariants.{NoMemory};
+ghost use Rattle.card_core.specs.Leaf.{accepts as is_accepted, passes as is_passed};
+ghost use Rattle.stage_core.specs.Members.{false_positive_flags};
 
-use crate::fault::BlockFault;
 use card_core::{Stage, accepts, accepts_row};
 use equation_core::{EquationHash, Row};
 use ident_core::Identity;
@@ -123,7 +122,7 @@ fn four_flags<H: EquationHash>(
     }
 }
 
-/// Whether each pair is an identity that is a false positive, and no set flag.
+/// Of each member of the universe, in order, whether it is a false positive.
 pub fn flags_alone<H: EquationHash>(
     alloc: Global,
     hash: &H,
@@ -132,7 +131,7 @@ pub fn flags_alone<H: EquationHash>(
     revoked: &[bool],
 ) -> Result<Vec<bool>, AllocError>
     requires { length revoked.now ≡ length universe.now }
-    ensures { IfOk result (λ v. v.items ≡ map (λ p. not p.1 && is_passed (H.row_of hash.now) approx.now p.0) (zip universe.now revoked.now)) }
+    ensures { IfOk result (λ v. v.items ≡ false_positive_flags (H.row_of hash.now) approx.now universe.now revoked.now) }
 {
     let mut flags = Vec::with_capacity(alloc, universe.len())?;
     let fours = universe.len() / 4;
@@ -158,20 +157,4 @@ pub fn flags_alone<H: EquationHash>(
         flags.push(is_false_positive(hash, approx, &universe[i], revoked[i]))?;
     }
     Ok(flags)
-}
-
-/// Of each member of the universe, whether it is a false positive.
-pub fn false_positives_of<H: EquationHash>(
-    alloc: Global,
-    hash: &H,
-    approx: &Option<Stage>,
-    universe: &[Identity],
-    revoked: &[bool],
-) -> Result<Vec<bool>, BlockFault>
-    requires { length revoked.now ≡ length universe.now }
-    ensures len { IfOk result (λ v. length v.items ≡ length universe.now) }
-    ensures ok { IfOk result (λ v. flagged universe.now v.items ≡ false_positives (H.row_of hash.now) approx.now (flagged universe.now (map not revoked.now))) }
-    ensures err { IfErr result (λ e. e ≡ NoMemory) }
-{
-    Ok(flags_alone(alloc, hash, approx, universe, revoked)?)
 }

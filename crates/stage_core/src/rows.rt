@@ -1,6 +1,8 @@
 ghost use Rattle.std.specs.Prelude.{◌≡◌, ◌≤◌, length, map, IfOk};
 ghost use Rattle.card_core.specs.Leaf.{flagged};
+ghost use Rattle.stage_core.specs.Members.{flagged_rows};
 
+use crate::keys::Shape;
 use equation_core::{EquationHash, Row};
 use ident_core::Identity;
 use std::alloc::{AllocError, Global};
@@ -27,31 +29,30 @@ fn flagged_members<'a>(
 fn rows_by_fours<H: EquationHash>(
     alloc: Global,
     hash: &H,
-    stage: u8,
+    shape: Shape,
     seed: u8,
-    starts: u32,
     keys: &[&Identity],
 ) -> Result<Vec<Row>, AllocError>
-    requires { 1 ≤ starts }
-    ensures { IfOk result (λ v. v.items ≡ map (λ key. H.row_of hash.now stage seed key.now starts) keys.now) }
+    requires { 1 ≤ shape.starts }
+    ensures { IfOk result (λ v. v.items ≡ map (λ key. H.row_of hash.now shape.stage seed key.now shape.starts) keys.now) }
 {
     let mut rows = Vec::with_capacity(alloc, keys.len())?;
     let fours = keys.len() / 4;
     'fours: for i in 0..fours {
         let at = 4 * i;
         let four = hash.four_rows(
-            stage,
+            shape.stage,
             seed,
             keys[at],
             keys[at + 1],
             keys[at + 2],
             keys[at + 3],
-            starts,
+            shape.starts,
         );
         rows.extend_from_slice(&four)?;
     }
     'rest: for i in 4 * fours..keys.len() {
-        rows.push(hash.row(stage, seed, keys[i], starts))?;
+        rows.push(hash.row(shape.stage, seed, keys[i], shape.starts))?;
     }
     Ok(rows)
 }
@@ -60,17 +61,16 @@ fn rows_by_fours<H: EquationHash>(
 pub fn rows_alone<H: EquationHash>(
     alloc: Global,
     hash: &H,
-    stage: u8,
+    shape: Shape,
     seed: u8,
-    starts: u32,
     universe: &[Identity],
     flags: &[bool],
 ) -> Result<Vec<Row>, AllocError>
-    requires some { 1 ≤ starts }
+    requires some { 1 ≤ shape.starts }
     requires flags { length flags.now ≤ length universe.now }
-    ensures { IfOk result (λ v. v.items ≡ map (λ x. H.row_of hash.now stage seed x starts) (flagged universe.now flags.now)) }
+    ensures { IfOk result (λ v. v.items ≡ flagged_rows (H.row_of hash.now) shape seed universe.now flags.now) }
 {
     let keys = flagged_members(alloc, universe, flags)?;
-    let rows = rows_by_fours(alloc, hash, stage, seed, starts, &keys)?;
+    let rows = rows_by_fours(alloc, hash, shape, seed, &keys)?;
     Ok(rows)
 }

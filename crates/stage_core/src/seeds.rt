@@ -37,32 +37,14 @@ fn solve_at<W: Hashing>(
     ensures err { IfErr result (λ e. e ≡ NoMemory) }
 {
     let mut system = System::new(alloc, shape.starts, shape.planes)?;
-    let target = shape.target;
-    let Ok(()) = add_keys(
-        alloc,
-        hashing,
-        &mut system,
-        shape,
-        seed,
-        target,
-        universe,
-        revoked,
-    )?
-    else {
+    let Ok(()) = add_keys(alloc, hashing, &mut system, shape, seed, universe, revoked)? else {
         return Ok(None);
     };
-    let target = KeyTarget::Zero;
-    let Ok(()) = add_keys(
-        alloc,
-        hashing,
-        &mut system,
-        shape,
-        seed,
-        target,
-        universe,
-        passed,
-    )?
-    else {
+    let zeros = Shape {
+        target: KeyTarget::Zero,
+        ..shape
+    };
+    let Ok(()) = add_keys(alloc, hashing, &mut system, zeros, seed, universe, passed)? else {
         return Ok(None);
     };
     Ok(Some(system.solve()))

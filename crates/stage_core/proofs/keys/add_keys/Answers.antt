@@ -15,15 +15,15 @@ add_rows-requires-clause-rows g c =
     (λ x. g.met.W.Hashing.formed c.args.hashing.now c.args.shape.stage c.args.seed x c.args.shape.starts (omega arith) (omega arith) c.requires.some_starts (omega arith))
     (flagged c.args.universe.now c.args.flags.now) in
     subst (λ (n : ℕ). All (IsRow n) c.deref.result.now) (sym c.requires.starts)
-    (subst (λ (l : List Row). All (IsRow c.args.shape.starts) l) (sym (c.deref.ensures.value ∙ c.in_ok-rows.ensures.ok)) formed)
+    (subst (λ (l : List Row). All (IsRow c.args.shape.starts) l) (sym (c.deref.ensures.value ∙ c.in_ok-rows.ensures)) formed)
 
 pub returns-clause-ok : goal.returns-clause-ok
 returns-clause-ok g c =
     let row : Identity → Row = λ x. g.W.Hashing.row_of c.args.hashing.now c.args.shape.stage c.args.seed x c.args.shape.starts in
-    let same : row_equations c.args.target c.args.shape.planes c.deref.result.now
-    ≡ flagged_equations (g.W.Hashing.row_of c.args.hashing.now) c.args.target c.args.shape c.args.seed c.args.universe.now c.args.flags.now =
-    ap (row_equations c.args.target c.args.shape.planes) (c.deref.ensures.value ∙ c.in_ok-rows.ensures.ok)
-    ∙ map_twice (λ (r : Row). equation_with (target_of c.args.target c.args.shape.planes r) r) row (flagged c.args.universe.now c.args.flags.now) in
-    let added : Adds c.args.shape.planes c.args.system.now.equations (row_equations c.args.target c.args.shape.planes c.deref.result.now) c.add_rows.new.system.equations c.add_rows.result =
+    let same : row_equations c.args.shape.target c.args.shape.planes c.deref.result.now
+    ≡ flagged_equations (g.W.Hashing.row_of c.args.hashing.now) c.args.shape c.args.seed c.args.universe.now c.args.flags.now =
+    ap (row_equations c.args.shape.target c.args.shape.planes) (c.deref.ensures.value ∙ c.in_ok-rows.ensures)
+    ∙ map_twice (λ (r : Row). equation_with (target_of c.args.shape.target c.args.shape.planes r) r) row (flagged c.args.universe.now c.args.flags.now) in
+    let added : Adds c.args.shape.planes c.args.system.now.equations (row_equations c.args.shape.target c.args.shape.planes c.deref.result.now) c.add_rows.new.system.equations c.add_rows.result =
     (c.add_rows.ensures.ok, c.add_rows.ensures.err) in
     rw same at added

@@ -9,7 +9,7 @@ pub fours-preserved : goal.fours-preserved
 fours-preserved g c =
     let keys = c.args.keys.now in
     let at : ℕ = 4 * c.fours.i in
-    let row = λ (key : Bor Identity). g.H.EquationHash.row_of c.args.hash.now c.args.stage c.args.seed key.now c.args.starts in
+    let row = λ (key : Bor Identity). g.H.EquationHash.row_of c.args.hash.now c.args.shape.stage c.args.seed key.now c.args.shape.starts in
     c.in_ok-extend_from_slice.ensures.items
     ∙ ap (λ (l : List Row). c.fours.rows.items ++ l) c.four_rows-four.ensures
     ∙ map_four row keys at c.index-keys-at.result c.index-keys-at-in-fours.result c.index-keys-at-in-fours-2.result c.index-keys-at-in-fours-3.result
@@ -19,7 +19,7 @@ fours-preserved g c =
 
 pub rest-preserved : goal.rest-preserved
 rest-preserved g c =
-    let row = λ (key : Bor Identity). g.H.EquationHash.row_of c.args.hash.now c.args.stage c.args.seed key.now c.args.starts in
+    let row = λ (key : Bor Identity). g.H.EquationHash.row_of c.args.hash.now c.args.shape.stage c.args.seed key.now c.args.shape.starts in
     c.in_ok-push.ensures.items
     ∙ ap (λ (r : Row). c.rest.rows.items ++ (r ∷ [])) c.row.ensures.value
     ∙ map_next row c.args.keys.now c.rest.i c.index-keys-i.result c.rest.rows.items (omega arith) c.index-keys-i.is c.rest.invariant
@@ -27,4 +27,4 @@ rest-preserved g c =
 pub returns : goal.returns
 returns g c =
     c.rest.invariant
-    ∙ ap (map (λ (key : Bor Identity). g.H.EquationHash.row_of c.args.hash.now c.args.stage c.args.seed key.now c.args.starts)) (take_all c.rest.i c.args.keys.now (omega arith))
+    ∙ ap (map (λ (key : Bor Identity). g.H.EquationHash.row_of c.args.hash.now c.args.shape.stage c.args.seed key.now c.args.shape.starts)) (take_all c.rest.i c.args.keys.now (omega arith))

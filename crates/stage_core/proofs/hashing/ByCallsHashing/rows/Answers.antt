@@ -1,7 +1,4 @@
 use Rattle.stage_core.proofs.hashing.ByCallsHashing.rows.Goals as goal
 
-pub returns-clause-ok : goal.returns-clause-ok
-returns-clause-ok g c = ((c.requires.shared.0 c.args.stage c.args.seed c.args.starts c.args.universe c.args.flags c.requires.some c.requires.flags).1 c.rows.result c.rows.ensures).0
-
-pub returns-clause-err : goal.returns-clause-err
-returns-clause-err g c = ((c.requires.shared.0 c.args.stage c.args.seed c.args.starts c.args.universe c.args.flags c.requires.some c.requires.flags).1 c.rows.result c.rows.ensures).1
+pub returns : goal.returns
+returns g c = (c.requires.shared.0 c.args.shape c.args.seed c.args.universe c.args.flags c.requires.some c.requires.flags).1 c.rows.result c.rows.ensures
