@@ -1,6 +1,6 @@
 -- What holds of each command that words spell: its outputs are apart, and an audit has few jobs.
-use Rattle.std.proofs.Common.{◌≡◌, ◌≢◌, ◌≤◌, ℕ, Bool, true, false, ◌&&◌, ◌||◌, not, List, [], ◌∷◌, length, Option, Some, None, refl, sym, ap, subst, ◌∙◌, arith, All}
-use Rattle.std.specs.Prelude.{if◌then◌else◌, IfSome, codes, nat_le, take, drop}
+use Rattle.std.proofs.Common.{◌≡◌, ◌≢◌, ◌≤◌, ℕ, Bool, true, false, ◌&&◌, ◌||◌, not, List, [], ◌∷◌, length, Option, Some, None, refl, sym, ap, ◌∙◌, arith, All}
+use Rattle.std.specs.Prelude.{if◌then◌else◌, IfSome, codes, nat_le}
 use Rattle.std.specs.Str.{bytes_eq}
 use Rattle.std.proofs.lemmas.List.Elements.{All-nil, All-cons}
 use Rattle.std.proofs.lemmas.Slice.Eq.{bytes_eq-Decides}
@@ -8,14 +8,12 @@ use Rattle.std.proofs.lemmas.Bool.{false≢true}
 use Rattle.std.proofs.lemmas.Bool.Decides.{nat_tests}
 use Rattle.octets_core.specs.Layout.{within}
 use Rattle.ident_core.specs.declared.bounds.TheConstants.{MAX_PARTS}
-use Rattle.word_core.specs.declared.command.TheConstants.{MAX_PAGES}
-use Rattle.word_core.specs.declared.command.{Audit.Audit, Command.Command, Delta.Delta, Gather.Gather, Install.Install}
-use Rattle.word_core.specs.declared.command.{Rebase.Rebase, Snapshot.Snapshot, Start.Start}
+use Rattle.word_core.specs.declared.command.{Audit.Audit, Command.Command}
 use Rattle.word_core.specs.declared.command.Command.TheVariants as commands
 use Rattle.word_core.specs.Names.{IsApart, HasFewJobs}
-use Rattle.word_core.specs.Words.{◌>>=◌, is_name, name_of, names_of, number_of, workers_of, key_word, two_names_of, pages_of, jobs_of, without_of}
-use Rattle.word_core.specs.Words.{is_among, are_apart, asks, command_of, query_of, query_cert_of, name_alone, snapshot_of, delta_of, rebase_of, named_delta, named_rebase, named_gather}
-use Rattle.word_core.specs.Words.{rebase_without_of, start_of, install_of, rehearse_of, sample_of, gather_of, audit_of}
+use Rattle.word_core.specs.Words.{◌>>=◌, is_name, name_of, names_of, jobs_of, is_among, are_apart, asks, writes_of, asked_of, command_of}
+use Rattle.word_core.specs.Words.{inputs_of, outputs_of, query_of, query_cert_of, name_alone, snapshot_of, delta_of, rebase_of, rebase_without_of}
+use Rattle.word_core.specs.Words.{start_of, install_of, rehearse_of, sample_of, gather_of, audit_of}
 
 -- ---- steps of reading
 
@@ -24,10 +22,6 @@ step : {A B : Type 0} (Q : A → Type 0) (P : B → Type 0) (o : Option A) (f : 
     → IfSome (o >>= f) P
 step Q P (Some x) f q h = h x q
 step Q P None f q h = tt
-
-free : {A B : Type 0} (P : B → Type 0) (o : Option A) (f : A → Option B) → ((x : A) → IfSome (f x) P) → IfSome (o >>= f) P
-free P (Some x) f h = h x
-free P None f h = tt
 
 tested : {B : Type 0} (P : B → Type 0) (b : Bool) (o : Option B) → (b ≡ true → IfSome o P) → IfSome (if b then o else None) P
 tested P true o h = h refl
@@ -41,16 +35,6 @@ named_by P false word f h = tt
 -- a name is its word
 named : {B : Type 0} (P : B → Type 0) (word : List ℕ) (f : List ℕ → Option B) → IfSome (f word) P → IfSome (name_of word >>= f) P
 named P word f h = named_by P (is_name word) word f h
-
-two_by : {B : Type 0} (P : B → Type 0) (b c : Bool) (first second : List ℕ) (f : List ℕ × List ℕ → Option B) → IfSome (f (first, second)) P
-    → IfSome (((if b then Some first else None) >>= λ x. (if c then Some second else None) >>= λ y. Some (x, y)) >>= f) P
-two_by P true true first second f h = h
-two_by P true false first second f h = tt
-two_by P false c first second f h = tt
-
-two_named : {B : Type 0} (P : B → Type 0) (first second : List ℕ) (f : List ℕ × List ℕ → Option B) → IfSome (f (first, second)) P
-    → IfSome (two_names_of first second >>= f) P
-two_named P first second f h = two_by P (is_name first) (is_name second) first second f h
 
 names_are : (words : List (List ℕ)) → IfSome (names_of words) (λ names. names ≡ words)
 names_are [] = refl
@@ -81,62 +65,14 @@ neither_right : (a b : Bool) → (a || b) ≡ false → b ≡ false
 neither_right true b h = absurd (false≢true (sym h))
 neither_right false b h = h
 
--- ---- each kind of command
+-- ---- any command
 
-snapshot_apart : (words : List (List ℕ)) → IfSome (snapshot_of words) (λ s. IsApart (commands.Snapshot s))
-snapshot_apart (job ∷ part ∷ ledger ∷ workers ∷ []) =
-    let P : Snapshot → Type 0 = λ s. IsApart (commands.Snapshot s) in
-    named P job _ (named P part _ (named P ledger _ (free P (workers_of workers) _
-    (λ n. tested P (are_apart (job ∷ []) (part ∷ ledger ∷ [])) _ (λ apart. apart)))))
-snapshot_apart words = tt
+-- what holds of a command whose outputs are apart, and of none
+apart_by : (P : Command → Type 0) (c : Command) (b : Bool) → (b ≡ true → P c) → P commands.Usage → P (if b then c else commands.Usage)
+apart_by P c true p usage = p refl
+apart_by P c false p usage = usage
 
-delta_apart : (words : List (List ℕ)) → IfSome (delta_of words) (λ d. IsApart (commands.Delta d))
-delta_apart (job ∷ ledger ∷ part ∷ new_ledger ∷ workers ∷ []) =
-    let P : Delta → Type 0 = λ d. IsApart (commands.Delta d) in
-    free P (workers_of workers) _ (λ n.
-    tested P (are_apart (job ∷ ledger ∷ []) (part ∷ new_ledger ∷ [])) (named_delta job ledger part new_ledger n)
-    (λ apart. two_named P job ledger _ (two_named P part new_ledger _ apart)))
-delta_apart words = tt
-
-rebase_apart : (words without : List (List ℕ)) → IfSome (rebase_of words without) (λ r. IsApart (commands.Rebase r))
-rebase_apart (ledger ∷ moment ∷ part ∷ new_ledger ∷ workers ∷ []) without =
-    let P : Rebase → Type 0 = λ r. IsApart (commands.Rebase r) in
-    free P (number_of moment) _ (λ m. free P (workers_of workers) _
-    (λ n.
-    tested P (are_apart (ledger ∷ []) (part ∷ new_ledger ∷ [])) (named_rebase ledger m part new_ledger n without)
-    (λ apart. named P ledger _ (two_named P part new_ledger _ apart))))
-rebase_apart words without = tt
-
-start_apart : (words : List (List ℕ)) → IfSome (start_of words) (λ s. IsApart (commands.Start s))
-start_apart (part ∷ store ∷ []) =
-    let P : Start → Type 0 = λ s. IsApart (commands.Start s) in
-    named P part _ (named P store _ (tested P (are_apart (part ∷ []) (store ∷ [])) _ (λ apart. apart)))
-start_apart words = tt
-
-install_apart : (words : List (List ℕ)) → IfSome (install_of words) (λ i. IsApart (commands.Install i))
-install_apart (store ∷ part ∷ new_store ∷ []) =
-    let P : Install → Type 0 = λ i. IsApart (commands.Install i) in
-    named P store _ (named P part _ (named P new_store _
-    (tested P (are_apart (store ∷ part ∷ []) (new_store ∷ [])) _ (λ apart. apart))))
-install_apart words = tt
-
--- one output that is no first input and no other
-both_apart : (a b : Bool) → (((not (a || false) && true) && true) && ((not b && true) && true)) ≡ true
-    → ((not (a || b) && true) && true) ≡ true
-both_apart true b h = h
-both_apart false true h = h
-both_apart false false h = h
-
-gather_apart : (words : List (List ℕ)) → IfSome (gather_of words) (λ g. IsApart (commands.Gather g))
-gather_apart (head ∷ log ∷ job ∷ pages) =
-    let P : Gather → Type 0 = λ g. IsApart (commands.Gather g) in
-    let Q : List (List ℕ) → Type 0 = λ names. names ≡ pages in
-    tested P (are_apart (head ∷ []) (job ∷ []) && are_apart pages (job ∷ [])) (named_gather head log job pages) (λ apart.
-    free P (key_word log) _ (λ l. two_named P head job _
-    (step Q P (pages_of pages) _ (tested Q (within 1 MAX_PAGES (length pages)) (names_of pages) (λ few. names_are pages))
-    (λ names are. subst (λ (ns : List (List ℕ)). are_apart (head ∷ ns) (job ∷ []) ≡ true) (sym are)
-    (both_apart (bytes_eq head job) (is_among job pages) apart)))))
-gather_apart words = tt
+-- ---- jobs of an audit
 
 few : (n : ℕ) → nat_le n MAX_PARTS ≡ true → n ≤ MAX_PARTS
 few n h = grind (arith, nat_tests)
@@ -156,99 +92,65 @@ audit_few (store ∷ jobs) =
     (λ names le. le))
 audit_few [] = tt
 
--- ---- any command
+-- a command that is no audit
+abbrev NoAudit : Command → Type 0
+NoAudit (commands.Audit a) = ⊥
+NoAudit command = Unit {0}
 
-asked : {A : Type 0} (P : Command → Type 0) (command : A → Command) (o : Option A) → IfSome o (λ x. P (command x)) → P commands.Usage
-    → P (asks command o)
-asked P command (Some x) p q = p
-asked P command None p q = q
+passes : {A : Type 0} (P : Command → Type 0) (b : Bool) (command : A → Command) (o : Option A) (other : Command)
+    → ((c : Command) → NoAudit c → P c) → ((x : A) → NoAudit (command x)) → P other → P (if b then asks command o else other)
+passes P true command (Some x) other p none q = p (command x) (none x)
+passes P true command None other p none q = p commands.Usage tt
+passes P false command o other p none q = q
 
-or_else : {A : Type 0} (P : Command → Type 0) (b : Bool) (command : A → Command) (o : Option A) (other : Command) → P commands.Usage
-    → IfSome o (λ x. P (command x)) → P other → P (if b then asks command o else other)
-or_else P true command o other usage p q = asked P command o p usage
-or_else P false command o other usage p q = q
+audited : (P : Command → Type 0) (b : Bool) (o : Option Audit) (other : Command)
+    → P commands.Usage → IfSome o (λ a. P (commands.Audit a)) → P other → P (if b then asks commands.Audit o else other)
+audited P true (Some a) other usage p q = p
+audited P true None other usage p q = usage
+audited P false o other usage p q = q
 
-all : {A : Type 0} (P : Command → Type 0) (command : A → Command) (o : Option A) → ((x : A) → P (command x))
-    → IfSome o (λ x. P (command x))
-all P command (Some x) h = h x
-all P command None h = tt
+written : (P : Command → Type 0) → ((c : Command) → NoAudit c → P c) → (command : List ℕ) (words : List (List ℕ)) → P (writes_of command words)
+written P p command words =
+    passes P (bytes_eq command (codes "snapshot")) commands.Snapshot (snapshot_of words) _ p (λ x. tt)
+    (passes P (bytes_eq command (codes "delta")) commands.Delta (delta_of words) _ p (λ x. tt)
+    (passes P (bytes_eq command (codes "rebase")) commands.Rebase (rebase_of words []) _ p (λ x. tt)
+    (passes P (bytes_eq command (codes "rebase-without")) commands.Rebase (rebase_without_of words) _ p (λ x. tt)
+    (passes P (bytes_eq command (codes "start")) commands.Start (start_of words) _ p (λ x. tt)
+    (passes P (bytes_eq command (codes "install")) commands.Install (install_of words) _ p (λ x. tt)
+    (passes P (bytes_eq command (codes "sample")) commands.Sample (sample_of words) _ p (λ x. tt)
+    (passes P (bytes_eq command (codes "gather")) commands.Gather (gather_of words) _ p (λ x. tt)
+    (p commands.Usage tt))))))))
 
--- what holds of each kind of command that words spell, and of none
-record Kinds (P : Command → Type 0) : Type 0 where
-  usage : P commands.Usage
-  query : (words : List (List ℕ)) → IfSome (query_of words) (λ x. P (commands.Query x))
-  query_cert : (words : List (List ℕ)) → IfSome (query_cert_of words) (λ x. P (commands.QueryCert x))
-  check : (words : List (List ℕ)) → IfSome (name_alone words) (λ x. P (commands.Check x))
-  show : (words : List (List ℕ)) → IfSome (name_alone words) (λ x. P (commands.Show x))
-  snapshot : (words : List (List ℕ)) → IfSome (snapshot_of words) (λ x. P (commands.Snapshot x))
-  delta : (words : List (List ℕ)) → IfSome (delta_of words) (λ x. P (commands.Delta x))
-  rebase : (words without : List (List ℕ)) → IfSome (rebase_of words without) (λ x. P (commands.Rebase x))
-  start : (words : List (List ℕ)) → IfSome (start_of words) (λ x. P (commands.Start x))
-  install : (words : List (List ℕ)) → IfSome (install_of words) (λ x. P (commands.Install x))
-  rehearse : (words : List (List ℕ)) → IfSome (rehearse_of words) (λ x. P (commands.Rehearse x))
-  sample : (words : List (List ℕ)) → IfSome (sample_of words) (λ x. P (commands.Sample x))
-  gather : (words : List (List ℕ)) → IfSome (gather_of words) (λ x. P (commands.Gather x))
-  audit : (words : List (List ℕ)) → IfSome (audit_of words) (λ x. P (commands.Audit x))
+asked : (P : Command → Type 0) → ((c : Command) → NoAudit c → P c) → ((words : List (List ℕ)) → IfSome (audit_of words) (λ a. P (commands.Audit a)))
+    → (command : List ℕ) (words : List (List ℕ)) → P (asked_of command words)
+asked P p audits command words =
+    passes P (bytes_eq command (codes "query")) commands.Query (query_of words) _ p (λ x. tt)
+    (passes P (bytes_eq command (codes "query-cert")) commands.QueryCert (query_cert_of words) _ p (λ x. tt)
+    (passes P (bytes_eq command (codes "check")) commands.Check (name_alone words) _ p (λ x. tt)
+    (passes P (bytes_eq command (codes "show")) commands.Show (name_alone words) _ p (λ x. tt)
+    (passes P (bytes_eq command (codes "rehearse")) commands.Rehearse (rehearse_of words) _ p (λ x. tt)
+    (audited P (bytes_eq command (codes "audit")) (audit_of words) _ (p commands.Usage tt) (audits words)
+    (written P p command words))))))
 
-holds : (P : Command → Type 0) → Kinds P → (words : List (List ℕ)) → P (command_of words)
-holds P kinds [] = kinds.usage
-holds P kinds (command ∷ words) =
-    or_else P (bytes_eq command (codes "query")) commands.Query (query_of words) _ kinds.usage (kinds.query words)
-    (or_else P (bytes_eq command (codes "query-cert")) commands.QueryCert (query_cert_of words) _ kinds.usage (kinds.query_cert words)
-    (or_else P (bytes_eq command (codes "check")) commands.Check (name_alone words) _ kinds.usage (kinds.check words)
-    (or_else P (bytes_eq command (codes "show")) commands.Show (name_alone words) _ kinds.usage (kinds.show words)
-    (or_else P (bytes_eq command (codes "snapshot")) commands.Snapshot (snapshot_of words) _ kinds.usage (kinds.snapshot words)
-    (or_else P (bytes_eq command (codes "delta")) commands.Delta (delta_of words) _ kinds.usage (kinds.delta words)
-    (or_else P (bytes_eq command (codes "rebase")) commands.Rebase (rebase_of words []) _ kinds.usage (kinds.rebase words [])
-    (or_else P (bytes_eq command (codes "rebase-without")) commands.Rebase (rebase_without_of words) _ kinds.usage
-    (free (λ (r : Rebase). P (commands.Rebase r)) (without_of (drop 5 words)) _ (kinds.rebase (take 5 words)))
-    (or_else P (bytes_eq command (codes "start")) commands.Start (start_of words) _ kinds.usage (kinds.start words)
-    (or_else P (bytes_eq command (codes "install")) commands.Install (install_of words) _ kinds.usage (kinds.install words)
-    (or_else P (bytes_eq command (codes "rehearse")) commands.Rehearse (rehearse_of words) _ kinds.usage (kinds.rehearse words)
-    (or_else P (bytes_eq command (codes "sample")) commands.Sample (sample_of words) _ kinds.usage (kinds.sample words)
-    (or_else P (bytes_eq command (codes "gather")) commands.Gather (gather_of words) _ kinds.usage (kinds.gather words)
-    (or_else P (bytes_eq command (codes "audit")) commands.Audit (audit_of words) _ kinds.usage (kinds.audit words)
-    kinds.usage)))))))))))))
-
--- no output of what words ask for has the name of an input or of another output
-pub words_apart : (words : List (List ℕ)) → IsApart (command_of words)
-words_apart = holds IsApart (record {
-  usage = refl;
-  query = λ words. all IsApart commands.Query (query_of words) (λ x. refl);
-  query_cert = λ words. all IsApart commands.QueryCert (query_cert_of words) (λ x. refl);
-  check = λ words. all IsApart commands.Check (name_alone words) (λ x. refl);
-  show = λ words. all IsApart commands.Show (name_alone words) (λ x. refl);
-  snapshot = snapshot_apart;
-  delta = delta_apart;
-  rebase = rebase_apart;
-  start = start_apart;
-  install = install_apart;
-  rehearse = λ words. all IsApart commands.Rehearse (rehearse_of words) (λ x. refl);
-  sample = λ words. all IsApart commands.Sample (sample_of words) (λ x. refl);
-  gather = gather_apart;
-  audit = λ words. all IsApart commands.Audit (audit_of words) (λ x. refl);
-})
+few_of : (c : Command) → NoAudit c → HasFewJobs c
+few_of (commands.Audit a) none = absurd none
+few_of c none = tt
 
 -- an audit that words ask for has no more jobs than a chain may have parts
 pub few_jobs : (words : List (List ℕ)) → HasFewJobs (command_of words)
-few_jobs = holds HasFewJobs (record {
-  usage = tt;
-  query = λ words. all HasFewJobs commands.Query (query_of words) (λ x. tt);
-  query_cert = λ words. all HasFewJobs commands.QueryCert (query_cert_of words) (λ x. tt);
-  check = λ words. all HasFewJobs commands.Check (name_alone words) (λ x. tt);
-  show = λ words. all HasFewJobs commands.Show (name_alone words) (λ x. tt);
-  snapshot = λ words. all HasFewJobs commands.Snapshot (snapshot_of words) (λ x. tt);
-  delta = λ words. all HasFewJobs commands.Delta (delta_of words) (λ x. tt);
-  rebase = λ words without. all HasFewJobs commands.Rebase (rebase_of words without) (λ x. tt);
-  start = λ words. all HasFewJobs commands.Start (start_of words) (λ x. tt);
-  install = λ words. all HasFewJobs commands.Install (install_of words) (λ x. tt);
-  rehearse = λ words. all HasFewJobs commands.Rehearse (rehearse_of words) (λ x. tt);
-  sample = λ words. all HasFewJobs commands.Sample (sample_of words) (λ x. tt);
-  gather = λ words. all HasFewJobs commands.Gather (gather_of words) (λ x. tt);
-  audit = audit_few;
-})
+few_jobs [] = tt
+few_jobs (command ∷ words) =
+    let c = asked_of command words in
+    apart_by HasFewJobs c (are_apart (inputs_of c) (outputs_of c)) (λ b. asked HasFewJobs few_of audit_few command words) tt
 
 -- ---- names that are apart
+
+-- no output of a command that words ask for has the name of an input or of another output
+pub words_apart : (words : List (List ℕ)) → IsApart (command_of words)
+words_apart [] = refl
+words_apart (command ∷ words) =
+    let c = asked_of command words in
+    apart_by IsApart c (are_apart (inputs_of c) (outputs_of c)) (λ b. b) refl
 
 -- names of which no two are the same
 abbrev pub AreApart : List (List ℕ) → Type 0

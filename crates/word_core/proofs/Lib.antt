@@ -1,7 +1,6 @@
 pub mod OneByOne
 pub mod Pairs
 pub mod Numbers
-pub mod Apart
 pub mod Commands
 pub mod DeviceCommands
 pub mod Asked

@@ -3,7 +3,7 @@ use Rattle.std.specs.Prelude.{ℕ, List, [], ◌∷◌, Option, Some, None, code
 use Rattle.std.specs.Str.{bytes_eq}
 use Rattle.octets_core.specs.Layout.{within}
 use Rattle.slot_core.specs.declared.device.TheConstants.{MAX_CAPACITY}
-use Rattle.word_core.specs.Words.{◌>>=◌, name_of, number_of, query_of, are_apart}
+use Rattle.word_core.specs.Words.{◌>>=◌, name_of, number_of, query_of}
 use Rattle.word_core.specs.declared.device.{DeviceCommand.DeviceCommand, Format.Format, InstallPart.InstallPart}
 use Rattle.word_core.specs.declared.device.DeviceCommand.TheVariants as commands
 
@@ -19,7 +19,7 @@ format_of (device ∷ capacity ∷ store ∷ []) = do
   d ← name_of device
   c ← capacity_of capacity
   s ← name_of store
-  if are_apart (store ∷ []) (device ∷ []) then Some (record { device = d; capacity = c; store = s }) else None
+  if bytes_eq d s then None else Some (record { device = d; capacity = c; store = s })
 format_of words = None
 
 -- DEVICE PART
@@ -27,7 +27,7 @@ abbrev pub install_part_of : List (List ℕ) → Option InstallPart
 install_part_of (device ∷ part ∷ []) = do
   d ← name_of device
   p ← name_of part
-  if are_apart (part ∷ []) (device ∷ []) then Some (record { device = d; part = p }) else None
+  if bytes_eq d p then None else Some (record { device = d; part = p })
 install_part_of words = None
 
 -- a command where its words are there, or none

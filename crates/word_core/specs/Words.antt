@@ -59,6 +59,12 @@ pairs_of (log ∷ time ∷ rest) = do
 abbrev pub name_of : List ℕ → Option (List ℕ)
 name_of word = if is_name word then Some word else None
 
+abbrev pub two_names_of : List ℕ → List ℕ → Option (List ℕ × List ℕ)
+two_names_of first second = do
+  a ← name_of first
+  b ← name_of second
+  Some (a, b)
+
 -- 1 to 64 pairs
 abbrev pub sightings_of : List (List ℕ) → Option (List Sighting)
 sightings_of words = if within 2 (2 * MAX_SIGHTINGS) (length words) then pairs_of words else None
@@ -77,9 +83,8 @@ query_of words = None
 abbrev pub query_cert_of : List (List ℕ) → Option QueryCert
 query_cert_of (store ∷ cert ∷ issuer_cert ∷ []) = do
   s ← name_of store
-  c ← name_of cert
-  i ← name_of issuer_cert
-  Some (record { store = s; cert = c; issuer_cert = i })
+  certs ← two_names_of cert issuer_cert
+  Some (record { store = s; cert = certs.0; issuer_cert = certs.1 })
 query_cert_of words = None
 
 -- one name
@@ -93,55 +98,32 @@ workers_of word = do
   n ← number_of word
   if within 1 MAX_WORKERS n then Some n else None
 
-abbrev pub is_among : List ℕ → List (List ℕ) → Bool
-is_among name names = list_any (λ other. bytes_eq other name) names
-
--- no output has the name of an input or of another output
-abbrev pub are_apart : List (List ℕ) → List (List ℕ) → Bool
-are_apart inputs [] = true
-are_apart inputs (output ∷ others) = not (is_among output inputs) && not (is_among output others) && are_apart inputs others
-
 -- JOB PART LEDGER WORKERS
 abbrev pub snapshot_of : List (List ℕ) → Option Snapshot
 snapshot_of (job ∷ part ∷ ledger ∷ workers ∷ []) = do
   j ← name_of job
-  p ← name_of part
-  l ← name_of ledger
+  outputs ← two_names_of part ledger
   n ← workers_of workers
-  if are_apart (job ∷ []) (part ∷ ledger ∷ []) then Some (record { job = j; part = p; ledger = l; workers = n }) else None
+  Some (record { job = j; part = outputs.0; ledger = outputs.1; workers = n })
 snapshot_of words = None
-
-abbrev pub two_names_of : List ℕ → List ℕ → Option (List ℕ × List ℕ)
-two_names_of first second = do
-  a ← name_of first
-  b ← name_of second
-  Some (a, b)
-
-abbrev pub named_delta : (job ledger part new_ledger : List ℕ) → ℕ → Option Delta
-named_delta job ledger part new_ledger workers = do
-  inputs ← two_names_of job ledger
-  outputs ← two_names_of part new_ledger
-  Some (record { job = inputs.0; ledger = inputs.1; part = outputs.0; new_ledger = outputs.1; workers = workers })
 
 -- JOB LEDGER PART NEWLEDGER WORKERS
 abbrev pub delta_of : List (List ℕ) → Option Delta
 delta_of (job ∷ ledger ∷ part ∷ new_ledger ∷ workers ∷ []) = do
-  n ← workers_of workers
-  if are_apart (job ∷ ledger ∷ []) (part ∷ new_ledger ∷ []) then named_delta job ledger part new_ledger n else None
-delta_of words = None
-
-abbrev pub named_rebase : (ledger : List ℕ) (moment : ℕ) (part new_ledger : List ℕ) → ℕ → List (List ℕ) → Option Rebase
-named_rebase ledger moment part new_ledger workers without = do
-  l ← name_of ledger
+  inputs ← two_names_of job ledger
   outputs ← two_names_of part new_ledger
-  Some (record { ledger = l; moment = moment; part = outputs.0; new_ledger = outputs.1; workers = workers; without = without })
+  n ← workers_of workers
+  Some (record { job = inputs.0; ledger = inputs.1; part = outputs.0; new_ledger = outputs.1; workers = n })
+delta_of words = None
 
 -- LEDGER MOMENT PART NEWLEDGER WORKERS, of a chain without these issuers
 abbrev pub rebase_of : List (List ℕ) → List (List ℕ) → Option Rebase
 rebase_of (ledger ∷ moment ∷ part ∷ new_ledger ∷ workers ∷ []) without = do
+  l ← name_of ledger
   m ← number_of moment
+  outputs ← two_names_of part new_ledger
   n ← workers_of workers
-  if are_apart (ledger ∷ []) (part ∷ new_ledger ∷ []) then named_rebase ledger m part new_ledger n without else None
+  Some (record { ledger = l; moment = m; part = outputs.0; new_ledger = outputs.1; workers = n; without = without })
 rebase_of words without = None
 
 -- a key for each word
@@ -167,16 +149,15 @@ abbrev pub start_of : List (List ℕ) → Option Start
 start_of (part ∷ store ∷ []) = do
   p ← name_of part
   s ← name_of store
-  if are_apart (part ∷ []) (store ∷ []) then Some (record { part = p; store = s }) else None
+  Some (record { part = p; store = s })
 start_of words = None
 
 -- STORE PART NEWSTORE
 abbrev pub install_of : List (List ℕ) → Option Install
 install_of (store ∷ part ∷ new_store ∷ []) = do
-  s ← name_of store
-  p ← name_of part
+  inputs ← two_names_of store part
   n ← name_of new_store
-  if are_apart (store ∷ part ∷ []) (new_store ∷ []) then Some (record { store = s; part = p; new_store = n }) else None
+  Some (record { store = inputs.0; part = inputs.1; new_store = n })
 install_of words = None
 
 -- a name for each word
@@ -227,17 +208,13 @@ sample_of words = None
 abbrev pub pages_of : List (List ℕ) → Option (List (List ℕ))
 pages_of words = if within 1 MAX_PAGES (length words) then names_of words else None
 
-abbrev pub named_gather : (head log job : List ℕ) → List (List ℕ) → Option Gather
-named_gather head log job pages = do
-  l ← key_word log
+-- HEAD LOG JOB, and the pages
+abbrev pub gather_of : List (List ℕ) → Option Gather
+gather_of (head ∷ log ∷ job ∷ pages) = do
   names ← two_names_of head job
+  l ← key_word log
   p ← pages_of pages
   Some (record { head = names.0; log = l; job = names.1; pages = p })
-
--- HEAD LOG JOB, and the pages; JOB is another file than HEAD and than each page
-abbrev pub gather_of : List (List ℕ) → Option Gather
-gather_of (head ∷ log ∷ job ∷ pages) =
-    if are_apart (head ∷ []) (job ∷ []) && are_apart pages (job ∷ []) then named_gather head log job pages else None
 gather_of words = None
 
 -- a command where its words are there, or none
@@ -245,22 +222,72 @@ abbrev pub asks : {A : Type 0} → (A → Command) → Option A → Command
 asks command (Some x) = command x
 asks command None = commands.Usage
 
--- what the words of a call ask for
-abbrev pub command_of : List (List ℕ) → Command
-command_of [] = commands.Usage
-command_of (command ∷ words) =
-    if bytes_eq command (codes "query") then asks commands.Query (query_of words)
-    else if bytes_eq command (codes "query-cert") then asks commands.QueryCert (query_cert_of words)
-    else if bytes_eq command (codes "check") then asks commands.Check (name_alone words)
-    else if bytes_eq command (codes "show") then asks commands.Show (name_alone words)
-    else if bytes_eq command (codes "snapshot") then asks commands.Snapshot (snapshot_of words)
+-- what a word of a command that writes files, and those behind it, ask for
+abbrev pub writes_of : List ℕ → List (List ℕ) → Command
+writes_of command words =
+    if bytes_eq command (codes "snapshot") then asks commands.Snapshot (snapshot_of words)
     else if bytes_eq command (codes "delta") then asks commands.Delta (delta_of words)
     else if bytes_eq command (codes "rebase") then asks commands.Rebase (rebase_of words [])
     else if bytes_eq command (codes "rebase-without") then asks commands.Rebase (rebase_without_of words)
     else if bytes_eq command (codes "start") then asks commands.Start (start_of words)
     else if bytes_eq command (codes "install") then asks commands.Install (install_of words)
-    else if bytes_eq command (codes "rehearse") then asks commands.Rehearse (rehearse_of words)
     else if bytes_eq command (codes "sample") then asks commands.Sample (sample_of words)
     else if bytes_eq command (codes "gather") then asks commands.Gather (gather_of words)
-    else if bytes_eq command (codes "audit") then asks commands.Audit (audit_of words)
     else commands.Usage
+
+-- what a word and those behind it ask for, of files of any names
+abbrev pub asked_of : List ℕ → List (List ℕ) → Command
+asked_of command words =
+    if bytes_eq command (codes "query") then asks commands.Query (query_of words)
+    else if bytes_eq command (codes "query-cert") then asks commands.QueryCert (query_cert_of words)
+    else if bytes_eq command (codes "check") then asks commands.Check (name_alone words)
+    else if bytes_eq command (codes "show") then asks commands.Show (name_alone words)
+    else if bytes_eq command (codes "rehearse") then asks commands.Rehearse (rehearse_of words)
+    else if bytes_eq command (codes "audit") then asks commands.Audit (audit_of words)
+    else writes_of command words
+
+-- the names of the files that a command reads, in the order of reading
+abbrev pub inputs_of : Command → List (List ℕ)
+inputs_of (commands.Query query) = query.store ∷ []
+inputs_of (commands.QueryCert query) = query.store ∷ query.cert ∷ query.issuer_cert ∷ []
+inputs_of (commands.Check name) = name ∷ []
+inputs_of (commands.Show name) = name ∷ []
+inputs_of (commands.Snapshot snapshot) = snapshot.job ∷ []
+inputs_of (commands.Delta delta) = delta.job ∷ delta.ledger ∷ []
+inputs_of (commands.Rebase rebase) = rebase.ledger ∷ []
+inputs_of (commands.Start start) = start.part ∷ []
+inputs_of (commands.Install install) = install.store ∷ install.part ∷ []
+inputs_of (commands.Rehearse rehearse) = rehearse.queries ∷ rehearse.jobs
+inputs_of (commands.Gather gather) = gather.head ∷ gather.pages
+inputs_of (commands.Audit audit) = audit.store ∷ audit.jobs
+-- each other command reads none
+inputs_of command = []
+
+-- the names of the files that a command writes, in the order of writing
+abbrev pub outputs_of : Command → List (List ℕ)
+outputs_of (commands.Snapshot snapshot) = snapshot.part ∷ snapshot.ledger ∷ []
+outputs_of (commands.Delta delta) = delta.part ∷ delta.new_ledger ∷ []
+outputs_of (commands.Rebase rebase) = rebase.part ∷ rebase.new_ledger ∷ []
+outputs_of (commands.Start start) = start.store ∷ []
+outputs_of (commands.Install install) = install.new_store ∷ []
+outputs_of (commands.Sample sample) = sample.job ∷ []
+outputs_of (commands.Gather gather) = gather.job ∷ []
+-- each other command writes none
+outputs_of command = []
+
+abbrev pub is_among : List ℕ → List (List ℕ) → Bool
+is_among name names = list_any (λ other. bytes_eq other name) names
+
+-- no output has the name of an input or of another output
+abbrev pub are_apart : List (List ℕ) → List (List ℕ) → Bool
+are_apart inputs [] = true
+are_apart inputs (output ∷ others) = not (is_among output inputs) && not (is_among output others) && are_apart inputs others
+
+-- a command, unless an output has the name of an input or of another output
+abbrev pub apart : Command → Command
+apart command = if are_apart (inputs_of command) (outputs_of command) then command else commands.Usage
+
+-- what the words of a call ask for
+abbrev pub command_of : List (List ℕ) → Command
+command_of [] = commands.Usage
+command_of (command ∷ words) = apart (asked_of command words)

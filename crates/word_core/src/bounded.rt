@@ -1,6 +1,7 @@
 //! Counts and lists that words spell, with the bounds that they keep.
 
 use ident_core::{MAX_SAMPLE, MAX_WORKERS};
+use slot_core::MAX_CAPACITY;
 use std::marker::Model;
 
 /// A count of 1 to `MAX`.
@@ -44,6 +45,44 @@ pub type Workers = Count<MAX_WORKERS>;
 
 /// How many entries a sample has.
 pub type SampleCount = Count<MAX_SAMPLE>;
+
+/// The most bytes that a slot of a device holds, 1 to `MAX_CAPACITY`.
+#[derive(Debug, Drop)]
+pub struct Capacity {
+    bytes: u64,
+}
+
+impl Model for Capacity {
+    ghost use Rattle.std.specs.Prelude.{ℕ, ◌≤◌};
+    ghost use Rattle.slot_core.specs.declared.device.TheConstants.{MAX_CAPACITY};
+
+    ghost Value = { ℕ };
+
+    ghost view = { λ c. c.bytes };
+
+    ghost invariant = { λ c. (1 ≤ c.bytes) × (c.bytes ≤ MAX_CAPACITY) };
+}
+
+impl Capacity {
+    ghost use Rattle.std.specs.Prelude.{◌≡◌, ◌≤◌};
+    ghost use Rattle.slot_core.specs.declared.device.TheConstants.{MAX_CAPACITY};
+
+    /// So many bytes.
+    pub(crate) fn new(bytes: u64) -> Capacity
+        requires { (1 ≤ bytes) × (bytes ≤ MAX_CAPACITY) }
+        ensures { result ≡ bytes }
+    {
+        Capacity { bytes }
+    }
+
+    /// How many bytes.
+    pub fn get(&self) -> u64
+        ensures value { result ≡ self.now }
+        ensures bounds { (1 ≤ result) × (result ≤ MAX_CAPACITY) }
+    {
+        self.bytes
+    }
+}
 
 /// `MIN` to `MAX` items, in the order of the words.
 #[derive(Debug, Drop)]

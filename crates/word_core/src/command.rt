@@ -1,6 +1,7 @@
 //! What the words of a call ask for. The words lend the names of files.
 
 use crate::bounded::{Listed, SampleCount, Workers};
+use crate::words::are_apart;
 use ident_core::{Identity, MAX_PARTS, Sighting};
 use octets_core::Key32;
 use std::marker::Model;
@@ -36,6 +37,13 @@ impl<'a> FileName<'a> {
         ensures { result ≡ text.now }
     {
         FileName { text }
+    }
+
+    /// The same name.
+    fn again(&self) -> FileName<'a>
+        ensures { result ≡ self.now }
+    {
+        FileName { text: self.text }
     }
 
     /// The name's text.
@@ -173,4 +181,40 @@ pub enum Command<'a> {
     Gather(Gather<'a>),
     /// Whether a store, whoever built it, says the truth of what jobs accept.
     Audit(Audit<'a>),
+}
+
+impl Command<'_> {
+    ghost use Rattle.std.specs.Prelude.{◌≡◌};
+    ghost use Rattle.word_core.specs.Words.{are_apart, inputs_of, outputs_of};
+
+    /// Whether no file that the command writes has the name of another that it writes or of one that it reads.
+    pub(crate) fn is_apart(&self) -> bool
+        ensures { result ≡ are_apart (inputs_of self.now) (outputs_of self.now) }
+    {
+        match self {
+            Command::Snapshot(asked) => are_apart(
+                &[asked.job.again()],
+                &[asked.part.again(), asked.ledger.again()],
+            ),
+            Command::Delta(asked) => are_apart(
+                &[asked.job.again(), asked.ledger.again()],
+                &[asked.part.again(), asked.new_ledger.again()],
+            ),
+            Command::Rebase(asked) => are_apart(
+                &[asked.ledger.again()],
+                &[asked.part.again(), asked.new_ledger.again()],
+            ),
+            Command::Start(asked) => are_apart(&[asked.part.again()], &[asked.store.again()]),
+            Command::Install(asked) => are_apart(
+                &[asked.store.again(), asked.part.again()],
+                &[asked.new_store.again()],
+            ),
+            Command::Gather(asked) => {
+                let pages = asked.pages.as_slice();
+                are_apart(&[asked.head.again()], &[asked.job.again()])
+                    && are_apart(pages, &[asked.job.again()])
+            }
+            _ => true,
+        }
+    }
 }

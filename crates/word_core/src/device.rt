@@ -3,43 +3,13 @@
 ghost use Rattle.std.specs.Prelude.{◌≡◌, ◌∷◌, IfOk, map, string_bytes};
 ghost use Rattle.word_core.specs.Devices.{capacity_of, device_command_of, format_of, install_part_of};
 
+use crate::bounded::Capacity;
 use crate::command::{FileName, Query};
 use crate::reading::read_query;
-use crate::words::{are_apart, number_word, read_name};
+use crate::words::{number_word, read_name};
 use octets_core::NoMemory;
 use slot_core::MAX_CAPACITY;
 use std::alloc::Global;
-use std::marker::Model;
-
-/// The most bytes that a slot of a device holds, 1 to `MAX_CAPACITY`.
-#[derive(Debug, Drop)]
-pub struct Capacity {
-    bytes: u64,
-}
-
-impl Model for Capacity {
-    ghost use Rattle.std.specs.Prelude.{ℕ, ◌≤◌};
-    ghost use Rattle.slot_core.specs.declared.device.TheConstants.{MAX_CAPACITY};
-
-    ghost Value = { ℕ };
-
-    ghost view = { λ c. c.bytes };
-
-    ghost invariant = { λ c. (1 ≤ c.bytes) × (c.bytes ≤ MAX_CAPACITY) };
-}
-
-impl Capacity {
-    ghost use Rattle.std.specs.Prelude.{◌≡◌, ◌≤◌};
-    ghost use Rattle.slot_core.specs.declared.device.TheConstants.{MAX_CAPACITY};
-
-    /// How many bytes.
-    pub fn get(&self) -> u64
-        ensures value { result ≡ self.now }
-        ensures bounds { (1 ≤ result) × (result ≤ MAX_CAPACITY) }
-    {
-        self.bytes
-    }
-}
 
 /// A device that is made, to hold the store in a file.
 #[derive(Debug, Drop)]
@@ -77,7 +47,7 @@ fn capacity_word(word: &str) -> Option<Capacity>
     if bytes < 1 || bytes > MAX_CAPACITY {
         return None;
     }
-    Some(Capacity { bytes })
+    Some(Capacity::new(bytes))
 }
 
 /// The device that words spell, if they spell one.
@@ -87,12 +57,12 @@ fn read_format(words: &[String]) -> Option<Format<'_>>
     let [device, capacity, store] = words else {
         return None;
     };
-    if !are_apart(&words[2..], &words[..1]) {
-        return None;
-    }
     let device = read_name(device.as_str())?;
     let capacity = capacity_word(capacity.as_str())?;
     let store = read_name(store.as_str())?;
+    if device.as_str() == store.as_str() {
+        return None;
+    }
     Some(Format {
         device,
         capacity,
@@ -107,11 +77,11 @@ fn read_install_part(words: &[String]) -> Option<InstallPart<'_>>
     let [device, part] = words else {
         return None;
     };
-    if !are_apart(&words[1..], &words[..1]) {
-        return None;
-    }
     let device = read_name(device.as_str())?;
     let part = read_name(part.as_str())?;
+    if device.as_str() == part.as_str() {
+        return None;
+    }
     Some(InstallPart { device, part })
 }
 

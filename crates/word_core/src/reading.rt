@@ -1,17 +1,17 @@
 //! The commands that words spell together (docs/FORMATS.md, "Words").
 
 ghost use Rattle.std.specs.Prelude.{◌≡◌, ℕ, List, ◌∷◌, IfOk, IsOk, map, string_bytes};
-ghost use Rattle.word_core.specs.Words.{command_of, query_of, query_cert_of, name_alone, snapshot_of};
-ghost use Rattle.word_core.specs.Words.{named_delta, delta_of, named_rebase, rebase_of, rebase_without_of, start_of};
-ghost use Rattle.word_core.specs.Words.{install_of, jobs_of, rehearse_of, audit_of, sample_of, gather_of, named_gather};
+ghost use Rattle.word_core.specs.Words.{command_of, asked_of, writes_of, query_of, query_cert_of, name_alone};
+ghost use Rattle.word_core.specs.Words.{snapshot_of, delta_of, rebase_of, rebase_without_of, start_of, install_of};
+ghost use Rattle.word_core.specs.Words.{jobs_of, rehearse_of, audit_of, sample_of, gather_of};
 
-use crate::bounded::{Listed, Workers};
+use crate::bounded::Listed;
 use crate::command::{
     Audit, Command, Delta, FileName, Gather, Install, MAX_PAGES, MAX_SIGHTINGS, MAX_WITHOUT, Query,
     QueryCert, Rebase, Rehearse, Sample, Snapshot, Start,
 };
 use crate::words::{
-    are_apart, count_word, key_word, number_word, read_keys, read_name, read_names, read_pairs,
+    count_word, key_word, number_word, read_keys, read_name, read_names, read_pairs,
     read_two_names, serial_word, workers_word,
 };
 use ident_core::{Identity, MAX_PARTS};
@@ -55,8 +55,7 @@ fn read_query_cert(words: &[String]) -> Option<QueryCert<'_>>
         return None;
     };
     let store = read_name(store.as_str())?;
-    let cert = read_name(cert.as_str())?;
-    let issuer_cert = read_name(issuer_cert.as_str())?;
+    let (cert, issuer_cert) = read_two_names(cert.as_str(), issuer_cert.as_str())?;
     Some(QueryCert {
         store,
         cert,
@@ -81,38 +80,13 @@ fn read_snapshot(words: &[String]) -> Option<Snapshot<'_>>
     let [job, part, ledger, workers] = words else {
         return None;
     };
-    if !are_apart(&words[..1], &words[1..3]) {
-        return None;
-    }
-    let workers = workers_word(workers.as_str())?;
     let job = read_name(job.as_str())?;
-    let part = read_name(part.as_str())?;
-    let ledger = read_name(ledger.as_str())?;
+    let (part, ledger) = read_two_names(part.as_str(), ledger.as_str())?;
+    let workers = workers_word(workers.as_str())?;
     Some(Snapshot {
         job,
         part,
         ledger,
-        workers,
-    })
-}
-
-/// The later part of a chain with names that words spell, if each spells one.
-fn delta_named<'a>(
-    job: &'a str,
-    ledger: &'a str,
-    part: &'a str,
-    new_ledger: &'a str,
-    workers: Workers,
-) -> Option<Delta<'a>>
-    ensures { result ≡ named_delta job.now ledger.now part.now new_ledger.now workers }
-{
-    let (job, ledger) = read_two_names(job, ledger)?;
-    let (part, new_ledger) = read_two_names(part, new_ledger)?;
-    Some(Delta {
-        job,
-        ledger,
-        part,
-        new_ledger,
         workers,
     })
 }
@@ -124,39 +98,15 @@ fn read_delta(words: &[String]) -> Option<Delta<'_>>
     let [job, ledger, part, new_ledger, workers] = words else {
         return None;
     };
-    if !are_apart(&words[..2], &words[2..4]) {
-        return None;
-    }
+    let (job, ledger) = read_two_names(job.as_str(), ledger.as_str())?;
+    let (part, new_ledger) = read_two_names(part.as_str(), new_ledger.as_str())?;
     let workers = workers_word(workers.as_str())?;
-    delta_named(
-        job.as_str(),
-        ledger.as_str(),
-        part.as_str(),
-        new_ledger.as_str(),
-        workers,
-    )
-}
-
-/// The chain begun anew with names that words spell, if each spells one.
-fn rebase_named<'a>(
-    ledger: &'a str,
-    moment: u64,
-    part: &'a str,
-    new_ledger: &'a str,
-    workers: Workers,
-    without: Listed<Key32, 0, MAX_WITHOUT>,
-) -> Option<Rebase<'a>>
-    ensures { result ≡ named_rebase ledger.now moment part.now new_ledger.now workers without }
-{
-    let ledger = read_name(ledger)?;
-    let (part, new_ledger) = read_two_names(part, new_ledger)?;
-    Some(Rebase {
+    Some(Delta {
+        job,
         ledger,
-        moment,
         part,
         new_ledger,
         workers,
-        without,
     })
 }
 
@@ -167,19 +117,18 @@ fn read_rebase(words: &[String], without: Listed<Key32, 0, MAX_WITHOUT>) -> Opti
     let [ledger, moment, part, new_ledger, workers] = words else {
         return None;
     };
-    if !are_apart(&words[..1], &words[2..4]) {
-        return None;
-    }
+    let ledger = read_name(ledger.as_str())?;
     let moment = number_word(moment.as_str())?;
+    let (part, new_ledger) = read_two_names(part.as_str(), new_ledger.as_str())?;
     let workers = workers_word(workers.as_str())?;
-    rebase_named(
-        ledger.as_str(),
+    Some(Rebase {
+        ledger,
         moment,
-        part.as_str(),
-        new_ledger.as_str(),
+        part,
+        new_ledger,
         workers,
         without,
-    )
+    })
 }
 
 /// The chain begun anew, and the issuers that it leaves out, that words spell, if they spell both.
@@ -202,9 +151,6 @@ fn read_start(words: &[String]) -> Option<Start<'_>>
     let [part, store] = words else {
         return None;
     };
-    if !are_apart(&words[..1], &words[1..]) {
-        return None;
-    }
     let part = read_name(part.as_str())?;
     let store = read_name(store.as_str())?;
     Some(Start { part, store })
@@ -217,11 +163,7 @@ fn read_install(words: &[String]) -> Option<Install<'_>>
     let [store, part, new_store] = words else {
         return None;
     };
-    if !are_apart(&words[..2], &words[2..]) {
-        return None;
-    }
-    let store = read_name(store.as_str())?;
-    let part = read_name(part.as_str())?;
+    let (store, part) = read_two_names(store.as_str(), part.as_str())?;
     let new_store = read_name(new_store.as_str())?;
     Some(Install {
         store,
@@ -315,20 +257,17 @@ fn read_sample(words: &[String]) -> Option<Sample<'_>>
     Some(Sample { number, count, job })
 }
 
-/// The job with pages behind it with names that words spell, if each spells one.
-fn gather_named<'a>(
-    alloc: Global,
-    head: &'a str,
-    log: &str,
-    job: &'a str,
-    pages: &'a [String],
-) -> Result<Option<Gather<'a>>, NoMemory>
-    ensures { IfOk result (λ g. g ≡ named_gather head.now log.now job.now (map string_bytes pages.now)) }
+/// The job with pages behind it that words spell, if they spell one.
+fn read_gather(alloc: Global, words: &[String]) -> Result<Option<Gather<'_>>, NoMemory>
+    ensures { IfOk result (λ g. g ≡ gather_of (map string_bytes words.now)) }
 {
-    let Some(log) = key_word(log) else {
+    let [head, log, job, pages @ ..] = words else {
         return Ok(None);
     };
-    let Some((head, job)) = read_two_names(head, job) else {
+    let Some((head, job)) = read_two_names(head.as_str(), job.as_str()) else {
+        return Ok(None);
+    };
+    let Some(log) = key_word(log.as_str()) else {
         return Ok(None);
     };
     if pages.is_empty() || pages.len() > MAX_PAGES {
@@ -345,37 +284,18 @@ fn gather_named<'a>(
     }))
 }
 
-/// The job with pages behind it that words spell, if they spell one.
-fn read_gather(alloc: Global, words: &[String]) -> Result<Option<Gather<'_>>, NoMemory>
-    ensures { IfOk result (λ g. g ≡ gather_of (map string_bytes words.now)) }
-{
-    let [head, log, job, pages @ ..] = words else {
-        return Ok(None);
-    };
-    if !are_apart(&words[..1], &words[2..3]) {
-        return Ok(None);
-    }
-    if !are_apart(pages, &words[2..3]) {
-        return Ok(None);
-    }
-    gather_named(alloc, head.as_str(), log.as_str(), job.as_str(), pages)
-}
-
-/// What a word and those behind it ask for.
-fn read_command<'a>(
+/// What a word of a command that writes files, and those behind it, ask for.
+#[tactic(auto, using(crate::proofs::Commands::other))]
+fn read_writing<'a>(
     alloc: Global,
     command: &str,
     rest: &'a [String],
 ) -> Result<Command<'a>, NoMemory>
-    ensures value { IfOk result (λ c. c ≡ command_of (command.now ∷ map string_bytes rest.now)) }
-    ensures lent { (name : List ℕ) → command_of (command.now ∷ map string_bytes rest.now) ≡ Command.Check name
+    ensures value { IfOk result (λ c. c ≡ writes_of command.now (map string_bytes rest.now)) }
+    ensures lent { (name : List ℕ) → writes_of command.now (map string_bytes rest.now) ≡ Command.Check name
         → IsOk result }
 {
     match command {
-        "query" => Ok(read_query(alloc, rest)?.map_or(Command::Usage, Command::Query)),
-        "query-cert" => Ok(read_query_cert(rest).map_or(Command::Usage, Command::QueryCert)),
-        "check" => Ok(read_name_alone(rest).map_or(Command::Usage, Command::Check)),
-        "show" => Ok(read_name_alone(rest).map_or(Command::Usage, Command::Show)),
         "snapshot" => Ok(read_snapshot(rest).map_or(Command::Usage, Command::Snapshot)),
         "delta" => Ok(read_delta(rest).map_or(Command::Usage, Command::Delta)),
         "rebase" => Ok(read_rebase(rest, Listed::new(Vec::new(alloc))).map_or(
@@ -388,11 +308,31 @@ fn read_command<'a>(
         )),
         "start" => Ok(read_start(rest).map_or(Command::Usage, Command::Start)),
         "install" => Ok(read_install(rest).map_or(Command::Usage, Command::Install)),
-        "rehearse" => Ok(read_rehearse(alloc, rest)?.map_or(Command::Usage, Command::Rehearse)),
         "sample" => Ok(read_sample(rest).map_or(Command::Usage, Command::Sample)),
         "gather" => Ok(read_gather(alloc, rest)?.map_or(Command::Usage, Command::Gather)),
-        "audit" => Ok(read_audit(alloc, rest)?.map_or(Command::Usage, Command::Audit)),
         _ => Ok(Command::Usage),
+    }
+}
+
+/// What a word and those behind it ask for, of files of any names.
+#[tactic(auto, using(crate::proofs::Commands::other))]
+fn read_command<'a>(
+    alloc: Global,
+    command: &str,
+    rest: &'a [String],
+) -> Result<Command<'a>, NoMemory>
+    ensures value { IfOk result (λ c. c ≡ asked_of command.now (map string_bytes rest.now)) }
+    ensures lent { (name : List ℕ) → asked_of command.now (map string_bytes rest.now) ≡ Command.Check name
+        → IsOk result }
+{
+    match command {
+        "query" => Ok(read_query(alloc, rest)?.map_or(Command::Usage, Command::Query)),
+        "query-cert" => Ok(read_query_cert(rest).map_or(Command::Usage, Command::QueryCert)),
+        "check" => Ok(read_name_alone(rest).map_or(Command::Usage, Command::Check)),
+        "show" => Ok(read_name_alone(rest).map_or(Command::Usage, Command::Show)),
+        "rehearse" => Ok(read_rehearse(alloc, rest)?.map_or(Command::Usage, Command::Rehearse)),
+        "audit" => Ok(read_audit(alloc, rest)?.map_or(Command::Usage, Command::Audit)),
+        _ => read_writing(alloc, command, rest),
     }
 }
 
@@ -404,8 +344,13 @@ pub fn read_words(alloc: Global, words: &[String]) -> Result<Command<'_>, NoMemo
     // Words that ask for `check` are read without memory.
     ensures lent { (name : List ℕ) → command_of (map string_bytes words.now) ≡ Command.Check name → IsOk result }
 {
-    match words {
-        [command, rest @ ..] => read_command(alloc, command.as_str(), rest),
-        [] => Ok(Command::Usage),
+    let [command, rest @ ..] = words else {
+        return Ok(Command::Usage);
+    };
+    let command = read_command(alloc, command.as_str(), rest)?;
+    if command.is_apart() {
+        Ok(command)
+    } else {
+        Ok(Command::Usage)
     }
 }

@@ -6,7 +6,7 @@ ghost use Rattle.std.specs.Str.{bytes_eq};
 ghost use Rattle.std.specs.Char.{is_ascii_digit};
 ghost use Rattle.std.specs.Option.{option_map};
 ghost use Rattle.word_core.specs.Words.{name_of, names_of, two_names_of, pairs_of, key_word, keys_of, serial_of, number_of};
-ghost use Rattle.word_core.specs.Words.{workers_of, count_of, are_apart, is_name, is_plain};
+ghost use Rattle.word_core.specs.Words.{workers_of, count_of, is_among, are_apart, is_name, is_plain};
 
 use crate::bounded::{Count, SampleCount, Workers};
 use crate::command::FileName;
@@ -173,20 +173,19 @@ pub(crate) fn read_keys(alloc: Global, words: &[String]) -> Result<Option<Vec<Ke
     Ok(Some(keys))
 }
 
-fn is_among(name: &str, names: &[String]) -> bool
-    ensures { result ≡ list_any (λ other. bytes_eq (string_bytes other) name.now) names.now }
+fn is_among(name: &FileName<'_>, names: &[FileName<'_>]) -> bool
+    ensures { result ≡ is_among name.now names.now }
 {
-    names.iter().any(|other| other.as_str() == name)
+    names.iter().any(|other| other.as_str() == name.as_str())
 }
 
 /// Whether no output has the name of an input or of another output.
-pub(crate) fn are_apart(inputs: &[String], outputs: &[String]) -> bool
-    ensures { result ≡ are_apart (map string_bytes inputs.now) (map string_bytes outputs.now) }
+pub(crate) fn are_apart(inputs: &[FileName<'_>], outputs: &[FileName<'_>]) -> bool
+    ensures { result ≡ are_apart inputs.now outputs.now }
 {
     let mut rest = outputs;
     while let [output, others @ ..] = rest {
-        let name = output.as_str();
-        if is_among(name, inputs) || is_among(name, others) {
+        if is_among(output, inputs) || is_among(output, others) {
             return false;
         }
         rest = others;
