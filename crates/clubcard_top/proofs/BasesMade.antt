@@ -9,15 +9,13 @@ use Rattle.ident_core.specs.Coverage.{covers}
 use Rattle.ident_core.specs.HeadFields.{HeadFields}
 use Rattle.outside_core.specs.Files.{Files}
 use Rattle.part_text.specs.SealedFields.{SealedFields}
-use Rattle.part_text.specs.PartText.{spelling}
 use Rattle.ledger_core.specs.LedgerFields.{LedgerFields}
-use Rattle.ledger_core.specs.LedgerText.{ledger_text}
 use Rattle.ident_core.specs.Among.{Among}
 use Rattle.ident_core.specs.Sets.{has, has_key}
 use Rattle.ident_core.proofs.Elements.{Among-in_map, any_at}
 use Rattle.universe_core.specs.History.{Release, seen, sightings, is_listed}
 use Rattle.universe_core.specs.Ledgers.{ledger_of}
-use Rattle.history_core.specs.Bases.{kept_by, base_with, base_head, releases_without, is_lasting_by, newest_epoch}
+use Rattle.history_core.specs.Bases.{kept_by, base_with, base_head, releases_without, is_lasting_by}
 use Rattle.card_core.specs.declared.verdict.Verdict.{Verdict}
 use Rattle.card_core.specs.declared.verdict.Verdict.TheVariants.{NotCovered, NotEnrolled, Good, Revoked}
 use Rattle.card_core.specs.Consulting.{covers_some}
@@ -30,9 +28,9 @@ use Rattle.word_core.specs.declared.command.{Query.Query, Rebase.Rebase}
 use Rattle.line_core.specs.Lines.{line}
 use Rattle.command_core.specs.ReplyFields.{Done, NamedFault}
 use Rattle.command_core.specs.Commands.{only, verdict_word, query_done, Makes}
-use Rattle.command_core.specs.Rebasings.{base_line, base_done, rebased_as, MakesBase, MakesRebase}
+use Rattle.command_core.specs.Rebasings.{base_done, rebased_as, MakesBase, MakesRebase}
 use Rattle.command_core.specs.Replies.{held_by}
-use Rattle.clubcard_top.specs.Headline.{AsksToRebase, Rebased, IsRebasableWithout, base_of, IsKept, AsksTheBase, AsksStore, AsksTruth, AsksOfLeftOut, truth_line, truth_done}
+use Rattle.clubcard_top.specs.Headline.{AsksToRebase, BeginsAnew, IsRebasableWithout, base_of, IsKept, AsksTheBase, AsksStore, AsksTruth, AsksOfLeftOut, truth_line, truth_done}
 use Rattle.clubcard_top.proofs.Made.{ReadBack, ledger_input}
 use Rattle.command_core.proofs.Results.{ok_same}
 use Rattle.command_core.proofs.Unique.{OneBase}
@@ -64,24 +62,26 @@ module _ (layers : BaseLayers) where
       (subst (λ (c : Command). Makes c (held_by c files) o) p.0 m)
 
   rebased_by : (r : Rebase) (h : History) (parts : List SealedFields) (d : Done) → IsHistory h parts → 1 ≤ members h → (x : Result BasePublicationFields BaseFault)
-      → PublishesBase (ledger_of (releases_of h parts)) r.moment r.without x → Ok d ≡ rebased_as r x → Rebased r h parts d
+      → PublishesBase (ledger_of (releases_of h parts)) r.moment r.without x → Ok d ≡ rebased_as r x
+      → (made : BasePublicationFields) × BeginsAnew h parts r.moment r.without made × (d ≡ base_done r made)
   rebased_by r h parts d is some (Ok p) publishes is_done =
-      let same : d ≡ base_done r p = ok_same {E = NamedFault} d (base_done r p) is_done in
-      let begins : IsHistory (base_of h parts r.moment r.without) (p.sealed ∷ []) = layers.begins h parts r.moment r.without p is some publishes in
-      record {
-        sealed = p.sealed;
-        rebasable = layers.rebasable h parts r.moment r.without p is some publishes;
-        is_history = begins;
-        outputs = ap (λ (e : Done). e.outputs) same ∙ ap (λ (l : LedgerFields).
-            record { name = r.part; bytes = spelling p.sealed } ∷ record { name = r.new_ledger; bytes = ledger_text l } ∷ []) (layers.ledger h parts r.moment r.without p is publishes);
-        text = ap (λ (e : Done). e.text) same ∙ ap (λ (head : HeadFields). base_line r.without head.epoch p.counts) (begins.2.head_is ∙ layers.head r.without (releases_of h parts))
-            ∙ ap (base_line r.without (newest_epoch 0 (releases_of h parts))) (layers.numbers h parts r.moment r.without p is publishes);
-      }
+      let begins : IsHistory (base_of h parts r.moment r.without) (p.sealed ∷ []) = layers.begins h parts r.moment r.without p is some publishes in (
+        p,
+        record {
+          rebasable = layers.rebasable h parts r.moment r.without p is some publishes;
+          is_history = begins;
+          ledger = layers.ledger h parts r.moment r.without p is publishes;
+          epoch = ap (λ (head : HeadFields). head.epoch) (begins.2.head_is ∙ layers.head r.without (releases_of h parts));
+          counts = layers.numbers h parts r.moment r.without p is publishes;
+        },
+        ok_same {E = NamedFault} d (base_done r p) is_done,
+      )
   rebased_by r h parts d is some (Err fault) publishes is_done =
       absurd (let g : ◌≡◌ {A = Result Done NamedFault} (Ok d) (rebased_as r (Err fault)) = is_done in cc)
 
   pub rebased_law : (asked : Command) (files : Files) (r : Rebase) (h : History) (parts : List SealedFields) (d : Done) → IsHistory h parts
-      → AsksToRebase asked r h parts files → Makes asked (held_by asked files) (Ok d) → Rebased r h parts d
+      → AsksToRebase asked r h parts files → Makes asked (held_by asked files) (Ok d)
+      → (made : BasePublicationFields) × BeginsAnew h parts r.moment r.without made × (d ≡ base_done r made)
   rebased_law asked files r h parts d is p m =
       let x = made asked files r h parts (Ok d) is p m in
       rebased_by r h parts d is p.1 x.result x.publishes x.is

@@ -1,5 +1,5 @@
 -- What follows from how a call ends, whatever the depot tells.
-use Rattle.std.proofs.Common.{◌≡◌, ℕ, true, false, ◌||◌, ◌⊎◌, inl, inr, List, [], ◌∷◌, Option, Some, None, Result, Ok, Err, refl, sym, ap, subst, ◌∙◌, arith}
+use Rattle.std.proofs.Common.{◌≡◌, ℕ, true, false, ◌⊎◌, inl, inr, List, [], ◌∷◌, Option, Some, None, Result, Ok, Err, refl, sym, ap, subst, ◌∙◌, arith}
 use Rattle.std.specs.Prelude.{IsTrue}
 use Rattle.std.proofs.lemmas.Bool.{false≢true}
 use Rattle.outside_core.specs.Files.{Files, IsMissing}
@@ -18,7 +18,7 @@ use Rattle.command_core.specs.Runs.{IsTorn, KeepsAllBut, with_outputs}
 use Rattle.outside_core.specs.Reads.{CouldNotRead}
 use Rattle.ident_core.specs.Among.{Among}
 use Rattle.clubcard_top.specs.Calls.{Call, ChangesNoFile, Prints}
-use Rattle.clubcard_top.specs.Endings.{Gives, PrintsOrFails, Sent, Torn, SentOrTorn, Ends}
+use Rattle.clubcard_top.specs.Endings.{Gives, PrintsOrFails, SentOrTorn, Ends}
 use Rattle.command_core.proofs.Outputs.{names_of, keeps-same, keeps-written, keeps-torn, none-torn, none-written}
 use Rattle.command_core.proofs.Makings.{or_right, refusal_quiet, fault_status, outcome_status, of_faults, of_commands, done_names, unread_cause}
 

@@ -21,7 +21,6 @@ use Rattle.job_core.specs.JobFields.{JobFields}
 use Rattle.job_core.specs.JobLayout.{job_of}
 use Rattle.job_core.specs.JobFacts.{FitsFields, FitsPublishing, IsWithinLimits}
 use Rattle.ledger_core.specs.LedgerFields.{LedgerFields}
-use Rattle.ledger_core.specs.LedgerText.{ledger_text}
 use Rattle.ledger_core.specs.LedgerReading.{ledger_of as ledger_of_bytes}
 use Rattle.ledger_core.specs.declared.fault.LedgerFault.{LedgerFault}
 use Rattle.ident_core.specs.Among.{Among}
@@ -45,7 +44,7 @@ use Rattle.publication_core.specs.Truth.{truth}
 use Rattle.word_core.specs.declared.command.Command.{Command}
 use Rattle.word_core.specs.declared.command.Command.TheVariants as commands
 use Rattle.word_core.specs.declared.command.{Query.Query, QueryCert.QueryCert, Start.Start, Install.Install}
-use Rattle.line_core.specs.Lines.{line, report_line, store_line}
+use Rattle.line_core.specs.Lines.{line, store_line}
 use Rattle.input_core.specs.declared.certificates.Certificate.{Certificate}
 use Rattle.input_core.specs.declared.fault.FileFault.{FileFault}
 use Rattle.input_core.specs.Faults.{of_job, of_ledger, of_store}
@@ -56,7 +55,7 @@ use Rattle.command_core.specs.ReplyFields.{Done, NamedFault}
 use Rattle.command_core.specs.Commands.{◌>>=◌, named, input, only, verdict_word, query_done, query_makes, query_cert_makes, epoch_of, stored, begun_by, installed_by, start_makes}
 use Rattle.command_core.specs.Commands.{install_makes, publication_done, published_as, MakesPart, MakesSnapshot, MakesDelta, Makes}
 use Rattle.command_core.specs.Replies.{held_by}
-use Rattle.clubcard_top.specs.Headline.{HoldsJob, HoldsLedger, AsksToPublish, publishes_to, Published, AsksToStore, stores_to, Stored, AsksStore, AsksTruth, truth_done}
+use Rattle.clubcard_top.specs.Headline.{HoldsJob, HoldsLedger, AsksToContinue, Continues, done_by, AsksToStore, stores_to, Stored, AsksStore, AsksTruth, truth_done}
 use Rattle.clubcard_top.specs.Headline.{HoldsCert, HoldsKey, AsksCertTruth, cert_truth_line}
 use Rattle.clubcard_top.proofs.CertTruth.{certificate_read, issuer_read, truth_of_covered}
 use Rattle.command_core.proofs.Makings.{cert_last, cert_then, cert_after}
@@ -110,41 +109,40 @@ ledger_input back files name h parts is some (inr held) =
     rw held.0 (ap (λ (r : Result LedgerFields LedgerFault). named name (faulted of_ledger r)) (back.old_value h parts is some held.1))
 
 module _ (layers : Layers) where
-  -- what is published behind the ledger of a history
+  -- what is published behind the ledger of a history continues it
   published_by : (asked : Command) (h : History) (parts : List SealedFields) (job : JobFields) (d : Done) (name part ledger : List ℕ) (before : LedgerFields) → IsHistory h parts
-      → before ≡ ledger_of (releases_of h parts) → ((a b : List ℕ) → publishes_to asked a b ≡ record { name = part; bytes = a } ∷ record { name = ledger; bytes = b } ∷ [])
+      → before ≡ ledger_of (releases_of h parts) → ((p : PublicationFields) → done_by asked p ≡ publication_done part ledger p)
       → (fits : FitsFields job) (limits : IsWithinLimits PUBLISHED job) (r : Result PublicationFields PublishFault) → Publishes before job r
-      → Ok d ≡ published_as name part ledger r → Published asked h parts job d
+      → Ok d ≡ published_as name part ledger r → (made : PublicationFields) × Continues h parts job made × (d ≡ done_by asked made)
   published_by asked h parts job d name part ledger before is ledger_is outputs fits limits (Ok p) pub_ is_done =
-      let same : d ≡ publication_done part ledger p = ok_same {E = NamedFault} d (publication_done part ledger p) is_done in
-      let x : Publishes (ledger_of (releases_of h parts)) job (Ok p) = subst (λ (l : LedgerFields). Publishes l job (Ok p)) ledger_is pub_ in
-      record {
-        sealed = p.sealed;
-        fits = fits;
-        admissible = layers.admissible h parts job p is fits.publishing limits x;
-        is_history = layers.next h parts job p is fits.publishing limits x;
-        outputs = ap (λ (e : Done). e.outputs) same ∙ ap (λ (l : LedgerFields).
-            record { name = part; bytes = spelling p.sealed } ∷ record { name = ledger; bytes = ledger_text l } ∷ []) (layers.ledger h parts job p is x)
-            ∙ sym (outputs (part_bytes p.sealed) (ledger_bytes (with_job h (in_format current job)) (parts ++ p.sealed ∷ [])));
-        report = ap (λ (e : Done). e.text) same ∙ ap (λ (head : HeadFields). report_line head.epoch p.place p.counts) x.1.head ∙ ap
-            (λ (n : ℕ). report_line job.epoch n p.counts) (layers.place h parts job p is x)
-            ∙ ap (report_line job.epoch (members h)) (layers.numbers h parts job p is x);
-      }
+      let x : Publishes (ledger_of (releases_of h parts)) job (Ok p) = subst (λ (l : LedgerFields). Publishes l job (Ok p)) ledger_is pub_ in (
+        p,
+        record {
+          fits = fits;
+          admissible = layers.admissible h parts job p is fits.publishing limits x;
+          is_history = layers.next h parts job p is fits.publishing limits x;
+          ledger = layers.ledger h parts job p is x;
+          epoch = ap (λ (head : HeadFields). head.epoch) x.1.head_is;
+          place = layers.place h parts job p is x;
+          counts = layers.numbers h parts job p is x;
+        },
+        ok_same {E = NamedFault} d (publication_done part ledger p) is_done ∙ sym (outputs p),
+      )
   published_by asked h parts job d name part ledger before is ledger_is outputs fits limits (Err fault) pub_ is_done =
       absurd (let h : ◌≡◌ {A = Result Done NamedFault} (Ok d) (published_as name part ledger (Err fault)) = is_done in cc)
 
-  -- what a command that publishes a job behind a history makes
+  -- what a command that continues a history makes
   pub record Behind (asked : Command) (h : History) (parts : List SealedFields) (job : JobFields) (o : Result Done NamedFault) : Type 0 where
     pub name : List ℕ
     pub part_name : List ℕ
     pub ledger_name : List ℕ
     pub before : LedgerFields
     pub is_before : before ≡ ledger_of (releases_of h parts)
-    pub outputs : (a b : List ℕ) → publishes_to asked a b ≡ record { name = part_name; bytes = a } ∷ record { name = ledger_name; bytes = b } ∷ []
+    pub outputs : (p : PublicationFields) → done_by asked p ≡ publication_done part_name ledger_name p
     pub makes : MakesPart name part_name ledger_name before job o
 
   behind : (asked : Command) (files : Files) (h : History) (parts : List SealedFields) (job : JobFields) (o : Result Done NamedFault)
-      → IsHistory h parts → AsksToPublish asked h parts job files
+      → IsHistory h parts → AsksToContinue asked h parts job files
       → Makes asked (held_by asked files) o → Behind asked h parts job o
   behind commands.Usage files h parts job o is p m = absurd p
   behind (commands.Query q) files h parts job o is p m = absurd p
@@ -164,7 +162,7 @@ module _ (layers : Layers) where
     ledger_name = s.ledger;
     before = no_ledger;
     is_before = sym layers.none ∙ ap (λ (k : History). ledger_of (releases_of k [])) (sym p.0) ∙ ap (λ (ps : List SealedFields). ledger_of (releases_of h ps)) (sym p.1);
-    outputs = λ a b. refl;
+    outputs = λ p. refl;
     makes = subst (λ (r : Result JobFields NamedFault). MakesSnapshot s r o) (job_input files s.job job p.2) m;
   }
   behind (commands.Delta t) files h parts job o is p m = record {
@@ -173,30 +171,30 @@ module _ (layers : Layers) where
     ledger_name = t.new_ledger;
     before = ledger_of (releases_of h parts);
     is_before = refl;
-    outputs = λ a b. refl;
+    outputs = λ p. refl;
     makes = subst (λ (l : Result LedgerFields NamedFault). MakesDelta t (Ok job) l o) (ledger_input layers.ledgers files t.ledger h parts is p.0 p.1)
         (subst (λ (r : Result JobFields NamedFault). MakesDelta t r (input t.ledger ledger_in (get files t.ledger)) o) (job_input files t.job job p.2) m);
   }
 
-  pub published : (asked : Command) (files : Files) (h : History) (parts : List SealedFields) (job : JobFields) (d : Done) → IsHistory h parts → AsksToPublish asked h parts job files
-      → Makes asked (held_by asked files) (Ok d) → Published asked h parts job d
+  pub published : (asked : Command) (files : Files) (h : History) (parts : List SealedFields) (job : JobFields) (d : Done) → IsHistory h parts → AsksToContinue asked h parts job files
+      → Makes asked (held_by asked files) (Ok d) → (made : PublicationFields) × Continues h parts job made × (d ≡ done_by asked made)
   published asked files h parts job d is p m =
       let b = behind asked files h parts job (Ok d) is p m in
       published_by asked h parts job d b.name b.part_name b.ledger_name b.before is b.is_before b.outputs b.makes.fits b.makes.limits b.makes.result b.makes.publishes b.makes.is
 
-  done_by : (name part ledger : List ℕ) (before : LedgerFields) (job : JobFields) (o : Result Done NamedFault) (p : PublicationFields) → Publishes before job (Ok p) → (r : Result PublicationFields PublishFault)
+  sure_done : (name part ledger : List ℕ) (before : LedgerFields) (job : JobFields) (o : Result Done NamedFault) (p : PublicationFields) → Publishes before job (Ok p) → (r : Result PublicationFields PublishFault)
       → Publishes before job r → o ≡ published_as name part ledger r → (d : Done) × (o ≡ Ok d)
-  done_by name part ledger before job o p x (Ok q) y is = (publication_done part ledger q, is)
-  done_by name part ledger before job o p x (Err fault) y is =
+  sure_done name part ledger before job o p x (Ok q) y is = (publication_done part ledger q, is)
+  sure_done name part ledger before job o p x (Err fault) y is =
       absurd (let h : ◌≡◌ {A = Result PublicationFields PublishFault} (Ok p) (Err fault) = layers.publishing.one before job (Ok p) (Err fault) x y in cc)
 
   pub admitted : (asked : Command) (files : Files) (h : History) (parts : List SealedFields) (job : JobFields) (o : Result Done NamedFault)
-      → IsHistory h parts → AsksToPublish asked h parts job files
+      → IsHistory h parts → AsksToContinue asked h parts job files
       → IsAdmissible (releases_of h parts) (in_format current job) → Makes asked (held_by asked files) o → (d : Done) × (o ≡ Ok d)
   admitted asked files h parts job o is p a m =
       let b = behind asked files h parts job o is p m in
       let x = layers.publishing.complete h parts job is a in
-      done_by b.name b.part_name b.ledger_name b.before job o x.0 (subst (λ (l : LedgerFields). Publishes l job (Ok x.0)) (sym b.is_before) x.1) b.makes.result b.makes.publishes b.makes.is
+      sure_done b.name b.part_name b.ledger_name b.before job o x.0 (subst (λ (l : LedgerFields). Publishes l job (Ok x.0)) (sym b.is_before) x.1) b.makes.result b.makes.publishes b.makes.is
 
   -- ---- stores
 

@@ -1,5 +1,5 @@
 -- What a call does for a history; and all that is promised of one that succeeds.
-use Rattle.std.proofs.Common.{◌≡◌, ℕ, List, [], ◌∷◌, ◌++◌, Some, Result, Ok, sym, ap, subst, ◌∙◌}
+use Rattle.std.proofs.Common.{◌≡◌, ℕ, List, [], ◌∷◌, ◌++◌, Some, Result, Ok, sym, subst, ◌∙◌}
 use Rattle.outside_core.specs.Files.{Files}
 use Rattle.ident_core.specs.declared.identity.Identity.{Identity}
 use Rattle.ident_core.specs.declared.range.Sighting.{Sighting}
@@ -13,6 +13,8 @@ use Rattle.universe_core.specs.History.{seen}
 use Rattle.part_text.specs.SealedFields.{SealedFields}
 use Rattle.publication_core.specs.Formats.{current}
 use Rattle.publication_core.specs.Histories.{IsAdmissible, History, with_job, chain, IsHistory, releases_of, LeavesOut}
+use Rattle.publication_core.specs.Publishing.{PublicationFields}
+use Rattle.publication_core.specs.Rebasing.{BasePublicationFields}
 use Rattle.word_core.specs.declared.command.Command.{Command}
 use Rattle.word_core.specs.declared.command.Command.TheVariants as commands
 use Rattle.word_core.specs.declared.command.{Query.Query as StoreQuery, QueryCert.QueryCert, Rebase.Rebase}
@@ -21,13 +23,14 @@ use Rattle.line_core.specs.Lines.{line}
 use Rattle.command_core.specs.ReplyFields.{Done, NamedFault}
 use Rattle.command_core.specs.Commands.{only, verdict_word}
 use Rattle.command_core.specs.Commands.{rehearsed, Makes}
+use Rattle.command_core.specs.Rebasings.{base_done}
 use Rattle.command_core.specs.Replies.{held_by}
 use Rattle.clubcard_top.specs.Calls.{Call, Found, Prints}
 use Rattle.clubcard_top.specs.Endings.{Succeeds, Did, GivesDone, MustSucceed, Ends}
-use Rattle.clubcard_top.specs.Headline.{AsksTruth, Published, IsRehearsed, Stored, AsksToPublish, AsksToRehearse}
+use Rattle.clubcard_top.specs.Headline.{AsksTruth, Continues, done_by, IsRehearsed, Stored, AsksToContinue, AsksToRehearse}
 use Rattle.clubcard_top.specs.Headline.{AsksToStore, truth_line, truth_done}
 use Rattle.clubcard_top.specs.Headline.{AsksCertTruth, cert_truth_line}
-use Rattle.clubcard_top.specs.Headline.{AsksToRebase, Rebased, IsRebasableWithout, base_of, AsksTheBase, AsksOfLeftOut, Brings}
+use Rattle.clubcard_top.specs.Headline.{AsksToRebase, BeginsAnew, IsRebasableWithout, base_of, AsksTheBase, AsksOfLeftOut, Brings}
 use Rattle.clubcard_top.specs.Promises.{Successes, Histories}
 use Rattle.command_core.proofs.Results.{ok_same}
 use Rattle.clubcard_top.proofs.Promised.{Unique, answers, given, sure}
@@ -39,10 +42,11 @@ module _ (call : Call) where
   -- the laws of what comes of a command over files, as `histories_are_made` and `bases_are_made` say them
   pub record Laws : Type 0 where
     pub published : (files : Files) (h : History) (parts : List SealedFields) (job : JobFields) (d : Done)
-        → IsHistory h parts → AsksToPublish call.asked h parts job files
-        → Makes call.asked (held_by call.asked files) (Ok d) → Published call.asked h parts job d
+        → IsHistory h parts → AsksToContinue call.asked h parts job files
+        → Makes call.asked (held_by call.asked files) (Ok d)
+        → (made : PublicationFields) × Continues h parts job made × (d ≡ done_by call.asked made)
     pub admitted : (files : Files) (h : History) (parts : List SealedFields) (job : JobFields)
-        (o : Result Done NamedFault) → IsHistory h parts → AsksToPublish call.asked h parts job files
+        (o : Result Done NamedFault) → IsHistory h parts → AsksToContinue call.asked h parts job files
         → IsAdmissible (releases_of h parts) (in_format current job) → Makes call.asked (held_by call.asked files) o → (d : Done)
         × (o ≡ Ok d)
     pub stored : (files : Files) (h : History) (parts : List SealedFields) (s : SealedFields)
@@ -62,7 +66,8 @@ module _ (call : Call) where
         × (d ≡ rehearsed queries jobs parts)
     pub rebases : (files : Files) (r : Rebase) (h : History) (parts : List SealedFields) (d : Done)
         → IsHistory h parts → AsksToRebase call.asked r h parts files
-        → Makes call.asked (held_by call.asked files) (Ok d) → Rebased r h parts d
+        → Makes call.asked (held_by call.asked files) (Ok d)
+        → (made : BasePublicationFields) × BeginsAnew h parts r.moment r.without made × (d ≡ base_done r made)
     pub rebasable : (files : Files) (r : Rebase) (h : History) (parts : List SealedFields)
         (o : Result Done NamedFault) → IsHistory h parts → AsksToRebase call.asked r h parts files
         → IsRebasableWithout r.moment r.without h parts → Makes call.asked (held_by call.asked files) o → (d : Done) × (o ≡ Ok d)
@@ -95,23 +100,26 @@ module _ (call : Call) where
         let a = came files told zero in
         subst (λ (d : Done). Prints call d.text) (ok_same {E = NamedFault} a.0 said (law (Ok a.0) a.1)) a.2.gives.text
 
-    published : (h : History) (parts : List SealedFields) (job : JobFields) → IsHistory h parts → Found call (AsksToPublish call.asked h parts job) → Succeeds call
-        → (d : Done) × Published call.asked h parts job d × GivesDone call d
+    published : (h : History) (parts : List SealedFields) (job : JobFields) → IsHistory h parts → Found call (AsksToContinue call.asked h parts job) → Succeeds call
+        → (made : PublicationFields) × Continues h parts job made × GivesDone call (done_by call.asked made)
     published h parts job is_history (files, told, p) zero =
         let a = came files told zero in
-        (a.0, laws.published files h parts job a.0 is_history p a.1, a.2)
+        let l = laws.published files h parts job a.0 is_history p a.1 in
+        (l.0, l.1, subst (GivesDone call) l.2 a.2)
 
     admitted : (h : History) (parts : List SealedFields) (job : JobFields) → IsHistory h parts
-        → Found call (AsksToPublish call.asked h parts job) → IsAdmissible (releases_of h parts) (in_format current job) → MustSucceed call
+        → Found call (AsksToContinue call.asked h parts job) → IsAdmissible (releases_of h parts) (in_format current job) → MustSucceed call
     admitted h parts job is_history (files, told, p) may quiet =
-        sure call ends files told (λ none. subst (λ (c : Command). AsksToPublish c h parts job files) none p)
+        sure call ends files told (λ none. subst (λ (c : Command). AsksToContinue c h parts job files) none p)
         (λ o m. laws.admitted files h parts job o is_history p may m) quiet
 
     rebased_clause : (r : Rebase) (h : History) (parts : List SealedFields)
-        → IsHistory h parts → Found call (AsksToRebase call.asked r h parts) → Succeeds call → (d : Done) × Rebased r h parts d × GivesDone call d
+        → IsHistory h parts → Found call (AsksToRebase call.asked r h parts) → Succeeds call
+        → (made : BasePublicationFields) × BeginsAnew h parts r.moment r.without made × GivesDone call (base_done r made)
     rebased_clause r h parts is_history (files, told, p) zero =
         let a = came files told zero in
-        (a.0, laws.rebases files r h parts a.0 is_history p a.1, a.2)
+        let l = laws.rebases files r h parts a.0 is_history p a.1 in
+        (l.0, l.1, subst (GivesDone call) l.2 a.2)
 
     rebasable : (r : Rebase) (h : History) (parts : List SealedFields) → IsHistory h parts
         → Found call (AsksToRebase call.asked r h parts) → IsRebasableWithout r.moment r.without h parts → MustSucceed call
@@ -183,7 +191,7 @@ module _ (call : Call) where
       answered = answered;
       kept = kept_clause;
       left_out = left_out_clause;
-      comes_back = λ h parts job d e is left b p. laws.comes_back h parts job p.sealed e is left b;
+      comes_back = λ h parts job made e is left b continues. laws.comes_back h parts job made.sealed e is left b;
       cert_truth = cert_truth;
       cert_answered = cert_answered;
       followed = followed;

@@ -17,8 +17,8 @@ use Rattle.command_core.specs.Commands.{Makes}
 use Rattle.command_core.specs.Replies.{usage, done, refusal, reply_of, write_fault, IsReplyOver, held_by, SaysWhich, IsReply}
 use Rattle.command_core.specs.Runs.{IsTorn, with_outputs}
 use Rattle.clubcard_top.specs.Sending.{printing, writing, IsPrinted, IsSent}
-use Rattle.clubcard_top.specs.Calls.{Call, call_of, FilesAreTold, Writes, Prints, NoFault}
-use Rattle.clubcard_top.specs.Endings.{Succeeds, Gives, WantedMemory, SinkFailed, PrintsOrFails, Sent, Torn, SentOrTorn, GivesTheReply, Ends}
+use Rattle.clubcard_top.specs.Calls.{Call, call_of, FilesAreTold, Writes, NoFault}
+use Rattle.clubcard_top.specs.Endings.{Succeeds, Gives, WantedMemory, SinkFailed, PrintsOrFails, Torn, SentOrTorn, GivesTheReply, Ends}
 use Rattle.clubcard_top.specs.Refusals.{Comes, Refused}
 use Rattle.clubcard_top.specs.Promises.{Ending, Outside, Refusals}
 use Rattle.clubcard_top.proofs.Endings as endings

@@ -8,6 +8,7 @@ use Rattle.std.specs.FinMap.{get, insert, get-insert}
 use Rattle.std.proofs.lemmas.Map.Text.{is_eq-slice_cmp}
 use Rattle.std.proofs.lemmas.Slice.Eq.{bytes_eq-Decides}
 use Rattle.outside_core.specs.Files.{Files}
+use Rattle.ident_core.specs.declared.bounds.TheConstants.{MAX_ISSUERS}
 use Rattle.ident_core.specs.declared.kind.Kind.{Kind}
 use Rattle.ident_core.specs.declared.kind.Kind.TheVariants as kinds
 use Rattle.gather_core.specs.Pages.{PageFields}
@@ -19,13 +20,19 @@ use Rattle.audit_core.specs.Auditing.{releases_of as audited_releases, AllAgree}
 use Rattle.job_core.specs.JobText.{JobContents}
 use Rattle.ledger_core.specs.LedgerFields.{LedgerFields}
 use Rattle.part_text.specs.SealedFields.{SealedFields}
+use Rattle.universe_core.specs.Formats.{dated}
+use Rattle.universe_core.specs.Jobs.{facts_of}
 use Rattle.universe_core.specs.Ledgers.{no_ledger}
+use Rattle.universe_core.specs.Rebases.{ledger_without, issuers_in, is_lasting, rebased_groups}
+use Rattle.universe_core.specs.Step.{refusal, groups_after}
 use Rattle.store_core.specs.declared.chain.Refusal.{Refusal}
 use Rattle.store_core.specs.Chain.{refusal_of}
 use Rattle.publication_core.specs.declared.fault.PublishFault.{PublishFault}
-use Rattle.publication_core.specs.Publishing.{PublicationFields as Publication, CanBePublished, Publishes}
+use Rattle.publication_core.specs.Building.{HaveBlocks}
+use Rattle.publication_core.specs.Formats.{current}
+use Rattle.publication_core.specs.Publishing.{PublicationFields as Publication, Publishes}
 use Rattle.publication_core.specs.declared.base_fault.BaseFault.{BaseFault}
-use Rattle.publication_core.specs.Rebasing.{BasePublicationFields, IsBasePublication, PublishesBase, CanBeRebased}
+use Rattle.publication_core.specs.Rebasing.{BasePublicationFields, PublishesBase}
 use Rattle.word_core.specs.declared.command.Command.{Command}
 use Rattle.word_core.specs.Names.{inputs_of, outputs_of, IsApart}
 use Rattle.word_core.proofs.Asked.{AreApart, names_apart}
@@ -51,11 +58,12 @@ use Rattle.clubcard_top.specs.Calls.{Call, Reads, NoFault}
 use Rattle.clubcard_top.specs.Endings.{Succeeds, Did, Gives, GivesDone, WantedMemory, Ends}
 use Rattle.command_core.specs.Audits.{audit_jobs, audit_done, MakesAudit, AreWithinLimits, IsAudited}
 use Rattle.clubcard_top.specs.Successes.{ReadsPart, ReadsPages, ReadsJobs, SaysTheTruth}
-use Rattle.command_core.proofs.AuditsMade.{audit_done_is, audit_jobs_back, audit_makes}
-use Rattle.command_core.proofs.Makings.{done_names, gather_after, page_last, page_then, cert_last, cert_then, cert_after}
+use Rattle.command_core.proofs.AuditsMade.{named_value, audit_done_is, audit_jobs_back, audit_makes}
+use Rattle.command_core.proofs.Makings.{done_names, start_after, install_after, install_then, gather_after, page_last, page_then, cert_last, cert_then, cert_after}
 use Rattle.command_core.proofs.PagesPut.{behind_these, page_put}
-use Rattle.command_core.proofs.Results.{ok_same}
+use Rattle.command_core.proofs.Results.{ok_same, not_ok, after_ok}
 use Rattle.command_core.proofs.Outputs.{names_of, keeps-written}
+use Rattle.command_core.proofs.Overs.{some_is}
 use Rattle.clubcard_top.proofs.Promised.{answers, sure}
 
 -- ---- files after a write
@@ -80,34 +88,19 @@ all_held files [] apart = All-nil (IsHeld (Some files))
 all_held files (o ∷ outputs) apart =
     All-cons (IsHeld (with_outputs (Some files) (o ∷ outputs))) o outputs (held_after files o outputs apart.0) (all_held (insert files o.name o.bytes) outputs apart.1)
 
-some_same : (a b : Files) → ◌≡◌ {A = Option Files} (Some a) (Some b) → a ≡ b
-some_same a b h = cc
-
 -- ---- steps that went well
-
-not_fault : {A : Type 0} (x : A) (e : NamedFault) → ◌≡◌ {A = Result A NamedFault} (Err e) (Ok x) → ⊥
-not_fault x e h = cc
-
-named_ok : {A : Type 0} (name : List ℕ) (r : Result A FileFault) (x : A) → named name r ≡ Ok x → r ≡ Ok x
-named_ok {A} name (Ok y) x h = let g : ◌≡◌ {A = Result A NamedFault} (Ok y) (Ok x) = h in ap Ok (ok_same {E = NamedFault} y x g)
-named_ok name (Err fault) x h = absurd (not_fault x (record { name = name; fault = fault }) h)
 
 input_ok : {A : Type 0} (name : List ℕ) (read : List ℕ → Result A FileFault) (given : Option (List ℕ)) (x : A)
     → input name read given ≡ Ok x
     → (bytes : List ℕ) × (given ≡ Some bytes) × (read bytes ≡ Ok x)
-input_ok name read None x h = absurd (not_fault x (record { name = name; fault = faults.Unread }) h)
-input_ok name read (Some bytes) x h = (bytes, refl, named_ok name (read bytes) x h)
-
-step_ok : {A B : Type 0} (r : Result A NamedFault) (f : A → Result B NamedFault) (d : B) → Ok d ≡ (r >>= f) → (x : A)
-    × (r ≡ Ok x) × (f x ≡ Ok d)
-step_ok (Ok x) f d h = (x, refl, sym h)
-step_ok (Err e) f d h = absurd (not_fault d e (sym h))
+input_ok name read None x h = absurd (not_ok x (record { name = name; fault = faults.Unread }) h)
+input_ok name read (Some bytes) x h = (bytes, refl, named_value name (read bytes) x h)
 
 room_ok_by : (job : List ℕ) (page few : List PageFields) (b : Bool)
     → if◌then◌else◌ {A = Result (List PageFields) NamedFault} b (Ok page) (Err (record { name = job; fault = faults.TooMany what.Entries limits.PUBLISHED.entries })) ≡ Ok few
     → page ≡ few
 room_ok_by job page few true h = ok_same {E = NamedFault} page few h
-room_ok_by job page few false h = absurd (not_fault few (record { name = job; fault = faults.TooMany what.Entries limits.PUBLISHED.entries }) h)
+room_ok_by job page few false h = absurd (not_ok few (record { name = job; fault = faults.TooMany what.Entries limits.PUBLISHED.entries }) h)
 
 room_ok : (job : List ℕ) (before : ℕ) (page few : List PageFields) → room_for job before page ≡ Ok few → page ≡ few
 room_ok job before page few h = room_ok_by job page few (nat_le (before + length page) limits.PUBLISHED.entries) h
@@ -134,32 +127,32 @@ published_ok : (job part ledger : List ℕ) (before : LedgerFields) (j : JobFiel
 published_ok job part ledger before j (Ok p) d is h =
     (p, is, ok_same {E = NamedFault} d (publication_done part ledger p) h)
 published_ok job part ledger before j (Err fault) d is h =
-    absurd (not_fault d (record { name = job; fault = of_publishing fault }) (sym h))
+    absurd (not_ok d (record { name = job; fault = of_publishing fault }) (sym h))
 
 snapshot_ok : (s : Snapshot) (r : Result JobFields NamedFault) (d : Done) → MakesSnapshot s r (Ok d)
     → (j : JobFields) × (r ≡ Ok j) × MakesPart s.job s.part s.ledger no_ledger j (Ok d)
 snapshot_ok s (Ok j) d m = (j, refl, m)
-snapshot_ok s (Err e) d m = absurd (not_fault d e (sym m))
+snapshot_ok s (Err e) d m = absurd (not_ok d e (sym m))
 
 delta_ok : (t : Delta) (r : Result JobFields NamedFault) (l : Result LedgerFields NamedFault) (d : Done)
     → MakesDelta t r l (Ok d)
     → (j : JobFields) × (before : LedgerFields) × (r ≡ Ok j) × (l ≡ Ok before)
     × MakesPart t.job t.part t.new_ledger before j (Ok d)
 delta_ok t (Ok j) (Ok before) d m = (j, before, refl, refl, m)
-delta_ok t (Ok j) (Err e) d m = absurd (not_fault d e (sym m))
-delta_ok t (Err e) l d m = absurd (not_fault d e (sym m))
+delta_ok t (Ok j) (Err e) d m = absurd (not_ok d e (sym m))
+delta_ok t (Err e) l d m = absurd (not_ok d e (sym m))
 
 rebase_ok : (r : Rebase) (l : Result LedgerFields NamedFault) (d : Done) → MakesRebase r l (Ok d)
     → (before : LedgerFields) × (l ≡ Ok before) × MakesBase r before (Ok d)
 rebase_ok r (Ok before) d m = (before, refl, m)
-rebase_ok r (Err e) d m = absurd (not_fault d e (sym m))
+rebase_ok r (Err e) d m = absurd (not_ok d e (sym m))
 
 based_ok : (r : Rebase) (before : LedgerFields) (x : Result BasePublicationFields BaseFault) (d : Done)
     → PublishesBase before r.moment r.without x → Ok d ≡ rebased_as r x
-    → (p : BasePublicationFields) × IsBasePublication before r.moment r.without p × (d ≡ base_done r p)
+    → (p : BasePublicationFields) × PublishesBase before r.moment r.without (Ok p) × (d ≡ base_done r p)
 based_ok r before (Ok p) d is h = (p, is, ok_same {E = NamedFault} d (base_done r p) h)
 based_ok r before (Err fault) d is h =
-    absurd (not_fault d (record { name = r.ledger; fault = of_rebasing fault }) (sym h))
+    absurd (not_ok d (record { name = r.ledger; fault = of_rebasing fault }) (sym h))
 
 -- what is made of a job and a ledger, where this is published
 makes_this : (job part ledger : List ℕ) (before : LedgerFields) (j : JobFields) (o : Result Done NamedFault)
@@ -196,10 +189,12 @@ abbrev pub Truthful : Type 0
 Truthful = (parts : List SealedFields) (jobs : List JobFields) → AllAgree (map (λ (s : SealedFields). s.part) parts) jobs → SaysTheTruth parts jobs
 
 abbrev pub Publishable : Type 0
-Publishable = (before : LedgerFields) (job : JobFields) → CanBePublished before job → (made : Publication) × Publishes before job (Ok made)
+Publishable = (before : LedgerFields) (job : JobFields) → refusal limits.PUBLISHED before job ≡ None → HaveBlocks current (groups_after before (facts_of job))
+    → (made : Publication) × Publishes before job (Ok made)
 
 abbrev pub Rebasable : Type 0
-Rebasable = (before : LedgerFields) (moment : ℕ) (without : List (List ℕ)) → CanBeRebased before moment without
+Rebasable = (before : LedgerFields) (moment : ℕ) (without : List (List ℕ)) → length (issuers_in (ledger_without without before).parts) ≤ MAX_ISSUERS
+    → HaveBlocks dated (rebased_groups (is_lasting moment) (ledger_without without before))
     → (made : BasePublicationFields) × PublishesBase before moment without (Ok made)
 
 -- ---- each command
@@ -232,13 +227,13 @@ module _ (call : Call) where
   pages_read files told job before [] entries h = ok_same {E = NamedFault} entries [] h
   pages_read files told job before (name ∷ names) entries h =
       let others = held_under files names in
-      let one = step_ok (input name page_in (get files name)) (page_then job before names others) entries h in
-      let two = step_ok (room_for job before one.0) (page_last job before names others) entries (sym one.2) in
-      let three = step_ok (pages_of job (before + length two.0) names others) (λ more. Ok (two.0 ++ more)) entries (sym two.2) in (
+      let one = after_ok (input name page_in (get files name)) (page_then job before names others) entries h in
+      let two = after_ok (room_for job before one.0) (page_last job before names others) entries one.2 in
+      let three = after_ok (pages_of job (before + length two.0) names others) (λ more. Ok (two.0 ++ more)) entries two.2 in (
         one.0,
         three.0,
         reads files told name page_in one.0 one.1,
-        sym (ok_same {E = NamedFault} (two.0 ++ three.0) entries three.2)
+        ok_same {E = NamedFault} entries (two.0 ++ three.0) three.2
             ∙ ap (λ (page : List PageFields). page ++ three.0) (sym (room_ok job before one.0 two.0 two.1)),
         pages_read files told job (before + length two.0) names three.0 (sym three.1),
       )
@@ -267,8 +262,8 @@ module _ (call : Call) where
         × Reads call q.store store_in parts × GivesDone call (query_done q parts)
     query q did =
         let c = came (commands.Query q) did in
-        let s = step_ok (input q.store store_in (get did.files q.store)) (λ parts. Ok (query_done q parts)) c.d c.makes in
-        (s.0, reads did.files did.told q.store store_in s.0 s.1, same_done c.d (query_done q s.0) (sym (ok_same {E = NamedFault} (query_done q s.0) c.d s.2)) c.given)
+        let s = after_ok (input q.store store_in (get did.files q.store)) (λ parts. Ok (query_done q parts)) c.d c.makes in
+        (s.0, reads did.files did.told q.store store_in s.0 s.1, same_done c.d (query_done q s.0) (ok_same {E = NamedFault} c.d (query_done q s.0) s.2) c.given)
 
     pub query_cert : (q : QueryCert) → (did : Did call (commands.QueryCert q)) → (parts : List SealedFields)
         × (cert : Certificate) × (issuer : List ℕ) × Reads call q.store store_in parts
@@ -278,9 +273,9 @@ module _ (call : Call) where
         let c = came (commands.QueryCert q) did in
         let k = get did.files q.cert in
         let i = get did.files q.issuer_cert in
-        let one = step_ok (input q.store store_in (get did.files q.store)) (cert_after q k i) c.d c.makes in
-        let two = step_ok (input q.cert certificate_in k) (cert_then q i one.0) c.d (sym one.2) in
-        let three = step_ok (input q.issuer_cert issuer_in i) (cert_last one.0 two.0) c.d (sym two.2) in
+        let one = after_ok (input q.store store_in (get did.files q.store)) (cert_after q k i) c.d c.makes in
+        let two = after_ok (input q.cert certificate_in k) (cert_then q i one.0) c.d one.2 in
+        let three = after_ok (input q.issuer_cert issuer_in i) (cert_last one.0 two.0) c.d two.2 in
         let said = query_cert_done one.0 two.0 three.0 in (
           one.0,
           two.0,
@@ -288,22 +283,22 @@ module _ (call : Call) where
           reads did.files did.told q.store store_in one.0 one.1,
           reads did.files did.told q.cert certificate_in two.0 two.1,
           reads did.files did.told q.issuer_cert issuer_in three.0 three.1,
-          same_done c.d said (sym (ok_same {E = NamedFault} said c.d three.2)) c.given,
+          same_done c.d said (ok_same {E = NamedFault} c.d said three.2) c.given,
         )
 
     pub check : (name : List ℕ) → (did : Did call (commands.Check name)) → (s : SealedFields) × (size : ℕ)
         × Reads call name part_in (s, size) × GivesDone call (check_done (s, size))
     check name did =
         let c = came (commands.Check name) did in
-        let s = step_ok (input name part_in (get did.files name)) (λ x. Ok (check_done x)) c.d c.makes in
-        (s.0.0, s.0.1, reads did.files did.told name part_in s.0 s.1, same_done c.d (check_done s.0) (sym (ok_same {E = NamedFault} (check_done s.0) c.d s.2)) c.given)
+        let s = after_ok (input name part_in (get did.files name)) (λ x. Ok (check_done x)) c.d c.makes in
+        (s.0.0, s.0.1, reads did.files did.told name part_in s.0 s.1, same_done c.d (check_done s.0) (ok_same {E = NamedFault} c.d (check_done s.0) s.2) c.given)
 
     pub show : (name : List ℕ) → (did : Did call (commands.Show name)) → (s : SealedFields) × (size : ℕ)
         × Reads call name part_in (s, size) × GivesDone call (show_done (s, size))
     show name did =
         let c = came (commands.Show name) did in
-        let s = step_ok (input name part_in (get did.files name)) (λ x. Ok (show_done x)) c.d c.makes in
-        (s.0.0, s.0.1, reads did.files did.told name part_in s.0 s.1, same_done c.d (show_done s.0) (sym (ok_same {E = NamedFault} (show_done s.0) c.d s.2)) c.given)
+        let s = after_ok (input name part_in (get did.files name)) (λ x. Ok (show_done x)) c.d c.makes in
+        (s.0.0, s.0.1, reads did.files did.told name part_in s.0 s.1, same_done c.d (show_done s.0) (ok_same {E = NamedFault} c.d (show_done s.0) s.2) c.given)
 
     pub snapshot : (s : Snapshot) → (did : Did call (commands.Snapshot s)) → (job : JobFields) × (made : Publication)
         × Reads call s.job job_in job × Publishes no_ledger job (Ok made) × GivesDone call (publication_done s.part s.ledger made)
@@ -333,7 +328,7 @@ module _ (call : Call) where
         )
 
     pub rebase : (r : Rebase) → (did : Did call (commands.Rebase r)) → (before : LedgerFields) × (made : BasePublicationFields)
-        × Reads call r.ledger ledger_in before × IsBasePublication before r.moment r.without made × GivesDone call (base_done r made)
+        × Reads call r.ledger ledger_in before × PublishesBase before r.moment r.without (Ok made) × GivesDone call (base_done r made)
     rebase r did =
         let c = came (commands.Rebase r) did in
         let k = rebase_ok r (input r.ledger ledger_in (get did.files r.ledger)) c.d c.makes in
@@ -345,11 +340,11 @@ module _ (call : Call) where
         × (s.part.head.kind ≡ kinds.Snapshot) × GivesDone call (stored t.store (s ∷ []))
     start t did =
         let c = came (commands.Start t) did in
-        let one = step_ok (input t.part part_in (get did.files t.part)) (λ x. named t.part (begun x.0) >>= λ parts. Ok (stored t.store parts)) c.d c.makes in
+        let one = after_ok (input t.part part_in (get did.files t.part)) (start_after t) c.d c.makes in
         let x = one.0 in
-        let two = step_ok (named t.part (begun x.0)) (λ parts. Ok (stored t.store parts)) c.d (sym one.2) in
-        let b = begun_ok x.0 x.0.part.head.kind two.0 (named_ok t.part (begun x.0) two.0 two.1) in
-        let same : c.d ≡ stored t.store (x.0 ∷ []) = sym (ok_same {E = NamedFault} (stored t.store two.0) c.d two.2) ∙ ap (stored t.store) b.1 in
+        let two = after_ok (named t.part (begun x.0)) (λ parts. Ok (stored t.store parts)) c.d one.2 in
+        let b = begun_ok x.0 x.0.part.head.kind two.0 (named_value t.part (begun x.0) two.0 two.1) in
+        let same : c.d ≡ stored t.store (x.0 ∷ []) = ok_same {E = NamedFault} c.d (stored t.store two.0) two.2 ∙ ap (stored t.store) b.1 in
         (x.0, (x.1, reads did.files did.told t.part part_in x one.1), b.0, same_done c.d (stored t.store (x.0 ∷ [])) same c.given)
 
     pub install : (i : Install) → (did : Did call (commands.Install i)) → (parts : List SealedFields) × (s : SealedFields)
@@ -357,21 +352,14 @@ module _ (call : Call) where
         × (refusal_of parts s ≡ None) × GivesDone call (stored i.new_store (parts ++ s ∷ []))
     install i did =
         let c = came (commands.Install i) did in
-        let one =
-        step_ok (input i.store store_in (get did.files i.store))
-        (λ parts. input i.part part_in (get did.files i.part) >>= λ x.
-        named i.part (installed parts x.0) >>= λ more. Ok (stored i.new_store more))
-        c.d c.makes in
+        let one = after_ok (input i.store store_in (get did.files i.store)) (install_after i (get did.files i.part)) c.d c.makes in
         let parts = one.0 in
-        let two =
-        step_ok (input i.part part_in (get did.files i.part))
-        (λ x. named i.part (installed parts x.0) >>= λ more. Ok (stored i.new_store more))
-        c.d (sym one.2) in
+        let two = after_ok (input i.part part_in (get did.files i.part)) (install_then i parts) c.d one.2 in
         let x = two.0 in
-        let three = step_ok (named i.part (installed parts x.0)) (λ more. Ok (stored i.new_store more)) c.d (sym two.2) in
-        let b = installed_ok (refusal_of parts x.0) parts x.0 three.0 (named_ok i.part (installed parts x.0) three.0 three.1) in
+        let three = after_ok (named i.part (installed parts x.0)) (λ more. Ok (stored i.new_store more)) c.d two.2 in
+        let b = installed_ok (refusal_of parts x.0) parts x.0 three.0 (named_value i.part (installed parts x.0) three.0 three.1) in
         let same : c.d ≡ stored i.new_store (parts ++ x.0 ∷ []) =
-        sym (ok_same {E = NamedFault} (stored i.new_store three.0) c.d three.2) ∙ ap (stored i.new_store) b.1 in (
+        ok_same {E = NamedFault} c.d (stored i.new_store three.0) three.2 ∙ ap (stored i.new_store) b.1 in (
           parts,
           x.0,
           reads did.files did.told i.store store_in parts one.1,
@@ -391,13 +379,13 @@ module _ (call : Call) where
     gather g did =
         let c = came (commands.Gather g) did in
         let others = held_under did.files g.pages in
-        let one = step_ok (input g.head head_in (get did.files g.head)) (gather_after g others) c.d c.makes in
-        let two = step_ok (pages_of g.job (length one.0.entries) g.pages others) (λ entries. Ok (gather_done g one.0 entries)) c.d (sym one.2) in (
+        let one = after_ok (input g.head head_in (get did.files g.head)) (gather_after g others) c.d c.makes in
+        let two = after_ok (pages_of g.job (length one.0.entries) g.pages others) (λ entries. Ok (gather_done g one.0 entries)) c.d one.2 in (
           one.0,
           two.0,
           reads did.files did.told g.head head_in one.0 one.1,
           pages_read did.files did.told g.job (length one.0.entries) g.pages two.0 (sym two.1),
-          same_done c.d (gather_done g one.0 two.0) (sym (ok_same {E = NamedFault} (gather_done g one.0 two.0) c.d two.2)) c.given,
+          same_done c.d (gather_done g one.0 two.0) (ok_same {E = NamedFault} c.d (gather_done g one.0 two.0) two.2) c.given,
         )
 
     pub audit : Truthful → (a : Audit) → (did : Did call (commands.Audit a)) → (parts : List SealedFields) × (jobs : List JobFields)
@@ -422,7 +410,7 @@ module _ (call : Call) where
       → (name : List ℕ) (read : List ℕ → Result A FileFault) (x : A) → Reads call name read x
       → input name read (get files name) ≡ Ok x
   read_in files told name read x (bytes, (others, told_so, held), is) =
-      let same : others ≡ files = some_same others files (sym told_so ∙ told) in
+      let same : others ≡ files = some_is others files (sym told_so ∙ told) in
       ap (input name read) (ap (λ (f : Files). get f name) (sym same) ∙ held) ∙ ap (named name) is
 
   pages_back : (files : Files) → call.files_before ≡ Some files → (job : List ℕ) (before : ℕ) (names : List (List ℕ)) (entries : List PageFields)
@@ -454,39 +442,38 @@ module _ (call : Call) where
         quiet
 
     pub snapshot_complete : (s : Snapshot) (job : JobFields) → call.asked ≡ commands.Snapshot s
-        → Reads call s.job job_in job → CanBePublished no_ledger job → NoFault call → Succeeds call ⊎ WantedMemory call
-    snapshot_complete s job asked (bytes, (files, told, held), is) can quiet =
-        let made = (publishable no_ledger job can).0 in
-        let x = (publishable no_ledger job can).1 in
+        → Reads call s.job job_in job → refusal limits.PUBLISHED no_ledger job ≡ None → HaveBlocks current (groups_after no_ledger (facts_of job))
+        → NoFault call → Succeeds call ⊎ WantedMemory call
+    snapshot_complete s job asked (bytes, (files, told, held), is) none have quiet =
+        let p = publishable no_ledger job none have in
         let job_is = read_in files told s.job job_in job (bytes, (files, told, held), is) in
-        let d = publication_done s.part s.ledger made in
+        let d = publication_done s.part s.ledger p.0 in
         sure_of (commands.Snapshot s) files d told asked
         (λ none. cc)
         (λ o m. subst (λ (r : Result JobFields NamedFault). MakesSnapshot s r (Ok d)) (sym job_is)
-        (makes_this s.job s.part s.ledger no_ledger job o made x
+        (makes_this s.job s.part s.ledger no_ledger job o p.0 p.1
         (subst (λ (r : Result JobFields NamedFault). MakesSnapshot s r o) job_is m)))
         quiet
 
     pub delta_complete : (t : Delta) (before : LedgerFields) (job : JobFields) → call.asked ≡ commands.Delta t
-        → Reads call t.ledger ledger_in before → Reads call t.job job_in job → CanBePublished before job → NoFault call
-        → Succeeds call ⊎ WantedMemory call
-    delta_complete t before job asked ledger_reads (bytes, (files, told, held), is) can quiet =
-        let made = (publishable before job can).0 in
-        let x = (publishable before job can).1 in
+        → Reads call t.ledger ledger_in before → Reads call t.job job_in job → refusal limits.PUBLISHED before job ≡ None
+        → HaveBlocks current (groups_after before (facts_of job)) → NoFault call → Succeeds call ⊎ WantedMemory call
+    delta_complete t before job asked ledger_reads (bytes, (files, told, held), is) none have quiet =
+        let p = publishable before job none have in
         let job_is = read_in files told t.job job_in job (bytes, (files, told, held), is) in
         let ledger_is = read_in files told t.ledger ledger_in before ledger_reads in
-        let d = publication_done t.part t.new_ledger made in
+        let d = publication_done t.part t.new_ledger p.0 in
         sure_of (commands.Delta t) files d told asked
         (λ none. cc)
         (λ o m. both_back t files job before (Ok d) job_is ledger_is
-        (makes_this t.job t.part t.new_ledger before job o made x (both_read t files job before o job_is ledger_is m)))
+        (makes_this t.job t.part t.new_ledger before job o p.0 p.1 (both_read t files job before o job_is ledger_is m)))
         quiet
 
     pub rebase_complete : Rebasable → (r : Rebase) (before : LedgerFields) → call.asked ≡ commands.Rebase r
-        → Reads call r.ledger ledger_in before → CanBeRebased before r.moment r.without → NoFault call
-        → Succeeds call ⊎ WantedMemory call
-    rebase_complete rebasable r before asked (bytes, (files, told, held), is) can quiet =
-        let made = rebasable before r.moment r.without can in
+        → Reads call r.ledger ledger_in before → length (issuers_in (ledger_without r.without before).parts) ≤ MAX_ISSUERS
+        → HaveBlocks dated (rebased_groups (is_lasting r.moment) (ledger_without r.without before)) → NoFault call → Succeeds call ⊎ WantedMemory call
+    rebase_complete rebasable r before asked (bytes, (files, told, held), is) few have quiet =
+        let made = rebasable before r.moment r.without few have in
         let ledger_is = read_in files told r.ledger ledger_in before (bytes, (files, told, held), is) in
         let d = base_done r made.0 in
         sure_of (commands.Rebase r) files d told asked

@@ -21,25 +21,25 @@ use Rattle.ident_core.specs.Among.{Among}
 use Rattle.universe_core.specs.Formats.{in_format}
 use Rattle.universe_core.specs.Jobs.{Entry, is_enrolled, facts_of}
 use Rattle.ident_core.specs.Sets.{has, has_key}
-use Rattle.universe_core.specs.History.{Release, seen, sightings}
+use Rattle.universe_core.specs.History.{Release, past_of, seen, sightings}
 use Rattle.universe_core.specs.Counting.{counts}
+use Rattle.universe_core.specs.Ledgers.{ledger_of}
 use Rattle.history_core.specs.Bases.{kept_by, releases_without, is_lasting_by, newest_epoch}
 use Rattle.publication_core.specs.Formats.{current}
 use Rattle.publication_core.specs.Histories.{IsAdmissible, IsRebasable, History, of_jobs, rebased, members, with_job, chain}
 use Rattle.publication_core.specs.Histories.{IsHistory, releases_of, LeavesOut}
 use Rattle.publication_core.specs.Histories.{part_bytes, store_bytes, ledger_bytes, old_ledger_bytes, IsUndated}
-use Rattle.publication_core.specs.Rebasing.{base_counts}
+use Rattle.publication_core.specs.Publishing.{PublicationFields}
+use Rattle.publication_core.specs.Rebasing.{BasePublicationFields, base_counts}
 use Rattle.publication_core.specs.Truth.{truth}
 use Rattle.word_core.specs.declared.command.Command.{Command}
 use Rattle.word_core.specs.declared.command.Command.TheVariants as commands
 use Rattle.word_core.specs.declared.command.{Query.Query as StoreQuery, QueryCert.QueryCert, Rebase.Rebase}
 use Rattle.line_core.specs.Lines.{line, store_line}
 use Rattle.command_core.specs.ReplyFields.{OutputFields, Done}
-use Rattle.command_core.specs.Commands.{verdict_word, only, report_behind, verdict_line}
-use Rattle.command_core.specs.Rebasings.{base_line}
-use Rattle.clubcard_top.specs.Calls.{Holds}
+use Rattle.command_core.specs.Commands.{verdict_word, only, publication_done, verdict_line}
 
--- ---- publishing
+-- ---- continuing a history
 
 -- the file of this name holds the bytes of this job
 abbrev pub HoldsJob : Files → List ℕ → JobFields → Type 0
@@ -50,37 +50,33 @@ abbrev pub HoldsLedger : Files → List ℕ → History → List SealedFields �
 HoldsLedger files name h parts =
     (get files name ≡ Some (ledger_bytes h parts)) ⊎ ((get files name ≡ Some (old_ledger_bytes h parts)) × IsUndated h)
 
--- The command publishes a job behind a history: `snapshot` behind that of no jobs, and `delta` behind that whose
--- ledger LEDGER holds.
-abbrev pub AsksToPublish : Command → History → List SealedFields → JobFields → Files → Type 0
-AsksToPublish (commands.Snapshot s) h parts job files = (h ≡ of_jobs []) × (parts ≡ []) × HoldsJob files s.job job
-AsksToPublish (commands.Delta d) h parts job files =
+-- The command continues a history with a job: `snapshot` that of no jobs, and `delta` that whose ledger LEDGER holds.
+abbrev pub AsksToContinue : Command → History → List SealedFields → JobFields → Files → Type 0
+AsksToContinue (commands.Snapshot s) h parts job files = (h ≡ of_jobs []) × (parts ≡ []) × HoldsJob files s.job job
+AsksToContinue (commands.Delta d) h parts job files =
     (1 ≤ members h) × HoldsLedger files d.ledger h parts × HoldsJob files d.job job
--- no other command publishes a job behind a history
-AsksToPublish command h parts job files = ⊥
+-- no other command continues a history
+AsksToContinue command h parts job files = ⊥
 
--- the outputs: a part and a ledger, in the order of writing
-abbrev pub publishes_to : Command → List ℕ → List ℕ → List OutputFields
-publishes_to (commands.Snapshot s) part ledger =
-    record { name = s.part; bytes = part } ∷ record { name = s.ledger; bytes = ledger } ∷ []
-publishes_to (commands.Delta d) part ledger =
-    record { name = d.part; bytes = part } ∷ record { name = d.new_ledger; bytes = ledger } ∷ []
--- no other command writes them: it is asked where `AsksToPublish` holds
-publishes_to command part ledger = []
+-- the files that the command names for this part and ledger, and its report, and nothing else
+abbrev pub done_by : Command → PublicationFields → Done
+done_by (commands.Snapshot s) made = publication_done s.part s.ledger made
+done_by (commands.Delta d) made = publication_done d.part d.new_ledger made
+-- no other command gives them: it is asked where `AsksToContinue` holds
+done_by command made = only []
 
--- This is made of a job that may follow the history, and makes a history with it: its report, the bytes of its part, and
--- those of the ledger of them all, in this order and nothing else.
-pub record Published
-    (asked : Command) (h : History) (parts : List SealedFields) (job : JobFields) (d : Done)
+-- This continues the history with the job: the job may follow the history, the two are a history, of which this is the
+-- newest part and the ledger, and the report is of the job's epoch, place and counts in it.
+pub record Continues (h : History) (parts : List SealedFields) (job : JobFields) (made : PublicationFields)
     : Type 0 where
-  pub sealed : SealedFields
   -- keys, serials and times fit their fields, those of its CRLs too
   pub fits : FitsFields job
   pub admissible : IsAdmissible (releases_of h parts) (in_format current job)
-  pub is_history : IsHistory (with_job h (in_format current job)) (parts ++ sealed ∷ [])
-  pub report : d.text ≡ report_behind h parts job
-  pub outputs : d.outputs
-      ≡ publishes_to asked (part_bytes sealed) (ledger_bytes (with_job h (in_format current job)) (parts ++ sealed ∷ []))
+  pub is_history : IsHistory (with_job h (in_format current job)) (parts ++ made.sealed ∷ [])
+  pub ledger : made.ledger ≡ ledger_of (releases_of (with_job h (in_format current job)) (parts ++ made.sealed ∷ []))
+  pub epoch : made.sealed.part.head.epoch ≡ job.epoch
+  pub place : made.place ≡ members h
+  pub counts : made.counts ≡ counts (past_of (releases_of h parts)) (facts_of job)
 
 -- ---- beginning a chain anew
 
@@ -96,20 +92,16 @@ base_of h parts moment without = rebased h parts moment without []
 abbrev pub IsRebasableWithout : ℕ → List (List ℕ) → History → List SealedFields → Type 0
 IsRebasableWithout moment without h parts = IsRebasable moment (releases_without without (releases_of h parts))
 
--- the outputs: a part and a ledger, in the order of writing
-abbrev pub rebases_to : Rebase → List ℕ → List ℕ → List OutputFields
-rebases_to r part ledger = record { name = r.part; bytes = part } ∷ record { name = r.new_ledger; bytes = ledger } ∷ []
-
--- This is made of a base without the issuers of ISSUER .., which may stand for the history at MOMENT: the epoch of the
--- history's newest member and the counts of the base, the bytes of its part, and those of its ledger, and nothing else.
-pub record Rebased (r : Rebase) (h : History) (parts : List SealedFields) (d : Done) : Type 0 where
-  pub sealed : SealedFields
-  pub rebasable : IsRebasableWithout r.moment r.without h parts
-  pub is_history : IsHistory (base_of h parts r.moment r.without) (sealed ∷ [])
-  pub text : d.text
-      ≡ base_line r.without (newest_epoch 0 (releases_of h parts)) (base_counts r.moment r.without (releases_of h parts))
-  pub outputs : d.outputs
-      ≡ rebases_to r (part_bytes sealed) (ledger_bytes (base_of h parts r.moment r.without) (sealed ∷ []))
+-- This begins a chain anew: a base without these issuers may stand for the history at the moment, this is its part and
+-- its ledger, and the report is of the epoch of the history's newest member and of the counts of the base.
+pub record BeginsAnew
+    (h : History) (parts : List SealedFields) (moment : ℕ) (without : List (List ℕ)) (made : BasePublicationFields)
+    : Type 0 where
+  pub rebasable : IsRebasableWithout moment without h parts
+  pub is_history : IsHistory (base_of h parts moment without) (made.sealed ∷ [])
+  pub ledger : made.ledger ≡ ledger_of (releases_of (base_of h parts moment without) (made.sealed ∷ []))
+  pub epoch : made.sealed.part.head.epoch ≡ newest_epoch 0 (releases_of h parts)
+  pub counts : made.counts ≡ base_counts moment without (releases_of h parts)
 
 -- ---- stores
 

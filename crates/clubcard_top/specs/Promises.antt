@@ -10,9 +10,12 @@ use Rattle.job_core.specs.declared.bounds.TheConstants.Limits as limits
 use Rattle.job_core.specs.JobFields.{JobFields}
 use Rattle.job_core.specs.JobText.{JobContents}
 use Rattle.ledger_core.specs.LedgerFields.{LedgerFields}
-use Rattle.universe_core.specs.Formats.{in_format}
-use Rattle.universe_core.specs.Jobs.{Entry}
+use Rattle.universe_core.specs.Formats.{dated, in_format}
+use Rattle.universe_core.specs.Jobs.{Entry, facts_of}
 use Rattle.universe_core.specs.Ledgers.{no_ledger}
+use Rattle.universe_core.specs.Rebases.{ledger_without, issuers_in, is_lasting, rebased_groups}
+use Rattle.universe_core.specs.Step.{refusal as refusal_behind, groups_after}
+use Rattle.ident_core.specs.declared.bounds.TheConstants.{MAX_ISSUERS}
 use Rattle.ident_core.specs.Among.{Among}
 use Rattle.store_core.specs.Chain.{refusal_of}
 use Rattle.card_core.specs.declared.verdict.Verdict.TheVariants.{NotEnrolled}
@@ -20,8 +23,9 @@ use Rattle.universe_core.specs.History.{seen}
 use Rattle.audit_core.specs.Auditing.{releases_of as audited_releases}
 use Rattle.publication_core.specs.Formats.{current}
 use Rattle.publication_core.specs.Histories.{IsAdmissible, History, with_job, chain, IsHistory, releases_of, LeavesOut}
-use Rattle.publication_core.specs.Publishing.{PublicationFields, Publishes, CanBePublished}
-use Rattle.publication_core.specs.Rebasing.{BasePublicationFields, IsBasePublication, CanBeRebased}
+use Rattle.publication_core.specs.Building.{HaveBlocks}
+use Rattle.publication_core.specs.Publishing.{PublicationFields, Publishes}
+use Rattle.publication_core.specs.Rebasing.{BasePublicationFields, PublishesBase}
 use Rattle.word_core.specs.declared.command.Command.TheVariants as commands
 use Rattle.word_core.specs.declared.command.{Query.Query as StoreQuery, QueryCert.QueryCert, Snapshot.Snapshot}
 use Rattle.word_core.specs.declared.command.{Delta.Delta, Rebase.Rebase, Start.Start, Install.Install}
@@ -46,10 +50,10 @@ use Rattle.clubcard_top.specs.Endings.{Succeeds, Did, GivesTheReply, WantedMemor
 use Rattle.clubcard_top.specs.Endings.{GivesDone, MustSucceed, MustGive}
 use Rattle.command_core.specs.Audits.{AreWithinLimits, IsAudited}
 use Rattle.clubcard_top.specs.Successes.{ReadsPart, ReadsPages, ReadsJobs, SaysTheTruth}
-use Rattle.clubcard_top.specs.Headline.{AsksToPublish, AsksToStore, AsksTruth, AsksCertTruth, AsksToRehearse}
+use Rattle.clubcard_top.specs.Headline.{AsksToContinue, AsksToStore, AsksTruth, AsksCertTruth, AsksToRehearse}
 use Rattle.clubcard_top.specs.Headline.{AsksToRebase, IsRebasableWithout, AsksTheBase, AsksOfLeftOut, Brings}
-use Rattle.clubcard_top.specs.Headline.{base_of, truth_line, cert_truth_line}
-use Rattle.clubcard_top.specs.Headline.{Published, Rebased, Stored, IsRehearsed}
+use Rattle.clubcard_top.specs.Headline.{base_of, done_by, truth_line, cert_truth_line}
+use Rattle.clubcard_top.specs.Headline.{Continues, BeginsAnew, Stored, IsRehearsed}
 use Rattle.clubcard_top.specs.Refusals.{Comes, Refused}
 
 -- Each command that succeeds: what the files held that it read, and what it gave of that, which is printed and held by
@@ -74,28 +78,34 @@ pub record Successes (call : Call) : Type 0 where
   -- all that PART holds
   pub show : (part : List ℕ) → Did call (commands.Show part)
       → (s : SealedFields) × (size : ℕ) × Reads call part part_in (s, size) × GivesDone call (show_done (s, size))
-  -- the job of JOB, published as the first of a chain; and where it can be published, the call must succeed
+  -- the job of JOB, published as the first of a chain; and where nothing refuses it and each enrolled issuer has a block,
+  -- the call must succeed
   pub snapshot : (s : Snapshot) → Did call (commands.Snapshot s)
       → (job : JobFields) × (made : PublicationFields) × Reads call s.job job_in job
       × Publishes no_ledger job (Ok made) × GivesDone call (publication_done s.part s.ledger made)
   pub snapshot_complete : (s : Snapshot) (job : JobFields) → call.asked ≡ commands.Snapshot s
-      → Reads call s.job job_in job → CanBePublished no_ledger job → MustSucceed call
-  -- the job of JOB, published behind the ledger of LEDGER; and where it can be published, the call must succeed
+      → Reads call s.job job_in job → refusal_behind limits.PUBLISHED no_ledger job ≡ None
+      → HaveBlocks current (groups_after no_ledger (facts_of job)) → MustSucceed call
+  -- the job of JOB, published behind the ledger of LEDGER; and where nothing refuses it there and each enrolled issuer
+  -- has a block, the call must succeed
   pub delta : (d : Delta) → Did call (commands.Delta d)
       → (before : LedgerFields) × (job : JobFields) × (made : PublicationFields)
       × Reads call d.ledger ledger_in before × Reads call d.job job_in job
       × Publishes before job (Ok made) × GivesDone call (publication_done d.part d.new_ledger made)
   pub delta_complete : (d : Delta) (before : LedgerFields) (job : JobFields) → call.asked ≡ commands.Delta d
-      → Reads call d.ledger ledger_in before → Reads call d.job job_in job → CanBePublished before job
+      → Reads call d.ledger ledger_in before → Reads call d.job job_in job
+      → refusal_behind limits.PUBLISHED before job ≡ None → HaveBlocks current (groups_after before (facts_of job))
       → MustSucceed call
   -- `rebase` and `rebase-without`: the ledger of LEDGER, without what has expired at MOMENT and without the issuers of
   -- ISSUER .., begins a chain anew; and where its parts have few enough other issuers and each of these has a block, the
   -- call must succeed
   pub rebase : (r : Rebase) → Did call (commands.Rebase r)
       → (before : LedgerFields) × (made : BasePublicationFields) × Reads call r.ledger ledger_in before
-      × IsBasePublication before r.moment r.without made × GivesDone call (base_done r made)
+      × PublishesBase before r.moment r.without (Ok made) × GivesDone call (base_done r made)
   pub rebase_complete : (r : Rebase) (before : LedgerFields) → call.asked ≡ commands.Rebase r
-      → Reads call r.ledger ledger_in before → CanBeRebased before r.moment r.without → MustSucceed call
+      → Reads call r.ledger ledger_in before
+      → length (issuers_in (ledger_without r.without before).parts) ≤ MAX_ISSUERS
+      → HaveBlocks dated (rebased_groups (is_lasting r.moment) (ledger_without r.without before)) → MustSucceed call
   -- the part of PART, which is a snapshot, begins a store
   pub start : (t : Start) → Did call (commands.Start t)
       → (s : SealedFields) × ReadsPart call t.part s × (s.part.head.kind ≡ kinds.Snapshot)
@@ -137,15 +147,15 @@ pub record Successes (call : Call) : Type 0 where
 pub record Histories (call : Call) : Type 0 where
   -- `snapshot` and `delta`
   pub published : (h : History) (parts : List SealedFields) (job : JobFields) → IsHistory h parts
-      → Found call (AsksToPublish call.asked h parts job) → Succeeds call
-      → (d : Done) × Published call.asked h parts job d × GivesDone call d
+      → Found call (AsksToContinue call.asked h parts job) → Succeeds call
+      → (made : PublicationFields) × Continues h parts job made × GivesDone call (done_by call.asked made)
   pub admitted : (h : History) (parts : List SealedFields) (job : JobFields) → IsHistory h parts
-      → Found call (AsksToPublish call.asked h parts job)
+      → Found call (AsksToContinue call.asked h parts job)
       → IsAdmissible (releases_of h parts) (in_format current job) → MustSucceed call
   -- `rebase` and `rebase-without`
   pub rebased : (r : Rebase) (h : History) (parts : List SealedFields) → IsHistory h parts
       → Found call (AsksToRebase call.asked r h parts) → Succeeds call
-      → (d : Done) × Rebased r h parts d × GivesDone call d
+      → (made : BasePublicationFields) × BeginsAnew h parts r.moment r.without made × GivesDone call (base_done r made)
   pub rebasable : (r : Rebase) (h : History) (parts : List SealedFields) → IsHistory h parts
       → Found call (AsksToRebase call.asked r h parts) → IsRebasableWithout r.moment r.without h parts → MustSucceed call
   -- `start` and `install`
@@ -172,9 +182,9 @@ pub record Histories (call : Call) : Type 0 where
       → Prints call (line (verdict_word NotEnrolled))
   -- and it can come back: the first job that enrolls it accepts each of its entries that the job covers, also those that
   -- were accepted before the base, so that `truth` holds of them from then on
-  pub comes_back : (h : History) (parts : List SealedFields) (job : JobFields) (d : Done) (e : Entry) → IsHistory h parts
-      → LeavesOut h e.id.issuer → Brings job e → (p : Published call.asked h parts job d)
-      → Among (seen (releases_of (with_job h (in_format current job)) (parts ++ p.sealed ∷ []))) e
+  pub comes_back : (h : History) (parts : List SealedFields) (job : JobFields) (made : PublicationFields) (e : Entry)
+      → IsHistory h parts → LeavesOut h e.id.issuer → Brings job e → Continues h parts job made
+      → Among (seen (releases_of (with_job h (in_format current job)) (parts ++ made.sealed ∷ []))) e
   -- `query-cert`
   pub cert_truth : (q : QueryCert) (x : Identity) (ss : List Sighting)
       (h : History) (parts : List SealedFields) → IsHistory h parts

@@ -1,6 +1,6 @@
 //! What follows for every command over the files of a history, with no call.
 
-ghost use Rattle.std.specs.Prelude.{◌≡◌, false, ℕ, List, [], ◌∷◌, ◌++◌, Result, Ok};
+ghost use Rattle.std.specs.Prelude.{◌≡◌, ◌≤◌, false, ℕ, List, [], ◌∷◌, ◌++◌, length, None, Result, Ok};
 ghost use Rattle.ident_core.specs.declared.identity.Identity.{Identity};
 ghost use Rattle.ident_core.specs.declared.range.Sighting.{Sighting};
 ghost use Rattle.outside_core.specs.Files.{Files};
@@ -12,22 +12,28 @@ ghost use Rattle.card_core.specs.declared.verdict.Verdict.TheVariants.{NotEnroll
 ghost use Rattle.line_core.specs.Lines.{line};
 ghost use Rattle.ident_core.specs.Among.{Among};
 ghost use Rattle.ident_core.specs.Sets.{has_key};
-ghost use Rattle.universe_core.specs.Jobs.{Entry};
-ghost use Rattle.universe_core.specs.Formats.{in_format};
+ghost use Rattle.ident_core.specs.declared.bounds.TheConstants.{MAX_ISSUERS};
+ghost use Rattle.job_core.specs.declared.bounds.TheConstants.Limits.{PUBLISHED};
+ghost use Rattle.universe_core.specs.Jobs.{Entry, facts_of};
+ghost use Rattle.universe_core.specs.Formats.{dated, in_format};
+ghost use Rattle.universe_core.specs.Rebases.{ledger_without, issuers_in, is_lasting, rebased_groups};
+ghost use Rattle.universe_core.specs.Step.{refusal, groups_after};
 ghost use Rattle.universe_core.specs.History.{seen, sightings};
 ghost use Rattle.publication_core.specs.Formats.{current};
 ghost use Rattle.publication_core.specs.Histories.{IsAdmissible, History, with_job, chain, IsHistory, releases_of, LeavesOut};
-ghost use Rattle.publication_core.specs.Publishing.{CanBePublished, PublicationFields, Publishes};
-ghost use Rattle.publication_core.specs.Rebasing.{CanBeRebased, BasePublicationFields, PublishesBase};
+ghost use Rattle.publication_core.specs.Building.{HaveBlocks};
+ghost use Rattle.publication_core.specs.Publishing.{PublicationFields, Publishes};
+ghost use Rattle.publication_core.specs.Rebasing.{BasePublicationFields, PublishesBase};
 ghost use Rattle.word_core.specs.declared.command.Command.{Command};
 ghost use Rattle.word_core.specs.declared.command.{Query.Query as StoreQuery, QueryCert.QueryCert, Rebase.Rebase};
 ghost use Rattle.word_core.specs.declared.command.{Rehearse.Rehearse};
 ghost use Rattle.command_core.specs.ReplyFields.{Done, NamedFault};
 ghost use Rattle.command_core.specs.Commands.{Makes, only, query_done, rehearsed, verdict_word};
 ghost use Rattle.command_core.specs.Replies.{held_by};
-ghost use Rattle.clubcard_top.specs.Headline.{AsksToPublish, Published, AsksToStore, Stored, AsksTruth, truth_done};
+ghost use Rattle.command_core.specs.Rebasings.{base_done};
+ghost use Rattle.clubcard_top.specs.Headline.{AsksToContinue, Continues, done_by, AsksToStore, Stored, AsksTruth, truth_done};
 ghost use Rattle.clubcard_top.specs.Headline.{AsksCertTruth, cert_truth_line, AsksToRehearse, IsRehearsed};
-ghost use Rattle.clubcard_top.specs.Headline.{AsksToRebase, Rebased, IsRebasableWithout, base_of, IsKept, AsksTheBase, truth_line};
+ghost use Rattle.clubcard_top.specs.Headline.{AsksToRebase, BeginsAnew, IsRebasableWithout, base_of, IsKept, AsksTheBase, truth_line};
 ghost use Rattle.clubcard_top.specs.Headline.{AsksStore, AsksOfLeftOut, Brings};
 
 use history_core::{base_stands_for_its_history, issuers_are_left_out};
@@ -38,8 +44,8 @@ use publication_core::{
 };
 use store_core::{chains_grow, stores_are_read_back};
 
-/// What comes of commands over the files of histories. A job that is published behind a history makes a history with
-/// it, whose part and ledger are written; each admissible job is published. A part of a history is added to the store
+/// What comes of commands over the files of histories. A job that is published behind a history continues it, and its
+/// part and ledger are written; each admissible job is published. A part of a history is added to the store
 /// of those before it. The store of a history says what its parts do (`told`). Asked with accepted sightings, it answers
 /// the truth; and so it does where it is asked with a certificate, one of whose sightings is accepted, and each that a
 /// part covers. Jobs that are rehearsed are a history, and each history is rehearsed. Behind any ledger, what can be
@@ -47,11 +53,12 @@ use store_core::{chains_grow, stores_are_read_back};
 pub fn histories_are_made()
     ensures published { (command : Command) (files : Files)
         (h : History) (parts : List SealedFields) (job : JobFields) (d : Done)
-        → IsHistory h parts → AsksToPublish command h parts job files
-        → Makes command (held_by command files) (Ok d) → Published command h parts job d }
+        → IsHistory h parts → AsksToContinue command h parts job files
+        → Makes command (held_by command files) (Ok d)
+        → (made : PublicationFields) × Continues h parts job made × (d ≡ done_by command made) }
     ensures admitted { (command : Command) (files : Files)
         (h : History) (parts : List SealedFields) (job : JobFields) (o : Result Done NamedFault)
-        → IsHistory h parts → AsksToPublish command h parts job files → IsAdmissible (releases_of h parts) (in_format current job)
+        → IsHistory h parts → AsksToContinue command h parts job files → IsAdmissible (releases_of h parts) (in_format current job)
         → Makes command (held_by command files) o → (d : Done) × (o ≡ Ok d) }
     ensures stored { (command : Command) (files : Files)
         (h : History) (parts : List SealedFields) (s : SealedFields) (o : Result Done NamedFault)
@@ -78,8 +85,8 @@ pub fn histories_are_made()
         (jobs : List JobFields) (parts : List SealedFields) (o : Result Done NamedFault)
         → IsHistory (chain jobs) parts → AsksToRehearse command queries jobs files
         → Makes command (held_by command files) o → o ≡ Ok (rehearsed queries jobs parts) }
-    ensures publishable { (before : LedgerFields) (job : JobFields) → CanBePublished before job
-        → (made : PublicationFields) × Publishes before job (Ok made) }
+    ensures publishable { (before : LedgerFields) (job : JobFields) → refusal PUBLISHED before job ≡ None
+        → HaveBlocks current (groups_after before (facts_of job)) → (made : PublicationFields) × Publishes before job (Ok made) }
 {
     publications_are_unique();
     histories_are_published();
@@ -102,7 +109,8 @@ pub fn bases_are_made()
     ensures rebased { (command : Command) (files : Files) (r : Rebase)
         (h : History) (parts : List SealedFields) (d : Done)
         → IsHistory h parts → AsksToRebase command r h parts files
-        → Makes command (held_by command files) (Ok d) → Rebased r h parts d }
+        → Makes command (held_by command files) (Ok d)
+        → (made : BasePublicationFields) × BeginsAnew h parts r.moment r.without made × (d ≡ base_done r made) }
     ensures rebasable { (command : Command) (files : Files) (r : Rebase)
         (h : History) (parts : List SealedFields) (o : Result Done NamedFault)
         → IsHistory h parts → AsksToRebase command r h parts files → IsRebasableWithout r.moment r.without h parts
@@ -122,7 +130,9 @@ pub fn bases_are_made()
     ensures comes_back { (h : History) (parts : List SealedFields) (job : JobFields) (s : SealedFields) (e : Entry)
         → IsHistory h parts → LeavesOut h e.id.issuer → Brings job e
         → Among (seen (releases_of (with_job h (in_format current job)) (parts ++ s ∷ []))) e }
-    ensures publishable { (before : LedgerFields) (moment : ℕ) (without : List (List ℕ)) → CanBeRebased before moment without
+    ensures publishable { (before : LedgerFields) (moment : ℕ) (without : List (List ℕ))
+        → length (issuers_in (ledger_without without before).parts) ≤ MAX_ISSUERS
+        → HaveBlocks dated (rebased_groups (is_lasting moment) (ledger_without without before))
         → (made : BasePublicationFields) × PublishesBase before moment without (Ok made) }
 {
     bases_are_published();

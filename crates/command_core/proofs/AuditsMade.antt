@@ -32,7 +32,7 @@ use Rattle.command_core.specs.Faults.{of_admission}
 use Rattle.command_core.specs.Outcomes.{◌>>=◌, named, input}
 use Rattle.command_core.specs.Audits.{serials_of, passed, unless, counted, job_behind, jobs_behind, bad_crl_in, bad_crl, audit_jobs, audit_done, of_audit, audited_as, MakesAudit, AreWithinLimits, IsAudited}
 use Rattle.command_core.specs.Commands.{AreJobs}
-use Rattle.command_core.proofs.Results.{ok_same, not_ok, not_err}
+use Rattle.command_core.proofs.Results.{ok_same, not_ok, not_err, after_ok}
 
 none_some : {A : Type 0} (x : A) → ◌≡◌ {A = Option A} (Some x) None → ⊥
 none_some {A} x h = cc
@@ -79,7 +79,7 @@ counted_ok before (Ok j) job h =
     (ap (λ (k : JobFields). Ok k) u.1, ap (λ (k : JobFields). passed (before ++ k ∷ [])) (sym u.1) ∙ u.0)
 counted_ok before (Err fault) job h = absurd (not_ok job fault h)
 
-named_value : {A : Type 0} (name : List ℕ) (r : Result A FileFault) (x : A) → named name r ≡ Ok x → r ≡ Ok x
+pub named_value : {A : Type 0} (name : List ℕ) (r : Result A FileFault) (x : A) → named name r ≡ Ok x → r ≡ Ok x
 named_value name (Ok y) x h = ap (λ z. Ok z) (ok_same {E = NamedFault} y x h)
 named_value name (Err fault) x h = absurd (not_ok x (record { name = name; fault = fault }) h)
 
@@ -114,19 +114,15 @@ pub record Behind (before : List JobFields) (names : List (List ℕ)) (inputs : 
   pub many : length rest ≡ length names
   pub within : AreWithinLimits before → AreWithinLimits jobs
 
-first_input : {A B : Type 0} (r : Result A NamedFault) (next : A → Result B NamedFault) (y : B) → (r >>= next) ≡ Ok y → (x : A) × (r ≡ Ok x) × (next x ≡ Ok y)
-first_input (Ok x) next y h = (x, refl, h)
-first_input (Err e) next y h = absurd (not_ok y e h)
-
 pub behind_jobs : (before : List JobFields) (names : List (List ℕ)) (inputs : Inputs) (jobs : List JobFields)
     → jobs_behind before names inputs ≡ Ok jobs → Behind before names inputs jobs
 behind_jobs before [] inputs jobs h =
     let same = ok_same {E = NamedFault} before jobs h in
     record { rest = []; grown = sym same ∙ sym (append-nil before); are = tt; many = refl; within = λ w. subst AreWithinLimits same w }
 behind_jobs before (name ∷ names) inputs jobs h =
-    let one = first_input (input name (job_behind before) (inputs 0)) (λ j. jobs_behind (before ++ j ∷ []) names (rest_of inputs)) jobs h in
+    let one = after_ok (input name (job_behind before) (inputs 0)) (λ j. jobs_behind (before ++ j ∷ []) names (rest_of inputs)) jobs (sym h) in
     let read = behind_read before (inputs 0) one.0 (named_value name (input_as (job_behind before) (inputs 0)) one.0 one.1) in
-    let others = behind_jobs (before ++ one.0 ∷ []) names (rest_of inputs) jobs one.2 in
+    let others = behind_jobs (before ++ one.0 ∷ []) names (rest_of inputs) jobs (sym one.2) in
     record {
       rest = one.0 ∷ others.rest;
       grown = others.grown ∙ append_assoc before (one.0 ∷ []) others.rest;
@@ -215,8 +211,8 @@ no_jobs = record { entries = omega arith; serials = omega arith }
 pub audit_jobs_are : (names : List (List ℕ)) (inputs : Inputs) (jobs : List JobFields)
     → audit_jobs names inputs ≡ Ok jobs → AuditsJobs names inputs jobs
 audit_jobs_are names inputs jobs h =
-    let read = first_input (jobs_behind [] names inputs) (λ js. unless (bad_crl names js) js) jobs h in
-    let u = unless_ok (bad_crl names read.0) read.0 jobs read.2 in
+    let read = after_ok (jobs_behind [] names inputs) (λ js. unless (bad_crl names js) js) jobs (sym h) in
+    let u = unless_ok (bad_crl names read.0) read.0 jobs (sym read.2) in
     let b = behind_jobs [] names inputs read.0 read.1 in
     let is : b.rest ≡ jobs = sym b.grown ∙ u.1 in
     let many : length jobs ≡ length names = ap (λ (l : List JobFields). length l) (sym is) ∙ b.many in

@@ -65,7 +65,7 @@ use Rattle.input_core.specs.PartFile.{part_file}
 use Rattle.input_core.specs.Readings.{faulted, queries_in, job_in, ledger_in, part_in, store_in}
 use Rattle.input_core.specs.Certificates.{certificate_of, issuer_of, certificate_in, issuer_in}
 use Rattle.command_core.specs.ReplyFields.{Done, NamedFault}
-use Rattle.command_core.specs.Statuses.{is_one_of}
+use Rattle.command_core.specs.Statuses.{is_one_of, done, read_fault, no_memory, of_refusals}
 use Rattle.command_core.specs.Commands.{◌>>=◌, named, input, begun_by, begun, installed_by, installed, stored, query_done, query_cert_done, check_done, show_done}
 use Rattle.command_core.specs.Commands.{publication_done, published_as, MakesSnapshot, MakesDelta, rehearsed, IsRefused, MakesRehearsal}
 use Rattle.command_core.specs.Commands.{sample_done, head_in, page_in, room_for, pages_of, gather_done, Makes}
@@ -75,7 +75,7 @@ use Rattle.command_core.specs.Steps.{RehearsesOn}
 use Rattle.command_core.specs.Replies.{refusal, reply_of}
 use Rattle.input_core.specs.Inputs.{Inputs, rest_of, IsRead, AreRead}
 use Rattle.command_core.proofs.Outputs.{names_of}
-use Rattle.command_core.proofs.Results.{ok_same, not_ok, not_err}
+use Rattle.command_core.proofs.Results.{ok_same, not_ok, not_err, after_ok}
 use Rattle.command_core.proofs.AuditFaults.{audit_names, store_or_jobs, job_behind_read, jobs_stop}
 use Rattle.command_core.proofs.Prefixes.{from_first}
 
@@ -90,10 +90,10 @@ or_right false b h = h
 
 -- the statuses of what is wrong with a file, and those of a command that isn't `Usage`
 abbrev pub of_faults : List ℕ
-of_faults = 3 ∷ 4 ∷ 5 ∷ 6 ∷ 7 ∷ 8 ∷ 12 ∷ 16 ∷ 17 ∷ 70 ∷ []
+of_faults = no_memory ∷ read_fault ∷ of_refusals
 
 abbrev pub of_commands : List ℕ
-of_commands = 0 ∷ of_faults
+of_commands = done ∷ of_faults
 
 pub fault_status : (name : List ℕ) (fault : FileFault) → IsTrue (is_one_of of_faults (refusal name fault).status)
 fault_status name faults.Unread = refl
@@ -113,11 +113,6 @@ outcome_status (Ok d) = refl
 outcome_status (Err e) = or_right _ _ (fault_status e.name e.fault)
 
 -- ---- steps
-
--- a value that follows another
-pub after_ok : {A B : Type 0} (r : Result A NamedFault) (next : A → Result B NamedFault) (b : B) → Ok b ≡ (r >>= next) → (x : A) × (r ≡ Ok x) × (Ok b ≡ next x)
-after_ok (Ok x) next b h = (x, refl, h)
-after_ok {A} {B} (Err e) next b h = absurd (let g : ◌≡◌ {A = Result B NamedFault} (Ok b) (Err e) = h in cc)
 
 pub err_same : {A E : Type 0} (x y : E) → ◌≡◌ {A = Result A E} (Err x) (Err y) → x ≡ y
 err_same {A} {E} x y h = cc

@@ -26,7 +26,7 @@ use Rattle.command_core.specs.Audits.{unless, job_behind, jobs_behind, bad_crl, 
 use Rattle.command_core.specs.Steps.{RehearsesOn}
 use Rattle.command_core.specs.Rebasings.{MakesRebase}
 use Rattle.command_core.specs.Replies.{held_under, held_by}
-use Rattle.command_core.proofs.Makings.{install_after, gather_after, page_last, page_then, cert_last, cert_then, cert_after}
+use Rattle.command_core.proofs.Makings.{err_same, install_after, gather_after, page_last, page_then, cert_last, cert_then, cert_after}
 use Rattle.command_core.proofs.Results.{not_err}
 use Rattle.command_core.proofs.Prefixes.{first_of, from_first}
 
@@ -118,9 +118,6 @@ job_over : (files : Files) (failed : Option (List ℕ) → Type 0) (name : List 
     → IsSeen r → IsRead (Some files) failed name given → input name job_in given ≡ r → input name job_in (get files name) ≡ r
 job_over files failed name given r seen read is =
     sym (one_over files failed name (λ g. r ≡ input name job_in g) given (λ h. seen (unread name) h refl) read (sym is))
-
-err_same : {A : Type 0} (e f : NamedFault) → ◌≡◌ {A = Result A NamedFault} (Err e) (Err f) → e ≡ f
-err_same e f h = cc
 
 refused_over : (files : Files) (failed : Option (List ℕ) → Type 0) (h : History) (parts : List SealedFields) (name : List ℕ) (given : Option (List ℕ)) (e : NamedFault)
     → (e.fault ≡ faults.Unread → ⊥) → IsRead (Some files) failed name given → IsRefused h parts name given e → IsRefused h parts name (get files name) e

@@ -55,7 +55,7 @@ module _ (layers : Layers) where
 
     reported : record { epoch = p.sealed.part.head.epoch; place = p.place; counts = p.counts } ≡ report_of h before.parts job
     reported =
-        ap (λ (e : HeadFields). record { epoch = e.epoch; place = p.place; counts = p.counts }) published.1.head
+        ap (λ (e : HeadFields). record { epoch = e.epoch; place = p.place; counts = p.counts }) published.1.head_is
         ∙ ap (λ (n : ℕ). record { epoch = job.epoch; place = n; counts = p.counts }) (layers.place h before.parts job p of.is_history behind)
         ∙ ap (λ (c : Counts). record { epoch = job.epoch; place = members h; counts = c }) (layers.numbers h before.parts job p of.is_history behind)
 

@@ -12,7 +12,7 @@ use Rattle.builder_core.proofs.FirstRefused.{refused_no_blocks, first_refused_on
 use Rattle.publication_core.specs.declared.base_fault.BaseFault.{BaseFault}
 use Rattle.publication_core.specs.declared.base_fault.BaseFault.TheVariants.{TooMany, SeedsExhausted, NoMemory}
 use Rattle.publication_core.specs.Formats.{blocks_in}
-use Rattle.publication_core.specs.Rebasing.{BasePublicationFields, IsBasePublication, PublishesBase}
+use Rattle.publication_core.specs.Rebasing.{BasePublicationFields, PublishesBase}
 use Rattle.publication_core.proofs.Bases.{base_made}
 use Rattle.publication_core.proofs.Unique.{sealed_same}
 
@@ -20,14 +20,13 @@ module _ (ledger : LedgerFields) (moment : ℕ) (without : List (List ℕ)) wher
   abbrev rest : LedgerFields
   rest = ledger_without without ledger
 
-  published_same : (p q : BasePublicationFields) → IsBasePublication ledger moment without p → IsBasePublication ledger moment without q → p ≡ q
+  published_same : (p q : BasePublicationFields) → PublishesBase ledger moment without (Ok p) → PublishesBase ledger moment without (Ok q) → p ≡ q
   published_same p q x y =
-      let sealed : p.sealed ≡ q.sealed
-      = sealed_same (blocks_in dated) (rebased_head rest.parts) (rebased_groups (is_lasting moment) rest) p.sealed q.sealed x.head y.head x.blocks y.blocks x.trailer y.trailer in
+      let sealed : p.sealed ≡ q.sealed = sealed_same dated (rebased_head rest.parts) (rebased_groups (is_lasting moment) rest) p.sealed q.sealed x.1 y.1 in
       λ i. record {
         sealed = sealed i;
-        ledger = (x.next ∙ ap (λ (s : SealedFields). rebased_ledger (is_lasting moment) rest s.trailer) sealed ∙ sym y.next) i;
-        counts = (x.counts ∙ sym y.counts) i;
+        ledger = (x.2 ∙ ap (λ (s : SealedFields). rebased_ledger (is_lasting moment) rest s.trailer) sealed ∙ sym y.2) i;
+        counts = (x.3 ∙ sym y.3) i;
       }
 
   not_both : {A : Type 0} → length (issuers_in rest.parts) ≤ 65535 → 65535 < length (issuers_in rest.parts) → A
@@ -35,16 +34,16 @@ module _ (ledger : LedgerFields) (moment : ℕ) (without : List (List ℕ)) wher
 
   pub base_outcome_unique : (a b : Result BasePublicationFields BaseFault) → PublishesBase ledger moment without a → PublishesBase ledger moment without b → a ≡ b
   base_outcome_unique (Ok p) (Ok q) x y = ap (λ (r : BasePublicationFields). Ok r) (published_same p q x y)
-  base_outcome_unique (Ok p) (Err (TooMany what limit)) x y = not_both x.few_issuers y.2
+  base_outcome_unique (Ok p) (Err (TooMany what limit)) x y = not_both x.0 y.2
   base_outcome_unique (Ok p) (Err (SeedsExhausted issuer stage)) x y =
-      absurd (refused_no_blocks (blocks_in dated) sha256_row (rebased_groups (is_lasting moment) rest) issuer stage p.sealed.part.blocks y.1 x.blocks)
+      absurd (refused_no_blocks (blocks_in dated) sha256_row (rebased_groups (is_lasting moment) rest) issuer stage p.sealed.part.blocks y.1 x.1.blocks)
   base_outcome_unique (Ok p) (Err NoMemory) x y = absurd y
-  base_outcome_unique (Err (TooMany what limit)) (Ok q) x y = not_both y.few_issuers x.2
+  base_outcome_unique (Err (TooMany what limit)) (Ok q) x y = not_both y.0 x.2
   base_outcome_unique (Err (TooMany what limit)) (Err (TooMany other most)) x y = λ i. Err (TooMany ((x.0 ∙ sym y.0) i) ((x.1 ∙ sym y.1) i))
   base_outcome_unique (Err (TooMany what limit)) (Err (SeedsExhausted issuer stage)) x y = not_both y.0 x.2
   base_outcome_unique (Err (TooMany what limit)) (Err NoMemory) x y = absurd y
   base_outcome_unique (Err (SeedsExhausted issuer stage)) (Ok q) x y =
-      absurd (refused_no_blocks (blocks_in dated) sha256_row (rebased_groups (is_lasting moment) rest) issuer stage q.sealed.part.blocks x.1 y.blocks)
+      absurd (refused_no_blocks (blocks_in dated) sha256_row (rebased_groups (is_lasting moment) rest) issuer stage q.sealed.part.blocks x.1 y.1.blocks)
   base_outcome_unique (Err (SeedsExhausted issuer stage)) (Err (TooMany what limit)) x y = not_both x.0 y.2
   base_outcome_unique (Err (SeedsExhausted issuer stage)) (Err (SeedsExhausted other at)) x y =
       let same = first_refused_once (blocks_in dated) sha256_row (rebased_groups (is_lasting moment) rest) issuer other stage at x.1 y.1 in
@@ -54,7 +53,7 @@ module _ (ledger : LedgerFields) (moment : ℕ) (without : List (List ℕ)) wher
 
   by_blocks : length (issuers_in rest.parts) ≤ 65535 → (o : Result BasePublicationFields BaseFault) × PublishesBase ledger moment without o
   by_blocks few = elim (blocks_or_refusal (blocks_in dated) sha256_row (rebased_groups (is_lasting moment) rest)) [
-    | inl b ↦ (let p = base_made ledger moment without few b.0 b.1 in (Ok p.0, p.1))
+    | inl b ↦ (let p = base_made ledger moment without few b in (Ok p.0, p.1))
     | inr r ↦ (Err (SeedsExhausted r.0 r.1), (few, r.2))
   ]
 

@@ -1,5 +1,5 @@
 -- What is built of a ledger that is rebased is its publication.
-use Rattle.std.proofs.Common.{◌≡◌, ℕ, ◌≤◌, List, map, length, Bool, sym, ap, ◌∙◌, subst, arith}
+use Rattle.std.proofs.Common.{◌≡◌, ℕ, ◌≤◌, List, map, length, Bool, Ok, sym, ap, ◌∙◌, subst, arith}
 use Rattle.std.specs.Prelude.{filter, flat_map, is_some}
 use Rattle.std.specs.List.Sorted.{IsStrictlySortedBy}
 use Rattle.std.proofs.lemmas.List.{length-map}
@@ -19,9 +19,9 @@ use Rattle.publication_core.proofs.Kept.{lasts_rebased}
 use Rattle.builder_core.specs.Building.{AreGroupBlocks, issuers_of, identities_in}
 use Rattle.builder_core.proofs.Admitted.{issuers_among, identities_among}
 use Rattle.publication_core.specs.declared.base.BaseCounts.{BaseCounts}
-use Rattle.publication_core.specs.Building.{IsBuilt}
+use Rattle.publication_core.specs.Building.{IsSealedPart}
 use Rattle.publication_core.specs.Formats.{blocks_in}
-use Rattle.publication_core.specs.Rebasing.{BasePublicationFields, IsBasePublication}
+use Rattle.publication_core.specs.Rebasing.{BasePublicationFields, PublishesBase}
 
 -- ---- what building asks
 
@@ -62,21 +62,23 @@ pub base_publishes : (ledger : LedgerFields) (moment : ℕ) (without : List (Lis
     (counts : BaseCounts) (p : BasePublicationFields) → length (issuers_in (ledger_without without ledger).parts) ≤ 65535 → head ≡ rebased_head (ledger_without without ledger).parts
     → map group_fields groups ≡ rebased_groups (is_lasting moment) (ledger_without without ledger)
     → ((trailer : List ℕ) → sealed_with next trailer ≡ rebased_ledger (is_lasting moment) (ledger_without without ledger) trailer)
-    → IsBuilt head (map group_fields groups) next sealed new → counts.issuers ≡ length groups → counts.universe ≡ length new.items
+    → IsSealedPart dated head (map group_fields groups) sealed × (new ≡ sealed_with next sealed.trailer) → counts.issuers ≡ length groups → counts.universe ≡ length new.items
     → counts.revoked ≡ length (filter (λ i. is_some i.last) new.items) → counts.pruned ≡ count_pruned (is_lasting moment) (ledger_without without ledger)
-    → counts.left ≡ count_left without ledger → p ≡ record { sealed = sealed; ledger = new; counts = counts } → IsBasePublication ledger moment without p
-base_publishes ledger moment without head groups next new sealed counts p few head_is is seals built issuers universe revoked pruned left made_is =
+    → counts.left ≡ count_left without ledger → p ≡ record { sealed = sealed; ledger = new; counts = counts } → PublishesBase ledger moment without (Ok p)
+base_publishes ledger moment without head groups next new sealed counts p few head_is is seals (built, ledger_is) issuers universe revoked pruned left made_is =
     let rest : LedgerFields = ledger_without without ledger in
-    let made : new ≡ rebased_ledger (is_lasting moment) rest sealed.trailer = built.ledger_is ∙ seals sealed.trailer in
+    let made : new ≡ rebased_ledger (is_lasting moment) rest sealed.trailer = ledger_is ∙ seals sealed.trailer in
     let many : counts.issuers ≡ length (issuers_in rest.parts) = issuers ∙ sym (length-map groups group_fields) ∙ base_many (is_lasting moment) rest (map group_fields groups) is in
     let held : counts.universe ≡ length (kept (is_lasting moment) rest) = universe ∙ ap (λ (l : LedgerFields). length l.items) made ∙ length-map (kept (is_lasting moment) rest) rebased_item in
     let listed : counts.revoked ≡ length (kept_revoked (is_lasting moment) rest)
     = revoked ∙ ap (λ (l : LedgerFields). length (filter (λ (i : LedgerItem). is_some i.last) l.items)) made ∙ revoked_is (is_lasting moment) rest in
-    subst (IsBasePublication ledger moment without) (sym made_is) (record {
-      few_issuers = few;
-      head = built.head_is ∙ head_is;
-      blocks = subst (λ (gs : List GroupFields). AreGroupBlocks (blocks_in dated) sha256_row gs sealed.part.blocks) is built.blocks;
-      trailer = built.trailer;
-      next = made;
-      counts = λ i. record { issuers = many i; universe = held i; revoked = listed i; pruned = pruned i; left = left i };
-    })
+    subst (λ (q : BasePublicationFields). PublishesBase ledger moment without (Ok q)) (sym made_is) (
+      few,
+      record {
+        head_is = built.head_is ∙ head_is;
+        blocks = subst (λ (gs : List GroupFields). AreGroupBlocks (blocks_in dated) sha256_row gs sealed.part.blocks) is built.blocks;
+        trailer = built.trailer;
+      },
+      made,
+      λ i. record { issuers = many i; universe = held i; revoked = listed i; pruned = pruned i; left = left i },
+    )

@@ -24,17 +24,16 @@ use Rattle.history_core.proofs.Without.{without_sound, ledger_without-of, many_w
 use Rattle.builder_core.specs.Building.{AreGroupBlocks}
 use Rattle.publication_core.specs.Formats.{blocks_in}
 use Rattle.publication_core.specs.Histories.{base_groups, IsBasePart, IsRebasable, History, rebased, members, IsHistory, releases_of}
-use Rattle.publication_core.specs.Rebasing.{BasePublicationFields, IsBasePublication, PublishesBase, CanBeRebased, base_counts_after, base_counts}
+use Rattle.publication_core.specs.Building.{HaveBlocks}
+use Rattle.publication_core.specs.Rebasing.{BasePublicationFields, PublishesBase, base_counts_after, base_counts}
 use Rattle.publication_core.proofs.Histories.{members_many, history_sound}
-use Rattle.publication_core.proofs.Publications.{blocks_of_each}
 
 -- ---- any ledger
 
 -- A ledger whose parts have few other issuers, with a block for each, is rebased.
 pub base_made : (ledger : LedgerFields) (moment : ℕ) (without : List (List ℕ)) → length (issuers_in (ledger_without without ledger).parts) ≤ 65535
-    → (blocks : List Block) → AreGroupBlocks (blocks_in dated) sha256_row (rebased_groups (is_lasting moment) (ledger_without without ledger)) blocks
-    → (p : BasePublicationFields) × PublishesBase ledger moment without (Ok p)
-base_made ledger moment without few blocks are =
+    → HaveBlocks dated (rebased_groups (is_lasting moment) (ledger_without without ledger)) → (p : BasePublicationFields) × PublishesBase ledger moment without (Ok p)
+base_made ledger moment without few (blocks, are) =
     let made : PartFields = record { head = rebased_head (ledger_without without ledger).parts; blocks = blocks } in
     let sealed : SealedFields = record { part = made; trailer = sha256 (unsealed_text made) } in (
       record {
@@ -42,14 +41,8 @@ base_made ledger moment without few blocks are =
         ledger = rebased_ledger (is_lasting moment) (ledger_without without ledger) sealed.trailer;
         counts = base_counts_after moment without ledger;
       },
-      record { few_issuers = few; head = refl; blocks = are; trailer = refl; next = refl; counts = refl },
+      (few, record { head_is = refl; blocks = are; trailer = refl }, refl, refl),
     )
-
-pub can_be_rebased : (ledger : LedgerFields) (moment : ℕ) (without : List (List ℕ)) → CanBeRebased ledger moment without
-    → (p : BasePublicationFields) × PublishesBase ledger moment without (Ok p)
-can_be_rebased ledger moment without can =
-    let made = blocks_of_each (blocks_in dated) (rebased_groups (is_lasting moment) (ledger_without without ledger)) can.blocks in
-    base_made ledger moment without can.few_issuers made.0 made.1
 
 -- ---- the ledger of releases
 
@@ -114,28 +107,28 @@ module _ (moment : ℕ) (without : List (List ℕ)) (old : List Release) (sound 
       blocks_same moment rest rest_sound blocks
       (subst (λ (l : LedgerFields). AreGroupBlocks (blocks_in dated) sha256_row (rebased_groups (is_lasting moment) l) blocks) same are)
 
-  rebasable_then : (p : BasePublicationFields) → 1 ≤ length old → IsBasePublication (ledger_of old) moment without p → IsRebasable moment rest
+  rebasable_then : (p : BasePublicationFields) → 1 ≤ length old → PublishesBase (ledger_of old) moment without (Ok p) → IsRebasable moment rest
   rebasable_then p some x = record {
     some = omega (arith, some, many_without without old);
-    few_issuers = omega (arith, few_same, x.few_issuers);
-    blocks = (p.sealed.part.blocks, base_blocks p.sealed.part.blocks x.blocks);
+    few_issuers = omega (arith, few_same, x.0);
+    blocks = (p.sealed.part.blocks, base_blocks p.sealed.part.blocks x.1.blocks);
   }
 
-  base_part : (p : BasePublicationFields) → IsBasePublication (ledger_of old) moment without p → IsBasePart moment rest p.sealed
+  base_part : (p : BasePublicationFields) → PublishesBase (ledger_of old) moment without (Ok p) → IsBasePart moment rest p.sealed
   base_part p x = record {
-    head_is = x.head ∙ ap (λ (l : LedgerFields). rebased_head l.parts) same ∙ head_same rest;
-    blocks = base_blocks p.sealed.part.blocks x.blocks;
-    trailer = x.trailer;
+    head_is = x.1.head_is ∙ ap (λ (l : LedgerFields). rebased_head l.parts) same ∙ head_same rest;
+    blocks = base_blocks p.sealed.part.blocks x.1.blocks;
+    trailer = x.1.trailer;
   }
 
-  base_next : (p : BasePublicationFields) → IsBasePublication (ledger_of old) moment without p → p.ledger ≡ ledger_of (base_at moment rest p.sealed.trailer ∷ [])
-  base_next p x = x.next ∙ ap (λ l. rebased_ledger (is_lasting moment) l p.sealed.trailer) same ∙ ledger_same (is_lasting moment) rest p.sealed.trailer rest_sound
+  base_next : (p : BasePublicationFields) → PublishesBase (ledger_of old) moment without (Ok p) → p.ledger ≡ ledger_of (base_at moment rest p.sealed.trailer ∷ [])
+  base_next p x = x.2 ∙ ap (λ l. rebased_ledger (is_lasting moment) l p.sealed.trailer) same ∙ ledger_same (is_lasting moment) rest p.sealed.trailer rest_sound
 
   rebased_then : IsRebasable moment rest → (p : BasePublicationFields) × PublishesBase (ledger_of old) moment without (Ok p)
   rebased_then can =
-      base_made (ledger_of old) moment without (omega (arith, few_same, can.few_issuers)) can.blocks.0
-      (subst (λ (l : LedgerFields). AreGroupBlocks (blocks_in dated) sha256_row (rebased_groups (is_lasting moment) l) can.blocks.0) (sym same)
-      (subst (λ (gs : List GroupFields). AreGroupBlocks (blocks_in dated) sha256_row gs can.blocks.0) (sym (groups_same (is_lasting moment) rest [] rest_sound)) can.blocks.1))
+      base_made (ledger_of old) moment without (omega (arith, few_same, can.few_issuers))
+      (subst (λ (l : LedgerFields). HaveBlocks dated (rebased_groups (is_lasting moment) l)) (sym same)
+      (subst (HaveBlocks dated) (sym (groups_same (is_lasting moment) rest [] rest_sound)) can.blocks))
 
 -- ---- the ledger of a history
 
@@ -153,7 +146,7 @@ module _ (h : History) (parts : List SealedFields) (moment : ℕ) (without : Lis
   base_ledger p x = base_next moment without (releases_of h parts) (history_sound h parts is) p x
 
   pub base_numbers : (p : BasePublicationFields) → PublishesBase (ledger_of (releases_of h parts)) moment without (Ok p) → p.counts ≡ base_counts moment without (releases_of h parts)
-  base_numbers p x = x.counts ∙ counts_same moment without (releases_of h parts) (history_sound h parts is)
+  base_numbers p x = x.3 ∙ counts_same moment without (releases_of h parts) (history_sound h parts is)
 
   pub rebasable_published : IsRebasable moment (releases_without without (releases_of h parts)) → (p : BasePublicationFields) × PublishesBase (ledger_of (releases_of h parts)) moment without (Ok p)
   rebasable_published can = rebased_then moment without (releases_of h parts) (history_sound h parts is) can

@@ -18,7 +18,7 @@ module _ (ledger : LedgerFields) (job : JobFields) where
   by_refusal : (r : Option AdmitFault) → refusal PUBLISHED ledger job ≡ r → (o : Result PublicationFields PublishFault) × Publishes ledger job o
   by_refusal (Some fault) is = (Err (Admission fault), is)
   by_refusal None is = elim (blocks_or_refusal (blocks_in current) sha256_row (groups_after ledger (facts_of job))) [
-    | inl b ↦ (let p = admitted_published ledger job is b.0 b.1 in (Ok p.0, p.1))
+    | inl b ↦ (let p = admitted_published ledger job is b in (Ok p.0, p.1))
     | inr r ↦ (Err (SeedsExhausted r.0 r.1), (is, r.2))
   ]
 

@@ -1,9 +1,7 @@
 -- What is published behind the ledger of a history is that of the history.
-use Rattle.std.proofs.Common.{◌≡◌, ◌+◌, List, [], ◌∷◌, ◌++◌, map, length, None, Ok, refl, sym, ap, ◌∙◌, subst, arith, add-one}
-use Rattle.std.specs.List.{Contains}
+use Rattle.std.proofs.Common.{◌≡◌, List, [], ◌∷◌, ◌++◌, map, length, None, Ok, refl, sym, ap, ◌∙◌, subst, arith}
 use Rattle.sha2.specs.Sha256.{sha256}
 use Rattle.equation_core.specs.Rows.{sha256_row}
-use Rattle.card_core.specs.declared.block.Block.{Block}
 use Rattle.card_core.specs.PartFields.{PartFields}
 use Rattle.part_text.specs.SealedFields.{SealedFields}
 use Rattle.part_text.specs.PartText.{unsealed_text}
@@ -20,11 +18,11 @@ use Rattle.universe_core.specs.Step.{refusal, head_after, groups_after, counts_a
 use Rattle.history_core.specs.Facts.{IsSound}
 use Rattle.history_core.proofs.Ledger.{next_is, groups_are, counts_are}
 use Rattle.ledger_core.specs.LedgerFields.{LedgerFields}
-use Rattle.builder_core.specs.declared.format.Format.{Format}
-use Rattle.builder_core.specs.Building.{IsGroupBlock, AreGroupBlocks}
+use Rattle.builder_core.specs.Building.{AreGroupBlocks}
 use Rattle.publication_core.specs.Formats.{current, blocks_in}
 use Rattle.publication_core.specs.Histories.{IsPartOf, IsAdmissible, History, members, with_job, IsHistory, releases_of}
-use Rattle.publication_core.specs.Publishing.{CanBePublished, PublicationFields, IsPublication, Publishes}
+use Rattle.publication_core.specs.Building.{HaveBlocks, IsSealedPart}
+use Rattle.publication_core.specs.Publishing.{PublicationFields, Publishes}
 use Rattle.publication_core.proofs.Histories.{with_job_leaves, with_job_is, members_many, history_sound}
 use Rattle.publication_core.proofs.Admitting.{admitted, not_refused, parts_many}
 
@@ -33,18 +31,18 @@ unfolding ledger_of
 heads_same rs job = refl
 
 -- the part that is published is that of the history
-part_of_history : (rs : List Release) (job : JobFields) (p : PublicationFields) → IsSound rs → IsPublication (ledger_of rs) job p → IsPartOf rs (in_format current job) p.sealed
-part_of_history rs job p sound is = record {
-  head_is = is.head ∙ heads_same rs job;
-  blocks = subst (λ (gs : List GroupFields). AreGroupBlocks (blocks_in current) sha256_row gs p.sealed.part.blocks) (groups_are rs sound (facts_of job) []) is.blocks;
+part_of_history : (rs : List Release) (job : JobFields) (s : SealedFields) → IsSound rs
+    → IsSealedPart current (head_after (ledger_of rs).parts (facts_of job)) (groups_after (ledger_of rs) (facts_of job)) s → IsPartOf rs (in_format current job) s
+part_of_history rs job s sound is = record {
+  head_is = is.head_is ∙ heads_same rs job;
+  blocks = subst (λ (gs : List GroupFields). AreGroupBlocks (blocks_in current) sha256_row gs s.part.blocks) (groups_are rs sound (facts_of job) []) is.blocks;
   trailer = is.trailer;
 }
 
 -- A job that is admitted behind a ledger, with a block for each group, is published.
-pub admitted_published : (ledger : LedgerFields) (job : JobFields) → refusal PUBLISHED ledger job ≡ None
-    → (blocks : List Block) → AreGroupBlocks (blocks_in current) sha256_row (groups_after ledger (facts_of job)) blocks
+pub admitted_published : (ledger : LedgerFields) (job : JobFields) → refusal PUBLISHED ledger job ≡ None → HaveBlocks current (groups_after ledger (facts_of job))
     → (p : PublicationFields) × Publishes ledger job (Ok p)
-admitted_published ledger job none blocks are =
+admitted_published ledger job none (blocks, are) =
     let made : PartFields = record { head = head_after ledger.parts (facts_of job); blocks = blocks } in
     let sealed : SealedFields = record { part = made; trailer = sha256 (unsealed_text made) } in (
       record {
@@ -53,22 +51,8 @@ admitted_published ledger job none blocks are =
         ledger = next_ledger ledger (facts_of job) sealed.trailer;
         counts = counts_after ledger (facts_of job);
       },
-      (none, record { place = refl; head = refl; blocks = are; trailer = refl; next = refl; counts = refl }),
+      (none, record { head_is = refl; blocks = are; trailer = refl }, refl, refl, refl),
     )
-
--- a block for each of the groups, as a list
-pub blocks_of_each : (format : Format) (groups : List GroupFields) → ((g : GroupFields) → Contains groups g → (block : Block) × IsGroupBlock format sha256_row g block)
-    → (blocks : List Block) × AreGroupBlocks format sha256_row groups blocks
-blocks_of_each format [] each = ([], tt)
-blocks_of_each format (g ∷ groups) each =
-    let first = each g (0, omega arith, refl) in
-    let rest = blocks_of_each format groups (λ h c. each h (c.0 + 1, omega (arith, c.1), rw add-one c.2)) in
-    (first.0 ∷ rest.0, (first.1, rest.1))
-
-pub can_be_published : (ledger : LedgerFields) (job : JobFields) → CanBePublished ledger job → (p : PublicationFields) × Publishes ledger job (Ok p)
-can_be_published ledger job can =
-    let made = blocks_of_each (blocks_in current) (groups_after ledger (facts_of job)) can.blocks in
-    admitted_published ledger job can.admitted made.0 made.1
 
 -- a job that is published is admissible
 admissible_then : (rs : List Release) (job : JobFields) (p : PublicationFields) → IsSound rs → FitsPublishing job → IsWithinLimits PUBLISHED job
@@ -82,7 +66,7 @@ admissible_then rs job p sound fits limits x =
       goes_on = a.goes_on;
       few_parts = a.few_parts;
       few_identities = a.few_identities;
-      blocks = (p.sealed.part.blocks, (part_of_history rs job p sound x.1).blocks);
+      blocks = (p.sealed.part.blocks, (part_of_history rs job p.sealed sound x.1).blocks);
     }
 
 module _ (h : History) (parts : List SealedFields) (job : JobFields) (is : IsHistory h parts) where
@@ -93,19 +77,19 @@ module _ (h : History) (parts : List SealedFields) (job : JobFields) (is : IsHis
   pub published_history : (p : PublicationFields) → FitsPublishing job → IsWithinLimits PUBLISHED job → Publishes (ledger_of (releases_of h parts)) job (Ok p)
       → IsHistory (with_job h (in_format current job)) (parts ++ p.sealed ∷ [])
   published_history p fits limits x =
-      with_job_is h parts (in_format current job) p.sealed is (published_admissible p fits limits x) (part_of_history (releases_of h parts) job p (history_sound h parts is) x.1)
+      with_job_is h parts (in_format current job) p.sealed is (published_admissible p fits limits x) (part_of_history (releases_of h parts) job p.sealed (history_sound h parts is) x.1)
 
   pub published_ledger : (p : PublicationFields) → Publishes (ledger_of (releases_of h parts)) job (Ok p) → p.ledger ≡ ledger_of (releases_of (with_job h (in_format current job)) (parts ++ p.sealed ∷ []))
   published_ledger p x =
-      x.1.next ∙ next_is (releases_of h parts) (history_sound h parts is) (facts_of job) p.sealed.trailer ∙ ap ledger_of (sym (with_job_leaves h parts (in_format current job) p.sealed is))
+      x.3 ∙ next_is (releases_of h parts) (history_sound h parts is) (facts_of job) p.sealed.trailer ∙ ap ledger_of (sym (with_job_leaves h parts (in_format current job) p.sealed is))
 
   pub published_counts : (p : PublicationFields) → Publishes (ledger_of (releases_of h parts)) job (Ok p) → p.counts ≡ counts (past_of (releases_of h parts)) (facts_of job)
-  published_counts p x = x.1.counts ∙ counts_are (releases_of h parts) (history_sound h parts is) (facts_of job)
+  published_counts p x = x.4 ∙ counts_are (releases_of h parts) (history_sound h parts is) (facts_of job)
 
   pub published_place : (p : PublicationFields) → Publishes (ledger_of (releases_of h parts)) job (Ok p) → p.place ≡ members h
   published_place p x =
       let many = parts_many (releases_of h parts) job (history_sound h parts is) in
-      omega (arith, x.1.place, many, members_many h parts is)
+      omega (arith, x.2, many, members_many h parts is)
 
   -- An admissible job is published.
   pub admissible_published : IsAdmissible (releases_of h parts) (in_format current job) → (p : PublicationFields) × Publishes (ledger_of (releases_of h parts)) job (Ok p)
@@ -114,5 +98,4 @@ module _ (h : History) (parts : List SealedFields) (job : JobFields) (is : IsHis
       let sound : IsSound rs = history_sound h parts is in
       admitted_published (ledger_of rs) job
       (not_refused rs job sound (record { crls = a.crls; goes_on = a.goes_on; few_parts = a.few_parts; few_identities = a.few_identities }))
-      a.blocks.0
-      (subst (λ (gs : List GroupFields). AreGroupBlocks (blocks_in current) sha256_row gs a.blocks.0) (sym (groups_are rs sound (facts_of job) [])) a.blocks.1)
+      (subst (HaveBlocks current) (sym (groups_are rs sound (facts_of job) [])) a.blocks)

@@ -11,35 +11,33 @@ use Rattle.job_core.specs.JobFields.{JobFields}
 use Rattle.ledger_core.specs.LedgerFields.{LedgerFields}
 use Rattle.universe_core.specs.declared.fault.AdmitFault.{AdmitFault}
 use Rattle.universe_core.specs.Jobs.{facts_of}
-use Rattle.universe_core.specs.Formats.{JobIn, dated, facts_in}
+use Rattle.universe_core.specs.Formats.{JobFormat, JobIn, dated, facts_in}
 use Rattle.universe_core.specs.History.{Release}
 use Rattle.universe_core.specs.Groups.{GroupFields}
 use Rattle.universe_core.specs.Ledgers.{next_ledger}
 use Rattle.universe_core.specs.Step.{refusal, groups_after}
 use Rattle.history_core.specs.Bases.{releases_without, base_at, base_head}
-use Rattle.builder_core.specs.declared.format.Format.{Format}
-use Rattle.builder_core.specs.Building.{AreGroupBlocks}
 use Rattle.builder_core.proofs.GroupBlocks.{blocks_unique}
 use Rattle.builder_core.proofs.FirstRefused.{refused_no_blocks, first_refused_once}
 use Rattle.publication_core.specs.declared.fault.PublishFault.{PublishFault}
 use Rattle.publication_core.specs.declared.fault.PublishFault.TheVariants.{Admission, SeedsExhausted, NoMemory}
 use Rattle.publication_core.specs.Formats.{current, blocks_in}
 use Rattle.publication_core.specs.Histories.{groups_of, IsPartOf, release_of, AreAdmissible, base_groups, IsBasePart, History, of_jobs, rebased, IsHistory, releases_of}
-use Rattle.publication_core.specs.Publishing.{PublicationFields, IsPublication, Publishes}
+use Rattle.publication_core.specs.Building.{IsSealedPart}
+use Rattle.publication_core.specs.Publishing.{PublicationFields, Publishes}
 
--- parts with the same head, blocks of the same groups, and their digests
-pub sealed_same : (format : Format) (head : HeadFields) (gs : List GroupFields) (a b : SealedFields) → a.part.head ≡ head → b.part.head ≡ head → AreGroupBlocks format sha256_row gs a.part.blocks
-    → AreGroupBlocks format sha256_row gs b.part.blocks → a.trailer ≡ sha256 (unsealed_text a.part) → b.trailer ≡ sha256 (unsealed_text b.part) → a ≡ b
-sealed_same format head gs a b ha hb ba bb ta tb =
-    let blocks : a.part.blocks ≡ b.part.blocks = blocks_unique format sha256_row gs a.part.blocks b.part.blocks ba bb in
-    let part : a.part ≡ b.part = λ i. record { head = (ha ∙ sym hb) i; blocks = blocks i } in
-    λ i. record { part = part i; trailer = (ta ∙ ap (λ (p : PartFields). sha256 (unsealed_text p)) part ∙ sym tb) i }
+-- a part is the only one of its head and groups
+pub sealed_same : (format : JobFormat) (head : HeadFields) (gs : List GroupFields) (a b : SealedFields) → IsSealedPart format head gs a → IsSealedPart format head gs b → a ≡ b
+sealed_same format head gs a b x y =
+    let blocks : a.part.blocks ≡ b.part.blocks = blocks_unique (blocks_in format) sha256_row gs a.part.blocks b.part.blocks x.blocks y.blocks in
+    let part : a.part ≡ b.part = λ i. record { head = (x.head_is ∙ sym y.head_is) i; blocks = blocks i } in
+    λ i. record { part = part i; trailer = (x.trailer ∙ ap (λ (p : PartFields). sha256 (unsealed_text p)) part ∙ sym y.trailer) i }
 
 pub part_unique : (rs : List Release) (j : JobIn) (a b : SealedFields) → IsPartOf rs j a → IsPartOf rs j b → a ≡ b
-part_unique rs j a b x y = sealed_same (blocks_in j.format) _ (groups_of rs (facts_in j)) a b x.head_is y.head_is x.blocks y.blocks x.trailer y.trailer
+part_unique rs j a b x y = sealed_same j.format _ (groups_of rs (facts_in j)) a b x y
 
 base_unique : (moment : ℕ) (rs : List Release) (a b : SealedFields) → IsBasePart moment rs a → IsBasePart moment rs b → a ≡ b
-base_unique moment rs a b x y = sealed_same (blocks_in dated) (base_head rs) (base_groups moment rs) a b x.head_is y.head_is x.blocks y.blocks x.trailer y.trailer
+base_unique moment rs a b x y = sealed_same dated (base_head rs) (base_groups moment rs) a b x y
 
 after_unique : (rs : List Release) (jobs : List JobIn) (a b : List SealedFields) → AreAdmissible rs jobs a → AreAdmissible rs jobs b → a ≡ b
 after_unique rs [] [] [] x y = refl
@@ -64,14 +62,14 @@ history_unique (rebased h old moment without jobs) (s ∷ a) (t ∷ b) x y =
 
 -- ---- what comes of a job behind a ledger
 
-publication_unique : (ledger : LedgerFields) (job : JobFields) (p q : PublicationFields) → IsPublication ledger job p → IsPublication ledger job q → p ≡ q
+publication_unique : (ledger : LedgerFields) (job : JobFields) (p q : PublicationFields) → Publishes ledger job (Ok p) → Publishes ledger job (Ok q) → p ≡ q
 publication_unique ledger job p q x y =
-    let sealed : p.sealed ≡ q.sealed = sealed_same (blocks_in current) _ (groups_after ledger (facts_of job)) p.sealed q.sealed x.head y.head x.blocks y.blocks x.trailer y.trailer in
+    let sealed : p.sealed ≡ q.sealed = sealed_same current _ (groups_after ledger (facts_of job)) p.sealed q.sealed x.1 y.1 in
     λ i. record {
-      place = (x.place ∙ sym y.place) i;
+      place = (x.2 ∙ sym y.2) i;
       sealed = sealed i;
-      ledger = (x.next ∙ ap (λ (s : SealedFields). next_ledger ledger (facts_of job) s.trailer) sealed ∙ sym y.next) i;
-      counts = (x.counts ∙ sym y.counts) i;
+      ledger = (x.3 ∙ ap (λ (s : SealedFields). next_ledger ledger (facts_of job) s.trailer) sealed ∙ sym y.3) i;
+      counts = (x.4 ∙ sym y.4) i;
     }
 
 some_same : (a b : AdmitFault) → ◌≡◌ {A = Option AdmitFault} (Some a) (Some b) → a ≡ b
@@ -81,7 +79,7 @@ not_both : {A : Type 0} (o : Option AdmitFault) (fault : AdmitFault) → o ≡ N
 not_both o fault none some = absurd (let h : ◌≡◌ {A = Option AdmitFault} None (Some fault) = sym none ∙ some in cc)
 
 pub outcome_unique : (ledger : LedgerFields) (job : JobFields) (a b : Result PublicationFields PublishFault) → Publishes ledger job a → Publishes ledger job b → a ≡ b
-outcome_unique ledger job (Ok p) (Ok q) x y = ap (λ (r : PublicationFields). Ok r) (publication_unique ledger job p q x.1 y.1)
+outcome_unique ledger job (Ok p) (Ok q) x y = ap (λ (r : PublicationFields). Ok r) (publication_unique ledger job p q x y)
 outcome_unique ledger job (Ok p) (Err (Admission fault)) x y = not_both (refusal PUBLISHED ledger job) fault x.0 y
 outcome_unique ledger job (Ok p) (Err (SeedsExhausted issuer stage)) x y =
     absurd (refused_no_blocks (blocks_in current) sha256_row (groups_after ledger (facts_of job)) issuer stage p.sealed.part.blocks y.1 x.1.blocks)

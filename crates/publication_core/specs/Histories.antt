@@ -1,13 +1,9 @@
 -- Histories of admitted jobs: how they begin, which job may follow, which part is published of it, and the bytes of what
 -- is published.
 use Rattle.std.specs.Prelude.{◌≡◌, true, false, ℕ, ◌+◌, ◌<◌, ◌≤◌, List, [], ◌∷◌, ◌++◌, map, length, Option, Some, None, All, IfSome, IsOk}
-use Rattle.sha2.specs.Sha256.{sha256}
 use Rattle.ident_core.specs.Coverage.{LiesWithin}
-use Rattle.ident_core.specs.HeadFields.{HeadFields}
-use Rattle.equation_core.specs.Rows.{sha256_row}
-use Rattle.card_core.specs.declared.block.Block.{Block}
 use Rattle.part_text.specs.SealedFields.{SealedFields}
-use Rattle.part_text.specs.PartText.{unsealed_text, spelling}
+use Rattle.part_text.specs.PartText.{spelling}
 use Rattle.job_core.specs.declared.bounds.TheConstants.Limits.{PUBLISHED}
 use Rattle.job_core.specs.JobFields.{JobFields}
 use Rattle.job_core.specs.JobFacts.{FitsPublishing, IsWithinLimits}
@@ -16,23 +12,17 @@ use Rattle.ledger_core.specs.LedgerText.{ledger_text, old_ledger_text}
 use Rattle.ident_core.specs.Among.{Among}
 use Rattle.ident_core.specs.Sets.{has_key}
 use Rattle.universe_core.specs.Jobs.{Job, is_enrolled}
-use Rattle.universe_core.specs.Formats.{JobFormat, dated, JobIn, in_format, reads_dates, facts_in}
+use Rattle.universe_core.specs.Formats.{dated, JobIn, in_format, reads_dates, facts_in}
 use Rattle.universe_core.specs.History.{Release, past_of, released, accepted_with}
 use Rattle.universe_core.specs.Groups.{GroupFields, groups}
 use Rattle.universe_core.specs.Ledgers.{part_from, ledger_of}
 use Rattle.universe_core.specs.Step.{head_after}
 use Rattle.history_core.specs.Bases.{all_issuers, base_head, releases_without, base_at}
-use Rattle.builder_core.specs.Building.{AreGroupBlocks}
 use Rattle.store_core.specs.StoreLayout.{store_text}
-use Rattle.publication_core.specs.Formats.{current, blocks_in}
+use Rattle.publication_core.specs.Formats.{current}
+use Rattle.publication_core.specs.Building.{HaveBlocks, IsSealedPart}
 
 -- ---- one job
-
--- A part with this head, a block for each of the groups in the format, by rows of SHA-256, and its digest.
-pub record IsSealedPart (format : JobFormat) (head : HeadFields) (groups : List GroupFields) (s : SealedFields) : Type 0 where
-  pub head_is : s.part.head ≡ head
-  pub blocks : AreGroupBlocks (blocks_in format) sha256_row groups s.part.blocks
-  pub trailer : s.trailer ≡ sha256 (unsealed_text s.part)
 
 -- what a job's blocks are built of, behind these releases
 abbrev pub groups_of : List Release → Job → List GroupFields
@@ -62,7 +52,7 @@ pub record IsAdmissible (rs : List Release) (j : JobIn) : Type 0 where
   pub few_parts : length rs < MAX_PARTS
   pub few_identities : length (accepted_with (past_of rs) (facts_in j)) ≤ PUBLISHED.identities
   -- each enrolled issuer has a block
-  pub blocks : (blocks : List Block) × AreGroupBlocks (blocks_in j.format) sha256_row (groups_of rs (facts_in j)) blocks
+  pub blocks : HaveBlocks j.format (groups_of rs (facts_in j))
 
 -- what a job with this part leaves
 abbrev pub release_of : List Release → JobIn → SealedFields → Release
@@ -98,7 +88,7 @@ pub record IsRebasable (moment : ℕ) (rs : List Release) : Type 0 where
   pub some : 1 ≤ length rs
   pub few_issuers : length (all_issuers rs) ≤ MAX_ISSUERS
   -- each of these issuers has a block
-  pub blocks : (blocks : List Block) × AreGroupBlocks (blocks_in dated) sha256_row (base_groups moment rs) blocks
+  pub blocks : HaveBlocks dated (base_groups moment rs)
 
 -- ---- histories
 

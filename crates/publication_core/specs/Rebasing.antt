@@ -1,24 +1,22 @@
--- What a rebase publishes behind a ledger, which need not be that of a history; and why nothing is.
-use Rattle.std.specs.Prelude.{◌≡◌, ℕ, ◌<◌, ◌≤◌, List, [], filter, length, count_by, not, Result, Ok, Err, Contains}
-use Rattle.sha2.specs.Sha256.{sha256}
+-- What a rebase publishes behind a ledger, which need not be that of a history, said as in `Publishing`:
+-- `BasePublicationFields` is what is published, and `PublishesBase` ties the ledger to that, or to why nothing is.
+use Rattle.std.specs.Prelude.{◌≡◌, ℕ, ◌<◌, ◌≤◌, List, [], filter, length, count_by, not, Result, Ok, Err}
 use Rattle.ident_core.specs.declared.bounds.TheConstants.{MAX_ISSUERS}
 use Rattle.equation_core.specs.Rows.{sha256_row}
-use Rattle.card_core.specs.declared.block.Block.{Block}
 use Rattle.part_text.specs.SealedFields.{SealedFields}
-use Rattle.part_text.specs.PartText.{unsealed_text}
 use Rattle.job_core.specs.declared.bounds.What.TheVariants.{Issuers}
 use Rattle.ledger_core.specs.LedgerFields.{LedgerFields}
 use Rattle.ident_core.specs.Sets.{has_key}
 use Rattle.universe_core.specs.Formats.{dated}
-use Rattle.universe_core.specs.Groups.{GroupFields}
 use Rattle.universe_core.specs.History.{Release, accepted_by, is_listed}
 use Rattle.universe_core.specs.Rebases.{ledger_without, count_left, is_lasting, issuers_in, kept, kept_revoked, count_pruned, rebased_head, rebased_groups, rebased_ledger}
 use Rattle.history_core.specs.Bases.{all_issuers, kept_by, releases_without, is_lasting_by}
-use Rattle.builder_core.specs.Building.{IsGroupBlock, AreGroupBlocks, IsFirstRefused}
+use Rattle.builder_core.specs.Building.{IsFirstRefused}
 use Rattle.publication_core.specs.declared.base.BaseCounts.{BaseCounts}
 use Rattle.publication_core.specs.declared.base_fault.BaseFault.{BaseFault}
 use Rattle.publication_core.specs.declared.base_fault.BaseFault.TheVariants.{TooMany, SeedsExhausted, NoMemory}
 use Rattle.publication_core.specs.Formats.{blocks_in}
+use Rattle.publication_core.specs.Building.{IsSealedPart}
 
 -- ---- how many there are
 
@@ -55,28 +53,17 @@ pub record BasePublicationFields : Type 0 where
   pub ledger : LedgerFields
   pub counts : BaseCounts
 
--- what the ledger makes at the moment, without these issuers
-pub record IsBasePublication (ledger : LedgerFields) (moment : ℕ) (without : List (List ℕ)) (p : BasePublicationFields) : Type 0 where
-  pub few_issuers : length (issuers_in (ledger_without without ledger).parts) ≤ MAX_ISSUERS
-  pub head : p.sealed.part.head ≡ rebased_head (ledger_without without ledger).parts
-  pub blocks : AreGroupBlocks (blocks_in dated) sha256_row (rebased_groups (is_lasting moment) (ledger_without without ledger)) p.sealed.part.blocks
-  pub trailer : p.sealed.trailer ≡ sha256 (unsealed_text p.sealed.part)
-  pub next : p.ledger ≡ rebased_ledger (is_lasting moment) (ledger_without without ledger) p.sealed.trailer
-  pub counts : p.counts ≡ base_counts_after moment without ledger
-
--- That; or the ledger's parts have more different issuers than a part may, these not counted; or they haven't, and an
--- issuer has no block.
+-- The ledger's parts have few enough other issuers, and this is its part at the moment without these, with its ledger and
+-- its counts; or they have more than a part may; or they haven't, and an issuer has no block.
 abbrev pub PublishesBase : LedgerFields → ℕ → List (List ℕ) → Result BasePublicationFields BaseFault → Type 0
-PublishesBase ledger moment without (Ok p) = IsBasePublication ledger moment without p
+PublishesBase ledger moment without (Ok p) =
+    (length (issuers_in (ledger_without without ledger).parts) ≤ MAX_ISSUERS)
+    × IsSealedPart dated (rebased_head (ledger_without without ledger).parts) (rebased_groups (is_lasting moment) (ledger_without without ledger)) p.sealed
+    × (p.ledger ≡ rebased_ledger (is_lasting moment) (ledger_without without ledger) p.sealed.trailer)
+    × (p.counts ≡ base_counts_after moment without ledger)
 PublishesBase ledger moment without (Err (TooMany what limit)) =
     (what ≡ Issuers) × (limit ≡ MAX_ISSUERS) × (MAX_ISSUERS < length (issuers_in (ledger_without without ledger).parts))
 PublishesBase ledger moment without (Err (SeedsExhausted issuer stage)) =
     (length (issuers_in (ledger_without without ledger).parts) ≤ MAX_ISSUERS)
     × IsFirstRefused (blocks_in dated) sha256_row (rebased_groups (is_lasting moment) (ledger_without without ledger)) issuer stage
 PublishesBase ledger moment without (Err NoMemory) = ⊥
-
--- The ledger's parts have few other issuers, and each of these has a block at the moment.
-pub record CanBeRebased (ledger : LedgerFields) (moment : ℕ) (without : List (List ℕ)) : Type 0 where
-  pub few_issuers : length (issuers_in (ledger_without without ledger).parts) ≤ MAX_ISSUERS
-  pub blocks : (g : GroupFields) → Contains (rebased_groups (is_lasting moment) (ledger_without without ledger)) g
-      → (block : Block) × IsGroupBlock (blocks_in dated) sha256_row g block

@@ -7,22 +7,24 @@ ghost use Rattle.ident_core.specs.declared.range.Sighting.{Sighting};
 ghost use Rattle.part_text.specs.SealedFields.{SealedFields};
 ghost use Rattle.ledger_core.specs.declared.fields.LedgerItem.{LedgerItem};
 ghost use Rattle.ledger_core.specs.LedgerFields.{LedgerFields};
+ghost use Rattle.ident_core.specs.declared.bounds.TheConstants.{MAX_ISSUERS};
 ghost use Rattle.ident_core.specs.Among.{Among};
 ghost use Rattle.ident_core.specs.Sets.{has, has_key};
 ghost use Rattle.ident_core.specs.Coverage.{covers};
-ghost use Rattle.universe_core.specs.Formats.{JobIn, facts_in};
+ghost use Rattle.universe_core.specs.Formats.{JobIn, dated, facts_in};
 ghost use Rattle.universe_core.specs.Jobs.{Entry, is_enrolled};
 ghost use Rattle.universe_core.specs.History.{seen, sightings};
 ghost use Rattle.universe_core.specs.Ledgers.{ledger_of};
 ghost use Rattle.universe_core.specs.Rebases.{is_other, is_of_other, ledger_without, issuers_in, kept, count_pruned, count_left};
-ghost use Rattle.universe_core.specs.Rebases.{rebased_head};
+ghost use Rattle.universe_core.specs.Rebases.{is_lasting, rebased_head, rebased_groups};
 ghost use Rattle.history_core.specs.Bases.{kept_by, releases_without, is_lasting_by};
 ghost use Rattle.card_core.specs.declared.verdict.Verdict.TheVariants as Verdict;
 ghost use Rattle.card_core.specs.Consulting.{covers_some};
 ghost use Rattle.card_core.specs.Verdict.{verdict};
 ghost use Rattle.publication_core.specs.declared.base_fault.BaseFault.{BaseFault};
 ghost use Rattle.publication_core.specs.Histories.{History, rebased, members, with_job, IsHistory, releases_of, IsRebasable, LeavesOut};
-ghost use Rattle.publication_core.specs.Rebasing.{BasePublicationFields, PublishesBase, CanBeRebased, base_counts};
+ghost use Rattle.publication_core.specs.Building.{HaveBlocks};
+ghost use Rattle.publication_core.specs.Rebasing.{BasePublicationFields, PublishesBase, base_counts};
 
 /// What a rebase publishes behind the ledger of a history is that of the history's base: a base may stand for it
 /// (`rebasable`), the history that begins with this base has its part (`history`) and its ledger (`ledger`), and its
@@ -49,7 +51,9 @@ pub fn one_thing_comes_of_a_rebase()
     ensures outcome { (ledger : LedgerFields) (moment : ℕ) (without : List (List ℕ)) (a b : Result BasePublicationFields BaseFault)
         → PublishesBase ledger moment without a → PublishesBase ledger moment without b → a ≡ b }
     ensures some { (ledger : LedgerFields) (moment : ℕ) (without : List (List ℕ)) → (o : Result BasePublicationFields BaseFault) × PublishesBase ledger moment without o }
-    ensures complete { (ledger : LedgerFields) (moment : ℕ) (without : List (List ℕ)) → CanBeRebased ledger moment without
+    ensures complete { (ledger : LedgerFields) (moment : ℕ) (without : List (List ℕ))
+        → length (issuers_in (ledger_without without ledger).parts) ≤ MAX_ISSUERS
+        → HaveBlocks dated (rebased_groups (is_lasting moment) (ledger_without without ledger))
         → (p : BasePublicationFields) × PublishesBase ledger moment without (Ok p) }
 {}
 

@@ -1,6 +1,6 @@
 //! What follows for every history, with no call.
 
-ghost use Rattle.std.specs.Prelude.{◌≡◌, ◌++◌, ◌∷◌, [], List, Ok, Result};
+ghost use Rattle.std.specs.Prelude.{◌≡◌, ◌++◌, ◌∷◌, [], List, None, Ok, Result};
 ghost use Rattle.part_text.specs.SealedFields.{SealedFields};
 ghost use Rattle.job_core.specs.declared.bounds.TheConstants.Limits.{PUBLISHED};
 ghost use Rattle.job_core.specs.JobFields.{JobFields};
@@ -11,10 +11,12 @@ ghost use Rattle.universe_core.specs.Formats.{JobIn, in_format};
 ghost use Rattle.universe_core.specs.History.{Release, past_of};
 ghost use Rattle.universe_core.specs.Ledgers.{no_ledger, ledger_of};
 ghost use Rattle.universe_core.specs.Counting.{counts};
+ghost use Rattle.universe_core.specs.Step.{refusal, groups_after};
 ghost use Rattle.publication_core.specs.declared.fault.PublishFault.{PublishFault};
 ghost use Rattle.publication_core.specs.Formats.{current};
 ghost use Rattle.publication_core.specs.Histories.{IsPartOf, IsAdmissible, History, of_jobs, members, with_job, with_jobs, IsHistory, releases_of};
-ghost use Rattle.publication_core.specs.Publishing.{CanBePublished, PublicationFields, Publishes};
+ghost use Rattle.publication_core.specs.Building.{HaveBlocks};
+ghost use Rattle.publication_core.specs.Publishing.{PublicationFields, Publishes};
 
 /// A job has one part at most in its format, a history publishes one list of parts at most, and one thing comes of a
 /// job behind a ledger.
@@ -52,6 +54,6 @@ pub fn histories_are_published()
 /// A job is published behind any ledger, that of a history or not, where nothing refuses it and each enrolled issuer
 /// has a block.
 pub fn what_can_be_is_published()
-    ensures { (ledger : LedgerFields) (job : JobFields) → CanBePublished ledger job
-        → (p : PublicationFields) × Publishes ledger job (Ok p) }
+    ensures { (ledger : LedgerFields) (job : JobFields) → refusal PUBLISHED ledger job ≡ None
+        → HaveBlocks current (groups_after ledger (facts_of job)) → (p : PublicationFields) × Publishes ledger job (Ok p) }
 {}

@@ -1,15 +1,18 @@
 //! What is published of a job.
 
-ghost use Rattle.std.specs.Prelude.{◌≢◌, ◌≤◌, All, length, map, Err};
+ghost use Rattle.std.specs.Prelude.{◌≡◌, ◌≢◌, ◌≤◌, All, length, map, Err, IfOk, IfErr};
 ghost use Rattle.std.specs.List.Sorted.{IsStrictlySortedBy};
 ghost use Rattle.ident_core.specs.declared.bounds.TheConstants.{MAX_WORKERS};
 ghost use Rattle.ident_core.specs.Order.{octets_cmp};
 ghost use Rattle.job_core.specs.JobFields.{fields_of_job};
 ghost use Rattle.job_core.specs.JobFacts.{FitsPublishing, IsWithinLimits};
+ghost use Rattle.equation_core.specs.Rows.{sha256_row};
+ghost use Rattle.ledger_core.specs.LedgerFields.{sealed_with};
 ghost use Rattle.universe_core.specs.Groups.{group_fields, IsGroup};
 ghost use Rattle.universe_core.specs.Ledgers.{no_ledger};
-ghost use Rattle.builder_core.specs.Building.{identities_in, issuers_of};
-ghost use Rattle.publication_core.specs.Building.{Builds, BuildsAs};
+ghost use Rattle.builder_core.specs.Building.{identities_in, issuers_of, IsBuildFault};
+ghost use Rattle.publication_core.specs.Building.{IsSealedPart};
+ghost use Rattle.publication_core.specs.Formats.{current, blocks_in};
 ghost use Rattle.publication_core.specs.Publishing.{Publishes};
 
 use crate::fault::PublishFault;
@@ -40,7 +43,9 @@ pub(crate) fn built<R: Threads + Sync, G: Gate + Sync>(
     requires identities { identities_in (map group_fields groups.now) ≤ Limits.PUBLISHED.identities }
     requires some_workers { 1 ≤ workers }
     requires few_workers { workers ≤ MAX_WORKERS }
-    ensures { Builds head (map group_fields groups.now) next result }
+    ensures made { IfOk result (λ m. IsSealedPart current head (map group_fields groups.now) m.0
+        × (m.1 ≡ sealed_with next m.0.trailer)) }
+    ensures refused { IfErr result (λ e. IsBuildFault (blocks_in current) sha256_row (map group_fields groups.now) e) }
 {
     let format = Format::Sharded;
     let part = build_part_claimed(rt, alloc, &Sha256Rows, gate, groups, head, workers, format)?;
@@ -57,14 +62,17 @@ fn published<R: Threads + Sync, G: Gate + Sync>(
     place: u32,
     admitted: Admitted,
     workers: u32,
-) -> Result<Publication, PublishFault>
+) -> Result<Publication, BuildFault>
     requires facts { All IsGroup (map group_fields admitted.groups.items) }
     requires ascending { IsStrictlySortedBy octets_cmp (issuers_of (map group_fields admitted.groups.items)) }
     requires few { length admitted.groups.items ≤ Limits.PUBLISHED.crls }
     requires identities { identities_in (map group_fields admitted.groups.items) ≤ Limits.PUBLISHED.identities }
     requires some_workers { 1 ≤ workers }
     requires few_workers { workers ≤ MAX_WORKERS }
-    ensures { BuildsAs place admitted.head (map group_fields admitted.groups.items) admitted.next admitted.counts result }
+    ensures made { IfOk result (λ p. IsSealedPart current admitted.head (map group_fields admitted.groups.items) p.sealed
+        × (p.place ≡ place) × (p.ledger ≡ sealed_with admitted.next p.sealed.trailer) × (p.counts ≡ admitted.counts)) }
+    ensures refused { IfErr result (λ e.
+        IsBuildFault (blocks_in current) sha256_row (map group_fields admitted.groups.items) e) }
 {
     let Admitted {
         head,
@@ -93,7 +101,7 @@ pub fn publish_first<R: Threads + Sync, G: Gate + Sync>(
     ensures { result ≢ Err PublishFault.NoMemory → Publishes no_ledger (fields_of_job job) result }
 {
     let admitted = first_of(rt, alloc, job, &Limits::PUBLISHED, workers)?;
-    published(rt, alloc, gate, 0, admitted, workers)
+    Ok(published(rt, alloc, gate, 0, admitted, workers)?)
 }
 
 /// What is published of a job behind a ledger, by 1 to 64 workers, each of which enters the gate before it builds a leaf
@@ -116,5 +124,5 @@ pub fn publish_after<R: Threads + Sync, G: Gate + Sync>(
     let place = ledger.parts().len() as u32;
     let admitted = admit_of(rt, alloc, &ledger, job, &Limits::PUBLISHED, workers)?;
     drop(ledger);
-    published(rt, alloc, gate, place, admitted, workers)
+    Ok(published(rt, alloc, gate, place, admitted, workers)?)
 }

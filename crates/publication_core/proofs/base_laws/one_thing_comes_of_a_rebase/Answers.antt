@@ -1,4 +1,4 @@
-use Rattle.publication_core.proofs.Bases.{can_be_rebased}
+use Rattle.publication_core.proofs.Bases.{base_made}
 use Rattle.publication_core.proofs.BaseOutcomes.{base_outcome_unique, some_outcome}
 use Rattle.publication_core.proofs.base_laws.one_thing_comes_of_a_rebase.Goals as goal
 
@@ -6,5 +6,5 @@ pub returns : goal.returns
 returns c = record {
   outcome = λ ledger moment without a b x y. base_outcome_unique ledger moment without a b x y;
   some = λ ledger moment without. some_outcome ledger moment without;
-  complete = λ ledger moment without can. can_be_rebased ledger moment without can;
+  complete = λ ledger moment without few have. base_made ledger moment without few have;
 }

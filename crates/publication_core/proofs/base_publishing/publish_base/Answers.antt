@@ -33,6 +33,6 @@ returns g c = λ settled.
     let made = c.in_ok-made.made in
     base_publishes c.args.ledger c.args.moment c.args.without.now rebased.head rebased.groups.items rebased.next made.1 made.0
     (record { issuers = c.len.result; universe = length c.items.result.now; revoked = c.count_revoked.result; pruned = rebased.pruned; left = rebased.left }) c.new.result
-    c.in_ok-rebased.ensures.rebased c.in_ok-rebased.ensures.head c.in_ok-rebased.ensures.groups c.in_ok-rebased.ensures.next (rw c.deref.ensures.value at c.in_ok-made.ensures) (omega (arith, c.len.ensures, rebased.groups.ok.0))
+    c.in_ok-rebased.ensures.rebased c.in_ok-rebased.ensures.head c.in_ok-rebased.ensures.groups c.in_ok-rebased.ensures.next (rw c.deref.ensures.value at c.in_ok-made.ensures.made) (omega (arith, c.len.ensures, rebased.groups.ok.0))
     (ap length c.items.ensures.value)
     (c.count_revoked.ensures ∙ ap (λ is. length (filter (λ (i : LedgerItem). is_some i.last) is)) c.items-2.ensures.value) c.in_ok-rebased.ensures.pruned c.in_ok-rebased.ensures.left c.new.ensures
