@@ -27,7 +27,7 @@ use Rattle.outside_core.proofs.Effects.{WhichFailed-then}
 use Rattle.input_core.proofs.FilesRead.{later_read, none_failed, blamed_later}
 use Rattle.command_core.proofs.AuditsMade.{behind_next, behind_stop}
 use Rattle.command_core.proofs.Fronts.{no_inputs, ahead, these, ahead_push, nothing, later_reads, some_reads, Front, from_place, is_among, front_more, read_on, front_all}
-use Rattle.command_core.proofs.Replying.{read_well, blames_file, says_wider, made, made_unless}
+use Rattle.command_core.proofs.Replying.{read_well, blames_file, says_wider, made}
 
 -- ---- the first files
 
@@ -86,17 +86,6 @@ module _ (told : Option Files) (names : List (List ℕ)) where
       }
 
 -- ---- the reply
-
--- the store is at fault
-pub audit_refused : {B : Type 0} (told : Option Files) (failed : Option (List ℕ) → Type 0) (r : Result Answer NoMemory) (a : Audit) (view : B → List SealedFields)
-    (fault : FileFault) → IsInput told failed a.store store_in view (Err fault) → (fault ≡ faults.NoMemory → IsErr r)
-    → IfOk r (λ x. reply_fields x ≡ refusal a.store fault) → IfOk r (λ x. IsReply (commands.Audit a) told failed (reply_fields x))
-audit_refused told failed r a view fault (g, read, gives, blamed) memory is =
-    let rest = some_reads told failed a.jobs in
-    let e : NamedFault = record { name = a.store; fault = fault } in
-    made_unless (commands.Audit a) told failed (ahead (g ∷ []) rest.0) a.store fault r (read, rest.1)
-    (blames_file failed (a.store ∷ a.jobs) a.store fault (inl refl) blamed)
-    (λ refute. subst (λ (x : Result (List SealedFields) FileFault). MakesAudit a (named a.store x) (audit_jobs a.jobs rest.0) (Err e)) (sym (gives refute)) refl) memory is
 
 module _ {D : Type 0} (d : Ghosts D) (old mid new : D) (reads_ : OnlyReads d old mid) (a : Audit) (parts : List SealedFields) where
   abbrev First : Option (List ℕ) → Type 0

@@ -34,7 +34,7 @@ use Rattle.outside_core.proofs.Effects.{WhichFailed-then}
 use Rattle.input_core.proofs.FilesRead.{later_read, none_failed, blamed_later}
 use Rattle.command_core.proofs.Fronts.{no_inputs, ahead, these, ahead_push, nothing, later_reads, some_reads, Front, no_front, from_place, is_among, front_more, read_on, front_all}
 use Rattle.command_core.proofs.Makings.{page_last, page_then}
-use Rattle.command_core.proofs.Replying.{read_well, blames_file, says_wider, made, made_unless}
+use Rattle.command_core.proofs.Replying.{read_well, blames_file, says_wider, made}
 
 -- entries before those of a result
 abbrev pub behind_these : List PageFields → Result (List PageFields) NamedFault → Result (List PageFields) NamedFault
@@ -217,16 +217,6 @@ fewer-before told failed f j before job is n = omega (arith, is, n.opens.count, 
 -- ---- the reply
 
 -- the head is at fault
-pub gather_refused : {B : Type 0} (told : Option Files) (failed : Option (List ℕ) → Type 0) (a : Result Answer NoMemory) (f : Gather) (view : B → JobContents)
-    (fault : FileFault) → IsInput told failed f.head head_in view (Err fault) → (fault ≡ faults.NoMemory → IsErr a)
-    → IfOk a (λ x. reply_fields x ≡ refusal f.head fault) → IfOk a (λ x. IsReply (commands.Gather f) told failed (reply_fields x))
-gather_refused told failed a f view fault (g, read, gives, blamed) memory is =
-    let rest = some_reads told failed f.pages in
-    made_unless (commands.Gather f) told failed (ahead (g ∷ []) rest.0) f.head fault a (read, rest.1)
-    (blames_file failed (f.head ∷ f.pages) f.head fault (inl refl) blamed)
-    (λ refute. sym (ap (λ (x : Result JobContents FileFault). named f.head x
-    >>= (λ j. pages_of f.job (length j.entries) f.pages rest.0 >>= (λ entries. Ok (gather_done f j entries)))) (gives refute))) memory is
-
 module _ {D : Type 0} (d : Ghosts D) (old mid new : D) (reads_ : OnlyReads d old mid) (f : Gather) (j : JobContents) where
   abbrev First : Option (List ℕ) → Type 0
   First = WhichFailed d old mid

@@ -84,15 +84,6 @@ module _ (told : Option Files) (failed : Option (List ℕ) → Type 0) (r : Resu
   abbrev Refusing : List ℕ → FileFault → Type 0
   Refusing name fault = (fault ≡ faults.NoMemory → IsErr r) → IfOk r (λ a. reply_fields a ≡ refusal name fault) → IfOk r (λ a. IsReply (commands.QueryCert q) told failed (reply_fields a))
 
-  -- STORE is at fault
-  pub no_store : {B : Type 0} (view : B → List SealedFields) (fault : FileFault) → IsInput told failed q.store store_in view (Err fault) → Refusing q.store fault
-  no_store view fault (given, is_read, gives, blamed) memory is =
-      let k = some_read told failed q.cert in
-      let i = some_read told failed q.issuer_cert in
-      made_unless (commands.QueryCert q) told failed (these (given ∷ k.0 ∷ i.0 ∷ [])) q.store fault r (is_read, (k.1, (i.1, λ n. refl)))
-      (blames_file failed (inputs_of (commands.QueryCert q)) q.store fault (inl refl) blamed)
-      (λ refute. fault_at q.store store_in given fault (cert_after q k.0 i.0) (gives refute)) memory is
-
   module _ (parts : List SealedFields) (s : WellRead told failed q.store store_in parts) where
     -- CERT is
     pub no_cert : {B : Type 0} (view : B → Certificate) (fault : FileFault) → IsInput told failed q.cert certificate_in view (Err fault) → Refusing q.cert fault

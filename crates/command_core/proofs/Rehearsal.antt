@@ -31,7 +31,7 @@ use Rattle.command_core.specs.Answering.{reply_fields}
 use Rattle.outside_core.proofs.Effects.{WhichFailed-then}
 use Rattle.input_core.proofs.FilesRead.{later_read, none_failed, blamed_later}
 use Rattle.command_core.proofs.Fronts.{no_inputs, ahead, these, ahead_push, nothing, later_reads, some_reads, Front, no_front, from_place, is_among, front_more, read_on, front_all}
-use Rattle.command_core.proofs.Replying.{read_well, read_named, blames_file, says_wider, made, made_unless}
+use Rattle.command_core.proofs.Replying.{read_well, read_named, blames_file, says_wider, made}
 use Rattle.command_core.proofs.Chains.{chain_push}
 use Rattle.command_core.proofs.Prefixes.{first_of}
 
@@ -141,15 +141,6 @@ module _ (told : Option Files) (names : List (List ℕ)) where
 -- ---- the reply
 
 -- the queries are at fault
-pub rehearse_refused : {B : Type 0} (told : Option Files) (failed : Option (List ℕ) → Type 0) (a : Result Answer NoMemory) (r : Rehearse) (view : B → List Query)
-    (fault : FileFault) → IsInput told failed r.queries queries_in view (Err fault) → (fault ≡ faults.NoMemory → IsErr a)
-    → IfOk a (λ x. reply_fields x ≡ refusal r.queries fault) → IfOk a (λ x. IsReply (commands.Rehearse r) told failed (reply_fields x))
-rehearse_refused told failed a r view fault (g, read, gives, blamed) memory is =
-    let rest = some_reads told failed r.jobs in
-    made_unless (commands.Rehearse r) told failed (ahead (g ∷ []) rest.0) r.queries fault a (read, rest.1)
-    (blames_file failed (r.queries ∷ r.jobs) r.queries fault (inl refl) blamed)
-    (λ refute. subst (λ (x : Result (List Query) FileFault). MakesRehearsal r (named r.queries x) rest.0 (Err (record { name = r.queries; fault = fault }))) (sym (gives refute)) refl) memory is
-
 module _ {D : Type 0} (d : Ghosts D) (old mid new : D) (reads_ : OnlyReads d old mid) (r : Rehearse) where
   abbrev First : Option (List ℕ) → Type 0
   First = WhichFailed d old mid

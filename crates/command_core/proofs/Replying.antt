@@ -8,6 +8,7 @@ use Rattle.outside_core.specs.Effects.{OnlyReads}
 use Rattle.outside_core.specs.Files.{Files}
 use Rattle.ident_core.specs.Among.{Among}
 use Rattle.part_text.specs.SealedFields.{SealedFields}
+use Rattle.input_core.specs.Queries.{Query}
 use Rattle.job_core.specs.declared.bounds.TheConstants.Limits.{PUBLISHED}
 use Rattle.job_core.specs.JobFields.{JobFields}
 use Rattle.job_core.specs.JobFacts.{FitsFields, IsWithinLimits}
@@ -21,26 +22,28 @@ use Rattle.publication_core.specs.declared.base_fault.BaseFault.TheVariants as b
 use Rattle.publication_core.specs.Rebasing.{BasePublicationFields, PublishesBase}
 use Rattle.word_core.specs.declared.command.Command.{Command}
 use Rattle.word_core.specs.declared.command.Command.TheVariants as commands
-use Rattle.word_core.specs.declared.command.{Query.Query, Snapshot.Snapshot, Delta.Delta, Rebase.Rebase, Start.Start}
+use Rattle.word_core.specs.declared.command.{Query.Query as StoreQuery, Snapshot.Snapshot, Delta.Delta, Rebase.Rebase, Start.Start}
 use Rattle.word_core.specs.declared.command.{Install.Install}
 use Rattle.word_core.specs.Names.{inputs_of}
 use Rattle.command_core.specs.declared.answer.Answer.{Answer}
 use Rattle.input_core.specs.declared.fault.FileFault.{FileFault}
 use Rattle.input_core.specs.declared.fault.FileFault.TheVariants as faults
 use Rattle.command_core.specs.Faults.{of_publishing, of_rebasing}
-use Rattle.input_core.specs.Readings.{job_in, ledger_in, part_in, store_in, input_as}
+use Rattle.input_core.specs.Readings.{queries_in, job_in, ledger_in, part_in, store_in, input_as}
 use Rattle.outside_core.specs.Reads.{WhichFailed}
-use Rattle.input_core.specs.Inputs.{Inputs, IsBlamed, IsRead, AreRead, IsInput}
+use Rattle.input_core.specs.Inputs.{Inputs, rest_of, IsBlamed, IsRead, AreRead, IsInput}
 use Rattle.outside_core.proofs.Effects.{WhichFailed-then}
-use Rattle.input_core.proofs.FilesRead.{some_read, later_read, none_failed, blamed_later}
+use Rattle.input_core.proofs.FilesRead.{later_read, none_failed, blamed_later}
 use Rattle.command_core.specs.ReplyFields.{ReplyFields, Done, NamedFault}
-use Rattle.command_core.specs.Commands.{◌>>=◌, named, input, query_done, show_done, begun, installed, stored, publication_done, MakesPart, MakesSnapshot, MakesDelta, Makes}
+use Rattle.command_core.specs.Audits.{audit_jobs, MakesAudit}
+use Rattle.command_core.specs.Commands.{◌>>=◌, named, input, query_done, check_done, show_done, begun, installed, stored, publication_done}
+use Rattle.command_core.specs.Commands.{head_in, MakesPart, MakesSnapshot, MakesDelta, MakesRehearsal, Makes}
 use Rattle.command_core.specs.Rebasings.{base_done, MakesBase, MakesRebase}
 use Rattle.command_core.specs.Replies.{done, refusal, reply_of, SaysWhich, IsReply}
 use Rattle.command_core.specs.Answering.{reply_fields}
-use Rattle.command_core.proofs.Fronts.{these}
+use Rattle.command_core.proofs.Fronts.{ahead, these, some_reads}
 use Rattle.command_core.proofs.Results.{not_ok}
-use Rattle.command_core.proofs.Makings.{err_same, start_after, install_then, install_after}
+use Rattle.command_core.proofs.Makings.{err_same, start_after, install_then, install_after, gather_after, cert_after}
 
 -- ---- files
 
@@ -90,37 +93,67 @@ made_unless c told failed inputs name fault (Ok a) read blames m memory is =
     (m (λ none. absurd (let h : IsErr {T = Answer} {E = NoMemory} (Ok a) = memory none in cc))) is
 made_unless c told failed inputs name fault (Err e) read blames m memory is = tt
 
+-- ---- the first input is at fault
+
+-- what is wrong with the first input of a command that reads one
+abbrev IsFirstFault : Command → Inputs → NamedFault → Type 0
+IsFirstFault commands.Usage at e = ⊥
+IsFirstFault (commands.Query q) at e = input q.store store_in (at 0) ≡ Err e
+IsFirstFault (commands.QueryCert q) at e = input q.store store_in (at 0) ≡ Err e
+IsFirstFault (commands.Check name) at e = input name part_in (at 0) ≡ Err e
+IsFirstFault (commands.Show name) at e = input name part_in (at 0) ≡ Err e
+IsFirstFault (commands.Snapshot s) at e = input s.job job_in (at 0) ≡ Err e
+IsFirstFault (commands.Delta t) at e = input t.job job_in (at 0) ≡ Err e
+IsFirstFault (commands.Rebase b) at e = input b.ledger ledger_in (at 0) ≡ Err e
+IsFirstFault (commands.Start t) at e = input t.part part_in (at 0) ≡ Err e
+IsFirstFault (commands.Install i) at e = input i.store store_in (at 0) ≡ Err e
+IsFirstFault (commands.Rehearse r) at e = input r.queries queries_in (at 0) ≡ Err e
+IsFirstFault (commands.Sample s) at e = ⊥
+IsFirstFault (commands.Gather f) at e = input f.head head_in (at 0) ≡ Err e
+IsFirstFault (commands.Audit a) at e = input a.store store_in (at 0) ≡ Err e
+
+stops : {A : Type 0} (r : Result A NamedFault) (next : A → Result Done NamedFault) (e : NamedFault) → r ≡ Err e → Err e ≡ (r >>= next)
+stops {A} r next e h = sym (ap (λ (x : Result A NamedFault). x >>= next) h)
+
+-- it is what comes of the command
+first_fault : (c : Command) (inputs : Inputs) (e : NamedFault) → IsFirstFault c inputs e → Makes c inputs (Err e)
+first_fault commands.Usage at e h = absurd h
+first_fault (commands.Query q) at e h = stops (input q.store store_in (at 0)) (λ parts. Ok (query_done q parts)) e h
+first_fault (commands.QueryCert q) at e h = stops (input q.store store_in (at 0)) (cert_after q (at 1) (at 2)) e h
+first_fault (commands.Check name) at e h = stops (input name part_in (at 0)) (λ x. Ok (check_done x)) e h
+first_fault (commands.Show name) at e h = stops (input name part_in (at 0)) (λ x. Ok (show_done x)) e h
+first_fault (commands.Snapshot s) at e h = subst (λ (x : Result JobFields NamedFault). MakesSnapshot s x (Err e)) (sym h) refl
+first_fault (commands.Delta t) at e h = subst (λ (x : Result JobFields NamedFault). MakesDelta t x (input t.ledger ledger_in (at 1)) (Err e)) (sym h) refl
+first_fault (commands.Rebase b) at e h = subst (λ (x : Result LedgerFields NamedFault). MakesRebase b x (Err e)) (sym h) refl
+first_fault (commands.Start t) at e h = stops (input t.part part_in (at 0)) (start_after t) e h
+first_fault (commands.Install i) at e h = stops (input i.store store_in (at 0)) (install_after i (at 1)) e h
+first_fault (commands.Rehearse r) at e h = subst (λ (x : Result (List Query) NamedFault). MakesRehearsal r x (rest_of at) (Err e)) (sym h) refl
+first_fault (commands.Sample s) at e h = absurd h
+first_fault (commands.Gather f) at e h = stops (input f.head head_in (at 0)) (gather_after f (rest_of at)) e h
+first_fault (commands.Audit a) at e h = subst (λ (x : Result (List SealedFields) NamedFault). MakesAudit a x (audit_jobs a.jobs (rest_of at)) (Err e)) (sym h) refl
+
+pub first_refused : {A B : Type 0} (told : Option Files) (failed : Option (List ℕ) → Type 0) (r : Result Answer NoMemory) (c : Command) (name : List ℕ) (others : List (List ℕ))
+    (read : List ℕ → Result A FileFault) (view : B → A) (fault : FileFault) → inputs_of c ≡ name ∷ others
+    → ((inputs : Inputs) → input name read (inputs 0) ≡ Err (record { name = name; fault = fault }) → IsFirstFault c inputs (record { name = name; fault = fault }))
+    → IsInput told failed name read view (Err fault) → (fault ≡ faults.NoMemory → IsErr r)
+    → IfOk r (λ a. reply_fields a ≡ refusal name fault) → IfOk r (λ a. IsReply c told failed (reply_fields a))
+first_refused told failed r c name others read view fault are first (given, is_read, gives, blamed) memory is =
+    let rest = some_reads told failed others in
+    let inputs : Inputs = ahead (given ∷ []) rest.0 in
+    made_unless c told failed inputs name fault r
+    (subst (λ (names : List (List ℕ)). AreRead told failed names inputs) (sym are) (is_read, rest.1))
+    (blames_file failed (inputs_of c) name fault (subst (λ (names : List (List ℕ)). Among names name) (sym are) (inl refl)) blamed)
+    (λ refute. first_fault c inputs (record { name = name; fault = fault }) (first inputs (ap (named name) (gives refute)))) memory is
+
 -- ---- commands of one input
 
 module _ (told : Option Files) (failed : Option (List ℕ) → Type 0) (r : Result Answer NoMemory) where
-  -- the input is at fault
-  one_refused : {A B : Type 0} (c : Command) (name : List ℕ) (read : List ℕ → Result A FileFault) (view : B → A) (fault : FileFault)
-      → ((given : Option (List ℕ)) → IsRead told failed name given → AreRead told failed (inputs_of c) (these (given ∷ [])))
-      → ((given : Option (List ℕ)) → input name read given ≡ Err (record { name = name; fault = fault }) → Makes c (these (given ∷ [])) (Err (record { name = name; fault = fault })))
-      → Among (inputs_of c) name → IsInput told failed name read view (Err fault) → (fault ≡ faults.NoMemory → IsErr r)
-      → IfOk r (λ a. reply_fields a ≡ refusal name fault) → IfOk r (λ a. IsReply c told failed (reply_fields a))
-  one_refused c name read view fault reads_ makes among (given, is_read, gives, blamed) memory is =
-      made_unless c told failed (these (given ∷ [])) name fault r (reads_ given is_read) (blames_file failed (inputs_of c) name fault among blamed)
-      (λ refute. makes given (ap (named name) (gives refute))) memory is
-
-  pub query_refused : {B : Type 0} (q : Query) (view : B → List SealedFields) (fault : FileFault) → IsInput told failed q.store store_in view (Err fault) → (fault ≡ faults.NoMemory → IsErr r)
-      → IfOk r (λ a. reply_fields a ≡ refusal q.store fault) → IfOk r (λ a. IsReply (commands.Query q) told failed (reply_fields a))
-  query_refused q view fault in_ memory is =
-      one_refused (commands.Query q) q.store store_in view fault (λ g read. (read, λ i. refl))
-      (λ g h. sym (ap (λ (x : Result (List SealedFields) NamedFault). x >>= (λ ps. Ok (query_done q ps))) h)) (inl refl) in_ memory is
-
-  pub query_made : {B : Type 0} (q : Query) (view : B → List SealedFields) (x : B) → IsInput told failed q.store store_in view (Ok x)
+  pub query_made : {B : Type 0} (q : StoreQuery) (view : B → List SealedFields) (x : B) → IsInput told failed q.store store_in view (Ok x)
       → IfOk r (λ a. reply_fields a ≡ done (query_done q (view x)))
       → IfOk r (λ a. IsReply (commands.Query q) told failed (reply_fields a))
   query_made q view x (given, read, gives, blamed) is =
       made (commands.Query q) told failed (these (given ∷ [])) (Ok (query_done q (view x))) r (read, λ i. refl) (inl (none_failed failed q.store faults.Unread x blamed))
       (sym (ap (λ (y : Result (List SealedFields) FileFault). named q.store y >>= (λ ps. Ok (query_done q ps))) gives)) is
-
-  pub show_refused : {B : Type 0} (name : List ℕ) (view : B → SealedFields × ℕ) (fault : FileFault) → IsInput told failed name part_in view (Err fault) → (fault ≡ faults.NoMemory → IsErr r)
-      → IfOk r (λ a. reply_fields a ≡ refusal name fault) → IfOk r (λ a. IsReply (commands.Show name) told failed (reply_fields a))
-  show_refused name view fault in_ memory is =
-      one_refused (commands.Show name) name part_in view fault (λ g read. (read, λ i. refl))
-      (λ g h. sym (ap (λ (x : Result (SealedFields × ℕ) NamedFault). x >>= (λ y. Ok (show_done y))) h)) (inl refl) in_ memory is
 
   pub show_made : {B : Type 0} (name : List ℕ) (view : B → SealedFields × ℕ) (x : B) → IsInput told failed name part_in view (Ok x) → IfOk r (λ a. reply_fields a ≡ done (show_done (view x)))
       → IfOk r (λ a. IsReply (commands.Show name) told failed (reply_fields a))
@@ -129,11 +162,6 @@ module _ (told : Option Files) (failed : Option (List ℕ) → Type 0) (r : Resu
       (sym (ap (λ (y : Result (SealedFields × ℕ) FileFault). named name y >>= (λ z. Ok (show_done z))) gives)) is
 
   -- ---- start
-
-  pub start_refused : {B : Type 0} (t : Start) (view : B → SealedFields × ℕ) (fault : FileFault) → IsInput told failed t.part part_in view (Err fault) → (fault ≡ faults.NoMemory → IsErr r)
-      → IfOk r (λ a. reply_fields a ≡ refusal t.part fault) → IfOk r (λ a. IsReply (commands.Start t) told failed (reply_fields a))
-  start_refused t view fault in_ memory is =
-      one_refused (commands.Start t) t.part part_in view fault (λ g read. (read, λ i. refl)) (λ g h. sym (ap (λ (x : Result (SealedFields × ℕ) NamedFault). x >>= start_after t) h)) (inl refl) in_ memory is
 
   -- what follows the part that was read
   start_step : (t : Start) (x : SealedFields × ℕ) (given : Option (List ℕ)) (y : Result (List SealedFields) FileFault) → input_as part_in given ≡ Ok x → begun x.0 ≡ y
@@ -157,12 +185,6 @@ module _ (told : Option Files) (failed : Option (List ℕ) → Type 0) (r : Resu
       (λ refute. start_step t (view x) given (Err fault) gives (not_begun refute)) memory is
 
   -- ---- snapshot
-
-  pub snapshot_refused : {B : Type 0} (s : Snapshot) (view : B → JobFields) (fault : FileFault) → IsInput told failed s.job job_in view (Err fault) → (fault ≡ faults.NoMemory → IsErr r)
-      → IfOk r (λ a. reply_fields a ≡ refusal s.job fault) → IfOk r (λ a. IsReply (commands.Snapshot s) told failed (reply_fields a))
-  snapshot_refused s view fault in_ memory is =
-      one_refused (commands.Snapshot s) s.job job_in view fault (λ g read. (read, λ i. refl))
-      (λ g h. subst (λ (x : Result JobFields NamedFault). MakesSnapshot s x (Err (record { name = s.job; fault = fault }))) (sym h) refl) (inl refl) in_ memory is
 
   snapshot_step : (s : Snapshot) (j : JobFields) (given : Option (List ℕ)) (o : Result Done NamedFault) → input_as job_in given ≡ Ok j → MakesPart s.job s.part s.ledger no_ledger j o
       → Makes (commands.Snapshot s) (these (given ∷ [])) o
@@ -201,12 +223,6 @@ module _ (told : Option Files) (failed : Option (List ℕ) → Type 0) (r : Resu
       (record { fits = fits; limits = limits; result = Err fault; publishes = publishes_err no_ledger (view x) fault publishes refute; is = refl })) memory is
 
   -- ---- rebase
-
-  pub rebase_refused : {B : Type 0} (b : Rebase) (view : B → LedgerFields) (fault : FileFault) → IsInput told failed b.ledger ledger_in view (Err fault) → (fault ≡ faults.NoMemory → IsErr r)
-      → IfOk r (λ a. reply_fields a ≡ refusal b.ledger fault) → IfOk r (λ a. IsReply (commands.Rebase b) told failed (reply_fields a))
-  rebase_refused b view fault in_ memory is =
-      one_refused told failed r (commands.Rebase b) b.ledger ledger_in view fault (λ g read. (read, λ i. refl))
-      (λ g h. subst (λ (x : Result LedgerFields NamedFault). MakesRebase b x (Err (record { name = b.ledger; fault = fault }))) (sym h) refl) (inl refl) in_ memory is
 
   rebase_step : (b : Rebase) (l : LedgerFields) (given : Option (List ℕ)) (o : Result Done NamedFault) → input_as ledger_in given ≡ Ok l → MakesBase b l o
       → Makes (commands.Rebase b) (these (given ∷ [])) o
@@ -339,23 +355,3 @@ module _ {D : Type 0} (g : Ghosts D) (old mid new : D) (reads_ : OnlyReads g old
       made_unless (commands.Install i) (g.files old) Both (these (given ∷ more ∷ [])) i.part fault r
       (both_read i.store x blamed i.part store_in (view x) given more gives read read_part) (inl (both_well i.store x blamed i.part p blamed_part))
       (λ refute. install_last i (view x) (shape p) (Err fault) not_grown ∙ install_step i (view x) given more (Ok (shape p)) gives gives_part) memory is
-
--- the first of two inputs is at fault
-module _ (told : Option Files) (failed : Option (List ℕ) → Type 0) (r : Result Answer NoMemory) where
-  pub delta_refused : {B : Type 0} (t : Delta) (view : B → JobFields) (fault : FileFault) → IsInput told failed t.job job_in view (Err fault) → (fault ≡ faults.NoMemory → IsErr r)
-      → IfOk r (λ a. reply_fields a ≡ refusal t.job fault) → IfOk r (λ a. IsReply (commands.Delta t) told failed (reply_fields a))
-  delta_refused t view fault (given, read, gives, blamed) memory is =
-      let l = some_read told failed t.ledger in
-      made_unless (commands.Delta t) told failed (these (given ∷ l.0 ∷ [])) t.job fault r (read, (l.1, λ i. refl))
-      (blames_file failed (t.job ∷ t.ledger ∷ []) t.job fault (inl refl) blamed)
-      (λ refute. subst (λ (x : Result JobFields FileFault). MakesDelta t (named t.job x) (input t.ledger ledger_in l.0)
-      (Err (record { name = t.job; fault = fault }))) (sym (gives refute)) refl) memory is
-
-  pub install_refused : {B : Type 0} (i : Install) (view : B → List SealedFields) (fault : FileFault)
-      → IsInput told failed i.store store_in view (Err fault) → (fault ≡ faults.NoMemory → IsErr r)
-      → IfOk r (λ a. reply_fields a ≡ refusal i.store fault) → IfOk r (λ a. IsReply (commands.Install i) told failed (reply_fields a))
-  install_refused i view fault (given, read, gives, blamed) memory is =
-      let p = some_read told failed i.part in
-      made_unless (commands.Install i) told failed (these (given ∷ p.0 ∷ [])) i.store fault r (read, (p.1, λ i. refl))
-      (blames_file failed (i.store ∷ i.part ∷ []) i.store fault (inl refl) blamed)
-      (λ refute. sym (ap (λ (x : Result (List SealedFields) FileFault). named i.store x >>= install_after i p.0) (gives refute))) memory is

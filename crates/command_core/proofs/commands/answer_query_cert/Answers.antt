@@ -1,15 +1,17 @@
-use Rattle.std.proofs.Common.{[], Ok, Err, ap}
+use Rattle.std.proofs.Common.{[], Ok, Err, ap, refl}
 use Rattle.command_core.specs.declared.answer.Answer.TheVariants as answers
 use Rattle.input_core.specs.Readings.{store_in}
 use Rattle.input_core.specs.Certificates.{certificate_in, issuer_in}
+use Rattle.word_core.specs.declared.command.Command.TheVariants as commands
 use Rattle.outside_core.specs.Reads.{WhichFailed}
 use Rattle.command_core.specs.Replies.{with_files}
-use Rattle.command_core.proofs.QueryCerts.{both_only, well_before, none_before, input_behind, no_store, no_cert, no_issuer, query_cert_made}
+use Rattle.command_core.proofs.QueryCerts.{both_only, well_before, none_before, input_behind, no_cert, no_issuer, query_cert_made}
+use Rattle.command_core.proofs.Replying.{first_refused}
 use Rattle.command_core.proofs.commands.answer_query_cert.Goals as goal
 
 pub returns-in-Err-clause-reply : goal.returns-in-Err-clause-reply
 returns-in-Err-clause-reply g c =
-    no_store (g.D.Depot.files c.args.depot.now) (WhichFailed g.D.Depot c.args.depot.now _) c.refused.result c.args.query.now (λ s. s) c.in-Err.fault
+    first_refused (g.D.Depot.files c.args.depot.now) (WhichFailed g.D.Depot c.args.depot.now _) c.refused.result (commands.QueryCert c.args.query.now) c.args.query.now.store _ store_in (λ s. s) c.in-Err.fault refl (λ at h. h)
     (rw c.as_str.ensures at c.in-Err.ensures.input) c.refused.ensures.memory (rw c.as_str-in-Err.ensures at c.refused.ensures.ok)
 
 pub returns-in-Err-certificate_in-clause-reply : goal.returns-in-Err-certificate_in-clause-reply

@@ -1,7 +1,9 @@
 use Rattle.std.proofs.Common.{Ok, refl}
 use Rattle.command_core.specs.declared.answer.Answer.TheVariants as answers
+use Rattle.input_core.specs.Readings.{part_in}
+use Rattle.word_core.specs.declared.command.Command.TheVariants as commands
 use Rattle.outside_core.specs.Reads.{WhichFailed}
-use Rattle.command_core.proofs.Replying.{show_made, show_refused}
+use Rattle.command_core.proofs.Replying.{first_refused, show_made}
 use Rattle.command_core.proofs.commands.answer_show.Goals as goal
 
 pub returns-in-Ok-clause-reply : goal.returns-in-Ok-clause-reply
@@ -10,5 +12,5 @@ returns-in-Ok-clause-reply g c = show_made (g.D.Depot.files c.args.depot.now) (W
 
 pub returns-in-Err-clause-reply : goal.returns-in-Err-clause-reply
 returns-in-Err-clause-reply g c =
-    show_refused (g.D.Depot.files c.args.depot.now) (WhichFailed g.D.Depot c.args.depot.now _) c.refused.result c.args.name.now (λ x. x) c.in-Err.fault (rw c.as_str.ensures at c.in-Err.ensures.input)
+    first_refused (g.D.Depot.files c.args.depot.now) (WhichFailed g.D.Depot c.args.depot.now _) c.refused.result (commands.Show c.args.name.now) c.args.name.now _ part_in (λ x. x) c.in-Err.fault refl (λ at h. h) (rw c.as_str.ensures at c.in-Err.ensures.input)
     c.refused.ensures.memory (rw c.as_str-in-Err.ensures at c.refused.ensures.ok)

@@ -1,12 +1,15 @@
-use Rattle.std.proofs.Common.{◌∙◌}
+use Rattle.std.proofs.Common.{◌∙◌, refl}
 use Rattle.job_core.specs.JobText.{JobContents}
+use Rattle.command_core.specs.Commands.{head_in}
+use Rattle.word_core.specs.declared.command.Command.TheVariants as commands
 use Rattle.outside_core.specs.Reads.{WhichFailed}
-use Rattle.command_core.proofs.PagesPut.{fewer-before, gather_refused, gather_made, gather_not}
+use Rattle.command_core.proofs.PagesPut.{fewer-before, gather_made, gather_not}
+use Rattle.command_core.proofs.Replying.{first_refused}
 use Rattle.command_core.proofs.gathering.answer_gather.Goals as goal
 
 pub returns-in-Err-clause-reply : goal.returns-in-Err-clause-reply
 returns-in-Err-clause-reply g c =
-    gather_refused (g.D.Depot.files c.args.depot.now) (WhichFailed g.D.Depot c.args.depot.now _) c.refused.result c.args.gather.now (λ (x : JobContents). x) c.in-Err.fault
+    first_refused (g.D.Depot.files c.args.depot.now) (WhichFailed g.D.Depot c.args.depot.now _) c.refused.result (commands.Gather c.args.gather.now) c.args.gather.now.head _ head_in (λ (x : JobContents). x) c.in-Err.fault refl (λ at h. h)
     (rw c.as_str.ensures at c.in-Err.ensures.refused) c.refused.ensures.memory (rw c.as_str-in-Err.ensures at c.refused.ensures.ok)
 
 pub gathered-requires : goal.gathered-requires

@@ -1,11 +1,14 @@
+use Rattle.std.proofs.Common.{refl}
 use Rattle.job_core.specs.JobFields.{fields_of_job}
+use Rattle.input_core.specs.Readings.{job_in}
+use Rattle.word_core.specs.declared.command.Command.TheVariants as commands
 use Rattle.outside_core.specs.Reads.{WhichFailed}
-use Rattle.command_core.proofs.Replying.{delta_made, delta_refused, delta_no_ledger, delta_not}
+use Rattle.command_core.proofs.Replying.{first_refused, delta_made, delta_no_ledger, delta_not}
 use Rattle.command_core.proofs.publishing.answer_delta.Goals as goal
 
 pub returns-in-Err-clause-reply : goal.returns-in-Err-clause-reply
 returns-in-Err-clause-reply g c =
-    delta_refused (g.D.Depot.files c.args.depot.now) (WhichFailed g.D.Depot c.args.depot.now _) c.refused.result c.args.delta.now fields_of_job c.in-Err.fault
+    first_refused (g.D.Depot.files c.args.depot.now) (WhichFailed g.D.Depot c.args.depot.now _) c.refused.result (commands.Delta c.args.delta.now) c.args.delta.now.job _ job_in fields_of_job c.in-Err.fault refl (λ at h. h)
     (rw c.as_str.ensures at c.in-Err.ensures.input) c.refused.ensures.memory (rw c.as_str-in-Err.ensures at c.refused.ensures.ok)
 
 pub returns-in-Err-ledger_in-clause-reply : goal.returns-in-Err-ledger_in-clause-reply

@@ -1,11 +1,14 @@
+use Rattle.std.proofs.Common.{refl}
 use Rattle.job_core.specs.JobFields.{fields_of_job}
+use Rattle.input_core.specs.Readings.{job_in}
+use Rattle.word_core.specs.declared.command.Command.TheVariants as commands
 use Rattle.outside_core.specs.Reads.{WhichFailed}
-use Rattle.command_core.proofs.Replying.{snapshot_made, snapshot_refused, snapshot_not}
+use Rattle.command_core.proofs.Replying.{first_refused, snapshot_made, snapshot_not}
 use Rattle.command_core.proofs.publishing.answer_snapshot.Goals as goal
 
 pub returns-in-Err-clause-reply : goal.returns-in-Err-clause-reply
 returns-in-Err-clause-reply g c =
-    snapshot_refused (g.D.Depot.files c.args.depot.now) (WhichFailed g.D.Depot c.args.depot.now _) c.refused.result c.args.snapshot.now fields_of_job c.in-Err.fault
+    first_refused (g.D.Depot.files c.args.depot.now) (WhichFailed g.D.Depot c.args.depot.now _) c.refused.result (commands.Snapshot c.args.snapshot.now) c.args.snapshot.now.job _ job_in fields_of_job c.in-Err.fault refl (λ at h. h)
     (rw c.as_str.ensures at c.in-Err.ensures.input) c.refused.ensures.memory (rw c.as_str-in-Err.ensures at c.refused.ensures.ok)
 
 pub returns-in-Ok-publish_first-clause-reply : goal.returns-in-Ok-publish_first-clause-reply

@@ -1,11 +1,13 @@
-use Rattle.std.proofs.Common.{ℕ, List, subst}
+use Rattle.std.proofs.Common.{ℕ, List, subst, refl}
+use Rattle.input_core.specs.Readings.{ledger_in}
+use Rattle.word_core.specs.declared.command.Command.TheVariants as commands
 use Rattle.outside_core.specs.Reads.{WhichFailed}
-use Rattle.command_core.proofs.Replying.{NotRebased, rebase_made, rebase_refused, rebase_not}
+use Rattle.command_core.proofs.Replying.{first_refused, NotRebased, rebase_made, rebase_not}
 use Rattle.command_core.proofs.rebasing.answer_rebase.Goals as goal
 
 pub returns-in-Err-clause-reply : goal.returns-in-Err-clause-reply
 returns-in-Err-clause-reply g c =
-    rebase_refused (g.D.Depot.files c.args.depot.now) (WhichFailed g.D.Depot c.args.depot.now _) c.refused.result c.args.rebase.now (λ l. l) c.in-Err.fault
+    first_refused (g.D.Depot.files c.args.depot.now) (WhichFailed g.D.Depot c.args.depot.now _) c.refused.result (commands.Rebase c.args.rebase.now) c.args.rebase.now.ledger _ ledger_in (λ l. l) c.in-Err.fault refl (λ at h. h)
     (rw c.as_str.ensures at c.in-Err.ensures.input) c.refused.ensures.memory (rw c.as_str-in-Err.ensures at c.refused.ensures.ok)
 
 pub returns-in-Ok-publish_base-clause-reply : goal.returns-in-Ok-publish_base-clause-reply

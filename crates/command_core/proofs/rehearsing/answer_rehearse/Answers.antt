@@ -2,13 +2,16 @@ use Rattle.std.proofs.Common.{map, Ok, Vec, Global, refl}
 use Rattle.input_core.specs.declared.query.Asked.{Asked}
 use Rattle.input_core.specs.Queries.{as_query}
 use Rattle.command_core.specs.declared.answer.Answer.TheVariants as answers
+use Rattle.input_core.specs.Readings.{queries_in}
+use Rattle.word_core.specs.declared.command.Command.TheVariants as commands
 use Rattle.outside_core.specs.Reads.{WhichFailed}
-use Rattle.command_core.proofs.Rehearsal.{rehearse_refused, rehearse_made, rehearse_not}
+use Rattle.command_core.proofs.Rehearsal.{rehearse_made, rehearse_not}
+use Rattle.command_core.proofs.Replying.{first_refused}
 use Rattle.command_core.proofs.rehearsing.answer_rehearse.Goals as goal
 
 pub returns-in-Err-clause-reply : goal.returns-in-Err-clause-reply
 returns-in-Err-clause-reply g c =
-    rehearse_refused (g.D.Depot.files c.args.depot.now) (WhichFailed g.D.Depot c.args.depot.now _) c.refused.result c.args.rehearse.now (λ (v : Vec Asked Global). map as_query v.items) c.in-Err.fault
+    first_refused (g.D.Depot.files c.args.depot.now) (WhichFailed g.D.Depot c.args.depot.now _) c.refused.result (commands.Rehearse c.args.rehearse.now) c.args.rehearse.now.queries _ queries_in (λ (v : Vec Asked Global). map as_query v.items) c.in-Err.fault refl (λ at h. h)
     (rw c.as_str.ensures at c.in-Err.ensures.input)
     c.refused.ensures.memory (rw c.as_str-in-Err.ensures at c.refused.ensures.ok)
 

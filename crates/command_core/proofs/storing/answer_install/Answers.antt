@@ -1,10 +1,13 @@
+use Rattle.std.proofs.Common.{refl}
+use Rattle.input_core.specs.Readings.{store_in}
+use Rattle.word_core.specs.declared.command.Command.TheVariants as commands
 use Rattle.outside_core.specs.Reads.{WhichFailed}
-use Rattle.command_core.proofs.Replying.{install_made, install_refused, install_no_part, install_not}
+use Rattle.command_core.proofs.Replying.{first_refused, install_made, install_no_part, install_not}
 use Rattle.command_core.proofs.storing.answer_install.Goals as goal
 
 pub returns-in-Err-clause-reply : goal.returns-in-Err-clause-reply
 returns-in-Err-clause-reply g c =
-    install_refused (g.D.Depot.files c.args.depot.now) (WhichFailed g.D.Depot c.args.depot.now _) c.refused.result c.args.install.now (λ s. s) c.in-Err.fault
+    first_refused (g.D.Depot.files c.args.depot.now) (WhichFailed g.D.Depot c.args.depot.now _) c.refused.result (commands.Install c.args.install.now) c.args.install.now.store _ store_in (λ s. s) c.in-Err.fault refl (λ at h. h)
     (rw c.as_str.ensures at c.in-Err.ensures.input) c.refused.ensures.memory (rw c.as_str-in-Err.ensures at c.refused.ensures.ok)
 
 pub returns-in-Err-part_in-clause-reply : goal.returns-in-Err-part_in-clause-reply

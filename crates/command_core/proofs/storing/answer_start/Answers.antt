@@ -1,10 +1,13 @@
+use Rattle.std.proofs.Common.{refl}
+use Rattle.input_core.specs.Readings.{part_in}
+use Rattle.word_core.specs.declared.command.Command.TheVariants as commands
 use Rattle.outside_core.specs.Reads.{WhichFailed}
-use Rattle.command_core.proofs.Replying.{start_made, start_refused, start_not}
+use Rattle.command_core.proofs.Replying.{first_refused, start_made, start_not}
 use Rattle.command_core.proofs.storing.answer_start.Goals as goal
 
 pub returns-in-Err-clause-reply : goal.returns-in-Err-clause-reply
 returns-in-Err-clause-reply g c =
-    start_refused (g.D.Depot.files c.args.depot.now) (WhichFailed g.D.Depot c.args.depot.now _) c.refused.result c.args.start.now (λ x. x) c.in-Err.fault (rw c.as_str.ensures at c.in-Err.ensures.input)
+    first_refused (g.D.Depot.files c.args.depot.now) (WhichFailed g.D.Depot c.args.depot.now _) c.refused.result (commands.Start c.args.start.now) c.args.start.now.part _ part_in (λ x. x) c.in-Err.fault refl (λ at h. h) (rw c.as_str.ensures at c.in-Err.ensures.input)
     c.refused.ensures.memory (rw c.as_str-in-Err.ensures at c.refused.ensures.ok)
 
 pub returns-in-Ok-begun-clause-reply : goal.returns-in-Ok-begun-clause-reply
