@@ -144,18 +144,6 @@ module _ (layers : Layers) where
   behind : (asked : Command) (files : Files) (h : History) (parts : List SealedFields) (job : JobFields) (o : Result Done NamedFault)
       → IsHistory h parts → AsksToContinue asked h parts job files
       → Makes asked (held_by asked files) o → Behind asked h parts job o
-  behind commands.Usage files h parts job o is p m = absurd p
-  behind (commands.Query q) files h parts job o is p m = absurd p
-  behind (commands.QueryCert q) files h parts job o is p m = absurd p
-  behind (commands.Check n) files h parts job o is p m = absurd p
-  behind (commands.Show n) files h parts job o is p m = absurd p
-  behind (commands.Rehearse r) files h parts job o is p m = absurd p
-  behind (commands.Sample t) files h parts job o is p m = absurd p
-  behind (commands.Gather g) files h parts job o is p m = absurd p
-  behind (commands.Audit a) files h parts job o is p m = absurd p
-  behind (commands.Rebase r) files h parts job o is p m = absurd p
-  behind (commands.Start t) files h parts job o is p m = absurd p
-  behind (commands.Install i) files h parts job o is p m = absurd p
   behind (commands.Snapshot s) files h parts job o is p m = record {
     name = s.job;
     part_name = s.part;
@@ -175,6 +163,7 @@ module _ (layers : Layers) where
     makes = subst (λ (l : Result LedgerFields NamedFault). MakesDelta t (Ok job) l o) (ledger_input layers.ledgers files t.ledger h parts is p.0 p.1)
         (subst (λ (r : Result JobFields NamedFault). MakesDelta t r (input t.ledger ledger_in (get files t.ledger)) o) (job_input files t.job job p.2) m);
   }
+  behind asked files h parts job o is p m = absurd p
 
   pub published : (asked : Command) (files : Files) (h : History) (parts : List SealedFields) (job : JobFields) (d : Done) → IsHistory h parts → AsksToContinue asked h parts job files
       → Makes asked (held_by asked files) (Ok d) → (made : PublicationFields) × Continues h parts job made × (d ≡ done_by asked made)
@@ -269,21 +258,10 @@ module _ (layers : Layers) where
 
   pub stored_law : (asked : Command) (files : Files) (h : History) (parts : List SealedFields) (s : SealedFields) (o : Result Done NamedFault) → IsHistory h (parts ++ s ∷ [])
       → AsksToStore asked parts s files → Makes asked (held_by asked files) o → (d : Done) × (o ≡ Ok d) × Stored asked parts s d
-  stored_law commands.Usage files h parts s o is p m = absurd p
-  stored_law (commands.Query q) files h parts s o is p m = absurd p
-  stored_law (commands.QueryCert q) files h parts s o is p m = absurd p
-  stored_law (commands.Check n) files h parts s o is p m = absurd p
-  stored_law (commands.Show n) files h parts s o is p m = absurd p
-  stored_law (commands.Rehearse r) files h parts s o is p m = absurd p
-  stored_law (commands.Sample t) files h parts s o is p m = absurd p
-  stored_law (commands.Gather g) files h parts s o is p m = absurd p
-  stored_law (commands.Audit a) files h parts s o is p m = absurd p
-  stored_law (commands.Snapshot t) files h parts s o is p m = absurd p
-  stored_law (commands.Delta d) files h parts s o is p m = absurd p
-  stored_law (commands.Rebase r) files h parts s o is p m = absurd p
   stored_law (commands.Start t) files h [] s o is p m = stored_is (commands.Start t) t.store [] s o (λ b. refl) (start_stored t files h s o is p.1 m)
   stored_law (commands.Start t) files h (q ∷ parts) s o is p m = absurd (let h : ◌≡◌ {A = List SealedFields} (q ∷ parts) [] = p.0 in cc)
   stored_law (commands.Install i) files h parts s o is p m = stored_is (commands.Install i) i.new_store parts s o (λ b. refl) (install_stored i files h parts s o is p.0 p.1 p.2 m)
+  stored_law asked files h parts s o is p m = absurd p
 
   -- ---- asking
 

@@ -1,4 +1,4 @@
--- What a call does for a history; and all that is promised of one that succeeds.
+-- What a call does for a history.
 use Rattle.std.proofs.Common.{◌≡◌, ℕ, List, [], ◌∷◌, ◌++◌, Some, Result, Ok, sym, subst, ◌∙◌}
 use Rattle.outside_core.specs.Files.{Files}
 use Rattle.ident_core.specs.declared.identity.Identity.{Identity}
@@ -18,7 +18,6 @@ use Rattle.publication_core.specs.Rebasing.{BasePublicationFields}
 use Rattle.word_core.specs.declared.command.Command.{Command}
 use Rattle.word_core.specs.declared.command.Command.TheVariants as commands
 use Rattle.word_core.specs.declared.command.{Query.Query as StoreQuery, QueryCert.QueryCert, Rebase.Rebase}
-use Rattle.word_core.specs.declared.command.{Rehearse.Rehearse}
 use Rattle.line_core.specs.Lines.{line}
 use Rattle.command_core.specs.ReplyFields.{Done, NamedFault}
 use Rattle.command_core.specs.Commands.{only, verdict_word}
@@ -26,17 +25,16 @@ use Rattle.command_core.specs.Commands.{rehearsed, Makes}
 use Rattle.command_core.specs.Rebasings.{base_done}
 use Rattle.command_core.specs.Replies.{held_by}
 use Rattle.clubcard_top.specs.Calls.{Call, Found, Prints}
-use Rattle.clubcard_top.specs.Endings.{Succeeds, Did, GivesDone, MustSucceed, Ends}
-use Rattle.clubcard_top.specs.Headline.{AsksTruth, Continues, done_by, IsRehearsed, Stored, AsksToContinue, AsksToRehearse}
+use Rattle.clubcard_top.specs.Endings.{Succeeds, GivesDone, MustSucceed, Ends}
+use Rattle.clubcard_top.specs.Headline.{AsksTruth, Continues, done_by, Stored, AsksToContinue, AsksToRehearse}
 use Rattle.clubcard_top.specs.Headline.{AsksToStore, truth_line, truth_done}
 use Rattle.clubcard_top.specs.Headline.{AsksCertTruth, cert_truth_line}
 use Rattle.clubcard_top.specs.Headline.{AsksToRebase, BeginsAnew, IsRebasableWithout, base_of, AsksTheBase, AsksOfLeftOut, Brings}
-use Rattle.clubcard_top.specs.Promises.{Successes, Histories}
+use Rattle.clubcard_top.specs.Promises.{Histories}
 use Rattle.command_core.proofs.Results.{ok_same}
-use Rattle.clubcard_top.proofs.Promised.{Unique, answers, given, sure}
+use Rattle.clubcard_top.proofs.Promised.{answers, given, sure}
 use Rattle.word_core.specs.Names.{IsApart}
-use Rattle.clubcard_top.proofs.Succeeded as succeeded
-use Rattle.clubcard_top.proofs.Succeeded.{given_done, OneOutcome, Publishable, Rebasable, Truthful}
+use Rattle.clubcard_top.proofs.Succeeded.{given_done}
 
 module _ (call : Call) where
   -- the laws of what comes of a command over files, as `histories_are_made` and `bases_are_made` say them
@@ -59,11 +57,6 @@ module _ (call : Call) where
         (parts : List SealedFields) (o : Result Done NamedFault) → IsHistory h parts
         → AsksCertTruth call.asked q x ss h parts files
         → Makes call.asked (held_by call.asked files) o → o ≡ Ok (only (cert_truth_line h parts x))
-    pub rehearses : (files : Files) (r : Rehearse) (d : Done) → call.asked ≡ commands.Rehearse r
-        → Makes call.asked (held_by call.asked files) (Ok d)
-        → (queries : List Query) × (jobs : List JobFields) × (parts : List SealedFields)
-        × AsksToRehearse call.asked queries jobs files × IsRehearsed queries jobs parts
-        × (d ≡ rehearsed queries jobs parts)
     pub rebases : (files : Files) (r : Rebase) (h : History) (parts : List SealedFields) (d : Done)
         → IsHistory h parts → AsksToRebase call.asked r h parts files
         → Makes call.asked (held_by call.asked files) (Ok d)
@@ -195,42 +188,4 @@ module _ (call : Call) where
       cert_truth = cert_truth;
       cert_answered = cert_answered;
       followed = followed;
-    }
-
-    rehearse : (r : Rehearse) → (did : Did call (commands.Rehearse r)) → (queries : List Query)
-        × (jobs : List JobFields) × (parts : List SealedFields) × Found call (AsksToRehearse call.asked queries jobs)
-        × IsRehearsed queries jobs parts × GivesDone call (rehearsed queries jobs parts)
-    rehearse r did =
-        let a = came did.files did.told did.succeeds in
-        let l = laws.rehearses did.files r a.0 did.asked a.1 in (
-          l.0,
-          l.1,
-          l.2,
-          (did.files, did.told, l.3),
-          l.4,
-          subst (GivesDone call) l.5 a.2,
-        )
-
-    pub successes : Unique call → OneOutcome → Publishable → Rebasable → Truthful → Successes call
-    successes unique one publishable anew truthful = record {
-      query = succeeded.query call ends apart;
-      query_cert = succeeded.query_cert call ends apart;
-      query_cert_complete = succeeded.query_cert_complete call one publishable ends;
-      check = succeeded.check call ends apart;
-      show = succeeded.show call ends apart;
-      snapshot = succeeded.snapshot call ends apart;
-      snapshot_complete = succeeded.snapshot_complete call one publishable ends;
-      delta = succeeded.delta call ends apart;
-      delta_complete = succeeded.delta_complete call one publishable ends;
-      rebase = succeeded.rebase call ends apart;
-      rebase_complete = succeeded.rebase_complete call one publishable ends anew;
-      start = succeeded.start call ends apart;
-      install = succeeded.install call ends apart;
-      rehearse = rehearse;
-      sample = succeeded.sample call ends apart;
-      gather = succeeded.gather call ends apart;
-      gather_complete = succeeded.gather_complete call one publishable ends;
-      audit = succeeded.audit call ends apart truthful;
-      audit_complete = succeeded.audit_complete call one publishable ends;
-      complete = λ d. given call unique ends (Ok d);
     }

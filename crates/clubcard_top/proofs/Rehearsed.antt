@@ -143,20 +143,8 @@ module _ (layers : Layers) (files : Files) where
   pub done_law : (asked : Command) (queries : List Query) (jobs : List JobFields) (parts : List SealedFields) (o : Result Done NamedFault)
       → IsHistory (chain jobs) parts → AsksToRehearse asked queries jobs files
       → Makes asked (held_by asked files) o → o ≡ Ok (rehearsed queries jobs parts)
-  done_law commands.Usage queries jobs parts o is p m = absurd p
-  done_law (commands.Query q) queries jobs parts o is p m = absurd p
-  done_law (commands.QueryCert q) queries jobs parts o is p m = absurd p
-  done_law (commands.Check n) queries jobs parts o is p m = absurd p
-  done_law (commands.Show n) queries jobs parts o is p m = absurd p
-  done_law (commands.Snapshot s) queries jobs parts o is p m = absurd p
-  done_law (commands.Delta d) queries jobs parts o is p m = absurd p
-  done_law (commands.Rebase r) queries jobs parts o is p m = absurd p
-  done_law (commands.Start t) queries jobs parts o is p m = absurd p
-  done_law (commands.Install i) queries jobs parts o is p m = absurd p
-  done_law (commands.Sample s) queries jobs parts o is p m = absurd p
-  done_law (commands.Gather g) queries jobs parts o is p m = absurd p
-  done_law (commands.Audit a) queries jobs parts o is p m = absurd p
   done_law (commands.Rehearse r) queries jobs parts o is p m =
       goes_on queries [] [] r.jobs jobs parts o tt is p.1
       (from_first queries r.jobs (held_under files r.jobs) o (subst (λ (q : Result (List Query) NamedFault). MakesRehearsal r q (held_under files r.jobs) o)
       (queries_input files r.queries queries p.0) m))
+  done_law asked queries jobs parts o is p m = absurd p

@@ -38,7 +38,7 @@ use Rattle.word_core.specs.Names.{inputs_of, outputs_of, IsApart}
 use Rattle.word_core.proofs.Asked.{AreApart, names_apart}
 use Rattle.word_core.specs.declared.command.Command.TheVariants as commands
 use Rattle.word_core.specs.declared.command.{Query.Query, QueryCert.QueryCert, Snapshot.Snapshot, Delta.Delta}
-use Rattle.word_core.specs.declared.command.{Rebase.Rebase, Start.Start, Install.Install, Audit.Audit, Sample.Sample}
+use Rattle.word_core.specs.declared.command.{Rebase.Rebase, Start.Start, Install.Install, Rehearse.Rehearse, Audit.Audit, Sample.Sample}
 use Rattle.word_core.specs.declared.command.{Gather.Gather}
 use Rattle.input_core.specs.declared.certificates.Certificate.{Certificate}
 use Rattle.input_core.specs.declared.fault.FileFault.{FileFault}
@@ -46,10 +46,11 @@ use Rattle.input_core.specs.declared.fault.FileFault.TheVariants as faults
 use Rattle.command_core.specs.Faults.{of_publishing, of_rebasing}
 use Rattle.command_core.specs.ReplyFields.{OutputFields, Done, NamedFault}
 use Rattle.input_core.specs.Inputs.{Inputs}
+use Rattle.input_core.specs.Queries.{Query as JobQuery}
 use Rattle.input_core.specs.Readings.{job_in, ledger_in, part_in, store_in}
 use Rattle.input_core.specs.Certificates.{certificate_in, issuer_in}
 use Rattle.command_core.specs.Commands.{◌>>=◌, named, input, query_done, query_cert_done, check_done, show_done, stored, begun_by, begun, installed_by, installed}
-use Rattle.command_core.specs.Commands.{publication_done, published_as, MakesPart, MakesSnapshot, MakesDelta, sample_done}
+use Rattle.command_core.specs.Commands.{publication_done, rehearsed, published_as, MakesPart, MakesSnapshot, MakesDelta, sample_done}
 use Rattle.command_core.specs.Commands.{head_in, page_in, room_for, pages_of, gather_done, AreJobs, Makes}
 use Rattle.command_core.specs.Rebasings.{base_done, rebased_as, MakesBase, MakesRebase}
 use Rattle.command_core.specs.Replies.{done, held_under, held_by}
@@ -57,6 +58,8 @@ use Rattle.command_core.specs.Runs.{with_outputs}
 use Rattle.clubcard_top.specs.Calls.{Call, Reads, NoFault}
 use Rattle.clubcard_top.specs.Endings.{Succeeds, Did, Gives, GivesDone, WantedMemory, Ends}
 use Rattle.command_core.specs.Audits.{audit_jobs, audit_done, MakesAudit, AreWithinLimits, IsAudited}
+use Rattle.clubcard_top.specs.Headline.{AsksToRehearse, IsRehearsed}
+use Rattle.clubcard_top.specs.Promises.{Successes}
 use Rattle.clubcard_top.specs.Successes.{ReadsPart, ReadsPages, ReadsJobs, SaysTheTruth}
 use Rattle.command_core.proofs.AuditsMade.{named_value, audit_done_is, audit_jobs_back, audit_makes}
 use Rattle.command_core.proofs.Makings.{done_names, start_after, install_after, install_then, gather_after, page_last, page_then, cert_last, cert_then, cert_after}
@@ -64,7 +67,7 @@ use Rattle.command_core.proofs.PagesPut.{behind_these, page_put}
 use Rattle.command_core.proofs.Results.{ok_same, not_ok, after_ok}
 use Rattle.command_core.proofs.Outputs.{names_of, keeps-written}
 use Rattle.command_core.proofs.Overs.{some_is}
-use Rattle.clubcard_top.proofs.Promised.{answers, sure}
+use Rattle.clubcard_top.proofs.Promised.{Unique, answers, given, sure}
 
 -- ---- files after a write
 
@@ -530,3 +533,48 @@ module _ (call : Call) where
         (λ o m. subst (λ (r : Result (List SealedFields) NamedFault). MakesAudit a r (audit_jobs a.jobs (held_under files a.jobs)) (Ok d)) (sym store_is)
         (subst (λ (js : Result (List JobFields) NamedFault). MakesAudit a (Ok parts) js (Ok d)) (sym jobs_are) (audit_makes a parts jobs audited)))
         quiet
+
+  -- ---- all commands
+
+  -- what comes of jobs that are rehearsed, as `histories_are_made` says it
+  abbrev pub Rehearses : Type 0
+  Rehearses =
+      (files : Files) (r : Rehearse) (d : Done) → call.asked ≡ commands.Rehearse r
+      → Makes call.asked (held_by call.asked files) (Ok d)
+      → (queries : List JobQuery) × (jobs : List JobFields) × (parts : List SealedFields)
+      × AsksToRehearse call.asked queries jobs files × IsRehearsed queries jobs parts
+      × (d ≡ rehearsed queries jobs parts)
+
+  pub successes : Rehearses → Ends call → IsApart call.asked → Unique call → OneOutcome → Publishable → Rebasable → Truthful → Successes call
+  successes law ends apart unique one publishable anew truthful =
+      record {
+        query = query ends apart;
+        query_cert = query_cert ends apart;
+        query_cert_complete = query_cert_complete one publishable ends;
+        check = check ends apart;
+        show = show ends apart;
+        snapshot = snapshot ends apart;
+        snapshot_complete = snapshot_complete one publishable ends;
+        delta = delta ends apart;
+        delta_complete = delta_complete one publishable ends;
+        rebase = rebase ends apart;
+        rebase_complete = rebase_complete one publishable ends anew;
+        start = start ends apart;
+        install = install ends apart;
+        rehearse = λ r did.
+            let a = answers call ends did.files did.told did.succeeds in
+            let l = law did.files r a.d did.asked a.makes in (
+              l.0,
+              l.1,
+              l.2,
+              (did.files, did.told, l.3),
+              l.4,
+              subst (GivesDone call) l.5 (given_done did.files did.told apart a.d a.makes a.gives),
+            );
+        sample = sample ends apart;
+        gather = gather ends apart;
+        gather_complete = gather_complete one publishable ends;
+        audit = audit ends apart truthful;
+        audit_complete = audit_complete one publishable ends;
+        complete = λ d. given call unique ends (Ok d);
+      }

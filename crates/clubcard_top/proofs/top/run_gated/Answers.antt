@@ -6,6 +6,7 @@ use Rattle.clubcard_top.proofs.Endings as endings
 use Rattle.clubcard_top.proofs.Promised as promised
 use Rattle.word_core.proofs.Asked as asked
 use Rattle.clubcard_top.proofs.OfHistories as of_histories
+use Rattle.clubcard_top.proofs.Succeeded as succeeded
 use Rattle.clubcard_top.proofs.top.run_gated.Goals as goal
 
 pub returns-clause-ending : goal.returns-clause-ending
@@ -32,21 +33,7 @@ returns-clause-frame g c =
 
 pub returns-clause-successes : goal.returns-clause-successes
 returns-clause-successes g c =
-    of_histories.successes _
-    (record {
-      published = c.histories_are_made.ensures.published _;
-      admitted = c.histories_are_made.ensures.admitted _;
-      stored = c.histories_are_made.ensures.stored _;
-      asks = c.histories_are_made.ensures.asked _;
-      certifies = c.histories_are_made.ensures.certified _;
-      rehearses = c.histories_are_made.ensures.rehearsed _;
-      rebases = c.bases_are_made.ensures.rebased _;
-      rebasable = c.bases_are_made.ensures.rebasable _;
-      keeps = c.bases_are_made.ensures.asked _;
-      leaves = c.bases_are_made.ensures.left_out _;
-      comes_back = c.bases_are_made.ensures.comes_back;
-      follows = c.histories_are_made.ensures.followed _;
-    })
+    succeeded.successes _ (c.histories_are_made.ensures.rehearsed _)
     c.run_words.ensures.ends (asked.words_apart (map string_bytes c.args.words.now)) (λ inputs a b x y. c.replies_are_unique.ensures.reply _ inputs a b x y) (λ command inputs a b x y. c.replies_are_unique.ensures.outcome command inputs a b x y)
     (λ before job none have. c.histories_are_made.ensures.publishable before job none have)
     (λ before moment without few have. c.bases_are_made.ensures.publishable before moment without few have)
@@ -61,7 +48,6 @@ returns-clause-histories g c =
       stored = c.histories_are_made.ensures.stored _;
       asks = c.histories_are_made.ensures.asked _;
       certifies = c.histories_are_made.ensures.certified _;
-      rehearses = c.histories_are_made.ensures.rehearsed _;
       rebases = c.bases_are_made.ensures.rebased _;
       rebasable = c.bases_are_made.ensures.rebasable _;
       keeps = c.bases_are_made.ensures.asked _;
