@@ -18,7 +18,8 @@ use outside_core::{Depot, Sink};
 use publication_core::{Gate, Open};
 use std::alloc::Global;
 use std::thread::Threads;
-use word_core::{Command, read_words};
+use word_core::command::Command;
+use word_core::read_words;
 
 /// Runs a command: writes its outputs and its answer.
 fn run_command<R: Threads + Sync, G: Gate + Sync, D: Depot, K: Sink>(

@@ -181,36 +181,17 @@ module _ (layers : Existence) where
   pub outcome_exists : (c : Command) (at : Inputs) → c ≢ commands.Usage → HasFewJobs c → AreOctets at
       → (o : Result Done NamedFault) × Makes c at o
   outcome_exists commands.Usage at some few octets = absurd (some refl)
-  outcome_exists (commands.Query q) at some few octets = (query_makes q (at 0), refl)
-  outcome_exists (commands.QueryCert q) at some few octets = (query_cert_makes q (at 0) (at 1) (at 2), refl)
-  outcome_exists (commands.Check name) at some few octets = (check_makes name (at 0), refl)
-  outcome_exists (commands.Show name) at some few octets = (show_makes name (at 0), refl)
   outcome_exists (commands.Snapshot s) at some few octets = snapshot_made s (input s.job job_in (at 0)) (λ job is. job_fits s.job (at 0) job (octets 0) is)
   outcome_exists (commands.Delta t) at some few octets =
       delta_made t (input t.job job_in (at 0)) (input t.ledger ledger_in (at 1)) (λ job is. job_fits t.job (at 0) job (octets 0) is)
   outcome_exists (commands.Rebase b) at some few octets = rebase_made b (input b.ledger ledger_in (at 0))
-  outcome_exists (commands.Start t) at some few octets = (start_makes t (at 0), refl)
-  outcome_exists (commands.Install i) at some few octets = (install_makes i (at 0) (at 1), refl)
   outcome_exists (commands.Rehearse r) at some few octets = rehearsal_made r (input r.queries queries_in (at 0)) (rest_of at) (λ i. octets (suc i))
-  outcome_exists (commands.Sample s) at some few octets = (Ok (sample_done s), refl)
-  outcome_exists (commands.Gather g) at some few octets = (gather_makes g (at 0) (rest_of at), refl)
   outcome_exists (commands.Audit a) at some few octets = audit_made a (input a.store store_in (at 0)) (rest_of at) few (λ i. octets (suc i))
+  outcome_exists c at some few octets = (_, refl)
 
   made_reply : (c : Command) (inputs : Inputs) → (o : Result Done NamedFault) × Makes c inputs o → (r : ReplyFields) × IsReplyOver c inputs r
   made_reply c inputs o = (reply_of o.0, inr (o.0, o.1, refl))
 
   pub reply_exists : (c : Command) (inputs : Inputs) → HasFewJobs c → AreOctets inputs → (r : ReplyFields) × IsReplyOver c inputs r
   reply_exists commands.Usage inputs few octets = (usage, inl (refl, refl))
-  reply_exists (commands.Query q) inputs few octets = made_reply (commands.Query q) inputs (outcome_exists (commands.Query q) inputs (λ none. cc) few octets)
-  reply_exists (commands.QueryCert q) inputs few octets = made_reply (commands.QueryCert q) inputs (outcome_exists (commands.QueryCert q) inputs (λ none. cc) few octets)
-  reply_exists (commands.Check n) inputs few octets = made_reply (commands.Check n) inputs (outcome_exists (commands.Check n) inputs (λ none. cc) few octets)
-  reply_exists (commands.Show n) inputs few octets = made_reply (commands.Show n) inputs (outcome_exists (commands.Show n) inputs (λ none. cc) few octets)
-  reply_exists (commands.Snapshot s) inputs few octets = made_reply (commands.Snapshot s) inputs (outcome_exists (commands.Snapshot s) inputs (λ none. cc) few octets)
-  reply_exists (commands.Delta t) inputs few octets = made_reply (commands.Delta t) inputs (outcome_exists (commands.Delta t) inputs (λ none. cc) few octets)
-  reply_exists (commands.Rebase b) inputs few octets = made_reply (commands.Rebase b) inputs (outcome_exists (commands.Rebase b) inputs (λ none. cc) few octets)
-  reply_exists (commands.Start t) inputs few octets = made_reply (commands.Start t) inputs (outcome_exists (commands.Start t) inputs (λ none. cc) few octets)
-  reply_exists (commands.Install i) inputs few octets = made_reply (commands.Install i) inputs (outcome_exists (commands.Install i) inputs (λ none. cc) few octets)
-  reply_exists (commands.Rehearse r) inputs few octets = made_reply (commands.Rehearse r) inputs (outcome_exists (commands.Rehearse r) inputs (λ none. cc) few octets)
-  reply_exists (commands.Sample s) inputs few octets = made_reply (commands.Sample s) inputs (outcome_exists (commands.Sample s) inputs (λ none. cc) few octets)
-  reply_exists (commands.Gather f) inputs few octets = made_reply (commands.Gather f) inputs (outcome_exists (commands.Gather f) inputs (λ none. cc) few octets)
-  reply_exists (commands.Audit a) inputs few octets = made_reply (commands.Audit a) inputs (outcome_exists (commands.Audit a) inputs (λ none. cc) few octets)
+  reply_exists c inputs few octets = made_reply c inputs (outcome_exists c inputs (λ none. cc) few octets)

@@ -163,19 +163,12 @@ module _ (publishing : Publishing) where
 
   pub outcome_unique : Others → (c : Command) (inputs : Inputs) (a b : Result Done NamedFault) → Makes c inputs a → Makes c inputs b → a ≡ b
   outcome_unique others commands.Usage at a b x y = absurd x
-  outcome_unique others (commands.Query q) at a b x y = x ∙ sym y
-  outcome_unique others (commands.QueryCert q) at a b x y = x ∙ sym y
-  outcome_unique others (commands.Check name) at a b x y = x ∙ sym y
-  outcome_unique others (commands.Show name) at a b x y = x ∙ sym y
   outcome_unique others (commands.Snapshot s) at a b x y = snapshot_unique s (input s.job job_in (at 0)) a b x y
   outcome_unique others (commands.Delta t) at a b x y = delta_unique t (input t.job job_in (at 0)) (input t.ledger ledger_in (at 1)) a b x y
   outcome_unique others (commands.Rebase r) at a b x y = rebase_unique others.bases r (input r.ledger ledger_in (at 0)) a b x y
-  outcome_unique others (commands.Start t) at a b x y = x ∙ sym y
-  outcome_unique others (commands.Install i) at a b x y = x ∙ sym y
   outcome_unique others (commands.Rehearse r) at a b x y = rehearsal_unique r (input r.queries queries_in (at 0)) (rest_of at) a b x y
-  outcome_unique others (commands.Sample s) at a b x y = x ∙ sym y
-  outcome_unique others (commands.Gather f) at a b x y = x ∙ sym y
   outcome_unique others (commands.Audit f) at a b x y = audit_unique others.audits f (input f.store store_in (at 0)) (audit_jobs f.jobs (rest_of at)) a b x y
+  outcome_unique others c at a b x y = x ∙ sym y
 
   usage_makes : (c : Command) (inputs : Inputs) (o : Result Done NamedFault) → c ≡ commands.Usage → Makes c inputs o → ⊥
   usage_makes c inputs o is m = subst (λ (k : Command). Makes k inputs o) is m

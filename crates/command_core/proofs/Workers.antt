@@ -60,103 +60,36 @@ makes_same n (commands.Snapshot s) inputs o = snapshot_same n s (input s.job job
 makes_same n (commands.Delta d) inputs o = delta_same n d (input d.job job_in (inputs 0)) (input d.ledger ledger_in (inputs 1)) o
 makes_same n (commands.Rebase r) inputs o = rebase_same n r (input r.ledger ledger_in (inputs 0)) o
 makes_same n (commands.Rehearse r) inputs o = rehearse_same n r (input r.queries queries_in (inputs 0)) (rest_of inputs) o
-makes_same n commands.Usage inputs o = both (Makes commands.Usage inputs o)
-makes_same n (commands.Query q) inputs o = both (Makes (commands.Query q) inputs o)
-makes_same n (commands.QueryCert q) inputs o = both (Makes (commands.QueryCert q) inputs o)
-makes_same n (commands.Check name) inputs o = both (Makes (commands.Check name) inputs o)
-makes_same n (commands.Show name) inputs o = both (Makes (commands.Show name) inputs o)
-makes_same n (commands.Start t) inputs o = both (Makes (commands.Start t) inputs o)
-makes_same n (commands.Install i) inputs o = both (Makes (commands.Install i) inputs o)
-makes_same n (commands.Sample s) inputs o = both (Makes (commands.Sample s) inputs o)
-makes_same n (commands.Gather g) inputs o = both (Makes (commands.Gather g) inputs o)
-makes_same n (commands.Audit a) inputs o = both (Makes (commands.Audit a) inputs o)
+makes_same n c inputs o = both (Makes c inputs o)
 
 pub inputs_same : (n : ℕ) (c : Command) → inputs_of (with_workers n c) ≡ inputs_of c
 inputs_same n (commands.Snapshot s) = refl
-inputs_same n (commands.Delta d) = refl
-inputs_same n (commands.Rebase r) = refl
-inputs_same n (commands.Rehearse r) = refl
-inputs_same n commands.Usage = refl
-inputs_same n (commands.Query q) = refl
-inputs_same n (commands.QueryCert q) = refl
-inputs_same n (commands.Check name) = refl
-inputs_same n (commands.Show name) = refl
-inputs_same n (commands.Start t) = refl
-inputs_same n (commands.Install i) = refl
-inputs_same n (commands.Sample s) = refl
-inputs_same n (commands.Gather g) = refl
-inputs_same n (commands.Audit a) = refl
+inputs_same n c = refl
 
 pub outputs_same : (n : ℕ) (c : Command) → outputs_of (with_workers n c) ≡ outputs_of c
 outputs_same n (commands.Snapshot s) = refl
-outputs_same n (commands.Delta d) = refl
-outputs_same n (commands.Rebase r) = refl
-outputs_same n (commands.Rehearse r) = refl
-outputs_same n commands.Usage = refl
-outputs_same n (commands.Query q) = refl
-outputs_same n (commands.QueryCert q) = refl
-outputs_same n (commands.Check name) = refl
-outputs_same n (commands.Show name) = refl
-outputs_same n (commands.Start t) = refl
-outputs_same n (commands.Install i) = refl
-outputs_same n (commands.Sample s) = refl
-outputs_same n (commands.Gather g) = refl
-outputs_same n (commands.Audit a) = refl
+outputs_same n c = refl
 
 -- ---- replies
 
-snapshot_some : (s : Snapshot) → commands.Snapshot s ≡ commands.Usage → ⊥
-snapshot_some s e = cc
+same_usage : (n : ℕ) (c : Command) → (c ≡ commands.Usage) ↔ (with_workers n c ≡ commands.Usage)
+same_usage n (commands.Snapshot s) = (λ e. cc, λ e. cc)
+same_usage n (commands.Delta d) = (λ e. cc, λ e. cc)
+same_usage n (commands.Rebase r) = (λ e. cc, λ e. cc)
+same_usage n (commands.Rehearse r) = (λ e. cc, λ e. cc)
+same_usage n c = both (c ≡ commands.Usage)
 
-delta_some : (d : Delta) → commands.Delta d ≡ commands.Usage → ⊥
-delta_some d e = cc
-
-rebase_some : (r : Rebase) → commands.Rebase r ≡ commands.Usage → ⊥
-rebase_some r e = cc
-
-rehearse_some : (r : Rehearse) → commands.Rehearse r ≡ commands.Usage → ⊥
-rehearse_some r e = cc
-
--- where the same comes of both, and the first is a command
-over_same : (a b : Command) (inputs : Inputs) (reply : ReplyFields) → (a ≡ commands.Usage → ⊥)
+-- where the same comes of both
+over_same : (a b : Command) (inputs : Inputs) (reply : ReplyFields) → (a ≡ commands.Usage → b ≡ commands.Usage)
     → ((o : Result Done NamedFault) → Makes a inputs o → Makes b inputs o)
     → IsReplyOver a inputs reply → IsReplyOver b inputs reply
-over_same a b inputs reply some f (inl (none, same)) = absurd (some none)
-over_same a b inputs reply some f (inr (o, m, same)) = inr (o, f o m, same)
+over_same a b inputs reply u f (inl (none, same)) = inl (u none, same)
+over_same a b inputs reply u f (inr (o, m, same)) = inr (o, f o m, same)
 
 pub replies_same : (n : ℕ) (c : Command) (inputs : Inputs) (reply : ReplyFields)
     → IsReplyOver c inputs reply ↔ IsReplyOver (with_workers n c) inputs reply
-replies_same n (commands.Snapshot s) inputs reply =
-    let c : Command = commands.Snapshot s in
-    let w : Command = commands.Snapshot (record s { workers = n }) in (
-      over_same c w inputs reply (snapshot_some s) (λ o m. (makes_same n c inputs o).0 m),
-      over_same w c inputs reply (snapshot_some (record s { workers = n })) (λ o m. (makes_same n c inputs o).1 m),
+replies_same n c inputs reply =
+    let w = with_workers n c in (
+      over_same c w inputs reply (same_usage n c).0 (λ o. (makes_same n c inputs o).0),
+      over_same w c inputs reply (same_usage n c).1 (λ o. (makes_same n c inputs o).1),
     )
-replies_same n (commands.Delta d) inputs reply =
-    let c : Command = commands.Delta d in
-    let w : Command = commands.Delta (record d { workers = n }) in (
-      over_same c w inputs reply (delta_some d) (λ o m. (makes_same n c inputs o).0 m),
-      over_same w c inputs reply (delta_some (record d { workers = n })) (λ o m. (makes_same n c inputs o).1 m),
-    )
-replies_same n (commands.Rebase r) inputs reply =
-    let c : Command = commands.Rebase r in
-    let w : Command = commands.Rebase (record r { workers = n }) in (
-      over_same c w inputs reply (rebase_some r) (λ o m. (makes_same n c inputs o).0 m),
-      over_same w c inputs reply (rebase_some (record r { workers = n })) (λ o m. (makes_same n c inputs o).1 m),
-    )
-replies_same n (commands.Rehearse r) inputs reply =
-    let c : Command = commands.Rehearse r in
-    let w : Command = commands.Rehearse (record r { workers = n }) in (
-      over_same c w inputs reply (rehearse_some r) (λ o m. (makes_same n c inputs o).0 m),
-      over_same w c inputs reply (rehearse_some (record r { workers = n })) (λ o m. (makes_same n c inputs o).1 m),
-    )
-replies_same n commands.Usage inputs reply = both (IsReplyOver commands.Usage inputs reply)
-replies_same n (commands.Query q) inputs reply = both (IsReplyOver (commands.Query q) inputs reply)
-replies_same n (commands.QueryCert q) inputs reply = both (IsReplyOver (commands.QueryCert q) inputs reply)
-replies_same n (commands.Check name) inputs reply = both (IsReplyOver (commands.Check name) inputs reply)
-replies_same n (commands.Show name) inputs reply = both (IsReplyOver (commands.Show name) inputs reply)
-replies_same n (commands.Start t) inputs reply = both (IsReplyOver (commands.Start t) inputs reply)
-replies_same n (commands.Install i) inputs reply = both (IsReplyOver (commands.Install i) inputs reply)
-replies_same n (commands.Sample s) inputs reply = both (IsReplyOver (commands.Sample s) inputs reply)
-replies_same n (commands.Gather g) inputs reply = both (IsReplyOver (commands.Gather g) inputs reply)
-replies_same n (commands.Audit a) inputs reply = both (IsReplyOver (commands.Audit a) inputs reply)

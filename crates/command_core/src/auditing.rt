@@ -32,7 +32,7 @@ use reply_core::Reply;
 use std::alloc::Global;
 use std::marker::Model;
 use store_core::{Refusal, Store, Verdict};
-use word_core::{Audit, FileName};
+use word_core::command::{Audit, FileName};
 
 /// How many serials are kept of a CRL.
 fn kept_of(crl: &JobCrl) -> usize

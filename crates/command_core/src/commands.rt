@@ -18,7 +18,7 @@ use outside_core::Depot;
 use part_codec::PartNote;
 use reply_core::Reply;
 use std::alloc::Global;
-use word_core::{FileName, Query, QueryCert};
+use word_core::command::{FileName, Query, QueryCert};
 
 /// The answer about what is wrong with the file of this name. No memory is taken: want of it is handed on.
 pub(crate) fn refused(name: &str, fault: FileFault) -> Result<Answer<'_>, NoMemory>

@@ -26,7 +26,7 @@ use octets_core::{Key32, NoMemory};
 use outside_core::Depot;
 use reply_core::Reply;
 use std::alloc::Global;
-use word_core::Gather;
+use word_core::command::Gather;
 
 /// The job of the file of this name, open for more entries. The file is taken whole, since what a reader of records
 /// says of a file that isn't told is less than what a call must say of it.

@@ -23,7 +23,7 @@ use publication_core::{Gate, Publication, publish_after, publish_first};
 use reply_core::Reply;
 use std::alloc::Global;
 use std::thread::Threads;
-use word_core::{Delta, Snapshot};
+use word_core::command::{Delta, Snapshot};
 
 /// The output of a ledger to the file of this name. Where there are more workers than one, several threads make its
 /// text, and its digest is drawn as it is written.

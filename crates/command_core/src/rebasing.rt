@@ -19,7 +19,7 @@ use outside_core::Depot;
 use publication_core::{BaseCounts, BasePublication, Gate, publish_base};
 use std::alloc::Global;
 use std::thread::Threads;
-use word_core::Rebase;
+use word_core::command::Rebase;
 
 /// The line of a base of this epoch, without these issuers.
 fn line_of(without: &[Key32], epoch: u64, counts: &BaseCounts) -> Line

@@ -26,7 +26,7 @@ use publication_core::{Gate, Rehearsal};
 use std::alloc::Global;
 use std::thread::Threads;
 use store_core::Verdict;
-use word_core::{FileName, Rehearse};
+use word_core::command::{FileName, Rehearse};
 
 /// The most bytes of the line of a report, and of that of a verdict.
 const REPORT: usize = 320;

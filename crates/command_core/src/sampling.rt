@@ -12,7 +12,7 @@ use octets_core::NoMemory;
 use reply_core::Reply;
 use sample_core::SampleJob;
 use std::alloc::Global;
-use word_core::Sample;
+use word_core::command::Sample;
 
 /// The answer of `sample`.
 pub fn answer_sample<'a>(alloc: Global, sample: &Sample<'a>) -> Result<Answer<'a>, NoMemory>

@@ -22,7 +22,7 @@ use part_codec::Sealed;
 use reply_core::Reply;
 use std::alloc::Global;
 use store_core::{Store, StoreFault, encode_store};
-use word_core::{Install, Start};
+use word_core::command::{Install, Start};
 
 /// The epoch of a store's newest part.
 fn newest_epoch(store: &Store) -> u64

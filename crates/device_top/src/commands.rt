@@ -28,7 +28,8 @@ use reply_core::Reply;
 use slot_core::{Disk, Slots, format};
 use std::alloc::Global;
 use store_core::{Store, encode_store};
-use word_core::{Format, InstallPart, Query};
+use word_core::command::Query;
+use word_core::{Format, InstallPart};
 
 /// The epoch of a store's newest part.
 fn newest_epoch(store: &Store) -> u64

@@ -5,7 +5,8 @@ use play_core::Files;
 use std::alloc::Global;
 use std::fmt::Write;
 use std::test::Fail;
-use word_core::{Command, read_words};
+use word_core::command::Command;
+use word_core::read_words;
 
 /// `usage`, or a command. Of a query its certificate and its sightings are told, of a sample its number and its count.
 fn put_command(alloc: Global, text: &mut String, command: &Command<'_>) -> Result<(), Fail> {

@@ -4,7 +4,7 @@ use Rattle.outside_core.specs.Reads.{WhichFailed}
 use Rattle.command_core.specs.Commands.{sample_done}
 use Rattle.command_core.specs.Replies.{with_files}
 use Rattle.command_core.proofs.Replying.{made}
-use Rattle.command_core.proofs.answering.answer_to.Goals as goal
+use Rattle.command_core.proofs.answer_to.Goals as goal
 
 pub returns-in-Usage-clause-reply : goal.returns-in-Usage-clause-reply
 returns-in-Usage-clause-reply g c =
