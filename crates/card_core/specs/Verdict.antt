@@ -1,9 +1,12 @@
 -- What parts together say of a certificate that was seen at some times.
-use Rattle.std.specs.Prelude.{◌≡◌, ℕ, ◌≤◌, ◌+◌, ◌*◌, ◌^◌, List, [], ◌∷◌, length, Bool, if◌then◌else◌, filter, filter_map}
+use Rattle.std.specs.Prelude.{◌≡◌, ℕ, ◌≤◌, ◌+◌, ◌*◌, ◌^◌, List, [], ◌∷◌, length, Bool, if◌then◌else◌, filter, filter_map, Result, Ok, Err}
+use Rattle.std.specs.Borrow.{Bor}
 use Rattle.std.specs.List.{list_any}
 use Rattle.ident_core.specs.declared.identity.Identity.{Identity}
 use Rattle.ident_core.specs.declared.range.Sighting.{Sighting}
 use Rattle.equation_core.specs.Rows.{sha256_row}
+use Rattle.card_core.specs.declared.block.Body.{Body}
+use Rattle.card_core.specs.Filter.{is_positive}
 use Rattle.card_core.specs.PartFields.{PartFields}
 use Rattle.card_core.specs.Consulting.{consulted, covers_some}
 use Rattle.card_core.specs.declared.verdict.Verdict.{Verdict}
@@ -29,6 +32,11 @@ by_covering x (part ∷ parts) = by_answers (answers x (part ∷ parts))
 -- Else one of those blocks tests positive: revoked. Else good.
 abbrev pub verdict : List PartFields → Identity → List Sighting → Verdict
 verdict parts x sightings = by_covering x (covering sightings parts)
+
+-- what is said of a certificate by the body of its issuer's block, or without one
+abbrev pub said_by : Identity → Result (Bor Body) Verdict → Verdict
+said_by x (Ok body) = by_answers (is_positive sha256_row x body.now ∷ [])
+said_by x (Err said) = said
 
 -- What two lists of parts say together: Revoked goes before Good, Good before NotEnrolled, and NotEnrolled before
 -- NotCovered.

@@ -1,7 +1,7 @@
 use crate::leaf::Leaf;
 use crate::mixed::Mixed;
 use crate::sharded::Sharded;
-use equation_core::EquationHash;
+use equation_core::{EquationHash, Known, RowKey};
 use ident_core::Identity;
 use octets_core::{Key32, Steps};
 use std::sync::ledger::Ledger;
@@ -20,8 +20,19 @@ pub enum Body {
 }
 
 impl Body {
-    ghost use Rattle.std.specs.Prelude.{◌≡◌, ◌≤◌, ◌+◌};
+    ghost use Rattle.std.specs.Prelude.{◌≡◌, ◌≤◌, ◌+◌, IfSome};
     ghost use Rattle.card_core.specs.Filter.{is_positive};
+
+    // The key of the row of the certificate that is asked for first, if one is.
+    pub(crate) fn first_key(&self, known: &Known) -> Option<RowKey>
+        ensures { IfSome result (λ key. 1 ≤ key.starts) }
+    {
+        match self {
+            Body::Clean | Body::Every => None,
+            Body::Mixed(mixed) => Some(mixed.first_key()),
+            Body::Sharded(sharded) => sharded.leaf_of(known, known.id()).first_key(),
+        }
+    }
 
     /// Whether the block tests positive for a certificate of its issuer. Each word that is read takes a step.
     pub fn tests_positive<H: EquationHash, M: Ledger>(

@@ -1,5 +1,5 @@
 use crate::mixed::Mixed;
-use equation_core::EquationHash;
+use equation_core::{EquationHash, RowKey};
 use ident_core::Identity;
 use octets_core::Steps;
 use std::sync::ledger::Ledger;
@@ -16,8 +16,18 @@ pub enum Leaf {
 }
 
 impl Leaf {
-    ghost use Rattle.std.specs.Prelude.{◌≡◌, ◌≤◌, ◌+◌};
+    ghost use Rattle.std.specs.Prelude.{◌≡◌, ◌≤◌, ◌+◌, IfSome};
     ghost use Rattle.card_core.specs.Leaf.{is_leaf_positive};
+
+    // The key of the row that is asked for first, if one is.
+    pub(crate) fn first_key(&self) -> Option<RowKey>
+        ensures { IfSome result (λ key. 1 ≤ key.starts) }
+    {
+        match self {
+            Leaf::Clean | Leaf::Every => None,
+            Leaf::Mixed(mixed) => Some(mixed.first_key()),
+        }
+    }
 
     /// Whether the leaf tests positive for a certificate of its universe. Each word that is read takes a step.
     pub fn tests_positive<H: EquationHash, M: Ledger>(

@@ -3,6 +3,7 @@
 
 mod block;
 mod existence;
+mod fours;
 mod laws;
 mod leaf;
 mod mixed;
@@ -13,6 +14,7 @@ mod verdict;
 
 pub use block::{Block, Body};
 pub use existence::{a_filter_or_a_refusal, a_leaf_or_a_refusal};
+pub use fours::Inquiry;
 pub use laws::{
     block_is_exact, block_is_unique, body_is_of_one_leaf, cuts_are_of_shards, filter_is_exact,
     filter_is_unique, leaf_is_exact, leaf_is_unique, one_shard_is_refused, one_stage_is_refused,

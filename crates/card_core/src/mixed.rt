@@ -2,8 +2,8 @@ ghost use Rattle.std.specs.Prelude.{◌≡◌, ◌≤◌, ◌+◌, length, Match
 ghost use Rattle.card_core.specs.declared.leaf.Leaf.TheVariants.{Mixed as MixedLeaf};
 ghost use Rattle.card_core.specs.Leaf.{is_leaf_positive, passes as is_passed};
 
-use crate::stage::{Stage, accepts, exact_sum_of};
-use equation_core::EquationHash;
+use crate::stage::{Stage, accepts, exact_sum_of, key_of};
+use equation_core::{EquationHash, RowKey};
 use ident_core::Identity;
 use octets_core::Steps;
 use std::marker::Model;
@@ -50,6 +50,16 @@ impl Mixed {
         ensures one { length self.now.exact.planes.columns ≡ 1 }
     {
         &self.exact
+    }
+
+    // The key of the row that is asked for first.
+    pub(crate) fn first_key(&self) -> RowKey
+        ensures { 1 ≤ result.starts }
+    {
+        match &self.approx {
+            None => key_of(2, &self.exact),
+            Some(stage) => key_of(1, stage),
+        }
     }
 
     // Whether the approximate stage, if there is one, accepts the identity.

@@ -1,10 +1,13 @@
 ghost use Rattle.std.specs.Prelude.{◌≡◌, ◌≤◌, ◌+◌, ◌-◌, ◌*◌, ◌^◌, length};
 ghost use Rattle.std.specs.List.{list_any};
+ghost use Rattle.std.specs.Option.{option_map};
+ghost use Rattle.equation_core.specs.Rows.{Rows};
 ghost use Rattle.ident_core.specs.Coverage.{AreRanges, covers};
 ghost use Rattle.card_core.specs.PartFields.{IsPart, AreBlocks};
 ghost use Rattle.card_core.specs.Consulting.{IsPlaceOf, consulted, covers_some};
+ghost use Rattle.card_core.specs.Filter.{is_positive};
 
-use crate::block::Block;
+use crate::block::{Block, Body};
 use equation_core::EquationHash;
 use ident_core::{Head, Identity, Range, Sighting, covers_sorted};
 use octets_core::{Key32, Steps};
@@ -64,6 +67,16 @@ impl Part {
         covers_one(self.head.ranges(), sightings)
     }
 
+    // The body of the block of the certificate's issuer, if there is one. What the block says is what the body says.
+    pub(crate) fn body_of<L: Ledger>(&self, id: &Identity, probes: &mut Steps<L>) -> Option<&Body>
+        ensures value { (rows : Rows) → consulted rows id.now self.now.blocks ≡ option_map (λ body. is_positive rows id.now body.now) result }
+        ensures more { probes.old ≤ probes.new }
+        ensures few { 2 ^ (probes.new - probes.old) ≤ 2 * length self.now.blocks + 1 }
+    {
+        let place = place_of(&self.blocks, &id.issuer, probes)?;
+        Some(&self.blocks[place].body)
+    }
+
     /// What the block of the certificate's issuer says, if there is one. Each comparison of issuers is one probe, and
     /// each word that is read takes a step of `words`.
     pub fn consult<H: EquationHash, L: Ledger, M: Ledger>(
@@ -79,9 +92,9 @@ impl Part {
         ensures more_words { words.old ≤ words.new }
         ensures few_words { words.new ≤ words.old + 51 }
     {
-        match place_of(&self.blocks, &id.issuer, probes) {
+        match self.body_of(id, probes) {
             None => None,
-            Some(place) => Some(self.blocks[place].body.tests_positive(hash, id, words)),
+            Some(body) => Some(body.tests_positive(hash, id, words)),
         }
     }
 }

@@ -1,9 +1,11 @@
-ghost use Rattle.std.specs.Prelude.{◌≡◌, ◌≤◌, ◌+◌};
+ghost use Rattle.std.specs.Prelude.{◌≡◌, ◌≤◌, ◌+◌, slice_index_or};
+ghost use Rattle.equation_core.specs.Shards.{shard};
+ghost use Rattle.card_core.specs.declared.leaf.Leaf.TheVariants.{Clean};
 ghost use Rattle.card_core.specs.ShardedFields.{IsSharded};
 ghost use Rattle.card_core.specs.Filter.{cut, is_filtered};
 
 use crate::leaf::Leaf;
-use equation_core::{EquationHash, shard_of};
+use equation_core::EquationHash;
 use ident_core::Identity;
 use octets_core::Steps;
 use std::marker::Model;
@@ -51,6 +53,14 @@ impl Sharded {
         self.leaves.as_slice()
     }
 
+    // The leaf of the identity's shard.
+    pub(crate) fn leaf_of<H: EquationHash>(&self, hash: &H, id: &Identity) -> &Leaf
+        ensures { result.now ≡ slice_index_or self.now.leaves (shard id.now self.now.shift) Clean }
+    {
+        let place = hash.shard(id, self.shift) as usize;
+        &self.leaves[place]
+    }
+
     /// Whether the leaf of the identity's shard tests positive. Each word that is read takes a step.
     pub fn tests_positive<H: EquationHash, M: Ledger>(
         &self,
@@ -62,7 +72,6 @@ impl Sharded {
         ensures more { words.old ≤ words.new }
         ensures steps { words.new ≤ words.old + 51 }
     {
-        let place = shard_of(id, self.shift) as usize;
-        self.leaves[place].tests_positive(hash, id, words)
+        self.leaf_of(hash, id).tests_positive(hash, id, words)
     }
 }

@@ -3,7 +3,7 @@ ghost use Rattle.ident_core.specs.declared.identity.Identity.{Identity};
 ghost use Rattle.equation_core.specs.declared.hash.TheConstants.{MAX_PLANES};
 ghost use Rattle.card_core.specs.Leaf.{accepts as is_accepted, exact_sum};
 
-use equation_core::{EquationHash, Row};
+use equation_core::{EquationHash, Row, RowKey};
 use ident_core::Identity;
 use octets_core::Steps;
 use ribbon_core::Planes;
@@ -14,6 +14,18 @@ use std::sync::ledger::Ledger;
 pub struct Stage {
     pub seed: u8,
     pub planes: Planes,
+}
+
+// The key of the rows by which the stage of this number asks.
+pub(crate) fn key_of(number: u8, stage: &Stage) -> RowKey
+    ensures value { result ≡ record { stage = number; seed = stage.now.seed; starts = stage.now.planes.starts } }
+    ensures some { 1 ≤ result.starts }
+{
+    RowKey {
+        stage: number,
+        seed: stage.seed,
+        starts: stage.planes.starts(),
+    }
 }
 
 /// Whether an approximate stage accepts an identity that has this row: in each plane, the row's sum is the bit of its

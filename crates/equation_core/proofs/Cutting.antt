@@ -7,7 +7,7 @@ use Rattle.ident_core.specs.declared.identity.Identity.{Identity}
 use Rattle.equation_core.specs.Digits.{digest-small}
 use Rattle.equation_core.specs.Shards.{shard_text, shard}
 
-parted : (n shift : ℕ) → n < 2 ^ 8 → n / 2 ^ (8 - shift) < 2 ^ shift
+pub parted : (n shift : ℕ) → n < 2 ^ 8 → n / 2 ^ (8 - shift) < 2 ^ shift
 parted n zero lt = omega (arith, lt)
 parted n (suc zero) lt = omega (arith, lt)
 parted n (suc (suc zero)) lt = omega (arith, lt)

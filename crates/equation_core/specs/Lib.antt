@@ -1,4 +1,5 @@
 pub mod Digits
+pub mod Known
 pub mod RowLaws
 pub mod Rows
 pub mod Shards

@@ -4,6 +4,7 @@ use Rattle.std.specs.Int.{from_be_bytes, w16, w64, w128}
 use Rattle.sha2.specs.Sha256.{sha256}
 use Rattle.ident_core.specs.declared.identity.Identity.{Identity}
 use Rattle.equation_core.specs.declared.hash.Row.{Row}
+use Rattle.equation_core.specs.declared.hash.RowKey.{RowKey}
 
 -- a row for each stage, seed, identity and count of starts
 abbrev pub Rows : Type 0
@@ -31,3 +32,7 @@ row_of_digest d starts = record {
 -- the row of an identity by SHA-256
 abbrev pub sha256_row : Rows
 sha256_row stage seed id starts = row_of_digest (sha256 (row_text stage seed id)) starts
+
+-- the row that a key means
+abbrev pub row_of_key : RowKey → Identity → Row
+row_of_key key id = sha256_row key.stage key.seed id key.starts

@@ -1,8 +1,11 @@
 ghost use Rattle.std.specs.Prelude.{◌≡◌, ◌<◌, ◌≤◌, ◌^◌, ℕ, [], ◌∷◌};
 ghost use Rattle.ident_core.specs.declared.identity.Identity.{Identity};
 ghost use Rattle.equation_core.specs.declared.hash.Row.{Row};
+ghost use Rattle.equation_core.specs.declared.shards.TheConstants.{MAX_SHIFT};
 ghost use Rattle.equation_core.specs.Rows.{IsRow};
+ghost use Rattle.equation_core.specs.Shards.{shard as shard_at};
 
+use crate::shards::{MAX_SHIFT, shard_of};
 use ident_core::Identity;
 
 /// The most planes of a filter's stage: a tag has a bit for each.
@@ -18,6 +21,14 @@ pub struct Row {
     pub coeff: u128,
     /// Bit `p` is the identity's tag in plane `p`.
     pub tag: u16,
+}
+
+/// Which row of an identity is meant.
+#[derive(Clone, Copy, Debug, PartialEq, Eq)]
+pub struct RowKey {
+    pub stage: u8,
+    pub seed: u8,
+    pub starts: u32,
 }
 
 /// A way to give each identity a row, for each stage and seed of a filter and each count of starts.
@@ -53,6 +64,15 @@ pub trait EquationHash {
             self.row(stage, seed, c, starts),
             self.row(stage, seed, d, starts),
         ]
+    }
+
+    /// The shard of an identity among `2^shift`, which a hash may know beforehand.
+    fn shard(&self, id: &Identity, shift: u8) -> u8
+        requires { shift ≤ MAX_SHIFT }
+        ensures value { result ≡ shard_at id.now shift }
+        ensures below { result < 2 ^ shift }
+    {
+        shard_of(id, shift)
     }
 
     /// Each row begins at one of the starts with an odd coefficient, and fits its fields.

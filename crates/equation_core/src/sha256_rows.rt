@@ -1,9 +1,9 @@
-ghost use Rattle.std.specs.Prelude.{◌≡◌, ◌≤◌, ◌+◌, length, take};
+ghost use Rattle.std.specs.Prelude.{◌≡◌, ◌≤◌, ◌+◌, [], ◌∷◌, length, take};
 ghost use Rattle.equation_core.specs.declared.sha256_rows.TheConstants.{FRONT};
-ghost use Rattle.equation_core.specs.Rows.{IsRow, row_text, row_of_digest, sha256_row};
+ghost use Rattle.equation_core.specs.Rows.{IsRow, row_text, row_of_digest, row_of_key, sha256_row};
 ghost use Rattle.equation_core.specs.RowLaws.{sha256_row-is};
 
-use crate::hash::{EquationHash, Row};
+use crate::hash::{EquationHash, Row, RowKey};
 use crate::message::{IDENTITY, put_identity};
 use ident_core::Identity;
 use lane_core::digests;
@@ -45,6 +45,36 @@ fn row_in(d: &[u8; 32], starts: u32) -> Row
     }
 }
 
+/// An identity, and which of its rows is asked for.
+#[derive(Clone, Copy)]
+pub(crate) struct AskedRow<'a> {
+    pub key: RowKey,
+    pub id: &'a Identity,
+}
+
+/// The rows that are asked for, by SHA-256. Their messages are digested side by side.
+pub(crate) fn rows_of_four(a: &AskedRow, b: &AskedRow, c: &AskedRow, d: &AskedRow) -> [Row; 4]
+    requires a { 1 ≤ a.now.key.starts }
+    requires b { 1 ≤ b.now.key.starts }
+    requires c { 1 ≤ c.now.key.starts }
+    requires d { 1 ≤ d.now.key.starts }
+    ensures { result ≡ row_of_key a.now.key a.now.id.now ∷ row_of_key b.now.key b.now.id.now
+        ∷ row_of_key c.now.key c.now.id.now ∷ row_of_key d.now.key d.now.id.now ∷ [] }
+{
+    let [p, q, r, s] = digests(
+        &message_of(a.key.stage, a.key.seed, a.id)[..FRONT + 33 + a.id.serial.bytes().len()],
+        &message_of(b.key.stage, b.key.seed, b.id)[..FRONT + 33 + b.id.serial.bytes().len()],
+        &message_of(c.key.stage, c.key.seed, c.id)[..FRONT + 33 + c.id.serial.bytes().len()],
+        &message_of(d.key.stage, d.key.seed, d.id)[..FRONT + 33 + d.id.serial.bytes().len()],
+    );
+    [
+        row_in(&p, a.key.starts),
+        row_in(&q, b.key.starts),
+        row_in(&r, c.key.starts),
+        row_in(&s, d.key.starts),
+    ]
+}
+
 /// Rows by SHA-256 (FIPS 180-4), cut from the digest of this project's own row message: the mark `CCROW1`, the stage,
 /// the seed, the issuer, the serial's length and the serial.
 #[derive(Clone, Copy, Debug, PartialEq, Eq)]
@@ -71,17 +101,16 @@ impl EquationHash for Sha256Rows {
         d: &Identity,
         starts: u32,
     ) -> [Row; 4] {
-        let [p, q, r, s] = digests(
-            &message_of(stage, seed, a)[..FRONT + 33 + a.serial.bytes().len()],
-            &message_of(stage, seed, b)[..FRONT + 33 + b.serial.bytes().len()],
-            &message_of(stage, seed, c)[..FRONT + 33 + c.serial.bytes().len()],
-            &message_of(stage, seed, d)[..FRONT + 33 + d.serial.bytes().len()],
-        );
-        [
-            row_in(&p, starts),
-            row_in(&q, starts),
-            row_in(&r, starts),
-            row_in(&s, starts),
-        ]
+        let key = RowKey {
+            stage,
+            seed,
+            starts,
+        };
+        rows_of_four(
+            &AskedRow { key, id: a },
+            &AskedRow { key, id: b },
+            &AskedRow { key, id: c },
+            &AskedRow { key, id: d },
+        )
     }
 }

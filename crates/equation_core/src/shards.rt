@@ -23,13 +23,22 @@ fn message_of(id: &Identity) -> [u8; FRONT + IDENTITY]
     message
 }
 
+/// The number that the first `shift` bits of an octet spell.
+#[inline(always)]
+pub(crate) fn first_bits_of(octet: u8, shift: u8) -> u8
+    requires { shift ≤ MAX_SHIFT }
+    ensures { result ≡ octet / 2 ^ (MAX_SHIFT - shift) }
+{
+    (u32::from(octet) >> (MAX_SHIFT - shift)) as u8
+}
+
 /// The number that the first `shift` bits of a digest spell.
 #[inline(always)]
 fn first_bits(digest: &[u8; 32], shift: u8) -> u8
     requires { shift ≤ MAX_SHIFT }
     ensures { result ≡ slice_index digest.now 0 / 2 ^ (MAX_SHIFT - shift) }
 {
-    (u32::from(digest[0]) >> (MAX_SHIFT - shift)) as u8
+    first_bits_of(digest[0], shift)
 }
 
 /// The shard of an identity among `2^shift`: the number that the first `shift` bits of a digest (SHA-256, FIPS 180-4)
