@@ -1,3 +1,4 @@
+pub mod Asking
 pub mod Chain
 pub mod Refusals
 pub mod Starting

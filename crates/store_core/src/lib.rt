@@ -10,8 +10,8 @@ mod fault;
 mod laws;
 mod store;
 
-pub use asking::parts_say;
-pub use card_core::Verdict;
+pub use asking::{parts_say, parts_say_of_four};
+pub use card_core::{Inquiry, Verdict};
 pub use chain::{Refusal, Refused};
 pub use decode::decode_store;
 pub use encode::encode_store;
