@@ -58,7 +58,7 @@ use Rattle.command_core.specs.Replies.{held_by}
 use Rattle.clubcard_top.specs.Headline.{HoldsJob, HoldsLedger, AsksToContinue, Continues, done_by, AsksToStore, stores_to, Stored, AsksStore, AsksTruth, truth_done}
 use Rattle.clubcard_top.specs.Headline.{HoldsCert, HoldsKey, AsksCertTruth, cert_truth_line}
 use Rattle.clubcard_top.proofs.CertTruth.{certificate_read, issuer_read, truth_of_covered}
-use Rattle.command_core.proofs.Makings.{cert_last, cert_then, cert_after}
+use Rattle.command_core.proofs.Following.{cert_last, cert_then, cert_after}
 use Rattle.command_core.proofs.Results.{ok_same}
 use Rattle.command_core.proofs.Unique.{Publishing}
 

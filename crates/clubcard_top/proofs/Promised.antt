@@ -22,8 +22,8 @@ use Rattle.clubcard_top.specs.Endings.{Succeeds, Gives, WantedMemory, SinkFailed
 use Rattle.clubcard_top.specs.Refusals.{Comes, Refused}
 use Rattle.clubcard_top.specs.Promises.{Ending, Outside, Refusals}
 use Rattle.clubcard_top.proofs.Endings as endings
-use Rattle.command_core.proofs.Makings.{refusal_quiet}
-use Rattle.command_core.proofs.Overs.{IsSeen, over_files, held_all}
+use Rattle.command_core.proofs.Makings.{over_files, refusal_quiet}
+use Rattle.command_core.proofs.Overs.{IsSeen, held_all}
 use Rattle.command_core.proofs.Outputs.{none-written}
 use Rattle.command_core.proofs.Fronts.{later_reads}
 

@@ -62,7 +62,8 @@ use Rattle.clubcard_top.specs.Headline.{AsksToRehearse, IsRehearsed}
 use Rattle.clubcard_top.specs.Promises.{Successes}
 use Rattle.clubcard_top.specs.Successes.{ReadsPart, ReadsPages, ReadsJobs, SaysTheTruth}
 use Rattle.command_core.proofs.AuditsMade.{named_value, audit_done_is, audit_jobs_back, audit_makes}
-use Rattle.command_core.proofs.Makings.{done_names, start_after, install_after, install_then, gather_after, page_last, page_then, cert_last, cert_then, cert_after}
+use Rattle.command_core.proofs.Makings.{done_names}
+use Rattle.command_core.proofs.Following.{start_after, install_after, install_then, gather_after, page_last, page_then, cert_last, cert_then, cert_after}
 use Rattle.command_core.proofs.PagesPut.{behind_these, page_put}
 use Rattle.command_core.proofs.Results.{ok_same, not_ok, after_ok}
 use Rattle.command_core.proofs.Outputs.{names_of, keeps-written}

@@ -6,6 +6,7 @@ pub mod Checked
 pub mod Chains
 pub mod Existing
 pub mod Files
+pub mod Following
 pub mod Fronts
 pub mod ReplyStatuses
 pub mod Makings

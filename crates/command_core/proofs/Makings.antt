@@ -67,15 +67,18 @@ use Rattle.input_core.specs.Certificates.{certificate_of, issuer_of, certificate
 use Rattle.command_core.specs.ReplyFields.{Done, NamedFault}
 use Rattle.command_core.specs.Statuses.{is_one_of, done, read_fault, no_memory, of_refusals}
 use Rattle.command_core.specs.Commands.{◌>>=◌, named, input, begun_by, begun, installed_by, installed, stored, query_done, query_cert_done, check_done, show_done}
+use Rattle.command_core.specs.Commands.{query_makes, check_makes, show_makes, start_makes}
 use Rattle.command_core.specs.Commands.{publication_done, published_as, MakesSnapshot, MakesDelta, rehearsed, IsRefused, MakesRehearsal}
 use Rattle.command_core.specs.Commands.{sample_done, head_in, page_in, room_for, pages_of, gather_done, Makes}
-use Rattle.command_core.specs.Audits.{job_behind, jobs_behind, audit_jobs}
+use Rattle.command_core.specs.Audits.{job_behind, jobs_behind, audit_jobs, MakesAudit}
 use Rattle.command_core.specs.Rebasings.{base_done, rebased_as, MakesRebase}
 use Rattle.command_core.specs.Steps.{RehearsesOn}
-use Rattle.command_core.specs.Replies.{refusal, reply_of}
+use Rattle.command_core.specs.Replies.{refusal, reply_of, held_under, held_by}
 use Rattle.input_core.specs.Inputs.{Inputs, rest_of, IsRead, AreRead}
 use Rattle.command_core.proofs.Outputs.{names_of}
-use Rattle.command_core.proofs.Results.{ok_same, not_ok, not_err, after_ok}
+use Rattle.command_core.proofs.Following.{start_after, install_then, install_after, gather_after, cert_last, cert_then, cert_after, page_last, page_then}
+use Rattle.command_core.proofs.Overs.{IsSeen, unread, one_over, delta_over, install_over, query_cert_over, after_over, pages_over, jobs_over, rehearsal_over, audit_over}
+use Rattle.command_core.proofs.Results.{ok_same, err_same, not_ok, not_err, after_ok}
 use Rattle.command_core.proofs.AuditFaults.{audit_names, store_or_jobs, job_behind_read, jobs_stop}
 use Rattle.command_core.proofs.Prefixes.{from_first}
 
@@ -113,9 +116,6 @@ outcome_status (Ok d) = refl
 outcome_status (Err e) = or_right _ _ (fault_status e.name e.fault)
 
 -- ---- steps
-
-pub err_same : {A E : Type 0} (x y : E) → ◌≡◌ {A = Result A E} (Err x) (Err y) → x ≡ y
-err_same {A} {E} x y h = cc
 
 -- a fault is one of the first step, or of what follows it
 pub after_err : {A B : Type 0} (r : Result A NamedFault) (next : A → Result B NamedFault) (e : NamedFault) → Err e ≡ (r >>= next) → (r ≡ Err e) ⊎ ((x : A) × (r ≡ Ok x) × (Err e ≡ next x))
@@ -164,28 +164,6 @@ rehearses_names queries jobs parts (name ∷ names) inputs d (inr (job, more, re
 rehearsal_names : (r : Rehearse) (queries : Result (List Query) NamedFault) (inputs : Inputs) (d : Done) → MakesRehearsal r queries inputs (Ok d) → names_of d.outputs ≡ []
 rehearsal_names r (Ok queries) inputs d m = rehearses_names queries [] [] r.jobs inputs d (from_first queries r.jobs inputs (Ok d) m)
 rehearsal_names r (Err e) inputs d m = absurd (not_err d e m)
-
--- what follows an input
-abbrev pub start_after : Start → SealedFields × ℕ → Result Done NamedFault
-start_after t x = named t.part (begun x.0) >>= (λ parts. Ok (stored t.store parts))
-
-abbrev pub install_then : Install → List SealedFields → SealedFields × ℕ → Result Done NamedFault
-install_then i parts x = named i.part (installed parts x.0) >>= (λ more. Ok (stored i.new_store more))
-
-abbrev pub install_after : Install → Option (List ℕ) → List SealedFields → Result Done NamedFault
-install_after i p parts = input i.part part_in p >>= install_then i parts
-
-abbrev pub gather_after : Gather → Inputs → JobContents → Result Done NamedFault
-gather_after f inputs j = pages_of f.job (length j.entries) f.pages inputs >>= (λ entries. Ok (gather_done f j entries))
-
-abbrev pub cert_last : List SealedFields → Certificate → List ℕ → Result Done NamedFault
-cert_last parts cert issuer = Ok (query_cert_done parts cert issuer)
-
-abbrev pub cert_then : QueryCert → Option (List ℕ) → List SealedFields → Certificate → Result Done NamedFault
-cert_then q i parts cert = input q.issuer_cert issuer_in i >>= cert_last parts cert
-
-abbrev pub cert_after : QueryCert → (cert issuer_cert : Option (List ℕ)) → List SealedFields → Result Done NamedFault
-cert_after q k i parts = input q.cert certificate_in k >>= cert_then q i parts
 
 -- The outputs of a command that is done are those that it names.
 pub done_names : (c : Command) (inputs : Inputs) (d : Done) → Makes c inputs (Ok d) → names_of d.outputs ≡ outputs_of c
@@ -395,13 +373,6 @@ install_unread i parts x e h u =
     made_read i.part (installed parts x.0) (stored i.new_store) e (installed_read (refusal_of parts x.0) parts x.0)
     (after_err (named i.part (installed parts x.0)) (λ more. Ok (stored i.new_store more)) e h) u
 
--- what follows a page that was read, and one for which there is room
-abbrev pub page_last : List ℕ → ℕ → List (List ℕ) → Inputs → List PageFields → Result (List PageFields) NamedFault
-page_last job before names inputs page = pages_of job (before + length page) names inputs >>= (λ others. Ok (page ++ others))
-
-abbrev pub page_then : List ℕ → ℕ → List (List ℕ) → Inputs → List PageFields → Result (List PageFields) NamedFault
-page_then job before names inputs read = room_for job before read >>= page_last job before names inputs
-
 last_err : (page : List PageFields) (r : Result (List PageFields) NamedFault) (e : NamedFault) → Err e ≡ (r >>= (λ others. Ok (page ++ others))) → Err e ≡ r
 last_err page (Ok others) e h = absurd (not_err (page ++ others) e (sym h))
 last_err page (Err f) e h = ap (λ (k : NamedFault). Err k) (err_same {A = List PageFields} e f h)
@@ -536,3 +507,30 @@ module _ (told : Option Files) (failed : Option (List ℕ) → Type 0) (e : Name
       (done_err (gather_done f j) (pages_of f.job (length j.entries) f.pages (rest_of at)) e h) in (inr c.0, c.1)) m
   unread_cause (commands.Audit a) at read m =
       audit_by a (at 0) (rest_of at) read.0 read.1 (store_or_jobs a (input a.store store_in (at 0)) (audit_jobs a.jobs (rest_of at)) e m u)
+
+-- What a command makes of its inputs it makes of its files, unless it says that an input can't be read.
+pub over_files : (files : Files) (failed : Option (List ℕ) → Type 0) (c : Command) (at : Inputs) (o : Result Done NamedFault) → IsSeen o
+    → AreRead (Some files) failed (inputs_of c) at → Makes c at o → Makes c (held_by c files) o
+over_files files failed commands.Usage at o seen read m = absurd m
+over_files files failed (commands.Query q) at o seen read m = one_over files failed q.store (λ g. o ≡ query_makes q g) (at 0) (λ h. seen (unread q.store) h refl) read.0 m
+over_files files failed (commands.QueryCert q) at o seen read m = query_cert_over files failed q (at 0) (at 1) (at 2) o seen read.0 read.1.0 read.1.1.0 m
+over_files files failed (commands.Check name) at o seen read m = one_over files failed name (λ g. o ≡ check_makes name g) (at 0) (λ h. seen (unread name) h refl) read.0 m
+over_files files failed (commands.Show name) at o seen read m = one_over files failed name (λ g. o ≡ show_makes name g) (at 0) (λ h. seen (unread name) h refl) read.0 m
+over_files files failed (commands.Snapshot s) at o seen read m =
+    one_over files failed s.job (λ g. MakesSnapshot s (input s.job job_in g) o) (at 0) (λ h. seen (unread s.job) h refl) read.0 m
+over_files files failed (commands.Delta t) at o seen read m = delta_over files failed t (at 0) (at 1) o seen read.0 read.1.0 m
+over_files files failed (commands.Rebase b) at o seen read m =
+    one_over files failed b.ledger (λ g. MakesRebase b (input b.ledger ledger_in g) o) (at 0) (λ h. seen (unread b.ledger) h refl) read.0 m
+over_files files failed (commands.Start t) at o seen read m = one_over files failed t.part (λ g. o ≡ start_makes t g) (at 0) (λ h. seen (unread t.part) h refl) read.0 m
+over_files files failed (commands.Install i) at o seen read m = install_over files failed i (at 0) (at 1) o seen read.0 read.1.0 m
+over_files files failed (commands.Rehearse r) at o seen read m =
+    one_over files failed r.queries (λ g. MakesRehearsal r (input r.queries queries_in g) (held_under files r.jobs) o) (at 0)
+    (λ h. seen (unread r.queries) h refl) read.0 (rehearsal_over files failed r (input r.queries queries_in (at 0)) (rest_of at) o seen read.1 m)
+over_files files failed (commands.Sample s) at o seen read m = m
+over_files files failed (commands.Gather f) at o seen read m =
+    after_over files failed f.head head_in (at 0) (gather_after f (rest_of at)) (gather_after f (held_under files f.pages)) o seen read.0
+    (λ j. pages_over files failed o seen f.job (length j.entries) f.pages (rest_of at) read.1 (λ entries. Ok (gather_done f j entries))) m
+over_files files failed (commands.Audit a) at o seen read m =
+    one_over files failed a.store (λ g. MakesAudit a (input a.store store_in g) (audit_jobs a.jobs (held_under files a.jobs)) o) (at 0)
+    (λ h. seen (unread a.store) h refl) read.0
+    (audit_over a files (rest_of at) (input a.store store_in (at 0)) o seen (jobs_over files failed [] a.jobs (rest_of at) read.1) m)

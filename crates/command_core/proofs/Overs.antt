@@ -26,8 +26,8 @@ use Rattle.command_core.specs.Audits.{unless, job_behind, jobs_behind, bad_crl, 
 use Rattle.command_core.specs.Steps.{RehearsesOn}
 use Rattle.command_core.specs.Rebasings.{MakesRebase}
 use Rattle.command_core.specs.Replies.{held_under, held_by}
-use Rattle.command_core.proofs.Makings.{err_same, install_after, gather_after, page_last, page_then, cert_last, cert_then, cert_after}
-use Rattle.command_core.proofs.Results.{not_err}
+use Rattle.command_core.proofs.Following.{install_after, page_last, page_then, cert_last, cert_then, cert_after}
+use Rattle.command_core.proofs.Results.{err_same, not_err}
 use Rattle.command_core.proofs.Prefixes.{first_of, from_first}
 
 pub some_is : (f g : Files) → ◌≡◌ {A = Option Files} (Some f) (Some g) → f ≡ g
@@ -57,11 +57,11 @@ held_all files failed names inputs quiet read = λ i n. held_at files failed nam
 abbrev pub IsSeen : {B : Type 0} → Result B NamedFault → Type 0
 IsSeen o = (e : NamedFault) → o ≡ Err e → e.fault ≡ faults.Unread → ⊥
 
-abbrev unread : List ℕ → NamedFault
+abbrev pub unread : List ℕ → NamedFault
 unread name = record { name = name; fault = faults.Unread }
 
 -- of one input
-one_over : (files : Files) (failed : Option (List ℕ) → Type 0) (name : List ℕ) (P : Option (List ℕ) → Type 0) (given : Option (List ℕ)) → (P None → ⊥)
+pub one_over : (files : Files) (failed : Option (List ℕ) → Type 0) (name : List ℕ) (P : Option (List ℕ) → Type 0) (given : Option (List ℕ)) → (P None → ⊥)
     → IsRead (Some files) failed name given → P given → P (get files name)
 one_over files failed name P None refute read m = absurd (refute m)
 one_over files failed name P (Some bytes) refute read m = subst P (sym read) m
@@ -76,7 +76,7 @@ install_other : (i : Install) (r : Result (List SealedFields) NamedFault) (p : O
 install_other i (Ok parts) p o seen m = absurd (seen (unread i.part) m refl)
 install_other i (Err e) p o seen m = m
 
-delta_over : (files : Files) (failed : Option (List ℕ) → Type 0) (t : Delta) (j l : Option (List ℕ)) (o : Result Done NamedFault) → IsSeen o
+pub delta_over : (files : Files) (failed : Option (List ℕ) → Type 0) (t : Delta) (j l : Option (List ℕ)) (o : Result Done NamedFault) → IsSeen o
     → IsRead (Some files) failed t.job j → IsRead (Some files) failed t.ledger l
     → MakesDelta t (input t.job job_in j) (input t.ledger ledger_in l) o → MakesDelta t (input t.job job_in (get files t.job)) (input t.ledger ledger_in (get files t.ledger)) o
 delta_over files failed t None l o seen first second m = absurd (seen (unread t.job) m refl)
@@ -84,7 +84,7 @@ delta_over files failed t (Some b) None o seen first second m =
     rw first (delta_other t (input t.job job_in (Some b)) (input t.ledger ledger_in (get files t.ledger)) o seen m)
 delta_over files failed t (Some b) (Some c) o seen first second m = rw (first, second) m
 
-install_over : (files : Files) (failed : Option (List ℕ) → Type 0) (i : Install) (s p : Option (List ℕ)) (o : Result Done NamedFault) → IsSeen o
+pub install_over : (files : Files) (failed : Option (List ℕ) → Type 0) (i : Install) (s p : Option (List ℕ)) (o : Result Done NamedFault) → IsSeen o
     → IsRead (Some files) failed i.store s → IsRead (Some files) failed i.part p
     → o ≡ install_makes i s p → o ≡ install_makes i (get files i.store) (get files i.part)
 install_over files failed i None p o seen first second m = absurd (seen (unread i.store) m refl)
@@ -97,13 +97,13 @@ after_same : {A B : Type 0} (r : Result A NamedFault) (next other : A → Result
 after_same (Ok x) next other o then m = then x m
 after_same (Err e) next other o then m = m
 
-after_over : {A B : Type 0} (files : Files) (failed : Option (List ℕ) → Type 0) (name : List ℕ) (read : List ℕ → Result A FileFault) (given : Option (List ℕ))
+pub after_over : {A B : Type 0} (files : Files) (failed : Option (List ℕ) → Type 0) (name : List ℕ) (read : List ℕ → Result A FileFault) (given : Option (List ℕ))
     (next other : A → Result B NamedFault) (o : Result B NamedFault) → IsSeen o → IsRead (Some files) failed name given
     → ((x : A) → o ≡ next x → o ≡ other x) → o ≡ (input name read given >>= next) → o ≡ (input name read (get files name) >>= other)
 after_over files failed name read None next other o seen is_read then m = absurd (seen (unread name) m refl)
 after_over files failed name read (Some b) next other o seen is_read then m = rw is_read (after_same (input name read (Some b)) next other o then m)
 
-query_cert_over : (files : Files) (failed : Option (List ℕ) → Type 0) (q : QueryCert) (s k i : Option (List ℕ)) (o : Result Done NamedFault) → IsSeen o
+pub query_cert_over : (files : Files) (failed : Option (List ℕ) → Type 0) (q : QueryCert) (s k i : Option (List ℕ)) (o : Result Done NamedFault) → IsSeen o
     → IsRead (Some files) failed q.store s → IsRead (Some files) failed q.cert k → IsRead (Some files) failed q.issuer_cert i
     → o ≡ query_cert_makes q s k i → o ≡ query_cert_makes q (get files q.store) (get files q.cert) (get files q.issuer_cert)
 query_cert_over files failed q s k i o seen first second third m =
@@ -142,12 +142,12 @@ rehearses_over files failed queries jobs parts (name ∷ names) inputs o seen re
       rehearses_over files failed queries (jobs ++ job ∷ []) more names (rest_of inputs) o seen read.1 rest,
     )
 
-rehearsal_by : (files : Files) (failed : Option (List ℕ) → Type 0) (r : Rehearse) (queries : Result (List Query) NamedFault)
+pub rehearsal_over : (files : Files) (failed : Option (List ℕ) → Type 0) (r : Rehearse) (queries : Result (List Query) NamedFault)
     (inputs : Inputs) (o : Result Done NamedFault) → IsSeen o
     → AreRead (Some files) failed r.jobs inputs → MakesRehearsal r queries inputs o → MakesRehearsal r queries (held_under files r.jobs) o
-rehearsal_by files failed r (Ok queries) inputs o seen read m =
+rehearsal_over files failed r (Ok queries) inputs o seen read m =
     first_of queries r.jobs (held_under files r.jobs) o (rehearses_over files failed queries [] [] r.jobs inputs o seen read (from_first queries r.jobs inputs o m))
-rehearsal_by files failed r (Err e) inputs o seen read m = m
+rehearsal_over files failed r (Err e) inputs o seen read m = m
 
 -- a step between two others
 through : {A C B : Type 0} (r : Result A NamedFault) (one : A → Result C NamedFault) (next : C → Result B NamedFault) (o : Result B NamedFault)
@@ -161,7 +161,7 @@ back_through (Ok x) one next o m = m
 back_through (Err e) one next o m = m
 
 -- pages, behind which a step follows
-pages_over : {B : Type 0} (files : Files) (failed : Option (List ℕ) → Type 0) (o : Result B NamedFault) → IsSeen o
+pub pages_over : {B : Type 0} (files : Files) (failed : Option (List ℕ) → Type 0) (o : Result B NamedFault) → IsSeen o
     → (job : List ℕ) (before : ℕ) (names : List (List ℕ)) (inputs : Inputs) → AreRead (Some files) failed names inputs
     → (next : List PageFields → Result B NamedFault) → o ≡ (pages_of job before names inputs >>= next) → o ≡ (pages_of job before names (held_under files names) >>= next)
 pages_over files failed o seen job before [] inputs read next m = m
@@ -199,42 +199,16 @@ same_first : (files : Files) (failed : Option (List ℕ) → Type 0) (before : L
 same_first files failed before name names None inputs read rest = inr (name, refl)
 same_first files failed before name names (Some b) inputs read rest = rw read (same_next files names inputs before (input name (job_behind before) (Some b)) rest)
 
-jobs_over : (files : Files) (failed : Option (List ℕ) → Type 0) (before : List JobFields) (names : List (List ℕ)) (inputs : Inputs)
+pub jobs_over : (files : Files) (failed : Option (List ℕ) → Type 0) (before : List JobFields) (names : List (List ℕ)) (inputs : Inputs)
     → AreRead (Some files) failed names inputs → SameJobs files before names inputs
 jobs_over files failed before [] inputs read = inl refl
 jobs_over files failed before (name ∷ names) inputs read =
     same_first files failed before name names (inputs 0) (rest_of inputs) read.0 (λ js. jobs_over files failed js names (rest_of inputs) read.1)
 
-audit_by : (a : Audit) (files : Files) (inputs : Inputs) (store : Result (List SealedFields) NamedFault) (o : Result Done NamedFault) → IsSeen o
+pub audit_over : (a : Audit) (files : Files) (inputs : Inputs) (store : Result (List SealedFields) NamedFault) (o : Result Done NamedFault) → IsSeen o
     → SameJobs files [] a.jobs inputs → MakesAudit a store (audit_jobs a.jobs inputs) o → MakesAudit a store (audit_jobs a.jobs (held_under files a.jobs)) o
-audit_by a files inputs (Err e) o seen same m = m
-audit_by a files inputs (Ok parts) o seen (inl same) m =
+audit_over a files inputs (Err e) o seen same m = m
+audit_over a files inputs (Ok parts) o seen (inl same) m =
     subst (λ (r : Result (List JobFields) NamedFault). MakesAudit a (Ok parts) (r >>= (λ js. unless (bad_crl a.jobs js) js)) o) same m
-audit_by a files inputs (Ok parts) o seen (inr (name, is)) m =
+audit_over a files inputs (Ok parts) o seen (inr (name, is)) m =
     absurd (seen (unread name) (subst (λ (r : Result (List JobFields) NamedFault). MakesAudit a (Ok parts) (r >>= (λ js. unless (bad_crl a.jobs js) js)) o) is m) refl)
-
-pub over_files : (files : Files) (failed : Option (List ℕ) → Type 0) (c : Command) (at : Inputs) (o : Result Done NamedFault) → IsSeen o
-    → AreRead (Some files) failed (inputs_of c) at → Makes c at o → Makes c (held_by c files) o
-over_files files failed commands.Usage at o seen read m = absurd m
-over_files files failed (commands.Query q) at o seen read m = one_over files failed q.store (λ g. o ≡ query_makes q g) (at 0) (λ h. seen (unread q.store) h refl) read.0 m
-over_files files failed (commands.QueryCert q) at o seen read m = query_cert_over files failed q (at 0) (at 1) (at 2) o seen read.0 read.1.0 read.1.1.0 m
-over_files files failed (commands.Check name) at o seen read m = one_over files failed name (λ g. o ≡ check_makes name g) (at 0) (λ h. seen (unread name) h refl) read.0 m
-over_files files failed (commands.Show name) at o seen read m = one_over files failed name (λ g. o ≡ show_makes name g) (at 0) (λ h. seen (unread name) h refl) read.0 m
-over_files files failed (commands.Snapshot s) at o seen read m =
-    one_over files failed s.job (λ g. MakesSnapshot s (input s.job job_in g) o) (at 0) (λ h. seen (unread s.job) h refl) read.0 m
-over_files files failed (commands.Delta t) at o seen read m = delta_over files failed t (at 0) (at 1) o seen read.0 read.1.0 m
-over_files files failed (commands.Rebase b) at o seen read m =
-    one_over files failed b.ledger (λ g. MakesRebase b (input b.ledger ledger_in g) o) (at 0) (λ h. seen (unread b.ledger) h refl) read.0 m
-over_files files failed (commands.Start t) at o seen read m = one_over files failed t.part (λ g. o ≡ start_makes t g) (at 0) (λ h. seen (unread t.part) h refl) read.0 m
-over_files files failed (commands.Install i) at o seen read m = install_over files failed i (at 0) (at 1) o seen read.0 read.1.0 m
-over_files files failed (commands.Rehearse r) at o seen read m =
-    one_over files failed r.queries (λ g. MakesRehearsal r (input r.queries queries_in g) (held_under files r.jobs) o) (at 0)
-    (λ h. seen (unread r.queries) h refl) read.0 (rehearsal_by files failed r (input r.queries queries_in (at 0)) (rest_of at) o seen read.1 m)
-over_files files failed (commands.Sample s) at o seen read m = m
-over_files files failed (commands.Gather f) at o seen read m =
-    after_over files failed f.head head_in (at 0) (gather_after f (rest_of at)) (gather_after f (held_under files f.pages)) o seen read.0
-    (λ j. pages_over files failed o seen f.job (length j.entries) f.pages (rest_of at) read.1 (λ entries. Ok (gather_done f j entries))) m
-over_files files failed (commands.Audit a) at o seen read m =
-    one_over files failed a.store (λ g. MakesAudit a (input a.store store_in g) (audit_jobs a.jobs (held_under files a.jobs)) o) (at 0)
-    (λ h. seen (unread a.store) h refl) read.0
-    (audit_by a files (rest_of at) (input a.store store_in (at 0)) o seen (jobs_over files failed [] a.jobs (rest_of at) read.1) m)

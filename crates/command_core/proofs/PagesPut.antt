@@ -33,7 +33,7 @@ use Rattle.command_core.specs.Answering.{reply_fields}
 use Rattle.outside_core.proofs.Effects.{WhichFailed-then}
 use Rattle.input_core.proofs.FilesRead.{later_read, none_failed, blamed_later}
 use Rattle.command_core.proofs.Fronts.{no_inputs, ahead, these, ahead_push, nothing, later_reads, some_reads, Front, no_front, from_place, is_among, front_more, read_on, front_all}
-use Rattle.command_core.proofs.Makings.{page_last, page_then}
+use Rattle.command_core.proofs.Following.{page_last, page_then}
 use Rattle.command_core.proofs.Replying.{read_well, blames_file, says_wider, made}
 
 -- entries before those of a result

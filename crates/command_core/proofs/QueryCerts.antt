@@ -21,7 +21,7 @@ use Rattle.command_core.specs.ReplyFields.{Done, NamedFault}
 use Rattle.command_core.specs.Commands.{◌>>=◌, named, input, query_cert_done}
 use Rattle.command_core.specs.Replies.{done, refusal, IsReply}
 use Rattle.command_core.specs.Answering.{reply_fields}
-use Rattle.command_core.proofs.Makings.{cert_last, cert_then, cert_after}
+use Rattle.command_core.proofs.Following.{cert_last, cert_then, cert_after}
 use Rattle.outside_core.proofs.Effects.{WhichFailed-then}
 use Rattle.input_core.proofs.FilesRead.{some_read, later_read, none_failed, blamed_later}
 use Rattle.command_core.proofs.Fronts.{these}

@@ -42,8 +42,8 @@ use Rattle.command_core.specs.Rebasings.{base_done, MakesBase, MakesRebase}
 use Rattle.command_core.specs.Replies.{done, refusal, reply_of, SaysWhich, IsReply}
 use Rattle.command_core.specs.Answering.{reply_fields}
 use Rattle.command_core.proofs.Fronts.{ahead, these, some_reads}
-use Rattle.command_core.proofs.Results.{not_ok}
-use Rattle.command_core.proofs.Makings.{err_same, start_after, install_then, install_after, gather_after, cert_after}
+use Rattle.command_core.proofs.Following.{start_after, install_then, install_after, gather_after, cert_after}
+use Rattle.command_core.proofs.Results.{err_same, not_ok}
 
 -- ---- files
 

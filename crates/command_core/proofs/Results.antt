@@ -6,6 +6,9 @@ use Rattle.command_core.specs.Outcomes.{◌>>=◌}
 pub ok_same : {A E : Type 0} (x y : A) → ◌≡◌ {A = Result A E} (Ok x) (Ok y) → x ≡ y
 ok_same {A} {E} x y h = cc
 
+pub err_same : {A E : Type 0} (x y : E) → ◌≡◌ {A = Result A E} (Err x) (Err y) → x ≡ y
+err_same {A} {E} x y h = cc
+
 pub not_ok : {A E : Type 0} (x : A) (e : E) → ◌≡◌ {A = Result A E} (Err e) (Ok x) → ⊥
 not_ok {A} {E} x e h = cc
 
