@@ -10,5 +10,6 @@ pub mod Knowing
 pub mod Causes
 pub mod Sightings
 pub mod Findings
+pub mod Fours
 pub mod Unique
 pub mod Existing

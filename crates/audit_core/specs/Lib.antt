@@ -1,3 +1,4 @@
 pub mod Auditing
 pub mod Admitting
 pub mod Checking
+pub mod Fours
