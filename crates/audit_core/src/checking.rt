@@ -11,6 +11,7 @@ ghost use Rattle.audit_core.specs.Fours.{agreement_at, agreements_from, agreemen
 
 use crate::fault::AuditFault;
 use crate::listing::listing;
+use crate::searching::guessed_places;
 use card_core::Verdict;
 use ledger_core::{Ledger, LedgerPart};
 use log_core::Entry;
@@ -51,13 +52,14 @@ fn told_at<'a>(
     part: &LedgerPart,
     entries: &'a [Option<Entry>],
     place: usize,
+    guess: usize,
 ) -> Option<Told<'a>>
     requires { IsSearchable part.now }
     ensures { (parts : List PartFields)
         → agreement_at parts (listing_of ledger.now (part_fields part.now)) entries.now place ≡ agreement_told result (said_told parts result) }
 {
     let entry = entries.get(place)?.as_ref()?;
-    let listed = listing(ledger, part, entry)?;
+    let listed = listing(ledger, part, entry, guess)?;
     Some(Told { entry, listed })
 }
 
@@ -102,10 +104,11 @@ fn ask_four(
     requires room { at + 3 < 2 ^ 64 }
     ensures { result ≡ agreements_from (map (λ s. s.part) store.now) (listing_of ledger.now (part_fields part.now)) entries.now at }
 {
-    let a = told_at(ledger, part, entries, at);
-    let b = told_at(ledger, part, entries, at + 1);
-    let c = told_at(ledger, part, entries, at + 2);
-    let d = told_at(ledger, part, entries, at + 3);
+    let [at_a, at_b, at_c, at_d] = guessed_places(ledger.items(), entries, at);
+    let a = told_at(ledger, part, entries, at, at_a);
+    let b = told_at(ledger, part, entries, at + 1, at_b);
+    let c = told_at(ledger, part, entries, at + 2, at_c);
+    let d = told_at(ledger, part, entries, at + 3, at_d);
     let Some(any) = a.or(b).or(c).or(d) else {
         return [Agreement::Skipped; 4];
     };

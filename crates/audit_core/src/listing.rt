@@ -60,8 +60,13 @@ fn is_late(parts: &[LedgerPart], birth: usize, entry: &Entry) -> bool
 }
 
 /// Of an entry that the job of this part accepts, whether its certificate is listed; nothing of another entry. The part
-/// is one of the ledger's.
-pub(crate) fn listing(ledger: &Ledger, part: &LedgerPart, entry: &Entry) -> Option<bool>
+/// is one of the ledger's, and the guess is where the certificate's item may stand.
+pub(crate) fn listing(
+    ledger: &Ledger,
+    part: &LedgerPart,
+    entry: &Entry,
+    guess: usize,
+) -> Option<bool>
     requires { IsSearchable part.now }
     ensures { result ≡ listing_of ledger.now (part_fields part.now) entry.now }
 {
@@ -69,7 +74,7 @@ pub(crate) fn listing(ledger: &Ledger, part: &LedgerPart, entry: &Entry) -> Opti
         return None;
     }
     let parts = ledger.parts();
-    let item = item_of(ledger.items(), &entry.id);
+    let item = item_of(ledger.items(), &entry.id, guess);
     if is_late(parts, birth_of(parts, &item), entry) {
         return None;
     }

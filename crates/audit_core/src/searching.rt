@@ -1,20 +1,26 @@
 //! The search for the item of an identity.
 
-ghost use Rattle.std.specs.Prelude.{◌≡◌, ◌<◌, find, IfSome};
+ghost use Rattle.std.specs.Prelude.{◌≡◌, ◌<◌, ◌+◌, ◌^◌, find, IfSome};
 ghost use Rattle.std.specs.List.Sorted.{IsStrictlySortedBy};
 ghost use Rattle.ident_core.specs.Order.{identity_cmp, is_same as same};
 ghost use Rattle.ledger_core.specs.LedgerFields.{ids};
 
 use ident_core::Identity;
 use ledger_core::LedgerItem;
+use log_core::Entry;
 use std::cmp::Ordering;
 
 /// How many places are guessed at most. After so many guesses each comparison halves what is left.
 const MAX_GUESSES: u8 = 8;
 
+/// How many looks at most go into a guess.
+const MAX_LOOKS: u8 = 32;
+
 /// What a place is guessed from. The head of a serial is the number that its first eight octets spell, greatest first.
 #[derive(Drop)]
 struct Guesses {
+    /// The place to look at first.
+    first: Option<usize>,
     /// How many may still be made.
     left: u8,
     /// The head of the serial that is searched for, if it has eight octets.
@@ -40,6 +46,16 @@ fn head_beside(item: &LedgerItem, id: &Identity) -> Option<u64> {
 }
 
 impl Guesses {
+    fn new(id: Option<&Identity>, first: Option<usize>) -> Guesses {
+        Guesses {
+            first,
+            left: MAX_GUESSES,
+            head: id.and_then(|id| head(id)),
+            below: None,
+            above: None,
+        }
+    }
+
     /// Of so many places the one of the head, if the heads lie evenly and have room between them.
     fn guess(&self, span: usize) -> Option<usize>
         requires { 0 < span }
@@ -56,6 +72,11 @@ impl Guesses {
         requires { 0 < span }
         ensures { result < span }
     {
+        if let Some(place) = self.first.take() {
+            if place < span {
+                return place;
+            }
+        }
         if self.left > 0 {
             if let Some(place) = self.guess(span) {
                 self.left -= 1;
@@ -66,18 +87,96 @@ impl Guesses {
     }
 }
 
-/// The item of an identity. An interpolation search, since serials are mostly random and each item of a long ledger that
+/// A search for the item of an identity, of which the next look comes when it is asked for. Nothing rests on it but time.
+#[derive(Drop)]
+struct Search<'a> {
+    id: Option<&'a Identity>,
+    low: usize,
+    high: usize,
+    guesses: Guesses,
+}
+
+impl<'a> Search<'a> {
+    /// A search for the item of the entry at a place, if there is one.
+    fn new(items: &[LedgerItem], entries: &'a [Option<Entry>], place: usize) -> Search<'a> {
+        let id = match entries.get(place) {
+            Some(Some(entry)) => Some(&entry.id),
+            _ => None,
+        };
+        Search {
+            id,
+            low: 0,
+            high: items.len(),
+            guesses: Guesses::new(id, None),
+        }
+    }
+
+    /// Whether there is nothing to look for, or no place is left. The item is at `low`, if it was found.
+    fn is_done(&self) -> bool {
+        self.id.is_none() || self.low >= self.high
+    }
+
+    /// Looks at one place more.
+    fn look(&mut self, items: &[LedgerItem]) {
+        let Some(id) = self.id else {
+            return;
+        };
+        if self.low >= self.high {
+            return;
+        }
+        let middle = self.low + self.guesses.place(self.high - self.low);
+        let Some(item) = items.get(middle) else {
+            return;
+        };
+        match item.id.cmp(id) {
+            Ordering::Equal => {
+                self.low = middle;
+                self.high = middle;
+            }
+            Ordering::Less => {
+                self.low = middle + 1;
+                self.guesses.below = head_beside(item, id);
+            }
+            Ordering::Greater => {
+                self.high = middle;
+                self.guesses.above = head_beside(item, id);
+            }
+        }
+    }
+}
+
+/// Where the items of the four entries from a place on may stand. The four searches go on side by side, so that the
+/// misses of the cache are waited for together.
+pub(crate) fn guessed_places(
+    items: &[LedgerItem],
+    entries: &[Option<Entry>],
+    at: usize,
+) -> [usize; 4]
+    requires { at + 3 < 2 ^ 64 }
+{
+    let mut a = Search::new(items, entries, at);
+    let mut b = Search::new(items, entries, at + 1);
+    let mut c = Search::new(items, entries, at + 2);
+    let mut d = Search::new(items, entries, at + 3);
+    for _ in 0..MAX_LOOKS {
+        if a.is_done() && b.is_done() && c.is_done() && d.is_done() {
+            break;
+        }
+        a.look(items);
+        b.look(items);
+        c.look(items);
+        d.look(items);
+    }
+    [a.low, b.low, c.low, d.low]
+}
+
+/// The item of an identity. The guess is looked at first. An interpolation search, since serials are mostly random and each item of a long ledger that
 /// is looked at costs a miss of the cache; once the guesses are used up, a binary search.
-pub(crate) fn item_of(items: &[LedgerItem], id: &Identity) -> Option<LedgerItem>
+pub(crate) fn item_of(items: &[LedgerItem], id: &Identity, guess: usize) -> Option<LedgerItem>
     requires sorted { IsStrictlySortedBy identity_cmp (ids items.now) }
     ensures { result ≡ find (λ i. same id.now i.id) items.now }
 {
-    let mut guesses = Guesses {
-        left: MAX_GUESSES,
-        head: head(id),
-        below: None,
-        above: None,
-    };
+    let mut guesses = Guesses::new(Some(id), Some(guess));
     let mut low = 0;
     let mut high = items.len();
     while low < high {
