@@ -87,7 +87,7 @@ impl Guesses {
     }
 }
 
-/// A search for the item of an identity, of which the next look comes when it is asked for. Nothing rests on it but time.
+/// A search for the item of an identity, of which the next look comes when it is asked for. Only time rests on it.
 #[derive(Drop)]
 struct Search<'a> {
     id: Option<&'a Identity>,
@@ -116,30 +116,40 @@ impl<'a> Search<'a> {
         self.id.is_none() || self.low >= self.high
     }
 
-    /// Looks at one place more.
-    fn look(&mut self, items: &[LedgerItem]) {
-        let Some(id) = self.id else {
+    /// The place to look at next; any, where it is done.
+    fn next_place(&mut self) -> usize {
+        if self.low < self.high {
+            self.low + self.guesses.place(self.high - self.low)
+        } else {
+            self.low
+        }
+    }
+
+    /// What the item at a place gives to guess from.
+    fn beside(&self, items: &[LedgerItem], place: usize) -> Option<u64> {
+        head_beside(items.get(place)?, self.id?)
+    }
+
+    /// Looks at a place, whose item gives this to guess from.
+    fn look(&mut self, items: &[LedgerItem], place: usize, beside: Option<u64>) {
+        let (Some(id), Some(item)) = (self.id, items.get(place)) else {
             return;
         };
-        if self.low >= self.high {
+        if place < self.low || place >= self.high {
             return;
         }
-        let middle = self.low + self.guesses.place(self.high - self.low);
-        let Some(item) = items.get(middle) else {
-            return;
-        };
         match item.id.cmp(id) {
             Ordering::Equal => {
-                self.low = middle;
-                self.high = middle;
+                self.low = place;
+                self.high = place;
             }
             Ordering::Less => {
-                self.low = middle + 1;
-                self.guesses.below = head_beside(item, id);
+                self.low = place + 1;
+                self.guesses.below = beside;
             }
             Ordering::Greater => {
-                self.high = middle;
-                self.guesses.above = head_beside(item, id);
+                self.high = place;
+                self.guesses.above = beside;
             }
         }
     }
@@ -162,16 +172,25 @@ pub(crate) fn guessed_places(
         if a.is_done() && b.is_done() && c.is_done() && d.is_done() {
             break;
         }
-        a.look(items);
-        b.look(items);
-        c.look(items);
-        d.look(items);
+        let (p, q, r, s) = (
+            a.next_place(),
+            b.next_place(),
+            c.next_place(),
+            d.next_place(),
+        );
+        // (what is read of the four items comes before any is compared, so that no miss waits for another)
+        let (of_p, of_q) = (a.beside(items, p), b.beside(items, q));
+        let (of_r, of_s) = (c.beside(items, r), d.beside(items, s));
+        a.look(items, p, of_p);
+        b.look(items, q, of_q);
+        c.look(items, r, of_r);
+        d.look(items, s, of_s);
     }
     [a.low, b.low, c.low, d.low]
 }
 
-/// The item of an identity. The guess is looked at first. An interpolation search, since serials are mostly random and each item of a long ledger that
-/// is looked at costs a miss of the cache; once the guesses are used up, a binary search.
+/// The item of an identity. The guess is looked at first. An interpolation search, since serials are mostly random and
+/// each item of a long ledger that is looked at costs a miss of the cache; behind the guesses it is a binary search.
 pub(crate) fn item_of(items: &[LedgerItem], id: &Identity, guess: usize) -> Option<LedgerItem>
     requires sorted { IsStrictlySortedBy identity_cmp (ids items.now) }
     ensures { result ≡ find (λ i. same id.now i.id) items.now }
