@@ -1,0 +1,95 @@
+-- Blocks that stand in bytes, and the search for the one of an issuer among their places.
+use Rattle.std.specs.Ordering.{nat_cmp}
+use Rattle.std.specs.Cmp.Lexicographic.{slice_cmp}
+use Rattle.std.specs.declared.cmp.Ordering.TheVariants.{Less, Equal, Greater}
+use Rattle.std.specs.Int.{w8, to_be_bytes}
+use Rattle.std.specs.List.Sorted.{IsStrictlySortedBy}
+use Rattle.std.proofs.Common.{◌≡◌, ℕ, zero, suc, ◌+◌, ◌≤◌, ◌<◌, true, List, [], ◌∷◌, ◌++◌, length, get_or, Option, Some, None, sym, ap, ◌∙◌, subst, arith}
+use Rattle.std.proofs.lemmas.List.{get_or_default}
+use Rattle.octets_core.specs.Linked.{Linked, is_after}
+use Rattle.octets_core.proofs.Texts.{Linked-weaken}
+use Rattle.card_core.specs.declared.block.Block.{Block}
+use Rattle.card_core.specs.declared.block.Body.TheVariants as bodies
+use Rattle.card_core.specs.Consulting.{IsPlaceOf}
+use Rattle.card_core.proofs.Ascending.{block_cmp, linked_sorted}
+use Rattle.card_core.proofs.Searching.{Missed, missed_less, missed_greater, found_equal, none_found}
+use Rattle.part_text.specs.Fitting.{BlockFits, FitsBlock}
+use Rattle.part_text.specs.PartText.{block_text, body_text, mode_of}
+use Rattle.view_core.specs.Standing.{AreBlocksAt}
+use Rattle.view_core.specs.Texts.{Stands}
+use Rattle.view_core.proofs.Texts.{stands_first, stands_item, length-places}
+
+abbrev next_issuer : Option (List ℕ) → Block → Option (List ℕ)
+next_issuer previous b = Some b.issuer
+
+fits_linked : (previous : Option (List ℕ)) (blocks : List Block) (i : ℕ) (d : Block) → i < length blocks → Linked FitsBlock next_issuer previous blocks → BlockFits (get_or blocks i d)
+fits_linked previous [] i d lt linked = absurd (omega arith)
+fits_linked previous (b ∷ blocks) zero d lt linked = linked.0.1
+fits_linked previous (b ∷ blocks) (suc i) d lt linked = fits_linked (Some b.issuer) blocks i d (omega arith) linked.1
+
+sorted : (blocks : List Block) → Linked FitsBlock next_issuer None blocks → IsStrictlySortedBy block_cmp blocks
+sorted blocks linked =
+    linked_sorted blocks (Linked-weaken FitsBlock (λ previous b. is_after previous b.issuer ≡ true) next_issuer (λ previous b fits. fits.0) None blocks linked)
+
+pub as_many : (bytes : List ℕ) (at : ℕ) (places : List ℕ) (blocks : List Block) → AreBlocksAt bytes at places blocks → length places ≡ length blocks
+as_many bytes at places blocks are = ap (λ (l : List ℕ). length l) are.places_are ∙ length-places block_text at blocks
+
+-- each stands at its place
+pub stands_block : (bytes : List ℕ) (at : ℕ) (places : List ℕ) (blocks : List Block) (i : ℕ) (d : Block) → AreBlocksAt bytes at places blocks → i < length places
+    → BlockFits (get_or blocks i d) × Stands bytes (get_or places i 0) (block_text (get_or blocks i d))
+stands_block bytes at places blocks i d are lt =
+    let inside : i < length blocks = omega (arith, lt, as_many bytes at places blocks are) in (
+      fits_linked None blocks i d inside are.fit,
+      subst (λ (l : List ℕ). Stands bytes (get_or l i 0) (block_text (get_or blocks i d))) (sym are.places_are) (stands_item block_text bytes at blocks i d inside are.text),
+    )
+
+-- the text of a block begins with its issuer
+issuer_stands : (bytes : List ℕ) (at : ℕ) (b : Block) → Stands bytes at (block_text b) → Stands bytes at b.issuer
+issuer_stands bytes at b s =
+    let mode = to_be_bytes w8 (mode_of b.body) in
+    stands_first bytes at b.issuer mode (stands_first bytes at (b.issuer ++ mode) (body_text b.body) s)
+
+-- the places tell of no block of the issuer but from `low` on and before `high`
+abbrev pub Lacks : List ℕ → List ℕ → List ℕ → ℕ → ℕ → Type 0
+Lacks bytes places issuer low high = (at : ℕ) (blocks : List Block) → AreBlocksAt bytes at places blocks → Missed blocks issuer low high
+
+pub lacks_none : (bytes places issuer : List ℕ) → Lacks bytes places issuer 0 (length places)
+lacks_none bytes places issuer = λ at blocks are. record {
+  below = λ k d lt. absurd (omega arith);
+  above = λ k d le lt. absurd (omega (arith, le, lt, as_many bytes at places blocks are));
+}
+
+pub no_place : (bytes places issuer : List ℕ) (low high : ℕ) → high ≤ low → Lacks bytes places issuer low high
+    → (at : ℕ) (blocks : List Block) → AreBlocksAt bytes at places blocks → IsPlaceOf issuer blocks None
+no_place bytes places issuer low high le lacks at blocks are = none_found blocks issuer low high le (lacks at blocks are)
+
+module _ (bytes places issuer : List ℕ) (low high : ℕ) (lacks : Lacks bytes places issuer low high) (middle : ℕ) (lt : middle < length places) (key : List ℕ)
+    (read : (k : List ℕ) → length k ≡ 32 → Stands bytes (get_or places middle 0) k → key ≡ k) where
+  module _ (at : ℕ) (blocks : List Block) (are : AreBlocksAt bytes at places blocks) where
+    inside : middle < length blocks
+    inside = omega (arith, lt, as_many bytes at places blocks are)
+
+    abbrev there : Block
+    there = get_or blocks middle (record { issuer = key; body = bodies.Clean })
+
+    there_is : there ≡ get_or blocks middle there
+    there_is = get_or_default blocks middle (record { issuer = key; body = bodies.Clean }) there inside
+
+    order_is : slice_cmp nat_cmp there.issuer issuer ≡ slice_cmp nat_cmp key issuer
+    order_is =
+        let s = stands_block bytes at places blocks middle (record { issuer = key; body = bodies.Clean }) are lt in
+        ap (λ (k : List ℕ). slice_cmp nat_cmp k issuer) (sym (read there.issuer s.0.issuer (issuer_stands bytes (get_or places middle 0) there s.1)))
+
+  pub lacks_less : slice_cmp nat_cmp key issuer ≡ Less → Lacks bytes places issuer (middle + 1) high
+  lacks_less e = λ at blocks are.
+      missed_less blocks issuer (sorted blocks are.fit) low high middle (there at blocks are) (inside at blocks are) (there_is at blocks are) (lacks at blocks are) (order_is at blocks are ∙ e)
+
+  pub lacks_greater : slice_cmp nat_cmp key issuer ≡ Greater → Lacks bytes places issuer low middle
+  lacks_greater e = λ at blocks are.
+      missed_greater blocks issuer (sorted blocks are.fit) low high middle (there at blocks are) (inside at blocks are) (there_is at blocks are) (lacks at blocks are) (order_is at blocks are ∙ e)
+
+  pub is_place : slice_cmp nat_cmp key issuer ≡ Equal → (at : ℕ) (blocks : List Block) → AreBlocksAt bytes at places blocks → IsPlaceOf issuer blocks (Some middle)
+  is_place e at blocks are = (
+    inside at blocks are,
+    found_equal blocks issuer (sorted blocks are.fit) low high middle (there at blocks are) (inside at blocks are) (there_is at blocks are) (lacks at blocks are) (order_is at blocks are ∙ e),
+  )

@@ -1,0 +1,11 @@
+pub mod Texts
+pub mod Index
+pub mod Opening
+pub mod Covering
+pub mod Stages
+pub mod Standing
+pub mod Parts
+pub mod Scanning
+pub mod Checking
+pub mod Installing
+pub mod Filling

@@ -1,0 +1,37 @@
+//! Blocks that begin at places in bytes, searched by halves.
+
+ghost use Rattle.std.specs.Prelude.{◌≡◌, ℕ, List, ◌≤◌, ◌+◌, ◌-◌, ◌*◌, ◌^◌, ◌<◌, length, IfSome};
+ghost use Rattle.card_core.specs.declared.block.Block.{Block};
+ghost use Rattle.card_core.specs.Consulting.{IsPlaceOf};
+ghost use Rattle.view_core.specs.Standing.{AreBlocksAt};
+
+use crate::reading::key_at;
+use octets_core::{Key32, Steps, key_order};
+use std::cmp::Ordering;
+use std::sync::ledger::Ledger;
+
+/// Which of the blocks that begin at these places is the issuer's. Each comparison of issuers is one probe.
+pub(crate) fn place_of<L: Ledger>(
+    bytes: &[u8],
+    places: &[u32],
+    issuer: &Key32,
+    probes: &mut Steps<L>,
+) -> Option<usize>
+    ensures place { (at : ℕ) (blocks : List Block) → AreBlocksAt bytes.now at places.now blocks → IsPlaceOf issuer.now blocks result }
+    ensures within { IfSome result (λ i. i < length places.now) }
+    ensures later { probes.old ≤ probes.new }
+    ensures few { 2 ^ (probes.new - probes.old) ≤ 2 * length places.now + 1 }
+{
+    let mut low = 0;
+    let mut high = places.len();
+    while low < high {
+        let middle = low + (high - low) / 2;
+        probes.tick();
+        match key_order(&key_at(bytes, places[middle] as usize), issuer) {
+            Ordering::Equal => return Some(middle),
+            Ordering::Less => low = middle + 1,
+            Ordering::Greater => high = middle,
+        }
+    }
+    None
+}
