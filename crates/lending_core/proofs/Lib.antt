@@ -1,3 +1,4 @@
 mod Newest
 mod Numbering
 mod Each
+mod Slices

@@ -15,7 +15,7 @@ use Rattle.lending_core.specs.declared.fault.LentFault.{LentFault}
 use Rattle.lending_core.specs.declared.fault.LentFault.TheVariants as faults
 use Rattle.lending_core.specs.declared.lent.LentQuery.{LentQuery}
 use Rattle.lending_core.specs.Faults.{of_store, faulted, ◌>>=◌}
-use Rattle.lending_core.specs.Lent.{serial_of, serial_in, sightings_in}
+use Rattle.lending_core.specs.Lent.{serial_of, serial_in, slice_in}
 
 -- the parts of the store that the bytes are, else the first fault of its layout or chain
 abbrev pub store_of : List ℕ → Result (List SealedFields) LentFault
@@ -28,18 +28,29 @@ said parts issuer serial sightings =
 
 -- ---- a query
 
+-- by a store's parts
+abbrev pub ask_gives : List SealedFields → (issuer octets : List ℕ) → List Sighting → Result Verdict LentFault
+ask_gives parts issuer octets sightings = do
+  serial ← serial_of octets
+  Ok (said parts issuer serial sightings)
+
+-- by bytes that may be no store: some verdict, where what is asked has no fault
+abbrev pub with_some : {A : Type 0} → Verdict → Result A LentFault → Result Verdict LentFault
+with_some v (Ok x) = Ok v
+with_some v (Err e) = Err e
+
+-- by its bytes
 abbrev pub query_gives : (bytes issuer octets : List ℕ) → List Sighting → Result Verdict LentFault
 query_gives bytes issuer octets sightings = do
   parts ← store_of bytes
-  serial ← serial_of octets
-  Ok (said parts issuer serial sightings)
+  ask_gives parts issuer octets sightings
 
 -- ---- one of many queries, with the sightings of all
 
 abbrev pub each_says : List SealedFields → List Sighting → LentQuery → Result Verdict LentFault
 each_says parts all q = do
   serial ← serial_in q
-  sightings ← sightings_in q all
+  sightings ← slice_in q all
   Ok (said parts q.issuer serial sightings)
 
 -- by the store that was read
@@ -62,10 +73,24 @@ some_key (Some key) = Ok (sha256 key)
 abbrev pub issuer_of : List ℕ → Result (List ℕ) LentFault
 issuer_of cert = if nat_lt MAX_CERTIFICATE (length cert) then Err faults.BadIssuerCert else some_key (certificate_key cert)
 
-abbrev pub query_cert_gives : (bytes cert issuer_cert : List ℕ) → Result Verdict LentFault
-query_cert_gives bytes cert issuer_cert = do
-  parts ← store_of bytes
+-- what both are read as: an issuer, a serial and sightings
+abbrev pub cert_reads : (cert issuer_cert : List ℕ) → Result (List ℕ × List ℕ × List Sighting) LentFault
+cert_reads cert issuer_cert = do
+  serial ← some_serial (certificate_serial cert)
+  seen ← faulted faults.BadCert (sightings_of cert)
+  issuer ← issuer_of issuer_cert
+  Ok (issuer, serial, seen)
+
+-- by a store's parts
+abbrev pub ask_cert_gives : List SealedFields → (cert issuer_cert : List ℕ) → Result Verdict LentFault
+ask_cert_gives parts cert issuer_cert = do
   serial ← some_serial (certificate_serial cert)
   seen ← faulted faults.BadCert (sightings_of cert)
   issuer ← issuer_of issuer_cert
   Ok (said parts issuer serial seen)
+
+-- by its bytes
+abbrev pub query_cert_gives : (bytes cert issuer_cert : List ℕ) → Result Verdict LentFault
+query_cert_gives bytes cert issuer_cert = do
+  parts ← store_of bytes
+  ask_cert_gives parts cert issuer_cert

@@ -19,7 +19,7 @@ abbrev pub serial_in : LentQuery → Result (List ℕ) LentFault
 serial_in q = if nat_lt MAX_SERIAL q.serial_len then Err faults.BadSerial else serial_of (take q.serial_len q.serial)
 
 -- so many sightings from a place on, if all of them are there
-abbrev pub sightings_in : LentQuery → List Sighting → Result (List Sighting) LentFault
-sightings_in q all =
+abbrev pub slice_in : {T : Type 0} → LentQuery → List T → Result (List T) LentFault
+slice_in q all =
     if nat_lt (length all) (q.first_sighting + q.sightings) then Err faults.BadSightings
     else Ok (take q.sightings (drop q.first_sighting all))

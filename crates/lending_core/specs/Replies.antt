@@ -118,3 +118,10 @@ abbrev pub AreAnswered : Result (List SealedFields) LentFault → List Sighting 
 AreAnswered read all old new given =
     ((new ≡ map (answered read all) old) × (given ≡ answer_of done read))
     ⊎ ((new ≡ map (with_number NO_MEMORY) old) × (given ≡ alone NO_MEMORY))
+
+-- ---- until when a log is covered
+
+-- the moment that is written and the number that is answered
+abbrev pub CoversUntil : Option ℕ → (until number : ℕ) → Type 0
+CoversUntil (Some to) until number = (until ≡ to) × (number ≡ DONE)
+CoversUntil None until number = (until ≡ 0) × (number ≡ NOT_COVERED)

@@ -9,7 +9,7 @@ ghost use Rattle.lending_core.specs.Replies.{IsAnswer, AreFacts, answered, AreAn
 
 use crate::fault::LentFault;
 use crate::lent::{
-    LentQuery, LentSighting, serial_from, serial_within, sightings_of, sightings_within,
+    LentQuery, LentSighting, serial_from, serial_within, sightings_of, slice_within,
 };
 use crate::numbers;
 use crate::replies::{Answer, StoreFacts, alone, facts_of, fault_answer, verdict_answer};
@@ -62,7 +62,7 @@ pub fn query(
 }
 
 /// The hash of the key of an issuer's certificate.
-fn issuer_in(cert: &[u8]) -> Result<Key32, LentFault>
+pub(crate) fn issuer_in(cert: &[u8]) -> Result<Key32, LentFault>
     ensures { result ≡ issuer_of cert.now }
 {
     if cert.len() > MAX_CERTIFICATE {
@@ -119,7 +119,7 @@ fn verdict_on_one(store: &Store, all: &[Sighting], query: &LentQuery) -> Result<
     ensures { result ≡ each_says store.now all.now query.now }
 {
     let serial = serial_within(query)?;
-    let sightings = sightings_within(query, all)?;
+    let sightings = slice_within(query, all)?;
     let issuer = Key32::new(query.issuer);
     let id = Identity { issuer, serial };
     Ok(store.says(&id, sightings))

@@ -1,12 +1,13 @@
 //! What is lent, in the layout of C.
 
 ghost use Rattle.std.specs.Prelude.{◌≡◌, map, Ok, Err, IfOk, IfErr};
-ghost use Rattle.lending_core.specs.Lent.{sighting_of, serial_of, serial_in, sightings_in};
+ghost use Rattle.lending_core.specs.Lent.{sighting_of, serial_of, serial_in, slice_in};
 
 use crate::fault::LentFault;
 use ident_core::{MAX_SERIAL, Serial, Sighting};
 use octets_core::Key32;
 use std::alloc::{AllocError, Global};
+use view_core::Seen;
 
 /// When a log saw a certificate.
 #[repr(C)]
@@ -34,6 +35,19 @@ pub struct LentQuery {
     pub sightings: u32,
     /// The number of the answer, which the call writes.
     pub answer: u32,
+}
+
+impl Seen for LentSighting {
+    ghost use Rattle.lending_core.specs.Lent.{sighting_of};
+
+    ghost sighting = { λ s. sighting_of s };
+
+    fn sighting(&self) -> Sighting {
+        Sighting {
+            log: Key32::new(self.log),
+            time: self.time,
+        }
+    }
 }
 
 /// The sightings that are lent.
@@ -69,13 +83,10 @@ pub(crate) fn serial_within(query: &LentQuery) -> Result<Serial, LentFault>
     serial_from(&query.serial[..len])
 }
 
-/// The sightings of a query, among all.
-pub(crate) fn sightings_within<'a>(
-    query: &LentQuery,
-    all: &'a [Sighting],
-) -> Result<&'a [Sighting], LentFault>
-    ensures ok { IfOk result (λ s. sightings_in query.now all.now ≡ Ok s.now) }
-    ensures err { IfErr result (λ e. sightings_in query.now all.now ≡ Err e) }
+/// The query's own of all sightings.
+pub(crate) fn slice_within<'a, T>(query: &LentQuery, all: &'a [T]) -> Result<&'a [T], LentFault>
+    ensures ok { IfOk result (λ s. slice_in query.now all.now ≡ Ok s.now) }
+    ensures err { IfErr result (λ e. slice_in query.now all.now ≡ Err e) }
 {
     let first = query.first_sighting as usize;
     let behind = first + query.sightings as usize;

@@ -3,12 +3,20 @@
 #![tactic(auto)]
 
 mod asking;
+mod facts;
 mod fault;
+mod installing;
 mod lent;
 pub mod numbers;
+mod opened;
+mod opening;
 mod replies;
 
 pub use asking::{examine, query, query_cert, query_each};
+pub use facts::{InstallFacts, OpenedFacts, PartFacts};
 pub use fault::LentFault;
+pub use installing::{check_lent_part, install_lent};
 pub use lent::{LentQuery, LentSighting};
+pub use opened::{ask, ask_cert, ask_each, covered_until};
+pub use opening::{index_words, open_store};
 pub use replies::{Answer, StoreFacts};

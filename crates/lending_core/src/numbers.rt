@@ -32,6 +32,8 @@ pub const OLD_EPOCH: u32 = 35;
 pub const COVERAGE_SHRINKS: u32 = 36;
 /// There are 64 parts before it.
 pub const CHAIN_FULL: u32 = 37;
+/// The store has 2^32 bytes or more.
+pub const STORE_TOO_LONG: u32 = 38;
 
 /// The serial has no octet, or more than 32.
 pub const BAD_SERIAL: u32 = 48;
@@ -48,6 +50,13 @@ pub const CERT_BAD_SCTS: u32 = 66;
 pub const CERT_TOO_MANY_SCTS: u32 = 67;
 /// The issuer's certificate isn't one of the profile.
 pub const ISSUER_CERT_MALFORMED: u32 = 68;
+
+/// The index has fewer words than are wanted.
+pub const INDEX_TOO_SHORT: u32 = 80;
+/// The room for the new store has fewer bytes than are wanted.
+pub const ROOM_TOO_SHORT: u32 = 81;
+/// The size that a struct says isn't that of this interface.
+pub const BAD_SIZE: u32 = 82;
 
 /// Want of memory.
 pub const NO_MEMORY: u32 = 112;
