@@ -5,8 +5,9 @@
 #     tools/install.sh PREFIX [--publisher]
 #
 #     PREFIX/bin/clubcard                                   the program that ./clubcard runs (tools/program.sh)
-#     PREFIX/lib/libclubcard.a, libclubcard.so              the library of release/, where that is of this tree
+#     PREFIX/lib/libclubcard.a, libclubcard.so.1            the library of release/, where that is of this tree
 #     PREFIX/include/clubcard.h                             (tools/release.sh --check), else of tools/library.sh
+#     PREFIX/lib/libclubcard.so                             a link to libclubcard.so.1
 #     PREFIX/lib/pkgconfig/clubcard.pc                      for pkg-config, with the version of VERSION
 #     PREFIX/share/man/man1/clubcard.1
 #     PREFIX/share/bash-completion/completions/clubcard
@@ -60,19 +61,20 @@ place() {
     echo "$target"
 }
 
-# What pkg-config says of the library. A space in a name is written behind a backslash.
+# What pkg-config says of the library (bindings/c/clubcard.pc.in). A space in a name is written behind a backslash.
 describe() {
-    cat <<PC
-prefix=$(echo "$prefix" | sed 's/ /\\ /g')
-libdir=\${prefix}/lib
-includedir=\${prefix}/include
+    named=$(echo "$prefix" | sed 's/ /\\ /g; s/[&|\\]/\\&/g')
+    sed "1d; s|@PREFIX@|$named|; s|@VERSION@|$(cat "$top/VERSION")|" "$top/bindings/c/clubcard.pc.in"
+}
 
-Name: clubcard
-Description: Asks a store of pushed certificate revocation about certificates
-Version: $(cat "$top/VERSION")
-Libs: -L\${libdir} -lclubcard
-Cflags: -I\${includedir}
-PC
+# Puts a link in its place, to a file beside it.
+place_link() {
+    target="${destdir%/}$prefix/$2"
+    ln -sfn -- "$1" "$target" || {
+        echo "install: $target can't be written" >&2
+        exit 1
+    }
+    echo "$target"
 }
 
 program=$(sh "$top/tools/program.sh") || exit 1
@@ -85,7 +87,8 @@ describe >"$work/clubcard.pc" || exit 1
 
 place 755 "$program" bin/clubcard
 place 644 "$library/libclubcard.a" lib/libclubcard.a
-place 755 "$library/libclubcard.so" lib/libclubcard.so
+place 755 "$library/libclubcard.so" lib/libclubcard.so.1
+place_link libclubcard.so.1 lib/libclubcard.so
 place 644 "$library/clubcard.h" include/clubcard.h
 place 644 "$work/clubcard.pc" lib/pkgconfig/clubcard.pc
 place 644 "$top/docs/clubcard.1" share/man/man1/clubcard.1

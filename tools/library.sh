@@ -2,7 +2,8 @@
 # Makes the library for C of this tree: puts libclubcard.a, libclubcard.so and clubcard.h into a folder, which is made
 # where it isn't there. The toolchain builds the code (it proves it first, where it isn't proved yet); ld, objcopy, ar
 # and cc make the files of it and of the toolchain's own C code for the heap, the only C that it needs. Both files show
-# the names that clubcard.h declares and no others.
+# the names that clubcard.h declares and no others; libclubcard.so has them with the versions of bindings/c/clubcard.map,
+# and its soname is libclubcard.so.1, so that programs look for it by that name.
 #
 #     tools/library.sh FOLDER
 #
@@ -41,8 +42,9 @@ kit=$(dirname "$(rt doc)")
         ld -r --whole-archive -o clubcard.o "$top/crates/clubcard_c/out/libclubcard_c.a" "$kit/c/liblibc_c.a" &&
         objcopy --wildcard --keep-global-symbol='clubcard_*' clubcard.o &&
         ar rcsD libclubcard.a clubcard.o &&
-        cc -shared -o libclubcard.so clubcard.o -Wl,-soname,libclubcard.so -Wl,--build-id=none -Wl,-z,defs \
-            -Wl,-z,text -Wl,-z,relro -Wl,-z,now -Wl,-z,noexecstack &&
+        cc -shared -o libclubcard.so clubcard.o -Wl,-soname,libclubcard.so.1 \
+            -Wl,--version-script="$top/bindings/c/clubcard.map" -Wl,--build-id=none -Wl,-z,defs -Wl,-z,text \
+            -Wl,-z,relro -Wl,-z,now -Wl,-z,noexecstack &&
         cp "$top/bindings/c/clubcard.h" clubcard.h
 ) || {
     echo "library: the files couldn't be made" >&2
