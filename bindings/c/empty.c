@@ -23,6 +23,7 @@ typedef struct file {
 static file store, cert, issuer_cert;
 static const uint8_t *const no_bytes = NULL;
 static const clubcard_sighting *const no_sightings = NULL;
+static uint32_t index_of[64];
 static unsigned calls, failures;
 
 static int read_into(file *into, const char *name) {
@@ -104,6 +105,47 @@ static void test_query_cert(const uint8_t *nothing) {
     test("query_cert, no issuer's certificate", answer, at, CLUBCARD_ISSUER_CERT_MALFORMED);
 }
 
+/* An opened store that is asked about nothing; and nothing that is opened, is a part, or is installed. */
+static void test_opened(const uint8_t *nothing, const clubcard_sighting *unseen, clubcard_one_query *unasked) {
+    uint8_t key[32], serial = 5;
+    uint64_t words = 1, until = 1;
+    size_t len = sizeof index_of / sizeof *index_of;
+    clubcard_store_facts facts = {sizeof facts, 0, 0, 0, 0, 0};
+    memset(key, 0xaa, sizeof key);
+    uint32_t answer = clubcard_open(nothing, 0, index_of, len, &facts);
+    test("open, no store", answer, facts.at, CLUBCARD_LAYOUT_SHORT);
+    answer = clubcard_open(store.data, store.len, NULL, 0, &facts);
+    test("open, no index", answer, facts.at, CLUBCARD_INDEX_TOO_SHORT);
+    answer = clubcard_index_length(nothing, 0, &words);
+    if (answer != CLUBCARD_DONE) test("index_length, no store", answer, words, CLUBCARD_LAYOUT_VALUE);
+    answer = clubcard_open(store.data, store.len, index_of, len, &facts);
+    test("open", answer, facts.at, CLUBCARD_DONE);
+    len = facts.index_len;
+    answer = clubcard_ask(store.data, store.len, index_of, len, key, nothing, 0, unseen, 0);
+    test("ask, no serial", answer, 0, CLUBCARD_BAD_SERIAL);
+    answer = clubcard_ask(store.data, store.len, index_of, len, key, &serial, 1, unseen, 0);
+    test("ask, no sightings", answer, 0, CLUBCARD_NOT_COVERED);
+    answer = clubcard_ask(nothing, 0, NULL, 0, key, nothing, 0, unseen, 0);
+    test("ask, nothing at all", answer, 0, CLUBCARD_BAD_SERIAL);
+    answer = clubcard_ask_cert(store.data, store.len, index_of, len, nothing, 0, nothing, 0);
+    test("ask_cert, no certificates", answer, 0, CLUBCARD_CERT_MALFORMED);
+    answer = clubcard_ask_each(store.data, store.len, index_of, len, unseen, 0, unasked, 0);
+    test("ask_each, no queries", answer, 0, CLUBCARD_DONE);
+    answer = clubcard_covered_until(store.data, store.len, index_of, len, key, &until);
+    test("covered_until", answer, until - 1700000001000, CLUBCARD_DONE);
+}
+
+static void test_parts(const uint8_t *nothing) {
+    clubcard_part_facts part = {sizeof part, 0, 0, 0, 0, 0, 0, {0}};
+    clubcard_install_facts facts = {sizeof facts, 0, 0, 0};
+    uint32_t answer = clubcard_check_part(nothing, 0, &part);
+    test("check_part, no part", answer, part.at, CLUBCARD_LAYOUT_SHORT);
+    answer = clubcard_install(store.data, store.len, nothing, 0, NULL, 0, &facts);
+    test("install, no part", answer, facts.at, CLUBCARD_LAYOUT_SHORT);
+    answer = clubcard_install(nothing, 0, store.data, store.len, NULL, 0, &facts);
+    test("install, no store", answer, facts.at, CLUBCARD_LAYOUT_SHORT);
+}
+
 int main(int argc, char **argv) {
     static uint8_t byte;
     static clubcard_sighting sighting;
@@ -118,6 +160,8 @@ int main(int argc, char **argv) {
     test_query_each(no_bytes, no_sightings, NULL), test_query_each(&byte, &sighting, &query);
     test_examine(no_bytes), test_examine(&byte);
     test_query_cert(no_bytes), test_query_cert(&byte);
+    test_opened(no_bytes, no_sightings, NULL), test_opened(&byte, &sighting, &query);
+    test_parts(no_bytes), test_parts(&byte);
     printf("%u calls, %u of them failed\n", calls, failures);
     return failures ? 1 : 0;
 }

@@ -3,11 +3,14 @@
  *
  *     fuzz SECONDS FILE ..
  *
- * FILE are stores and certificates, whose bytes are changed at random, cut and put together. Each slice is lent behind
- * a page, or before a page, that nobody may touch, so that a read outside it ends the program. Tested of each call: its
- * answer is one of its numbers; `at` is an offset of the store for the refusals of the layout, and else 0; the same
- * call answers the same, also where each slice of length 0 is NULL; a query answers alone and among others alike; and
- * where an allocation is refused, it answers either that, or want of memory. The status is 0 where all hold.
+ * FILE are stores, parts and certificates, whose bytes are changed at random, cut and put together. Each slice is lent
+ * behind a page, or before a page, that nobody may touch, so that a read or a write outside it ends the program. Tested
+ * of each call: its answer is one of its numbers; `at` is an offset of the bytes for the refusals of the layout, and
+ * else 0; the same call answers the same, also where each slice of length 0 is NULL; a query answers alone and among
+ * others alike; where an allocation is refused, a call of interface 1 answers either the same, or want of memory; and
+ * one of interface 2 makes none. A store is opened exactly where clubcard_examine takes it, and then it answers as the
+ * calls without an index do; with an index at random, or of other bytes, each answer is some verdict. What is installed
+ * is a store with one part more. The status is 0 where all hold.
  */
 #include <stdio.h>
 #include <stdlib.h>
@@ -88,7 +91,7 @@ static void fill(slice *s) {
 
 /* ---- the tests */
 
-static slice store, cert, issuer_cert, serial, seen, asked;
+static slice store, cert, issuer_cert, serial, seen, asked, words, part, made;
 static uint64_t answers[128]; /* how often each number was answered */
 
 static void fail(const char *what, uint32_t answer) {
@@ -101,6 +104,7 @@ static int is_layout(uint32_t n) { return n >= CLUBCARD_LAYOUT_SHORT && n <= CLU
 static int is_chain(uint32_t n) { return n >= CLUBCARD_NOT_SNAPSHOT && n <= CLUBCARD_CHAIN_FULL; }
 static int is_store(uint32_t n) { return is_layout(n) || is_chain(n) || n == CLUBCARD_NO_MEMORY; }
 static int is_asked(uint32_t n) { return n == CLUBCARD_BAD_SERIAL || n == CLUBCARD_BAD_SIGHTINGS; }
+static int is_answer(uint32_t n) { return is_verdict(n) || n == CLUBCARD_BAD_SERIAL; }
 static int is_cert(uint32_t n) { return n >= CLUBCARD_CERT_MALFORMED && n <= CLUBCARD_ISSUER_CERT_MALFORMED; }
 
 static void test_offset(uint32_t answer, uint64_t at) {
@@ -189,6 +193,207 @@ static void test_each(void) {
     }
 }
 
+/* ---- the tests of interface 2, whose calls must make no allocation */
+
+/* The index, and its length in words. */
+static uint32_t *index_lent(void) { return words.len ? (uint32_t *)words.data : NULL; }
+static size_t index_len(void) { return words.len / sizeof(uint32_t); }
+
+static void fill_words(size_t len) {
+    place(&words, len * sizeof(uint32_t));
+    for (size_t i = 0; i < words.len; i++) words.data[i] = (uint8_t)(next() % 4 ? 0 : next());
+}
+
+/* The first so many words of the index, which end or begin where the room does. */
+static void keep_words(size_t len) {
+    uint8_t *from = words.data;
+    place(&words, len * sizeof(uint32_t));
+    memmove(words.data, from, words.len);
+}
+
+static void forbid_memory(void) { refused = 0; }
+
+static void test_memory(const char *what, uint32_t answer) {
+    if (refused != 0) fail(what, answer);
+    refused = -1;
+}
+
+/* Where a refusal of the layout is told: an offset of the bytes, and a field that has a name. Else both are 0. */
+static void test_place(uint32_t answer, const slice *s, uint64_t at, uint64_t field) {
+    answers[answer % 128]++;
+    if (is_layout(answer) ? at > s->len || !*clubcard_field_name(field) : at || field) fail("place", answer);
+}
+
+/* The size that the caller gives, which is a wrong one at times. */
+static uint64_t size_or_other(uint64_t size) { return next() % 16 ? size : next() % 128; }
+
+/* Opens the store, as far as it is one, with an index that may be too short. */
+static uint32_t open_it(void) {
+    uint64_t wanted = 1, at;
+    clubcard_store_facts facts = {.size = size_or_other(sizeof facts), .parts = 9, .index_len = 9};
+    clubcard_facts examined;
+    uint32_t is_store_then = clubcard_examine(or_null(&store), store.len, &examined, &at);
+    forbid_memory();
+    uint32_t counted = clubcard_index_length(or_null(&store), store.len, &wanted);
+    /* No store of these files has so long an index. */
+    if (counted ? counted != CLUBCARD_LAYOUT_VALUE || wanted : wanted > MOST / 8) fail("index_length", counted);
+    fill_words(next() % 8 ? wanted : below(wanted + 1));
+    if (next() % 8 == 0) fill_words(wanted + below(5));
+    uint32_t answer = clubcard_open(or_null(&store), store.len, index_lent(), index_len(), &facts);
+    test_memory("memory of open", answer);
+    if (facts.size != sizeof facts) {
+        if (answer != CLUBCARD_BAD_SIZE || facts.parts != 9 || facts.index_len != 9) fail("size of open", answer);
+        return answer;
+    }
+    test_place(answer, &store, facts.at, facts.field);
+    if (is_store_then != CLUBCARD_DONE) {
+        if (answer != is_store_then || facts.at != at) fail("open, no store", answer);
+    } else if (counted != CLUBCARD_DONE || facts.index_len != wanted) {
+        fail("open, the index's length", answer);
+    } else if (answer != (index_len() < wanted ? CLUBCARD_INDEX_TOO_SHORT : CLUBCARD_DONE)) {
+        fail("open", answer);
+    } else if (!answer && (facts.parts != examined.parts || facts.newest_epoch != examined.newest_epoch)) {
+        fail("facts of open", answer);
+    }
+    if (answer == CLUBCARD_DONE) keep_words(wanted);
+    return answer;
+}
+
+/* An issuer's key hash: some bytes of the store, or the one of the shipped store. */
+static void fill_issuer(uint8_t issuer[32]) {
+    if (store.len >= 32 && next() % 4 == 0) memcpy(issuer, store.data + below(store.len - 31), 32);
+    else memset(issuer, 0x11, 32);
+}
+
+/* Asks by an index. Of an opened store each answer is the one without an index; of any other bytes, some verdict. */
+static void ask_it(int is_opened) {
+    uint64_t at, until = 1;
+    uint8_t issuer[32], log[32];
+    const clubcard_sighting *sightings = (const clubcard_sighting *)or_null(&seen);
+    size_t all = seen.len / sizeof *sightings;
+    fill_issuer(issuer), fill_issuer(log);
+    if (next() % 2) memset(log, 0xaa, sizeof log);
+    forbid_memory();
+    uint32_t answer = clubcard_ask(or_null(&store), store.len, index_lent(), index_len(), issuer, or_null(&serial),
+                                   serial.len, sightings, all);
+    uint32_t again = clubcard_ask(store.data, store.len, index_lent(), index_len(), issuer, serial.data, serial.len,
+                                  (const clubcard_sighting *)seen.data, all);
+    if (!is_answer(answer) || answer != again) fail("ask", answer);
+    uint32_t by_cert = clubcard_ask_cert(or_null(&store), store.len, index_lent(), index_len(), or_null(&cert),
+                                         cert.len, or_null(&issuer_cert), issuer_cert.len);
+    if (!is_verdict(by_cert) && !is_cert(by_cert)) fail("ask_cert", by_cert);
+    uint32_t covered = clubcard_covered_until(or_null(&store), store.len, index_lent(), index_len(), log, &until);
+    if (covered ? covered != CLUBCARD_NOT_COVERED || until : 0) fail("covered_until", covered);
+    test_memory("memory of ask", answer);
+    answers[answer % 128]++, answers[by_cert % 128]++, answers[covered % 128]++;
+    if (!is_opened) return;
+    again = clubcard_query(store.data, store.len, issuer, serial.data, serial.len, sightings, all, &at);
+    if (answer != again) fail("ask, and query", answer);
+    again = clubcard_query_cert(store.data, store.len, cert.data, cert.len, issuer_cert.data, issuer_cert.len, &at);
+    if (by_cert != again) fail("ask_cert, and query_cert", by_cert);
+}
+
+/* The same for many queries. */
+static void ask_each(int is_opened) {
+    uint64_t at;
+    clubcard_one_query *queries = asked.len ? (clubcard_one_query *)asked.data : NULL;
+    const clubcard_sighting *sightings = (const clubcard_sighting *)or_null(&seen);
+    size_t n = asked.len / sizeof *queries, all = seen.len / sizeof *sightings;
+    clubcard_one_query before[QUERIES];
+    memcpy(before, asked.data, asked.len);
+    forbid_memory();
+    uint32_t answer = clubcard_ask_each(or_null(&store), store.len, index_lent(), index_len(), sightings, all, queries,
+                                        n);
+    test_memory("memory of ask_each", answer);
+    if (answer != CLUBCARD_DONE) fail("ask_each", answer);
+    if (is_opened) clubcard_query_each(store.data, store.len, sightings, all, before, n, &at);
+    for (size_t i = 0; i < n; i++) {
+        if (!is_answer(queries[i].answer) && !is_asked(queries[i].answer)) fail("a query", queries[i].answer);
+        if (!is_opened) before[i].answer = queries[i].answer;
+        if (memcmp(&before[i], &queries[i], sizeof *queries) != 0) fail("ask_each, and query_each", queries[i].answer);
+    }
+}
+
+/* A store that was opened; the same where its bytes or its index are others; and an index at random. */
+static void test_opened(void) {
+    int is_opened = open_it() == CLUBCARD_DONE;
+    ask_it(is_opened), ask_each(is_opened);
+    if (is_opened && next() % 2 && words.len) words.data[below(words.len)] ^= (uint8_t)next();
+    else if (is_opened && store.len) store.data[below(store.len)] ^= (uint8_t)next();
+    else fill_words(below(100));
+    ask_it(0), ask_each(0);
+}
+
+/* A part: a file as above, without the head of a store at times. */
+static void fill_part(void) {
+    const size_t head = 10;
+    fill(&part);
+    if (part.len >= head && next() % 2) part.data += head, part.len -= head;
+}
+
+static void test_part(void) {
+    clubcard_part_facts facts = {.size = size_or_other(sizeof facts), .kind = 9};
+    forbid_memory();
+    uint32_t answer = clubcard_check_part(or_null(&part), part.len, &facts);
+    test_memory("memory of check_part", answer);
+    if (facts.size != sizeof facts) {
+        if (answer != CLUBCARD_BAD_SIZE || facts.kind != 9) fail("size of check_part", answer);
+        return;
+    }
+    if (answer != CLUBCARD_DONE && !is_layout(answer)) fail("check_part", answer);
+    test_place(answer, &part, facts.at, facts.field);
+    if (answer == CLUBCARD_DONE && (facts.kind > 1 || facts.ranges > 1024 || facts.issuers > 65535 || part.len < 32 ||
+                                    memcmp(facts.trailer, part.data + part.len - 32, 32) != 0)) {
+        fail("facts of check_part", answer);
+    }
+}
+
+/* Whether nothing was written to the room for the new store. */
+static int is_untouched(void) {
+    for (size_t i = 0; i < made.len; i++)
+        if (made.data[i] != 0xa5) return 0;
+    return 1;
+}
+
+/* What was installed is a store of one part more: its bytes are the store's, but for the count, and the part's. */
+static void test_made(const clubcard_install_facts *facts) {
+    uint64_t at;
+    clubcard_facts before, after;
+    uint32_t was = clubcard_examine(store.data, store.len, &before, &at);
+    uint32_t is = clubcard_examine(made.data, facts->length, &after, &at);
+    if (was || is || after.parts != before.parts + 1 || facts->length != store.len + part.len ||
+        memcmp(made.data + 10, store.data + 10, store.len - 10) != 0 ||
+        memcmp(made.data + store.len, part.data, part.len) != 0) {
+        fail("the installed store", is);
+    }
+}
+
+static void test_install(void) {
+    clubcard_install_facts facts = {.size = size_or_other(sizeof facts), .length = 9};
+    clubcard_part_facts checked = {.size = sizeof checked};
+    clubcard_facts examined;
+    uint64_t at;
+    size_t together = store.len + part.len < MOST ? store.len + part.len : MOST;
+    place(&made, next() % 4 ? together : below(together + 1));
+    memset(made.data, 0xa5, made.len);
+    forbid_memory();
+    uint32_t answer = clubcard_install(or_null(&store), store.len, or_null(&part), part.len,
+                                       made.len ? made.data : NULL, made.len, &facts);
+    test_memory("memory of install", answer);
+    if (answer != CLUBCARD_DONE && !is_untouched()) fail("install wrote", answer);
+    if (facts.size != sizeof facts) {
+        if (answer != CLUBCARD_BAD_SIZE || facts.length != 9) fail("size of install", answer);
+        return;
+    }
+    uint32_t of_store = clubcard_examine(store.data, store.len, &examined, &at);
+    uint32_t of_part = clubcard_check_part(part.data, part.len, &checked);
+    test_place(answer, of_store ? &store : &part, facts.at, facts.field);
+    if (of_store ? answer != of_store : of_part ? answer != of_part : 0) fail("install, the first fault", answer);
+    if (of_store || of_part) return;
+    if (answer == CLUBCARD_DONE) test_made(&facts);
+    else if (answer == CLUBCARD_ROOM_TOO_SHORT ? facts.length <= made.len : !is_chain(answer)) fail("install", answer);
+}
+
 /* A serial, sightings and queries, mostly of the logs, times and issuers of the shipped store. */
 static void fill_queries(void) {
     place(&serial, next() % 4 ? 1 : below(40));
@@ -228,12 +433,14 @@ int main(int argc, char **argv) {
         }
     }
     store = room(), cert = room(), issuer_cert = room(), serial = room(), seen = room(), asked = room();
+    words = room(), part = room(), made = room();
     state = (uint64_t)time(NULL) * 0x9e3779b97f4a7c15u | 1;
     printf("seed %llu\n", (unsigned long long)state);
     uint64_t rounds = 0;
     for (time_t end = time(NULL) + atoi(argv[1]); time(NULL) < end; rounds++) {
         fill(&store), fill(&cert), fill(&issuer_cert), fill_queries();
         test_query(), test_cert(), test_examine(), test_each();
+        fill_part(), test_part(), test_install(), test_opened();
     }
     printf("%llu rounds; answers:", (unsigned long long)rounds);
     for (uint32_t i = 0; i < 128; i++)
