@@ -3,7 +3,8 @@
 A thin layer over libclubcard.so by ctypes; bindings/c/clubcard.h says what each call answers. The library is the first
 of these that is there: the file that CLUBCARD_LIBRARY names, release/libclubcard.so of the project where the module
 stands in its tree, the one beside which tools/install.sh put the module, and what the system finds under its name. It
-is loaded when the first of Facts, Query, Sighting and Store is asked for; where there is none, that is an ImportError.
+is loaded when the first of Store, check_part and what they take and give is asked for; where there is none, that is an
+ImportError.
 What the library answers is proved; this module isn't.
 
 What a verdict means: of a certificate that one of the jobs behind the store's parts accepted (and that was kept, where
@@ -22,9 +23,20 @@ from .answers import Refusal, Refused, Verdict
 from .octets import serial_from_int
 
 if TYPE_CHECKING:
-    from .store import Facts, Query, Sighting, Store
+    from .store import Facts, Part, Query, Sighting, Store, check_part
 
-__all__ = ["Facts", "Query", "Refusal", "Refused", "Sighting", "Store", "Verdict", "serial_from_int"]
+__all__ = [
+    "Facts",
+    "Part",
+    "Query",
+    "Refusal",
+    "Refused",
+    "Sighting",
+    "Store",
+    "Verdict",
+    "check_part",
+    "serial_from_int",
+]
 
 
 def __getattr__(name: str) -> Any:

@@ -32,6 +32,7 @@ class Refusal(_Answer):
     OLD_EPOCH = 35
     COVERAGE_SHRINKS = 36
     CHAIN_FULL = 37
+    STORE_TOO_LONG = 38
     BAD_SERIAL = 48
     BAD_SIGHTINGS = 49
     CERT_MALFORMED = 64
@@ -39,6 +40,9 @@ class Refusal(_Answer):
     CERT_BAD_SCTS = 66
     CERT_TOO_MANY_SCTS = 67
     ISSUER_CERT_MALFORMED = 68
+    INDEX_TOO_SHORT = 80
+    ROOM_TOO_SHORT = 81
+    BAD_SIZE = 82
     NO_MEMORY = 112
     # A number that this module doesn't know, or that isn't one of the call. No library answers -1 itself.
     UNKNOWN = -1
@@ -54,16 +58,18 @@ _ANSWERS: Dict[int, Union[Verdict, Refusal]] = {answer.value: answer for answer 
 class Refused(Exception):
     """A call gave no verdict.
 
-    `refusal` says why. `offset` is that of the store's field at fault, for the refusals of the layout, and else 0.
-    `number` is the library's own, which says more than `refusal` where that is UNKNOWN.
+    `refusal` says why. For the refusals of the layout `offset` is that of the field at fault, of a store or of a part,
+    and `field` its name in docs/FORMATS.md, such as "part.trailer"; else they are 0 and empty. `number` is the
+    library's own, which says more than `refusal` where that is UNKNOWN.
     """
 
-    def __init__(self, refusal: Refusal, offset: int = 0, number: Optional[int] = None) -> None:
+    def __init__(self, refusal: Refusal, offset: int = 0, number: Optional[int] = None, field: str = "") -> None:
         self.refusal = refusal
         self.offset = offset
         self.number: int = refusal.value if number is None else number
+        self.field = field
         # All that the next copy is made of, as by pickle.
-        super().__init__(refusal, offset, self.number)
+        super().__init__(refusal, offset, self.number, field)
 
     def __str__(self) -> str:
         if self.refusal in _WITH_OFFSET:
@@ -78,7 +84,7 @@ def answer_of(number: int) -> Union[Verdict, Refusal]:
     return _ANSWERS.get(number, Refusal.UNKNOWN)
 
 
-def refused_by(number: int, offset: int) -> Refused:
+def refused_by(number: int, offset: int = 0, field: str = "") -> Refused:
     """What is raised where a call that should have answered something else answers this number."""
     answer = answer_of(number)
-    return Refused(answer if isinstance(answer, Refusal) else Refusal.UNKNOWN, offset, number)
+    return Refused(answer if isinstance(answer, Refusal) else Refusal.UNKNOWN, offset, number, field)

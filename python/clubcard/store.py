@@ -1,15 +1,24 @@
-"""A store, what it is asked, and what it holds."""
+"""A store, what it is asked, and what it holds; and a part."""
 
+import contextlib
 import ctypes
 import operator
 import os
 import pathlib
 import struct
 from dataclasses import dataclass
-from typing import Iterable, List, NamedTuple, Sequence, Tuple, Union
+from typing import Iterable, Iterator, List, NamedTuple, Optional, Sequence, Tuple, Union
 
-from .answers import DONE, Refusal, Verdict, answer_of, refused_by
-from .library import LIBRARY, LentFacts, LentQuery, LentSighting
+from .answers import DONE, Refusal, Refused, Verdict, answer_of, refused_by
+from .library import (
+    FIELDS,
+    LIBRARY,
+    LentInstallFacts,
+    LentPartFacts,
+    LentQuery,
+    LentSighting,
+    LentStoreFacts,
+)
 from .octets import MAX_SERIAL, BytesLike, bytes_like, key_of, lent, octets_of, serial_of
 
 _ISSUER, _LOG = "an issuer's key hash", "a log's id"
@@ -51,6 +60,32 @@ class Facts(NamedTuple):
     newest_epoch: int
 
 
+class Part(NamedTuple):
+    """What a part holds: whether it is a delta or a snapshot, its epoch, how many ranges of logs and how many issuers'
+    blocks it has, and its trailer, the SHA-256 of the bytes before it."""
+
+    is_delta: bool
+    epoch: int
+    ranges: int
+    issuers: int
+    trailer: bytes
+
+
+@dataclass(frozen=True)
+class _Opened:
+    """A store that was opened: where its bytes lie and how many they are, its index, and what it holds."""
+
+    address: Optional[int]
+    length: int
+    index: "ctypes.Array[ctypes.c_uint32]"
+    facts: Facts
+
+    @property
+    def parameters(self) -> Tuple[Optional[int], int, "ctypes.Array[ctypes.c_uint32]", int]:
+        """What each call on an opened store is lent first."""
+        return self.address, self.length, self.index, len(self.index)
+
+
 def _time_of(time: int) -> int:
     """A time of 64 bits. Another one is a ValueError, since ctypes would cut it."""
     try:
@@ -86,13 +121,18 @@ def _lent_query(issuer: bytes, serial: bytes, first_sighting: int, sightings: in
 class Store:
     """A store's bytes, given as bytes, bytearray, memoryview or mmap. Whatever isn't bytes-like is a TypeError.
 
-    They aren't copied: each call lends them to the library where they lie, and reads them anew. So they stay as they
-    are during a call, and a file that is mapped mustn't be cut. Ask many queries of one store by `query_each`, which
-    reads it once. Each call raises `Refused` where the bytes aren't a store, and for want of memory.
+    They aren't copied: each call lends them to the library where they lie. The first call opens the store: it reads the
+    bytes whole, and makes an index, by which each later call reads no more than it needs. Any number of threads may
+    ask. What is read-only must not change as long as the Store is asked: a file that is mapped is neither written in
+    its place nor cut. What can be written, such as a bytearray, stays as it is during a call, and is opened anew by
+    each. Each call raises `Refused` where the bytes aren't a store, and for want of memory.
     """
 
     def __init__(self, data: BytesLike) -> None:
         self._data = bytes_like(data, "a store")
+        self._kept: Optional[_Opened] = None
+        with memoryview(data) as view:
+            self._stays = view.readonly
 
     @classmethod
     def from_file(cls, name: Union[str, "os.PathLike[str]"]) -> "Store":
@@ -106,10 +146,9 @@ class Store:
         With more or none it is `Refused`.
         """
         key, octets, seen = key_of(issuer, _ISSUER), serial_of(serial), _lent_sightings(_listed(sightings))
-        at = ctypes.c_uint64()
-        with lent(self._data) as store:
-            number = LIBRARY.clubcard_query(*store, key, octets, len(octets), seen, len(seen), ctypes.byref(at))
-        return _verdict_of(number, at.value)
+        with self._opened() as store:
+            number = LIBRARY.clubcard_ask(*store.parameters, key, octets, len(octets), seen, len(seen))
+        return _verdict_of(number)
 
     def query_cert(self, cert: BytesLike, issuer_cert: BytesLike) -> Verdict:
         """The verdict on a certificate with its timestamps, by its issuer's certificate, both in DER.
@@ -118,10 +157,9 @@ class Store:
         a part covers. Where a certificate isn't read, or the first has no timestamps, it is `Refused`.
         """
         leaf, issuer = octets_of(cert, "a certificate"), octets_of(issuer_cert, "an issuer's certificate")
-        at = ctypes.c_uint64()
-        with lent(self._data) as store:
-            number = LIBRARY.clubcard_query_cert(*store, leaf, len(leaf), issuer, len(issuer), ctypes.byref(at))
-        return _verdict_of(number, at.value)
+        with self._opened() as store:
+            number = LIBRARY.clubcard_ask_cert(*store.parameters, leaf, len(leaf), issuer, len(issuer))
+        return _verdict_of(number)
 
     def query_each(self, queries: Iterable[Query]) -> List[Union[Verdict, Refusal]]:
         """The answers to many queries: of each its verdict, or why there is none."""
@@ -146,27 +184,89 @@ class Store:
 
     def _answers(self, octets: bytearray, sightings: "ctypes.Array[LentSighting]") -> List[Union[Verdict, Refusal]]:
         """The answers to queries and their sightings in the layout of C."""
-        count, at = len(octets) // _QUERY.size, ctypes.c_uint64()
+        count = len(octets) // _QUERY.size
         queries = (LentQuery * count).from_buffer(octets)
-        with lent(self._data) as store:
-            number = LIBRARY.clubcard_query_each(*store, sightings, len(sightings), queries, count, ctypes.byref(at))
+        with self._opened() as store:
+            number = LIBRARY.clubcard_ask_each(*store.parameters, sightings, len(sightings), queries, count)
         if number != DONE:
-            raise refused_by(number, at.value)
+            raise refused_by(number)
         return [answer_of(answer) for *_, answer in _QUERY.iter_unpack(octets)]
 
     def examine(self) -> Facts:
         """Tests the store's bytes: how many parts they hold, and the newest one's epoch."""
-        facts, at = LentFacts(), ctypes.c_uint64()
-        with lent(self._data) as store:
-            number = LIBRARY.clubcard_examine(*store, ctypes.byref(facts), ctypes.byref(at))
+        with self._opened() as store:
+            return store.facts
+
+    def covered_until(self, log: BytesLike) -> Optional[int]:
+        """The last moment of the newest part's range of the log, in milliseconds since 1970; None where it has none."""
+        key, until = key_of(log, _LOG), ctypes.c_uint64()
+        with self._opened() as store:
+            number = LIBRARY.clubcard_covered_until(*store.parameters, key, ctypes.byref(until))
+        if number == Verdict.NOT_COVERED.value:
+            return None
         if number != DONE:
-            raise refused_by(number, at.value)
-        return Facts(facts.parts, facts.newest_epoch)
+            raise refused_by(number)
+        return until.value
+
+    def install(self, part: BytesLike) -> bytes:
+        """The bytes of the store that has this part more. Where they aren't a part, or one that doesn't go on with this
+        store, it is `Refused`."""
+        facts = LentInstallFacts(size=ctypes.sizeof(LentInstallFacts))
+        with self._opened() as store, lent(bytes_like(part, "a part")) as lent_part:
+            made = (ctypes.c_uint8 * (store.length + lent_part[1]))()
+            number = LIBRARY.clubcard_install(
+                store.address, store.length, *lent_part, ctypes.byref(made), len(made), ctypes.byref(facts)
+            )
+        if number != DONE:
+            raise _refused_at(number, facts)
+        return bytes(memoryview(made)[: facts.length])
+
+    @contextlib.contextmanager
+    def _opened(self) -> Iterator[_Opened]:
+        """The store, opened where it isn't yet, or where its bytes may be others. Meanwhile nobody can move them."""
+        with lent(self._data) as (address, length):
+            kept = self._kept
+            if kept is None or (kept.address, kept.length) != (address, length):
+                kept = _open(address, length)
+                if self._stays:
+                    self._kept = kept
+            yield kept
 
 
-def _verdict_of(number: int, offset: int) -> Verdict:
+def check_part(part: BytesLike) -> Part:
+    """Tests a part's bytes, and says what it holds. Where they aren't a part, it is `Refused`."""
+    facts = LentPartFacts(size=ctypes.sizeof(LentPartFacts))
+    with lent(bytes_like(part, "a part")) as lent_part:
+        number = LIBRARY.clubcard_check_part(*lent_part, ctypes.byref(facts))
+    if number != DONE:
+        raise _refused_at(number, facts)
+    return Part(facts.kind == 1, facts.epoch, facts.ranges, facts.issuers, bytes(facts.trailer))
+
+
+def _open(address: Optional[int], length: int) -> _Opened:
+    """Opens the store of these bytes."""
+    words, facts = ctypes.c_uint64(), LentStoreFacts(size=ctypes.sizeof(LentStoreFacts))
+    # Bytes of which no index is known aren't a store, and clubcard_open says why.
+    counted = LIBRARY.clubcard_index_length(address, length, ctypes.byref(words))
+    try:
+        index = (ctypes.c_uint32 * (words.value if counted == DONE else 0))()
+    except (MemoryError, OverflowError, ValueError):
+        raise refused_by(Refusal.NO_MEMORY.value) from None
+    number = LIBRARY.clubcard_open(address, length, index, len(index), ctypes.byref(facts))
+    if number != DONE:
+        raise _refused_at(number, facts)
+    return _Opened(address, length, index, Facts(facts.parts, facts.newest_epoch))
+
+
+def _refused_at(number: int, facts: Union[LentStoreFacts, LentPartFacts, LentInstallFacts]) -> Refused:
+    """What is raised where a call answers this number, with the place that its facts tell."""
+    field = FIELDS[facts.field - 1] if 1 <= facts.field <= len(FIELDS) else ""
+    return refused_by(number, facts.at, field)
+
+
+def _verdict_of(number: int) -> Verdict:
     """The verdict of a number. Any other number is raised."""
     answer = answer_of(number)
     if isinstance(answer, Verdict):
         return answer
-    raise refused_by(number, offset)
+    raise refused_by(number)

@@ -2,6 +2,7 @@
 
 import copy
 import ctypes
+import hashlib
 import mmap
 import os
 import pathlib
@@ -9,11 +10,25 @@ import pickle
 import shutil
 import subprocess
 import tracemalloc
+from concurrent.futures import ThreadPoolExecutor
 from typing import Any, Callable, Iterator, List, Tuple
 
 import pytest
 
-from clubcard import Facts, Query, Refusal, Refused, Sighting, Store, Verdict, answers, library, serial_from_int
+from clubcard import (
+    Facts,
+    Part,
+    Query,
+    Refusal,
+    Refused,
+    Sighting,
+    Store,
+    Verdict,
+    answers,
+    check_part,
+    library,
+    serial_from_int,
+)
 
 SHIPPED = pathlib.Path(__file__).resolve().parents[2] / "crates" / "clubcard" / "data" / "one_revoked.store"
 STORE = SHIPPED.read_bytes()
@@ -27,6 +42,9 @@ ROWS = [
     (ISSUER, SERIAL, LATE, Verdict.NOT_COVERED),
     (b"\x22" * 32, SERIAL, SEEN, Verdict.NOT_ENROLLED),
 ]
+# The store's head, and the snapshot behind it.
+HEAD = 10
+SNAPSHOT = STORE[HEAD:]
 # What isn't bytes-like, and might be taken for some.
 NO_BYTES: List[Any] = [5, 0, True, "05", "", None, [5], (5,), 5.0, {5}, range(5), SEEN]
 
@@ -101,11 +119,96 @@ def test_no_store() -> None:
             assert str(raised.value) == f"{refusal.name} at {raised.value.offset}"
 
 
+@pytest.mark.parametrize(
+    "data, field", [(STORE[:5], "store.magic"), (STORE[:-1], "part.trailer"), (STORE + b"\0", "end")]
+)
+def test_the_field_at_fault(data: bytes, field: str) -> None:
+    with pytest.raises(Refused) as raised:
+        Store(data).examine()
+    assert raised.value.field == field
+
+
+def test_covered_until(store: Store) -> None:
+    assert store.covered_until(SEEN.log) == SEEN.time + 1000
+    assert store.covered_until(bytearray(SEEN.log)) == SEEN.time + 1000
+    assert store.covered_until(ISSUER) is None
+    with pytest.raises(Refused):
+        Store(b"").covered_until(SEEN.log)
+    with pytest.raises(ValueError, match="has 32 bytes"):
+        store.covered_until(b"")
+
+
+@pytest.mark.parametrize("words", [1 << 40, 1 << 61, (1 << 64) - 1])
+def test_an_index_for_which_there_is_no_memory(words: int, monkeypatch: pytest.MonkeyPatch) -> None:
+    def count(_: int, __: int, written: Any) -> int:
+        written._obj.value = words
+        return answers.DONE
+
+    monkeypatch.setattr(library.LIBRARY, "clubcard_index_length", count)
+    with pytest.raises(Refused) as raised:
+        Store(STORE).examine()
+    assert raised.value.refusal is Refusal.NO_MEMORY
+
+
 def test_no_certificate(store: Store) -> None:
     with pytest.raises(Refused) as raised:
         store.query_cert(b"\x30\x00", b"\x30\x00")
     assert raised.value.refusal is Refusal.CERT_MALFORMED
     assert str(raised.value) == "CERT_MALFORMED"
+
+
+# ---- parts
+
+
+def delta(epoch: int = 2, parent: bytes = STORE[-32:], to: int = SEEN.time + 2000) -> bytes:
+    """A delta of one range and no block, by the layout of docs/FORMATS.md."""
+    octets = b"CLUBCARD\1\1" + epoch.to_bytes(8, "big") + parent + b"\0\1" + SEEN.log
+    octets += SEEN.time.to_bytes(8, "big") + to.to_bytes(8, "big") + b"\0\0\0\0"
+    return octets + hashlib.sha256(octets).digest()
+
+
+def test_check_part() -> None:
+    assert check_part(SNAPSHOT) == Part(False, 1, 1, 1, STORE[-32:])
+    assert check_part(memoryview(delta())) == Part(True, 2, 1, 0, delta()[-32:])
+    for octets, refusal, offset, field in [
+        (b"", Refusal.LAYOUT_SHORT, 0, "part.magic"),
+        (SNAPSHOT[:-1], Refusal.LAYOUT_SHORT, len(SNAPSHOT) - 32, "part.trailer"),
+        (SNAPSHOT[:-1] + b"\0", Refusal.LAYOUT_DIGEST, len(SNAPSHOT) - 32, "part.trailer"),
+        (SNAPSHOT + b"\0", Refusal.LAYOUT_VALUE, len(SNAPSHOT), "end"),
+        (STORE, Refusal.LAYOUT_VALUE, 0, "part.magic"),
+    ]:
+        with pytest.raises(Refused) as raised:
+            check_part(octets)
+        assert (raised.value.refusal, raised.value.offset, raised.value.field) == (refusal, offset, field)
+
+
+def test_install(store: Store) -> None:
+    made = store.install(delta())
+    assert type(made) is bytes
+    assert made == STORE[: HEAD - 1] + b"\2" + SNAPSHOT + delta()
+    newer = Store(made)
+    assert newer.examine() == Facts(parts=2, newest_epoch=2)
+    assert newer.covered_until(SEEN.log) == SEEN.time + 2000
+    assert newer.query(ISSUER, SERIAL, [SEEN]) is Verdict.REVOKED
+    assert newer.query(ISSUER, SERIAL, [LATE]) is Verdict.NOT_ENROLLED
+    assert store.examine() == Facts(parts=1, newest_epoch=1)
+
+
+def test_parts_that_are_not_installed(store: Store) -> None:
+    for part, refusal in [
+        (SNAPSHOT, Refusal.NOT_DELTA),
+        (delta(parent=ISSUER), Refusal.WRONG_PARENT),
+        (delta(epoch=1), Refusal.OLD_EPOCH),
+        (delta(to=SEEN.time + 999), Refusal.COVERAGE_SHRINKS),
+        (b"", Refusal.LAYOUT_SHORT),
+        (delta() + b"\0", Refusal.LAYOUT_VALUE),
+    ]:
+        with pytest.raises(Refused) as raised:
+            store.install(part)
+        assert raised.value.refusal is refusal
+        assert bool(raised.value.field) == refusal.name.startswith("LAYOUT")
+    with pytest.raises(Refused):
+        Store(STORE[:-1]).install(delta())
 
 
 # ---- what a verdict may be taken for
@@ -126,17 +229,19 @@ def test_refused_is_copied() -> None:
         Refused(Refusal.LAYOUT_VALUE, 177),
         Refused(Refusal.CERT_NO_SCTS),
         Refused(Refusal.UNKNOWN, 0, 99),
+        Refused(Refusal.LAYOUT_SHORT, 147, field="part.trailer"),
     ]:
         for again in [pickle.loads(pickle.dumps(refused)), copy.copy(refused), copy.deepcopy(refused)]:
             assert type(again) is Refused
             assert (again.refusal, again.offset, again.number) == (refused.refusal, refused.offset, refused.number)
+            assert again.field == refused.field
             assert str(again) == str(refused)
 
 
 @pytest.mark.parametrize("number", [0, 5, 99, 113, (1 << 32) - 1])
 def test_unknown_number(store: Store, number: int, monkeypatch: pytest.MonkeyPatch) -> None:
-    monkeypatch.setattr(library.LIBRARY, "clubcard_query", lambda *_: number)
-    monkeypatch.setattr(library.LIBRARY, "clubcard_query_cert", lambda *_: number)
+    monkeypatch.setattr(library.LIBRARY, "clubcard_ask", lambda *_: number)
+    monkeypatch.setattr(library.LIBRARY, "clubcard_ask_cert", lambda *_: number)
     calls: Calls = [lambda: store.query(ISSUER, SERIAL, [SEEN]), lambda: store.query_cert(b"", b"")]
     for call in calls:
         with pytest.raises(Refused) as raised:
@@ -148,9 +253,12 @@ def test_unknown_number(store: Store, number: int, monkeypatch: pytest.MonkeyPat
 
 @pytest.mark.parametrize("number", [1, 4, 99])
 def test_number_of_another_call(store: Store, number: int, monkeypatch: pytest.MonkeyPatch) -> None:
-    monkeypatch.setattr(library.LIBRARY, "clubcard_query_each", lambda *_: number)
-    monkeypatch.setattr(library.LIBRARY, "clubcard_examine", lambda *_: number)
-    calls: Calls = [lambda: store.query_each([]), store.examine]
+    for call_of_it in ("ask_each", "check_part", "install"):
+        monkeypatch.setattr(library.LIBRARY, f"clubcard_{call_of_it}", lambda *_: number)
+    calls: Calls = [lambda: store.query_each([]), lambda: check_part(b""), lambda: store.install(b"")]
+    store.examine()
+    monkeypatch.setattr(library.LIBRARY, "clubcard_open", lambda *_: number)
+    calls.append(Store(STORE).examine)
     for call in calls:
         with pytest.raises(Refused) as raised:
             call()
@@ -159,7 +267,7 @@ def test_number_of_another_call(store: Store, number: int, monkeypatch: pytest.M
 
 
 def test_unknown_number_of_one_query(store: Store, monkeypatch: pytest.MonkeyPatch) -> None:
-    monkeypatch.setattr(library.LIBRARY, "clubcard_query_each", lambda *_: answers.DONE)
+    monkeypatch.setattr(library.LIBRARY, "clubcard_ask_each", lambda *_: answers.DONE)
     # Nothing was written to the place of the answer: it is 0, which is no verdict.
     assert store.query_each([Query(ISSUER, SERIAL, [SEEN])]) == [Refusal.UNKNOWN]
 
@@ -171,6 +279,9 @@ def test_unknown_number_of_one_query(store: Store, monkeypatch: pytest.MonkeyPat
 def test_bytes_are_wanted(store: Store, given: Any) -> None:
     calls: Calls = [
         lambda: Store(given),
+        lambda: check_part(given),
+        lambda: store.install(given),
+        lambda: store.covered_until(given),
         lambda: store.query(given, SERIAL, [SEEN]),
         lambda: store.query(ISSUER, given, [SEEN]),
         lambda: store.query_cert(given, b""),
@@ -272,14 +383,14 @@ def test_serials_that_no_store_knows() -> None:
 
 @pytest.fixture(name="addresses")
 def recorded_addresses(monkeypatch: pytest.MonkeyPatch) -> Iterator[List[Tuple[int, int]]]:
-    """The address and the length of each store that `examine` lends."""
-    examine, seen = library.LIBRARY.clubcard_examine, []
+    """The address and the length of each store that is opened."""
+    opens, seen = library.LIBRARY.clubcard_open, []
 
     def record(address: int, length: int, *rest: Any) -> Any:
         seen.append((address, length))
-        return examine(address, length, *rest)
+        return opens(address, length, *rest)
 
-    monkeypatch.setattr(library.LIBRARY, "clubcard_examine", record)
+    monkeypatch.setattr(library.LIBRARY, "clubcard_open", record)
     yield seen
 
 
@@ -325,6 +436,41 @@ def test_a_mapped_file_of_64_mib(tmp_path: pathlib.Path, access: int) -> None:
         store.examine()
 
 
+def ask_by_each_call(store: Store) -> None:
+    assert store.query(ISSUER, SERIAL, [SEEN]) is Verdict.REVOKED
+    assert store.query_each([Query(ISSUER, SERIAL, [SEEN])]) == [Verdict.REVOKED]
+    assert store.covered_until(SEEN.log) == SEEN.time + 1000
+    assert store.examine() == Facts(1, 1)
+
+
+def test_a_store_is_opened_once(addresses: List[Tuple[int, int]]) -> None:
+    for given in [STORE, memoryview(STORE), memoryview(bytearray(STORE)).toreadonly()]:
+        store = Store(given)
+        assert not addresses
+        ask_by_each_call(store)
+        ask_by_each_call(store)
+        assert len(addresses) == 1
+        addresses.clear()
+
+
+def test_what_can_be_written_is_opened_by_each_call(addresses: List[Tuple[int, int]]) -> None:
+    for given in [bytearray(STORE), memoryview(bytearray(STORE))]:
+        ask_by_each_call(Store(given))
+        assert len(addresses) == 4
+        addresses.clear()
+
+
+def test_threads_ask_one_store() -> None:
+    store = Store(STORE)
+
+    def ask_often(_: int) -> None:
+        for _ in range(100):
+            ask_by_each_call(store)
+
+    with ThreadPoolExecutor(8) as pool:
+        list(pool.map(ask_often, range(8)))
+
+
 def test_a_store_is_read_anew(store: Store) -> None:
     data = bytearray(b"\0" * len(STORE))
     changing = Store(data)
@@ -364,8 +510,8 @@ needs_cc = pytest.mark.skipif(shutil.which("cc") is None, reason="there is no cc
 
 @needs_cc
 def test_the_interface_comes_first(tmp_path: pathlib.Path) -> None:
-    name = compiled(tmp_path, "unsigned clubcard_interface(void) { return 2; }")
-    with pytest.raises(ImportError, match="has the interface 2, and this module is for 1"):
+    name = compiled(tmp_path, "unsigned clubcard_interface(void) { return 1; }")
+    with pytest.raises(ImportError, match="has the interface 1, and this module is for 2"):
         library.load(name)
 
 
@@ -378,7 +524,7 @@ def test_a_library_that_is_another(tmp_path: pathlib.Path) -> None:
 
 @needs_cc
 def test_a_library_that_lacks_a_call(tmp_path: pathlib.Path) -> None:
-    name = compiled(tmp_path, "unsigned clubcard_interface(void) { return 1; }")
+    name = compiled(tmp_path, "unsigned clubcard_interface(void) { return 2; }")
     with pytest.raises(ImportError, match="has no clubcard_query"):
         library.load(name)
 

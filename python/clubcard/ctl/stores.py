@@ -18,6 +18,7 @@ _SLOTS_AT, _LENGTH = 4096, 8
 _GREATEST_CAPACITY = 1 << 40
 
 _AGAIN = "fetch it again, and keep the old one until then"
+_OTHER_LIBRARY = "the library is of another version than this program: install both of one"
 _REMEDIES = {
     Refusal.LAYOUT_SHORT: _AGAIN,
     Refusal.LAYOUT_VALUE: _AGAIN,
@@ -28,6 +29,7 @@ _REMEDIES = {
     Refusal.OLD_EPOCH: "a part is older than the one before it: install every part in order",
     Refusal.COVERAGE_SHRINKS: "a part covers less than the one before it, and is no part of a chain: fetch it again",
     Refusal.CHAIN_FULL: "a store has 64 parts at most: begin it with the snapshot of a newer chain",
+    Refusal.STORE_TOO_LONG: "a store of 4 GiB or more isn't asked: begin it with the snapshot of a newer chain",
     Refusal.BAD_SERIAL: "a serial has 1 to 32 octets: look at it again",
     Refusal.BAD_SIGHTINGS: "a certificate is asked about by 1 to 64 timestamps: give as many",
     Refusal.CERT_NO_SCTS: "it carries no timestamp; ask by --issuer and --serial, with --log and --time of those that "
@@ -38,7 +40,10 @@ _REMEDIES = {
     Refusal.CERT_MALFORMED: "it isn't a certificate that can be asked about; fetch it again",
     Refusal.ISSUER_CERT_MALFORMED: "its issuer's certificate isn't read; fetch that again",
     Refusal.NO_MEMORY: "memory is wanted: end other programs, or ask about fewer certificates at once",
-    Refusal.UNKNOWN: "the library is of another version than this program: install both of one",
+    Refusal.INDEX_TOO_SHORT: _OTHER_LIBRARY,
+    Refusal.ROOM_TOO_SHORT: _OTHER_LIBRARY,
+    Refusal.BAD_SIZE: _OTHER_LIBRARY,
+    Refusal.UNKNOWN: _OTHER_LIBRARY,
 }
 
 
