@@ -4,9 +4,10 @@
     layouts.py code     of the code: the fields stand in crates/*/src, and are laid out here by the rules of C
     layouts.py c        prints a program in C that prints what a compiler makes of clubcard.h
     layouts.py module   of the module for Python
+    layouts.py fields   the names of the files' fields by the code, in the order of their numbers from 1 on
 
-A line is `STRUCT SIZE ALIGNMENT` or `STRUCT.FIELD OFFSET SIZE`, in bytes, with the names of clubcard.h.
-tools/bindings_test.sh compares them.
+A line is `STRUCT SIZE ALIGNMENT` or `STRUCT.FIELD OFFSET SIZE`, in bytes, with the names of clubcard.h. A struct of the
+code is the one of clubcard.h that has the same names of fields. tools/bindings_test.sh compares them.
 """
 
 import ctypes
@@ -16,15 +17,22 @@ import sys
 from typing import Dict, Iterator, List, NamedTuple, Tuple, Type
 
 HERE = pathlib.Path(__file__).resolve().parent
-SOURCES = [HERE.parent / "crates" / crate / "src" for crate in ("lending_core", "clubcard_c")]
-# The struct of clubcard.h, and the class of the module, by the struct of the code.
-NAMES = {
-    "LentSighting": ("clubcard_sighting", "LentSighting"),
-    "LentQuery": ("clubcard_one_query", "LentQuery"),
-    "StoreFacts": ("clubcard_facts", "LentFacts"),
+CRATES = HERE.parent / "crates"
+SOURCES = [CRATES / crate / "src" for crate in ("lending_core", "clubcard_c")]
+HEADER = HERE / "c" / "clubcard.h"
+# The class of the module by the struct of clubcard.h.
+CLASSES = {
+    "clubcard_sighting": "LentSighting",
+    "clubcard_one_query": "LentQuery",
+    "clubcard_facts": "LentFacts",
+    "clubcard_store_facts": "LentStoreFacts",
+    "clubcard_part_facts": "LentPartFacts",
+    "clubcard_install_facts": "LentInstallFacts",
 }
 STRUCT = re.compile(r"#\[repr\(C\)\]\n(?:#[^\n]*\n)*pub struct (\w+) \{\n(.*?)^\}", re.DOTALL | re.MULTILINE)
 FIELD = re.compile(r"^ *pub (\w+): (?:(u\d+)|\[(u\d+); (\d+)\]),$", re.MULTILINE)
+STRUCT_OF_C = re.compile(r"^typedef struct (\w+) \{\n(.*?)^\} \1;", re.DOTALL | re.MULTILINE)
+FIELD_OF_C = re.compile(r"^    \w+ (\w+)(?:\[\d+\])?;", re.MULTILINE)
 
 
 class Field(NamedTuple):
@@ -52,15 +60,26 @@ def fields_of(body: str) -> List[Field]:
     return fields
 
 
+def structs_of_header() -> Dict[str, Tuple[str, ...]]:
+    """The names of fields of each struct of clubcard.h."""
+    found = STRUCT_OF_C.findall(HEADER.read_text(encoding="utf-8"))
+    structs = {name: tuple(FIELD_OF_C.findall(body)) for name, body in found}
+    if set(structs) != set(CLASSES):
+        raise SystemExit(f"layouts.py: clubcard.h has the structs {sorted(structs)}, and not {sorted(CLASSES)}")
+    return structs
+
+
 def structs() -> Dict[str, List[Field]]:
-    """The structs of the code that cross to C."""
+    """The structs of the code that cross to C, by their names in clubcard.h, in its order."""
     found = {}
     for source in (file for folder in SOURCES for file in sorted(folder.glob("*.rt"))):
-        for name, body in STRUCT.findall(source.read_text(encoding="utf-8")):
-            found[name] = fields_of(body)
-    if set(found) != set(NAMES):
-        raise SystemExit(f"layouts.py: the code has the structs {sorted(found)}, and not {sorted(NAMES)}")
-    return found
+        for _, body in STRUCT.findall(source.read_text(encoding="utf-8")):
+            fields = fields_of(body)
+            found[tuple(field.name for field in fields)] = fields
+    wanted = structs_of_header()
+    if set(found) != set(wanted.values()):
+        raise SystemExit(f"layouts.py: the code has structs of the fields {sorted(found)}, and not {wanted}")
+    return {name: found[fields] for name, fields in wanted.items()}
 
 
 def up_to(offset: int, alignment: int) -> int:
@@ -70,8 +89,7 @@ def up_to(offset: int, alignment: int) -> int:
 
 def lines_of_code() -> Iterator[str]:
     """The layout of the code's structs by the rules of C."""
-    for name, fields in structs().items():
-        struct, _ = NAMES[name]
+    for struct, fields in structs().items():
         behind, lines = 0, []
         for field in fields:
             offset = up_to(behind, field.alignment)
@@ -85,13 +103,11 @@ def lines_of_code() -> Iterator[str]:
 def lines_of_program() -> Iterator[str]:
     """A program that prints the layout of clubcard.h."""
     yield '#include <stdio.h>\n#include "clubcard.h"\nint main(void) {'
-    for name, fields in structs().items():
-        struct, _ = NAMES[name]
+    for struct, fields in structs_of_header().items():
         yield f'    printf("{struct} %zu %zu\\n", sizeof({struct}), _Alignof({struct}));'
         for field in fields:
-            place = f"{struct}, {field.name}"
-            size = f"sizeof((({struct} *)0)->{field.name})"
-            yield f'    printf("{struct}.{field.name} %zu %zu\\n", offsetof({place}), {size});'
+            place, size = f"{struct}, {field}", f"sizeof((({struct} *)0)->{field})"
+            yield f'    printf("{struct}.{field} %zu %zu\\n", offsetof({place}), {size});'
     yield "    return 0;\n}"
 
 
@@ -100,7 +116,7 @@ def classes() -> List[Tuple[str, Type[ctypes.Structure]]]:
     sys.path.insert(0, str(HERE.parent / "python"))
     from clubcard import library
 
-    return [(struct, getattr(library, name)) for struct, name in NAMES.values()]
+    return [(struct, getattr(library, CLASSES[struct])) for struct in structs_of_header()]
 
 
 def lines_of_module() -> Iterator[str]:
@@ -112,10 +128,19 @@ def lines_of_module() -> Iterator[str]:
             yield f"{struct}.{name} {field.offset} {field.size}"
 
 
+def lines_of_fields() -> Iterator[str]:
+    """The names of the fields of files, in the order of the code's enum."""
+    code = (CRATES / "octets_core" / "src" / "field.rt").read_text(encoding="utf-8")
+    names = dict(re.findall(r"Field::(\w+) => \"([^\"]+)\"", code))
+    enum = re.search(r"pub enum Field \{\n(.*?)^\}", code, re.DOTALL | re.MULTILINE)
+    for field in re.findall(r"^    (\w+),$", enum.group(1) if enum else "", re.MULTILINE):
+        yield names[field]
+
+
 def main() -> int:
-    kinds = {"code": lines_of_code, "c": lines_of_program, "module": lines_of_module}
+    kinds = {"code": lines_of_code, "c": lines_of_program, "module": lines_of_module, "fields": lines_of_fields}
     if len(sys.argv) != 2 or sys.argv[1] not in kinds:
-        print("usage: layouts.py code | c | module", file=sys.stderr)
+        print("usage: layouts.py code | c | module | fields", file=sys.stderr)
         return 2
     for line in kinds[sys.argv[1]]():
         print(line)

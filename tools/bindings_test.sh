@@ -1,15 +1,17 @@
 #!/bin/sh
-# Tests bindings/, and the module of python/ that asks through the library: that the header and the module have the numbers
-# and the structs of the code; the module's own tests; that nothing is read where nothing is lent; and the examples, on the store that the repository ships and on
-# one of certificates and CRLs that openssl makes. Then it calls the library for C with random bytes for ten seconds.
+# Tests bindings/, and the module of python/ that asks through the library: that the bindings have the numbers, the
+# structs and the fields' names of the code; the tests of each binding; that nothing is read where nothing is lent; the
+# examples, on the store that the repository ships and on one of certificates and CRLs that openssl makes; that threads
+# may ask one store; and that all bindings answer as the program does (bindings/compare.py). Then it calls the library
+# for C with random bytes for ten seconds.
 #
 #     tools/bindings_test.sh [FOLDER]
 #
 # FOLDER holds libclubcard.a and libclubcard.so; without it the library is made by tools/library.sh, where the
 # toolchain is there, else it is that of release/. The commands `clubcard snapshot` and `start` make the store, by the
 # program that ./clubcard runs, or by the one that the variable CLUBCARD names. Where cc, make, c++, openssl or its
-# headers, python3 or its packages pytest and hypothesis, mypy, black or flake8 are absent, what needs them is skipped
-# with a line that says so; where valgrind is there, each program in C runs under it.
+# headers, python3 or its packages pytest and hypothesis, mypy, black, flake8, cargo or go are absent, what needs them is
+# skipped with a line that says so; where valgrind is there, programs in C run under it. Nothing is downloaded.
 #
 # It prints a line for each test. The status is 0 exactly where none that ran failed.
 set -u
@@ -41,6 +43,7 @@ elif is_there rt; then
 else
     library="$top/release"
 fi
+from=$(pwd)
 export CLUBCARD_LIBRARY="$library/libclubcard.so" PYTHONPATH="$top/python"
 # The tree stays as it is.
 export PYTHONDONTWRITEBYTECODE=1
@@ -102,8 +105,22 @@ numbers_of_module() {
     echo "DONE 0"
     sed -n 's/^    \([A-Z_]*\) = \([0-9]*\)$/\1 \2/p' "$top/python/clubcard/answers.py"
 }
-compare "numbers of the code and of clubcard.h" "$(numbers_of_code)" "$(numbers_of_header)"
-compare "numbers of the code and of the module" "$(numbers_of_code)" "$(numbers_of_module)"
+# In words of capitals, as the header has them.
+capitals() {
+    sed 's/\([A-Z]\)/_\1/g; s/^_//' | tr '[:lower:]' '[:upper:]'
+}
+numbers_of_crate() {
+    echo "DONE 0"
+    sed -n 's/^    \([A-Za-z]*\) = \([0-9]*\),$/\1 \2/p; s/^ *Refusal::\([A-Za-z]*\) => \([0-9]*\),$/\1 \2/p' \
+        "$top/bindings/rust/src/answers.rs" | capitals
+}
+numbers_of_package() {
+    echo "DONE 0"
+    sed -n 's/^\t\([A-Za-z]*\)  *[VR][a-z]* *= \([0-9]*\) .*$/\1 \2/p' "$top/bindings/go/answers.go" | capitals
+}
+for each in header module crate package; do
+    compare "numbers of the code and of the $each" "$(numbers_of_code)" "$(numbers_of_$each)"
+done
 
 # A copy of the sources, so that the tree stays as it is.
 cp -r "$top/bindings/c" "$work/c"
@@ -117,27 +134,63 @@ build() {
 
 # ---- the structs, and the header
 
-# The header in another layout must not be compiled.
+# A program of the header alone, and a folder with a header in another layout, which must not be compiled.
+echo '#include "clubcard.h"' >"$work/header.c"
+mkdir "$work/other"
+sed 's/uint64_t time;/uint32_t time;/' "$top/bindings/c/clubcard.h" >"$work/other/clubcard.h"
 refuses_layout() {
-    sed 's/uint64_t time;/uint32_t time;/' "$top/bindings/c/clubcard.h" >"$work/other.h"
-    ! cmp -s "$top/bindings/c/clubcard.h" "$work/other.h" && ! "$@" "$work/other.h" >/dev/null 2>&1
+    ! cmp -s "$top/bindings/c/clubcard.h" "$work/other/clubcard.h" &&
+        ! "$@" -fsyntax-only -I"$work/other" "$work/header.c" >/dev/null 2>&1
 }
 
 test_header() {
+    set -- -pedantic -Wall -Wextra -Werror -fsyntax-only -I"$top/bindings/c"
     for standard in c99 c11 c17; do
-        must_do "clubcard.h by $standard" cc -std=$standard -pedantic -Wall -Wextra -Werror -fsyntax-only -x c \
-            "$top/bindings/c/clubcard.h"
+        must_do "clubcard.h by $standard" cc -std=$standard "$@" "$work/header.c"
     done
-    must_do "clubcard.h in another layout is refused by C" refuses_layout cc -std=c11 -fsyntax-only -x c
+    must_do "clubcard.h in another layout is refused by C" refuses_layout cc -std=c11
     if ! is_there c++; then
         echo "clubcard.h by C++: skipped, since there is no c++"
         return
     fi
     for standard in c++11 c++17; do
-        must_do "clubcard.h by $standard" c++ -std=$standard -pedantic -Wall -Wextra -Werror -fsyntax-only -x c++ \
-            "$top/bindings/c/clubcard.h"
+        must_do "clubcard.h by $standard" c++ -std=$standard "$@" -x c++ "$work/header.c"
     done
-    must_do "clubcard.h in another layout is refused by C++" refuses_layout c++ -std=c++11 -fsyntax-only -x c++
+    must_do "clubcard.h in another layout is refused by C++" refuses_layout c++ -std=c++11 -x c++
+}
+
+# The names of libclubcard.so with their versions, and those of the list for the linker.
+versions_of_library() {
+    nm -D --defined-only "$library/libclubcard.so" | sed -n 's/^.* T \(clubcard_.*\)@@\(.*\)$/\1 \2/p' | LC_ALL=C sort
+}
+versions_of_map() {
+    sed -n '/^CLUBCARD_/s/ {$//p; s/^ *\(clubcard_.*\);$/\1/p' "$top/bindings/c/clubcard.map" |
+        while read -r name; do
+            case $name in
+            CLUBCARD_*) version=$name ;;
+            *) echo "$name $version" ;;
+            esac
+        done | LC_ALL=C sort
+}
+names_of_header() {
+    sed -n 's/^uint32_t \(clubcard_[a-z_]*\)(.*$/\1/p' "$top/bindings/c/clubcard.h" | LC_ALL=C sort
+}
+compare "calls of clubcard.h and of clubcard.map" "$(names_of_header)" "$(versions_of_map | cut -d ' ' -f 1)"
+if is_there nm; then
+    compare "versions of clubcard.map and of libclubcard.so" "$(versions_of_map)" "$(versions_of_library)"
+else
+    echo "versions: skipped, since there is no nm"
+fi
+
+# The names of the files' fields, a line each.
+fields_of_header() {
+    sed -n '/names\[\] = {/,/};/p' "$top/bindings/c/clubcard.h" | grep -o '"[a-z._][a-z._]*"' | tr -d '"'
+}
+fields_of_module() {
+    sed -n '/^FIELDS = /,/^"""/p' "$top/python/clubcard/library.py" | tr ' ' '\n' | grep -x '[a-z_]*\.[a-z_]*\|end'
+}
+fields_of_crate() {
+    sed -n '/^const FIELDS/,/^];/p' "$top/bindings/rust/src/answers.rs" | grep -o '"[a-z._]*"' | tr -d '"'
 }
 
 layouts_of_header() {
@@ -155,6 +208,10 @@ if is_there python3; then
     compare "structs and fields of the code and of the module" "$layouts" \
         "$(python3 "$top/bindings/layouts.py" module)"
     ! has_c || compare "structs and fields of the code and of clubcard.h" "$layouts" "$(layouts_of_header)"
+    for each in header module crate; do
+        compare "names of fields of the code and of the $each" "$(python3 "$top/bindings/layouts.py" fields)" \
+            "$(fields_of_$each)"
+    done
 else
     echo "structs and fields: skipped, since there is no python3"
 fi
@@ -180,14 +237,17 @@ test_module() {
 # Runs mypy on what needs no package, and on the tests where their packages are there.
 test_types() {
     must_do "mypy --strict, the module" mypy --strict --cache-dir "$work/mypy" clubcard/__init__.py clubcard/store.py
-    must_do "mypy --strict, its callers" mypy --strict --cache-dir "$work/mypy" examples/ask.py ../bindings/layouts.py
+    must_do "mypy --strict, its callers" mypy --strict --cache-dir "$work/mypy" examples/ask.py examples/answer.py \
+        ../bindings/layouts.py
+    cd "$top" || exit 1
+    must_do "mypy --strict, compare.py" mypy --strict --cache-dir "$work/mypy2" bindings/compare.py
+    cd "$top/python" || exit 1
     if typed=$(python_with "pytest, hypothesis"); then
         must_do "mypy --strict, its tests" mypy --strict --cache-dir "$work/mypy" --python-executable "$typed" \
             tests/test_clubcard.py tests/test_properties.py
     fi
 }
 
-from=$(pwd)
 cd "$work" || exit 1
 if tester=$(python_with pytest); then
     test_module test_clubcard.py
@@ -216,6 +276,64 @@ else
     echo "flake8: skipped, since there is no flake8"
 fi
 
+# ---- the crate for Rust, and the package for Go
+
+# What is built for them goes to the folder of work.
+export CARGO_TARGET_DIR="$work/rust" CARGO_NET_OFFLINE=true RUSTDOCFLAGS="-D warnings"
+export GOCACHE="$work/go" GOPATH="$work/gopath" GOPROXY=off GOFLAGS=-mod=readonly GOTOOLCHAIN=local
+export CGO_LDFLAGS="-L$library"
+bindings=
+
+test_crate() {
+    must_do "cargo test" cargo test -q --locked
+    must_do "cargo doc" cargo doc -q --locked --no-deps
+    ! cargo fmt --version >/dev/null 2>&1 || must_do "cargo fmt" cargo fmt --check
+    ! cargo clippy --version >/dev/null 2>&1 ||
+        must_do "cargo clippy" cargo clippy -q --locked --all-targets -- -D warnings
+    must_do "the crate's example" cargo build -q --locked --release --example answer
+    [ $status -ne 0 ] || bindings="$bindings rust=$work/rust/release/examples/answer"
+}
+
+# gofmt names the files that it would write in another way.
+is_formatted() {
+    [ -z "$(gofmt -l .)" ]
+}
+
+test_package() {
+    must_do "go vet" go vet ./...
+    must_do "go test" go test ./...
+    ! is_there gofmt || must_do "gofmt" is_formatted
+    must_do "the package's example" go build -o "$work/go_answer" ./examples/answer
+    [ $status -ne 0 ] || bindings="$bindings go=$work/go_answer"
+}
+
+if is_there cargo && is_there cc; then
+    cd "$top/bindings/rust" && test_crate
+else
+    echo "Rust: skipped, since there is no cargo or no cc"
+fi
+if is_there go && is_there cc; then
+    cd "$top/bindings/go" && test_package
+else
+    echo "Go: skipped, since there is no go or no cc"
+fi
+
+# ---- all bindings, held against the program
+
+program=$(cd "$from" && realpath "${CLUBCARD:-$(sh "$top/tools/program.sh")}")
+cd "$work" || exit 1
+if has_c && build out/answer; then
+    bindings="$bindings c=$work/c/out/answer"
+fi
+if ! is_there python3; then
+    echo "questions: skipped, since there is no python3"
+else
+    # shellcheck disable=SC2086 # a word for each binding
+    must_do "all bindings and the program" python3 "$top/bindings/compare.py" "$program" \
+        "python=python3 $top/python/examples/answer.py" $bindings
+    [ $status -ne 0 ] || cat "$work/lines"
+fi
+
 # ---- certificates that openssl makes
 
 log=aaaaaaaaaaaaaaaaaaaaaaaaaaaaaaaaaaaaaaaaaaaaaaaaaaaaaaaaaaaaaaaa
@@ -241,7 +359,7 @@ issue() {
         cat "$1.pem" ca.pem >"$1.chain"
 }
 
-# Makes an authority with four certificates, its CRL, and the store of them.
+# Makes an authority with four certificates, its CRL, the store of them, and a part that goes on with it.
 make_store() {
     cat >openssl.cnf <<'CONFIG'
 [req]
@@ -286,6 +404,9 @@ CONFIG
             --crl ca.pem crl.pem --certificate good.pem ca.pem "$log" $((moment + 1)) \
             --certificate revoked.pem ca.pem "$log" $((moment + 2)) job >"$work/job.log" &&
         "$program" snapshot job part ledger 1 && "$program" start part store &&
+        "$top/clubcardctl" job --epoch 2 --moment "$moment" --range "$log" "$moment" $((moment + 2000)) \
+            --crl ca.pem crl.pem late_job >"$work/job.log" &&
+        "$program" delta late_job ledger late_part late_ledger 1 &&
         quiet x509 -in good.pem -outform DER -out good.der && quiet x509 -in ca.pem -outform DER -out ca.der
 }
 
@@ -309,7 +430,8 @@ test_asking() {
     report "ask plain" "the certificate carries no timestamp (65)" "$(checked "$work/c/out/ask" store plain.chain)"
     report "ask.py plain" "CERT_NO_SCTS (65)" "$(ending python3 "$top/python/examples/ask.py" store plain.chain)"
     report "ask.py, a file that isn't there" " (1)" "$(ending python3 "$top/python/examples/ask.py" store absent.chain)"
-    report "ask, a store that is cut" "store: a field is short at $(($(wc -c <short_store) - 31)) (16)" \
+    report "ask, a store that is cut" \
+        "the store isn't opened: a field isn't all there, part.trailer at $(($(wc -c <short_store) - 31)) (16)" \
         "$(checked "$work/c/out/ask" short_store good.chain)"
 }
 
@@ -322,11 +444,13 @@ test_handshakes() {
         "$(checked "$work/c/out/handshake" "$shipped" ca.pem good.chain good.key)"
     report "handshake revoked" "the handshake failed: certificate revoked (4)" \
         "$(checked "$work/c/out/handshake" store ca.pem revoked.chain revoked.key)"
-    report "handshake, a store that is cut" "the handshake failed: application verification failure (1)" \
+    report "handshake by handshake" "the handshake failed: certificate revoked (4)" \
+        "$(checked "$work/c/out/handshake" store ca.pem good.chain good.key late.chain late.key \
+            revoked.chain revoked.key)"
+    report "handshake, a store that is cut" "the store isn't opened: a field isn't all there (1)" \
         "$(checked "$work/c/out/handshake" short_store ca.pem good.chain good.key)"
 }
 
-cd "$work" || exit 1
 fuzzed=$shipped
 certificates=
 if ! has_c; then
@@ -337,18 +461,30 @@ elif ! CLUBCARD_PYTHON=$(sh "$top/tools/python.sh" click cryptography 2>/dev/nul
     echo "certificates: skipped, since no Python has click and cryptography (python/debian-packages.txt)"
 elif ! echo '#include <openssl/ssl.h>' | cc -E - >/dev/null 2>&1; then
     echo "certificates: skipped, since there are no headers of OpenSSL"
-elif ! program=$(cd "$from" && realpath "${CLUBCARD:-$(sh "$top/tools/program.sh")}") || ! make_store; then
+elif ! make_store; then
     echo "certificates: there is no store"
     failed=$((failed + 1))
 elif build out/ask out/handshake; then
     head -c $(($(wc -c <store) - 1)) store >short_store
-    fuzzed="$shipped store good.der ca.der"
+    fuzzed="$shipped store late_part good.der ca.der"
     certificates="good.der ca.der"
     test_asking
     test_handshakes
 fi
 
-# ---- nothing, and random bytes
+# ---- threads, nothing, and random bytes
+
+if has_c && build out/threads; then
+    threads="$work/c/out/threads"
+    report "threads" "8 threads, 0 answers failed (0)" "$(ending "$threads" "$shipped")"
+    # Without helgrind a valgrind ends with status 1.
+    if is_there valgrind && valgrind -q --tool=helgrind true >/dev/null 2>&1; then
+        report "threads under helgrind" "8 threads, 0 answers failed (0)" \
+            "$(ending valgrind -q --tool=helgrind --error-exitcode=99 "$threads" "$shipped")"
+    else
+        echo "threads under helgrind: skipped, since there is no valgrind with helgrind"
+    fi
+fi
 
 if has_c && build out/empty; then
     # shellcheck disable=SC2086 # a word for each file
