@@ -3,7 +3,7 @@
 # structs and the fields' names of the code; the tests of each binding; that nothing is read where nothing is lent; the
 # examples, on the store that the repository ships and on one of certificates and CRLs that openssl makes; that threads
 # may ask one store; and that all bindings answer as the program does (bindings/compare.py). Then it calls the library
-# for C with random bytes for ten seconds.
+# for C with random bytes for a minute.
 #
 #     tools/bindings_test.sh [FOLDER]
 #
@@ -493,8 +493,8 @@ if has_c && build out/empty; then
 fi
 if has_c && build out/fuzz; then
     # shellcheck disable=SC2086 # a word for each file
-    "$work/c/out/fuzz" 10 $fuzzed >"$work/lines" 2>&1
-    report "random bytes for ten seconds" 0 $?
+    "$work/c/out/fuzz" 60 $fuzzed >"$work/lines" 2>&1
+    report "random bytes for a minute" 0 $?
     tail -n 2 "$work/lines"
     if is_there valgrind; then
         # shellcheck disable=SC2086
