@@ -1,10 +1,17 @@
 #!/usr/bin/env python3
-"""What opening a store takes beside the SHA-256 of its bytes, and what a verdict of the opened store takes beside the
-digests that it must make (of rows and shards), by the library for C: instructions, by valgrind's callgrind, and the
-least times of some runs. The stores are the longest one, one of 65,535 mixed blocks, one of 64 parts, and one of blocks
-that are cut into shards. Run it at the top of the repository; FOLDER holds libclubcard.a:
+"""What opening a store takes beside the SHA-256 of its bytes, what a verdict of the opened store takes beside the
+digests that it must make (of rows and shards) and beside plain Rust that holds the store decoded
+(bench/opened_reference.rs, built here with rustc), and how many calls of the heap both make, by the library for C. The
+stores are the longest one, one of 65,535 mixed blocks, one of 64 parts, one of blocks that are cut into shards, and
+that of the generator's million, whose blocks are cut too. Run it at the top of the repository; FOLDER holds
+libclubcard.a:
 
-    python3 bench/opened.py FOLDER
+    python3 bench/opened.py FOLDER [TURNS [PROGRAM]]
+
+Instructions are those of callgrind. Times are the least of so many turns (30), in which the library, plain Rust and the
+digests alone, by the library's own functions, take the same hundred questions one after the other, in one process, from
+memory that is warm. PROGRAM makes the generator's store (the one that `./clubcard` runs). The status is 1 where a call
+of the heap is made; where the two answer otherwise, the script ends there.
 """
 
 import hashlib
@@ -12,53 +19,100 @@ import os
 import subprocess
 import sys
 import tempfile
+from dataclasses import dataclass
+from typing import Iterator
 
 from instructions import callgrind, of_functions
 from parts import T, issuers, mixed_leaf, plain, sealed, sharded
 
-ASKS = 2000
-DIGESTS = ["equation_core::sha256_rows::Sha256RowsEquationHash::row", "equation_core::shards::shard_of"]
+sys.path.insert(0, os.path.join(os.path.dirname(os.path.abspath(__file__)), "../tools"))
 
-# Opens the store of a file, and asks for certificates of the issuers of another one: ASKS of them, or of its first.
-CALLER = """
-#include <string.h>
-#include <time.h>
-#include "opened.h"
-static uint64_t now(void) {
-    struct timespec moment;
-    clock_gettime(CLOCK_MONOTONIC, &moment);
-    return (uint64_t)moment.tv_sec * 1000000000 + (uint64_t)moment.tv_nsec;
+from program import path_of_program  # noqa: E402
+
+ASKS = 2000
+MILLION = 1000000
+NUMBER = 7  # of the generator's job
+# The library's functions that make a row and a shard, and the names by which bench/opened_reference.rs calls them.
+DIGESTS = {
+    "equation_core::sha256_rows::Sha256RowsEquationHash::row": "library_row",
+    "equation_core::shards::shard_of": "library_shard",
 }
+BLOCKS = "sha2::block256::Core256::update"
+NAMES = ["not covered", "not enrolled", "good", "revoked"]
+HEAP = ["malloc", "calloc", "realloc", "free"]
+
+# Opens the store of a file, and asks each question of another one, whose records are `question`. With a third word it
+# prints how many calls of the heap were made meanwhile, and how many clubcard_query makes, which does take memory.
+CALLER = """
+#include "opened.h"
+typedef struct question {
+    uint8_t issuer[32], serial[32];
+    uint64_t serial_len;
+    clubcard_sighting seen;
+} question;
+static unsigned calls;
+void *__real_malloc(size_t size);
+void *__real_calloc(size_t count, size_t size);
+void *__real_realloc(void *old, size_t size);
+void __real_free(void *old);
+void *__wrap_malloc(size_t size) { return calls++, __real_malloc(size); }
+void *__wrap_calloc(size_t count, size_t size) { return calls++, __real_calloc(count, size); }
+void *__wrap_realloc(void *old, size_t size) { return calls++, __real_realloc(old, size); }
+void __wrap_free(void *old) { calls++, __real_free(old); }
 int main(int argc, char **argv) {
     opened store;
-    mapped keys = map_file(argv[2]);
-    uint64_t opening = UINT64_MAX, asking = UINT64_MAX, before;
-    int rounds = argc > 3 ? 5 : 1;
+    mapped asked = map_file(argv[2]), file;
+    const question *questions = (const question *)asked.data;
+    uint64_t at;
     if (open_store(&store, argv[1]) != CLUBCARD_DONE) return 1;
-    for (int i = 0; i < rounds; i++) {
-        before = now();
-        clubcard_open(store.file.data, store.file.len, store.index, store.facts.index_len, &store.facts);
-        if (now() - before < opening) opening = now() - before;
+    file = store.file, calls = 0;
+    clubcard_open(file.data, file.len, store.index, store.facts.index_len, &store.facts);
+    for (size_t i = 0; i < asked.len / sizeof *questions; i++) {
+        const question *it = &questions[i];
+        clubcard_ask(file.data, file.len, store.index, store.facts.index_len, it->issuer, it->serial, it->serial_len,
+                     &it->seen, 1);
     }
-    clubcard_sighting seen = {{0}, 1700000000000};
-    seen.log[31] = 1;
-    uint8_t serial[12] = {1};
-    for (int round = 0; round < rounds; round++) {
-        before = now();
-        for (uint32_t i = 0; i < ASKS; i++) {
-            uint32_t key = i * 2654435761u;
-            memcpy(serial + 1, &key, 4);
-            clubcard_ask(store.file.data, store.file.len, store.index, store.facts.index_len,
-                         keys.data + 32 * (key % (keys.len / 32)), serial, 12, &seen, 1);
-        }
-        if (now() - before < asking) asking = now() - before;
-    }
-    return printf("%.1f us, %.0f ns a verdict\\n", opening / 1e3, (double)asking / ASKS) < 0;
+    if (argc < 4) return 0;
+    unsigned made = calls;
+    calls = 0;
+    clubcard_query(file.data, file.len, questions->issuer, questions->serial, questions->serial_len,
+                   &questions->seen, 1, &at);
+    return printf("%u %u\\n", made, calls) < 0;
 }
 """
 
 
-def delta(number, parent, blocks):
+@dataclass
+class Sample:
+    """A store, and what is asked of it: of each issuer's certificate by its serial, which the log saw at T."""
+
+    name: str
+    octets: bytes
+    log: bytes
+    asked: list[tuple[bytes, bytes]]
+
+    def questions(self) -> bytes:
+        return b"".join(record(issuer, serial, self.log) for issuer, serial in self.asked)
+
+    def others(self) -> bytes:
+        """Some by a log that nothing covers, and of an issuer that no part has."""
+        uncovered = [record(issuer, serial, bytes(32)) for issuer, serial in self.asked[:100]]
+        unenrolled = [record(hashlib.sha256(serial).digest(), serial, self.log) for _, serial in self.asked[:100]]
+        return b"".join(uncovered + unenrolled)
+
+
+def record(issuer: bytes, serial: bytes, log: bytes) -> bytes:
+    """A question, as the programs read it."""
+    numbers = len(serial).to_bytes(8, "little"), T.to_bytes(8, "little")
+    return issuer + serial.ljust(32, b"\0") + numbers[0] + log + numbers[1]
+
+
+def spread(place: int) -> int:
+    """A number of 32 bits for each place."""
+    return place * 2654435761 % 2**32
+
+
+def delta(number: int, parent: bytes, blocks: list[bytes]) -> bytes:
     """The part of this number of a chain: a range, and these blocks."""
     kind = int(number > 1)
     part = b"CLUBCARD" + bytes([1, kind]) + number.to_bytes(8, "big") + parent + (1).to_bytes(2, "big")
@@ -66,52 +120,147 @@ def delta(number, parent, blocks):
     return sealed(part + len(blocks).to_bytes(4, "big") + b"".join(blocks))
 
 
-def store(parts):
+def store(parts: list[bytes]) -> bytes:
     return b"CLUBSTOR" + bytes([1, len(parts)]) + b"".join(parts)
 
 
-def chain(length, count):
+def chain(length: int, count: int) -> bytes:
     """A store of so many parts, each with so many mixed blocks."""
-    parts = []
+    parts: list[bytes] = []
     for number in range(1, length + 1):
         parent = parts[-1][-32:] if parts else bytes(32)
         parts.append(delta(number, parent, [key + mixed_leaf(100) for key in issuers(count)]))
     return store(parts)
 
 
-def stores():
-    """The name of each store, its bytes, and its issuers."""
-    yield "65,535 plain blocks", store([plain(65535)]), issuers(65535)
+def made(name: str, octets: bytes, keys: list[bytes]) -> Sample:
+    """A store of made parts, whose planes are zeros, asked about serials of 12 octets."""
+    numbers = [spread(place) for place in range(ASKS)]
+    asked = [(keys[it % len(keys)], b"\1" + it.to_bytes(4, "little") + bytes(7)) for it in numbers]
+    return Sample(name, octets, (1).to_bytes(32, "big"), asked)
+
+
+def generated(program: str, work: str) -> Sample:
+    """The store of a job of the generator, asked about its certificates (docs/FORMATS.md has how they are made)."""
+    job, part, ledger, store_path = (os.path.join(work, name) for name in ("job", "part", "ledger", "generated"))
+    commands = [["sample", str(NUMBER), str(MILLION), job], ["snapshot", job, part, ledger, "1"]]
+    for command in commands + [["start", part, store_path]]:
+        subprocess.run([program, *command], stdout=subprocess.DEVNULL, check=True)
+    with open(store_path, "rb") as file:
+        octets = file.read()
+    for path in (job, part, ledger, store_path):
+        os.remove(path)
+    number = NUMBER.to_bytes(8, "big")
+    keys = [hashlib.sha256(b"CCISSUER" + number + bytes([j])).digest() for j in range(4)]
+    entries = [spread(place) % MILLION for place in range(ASKS)]
+    serials = [b"\1" + hashlib.sha256(b"CCSAMPLE" + number + i.to_bytes(4, "big")).digest()[:15] for i in entries]
+    asked = [(keys[i % 4], serial) for i, serial in zip(entries, serials)]
+    return Sample("the generator's million", octets, hashlib.sha256(b"CCLOG" + number).digest(), asked)
+
+
+def samples(program: str, work: str) -> Iterator[Sample]:
+    yield made("65,535 plain blocks", store([plain(65535)]), issuers(65535))
     blocks = [key + mixed_leaf(1) for key in issuers(65535)]
-    yield "65,535 mixed blocks", store([delta(1, bytes(32), blocks)]), issuers(65535)
-    yield "64 parts", chain(64, 500), issuers(500)
-    yield "20 blocks of 32 shards", store([sharded(20, 5, 18000)]), issuers(20)
+    yield made("65,535 mixed blocks", store([delta(1, bytes(32), blocks)]), issuers(65535))
+    yield made("64 parts of 500 mixed blocks", chain(64, 500), issuers(500))
+    yield made("20 blocks of 32 shards", store([sharded(20, 5, 18000)]), issuers(20))
+    yield generated(program, work)
 
 
-def main():
-    top, library = os.getcwd(), os.path.abspath(sys.argv[1])
-    with tempfile.TemporaryDirectory() as work:
-        path = {name: os.path.join(work, name) for name in ("caller.c", "caller", "store", "keys", "profile")}
-        with open(path["caller.c"], "w", encoding="ascii") as source:
+class Bench:
+    """The programs, built in a folder, and the files of one store at a time."""
+
+    def __init__(self, work: str, library: str) -> None:
+        self.work = work
+        self.caller, self.reference = os.path.join(work, "caller"), os.path.join(work, "opened_reference")
+        with open(self.caller + ".c", "w", encoding="ascii") as source:
             source.write(CALLER)
-        include = "-I" + os.path.join(top, "bindings/c")
-        built = ["-o", path["caller"], path["caller.c"], library + "/libclubcard.a"]
-        subprocess.run(["cc", "-O2", "-D_DEFAULT_SOURCE", f"-DASKS={ASKS}", include] + built, check=True)
-        for name, octets, keys in stores():
-            for file, content in (("store", octets), ("keys", b"".join(keys))):
-                with open(path[file], "wb") as opened:
-                    opened.write(content)
-            command = [path["caller"], path["store"], path["keys"]]
-            callgrind(command, path["profile"])
-            counts = of_functions(path["profile"], True)
-            # clubcard_open ran twice, once in open_store.
-            digested = counts["sha2::block256::Core256::update"] - sum(counts.get(it, 0) for it in DIGESTS)
-            asked, digests = counts["clubcard_ask"], sum(counts.get(it, 0) for it in DIGESTS)
-            ratio = f"{asked / digests:.2f} of its digests" if digests else "no digest"
-            times = subprocess.run(command + ["times"], stdout=subprocess.PIPE, check=True, text=True).stdout.strip()
-            print(f"{name}, {len(octets)} bytes ({hashlib.sha256(octets).hexdigest()[:8]}):")
-            opening = f"open {counts['clubcard_open'] / digested:.2f} of its SHA-256"
-            print(f"  {opening}; ask {ratio}, {asked / ASKS:.0f}; {times}")
+        wrapped = ["-Wl," + ",".join("--wrap=" + name for name in HEAP)]
+        built = ["-o", self.caller, self.caller + ".c", library + "/libclubcard.a", *wrapped]
+        subprocess.run(["cc", "-O2", "-D_DEFAULT_SOURCE", "-Ibindings/c", *built], check=True)
+        self.build_reference(library)
+
+    def build_reference(self, library: str) -> None:
+        """With the library's own functions for digests, where it has them under these names."""
+        names = [
+            word
+            for old, new in DIGESTS.items()
+            for word in (f"--redefine-sym={old}={new}", f"--globalize-symbol={new}")
+        ]
+        subprocess.run(["objcopy", *names, library + "/libclubcard.a", self.path("libclubcard.a")], check=True)
+        built = ["rustc", "--edition", "2021", "-O", "bench/opened_reference.rs", "-o", self.reference]
+        built += ["-L", "native=" + self.work, "-l", "static=clubcard"]
+        if subprocess.run([*built, "--cfg", "digests"], stderr=subprocess.DEVNULL, check=False).returncode != 0:
+            print("the library has no function for rows and shards under the names that this script knows")
+            subprocess.run(built, check=True)
+
+    def path(self, name: str) -> str:
+        return os.path.join(self.work, name)
+
+    def write(self, sample: Sample) -> None:
+        files = {"store": sample.octets, "asked": sample.questions(), "others": sample.others()}
+        for name, content in files.items():
+            with open(self.path(name), "wb") as file:
+                file.write(content)
+
+    def counts(self, command: list[str]) -> dict[str, int]:
+        """The instructions of each function of a run, with those that it calls."""
+        callgrind(command, self.path("profile"))
+        return of_functions(self.path("profile"), True)
+
+    def instructions(self) -> str:
+        """Of opening beside the store's digest, and of verdicts beside their digests and beside plain Rust."""
+        opened = self.counts([self.caller, self.path("store"), "/dev/null"])
+        ours = self.counts([self.caller, self.path("store"), self.path("asked")])
+        theirs = self.counts([self.reference, "count", self.path("store"), self.path("asked")])
+        digests = sum(ours.get(name, 0) for name in DIGESTS)
+        asked, plain_rust = ours["clubcard_ask"], theirs["opened_reference::all_by_plain_rust"]
+        opening = f"open {opened['clubcard_open'] / opened[BLOCKS]:.2f} of its SHA-256"
+        beside = f"{asked / digests:.2f} of its digests" if digests else "no digest"
+        return f"{opening}; ask {asked / ASKS:.0f}, {beside}, {asked / plain_rust:.2f} of plain Rust"
+
+    def times(self, turns: int) -> str:
+        """The same by time, and how many answers there were of each kind."""
+        words = ["turns", self.path("store"), str(turns), self.path("asked"), self.path("others")]
+        run = subprocess.run([self.reference, *words], stdout=subprocess.PIPE, check=True, text=True)
+        opening, first, second = run.stdout.splitlines()
+        made, asked, plain_rust, digests = map(float, first.split()[4:])
+        beside = f"{asked / digests:.2f} of its digests ({made:.2f}, {digests:.0f} ns)" if made else "no digest"
+        answers = zip(first.split(), second.split(), NAMES)
+        told = ", ".join(f"{int(one) + int(other)} {name}" for one, other, name in answers)
+        return (
+            f"open {int(opening) / 1e3:.0f} us; ask {asked:.0f} ns, {beside}, {asked / plain_rust:.2f} of plain Rust"
+            f" ({plain_rust:.0f} ns)\n  answers: {told}"
+        )
+
+    def heap(self) -> tuple[str, bool]:
+        """How many calls of the heap there were in opening and verdicts, and whether there were none."""
+        command = [self.caller, self.path("store"), self.path("asked"), "heap"]
+        run = subprocess.run(command, stdout=subprocess.PIPE, check=True, text=True)
+        opened, queried = map(int, run.stdout.split())
+        if queried == 0:
+            return "clubcard_query makes no call either, so that nothing is counted", False
+        return ("none" if opened == 0 else f"{opened} calls"), opened == 0
+
+
+def main() -> None:
+    library = os.path.abspath(sys.argv[1])
+    turns = int(sys.argv[2]) if len(sys.argv) > 2 else 30
+    program = sys.argv[3] if len(sys.argv) > 3 else path_of_program()
+    is_none = True
+    with open(library + "/libclubcard.a", "rb") as file:
+        print(f"libclubcard.a {hashlib.file_digest(file, 'sha256').hexdigest()[:12]}")
+    with tempfile.TemporaryDirectory() as work:
+        bench = Bench(work, library)
+        for sample in samples(program, work):
+            bench.write(sample)
+            print(f"{sample.name}, {len(sample.octets)} bytes ({hashlib.sha256(sample.octets).hexdigest()[:8]}):")
+            print(f"  instructions: {bench.instructions()}", flush=True)
+            print(f"  times: {bench.times(turns)}")
+            heap, was_none = bench.heap()
+            print(f"  heap: {heap}", flush=True)
+            is_none = is_none and was_none
+    sys.exit(0 if is_none else 1)
 
 
 if __name__ == "__main__":
