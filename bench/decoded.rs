@@ -1,5 +1,5 @@
-//! A store in plain Rust, decoded into vectors, and its verdicts (docs/FORMATS.md has the layout and what a verdict is):
-//! a module of opened_reference.rs.
+//! A store in plain Rust, decoded into vectors, and its verdicts (docs/FORMATS.md has the layout and what a verdict
+//! is): a module of opened_reference.rs.
 
 use crate::sha256::{sha256, Key, Message};
 

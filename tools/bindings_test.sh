@@ -10,8 +10,9 @@
 # FOLDER holds libclubcard.a and libclubcard.so; without it the library is made by tools/library.sh, where the
 # toolchain is there, else it is that of release/. The commands `clubcard snapshot` and `start` make the store, by the
 # program that ./clubcard runs, or by the one that the variable CLUBCARD names. Where cc, make, c++, openssl or its
-# headers, python3 or its packages pytest and hypothesis, mypy, black, flake8, cargo or go are absent, what needs them is
-# skipped with a line that says so; where valgrind is there, programs in C run under it. Nothing is downloaded.
+# headers, python3 or its packages pytest and hypothesis, mypy, black, flake8, cargo, Debian's rustls or go are absent,
+# what needs them is skipped with a line that says so; where valgrind is there, programs in C run under it. Nothing is
+# downloaded.
 #
 # It prints a line for each test. The status is 0 exactly where none that ran failed.
 set -u
@@ -353,7 +354,8 @@ request() {
 # Issues the certificate NAME.pem with its key, seen by the log at the time, or with no timestamp where there is none.
 issue() {
     timestamps=${2:+$(printf 'DER:04330031002f00%s%016x000004030000' "$log" "$2")}
-    export timestamps
+    host=$1.example
+    export timestamps host
     request -new -keyout "$1.key" -out "$1.csr" -subj "/CN=$1.example" &&
         quiet ca -batch -notext -extensions "${2:+seen_}leaf" -in "$1.csr" -out "$1.pem" &&
         cat "$1.pem" ca.pem >"$1.chain"
@@ -386,11 +388,13 @@ basicConstraints = critical, CA:true
 keyUsage = critical, keyCertSign, cRLSign
 [leaf]
 basicConstraints = CA:false
+subjectAltName = DNS:$ENV::host
 [seen_leaf]
 basicConstraints = CA:false
+subjectAltName = DNS:$ENV::host
 1.3.6.1.4.1.11129.2.4.2 = $ENV::timestamps
 CONFIG
-    export OPENSSL_CONF="$work/openssl.cnf" CLUBCARD_PYTHON timestamps=
+    export OPENSSL_CONF="$work/openssl.cnf" CLUBCARD_PYTHON timestamps='' host=''
     : >index.txt
     echo 80 >serial
     echo 01 >crlnumber
@@ -451,6 +455,51 @@ test_handshakes() {
         "$(checked "$work/c/out/handshake" short_store ca.pem good.chain good.key)"
 }
 
+# The crate of rustls, of Debian's crates, on certificates in DER. A server may send another certificate in the issuer's
+# name, which must not be taken for the issuer's.
+crates=/usr/share/cargo/registry
+make_rustls() {
+    cp -r "$top/bindings/rust" "$work/crates" && cd "$work/crates/rustls" || return 1
+    set -- -q --offline --config 'source.crates-io.replace-with="debian"' \
+        --config "source.debian.directory=\"$crates\""
+    must_do "cargo test, rustls" cargo test "$@"
+    ! cargo fmt --version >/dev/null 2>&1 || must_do "cargo fmt, rustls" cargo fmt --check
+    ! cargo clippy --version >/dev/null 2>&1 ||
+        must_do "cargo clippy, rustls" cargo clippy "$@" --all-targets -- -D warnings
+    must_do "the example of rustls" cargo build "$@" --example handshake
+    cd "$work" && [ $status -eq 0 ]
+}
+
+test_rustls() {
+    request -x509 -keyout forged.key -out forged.pem -subj /CN=elm -days 30 -extensions authority_certificate &&
+        quiet x509 -in forged.pem -outform DER -out forged.der || failed=$((failed + 1))
+    for name in good revoked late plain; do
+        quiet x509 -in $name.pem -outform DER -out $name.der &&
+            quiet pkcs8 -topk8 -nocrypt -in $name.key -outform DER -out $name.p8 || failed=$((failed + 1))
+    done
+    cat revoked.der forged.der >forged.chain
+    cat revoked.der ca.der >revoked_ca.chain
+    shake="$work/rust/debug/examples/handshake"
+    done="the handshake is done (0)"
+    revoked="the handshake failed: invalid peer certificate contents: the certificate is revoked (4)"
+    for name in good late plain; do
+        report "rustls $name" "$done" "$(ending "$shake" store ca.der $name.example $name.der $name.p8)"
+    done
+    report "rustls, the shipped store" "$done" \
+        "$(ending "$shake" "$shipped" ca.der revoked.example revoked.der revoked.p8)"
+    for chain in revoked.der revoked_ca.chain forged.chain; do
+        report "rustls $chain" "$revoked" "$(ending "$shake" store ca.der revoked.example $chain revoked.p8)"
+    done
+    report "rustls, handshake by handshake" "$revoked" \
+        "$(ending "$shake" store ca.der good.example good.der good.p8 revoked.example revoked.der revoked.p8)"
+    report "rustls, another root" \
+        "the handshake failed: invalid peer certificate contents: invalid peer certificate: UnknownIssuer (1)" \
+        "$(ending "$shake" store forged.der good.example good.der good.p8)"
+    report "rustls, a store that is cut" \
+        "the store isn't opened: a field isn't all there, part.trailer at $(($(wc -c <short_store) - 31)) (1)" \
+        "$(ending "$shake" short_store ca.der good.example good.der good.p8)"
+}
+
 fuzzed=$shipped
 certificates=
 if ! has_c; then
@@ -470,6 +519,13 @@ elif build out/ask out/handshake; then
     certificates="good.der ca.der"
     test_asking
     test_handshakes
+    if ! is_there cargo; then
+        echo "rustls: skipped, since there is no cargo"
+    elif ! ls -d "$crates"/rustls-0.20.* >/dev/null 2>&1; then
+        echo "rustls: skipped, since $crates has no rustls 0.20 (librust-rustls-dev)"
+    elif make_rustls; then
+        test_rustls
+    fi
 fi
 
 # ---- threads, nothing, and random bytes
