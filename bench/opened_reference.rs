@@ -277,19 +277,26 @@ fn told(batches: &[Batch<'_>]) -> String {
     format!("{counts} {:.3} {times}", digests as f64 / asked as f64)
 }
 
-/// The files of questions are asked in turn, too.
+/// The least nanoseconds of opening the store so many times, and of those before.
+fn open_in_turn(opened: &mut Opened, turns: usize, least: u128) -> u128 {
+    let mut opening = least;
+    (0..turns).for_each(|_| timed(&mut opening, || opened.open()));
+    opening
+}
+
+/// The files of questions are asked in turn, too. The store is opened before and behind them, since other work on the
+/// machine may last.
 fn in_turn(store: Vec<u8>, files: &[Vec<Question>], turns: usize) {
     let parts = parts_of(&store);
     let mut opened = Opened::new(store);
-    let mut opening = u128::MAX;
-    (0..turns).for_each(|_| timed(&mut opening, || opened.open()));
-    println!("{opening}");
+    let opening = open_in_turn(&mut opened, turns, u128::MAX);
     let batch = |questions| Batch::new(&opened, &parts, questions);
     let batches = files.iter().map(|questions| questions.chunks(BATCH).map(batch).collect());
     let mut files: Vec<Vec<Batch<'_>>> = batches.collect();
     for turn in 0..turns {
         files.iter_mut().flatten().for_each(|batch| batch.ask(turn, &opened, &parts));
     }
+    println!("{}", open_in_turn(&mut opened, turns, opening));
     files.iter().for_each(|batches| println!("{}", told(batches)));
 }
 
