@@ -178,10 +178,10 @@ class Bench:
         wrapped = ["-Wl," + ",".join("--wrap=" + name for name in HEAP)]
         built = ["-o", self.caller, self.caller + ".c", library + "/libclubcard.a", *wrapped]
         subprocess.run(["cc", "-O2", "-D_DEFAULT_SOURCE", "-Ibindings/c", *built], check=True)
-        self.build_reference(library)
+        self.has_digests = self.build_reference(library)
 
-    def build_reference(self, library: str) -> None:
-        """With the library's own functions for digests, where it has them under these names."""
+    def build_reference(self, library: str) -> bool:
+        """With the library's own functions for digests, where it has them under these names, and whether it has."""
         names = [
             word
             for old, new in DIGESTS.items()
@@ -190,9 +190,11 @@ class Bench:
         subprocess.run(["objcopy", *names, library + "/libclubcard.a", self.path("libclubcard.a")], check=True)
         built = ["rustc", "--edition", "2021", "-O", "bench/opened_reference.rs", "-o", self.reference]
         built += ["-L", "native=" + self.work, "-l", "static=clubcard"]
-        if subprocess.run([*built, "--cfg", "digests"], stderr=subprocess.DEVNULL, check=False).returncode != 0:
-            print("the library has no function for rows and shards under the names that this script knows")
-            subprocess.run(built, check=True)
+        if subprocess.run([*built, "--cfg", "digests"], stderr=subprocess.DEVNULL, check=False).returncode == 0:
+            return True
+        print("the library has no functions for rows and shards under the names that this script knows")
+        subprocess.run(built, check=True)
+        return False
 
     def path(self, name: str) -> str:
         return os.path.join(self.work, name)
@@ -217,7 +219,10 @@ class Bench:
         asked, plain_rust = ours["clubcard_ask"], theirs["opened_reference::all_by_plain_rust"]
         opening = f"open {opened['clubcard_open'] / opened[BLOCKS]:.2f} of its SHA-256"
         beside = f"{asked / digests:.2f} of its digests" if digests else "no digest"
-        return f"{opening}; ask {asked / ASKS:.0f}, {beside}, {asked / plain_rust:.2f} of plain Rust"
+        return (
+            f"{opening}; ask {asked / ASKS:.0f}, {beside}, {asked / plain_rust:.2f} of plain Rust"
+            f" ({plain_rust / ASKS:.0f})"
+        )
 
     def times(self, turns: int) -> str:
         """The same by time, and how many answers there were of each kind."""
@@ -226,6 +231,8 @@ class Bench:
         opening, first, second = run.stdout.splitlines()
         made, asked, plain_rust, digests = map(float, first.split()[4:])
         beside = f"{asked / digests:.2f} of its digests ({made:.2f}, {digests:.0f} ns)" if made else "no digest"
+        if made and not self.has_digests:
+            beside = f"{made:.2f} digests, not timed"
         answers = zip(first.split(), second.split(), NAMES)
         told = ", ".join(f"{int(one) + int(other)} {name}" for one, other, name in answers)
         return (
