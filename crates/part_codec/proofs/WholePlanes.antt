@@ -118,6 +118,11 @@ leads-alone opens.ExactSeed k leads = refl
 leads-alone opens.ExactStarts k leads = refl
 leads-alone o k leads = absurd cc
 
+pub leads-front : (o : Open) → leads_on o ≡ true → in_front o ≡ true
+leads-front opens.Trailer leads = absurd cc
+leads-front opens.Done leads = absurd cc
+leads-front o leads = refl
+
 approx-leads : (n : ℕ) → (settled (open_approx n) ≡ open_approx n) × (0 < tail_of (open_approx n))
 approx-leads zero = (refl, omega arith)
 approx-leads (suc n) = (refl, omega arith)
@@ -137,15 +142,18 @@ leads-next o k leads = absurd cc
 
 -- ---- it is the issuer or the mode of a block
 
-more-blocks : (n : ℕ) → 1 ≤ n → open_block n ≡ opens.BlockIssuer
-more-blocks zero some = absurd (omega (arith, some))
-more-blocks (suc n) some = refl
+more-settles : (n : ℕ) → 1 ≤ n → (settled (open_block n) ≡ open_block n) × (0 < tail_of (open_block n))
+more-settles zero some = absurd (omega (arith, some))
+more-settles (suc n) some = (refl, omega arith)
 
--- behind a block that says none or all another one is open, if one is left
-pub plain-opens : (mode : ℕ) (k : Kept) → mode ≤ 1 → 2 ≤ k.left → open_mode (kept_mode mode k).mode (kept_mode mode k).leaves (kept_mode mode k).left ≡ opens.BlockIssuer
-plain-opens zero k plain more = more-blocks (k.left - 1) (omega (arith, more))
-plain-opens (suc zero) k plain more = more-blocks (k.left - 1) (omega (arith, more))
-plain-opens (suc (suc n)) k plain more = absurd (omega (arith, plain))
+-- the field behind the mode of a block has a byte, if another block is left or this one says more than none or all
+pub mode-leads : (mode : ℕ) (k : Kept) → (mode ≤ 1 → 2 ≤ k.left)
+    → (settled (open_mode (kept_mode mode k).mode (kept_mode mode k).leaves (kept_mode mode k).left) ≡ open_mode (kept_mode mode k).mode (kept_mode mode k).leaves (kept_mode mode k).left)
+    × (0 < tail_of (open_mode (kept_mode mode k).mode (kept_mode mode k).leaves (kept_mode mode k).left))
+mode-leads zero k more = more-settles (k.left - 1) (omega (arith, more (omega arith)))
+mode-leads (suc zero) k more = more-settles (k.left - 1) (omega (arith, more (omega arith)))
+mode-leads (suc (suc zero)) k more = (refl, omega arith)
+mode-leads (suc (suc (suc n))) k more = (refl, omega arith)
 
 pub field-settles : (n : Machine) (o : Open) → settled o ≡ o → n.field ≡ o → n.field ≡ settled n.field
 field-settles n o same is = is ∙ sym same ∙ ap settled (sym is)
@@ -182,20 +190,6 @@ plane-tested m t answer is len tested sum =
     ∙ tested
 
 -- ---- it is an approximate plane
-
-pub plane-opens : (m n : Machine) → m.field ≡ opens.ApproxPlane → n.field ≡ open_after m.field n.kept → n.field ≡ open_plane n.kept.planes
-plane-opens m n field next = next ∙ ap (λ (o : Open). open_after o n.kept) field
-
-pub plane-settles : (m n : Machine) → m.field ≡ opens.ApproxPlane → n.field ≡ open_after m.field n.kept → n.field ≡ settled n.field
-plane-settles m n field next =
-    let is = plane-opens m n field next in
-    is ∙ sym (plane-leads n.kept.planes).0 ∙ ap settled (sym is)
-
-pub plane-partial : (m n : Machine) → m.field ≡ opens.ApproxPlane → n.field ≡ open_after m.field n.kept → n.filled ≡ 0 → n.filled < tail_of n.field
-plane-partial m n field next empty =
-    let some = (plane-leads n.kept.planes).1 in
-    let same : tail_of n.field ≡ tail_of (open_plane n.kept.planes) = ap tail_of (plane-opens m n field next) in
-    omega (arith, some, same, empty)
 
 pub one-plane-goes : (m n : Machine) (t : List ℕ) → m.field ≡ opens.ApproxPlane → length t ≡ 8 * words_for m.kept.starts → is_padded_last m.kept.starts (drop (length t - 8) t) ≡ true
     → n.kept ≡ record m.kept { planes = m.kept.planes - 1 } → n.field ≡ open_plane n.kept.planes → n.at ≡ m.at + length t → n.passed ≡ 0 → n.filled ≡ 0 → Goes m n t

@@ -10,38 +10,39 @@ use Rattle.part_codec.specs.declared.fields.Kept.{Kept}
 use Rattle.part_codec.specs.declared.fields.Open.{Open}
 use Rattle.part_codec.specs.declared.fields.Open.TheVariants as opens
 use Rattle.part_codec.specs.declared.machine.Machine.{Machine}
-use Rattle.part_codec.specs.Stepping.{in_front, settled, is_padded_last, ArePadded, open_plane}
-use Rattle.part_codec.specs.Scanning.{Moved}
-use Rattle.part_codec.specs.Taking.{PassesPlanes}
+use Rattle.part_codec.specs.Remaining.{Seen}
+use Rattle.part_codec.specs.Stepping.{in_front, settled, is_padded_last, width_of, seen_after, ArePadded, open_plane}
+use Rattle.part_codec.specs.Scanning.{Stands, StandsFront, Moved}
+use Rattle.part_codec.specs.Taking.{Takes, PassesPlanes}
 use Rattle.part_codec.specs.Collecting.{with_bytes, with_whole, with_planes, pile_plane, pile_when, pile_passed, CanCollect, Reads, ReadsFront}
-use Rattle.part_codec.proofs.MachineStands.{bytes-front}
-use Rattle.part_codec.proofs.WholePlanes.{Goes, plane-width, whole-stands, whole-moved, Behind, one-plane-goes, more-planes, one-behind}
+use Rattle.part_codec.proofs.MachineStands.{bytes-front, front-moved}
+use Rattle.part_codec.proofs.WholePlanes.{Goes, plane-width, whole-stands, whole-moved, Behind, one-plane-goes, more-planes, one-behind, field-partial}
 use Rattle.part_codec.proofs.Collects.{can-settle, reads-step, reads-front}
 
--- the machine before the last of them, of which these are so many
-pub record BeforeLast (m : Machine) (p : PileFields) (b t : List ℕ) (n : ℕ) : Type 0 where
-  pub last : Machine
-  pub reads : Reads last (with_planes p n t) (b ++ t)
-  pub kept : last.kept ≡ record m.kept { planes = 1 }
-  pub field : last.field ≡ opens.ApproxPlane
-  pub at : last.at ≡ m.at + length t
-  pub passed : last.passed ≡ 0
-  pub empty : last.filled ≡ 0
+-- what holds of a machine and the bytes of the planes before its own, whatever plane it takes that another one follows
+abbrev pub Keeps : (Machine → List ℕ → Type 0) → Type 0
+Keeps P = (m : Machine) (u t : List ℕ) → IsBytes t → m.field ≡ opens.ApproxPlane → m.passed ≡ 0 → m.filled ≡ 0 → length t ≡ 8 * words_for m.kept.starts
+    → is_padded_last m.kept.starts (drop (length t - 8) t) ≡ true → 2 ≤ m.kept.planes → (x : Behind m t) → P m u → P x.next (u ++ t)
+
+-- the machine before the last of them, of which these are the others
+record BeforeLast (P : Machine → List ℕ → Type 0) (m : Machine) (u t : List ℕ) : Type 0 where
+  last : Machine
+  holds : P last (u ++ t)
+  kept : last.kept ≡ record m.kept { planes = 1 }
+  field : last.field ≡ opens.ApproxPlane
+  at : last.at ≡ m.at + length t
+  passed : last.passed ≡ 0
+  empty : last.filled ≡ 0
 
 none-put : (p : PileFields) → with_planes p 0 [] ≡ p
 none-put p =
     let e : p.done + 0 ≡ p.done = omega arith in
     ap (λ (l : List ℕ). record p { bytes = l; done = p.done + 0 }) (append-nil p.bytes) ∙ ap (λ (k : ℕ). record p { done = k }) e
 
-put-more : (p : PileFields) (n : ℕ) (t u : List ℕ) → with_planes (with_planes p 1 t) n u ≡ with_planes p (suc n) (t ++ u)
-put-more p n t u =
-    let e : p.done + 1 + n ≡ p.done + suc n = omega arith in
-    ap (λ (l : List ℕ). record p { bytes = l; done = p.done + 1 + n }) (append_assoc p.bytes t u) ∙ ap (λ (k : ℕ). record p { bytes = p.bytes ++ (t ++ u); done = k }) e
-
-put-last : (p : PileFields) (n : ℕ) (t u : List ℕ) → with_whole (with_bytes (with_planes p n t) u) ≡ with_planes p (n + 1) (t ++ u)
-put-last p n t u =
-    let e : p.done + n + 1 ≡ p.done + (n + 1) = omega arith in
-    ap (λ (l : List ℕ). record p { bytes = l; done = p.done + n + 1 }) (append_assoc p.bytes t u) ∙ ap (λ (k : ℕ). record p { bytes = p.bytes ++ (t ++ u); done = k }) e
+put-more : (p : PileFields) (n k : ℕ) (t u : List ℕ) → with_planes (with_planes p n t) k u ≡ with_planes p (n + k) (t ++ u)
+put-more p n k t u =
+    let e : p.done + n + k ≡ p.done + (n + k) = omega arith in
+    ap (λ (l : List ℕ). record p { bytes = l; done = p.done + n + k }) (append_assoc p.bytes t u) ∙ ap (λ (c : ℕ). record p { bytes = p.bytes ++ (t ++ u); done = c }) e
 
 open-piled : (n : ℕ) (k : Kept) (q : PileFields) → 1 ≤ n → pile_plane n k q ≡ q
 open-piled zero k q some = absurd (omega (arith, some))
@@ -68,34 +69,29 @@ others-padded starts n t padded i lt =
     ∙ padded (suc i) (omega (arith, lt))
 
 -- one that another one follows was collected
-reads-behind : (m : Machine) (p : PileFields) (b t : List ℕ) → IsBytes t → m.field ≡ opens.ApproxPlane → m.passed ≡ 0 → m.filled ≡ 0 → length t ≡ 8 * words_for m.kept.starts
-    → is_padded_last m.kept.starts (drop (length t - 8) t) ≡ true → 2 ≤ m.kept.planes → (x : Behind m t) → Reads m p b → Reads x.next (with_planes p 1 t) (b ++ t)
-reads-behind m p b t fits is passed empty len padded more x read =
+-- one that another one follows
+plane-goes-on : (m : Machine) (t : List ℕ) → m.field ≡ opens.ApproxPlane → length t ≡ 8 * words_for m.kept.starts → is_padded_last m.kept.starts (drop (length t - 8) t) ≡ true
+    → 2 ≤ m.kept.planes → (x : Behind m t) → Goes m x.next t
+plane-goes-on m t is len padded more x =
     let left : x.next.kept.planes ≡ m.kept.planes - 1 = ap (λ (k : Kept). k.planes) x.kept in
     let next : x.next.field ≡ open_plane x.next.kept.planes = x.field ∙ sym (more-planes x.next.kept.planes (omega (arith, left, more))) in
-    let goes : Goes m x.next t = one-plane-goes m x.next t is len padded x.kept next x.at x.passed x.empty in
-    let width = plane-width m t (inl is) len in
-    let settles : x.next.field ≡ settled x.next.field = x.field ∙ sym (ap settled x.field) in
-    let moved : Moved true m x.next (b ++ t) = whole-moved m x.next read.0 b t read.1 fits passed empty width goes settles in
-    let made : with_planes p 1 t ≡ pile_when true m.field x.next.kept (pile_passed m.field p t)
-    = sym (ap (λ (o : Open). pile_when true o x.next.kept (pile_passed o p t)) is ∙ open-piled x.next.kept.planes x.next.kept (with_whole (with_bytes p t)) (omega (arith, left, more))) in
-    reads-step true m x.next p (pile_passed m.field p t) (with_planes p 1 t) b t read refl moved made (whole-stands m x.next read.0 b t read.1 fits passed empty width goes)
+    one-plane-goes m x.next t is len padded x.kept next x.at x.passed x.empty
 
-pub before-last : (n : ℕ) (m : Machine) (p : PileFields) (b t : List ℕ) → m.field ≡ opens.ApproxPlane → m.passed ≡ 0 → m.filled ≡ 0 → m.kept.planes ≡ n + 1 → IsBytes t
-    → n * (8 * words_for m.kept.starts) ≤ length t → ArePadded m.kept.starts n t → Reads m p b → BeforeLast m p b (take (n * (8 * words_for m.kept.starts)) t) n
-before-last zero m p b t is passed empty planes fits within padded read =
+before-last : (P : Machine → List ℕ → Type 0) → Keeps P → (n : ℕ) (m : Machine) (u t : List ℕ) → m.field ≡ opens.ApproxPlane → m.passed ≡ 0 → m.filled ≡ 0 → m.kept.planes ≡ n + 1
+    → IsBytes t → n * (8 * words_for m.kept.starts) ≤ length t → ArePadded m.kept.starts n t → P m u → BeforeLast P m u (take (n * (8 * words_for m.kept.starts)) t)
+before-last P keeps zero m u t is passed empty planes fits within padded holds =
     let none : take (0 * (8 * words_for m.kept.starts)) t ≡ [] = let z : 0 * (8 * words_for m.kept.starts) ≡ 0 = omega arith in ap (λ (k : ℕ). take k t) z in
     let one : m.kept.planes ≡ 1 = omega (arith, planes) in
-    subst (λ (l : List ℕ). BeforeLast m p b l 0) (sym none) (record {
+    subst (λ (l : List ℕ). BeforeLast P m u l) (sym none) (record {
       last = m;
-      reads = subst (λ (q : PileFields). Reads m q (b ++ [])) (sym (none-put p)) (subst (λ (l : List ℕ). Reads m p l) (sym (append-nil b)) read);
+      holds = subst (λ (l : List ℕ). P m l) (sym (append-nil u)) holds;
       kept = ap (λ (k : ℕ). record m.kept { planes = k }) one;
       field = is;
       at = omega arith;
       passed = passed;
       empty = empty;
     })
-before-last (suc n) m p b t is passed empty planes fits within padded read =
+before-last P keeps (suc n) m u t is passed empty planes fits within padded holds =
     let w : ℕ = 8 * words_for m.kept.starts in
     let first : List ℕ = take w t in
     let others : List ℕ = take (n * w) (drop w t) in
@@ -105,20 +101,18 @@ before-last (suc n) m p b t is passed empty planes fits within padded read =
     let enough : w ≤ length t = omega (arith, within, e) in
     let len : length first ≡ w = length-take-le w t enough in
     let x : Behind m first = one-behind m first is more len in
-    let reads : Reads x.next (with_planes p 1 first) (b ++ first)
-    = reads-behind m p b first (bytes-front w t fits) is passed empty len (first-padded m.kept.starts n t some enough padded) more x read in
+    let next : P x.next (u ++ first) = keeps m u first (bytes-front w t fits) is passed empty len (first-padded m.kept.starts n t some enough padded) more x holds in
     let same : x.next.kept.starts ≡ m.kept.starts = ap (λ (k : Kept). k.starts) x.kept in
     let left : n * w ≤ length (drop w t) = omega (arith, within, e, length-drop w t) in
     let count : x.next.kept.planes ≡ n + 1 = omega (arith, planes, ap (λ (k : Kept). k.planes) x.kept) in
-    let h : BeforeLast x.next (with_planes p 1 first) (b ++ first) others n
-    = subst (λ (s : ℕ). BeforeLast x.next (with_planes p 1 first) (b ++ first) (take (n * (8 * words_for s)) (drop w t)) n) same
-    (before-last n x.next (with_planes p 1 first) (b ++ first) (drop w t) x.field x.passed x.empty count (λ i. rw get_or-drop (fits (w + i)))
-    (rw same left) (rw same (others-padded m.kept.starts n t padded)) reads) in
+    let h : BeforeLast P x.next (u ++ first) others
+    = subst (λ (s : ℕ). BeforeLast P x.next (u ++ first) (take (n * (8 * words_for s)) (drop w t))) same
+    (before-last P keeps n x.next (u ++ first) (drop w t) x.field x.passed x.empty count (λ i. rw get_or-drop (fits (w + i)))
+    (rw same left) (rw same (others-padded m.kept.starts n t padded)) next) in
     let all : first ++ others ≡ take (suc n * w) t = sym (ap (λ (k : ℕ). take k t) e ∙ take-add w (n * w) t) in
-    subst (λ (l : List ℕ). BeforeLast m p b l (suc n)) all (record {
+    subst (λ (l : List ℕ). BeforeLast P m u l) all (record {
       last = h.last;
-      reads = subst (λ (q : PileFields). Reads h.last q (b ++ (first ++ others))) (put-more p n first others)
-          (subst (λ (l : List ℕ). Reads h.last (with_planes (with_planes p 1 first) n others) l) (append_assoc b first others) h.reads);
+      holds = subst (λ (l : List ℕ). P h.last l) (append_assoc u first others) h.holds;
       kept = h.kept ∙ ap (λ (k : Kept). record k { planes = 1 }) x.kept;
       field = h.field;
       at = omega (arith, h.at, x.at, length-append first others);
@@ -126,10 +120,21 @@ before-last (suc n) m p b t is passed empty planes fits within padded read =
       empty = h.empty;
     })
 
--- they are collected, and the stage is whole
-pub record PutPlanes (m n : Machine) (p : PileFields) (b t : List ℕ) : Type 0 where
-  pub planes : AreStageBytes n.kept.starts (p.done + m.kept.planes) (p.bytes ++ t)
-  pub reads : ReadsFront n (pile_plane 0 n.kept (with_planes p m.kept.planes t)) (b ++ t)
+-- their bytes are those of the others, and of the last one, which went from a machine of its own
+pub record Planes (P : Machine → List ℕ → Type 0) (n : Machine) (t : List ℕ) : Type 0 where
+  pub before : Machine
+  pub first : List ℕ
+  pub last : List ℕ
+  pub all : first ++ last ≡ t
+  pub holds : P before first
+  pub field : before.field ≡ opens.ApproxPlane
+  pub one : before.kept.planes ≡ 1
+  pub passed : before.passed ≡ 0
+  pub empty : before.filled ≡ 0
+  pub fits : IsBytes last
+  pub width : length last ≡ width_of before.field before.kept
+  pub goes : Goes before n last
+  pub settles : n.field ≡ settled n.field
 
 last-padded : (starts n : ℕ) (t : List ℕ) → 8 ≤ 8 * words_for starts → length t ≡ (n + 1) * (8 * words_for starts) → ArePadded starts (n + 1) t
     → is_padded_last starts (drop (length (drop (n * (8 * words_for starts)) t) - 8) (drop (n * (8 * words_for starts)) t)) ≡ true
@@ -142,8 +147,8 @@ last-padded starts n t some len padded =
     ∙ ap (is_padded_last starts) (drop-drop (w - 8) (n * w) t ∙ sym (take_all 8 (drop (n * w + (w - 8)) t) short))
     ∙ padded n (omega arith)
 
-pub planes-put : (m n : Machine) (p : PileFields) (b t : List ℕ) → m.field ≡ opens.ApproxPlane → IsBytes t → PassesPlanes m n t → Reads m p b → PutPlanes m n p b t
-planes-put m n p b t is fits f read =
+pub planes-split : (P : Machine → List ℕ → Type 0) → Keeps P → (m n : Machine) (t : List ℕ) → m.field ≡ opens.ApproxPlane → IsBytes t → PassesPlanes m n t → P m [] → Planes P n t
+planes-split P keeps m n t is fits f holds =
     let w : ℕ = 8 * words_for m.kept.starts in
     let k : ℕ = m.kept.planes - 1 in
     let count : k + 1 ≡ m.kept.planes = omega (arith, f.some) in
@@ -155,7 +160,7 @@ planes-put m n p b t is fits f read =
     let before-len : length first ≡ k * w = length-take-le (k * w) t (omega (arith, len, e)) in
     let last-len : length last ≡ w = omega (arith, length-drop (k * w) t, len, e) in
     let padded : ArePadded m.kept.starts (k + 1) t = λ i lt. f.padded i (omega (arith, lt, count)) in
-    let h = before-last k m p b t is f.fresh.0 f.fresh.1 (sym count) fits (omega (arith, len, e)) (λ i lt. padded i (omega (arith, lt))) read in
+    let h = before-last P keeps k m [] t is f.fresh.0 f.fresh.1 (sym count) fits (omega (arith, len, e)) (λ i lt. padded i (omega (arith, lt))) holds in
     let starts : h.last.kept.starts ≡ m.kept.starts = ap (λ (x : Kept). x.starts) h.kept in
     let width : length last ≡ 8 * words_for h.last.kept.starts = last-len ∙ ap (λ (s : ℕ). 8 * words_for s) (sym starts) in
     let passes : is_padded_last h.last.kept.starts (drop (length last - 8) last) ≡ true
@@ -163,26 +168,105 @@ planes-put m n p b t is fits f read =
     let kept : n.kept ≡ record h.last.kept { planes = h.last.kept.planes - 1 } = f.kept ∙ sym (ap (λ (x : Kept). record x { planes = x.planes - 1 }) h.kept) in
     let opens-next : n.field ≡ open_plane n.kept.planes = f.field ∙ sym (ap (λ (x : Kept). open_plane x.planes) f.kept) in
     let at : n.at ≡ h.last.at + length last = omega (arith, f.at, h.at, before-len, last-len, len, e) in
-    let goes : Goes h.last n last = one-plane-goes h.last n last h.field width passes kept opens-next at f.empty.0 f.empty.1 in
-    let behind : IsBytes last = λ i. rw get_or-drop (fits (k * w + i)) in
-    let same : (b ++ first) ++ last ≡ b ++ t = append_assoc b first last ∙ ap (λ (l : List ℕ). b ++ l) (take-append-drop (k * w) t) in
-    let wide = plane-width h.last last (inl h.field) width in
-    let settles = f.field ∙ sym (ap settled f.field) in
-    let moved : Moved true h.last n ((b ++ first) ++ last) = whole-moved h.last n h.reads.0 (b ++ first) last h.reads.1 behind h.passed h.empty wide goes settles in
-    let q : PileFields = with_planes p k first in
-    let can : CanCollect h.last.field n.kept (pile_passed h.last.field q last) = can-settle h.last n q (pile_passed h.last.field q last) (b ++ first) last h.reads refl moved in
-    let can-plane : AreStageBytes n.kept.starts (p.done + k + 1) ((p.bytes ++ first) ++ last) = subst (λ (o : Open). CanCollect o n.kept (pile_passed o q last)) h.field can in
-    let bytes : (p.bytes ++ first) ++ last ≡ p.bytes ++ t = append_assoc p.bytes first last ∙ ap (λ (l : List ℕ). p.bytes ++ l) (take-append-drop (k * w) t) in
-    let all : with_planes p (k + 1) (first ++ last) ≡ with_planes p m.kept.planes t
-    = ap (λ (l : List ℕ). with_planes p (k + 1) l) (take-append-drop (k * w) t) ∙ ap (λ (c : ℕ). with_planes p c t) count in
-    let made : pile_plane 0 n.kept (with_planes p m.kept.planes t) ≡ pile_when true h.last.field n.kept (pile_passed h.last.field q last)
-    = ap (pile_plane 0 n.kept) (sym (put-last p k first last ∙ all))
-    ∙ sym (ap (λ (o : Open). pile_when true o n.kept (pile_passed o q last)) h.field ∙ ap (λ (x : Kept). pile_plane x.planes n.kept (with_whole (with_bytes q last))) f.kept) in
-    let reads = reads-step true h.last n q (pile_passed h.last.field q last) (pile_plane 0 n.kept (with_planes p m.kept.planes t)) (b ++ first) last h.reads refl moved made
-    (whole-stands h.last n h.reads.0 (b ++ first) last h.reads.1 behind h.passed h.empty wide goes) in
     record {
-      planes = subst (λ (l : List ℕ). AreStageBytes n.kept.starts (p.done + m.kept.planes) l) bytes
-          (subst (λ (c : ℕ). AreStageBytes n.kept.starts c ((p.bytes ++ first) ++ last)) (omega (arith, count)) can-plane);
-      reads = subst (λ (l : List ℕ). ReadsFront n (pile_plane 0 n.kept (with_planes p m.kept.planes t)) l) same
-          (reads-front true h.last n (pile_plane 0 n.kept (with_planes p m.kept.planes t)) ((b ++ first) ++ last) (ap in_front h.field) moved reads);
+      before = h.last;
+      first = first;
+      last = last;
+      all = take-append-drop (k * w) t;
+      holds = h.holds;
+      field = h.field;
+      one = ap (λ (x : Kept). x.planes) h.kept;
+      passed = h.passed;
+      empty = h.empty;
+      fits = λ i. rw get_or-drop (fits (k * w + i));
+      width = plane-width h.last last (inl h.field) width;
+      goes = one-plane-goes h.last n last h.field width passes kept opens-next at f.empty.0 f.empty.1;
+      settles = f.field ∙ sym (ap settled f.field);
+    }
+
+-- ---- they are scanned
+
+-- behind whatever was seen
+abbrev SomeStands : List ℕ → Machine → List ℕ → Type 0
+SomeStands b m u = (s : Seen) × Stands m s (b ++ u)
+
+stands-keeps : (b : List ℕ) → Keeps (SomeStands b)
+stands-keeps b m u t fits is passed empty len padded more x st =
+    let goes : Goes m x.next t = plane-goes-on m t is len padded more x in
+    let seen : Seen = seen_after m.field m.kept st.0 (drop m.at ((b ++ u) ++ t)) in
+    (seen, subst (λ (l : List ℕ). Stands x.next seen l) (append_assoc b u t) (whole-stands m x.next st.0 (b ++ u) t st.1 fits passed empty (plane-width m t (inl is) len) goes))
+
+pub planes-taken : (m n : Machine) (piece : List ℕ) (k : ℕ) → m.field ≡ opens.ApproxPlane → IsBytes piece → k ≤ length piece → PassesPlanes m n (take k piece) → Takes m n piece k
+planes-taken m n piece k is bytes within f = record {
+  stands = λ s b st.
+      let h = planes-split (SomeStands b) (stands-keeps b) m n (take k piece) is (bytes-front k piece bytes) f (s, subst (λ (l : List ℕ). Stands m s l) (sym (append-nil b)) st) in
+      let c : List ℕ = b ++ h.first in
+      let same : c ++ h.last ≡ b ++ take k piece = append_assoc b h.first h.last ∙ ap (λ (l : List ℕ). b ++ l) h.all in
+      subst (λ (l : List ℕ). StandsFront n l) same (record {
+        seen = _;
+        stands = whole-stands h.before n h.holds.0 c h.last h.holds.1 h.fits h.passed h.empty h.width h.goes;
+        front = front-moved true h.before n (c ++ h.last) (ap in_front h.field)
+            (whole-moved h.before n h.holds.0 c h.last h.holds.1 h.fits h.passed h.empty h.width h.goes h.settles);
+      });
+  partial = field-partial n opens.ExactSeed (omega arith) f.field f.empty.1;
+  count = within;
+}
+
+-- ---- they are collected
+
+-- so many are to come in all, of which those before the open one were put
+abbrev SomeReads : PileFields → List ℕ → ℕ → Machine → List ℕ → Type 0
+SomeReads p b c m u = (m.kept.planes ≤ c) × Reads m (with_planes p (c - m.kept.planes) u) (b ++ u)
+
+reads-keeps : (p : PileFields) (b : List ℕ) (c : ℕ) → Keeps (SomeReads p b c)
+reads-keeps p b c m u t fits is passed empty len padded more x h =
+    let left : x.next.kept.planes ≡ m.kept.planes - 1 = ap (λ (k : Kept). k.planes) x.kept in
+    let q : PileFields = with_planes p (c - m.kept.planes) u in
+    let goes : Goes m x.next t = plane-goes-on m t is len padded more x in
+    let width = plane-width m t (inl is) len in
+    let settles : x.next.field ≡ settled x.next.field = x.field ∙ sym (ap settled x.field) in
+    let moved : Moved true m x.next ((b ++ u) ++ t) = whole-moved m x.next h.1.0 (b ++ u) t h.1.1 fits passed empty width goes settles in
+    let count : c - m.kept.planes + 1 ≡ c - x.next.kept.planes = omega (arith, left, more, h.0) in
+    let put : with_planes p (c - x.next.kept.planes) (u ++ t) ≡ with_planes q 1 t = sym (put-more p (c - m.kept.planes) 1 u t ∙ ap (λ (k : ℕ). with_planes p k (u ++ t)) count) in
+    let made : with_planes p (c - x.next.kept.planes) (u ++ t) ≡ pile_when true m.field x.next.kept (pile_passed m.field q t)
+    = put ∙ sym (ap (λ (o : Open). pile_when true o x.next.kept (pile_passed o q t)) is ∙ open-piled x.next.kept.planes x.next.kept (with_whole (with_bytes q t)) (omega (arith, left, more))) in
+    (
+      omega (arith, left, h.0),
+      subst (λ (l : List ℕ). Reads x.next (with_planes p (c - x.next.kept.planes) (u ++ t)) l) (append_assoc b u t)
+          (reads-step true m x.next q (pile_passed m.field q t) (with_planes p (c - x.next.kept.planes) (u ++ t)) (b ++ u) t h.1 refl moved made
+          (whole-stands m x.next h.1.0 (b ++ u) t h.1.1 fits passed empty width goes)),
+    )
+
+-- and the stage is whole
+pub record PutPlanes (m n : Machine) (p : PileFields) (b t : List ℕ) : Type 0 where
+  pub planes : AreStageBytes n.kept.starts (p.done + m.kept.planes) (p.bytes ++ t)
+  pub reads : ReadsFront n (pile_plane 0 n.kept (with_planes p m.kept.planes t)) (b ++ t)
+
+pub planes-put : (m n : Machine) (p : PileFields) (b t : List ℕ) → m.field ≡ opens.ApproxPlane → IsBytes t → PassesPlanes m n t → Reads m p b → PutPlanes m n p b t
+planes-put m n p b t is fits f read =
+    let c : ℕ = m.kept.planes in
+    let none : c - c ≡ 0 = omega arith in
+    let first-read : Reads m (with_planes p (c - c) []) (b ++ []) = rw none
+    (subst (λ (q : PileFields). Reads m q (b ++ [])) (sym (none-put p)) (subst (λ (l : List ℕ). Reads m p l) (sym (append-nil b)) read)) in
+    let h = planes-split (SomeReads p b c) (reads-keeps p b c) m n t is fits f (omega arith, first-read) in
+    let q : PileFields = with_planes p (c - h.before.kept.planes) h.first in
+    let reads : Reads h.before q (b ++ h.first) = h.holds.1 in
+    let moved : Moved true h.before n ((b ++ h.first) ++ h.last) = whole-moved h.before n reads.0 (b ++ h.first) h.last reads.1 h.fits h.passed h.empty h.width h.goes h.settles in
+    let can : CanCollect h.before.field n.kept (pile_passed h.before.field q h.last)
+    = can-settle h.before n q (pile_passed h.before.field q h.last) (b ++ h.first) h.last reads refl moved in
+    let whole : with_whole (with_bytes q h.last) ≡ with_planes p c t
+    = let e : c - h.before.kept.planes + 1 ≡ c = omega (arith, h.one, f.some) in
+    put-more p (c - h.before.kept.planes) 1 h.first h.last ∙ ap (λ (l : List ℕ). with_planes p (c - h.before.kept.planes + 1) l) h.all ∙ ap (λ (k : ℕ). with_planes p k t) e in
+    let can-plane : AreStageBytes n.kept.starts (with_whole (with_bytes q h.last)).done (with_whole (with_bytes q h.last)).bytes
+    = subst (λ (o : Open). CanCollect o n.kept (pile_passed o q h.last)) h.field can in
+    let made : pile_plane 0 n.kept (with_planes p c t) ≡ pile_when true h.before.field n.kept (pile_passed h.before.field q h.last)
+    = ap (pile_plane 0 n.kept) (sym whole)
+    ∙ sym (ap (λ (o : Open). pile_when true o n.kept (pile_passed o q h.last)) h.field ∙ ap (λ (x : Kept). pile_plane x.planes n.kept (with_whole (with_bytes q h.last))) f.kept) in
+    let same : (b ++ h.first) ++ h.last ≡ b ++ t = append_assoc b h.first h.last ∙ ap (λ (l : List ℕ). b ++ l) h.all in
+    record {
+      planes = subst (λ (r : PileFields). AreStageBytes n.kept.starts r.done r.bytes) whole can-plane;
+      reads = subst (λ (l : List ℕ). ReadsFront n (pile_plane 0 n.kept (with_planes p c t)) l) same
+          (reads-front true h.before n (pile_plane 0 n.kept (with_planes p c t)) ((b ++ h.first) ++ h.last) (ap in_front h.field) moved
+          (reads-step true h.before n q (pile_passed h.before.field q h.last) (pile_plane 0 n.kept (with_planes p c t)) (b ++ h.first) h.last reads refl moved made
+          (whole-stands h.before n reads.0 (b ++ h.first) h.last reads.1 h.fits h.passed h.empty h.width h.goes)));
     }

@@ -110,26 +110,6 @@ pub(crate) fn is_done(field: Open) -> bool
     }
 }
 
-#[inline(always)]
-pub(crate) fn is_block(field: Open) -> bool
-    ensures { IsTrue result ↔ field ≡ Open.BlockIssuer }
-{
-    match field {
-        Open::BlockIssuer => true,
-        _ => false,
-    }
-}
-
-#[inline(always)]
-pub(crate) fn is_approx_plane(field: Open) -> bool
-    ensures { IsTrue result ↔ field ≡ Open.ApproxPlane }
-{
-    match field {
-        Open::ApproxPlane => true,
-        _ => false,
-    }
-}
-
 /// How many bytes of a field are held.
 #[inline(always)]
 pub(crate) fn tail(field: Open) -> usize
@@ -360,7 +340,7 @@ fn keep_issuers(kept: &mut Kept, count: u32)
 
 /// Of the approximate stage one plane fewer is left.
 #[inline(always)]
-pub(crate) fn keep_plane(kept: &mut Kept)
+fn keep_plane(kept: &mut Kept)
     ensures { kept.new ≡ record kept.old { planes = kept.old.planes - 1 } }
 {
     kept.planes = kept.planes.saturating_sub(1);
@@ -504,7 +484,7 @@ fn at_approx(planes: u8) -> Open
 }
 
 #[inline(always)]
-pub(crate) fn at_plane(planes: u8) -> Open
+fn at_plane(planes: u8) -> Open
     ensures { result ≡ open_plane planes }
 {
     match planes {

@@ -8,13 +8,12 @@ ghost use Rattle.part_codec.specs.declared.machine.TheConstants.{MAX_PART};
 ghost use Rattle.part_text.specs.PartLayout.{sealed};
 ghost use Rattle.part_codec.specs.Remaining.{Seen, nothing_seen};
 ghost use Rattle.part_codec.specs.Stepping.{in_front, skips as skips_of, tail_of, kept_after, seen_after, open_after, settled};
-ghost use Rattle.part_codec.specs.Stepping.{AreStarts, AreLimits, name_of, still};
+ghost use Rattle.part_codec.specs.Stepping.{AreStarts, AreLimits, leads_on, name_of, still};
 
 mod whole;
 
 use crate::fields::{
-    Kept, Open, TRAILER, is_approx_plane, is_block, is_digest, is_front, keep, name, next_of,
-    passes, skips, tail,
+    Kept, Open, TRAILER, is_digest, is_front, keep, name, next_of, passes, skips, tail,
 };
 use card_core::MAX_BLOCKS;
 use ident_core::{MAX_RANGES, RANGE_BYTES};
@@ -321,41 +320,63 @@ impl Machine {
         }
     }
 
-    /// Takes bytes of an approximate plane. Answers how many.
+    /// Takes bytes of this field of a mixed leaf, which isn't a plane. Answers how many.
     #[inline(always)]
-    fn take_plane(&mut self, piece: &[u8]) -> Result<usize, LayoutFault>
+    fn take_field(&mut self, field: Open, piece: &[u8]) -> Result<usize, LayoutFault>
+        requires field { self.old.field ≡ field }
+        requires leads { leads_on field ≡ true }
+        requires front { IsFront self.old }
+        ensures ok { IfOk result (Takes self.old self.new piece.now) }
+        ensures err { IfErr result (Fails self.old piece.now) }
+        ensures progress { IfOk result (λ n. 0 < length piece.now → 0 < n) }
+    {
+        let n = self.whole_field(field, piece);
+        if n == 0 {
+            let (n, _) = self.step_apart(piece)?;
+            return Ok(n);
+        }
+        Ok(n)
+    }
+
+    /// Takes bytes of the seed of a stage, and of its starts where both are whole in the piece. Answers how many.
+    #[inline(always)]
+    fn take_head(&mut self, seed: Open, starts: Open, piece: &[u8]) -> Result<usize, LayoutFault>
+        requires field { self.old.field ≡ seed }
+        requires leads { (leads_on seed ≡ true) × (leads_on starts ≡ true) }
+        requires follows { (k : Kept) → open_after seed k ≡ starts }
+        requires front { IsFront self.old }
+        ensures ok { IfOk result (Takes self.old self.new piece.now) }
+        ensures err { IfErr result (Fails self.old piece.now) }
+        ensures progress { IfOk result (λ n. 0 < length piece.now → 0 < n) }
+    {
+        let n = self.whole_field(seed, piece);
+        if n == 0 {
+            let (n, _) = self.step_apart(piece)?;
+            return Ok(n);
+        }
+        let more = self.whole_field(starts, &piece[n..]);
+        Ok(n + more)
+    }
+
+    /// Takes bytes of an approximate stage's planes: all that are left, where they are whole in the piece, or else of
+    /// the open one. Answers how many.
+    #[inline(always)]
+    fn take_planes(&mut self, piece: &[u8]) -> Result<usize, LayoutFault>
         requires field { self.old.field ≡ Open.ApproxPlane }
         requires front { IsFront self.old }
         ensures ok { IfOk result (Takes self.old self.new piece.now) }
         ensures err { IfErr result (Fails self.old piece.now) }
         ensures progress { IfOk result (λ n. 0 < length piece.now → 0 < n) }
     {
-        let (n, _) = self.advance_plane(piece)?;
+        let n = self.whole_planes(piece);
+        if n == 0 {
+            let (n, _) = self.step_apart(piece)?;
+            return Ok(n);
+        }
         Ok(n)
     }
 
-    /// Takes bytes of an approximate stage's planes. Answers how many.
-    #[inline(always)]
-    fn take_planes(&mut self, piece: &[u8]) -> Result<usize, LayoutFault>
-        requires field { self.old.field ≡ Open.ApproxPlane }
-        requires partial { self.old.filled < tail_of self.old.field }
-        ensures ok { IfOk result (Takes self.old self.new piece.now) }
-        ensures err { IfErr result (Fails self.old piece.now) }
-        ensures progress { IfOk result (λ n. 0 < length piece.now → 0 < n) }
-    {
-        let mut taken = 0;
-        while taken < piece.len() {
-            if !is_approx_plane(self.field) {
-                return Ok(taken);
-            }
-            let n = self.take_plane(&piece[taken..])?;
-            taken += n;
-        }
-        Ok(taken)
-    }
-
-    /// Takes bytes of the issuer of a block, and of its mode where both are whole in the piece and there is no more of
-    /// the block: most of a long part is blocks that say none or all.
+    /// Takes bytes of the issuer of a block, and of its mode where both are whole in the piece. Answers how many.
     #[inline(always)]
     fn take_block(&mut self, piece: &[u8]) -> Result<usize, LayoutFault>
         requires field { self.old.field ≡ Open.BlockIssuer }
@@ -369,12 +390,11 @@ impl Machine {
             let (n, _) = self.step_apart(piece)?;
             return Ok(n);
         }
-        let more = self.whole_plain(&piece[n..]);
+        let more = self.whole_mode(&piece[n..]);
         Ok(n + more)
     }
 
-    /// Takes bytes up to the end of the open field, to that of a block's mode, or of planes that stand together.
-    /// Answers how many.
+    /// Takes bytes up to the end of the open field, or of fields that stand together. Answers how many.
     #[inline(always)]
     fn walk(&mut self, piece: &[u8]) -> Result<usize, LayoutFault>
         requires { IsFront self.old }
@@ -382,14 +402,17 @@ impl Machine {
         ensures err { IfErr result (Fails self.old piece.now) }
         ensures progress { IfOk result (λ n. 0 < length piece.now → 0 < n) }
     {
-        if is_block(self.field) {
-            return self.take_block(piece);
+        match self.field {
+            Open::BlockIssuer => self.take_block(piece),
+            Open::BlockK => self.take_field(Open::BlockK, piece),
+            Open::ApproxSeed => self.take_head(Open::ApproxSeed, Open::ApproxStarts, piece),
+            Open::ApproxPlane => self.take_planes(piece),
+            Open::ExactSeed => self.take_head(Open::ExactSeed, Open::ExactStarts, piece),
+            _ => {
+                let (n, _) = self.advance(piece)?;
+                Ok(n)
+            }
         }
-        if is_approx_plane(self.field) {
-            return self.take_planes(piece);
-        }
-        let (n, _) = self.advance(piece)?;
-        Ok(n)
     }
 
     /// Takes the next piece up to the trailer. Answers how many bytes it took.

@@ -113,9 +113,10 @@ fn step_planes(
     step_apart(alloc, machine, pile, piece)
 }
 
-/// Takes the mode of a block that says none or all and isn't the last, if it is at hand, and collects the block.
+/// Takes the mode of a block, if it is at hand and more than the trailer follows, and collects the block where it says
+/// none or all.
 #[inline(always)]
-fn step_plain(
+fn step_mode(
     alloc: Global,
     machine: &mut Machine,
     pile: &mut Pile,
@@ -127,7 +128,7 @@ fn step_plain(
     ensures ok { IfOk result (TakesTo machine.old machine.new pile.old pile.new piece.now) }
     ensures err { IfErr result (FailsRead machine.old pile.old piece.now) }
 {
-    let n = machine.whole_plain(piece);
+    let n = machine.whole_mode(piece);
     if n == 0 {
         return Ok(0);
     }
@@ -135,8 +136,7 @@ fn step_plain(
     Ok(n)
 }
 
-/// `step` at the issuer of a block, and at its mode where both are at hand and there is no more of the block: most of a
-/// long part is blocks that say none or all.
+/// `step` at the issuer of a block, and at its mode where both are at hand.
 #[inline(always)]
 fn step_block(
     alloc: Global,
@@ -155,7 +155,7 @@ fn step_block(
     if n == 0 {
         return step_apart(alloc, machine, pile, piece);
     }
-    let more = step_plain(alloc, machine, pile, &piece[n..])?;
+    let more = step_mode(alloc, machine, pile, &piece[n..])?;
     Ok(n + more)
 }
 

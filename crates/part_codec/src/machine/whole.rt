@@ -5,10 +5,7 @@ ghost use Rattle.equation_core.specs.Sizes.{words_for as words_of};
 ghost use Rattle.part_codec.specs.Remaining.{Seen};
 ghost use Rattle.part_codec.specs.Stepping.{leads_on, kept_after, seen_after, open_after};
 
-use crate::fields::{
-    Open, are_padded, at_leaf, at_plane, is_last_padded, keep_leaf, keep_plane, number8, passes,
-    tail,
-};
+use crate::fields::{Open, are_padded, at_leaf, is_last_padded, keep_leaf, number8, passes, tail};
 use crate::machine::Machine;
 use equation_core::words_for;
 use octets_core::{LayoutFault, Why};
@@ -16,24 +13,6 @@ use octets_core::{LayoutFault, Why};
 impl Machine {
     ghost use Rattle.part_codec.specs.Scanning.{Stands, Moved};
     ghost use Rattle.part_codec.specs.Taking.{IsFront, IsPartial, Advances, Takes, PassesPlanes, Fails};
-
-    /// Behind an approximate plane, all of which this is and which passed: opens the next field.
-    #[inline(always)]
-    fn pass_plane(&mut self, plane: &[u8])
-        requires field { self.old.field ≡ Open.ApproxPlane }
-        requires len { length plane.now ≡ 8 * words_of self.old.kept.starts }
-        ensures kept { (last : List ℕ) → self.new.kept ≡ kept_after self.old.field self.old.kept last }
-        ensures next { self.new.field ≡ open_after self.old.field self.new.kept }
-        ensures at { self.new.at ≡ self.old.at + length plane.now }
-        ensures passed { self.new.passed ≡ 0 }
-        ensures empty { self.new.filled ≡ 0 }
-    {
-        self.at += plane.len() as u64;
-        keep_plane(&mut self.kept);
-        self.field = at_plane(self.kept.planes);
-        self.passed = 0;
-        self.filled = 0;
-    }
 
     /// Takes the open field, which this is, where it is whole in the piece and passes its test, and opens the next one.
     /// Answers how many bytes it has, or 0 where nothing is taken.
@@ -58,45 +37,28 @@ impl Machine {
         want
     }
 
-    /// Takes the mode of a block that says none or all and isn't the last, where it is in the piece, and opens the next
-    /// block. Answers how many bytes it has, or 0 where nothing is taken.
+    /// Takes the mode of a block, where it is in the piece and passes its test, and opens the next field; not of the last
+    /// block where that says none or all, since what follows it has no byte. Answers how many bytes it has, or 0 where
+    /// nothing is taken.
     #[inline(always)]
-    pub(crate) fn whole_plain(&mut self, piece: &[u8]) -> usize
+    pub(crate) fn whole_mode(&mut self, piece: &[u8]) -> usize
         requires field { self.old.field ≡ Open.BlockMode }
         requires front { IsFront self.old }
         ensures taken { 0 < result → Advances self.old self.new piece.now (result, true) }
         ensures left { result ≡ 0 → self.new ≡ self.old }
     {
-        if self.filled > 0 || piece.len() < 1 || self.kept.left < 2 {
+        if self.filled > 0 || piece.len() < 1 {
             return 0;
         }
         let mode = &piece[..1];
-        if number8(mode) > 1 || !passes(Open::BlockMode, &self.kept, mode) {
+        if number8(mode) <= 1 && self.kept.left < 2 {
+            return 0;
+        }
+        if !passes(Open::BlockMode, &self.kept, mode) {
             return 0;
         }
         self.open_next(mode);
         1
-    }
-
-    /// Takes an approximate plane that is whole in the piece and passes its test, and opens the next field. Answers how
-    /// many bytes it has, or 0 where nothing is taken.
-    #[inline(always)]
-    pub(crate) fn whole_plane(&mut self, piece: &[u8]) -> usize
-        requires field { self.old.field ≡ Open.ApproxPlane }
-        requires front { IsFront self.old }
-        ensures taken { 0 < result → Advances self.old self.new piece.now (result, true) }
-        ensures left { result ≡ 0 → self.new ≡ self.old }
-    {
-        let width = 8 * words_for(self.kept.starts);
-        if self.passed > 0 || self.filled > 0 || piece.len() < width {
-            return 0;
-        }
-        let plane = &piece[..width];
-        if !is_last_padded(self.kept.starts, &plane[plane.len() - 8..]) {
-            return 0;
-        }
-        self.pass_plane(plane);
-        width
     }
 
     /// Behind the last approximate plane, where these are the bytes of all: opens the next field.
@@ -141,21 +103,6 @@ impl Machine {
         width
     }
 
-    /// `step` at an approximate plane. One that is whole in the piece is taken where nothing goes by the open field.
-    #[inline(always)]
-    pub(crate) fn advance_plane(&mut self, piece: &[u8]) -> Result<(usize, bool), LayoutFault>
-        requires field { self.old.field ≡ Open.ApproxPlane }
-        requires front { IsFront self.old }
-        ensures ok { IfOk result (Advances self.old self.new piece.now) }
-        ensures err { IfErr result (Fails self.old piece.now) }
-    {
-        let n = self.whole_plane(piece);
-        if n > 0 {
-            return Ok((n, true));
-        }
-        self.step_apart(piece)
-    }
-
     /// Behind an exact plane, all of which this is and which passed: opens the next field.
     #[inline(always)]
     fn pass_exact(&mut self, plane: &[u8])
@@ -194,7 +141,7 @@ impl Machine {
         self.settle()
     }
 
-    /// `step` at an exact plane, as at an approximate one.
+    /// `step` at an exact plane. One that is whole in the piece is taken where nothing goes by the open field.
     #[inline(always)]
     pub(super) fn advance_exact(&mut self, piece: &[u8]) -> Result<(usize, bool), LayoutFault>
         requires field { self.old.field ≡ Open.ExactPlane }

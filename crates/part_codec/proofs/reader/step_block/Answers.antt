@@ -11,8 +11,8 @@ use Rattle.part_codec.proofs.reader.step_block.Goals as goal
 pub step_apart-requires-clause-read : goal.step_apart-requires-clause-read
 step_apart-requires-clause-read c = rw (c.whole_field-n.ensures.left c.if-n-eq0.true) c.requires.read
 
-pub step_plain-requires-clause-read : goal.step_plain-requires-clause-read
-step_plain-requires-clause-read c =
+pub step_mode-requires-clause-read : goal.step_mode-requires-clause-read
+step_mode-requires-clause-read c =
     ∥∥₁_map c.requires.read (λ r. (
       _,
       reads-issuer c.args.machine.now c.whole_field-n.new.self c.args.pile.now c.args.piece.now c.whole_field-n.result c.requires.field
@@ -34,7 +34,7 @@ returns-clause-ok c =
     let f = c.whole_field-n.ensures.taken (omega (arith, c.if-n-eq0.false)) in
     record {
       reads = λ b read.
-          subst (λ (l : List ℕ). ReadsFront c.step_plain.new.machine c.step_plain.new.pile l) (pieces-join b piece n c.in_ok-more.more _ (take_rest piece n))
+          subst (λ (l : List ℕ). ReadsFront c.step_mode.new.machine c.step_mode.new.pile l) (pieces-join b piece n c.in_ok-more.more _ (take_rest piece n))
           (c.in_ok-more.ensures.ok.reads _ (reads-issuer c.args.machine.now c.whole_field-n.new.self c.args.pile.now piece n c.requires.field f b read));
       read = c.in_ok-more.ensures.ok.read;
       partial = c.in_ok-more.ensures.ok.partial;

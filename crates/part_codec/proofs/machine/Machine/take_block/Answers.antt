@@ -16,6 +16,6 @@ returns-then-n-eq0-clause-ok c =
 
 pub returns-clause-ok : goal.returns-clause-ok
 returns-clause-ok c =
-    takes-both c.args.self.now c.whole_field-n.new.self c.whole_plain-more.new.self c.args.piece.now _ c.whole_field-n.result c.whole_plain-more.result (ap in_front c.requires.field)
+    takes-both c.args.self.now c.whole_field-n.new.self c.whole_mode-more.new.self c.args.piece.now _ c.whole_field-n.result c.whole_mode-more.result (ap in_front c.requires.field)
     (ap in_front (c.whole_field-n.ensures.next (omega (arith, c.if-n-eq0.false)))) (take_rest c.args.piece.now c.whole_field-n.result) (c.whole_field-n.ensures.taken (omega (arith, c.if-n-eq0.false)))
-    c.whole_plain-more.ensures.taken c.whole_plain-more.ensures.left
+    c.whole_mode-more.ensures.taken c.whole_mode-more.ensures.left

@@ -1,5 +1,0 @@
-use Rattle.part_codec.proofs.WholePlanes.{takes-one}
-use Rattle.part_codec.proofs.machine.Machine.take_plane.Goals as goal
-
-pub returns-clause-ok : goal.returns-clause-ok
-returns-clause-ok c = takes-one c.args.self.now c.advance_plane.new.self c.args.piece.now (c.in_ok-n.n, c.in_ok-n.field-0-1) c.requires.front.front c.in_ok-n.ensures.ok
