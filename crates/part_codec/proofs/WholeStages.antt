@@ -229,8 +229,7 @@ reads-keeps p b c m u t fits is passed empty len padded more x h =
     let count : c - m.kept.planes + 1 ≡ c - x.next.kept.planes = omega (arith, left, more, h.0) in
     let put : with_planes p (c - x.next.kept.planes) (u ++ t) ≡ with_planes q 1 t = sym (put-more p (c - m.kept.planes) 1 u t ∙ ap (λ (k : ℕ). with_planes p k (u ++ t)) count) in
     let made : with_planes p (c - x.next.kept.planes) (u ++ t) ≡ pile_when true m.field x.next.kept (pile_passed m.field q t)
-    = put ∙ sym (ap (λ (o : Open). pile_when true o x.next.kept (pile_passed o q t)) is ∙ open-piled x.next.kept.planes x.next.kept (with_whole (with_bytes q t)) (omega (arith, left, more))) in
-    (
+    = put ∙ sym (ap (λ (o : Open). pile_when true o x.next.kept (pile_passed o q t)) is ∙ open-piled x.next.kept.planes x.next.kept (with_whole (with_bytes q t)) (omega (arith, left, more))) in (
       omega (arith, left, h.0),
       subst (λ (l : List ℕ). Reads x.next (with_planes p (c - x.next.kept.planes) (u ++ t)) l) (append_assoc b u t)
           (reads-step true m x.next q (pile_passed m.field q t) (with_planes p (c - x.next.kept.planes) (u ++ t)) (b ++ u) t h.1 refl moved made

@@ -16,7 +16,8 @@ columns_read starts count bytes = columns_of starts count (words_read starts cou
 -- these are the bytes of so many planes, with their padding
 pub record AreRead (starts count : ℕ) (bytes : List ℕ) : Type 0 where
   pub room : length bytes ≡ 8 * (count * words_for starts)
-  pub padding : (plane : ℕ) → plane < count → plane_of_words (words_read starts count bytes) (words_for starts) plane < 2 ^ columns_for starts
+  pub padding : (plane : ℕ) → plane < count
+      → plane_of_words (words_read starts count bytes) (words_for starts) plane < 2 ^ columns_for starts
 
 -- these are all bytes of a stage's planes, one plane after the other
 pub record AreStageBytes (starts planes : ℕ) (bytes : List ℕ) : Type 0 where

@@ -114,7 +114,8 @@ is_padded_last starts p = from_be_bytes w64 p / 2 ^ (starts + 127 - 64 * (words_
 
 -- so are those of each of so many planes, one behind the other
 abbrev pub ArePadded : ℕ → ℕ → List ℕ → Type 0
-ArePadded starts n t = (i : ℕ) → i < n → is_padded_last starts (take 8 (drop (i * (8 * words_for starts) + (8 * words_for starts - 8)) t)) ≡ true
+ArePadded starts n t = (i : ℕ) → i < n
+    → is_padded_last starts (take 8 (drop (i * (8 * words_for starts) + (8 * words_for starts - 8)) t)) ≡ true
 
 -- the same test, of the bytes that are held
 abbrev pub passes_last : Open → Kept → List ℕ → List ℕ → Bool

@@ -50,7 +50,8 @@ pub record PassesPlanes (m n : Machine) (t : List ℕ) : Type 0 where
 
 -- so many bytes of the trailer, and that is whole or not
 pub record Closes (m n : Machine) (hasher : Sha256) (piece : List ℕ) (r : ℕ × Bool) : Type 0 where
-  pub stands : (s : Seen) (b : List ℕ) → Stands m s b → Hashes m hasher b → Stands n s (b ++ take r.0 piece) × Hashes n hasher (b ++ take r.0 piece)
+  pub stands : (s : Seen) (b : List ℕ) → Stands m s b → Hashes m hasher b
+      → Stands n s (b ++ take r.0 piece) × Hashes n hasher (b ++ take r.0 piece)
   pub moved : (s : Seen) (b : List ℕ) → Stands m s b → Hashes m hasher b → Moved r.1 m n (b ++ take r.0 piece)
   pub partial : IsPartial n
   pub count : r.0 ≤ length piece

@@ -2,7 +2,8 @@
 //! field it holds what the field's test needs, which is at most 32 bytes, and a plane passes through it up to its last
 //! word.
 
-ghost use Rattle.std.specs.Prelude.{◌≡◌, ◌≢◌, ◌≤◌, ◌<◌, ◌+◌, ◌++◌, ℕ, List, [], length, take, drop, true, false, Ok, Err, IfOk, OnOk, IfErr};
+ghost use Rattle.std.specs.Prelude.{◌≡◌, ◌≢◌, ◌≤◌, ◌<◌, ◌+◌, ◌++◌, ℕ, List, [], length, take, drop, true, false};
+ghost use Rattle.std.specs.Prelude.{Ok, Err, IfOk, OnOk, IfErr};
 ghost use Rattle.sha2.specs.Hashers.{Holds256};
 ghost use Rattle.part_codec.specs.declared.machine.TheConstants.{MAX_PART};
 ghost use Rattle.part_text.specs.PartLayout.{sealed};
@@ -181,8 +182,10 @@ impl Machine {
         requires len { length last.now ≡ tail_of self.old.field }
         ensures ok { OnOk result ((s : Seen) (b : List ℕ) → Opened self.old s b → IsWhole self.old last.now b
             → Stands self.new (seen_after self.old.field self.old.kept s (drop self.old.at b)) b) }
-        ensures moved { OnOk result ((s : Seen) (b : List ℕ) → Opened self.old s b → IsWhole self.old last.now b → Moved true self.old self.new b) }
-        ensures err { IfErr result (λ e. (s : Seen) (b x : List ℕ) → Opened self.old s b → IsWhole self.old last.now b → sealed (b ++ x) 0 ≡ Err e) }
+        ensures moved { OnOk result ((s : Seen) (b : List ℕ) → Opened self.old s b → IsWhole self.old last.now b
+            → Moved true self.old self.new b) }
+        ensures err { IfErr result (λ e. (s : Seen) (b x : List ℕ) → Opened self.old s b → IsWhole self.old last.now b
+            → sealed (b ++ x) 0 ≡ Err e) }
         ensures next { OnOk result (self.new.field ≡ settled (open_after self.old.field self.new.kept)) }
         ensures partial { OnOk result (IsPartial self.new) }
         ensures passed { OnOk result (self.new.passed ≡ 0) }

@@ -1,6 +1,7 @@
 //! Parts that are read in pieces.
 
-ghost use Rattle.std.specs.Prelude.{◌≡◌, ◌≢◌, ◌++◌, ◌+◌, ◌≤◌, ◌<◌, ℕ, List, [], length, take, true, false, None, Ok, Err, IfOk, OnOk, IfErr};
+ghost use Rattle.std.specs.Prelude.{◌≡◌, ◌≢◌, ◌++◌, ◌+◌, ◌≤◌, ◌<◌, ℕ, List, [], length, take, true, false};
+ghost use Rattle.std.specs.Prelude.{None, Ok, Err, IfOk, OnOk, IfErr};
 ghost use Rattle.part_text.specs.SealedFields.{SealedFields};
 ghost use Rattle.part_codec.specs.declared.fields.Open.TheVariants as opens;
 ghost use Rattle.part_text.specs.declared.fault.PartFault.TheVariants as faults;
@@ -303,7 +304,8 @@ impl PartReader {
         // It stands for the bytes that it took, behind those before.
         ensures ok { IfOk result (λ n. (b : List ℕ) → ReadsFor self.old b → ReadsFor self.new (b ++ take n piece.now)) }
         // A fault other than want of memory is that of the bytes, whatever follows, and it stays.
-        ensures err { IfErr result (λ e. e ≢ faults.NoMemory → (b x : List ℕ) → ReadsFor self.old b → part (b ++ piece.now ++ x) 0 ≡ Err e) }
+        ensures err { IfErr result (λ e. e ≢ faults.NoMemory → (b x : List ℕ) → ReadsFor self.old b
+            → part (b ++ piece.now ++ x) 0 ≡ Err e) }
         ensures stays { IfErr result (λ e. (b : List ℕ) → ReadsFor self.old b → ReadsFor self.new (b ++ piece.now)) }
         // A fault, want of memory too, is answered again and changes nothing more.
         ensures kept { IfErr result (λ e. HasFailed self.new e) }
@@ -313,8 +315,8 @@ impl PartReader {
         ensures count { IfOk result (λ n. n ≤ length piece.now) }
         // It takes fewer bytes than there are exactly where the part ends before.
         ensures less { IfOk result (λ n. n < length piece.now → (b : List ℕ) → ReadsFor self.old b → EndsAs (b ++ take n piece.now)) }
-        ensures ends { IfOk result (λ n. (b : List ℕ) (s : SealedFields) (end : ℕ) → ReadsFor self.old b → part (b ++ piece.now) 0 ≡ Ok (s, end)
-            → length b + n ≡ end) }
+        ensures ends { IfOk result (λ n. (b : List ℕ) (s : SealedFields) (end : ℕ) → ReadsFor self.old b
+            → part (b ++ piece.now) 0 ≡ Ok (s, end) → length b + n ≡ end) }
     {
         if let Some(fault) = self.fault {
             return Err(fault);

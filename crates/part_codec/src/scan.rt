@@ -117,8 +117,8 @@ impl PartScan {
         ensures count { IfOk result (λ n. n ≤ length piece.now) }
         // It takes fewer bytes than there are exactly where the part ends before.
         ensures less { IfOk result (λ n. n < length piece.now → (b : List ℕ) → StandsFor self.old b → EndsAt (b ++ take n piece.now)) }
-        ensures ends { IfOk result (λ n. (b : List ℕ) (s : SealedFields) (end : ℕ) → StandsFor self.old b → sealed (b ++ piece.now) 0 ≡ Ok (s, end)
-            → length b + n ≡ end) }
+        ensures ends { IfOk result (λ n. (b : List ℕ) (s : SealedFields) (end : ℕ) → StandsFor self.old b
+            → sealed (b ++ piece.now) 0 ≡ Ok (s, end) → length b + n ≡ end) }
     {
         if let Some(fault) = self.fault {
             return Err(fault);
