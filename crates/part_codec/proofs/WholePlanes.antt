@@ -1,7 +1,8 @@
 -- A field that came whole in a piece, as a plane does.
 use Rattle.std.proofs.Common.{true, ◌≡◌, ℕ, zero, suc, ◌+◌, ◌-◌, ◌*◌, ◌≤◌, ◌<◌, Bool, false, List, [], ◌++◌, length, take, drop, Err, refl, subst, sym, ap, ◌∙◌, arith, length-append, inl, inr}
 use Rattle.std.specs.Prelude.{◌⊎◌}
-use Rattle.std.proofs.lemmas.List.{drop_at, drop-drop, take_rest, length-drop}
+use Rattle.std.specs.Int.{w8, from_be_bytes}
+use Rattle.std.proofs.lemmas.List.{drop_at, drop-drop, take_rest, length-drop, length-take-le}
 use Rattle.octets_core.specs.Reading.{fault_at}
 use Rattle.octets_core.specs.declared.fault.Why.{Why}
 use Rattle.octets_core.specs.declared.fault.Why.TheVariants as why
@@ -147,7 +148,7 @@ more-settles zero some = absurd (omega (arith, some))
 more-settles (suc n) some = (refl, omega arith)
 
 -- the field behind the mode of a block has a byte, if another block is left or this one says more than none or all
-pub mode-leads : (mode : ℕ) (k : Kept) → (mode ≤ 1 → 2 ≤ k.left)
+mode-leads : (mode : ℕ) (k : Kept) → (mode ≤ 1 → 2 ≤ k.left)
     → (settled (open_mode (kept_mode mode k).mode (kept_mode mode k).leaves (kept_mode mode k).left) ≡ open_mode (kept_mode mode k).mode (kept_mode mode k).leaves (kept_mode mode k).left)
     × (0 < tail_of (open_mode (kept_mode mode k).mode (kept_mode mode k).leaves (kept_mode mode k).left))
 mode-leads zero k more = more-settles (k.left - 1) (omega (arith, more (omega arith)))
@@ -160,6 +161,24 @@ field-settles n o same is = is ∙ sym same ∙ ap settled (sym is)
 
 pub field-partial : (n : Machine) (o : Open) → 0 < tail_of o → n.field ≡ o → n.filled ≡ 0 → IsPartial n
 field-partial n o some is empty = λ goes. omega (arith, some, ap tail_of is, empty)
+
+pub mode-advances : (m n : Machine) (piece : List ℕ) → IsBytes piece → 1 ≤ length piece → m.field ≡ opens.BlockMode → m.filled ≡ 0
+    → ((sum : List ℕ) → passes_last opens.BlockMode m.kept sum (take 1 piece) ≡ true) → (from_be_bytes w8 (take 1 piece) ≤ 1 → 2 ≤ m.kept.left)
+    → n.kept ≡ kept_after m.field m.kept (take 1 piece) → n.field ≡ open_after m.field n.kept → n.at ≡ m.at + m.passed + length (take 1 piece) → n.passed ≡ 0 → n.filled ≡ 0
+    → Advances m n piece (1, true)
+mode-advances m n piece bytes within is empty passes more kept next at passed none =
+    let t : List ℕ = take 1 piece in
+    let alone : skips m.field m.kept ≡ 0 = ap (λ (o : Open). skips o m.kept) is in
+    let fresh : m.passed ≡ 0 = omega (arith, m.before, alone) in
+    let k : Kept = kept_mode (from_be_bytes w8 t) m.kept in
+    let after : Open = open_mode k.mode k.leaves k.left in
+    let same : n.kept ≡ k = kept ∙ ap (λ (o : Open). kept_after o m.kept t) is in
+    let opened : n.field ≡ after = next ∙ ap (λ (o : Open). open_after o n.kept) is ∙ ap (λ (x : Kept). open_mode x.mode x.leaves x.left) same in
+    let follows = mode-leads (from_be_bytes w8 t) m.kept more in
+    let len : length t ≡ tail_of m.field = length-take-le 1 piece within ∙ sym (ap tail_of is) in
+    let goes : Goes m n t =
+    alone-goes m n t alone (λ sum. ap (λ (o : Open). passes_last o m.kept sum t) is ∙ passes sum) (subst (λ (o : Open). AreLimits o t) (sym is) tt) kept next (omega (arith, at, fresh)) passed none in
+    whole-advances m n piece 1 bytes within (omega arith) fresh empty (alone-width m t alone len) goes (field-settles n after follows.0 opened) (field-partial n after follows.1 opened none)
 
 -- ---- it is a plane
 

@@ -51,10 +51,14 @@ impl Machine {
             return 0;
         }
         let mode = &piece[..1];
-        if number8(mode) <= 1 && self.kept.left < 2 {
-            return 0;
+        if number8(mode) > 1 {
+            if !passes(Open::BlockMode, &self.kept, mode) {
+                return 0;
+            }
+            self.open_next(mode);
+            return 1;
         }
-        if !passes(Open::BlockMode, &self.kept, mode) {
+        if self.kept.left < 2 || !passes(Open::BlockMode, &self.kept, mode) {
             return 0;
         }
         self.open_next(mode);
