@@ -25,7 +25,7 @@ use Rattle.ident_core.proofs.Canonical.{all_from}
 use Rattle.ident_core.proofs.Elements.{map_back, Among-filter}
 use Rattle.ident_core.proofs.Sets.{bytes_same}
 use Rattle.universe_core.specs.Jobs.{Crl, Job, facts_of_job, accepted_crl, facts_of, enrolled}
-use Rattle.universe_core.specs.History.{Past, Release, revoked}
+use Rattle.universe_core.specs.History.{Past, Release}
 use Rattle.universe_core.specs.Ledgers.{next_item}
 use Rattle.universe_core.specs.Groups.{IsGroup, group_of, members_of}
 use Rattle.universe_core.specs.declared.fault.AdmitFault.TheVariants as faults

@@ -3,7 +3,7 @@ use Rattle.std.specs.Prelude.{IfSome, IsNone, nat_le}
 use Rattle.std.specs.List.{find, slice_get}
 use Rattle.std.specs.List.Sorted.{IsStrictlySortedBy}
 use Rattle.std.specs.Option.{option_map, option_or}
-use Rattle.std.proofs.Common.{◌≡◌, ℕ, ℤ, suc, ◌+◌, ◌-◌, ◌<◌, ◌≤◌, inl, inr, List, [], ◌∷◌, ◌++◌, map, length, All, Bool, true, false, cond, Option, Some, None, refl, sym, ap, ◌∙◌, subst, arith}
+use Rattle.std.proofs.Common.{◌≡◌, ℕ, ℤ, suc, ◌+◌, ◌-◌, ◌<◌, ◌≤◌, inl, inr, List, [], ◌∷◌, ◌++◌, map, length, All, Bool, true, false, cond, Option, Some, None, Err, refl, sym, ap, ◌∙◌, subst, arith}
 use Rattle.std.proofs.lemmas.Bool.{leb-false}
 use Rattle.std.proofs.lemmas.List.{length-map}
 use Rattle.std.proofs.lemmas.List.Elements.{All-map}
@@ -17,7 +17,7 @@ use Rattle.ident_core.proofs.Within.{within-iff}
 use Rattle.job_core.specs.declared.bounds.Limits.{Limits}
 use Rattle.job_core.specs.declared.bounds.What.TheVariants as what
 use Rattle.job_core.specs.declared.meaning.Job.{Job as CodeJob}
-use Rattle.job_core.specs.JobFields.{JobFields, crl_view}
+use Rattle.job_core.specs.JobFields.{JobFields, crl_view, fields_of_job}
 use Rattle.ledger_core.specs.declared.fields.LedgerItem.{LedgerItem}
 use Rattle.ledger_core.specs.declared.fields.LedgerPart.{LedgerPart}
 use Rattle.ledger_core.specs.LedgerFields.{LedgerPartFields, LedgerFields, Continues, IsLedger, IsItemOf, ids, part_fields, ledger_fields, sealed_with, newest}
@@ -35,7 +35,7 @@ use Rattle.universe_core.specs.Groups.{GroupFields, IsGroup, group_of, groups}
 use Rattle.universe_core.specs.Counting.{count, counts}
 use Rattle.universe_core.specs.Members.{AreMembers, as_item, first_part, members_in}
 use Rattle.universe_core.specs.Following.{IsBefore, early}
-use Rattle.universe_core.specs.Step.{bad_crl_from, old_epoch, shrunk, chain_full, too_many, refusal, kind_by, parent_by, head_after, groups_after, counts_after}
+use Rattle.universe_core.specs.Step.{IsAdmission, bad_crl_from, old_epoch, shrunk, chain_full, too_many, refusal, kind_by, parent_by, head_after, groups_after, counts_after}
 use Rattle.universe_core.specs.declared.class.Class.TheVariants.{Unread, Uncovered, Unenrolled, Late, Accepted}
 use Rattle.universe_core.specs.declared.counts.Counts.{Counts}
 use Rattle.universe_core.specs.declared.member.Member.{Member}
@@ -63,6 +63,9 @@ refusal_is : (limits : Limits) (ledger : LedgerFields) (job : JobFields) → ref
 unfolding refusal
 refusal_is limits ledger job =
     first_last (bad_crl_from 0 job.crls) (old_epoch (newest ledger.parts) job.epoch) (shrunk (newest ledger.parts) (facts_of job)) (chain_full ledger.parts) (too_many limits ledger (facts_of job))
+
+pub refused_as : (limits : Limits) (ledger : LedgerFields) (job : CodeJob) (e : AdmitFault) → refusal limits ledger (fields_of_job job) ≡ Some e → IsAdmission limits ledger job (Err e)
+refused_as limits ledger job e h = record { admitted = tt; refused = λ n. h; head = tt; groups = tt; facts = tt; counts = tt; next = tt }
 
 pub refusal_early : (limits : Limits) (ledger : LedgerFields) (job : JobFields) (e : AdmitFault) → early ledger.parts job ≡ Some e → refusal limits ledger job ≡ Some e
 refusal_early limits ledger job e h = refusal_is limits ledger job ∙ ap (λ o. option_or o (too_many limits ledger (facts_of job))) h

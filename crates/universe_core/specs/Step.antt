@@ -1,5 +1,6 @@
 -- The step from a ledger and a job to the next part and ledger: what is admitted, and why a job isn't.
-use Rattle.std.specs.Prelude.{ℕ, suc, ◌≤◌, List, [], ◌∷◌, length, nat_le, nat_lt, if◌then◌else◌, Option, Some, None, Result, Ok, Err}
+use Rattle.std.specs.Prelude.{◌≡◌, ◌≢◌, ℕ, suc, ◌≤◌, List, [], ◌∷◌, length, map, All, nat_le, nat_lt, if◌then◌else◌, Option, Some, None, Result, Ok, Err}
+use Rattle.std.specs.Prelude.{IfOk, IfErr, OnOk}
 use Rattle.std.specs.Option.{option_map, option_or}
 use Rattle.ident_core.specs.declared.kind.Kind.{Kind}
 use Rattle.ident_core.specs.declared.kind.Kind.TheVariants as kinds
@@ -9,14 +10,16 @@ use Rattle.crl_core.specs.declared.crl.CrlFault.{CrlFault}
 use Rattle.crl_core.specs.Outcome.{CrlFields}
 use Rattle.job_core.specs.declared.bounds.Limits.{Limits}
 use Rattle.job_core.specs.declared.bounds.What.TheVariants as what
-use Rattle.job_core.specs.JobFields.{CrlMeaning, JobFields}
+use Rattle.job_core.specs.declared.meaning.Job.{Job as CodeJob}
+use Rattle.job_core.specs.JobFields.{CrlMeaning, JobFields, fields_of_job}
 use Rattle.ident_core.specs.declared.bounds.TheConstants.{MAX_PARTS}
-use Rattle.ledger_core.specs.LedgerFields.{LedgerPartFields, LedgerFields, newest}
-use Rattle.universe_core.specs.Jobs.{Job, facts_of}
+use Rattle.ledger_core.specs.LedgerFields.{LedgerPartFields, LedgerFields, newest, sealed_with}
+use Rattle.universe_core.specs.Jobs.{Job, facts_of, facts_of_job}
 use Rattle.universe_core.specs.History.{accepted_with, released}
-use Rattle.universe_core.specs.Ledgers.{past_in}
-use Rattle.universe_core.specs.Groups.{GroupFields, groups}
+use Rattle.universe_core.specs.Ledgers.{past_in, next_ledger}
+use Rattle.universe_core.specs.Groups.{GroupFields, IsGroup, group_fields, groups}
 use Rattle.universe_core.specs.Counting.{counts}
+use Rattle.universe_core.specs.declared.admitted.Admitted.{Admitted}
 use Rattle.universe_core.specs.declared.counts.Counts.{Counts}
 use Rattle.universe_core.specs.declared.fault.AdmitFault.{AdmitFault}
 use Rattle.universe_core.specs.declared.fault.AdmitFault.TheVariants as faults
@@ -84,3 +87,14 @@ groups_after ledger job = groups (released (past_in ledger) job [])
 
 abbrev pub counts_after : LedgerFields → Job → Counts
 counts_after ledger job = counts (past_in ledger) job
+
+-- the job is admitted behind the ledger, or refused with the first cause that holds, or memory is wanting
+pub record IsAdmission (limits : Limits) (ledger : LedgerFields) (job : CodeJob) (result : Result Admitted AdmitFault) : Type 0 where
+  pub admitted : OnOk result (refusal limits ledger (fields_of_job job) ≡ None)
+  pub refused : IfErr result (λ e. e ≢ faults.NoMemory → refusal limits ledger (fields_of_job job) ≡ Some e)
+  pub head : IfOk result (λ a. a.head ≡ head_after ledger.parts (facts_of_job job))
+  pub groups : IfOk result (λ a. map group_fields a.groups.items ≡ groups_after ledger (facts_of_job job))
+  pub facts : IfOk result (λ a. All IsGroup (map group_fields a.groups.items))
+  pub counts : IfOk result (λ a. a.counts ≡ counts_after ledger (facts_of_job job))
+  -- for every trailer that the next part may have
+  pub next : IfOk result (λ a. (trailer : List ℕ) → sealed_with a.next trailer ≡ next_ledger ledger (facts_of_job job) trailer)

@@ -16,7 +16,7 @@ ghost use Rattle.universe_core.specs.Ledgers.{no_ledger, past_in, past_by, next_
 ghost use Rattle.universe_core.specs.Members.{AreMembers, AreOf, members_in};
 ghost use Rattle.universe_core.specs.Following.{IsBefore};
 ghost use Rattle.universe_core.specs.Judging.{IsSearchable};
-ghost use Rattle.universe_core.specs.Step.{KeepsLimits, refusal, head_after, groups_after, counts_after};
+ghost use Rattle.universe_core.specs.Step.{IsAdmission, KeepsLimits, groups_after};
 ghost use Rattle.universe_core.specs.declared.class.Class.TheVariants as class;
 
 use crate::admitted::{Admitted, Group};
@@ -185,14 +185,7 @@ fn step<T: Threading>(
     requires few { KeepsLimits limits.now (fields_of_job (job_of job)) }
     requires few_parts { length parts.now ≤ MAX_PARTS }
     requires before { IsBefore (ledger_fields parts.now items.now) }
-    ensures admitted { OnOk result (refusal limits.now (ledger_fields parts.now items.now) (fields_of_job (job_of job.entry)) ≡ None) }
-    ensures refused { IfErr result (λ e. e ≢ AdmitFault.NoMemory → refusal limits.now (ledger_fields parts.now items.now) (fields_of_job (job_of job.entry)) ≡ Some e) }
-    ensures head { IfOk result (λ a. a.head ≡ head_after (ledger_fields parts.now items.now).parts (facts_of_job (job_of job.entry))) }
-    ensures groups { IfOk result (λ a. map group_fields a.groups.items ≡ groups_after (ledger_fields parts.now items.now) (facts_of_job (job_of job.entry))) }
-    ensures facts { IfOk result (λ a. All IsGroup (map group_fields a.groups.items)) }
-    ensures counts { IfOk result (λ a. a.counts ≡ counts_after (ledger_fields parts.now items.now) (facts_of_job (job_of job.entry))) }
-    ensures next { IfOk result (λ a. (trailer : List ℕ)
-        → sealed_with a.next trailer ≡ next_ledger (ledger_fields parts.now items.now) (facts_of_job (job_of job.entry)) trailer) }
+    ensures { IsAdmission limits.now (ledger_fields parts.now items.now) (job_of job.entry) result }
 {
     check_early(parts, job.job())?;
     let accepted = accept(threading, alloc, parts, items, job)?;
@@ -232,14 +225,7 @@ pub fn first(alloc: Global, job: &Job, limits: &Limits) -> Result<Admitted, Admi
     requires published { AreWithin limits.now Limits.PUBLISHED }
     requires ranges { RangesFit job.now.ranges.items }
     requires few { KeepsLimits limits.now (fields_of_job job.now) }
-    ensures admitted { OnOk result (refusal limits.now no_ledger (fields_of_job job.now) ≡ None) }
-    ensures refused { IfErr result (λ e. e ≢ AdmitFault.NoMemory → refusal limits.now no_ledger (fields_of_job job.now) ≡ Some e) }
-    ensures head { IfOk result (λ a. a.head ≡ head_after no_ledger.parts (facts_of_job job.now)) }
-    ensures groups { IfOk result (λ a. map group_fields a.groups.items ≡ groups_after no_ledger (facts_of_job job.now)) }
-    ensures facts { IfOk result (λ a. All IsGroup (map group_fields a.groups.items)) }
-    ensures counts { IfOk result (λ a. a.counts ≡ counts_after no_ledger (facts_of_job job.now)) }
-    // For every trailer that the next part may have.
-    ensures next { IfOk result (λ a. (trailer : List ℕ) → sealed_with a.next trailer ≡ next_ledger no_ledger (facts_of_job job.now) trailer) }
+    ensures { IsAdmission limits.now no_ledger job.now result }
 {
     step(&OneThread, alloc, &[], &[], Held::Lent(job), limits)
 }
@@ -255,14 +241,7 @@ pub fn admit(
     requires published { AreWithin limits.now Limits.PUBLISHED }
     requires ranges { RangesFit job.now.ranges.items }
     requires few { KeepsLimits limits.now (fields_of_job job.now) }
-    ensures admitted { OnOk result (refusal limits.now ledger.now (fields_of_job job.now) ≡ None) }
-    ensures refused { IfErr result (λ e. e ≢ AdmitFault.NoMemory → refusal limits.now ledger.now (fields_of_job job.now) ≡ Some e) }
-    ensures head { IfOk result (λ a. a.head ≡ head_after ledger.now.parts (facts_of_job job.now)) }
-    ensures groups { IfOk result (λ a. map group_fields a.groups.items ≡ groups_after ledger.now (facts_of_job job.now)) }
-    ensures facts { IfOk result (λ a. All IsGroup (map group_fields a.groups.items)) }
-    ensures counts { IfOk result (λ a. a.counts ≡ counts_after ledger.now (facts_of_job job.now)) }
-    // For every trailer that the next part may have.
-    ensures next { IfOk result (λ a. (trailer : List ℕ) → sealed_with a.next trailer ≡ next_ledger ledger.now (facts_of_job job.now) trailer) }
+    ensures { IsAdmission limits.now ledger.now job.now result }
 {
     step(
         &OneThread,
@@ -287,14 +266,7 @@ pub fn first_of<R: Threads + Sync>(
     requires published { AreWithin limits.now Limits.PUBLISHED }
     requires ranges { RangesFit job.ranges.items }
     requires few { KeepsLimits limits.now (fields_of_job job) }
-    ensures admitted { OnOk result (refusal limits.now no_ledger (fields_of_job job) ≡ None) }
-    ensures refused { IfErr result (λ e. e ≢ AdmitFault.NoMemory → refusal limits.now no_ledger (fields_of_job job) ≡ Some e) }
-    ensures head { IfOk result (λ a. a.head ≡ head_after no_ledger.parts (facts_of_job job)) }
-    ensures groups { IfOk result (λ a. map group_fields a.groups.items ≡ groups_after no_ledger (facts_of_job job)) }
-    ensures facts { IfOk result (λ a. All IsGroup (map group_fields a.groups.items)) }
-    ensures counts { IfOk result (λ a. a.counts ≡ counts_after no_ledger (facts_of_job job)) }
-    // For every trailer that the next part may have.
-    ensures next { IfOk result (λ a. (trailer : List ℕ) → sealed_with a.next trailer ≡ next_ledger no_ledger (facts_of_job job) trailer) }
+    ensures { IsAdmission limits.now no_ledger job result }
 {
     step(
         &ByWorkers { rt, workers },
@@ -320,14 +292,7 @@ pub fn admit_of<R: Threads + Sync>(
     requires published { AreWithin limits.now Limits.PUBLISHED }
     requires ranges { RangesFit job.ranges.items }
     requires few { KeepsLimits limits.now (fields_of_job job) }
-    ensures admitted { OnOk result (refusal limits.now ledger.now (fields_of_job job) ≡ None) }
-    ensures refused { IfErr result (λ e. e ≢ AdmitFault.NoMemory → refusal limits.now ledger.now (fields_of_job job) ≡ Some e) }
-    ensures head { IfOk result (λ a. a.head ≡ head_after ledger.now.parts (facts_of_job job)) }
-    ensures groups { IfOk result (λ a. map group_fields a.groups.items ≡ groups_after ledger.now (facts_of_job job)) }
-    ensures facts { IfOk result (λ a. All IsGroup (map group_fields a.groups.items)) }
-    ensures counts { IfOk result (λ a. a.counts ≡ counts_after ledger.now (facts_of_job job)) }
-    // For every trailer that the next part may have.
-    ensures next { IfOk result (λ a. (trailer : List ℕ) → sealed_with a.next trailer ≡ next_ledger ledger.now (facts_of_job job) trailer) }
+    ensures { IsAdmission limits.now ledger.now job result }
 {
     step(
         &ByWorkers { rt, workers },
