@@ -8,6 +8,7 @@ mod decode;
 mod encode;
 mod fault;
 mod laws;
+mod newest;
 mod store;
 
 pub use asking::{parts_say, parts_say_of_four};
