@@ -1,5 +1,4 @@
 pub mod Lists
-pub mod Narrowing
 pub mod Verdicts
 pub mod Telling
 pub mod Checks

@@ -11,12 +11,12 @@ ghost use Rattle.audit_core.specs.Fours.{agreement_at, agreements_from, agreemen
 
 use crate::fault::AuditFault;
 use crate::listing::listing;
-use crate::searching::guessed_places;
 use card_core::Verdict;
 use ledger_core::{Ledger, LedgerPart};
 use log_core::Entry;
 use part_codec::Sealed;
 use store_core::{Inquiry, parts_say_of_four};
+use universe_core::guessed_places;
 
 /// Whether the parts say the truth of an entry.
 #[derive(Clone, Copy, Debug, PartialEq, Eq)]

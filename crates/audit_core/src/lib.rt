@@ -8,7 +8,6 @@ mod checking;
 mod fault;
 mod laws;
 mod listing;
-mod searching;
 
 pub use auditing::{Audited, audit};
 pub use fault::AuditFault;

@@ -10,6 +10,7 @@ pub mod Apart
 pub mod Parting
 pub mod Halves
 pub mod Searching
+pub mod Narrowing
 pub mod Issuers
 pub mod Enrolled
 pub mod Revoking

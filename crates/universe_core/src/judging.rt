@@ -1,55 +1,20 @@
-ghost use Rattle.std.specs.List.{list_any, list_all, count_by};
-ghost use Rattle.std.specs.Prelude.{◌≡◌, filter, length, map, take, fold, ◌<◌, ◌&&◌, All, false};
+ghost use Rattle.std.specs.List.{list_all, count_by};
+ghost use Rattle.std.specs.Prelude.{◌≡◌, filter, length, map, fold, ◌<◌, All, false};
 ghost use Rattle.std.specs.Option.{option_map};
-ghost use Rattle.universe_core.specs.Ledgers.{birth_or, last_or_none, last_covers};
+ghost use Rattle.universe_core.specs.Ledgers.{last_covers};
 ghost use Rattle.ident_core.specs.Coverage.{covers};
-ghost use Rattle.ident_core.specs.Sets.{has_key};
 ghost use Rattle.ledger_core.specs.LedgerFields.{part_fields};
 ghost use Rattle.universe_core.specs.Judging.{IsSearchable, judge_of, is_late_beside, is_late_in, is_timely, is_timely_in, sightings_of};
 ghost use Rattle.universe_core.specs.Judging.{with_date as date_with};
 ghost use Rattle.universe_core.specs.Dates.{later_of as later};
 ghost use Rattle.universe_core.specs.Reading.{IsPlaced, entries_of, sighting_in, date_in};
 
+use crate::lateness::{birth_of, is_late, last_of};
 use crate::member::Member;
 use crate::read_entry::ReadEntry;
-use ident_core::{Identity, Range, Sighting, covers_near, holds_key};
+use ident_core::{Identity, Range, covers_near};
 use ledger_core::{LedgerItem, LedgerPart};
 use octets_core::Key32;
-
-/// Whether a part covers the sighting and enrolls the issuer. The place of the log's range is guessed.
-fn part_lacks(part: &LedgerPart, issuer: &Key32, sighting: &Sighting, near: usize) -> bool
-    requires { IsSearchable part.now }
-    ensures { result ≡ (covers part.now.ranges.items sighting.now && has_key part.now.issuers.items issuer.now) }
-{
-    covers_near(&part.ranges, near, sighting) && holds_key(&part.issuers, issuer)
-}
-
-fn some_lacks(parts: &[LedgerPart], issuer: &Key32, sighting: &Sighting, near: usize) -> bool
-    requires { All IsSearchable parts.now }
-    ensures { result ≡ list_any (λ p. covers p.ranges.items sighting.now && has_key p.issuers.items issuer.now) parts.now }
-{
-    for part in parts {
-        if part_lacks(part, issuer, sighting, near) {
-            return true;
-        }
-    }
-    false
-}
-
-/// Whether one of so many of the parts covers the sighting and enrolls the issuer. The place of the log's range is
-/// guessed.
-pub(crate) fn is_late(
-    parts: &[LedgerPart],
-    birth: usize,
-    issuer: &Key32,
-    sighting: &Sighting,
-    near: usize,
-) -> bool
-    requires { All IsSearchable parts.now }
-    ensures { result ≡ list_any (λ p. covers p.ranges sighting.now && has_key p.issuers issuer.now) (take birth (map part_fields parts.now)) }
-{
-    some_lacks(&parts[..birth.min(parts.len())], issuer, sighting, near)
-}
 
 /// What entries are judged by: the parts of the ledger before their job, and the job's enrolled issuers and ranges.
 #[derive(Clone, Copy)]
@@ -73,25 +38,6 @@ fn comes_late(context: &Context, birth: usize, e: &ReadEntry) -> bool
             &e.sighting(context.ranges),
             e.near as usize,
         )
-}
-
-pub(crate) fn birth_of(parts: &[LedgerPart], old: &Option<LedgerItem>) -> u8
-    requires { length parts.now < 256 }
-    ensures { result ≡ birth_or (length parts.now) old.now }
-{
-    match old {
-        Some(item) => item.birth,
-        None => parts.len() as u8,
-    }
-}
-
-fn last_of(old: &Option<LedgerItem>) -> Option<u8>
-    ensures { result ≡ last_or_none old.now }
-{
-    match old {
-        Some(item) => item.last,
-        None => None,
-    }
 }
 
 /// The date of an item, if there is one.

@@ -1,53 +1,93 @@
-ghost use Rattle.std.specs.Prelude.{◌≡◌, ◌<◌, length, find, slice_get, All};
-ghost use Rattle.std.specs.List.Sorted.{IsStrictlySortedBy};
-ghost use Rattle.ident_core.specs.Order.{identity_cmp, is_same as same};
-ghost use Rattle.ledger_core.specs.LedgerFields.{ids};
+//! Lateness, as admission and all others judge it.
+
+ghost use Rattle.std.specs.Prelude.{◌≡◌, ◌<◌, ◌&&◌, length, map, take, All};
+ghost use Rattle.std.specs.List.{list_any};
+ghost use Rattle.ident_core.specs.Coverage.{covers};
+ghost use Rattle.ident_core.specs.Sets.{has_key};
+ghost use Rattle.ledger_core.specs.LedgerFields.{part_fields};
 ghost use Rattle.universe_core.specs.Judging.{IsSearchable};
-ghost use Rattle.universe_core.specs.Ledgers.{past_by};
+ghost use Rattle.universe_core.specs.Ledgers.{birth_or, last_or_none, past_in};
 
-use crate::judging::{birth_of, is_late};
-use ident_core::{Identity, Sighting};
-use ledger_core::{LedgerItem, LedgerPart};
-use std::cmp::Ordering;
+use crate::finding::item_of;
+use ident_core::{Sighting, covers_near, holds_key};
+use ledger_core::{Ledger, LedgerItem, LedgerPart};
+use log_core::Entry;
+use octets_core::Key32;
 
-fn order(item: &LedgerItem, id: &Identity) -> Ordering
-    ensures { result ≡ identity_cmp item.now.id id.now }
+/// Whether a part covers the sighting and enrolls the issuer. The place of the log's range is guessed.
+fn part_lacks(part: &LedgerPart, issuer: &Key32, sighting: &Sighting, near: usize) -> bool
+    requires { IsSearchable part.now }
+    ensures { result ≡ (covers part.now.ranges.items sighting.now && has_key part.now.issuers.items issuer.now) }
 {
-    item.id.cmp(id)
+    covers_near(&part.ranges, near, sighting) && holds_key(&part.issuers, issuer)
 }
 
-fn item_at(items: &[LedgerItem], place: usize) -> Option<LedgerItem>
-    ensures { result ≡ slice_get items.now place }
+fn some_lacks(parts: &[LedgerPart], issuer: &Key32, sighting: &Sighting, near: usize) -> bool
+    requires { All IsSearchable parts.now }
+    ensures { result ≡ list_any (λ p. covers p.ranges.items sighting.now && has_key p.issuers.items issuer.now) parts.now }
 {
-    items.get(place).copied()
-}
-
-/// The item of an identity. A binary search.
-fn item_of(items: &[LedgerItem], id: &Identity) -> Option<LedgerItem>
-    requires sorted { IsStrictlySortedBy identity_cmp (ids items.now) }
-    ensures { result ≡ find (λ i. same id.now i.id) items.now }
-{
-    match items.binary_search_by(|i| order(i, id)) {
-        Ok(place) => item_at(items, place),
-        Err(_) => None,
+    for part in parts {
+        if part_lacks(part, issuer, sighting, near) {
+            return true;
+        }
     }
+    false
 }
 
-/// Whether a part before the identity's birth covers the sighting and enrolls the issuer. The place of the log's range
-/// is guessed.
-pub(crate) fn is_late_sighting(
+/// Whether one of so many of the parts covers the sighting and enrolls the issuer. The place of the log's range is
+/// guessed.
+pub(crate) fn is_late(
     parts: &[LedgerPart],
-    items: &[LedgerItem],
-    id: &Identity,
+    birth: usize,
+    issuer: &Key32,
     sighting: &Sighting,
     near: usize,
 ) -> bool
-    requires few { length parts.now < 256 }
-    requires parts { All IsSearchable parts.now }
-    requires ascend { IsStrictlySortedBy identity_cmp (ids items.now) }
-    ensures { result ≡ (past_by parts.now items.now).lacked id.now sighting.now }
+    requires { All IsSearchable parts.now }
+    ensures { result ≡ list_any (λ p. covers p.ranges sighting.now && has_key p.issuers issuer.now) (take birth (map part_fields parts.now)) }
 {
-    let old = item_of(items, id);
-    let birth = birth_of(parts, &old);
-    is_late(parts, birth as usize, &id.issuer, sighting, near)
+    some_lacks(&parts[..birth.min(parts.len())], issuer, sighting, near)
+}
+
+pub(crate) fn birth_of(parts: &[LedgerPart], old: &Option<LedgerItem>) -> u8
+    requires { length parts.now < 256 }
+    ensures { result ≡ birth_or (length parts.now) old.now }
+{
+    match old {
+        Some(item) => item.birth,
+        None => parts.len() as u8,
+    }
+}
+
+pub(crate) fn last_of(old: &Option<LedgerItem>) -> Option<u8>
+    ensures { result ≡ last_or_none old.now }
+{
+    match old {
+        Some(item) => item.last,
+        None => None,
+    }
+}
+
+/// What a ledger tells of an entry.
+#[derive(Clone, Copy, Debug, PartialEq, Eq)]
+pub struct Known {
+    /// Whether a part before the birth of the certificate covers the entry and enrolls the issuer.
+    pub late: bool,
+    /// Whether a part revoked the certificate.
+    pub listed: bool,
+}
+
+/// What a ledger tells of an entry. The places of the log's range and of the certificate's item are guessed. It takes
+/// no memory.
+pub fn known_of(ledger: &Ledger, entry: &Entry, near: usize, guess: Option<usize>) -> Known
+    ensures late { result.late ≡ (past_in ledger.now).lacked entry.now.id entry.now.sighting }
+    ensures listed { result.listed ≡ (past_in ledger.now).was_listed entry.now.id }
+{
+    let parts = ledger.parts();
+    let item = item_of(ledger.items(), &entry.id, guess);
+    let birth = birth_of(parts, &item) as usize;
+    Known {
+        late: is_late(parts, birth, &entry.id.issuer, &entry.sighting, near),
+        listed: last_of(&item).is_some(),
+    }
 }

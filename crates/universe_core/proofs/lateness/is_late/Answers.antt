@@ -7,7 +7,7 @@ use Rattle.ledger_core.specs.declared.fields.LedgerPart.{LedgerPart}
 use Rattle.universe_core.specs.Judging.{IsSearchable}
 use Rattle.universe_core.proofs.Members.{any_parts}
 use Rattle.universe_core.proofs.Searchable.{first_few}
-use Rattle.universe_core.proofs.judging.is_late.Goals as goal
+use Rattle.universe_core.proofs.lateness.is_late.Goals as goal
 
 pub some_lacks-requires : goal.some_lacks-requires
 some_lacks-requires c = All-take IsSearchable c.min.result c.args.parts.now c.requires

@@ -1,6 +1,6 @@
 use Rattle.std.proofs.Common.{◌-◌}
-use Rattle.audit_core.proofs.Narrowing.{Narrowed}
-use Rattle.audit_core.proofs.searching.item_of.Given as goal
+use Rattle.universe_core.proofs.Narrowing.{Narrowed}
+use Rattle.universe_core.proofs.finding.item_of.Given as goal
 
 abbrev pub invariant-loop-low : goal.invariant-loop-low
 invariant-loop-low l = Narrowed l.items l.id l.low l.high

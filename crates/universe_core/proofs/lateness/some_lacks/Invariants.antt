@@ -3,7 +3,7 @@ use Rattle.std.proofs.Common.{◌≡◌, ◌&&◌, drop}
 use Rattle.ident_core.specs.Coverage.{covers}
 use Rattle.ident_core.specs.Sets.{has_key}
 use Rattle.ledger_core.specs.declared.fields.LedgerPart.{LedgerPart}
-use Rattle.universe_core.proofs.judging.some_lacks.Given as goal
+use Rattle.universe_core.proofs.lateness.some_lacks.Given as goal
 
 abbrev pub invariant-loop-part : goal.invariant-loop-part
 invariant-loop-part l =

@@ -157,11 +157,7 @@ impl<'a> Search<'a> {
 
 /// Where the items of the four entries from a place on may stand. The four searches go on side by side, so that the
 /// misses of the cache are waited for together.
-pub(crate) fn guessed_places(
-    items: &[LedgerItem],
-    entries: &[Option<Entry>],
-    at: usize,
-) -> [usize; 4]
+pub fn guessed_places(items: &[LedgerItem], entries: &[Option<Entry>], at: usize) -> [usize; 4]
     requires { at + 3 < 2 ^ 64 }
 {
     let mut a = Search::new(items, entries, at);
@@ -189,13 +185,17 @@ pub(crate) fn guessed_places(
     [a.low, b.low, c.low, d.low]
 }
 
-/// The item of an identity. The guess is looked at first. An interpolation search, since serials are mostly random and
+/// The item of an identity. A guess is looked at first. An interpolation search, since serials are mostly random and
 /// each item of a long ledger that is looked at costs a miss of the cache; behind the guesses it is a binary search.
-pub(crate) fn item_of(items: &[LedgerItem], id: &Identity, guess: usize) -> Option<LedgerItem>
+pub(crate) fn item_of(
+    items: &[LedgerItem],
+    id: &Identity,
+    guess: Option<usize>,
+) -> Option<LedgerItem>
     requires sorted { IsStrictlySortedBy identity_cmp (ids items.now) }
     ensures { result ≡ find (λ i. same id.now i.id) items.now }
 {
-    let mut guesses = Guesses::new(Some(id), Some(guess));
+    let mut guesses = Guesses::new(Some(id), guess);
     let mut low = 0;
     let mut high = items.len();
     while low < high {

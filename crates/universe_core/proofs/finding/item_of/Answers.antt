@@ -1,7 +1,7 @@
 use Rattle.std.proofs.Common.{◌∙◌, ◌+◌, ◌<◌, ℕ, length, sym, arith}
 use Rattle.ident_core.proofs.Keys.{code_cmp_at}
-use Rattle.audit_core.proofs.Narrowing.{begun, nowhere, here, behind, before}
-use Rattle.audit_core.proofs.searching.item_of.Goals as goal
+use Rattle.universe_core.proofs.Narrowing.{begun, nowhere, here, behind, before}
+use Rattle.universe_core.proofs.finding.item_of.Goals as goal
 
 pub loop-low-init : goal.loop-low-init
 loop-low-init c = begun c.args.items.now c.args.id.now
