@@ -3,42 +3,45 @@ ghost use Rattle.std.specs.List.Sorted.{IsStrictlySortedBy};
 ghost use Rattle.ident_core.specs.declared.bounds.TheConstants.{MAX_IDENTITIES, MAX_ISSUERS, MAX_WORKERS};
 ghost use Rattle.ident_core.specs.Order.{octets_cmp};
 ghost use Rattle.universe_core.specs.Groups.{group_fields, IsGroup};
-ghost use Rattle.builder_core.specs.Building.{BuildsBlocks, BuildsPart, identities_in, issuers_of};
+ghost use Rattle.builder_core.specs.Building.{BuildsPart, identities_in, issuers_of};
 
 use crate::assembling::assemble;
 use crate::cuts::cuts_of;
 use crate::outcomes::{Sharing, outcomes_of};
 use crate::tasks::tasks_of;
 use crate::{BuildFault, Format, Gate};
-use card_core::{Block, Part};
+use card_core::Part;
 use equation_core::EquationHash;
 use ident_core::Head;
 use std::alloc::Global;
 use std::thread::Threads;
 use universe_core::Group;
 
-// The blocks of the groups, of what comes of each leaf.
-fn build_blocks<R: Threads + Sync, H: EquationHash + Sync, G: Gate + Sync>(
+// The part of this head with the block of each group, of what comes of each leaf.
+fn build<R: Threads + Sync, H: EquationHash + Sync, G: Gate + Sync>(
     rt: &R,
     alloc: Global,
     hash: &H,
     gate: &G,
     groups: &[Group],
+    head: Head,
     workers: u32,
     format: Format,
     sharing: Sharing,
-) -> Result<Vec<Block>, BuildFault>
+) -> Result<Part, BuildFault>
     requires facts { All IsGroup (map group_fields groups.now) }
+    requires ascending { IsStrictlySortedBy octets_cmp (issuers_of (map group_fields groups.now)) }
     requires few { length groups.now ≤ MAX_ISSUERS }
     requires identities { identities_in (map group_fields groups.now) ≤ MAX_IDENTITIES }
     requires some_workers { 1 ≤ workers }
     requires few_workers { workers ≤ MAX_WORKERS }
-    ensures { BuildsBlocks format (H.row_of hash.now) (map group_fields groups.now) result }
+    ensures { BuildsPart format (H.row_of hash.now) head (map group_fields groups.now) result }
 {
     let cuts = cuts_of(rt, alloc, groups, workers > 1, format)?;
     let tasks = tasks_of(alloc, &cuts)?;
     let outcomes = outcomes_of(rt, alloc, hash, gate, &tasks, workers, sharing)?;
-    assemble(alloc, groups.len(), outcomes)
+    let blocks = assemble(alloc, groups.len(), outcomes)?;
+    Ok(Part::new(head, blocks))
 }
 
 /// The part of this head with the block of each group in this format, or the first refusal. The leaves of the blocks
@@ -65,8 +68,9 @@ pub fn build_part<R: Threads + Sync, H: EquationHash + Sync, G: Gate + Sync>(
     ensures { BuildsPart format (H.row_of hash.now) head (map group_fields groups.now) result }
 {
     let sharing = Sharing::Cut;
-    let blocks = build_blocks(rt, alloc, hash, gate, groups, workers, format, sharing)?;
-    Ok(Part::new(head, blocks))
+    build(
+        rt, alloc, hash, gate, groups, head, workers, format, sharing,
+    )
 }
 
 /// The part of this head with the block of each group in this format, or the first refusal, as `build_part` gives it.
@@ -94,6 +98,7 @@ pub fn build_part_claimed<R: Threads + Sync, H: EquationHash + Sync, G: Gate + S
     ensures { BuildsPart format (H.row_of hash.now) head (map group_fields groups.now) result }
 {
     let sharing = Sharing::Claimed;
-    let blocks = build_blocks(rt, alloc, hash, gate, groups, workers, format, sharing)?;
-    Ok(Part::new(head, blocks))
+    build(
+        rt, alloc, hash, gate, groups, head, workers, format, sharing,
+    )
 }
