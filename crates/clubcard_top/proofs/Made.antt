@@ -52,7 +52,8 @@ use Rattle.input_core.specs.PartFile.{part_file}
 use Rattle.input_core.specs.Readings.{faulted, job_in, ledger_in, part_in, store_in}
 use Rattle.input_core.specs.Certificates.{certificate_in, issuer_in}
 use Rattle.command_core.specs.ReplyFields.{Done, NamedFault}
-use Rattle.command_core.specs.Commands.{◌>>=◌, named, input, only, verdict_word, query_done, query_makes, query_cert_makes, epoch_of, stored, begun_by, installed_by, start_makes}
+use Rattle.store_core.specs.Newest.{epoch_of}
+use Rattle.command_core.specs.Commands.{◌>>=◌, named, input, only, verdict_word, query_done, query_makes, query_cert_makes, stored, begun_by, installed_by, start_makes}
 use Rattle.command_core.specs.Commands.{install_makes, publication_done, published_as, MakesPart, MakesSnapshot, MakesDelta, Makes}
 use Rattle.command_core.specs.Replies.{held_by}
 use Rattle.clubcard_top.specs.Headline.{HoldsJob, HoldsLedger, AsksToContinue, Continues, done_by, AsksToStore, stores_to, Stored, AsksStore, AsksTruth, truth_done}

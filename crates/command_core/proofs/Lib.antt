@@ -10,7 +10,6 @@ pub mod Following
 pub mod Fronts
 pub mod ReplyStatuses
 pub mod Makings
-pub mod Newest
 pub mod Outputs
 pub mod PagesPut
 pub mod PagesRead

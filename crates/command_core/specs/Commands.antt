@@ -21,6 +21,7 @@ use Rattle.universe_core.specs.Counting.{counts}
 use Rattle.universe_core.specs.Ledgers.{no_ledger, ledger_of}
 use Rattle.store_core.specs.declared.chain.Refusal.{Refusal}
 use Rattle.store_core.specs.Chain.{newest_of, refusal_of}
+use Rattle.store_core.specs.Newest.{epoch_of}
 use Rattle.store_core.specs.StoreLayout.{store_text}
 use Rattle.card_core.specs.Verdict.{verdict}
 use Rattle.publication_core.specs.declared.fault.PublishFault.{PublishFault}
@@ -93,10 +94,6 @@ show_makes name part = do
   Ok (show_done x)
 
 -- ---- stores
-
-abbrev pub epoch_of : Option SealedFields → ℕ
-epoch_of None = 0
-epoch_of (Some s) = s.part.head.epoch
 
 -- the store of these parts, and how many they are with the newest one's epoch
 abbrev pub stored : List ℕ → List SealedFields → Done

@@ -3,9 +3,8 @@
 ghost use Rattle.std.specs.Prelude.{◌≡◌, Ok, Err, IfOk, IfErr};
 ghost use Rattle.octets_core.specs.Reading.{GivesUnless};
 ghost use Rattle.outside_core.specs.Effects.{OnlyReads};
-ghost use Rattle.store_core.specs.Chain.{newest_of};
 ghost use Rattle.word_core.specs.declared.command.Command.{Command};
-ghost use Rattle.command_core.specs.Commands.{begun as begun_with, epoch_of, installed as installed_with};
+ghost use Rattle.command_core.specs.Commands.{begun as begun_with, installed as installed_with};
 ghost use Rattle.command_core.specs.Commands.{stored as stored_as};
 ghost use Rattle.command_core.specs.Answering.{reply_fields};
 ghost use Rattle.command_core.specs.Replies.{done, IsReply};
@@ -24,14 +23,6 @@ use std::alloc::Global;
 use store_core::{Store, StoreFault, encode_store};
 use word_core::command::{Install, Start};
 
-/// The epoch of a store's newest part.
-fn newest_epoch(store: &Store) -> u64
-    ensures { result ≡ epoch_of (newest_of store.now) }
-{
-    let parts = store.parts();
-    parts[parts.len() - 1].part().head().epoch()
-}
-
 /// The answer where a store is written to the file of this name.
 fn stored<'a>(alloc: Global, name: &'a str, store: &Store) -> Result<Answer<'a>, NoMemory>
     ensures { IfOk result (λ a. reply_fields a ≡ done (stored_as name.now store.now)) }
@@ -39,7 +30,7 @@ fn stored<'a>(alloc: Global, name: &'a str, store: &Store) -> Result<Answer<'a>,
     let text = encode_store(alloc, store)?;
     let mut outputs = Vec::with_capacity(alloc, 1)?;
     outputs.push(Output::new(name, text))?;
-    let line = stored_line(store.parts().len(), newest_epoch(store));
+    let line = stored_line(store.parts().len(), store.newest_epoch());
     Ok(Answer::Files(outputs, Reply::done(line)))
 }
 

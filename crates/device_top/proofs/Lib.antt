@@ -2,7 +2,6 @@ pub mod Quiet
 pub mod Answering
 pub mod Putting
 pub mod Surviving
-pub mod Newest
 pub mod OutcomeKinds
 pub mod Once
 pub mod Appending

@@ -3,6 +3,7 @@ use Rattle.std.specs.Prelude.{ℕ, List, [], ◌∷◌, ◌++◌, length, map, n
 use Rattle.part_text.specs.SealedFields.{SealedFields}
 use Rattle.store_core.specs.declared.chain.Refusal.{Refusal}
 use Rattle.store_core.specs.Chain.{newest_of, refusal_of}
+use Rattle.store_core.specs.Newest.{epoch_of}
 use Rattle.store_core.specs.StoreLayout.{store_text}
 use Rattle.card_core.specs.Verdict.{verdict}
 use Rattle.line_core.specs.Lines.{store_line, verdict_line}
@@ -28,10 +29,6 @@ pub record Outcome : Type 0 where
 -- this is said, and nothing is done
 abbrev pub keeps : Said → Outcome
 keeps said = record { said = said; deed = Keeps }
-
-abbrev pub epoch_of : Option SealedFields → ℕ
-epoch_of None = 0
-epoch_of (Some s) = s.part.head.epoch
 
 -- how many parts a store has, and the epoch of the newest
 abbrev pub stored : List SealedFields → Said

@@ -8,11 +8,11 @@ ghost use Rattle.slot_core.specs.Fields.{Shows};
 ghost use Rattle.slot_core.specs.Attached.{IsSlotsOf, IsEither};
 ghost use Rattle.slot_core.specs.Moments.{LeavesOnly};
 ghost use Rattle.store_core.specs.declared.chain.Refusal.{Refusal};
-ghost use Rattle.store_core.specs.Chain.{newest_of, refusal_of};
+ghost use Rattle.store_core.specs.Chain.{refusal_of};
 ghost use Rattle.store_core.specs.StoreLayout.{store_text};
 ghost use Rattle.outside_core.specs.Reads.{WhichFailed};
 ghost use Rattle.word_core.specs.declared.device.DeviceCommand.TheVariants as commands;
-ghost use Rattle.device_top.specs.Outcomes.{epoch_of, formats, replaced as replaced_by, stored as stored_as};
+ghost use Rattle.device_top.specs.Outcomes.{formats, replaced as replaced_by, stored as stored_as};
 ghost use Rattle.device_top.specs.Comes.{Comes, Queried};
 ghost use Rattle.device_top.specs.Holding.{Answers, IsWant, held_refusal};
 ghost use Rattle.device_top.specs.Crashes.{Survives};
@@ -31,19 +31,11 @@ use store_core::{Store, encode_store};
 use word_core::command::Query;
 use word_core::{Format, InstallPart};
 
-/// The epoch of a store's newest part.
-fn newest_epoch(store: &Store) -> u64
-    ensures { result ≡ epoch_of (newest_of store.now) }
-{
-    let parts = store.parts();
-    parts[parts.len() - 1].part().head().epoch()
-}
-
 /// The reply where a device was given a store.
 fn stored<'a>(store: &Store) -> Reply<'a>
     ensures { result ≡ stored_as store.now }
 {
-    Reply::done(stored_line(store.parts().len(), newest_epoch(store)))
+    Reply::done(stored_line(store.parts().len(), store.newest_epoch()))
 }
 
 /// The reply about the device of this name, from which no store was read.

@@ -1,4 +1,3 @@
-mod Newest
 mod Numbering
 mod Each
 mod Slices

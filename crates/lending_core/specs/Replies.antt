@@ -7,6 +7,7 @@ use Rattle.sct_core.specs.declared.fault.CertFault.{CertFault}
 use Rattle.sct_core.specs.declared.fault.CertFault.TheVariants as certs
 use Rattle.part_text.specs.SealedFields.{SealedFields}
 use Rattle.store_core.specs.Chain.{newest_of}
+use Rattle.store_core.specs.Newest.{epoch_of}
 use Rattle.store_core.specs.declared.chain.Refusal.{Refusal}
 use Rattle.store_core.specs.declared.chain.Refusal.TheVariants as refusals
 use Rattle.card_core.specs.declared.verdict.Verdict.{Verdict}
@@ -79,10 +80,6 @@ abbrev pub IsAnswer : (wanted given : Answer) → Type 0
 IsAnswer wanted given = (given ≡ wanted) ⊎ (given ≡ alone NO_MEMORY)
 
 -- ---- what a store holds
-
-abbrev pub epoch_of : Option SealedFields → ℕ
-epoch_of None = 0
-epoch_of (Some s) = s.part.head.epoch
 
 -- how many parts, and the newest one's epoch
 abbrev pub facts_of : List SealedFields → StoreFacts

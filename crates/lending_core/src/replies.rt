@@ -4,8 +4,7 @@ ghost use Rattle.std.specs.Prelude.{◌≡◌, Result};
 ghost use Rattle.octets_core.specs.Reading.{GivesUnless};
 ghost use Rattle.lending_core.specs.Replies.{answer_of, fault_answer as answer_of_fault, verdict_number as number_of_verdict};
 ghost use Rattle.lending_core.specs.Replies.{why_number as number_of_why, refusal_number as number_of_refusal};
-ghost use Rattle.lending_core.specs.Replies.{cert_number as number_of_cert, epoch_of, facts_of as facts_by, IsAnswer};
-ghost use Rattle.store_core.specs.Chain.{newest_of};
+ghost use Rattle.lending_core.specs.Replies.{cert_number as number_of_cert, facts_of as facts_by, IsAnswer};
 
 use crate::fault::LentFault;
 use crate::numbers;
@@ -113,20 +112,12 @@ pub(crate) fn verdict_answer(given: Result<Verdict, LentFault>) -> Answer
     }
 }
 
-/// The epoch of a store's newest part.
-fn newest_epoch(store: &Store) -> u64
-    ensures { result ≡ epoch_of (newest_of store.now) }
-{
-    let parts = store.parts();
-    parts[parts.len() - 1].part().head().epoch()
-}
-
 /// What a store holds.
 pub(crate) fn facts_of(store: &Store) -> StoreFacts
     ensures { result ≡ facts_by store.now }
 {
     StoreFacts {
         parts: store.parts().len() as u64,
-        newest_epoch: newest_epoch(store),
+        newest_epoch: store.newest_epoch(),
     }
 }

@@ -14,7 +14,8 @@ use Rattle.store_core.specs.Chain.{newest_of}
 use Rattle.store_core.specs.StoreLayout.{store, store_parts, first_part, chain, fielded}
 use Rattle.store_core.specs.declared.fault.StoreFault.{StoreFault}
 use Rattle.store_core.specs.declared.fault.StoreFault.TheVariants as faults
-use Rattle.view_core.specs.Checking.{store_head, noted_store, epoch_of, ReadsParts, ReadsStore}
+use Rattle.store_core.specs.Newest.{epoch_of}
+use Rattle.view_core.specs.Checking.{store_head, noted_store, ReadsParts, ReadsStore}
 use Rattle.view_core.specs.Scanning.{IsNewestAt, ReadsFirst, ReadsChain, end_of}
 use Rattle.view_core.specs.declared.scan.ReadPart.{ReadPart}
 use Rattle.view_core.proofs.Chains.{epoch_is}

@@ -8,6 +8,7 @@ use Rattle.octets_core.specs.declared.fault.LayoutFault.{LayoutFault}
 use Rattle.ident_core.specs.declared.bounds.TheConstants.{MAX_PARTS}
 use Rattle.part_text.specs.SealedFields.{SealedFields}
 use Rattle.store_core.specs.Chain.{newest_of}
+use Rattle.store_core.specs.Newest.{epoch_of}
 use Rattle.store_core.specs.StoreLayout.{store_parts, store}
 use Rattle.store_core.specs.declared.fault.StoreFault.{StoreFault}
 use Rattle.view_core.specs.Scanning.{IsNewestAt, end_of}
@@ -31,10 +32,6 @@ ReadsParts bytes (Err e) = store_parts bytes 0 ≡ Err e
 abbrev pub ReadsStore : List ℕ → Result (ℕ × ReadPart) StoreFault → Type 0
 ReadsStore bytes (Ok x) = (parts : List SealedFields) × (value_of (store bytes 0) ≡ Ok parts) × IsNewestAt bytes x.1 parts x.0
 ReadsStore bytes (Err e) = value_of (store bytes 0) ≡ Err e
-
-abbrev pub epoch_of : Option SealedFields → ℕ
-epoch_of None = 0
-epoch_of (Some s) = s.part.head.epoch
 
 -- how many parts, and the newest one's epoch
 abbrev pub store_note : List SealedFields → StoreNote
