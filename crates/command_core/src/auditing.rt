@@ -21,6 +21,7 @@ ghost use Rattle.command_core.specs.Replies.{reply_of, IsReply};
 
 use crate::answer::Answer;
 use crate::commands::refused;
+use crate::fault::unadmitted;
 use crate::rehearsing::BadFile;
 use audit_core::{AuditFault, audit};
 use input_core::{FileFault, job_in, store_in};
@@ -32,6 +33,7 @@ use reply_core::Reply;
 use std::alloc::Global;
 use std::marker::Model;
 use store_core::{Refusal, Store, Verdict};
+use universe_core::bad_crl;
 use word_core::command::{Audit, FileName};
 
 /// How many serials are kept of a CRL.
@@ -181,24 +183,6 @@ impl AuditJobs {
     }
 }
 
-/// What is wrong with the first CRL of a job that isn't accepted, if there is one.
-fn bad_crl(crls: &[JobCrl]) -> Option<FileFault>
-    requires { length crls.now ≤ Limits.PUBLISHED.crls }
-    ensures { result ≡ option_map of_admission (bad_crl_from 0 (map crl_view crls.now)) }
-{
-    let mut place = 0;
-    for crl in crls {
-        if let Err(fault) = &crl.outcome {
-            return Some(FileFault::BadCrl {
-                place,
-                fault: *fault,
-            });
-        }
-        place += 1;
-    }
-    None
-}
-
 /// The file of the first job that has a CRL which isn't accepted, if there is one.
 fn file_of_bad_crl<'a>(names: &[FileName<'a>], jobs: &[Job]) -> Option<BadFile<'a>>
     requires counted { AreCounted (map fields_of_job jobs.now) }
@@ -209,7 +193,10 @@ fn file_of_bad_crl<'a>(names: &[FileName<'a>], jobs: &[Job]) -> Option<BadFile<'
     for (place, job) in jobs.iter().enumerate() {
         if let Some(fault) = bad_crl(&job.crls) {
             let name = names[place].as_str();
-            return Some(BadFile { name, fault });
+            return Some(BadFile {
+                name,
+                fault: unadmitted(fault),
+            });
         }
     }
     None

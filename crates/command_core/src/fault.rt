@@ -9,7 +9,7 @@ use store_core::Refusal;
 use universe_core::AdmitFault;
 
 /// A job that isn't admitted breaks the chain as a part would.
-fn unadmitted(fault: AdmitFault) -> FileFault
+pub(crate) fn unadmitted(fault: AdmitFault) -> FileFault
     ensures { result ≡ of_admission fault }
 {
     match fault {

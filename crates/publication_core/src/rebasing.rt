@@ -14,18 +14,12 @@ use crate::enrolling::all_issuers;
 use crate::keeping::{count_left as left_of, flags, kept};
 use crate::leaving::LeftOut;
 use crate::rebased::Rebased;
-use ident_core::{Head, Kind, MAX_ISSUERS, Range};
+use ident_core::{Head, Kind, MAX_ISSUERS};
 use job_core::What;
 use ledger_core::{Draft, Ledger, LedgerItem, LedgerPart};
 use octets_core::Key32;
 use std::alloc::{AllocError, Global};
-use universe_core::{Group, groups};
-
-fn copied(alloc: Global, ranges: &[Range]) -> Result<Vec<Range>, AllocError>
-    ensures { IfOk result (λ out. out.items ≡ ranges.now) }
-{
-    ranges.iter().copied().collect(alloc)
-}
+use universe_core::{Group, copied_ranges, groups};
 
 fn newest_of(parts: &[LedgerPart]) -> &LedgerPart
     requires { 1 ≤ length parts.now }
@@ -39,7 +33,7 @@ fn head_at(alloc: Global, newest: &LedgerPart) -> Result<Head, AllocError>
     requires { RangesFit newest.now.ranges.items }
     ensures { IfOk result (λ h. h ≡ rebased_head (part_fields newest.now ∷ [])) }
 {
-    let ranges = copied(alloc, &newest.ranges)?;
+    let ranges = copied_ranges(alloc, &newest.ranges)?;
     Ok(Head::new(Kind::Snapshot, newest.epoch, Key32::new([0; 32]), ranges))
 }
 
@@ -51,7 +45,7 @@ fn part_at(
 ) -> Result<LedgerPart, AllocError>
     ensures { IfOk result (λ p. part_fields p ≡ first_part newest.now.epoch newest.now.ranges.items issuers.items) }
 {
-    let ranges = copied(alloc, &newest.ranges)?;
+    let ranges = copied_ranges(alloc, &newest.ranges)?;
     Ok(LedgerPart {
         epoch: newest.epoch,
         trailer: Key32::new([0; 32]),

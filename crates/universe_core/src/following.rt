@@ -31,8 +31,8 @@ fn fault_at(place: u32, crl: &JobCrl) -> Option<AdmitFault>
     }
 }
 
-/// The first CRL that isn't accepted.
-fn bad_crl(crls: &[JobCrl]) -> Option<AdmitFault>
+/// What refuses a job of these CRLs for the first one that isn't accepted, if there is one.
+pub fn bad_crl(crls: &[JobCrl]) -> Option<AdmitFault>
     requires { length crls.now ≤ PUBLISHED.crls }
     ensures { result ≡ bad_crl_from 0 (map crl_view crls.now) }
 {
@@ -113,7 +113,8 @@ pub(crate) fn check_early(parts: &[LedgerPart], job: &Job) -> Result<(), AdmitFa
     }
 }
 
-fn copied(alloc: Global, ranges: &[Range]) -> Result<Vec<Range>, AllocError>
+/// The ranges, in memory of their own.
+pub fn copied_ranges(alloc: Global, ranges: &[Range]) -> Result<Vec<Range>, AllocError>
     ensures { IfOk result (λ out. out.items ≡ ranges.now) }
 {
     ranges.iter().copied().collect(alloc)
@@ -130,7 +131,7 @@ pub(crate) fn next_head(alloc: Global, parts: &[LedgerPart], job: &Job) -> Resul
     requires { RangesFit job.now.ranges.items }
     ensures { IfOk result (λ h. h ≡ head_after (map part_fields parts.now) (facts_of_job job.now)) }
 {
-    let ranges = copied(alloc, &job.ranges)?;
+    let ranges = copied_ranges(alloc, &job.ranges)?;
     match parts.last() {
         Some(part) => Ok(Head::new(Kind::Delta, job.epoch, part.trailer, ranges)),
         None => Ok(Head::new(Kind::Snapshot, job.epoch, Key32::new([0; 32]), ranges)),
@@ -140,7 +141,7 @@ pub(crate) fn next_head(alloc: Global, parts: &[LedgerPart], job: &Job) -> Resul
 fn copied_part(alloc: Global, part: &LedgerPart) -> Result<LedgerPart, AllocError>
     ensures { IfOk result (λ p. part_fields p ≡ part_fields part.now) }
 {
-    let ranges = copied(alloc, &part.ranges)?;
+    let ranges = copied_ranges(alloc, &part.ranges)?;
     let issuers = copied_keys(alloc, &part.issuers)?;
     Ok(LedgerPart {
         epoch: part.epoch,
@@ -166,7 +167,7 @@ fn copied_parts(alloc: Global, parts: &[LedgerPart]) -> Result<Vec<LedgerPart>, 
 fn new_part(alloc: Global, job: &Job, issuers: Vec<Key32>) -> Result<LedgerPart, AllocError>
     ensures { IfOk result (λ p. part_fields p ≡ first_part job.now.epoch job.now.ranges.items issuers.items) }
 {
-    let ranges = copied(alloc, &job.ranges)?;
+    let ranges = copied_ranges(alloc, &job.ranges)?;
     Ok(LedgerPart {
         epoch: job.epoch,
         trailer: Key32::new([0; 32]),

@@ -35,6 +35,7 @@ pub use counts::Counts;
 pub use enrolling::is_enrolled;
 pub use fault::AdmitFault;
 pub use finding::guessed_places;
+pub use following::{bad_crl, copied_ranges};
 pub use grouping::groups;
 pub use lateness::{Known, known_of};
 pub use laws::enrolment_is_a_test;

@@ -1,5 +1,7 @@
+use Rattle.std.specs.Option.{option_map}
 use Rattle.std.proofs.Common.{List, length, ap, arith}
 use Rattle.job_core.specs.declared.meaning.JobCrl.{JobCrl}
+use Rattle.command_core.specs.Faults.{of_admission}
 use Rattle.command_core.proofs.AuditCode.{crls_few, left_more}
 use Rattle.command_core.proofs.auditing.file_of_bad_crl.Goals as goal
 
@@ -12,4 +14,4 @@ bad_crl-requires c =
 pub loop-place-preserved : goal.loop-place-preserved
 loop-place-preserved c =
     left_more c.args.names.now c.args.jobs.now c.loop-place.place c.index-jobs-place.result c.loop-place-test.true c.requires.many c.index-jobs-place.is
-    (rw c.deref.ensures.value at c.in_default.ensures) c.loop-place.invariant
+    (ap (option_map of_admission) (rw c.deref.ensures.value at c.in_default.ensures)) c.loop-place.invariant
