@@ -7,7 +7,6 @@ ghost use Rattle.octets_core.specs.Reading.{GivesUnless};
 ghost use Rattle.job_core.specs.JobFields.{crl_view, fields_of_job, JobFields};
 ghost use Rattle.job_core.specs.JobLayout.{kept};
 ghost use Rattle.job_core.specs.JobMeaning.{kept_in};
-ghost use Rattle.universe_core.specs.Step.{bad_crl_from};
 ghost use Rattle.audit_core.specs.Auditing.{entries_of};
 ghost use Rattle.audit_core.specs.Checking.{truth_by};
 ghost use Rattle.word_core.specs.declared.command.Command.{Command};
@@ -15,7 +14,6 @@ ghost use Rattle.outside_core.specs.Reads.{WhichFailed};
 ghost use Rattle.command_core.specs.Answering.{reply_fields};
 ghost use Rattle.command_core.specs.Audits.{bad_crl as bad_crl_of, counted, of_audit, passed, serials_of, unless, MakesAudit};
 ghost use Rattle.command_core.specs.AuditJobs.{AreAdded, AreCounted, AreNotAdded, IsAdded, IsNotAdded, IsReadable, NamesOneOf};
-ghost use Rattle.command_core.specs.Faults.{of_admission};
 ghost use Rattle.command_core.specs.ReplyFields.{Done, NamedFault};
 ghost use Rattle.command_core.specs.Replies.{reply_of, IsReply};
 

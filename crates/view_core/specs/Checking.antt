@@ -1,5 +1,5 @@
 -- What is told of a store that was gone through.
-use Rattle.std.specs.Prelude.{◌≡◌, ℕ, List, length, Option, Some, None, Result, Ok, Err, codes}
+use Rattle.std.specs.Prelude.{◌≡◌, ℕ, List, length, Result, Ok, Err, codes}
 use Rattle.std.specs.Int.{w8}
 use Rattle.octets_core.specs.Layout.{Layout, ◌>>=◌, whole}
 use Rattle.octets_core.specs.Reading.{number, magic, value_of}
