@@ -1,8 +1,9 @@
 -- What walks over a store write, step by step.
-use Rattle.std.proofs.Common.{◌≡◌, ℕ, zero, suc, ◌+◌, ◌-◌, ◌*◌, ◌<◌, ◌≤◌, ◌^◌, List, [], ◌∷◌, ◌++◌, length, get_or, take, drop, Option}
+use Rattle.std.proofs.Common.{◌≡◌, ℕ, zero, suc, ◌+◌, ◌-◌, ◌*◌, ◌<◌, ◌≤◌, ◌^◌, ◌==◌, ◌||◌, Bool, true, false, not, List, [], ◌∷◌, ◌++◌, length, get_or, take, drop, Option}
 use Rattle.std.proofs.Common.{Some, None, Ok, refl, sym, ap, ◌∙◌, subst, append_assoc, add-one, length-append, arith}
 use Rattle.std.specs.Prelude.{All, codes, flat_map}
 use Rattle.std.specs.Int.{w8, to_be_bytes}
+use Rattle.std.specs.List.{list_any}
 use Rattle.std.proofs.lemmas.List.{append-nil, take_all}
 use Rattle.octets_core.specs.Reading.{value_of}
 use Rattle.octets_core.proofs.Texts.{IsBytes}
@@ -13,7 +14,8 @@ use Rattle.card_core.specs.declared.block.Body.TheVariants as bodies
 use Rattle.card_core.specs.ShardedFields.{ShardedFields}
 use Rattle.part_text.specs.SealedFields.{SealedFields}
 use Rattle.part_text.specs.Fitting.{ShardsFit, BodyFits, BlockFits, Fits}
-use Rattle.part_text.specs.PartText.{shard_text, sharded_text, mode_of, body_text, block_text, spelling}
+use Rattle.part_text.specs.PartLayout.{is_sharded, some_sharded}
+use Rattle.part_text.specs.PartText.{shard_text, sharded_text, mode_of, version_of, body_text, block_text, spelling}
 use Rattle.part_text.proofs.Lengths.{length_shard, length_sharded}
 use Rattle.store_core.specs.StoreLayout.{store, store_text}
 use Rattle.store_core.proofs.StoreSpelled.{found}
@@ -21,7 +23,7 @@ use Rattle.store_core.proofs.StoreChains.{store-chain}
 use Rattle.view_core.specs.declared.fill.Walk.{Walk}
 use Rattle.view_core.specs.declared.fill.Counts.{Counts}
 use Rattle.view_core.specs.Texts.{Stands, places_of}
-use Rattle.view_core.specs.Index.{blocks_at, part_index, parts_index, shards_in, shards_of, shards_index, index_of}
+use Rattle.view_core.specs.Index.{blocks_at, part_index, parts_index, has_shards, shards_in, shards_of, shards_index, index_of}
 use Rattle.view_core.specs.Filling.{Wrote, Walked}
 use Rattle.view_core.proofs.Texts.{stands_then}
 use Rattle.view_core.proofs.Standing.{HoldsPart, standing_part, stands_middle, blocks_fit}
@@ -338,6 +340,64 @@ shard_short at s fits =
     (λ n b fits. omega (arith, long_block b fits, shards_short n b.body)) first s.part.blocks
     (blocks_fit None s.part.blocks fits.part.blocks) in
     omega (arith, each, ap length (blocks_indexed first s.part.blocks), long_part s fits)
+
+-- where it stands then
+pub stood : (old new : List ℕ) (from walk : Walk) (width : ℕ) (words : List ℕ) → Walked old new from width words (Some walk)
+    → walk.at ≡ from.at + width
+stood old new from walk width words walked =
+    let is : walk ≡ record { at = from.at + width; to = from.to + length words } = let e = walked.is in cc in
+    ap (λ (w : Walk). w.at) is
+
+-- ---- none where no block is sharded
+
+no_shards_in : (at : ℕ) (body : Body) → is_sharded body ≡ false → shards_in at body ≡ []
+no_shards_in at bodies.Clean e = refl
+no_shards_in at bodies.Every e = refl
+no_shards_in at (bodies.Mixed m) e = refl
+no_shards_in at (bodies.Sharded s) e = absurd cc
+
+none_of_both : (a b : Bool) → (a || b) ≡ false → (a ≡ false) × (b ≡ false)
+none_of_both true b e = absurd cc
+none_of_both false b e = (refl, e)
+
+no_shards_of : (at : ℕ) (blocks : List Block) → some_sharded blocks ≡ false → shards_of at blocks ≡ []
+no_shards_of at [] e = refl
+no_shards_of at (b ∷ blocks) e =
+    let both = none_of_both (is_sharded b.body) (some_sharded blocks) e in
+    ap (λ (l : List ℕ). l ++ shards_of (at + length (block_text b)) blocks) (no_shards_in at b.body both.0)
+    ∙ no_shards_of (at + length (block_text b)) blocks both.1
+
+no_shards_index : (at : ℕ) (parts : List SealedFields) → list_any has_shards parts ≡ false → shards_index at parts ≡ []
+no_shards_index at [] e = refl
+no_shards_index at (s ∷ parts) e =
+    let both = none_of_both (has_shards s) (list_any has_shards parts) e in
+    ap (λ (l : List ℕ). l ++ shards_index (at + length (spelling s)) parts) (no_shards_of (blocks_at at s.part) s.part.blocks both.0)
+    ∙ no_shards_index (at + length (spelling s)) parts both.1
+
+-- then a walk that stands behind the parts has nothing to write
+pub unsharded : (index : List ℕ) (parts : List SealedFields) (walk : Walk) (sharded : Bool) → walk.at ≡ 10 + length (flat_map spelling parts)
+    → sharded ≡ list_any has_shards parts → not sharded ≡ true
+    → Walked index index (record { at = 10; to = walk.to }) (length (flat_map spelling parts)) (shards_index 10 parts) (Some walk)
+unsharded index parts walk true at told e = absurd cc
+unsharded index parts walk false at told e =
+    subst (λ (l : List ℕ). Walked index index (record { at = 10; to = walk.to }) (length (flat_map spelling parts)) l (Some walk))
+    (sym (no_shards_index 10 parts (sym told)))
+    (record { is = ap Some (walk_is walk _ _ at (omega arith)); wrote = wrote_none index walk.to })
+
+-- the version tells whether a block is sharded
+pub version_tells : (blocks : List Block) (n : ℕ) → n ≡ version_of blocks → (n == 2) ≡ some_sharded blocks
+version_tells blocks n is = ap (λ (m : ℕ). m == 2) is ∙ by (some_sharded blocks) refl
+  where
+    by : (b : Bool) → some_sharded blocks ≡ b → (version_of blocks == 2) ≡ some_sharded blocks
+    by true e = rw e refl
+    by false e = rw e refl
+
+pub few_versions : (blocks : List Block) → version_of blocks < 2 ^ 8
+few_versions blocks = by (some_sharded blocks) refl
+  where
+    by : (b : Bool) → some_sharded blocks ≡ b → version_of blocks < 2 ^ 8
+    by true e = rw e (omega arith)
+    by false e = rw e (omega arith)
 
 -- ---- a store
 

@@ -4,6 +4,7 @@ pub mod Scans
 pub mod Chains
 pub mod Checks
 pub mod Installs
+pub mod Keys
 pub mod Planes
 pub mod Leaves
 pub mod Shards

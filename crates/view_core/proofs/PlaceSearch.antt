@@ -1,6 +1,7 @@
 -- Blocks that stand in bytes, and the search for the one of an issuer among their places.
 use Rattle.std.specs.Ordering.{nat_cmp}
 use Rattle.std.specs.Cmp.Lexicographic.{slice_cmp}
+use Rattle.std.specs.declared.cmp.Ordering.{Ordering}
 use Rattle.std.specs.declared.cmp.Ordering.TheVariants.{Less, Equal, Greater}
 use Rattle.std.specs.Int.{w8, to_be_bytes}
 use Rattle.std.specs.List.Sorted.{IsStrictlySortedBy}
@@ -63,33 +64,36 @@ pub no_place : (bytes places issuer : List ℕ) (low high : ℕ) → high ≤ lo
     → (at : ℕ) (blocks : List Block) → AreBlocksAt bytes at places blocks → IsPlaceOf issuer blocks None
 no_place bytes places issuer low high le lacks at blocks are = none_found blocks issuer low high le (lacks at blocks are)
 
-module _ (bytes places issuer : List ℕ) (low high : ℕ) (lacks : Lacks bytes places issuer low high) (middle : ℕ) (lt : middle < length places) (key : List ℕ)
-    (read : (k : List ℕ) → length k ≡ 32 → Stands bytes (get_or places middle 0) k → key ≡ k) where
+module _ (bytes places issuer : List ℕ) (low high : ℕ) (lacks : Lacks bytes places issuer low high) (middle : ℕ) (lt : middle < length places) where
+  -- how the key that stands there is ordered with the issuer
+  abbrev pub IsOrder : Ordering → Type 0
+  IsOrder o = (k : List ℕ) → length k ≡ 32 → Stands bytes (get_or places middle 0) k → slice_cmp nat_cmp k issuer ≡ o
+
   module _ (at : ℕ) (blocks : List Block) (are : AreBlocksAt bytes at places blocks) where
     inside : middle < length blocks
     inside = omega (arith, lt, as_many bytes at places blocks are)
 
     abbrev there : Block
-    there = get_or blocks middle (record { issuer = key; body = bodies.Clean })
+    there = get_or blocks middle (record { issuer = []; body = bodies.Clean })
 
     there_is : there ≡ get_or blocks middle there
-    there_is = get_or_default blocks middle (record { issuer = key; body = bodies.Clean }) there inside
+    there_is = get_or_default blocks middle (record { issuer = []; body = bodies.Clean }) there inside
 
-    order_is : slice_cmp nat_cmp there.issuer issuer ≡ slice_cmp nat_cmp key issuer
-    order_is =
-        let s = stands_block bytes at places blocks middle (record { issuer = key; body = bodies.Clean }) are lt in
-        ap (λ (k : List ℕ). slice_cmp nat_cmp k issuer) (sym (read there.issuer s.0.issuer (issuer_stands bytes (get_or places middle 0) there s.1)))
+    order_is : (o : Ordering) → IsOrder o → slice_cmp nat_cmp there.issuer issuer ≡ o
+    order_is o is =
+        let s = stands_block bytes at places blocks middle (record { issuer = []; body = bodies.Clean }) are lt in
+        is there.issuer s.0.issuer (issuer_stands bytes (get_or places middle 0) there s.1)
 
-  pub lacks_less : slice_cmp nat_cmp key issuer ≡ Less → Lacks bytes places issuer (middle + 1) high
-  lacks_less e = λ at blocks are.
-      missed_less blocks issuer (sorted blocks are.fit) low high middle (there at blocks are) (inside at blocks are) (there_is at blocks are) (lacks at blocks are) (order_is at blocks are ∙ e)
+  pub lacks_less : IsOrder Less → Lacks bytes places issuer (middle + 1) high
+  lacks_less is = λ at blocks are.
+      missed_less blocks issuer (sorted blocks are.fit) low high middle (there at blocks are) (inside at blocks are) (there_is at blocks are) (lacks at blocks are) (order_is at blocks are Less is)
 
-  pub lacks_greater : slice_cmp nat_cmp key issuer ≡ Greater → Lacks bytes places issuer low middle
-  lacks_greater e = λ at blocks are.
-      missed_greater blocks issuer (sorted blocks are.fit) low high middle (there at blocks are) (inside at blocks are) (there_is at blocks are) (lacks at blocks are) (order_is at blocks are ∙ e)
+  pub lacks_greater : IsOrder Greater → Lacks bytes places issuer low middle
+  lacks_greater is = λ at blocks are.
+      missed_greater blocks issuer (sorted blocks are.fit) low high middle (there at blocks are) (inside at blocks are) (there_is at blocks are) (lacks at blocks are) (order_is at blocks are Greater is)
 
-  pub is_place : slice_cmp nat_cmp key issuer ≡ Equal → (at : ℕ) (blocks : List Block) → AreBlocksAt bytes at places blocks → IsPlaceOf issuer blocks (Some middle)
-  is_place e at blocks are = (
+  pub is_place : IsOrder Equal → (at : ℕ) (blocks : List Block) → AreBlocksAt bytes at places blocks → IsPlaceOf issuer blocks (Some middle)
+  is_place is at blocks are = (
     inside at blocks are,
-    found_equal blocks issuer (sorted blocks are.fit) low high middle (there at blocks are) (inside at blocks are) (there_is at blocks are) (lacks at blocks are) (order_is at blocks are ∙ e),
+    found_equal blocks issuer (sorted blocks are.fit) low high middle (there at blocks are) (inside at blocks are) (there_is at blocks are) (lacks at blocks are) (order_is at blocks are Equal is),
   )

@@ -1,6 +1,6 @@
 -- What stands of a part that stands in bytes, and where.
 use Rattle.std.proofs.Common.{◌≡◌, ℕ, zero, suc, ◌+◌, ◌*◌, ◌<◌, ◌≤◌, ◌^◌, List, [], ◌∷◌, ◌++◌, length, Option, Some, None, ap, ◌∙◌}
-use Rattle.std.proofs.Common.{length-append, arith}
+use Rattle.std.proofs.Common.{length-append, refl, arith}
 use Rattle.std.specs.Prelude.{All, codes, flat_map}
 use Rattle.std.specs.Int.{w8, w16, w32, w64, to_be_bytes}
 use Rattle.sha2.proofs.Facts256.{length-sha256}
@@ -43,6 +43,7 @@ blocks_fit last (b ∷ blocks) fits (suc k) d lt = blocks_fit (Some b.issuer) bl
 
 -- Of a part that begins at this place: its counts, its ranges and its blocks stand in the bytes; and how long it is.
 pub record HoldsPart (bytes : List ℕ) (at : ℕ) (s : SealedFields) : Type 0 where
+  pub version : Stands bytes (at + 8) (to_be_bytes w8 (version_of s.part.blocks))
   pub few_ranges : length s.part.head.ranges < 2 ^ 16
   pub ranges_count : Stands bytes (at + 50) (to_be_bytes w16 (length s.part.head.ranges))
   pub ranges : Stands bytes (ranges_at at) (flat_map range_text s.part.head.ranges)
@@ -55,6 +56,7 @@ pub record HoldsPart (bytes : List ℕ) (at : ℕ) (s : SealedFields) : Type 0 w
 
 record HoldsHead (bytes : List ℕ) (at version : ℕ) (p : PartFields) : Type 0 where
   pub long : length (head_text version p.head) ≡ 52 + 48 * length p.head.ranges
+  pub told : Stands bytes at (head_text version p.head) → Stands bytes (at + 8) (to_be_bytes w8 version)
   pub count : Stands bytes at (head_text version p.head) → Stands bytes (at + 50) (to_be_bytes w16 (length p.head.ranges))
   pub ranges : Stands bytes at (head_text version p.head) → Stands bytes (ranges_at at) (flat_map range_text p.head.ranges)
 
@@ -62,7 +64,9 @@ head_holds : (bytes : List ℕ) (at version : ℕ) (p : PartFields) → length p
     → Linked FitsRange (λ previous r. Some r.log) None p.head.ranges → HoldsHead bytes at version p
 unfolding head_text
 head_holds bytes at version p parent ranges =
-    let front = codes "CLUBCARD" ++ to_be_bytes w8 version ++ to_be_bytes w8 (kind_number p.head.kind) in
+    let magic = codes "CLUBCARD" in
+    let kind = to_be_bytes w8 (kind_number p.head.kind) in
+    let front = magic ++ to_be_bytes w8 version ++ kind in
     let epoch = to_be_bytes w64 p.head.epoch in
     let t = front ++ epoch ++ p.head.parent in
     let u = to_be_bytes w16 (length p.head.ranges) in
@@ -78,6 +82,9 @@ head_holds bytes at version p parent ranges =
     let counted : length (t ++ u) ≡ 52 = omega (arith, before, length-append t u) in
     record {
       long = omega (arith, counted, length-append (t ++ u) v, length_ranges None p.head.ranges ranges);
+      told = λ s. stands_middle bytes at magic (to_be_bytes w8 version) kind (at + 8) refl
+          (stands_first bytes at front epoch (stands_first bytes at (front ++ epoch) p.head.parent
+          (stands_first bytes at t u (stands_first bytes at (t ++ u) v s))));
       count = λ s. stands_middle bytes at t u v (at + 50) (omega (arith, before)) s;
       ranges = λ s. stands_then bytes at (t ++ u) v (at + 52) (omega (arith, counted)) s;
     }
@@ -96,6 +103,7 @@ standing_part bytes at s fits stands =
     let whole = length-append (head ++ count ++ blocks) s.trailer in
     let digest : length s.trailer ≡ 32 = ap length fits.trailer ∙ length-sha256 (unsealed_text p) in
     record {
+      version = holds.told begins;
       few_ranges = omega (arith, fits.part.head.facts.ranges.few);
       ranges_count = holds.count begins;
       ranges = holds.ranges begins;

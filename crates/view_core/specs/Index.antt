@@ -1,11 +1,12 @@
 -- The index of a store: where its parts' ranges, blocks and shards begin, as offsets from the store's first byte.
-use Rattle.std.specs.Prelude.{ℕ, ◌+◌, ◌*◌, List, [], ◌∷◌, ◌++◌, length}
+use Rattle.std.specs.Prelude.{ℕ, Bool, ◌+◌, ◌*◌, List, [], ◌∷◌, ◌++◌, length}
 use Rattle.ident_core.specs.declared.layout.TheConstants.{RANGE_BYTES}
 use Rattle.card_core.specs.declared.block.Block.{Block}
 use Rattle.card_core.specs.declared.block.Body.{Body}
 use Rattle.card_core.specs.declared.block.Body.TheVariants as bodies
 use Rattle.card_core.specs.PartFields.{PartFields}
 use Rattle.part_text.specs.SealedFields.{SealedFields}
+use Rattle.part_text.specs.PartLayout.{some_sharded}
 use Rattle.part_text.specs.PartText.{shard_text, block_text, spelling}
 use Rattle.view_core.specs.Texts.{places_of}
 use Rattle.view_core.specs.declared.layout.TheConstants.{STORE_HEAD, PART_HEAD, COUNT, BLOCK_HEAD}
@@ -40,6 +41,10 @@ shards_of at (b ∷ blocks) = shards_in at b.body ++ shards_of (at + length (blo
 abbrev pub shards_index : ℕ → List SealedFields → List ℕ
 shards_index at [] = []
 shards_index at (s ∷ parts) = shards_of (blocks_at at s.part) s.part.blocks ++ shards_index (at + length (spelling s)) parts
+
+-- whether a block of a part is sharded
+abbrev pub has_shards : SealedFields → Bool
+has_shards s = some_sharded s.part.blocks
 
 -- how many words tell of parts and how many of shards, each part's index, and where the shards of all parts begin
 abbrev pub index_of : List SealedFields → List ℕ

@@ -2,20 +2,22 @@
 
 ghost use Rattle.std.specs.Prelude.{◌≡◌, ℕ, List, [], ◌∷◌, ◌++◌, ◌<◌, ◌≤◌, ◌^◌, ◌+◌, ◌*◌, length, take, drop, flat_map};
 ghost use Rattle.std.specs.Prelude.{All, Ok, Some, IfSome, IsSome};
+ghost use Rattle.std.specs.List.{list_any};
 ghost use Rattle.octets_core.specs.Reading.{value_of};
 ghost use Rattle.card_core.specs.declared.leaf.Leaf.{Leaf};
 ghost use Rattle.card_core.specs.declared.block.Block.{Block};
 ghost use Rattle.part_text.specs.SealedFields.{SealedFields};
+ghost use Rattle.part_text.specs.PartLayout.{some_sharded};
 ghost use Rattle.part_text.specs.PartText.{shard_text, block_text, spelling};
 ghost use Rattle.part_text.specs.Fitting.{LeafFits, BlockFits, Fits};
 ghost use Rattle.store_core.specs.StoreLayout.{store as store_layout};
 ghost use Rattle.view_core.specs.Texts.{Stands, places_of};
 ghost use Rattle.view_core.specs.Index.{blocks_at, part_index, parts_index, index_of};
-ghost use Rattle.view_core.specs.Index.{shards_in, shards_of as shards_of_blocks, shards_index};
+ghost use Rattle.view_core.specs.Index.{has_shards, shards_in, shards_of as shards_of_blocks, shards_index};
 ghost use Rattle.view_core.specs.Filling.{Wrote, Walked, WentOn};
 
 use crate::ends::{block_end, shard_end, shards_of};
-use crate::layout::{BLOCK_HEAD, COUNT, PART_HEAD, STORE_HEAD};
+use crate::layout::{BLOCK_HEAD, COUNT, PART_HEAD, STORE_HEAD, VERSION};
 use crate::reading::{number8_at, number16_at, number32_at};
 use ident_core::RANGE_BYTES;
 
@@ -24,6 +26,13 @@ use ident_core::RANGE_BYTES;
 pub(crate) struct Walk {
     pub at: usize,
     pub to: usize,
+}
+
+/// Where a walk over parts is, and whether one of these has a block that is sharded.
+#[derive(Clone, Copy, Debug)]
+pub(crate) struct PartsWalk {
+    pub walk: Walk,
+    pub sharded: bool,
 }
 
 /// How many ranges and blocks a part has, and where the first block begins.
@@ -76,6 +85,14 @@ fn counts_at(store: &[u8], at: usize) -> Option<Counts>
         blocks: number32_at(store, counted),
         first,
     })
+}
+
+/// Whether a block of the part that begins at this place is sharded, which its version tells.
+fn is_sharded_at(store: &[u8], at: usize) -> bool
+    requires place { at < 2 ^ 63 }
+    ensures { (s : SealedFields) → Fits s → Stands store.now at (spelling s) → result ≡ some_sharded s.part.blocks }
+{
+    number8_at(store, at + VERSION) == 2
 }
 
 /// Goes on behind the trailer of a part.
@@ -134,20 +151,26 @@ fn put_part(store: &[u8], from: Walk, index: &mut [u32]) -> Option<Walk>
 }
 
 /// Writes what the index tells of so many parts.
-fn put_parts(store: &[u8], from: Walk, count: u8, index: &mut [u32]) -> Option<Walk>
+fn put_parts(store: &[u8], from: Walk, count: u8, index: &mut [u32]) -> Option<PartsWalk>
     requires few { length store.now < 2 ^ 32 }
     requires place { from.at ≤ length store.now }
     requires room { from.to ≤ 2 ^ 60 }
-    ensures value { (parts : List SealedFields) → All Fits parts → length parts ≡ count
+    ensures there { (parts : List SealedFields) → All Fits parts → length parts ≡ count
+        → Stands store.now from.at (flat_map spelling parts) → IsSome result }
+    ensures value { IfSome result (λ gone. (parts : List SealedFields) → All Fits parts → length parts ≡ count
         → Stands store.now from.at (flat_map spelling parts)
-        → Walked index.old index.new from (length (flat_map spelling parts)) (parts_index from.at parts) result }
-    ensures went { IfSome result (WentOn (length store.now) (2 ^ 33 * count) from) }
+        → Walked index.old index.new from (length (flat_map spelling parts)) (parts_index from.at parts) (Some gone.walk)) }
+    ensures sharded { IfSome result (λ gone. (parts : List SealedFields) → All Fits parts → length parts ≡ count
+        → Stands store.now from.at (flat_map spelling parts) → gone.sharded ≡ list_any has_shards parts) }
+    ensures went { IfSome result (λ gone. WentOn (length store.now) (2 ^ 33 * count) from gone.walk) }
 {
     let mut walk = from;
+    let mut sharded = false;
     for _ in 0..count {
+        sharded |= is_sharded_at(store, walk.at);
         walk = put_part(store, walk, index)?;
     }
-    Some(walk)
+    Some(PartsWalk { walk, sharded })
 }
 
 /// Writes where so many shards begin.
@@ -247,6 +270,30 @@ fn put_shards_of_parts(store: &[u8], from: Walk, count: u8, index: &mut [u32]) -
     Some(walk)
 }
 
+/// Writes where the shards of so many parts begin, behind what the index tells of these parts. Where none is sharded
+/// there is nothing to walk over.
+fn put_shards_behind(store: &[u8], parts: PartsWalk, count: u8, index: &mut [u32]) -> Option<Walk>
+    requires few { length store.now < 2 ^ 32 }
+    requires long { STORE_HEAD ≤ length store.now }
+    requires place { parts.walk.at ≤ length store.now }
+    requires room { parts.walk.to ≤ 2 ^ 60 }
+    ensures value { (list : List SealedFields) → All Fits list → length list ≡ count
+        → Stands store.now STORE_HEAD (flat_map spelling list)
+        → parts.walk.at ≡ STORE_HEAD + length (flat_map spelling list) → parts.sharded ≡ list_any has_shards list
+        → Walked index.old index.new (record { at = STORE_HEAD; to = parts.walk.to }) (length (flat_map spelling list))
+        (shards_index STORE_HEAD list) result }
+    ensures went { IfSome result (λ walk. parts.walk.to ≤ walk.to) }
+{
+    if !parts.sharded {
+        return Some(parts.walk);
+    }
+    let again = Walk {
+        at: STORE_HEAD,
+        to: parts.walk.to,
+    };
+    put_shards_of_parts(store, again, count, index)
+}
+
 /// Writes how many words tell of parts and how many of shards, before all of them.
 fn put_counts(parts: usize, shards: usize, index: &mut [u32]) -> Option<()>
     ensures fits { parts < 2 ^ 32 → shards < 2 ^ 32 → IsSome result }
@@ -280,12 +327,8 @@ pub(crate) fn fill(store: &[u8], index: &mut [u32]) -> Option<usize>
         to: 2,
     };
     let parts = put_parts(store, first, count, index)?;
-    let again = Walk {
-        at: STORE_HEAD,
-        to: parts.to,
-    };
-    let shards = put_shards_of_parts(store, again, count, index)?;
-    put_counts(parts.to - 2, shards.to - parts.to, index)?;
+    let shards = put_shards_behind(store, parts, count, index)?;
+    put_counts(parts.walk.to - 2, shards.to - parts.walk.to, index)?;
     Some(shards.to)
 }
 

@@ -4,6 +4,9 @@
 /// The bytes of a store before its first part.
 pub(crate) const STORE_HEAD: usize = 10;
 
+/// The bytes of a part before its version.
+pub(crate) const VERSION: usize = 8;
+
 /// The bytes of a part before its ranges.
 pub(crate) const PART_HEAD: usize = 52;
 

@@ -5,8 +5,8 @@ ghost use Rattle.card_core.specs.declared.block.Block.{Block};
 ghost use Rattle.card_core.specs.Consulting.{IsPlaceOf};
 ghost use Rattle.view_core.specs.Standing.{AreBlocksAt};
 
-use crate::reading::key_at;
-use octets_core::{Key32, Steps, key_order};
+use crate::reading::order_at;
+use octets_core::{Key32, Steps};
 use std::cmp::Ordering;
 use std::sync::ledger::Ledger;
 
@@ -27,7 +27,7 @@ pub(crate) fn place_of<L: Ledger>(
     while low < high {
         let middle = low + (high - low) / 2;
         probes.tick();
-        match key_order(&key_at(bytes, places[middle] as usize), issuer) {
+        match order_at(bytes, places[middle] as usize, issuer) {
             Ordering::Equal => return Some(middle),
             Ordering::Less => low = middle + 1,
             Ordering::Greater => high = middle,

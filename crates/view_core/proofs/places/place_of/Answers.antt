@@ -18,7 +18,7 @@ returns-in-Equal-clause-place g c =
     let middle : ℕ = c.loop-low.low + (c.loop-low.high - c.loop-low.low) / 2 in
     let lt : middle < length c.args.places.now = omega (arith, c.loop-low.invariant.steps.within, c.loop-low-test.true) in
     is_place c.args.bytes.now c.args.places.now c.args.issuer.now c.loop-low.low c.loop-low.high c.loop-low.invariant.lacks middle lt
-    c.key_at.result c.key_at.ensures (sym c.key_order.ensures ∙ c.in-Equal.is)
+    (λ k len s. sym (c.order_at.ensures k len s) ∙ c.in-Equal.is)
 
 pub returns-in-Equal-clause-few : goal.returns-in-Equal-clause-few
 returns-in-Equal-clause-few g c =
@@ -35,7 +35,7 @@ loop-low-preserved-in-Less g c =
           c.loop-low.high c.loop-low.invariant.steps c.loop-low-test.true
           (omega (arith, c.loop-low-test.true)) c.loop-low.invariant.steps.within (omega (arith, c.loop-low-test.true)));
       lacks = lacks_less c.args.bytes.now c.args.places.now c.args.issuer.now c.loop-low.low c.loop-low.high c.loop-low.invariant.lacks middle lt
-          c.key_at.result c.key_at.ensures (sym c.key_order.ensures ∙ c.in-Less.is);
+          (λ k len s. sym (c.order_at.ensures k len s) ∙ c.in-Less.is);
     }
 
 pub loop-low-preserved : goal.loop-low-preserved
@@ -47,7 +47,7 @@ loop-low-preserved g c =
           c.loop-low.invariant.steps c.loop-low-test.true
           (omega arith) (omega arith) (omega (arith, c.loop-low-test.true)));
       lacks = lacks_greater c.args.bytes.now c.args.places.now c.args.issuer.now c.loop-low.low c.loop-low.high c.loop-low.invariant.lacks middle lt
-          c.key_at.result c.key_at.ensures (sym c.key_order.ensures ∙ c.in-Greater.is);
+          (λ k len s. sym (c.order_at.ensures k len s) ∙ c.in-Greater.is);
     }
 
 pub returns-clause-place : goal.returns-clause-place
