@@ -19,10 +19,10 @@ use Rattle.job_core.specs.JobText.{opening_text, record_text, crl_held, entry_he
 use Rattle.job_core.specs.Partial.{held_in}
 use Rattle.job_core.specs.Pulling.{Blames}
 use Rattle.job_core.specs.Reader.{no_serials, StandsAt, StandsFor, fault_of, limits_of, IsNew, HasEnded, IsBegin, FitsRecord, text_of, GivesNext, ReadsNext}
-use Rattle.job_core.specs.declared.slice.SliceDepot.{SliceDepot}
+use Rattle.outside_core.specs.declared.slice.SliceDepot.{SliceDepot}
 use Rattle.gather_core.specs.Raw.{raw_by, entries_in}
 use Rattle.gather_core.specs.Opened.{Counts, entries_given}
-use Rattle.job_core.proofs.SliceFiles.{only, file-there, never-fails, slice_ghosts}
+use Rattle.outside_core.proofs.SliceFiles.{only, file-there, never-fails, slice_ghosts}
 use Rattle.gather_core.proofs.Records.{Fits, some_text}
 use Rattle.gather_core.proofs.Fronts.{Front, front-begun, front-more, front-few, front-whole, further}
 

@@ -3,8 +3,8 @@
 ghost use Rattle.std.specs.Prelude.{◌≡◌, ◌≢◌, ◌↔◌, IfErr, IsTrue};
 ghost use Rattle.gather_core.specs.Opened.{Counts, entries_given};
 
-use job_core::{JobFault, JobReader, Limits, Record, SliceDepot};
-use outside_core::Feed;
+use job_core::{JobFault, JobReader, Limits, Record};
+use outside_core::{Feed, SliceDepot};
 use std::alloc::Global;
 
 fn is_end(given: &Record) -> bool

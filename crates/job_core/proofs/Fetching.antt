@@ -22,8 +22,9 @@ use Rattle.outside_core.proofs.Effects.{ReadFailed-then}
 use Rattle.job_core.specs.declared.fault.JobFault.{JobFault}
 use Rattle.job_core.specs.declared.fault.JobFault.TheVariants as faults
 use Rattle.job_core.specs.JobLayout.{fielded}
-use Rattle.job_core.specs.Pulling.{Pulled, AreBytes, IsOfBytes, NoneFailed, Blames, Says, Lies, Fetches}
-use Rattle.job_core.proofs.Pulling.{pulled-none, pulled-then}
+use Rattle.outside_core.specs.Pulling.{Pulled}
+use Rattle.job_core.specs.Pulling.{AreBytes, IsOfBytes, NoneFailed, Blames, Says, Lies, Fetches}
+use Rattle.outside_core.proofs.Pulling.{pulled-none, pulled-then}
 use Rattle.job_core.proofs.Given.{lies-none, lies-first, lies-second, lies-both}
 
 -- ---- bytes

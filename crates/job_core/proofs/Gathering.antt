@@ -12,8 +12,9 @@ use Rattle.job_core.specs.declared.records.Item.{Item as Taken}
 use Rattle.job_core.specs.JobFields.{JobFields}
 use Rattle.job_core.specs.JobLayout.{Item, OneRange, OneCrl, OneEntry, Held, nothing_held, with_item, serials_of, with_serials, next_item, records, saying_one}
 use Rattle.job_core.specs.Partial.{held_in, said_behind, records_saying}
-use Rattle.job_core.specs.Pulling.{Pulled, AreBytes, NoneFailed, Lies, Fetches}
-use Rattle.job_core.proofs.Pulling.{pulled-then}
+use Rattle.outside_core.specs.Pulling.{Pulled}
+use Rattle.job_core.specs.Pulling.{AreBytes, NoneFailed, Lies, Fetches}
+use Rattle.outside_core.proofs.Pulling.{pulled-then}
 use Rattle.job_core.proofs.Given.{lies-none, lies-first, lies-second, lies-both}
 use Rattle.job_core.proofs.Fetching.{bytes-none, bytes-both, blames-then}
 use Rattle.job_core.proofs.Saying.{says_more, says_all, says_over, says_fault}

@@ -3,7 +3,6 @@ use Rattle.std.proofs.Common.{◌≡◌, ℕ, ◌+◌, ◌-◌, ◌^◌, ◌≤�
 use Rattle.std.proofs.Math.Seq.{take-add}
 use Rattle.std.proofs.lemmas.List.{take_all, take_at, drop_at, drop-take, drop-drop, take-take}
 use Rattle.std.specs.Prelude.{◌==◌}
-use Rattle.octets_core.specs.Position.{piece}
 use Rattle.outside_core.specs.Feeding.{IsWindow}
 use Rattle.job_core.specs.Pulling.{Lies}
 
@@ -41,17 +40,9 @@ lies-both ended file at mid a b is one two =
       last = λ seen. omega (arith, two.last seen, length-append a b, is);
     }
 
--- the front of a buffer that was filled up to a place
-pub lies-front : (file : List ℕ) (at done end : ℕ) (out : List ℕ) → done ≤ length out → end ≡ at + done → at + done ≤ length file → take done out ≡ piece done file at
-    → Lies false file at (take (end - at) out)
-lies-front file at done end out le is room same =
-    let k : end - at ≡ done = omega (arith, is) in
-    let len : length (take done out) ≡ done = omega (arith, length-take done out, le) in
-    rw k (record {
-      within = omega (arith, room, len);
-      same = same ∙ ap (λ (n : ℕ). piece n file at) (sym len);
-      last = λ is. absurd cc;
-    })
+-- a window lies in its file
+pub lies-window : (file : List ℕ) (at : ℕ) (window : List ℕ) → IsWindow file at window → Lies false file at window
+lies-window file at window is = record { within = is.within; same = is.same; last = λ seen. absurd cc }
 
 -- the last bytes of a file
 pub lies-last : (file : List ℕ) (at : ℕ) (b : List ℕ) → length file ≤ at + length b → Lies false file at b → Lies true file at b

@@ -6,11 +6,12 @@ use Rattle.std.specs.Option.{option_map}
 use Rattle.std.specs.FinMap.{get}
 use Rattle.std.proofs.lemmas.Bool.{le-ltb}
 use Rattle.octets_core.specs.Layout.{Layout, ◌>>=◌, then_read, with_fault}
-use Rattle.octets_core.specs.Reading.{end}
+use Rattle.octets_core.specs.Reading.{GivesUnless, end}
 use Rattle.octets_core.specs.declared.fault.LayoutFault.{LayoutFault}
 use Rattle.outside_core.specs.declared.depot.Depot.{Ghosts}
 use Rattle.outside_core.specs.declared.feed.Feed.{Feed}
 use Rattle.outside_core.specs.Files.{Files}
+use Rattle.outside_core.specs.Reads.{ReadFailed}
 use Rattle.outside_core.specs.Filling.{IsInOrder}
 use Rattle.outside_core.specs.Standing.{depot_of, name_of, place_of, file_in, StandsIn}
 use Rattle.outside_core.proofs.Feeding.{windowed}
@@ -22,7 +23,8 @@ use Rattle.job_core.specs.JobFacts.{EntryFieldsFit, FitsFields, IsWithinLimits}
 use Rattle.job_core.specs.JobFields.{JobFields}
 use Rattle.job_core.specs.JobLayout.{fielded, opening, begun, job_of}
 use Rattle.job_core.specs.Partial.{records_saying}
-use Rattle.job_core.specs.Pulling.{Pulled, IsOfBytes, Comes, Lies, Fetches, SeesMore, ReadsJob}
+use Rattle.outside_core.specs.Pulling.{Pulled}
+use Rattle.job_core.specs.Pulling.{IsOfBytes, Blames, Comes, Lies, Fetches, SeesMore, ReadsJob}
 use Rattle.job_core.proofs.Given.{lies-first, lies-both, lies-last, lies-self, lies-whole}
 use Rattle.job_core.proofs.JobFacts.{within-read, fits-read}
 use Rattle.job_core.proofs.Saying.{opening-fails, records-fail, end-comes, job-says}
@@ -158,3 +160,9 @@ stands-there g feed files bytes order told held =
     let is : file_in (g.files (depot_of feed)) (name_of feed) ≡ Some (take (2 ^ 64 - 1) bytes)
     = ap (λ (t : Option Files). file_in t (name_of feed)) told ∙ ap (option_map (take (2 ^ 64 - 1))) held in
     record { told = is; window = windowed _ (name_of feed) (take (2 ^ 64 - 1) bytes) (place_of feed) _ is (omega (arith, feed.reach)) order }
+
+-- where no read fails, a job comes of the bytes or memory is wanted
+pub comes-from : {D X A : Type 0} (g : Ghosts D) (old new : Feed D) (view : X → A) (read : Result A JobFault) (r : Result X JobFault)
+    → (ReadFailed g (name_of old) (depot_of old) (depot_of new) → ⊥) → Blames g old new r → Comes view read r → GivesUnless faults.NoMemory view r read
+comes-from g old new view read (Ok x) never blames comes = comes
+comes-from g old new view read (Err e) never blames comes = λ wants. comes (wants, λ same. never (blames.0 same))

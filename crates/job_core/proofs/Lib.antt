@@ -7,7 +7,6 @@ pub mod WrittenJob
 pub mod RecordsSpelled
 pub mod JobSpelled
 pub mod Saying
-pub mod Pulling
 pub mod Given
 pub mod Fetching
 pub mod Fetched
@@ -18,4 +17,3 @@ pub mod JobFacts
 pub mod ReadFacts
 pub mod JobStanding
 pub mod FitsGiven
-pub mod SliceFiles

@@ -1,4 +1,4 @@
--- What taking bytes from a feed leaves of it.
+-- What is read of a file off a feed.
 use Rattle.std.specs.Prelude.{◌≡◌, ◌+◌, ◌≤◌, ◌<◌, ◌-◌, ◌^◌, ℕ, List, [], ◌∷◌, length, get_or, Bool, true, false, Result, Ok, Err, OnOk, IfSome, Some}
 use Rattle.std.specs.FinMap.{get}
 use Rattle.octets_core.specs.Layout.{Layout}
@@ -7,19 +7,11 @@ use Rattle.octets_core.specs.Reading.{end as file_end}
 use Rattle.outside_core.specs.declared.depot.Depot.{Ghosts}
 use Rattle.outside_core.specs.declared.feed.Feed.{Feed}
 use Rattle.outside_core.specs.Reads.{ReadFailed}
-use Rattle.outside_core.specs.Effects.{OnlyReads}
-use Rattle.outside_core.specs.Standing.{reference_of, depot_of, name_of, place_of, StandsIn}
+use Rattle.outside_core.specs.Pulling.{Pulled}
+use Rattle.outside_core.specs.Standing.{depot_of, name_of, place_of, StandsIn}
 use Rattle.job_core.specs.JobLayout.{fielded}
 use Rattle.job_core.specs.declared.fault.JobFault.{JobFault}
 use Rattle.job_core.specs.declared.fault.JobFault.TheVariants as faults
-
--- the same file through the same reference, of a depot that was only read; it stands where it stood, or further
-pub record Pulled {D : Type 0} (g : Ghosts D) (old new : Feed D) : Type 0 where
-  pub same_reference : reference_of new ≡ reference_of old
-  pub name : name_of new ≡ name_of old
-  pub only_reads : OnlyReads g (depot_of old) (depot_of new)
-  pub stands : (file : List ℕ) → StandsIn g old file → StandsIn g new file
-  pub further : place_of old ≤ place_of new
 
 -- numbers of eight bits
 abbrev pub AreBytes : List ℕ → Type 0

@@ -6,12 +6,12 @@ ghost use Rattle.octets_core.specs.Linked.{is_after as is_key_after};
 ghost use Rattle.octets_core.specs.Reading.{number, octets, length_of_three, key, any_key, magic};
 ghost use Rattle.outside_core.specs.Standing.{place_of, StandsIn};
 ghost use Rattle.job_core.specs.JobLayout.{fielded};
-ghost use Rattle.job_core.specs.Pulling.{Pulled, IsOfBytes, Blames, Fetches, SeesMore};
+ghost use Rattle.outside_core.specs.Pulling.{Pulled};
+ghost use Rattle.job_core.specs.Pulling.{IsOfBytes, Blames, Fetches, SeesMore};
 
 use crate::fault::JobFault;
-use crate::pull::pull;
 use octets_core::{Field, Key32, LayoutFault, Why, is_after};
-use outside_core::{Depot, Failed, Feed};
+use outside_core::{Depot, Failed, Feed, pull};
 
 /// The fault of a field whose first byte has this offset.
 pub fn wrong(at: u64, field: Field, why: Why) -> JobFault

@@ -2,7 +2,8 @@
 
 ghost use Rattle.std.specs.Prelude.{◌≡◌, ◌≢◌, ◌+◌, ◌-◌, ◌≤◌, ◌<◌, ◌^◌, ◌↔◌, ℕ, List, [], take, length, Option, None, Some, Ok, Err, IfOk, IfErr, OnOk};
 ghost use Rattle.outside_core.specs.Standing.{place_of, StandsIn};
-ghost use Rattle.job_core.specs.Pulling.{Pulled, Blames};
+ghost use Rattle.outside_core.specs.Pulling.{Pulled};
+ghost use Rattle.job_core.specs.Pulling.{Blames};
 ghost use Rattle.job_core.specs.JobFields.{AreWithin};
 ghost use Rattle.job_core.specs.Reader.{StandsFor, fault_of, limits_of, IsNew, HasEnded, IsBegin, FitsRecord, ReadsNext};
 

@@ -18,12 +18,11 @@ use crate::bounds::{Limits, What};
 use crate::fault::JobFault;
 use crate::meaning::{Job, JobCrl};
 use crate::reading_from::read_job_from;
-use crate::slice::SliceDepot;
 use crl_core::{Crl, CrlFault, read_crl};
 use ident_core::{Identity, Range, Serial};
 use log_core::{Entry, read_entry};
 use octets_core::Key32;
-use outside_core::Feed;
+use outside_core::{Feed, SliceDepot};
 use std::alloc::Global;
 
 fn entry_from(log: Key32, leaf: &[u8], extra: &[u8]) -> Option<Entry>

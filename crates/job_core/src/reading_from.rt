@@ -9,7 +9,8 @@ ghost use Rattle.job_core.specs.JobFacts.{EntryFieldsFit, FitsFields, IsWithinLi
 ghost use Rattle.job_core.specs.JobLayout.{OneEntry, begun, job_of, saying_one};
 ghost use Rattle.job_core.specs.JobText.{entry_held};
 ghost use Rattle.job_core.specs.Partial.{records_saying};
-ghost use Rattle.job_core.specs.Pulling.{Pulled, Blames, Comes, Fetches, IsGiven, ReadsJob};
+ghost use Rattle.outside_core.specs.Pulling.{Pulled};
+ghost use Rattle.job_core.specs.Pulling.{Blames, Comes, Fetches, IsGiven, ReadsJob};
 
 use crate::bounds::Limits;
 use crate::fault::JobFault;

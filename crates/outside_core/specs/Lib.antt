@@ -8,3 +8,4 @@ pub mod View
 pub mod Feeding
 pub mod Standing
 pub mod Filling
+pub mod Pulling

@@ -1,29 +1,13 @@
 ghost use Rattle.std.specs.Prelude.{◌≡◌, ◌≤◌, ◌-◌, ◌↔◌, [], min, length, is_err, IsErr, IsTrue, OnOk, OnErr, IfOk, Some, None};
-ghost use Rattle.outside_core.specs.Files.{IsPiece};
 ghost use Rattle.slot_core.specs.Disk.{HasFailed, Tells, Written, any_bytes, GivesPiece, IsSynced, Quiet, Tears};
 ghost use Rattle.slot_core.specs.Steps.{content, Write, Sync};
 ghost use Rattle.slot_core.specs.Memory.{new_disk, is_stopped, one_made, one_failed, after_call, after_step, state_of};
 
 use crate::disk::Disk;
 use crate::recording::Recording;
-use outside_core::Failed;
+use outside_core::{Failed, copy_from};
 use std::alloc::Global;
 use std::marker::Model;
-
-/// Copies the bytes from a place on into the front of the buffer, as many as there are and fit.
-fn copy_from(bytes: &[u8], at: u64, buf: &mut [u8]) -> usize
-    ensures count { result ≡ min (length buf.old) (length bytes.now - at) }
-    ensures piece { IsPiece bytes.now at buf.new result }
-{
-    let len = bytes.len() as u64;
-    if at >= len {
-        return 0;
-    }
-    let rest = &bytes[at as usize..];
-    let n = rest.len().min(buf.len());
-    buf[..n].copy_from_slice(&rest[..n]);
-    n
-}
 
 /// A disk in memory, which keeps a record of its writes and syncs. Its calls are numbered together, from 0, and can be
 /// made to fail from some number on; a number stays at `u64::MAX` once it is there.

@@ -9,7 +9,8 @@ ghost use Rattle.outside_core.specs.View.{read_count, read_fails};
 
 use crate::depot::{Depot, Failed};
 use crate::memory::calls::Calls;
-use crate::memory::entries::{Entry, add, copy_from, place, put};
+use crate::memory::entries::{Entry, add, place, put};
+use crate::piece::copy_from;
 use octets_core::NoMemory;
 use std::alloc::Global;
 use std::marker::Model;

@@ -1,6 +1,6 @@
-ghost use Rattle.std.specs.Prelude.{◌≡◌, ◌++◌, ◌-◌, List, ℕ, length, min, IsSome, IsOk, OnOk, OnErr};
+ghost use Rattle.std.specs.Prelude.{◌≡◌, ◌++◌, List, ℕ, IsSome, IsOk, OnOk, OnErr};
 ghost use Rattle.std.specs.FinMap.{get, insert};
-ghost use Rattle.outside_core.specs.Files.{held, IsPiece};
+ghost use Rattle.outside_core.specs.Files.{held};
 ghost use Rattle.outside_core.specs.Entries.{place_of, files_of};
 
 use octets_core::NoMemory;
@@ -63,19 +63,4 @@ pub fn add(
         None => put(alloc, entries, name, bytes.to_vec(alloc)?)?,
     }
     Ok(())
-}
-
-/// Copies the bytes from a place on into the front of the buffer, as many as there are and fit.
-pub fn copy_from(bytes: &[u8], at: u64, buf: &mut [u8]) -> usize
-    ensures count { result ≡ min (length buf.old) (length bytes.now - at) }
-    ensures piece { IsPiece bytes.now at buf.new result }
-{
-    let len = bytes.len() as u64;
-    if at >= len {
-        return 0;
-    }
-    let rest = &bytes[at as usize..];
-    let n = rest.len().min(buf.len());
-    buf[..n].copy_from_slice(&rest[..n]);
-    n
 }

@@ -7,7 +7,7 @@ use Rattle.job_core.specs.JobLayout.{fielded}
 use Rattle.job_core.specs.Pulling.{Lies}
 use Rattle.job_core.specs.declared.fault.JobFault.TheVariants as faults
 use Rattle.job_core.proofs.Fetching.{fetched-octets, fetched-cut, fetched-unread}
-use Rattle.job_core.proofs.Given.{lies-last}
+use Rattle.job_core.proofs.Given.{lies-last, lies-window}
 use Rattle.job_core.proofs.fetch.fetch.Goals as goal
 
 pub returns-in-Ok-true-clause-exact : goal.returns-in-Ok-true-clause-exact
@@ -17,7 +17,7 @@ returns-in-Ok-true-clause-exact g c =
     fetched-octets g.D.Depot c.args.field (length c.args.out.now) c.args.feed.now c.pull.new.feed c.pull.new.out _ e.pulled e.unblamed (λ i. omega (arith, c.type_inv.out i))
     (sym e.len) next
     (λ file stands. subst (λ (l : List ℕ). Lies false file (place_of c.args.feed.now) l)
-    (take_all (place_of c.pull.new.feed - place_of c.args.feed.now) c.pull.new.out (omega (arith, next))) (e.given file stands))
+    (take_all (place_of c.pull.new.feed - place_of c.args.feed.now) c.pull.new.out (omega (arith, next))) (lies-window file (place_of c.args.feed.now) _ (e.given file stands)))
 
 pub returns-in-Ok-false-clause-exact : goal.returns-in-Ok-false-clause-exact
 returns-in-Ok-false-clause-exact g c =
@@ -29,11 +29,12 @@ returns-in-Ok-false-clause-exact g c =
     = omega (arith, length-take (place_of c.pull.new.feed - place_of c.args.feed.now) c.pull.new.out, e.len, few) in
     fetched-cut g.D.Depot (λ u. c.pull.new.out) c.args.field (length c.args.out.now) c.args.feed.now c.pull.new.feed given c.wrong.result at e.pulled e.unblamed
     (omega (arith, size, few, e.pulled.further)) (omega (arith, size, e.pulled.further))
-    (λ file stands. lies-last file (place_of c.args.feed.now) given (omega (arith, e.ended c.in-Ok-false.field-0-test file stands, size, e.pulled.further)) (e.given file stands))
+    (λ file stands. lies-last file (place_of c.args.feed.now) given (omega (arith, e.ended c.in-Ok-false.field-0-test file stands, size, e.pulled.further)) (lies-window file (place_of c.args.feed.now) given (e.given file stands)))
 
 pub returns-in-Err-clause-exact : goal.returns-in-Err-clause-exact
 returns-in-Err-clause-exact g c =
     let e = c.in-Err.ensures in
     let size = length-take (place_of c.pull.new.feed - place_of c.args.feed.now) c.pull.new.out in
     fetched-unread g.D.Depot (λ u. c.pull.new.out) (fielded (octets c.args.field (length c.args.out.now))) c.args.feed.now c.pull.new.feed
-    (take (place_of c.pull.new.feed - place_of c.args.feed.now) c.pull.new.out) e.pulled e.cause (omega (arith, size, e.near, e.len, e.pulled.further)) e.given
+    (take (place_of c.pull.new.feed - place_of c.args.feed.now) c.pull.new.out) e.pulled e.cause (omega (arith, size, e.near, e.len, e.pulled.further))
+    (λ file stands. lies-window file (place_of c.args.feed.now) _ (e.given file stands))

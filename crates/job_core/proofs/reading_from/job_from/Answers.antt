@@ -5,7 +5,7 @@ use Rattle.job_core.specs.JobFields.{JobFields, fields_of_job}
 use Rattle.job_core.specs.JobLayout.{fielded, opening, begun}
 use Rattle.job_core.specs.Partial.{records_saying}
 use Rattle.job_core.specs.Pulling.{Fetches}
-use Rattle.job_core.proofs.Pulling.{pulled-then}
+use Rattle.outside_core.proofs.Pulling.{pulled-then}
 use Rattle.job_core.proofs.Fetching.{blames-then, fetched-then, fetched-err}
 use Rattle.job_core.proofs.JobGiven.{reads-fault, reads-whole, reads-unended}
 use Rattle.job_core.proofs.reading_from.job_from.Goals as goal

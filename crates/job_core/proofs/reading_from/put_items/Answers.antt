@@ -11,7 +11,7 @@ use Rattle.job_core.specs.JobLayout.{Item, OneRange, OneCrl, OneEntry, with_item
 use Rattle.job_core.specs.JobText.{entry_held}
 use Rattle.job_core.specs.Partial.{held_in}
 use Rattle.job_core.specs.Records.{item_of_record, some_record}
-use Rattle.job_core.proofs.Pulling.{pulled-none, pulled-then}
+use Rattle.outside_core.proofs.Pulling.{pulled-none, pulled-then}
 use Rattle.job_core.proofs.Gathering.{gathers-none, gathers-more, gathered-all, gathered-refused, gathered-fault, near-more, near-all}
 use Rattle.job_core.proofs.reading_from.put_items.Goals as goal
 

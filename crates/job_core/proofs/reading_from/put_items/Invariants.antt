@@ -2,7 +2,8 @@ use Rattle.std.proofs.Common.{◌+◌, ◌*◌, ◌≤◌, ◌-◌, ◌^◌}
 use Rattle.outside_core.specs.Standing.{place_of}
 use Rattle.job_core.specs.JobFields.{fields_of_job}
 use Rattle.job_core.specs.Partial.{held_in}
-use Rattle.job_core.specs.Pulling.{Pulled, NoneFailed}
+use Rattle.outside_core.specs.Pulling.{Pulled}
+use Rattle.job_core.specs.Pulling.{NoneFailed}
 use Rattle.job_core.proofs.Gathering.{Gathers, count_of}
 use Rattle.job_core.proofs.reading_from.put_items.Given as goal
 

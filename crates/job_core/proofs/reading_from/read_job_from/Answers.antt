@@ -3,7 +3,7 @@ use Rattle.std.proofs.lemmas.Result.{err_from_is_err_and}
 use Rattle.outside_core.specs.Standing.{depot_of, name_of}
 use Rattle.job_core.specs.declared.meaning.Job.{Job}
 use Rattle.job_core.specs.JobFields.{fields_of_job}
-use Rattle.job_core.proofs.Pulling.{pulled-then}
+use Rattle.outside_core.proofs.Pulling.{pulled-then}
 use Rattle.job_core.proofs.Fetching.{blames-then}
 use Rattle.job_core.proofs.JobGiven.{exact-given, within-given, fits-given, given-of, stands-there}
 use Rattle.job_core.proofs.reading_from.read_job_from.Goals as goal

@@ -1,4 +1,4 @@
-use Rattle.job_core.proofs.Pulling.{pulled-none}
+use Rattle.outside_core.proofs.Pulling.{pulled-none}
 use Rattle.job_core.proofs.JobStanding.{reads-kept}
 use Rattle.job_core.proofs.reader.JobReader.next.Goals as goal
 

@@ -14,7 +14,7 @@ use Rattle.job_core.specs.JobLayout.{with_item}
 use Rattle.job_core.specs.Partial.{held_in}
 use Rattle.job_core.specs.Records.{item_of_record, some_record}
 use Rattle.job_core.specs.declared.partial.Numbers.{Numbers}
-use Rattle.job_core.proofs.Pulling.{pulled-then}
+use Rattle.outside_core.proofs.Pulling.{pulled-then}
 use Rattle.job_core.proofs.Fetching.{blames-then, told, end-ok}
 use Rattle.job_core.proofs.JobStanding.{gives-one, gives-end, gives-fault, gives-more}
 use Rattle.job_core.proofs.FitsGiven.{range-fits, crl-fits, entry-fits}

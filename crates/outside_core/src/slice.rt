@@ -1,24 +1,10 @@
 //! A depot over bytes that stand in memory.
 
-ghost use Rattle.std.specs.Prelude.{◌≡◌, ◌≤◌, ◌<◌, ◌^◌, Some, [], None, length};
-ghost use Rattle.outside_core.specs.Files.{IsPiece};
+ghost use Rattle.std.specs.Prelude.{◌≡◌, ◌<◌, ◌^◌, Some, [], None, length};
 ghost use Rattle.std.specs.FinMap.{insert, empty};
 
-use outside_core::{Depot, Failed};
-
-/// Copies bytes from a place on, as many as fit, and answers how many.
-fn copy_from(bytes: &[u8], at: u64, buf: &mut [u8]) -> usize
-    ensures count { result ≤ length buf.old }
-    ensures piece { IsPiece bytes.now at buf.new result }
-{
-    if at >= bytes.len() as u64 {
-        return 0;
-    }
-    let rest = &bytes[at as usize..];
-    let count = rest.len().min(buf.len());
-    buf[..count].copy_from_slice(&rest[..count]);
-    count
-}
+use crate::depot::{Depot, Failed};
+use crate::piece::copy_from;
 
 /// Holds the bytes under the empty name, and no other name. It can't be written.
 #[derive(Drop)]

@@ -2,10 +2,12 @@
 
 ghost use Rattle.std.specs.Prelude.{◌≡◌, ◌+◌, ◌-◌, ◌≤◌, ◌<◌, ℕ, List, true, false, length, take, IfOk, OnOk, OnErr};
 ghost use Rattle.outside_core.specs.Reads.{ReadFailed};
+ghost use Rattle.outside_core.specs.Feeding.{IsWindow};
+ghost use Rattle.outside_core.specs.Pulling.{Pulled};
 ghost use Rattle.outside_core.specs.Standing.{depot_of, name_of, place_of, StandsIn};
-ghost use Rattle.job_core.specs.Pulling.{Pulled, Lies};
 
-use outside_core::{Depot, Failed, Feed};
+use crate::depot::{Depot, Failed};
+use crate::feed::Feed;
 
 /// Fills the buffer with the next bytes; false where the file ends before it is full.
 pub fn pull<D: Depot>(feed: &mut Feed<'_, D>, out: &mut [u8]) -> Result<bool, Failed>
@@ -15,7 +17,7 @@ pub fn pull<D: Depot>(feed: &mut Feed<'_, D>, out: &mut [u8]) -> Result<bool, Fa
     ensures full { IfOk result (λ full. full ≡ true → place_of feed.new ≡ place_of feed.old + length out.old) }
     ensures short { IfOk result (λ full. full ≡ false → place_of feed.new < place_of feed.old + length out.old) }
     ensures given { (file : List ℕ) → StandsIn D.Depot feed.old file
-        → Lies false file (place_of feed.old) (take (place_of feed.new - place_of feed.old) out.new) }
+        → IsWindow file (place_of feed.old) (take (place_of feed.new - place_of feed.old) out.new) }
     ensures ended { IfOk result (λ full. full ≡ false → (file : List ℕ) → StandsIn D.Depot feed.old file
         → length file ≤ place_of feed.new) }
     ensures cause { OnErr result (ReadFailed D.Depot (name_of feed.old) (depot_of feed.old) (depot_of feed.new)) }

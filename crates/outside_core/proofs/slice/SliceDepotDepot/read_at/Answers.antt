@@ -1,7 +1,7 @@
 use Rattle.std.proofs.Common.{◌≡◌, [], refl, sym, ap, ◌∙◌, inr}
 use Rattle.std.specs.FinMap.{get, insert, empty}
-use Rattle.job_core.proofs.SliceFiles.{held-there, none-there}
-use Rattle.job_core.proofs.slice.SliceDepotDepot.read_at.Goals as goal
+use Rattle.outside_core.proofs.SliceFiles.{held-there, none-there}
+use Rattle.outside_core.proofs.slice.SliceDepotDepot.read_at.Goals as goal
 
 pub returns-then-not-is_empty-clause-cause : goal.returns-then-not-is_empty-clause-cause
 returns-then-not-is_empty-clause-cause c =

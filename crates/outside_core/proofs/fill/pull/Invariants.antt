@@ -1,8 +1,8 @@
 use Rattle.std.proofs.Common.{◌≡◌, ◌+◌, ◌-◌, ◌≤◌, ℕ, List, length, take}
 use Rattle.octets_core.specs.Position.{piece}
 use Rattle.outside_core.specs.Standing.{depot_of, place_of, StandsIn}
-use Rattle.job_core.specs.Pulling.{Pulled}
-use Rattle.job_core.proofs.pull.pull.Given as goal
+use Rattle.outside_core.specs.Pulling.{Pulled}
+use Rattle.outside_core.proofs.fill.pull.Given as goal
 
 abbrev pub invariant-pieces : goal.invariant-pieces
 invariant-pieces g l = record {

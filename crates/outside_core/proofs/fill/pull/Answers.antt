@@ -5,9 +5,8 @@ use Rattle.std.proofs.lemmas.Result.{err_from_is_err_and}
 use Rattle.outside_core.specs.Feeding.{IsWindow}
 use Rattle.outside_core.specs.Standing.{place_of}
 use Rattle.outside_core.proofs.Effects.{ReadFailed-then}
-use Rattle.job_core.proofs.Pulling.{pulled-none, pulled-then, pulled-more}
-use Rattle.job_core.proofs.Given.{lies-front}
-use Rattle.job_core.proofs.pull.pull.Goals as goal
+use Rattle.outside_core.proofs.Pulling.{pulled-none, pulled-then, pulled-more, pulled-front}
+use Rattle.outside_core.proofs.fill.pull.Goals as goal
 
 pub pieces-init : goal.pieces-init
 pieces-init g c = record {
@@ -58,7 +57,7 @@ returns-then-is_empty-clause-near g c =
 pub returns-then-is_empty-clause-given : goal.returns-then-is_empty-clause-given
 returns-then-is_empty-clause-given g c = λ file stands.
     let inv = c.pieces.invariant in
-    lies-front file (place_of c.args.feed.now) c.pieces.done (place_of c.refill.new.self) c.pieces.out inv.within (c.refill.ensures.at ∙ inv.place)
+    pulled-front file (place_of c.args.feed.now) c.pieces.done (place_of c.refill.new.self) c.pieces.out inv.within (c.refill.ensures.at ∙ inv.place)
     (omega (arith, (inv.pulled.stands file stands).window.within, inv.place)) (inv.taken file stands)
 
 pub returns-in_err-refill-clause-near : goal.returns-in_err-refill-clause-near
@@ -69,7 +68,7 @@ returns-in_err-refill-clause-near g c =
 pub returns-in_err-refill-clause-given : goal.returns-in_err-refill-clause-given
 returns-in_err-refill-clause-given g c = λ file stands.
     let inv = c.pieces.invariant in
-    lies-front file (place_of c.args.feed.now) c.pieces.done (place_of c.refill.new.self) c.pieces.out inv.within (c.refill.ensures.at ∙ inv.place)
+    pulled-front file (place_of c.args.feed.now) c.pieces.done (place_of c.refill.new.self) c.pieces.out inv.within (c.refill.ensures.at ∙ inv.place)
     (omega (arith, (inv.pulled.stands file stands).window.within, inv.place)) (inv.taken file stands)
 
 pub returns-then-is_empty-clause-unblamed : goal.returns-then-is_empty-clause-unblamed
@@ -116,7 +115,7 @@ returns-clause-near g c = omega (arith, c.pieces.invariant.place, c.pieces.invar
 pub returns-clause-given : goal.returns-clause-given
 returns-clause-given g c = λ file stands.
     let inv = c.pieces.invariant in
-    lies-front file (place_of c.args.feed.now) c.pieces.done (place_of c.pieces.feed) c.pieces.out inv.within inv.place
+    pulled-front file (place_of c.args.feed.now) c.pieces.done (place_of c.pieces.feed) c.pieces.out inv.within inv.place
     (omega (arith, (inv.pulled.stands file stands).window.within, inv.place)) (inv.taken file stands)
 
 pub returns-clause-unblamed : goal.returns-clause-unblamed

@@ -1,5 +1,5 @@
 -- The one file of a depot over a slice.
-use Rattle.std.proofs.Common.{◌≡◌, ℕ, ◌^◌, ◌-◌, ◌<◌, List, [], ◌∷◌, length, take, Some, None, Result, Ok, Err, true, false, inl, inr, refl, sym, ap, ◌∙◌, arith}
+use Rattle.std.proofs.Common.{◌≡◌, ℕ, ◌^◌, ◌-◌, ◌<◌, List, [], ◌∷◌, length, take, Some, None, true, false, inl, inr, refl, sym, ap, ◌∙◌, arith}
 use Rattle.std.specs.Prelude.{◌==◌}
 use Rattle.std.specs.Option.{option_map}
 use Rattle.std.specs.Ordering.{nat_cmp}
@@ -7,16 +7,11 @@ use Rattle.std.specs.Cmp.Lexicographic.{slice_cmp, nat_list_cmp_total}
 use Rattle.std.specs.FinMap.{get, insert, empty, get-insert, get-empty}
 use Rattle.std.proofs.lemmas.Bool.{eqb-true}
 use Rattle.std.proofs.lemmas.List.{take_all}
-use Rattle.octets_core.specs.Reading.{GivesUnless}
 use Rattle.outside_core.specs.declared.depot.Depot.{Ghosts}
-use Rattle.outside_core.specs.declared.feed.Feed.{Feed}
 use Rattle.outside_core.specs.Reads.{ReadFailed}
 use Rattle.outside_core.specs.Files.{Files, Rose}
-use Rattle.outside_core.specs.Standing.{file_in, name_of, depot_of}
-use Rattle.job_core.specs.declared.fault.JobFault.{JobFault}
-use Rattle.job_core.specs.declared.fault.JobFault.TheVariants as faults
-use Rattle.job_core.specs.declared.slice.SliceDepot.{SliceDepot}
-use Rattle.job_core.specs.Pulling.{Blames, Comes}
+use Rattle.outside_core.specs.Standing.{file_in}
+use Rattle.outside_core.specs.declared.slice.SliceDepot.{SliceDepot}
 
 abbrev pub only : List ℕ → Files
 only bytes = insert empty [] bytes
@@ -45,9 +40,3 @@ never-fails old new name is (inr ((files, same, none), well)) =
     let held : get (only old.bytes.now) name ≡ Some old.bytes.now = held-there old.bytes.now name (rw is refl) in
     let there : get files name ≡ Some old.bytes.now = ap (λ (f : Files). get f name) (sym e) ∙ held in
     absurd cc
-
--- where no read fails, a job comes of the bytes or memory is wanted
-pub comes-from : {D X A : Type 0} (g : Ghosts D) (old new : Feed D) (view : X → A) (read : Result A JobFault) (r : Result X JobFault)
-    → (ReadFailed g (name_of old) (depot_of old) (depot_of new) → ⊥) → Blames g old new r → Comes view read r → GivesUnless faults.NoMemory view r read
-comes-from g old new view read (Ok x) never blames comes = comes
-comes-from g old new view read (Err e) never blames comes = λ wants. comes (wants, λ same. never (blames.0 same))

@@ -1,5 +1,5 @@
 -- Bytes taken from a feed, piece by piece.
-use Rattle.std.proofs.Common.{◌≡◌, ℕ, ◌+◌, ◌≤◌, List, ◌++◌, length, take, drop, refl, sym, ap, ◌∙◌, arith, length-take}
+use Rattle.std.proofs.Common.{◌≡◌, ℕ, ◌+◌, ◌-◌, ◌≤◌, List, ◌++◌, length, take, drop, refl, sym, ap, ◌∙◌, arith, length-take}
 use Rattle.std.proofs.Math.Seq.{take-add}
 use Rattle.std.proofs.lemmas.List.{drop-drop, take-take}
 use Rattle.std.proofs.lemmas.Slice.{take-put_mid}
@@ -8,7 +8,7 @@ use Rattle.octets_core.specs.Position.{piece}
 use Rattle.outside_core.specs.declared.depot.Depot.{Ghosts}
 use Rattle.outside_core.specs.declared.feed.Feed.{Feed}
 use Rattle.outside_core.specs.Feeding.{IsWindow}
-use Rattle.job_core.specs.Pulling.{Pulled}
+use Rattle.outside_core.specs.Pulling.{Pulled}
 
 pub pulled-none : {D : Type 0} (g : Ghosts D) (feed : Feed D) → Pulled g feed feed
 pulled-none g feed = record {
@@ -43,3 +43,11 @@ pulled-more file at done count k window out part is le before taken room =
     ∙ ap (λ (l : List ℕ). l ++ part) before
     ∙ ap (λ (l : List ℕ). take done (drop at file) ++ l) (next ∙ ap (take count) (sym (drop-drop done at file)))
     ∙ sym (take-add done count (drop at file))
+
+-- the front of a buffer that was filled up to a place
+pub pulled-front : (file : List ℕ) (at done end : ℕ) (out : List ℕ) → done ≤ length out → end ≡ at + done → at + done ≤ length file → take done out ≡ piece done file at
+    → IsWindow file at (take (end - at) out)
+pulled-front file at done end out le is room same =
+    let k : end - at ≡ done = omega (arith, is) in
+    let len : length (take done out) ≡ done = omega (arith, length-take done out, le) in
+    rw k (record { same = same ∙ ap (λ (n : ℕ). piece n file at) (sym len); within = omega (arith, room, len) })
