@@ -1,5 +1,4 @@
 pub mod CertificateLaws
-pub mod Extents
 pub mod FedJobs
 pub mod FilesRead
 pub mod LongestLedger

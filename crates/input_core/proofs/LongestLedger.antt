@@ -17,7 +17,7 @@ use Rattle.ledger_core.specs.LedgerFields.{LedgerPartFields, LedgerFields}
 use Rattle.ledger_core.specs.LedgerLayout.{least_epoch, is_from, ledger_part, last_place, until_field, some_until, date, item, body, digested, ledger}
 use Rattle.ledger_core.specs.LedgerReading.{ledger_of}
 use Rattle.input_core.specs.declared.inputs.TheConstants.{LONGEST_LEDGER}
-use Rattle.input_core.proofs.Extents.{ReadsAtMost, Any, wider, bytes-at_most, number-at_most, sum_field-at_most, whole-at_most, ◌>>>◌, several, front-same}
+use Rattle.store_core.proofs.Extents.{ReadsAtMost, Any, wider, bytes-at_most, number-at_most, sum_field-at_most, whole-at_most, ◌>>>◌, several, front-same}
 
 range-at_most : (previous : Option (List ℕ)) → ReadsAtMost 48 (Any {A = Range}) (range previous)
 unfolding range

@@ -15,7 +15,7 @@ use Rattle.input_core.specs.QueryLayout.{sighting, identity, query, body, query_
 use Rattle.input_core.specs.QueryReading.{queries_in}
 use Rattle.octets_core.specs.Layout.{with_fault}
 use Rattle.input_core.specs.declared.inputs.TheConstants.{LONGEST_QUERIES}
-use Rattle.input_core.proofs.Extents.{ReadsAtMost, Any, wider, bytes-at_most, number-at_most, whole-at_most, ◌>>>◌, several, front-same}
+use Rattle.store_core.proofs.Extents.{ReadsAtMost, Any, wider, bytes-at_most, number-at_most, whole-at_most, ◌>>>◌, several, front-same}
 
 sighting-at_most : ReadsAtMost 40 (Any {A = Sighting}) sighting
 unfolding sighting

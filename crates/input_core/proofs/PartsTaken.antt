@@ -1,7 +1,7 @@
 -- Parts that are read from a feed.
 use Rattle.std.proofs.Common.{◌≡◌, ◌≢◌, ℕ, zero, suc, ◌+◌, ◌≤◌, ◌<◌, ◌^◌, ◌-◌, List, [], ◌++◌, length, take, drop, Bool, true}
 use Rattle.std.proofs.Common.{false, nat_lt, Option, Some, None, Result, Ok, Err, refl, sym, ap, subst, ◌∙◌, arith, inl, inr, length-append, append_assoc}
-use Rattle.std.specs.Prelude.{◌⊎◌, IfOk, IfErr, OnOk}
+use Rattle.std.specs.Prelude.{◌⊎◌, IfOk, IfErr}
 use Rattle.std.proofs.lemmas.Bool.Decides.{nat_tests}
 use Rattle.std.proofs.lemmas.List.{append-nil, take-append-drop, length-take, length-drop, nil_from_length}
 use Rattle.octets_core.specs.Layout.{with_fault}
@@ -13,7 +13,6 @@ use Rattle.outside_core.specs.Files.{Files}
 use Rattle.outside_core.specs.Feeding.{IsTaken, Offers}
 use Rattle.part_text.specs.SealedFields.{SealedFields}
 use Rattle.part_text.specs.PartLayout.{part}
-use Rattle.part_text.proofs.PartBounds.{at-of}
 use Rattle.part_codec.specs.ReaderStanding.{ReadsBy, ReadsFor, HasFailed, IsShort, EndsAs}
 use Rattle.part_text.specs.declared.fault.PartFault.{PartFault}
 use Rattle.part_text.specs.declared.fault.PartFault.TheVariants as of
@@ -24,11 +23,11 @@ use Rattle.input_core.specs.Faults.{of_part}
 use Rattle.input_core.specs.PartFile.{part_file}
 use Rattle.input_core.specs.Readings.{part_in}
 use Rattle.input_core.specs.Inputs.{IsHeld, IsRead, IsInput}
-use Rattle.input_core.specs.Stores.{offset_in}
 use Rattle.outside_core.specs.Reads.{CouldNotRead}
 use Rattle.input_core.specs.Taking.{AreTaken, PartFollows, PartFails, ComesOfPart, ComesOfEnd}
+use Rattle.store_core.proofs.StoreReads.{few-bytes as few-of}
 use Rattle.input_core.proofs.FilesRead.{unread_input, fault_input, no_memory_input}
-use Rattle.input_core.proofs.Scans.{begins, held_front, held_piece, nothing_of, where_held, width-bound}
+use Rattle.input_core.proofs.Scans.{begins, held_front, held_piece, nothing_of, where_held}
 
 -- ---- while a part is read
 
@@ -75,26 +74,8 @@ no-fault None reader s is again = is
 no-fault (Some e) reader s is again = absurd (let h : ◌≡◌ {A = Result (SealedFields × Bool) FileFault} (Ok s) (Err (of_part e)) = again e is in cc)
 
 -- a part has less than 2^49 bytes
-pub few-bytes : (reader : PartReader) (b : List ℕ) → reader.fault ≡ None → ReadsFor reader b → length b < 2 ^ 49
-few-bytes reader b is st =
-    let reads = subst (λ (f : Option PartFault). ReadsBy f reader.machine reader.pile reader.hasher b) is st in
-    let m = reader.machine in
-    omega (arith, reads.0.1.place, m.few, m.before, m.room, width-bound m.field m.kept m.starts)
-
--- ---- where a part's faults and its end lie
-
-abbrev pub Some-bytes : PartReader → ℕ → ℕ → Type 0
-Some-bytes reader from at = (b : List ℕ) × ReadsFor reader b × (at ≡ from + length b)
-
-pub some-more : (old new : PartReader) (w : List ℕ) (from at n to : ℕ) → Some-bytes old from at → n ≤ length w → to ≡ at + n
-    → ((b : List ℕ) → ReadsFor old b → ReadsFor new (b ++ take n w)) → Some-bytes new from to
-some-more old new w from at n to (b, st, place) le is more =
-    (b ++ take n w, more b st, omega (arith, length-append b (take n w), length-take n w, le, is, place))
-
--- a fault lies within the bytes that have it
-pub offset-within : (f : PartFault) (b : List ℕ) → (f ≢ of.NoMemory → part b 0 ≡ Err f) → offset_in (of_part f) ≤ length b
-offset-within of.NoMemory b h = omega arith
-offset-within (of.Layout f) b h = at-of b (Err (of.Layout f)) h
+few-bytes : (reader : PartReader) (b : List ℕ) → reader.fault ≡ None → ReadsFor reader b → length b < 2 ^ 49
+few-bytes reader b is st = few-of reader b (λ e failed. let h : ◌≡◌ {A = Option PartFault} None (Some e) = sym is ∙ failed in cc) st
 
 -- a fault of the layout is no want of memory
 pub layout_not_memory : (f : LayoutFault) → faults.Layout f ≢ faults.NoMemory
@@ -105,38 +86,6 @@ pub part_not_memory : (reader : PartReader) (e : PartFault) → ((f : PartFault)
     → of_part e ≢ faults.NoMemory
 part_not_memory reader (of.Layout f) well short = layout_not_memory f
 part_not_memory reader of.NoMemory well short = absurd (short (well of.NoMemory))
-
-fits-by : (k : Option PartFault) (f : PartFault) (reader : PartReader) (b w : List ℕ) (from at : ℕ) → reader.fault ≡ k → ReadsFor reader b → at ≡ from + length b → at < 2 ^ 64 → from ≤ 2 ^ 63
-    → length w ≤ 4096 → (f ≢ of.NoMemory → (b x : List ℕ) → ReadsFor reader b → part (b ++ w ++ x) 0 ≡ Err f)
-    → ((e : PartFault) → reader.fault ≡ Some e → ◌≡◌ {A = Result ℕ PartFault} (Err f) (Err e)) → from + offset_in (of_part f) < 2 ^ 64
-fits-by None f reader b w from at is st place fits far few err again =
-    let within = offset-within f (b ++ w ++ []) (λ some. err some b [] st) in
-    let size : length (b ++ w ++ []) ≡ length b + length w = ap (λ (l : List ℕ). length l) (append-nil (b ++ w)) ∙ length-append b w in
-    let short = few-bytes reader b is st in
-    omega (arith, within, size, short, far, few)
-fits-by (Some e) f reader b w from at is st place fits far few err again =
-    let same : f ≡ e = let h = again e is in cc in
-    let reads = subst (λ (k : Option PartFault). ReadsBy k reader.machine reader.pile reader.hasher b) is st in
-    let within = offset-within e b (λ some. ap (λ (l : List ℕ). part l 0) (sym (append-nil b)) ∙ reads some []) in
-    subst (λ (k : PartFault). from + offset_in (of_part k) < 2 ^ 64) (sym same) (omega (arith, within, place, fits))
-
--- the fault of a piece
-pub fault-fits : (f : PartFault) (reader : PartReader) (b w : List ℕ) (from at : ℕ) → ReadsFor reader b → at ≡ from + length b → at < 2 ^ 64 → from ≤ 2 ^ 63 → length w ≤ 4096
-    → (f ≢ of.NoMemory → (b x : List ℕ) → ReadsFor reader b → part (b ++ w ++ x) 0 ≡ Err f)
-    → ((e : PartFault) → reader.fault ≡ Some e → ◌≡◌ {A = Result ℕ PartFault} (Err f) (Err e)) → from + offset_in (of_part f) < 2 ^ 64
-fault-fits f reader b w from at st place fits far few err again = fits-by reader.fault f reader b w from at refl st place fits far few err again
-
--- the fault of a part that isn't whole
-pub end-fits : (r : Result (SealedFields × Bool) FileFault) (reader : PartReader) (b : List ℕ) (from at : ℕ) → ReadsFor reader b → at ≡ from + length b → at < 2 ^ 64
-    → IfErr r (λ e. (b : List ℕ) → ReadsFor reader b → offset_in e ≤ length b) → IfErr r (λ e. from + offset_in e < 2 ^ 64)
-end-fits (Ok s) reader b from at st place fits within = tt
-end-fits (Err e) reader b from at st place fits within = let le = within b st in omega (arith, le, place, fits)
-
--- the end of a part
-pub end-near : (r : Result (SealedFields × Bool) FileFault) (reader : PartReader) (b : List ℕ) (from at : ℕ) → ReadsFor reader b → at ≡ from + length b
-    → ((e : PartFault) → reader.fault ≡ Some e → r ≡ Err (of_part e)) → OnOk r (at ≤ from + 2 ^ 49)
-end-near (Ok s) reader b from at st place again = let few = few-bytes reader b (no-fault reader.fault reader s refl again) st in omega (arith, few, place)
-end-near (Err e) reader b from at st place again = tt
 
 -- the reader's part ends within the piece
 pub part-within : (told : Option Files) (failed : Option (List ℕ) → Type 0) (name before w : List ℕ) (old new : PartReader) (at n to : ℕ) (r : Result (SealedFields × Bool) FileFault)

@@ -119,10 +119,10 @@ nothing_in (Some file) at none = rw none refl
 
 -- ---- pieces
 
--- a file in the middle of its scan: these bytes of it were taken
-pub record Taken (told : Option Files) (name : List ℕ) (scan : PartScan) (at : ℕ) : Type 0 where
+-- a file of which these bytes were taken, for which its reader stands
+pub record Taken (told : Option Files) (name : List ℕ) (Stands : List ℕ → Type 0) (at : ℕ) : Type 0 where
   pub bytes : List ℕ
-  pub stands : StandsFor scan bytes
+  pub stands : Stands bytes
   pub place : length bytes ≡ at
   pub front : WhereHeld told name (λ file. bytes ≡ take at file)
 
@@ -130,8 +130,8 @@ pub nothing_of : (told : Option Files) (name : List ℕ) (at : ℕ) → at ≡ 0
 nothing_of None name at none = tt
 nothing_of (Some files) name at none = nothing_in (get files name) at none
 
-pub nothing_taken : (told : Option Files) (name : List ℕ) (scan : PartScan) (at : ℕ) → at ≡ 0 → StandsFor scan [] → Taken told name scan at
-nothing_taken told name scan at none st = record { bytes = []; stands = st; place = sym none; front = nothing_of told name at none }
+pub nothing_taken : (told : Option Files) (name : List ℕ) (Stands : List ℕ → Type 0) (at : ℕ) → at ≡ 0 → Stands [] → Taken told name Stands at
+nothing_taken told name Stands at none st = record { bytes = []; stands = st; place = sym none; front = nothing_of told name at none }
 
 -- what a file holds up to the end of the next bytes
 pub held_front : (told : Option Files) (name b w : List ℕ) (at n : ℕ) → length b ≡ at → n ≤ length w → WhereHeld told name (λ file. b ≡ take at file) → Offers told name at w
@@ -153,9 +153,9 @@ where_held None name P h = tt
 where_held (Some files) name P (file, there, p) = rw there p
 
 -- all of the piece was taken
-pub taken_more : (told : Option Files) (name w : List ℕ) (old new : PartScan) (at to n : ℕ) → Taken told name old at → Offers told name at w → n ≡ length w → to ≡ at + n
-    → ((b : List ℕ) → StandsFor old b → StandsFor new (b ++ take n w)) → Taken told name new to
-taken_more told name w old new at to n t offers all is more =
+pub taken_more : (told : Option Files) (name w : List ℕ) (Old New : List ℕ → Type 0) (at to n : ℕ) → Taken told name Old at → Offers told name at w → n ≡ length w → to ≡ at + n
+    → ((b : List ℕ) → Old b → New (b ++ take n w)) → Taken told name New to
+taken_more told name w Old New at to n t offers all is more =
     let le : n ≤ length w = omega (arith, all) in
     let size : length (t.bytes ++ take n w) ≡ to = omega (arith, length-append t.bytes (take n w), length-take n w, t.place, le, is) in
     record {
@@ -179,14 +179,14 @@ unread told failed name (inl blamed) = (None, inl blamed, refl, inr (refl, blame
 unread told failed name (inr (missing, none)) = (None, inr missing, refl, inl none)
 
 -- the piece has the fault
-pub faulty : (told : Option Files) (failed : Option (List ℕ) → Type 0) (name w : List ℕ) (scan : PartScan) (at : ℕ) (f : LayoutFault) → Taken told name scan at → Offers told name at w → failed None
+pub faulty : (told : Option Files) (failed : Option (List ℕ) → Type 0) (name w : List ℕ) (scan : PartScan) (at : ℕ) (f : LayoutFault) → Taken told name (StandsFor scan) at → Offers told name at w → failed None
     → ((b x : List ℕ) → StandsFor scan b → sealed (b ++ w ++ x) 0 ≡ Err f) → IsScan told failed name (Err (scans.Layout f))
 faulty told failed name w scan at f t offers none fails =
     let b = begins told failed name (t.bytes ++ w) (held_piece told name t.bytes w at t.place t.front offers) in
     (Some b.bytes, b.read, ap noted_file (fault_in b.bytes f (ap (λ (l : List ℕ). sealed l 0) b.is ∙ fails t.bytes b.rest t.stands)), inl none)
 
 -- bytes stand behind the part
-pub more : (told : Option Files) (failed : Option (List ℕ) → Type 0) (name w : List ℕ) (scan : PartScan) (at n to : ℕ) → Taken told name scan at → Offers told name at w → failed None → n < length w
+pub more : (told : Option Files) (failed : Option (List ℕ) → Type 0) (name w : List ℕ) (scan : PartScan) (at n to : ℕ) → Taken told name (StandsFor scan) at → Offers told name at w → failed None → n < length w
     → to ≡ at + n → ((b : List ℕ) → StandsFor scan b → EndsAt (b ++ take n w)) → IsScan told failed name (Err (scans.Layout (fault_at why.Value fields.End to)))
 more told failed name w scan at n to t offers none lt is ends =
     let b = begins told failed name (t.bytes ++ w) (held_piece told name t.bytes w at t.place t.front offers) in
@@ -202,7 +202,7 @@ more told failed name w scan at n to t offers none lt is ends =
 
 -- the end of the file was seen
 pub all : (told : Option Files) (failed : Option (List ℕ) → Type 0) (name w : List ℕ) (scan : PartScan) (at : ℕ) (r : Result PartNote ScanFault)
-    → Taken told name scan at → Offers told name at w → failed None
+    → Taken told name (StandsFor scan) at → Offers told name at w → failed None
     → at < 2 ^ 64 → w ≡ [] → ((c : List ℕ) → StandsFor scan c → layouts (noted (sealed c 0)) ≡ r)
     → ((e : LayoutFault) → scan.fault ≡ Some e → r ≡ Err (scans.Layout e)) → IsScan told failed name r
 all None failed name w scan at r t offers none fits empty exact again =

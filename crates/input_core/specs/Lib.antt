@@ -4,7 +4,6 @@ pub mod Inputs
 pub mod PartFile
 pub mod Readings
 pub mod Scanned
-pub mod Stores
 pub mod Taking
 pub mod Queries
 pub mod QueryText

@@ -1,7 +1,7 @@
 //! Parts that are read as they come from a feed, of which no more is held than what was read.
 
 ghost use Rattle.std.specs.Prelude.{◌≡◌, ◌≢◌, ◌≤◌, ◌<◌, ◌+◌, ◌^◌, ◌++◌, ℕ, List, length, Ok, Err};
-ghost use Rattle.std.specs.Prelude.{IfOk, OnOk, IfErr};
+ghost use Rattle.std.specs.Prelude.{IfOk, IfErr};
 ghost use Rattle.octets_core.specs.Layout.{with_fault};
 ghost use Rattle.outside_core.specs.Effects.{OnlyReads};
 ghost use Rattle.outside_core.specs.Filling.{IsInOrder};
@@ -13,7 +13,6 @@ ghost use Rattle.input_core.specs.Faults.{of_part};
 ghost use Rattle.outside_core.specs.Reads.{WhichFailed};
 ghost use Rattle.input_core.specs.Inputs.{IsInput};
 ghost use Rattle.input_core.specs.Readings.{part_in as part_of};
-ghost use Rattle.input_core.specs.Stores.{offset_in};
 ghost use Rattle.input_core.specs.Taking.{AreTaken, ComesOfEnd, ComesOfPart};
 
 use crate::fault::FileFault;
@@ -31,7 +30,6 @@ fn finished(reader: PartReader, ended: bool) -> Result<(Sealed, bool), FileFault
     ensures again { (f : PartFault) → HasFailed reader f → result ≡ Err (of_part f) }
     // It takes no memory: a reader that has met no fault ends with one of the layout.
     ensures memory { IfErr result (λ e. ((f : PartFault) → HasFailed reader f → ⊥) → e ≢ FileFault.NoMemory) }
-    ensures offset { IfErr result (λ e. (b : List ℕ) → ReadsFor reader b → offset_in e ≤ length b) }
 {
     let sealed = reader.finish()?;
     Ok((sealed, ended))
@@ -48,9 +46,6 @@ pub fn next_part<D: Depot>(
     ensures comes { (b : List ℕ) → AreTaken (D.files (depot_of feed.old)) (name_of feed.old) b (place_of feed.old)
         → ComesOfPart (D.files (depot_of feed.old)) (WhichFailed D.Depot (depot_of feed.old) (depot_of feed.new))
         (name_of feed.old) b (place_of feed.new) result }
-    // A part has less than 2^49 bytes.
-    ensures near { OnOk result (place_of feed.new ≤ place_of feed.old + 2 ^ 49) }
-    ensures offset { IfErr result (λ e. place_of feed.old + offset_in e < 2 ^ 64) }
     ensures same_reference { reference_of feed.new ≡ reference_of feed.old }
     ensures name { name_of feed.new ≡ name_of feed.old }
     ensures in_order { IsInOrder D.Depot feed.new }

@@ -1,7 +1,8 @@
 pub mod Growing
 pub mod Causes
-pub mod Embedded
+pub mod Extents
 pub mod Reading
+pub mod StoreReads
 pub mod StoreTexts
 pub mod StoreSpelled
 pub mod StoreChains

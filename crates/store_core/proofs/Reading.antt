@@ -1,5 +1,5 @@
 -- A chain that is read part by part.
-use Rattle.std.proofs.Common.{◌≡◌, ℕ, suc, ◌+◌, ◌-◌, ◌<◌, List, [], ◌∷◌, ◌++◌, Some, None, Result, Ok, Err, refl, ap, ◌∙◌, arith}
+use Rattle.std.proofs.Common.{◌≡◌, ℕ, suc, List, [], ◌∷◌, ◌++◌, Some, None, Result, Ok, Err, refl, ap, ◌∙◌}
 use Rattle.octets_core.specs.Layout.{Layout, then_read, ◌>>=◌, embedded}
 use Rattle.ident_core.specs.declared.kind.Kind.TheVariants as kinds
 use Rattle.part_text.specs.SealedFields.{SealedFields}
@@ -46,26 +46,12 @@ is-begun bytes at s end parts one kind is = rw is (first-part bytes at s end one
 
 -- ---- the parts behind it
 
-one-less : (n i : ℕ) → i < n → n - i ≡ suc (n - (i + 1))
-one-less n i lt = omega arith
-
-next-part : (n : ℕ) (parts : List SealedFields) (bytes : List ℕ) (at : ℕ) (s : SealedFields) (end : ℕ) → embedded moved part bytes at ≡ Ok (s, end) → refusal_of parts s ≡ None
+pub next-part : (n : ℕ) (parts : List SealedFields) (bytes : List ℕ) (at : ℕ) (s : SealedFields) (end : ℕ) → embedded moved part bytes at ≡ Ok (s, end) → refusal_of parts s ≡ None
     → chain (suc n) parts bytes at ≡ chain n (parts ++ s ∷ []) bytes end
 unfolding chain
 next-part n parts bytes at s end one none = step (embedded moved part) _ bytes at s end _ one (rw none refl)
 
-next-refused : (n : ℕ) (parts : List SealedFields) (bytes : List ℕ) (at : ℕ) (s : SealedFields) (end : ℕ) (why : Refusal) → embedded moved part bytes at ≡ Ok (s, end) → refusal_of parts s ≡ Some why
+pub next-refused : (n : ℕ) (parts : List SealedFields) (bytes : List ℕ) (at : ℕ) (s : SealedFields) (end : ℕ) (why : Refusal) → embedded moved part bytes at ≡ Ok (s, end) → refusal_of parts s ≡ Some why
     → chain (suc n) parts bytes at ≡ Err (faults.Refused why)
 unfolding chain
 next-refused n parts bytes at s end why one refused = step (embedded moved part) _ bytes at s end _ one (rw refused refl)
-
--- a part that is taken
-pub goes-on : (n i : ℕ) (parts : List SealedFields) (bytes : List ℕ) (at : ℕ) (s : SealedFields) (end : ℕ) (longer : List SealedFields) → i < n → embedded moved part bytes at ≡ Ok (s, end)
-    → refusal_of parts s ≡ None → longer ≡ parts ++ s ∷ [] → chain (n - i) parts bytes at ≡ chain (n - (i + 1)) longer bytes end
-goes-on n i parts bytes at s end longer lt one none is =
-    rw (one-less n i lt, is) (next-part (n - (i + 1)) parts bytes at s end one none)
-
--- a part that is refused
-pub breaks : (n i : ℕ) (parts : List SealedFields) (bytes : List ℕ) (at : ℕ) (s : SealedFields) (end : ℕ) (why : Refusal) → i < n → embedded moved part bytes at ≡ Ok (s, end)
-    → refusal_of parts s ≡ Some why → chain (n - i) parts bytes at ≡ Err (faults.Refused why)
-breaks n i parts bytes at s end why lt one refused = rw (one-less n i lt) (next-refused (n - (i + 1)) parts bytes at s end why one refused)

@@ -4,3 +4,4 @@ pub mod Newest
 pub mod Refusals
 pub mod Starting
 pub mod StoreLayout
+pub mod StoreReading

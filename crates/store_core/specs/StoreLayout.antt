@@ -52,6 +52,18 @@ chain (suc n) parts = do
   taken ← takes (refusal_of parts s)
   chain n (parts ++ s ∷ [])
 
+-- how many parts there are, by what stands before the first
+unfoldable pub opening : Layout LayoutFault ℕ
+opening = do
+  begin ← magic fields.StoreMagic (codes "CLUBSTOR")
+  version ← number fields.StoreVersion w8 1 1
+  number fields.StoreCount w8 1 MAX_PARTS
+
+-- so many parts, behind these; no part was read yet, or one or more
+abbrev pub left_of : ℕ → Option (List SealedFields) → Layout StoreFault (List SealedFields)
+left_of count None = first_part >>= chain (count - 1)
+left_of count (Some parts) = chain count parts
+
 -- all but the end
 unfoldable pub store_parts : Layout StoreFault (List SealedFields)
 store_parts = do

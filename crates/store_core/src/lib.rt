@@ -9,6 +9,7 @@ mod encode;
 mod fault;
 mod laws;
 mod newest;
+mod reader;
 mod store;
 
 pub use asking::{parts_say, parts_say_of_four};
@@ -18,4 +19,5 @@ pub use decode::decode_store;
 pub use encode::encode_store;
 pub use fault::StoreFault;
 pub use laws::{chains_grow, refusals_are_exact, stores_are_read_back, what_is_read_is_a_chain};
+pub use reader::StoreReader;
 pub use store::{StartFault, Store};

@@ -20,7 +20,7 @@ use Rattle.store_core.specs.Chain.{newest_of, refusal_of}
 use Rattle.store_core.specs.StoreLayout.{chain, moved}
 use Rattle.store_core.specs.declared.fault.StoreFault.{StoreFault}
 use Rattle.store_core.specs.declared.fault.StoreFault.TheVariants as faults
-use Rattle.store_core.proofs.Reading.{goes-on, breaks, fails}
+use Rattle.store_core.proofs.Reading.{next-part, next-refused, fails}
 use Rattle.view_core.specs.Scanning.{IsReadAt, IsNewestAt, ReadsPart, ReadsChain, end_of}
 use Rattle.view_core.specs.Standing.{AreRangesAt}
 use Rattle.view_core.specs.Texts.{Stands}
@@ -119,6 +119,11 @@ all_left bytes count first held r = record {
   newest = record { newest = first; newest_is = refl; read_is = r; count_is = refl };
 }
 
+one-less : (count i : ℕ) (parts : List SealedFields) (bytes : List ℕ) (at : ℕ) → i < count → chain (count - i) parts bytes at ≡ chain (suc (count - (i + 1))) parts bytes at
+one-less count i parts bytes at lt =
+    let less : count - i ≡ suc (count - (i + 1)) = omega (arith, lt) in
+    ap (λ (n : ℕ). chain n parts bytes at) less
+
 pub one_fewer : (bytes : List ℕ) (count i : ℕ) (first : SealedFields) (at : ℕ) (held given : ReadPart) (r : Option Refusal) → i < count → AreLeft bytes count i first at held
     → ReadsPart bytes (end_of held) (Ok given)
     → ((parts : List SealedFields) (h g : SealedFields) → newest_of parts ≡ Some h → length parts ≡ i + 1 → IsReadAt bytes held h → IsReadAt bytes given g → r ≡ refusal_of parts g)
@@ -128,7 +133,7 @@ one_fewer bytes count i first at held given r lt a (g, read, of_given) told none
     let taken = sym (told a.parts n.newest g n.newest_is n.count_is n.read_is of_given) ∙ none in
     record {
       parts = a.parts ++ g ∷ [];
-      left = a.left ∙ goes-on count i a.parts bytes (end_of held) g (end_of given) (a.parts ++ g ∷ []) lt read taken refl;
+      left = a.left ∙ one-less count i a.parts bytes (end_of held) lt ∙ next-part (count - (i + 1)) a.parts bytes (end_of held) g (end_of given) read taken;
       newest = record { newest = g; newest_is = newest_more a.parts g; read_is = of_given; count_is = omega (arith, length-append a.parts (g ∷ []), n.count_is) };
     }
 
@@ -138,7 +143,7 @@ pub one_refused : (bytes : List ℕ) (count i : ℕ) (first : SealedFields) (at 
     → r ≡ Some why → chain count (first ∷ []) bytes at ≡ Err (faults.Refused why)
 one_refused bytes count i first at held given r why lt a (g, read, of_given) told some =
     let n = a.newest in
-    a.left ∙ breaks count i a.parts bytes (end_of held) g (end_of given) why lt read (sym (told a.parts n.newest g n.newest_is n.count_is n.read_is of_given) ∙ some)
+    a.left ∙ one-less count i a.parts bytes (end_of held) lt ∙ next-refused (count - (i + 1)) a.parts bytes (end_of held) g (end_of given) why read (sym (told a.parts n.newest g n.newest_is n.count_is n.read_is of_given) ∙ some)
 
 chain_faulty : (n : ℕ) (parts : List SealedFields) (bytes : List ℕ) (at : ℕ) (e : StoreFault) → embedded moved part bytes at ≡ Err e → chain (suc n) parts bytes at ≡ Err e
 unfolding chain

@@ -7,7 +7,7 @@ use Rattle.outside_core.specs.Standing.{depot_of, name_of, place_of}
 use Rattle.outside_core.specs.Reads.{ReadFailed, WhichFailed}
 use Rattle.input_core.specs.Taking.{ComesOfPart}
 use Rattle.input_core.proofs.Scans.{offers_there}
-use Rattle.input_core.proofs.PartsTaken.{some-more, fault-fits, end-fits, end-near, going, going-more, part-within, part-faulty, part-ended}
+use Rattle.input_core.proofs.PartsTaken.{going, going-more, part-within, part-faulty, part-ended}
 use Rattle.input_core.proofs.parts.next_part.Goals as goal
 
 pub pieces-init : goal.pieces-init
@@ -18,7 +18,6 @@ pieces-init g c = record {
   unblamed = refl;
   in_order = c.requires.in_order;
   going = λ b taken. going (g.D.Depot.files (depot_of c.args.feed.now)) (name_of c.args.feed.now) b c.new-reader.result (place_of c.args.feed.now) c.new-reader.ensures.stands taken;
-  some = ([], c.new-reader.ensures.stands, omega arith);
 }
 
 pub returns-in_default-clause-comes : goal.returns-in_default-clause-comes
@@ -94,43 +93,7 @@ pieces-preserved g c =
       in_order = t.in_order (e.in_order inv.in_order);
       going = λ b taken. going-more told name b w c.pieces.reader c.feed.new.self (place_of c.pieces.feed) c.in-Ok-feed.taken (place_of c.take.new.self) (inv.going b taken) offers
           c.in-Ok-feed.ensures.count (omega (arith, t.at, e.at)) c.in-Ok-feed.ensures.ok;
-      some = some-more c.pieces.reader c.feed.new.self w (place_of c.args.feed.now) (place_of c.pieces.feed) c.in-Ok-feed.taken (place_of c.take.new.self) inv.some
-          c.in-Ok-feed.ensures.count (omega (arith, t.at, e.at)) c.in-Ok-feed.ensures.ok;
     }
-
-pub returns-then-is_empty-clause-near : goal.returns-then-is_empty-clause-near
-returns-then-is_empty-clause-near g c =
-    let s = c.pieces.invariant.some in
-    end-near c.finished.result c.pieces.reader s.0 (place_of c.args.feed.now) (place_of c.refill.new.self) s.1 (c.refill.ensures.at ∙ s.2) c.finished.ensures.again
-
-pub returns-then-is_empty-clause-offset : goal.returns-then-is_empty-clause-offset
-returns-then-is_empty-clause-offset g c =
-    let s = c.pieces.invariant.some in
-    end-fits c.finished.result c.pieces.reader s.0 (place_of c.args.feed.now) (place_of c.pieces.feed) s.1 s.2 (omega (arith, c.pieces.feed.reach)) c.finished.ensures.offset
-
-pub returns-in-Err-clause-offset : goal.returns-in-Err-clause-offset
-returns-in-Err-clause-offset g c =
-    let s = c.pieces.invariant.some in
-    rw c.into.ensures
-    (fault-fits c.in-Err.fault c.pieces.reader s.0 c.buffered-piece.result.now (place_of c.args.feed.now) (place_of c.pieces.feed) s.1 s.2 (omega (arith, c.pieces.feed.reach)) c.requires.far
-    c.buffered-piece.ensures.bound c.in-Err.ensures.err c.in-Err.ensures.again)
-
-pub returns-then-taken-len-clause-near : goal.returns-then-taken-len-clause-near
-returns-then-taken-len-clause-near g c =
-    let s = c.pieces.invariant.some in
-    let e = c.in-Ok-feed.ensures in
-    let m = some-more c.pieces.reader c.feed.new.self c.buffered-piece.result.now (place_of c.args.feed.now) (place_of c.pieces.feed) c.in-Ok-feed.taken (place_of c.take.new.self) s
-    e.count (omega (arith, c.take.ensures.at, c.refill.ensures.at)) e.ok in
-    end-near c.finished-then-taken-len.result c.feed.new.self m.0 (place_of c.args.feed.now) (place_of c.take.new.self) m.1 m.2 c.finished-then-taken-len.ensures.again
-
-pub returns-then-taken-len-clause-offset : goal.returns-then-taken-len-clause-offset
-returns-then-taken-len-clause-offset g c =
-    let s = c.pieces.invariant.some in
-    let e = c.in-Ok-feed.ensures in
-    let m = some-more c.pieces.reader c.feed.new.self c.buffered-piece.result.now (place_of c.args.feed.now) (place_of c.pieces.feed) c.in-Ok-feed.taken (place_of c.take.new.self) s
-    e.count (omega (arith, c.take.ensures.at, c.refill.ensures.at)) e.ok in
-    end-fits c.finished-then-taken-len.result c.feed.new.self m.0 (place_of c.args.feed.now) (place_of c.take.new.self) m.1 m.2 (omega (arith, c.take.new.self.reach))
-    c.finished-then-taken-len.ensures.offset
 
 pub returns-then-taken-len-clause-in_order : goal.returns-then-taken-len-clause-in_order
 returns-then-taken-len-clause-in_order g c = c.take.ensures.in_order (c.refill.ensures.in_order c.pieces.invariant.in_order)

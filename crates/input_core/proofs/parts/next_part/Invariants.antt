@@ -1,8 +1,7 @@
-use Rattle.std.proofs.Common.{◌≡◌, ℕ, ◌+◌, ◌-◌, List, length}
+use Rattle.std.proofs.Common.{◌≡◌, ℕ, ◌-◌, List}
 use Rattle.outside_core.specs.Effects.{OnlyReads}
 use Rattle.outside_core.specs.Filling.{IsInOrder}
 use Rattle.outside_core.specs.Standing.{reference_of, depot_of, name_of, place_of}
-use Rattle.part_codec.specs.ReaderStanding.{ReadsFor}
 use Rattle.input_core.specs.Taking.{AreTaken}
 use Rattle.input_core.proofs.PartsTaken.{Going}
 use Rattle.input_core.proofs.parts.next_part.Given as goal
@@ -16,7 +15,6 @@ invariant-pieces g l = record {
   in_order : IsInOrder g.D.Depot l.feed;
   going : (b : List ℕ) → AreTaken (g.D.Depot.files (depot_of l.fn.feed)) (name_of l.fn.feed) b (place_of l.fn.feed)
       → Going (g.D.Depot.files (depot_of l.fn.feed)) (name_of l.fn.feed) b l.reader (place_of l.feed);
-  some : (b : List ℕ) × ReadsFor l.reader b × (place_of l.feed ≡ place_of l.fn.feed + length b);
 }
 
 abbrev pub decreases-pieces : goal.decreases-pieces

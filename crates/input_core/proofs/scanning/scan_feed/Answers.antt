@@ -5,6 +5,7 @@ use Rattle.outside_core.proofs.Effects.{ReadFailed-then}
 use Rattle.outside_core.specs.Feeding.{Offers}
 use Rattle.outside_core.specs.Standing.{depot_of, name_of, place_of}
 use Rattle.outside_core.specs.Reads.{ReadFailed, WhichFailed}
+use Rattle.part_codec.specs.Standing.{StandsFor}
 use Rattle.input_core.proofs.Scans.{nothing_taken, taken_more, offers_there, unread, all, faulty, more}
 use Rattle.input_core.proofs.scanning.scan_feed.Goals as goal
 
@@ -15,7 +16,7 @@ pieces-init g c = record {
   only_reads = record { later = omega arith; same_files = refl; same_writes = refl };
   unblamed = refl;
   in_order = c.requires.in_order;
-  taken = nothing_taken (g.D.Depot.files (depot_of c.args.feed.now)) (name_of c.args.feed.now) c.new-scan.result (place_of c.args.feed.now) c.requires.place c.new-scan.ensures.stands;
+  taken = nothing_taken (g.D.Depot.files (depot_of c.args.feed.now)) (name_of c.args.feed.now) (StandsFor c.new-scan.result) (place_of c.args.feed.now) c.requires.place c.new-scan.ensures.stands;
 }
 
 pub returns-in_default-clause-scan : goal.returns-in_default-clause-scan
@@ -80,6 +81,6 @@ pieces-preserved g c =
       });
       unblamed = ap g.D.Depot.failed_reads t.depot ∙ c.in-Ok.ensures.unblamed ∙ inv.unblamed;
       in_order = t.in_order (e.in_order inv.in_order);
-      taken = taken_more told name w c.pieces.scan c.feed.new.self (place_of c.pieces.feed) (place_of c.take.new.self) c.in-Ok-feed.taken inv.taken offers
+      taken = taken_more told name w (StandsFor c.pieces.scan) (StandsFor c.feed.new.self) (place_of c.pieces.feed) (place_of c.take.new.self) c.in-Ok-feed.taken inv.taken offers
           (omega (arith, c.in-Ok-feed.ensures.count, c.if-taken-len.false)) (omega (arith, t.at, e.at)) c.in-Ok-feed.ensures.ok;
     }

@@ -2,6 +2,7 @@ use Rattle.std.proofs.Common.{◌≡◌, ◌-◌}
 use Rattle.outside_core.specs.Effects.{OnlyReads}
 use Rattle.outside_core.specs.Filling.{IsInOrder}
 use Rattle.outside_core.specs.Standing.{reference_of, depot_of, name_of, place_of}
+use Rattle.part_codec.specs.Standing.{StandsFor}
 use Rattle.input_core.proofs.Scans.{Taken}
 use Rattle.input_core.proofs.scanning.scan_feed.Given as goal
 
@@ -12,7 +13,7 @@ invariant-pieces g l = record {
   only_reads : OnlyReads g.D.Depot (depot_of l.fn.feed) (depot_of l.feed);
   unblamed : g.D.Depot.failed_reads (depot_of l.feed) ≡ g.D.Depot.failed_reads (depot_of l.fn.feed);
   in_order : IsInOrder g.D.Depot l.feed;
-  taken : Taken (g.D.Depot.files (depot_of l.fn.feed)) (name_of l.fn.feed) l.scan (place_of l.feed);
+  taken : Taken (g.D.Depot.files (depot_of l.fn.feed)) (name_of l.fn.feed) (StandsFor l.scan) (place_of l.feed);
 }
 
 abbrev pub decreases-pieces : goal.decreases-pieces

@@ -1,51 +1,93 @@
-use Rattle.std.proofs.Common.{Ok, Err, refl}
-use Rattle.std.proofs.lemmas.Result.{err_from_is_err_and}
+use Rattle.std.proofs.Common.{◌≡◌, ℕ, List, length, refl, sym, ap, subst, ◌∙◌, arith}
+use Rattle.std.proofs.lemmas.Bool.{eqb-true}
+use Rattle.std.proofs.lemmas.List.{nil_from_length}
+use Rattle.outside_core.proofs.Effects.{ReadFailed-then}
+use Rattle.outside_core.specs.Feeding.{Offers}
 use Rattle.outside_core.specs.Standing.{depot_of, name_of, place_of}
-use Rattle.outside_core.specs.Reads.{WhichFailed}
-use Rattle.outside_core.proofs.Effects.{WhichFailed-then}
-use Rattle.input_core.proofs.PartsTaken.{end_before}
-use Rattle.input_core.proofs.StoresTaken.{fails-input, goes-further, ends-there, end-later}
+use Rattle.outside_core.specs.Reads.{ReadFailed, WhichFailed}
+use Rattle.input_core.proofs.Scans.{nothing_taken, taken_more, offers_there}
+use Rattle.input_core.specs.Readings.{store_in}
+use Rattle.store_core.specs.StoreReading.{ReadsFor}
+use Rattle.input_core.proofs.FilesRead.{unread_input}
+use Rattle.input_core.proofs.StoresTaken.{all, faulty, more}
 use Rattle.input_core.proofs.stores.fed_store.Goals as goal
 
-pub returns-in_err-store-clause-input : goal.returns-in_err-store-clause-input
-returns-in_err-store-clause-input g c =
-    let p = err_from_is_err_and c.from_residual.result c.from_residual.ensures.1 in
-    rw (p.1, p.2)
-    (fails-input (g.D.Depot.files (depot_of c.args.feed.now)) (WhichFailed g.D.Depot (depot_of c.args.feed.now) (depot_of c.fed_parts.new.feed)) (name_of c.args.feed.now)
-    c.in_err-store.field-0.0 (λ s. s) c.in_err-store.ensures.comes)
+pub pieces-init : goal.pieces-init
+pieces-init g c = record {
+  same_reference = refl;
+  name = refl;
+  only_reads = record { later = omega arith; same_files = refl; same_writes = refl };
+  unblamed = refl;
+  in_order = c.requires.in_order;
+  taken = nothing_taken (g.D.Depot.files (depot_of c.args.feed.now)) (name_of c.args.feed.now) (ReadsFor c.new-reader.result) (place_of c.args.feed.now) c.requires.place c.new-reader.ensures.stands;
+  well = c.new-reader.ensures.fresh;
+}
 
-pub returns-in_err-test_end-clause-input : goal.returns-in_err-test_end-clause-input
-returns-in_err-test_end-clause-input g c =
-    let p = err_from_is_err_and c.from_residual-in_err-test_end.result c.from_residual-in_err-test_end.ensures.1 in
+pub returns-in_default-clause-input : goal.returns-in_default-clause-input
+returns-in_default-clause-input g c =
+    let inv = c.pieces.invariant in
+    unread_input (g.D.Depot.files (depot_of c.args.feed.now)) (WhichFailed g.D.Depot (depot_of c.args.feed.now) (depot_of c.refill.new.self)) (name_of c.args.feed.now) store_in (λ s. s)
+    (ReadFailed-then g.D.Depot _ _ _ _ inv.only_reads inv.unblamed
+    (subst (λ (n : List ℕ). ReadFailed g.D.Depot n (depot_of c.pieces.feed) (depot_of c.refill.new.self)) inv.name c.in_default.ensures.cause))
+
+pub returns-then-is_empty-clause-input : goal.returns-then-is_empty-clause-input
+returns-then-is_empty-clause-input g c =
+    let inv = c.pieces.invariant in
     let told = g.D.Depot.files (depot_of c.args.feed.now) in
     let name = name_of c.args.feed.now in
-    let old = depot_of c.args.feed.now in
-    let mid = depot_of c.fed_parts.new.feed in
-    let new = depot_of c.test_end.new.feed in
-    let s = c.in_ok-store.ensures in
-    rw (p.1, p.2)
-    (goes-further told (WhichFailed g.D.Depot old new) name (place_of c.fed_parts.new.feed) c.in_ok-store.store c.in_ok-store.ended c.in_err-test_end.field-0.0 (λ s. s) s.comes.1
-    (end-later told (WhichFailed g.D.Depot mid new) (WhichFailed g.D.Depot old new) name (place_of c.fed_parts.new.feed) (Err c.in_err-test_end.field-0.0)
-    (WhichFailed-then g.D.Depot old mid new s.only_reads s.comes.0)
-    (end_before told (g.D.Depot.files mid) (WhichFailed g.D.Depot mid new) name (name_of c.fed_parts.new.feed) (place_of c.fed_parts.new.feed) (Err c.in_err-test_end.field-0.0)
-    s.only_reads.same_files s.name c.in_err-test_end.ensures.comes)))
+    let w = c.buffered-piece.result.now in
+    let offers : Offers told name (place_of c.pieces.feed) w =
+    offers_there told _ name _ w _ _ inv.only_reads.same_files inv.name c.buffered-piece.ensures.value (c.in-Ok.ensures.ok inv.in_order) in
+    let none : length w ≡ 0 = eqb-true (length w) 0 (sym c.is_empty.ensures ∙ c.if-is_empty.true) in
+    all told (WhichFailed g.D.Depot (depot_of c.args.feed.now) (depot_of c.refill.new.self)) name c.pieces.reader (place_of c.pieces.feed) c.finished.result inv.taken
+    (subst (λ (l : List ℕ). Offers told name (place_of c.pieces.feed) l) (nil_from_length w none) offers)
+    (c.in-Ok.ensures.unblamed ∙ inv.unblamed) inv.well c.finished.ensures.ok c.finished.ensures.err
 
-pub returns-clause-input : goal.returns-clause-input
-returns-clause-input g c =
+pub returns-in-Err-clause-input : goal.returns-in-Err-clause-input
+returns-in-Err-clause-input g c =
+    let inv = c.pieces.invariant in
     let told = g.D.Depot.files (depot_of c.args.feed.now) in
     let name = name_of c.args.feed.now in
-    let old = depot_of c.args.feed.now in
-    let mid = depot_of c.fed_parts.new.feed in
-    let new = depot_of c.test_end.new.feed in
-    let s = c.in_ok-store.ensures in
-    ends-there told (WhichFailed g.D.Depot old new) name (place_of c.fed_parts.new.feed) c.in_ok-store.store c.in_ok-store.ended c.in_ok-store.store (λ s. s) refl s.far s.comes.1
-    (end-later told (WhichFailed g.D.Depot mid new) (WhichFailed g.D.Depot old new) name (place_of c.fed_parts.new.feed) (Ok tt)
-    (WhichFailed-then g.D.Depot old mid new s.only_reads s.comes.0)
-    (end_before told (g.D.Depot.files mid) (WhichFailed g.D.Depot mid new) name (name_of c.fed_parts.new.feed) (place_of c.fed_parts.new.feed) (Ok tt)
-    s.only_reads.same_files s.name c.in_ok-test_end.ensures.comes))
+    let w = c.buffered-piece.result.now in
+    let offers : Offers told name (place_of c.pieces.feed) w =
+    offers_there told _ name _ w _ _ inv.only_reads.same_files inv.name c.buffered-piece.ensures.value (c.in-Ok.ensures.ok inv.in_order) in
+    rw c.into.ensures
+    (faulty told (WhichFailed g.D.Depot (depot_of c.args.feed.now) (depot_of c.refill.new.self)) name w c.pieces.reader (place_of c.pieces.feed) c.in-Err.fault inv.taken offers
+    (c.in-Ok.ensures.unblamed ∙ inv.unblamed) c.in-Err.ensures.err)
 
-pub returns-then-ended-clause-input : goal.returns-then-ended-clause-input
-returns-then-ended-clause-input g c =
-    let s = c.in_ok-store.ensures in
-    ends-there (g.D.Depot.files (depot_of c.args.feed.now)) (WhichFailed g.D.Depot (depot_of c.args.feed.now) (depot_of c.fed_parts.new.feed)) (name_of c.args.feed.now)
-    (place_of c.fed_parts.new.feed) c.in_ok-store.store c.in_ok-store.ended c.in_ok-store.store (λ s. s) refl s.far s.comes.1 (s.comes.0, s.comes.1.seen c.if-ended.true)
+pub returns-then-taken-len-clause-input : goal.returns-then-taken-len-clause-input
+returns-then-taken-len-clause-input g c =
+    let inv = c.pieces.invariant in
+    let told = g.D.Depot.files (depot_of c.args.feed.now) in
+    let name = name_of c.args.feed.now in
+    let w = c.buffered-piece.result.now in
+    let offers : Offers told name (place_of c.pieces.feed) w =
+    offers_there told _ name _ w _ _ inv.only_reads.same_files inv.name c.buffered-piece.ensures.value (c.in-Ok.ensures.ok inv.in_order) in
+    let lt = c.if-taken-len.true in
+    more told (WhichFailed g.D.Depot (depot_of c.args.feed.now) (depot_of c.refill.new.self)) name w c.pieces.reader (place_of c.pieces.feed) c.in-Ok-feed.taken _ inv.taken offers
+    (c.in-Ok.ensures.unblamed ∙ inv.unblamed) lt (omega (arith, c.at.ensures, c.refill.ensures.at)) (c.in-Ok-feed.ensures.less lt)
+
+pub pieces-preserved : goal.pieces-preserved
+pieces-preserved g c =
+    let inv = c.pieces.invariant in
+    let e = c.refill.ensures in
+    let t = c.take.ensures in
+    let told = g.D.Depot.files (depot_of c.args.feed.now) in
+    let name = name_of c.args.feed.now in
+    let w = c.buffered-piece.result.now in
+    let offers : Offers told name (place_of c.pieces.feed) w =
+    offers_there told _ name _ w _ _ inv.only_reads.same_files inv.name c.buffered-piece.ensures.value (c.in-Ok.ensures.ok inv.in_order) in
+    record {
+      same_reference = t.same_reference ∙ e.same_reference ∙ inv.same_reference;
+      name = t.name ∙ e.name ∙ inv.name;
+      only_reads = rw t.depot (record {
+        later = omega (arith, e.only_reads.later, inv.only_reads.later);
+        same_files = e.only_reads.same_files ∙ inv.only_reads.same_files;
+        same_writes = e.only_reads.same_writes ∙ inv.only_reads.same_writes;
+      });
+      unblamed = ap g.D.Depot.failed_reads t.depot ∙ c.in-Ok.ensures.unblamed ∙ inv.unblamed;
+      in_order = t.in_order (e.in_order inv.in_order);
+      taken = taken_more told name w (ReadsFor c.pieces.reader) (ReadsFor c.feed.new.self) (place_of c.pieces.feed) (place_of c.take.new.self) c.in-Ok-feed.taken inv.taken offers
+          (omega (arith, c.in-Ok-feed.ensures.count, c.if-taken-len.false)) (omega (arith, t.at, e.at)) c.in-Ok-feed.ensures.ok;
+      well = c.in-Ok-feed.ensures.going;
+    }
