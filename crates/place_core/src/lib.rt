@@ -1,0 +1,7 @@
+//! The places by which a history of jobs is cut into many histories: that of an identity, and that of an issuer.
+//! No call takes memory.
+#![tactic(auto)]
+
+mod place;
+
+pub use place::{MAX_PLACES, PlaceCount, place_of, place_of_issuer};
