@@ -260,6 +260,22 @@ def shard(identity, shift):
     return int.from_bytes(sha(b"CCSHARD", issuer, bytes([length]), serial), "big") >> (256 - shift)
 
 
+def place_by(message, count):
+    """The number that the first four bytes of a digest spell, modulo the count of places; none for no such count."""
+    return int.from_bytes(sha(message)[:4], "big") % count if 1 <= count <= 65536 else None
+
+
+def place(identity, count):
+    """The place of an identity among so many."""
+    issuer, length, serial = identity
+    return place_by(b"CCPLACE" + issuer + bytes([length]) + serial, count)
+
+
+def issuer_place(issuer, count):
+    """The place of an issuer among so many."""
+    return place_by(b"CCISSUER" + issuer, count)
+
+
 def shift_in(taken, universe, revoked):
     """How many bits tell the shards of so many identities, of which so many are revoked, in a format."""
     if taken == PLAIN or revoked in (0, universe) or universe < 32768:

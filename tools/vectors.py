@@ -8,10 +8,14 @@ docs/FORMATS.md alone. With --write it goes to crates/vectors/stdout.
 from collections.abc import Sequence
 from types import SimpleNamespace
 
-from reference import System, row, shard, words_for
+from reference import System, issuer_place, place, row, shard, words_for
 from scenarios import main
 from vector_filter import FilterCalls
 from vector_reading import Reading
+
+
+def told(places: Sequence[int | None]) -> str:
+    return " ".join("none" if number is None else str(number) for number in places)
 
 
 class Calls(Reading, FilterCalls):
@@ -57,6 +61,12 @@ class Calls(Reading, FilterCalls):
         octets = bytes.fromhex(serial)
         identity = (bytes.fromhex(issuer), len(octets), octets)
         return "shards" + "".join(f" {shard(identity, shift)}" for shift in range(9))
+
+    def places(self, issuer: str, serial: str, *counts: str) -> str:
+        key, octets = bytes.fromhex(issuer), bytes.fromhex(serial)
+        by_identity = [place((key, len(octets), octets), int(count)) for count in counts]
+        by_issuer = [issuer_place(key, int(count)) for count in counts]
+        return f"by identity {told(by_identity)}\nby issuer {told(by_issuer)}"
 
     def run(self, words: Sequence[str]) -> SimpleNamespace:
         """What is told of the call of some words."""

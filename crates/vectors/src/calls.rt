@@ -4,6 +4,7 @@ use crate::crls::tell_crl;
 use crate::der::{tell_element, tell_elements, tell_time};
 use crate::entries::{tell_entry, tell_issuer, tell_queries, tell_timestamps};
 use crate::filters::given_filter;
+use crate::places::tell_places;
 use crate::reading::given_reading;
 use crate::rows::{identity_in, tell_row, tell_shards};
 use crate::systems::{tell_sums, tell_system};
@@ -46,6 +47,9 @@ pub fn given(alloc: Global, files: &Files, words: &[&str]) -> Result<String, Fai
             tell_row(alloc, [stage, seed], &id, starts.parse::<u32>()?)
         }
         ["shards", issuer, serial] => tell_shards(alloc, &identity_in(alloc, issuer, serial)?),
+        ["places", issuer, serial, counts @ ..] => {
+            tell_places(alloc, &identity_in(alloc, issuer, serial)?, counts)
+        }
         _ => given_filter(alloc, files, words),
     }
 }

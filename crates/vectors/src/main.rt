@@ -11,6 +11,7 @@ mod feeds;
 mod filters;
 mod jobs;
 mod parts;
+mod places;
 mod reading;
 mod rows;
 mod sets;
