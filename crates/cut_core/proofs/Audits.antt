@@ -1,0 +1,40 @@
+-- An audit by cut jobs, which may be no history with parts.
+use Rattle.std.specs.List.{AllZip}
+use Rattle.std.proofs.Common.{◌≡◌, ◌≤◌, List, [], ◌∷◌, map, length, true, refl, sym, ◌∙◌, subst}
+use Rattle.ident_core.specs.declared.identity.Identity.{Identity}
+use Rattle.ident_core.specs.declared.range.Sighting.{Sighting}
+use Rattle.ident_core.specs.HeadFields.{zero_key}
+use Rattle.card_core.specs.PartFields.{PartFields}
+use Rattle.card_core.specs.Verdict.{verdict}
+use Rattle.job_core.specs.JobFields.{JobFields}
+use Rattle.ident_core.specs.Among.{Among}
+use Rattle.universe_core.specs.Jobs.{Job, facts_of}
+use Rattle.universe_core.specs.History.{releases, seen, sightings}
+use Rattle.history_core.specs.Truth.{truth}
+use Rattle.audit_core.specs.Auditing.{AllAgree, releases_of}
+use Rattle.audit_core.proofs.Findings.{answers_truly}
+use Rattle.cut_core.specs.Cutting.{Cut, is_kept, cut_job, cut_facts, IsCut}
+use Rattle.cut_core.proofs.Releases.{releases_beside, sightings_beside, truth_beside}
+use Rattle.cut_core.proofs.Courses.{said_cut}
+
+module _ (cut : Cut) where
+  all_facts : (jobs : List JobFields) → map facts_of (map (cut_job cut) jobs) ≡ map (cut_facts cut) (map facts_of jobs)
+  all_facts [] = refl
+  all_facts (job ∷ jobs) = rw (said_cut cut job, all_facts jobs) refl
+
+  pub audited_beside : (jobs : List JobFields) → AllZip (IsCut cut) (releases_of jobs) (releases_of (map (cut_job cut) jobs))
+  unfolding releases_of
+  audited_beside jobs =
+      subst (λ (fs : List Job). AllZip (IsCut cut) (releases (λ r j. zero_key) [] (map facts_of jobs)) (releases (λ r j. zero_key) [] fs))
+      (sym (all_facts jobs))
+      (releases_beside cut (λ r j. zero_key) (λ r j. zero_key) [] [] (map facts_of jobs) tt (λ r a. absurd a))
+
+  pub cut_audit : (jobs : List JobFields) (parts : List PartFields) (x : Identity) (ss : List Sighting)
+      → AllAgree parts (map (cut_job cut) jobs) → is_kept cut x ≡ true → 1 ≤ length ss
+      → ((s : Sighting) → Among ss s → Among (sightings x (seen (releases_of jobs))) s) → verdict parts x ss ≡ truth (releases_of jobs) x
+  cut_audit jobs parts x ss agree k some asked =
+      let z : AllZip (IsCut cut) (releases_of jobs) (releases_of (map (cut_job cut) jobs)) = audited_beside jobs in
+      answers_truly parts (map (cut_job cut) jobs) agree x ss some
+      (λ s a. subst (λ (ts : List Sighting). Among ts s)
+      (sym (sightings_beside cut x k (releases_of jobs) (releases_of (map (cut_job cut) jobs)) z)) (asked s a))
+      ∙ truth_beside cut x k (releases_of jobs) (releases_of (map (cut_job cut) jobs)) z

@@ -1,0 +1,157 @@
+-- The base of a history, beside that of a cut one.
+use Rattle.std.specs.List.{filter, flat_map, AllZip}
+use Rattle.std.specs.List.Sorted.{IsStrictlySortedBy}
+use Rattle.std.specs.Prelude.{ℤ}
+use Rattle.std.proofs.Common.{◌≡◌, ℕ, ⊎_elim, List, [], ◌∷◌, ◌++◌, Bool, true, not, ◌&&◌, Option, refl, sym, ap, ◌∙◌, subst}
+use Rattle.std.proofs.lemmas.List.Elements.{filter-append}
+use Rattle.std.proofs.lemmas.List.Kept.{IsStrictlySortedBy-filter}
+use Rattle.ident_core.specs.declared.identity.Identity.{Identity}
+use Rattle.ident_core.specs.declared.range.Range.{Range}
+use Rattle.ident_core.specs.Among.{Among}
+use Rattle.ident_core.specs.Order.{identity_cmp}
+use Rattle.ident_core.specs.Sets.{key_set}
+use Rattle.ident_core.proofs.Elements.{Among-map}
+use Rattle.universe_core.specs.Jobs.{Entry, is_stale}
+use Rattle.universe_core.specs.History.{Release, accepted_by, seen, is_listed}
+use Rattle.universe_core.specs.Rebases.{is_other}
+use Rattle.history_core.specs.Bases.{newest_ranges, newest_epoch, kept_by, base_with}
+use Rattle.history_core.specs.Bases.{release_without, releases_without, is_lasting_by, base_at}
+use Rattle.cut_core.specs.Cutting.{Cut, is_kept, IsCut, split_base}
+use Rattle.cut_core.proofs.Filters.{filter_both, filter_kept, key_set_kept}
+use Rattle.cut_core.proofs.Releases.{accepted_beside, seen_beside, listed_beside, until_beside, Ascend, known_ascend}
+
+module _ (cut : Cut) where
+  epoch_after : (a b : ℕ) (rs qs : List Release) → b ≡ a → AllZip (IsCut cut) rs qs → newest_epoch b qs ≡ newest_epoch a rs
+  unfolding newest_epoch
+  epoch_after a b [] [] e z = e
+  epoch_after a b [] (q ∷ qs) e z = absurd z
+  epoch_after a b (r ∷ rs) [] e z = absurd z
+  epoch_after a b (r ∷ rs) (q ∷ qs) e z = epoch_after r.epoch q.epoch rs qs z.0.epoch z.1
+
+  ranges_after : (a b : List Range) (rs qs : List Release) → b ≡ a → AllZip (IsCut cut) rs qs → newest_ranges b qs ≡ newest_ranges a rs
+  unfolding newest_ranges
+  ranges_after a b [] [] e z = e
+  ranges_after a b [] (q ∷ qs) e z = absurd z
+  ranges_after a b (r ∷ rs) [] e z = absurd z
+  ranges_after a b (r ∷ rs) (q ∷ qs) e z = ranges_after r.ranges q.ranges rs qs z.0.ranges z.1
+
+  issuers_beside : (rs qs : List Release) → AllZip (IsCut cut) rs qs
+      → flat_map (λ (q : Release). q.issuers) qs ≡ filter cut.takes (flat_map (λ (r : Release). r.issuers) rs)
+  issuers_beside [] [] z = refl
+  issuers_beside [] (q ∷ qs) z = absurd z
+  issuers_beside (r ∷ rs) [] z = absurd z
+  issuers_beside (r ∷ rs) (q ∷ qs) z =
+      ap (λ (is : List (List ℕ)). is ++ flat_map (λ (p : Release). p.issuers) qs) z.0.issuers
+      ∙ ap (λ (is : List (List ℕ)). filter cut.takes r.issuers ++ is) (issuers_beside rs qs z.1)
+      ∙ sym (filter-append cut.takes r.issuers (flat_map (λ (p : Release). p.issuers) rs))
+
+  module _ (moment : ℕ) (rs qs : List Release) (z : AllZip (IsCut cut) rs qs) where
+    lasting_same : (x : Identity) → is_kept cut x ≡ true → is_lasting_by moment qs x ≡ is_lasting_by moment rs x
+    lasting_same x k = ap (λ (d : Option ℤ). not (is_stale moment d)) (until_beside cut x k rs qs z)
+
+    shown_base : filter (λ e. is_lasting_by moment qs e.id) (seen qs)
+        ≡ filter (λ e. is_kept cut e.id) (filter (λ e. is_lasting_by moment rs e.id) (seen rs))
+    shown_base =
+        ap (filter (λ (e : Entry). is_lasting_by moment qs e.id)) (seen_beside cut rs qs z)
+        ∙ filter_kept (λ (e : Entry). is_kept cut e.id) (λ (e : Entry). is_lasting_by moment rs e.id)
+        (λ (e : Entry). is_lasting_by moment qs e.id) (λ e k. lasting_same e.id k) (seen rs)
+
+    accepted_base : kept_by (is_lasting_by moment qs) qs ≡ filter (is_kept cut) (kept_by (is_lasting_by moment rs) rs)
+    accepted_base =
+        ap (filter (is_lasting_by moment qs)) (accepted_beside cut rs qs z)
+        ∙ filter_kept (is_kept cut) (is_lasting_by moment rs) (is_lasting_by moment qs) lasting_same (accepted_by [] rs)
+
+    listed_base : filter (is_listed qs) (kept_by (is_lasting_by moment qs) qs)
+        ≡ filter (is_kept cut) (filter (is_listed rs) (kept_by (is_lasting_by moment rs) rs))
+    listed_base =
+        ap (filter (is_listed qs)) accepted_base
+        ∙ filter_kept (is_kept cut) (is_listed rs) (is_listed qs) (λ x k. listed_beside cut x k rs qs z)
+        (kept_by (is_lasting_by moment rs) rs)
+
+    base_cut : (trailer other : List ℕ) → IsCut cut (base_at moment rs trailer) (base_at moment qs other)
+    unfolding base_with
+    base_cut trailer other = record {
+      epoch = epoch_after 0 0 rs qs refl z;
+      ranges = ranges_after [] [] rs qs refl z;
+      issuers = ap key_set (issuers_beside rs qs z) ∙ key_set_kept cut.takes (flat_map (λ (r : Release). r.issuers) rs);
+      shown = shown_base;
+      accepted = accepted_base;
+      listed = listed_base;
+      revoked = listed_base;
+    }
+
+  -- ---- without some issuers
+
+  module _ (without : List (List ℕ)) where
+    abbrev other : Identity → Bool
+    other x = is_other without x.issuer
+
+    less_kept : (xs : List Identity) → filter other (filter (is_kept cut) xs) ≡ filter (is_kept cut) (filter other xs)
+    less_kept xs = filter_kept (is_kept cut) other other (λ x k. refl) xs
+
+    less_cut : (r q : Release) → IsCut cut r q → IsCut cut (release_without without r) (release_without without q)
+    less_cut r q c = record {
+      epoch = c.epoch;
+      ranges = c.ranges;
+      issuers =
+          ap (filter (is_other without)) c.issuers ∙ filter_kept cut.takes (is_other without) (is_other without) (λ k t. refl) r.issuers;
+      shown = ap (filter (λ (e : Entry). is_other without e.id.issuer)) c.shown
+          ∙ filter_kept (λ (e : Entry). is_kept cut e.id) (λ (e : Entry). is_other without e.id.issuer)
+          (λ (e : Entry). is_other without e.id.issuer) (λ e k. refl) r.shown;
+      accepted = ap (filter other) c.accepted ∙ less_kept r.accepted;
+      listed = ap (filter other) c.listed ∙ less_kept r.listed;
+      revoked = ap (filter other) c.revoked ∙ less_kept r.revoked;
+    }
+
+    without_beside : (rs qs : List Release) → AllZip (IsCut cut) rs qs
+        → AllZip (IsCut cut) (releases_without without rs) (releases_without without qs)
+    unfolding releases_without
+    without_beside [] [] z = z
+    without_beside [] (q ∷ qs) z = absurd z
+    without_beside (r ∷ rs) [] z = absurd z
+    without_beside (r ∷ rs) (q ∷ qs) z = (less_cut r q z.0, without_beside rs qs z.1)
+
+    pub base_beside : (moment : ℕ) (rs qs : List Release) (trailer other : List ℕ) → AllZip (IsCut cut) rs qs
+        → IsCut cut (base_at moment (releases_without without rs) trailer) (base_at moment (releases_without without qs) other)
+    base_beside moment rs qs trailer other z =
+        base_cut moment (releases_without without rs) (releases_without without qs) (without_beside rs qs z) trailer other
+
+less_ascend : (without : List (List ℕ)) (rs : List Release) → Ascend rs → Ascend (releases_without without rs)
+unfolding releases_without
+less_ascend without rs up r a =
+    let m : (q : Release) × Among rs q × (release_without without q ≡ r) = Among-map (release_without without) rs r a in
+    subst (λ (s : Release). IsStrictlySortedBy identity_cmp s.accepted) m.2
+    (IsStrictlySortedBy-filter identity_cmp (λ x. is_other without x.issuer) m.0.accepted (up m.0 m.1))
+
+base_ascends_by : (moment : ℕ) (rs : List Release) (trailer : List ℕ) → Ascend rs → Ascend (base_at moment rs trailer ∷ [])
+unfolding base_with
+base_ascends_by moment rs trailer up r a =
+    ⊎_elim (λ (e : base_at moment rs trailer ≡ r). subst (λ (q : Release). IsStrictlySortedBy identity_cmp q.accepted) e
+    (IsStrictlySortedBy-filter identity_cmp (is_lasting_by moment rs) (accepted_by [] rs) (known_ascend rs up)))
+    (λ n. absurd n) a
+
+pub base_ascends : (moment : ℕ) (without : List (List ℕ)) (rs : List Release) (trailer : List ℕ) → Ascend rs
+    → Ascend (base_at moment (releases_without without rs) trailer ∷ [])
+base_ascends moment without rs trailer up = base_ascends_by moment (releases_without without rs) trailer (less_ascend without rs up)
+
+-- ---- a chain that isn't cut, begun anew in places
+
+module _ (cut : Cut) (lasts : Identity → Bool) (rs : List Release) where
+  listed_both : filter (is_listed rs) (kept_by (λ x. lasts x && is_kept cut x) rs)
+      ≡ filter (is_kept cut) (filter (is_listed rs) (kept_by lasts rs))
+  listed_both =
+      ap (filter (is_listed rs)) (filter_both lasts (is_kept cut) (accepted_by [] rs))
+      ∙ filter_kept (is_kept cut) (is_listed rs) (is_listed rs) (λ x k. refl) (kept_by lasts rs)
+
+  -- a base that keeps what lasts of the kept identities, and of the issuers, alone is that which keeps what lasts, cut
+  pub base_split : (trailer other : List ℕ) → IsCut cut (base_with lasts rs trailer) (split_base cut lasts rs other)
+  unfolding base_with
+  base_split trailer other = record {
+    epoch = refl;
+    ranges = refl;
+    issuers = refl;
+    shown = filter_both (λ (e : Entry). lasts e.id) (λ (e : Entry). is_kept cut e.id) (seen rs);
+    accepted = filter_both lasts (is_kept cut) (accepted_by [] rs);
+    listed = listed_both;
+    revoked = listed_both;
+  }

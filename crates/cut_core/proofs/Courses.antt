@@ -1,0 +1,168 @@
+-- Histories whose jobs are cut, beside the whole ones.
+use Rattle.std.specs.List.{filter, filter_map, AllZip}
+use Rattle.std.specs.Option.{option_map}
+use Rattle.std.proofs.Common.{◌≡◌, ℕ, ◌≤◌, List, [], ◌∷◌, ◌++◌, map, length, Bool, true, false}
+use Rattle.std.proofs.Common.{cond, Option, Some, None, Result, Ok, Err, refl, sym, ap, ◌∙◌, subst}
+use Rattle.ident_core.specs.declared.identity.Identity.{Identity}
+use Rattle.ident_core.specs.declared.range.Sighting.{Sighting}
+use Rattle.ident_core.specs.HeadFields.{zero_key}
+use Rattle.card_core.specs.Verdict.{verdict}
+use Rattle.part_text.specs.SealedFields.{SealedFields}
+use Rattle.ident_core.specs.Among.{Among}
+use Rattle.crl_core.specs.declared.crl.CrlFault.{CrlFault}
+use Rattle.crl_core.specs.Outcome.{CrlFields}
+use Rattle.job_core.specs.JobFields.{CrlMeaning, JobFields}
+use Rattle.ident_core.proofs.Elements.{some_item}
+use Rattle.universe_core.specs.Jobs.{Entry, Crl, Job, crl_by, accepted_crl, facts_of}
+use Rattle.universe_core.specs.Formats.{JobIn, undated, reads_dates, entries_in, facts_in}
+use Rattle.universe_core.specs.History.{Release, past_of, released, releases, seen, sightings}
+use Rattle.history_core.specs.Bases.{releases_without, base_at}
+use Rattle.history_core.specs.Truth.{truth}
+use Rattle.publication_core.specs.Histories.{History, of_jobs, rebased, IsHistory, releases_of, releases_after, AreAdmissible, release_of}
+use Rattle.publication_core.proofs.Verdicts.{history_verdict}
+use Rattle.cut_core.specs.Cutting.{Cut, is_kept, keeps_entry, cut_job, cut_in, cut_facts, IsCut}
+use Rattle.cut_core.specs.Courses.{Course, from_jobs, from_base, left_after, left, cut_course, course_of}
+use Rattle.cut_core.proofs.Filters.{filter_map_kept}
+use Rattle.cut_core.proofs.Releases.{Ascend, Ascend-push, releases_beside, releases_ascend, more_beside, sightings_beside, truth_beside}
+use Rattle.cut_core.proofs.Bases.{base_beside, base_ascends}
+
+-- ---- formats
+
+the_issuer : (issuer : List ℕ) (o : Result CrlFields CrlFault) (d : Crl) → crl_by issuer o ≡ Some d → d.issuer ≡ issuer
+the_issuer issuer (Ok c) d e =
+    ap (λ (b : Crl). b.issuer) (sym (some_item (record { issuer = issuer; next_update = c.next_update; serials = c.serials }) d e))
+the_issuer issuer (Err f) d e = absurd cc
+
+module _ (cut : Cut) where
+  undated_same : (o : Option Entry) → keeps_entry cut (option_map undated o) ≡ keeps_entry cut o
+  undated_same None = refl
+  undated_same (Some e) = refl
+
+  undated_step : (o : Option Entry) (kept rest : List (Option Entry)) (b : Bool) → keeps_entry cut o ≡ b
+      → map (option_map undated) kept ≡ filter (keeps_entry cut) rest
+      → map (option_map undated) (cond b (o ∷ kept) kept) ≡ filter (keeps_entry cut) (option_map undated o ∷ rest)
+  undated_step o kept rest true e next = rw (undated_same o ∙ e) (ap (λ (l : List (Option Entry)). option_map undated o ∷ l) next)
+  undated_step o kept rest false e next = rw (undated_same o ∙ e) next
+
+  undated_kept : (es : List (Option Entry))
+      → map (option_map undated) (filter (keeps_entry cut) es) ≡ filter (keeps_entry cut) (map (option_map undated) es)
+  undated_kept [] = refl
+  undated_kept (o ∷ es) =
+      undated_step o (filter (keeps_entry cut) es) (map (option_map undated) es) (keeps_entry cut o) refl (undated_kept es)
+
+  entries_by : (b : Bool) (es : List (Option Entry))
+      → cond b (filter (keeps_entry cut) es) (map (option_map undated) (filter (keeps_entry cut) es))
+      ≡ filter (keeps_entry cut) (cond b es (map (option_map undated) es))
+  entries_by true es = refl
+  entries_by false es = undated_kept es
+
+  -- the accepted CRLs of what is kept are those of the accepted ones that are kept
+  pub crls_cut : (crls : List CrlMeaning) → filter_map accepted_crl (filter (λ (c : CrlMeaning). cut.takes c.issuer) crls) ≡ filter
+      (λ (c : Crl). cut.takes c.issuer) (filter_map accepted_crl crls)
+  crls_cut crls =
+      filter_map_kept accepted_crl accepted_crl (λ (c : CrlMeaning). cut.takes c.issuer) (λ (c : Crl). cut.takes c.issuer) (λ c t. refl)
+      (λ c d e. ap cut.takes (the_issuer c.issuer c.outcome d e)) crls
+
+  -- what a cut job says is what the job says, cut
+  pub said_cut : (job : JobFields) → facts_of (cut_job cut job) ≡ cut_facts cut (facts_of job)
+  said_cut job =
+      ap (λ (cs : List Crl). record (facts_of job) { crls = cs; entries = filter (keeps_entry cut) job.entries }) (crls_cut job.crls)
+
+  -- and so it is in its format
+  pub facts_cut : (j : JobIn) → facts_in (cut_in cut j) ≡ cut_facts cut (facts_in j)
+  facts_cut j =
+      ap (λ (es : List (Option Entry)). record (facts_of (cut_job cut j.job)) { entries = es })
+      (entries_by (reads_dates j.format) j.job.entries)
+      ∙ ap (λ (cs : List Crl). record (facts_in j) { crls = cs; entries = filter (keeps_entry cut) (entries_in j.format j.job.entries) })
+      (crls_cut j.job.crls)
+
+  all_facts_cut : (jobs : List JobIn) → map facts_in (map (cut_in cut) jobs) ≡ map (cut_facts cut) (map facts_in jobs)
+  all_facts_cut [] = refl
+  all_facts_cut (j ∷ jobs) = rw (facts_cut j, all_facts_cut jobs) refl
+
+  -- ---- courses
+
+  left_beside : (rs qs : List Release) (jobs : List JobIn) → AllZip (IsCut cut) rs qs → Ascend rs
+      → AllZip (IsCut cut) (left_after rs jobs) (left_after qs (map (cut_in cut) jobs))
+  left_beside rs qs jobs z up =
+      subst (λ (js : List Job). AllZip (IsCut cut) (left_after rs jobs) (releases (λ r j. zero_key) qs js)) (sym (all_facts_cut jobs))
+      (releases_beside cut (λ r j. zero_key) (λ r j. zero_key) rs qs (map facts_in jobs) z up)
+
+  pub left_ascends : (c : Course) → Ascend (left c)
+  left_ascends (from_jobs jobs) = releases_ascend cut (λ r j. zero_key) [] (map facts_in jobs) (λ r a. absurd a)
+  left_ascends (from_base c moment without jobs) =
+      releases_ascend cut (λ r j. zero_key) (base_at moment (releases_without without (left c)) zero_key ∷ []) (map facts_in jobs)
+      (base_ascends moment without (left c) zero_key (left_ascends c))
+
+  pub course_beside : (c : Course) → AllZip (IsCut cut) (left c) (left (cut_course cut c))
+  course_beside (from_jobs jobs) = left_beside [] [] jobs tt (λ r a. absurd a)
+  course_beside (from_base c moment without jobs) =
+      left_beside (base_at moment (releases_without without (left c)) zero_key ∷ [])
+      (base_at moment (releases_without without (left (cut_course cut c))) zero_key ∷ []) jobs
+      (base_beside cut without moment (left c) (left (cut_course cut c)) zero_key zero_key (course_beside c), tt)
+      (base_ascends moment without (left c) zero_key (left_ascends c))
+
+  -- ---- histories with parts
+
+  next_beside : (rs qs : List Release) (j : JobIn) (s : SealedFields) → AllZip (IsCut cut) rs qs → Ascend rs
+      → AllZip (IsCut cut) (rs ++ released (past_of rs) (facts_in j) zero_key ∷ []) (qs ++ release_of qs (cut_in cut j) s ∷ [])
+  next_beside rs qs j s z up =
+      subst (λ (job : Job). AllZip (IsCut cut) (rs ++ released (past_of rs) (facts_in j) zero_key ∷ [])
+      (qs ++ released (past_of qs) job s.trailer ∷ [])) (sym (facts_cut j))
+      (more_beside cut rs qs (facts_in j) zero_key s.trailer z up)
+
+  after_beside : (rs qs : List Release) (jobs : List JobIn) (parts : List SealedFields) → AllZip (IsCut cut) rs qs → Ascend rs
+      → AreAdmissible qs (map (cut_in cut) jobs) parts
+      → AllZip (IsCut cut) (left_after rs jobs) (releases_after qs (map (cut_in cut) jobs) parts)
+  unfolding releases
+  after_beside rs qs [] [] z up h = z
+  after_beside rs qs [] (s ∷ parts) z up h = absurd h
+  after_beside rs qs (j ∷ jobs) [] z up h = absurd h
+  after_beside rs qs (j ∷ jobs) (s ∷ parts) z up h =
+      after_beside (rs ++ released (past_of rs) (facts_in j) zero_key ∷ []) (qs ++ release_of qs (cut_in cut j) s ∷ []) jobs parts
+      (next_beside rs qs j s z up) (Ascend-push rs (facts_in j) zero_key up) h.2
+
+  members_beside : (rs qs : List Release) (jobs js : List JobIn) (parts : List SealedFields) → AllZip (IsCut cut) rs qs → Ascend rs
+      → js ≡ map (cut_in cut) jobs
+      → AreAdmissible qs js parts → AllZip (IsCut cut) (left_after rs jobs) (releases_after qs js parts)
+  members_beside rs qs jobs js parts z up e h =
+      subst (λ (l : List JobIn). AllZip (IsCut cut) (left_after rs jobs) (releases_after qs l parts)) (sym e)
+      (after_beside rs qs jobs parts z up (subst (λ (l : List JobIn). AreAdmissible qs l parts) e h))
+
+  jobs_same : (a b : List JobIn) → from_jobs a ≡ from_jobs b → a ≡ b
+  jobs_same a b e = cc
+
+  bases_same : (c d : Course) (m n : ℕ) (v w : List (List ℕ)) (a b : List JobIn) → from_base c m v a ≡ from_base d n w b
+      → (c ≡ d) × (m ≡ n) × (v ≡ w) × (a ≡ b)
+  bases_same c d m n v w a b e = (cc, cc, cc, cc)
+
+  pub history_beside : (c : Course) (h : History) (parts : List SealedFields) → course_of h ≡ cut_course cut c → IsHistory h parts
+      → AllZip (IsCut cut) (left c) (releases_of h parts)
+  history_beside (from_jobs jobs) (of_jobs js) parts e is =
+      members_beside [] [] jobs js parts tt (λ r a. absurd a) (jobs_same js (map (cut_in cut) jobs) e) is
+  history_beside (from_jobs jobs) (rebased h old moment without js) parts e is = absurd cc
+  history_beside (from_base c moment without jobs) (of_jobs js) parts e is = absurd cc
+  history_beside (from_base c moment without jobs) (rebased h old at w js) [] e is = absurd is
+  history_beside (from_base c moment without jobs) (rebased h old at w js) (s ∷ parts) e is =
+      let same = bases_same (course_of h) (cut_course cut c) at moment w without js (map (cut_in cut) jobs) e in
+      let whole : Release = base_at moment (releases_without without (left c)) zero_key in
+      let by_moment : IsCut cut whole (base_at moment (releases_without w (releases_of h old)) s.trailer) =
+      subst (λ (v : List (List ℕ)). IsCut cut whole (base_at moment (releases_without v (releases_of h old)) s.trailer)) (sym same.2)
+      (base_beside cut without moment (left c) (releases_of h old) zero_key s.trailer (history_beside c h old same.0 is.0)) in
+      let base : IsCut cut whole (base_at at (releases_without w (releases_of h old)) s.trailer) =
+      subst (λ (m : ℕ). IsCut cut whole (base_at m (releases_without w (releases_of h old)) s.trailer)) (sym same.1) by_moment in
+      members_beside (whole ∷ []) (base_at at (releases_without w (releases_of h old)) s.trailer ∷ []) jobs js parts (base, tt)
+      (base_ascends moment without (left c) zero_key (left_ascends c)) same.3 is.3
+
+-- ---- the truth
+
+-- the verdict of the parts of a cut history is the truth of the whole one, asked with its accepted sightings
+pub cut_verdict : (cut : Cut) (c : Course) (h : History) (parts : List SealedFields) (x : Identity) (ss : List Sighting)
+    → course_of h ≡ cut_course cut c → IsHistory h parts → is_kept cut x ≡ true → 1 ≤ length ss
+    → ((s : Sighting) → Among ss s → Among (sightings x (seen (left c))) s)
+    → verdict (map (λ s. s.part) parts) x ss ≡ truth (left c) x
+cut_verdict cut c h parts x ss e is k some asked =
+    let z : AllZip (IsCut cut) (left c) (releases_of h parts) = history_beside cut c h parts e is in
+    history_verdict h parts x ss is some (λ s a. subst (λ (ts : List Sighting). Among ts s)
+    (sym (sightings_beside cut x k (left c) (releases_of h parts) z)) (asked s a))
+    ∙ truth_beside cut x k (left c) (releases_of h parts) z

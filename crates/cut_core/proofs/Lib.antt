@@ -1,0 +1,13 @@
+pub mod Filters
+pub mod Steps
+pub mod Releases
+pub mod Bases
+pub mod Courses
+pub mod Wholes
+pub mod Again
+pub mod Admitting
+pub mod Listing
+pub mod Audits
+pub mod Adding
+pub mod ByPlaces
+pub mod Records

@@ -1,0 +1,18 @@
+use Rattle.cut_core.specs.InPlaces.{place_in, at_place}
+use Rattle.cut_core.proofs.Audits.{cut_audit}
+use Rattle.cut_core.proofs.ByPlaces.{at_itself}
+use Rattle.cut_core.proofs.Courses.{cut_verdict}
+use Rattle.cut_core.proofs.Wholes.{whole_verdict}
+use Rattle.cut_core.proofs.places.places_say_the_truth.Goals as goal
+
+pub returns : goal.returns
+returns c = record {
+  published =
+      λ by count c x h parts ss e is some asked. cut_verdict (at_place by count (place_in by count x)) c h parts x ss e is
+      (at_itself by count x) some asked;
+  whole = λ by count whole kept old parts x ss before is e some asked.
+      whole_verdict (at_place by count (place_in by count x)) whole kept old parts x ss before is e (at_itself by count x) some asked;
+  audited =
+      λ by count jobs x parts ss agree some asked. cut_audit (at_place by count (place_in by count x)) jobs parts x ss agree
+      (at_itself by count x) some asked;
+}

@@ -1,0 +1,34 @@
+-- Histories as their jobs alone tell them: with no parts, and with no bound on how much their jobs accept. A history that
+-- is cut into places may be one of these and no more, since all of it would pass the limits.
+use Rattle.std.specs.Prelude.{ℕ, List, [], ◌∷◌, map}
+use Rattle.ident_core.specs.HeadFields.{zero_key}
+use Rattle.universe_core.specs.Formats.{JobIn, facts_in}
+use Rattle.universe_core.specs.History.{Release, releases}
+use Rattle.history_core.specs.Bases.{releases_without, base_at}
+use Rattle.publication_core.specs.Histories.{History, of_jobs, rebased}
+use Rattle.cut_core.specs.Cutting.{Cut, cut_in}
+
+-- Jobs from the first on; or a base, which stands at a moment and without some issuers for all before it, and the jobs
+-- behind it.
+pub data Course : Type 0 where
+  from_jobs : List JobIn → Course
+  from_base : Course → ℕ → List (List ℕ) → List JobIn → Course
+
+-- these releases, and then what the jobs leave; no part is known, and the trailers are zeros
+abbrev pub left_after : List Release → List JobIn → List Release
+left_after rs jobs = releases (λ rs job. zero_key) rs (map facts_in jobs)
+
+-- what the members of a course leave
+abbrev pub left : Course → List Release
+left (from_jobs jobs) = left_after [] jobs
+left (from_base c moment without jobs) = left_after (base_at moment (releases_without without (left c)) zero_key ∷ []) jobs
+
+-- the same members, and of each job what is kept
+abbrev pub cut_course : Cut → Course → Course
+cut_course cut (from_jobs jobs) = from_jobs (map (cut_in cut) jobs)
+cut_course cut (from_base c moment without jobs) = from_base (cut_course cut c) moment without (map (cut_in cut) jobs)
+
+-- the course of a history: its members, without their parts
+abbrev pub course_of : History → Course
+course_of (of_jobs jobs) = from_jobs jobs
+course_of (rebased h old moment without jobs) = from_base (course_of h) moment without jobs

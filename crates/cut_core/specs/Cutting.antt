@@ -1,0 +1,69 @@
+-- Jobs of which some is kept, and what they leave beside what the whole jobs leave.
+use Rattle.std.specs.Prelude.{◌≡◌, ◌&&◌, ℕ, List, filter, Bool, Option, Some, None}
+use Rattle.ident_core.specs.declared.identity.Identity.{Identity}
+use Rattle.job_core.specs.JobFields.{JobFields}
+use Rattle.universe_core.specs.Jobs.{Entry, Job}
+use Rattle.universe_core.specs.Formats.{JobIn}
+use Rattle.universe_core.specs.History.{Release}
+use Rattle.history_core.specs.Bases.{all_issuers, base_with}
+
+-- A cut: of which issuers the CRLs and identities are taken, which identities of these are chosen, and whether the
+-- entries that aren't read are kept.
+pub record Cut : Type 0 where
+  pub takes : List ℕ → Bool
+  pub chooses : Identity → Bool
+  pub unread : Bool
+
+-- an identity is kept where its issuer is taken and it is chosen
+abbrev pub is_kept : Cut → Identity → Bool
+is_kept cut x = cut.takes x.issuer && cut.chooses x
+
+abbrev pub keeps_entry : Cut → Option Entry → Bool
+keeps_entry cut None = cut.unread
+keeps_entry cut (Some e) = is_kept cut e.id
+
+-- what both cuts keep
+abbrev pub both : Cut → Cut → Cut
+both a b = record {
+  takes = λ issuer. a.takes issuer && b.takes issuer;
+  chooses = λ x. a.chooses x && b.chooses x;
+  unread = a.unread && b.unread;
+}
+
+-- ---- jobs
+
+-- The job with what is kept of its CRLs and entries, in their order. All else is as it was.
+abbrev pub cut_job : Cut → JobFields → JobFields
+cut_job cut job = record job {
+  crls = filter (λ c. cut.takes c.issuer) job.crls;
+  entries = filter (keeps_entry cut) job.entries;
+}
+
+-- the same in its format
+abbrev pub cut_in : Cut → JobIn → JobIn
+cut_in cut j = record j { job = cut_job cut j.job }
+
+-- the same of what a job says
+abbrev pub cut_facts : Cut → Job → Job
+cut_facts cut job = record job {
+  crls = filter (λ c. cut.takes c.issuer) job.crls;
+  entries = filter (keeps_entry cut) job.entries;
+}
+
+-- ---- releases
+
+-- One release is another without what isn't kept, and with a part of its own.
+pub record IsCut (cut : Cut) (whole kept : Release) : Type 0 where
+  pub epoch : kept.epoch ≡ whole.epoch
+  pub ranges : kept.ranges ≡ whole.ranges
+  pub issuers : kept.issuers ≡ filter cut.takes whole.issuers
+  pub shown : kept.shown ≡ filter (λ e. is_kept cut e.id) whole.shown
+  pub accepted : kept.accepted ≡ filter (is_kept cut) whole.accepted
+  pub listed : kept.listed ≡ filter (is_kept cut) whole.listed
+  pub revoked : kept.revoked ≡ filter (is_kept cut) whole.revoked
+
+-- A base of releases that aren't cut, which keeps what lasts of the kept identities alone: so a chain is begun anew, cut.
+abbrev pub split_base : Cut → (Identity → Bool) → List Release → List ℕ → Release
+split_base cut lasts rs trailer = record (base_with (λ x. lasts x && is_kept cut x) rs trailer) {
+  issuers = filter cut.takes (all_issuers rs);
+}

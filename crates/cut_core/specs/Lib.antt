@@ -1,0 +1,4 @@
+pub mod Cutting
+pub mod Courses
+pub mod InPlaces
+pub mod Texts

@@ -1,0 +1,60 @@
+//! Histories that are cut by the places of identities, or by those of their issuers.
+
+ghost use Rattle.std.specs.Prelude.{◌≡◌, ◌≤◌, ◌<◌, ◌==◌, ◌*◌, ◌%◌, ℕ, List, Option, map, filter, length};
+ghost use Rattle.ident_core.specs.declared.identity.Identity.{Identity};
+ghost use Rattle.ident_core.specs.declared.range.Sighting.{Sighting};
+ghost use Rattle.ident_core.specs.Among.{Among};
+ghost use Rattle.place_core.specs.Places.{issuer_place};
+ghost use Rattle.card_core.specs.PartFields.{PartFields};
+ghost use Rattle.card_core.specs.Verdict.{verdict};
+ghost use Rattle.part_text.specs.SealedFields.{SealedFields};
+ghost use Rattle.job_core.specs.JobFields.{JobFields};
+ghost use Rattle.universe_core.specs.Jobs.{Entry};
+ghost use Rattle.universe_core.specs.Formats.{JobIn};
+ghost use Rattle.universe_core.specs.History.{seen, sightings};
+ghost use Rattle.history_core.specs.Truth.{truth};
+ghost use Rattle.publication_core.specs.Histories.{History, IsHistory, releases_of};
+ghost use Rattle.audit_core.specs.Auditing.{AllAgree, releases_of as audited_of};
+ghost use Rattle.cut_core.specs.Courses.{Course, left, course_of};
+ghost use Rattle.cut_core.specs.InPlaces.{By, by_issuer, by_identity, place_in, entry_place, job_at, course_at, AddUp};
+
+/// The jobs of the places have the entries of the whole job, each in the one job of its place (`below`), in their
+/// order (`parted`). By identities each has all its CRLs (`crls`), by issuers each CRL is in the one job of its
+/// issuer's place (`issuer_crls`). Where the count is a multiple of another, a place lies in one place of that, so
+/// that places are cut again (`finer`).
+pub fn entries_have_one_place()
+    ensures below { (by : By) (count : ℕ) (o : Option Entry) → 1 ≤ count → entry_place by count o < count }
+    ensures parted { (by : By) (count p : ℕ) (job : JobFields)
+        → (job_at by count p job).entries ≡ filter (λ o. entry_place by count o == p) job.entries }
+    ensures crls { (count p : ℕ) (job : JobFields) → (job_at by_identity count p job).crls ≡ job.crls }
+    ensures issuer_crls { (count p : ℕ) (job : JobFields)
+        → (job_at by_issuer count p job).crls ≡ filter (λ c. issuer_place c.issuer count == p) job.crls }
+    ensures finer { (by : By) (count times : ℕ) (x : Identity) → 1 ≤ count
+        → place_in by count x ≡ place_in by (count * times) x % count }
+{}
+
+/// Where the jobs of a certificate's place are a history with parts, the verdict of these parts for it, asked with
+/// one or more of its accepted sightings in the whole jobs, is the truth of the whole jobs (`published`); so is
+/// that of any parts with which an audit by the jobs of the place agrees (`audited`).
+pub fn places_say_the_truth()
+    ensures published { (by : By) (count : ℕ) (c : Course) (x : Identity) (h : History) (parts : List SealedFields)
+        (ss : List Sighting) → course_of h ≡ course_at by count (place_in by count x) c → IsHistory h parts
+        → 1 ≤ length ss
+        → ((s : Sighting) → Among ss s → Among (sightings x (seen (left c))) s)
+        → verdict (map (λ s. s.part) parts) x ss ≡ truth (left c) x }
+    ensures whole { (by : By) (count : ℕ) (whole kept : History) (old parts : List SealedFields) (x : Identity)
+        (ss : List Sighting) → IsHistory whole old → IsHistory kept parts
+        → course_of kept ≡ course_at by count (place_in by count x) (course_of whole) → 1 ≤ length ss
+        → ((s : Sighting) → Among ss s → Among (sightings x (seen (releases_of whole old))) s)
+        → verdict (map (λ s. s.part) parts) x ss ≡ truth (releases_of whole old) x }
+    ensures audited { (by : By) (count : ℕ) (jobs : List JobFields) (x : Identity) (parts : List PartFields)
+        (ss : List Sighting) → AllAgree parts (map (job_at by count (place_in by count x)) jobs) → 1 ≤ length ss
+        → ((s : Sighting) → Among ss s → Among (sightings x (seen (audited_of jobs))) s)
+        → verdict parts x ss ≡ truth (audited_of jobs) x }
+{}
+
+/// What a job has of each behind a course is what the jobs of the places have of each together, behind theirs; but
+/// by identities each of these enrolls all that the job does.
+pub fn places_add_up()
+    ensures { (by : By) (count : ℕ) (c : Course) (j : JobIn) → 1 ≤ count → AddUp by count c j }
+{}

@@ -1,0 +1,45 @@
+//! What the parts of cut histories say.
+
+ghost use Rattle.std.specs.Prelude.{◌≡◌, ◌≤◌, ◌&&◌, List, true, map, drop, length};
+ghost use Rattle.std.specs.List.{list_any};
+ghost use Rattle.ident_core.specs.declared.identity.Identity.{Identity};
+ghost use Rattle.ident_core.specs.declared.range.Sighting.{Sighting};
+ghost use Rattle.ident_core.specs.Among.{Among};
+ghost use Rattle.card_core.specs.PartFields.{PartFields};
+ghost use Rattle.card_core.specs.Verdict.{verdict};
+ghost use Rattle.part_text.specs.SealedFields.{SealedFields};
+ghost use Rattle.job_core.specs.JobFields.{JobFields};
+ghost use Rattle.universe_core.specs.Jobs.{is_enrolled, lists};
+ghost use Rattle.universe_core.specs.Formats.{JobIn, facts_in};
+ghost use Rattle.universe_core.specs.History.{seen, sightings, birth, is_listed};
+ghost use Rattle.history_core.specs.Truth.{truth};
+ghost use Rattle.publication_core.specs.Histories.{History, of_jobs, IsHistory, releases_of};
+ghost use Rattle.audit_core.specs.Auditing.{AllAgree, releases_of as audited_of};
+ghost use Rattle.cut_core.specs.Cutting.{Cut, is_kept, cut_job, cut_in};
+ghost use Rattle.cut_core.specs.Courses.{Course, from_jobs, left, cut_course, course_of};
+
+/// Where cut jobs are a history with parts, the verdict of these parts for a kept certificate, asked with one or
+/// more of its accepted sightings in the whole jobs, is the truth of the whole jobs (`published`), and of a whole
+/// history with parts of its own (`whole`). So is that of any parts with which an audit by the cut jobs agrees
+/// (`audited`). And this truth is, in words of the whole jobs, what a job since the certificate's birth lists and
+/// enrolls the issuer of (`words`).
+pub fn cut_parts_say_the_truth()
+    ensures published { (cut : Cut) (c : Course) (h : History) (parts : List SealedFields) (x : Identity)
+        (ss : List Sighting) → course_of h ≡ cut_course cut c → IsHistory h parts → is_kept cut x ≡ true → 1 ≤ length ss
+        → ((s : Sighting) → Among ss s → Among (sightings x (seen (left c))) s)
+        → verdict (map (λ s. s.part) parts) x ss ≡ truth (left c) x }
+    ensures whole { (cut : Cut) (whole kept : History) (old parts : List SealedFields) (x : Identity)
+        (ss : List Sighting) → IsHistory whole old → IsHistory kept parts
+        → course_of kept ≡ cut_course cut (course_of whole) → is_kept cut x ≡ true → 1 ≤ length ss
+        → ((s : Sighting) → Among ss s → Among (sightings x (seen (releases_of whole old))) s)
+        → verdict (map (λ s. s.part) parts) x ss ≡ truth (releases_of whole old) x }
+    ensures audited { (cut : Cut) (jobs : List JobFields) (parts : List PartFields) (x : Identity)
+        (ss : List Sighting) → AllAgree parts (map (cut_job cut) jobs) → is_kept cut x ≡ true → 1 ≤ length ss
+        → ((s : Sighting) → Among ss s → Among (sightings x (seen (audited_of jobs))) s)
+        → verdict parts x ss ≡ truth (audited_of jobs) x }
+    ensures words { (cut : Cut) (jobs : List JobIn) (parts : List SealedFields) (x : Identity)
+        → IsHistory (of_jobs (map (cut_in cut) jobs)) parts → is_kept cut x ≡ true
+        → is_listed (left (from_jobs jobs)) x
+        ≡ list_any (λ j. lists (facts_in j) x && is_enrolled (facts_in j) x.issuer)
+        (drop (birth x (left (from_jobs jobs))) jobs) }
+{}
