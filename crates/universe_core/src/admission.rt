@@ -1,18 +1,18 @@
 //! The step from a ledger to the next.
 
-ghost use Rattle.std.specs.Prelude.{◌≡◌, ◌≢◌, ◌≤◌, ◌<◌, ℕ, List, [], ◌∷◌, length, map, None, Some, IfOk, IfErr, OnOk, All};
+ghost use Rattle.std.specs.Prelude.{◌≡◌, ◌≤◌, ◌<◌, length, map, IfOk, IfErr, OnOk, All};
 ghost use Rattle.std.specs.List.Sorted.{IsStrictlySortedBy};
 ghost use Rattle.ident_core.specs.Order.{identity_cmp, octets_cmp};
 ghost use Rattle.ident_core.specs.Coverage.{RangesFit};
 ghost use Rattle.job_core.specs.JobFields.{AreWithin, fields_of_job};
 ghost use Rattle.ident_core.specs.declared.bounds.TheConstants.{MAX_PARTS};
-ghost use Rattle.ledger_core.specs.LedgerFields.{LedgerFields, ids, ledger_fields, sealed_with};
+ghost use Rattle.ledger_core.specs.LedgerFields.{LedgerFields, ids, ledger_fields};
 ghost use Rattle.universe_core.specs.Jobs.{Job as JobMeaning, facts_of_job, enrolled as enrolled_of};
 ghost use Rattle.universe_core.specs.Held.{job_of};
 ghost use Rattle.universe_core.specs.History.{accepted_with, universe, revoked};
 ghost use Rattle.universe_core.specs.Counting.{count};
-ghost use Rattle.universe_core.specs.Groups.{group_fields, IsGroup};
-ghost use Rattle.universe_core.specs.Ledgers.{no_ledger, past_in, past_by, next_item, next_ledger};
+ghost use Rattle.universe_core.specs.Groups.{group_fields};
+ghost use Rattle.universe_core.specs.Ledgers.{no_ledger, past_in, past_by, next_item};
 ghost use Rattle.universe_core.specs.Members.{AreMembers, AreOf, members_in};
 ghost use Rattle.universe_core.specs.Following.{IsBefore};
 ghost use Rattle.universe_core.specs.Judging.{IsSearchable};

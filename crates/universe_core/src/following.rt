@@ -1,7 +1,7 @@
 //! What a job must be to follow the parts of a chain, and what follows them.
 
-ghost use Rattle.std.specs.Prelude.{◌≡◌, ◌≤◌, ◌++◌, ◌∷◌, [], length, map, slice_get, IfErr, IfOk, None, OnOk, Some};
-ghost use Rattle.std.specs.Option.{option_copied, option_map};
+ghost use Rattle.std.specs.Prelude.{◌≡◌, ◌≤◌, length, map, IfErr, IfOk, None, OnOk, Some};
+ghost use Rattle.std.specs.Option.{option_map};
 ghost use Rattle.ident_core.specs.Coverage.{RangesFit, first_outside};
 ghost use Rattle.job_core.specs.declared.bounds.TheConstants.Limits.{PUBLISHED};
 ghost use Rattle.job_core.specs.JobFields.{fields_of_job, crl_view};
