@@ -1,9 +1,11 @@
 -- Keys that stand in bytes, ordered by the numbers of their first eight.
 use Rattle.std.specs.Ordering.{nat_cmp, ordering_then}
 use Rattle.std.specs.Cmp.Lexicographic.{slice_cmp}
-use Rattle.std.proofs.Common.{◌≡◌, ℕ, ◌+◌, ◌<◌, ◌≤◌, List, [], ◌∷◌, length, get_or, take, drop, subst, sym, ap, ◌∙◌, ◌⊎◌, inl, inr, arith}
+use Rattle.std.proofs.Common.{◌≡◌, ℕ, ◌+◌, ◌<◌, ◌≤◌, List, [], ◌∷◌, length, get_or, take, drop, refl, subst, sym, ap, ◌∙◌, ◌⊎◌, inl, inr, arith}
 use Rattle.std.proofs.lemmas.List.{get_or-drop, get_or_append_left, get_or_past, take-append-drop, append-nil}
+use Rattle.std.specs.declared.cmp.Ordering.TheVariants.{Equal}
 use Rattle.std.proofs.lemmas.Bool.{cases_lt}
+use Rattle.std.proofs.lemmas.Bool.Decides.{nat_tests}
 use Rattle.std.specs.Int.{w64, from_be_bytes}
 use Rattle.octets_core.specs.Numbers.{number}
 use Rattle.octets_core.proofs.Heads.{AreOctets, first_cmp, first_decides}
@@ -43,3 +45,7 @@ eight (a ∷ b ∷ c ∷ d ∷ e ∷ f ∷ []) len = absurd (omega (arith, len))
 eight (a ∷ b ∷ c ∷ d ∷ e ∷ f ∷ g ∷ []) len = absurd (omega (arith, len))
 eight (a ∷ b ∷ c ∷ d ∷ e ∷ f ∷ g ∷ h ∷ []) len = omega arith
 eight (a ∷ b ∷ c ∷ d ∷ e ∷ f ∷ g ∷ h ∷ i ∷ rest) len = absurd (omega (arith, len))
+
+pub equals_itself : (bytes : List ℕ) → slice_cmp nat_cmp bytes bytes ≡ Equal
+equals_itself [] = refl
+equals_itself (b ∷ bytes) = let e : nat_cmp b b ≡ Equal = grind (arith, nat_tests) in rw e (equals_itself bytes)

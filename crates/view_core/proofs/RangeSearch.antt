@@ -1,6 +1,7 @@
 -- Ranges that stand in bytes, and the search among them by halves.
 use Rattle.std.specs.Ordering.{nat_cmp, is_eq}
 use Rattle.std.specs.Cmp.Lexicographic.{slice_cmp, nat_list_cmp_total}
+use Rattle.std.specs.declared.cmp.Ordering.{Ordering}
 use Rattle.std.specs.declared.cmp.Ordering.TheVariants.{Less, Equal, Greater}
 use Rattle.std.specs.Int.{w64, to_be_bytes}
 use Rattle.std.specs.List.{find, list_any}
@@ -10,7 +11,7 @@ use Rattle.std.specs.Prelude.{flat_map}
 use Rattle.std.specs.Str.{bytes_eq}
 use Rattle.std.proofs.Common.{◌≡◌, ℕ, zero, suc, ◌+◌, ◌*◌, ◌<◌, ◌≤◌, ◌&&◌, ◌||◌, Bool, true, false, List, [], ◌∷◌, ◌++◌, map, nat_le, length, get_or, drop, Option, Some, None, refl, sym, ap, ◌∙◌, subst, inl, inr, length-append, arith}
 use Rattle.std.proofs.lemmas.Bool.{false_from_ne_true, cases_lt}
-use Rattle.std.proofs.lemmas.List.{get_or-map, length-map, drop_more}
+use Rattle.std.proofs.lemmas.List.{get_or-map, get_or_default, length-map, drop_more}
 use Rattle.std.proofs.lemmas.Map.Keys.{Less-from_sorted}
 use Rattle.std.proofs.lemmas.Map.Lookups.{exact_bytes}
 use Rattle.std.proofs.lemmas.Map.Text.{is_eq-slice_cmp}
@@ -55,6 +56,16 @@ stands_linked bytes previous at (r ∷ list) (suc i) d lt linked s =
 pub stands_range : (bytes : List ℕ) (at count : ℕ) (list : List Range) (i : ℕ) (d : Range) → AreRangesAt bytes at count list → i < count
     → RangeFits (get_or list i d) × Stands bytes (at + 48 * i) (range_text (get_or list i d))
 stands_range bytes at count list i d are lt = stands_linked bytes None at list i d (omega (arith, lt, are.count_is)) are.fit are.text
+
+-- the text of a range begins with its log
+log_stands : (bytes : List ℕ) (at : ℕ) (r : Range) → Stands bytes at (range_text r) → Stands bytes at r.log
+log_stands bytes at r s =
+    let from = to_be_bytes w64 r.from in
+    stands_first bytes at r.log from (stands_first bytes at (r.log ++ from) (to_be_bytes w64 r.to) s)
+
+-- what stands where a list has none
+abbrev no_range : Range
+no_range = record { log = []; from = 0; to = 0 }
 
 -- what is read there begins those from it on
 pub from_range : (bytes : List ℕ) (at count : ℕ) (list : List Range) (i : ℕ) (r : Range) → AreRangesAt bytes at count list → i < count
@@ -103,44 +114,61 @@ module _ (bytes : List ℕ) (at count : ℕ) (log : List ℕ) (low high : ℕ) (
         | inr ge ↦ (p.missed list are).above k (as_block d) (omega (arith, ge, le)) (omega (arith, lt, length-map list as_block))
       ])))
 
-  module _ (middle : ℕ) (from : low ≤ middle) (lt : middle < high) (r : Range)
-      (read : (q : Range) → RangeFits q → Stands bytes (at + 48 * middle) (range_text q) → r ≡ q) where
-    is_read : (list : List Range) (d : Range) → AreRangesAt bytes at count list → r ≡ get_or list middle d
-    is_read list d are = let s = stands_range bytes at count list middle d are (omega (arith, lt, p.within)) in read (get_or list middle d) s.0 s.1
+  module _ (middle : ℕ) (from : low ≤ middle) (lt : middle < high) where
+    -- how the log of the range that stands there is ordered with the other one
+    abbrev pub IsOrder : Ordering → Type 0
+    IsOrder o = (k : List ℕ) → length k ≡ 32 → Stands bytes (at + 48 * middle) k → slice_cmp nat_cmp k log ≡ o
 
-    inside : (list : List Range) → AreRangesAt bytes at count list → middle < length list
-    inside list are = omega (arith, lt, p.within, are.count_is)
+    module _ (list : List Range) (are : AreRangesAt bytes at count list) where
+      abbrev there : Range
+      there = get_or list middle no_range
 
-    is_block : (list : List Range) → AreRangesAt bytes at count list → as_block r ≡ get_or (as_blocks list) middle (as_block r)
-    is_block list are = ap as_block (is_read list r are) ∙ sym (block_at list middle r (inside list are))
+      inside : middle < length list
+      inside = omega (arith, lt, p.within, are.count_is)
 
-    pub passed_less : slice_cmp nat_cmp r.log log ≡ Less → Passed bytes at count log (middle + 1) high
-    passed_less e = record {
+      is_block : as_block there ≡ get_or (as_blocks list) middle (as_block there)
+      is_block =
+          sym (block_at list middle no_range inside)
+          ∙ get_or_default (as_blocks list) middle (as_block no_range) (as_block there) (omega (arith, inside, length-map list as_block))
+
+      order_is : (o : Ordering) → IsOrder o → slice_cmp nat_cmp there.log log ≡ o
+      order_is o is =
+          let s = stands_range bytes at count list middle no_range are (omega (arith, lt, p.within)) in
+          is there.log s.0.0 (log_stands bytes (at + 48 * middle) there s.1)
+
+    pub passed_less : IsOrder Less → Passed bytes at count log (middle + 1) high
+    passed_less is = record {
       order = omega (arith, lt);
       within = p.within;
-      missed = λ list are. missed_less (as_blocks list) log (blocks_sorted bytes at count list are) low high middle (as_block r)
-          (omega (arith, inside list are, length-map list as_block)) (is_block list are) (p.missed list are) e;
+      missed = λ list are. missed_less (as_blocks list) log (blocks_sorted bytes at count list are) low high middle (as_block (there list are))
+          (omega (arith, inside list are, length-map list as_block)) (is_block list are) (p.missed list are) (order_is list are Less is);
     }
 
-    pub passed_greater : slice_cmp nat_cmp r.log log ≡ Greater → Passed bytes at count log low middle
-    passed_greater e = record {
+    pub passed_greater : IsOrder Greater → Passed bytes at count log low middle
+    passed_greater is = record {
       order = from;
       within = omega (arith, lt, p.within);
-      missed = λ list are. missed_greater (as_blocks list) log (blocks_sorted bytes at count list are) low high middle (as_block r)
-          (omega (arith, inside list are, length-map list as_block)) (is_block list are) (p.missed list are) e;
+      missed = λ list are. missed_greater (as_blocks list) log (blocks_sorted bytes at count list are) low high middle (as_block (there list are))
+          (omega (arith, inside list are, length-map list as_block)) (is_block list are) (p.missed list are) (order_is list are Greater is);
     }
 
-    pub one_of_log : slice_cmp nat_cmp r.log log ≡ Equal → (list : List Range) → AreRangesAt bytes at count list → Some r ≡ find (λ q. bytes_eq q.log log) list
-    one_of_log e list are =
-        let same : (get_or list middle r).log ≡ log = ap (λ (q : Range). q.log) (sym (is_read list r are)) ∙ exact_bytes r.log log e in
-        ap Some (is_read list r are) ∙ sym (find_here (λ q. bytes_eq q.log log) list middle r (inside list are)
+    pub one_of_log : IsOrder Equal → (r : Range) → ((q : Range) → RangeFits q → Stands bytes (at + 48 * middle) (range_text q) → r ≡ q)
+        → (list : List Range) → AreRangesAt bytes at count list → Some r ≡ find (λ q. bytes_eq q.log log) list
+    one_of_log is r read list are =
+        let lies = inside list are in
+        let is_read : (d : Range) → r ≡ get_or list middle d
+        = λ d. let s = stands_range bytes at count list middle d are (omega (arith, lt, p.within)) in read (get_or list middle d) s.0 s.1 in
+        let e : slice_cmp nat_cmp r.log log ≡ Equal
+        = ap (λ (q : Range). slice_cmp nat_cmp q.log log) (is_read no_range) ∙ order_is list are Equal is in
+        let same : (get_or list middle r).log ≡ log = ap (λ (q : Range). q.log) (sym (is_read r)) ∙ exact_bytes r.log log e in
+        ap Some (is_read r) ∙ sym (find_here (λ q. bytes_eq q.log log) list middle r lies
         (λ k d less.
         let below : slice_cmp nat_cmp (get_or list k d).log log ≡ Less
         = ap (slice_cmp nat_cmp (get_or list k d).log) (sym same)
-        ∙ ap (λ (q : Range). slice_cmp nat_cmp (get_or list k d).log q.log) (sym (is_read list r are) ∙ is_read list d are)
-        ∙ sym (ap (λ (b : Block). block_cmp b (get_or (as_blocks list) middle (as_block d))) (block_at list k d (omega (arith, less, inside list are)))
-        ∙ ap (block_cmp (as_block (get_or list k d))) (block_at list middle d (inside list are)))
-        ∙ Less-from_sorted block_cmp (as_blocks list) k middle (as_block d) (blocks_sorted bytes at count list are) less (omega (arith, inside list are, length-map list as_block)) in
+        ∙ ap (λ (q : Range). slice_cmp nat_cmp (get_or list k d).log q.log) (sym (is_read r) ∙ is_read d)
+        ∙ sym (ap (λ (b : Block). block_cmp b (get_or (as_blocks list) middle (as_block d))) (block_at list k d (omega (arith, less, lies)))
+        ∙ ap (block_cmp (as_block (get_or list k d))) (block_at list middle d lies))
+        ∙ Less-from_sorted block_cmp (as_blocks list) k middle (as_block d) (blocks_sorted bytes at count list are) less (omega (arith, lies, length-map list as_block)) in
         sym (is_eq-slice_cmp (get_or list k d).log log) ∙ ap is_eq below)
         (subst (λ l. bytes_eq l log ≡ true) (sym same) (bytes_refl log)))
 

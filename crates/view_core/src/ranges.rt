@@ -10,10 +10,10 @@ ghost use Rattle.ident_core.specs.RangeText.{RangeFits, range_text};
 ghost use Rattle.view_core.specs.Texts.{Stands};
 ghost use Rattle.view_core.specs.Standing.{AreRangesAt};
 
-use crate::reading::{key_at, number64_at};
+use crate::reading::{key_at, number64_at, order_at};
 use crate::seen::Seen;
 use ident_core::{RANGE_BYTES, Range, Sighting};
-use octets_core::{Key32, key_order};
+use octets_core::Key32;
 use std::cmp::Ordering;
 
 /// Ranges that stand one after the other.
@@ -45,9 +45,9 @@ pub(crate) fn range_of(bytes: &[u8], ranges: RangesAt, log: &Key32) -> Option<Ra
     let mut high = ranges.count;
     while low < high {
         let middle = low + (high - low) / 2;
-        let range = range_at(bytes, ranges.at + RANGE_BYTES * middle);
-        match key_order(&range.log, log) {
-            Ordering::Equal => return Some(range),
+        let at = ranges.at + RANGE_BYTES * middle;
+        match order_at(bytes, at, log) {
+            Ordering::Equal => return Some(range_at(bytes, at)),
             Ordering::Less => low = middle + 1,
             Ordering::Greater => high = middle,
         }

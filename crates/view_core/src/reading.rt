@@ -90,7 +90,11 @@ pub(crate) fn order_at(bytes: &[u8], at: usize, other: &Key32) -> Ordering
     if first != second {
         return first.cmp(&second);
     }
-    key_at(bytes, at).cmp(other)
+    let key = key_at(bytes, at);
+    if key == *other {
+        return Ordering::Equal;
+    }
+    key.cmp(other)
 }
 
 /// The key of 32 bytes.
