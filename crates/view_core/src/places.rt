@@ -11,6 +11,7 @@ use std::cmp::Ordering;
 use std::sync::ledger::Ledger;
 
 /// Which of the blocks that begin at these places is the issuer's. Each comparison of issuers is one probe.
+#[inline(always)]
 pub(crate) fn place_of<L: Ledger>(
     bytes: &[u8],
     places: &[u32],
