@@ -140,6 +140,17 @@ pub enum Digest {
     Shard { shift: u8 },
 }
 
+impl Digest {
+    /// Whether both are cut from one digest.
+    fn is_of_one(&self, other: &Digest) -> bool {
+        let drawn = |it: &Digest| match *it {
+            Digest::Row { number, seed, .. } => Some((number, seed)),
+            Digest::Shard { .. } => None,
+        };
+        drawn(self) == drawn(other)
+    }
+}
+
 /// The row of an identity in a stage of this number.
 pub fn row(number: u8, seed: u8, starts: u64, issuer: &Key, serial: &[u8]) -> Row {
     let words = Message::new(&[b"CCROW1", &[number, seed], issuer, &[serial.len() as u8], serial]).state();
@@ -233,7 +244,13 @@ pub fn verdict(parts: &[Part], issuer: &Key, serial: &[u8], sightings: &[Sightin
     verdict
 }
 
-// ---- The digests that a verdict must make
+// ---- The digests that a verdict must make, each once
+
+fn make(made: &mut Vec<Digest>, digest: Digest) {
+    if !made.iter().any(|one| one.is_of_one(&digest)) {
+        made.push(digest);
+    }
+}
 
 fn digests_of_leaf(leaf: &Leaf, issuer: &Key, serial: &[u8], made: &mut Vec<Digest>) {
     let Leaf::Mixed { approx, exact } = leaf else {
@@ -241,13 +258,13 @@ fn digests_of_leaf(leaf: &Leaf, issuer: &Key, serial: &[u8], made: &mut Vec<Dige
     };
     let row = |stage: &Stage, number| Digest::Row { number, seed: stage.seed, starts: stage.starts };
     if let Some(stage) = approx {
-        made.push(row(stage, 1));
+        make(made, row(stage, 1));
         let asked = stage.row(1, issuer, serial);
         if !stage.meets(&asked, asked.tag) {
             return;
         }
     }
-    made.push(row(exact, 2));
+    make(made, row(exact, 2));
 }
 
 /// Of a certificate that no part says is revoked, or that only the last one does.
@@ -261,7 +278,7 @@ pub fn digests_of(parts: &[Part], question: &Question) -> Vec<Digest> {
         match &part.filters[place] {
             Filter::Alone(leaf) => digests_of_leaf(leaf, issuer, serial, &mut made),
             Filter::Cut { shift, leaves } => {
-                made.push(Digest::Shard { shift: *shift });
+                make(&mut made, Digest::Shard { shift: *shift });
                 let leaf = &leaves[usize::from(shard(issuer, serial, *shift))];
                 digests_of_leaf(leaf, issuer, serial, &mut made);
             }

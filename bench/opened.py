@@ -32,9 +32,9 @@ from program import path_of_program  # noqa: E402
 ASKS = 2000
 MILLION = 1000000
 NUMBER = 7  # of the generator's job
-# The library's functions that make a row and a shard, and the names by which bench/opened_reference.rs calls them.
+# The library's functions that draw a row and a shard, and the names by which bench/opened_reference.rs calls them.
 DIGESTS = {
-    "equation_core::sha256_rows::Sha256RowsEquationHash::row": "library_row",
+    "equation_core::sha256_rows::RowBits::drawn": "library_row",
     "equation_core::shards::shard_of": "library_shard",
 }
 BLOCKS = "sha2::block256::Core256::update"

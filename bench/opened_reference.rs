@@ -26,7 +26,7 @@ mod sha256;
 use decoded::{digests_of, parts_of, row, shard, verdict, Digest, Part, Question, Sighting};
 use sha256::Key;
 
-/// An identity, and a row, as the library has them in memory.
+/// An identity, and what the digest of a row spells, as the library has them in memory.
 #[repr(C)]
 struct Identity {
     issuer: Key,
@@ -37,8 +37,8 @@ struct Identity {
 #[repr(C)]
 #[derive(Default)]
 struct LibraryRow {
-    start: u32,
     coeff: u128,
+    start: u64,
     tag: u16,
 }
 
@@ -46,13 +46,13 @@ struct LibraryRow {
 // the toolchain makes of them today; `is_right` sees whether they still are.
 #[cfg(digests)]
 extern "C" {
-    fn library_row(row: *mut LibraryRow, number: u32, seed: u32, id: *const Identity, starts: u32);
+    fn library_row(row: *mut LibraryRow, number: u32, seed: u32, id: *const Identity);
     fn library_shard(id: *const Identity, shift: u32) -> u8;
 }
 
 // Where they can't be called.
 #[cfg(not(digests))]
-unsafe fn library_row(_: *mut LibraryRow, _: u32, _: u32, _: *const Identity, _: u32) {}
+unsafe fn library_row(_: *mut LibraryRow, _: u32, _: u32, _: *const Identity) {}
 #[cfg(not(digests))]
 unsafe fn library_shard(_: *const Identity, _: u32) -> u8 {
     0
@@ -66,7 +66,8 @@ impl Digest {
         unsafe {
             match *self {
                 Digest::Row { number, seed, starts } => {
-                    library_row(&mut row, number.into(), seed.into(), id, starts as u32)
+                    library_row(&mut row, number.into(), seed.into(), id);
+                    row.start %= starts;
                 }
                 Digest::Shard { shift } => row.start = library_shard(id, shift.into()).into(),
             }
@@ -82,7 +83,7 @@ impl Digest {
                 let row = row(number, seed, starts, issuer, serial);
                 (ours.start as usize, ours.coeff, ours.tag) == (row.start, row.coeff, row.tag)
             }
-            Digest::Shard { shift } => ours.start == u32::from(shard(issuer, serial, shift)),
+            Digest::Shard { shift } => ours.start == u64::from(shard(issuer, serial, shift)),
         }
     }
 }
@@ -105,9 +106,9 @@ impl Digests {
 }
 
 #[inline(never)]
-fn all_digests(digests: &[Digests]) -> u32 {
+fn all_digests(digests: &[Digests]) -> u64 {
     let starts = digests.iter().flat_map(|of| of.made.iter().map(|digest| digest.by_library(&of.id).start));
-    starts.fold(0, u32::wrapping_add)
+    starts.fold(0, u64::wrapping_add)
 }
 
 // ---- The library

@@ -1,4 +1,5 @@
 pub mod Digits
+pub mod Draws
 pub mod Known
 pub mod RowLaws
 pub mod Rows

@@ -3,6 +3,7 @@
 //! No call takes memory.
 #![tactic(auto)]
 
+mod draws;
 mod hash;
 mod known;
 mod message;
@@ -10,6 +11,7 @@ mod sha256_rows;
 mod shards;
 mod sizes;
 
+pub use draws::Draws;
 pub use hash::{EquationHash, MAX_PLANES, Row, RowKey};
 pub use known::{Known, draw_rows, draw_shards};
 pub use sha256_rows::Sha256Rows;

@@ -1,6 +1,7 @@
 ghost use Rattle.std.specs.Prelude.{◌≡◌, ◌≤◌, ◌+◌, [], ◌∷◌, length, take};
 ghost use Rattle.equation_core.specs.declared.sha256_rows.TheConstants.{FRONT};
-ghost use Rattle.equation_core.specs.Rows.{IsRow, row_text, row_of_digest, row_of_key, sha256_row};
+ghost use Rattle.equation_core.specs.Rows.{IsRow, row_text, bits_of_digest, row_of_bits, row_of_digest, row_of_key};
+ghost use Rattle.equation_core.specs.Rows.{sha256_bits, sha256_row};
 ghost use Rattle.equation_core.specs.RowLaws.{sha256_row-is};
 
 use crate::hash::{EquationHash, Row, RowKey};
@@ -24,24 +25,53 @@ fn message_of(stage: u8, seed: u8, id: &Identity) -> [u8; FRONT + IDENTITY]
     message
 }
 
-/// The row that a digest spells: bytes 0 to 15 are the coefficient, whose bit 0 is set, bytes 16 to 23 give the start,
-/// and bytes 24 and 25 are the tag.
-#[inline(always)]
-fn row_in(d: &[u8; 32], starts: u32) -> Row
-    requires { 1 ≤ starts }
-    ensures value { result ≡ row_of_digest d.now starts }
-    ensures formed { IsRow starts result }
-{
-    let coeff = u128::from_be_bytes([
-        d[0], d[1], d[2], d[3], d[4], d[5], d[6], d[7], d[8], d[9], d[10], d[11], d[12], d[13],
-        d[14], d[15],
-    ]) | 1;
-    let start = u64::from_be_bytes([d[16], d[17], d[18], d[19], d[20], d[21], d[22], d[23]]);
-    let tag = u16::from_be_bytes([d[24], d[25]]);
-    Row {
-        start: (start % starts as u64) as u32,
-        coeff,
-        tag,
+/// What a digest spells of a row, whatever the starts.
+#[derive(Clone, Copy)]
+pub(crate) struct RowBits {
+    pub coeff: u128,
+    /// What the start is, modulo the starts.
+    pub start: u64,
+    pub tag: u16,
+}
+
+impl RowBits {
+    /// Bytes 0 to 15 of a digest are the coefficient, whose bit 0 is set, bytes 16 to 23 give the start, and bytes 24
+    /// and 25 are the tag.
+    #[inline(always)]
+    fn of_digest(d: &[u8; 32]) -> RowBits
+        ensures { result ≡ bits_of_digest d.now }
+    {
+        let coeff = u128::from_be_bytes([
+            d[0], d[1], d[2], d[3], d[4], d[5], d[6], d[7], d[8], d[9], d[10], d[11], d[12], d[13],
+            d[14], d[15],
+        ]);
+        RowBits {
+            coeff: coeff | 1,
+            start: u64::from_be_bytes([d[16], d[17], d[18], d[19], d[20], d[21], d[22], d[23]]),
+            tag: u16::from_be_bytes([d[24], d[25]]),
+        }
+    }
+
+    /// What the row's digest spells, of an identity for a stage and a seed.
+    pub(crate) fn drawn(stage: u8, seed: u8, id: &Identity) -> RowBits
+        ensures { result ≡ sha256_bits stage seed id.now }
+    {
+        let message = message_of(stage, seed, id);
+        let len = FRONT + 33 + id.serial.bytes().len();
+        RowBits::of_digest(&Sha256::digest(&message[..len]))
+    }
+
+    /// The row among so many starts.
+    #[inline(always)]
+    pub(crate) fn row(&self, starts: u32) -> Row
+        requires { 1 ≤ starts }
+        ensures { result ≡ row_of_bits self.now starts }
+    {
+        Row {
+            start: (self.start % starts as u64) as u32,
+            coeff: self.coeff,
+            tag: self.tag,
+        }
     }
 }
 
@@ -68,10 +98,10 @@ pub(crate) fn rows_of_four(a: &AskedRow, b: &AskedRow, c: &AskedRow, d: &AskedRo
         &message_of(d.key.stage, d.key.seed, d.id)[..FRONT + 33 + d.id.serial.bytes().len()],
     );
     [
-        row_in(&p, a.key.starts),
-        row_in(&q, b.key.starts),
-        row_in(&r, c.key.starts),
-        row_in(&s, d.key.starts),
+        RowBits::of_digest(&p).row(a.key.starts),
+        RowBits::of_digest(&q).row(b.key.starts),
+        RowBits::of_digest(&r).row(c.key.starts),
+        RowBits::of_digest(&s).row(d.key.starts),
     ]
 }
 
@@ -86,9 +116,7 @@ impl EquationHash for Sha256Rows {
     ghost formed = { λ _ stage seed id starts _ _ some _. sha256_row-is stage seed id starts some };
 
     fn row(&self, stage: u8, seed: u8, id: &Identity, starts: u32) -> Row {
-        let message = message_of(stage, seed, id);
-        let len = FRONT + 33 + id.serial.bytes().len();
-        row_in(&Sha256::digest(&message[..len]), starts)
+        RowBits::drawn(stage, seed, id).row(starts)
     }
 
     fn four_rows(

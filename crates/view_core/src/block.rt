@@ -15,8 +15,7 @@ ghost use Rattle.view_core.specs.Standing.{HoldShards};
 use crate::layout::BLOCK_HEAD;
 use crate::leaf::{leaf_says, shard_says};
 use crate::reading::number8_at;
-use equation_core::{MAX_SHIFT, shard_of};
-use ident_core::Identity;
+use equation_core::{Draws, MAX_SHIFT};
 use octets_core::Steps;
 use std::sync::ledger::Ledger;
 
@@ -38,14 +37,15 @@ fn sharded_says<M: Ledger>(
     bytes: &[u8],
     at: usize,
     places: &[u32],
-    id: &Identity,
+    draws: &mut Draws,
     words: &mut Steps<M>,
 ) -> bool
     requires place { at < 2 ^ 63 }
     ensures value { (s : ShardedFields) (before behind : List ℕ) → ShardsFit s → Stands bytes.now at (sharded_text s)
         → IsStrictlySortedBy nat_cmp places.now
         → places.now ≡ before ++ places_of shard_text (at + 1) s.leaves ++ behind
-        → result ≡ is_filtered sha256_row id.now (cut s.shift s.leaves) }
+        → result ≡ is_filtered sha256_row draws.old (cut s.shift s.leaves) }
+    ensures same { draws.new ≡ draws.old }
     ensures more { words.old ≤ words.new }
     ensures steps { words.new ≤ words.old + 51 }
 {
@@ -53,8 +53,8 @@ fn sharded_says<M: Ledger>(
     if shift > MAX_SHIFT {
         return false;
     }
-    match shard_place(places, at + 1, shard_of(id, shift)) {
-        Some(place) => shard_says(bytes, place, id, words),
+    match shard_place(places, at + 1, draws.shard(shift)) {
+        Some(place) => shard_says(bytes, place, draws, words),
         None => false,
     }
 }
@@ -64,20 +64,21 @@ pub(crate) fn block_says<M: Ledger>(
     bytes: &[u8],
     at: usize,
     places: &[u32],
-    id: &Identity,
+    draws: &mut Draws,
     words: &mut Steps<M>,
 ) -> bool
     requires place { at < 2 ^ 32 }
     ensures value { (b : Block) → BlockFits b → Stands bytes.now at (block_text b) → HoldShards places.now at b
-        → result ≡ is_positive sha256_row id.now b.body }
+        → result ≡ is_positive sha256_row draws.old b.body }
+    ensures same { draws.new ≡ draws.old }
     ensures more { words.old ≤ words.new }
     ensures steps { words.new ≤ words.old + 51 }
 {
     let body = at + BLOCK_HEAD;
     let mode = number8_at(bytes, body - 1);
     if mode == 3 {
-        sharded_says(bytes, body, places, id, words)
+        sharded_says(bytes, body, places, draws, words)
     } else {
-        leaf_says(bytes, body, mode, id, words)
+        leaf_says(bytes, body, mode, draws, words)
     }
 }

@@ -19,8 +19,7 @@ use crate::ends::approx_end;
 use crate::layout::STAGE_HEAD;
 use crate::plane::sum_at;
 use crate::reading::{bytes_at, number8_at};
-use equation_core::{EquationHash, MAX_PLANES, MAX_STARTS, Row, Sha256Rows, words_for};
-use ident_core::Identity;
+use equation_core::{Draws, MAX_PLANES, MAX_STARTS, Row, RowKey, words_for};
 use octets_core::Steps;
 use std::sync::ledger::Ledger;
 
@@ -84,12 +83,13 @@ fn passes_at<M: Ledger>(
     bytes: &[u8],
     at: usize,
     count: u8,
-    id: &Identity,
+    draws: &mut Draws,
     words: &mut Steps<M>,
 ) -> bool
     requires few { count ≤ MAX_PLANES }
     ensures value { (first : Option Stage) → FirstFits first → width_of first ≡ count
-        → Stands bytes.now at (approx_text first) → result ≡ is_passed sha256_row first id.now }
+        → Stands bytes.now at (approx_text first) → result ≡ is_passed sha256_row first draws.old }
+    ensures same { draws.new ≡ draws.old }
     ensures more { words.old ≤ words.new }
     ensures steps { words.new ≤ words.old + 48 }
 {
@@ -99,38 +99,48 @@ fn passes_at<M: Ledger>(
     let Some(stage) = stage_at(bytes, at) else {
         return false;
     };
-    let row = Sha256Rows.row(1, stage.seed, id, stage.starts);
+    let row = draws.row(RowKey {
+        stage: 1,
+        seed: stage.seed,
+        starts: stage.starts,
+    });
     accepts_at(bytes, &stage, count, &row, words)
 }
 
 /// Whether the sum of the exact stage that stands at this place is one.
-fn is_one_at<M: Ledger>(bytes: &[u8], at: usize, id: &Identity, words: &mut Steps<M>) -> bool
+fn is_one_at<M: Ledger>(bytes: &[u8], at: usize, draws: &mut Draws, words: &mut Steps<M>) -> bool
     ensures value { (s : Stage) → StageFits s → length s.planes.columns ≡ 1 → Stands bytes.now at (stage_text s)
-        → result ≡ (exact_sum sha256_row s id.now == 1) }
+        → result ≡ (exact_sum sha256_row s draws.old == 1) }
+    ensures same { draws.new ≡ draws.old }
     ensures more { words.old ≤ words.new }
     ensures steps { words.new ≤ words.old + 3 }
 {
     let Some(stage) = stage_at(bytes, at) else {
         return false;
     };
-    let row = Sha256Rows.row(2, stage.seed, id, stage.starts);
+    let row = draws.row(RowKey {
+        stage: 2,
+        seed: stage.seed,
+        starts: stage.starts,
+    });
     sum_at(bytes, stage.planes, row.start, row.coeff, words) == 1
 }
 
 /// What a mixed body that stands at this place says.
-fn mixed_says<M: Ledger>(bytes: &[u8], at: usize, id: &Identity, words: &mut Steps<M>) -> bool
+fn mixed_says<M: Ledger>(bytes: &[u8], at: usize, draws: &mut Draws, words: &mut Steps<M>) -> bool
     requires place { at < 2 ^ 63 }
     ensures value { (m : MixedFields) → MixedFits m → Stands bytes.now at (mixed_text m)
-        → result ≡ is_leaf_positive sha256_row id.now (Mixed m) }
+        → result ≡ is_leaf_positive sha256_row draws.old (Mixed m) }
+    ensures same { draws.new ≡ draws.old }
     ensures more { words.old ≤ words.new }
     ensures steps { words.new ≤ words.old + 51 }
 {
     let planes = number8_at(bytes, at);
-    if planes > MAX_PLANES || !passes_at(bytes, at + 1, planes, id, words) {
+    if planes > MAX_PLANES || !passes_at(bytes, at + 1, planes, draws, words) {
         return false;
     }
     match approx_end(bytes, at + 1, planes) {
-        Some(exact) => is_one_at(bytes, exact, id, words),
+        Some(exact) => is_one_at(bytes, exact, draws, words),
         None => false,
     }
 }
@@ -140,19 +150,20 @@ pub(crate) fn leaf_says<M: Ledger>(
     bytes: &[u8],
     at: usize,
     mode: u8,
-    id: &Identity,
+    draws: &mut Draws,
     words: &mut Steps<M>,
 ) -> bool
     requires place { at < 2 ^ 63 }
     ensures value { (l : Leaf) → LeafFits l → leaf_mode l ≡ mode → Stands bytes.now at (leaf_text l)
-        → result ≡ is_leaf_positive sha256_row id.now l }
+        → result ≡ is_leaf_positive sha256_row draws.old l }
+    ensures same { draws.new ≡ draws.old }
     ensures more { words.old ≤ words.new }
     ensures steps { words.new ≤ words.old + 51 }
 {
     match mode {
         0 => false,
         1 => true,
-        _ => mixed_says(bytes, at, id, words),
+        _ => mixed_says(bytes, at, draws, words),
     }
 }
 
@@ -160,14 +171,15 @@ pub(crate) fn leaf_says<M: Ledger>(
 pub(crate) fn shard_says<M: Ledger>(
     bytes: &[u8],
     at: usize,
-    id: &Identity,
+    draws: &mut Draws,
     words: &mut Steps<M>,
 ) -> bool
     requires place { at < 2 ^ 32 }
     ensures value { (l : Leaf) → LeafFits l → Stands bytes.now at (shard_text l)
-        → result ≡ is_leaf_positive sha256_row id.now l }
+        → result ≡ is_leaf_positive sha256_row draws.old l }
+    ensures same { draws.new ≡ draws.old }
     ensures more { words.old ≤ words.new }
     ensures steps { words.new ≤ words.old + 51 }
 {
-    leaf_says(bytes, at + 1, number8_at(bytes, at), id, words)
+    leaf_says(bytes, at + 1, number8_at(bytes, at), draws, words)
 }

@@ -11,7 +11,7 @@ use crate::places::place_of;
 use crate::ranges::{RangesAt, cover_some_at};
 use crate::seen::Seen;
 use card_core::Verdict;
-use ident_core::Identity;
+use equation_core::Draws;
 use octets_core::Steps;
 use std::sync::ledger::Ledger;
 
@@ -28,14 +28,15 @@ pub(crate) fn part_says<S: Seen, L: Ledger, M: Ledger>(
     bytes: &[u8],
     shards: &[u32],
     part: &PartAt,
-    id: &Identity,
+    draws: &mut Draws,
     sightings: &[S],
     probes: &mut Steps<L>,
     words: &mut Steps<M>,
 ) -> Verdict
     requires place { part.now.ranges.at + RANGE_BYTES * part.now.ranges.count < 2 ^ 63 }
     ensures value { (p : PartFields) → IsPartAt bytes.now shards.now part.now p
-        → result ≡ verdict (p ∷ []) id.now (map S.sighting sightings.now) }
+        → result ≡ verdict (p ∷ []) draws.old (map S.sighting sightings.now) }
+    ensures same { draws.new ≡ draws.old }
     ensures more_probes { probes.old ≤ probes.new }
     ensures few_probes { (p : PartFields) → IsPartAt bytes.now shards.now part.now p
         → AreProbes (covering (map S.sighting sightings.now) (p ∷ [])) (probes.new - probes.old) }
@@ -46,10 +47,10 @@ pub(crate) fn part_says<S: Seen, L: Ledger, M: Ledger>(
     if !cover_some_at(bytes, part.ranges, sightings) {
         return Verdict::NotCovered;
     }
-    let Some(place) = place_of(bytes, part.blocks, &id.issuer, probes) else {
+    let Some(place) = place_of(bytes, part.blocks, &draws.id().issuer, probes) else {
         return Verdict::NotEnrolled;
     };
-    if block_says(bytes, part.blocks[place] as usize, shards, id, words) {
+    if block_says(bytes, part.blocks[place] as usize, shards, draws, words) {
         Verdict::Revoked
     } else {
         Verdict::Good

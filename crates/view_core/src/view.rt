@@ -10,6 +10,7 @@ use crate::part::{PartAt, part_says};
 use crate::ranges::{RangesAt, range_of};
 use crate::seen::Seen;
 use card_core::Verdict;
+use equation_core::Draws;
 use ident_core::Identity;
 use octets_core::{Key32, Steps};
 use std::marker::Brand;
@@ -85,9 +86,10 @@ fn store_says<S: Seen, L: Ledger, M: Ledger>(
         → words.new ≤ words.old + 51 * length (covering (map S.sighting sightings.now) (map (λ s. s.part) parts)) }
 {
     let (mut rest, shards) = split_index(index);
+    let mut draws = Draws::new(id);
     let mut verdict = Verdict::NotCovered;
     while let Some((part, others)) = next_part(rest) {
-        let said = part_says(store, shards, &part, id, sightings, probes, words);
+        let said = part_says(store, shards, &part, &mut draws, sightings, probes, words);
         verdict = verdict.joined_with(said);
         rest = others;
     }

@@ -1,6 +1,7 @@
 use Rattle.std.proofs.Common.{◌≡◌, ℕ, ◌+◌, ◌<◌, ◌^◌, List, length, get_or, ap, ◌∙◌, arith}
 use Rattle.std.proofs.lemmas.List.Elements.{All-get_or}
 use Rattle.std.proofs.lemmas.Nat.{pow_pos}
+use Rattle.ident_core.specs.declared.identity.Identity.{Identity}
 use Rattle.equation_core.specs.Rows.{sha256_row}
 use Rattle.equation_core.specs.Shards.{shard}
 use Rattle.card_core.specs.declared.leaf.Leaf.TheVariants.{Clean}
@@ -23,13 +24,14 @@ returns-in-Some-clause-value g c s before behind fits h up are =
     let own : List ℕ = places_of shard_text (c.args.at + 1) s.leaves in
     let some : 0 < 2 ^ s.shift = pow_pos s.shift in
     let begins = first_begins shard_text (c.args.at + 1) s.leaves (omega (arith, some, fits.facts.count)) in
-    let below : c.shard_of.result < length s.leaves = rw (fits.facts.count, ← shift) c.shard_of.ensures.below in
-    let few : c.shard_of.result < length own = omega (arith, below, length-places shard_text (c.args.at + 1) s.leaves) in
-    let place : c.in-Some.place ≡ get_or own c.shard_of.result 0 = let found = c.in-Some.ensures.value before own behind up are begins few in cc in
-    let same = c.shard_of.ensures.value ∙ ap (λ (n : ℕ). shard c.args.id.now n) shift in
-    c.shard_says.ensures.value (get_or s.leaves c.shard_of.result Clean) (All-get_or LeafFits s.leaves c.shard_of.result Clean below fits.leaves)
-    (rw place (stands_item shard_text c.args.bytes.now (c.args.at + 1) s.leaves c.shard_of.result Clean below (stands_leaves c.args.bytes.now c.args.at s h)))
-    ∙ ap (λ (n : ℕ). is_leaf_positive sha256_row c.args.id.now (get_or s.leaves n Clean)) same
+    let below : c.shard.result < length s.leaves = rw (fits.facts.count, ← shift) c.shard.ensures.below in
+    let few : c.shard.result < length own = omega (arith, below, length-places shard_text (c.args.at + 1) s.leaves) in
+    let place : c.in-Some.place ≡ get_or own c.shard.result 0 = let found = c.in-Some.ensures.value before own behind up are begins few in cc in
+    let same = c.shard.ensures.value ∙ ap (λ (n : ℕ). shard c.args.draws.now n) shift in
+    c.shard_says.ensures.value (get_or s.leaves c.shard.result Clean) (All-get_or LeafFits s.leaves c.shard.result Clean below fits.leaves)
+    (rw place (stands_item shard_text c.args.bytes.now (c.args.at + 1) s.leaves c.shard.result Clean below (stands_leaves c.args.bytes.now c.args.at s h)))
+    ∙ ap (λ (x : Identity). is_leaf_positive sha256_row x (get_or s.leaves c.shard.result Clean)) c.shard.ensures.same
+    ∙ ap (λ (n : ℕ). is_leaf_positive sha256_row c.args.draws.now (get_or s.leaves n Clean)) same
 
 pub returns-in-None-clause-value : goal.returns-in-None-clause-value
 returns-in-None-clause-value g c s before behind fits h up are =
@@ -37,6 +39,6 @@ returns-in-None-clause-value g c s before behind fits h up are =
     let own : List ℕ = places_of shard_text (c.args.at + 1) s.leaves in
     let some : 0 < 2 ^ s.shift = pow_pos s.shift in
     let begins = first_begins shard_text (c.args.at + 1) s.leaves (omega (arith, some, fits.facts.count)) in
-    let below : c.shard_of.result < length s.leaves = rw (fits.facts.count, ← shift) c.shard_of.ensures.below in
-    let few : c.shard_of.result < length own = omega (arith, below, length-places shard_text (c.args.at + 1) s.leaves) in
+    let below : c.shard.result < length s.leaves = rw (fits.facts.count, ← shift) c.shard.ensures.below in
+    let few : c.shard.result < length own = omega (arith, below, length-places shard_text (c.args.at + 1) s.leaves) in
     absurd (let none = c.in-None.ensures.value before own behind up are begins few in cc)

@@ -11,6 +11,6 @@ pub returns-clause-value : goal.returns-clause-value
 returns-clause-value g c None fits count h = absurd (c.if-count-eq0.false (sym count))
 returns-clause-value g c (Some s) fits count h =
     let head : c.in-Some.stage ≡ head_of s c.args.at = let found = c.in-Some.ensures.value s fits.stage h in cc in
-    let row = c.row-row.ensures.value ∙ ap (λ (x : StageHead). sha256_row 1 x.seed c.args.id.now x.starts) head in
-    c.accepts_at.ensures.value c.args.at s c.args.id.now fits.stage count head h
-    ∙ ap (λ (r : Row). accepts (λ (_ _ : ℕ) (_ : Identity) (_ : ℕ). r) s c.args.id.now) row
+    let row = c.row-row.ensures.value ∙ ap (λ (x : StageHead). sha256_row 1 x.seed c.args.draws.now x.starts) head in
+    c.accepts_at.ensures.value c.args.at s c.args.draws.now fits.stage count head h
+    ∙ ap (λ (r : Row). accepts (λ (_ _ : ℕ) (_ : Identity) (_ : ℕ). r) s c.args.draws.now) row

@@ -1,4 +1,6 @@
-use Rattle.std.proofs.Common.{◌-◌, length, map, sym, true, false}
+use Rattle.std.proofs.Common.{◌-◌, length, map, sym, subst, true, false, Some}
+use Rattle.ident_core.specs.declared.identity.Identity.{Identity}
+use Rattle.card_core.specs.Consulting.{IsPlaceOf}
 use Rattle.view_core.proofs.Parts.{probes_of_one, part_says_so}
 use Rattle.view_core.proofs.PlaceSearch.{as_many}
 use Rattle.view_core.proofs.part.part_says.Goals as goal
@@ -10,8 +12,9 @@ returns-in_default-clause-few_probes g c = λ p is.
 
 pub returns-then-block_says-clause-value : goal.returns-then-block_says-clause-value
 returns-then-block_says-clause-value g c = λ p is.
-    part_says_so c.args.bytes.now c.args.shards.now c.args.part.now p c.args.id.now (map g.S.Seen.sighting c.args.sightings.now) c.in-Some.place true is
-    (sym (c.if-not-cover_some_at.ensures p.head.ranges is.ranges)) (c.in-Some.ensures.place is.blocks_begin p.blocks is.blocks) c.if-block_says.ensures.value
+    part_says_so c.args.bytes.now c.args.shards.now c.args.part.now p c.args.draws.now (map g.S.Seen.sighting c.args.sightings.now) c.in-Some.place true is
+    (sym (c.if-not-cover_some_at.ensures p.head.ranges is.ranges)) (subst (λ (x : Identity). IsPlaceOf x.issuer p.blocks (Some c.in-Some.place)) c.id.ensures
+    (c.in-Some.ensures.place is.blocks_begin p.blocks is.blocks)) c.if-block_says.ensures.value
 
 pub returns-then-block_says-clause-few_probes : goal.returns-then-block_says-clause-few_probes
 returns-then-block_says-clause-few_probes g c = λ p is.
@@ -20,8 +23,9 @@ returns-then-block_says-clause-few_probes g c = λ p is.
 
 pub returns-else-block_says-clause-value : goal.returns-else-block_says-clause-value
 returns-else-block_says-clause-value g c = λ p is.
-    part_says_so c.args.bytes.now c.args.shards.now c.args.part.now p c.args.id.now (map g.S.Seen.sighting c.args.sightings.now) c.in-Some.place false is
-    (sym (c.if-not-cover_some_at.ensures p.head.ranges is.ranges)) (c.in-Some.ensures.place is.blocks_begin p.blocks is.blocks) c.if-block_says.ensures.value
+    part_says_so c.args.bytes.now c.args.shards.now c.args.part.now p c.args.draws.now (map g.S.Seen.sighting c.args.sightings.now) c.in-Some.place false is
+    (sym (c.if-not-cover_some_at.ensures p.head.ranges is.ranges)) (subst (λ (x : Identity). IsPlaceOf x.issuer p.blocks (Some c.in-Some.place)) c.id.ensures
+    (c.in-Some.ensures.place is.blocks_begin p.blocks is.blocks)) c.if-block_says.ensures.value
 
 pub returns-else-block_says-clause-few_probes : goal.returns-else-block_says-clause-few_probes
 returns-else-block_says-clause-few_probes g c = λ p is.
