@@ -4,7 +4,7 @@ use Rattle.std.proofs.Common.{Some, None, Ok, refl, sym, ap, ◌∙◌, subst, a
 use Rattle.std.specs.Prelude.{All, codes, flat_map}
 use Rattle.std.specs.Int.{w8, to_be_bytes}
 use Rattle.std.specs.List.{list_any}
-use Rattle.std.proofs.lemmas.List.{append-nil, take_all}
+use Rattle.std.proofs.lemmas.List.{append-nil, take_all, drop_at, drop-take, length-take}
 use Rattle.octets_core.specs.Reading.{value_of}
 use Rattle.octets_core.proofs.Texts.{IsBytes}
 use Rattle.ident_core.specs.declared.kind.Kind.TheVariants as kinds
@@ -23,9 +23,11 @@ use Rattle.store_core.proofs.StoreChains.{store-chain}
 use Rattle.view_core.specs.declared.fill.Walk.{Walk}
 use Rattle.view_core.specs.declared.fill.Counts.{Counts}
 use Rattle.view_core.specs.Texts.{Stands, places_of}
-use Rattle.view_core.specs.Index.{blocks_at, part_index, parts_index, has_shards, shards_in, shards_of, shards_index, index_of}
+use Rattle.view_core.specs.Index.{blocks_at, buckets_of, part_index, parts_index, has_shards, shards_in, shards_of, shards_index, index_of}
 use Rattle.view_core.specs.Filling.{Wrote, Walked}
-use Rattle.view_core.proofs.Texts.{stands_then}
+use Rattle.view_core.specs.Standing.{AreBlocksAt}
+use Rattle.view_core.proofs.BucketLaws.{length-buckets}
+use Rattle.view_core.proofs.Texts.{stands_then, length-places}
 use Rattle.view_core.proofs.Standing.{HoldsPart, standing_part, stands_middle, blocks_fit}
 use Rattle.view_core.proofs.Endings.{longer_by, long_block}
 
@@ -53,6 +55,15 @@ wrote_then old mid new to n first second a is b =
           ∙ ap (λ (l : List ℕ). l ++ second) (a.are (omega (arith, all, room)))
           ∙ append_assoc (take to old) first second;
     }
+
+-- they stand there then
+pub wrote_stand : (old new : List ℕ) (to : ℕ) (words : List ℕ) → Wrote old new to words → to + length words ≤ length new
+    → take (length words) (drop to new) ≡ words
+wrote_stand old new to words wrote room =
+    let front : length (take to old) ≡ to = omega (arith, length-take to old, wrote.same, room) in
+    sym (drop-take to (length words) new)
+    ∙ ap (drop to) (wrote.are (omega (arith, wrote.same, room)))
+    ∙ drop_at (take to old) words to front
 
 -- ---- words for items, each by its place
 
@@ -214,17 +225,46 @@ part_ends store mid new from start walk s words result holds begins walked behin
     let there = behind (omega (arith, at, holds.within)) in
     there ∙ ap Some (walk_is record { at = walk.at + 32; to = walk.to } _ _ at (ap (λ (w : Walk). w.to) is))
 
+-- the places that a walk over blocks wrote
+pub are_placed : (store old new : List ℕ) (from walk : Walk) (s : SealedFields) (count : ℕ) → Fits s
+    → Stands store from.at (flat_map block_text s.part.blocks) → length s.part.blocks ≡ count
+    → Walked old new from (length (flat_map block_text s.part.blocks)) (places_of block_text from.at s.part.blocks) (Some walk)
+    → from.to + count ≤ length new → AreBlocksAt store from.at (take count (drop from.to new)) s.part.blocks
+are_placed store old new from walk s count fits stands many walked room =
+    let places : List ℕ = places_of block_text from.at s.part.blocks in
+    let long : length places ≡ count = length-places block_text from.at s.part.blocks ∙ many in
+    record {
+      fit = fits.part.blocks;
+      places_are = ap (λ (n : ℕ). take n (drop from.to new)) (sym long)
+          ∙ wrote_stand old new from.to places walked.wrote (omega (arith, long, room));
+      text = stands;
+    }
+
+-- behind them the table
+pub table_walked : (old mid new : List ℕ) (from walk : Walk) (width count : ℕ) (words table : List ℕ)
+    → Walked old mid from width words (Some walk) → length words ≡ count → length table ≡ count → Wrote mid new (from.to + count) table
+    → Walked old new from width (words ++ table) (Some record { at = walk.at; to = walk.to + count })
+table_walked old mid new from walk width count words table walked many wide wrote =
+    let is : walk ≡ record { at = from.at + width; to = from.to + length words } = let e = walked.is in cc in
+    let to : walk.to + count ≡ from.to + length (words ++ table)
+    = omega (arith, ap (λ (w : Walk). w.to) is, wide, length-append words table) in
+    record {
+      is = ap Some (walk_is record { at = walk.at; to = walk.to + count } _ _ (ap (λ (w : Walk). w.at) is) to);
+      wrote = wrote_then old mid new from.to (from.to + count) words table walked.wrote (omega (arith, many)) wrote;
+    }
+
 pub part_walked : (store old one two three new : List ℕ) (from walk : Walk) (s : SealedFields) (counts : Counts) (ranges : ℕ)
     (result : Option Walk)
     → HoldsPart store from.at s → AreCounts from.at s counts → ranges ≡ counts.ranges
     → Wrote old one from.to (ranges ∷ []) → Wrote one two (from.to + 1) ((from.at + 52) ∷ [])
     → Wrote two three (from.to + 2) (counts.blocks ∷ [])
     → Walked three new (record { at = counts.first; to = from.to + 3 }) (length (flat_map block_text s.part.blocks))
-    (places_of block_text counts.first s.part.blocks) (Some walk)
+    (places_of block_text counts.first s.part.blocks ++ buckets_of s.part.blocks) (Some walk)
     → (walk.at + 32 ≤ length store → result ≡ Some record { at = walk.at + 32; to = walk.to })
     → Walked old new from (length (spelling s)) (part_index from.at s.part) result
 part_walked store old one two three new from walk s counts ranges result holds are same first second third walked behind =
-    let places : List ℕ = places_of block_text counts.first s.part.blocks in
+    let table : List ℕ = buckets_of s.part.blocks in
+    let places : List ℕ = places_of block_text counts.first s.part.blocks ++ table in
     let start : Walk = record { at = counts.first; to = from.to + 3 } in
     let wrote = wrote_then old three new from.to (from.to + 3) _ places
     (wrote_then old two three from.to (from.to + 2) _ _ (wrote_then old one two from.to (from.to + 1) _ _ first (omega arith) second)
@@ -233,7 +273,7 @@ part_walked store old one two three new from walk s counts ranges result holds a
     let words : ranges ∷ (from.at + 52) ∷ counts.blocks ∷ places ≡ part_index from.at s.part =
     ap (λ (n : ℕ). n ∷ (from.at + 52) ∷ counts.blocks ∷ places) (same ∙ are.ranges)
     ∙ ap (λ (n : ℕ). length s.part.head.ranges ∷ (from.at + 52) ∷ n ∷ places) (sym are.blocks)
-    ∙ ap (λ (n : ℕ). length s.part.head.ranges ∷ (from.at + 52) ∷ length s.part.blocks ∷ places_of block_text n s.part.blocks) are.first in
+    ∙ ap (λ (n : ℕ). length s.part.head.ranges ∷ (from.at + 52) ∷ length s.part.blocks ∷ places_of block_text n s.part.blocks ++ table) are.first in
     let to : from.to + 3 + length places ≡ from.to + length (part_index from.at s.part) = omega (arith, ap length words) in
     record {
       is = part_ends store three new from start walk s places result holds are.first walked behind
@@ -326,12 +366,28 @@ long_part s fits =
     let holds = standing_part (spelling s) 0 s fits (record { behind = []; is = sym (append-nil (spelling s)) }) in
     omega (arith, holds.long)
 
+blocks_short : (blocks : List Block) → All BlockFits blocks → 2 * length blocks ≤ length (flat_map block_text blocks)
+blocks_short [] all = omega arith
+blocks_short (b ∷ blocks) all =
+    omega (
+      arith,
+      long_block b (all 0 b (omega arith)),
+      blocks_short blocks (λ k d lt. all (suc k) d (omega arith)),
+      length-append (block_text b) (flat_map block_text blocks),
+    )
+
 part_short : (at : ℕ) (s : SealedFields) → Fits s → length (part_words at s) ≤ length (spelling s)
 part_short at s fits =
-    let first : ℕ = blocks_at at s.part in
-    let each = indexed_short block_text place (λ b. BlockFits b) (λ n b fits. omega (arith, long_block b fits)) first s.part.blocks
-    (blocks_fit None s.part.blocks fits.part.blocks) in
-    omega (arith, each, ap length (places_indexed block_text first s.part.blocks), long_part s fits)
+    let blocks : List Block = s.part.blocks in
+    let places : List ℕ = places_of block_text (blocks_at at s.part) blocks in
+    omega (
+      arith,
+      blocks_short blocks (blocks_fit None blocks fits.part.blocks),
+      length-places block_text (blocks_at at s.part) blocks,
+      length-buckets blocks,
+      length-append places (buckets_of blocks),
+      long_part s fits,
+    )
 
 shard_short : (at : ℕ) (s : SealedFields) → Fits s → length (shard_words at s) ≤ length (spelling s)
 shard_short at s fits =
@@ -465,16 +521,6 @@ pub index_is_long : (old new : List ℕ) (parts : List SealedFields) (first seco
 index_is_long old new parts first second are =
     omega (arith, are.first_to, are.second_to, length-append (parts_index 10 parts) (shards_index 10 parts))
 
-behind_two : (old new words : List ℕ) → Wrote old new 2 words → 2 + length words ≤ length old → take (length words) (drop 2 new) ≡ words
-behind_two [] new words wrote room = absurd (omega arith)
-behind_two (a ∷ []) new words wrote room = absurd (omega arith)
-behind_two (a ∷ b ∷ old) [] words wrote room = absurd (let same = wrote.same in omega arith)
-behind_two (a ∷ b ∷ old) (x ∷ []) words wrote room = absurd (let same = wrote.same in omega arith)
-behind_two (a ∷ b ∷ old) (x ∷ y ∷ new) words wrote room =
-    let e : suc (suc (length words)) ≡ 2 + length words = omega arith in
-    let all : x ∷ y ∷ take (length words) new ≡ a ∷ b ∷ words = ap (λ (n : ℕ). take n (x ∷ y ∷ new)) e ∙ wrote.are room in
-    ap (drop 2) all
-
 -- with both counts before them the words are the index
 pub index_stands : (old mid new : List ℕ) (parts : List SealedFields) (first second : Walk) → AreWalked old mid parts first second
     → (2 ≤ length mid → new ≡ (first.to - 2) ∷ (second.to - first.to) ∷ drop 2 mid) → length (index_of parts) ≤ length old
@@ -485,6 +531,6 @@ index_stands old mid new parts first second are counted room =
     let two : second.to - first.to ≡ length (shards_index 10 parts) = omega (arith, are.second_to) in
     let is = counted (omega (arith, are.wrote.same, room)) in
     ap (take (suc (suc (length words)))) is
-    ∙ ap (λ (l : List ℕ). (first.to - 2) ∷ (second.to - first.to) ∷ l) (behind_two old mid words are.wrote (omega (arith, room)))
+    ∙ ap (λ (l : List ℕ). (first.to - 2) ∷ (second.to - first.to) ∷ l) (wrote_stand old mid 2 words are.wrote (omega (arith, are.wrote.same, room)))
     ∙ ap (λ (n : ℕ). n ∷ (second.to - first.to) ∷ words) one
     ∙ ap (λ (n : ℕ). length (parts_index 10 parts) ∷ n ∷ words) two

@@ -9,6 +9,7 @@ pub mod Planes
 pub mod Leaves
 pub mod Shards
 pub mod RangeSearch
+pub mod BucketLaws
 pub mod PlaceSearch
 pub mod Parts
 pub mod Ascending
@@ -18,3 +19,4 @@ pub mod Views
 pub mod Coverings
 pub mod Endings
 pub mod Filling
+pub mod BucketFills

@@ -1,5 +1,5 @@
 -- What the words of an index tell of a store's parts, one after the other.
-use Rattle.std.proofs.Common.{◌≡◌, ℕ, zero, suc, ◌+◌, ◌<◌, List, [], ◌∷◌, ◌++◌, length, get_or, take, drop, refl, sym, ap, ◌∙◌, subst, append_assoc, arith}
+use Rattle.std.proofs.Common.{◌≡◌, ℕ, zero, suc, ◌+◌, ◌<◌, List, [], ◌∷◌, ◌++◌, length, get_or, take, drop, refl, sym, ap, ◌∙◌, subst, append_assoc, length-append, arith}
 use Rattle.std.specs.Prelude.{All, flat_map}
 use Rattle.std.specs.List.Sorted.{IsStrictlySortedBy}
 use Rattle.std.specs.Ordering.{nat_cmp}
@@ -12,13 +12,14 @@ use Rattle.part_text.specs.Fitting.{Fits}
 use Rattle.part_text.specs.PartText.{block_text, spelling}
 use Rattle.store_core.specs.StoreLayout.{store, store_text}
 use Rattle.store_core.proofs.StoreSpelled.{found}
-use Rattle.view_core.specs.Index.{ranges_at, blocks_at, parts_index, shards_in, shards_of, shards_index, index_of}
+use Rattle.view_core.specs.Index.{ranges_at, blocks_at, buckets_of, parts_index, shards_in, shards_of, shards_index, index_of}
 use Rattle.view_core.specs.Opening.{IsOpened}
 use Rattle.view_core.specs.Parts.{IsPartAt}
 use Rattle.view_core.specs.Standing.{HoldShards}
 use Rattle.view_core.specs.Texts.{Stands, places_of}
 use Rattle.view_core.specs.declared.part.PartAt.{PartAt}
 use Rattle.view_core.proofs.Ascending.{parts_rise, rise_sorted}
+use Rattle.view_core.proofs.BucketLaws.{length-buckets}
 use Rattle.view_core.proofs.Standing.{standing_part}
 use Rattle.view_core.proofs.Texts.{stands_first, stands_then, length-places}
 
@@ -94,27 +95,35 @@ none_walked bytes words a b parts fits opened a_is b_is =
       shards_are = b_is;
     }
 
-abbrev pub Tells : List ℕ → PartAt → List ℕ → Type 0
-Tells words part others = words ≡ part.ranges.count ∷ part.ranges.at ∷ length part.blocks.now ∷ part.blocks.now ++ others
+pub record Tells (words : List ℕ) (part : PartAt) (others : List ℕ) : Type 0 where
+  pub are : words ≡ part.ranges.count ∷ part.ranges.at ∷ length part.blocks.now ∷ part.blocks.now ++ part.buckets.now ++ others
+  pub alike : length part.buckets.now ≡ length part.blocks.now
 
 -- the words tell of a part that stands in the bytes
 record TellsPart (at : ℕ) (s : SealedFields) (left : List SealedFields) (part : PartAt) (others : List ℕ) : Type 0 where
   count : length s.part.head.ranges ≡ part.ranges.count
   ranges : part.ranges.at ≡ ranges_at at
   blocks : part.blocks.now ≡ places_of block_text (blocks_at at s.part) s.part.blocks
+  buckets : part.buckets.now ≡ buckets_of s.part.blocks
   others_are : others ≡ parts_index (at + length (spelling s)) left
 
 tells_part : (at : ℕ) (s : SealedFields) (left : List SealedFields) (part : PartAt) (words others : List ℕ) → words ≡ parts_index at (s ∷ left) → Tells words part others → TellsPart at s left part others
 tells_part at s left part words others is tells =
-    let same = sym tells ∙ is in
-    let rest = ap (drop 3) same in
-    let len : length part.blocks.now ≡ length (places_of block_text (blocks_at at s.part) s.part.blocks)
-    = ap (λ (l : List ℕ). get_or l 2 0) same ∙ sym (length-places block_text (blocks_at at s.part) s.part.blocks) in
-    let split = same_split part.blocks.now (places_of block_text (blocks_at at s.part) s.part.blocks) others (parts_index (at + length (spelling s)) left) len rest in
+    let places = places_of block_text (blocks_at at s.part) s.part.blocks in
+    let same = sym tells.are ∙ is in
+    let many = ap (λ (l : List ℕ). get_or l 2 0) same in
+    let len : length part.blocks.now ≡ length places = many ∙ sym (length-places block_text (blocks_at at s.part) s.part.blocks) in
+    let wide : length part.buckets.now ≡ length (buckets_of s.part.blocks) = tells.alike ∙ many ∙ sym (length-buckets s.part.blocks) in
+    let both : length (part.blocks.now ++ part.buckets.now) ≡ length (places ++ buckets_of s.part.blocks)
+    = omega (arith, len, wide, length-append part.blocks.now part.buckets.now, length-append places (buckets_of s.part.blocks)) in
+    let split = same_split (part.blocks.now ++ part.buckets.now) (places ++ buckets_of s.part.blocks) others (parts_index (at + length (spelling s)) left) both
+    (ap (drop 3) same) in
+    let own = same_split part.blocks.now places part.buckets.now (buckets_of s.part.blocks) len split.0 in
     record {
       count = sym (ap (λ (l : List ℕ). get_or l 0 0) same);
       ranges = ap (λ (l : List ℕ). get_or l 1 0) same;
-      blocks = split.0;
+      blocks = own.0;
+      buckets = own.1;
       others_are = split.1;
     }
 
@@ -126,6 +135,7 @@ is_part bytes shards before at s left part others fit text ascend are t =
       ranges = record { fit = fit.part.head.ranges; count_is = t.count; text = subst (λ (n : ℕ). Stands bytes n (flat_map range_text s.part.head.ranges)) (sym t.ranges) holds.ranges };
       blocks_begin = blocks_at at s.part;
       blocks = record { fit = fit.part.blocks; places_are = t.blocks; text = holds.blocks };
+      buckets = t.buckets;
       shards_are = λ i d lt.
           let h = has_shards (blocks_at at s.part) s.part.blocks i d lt in
           let own = shards_in (get_or (places_of block_text (blocks_at at s.part) s.part.blocks) i 0) (get_or s.part.blocks i d).body in
@@ -147,7 +157,7 @@ pub record IsNext (bytes shards others : List ℕ) (parts walked : List SealedFi
 next_of : (bytes shards words others : List ℕ) (parts walked : List SealedFields) (part : PartAt) (left : List SealedFields)
     → (a : AreWalked bytes shards words parts walked) → a.left ≡ left → Tells words part others → IsNext bytes shards others parts walked part
 next_of bytes shards words others parts walked part [] a is tells =
-    let none : ◌≡◌ {A = List ℕ} (part.ranges.count ∷ part.ranges.at ∷ length part.blocks.now ∷ part.blocks.now ++ others) [] = sym tells ∙ a.words_are ∙ ap (parts_index a.at) is in
+    let none : ◌≡◌ {A = List ℕ} (part.ranges.count ∷ part.ranges.at ∷ length part.blocks.now ∷ part.blocks.now ++ part.buckets.now ++ others) [] = sym tells.are ∙ a.words_are ∙ ap (parts_index a.at) is in
     absurd (omega (arith, ap length none))
 next_of bytes shards words others parts walked part (s ∷ left) a is tells =
     let fit = subst (All Fits) is a.fit in
@@ -177,7 +187,7 @@ next_walked bytes shards words others parts walked part a tells = next_of bytes 
 
 -- the words tell of no part
 abbrev pub TellNone : List ℕ → Type 0
-TellNone words = (x y : ℕ) (own behind : List ℕ) → words ≡ x ∷ y ∷ length own ∷ own ++ behind → ⊥
+TellNone words = (x y : ℕ) (own table behind : List ℕ) → length table ≡ length own → words ≡ x ∷ y ∷ length own ∷ own ++ table ++ behind → ⊥
 
 -- all were walked, where the words tell of none
 all_of : (bytes shards words : List ℕ) (parts walked left : List SealedFields) → (a : AreWalked bytes shards words parts walked) → a.left ≡ left → TellNone words → parts ≡ walked
@@ -185,8 +195,9 @@ all_of bytes shards words parts walked [] a is none = a.parts_are ∙ ap (λ (l 
 all_of bytes shards words parts walked (s ∷ left) a is none =
     let places = places_of block_text (blocks_at a.at s.part) s.part.blocks in
     let long : length places ≡ length s.part.blocks = length-places block_text (blocks_at a.at s.part) s.part.blocks in
-    absurd (none (length s.part.head.ranges) (ranges_at a.at) places (parts_index (a.at + length (spelling s)) left)
-    (a.words_are ∙ ap (parts_index a.at) is ∙ ap (λ (n : ℕ). length s.part.head.ranges ∷ ranges_at a.at ∷ n ∷ places ++ parts_index (a.at + length (spelling s)) left) (sym long)))
+    let table = buckets_of s.part.blocks in
+    absurd (none (length s.part.head.ranges) (ranges_at a.at) places table (parts_index (a.at + length (spelling s)) left) (length-buckets s.part.blocks ∙ sym long)
+    (a.words_are ∙ ap (parts_index a.at) is ∙ ap (λ (n : ℕ). length s.part.head.ranges ∷ ranges_at a.at ∷ n ∷ places ++ table ++ parts_index (a.at + length (spelling s)) left) (sym long)))
 
 pub all_walked : (bytes shards words : List ℕ) (parts walked : List SealedFields) → AreWalked bytes shards words parts walked → TellNone words → parts ≡ walked
 all_walked bytes shards words parts walked a none = all_of bytes shards words parts walked a.left a refl none

@@ -1,5 +1,7 @@
 -- The index of a store: where its parts' ranges, blocks and shards begin, as offsets from the store's first byte.
-use Rattle.std.specs.Prelude.{ℕ, Bool, ◌+◌, ◌*◌, List, [], ◌∷◌, ◌++◌, length}
+use Rattle.std.specs.Prelude.{ℕ, Bool, ◌+◌, ◌*◌, ◌/◌, ◌^◌, List, [], ◌∷◌, ◌++◌, length, map, take, count_by, nat_lt}
+use Rattle.std.specs.List.{range_with_len}
+use Rattle.octets_core.specs.Numbers.{number}
 use Rattle.ident_core.specs.declared.layout.TheConstants.{RANGE_BYTES}
 use Rattle.card_core.specs.declared.block.Block.{Block}
 use Rattle.card_core.specs.declared.block.Body.{Body}
@@ -18,9 +20,23 @@ ranges_at at = at + PART_HEAD
 abbrev pub blocks_at : ℕ → PartFields → ℕ
 blocks_at at p = ranges_at at + RANGE_BYTES * length p.head.ranges + COUNT
 
--- of a part that begins at this place: how many ranges, where they begin, how many blocks, and where each begins
+-- the bucket of a key, of so many that share the keys in order, by the number of its first eight octets
+abbrev pub bucket_in : ℕ → List ℕ → ℕ
+bucket_in count key = number (take 8 key) * count / 2 ^ 64
+
+-- how many blocks have an issuer of a bucket before this one, of so many
+abbrev pub before_bucket : ℕ → List Block → ℕ → ℕ
+before_bucket count blocks bucket = count_by (λ b. nat_lt (bucket_in count b.issuer) bucket) blocks
+
+-- the same before each bucket, of as many as there are blocks
+abbrev pub buckets_of : List Block → List ℕ
+buckets_of blocks = map (before_bucket (length blocks) blocks) (range_with_len 0 (length blocks))
+
+-- of a part that begins at this place: how many ranges, where they begin, how many blocks, where each begins, and the
+-- table of buckets
 abbrev pub part_index : ℕ → PartFields → List ℕ
-part_index at p = length p.head.ranges ∷ ranges_at at ∷ length p.blocks ∷ places_of block_text (blocks_at at p) p.blocks
+part_index at p =
+    length p.head.ranges ∷ ranges_at at ∷ length p.blocks ∷ places_of block_text (blocks_at at p) p.blocks ++ buckets_of p.blocks
 
 -- of parts one after the other
 abbrev pub parts_index : ℕ → List SealedFields → List ℕ

@@ -1,5 +1,6 @@
 pub mod Texts
 pub mod Index
+pub mod Buckets
 pub mod Opening
 pub mod Covering
 pub mod Stages

@@ -16,6 +16,7 @@ ghost use Rattle.view_core.specs.Index.{blocks_at, part_index, parts_index, inde
 ghost use Rattle.view_core.specs.Index.{has_shards, shards_in, shards_of as shards_of_blocks, shards_index};
 ghost use Rattle.view_core.specs.Filling.{Wrote, Walked, WentOn};
 
+use crate::buckets::put_buckets;
 use crate::ends::{block_end, shard_end, shards_of};
 use crate::layout::{BLOCK_HEAD, COUNT, PART_HEAD, STORE_HEAD, VERSION};
 use crate::reading::{number8_at, number16_at, number32_at};
@@ -136,7 +137,7 @@ fn put_part(store: &[u8], from: Walk, index: &mut [u32]) -> Option<Walk>
     requires room { from.to ≤ 2 ^ 61 }
     ensures value { (s : SealedFields) → Fits s → Stands store.now from.at (spelling s)
         → Walked index.old index.new from (length (spelling s)) (part_index from.at s.part) result }
-    ensures went { IfSome result (WentOn (length store.now) (2 ^ 33) from) }
+    ensures went { IfSome result (WentOn (length store.now) (2 ^ 34) from) }
 {
     let counts = counts_at(store, from.at)?;
     put(index, from.to, u32::from(counts.ranges));
@@ -147,7 +148,12 @@ fn put_part(store: &[u8], from: Walk, index: &mut [u32]) -> Option<Walk>
         to: from.to + 3,
     };
     let walk = put_blocks(store, blocks, counts.blocks, index)?;
-    behind_trailer(store, walk)
+    put_buckets(store, blocks.to, counts.blocks as usize, index);
+    let behind = Walk {
+        at: walk.at,
+        to: walk.to + counts.blocks as usize,
+    };
+    behind_trailer(store, behind)
 }
 
 /// Writes what the index tells of so many parts.
@@ -162,7 +168,7 @@ fn put_parts(store: &[u8], from: Walk, count: u8, index: &mut [u32]) -> Option<P
         → Walked index.old index.new from (length (flat_map spelling parts)) (parts_index from.at parts) (Some gone.walk)) }
     ensures sharded { IfSome result (λ gone. (parts : List SealedFields) → All Fits parts → length parts ≡ count
         → Stands store.now from.at (flat_map spelling parts) → gone.sharded ≡ list_any has_shards parts) }
-    ensures went { IfSome result (λ gone. WentOn (length store.now) (2 ^ 33 * count) from gone.walk) }
+    ensures went { IfSome result (λ gone. WentOn (length store.now) (2 ^ 34 * count) from gone.walk) }
 {
     let mut walk = from;
     let mut sharded = false;

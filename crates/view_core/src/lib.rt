@@ -2,6 +2,7 @@
 #![tactic(auto)]
 
 mod block;
+mod buckets;
 mod check;
 mod ends;
 mod fill;

@@ -15,11 +15,12 @@ use equation_core::Draws;
 use octets_core::Steps;
 use std::sync::ledger::Ledger;
 
-/// Where a part's ranges stand, and where each of its blocks begins.
+/// Where a part's ranges stand, where each of its blocks begins, and the table of their buckets.
 #[derive(Clone, Copy, Debug)]
 pub(crate) struct PartAt<'a> {
     pub ranges: RangesAt,
     pub blocks: &'a [u32],
+    pub buckets: &'a [u32],
 }
 
 /// What the part says of the certificate. The places are those of shards. Each comparison of issuers is one probe, and
@@ -47,7 +48,7 @@ pub(crate) fn part_says<S: Seen, L: Ledger, M: Ledger>(
     if !cover_some_at(bytes, part.ranges, sightings) {
         return Verdict::NotCovered;
     }
-    let Some(place) = place_of(bytes, part.blocks, &draws.id().issuer, probes) else {
+    let Some(place) = place_of(bytes, part.blocks, part.buckets, &draws.id().issuer, probes) else {
         return Verdict::NotEnrolled;
     };
     if block_says(bytes, part.blocks[place] as usize, shards, draws, words) {

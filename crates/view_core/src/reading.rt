@@ -69,7 +69,7 @@ pub(crate) fn number64_at(bytes: &[u8], at: usize) -> u64
 
 /// The number that the first eight bytes of a key spell that stands at a place, greatest first.
 #[inline(always)]
-fn first_eight_at(bytes: &[u8], at: usize) -> u64
+pub(crate) fn first_eight_at(bytes: &[u8], at: usize) -> u64
     ensures value { (key : List ℕ) → length key ≡ 32 → Stands bytes.now at key → result ≡ number (take 8 key) }
     ensures octets { (i : ℕ) → get_or bytes.now i 0 < 256 }
 {

@@ -42,28 +42,33 @@ fn split_index(index: &[u32]) -> (&[u32], &[u32])
 /// What the words tell of a part, and the words behind it.
 fn next_part(words: &[u32]) -> Option<(PartAt<'_>, &[u32])>
     ensures some { IfSome result (λ x. words.now
-        ≡ x.0.ranges.count ∷ x.0.ranges.at ∷ length x.0.blocks.now ∷ x.0.blocks.now ++ x.1.now) }
+        ≡ x.0.ranges.count ∷ x.0.ranges.at ∷ length x.0.blocks.now ∷ x.0.blocks.now ++ x.0.buckets.now ++ x.1.now) }
+    ensures alike { IfSome result (λ x. length x.0.buckets.now ≡ length x.0.blocks.now) }
+    ensures fewer { IfSome result (λ x. length x.1.now < length words.now) }
     ensures few { IfSome result (λ x. (x.0.ranges.at < 2 ^ 32) × (x.0.ranges.count < 2 ^ 32)) }
-    ensures none { IsNone result → (count at : ℕ) (blocks behind : List ℕ)
-        → words.now ≡ count ∷ at ∷ length blocks ∷ blocks ++ behind → ⊥ }
+    ensures none { IsNone result → (count at : ℕ) (blocks buckets behind : List ℕ) → length buckets ≡ length blocks
+        → words.now ≡ count ∷ at ∷ length blocks ∷ blocks ++ buckets ++ behind → ⊥ }
 {
     if words.len() < 3 {
         return None;
     }
-    let blocks = words[2] as usize;
-    if words.len() - 3 < blocks {
+    let count = words[2] as usize;
+    if words.len() - 3 < 2 * count {
         return None;
     }
     let ranges = RangesAt {
         at: words[1] as usize,
         count: words[0] as usize,
     };
+    let (blocks, rest) = words[3..].split_at(count);
+    let (buckets, rest) = rest.split_at(count);
     Some((
         PartAt {
             ranges,
-            blocks: &words[3..3 + blocks],
+            blocks,
+            buckets,
         },
-        &words[3 + blocks..],
+        rest,
     ))
 }
 

@@ -16,5 +16,5 @@ invariant-loop l = record {
       → Went spelling part_words l.initial.index l.index l.fn.from (take l.counter parts) l.walk;
   sharded : (parts : List SealedFields) → All Fits parts → length parts ≡ l.count → Stands l.store l.fn.from.at (flat_map spelling parts)
       → l.sharded ≡ list_any has_shards (take l.counter parts);
-  went : WentOn (length l.store) (2 ^ 33 * l.counter) l.fn.from l.walk;
+  went : WentOn (length l.store) (2 ^ 34 * l.counter) l.fn.from l.walk;
 }

@@ -14,7 +14,7 @@ pub returns-then-block_says-clause-value : goal.returns-then-block_says-clause-v
 returns-then-block_says-clause-value g c = λ p is.
     part_says_so c.args.bytes.now c.args.shards.now c.args.part.now p c.args.draws.now (map g.S.Seen.sighting c.args.sightings.now) c.in-Some.place true is
     (sym (c.if-not-cover_some_at.ensures p.head.ranges is.ranges)) (subst (λ (x : Identity). IsPlaceOf x.issuer p.blocks (Some c.in-Some.place)) c.id.ensures
-    (c.in-Some.ensures.place is.blocks_begin p.blocks is.blocks)) c.if-block_says.ensures.value
+    (c.in-Some.ensures.place is.blocks_begin p.blocks is.blocks is.buckets)) c.if-block_says.ensures.value
 
 pub returns-then-block_says-clause-few_probes : goal.returns-then-block_says-clause-few_probes
 returns-then-block_says-clause-few_probes g c = λ p is.
@@ -25,7 +25,7 @@ pub returns-else-block_says-clause-value : goal.returns-else-block_says-clause-v
 returns-else-block_says-clause-value g c = λ p is.
     part_says_so c.args.bytes.now c.args.shards.now c.args.part.now p c.args.draws.now (map g.S.Seen.sighting c.args.sightings.now) c.in-Some.place false is
     (sym (c.if-not-cover_some_at.ensures p.head.ranges is.ranges)) (subst (λ (x : Identity). IsPlaceOf x.issuer p.blocks (Some c.in-Some.place)) c.id.ensures
-    (c.in-Some.ensures.place is.blocks_begin p.blocks is.blocks)) c.if-block_says.ensures.value
+    (c.in-Some.ensures.place is.blocks_begin p.blocks is.blocks is.buckets)) c.if-block_says.ensures.value
 
 pub returns-else-block_says-clause-few_probes : goal.returns-else-block_says-clause-few_probes
 returns-else-block_says-clause-few_probes g c = λ p is.

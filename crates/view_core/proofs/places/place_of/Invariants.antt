@@ -6,7 +6,7 @@ use Rattle.view_core.proofs.places.place_of.Given as goal
 abbrev pub invariant-loop-low : goal.invariant-loop-low
 invariant-loop-low g l = record {
   steps : Halving (length l.places) l.fn.probes l.probes l.low l.high;
-  lacks : Lacks l.bytes l.places l.issuer l.low l.high;
+  lacks : Lacks l.bytes l.places l.buckets l.issuer l.low l.high;
 }
 
 abbrev pub decreases-loop-low : goal.decreases-loop-low

@@ -17,7 +17,7 @@ pub loop-part-preserved : goal.loop-part-preserved
 loop-part-preserved c = record {
   kept = λ parts opened.
       next_kept c.args.store.now c.loop-part.rest.now c.in-Some.others.now parts c.loop-part.newest c.in-Some.part
-      (c.loop-part.invariant.kept parts opened) c.in-Some.ensures.some;
+      (c.loop-part.invariant.kept parts opened) (record { are = c.in-Some.ensures.some; alike = c.in-Some.ensures.alike });
   at = c.in-Some.ensures.few.0;
   count = c.in-Some.ensures.few.1;
 }

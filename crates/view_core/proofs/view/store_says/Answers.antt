@@ -17,14 +17,12 @@ loop-part-init g c = record {
   words = omega arith;
 }
 
-pub loop-part-smaller : goal.loop-part-smaller
-loop-part-smaller g c = omega (arith, ap length c.in-Some.ensures.some, length-append c.in-Some.part.blocks.now c.in-Some.others.now)
-
 pub loop-part-preserved : goal.loop-part-preserved
 loop-part-preserved g c = record {
   asked = λ parts opened.
       let n = next_asked c.args.store.now c.split_index.result.1.now c.loop-part.rest.now c.in-Some.others.now c.args.id.now (map g.S.Seen.sighting c.args.sightings.now) parts
-      c.loop-part.verdict c.args.probes.now c.loop-part.probes c.args.words.now c.loop-part.words c.in-Some.part (c.loop-part.invariant.asked parts opened) c.in-Some.ensures.some in
+      c.loop-part.verdict c.args.probes.now c.loop-part.probes c.args.words.now c.loop-part.words c.in-Some.part (c.loop-part.invariant.asked parts opened)
+      (record { are = c.in-Some.ensures.some; alike = c.in-Some.ensures.alike }) in
       let e = c.part_says-said.ensures in
       let value = subst (λ (x : Identity). c.part_says-said.result ≡ verdict (n.next.part ∷ []) x (map g.S.Seen.sighting c.args.sightings.now)) c.loop-part.invariant.draws (e.value n.next.part n.is) in
       let one : IsAsked c.args.id.now (map g.S.Seen.sighting c.args.sightings.now) (n.next.part ∷ []) c.part_says-said.result c.loop-part.probes
