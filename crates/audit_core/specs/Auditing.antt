@@ -1,5 +1,6 @@
 -- What is true of a store and the jobs by which it is audited.
-use Rattle.std.specs.Prelude.{◌≡◌, ◌≢◌, ◌⊎◌, ℕ, ◌<◌, List, [], ◌∷◌, length, map, take, sum_by, Bool, Option, Some, None, Result, Ok, Err, All, IsOk, slice_get}
+use Rattle.std.specs.Prelude.{◌≡◌, ◌≢◌, ◌⊎◌, ℕ, ◌<◌, List, [], ◌∷◌, length, map, take, sum_by, Bool, Option, Some}
+use Rattle.std.specs.Prelude.{None, Result, Ok, Err, All, IsOk, slice_get}
 use Rattle.ident_core.specs.Coverage.{RangesFit}
 use Rattle.ident_core.specs.HeadFields.{zero_key}
 use Rattle.card_core.specs.PartFields.{PartFields}

@@ -1,5 +1,6 @@
 -- What the last ledger of some jobs tells of an entry of one of them, and what parts say of it.
-use Rattle.std.specs.Prelude.{◌≡◌, ◌≢◌, ℕ, ◌<◌, List, [], ◌∷◌, Bool, true, false, not, ◌&&◌, if◌then◌else◌, Option, Some, None, slice_get, is_some}
+use Rattle.std.specs.Prelude.{◌≡◌, ◌≢◌, ℕ, ◌<◌, List, [], ◌∷◌, Bool, true, false, not, ◌&&◌, if◌then◌else◌, Option}
+use Rattle.std.specs.Prelude.{Some, None, slice_get, is_some}
 use Rattle.ident_core.specs.Coverage.{covers}
 use Rattle.card_core.specs.PartFields.{PartFields}
 use Rattle.card_core.specs.declared.verdict.Verdict.{Verdict}
@@ -66,7 +67,8 @@ is_told tells None = false
 is_told tells (Some e) = is_some (tells e)
 
 -- the fault is that of the first entry that is a disagreement, in the job at place j
-pub record IsFirstOf (parts : List PartFields) (tells : Entry → Option Bool) (j : ℕ) (entries : List (Option Entry)) (e : AuditFault) : Type 0 where
+pub record IsFirstOf (parts : List PartFields) (tells : Entry → Option Bool) (j : ℕ) (entries : List (Option Entry))
+    (e : AuditFault) : Type 0 where
   pub place : ℕ
   pub held : Verdict
   pub listed : Bool

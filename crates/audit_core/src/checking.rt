@@ -1,6 +1,7 @@
 //! What parts say of the entries that a job accepts.
 
-ghost use Rattle.std.specs.Prelude.{◌≡◌, ◌≤◌, ◌<◌, ◌+◌, ◌*◌, ◌/◌, ◌%◌, ◌^◌, [], ◌∷◌, List, length, map, count_by, slice_index_or, IfOk, IfErr, IfSome, OnOk};
+ghost use Rattle.std.specs.Prelude.{◌≡◌, ◌≤◌, ◌<◌, ◌+◌, ◌*◌, ◌/◌, ◌%◌, ◌^◌, [], ◌∷◌, List, length, map, count_by};
+ghost use Rattle.std.specs.Prelude.{slice_index_or, IfOk, IfErr, IfSome, OnOk};
 ghost use Rattle.card_core.specs.PartFields.{PartFields};
 ghost use Rattle.job_core.specs.declared.bounds.TheConstants.Limits.{PUBLISHED};
 ghost use Rattle.ledger_core.specs.LedgerFields.{part_fields};
@@ -56,7 +57,8 @@ fn told_at<'a>(
 ) -> Option<Told<'a>>
     requires { IsSearchable part.now }
     ensures { (parts : List PartFields)
-        → agreement_at parts (listing_of ledger.now (part_fields part.now)) entries.now place ≡ agreement_told result (said_told parts result) }
+        → agreement_at parts (listing_of ledger.now (part_fields part.now)) entries.now place
+        ≡ agreement_told result (said_told parts result) }
 {
     let entry = entries.get(place)?.as_ref()?;
     let listed = listing(ledger, part, entry, guess)?;
@@ -139,8 +141,10 @@ fn four_with(
     requires part { IsSearchable part.now }
     requires room { place + 3 < 2 ^ 64 }
     requires known { 0 < place % 4
-        → four ≡ agreements_from (map (λ s. s.part) store.now) (listing_of ledger.now (part_fields part.now)) entries.now (4 * (place / 4)) }
-    ensures { result ≡ agreements_from (map (λ s. s.part) store.now) (listing_of ledger.now (part_fields part.now)) entries.now (4 * (place / 4)) }
+        → four ≡ agreements_from (map (λ s. s.part) store.now)
+        (listing_of ledger.now (part_fields part.now)) entries.now (4 * (place / 4)) }
+    ensures { result ≡ agreements_from (map (λ s. s.part) store.now)
+        (listing_of ledger.now (part_fields part.now)) entries.now (4 * (place / 4)) }
 {
     if place % 4 == 0 {
         ask_four(store, ledger, part, entries, 4 * (place / 4))
@@ -166,9 +170,12 @@ pub(crate) fn check_entries(
 ) -> Result<u32, AuditFault>
     requires part { IsSearchable part.now }
     requires few { length entries.now ≤ PUBLISHED.entries }
-    ensures fine { OnOk result (AreFine (map (λ s. s.part) store.now) (listing_of ledger.now (part_fields part.now)) entries.now (length entries.now)) }
+    ensures fine { OnOk result
+        (AreFine (map (λ s. s.part) store.now) (listing_of ledger.now (part_fields part.now)) entries.now
+        (length entries.now)) }
     ensures count { IfOk result (λ n. n ≡ count_by (is_told (listing_of ledger.now (part_fields part.now))) entries.now) }
-    ensures first { IfErr result (λ e. IsFirstOf (map (λ s. s.part) store.now) (listing_of ledger.now (part_fields part.now)) job entries.now e) }
+    ensures first { IfErr result (λ e.
+        IsFirstOf (map (λ s. s.part) store.now) (listing_of ledger.now (part_fields part.now)) job entries.now e) }
 {
     let mut accepted = 0;
     let mut four = [Agreement::Skipped; 4];

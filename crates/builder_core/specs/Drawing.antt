@@ -9,4 +9,6 @@ use Rattle.equation_core.specs.Shards.{shard}
 
 -- the shards of the run at a place
 abbrev pub AreDrawnAt : ℕ → List (Bor (List Identity)) → ℕ → Vec ℕ Global → Type 0
-AreDrawnAt shift runs place shards = (run : List Identity) → slice_get (map (λ (r : Bor (List Identity)). r.now) runs) place ≡ Some run → shards.items ≡ map (λ x. shard x shift) run
+AreDrawnAt shift runs place shards =
+    (run : List Identity) → slice_get (map (λ (r : Bor (List Identity)). r.now) runs) place ≡ Some run
+    → shards.items ≡ map (λ x. shard x shift) run

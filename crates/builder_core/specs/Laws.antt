@@ -21,8 +21,10 @@ use Rattle.builder_core.specs.Outcomes.{IsOutcomeAt, AreOutcomes, IsFirstFault}
 -- in each format the test of each identity of a group is its flag
 abbrev pub GroupBlockIsExact : Type 0
 GroupBlockIsExact =
-    (format : Format) (rows : Rows) (g : GroupFields) (block : Block) → length g.revoked ≡ length g.universe → IsGroupBlock format rows g block
-    → (i : ℕ) (x : Identity) → i < length g.universe → is_positive rows (slice_index_or g.universe i x) block.body ≡ slice_index_or g.revoked i false
+    (format : Format) (rows : Rows) (g : GroupFields) (block : Block) → length g.revoked ≡ length g.universe
+    → IsGroupBlock format rows g block
+    → (i : ℕ) (x : Identity) → i < length g.universe
+    → is_positive rows (slice_index_or g.universe i x) block.body ≡ slice_index_or g.revoked i false
 
 abbrev pub GroupBlocksAreUnique : Type 0
 GroupBlocksAreUnique = (format : Format) (rows : Rows) (groups : List GroupFields) (a b : List Block)
@@ -63,6 +65,7 @@ OneIsFirstRefused =
 -- refused makes its group the first that is refused.
 abbrev pub OutcomesGiveBlocks : Type 0
 OutcomesGiveBlocks =
-    (format : Format) (rows : Rows) (groups : List GroupFields) (outcomes : List (Result Built BuildFault)) → AreOutcomes rows (tasks_in format groups) outcomes
+    (format : Format) (rows : Rows) (groups : List GroupFields) (outcomes : List (Result Built BuildFault))
+    → AreOutcomes rows (tasks_in format groups) outcomes
     → ((built : List Built) → outcomes ≡ map Ok built → (blocks : List Block) × AreGroupBlocks format rows groups blocks)
     × ((issuer : List ℕ) (stage : ℕ) → IsFirstFault outcomes (SeedsExhausted issuer stage) → IsFirstRefused format rows groups issuer stage)

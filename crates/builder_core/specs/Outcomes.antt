@@ -29,7 +29,8 @@ IsBuilt rows t (builts.Leaf s) =
 abbrev pub IsTaskRefused : Rows → GroupFields → ℕ → ℕ → ℕ → Type 0
 IsTaskRefused rows g zero shard stage = IsBlockRefused rows 0 g.universe g.revoked stage
 IsTaskRefused rows g (suc s) shard stage =
-    IsRefused rows (in_shard (suc s) shard (flagged g.universe g.revoked)) (in_shard (suc s) shard (flagged g.universe (map not g.revoked))) stage
+    IsRefused rows (in_shard (suc s) shard (flagged g.universe g.revoked))
+    (in_shard (suc s) shard (flagged g.universe (map not g.revoked))) stage
 
 -- a leaf, or the refusal, or want of memory
 abbrev pub BuildsTask : Rows → TaskFields → Result Built BlockFault → Type 0
@@ -51,7 +52,8 @@ IsSettled outcome settled = settled ≡ Ok outcome
 
 -- the outcome of the leaf at a place, which isn't want of memory
 abbrev pub IsOutcomeAt : Rows → List TaskFields → ℕ → Result Built BuildFault → Type 0
-IsOutcomeAt rows tasks place outcome = (outcome ≢ Err NoMemory) × ((t : TaskFields) → slice_get tasks place ≡ Some t → IsOutcome rows t outcome)
+IsOutcomeAt rows tasks place outcome =
+    (outcome ≢ Err NoMemory) × ((t : TaskFields) → slice_get tasks place ≡ Some t → IsOutcome rows t outcome)
 
 -- an outcome for each leaf, in order
 abbrev pub AreOutcomes : Rows → List TaskFields → List (Result Built BuildFault) → Type 0

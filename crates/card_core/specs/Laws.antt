@@ -5,7 +5,8 @@ use Rattle.equation_core.specs.Rows.{Rows}
 use Rattle.card_core.specs.declared.block.Block.{Block}
 use Rattle.card_core.specs.declared.leaf.Leaf.{Leaf}
 use Rattle.card_core.specs.Leaf.{IsLeaf, IsRefused, is_leaf_positive}
-use Rattle.card_core.specs.Filter.{Filter, IsBlock, IsBlockRefused, IsFilter, IsRefusedIn, IsRefusedShard, as_body, is_filtered, is_positive}
+use Rattle.card_core.specs.Filter.{Filter, IsBlock, IsBlockRefused, IsFilter, IsRefusedIn, IsRefusedShard, as_body}
+use Rattle.card_core.specs.Filter.{is_filtered, is_positive}
 
 -- each universe and its revoked part have a leaf, or a stage is refused
 abbrev pub LeafOrRefusal : Type 0
@@ -27,7 +28,9 @@ LeafIsExact = (rows : Rows) (revoked others : List Identity) (leaf : Leaf)
     → IsLeaf rows revoked others leaf → IsExactOn revoked others (λ x. is_leaf_positive rows x leaf)
 
 abbrev pub LeafIsUnique : Type 0
-LeafIsUnique = (rows : Rows) (revoked others : List Identity) (a b : Leaf) → IsLeaf rows revoked others a → IsLeaf rows revoked others b → a ≡ b
+LeafIsUnique =
+    (rows : Rows) (revoked others : List Identity) (a b : Leaf) → IsLeaf rows revoked others a
+    → IsLeaf rows revoked others b → a ≡ b
 
 -- where a stage is refused there is no leaf
 abbrev pub RefusedHasNoLeaf : Type 0
@@ -70,7 +73,8 @@ abbrev pub BlockIsExact : Type 0
 BlockIsExact =
     (rows : Rows) (shift : ℕ) (issuer : List ℕ) (universe : List Identity) (flags : List Bool) (block : Block)
     → length flags ≡ length universe → IsBlock rows shift issuer universe flags block
-    → (i : ℕ) (x : Identity) → i < length universe → is_positive rows (slice_index_or universe i x) block.body ≡ slice_index_or flags i false
+    → (i : ℕ) (x : Identity) → i < length universe
+    → is_positive rows (slice_index_or universe i x) block.body ≡ slice_index_or flags i false
 
 abbrev pub BlockIsUnique : Type 0
 BlockIsUnique = (rows : Rows) (shift : ℕ) (issuer : List ℕ) (universe : List Identity) (flags : List Bool) (a b : Block)

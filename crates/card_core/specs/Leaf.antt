@@ -57,7 +57,8 @@ exact_equations rows revoked passed seed =
 -- whether each plane solves the identity's own equation
 abbrev pub accepts : Rows → Stage → Identity → Bool
 accepts rows s x =
-    list_all (λ p. sum_of (equation_of (rows 1 s.seed x s.planes.starts)) (slice_index s.planes.columns p) == bit_at (rows 1 s.seed x s.planes.starts).tag p)
+    list_all (λ p. sum_of (equation_of (rows 1 s.seed x s.planes.starts)) (slice_index s.planes.columns p)
+    == bit_at (rows 1 s.seed x s.planes.starts).tag p)
     (range_with_len 0 (length s.planes.columns))
 
 -- with no approximate stage all are passed

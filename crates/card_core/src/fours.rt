@@ -170,7 +170,8 @@ impl Part {
     ) -> [Verdict; 4]
         ensures said { result
             ≡ verdict (self.now ∷ []) a.old.certificate a.old.sightings.now ∷ verdict (self.now ∷ []) b.old.certificate b.old.sightings.now
-            ∷ verdict (self.now ∷ []) c.old.certificate c.old.sightings.now ∷ verdict (self.now ∷ []) d.old.certificate d.old.sightings.now ∷ [] }
+            ∷ verdict (self.now ∷ []) c.old.certificate c.old.sightings.now
+            ∷ verdict (self.now ∷ []) d.old.certificate d.old.sightings.now ∷ [] }
         ensures a { a.new ≡ a.old }
         ensures b { b.new ≡ b.old }
         ensures c { c.new ≡ c.old }

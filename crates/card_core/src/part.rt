@@ -69,7 +69,8 @@ impl Part {
 
     // The body of the block of the certificate's issuer, if there is one. What the block says is what the body says.
     pub(crate) fn body_of<L: Ledger>(&self, id: &Identity, probes: &mut Steps<L>) -> Option<&Body>
-        ensures value { (rows : Rows) → consulted rows id.now self.now.blocks ≡ option_map (λ body. is_positive rows id.now body.now) result }
+        ensures value { (rows : Rows)
+            → consulted rows id.now self.now.blocks ≡ option_map (λ body. is_positive rows id.now body.now) result }
         ensures more { probes.old ≤ probes.new }
         ensures few { 2 ^ (probes.new - probes.old) ≤ 2 * length self.now.blocks + 1 }
     {

@@ -1,5 +1,6 @@
 -- The draws of a schedule, as seats make them under the rule of the counter.
-use Rattle.std.specs.Prelude.{◌≡◌, ◌<◌, ◌%◌, ◌^◌, ◌==◌, ◌++◌, ℕ, false, List, [], ◌∷◌, length, map, filter, replicate, All, slice_index_or, slice_set}
+use Rattle.std.specs.Prelude.{◌≡◌, ◌<◌, ◌%◌, ◌^◌, ◌==◌, ◌++◌, ℕ, false, List, [], ◌∷◌, length, map, filter, replicate}
+use Rattle.std.specs.Prelude.{All, slice_index_or, slice_set}
 use Rattle.claim_core.specs.declared.rule.View.{View}
 use Rattle.claim_core.specs.declared.schedule.Draw.{Draw}
 use Rattle.claim_core.specs.Counting.{view_of, drawn, IsCounted}
@@ -27,4 +28,6 @@ drawn_by worker ds = map (λ d. d.number) (filter (λ d. d.worker == worker) ds)
 abbrev pub SeatsDrawTheSchedule : Type 0
 SeatsDrawTheSchedule = (seats : ℕ) (schedule : List ℕ) → All (λ w. w < seats) schedule
     → IsCounted (length schedule % 2 ^ 64 ∷ []) (played (replicate seats fresh) schedule)
-    × ((w : ℕ) → w < seats → (slice_index_or (played (replicate seats fresh) schedule) w fresh).numbers ≡ map (λ n. n % 2 ^ 64) (drawn_by w (draws schedule)))
+    × ((w : ℕ) → w < seats
+    → (slice_index_or (played (replicate seats fresh) schedule) w fresh).numbers
+    ≡ map (λ n. n % 2 ^ 64) (drawn_by w (draws schedule)))

@@ -12,7 +12,9 @@ is_known_in_entry oid = is_id_ce 0x15 oid || is_id_ce 0x18 oid || is_id_ce 0x1d 
 -- CRL number, authority key identifier, freshest CRL, issuer alternative name, issuing distribution point, delta CRL
 -- indicator (5.2.1 to 5.2.6)
 abbrev pub is_known_in_crl : List ℕ → Bool
-is_known_in_crl oid = is_id_ce 0x14 oid || is_id_ce 0x23 oid || is_id_ce 0x2e oid || is_id_ce 0x12 oid || is_id_ce 0x1c oid || is_id_ce 0x1b oid
+is_known_in_crl oid =
+    is_id_ce 0x14 oid || is_id_ce 0x23 oid || is_id_ce 0x2e oid || is_id_ce 0x12 oid || is_id_ce 0x1c oid
+    || is_id_ce 0x1b oid
 
 -- an extension of an entry that names another issuer
 abbrev pub is_certificate_issuer : Ext → Bool
@@ -46,11 +48,21 @@ abbrev pub found_in_entry : List Ext → Findings
 found_in_entry xs = record { delta = false; indirect = list_any is_certificate_issuer xs; unknown = list_any is_unknown_in_entry xs }
 
 abbrev pub found_in_entries : List Entry → Findings
-found_in_entries xs = record { delta = false; indirect = list_any (has is_certificate_issuer) xs; unknown = list_any (has is_unknown_in_entry) xs }
+found_in_entries xs =
+    record {
+      delta = false;
+      indirect = list_any (has is_certificate_issuer) xs;
+      unknown = list_any (has is_unknown_in_entry) xs;
+    }
 
 -- what one extension of a CRL, and all of them say
 abbrev pub crl_finding : CrlExt → Findings
 crl_finding x = record { delta = is_delta_indicator x; indirect = x.indirect; unknown = is_unknown_in_crl x }
 
 abbrev pub found_in_crl : List CrlExt → Findings
-found_in_crl xs = record { delta = list_any is_delta_indicator xs; indirect = list_any (λ x. x.indirect) xs; unknown = list_any is_unknown_in_crl xs }
+found_in_crl xs =
+    record {
+      delta = list_any is_delta_indicator xs;
+      indirect = list_any (λ x. x.indirect) xs;
+      unknown = list_any is_unknown_in_crl xs;
+    }

@@ -65,7 +65,9 @@ IsTimeIf moment (Some e) = (n : ℤ) × (time_of e ≡ Some n) × (moment ≡ So
 -- an explicit tag around the list of the CRL's extensions, if that is there
 abbrev pub HoldsExtensions : List CrlExt → Option Der → Type 0
 HoldsExtensions xs None = xs ≡ []
-HoldsExtensions xs (Some e) = (e.tag ≡ 0xa0) × ((contents : List ℕ) × IsElement (tagged 0x30 contents) e.contents × AreEach IsCrlExtension xs contents)
+HoldsExtensions xs (Some e) =
+    (e.tag ≡ 0xa0) × ((contents : List ℕ) × IsElement (tagged 0x30 contents) e.contents
+    × AreEach IsCrlExtension xs contents)
 
 pub record IsTbsCertList (form : CrlForm) (contents : List ℕ) : Type 0 where
   pub version : Option Der

@@ -1,6 +1,7 @@
 -- DER elements (X.690, 8.1.2 and 8.1.3): a tag, a length and contents. In this project's profile a tag is one byte
 -- and a length has at most four octets. Here stands which step of reading fails first; Grammar says what an element is.
-use Rattle.std.specs.Prelude.{◌≡◌, ℕ, zero, suc, ◌+◌, ◌-◌, List, [], ◌∷◌, length, take, drop, bit_and, ◌||◌, nat_lt, nat_eq, if◌then◌else◌, Result, Ok, Err}
+use Rattle.std.specs.Prelude.{◌≡◌, ℕ, zero, suc, ◌+◌, ◌-◌, List, [], ◌∷◌, length, take, drop, bit_and, ◌||◌, nat_lt}
+use Rattle.std.specs.Prelude.{nat_eq, if◌then◌else◌, Result, Ok, Err}
 use Rattle.octets_core.specs.Numbers.{number}
 use Rattle.der_core.specs.declared.types.DerFault.{DerFault}
 use Rattle.der_core.specs.declared.types.DerFault.TheVariants as fault

@@ -59,7 +59,8 @@ pub record AreEach {A : Type 0} (R : A → Der → Type 0) (xs : List A) (conten
 
 -- an element of this tag with these contents stands at the front of the bytes, and the rest behind it
 abbrev pub StandsBefore : ℕ → List ℕ → List ℕ → List ℕ → Type 0
-StandsBefore tag contents bytes rest = (front : List ℕ) × IsElement (record { tag = tag; contents = contents }) front × (bytes ≡ front ++ rest)
+StandsBefore tag contents bytes rest =
+    (front : List ℕ) × IsElement (record { tag = tag; contents = contents }) front × (bytes ≡ front ++ rest)
 
 -- the same, or no such element is taken
 abbrev pub StandsOrNot : ℕ → Option (List ℕ) → List ℕ → List ℕ → Type 0

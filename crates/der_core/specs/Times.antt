@@ -1,6 +1,7 @@
 -- How a time of DER is read, in seconds since 1970-01-01 00:00:00 UTC: UTCTime is YYMMDDHHMMSSZ and GeneralizedTime is
 -- YYYYMMDDHHMMSSZ, with no fraction and no offset. TimeGrammar says what a time is.
-use Rattle.std.specs.Prelude.{ℕ, ℤ, pos, ◌+ℤ◌, ◌*ℤ◌, ◌+◌, ◌-◌, ◌*◌, [], ◌∷◌, Bool, ◌&&◌, nat_lt, nat_le, nat_eq, if◌then◌else◌, Option, Some, None}
+use Rattle.std.specs.Prelude.{ℕ, ℤ, pos, ◌+ℤ◌, ◌*ℤ◌, ◌+◌, ◌-◌, ◌*◌, [], ◌∷◌, Bool, ◌&&◌, nat_lt, nat_le, nat_eq}
+use Rattle.std.specs.Prelude.{if◌then◌else◌, Option, Some, None}
 use Rattle.jiff_core.specs.Calendar.{days_from_civil, days_in_month}
 use Rattle.octets_core.specs.Walk.{Walk, ◌>>=◌, whole, given, ends, value_of}
 use Rattle.der_core.specs.Elements.{Der}

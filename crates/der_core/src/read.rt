@@ -75,7 +75,8 @@ pub fn element(bytes: &[u8]) -> Result<(Element<'_>, usize), DerFault>
     // What is read is an element.
     ensures found { IfOk result (λ x. IsElement (der_of x.0) (take x.1 bytes.now)) }
     // What is an element is read, whatever follows.
-    ensures only { (e : Der) (front rest : List ℕ) → IsElement e front → bytes.now ≡ front ++ rest → GivesElement result (Ok (e, length front)) }
+    ensures only { (e : Der) (front rest : List ℕ) → IsElement e front → bytes.now ≡ front ++ rest
+        → GivesElement result (Ok (e, length front)) }
     // Which step fails first.
     ensures exact { GivesElement result (element_at bytes.now) }
     ensures bound { IfOk result (λ x. (0 < x.1) × (x.1 ≤ length bytes.now)) }

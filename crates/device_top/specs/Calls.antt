@@ -57,7 +57,8 @@ pub record DeviceCall : Type 1 where
   pub printed : Printing
 
 -- the call that asked for this command
-abbrev pub call_of : {P K : Type 0} → depots.Ghosts P → sinks.Ghosts K → DeviceCommand → DiskState → DiskState → P → P → K → K → ℕ → DeviceCall
+abbrev pub call_of : {P K : Type 0} → depots.Ghosts P → sinks.Ghosts K → DeviceCommand → DiskState → DiskState → P
+    → P → K → K → ℕ → DeviceCall
 call_of p k asked before after depot depot_after out out_after ended = record {
   asked = asked;
   before = before;
@@ -68,7 +69,8 @@ call_of p k asked before after depot depot_after out out_after ended = record {
 }
 
 -- the call of these words
-abbrev pub call : {A P K : Type 0} → depots.Ghosts P → sinks.Ghosts K → List (String A) → DiskState → DiskState → P → P → K → K → ℕ → DeviceCall
+abbrev pub call : {A P K : Type 0} → depots.Ghosts P → sinks.Ghosts K → List (String A) → DiskState → DiskState → P
+    → P → K → K → ℕ → DeviceCall
 call p k words = call_of p k (device_command_of (map string_bytes words))
 
 -- how a call may end

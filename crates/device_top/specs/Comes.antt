@@ -40,5 +40,6 @@ abbrev pub Comes : DeviceCommand → Option Files → (Option (List ℕ) → Typ
 Comes commands.Usage told failed disk o = o ≡ keeps usage
 Comes (commands.Format f) told failed disk o = OfFile told failed f.store (format_outcome f) o
 Comes (commands.Install i) told failed disk o =
-    OfDevice i.device disk (λ capacity parts. OfFile told failed i.part (λ given. install_outcome i capacity parts (input_as part_in given))) o
+    OfDevice i.device disk (λ capacity parts.
+    OfFile told failed i.part (λ given. install_outcome i capacity parts (input_as part_in given))) o
 Comes (commands.Query q) told failed disk o = Queried q disk o

@@ -5,7 +5,8 @@ ghost use Rattle.std.specs.Option.{option_map};
 ghost use Rattle.std.specs.Str.{IsUtf8};
 ghost use Rattle.octets_core.specs.Reading.{GivesUnless};
 ghost use Rattle.serde_json.specs.View.{view, items_view};
-ghost use Rattle.gather_core.specs.Pages.{PageFields, fields_of, json_of, listed, listed_items, text_at, decoded, item_of, items_from, entries_of};
+ghost use Rattle.gather_core.specs.Pages.{PageFields, fields_of, json_of, listed, listed_items, text_at, decoded};
+ghost use Rattle.gather_core.specs.Pages.{item_of, items_from, entries_of};
 ghost use Rattle.gather_core.specs.Pages.{page_of, AreNumbered, EntryFits};
 
 use crate::fault::PageFault;

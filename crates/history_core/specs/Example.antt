@@ -30,7 +30,8 @@ job_to epoch to serials entries = record {
 abbrev pub first_job : Job
 first_job = job_to 1 100 ((5 ∷ []) ∷ []) (dated_at 6 10 20 ∷ dated_at 5 10 10 ∷ [])
 
--- 7 comes late, 5 is seen again with a later date, 8 is new and has no date, one isn't read, and one lies beyond the ranges; the CRL is empty
+-- 7 comes late, 5 is seen again with a later date, 8 is new and has no date, one isn't read, and one lies beyond the
+-- ranges; the CRL is empty
 abbrev pub second_job : Job
 second_job = job_to 2 200 [] (at 7 50 ∷ dated_at 5 150 30 ∷ at 8 150 ∷ None ∷ at 8 900 ∷ [])
 

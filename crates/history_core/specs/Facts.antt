@@ -34,7 +34,8 @@ pub record IsSound (rs : List Release) : Type 0 where
   pub widens : Widens rs
   pub formed : (r : Release) → Among rs r → IsFormed r
   -- each accepted sighting is covered by some release that enrolls the issuer
-  pub covered : (e : Entry) → Among (seen rs) e → (r : Release) × Among rs r × (covers r.ranges e.sighting ≡ true) × (has_key r.issuers e.id.issuer ≡ true)
+  pub covered : (e : Entry) → Among (seen rs) e
+      → (r : Release) × Among rs r × (covers r.ranges e.sighting ≡ true) × (has_key r.issuers e.id.issuer ≡ true)
   -- and each such release has accepted the identity
   pub timely : (e : Entry) → Among (seen rs) e → (r : Release) → Among rs r → covers r.ranges e.sighting ≡ true
       → has_key r.issuers e.id.issuer ≡ true → has r.accepted e.id ≡ true
@@ -54,7 +55,8 @@ KeepsCoverage (r ∷ q ∷ rs) job = KeepsCoverage (q ∷ rs) job
 -- each job keeps the coverage of those before it
 abbrev pub AllKeepCoverage : (List Release → Job → List ℕ) → List Release → List Job → Type 0
 AllKeepCoverage trailer rs [] = Unit {0}
-AllKeepCoverage trailer rs (job ∷ jobs) = KeepsCoverage rs job × AllKeepCoverage trailer (rs ++ released (past_of rs) job (trailer rs job) ∷ []) jobs
+AllKeepCoverage trailer rs (job ∷ jobs) =
+    KeepsCoverage rs job × AllKeepCoverage trailer (rs ++ released (past_of rs) job (trailer rs job) ∷ []) jobs
 
 -- what a release has of its job
 pub record Leaves (job : Job) (r : Release) : Type 0 where

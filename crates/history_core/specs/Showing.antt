@@ -31,4 +31,5 @@ said (a ∷ others) = Some (list_any (λ b. b) (a ∷ others))
 pub record Shows (p : PartView) (r : Release) : Type 0 where
   pub ranges : p.ranges ≡ r.ranges
   pub other : (x : Identity) → has_key r.issuers x.issuer ≡ false → p.consulted x ≡ None
-  pub some : (x : Identity) → has_key r.issuers x.issuer ≡ true → (b : Bool) × (p.consulted x ≡ Some b) × (has r.accepted x ≡ true → b ≡ has r.revoked x)
+  pub some : (x : Identity) → has_key r.issuers x.issuer ≡ true
+      → (b : Bool) × (p.consulted x ≡ Some b) × (has r.accepted x ≡ true → b ≡ has r.revoked x)

@@ -1,4 +1,5 @@
-ghost use Rattle.std.specs.Prelude.{◌≡◌, ℕ, List, [], ◌∷◌, ◌++◌, ◌+◌, ◌&&◌, ◌||◌, not, Bool, true, false, map, filter, drop, length, Some, None, is_some};
+ghost use Rattle.std.specs.Prelude.{◌≡◌, ℕ, List, [], ◌∷◌, ◌++◌, ◌+◌, ◌&&◌, ◌||◌, not, Bool, true, false, map};
+ghost use Rattle.std.specs.Prelude.{filter, drop, length, Some, None, is_some};
 ghost use Rattle.std.specs.Prelude.{ℤ, pos, Option};
 ghost use Rattle.std.specs.List.{AllZip, list_any, slice_get};
 ghost use Rattle.ident_core.specs.declared.identity.Identity.{Identity};
@@ -10,7 +11,9 @@ ghost use Rattle.ledger_core.specs.declared.fields.LedgerItem.{LedgerItem};
 ghost use Rattle.ident_core.specs.Among.{Among};
 ghost use Rattle.ident_core.specs.Sets.{has, has_key};
 ghost use Rattle.universe_core.specs.Jobs.{Entry, Job, facts_of, enrolled, lists};
-ghost use Rattle.universe_core.specs.History.{Release, Past, past_of, released, releases, accepted_by, seen, sightings, birth, is_listed, is_settled_by, is_lacked_by, revoked, universe};
+ghost use Rattle.universe_core.specs.History.{Release, Past, past_of, released, releases, accepted_by, seen};
+ghost use Rattle.universe_core.specs.History.{sightings, birth, is_listed, is_settled_by, is_lacked_by, revoked};
+ghost use Rattle.universe_core.specs.History.{universe};
 ghost use Rattle.universe_core.specs.Dates.{IsGreatest, greatest as greatest_of, until};
 ghost use Rattle.universe_core.specs.Groups.{GroupFields, groups};
 ghost use Rattle.universe_core.specs.Counting.{count, counts};
@@ -37,7 +40,8 @@ pub fn facts_hold()
         → IsSound (rs ++ released (past_of rs) job trailer ∷ []) }
     ensures history { (trailer : List Release → Job → List ℕ) (rs : List Release) (jobs : List Job) → IsSound rs
         → AllKeepCoverage trailer rs jobs → IsSound (releases trailer rs jobs) }
-    ensures admitted { (limits : Limits) (rs : List Release) (job : JobFields) → refusal limits (ledger_of rs) job ≡ None → KeepsCoverage rs (facts_of job) }
+    ensures admitted { (limits : Limits) (rs : List Release) (job : JobFields)
+        → refusal limits (ledger_of rs) job ≡ None → KeepsCoverage rs (facts_of job) }
 {}
 
 /// The ledger of a history tells a job what the history tells it, so that the groups and the counts are the history's,
@@ -56,9 +60,11 @@ pub fn ledger_step_is_the_historys()
 /// of the parts that a test gives which is exact on the universe of each group; a test that says of each group's
 /// universe what the flags beside it say is exact.
 pub fn answers_are_the_truth()
-    ensures shown { (parts : List PartView) (rs : List Release) (x : Identity) (s : Sighting) (ss : List Sighting) → IsSound rs → AllZip Shows parts rs
+    ensures shown { (parts : List PartView) (rs : List Release) (x : Identity) (s : Sighting) (ss : List Sighting)
+        → IsSound rs → AllZip Shows parts rs
         → ((t : Sighting) → Among (s ∷ ss) t → Among (sightings x (seen rs)) t)
-        → (a : Bool) × (others : List Bool) × (answers_of x (s ∷ ss) parts ≡ a ∷ others) × (list_any (λ b. b) (a ∷ others) ≡ is_listed rs x) }
+        → (a : Bool) × (others : List Bool) × (answers_of x (s ∷ ss) parts ≡ a ∷ others)
+        × (list_any (λ b. b) (a ∷ others) ≡ is_listed rs x) }
     ensures published { (positive : GroupFields → Identity → Bool) (rs : List Release) (x : Identity) (s : Sighting)
         (ss : List Sighting) → IsSound rs → ((r : Release) → Among rs r → IsExact positive r)
         → ((t : Sighting) → Among (s ∷ ss) t → Among (sightings x (seen rs)) t)
@@ -81,8 +87,10 @@ pub fn last_part_covers()
 /// whether it is listed. So a rebase keeps the verdicts: asked with accepted sightings of such an identity, the part of
 /// the base says what the parts of the history say together (`said`).
 pub fn base_stands_for_its_history()
-    ensures sound { (keeps : Identity → Bool) (rs : List Release) (trailer : List ℕ) → IsSound rs → IsSound (base_with keeps rs trailer ∷ []) }
-    ensures kept_sightings { (keeps : Identity → Bool) (rs : List Release) (trailer : List ℕ) (x : Identity) → has (kept_by keeps rs) x ≡ true
+    ensures sound { (keeps : Identity → Bool) (rs : List Release) (trailer : List ℕ) → IsSound rs
+        → IsSound (base_with keeps rs trailer ∷ []) }
+    ensures kept_sightings { (keeps : Identity → Bool) (rs : List Release) (trailer : List ℕ) (x : Identity)
+        → has (kept_by keeps rs) x ≡ true
         → sightings x (seen (base_with keeps rs trailer ∷ [])) ≡ sightings x (seen rs) }
     ensures kept_date { (keeps : Identity → Bool) (rs : List Release) (trailer : List ℕ) (x : Identity) → has (kept_by keeps rs) x ≡ true
         → until x (base_with keeps rs trailer ∷ []) ≡ until x rs }
@@ -161,7 +169,8 @@ pub fn words_hold()
         && has (universe (past_of rs) job) x) }
     ensures listed { (x : Identity) (jobs : List Job) (rs : List Release) → AllZip Leaves jobs rs → Widens rs
         → is_listed rs x ≡ list_any (λ job. lists job x && has_key (enrolled job) x.issuer) (drop (birth x rs) jobs) }
-    ensures listed_behind { (x : Identity) (jobs : List Job) (base : Release) (rs : List Release) → AllZip Leaves jobs rs → Widens (base ∷ rs)
+    ensures listed_behind { (x : Identity) (jobs : List Job) (base : Release) (rs : List Release)
+        → AllZip Leaves jobs rs → Widens (base ∷ rs)
         → is_listed (base ∷ rs) x
         ≡ (has base.listed x || list_any (λ job. lists job x && has_key (enrolled job) x.issuer) (drop (birth x rs) jobs)) }
     ensures leaves_none { AllZip Leaves [] [] }

@@ -35,7 +35,8 @@ pub fn read_ranges(
     cursor: &mut Cursor<'_>,
     count: u16,
 ) -> Result<Vec<Range>, RangesFault>
-    ensures exact { ReadsUnless RangesFault.NoMemory (λ v. v.items) (mapped RangesFault.Layout (ranges_layout count)) cursor.old cursor.new result }
+    ensures exact { ReadsUnless RangesFault.NoMemory (λ v. v.items)
+        (mapped RangesFault.Layout (ranges_layout count)) cursor.old cursor.new result }
     ensures facts { IfOk result (λ v. AreRanges v.items × (length v.items ≡ count)) }
     ensures kept { cursor.new.bytes ≡ cursor.old.bytes }
 {

@@ -32,7 +32,8 @@ is_kind previous kind = kind == 0 || within previous 3 kind
 -- behind a record of the previous kind
 unfoldable pub record_kind : ℕ → Layout LayoutFault ℕ
 record_kind previous = do
-  byte ← bytes_field (fault_at why.Short fields.RecordKind) (fault_at why.Value fields.RecordKind) 1 (λ b. is_kind previous (from_be_bytes w8 b))
+  byte ← bytes_field (fault_at why.Short fields.RecordKind) (fault_at why.Value fields.RecordKind) 1 (λ b.
+      is_kind previous (from_be_bytes w8 b))
   whole (from_be_bytes w8 byte)
 
 -- a CRL as it stands in a job
@@ -147,7 +148,8 @@ abbrev pub short_kind : {A : Type 0} → Layout JobFault A
 short_kind bytes at = Err (faults.Layout (fault_at why.Short fields.RecordKind at))
 
 -- a record with those behind it, where the serials that are kept of all CRLs so far are no more than the limit
-abbrev pub with_others : (List ℕ → ℕ) → (Held → ℕ → Layout JobFault (List Item)) → Limits → Held → ℕ → Option Item → Layout JobFault (List Item)
+abbrev pub with_others : (List ℕ → ℕ) → (Held → ℕ → Layout JobFault (List Item)) → Limits → Held → ℕ → Option Item
+    → Layout JobFault (List Item)
 with_others brings others limits h serials None = whole []
 with_others brings others limits h serials (Some x) = do
   few ← at_most what.Serials limits.serials (with_serials brings serials x)

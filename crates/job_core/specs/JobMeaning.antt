@@ -24,4 +24,6 @@ kept_in crls = sum_by (λ c. kept c.outcome) crls
 
 -- the meaning; or, where the CRLs bring more serials than the limit, that
 abbrev pub reading_of : Limits → JobContents → Result JobFields JobFault
-reading_of limits j = if nat_le (kept_in (meaning_of j).crls) limits.serials then Ok (meaning_of j) else Err (faults.TooMany what.Serials limits.serials)
+reading_of limits j =
+    if nat_le (kept_in (meaning_of j).crls) limits.serials then Ok (meaning_of j)
+    else Err (faults.TooMany what.Serials limits.serials)

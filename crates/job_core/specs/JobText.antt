@@ -1,5 +1,6 @@
 -- The text of what a job holds: the bytes that the layout of a job reads as it; and which raw jobs have one.
-use Rattle.std.specs.Prelude.{◌≡◌, ℕ, ◌+◌, ◌≤◌, ◌<◌, ◌^◌, List, [], ◌∷◌, ◌++◌, length, codes, map, flat_map, All, Some, None, Result, Ok, Err}
+use Rattle.std.specs.Prelude.{◌≡◌, ℕ, ◌+◌, ◌≤◌, ◌<◌, ◌^◌, List, [], ◌∷◌, ◌++◌, length, codes, map, flat_map, All}
+use Rattle.std.specs.Prelude.{Some, None, Result, Ok, Err}
 use Rattle.std.specs.Int.{w8, w32, w64, to_be_bytes}
 use Rattle.octets_core.specs.Linked.{Linked}
 use Rattle.octets_core.specs.Numbers.{three_bytes}
@@ -79,7 +80,8 @@ FitsItem limits h (OneEntry e) = FitsEntry e × (h.kind ≤ 3) × (h.entries + 1
 abbrev pub Pass : (List ℕ → ℕ) → Limits → Held → ℕ → List Item → Type 0
 Pass brings limits h serials [] = Unit {0}
 Pass brings limits h serials (x ∷ xs) =
-    FitsItem limits h x × (with_serials brings serials x ≤ limits.serials) × Pass brings limits (with_item h x) (with_serials brings serials x) xs
+    FitsItem limits h x × (with_serials brings serials x ≤ limits.serials)
+    × Pass brings limits (with_item h x) (with_serials brings serials x) xs
 
 -- what is held behind them, and how many serials they brought
 abbrev pub held_behind : Held → List Item → Held

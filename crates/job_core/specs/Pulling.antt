@@ -1,5 +1,6 @@
 -- What is read of a file off a feed.
-use Rattle.std.specs.Prelude.{◌≡◌, ◌+◌, ◌≤◌, ◌<◌, ◌-◌, ◌^◌, ℕ, List, [], ◌∷◌, length, get_or, Bool, true, false, Result, Ok, Err, OnOk, IfSome, Some}
+use Rattle.std.specs.Prelude.{◌≡◌, ◌+◌, ◌≤◌, ◌<◌, ◌-◌, ◌^◌, ℕ, List, [], ◌∷◌, length, get_or, Bool, true, false}
+use Rattle.std.specs.Prelude.{Result, Ok, Err, OnOk, IfSome, Some}
 use Rattle.std.specs.FinMap.{get}
 use Rattle.octets_core.specs.Layout.{Layout}
 use Rattle.octets_core.specs.Position.{piece}
@@ -44,7 +45,8 @@ pub record Lies (ended : Bool) (file : List ℕ) (at : ℕ) (given : List ℕ) :
 
 -- What a function that reads a layout off a feed did: some bytes were given, which where files are told lie in the
 -- feed's file, and in each file in which they lie so the layout gives the result.
-pub record Fetches {D X A : Type 0} (g : Ghosts D) (view : X → A) (layout : Layout JobFault A) (old new : Feed D) (result : Result X JobFault) : Type 0 where
+pub record Fetches {D X A : Type 0} (g : Ghosts D) (view : X → A) (layout : Layout JobFault A) (old new : Feed D)
+    (result : Result X JobFault) : Type 0 where
   pub pulled : Pulled g old new
   pub blames : Blames g old new result
   pub given : List ℕ
@@ -71,7 +73,8 @@ IsGiven g feed bytes = IfSome (g.files (depot_of feed)) (λ files. get files (na
 
 -- What a job was read from: some bytes were given, which where files are told lie at the front of the feed's file, and
 -- of each file that begins with them the job is this result.
-pub record ReadsJob {D X A : Type 0} (g : Ghosts D) (view : X → A) (job : List ℕ → Result A JobFault) (old : Feed D) (result : Result X JobFault) : Type 0 where
+pub record ReadsJob {D X A : Type 0} (g : Ghosts D) (view : X → A) (job : List ℕ → Result A JobFault) (old : Feed D)
+    (result : Result X JobFault) : Type 0 where
   pub given : List ℕ
   pub ended : Bool
   pub short : ended ≡ true → length given < 2 ^ 64 - 1

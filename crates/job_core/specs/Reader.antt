@@ -94,4 +94,5 @@ GivesNext old new file at end (Err e) = IsOfBytes e → job no_serials (limits_o
 -- the same where files are told
 abbrev pub ReadsNext : {D : Type 0} → Ghosts D → JobReader → JobReader → Feed D → Feed D → Result Record JobFault → Type 0
 ReadsNext g old new from to result =
-    (file : List ℕ) → StandsIn g from file → StandsFor old (take (place_of from) file) → GivesNext old new file (place_of from) (place_of to) result
+    (file : List ℕ) → StandsIn g from file → StandsFor old (take (place_of from) file)
+    → GivesNext old new file (place_of from) (place_of to) result

@@ -1,6 +1,7 @@
 //! A job's records, one by one.
 
-ghost use Rattle.std.specs.Prelude.{◌≡◌, ◌≢◌, ◌+◌, ◌-◌, ◌≤◌, ◌<◌, ◌^◌, ◌↔◌, ℕ, List, [], take, length, Option, None, Some, Ok, Err, IfOk, IfErr, OnOk};
+ghost use Rattle.std.specs.Prelude.{◌≡◌, ◌≢◌, ◌+◌, ◌-◌, ◌≤◌, ◌<◌, ◌^◌, ◌↔◌, ℕ, List, [], take, length, Option, None};
+ghost use Rattle.std.specs.Prelude.{Some, Ok, Err, IfOk, IfErr, OnOk};
 ghost use Rattle.outside_core.specs.Standing.{place_of, StandsIn};
 ghost use Rattle.outside_core.specs.Pulling.{Pulled};
 ghost use Rattle.job_core.specs.Pulling.{Blames};
@@ -124,7 +125,8 @@ impl JobReader {
     /// from then on. Ranges, CRLs and entries are counted, serials are not. A fault is answered again by each later call.
     pub fn next<D: Depot>(&mut self, feed: &mut Feed<'_, D>) -> Result<Record, JobFault>
         // Where files are told, the bytes before the feed's place are those that the reader has read.
-        requires stands { fault_of self.old ≡ None → (file : List ℕ) → StandsIn D.Depot feed.old file → StandsFor self.old (take (place_of feed.old) file) }
+        requires stands { fault_of self.old ≡ None → (file : List ℕ) → StandsIn D.Depot feed.old file
+            → StandsFor self.old (take (place_of feed.old) file) }
         ensures pulled { Pulled D.Depot feed.old feed.new }
         ensures blames { fault_of self.old ≡ None → Blames D.Depot feed.old feed.new result }
         ensures limits { limits_of self.new ≡ limits_of self.old }

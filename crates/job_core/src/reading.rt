@@ -64,7 +64,8 @@ pub fn put_crl(
     serials: u32,
     limits: &Limits,
 ) -> Result<u32, JobFault>
-    ensures { TakesOne limits.now serials (OneCrl (record { issuer = issuer; bytes = bytes.now })) (fields_of_job job.old) (fields_of_job job.new) result }
+    ensures { TakesOne limits.now serials (OneCrl (record { issuer = issuer; bytes = bytes.now }))
+        (fields_of_job job.old) (fields_of_job job.new) result }
 {
     let outcome = outcome_in(alloc, bytes)?;
     let total = total_with(serials, &outcome);

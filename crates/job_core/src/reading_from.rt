@@ -52,7 +52,8 @@ fn put_items<D: Depot>(
     limits: &Limits,
     entry: &mut RawEntry,
 ) -> Result<(), JobFault>
-    ensures exact { Fetches D.Depot (λ u. fields_of_job job.new) (records_saying limits.now (fields_of_job job.old)) feed.old feed.new result }
+    ensures exact { Fetches D.Depot (λ u. fields_of_job job.new)
+        (records_saying limits.now (fields_of_job job.old)) feed.old feed.new result }
     ensures near { place_of feed.new ≤ place_of feed.old + 2 ^ 62 }
 {
     let mut numbers = no_numbers();

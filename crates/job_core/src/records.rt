@@ -110,7 +110,8 @@ fn range_from<D: Depot>(
     feed: &mut Feed<'_, D>,
     limits: &Limits,
 ) -> Result<Item, JobFault>
-    ensures exact { (e : RawEntry) → Fetches D.Depot (item_of_record e) (range_item limits.now (held_in numbers.old)) feed.old feed.new result }
+    ensures exact { (e : RawEntry)
+        → Fetches D.Depot (item_of_record e) (range_item limits.now (held_in numbers.old)) feed.old feed.new result }
     ensures near { place_of feed.new ≤ place_of feed.old + 2 ^ 27 }
     ensures behind { (e : RawEntry) → IfOk result (λ x. held_in numbers.new ≡ with_item (held_in numbers.old) (item_of_record e x)) }
 {
@@ -133,7 +134,8 @@ fn crl_from<D: Depot>(
     feed: &mut Feed<'_, D>,
     limits: &Limits,
 ) -> Result<Item, JobFault>
-    ensures exact { (e : RawEntry) → Fetches D.Depot (item_of_record e) (crl_item limits.now (held_in numbers.old)) feed.old feed.new result }
+    ensures exact { (e : RawEntry)
+        → Fetches D.Depot (item_of_record e) (crl_item limits.now (held_in numbers.old)) feed.old feed.new result }
     ensures near { place_of feed.new ≤ place_of feed.old + 2 ^ 27 }
     ensures behind { (e : RawEntry) → IfOk result (λ x. held_in numbers.new ≡ with_item (held_in numbers.old) (item_of_record e x)) }
 {
@@ -200,7 +202,8 @@ pub fn next_item_from<D: Depot>(
 ) -> Result<Option<Item>, JobFault>
     ensures exact { Fetches D.Depot (some_record into.new) (next_item limits.now (held_in numbers.old)) feed.old feed.new result }
     ensures near { place_of feed.new ≤ place_of feed.old + 2 ^ 27 + 1 }
-    ensures behind { IfOk result (λ x. IfSome x (λ taken. held_in numbers.new ≡ with_item (held_in numbers.old) (item_of_record into.new taken))) }
+    ensures behind { IfOk result (λ x.
+        IfSome x (λ taken. held_in numbers.new ≡ with_item (held_in numbers.old) (item_of_record into.new taken))) }
     ensures further { OnOk result (place_of feed.old < place_of feed.new) }
 {
     let kind = fetch_kind(feed, numbers.kind)?;

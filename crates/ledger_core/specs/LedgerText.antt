@@ -33,7 +33,8 @@ item_text version x =
 -- what stands before the identities
 unfoldable pub head_text : ℕ → LedgerFields → List ℕ
 head_text version l =
-    codes "CLUBLEDG" ++ to_be_bytes w8 version ++ to_be_bytes w8 (length l.parts) ++ flat_map part_text l.parts ++ to_be_bytes w32 (length l.items)
+    codes "CLUBLEDG" ++ to_be_bytes w8 version ++ to_be_bytes w8 (length l.parts) ++ flat_map part_text l.parts
+    ++ to_be_bytes w32 (length l.items)
 
 -- all but the digest
 unfoldable pub body_text : ℕ → LedgerFields → List ℕ

@@ -54,7 +54,8 @@ fn is_epoch_after(previous: Option<&LedgerPart>, epoch: u64) -> bool
 /// The epoch of a part, which is greater than that of the part before it.
 #[tactic(auto, unfolding(octets_core::specs::Layout::number_field))]
 fn epoch_of(cursor: &mut Cursor<'_>, previous: Option<&LedgerPart>) -> Result<u64, LayoutFault>
-    ensures { ReadsField (λ n. n) (number Field.LedgerEpoch w64 (least_epoch (before previous.entry)) (2 ^ 64 - 1)) cursor.old cursor.new result }
+    ensures { ReadsField (λ n. n)
+        (number Field.LedgerEpoch w64 (least_epoch (before previous.entry)) (2 ^ 64 - 1)) cursor.old cursor.new result }
 {
     let at = cursor.at();
     match cursor.u64() {

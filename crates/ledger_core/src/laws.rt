@@ -15,5 +15,6 @@ pub fn a_text_is_read_back()
 
 /// What is read as a ledger is a text of a ledger that fits, from the first byte to the last.
 pub fn only_a_text_is_read()
-    ensures { (bytes : List ℕ) (l : LedgerFields) (n : ℕ) → ((i : ℕ) → get_or bytes i 0 < 256) → ledger bytes 0 ≡ Ok (l, n) → IsText l bytes × Fits l }
+    ensures { (bytes : List ℕ) (l : LedgerFields) (n : ℕ) → ((i : ℕ) → get_or bytes i 0 < 256)
+        → ledger bytes 0 ≡ Ok (l, n) → IsText l bytes × Fits l }
 {}

@@ -21,4 +21,5 @@ pub record IsSomeVector (width : ℕ) (x bytes : List ℕ) : Type 0 where
 -- such vectors one after the other
 abbrev pub AreVectors : ℕ → List (List ℕ) → List ℕ → Type 0
 AreVectors width [] bytes = bytes ≡ []
-AreVectors width (x ∷ xs) bytes = (front : List ℕ) × (rest : List ℕ) × IsSomeVector width x front × (bytes ≡ front ++ rest) × AreVectors width xs rest
+AreVectors width (x ∷ xs) bytes =
+    (front : List ℕ) × (rest : List ℕ) × IsSomeVector width x front × (bytes ≡ front ++ rest) × AreVectors width xs rest

@@ -5,7 +5,8 @@ ghost use Rattle.octets_core.specs.Vectors.{some_vector};
 ghost use Rattle.log_core.specs.Certificates.{tbs_serial, certificate_serial, tbs_until, certificate_until};
 ghost use Rattle.log_core.specs.EntryGrammar.{ReadsEntry, GivesAtMostOne};
 ghost use Rattle.log_core.specs.declared.Entry.{Entry as EntryRead};
-ghost use Rattle.log_core.specs.Entries.{leaf, if_zero, issuer_of, key, first_in, chain, chain_hash, identified, identity_by, sighted, entry_of, is_cut};
+ghost use Rattle.log_core.specs.Entries.{leaf, if_zero, issuer_of, key, first_in, chain, chain_hash, identified};
+ghost use Rattle.log_core.specs.Entries.{identity_by, sighted, entry_of, is_cut};
 ghost use Rattle.log_core.specs.Leaves.{leaf_of, GivesEntry};
 
 use crate::certificate::{Tbs, certificate_tbs_of, issuer_hash, tbs_of};
@@ -122,7 +123,8 @@ fn precertificate_of(issuer: Key32, sighting: Sighting, tbs: &[u8]) -> Option<En
 }
 
 fn certificate_of(sighting: Sighting, cert: &[u8], extra: &[u8]) -> Option<Entry>
-    ensures { result ≡ sighted sighting.log sighting.time (certificate_until cert.now) (identified (chain_hash extra.now) (certificate_serial cert.now)) }
+    ensures { result ≡ sighted sighting.log sighting.time (certificate_until cert.now)
+        (identified (chain_hash extra.now) (certificate_serial cert.now)) }
 {
     let Tbs { serial, until } = certificate_tbs_of(cert)?;
     let issuer = chain_hash_of(extra)?;

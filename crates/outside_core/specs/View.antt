@@ -24,11 +24,13 @@ pub record SinkView : Type 0 where
 
 abbrev pub sink_code : Coded SinkView
 sink_code =
-    code_by (List ℕ × CallsView) (coded× (coded_list coded_ℕ) calls_code) (λ v. (v.bytes, v.writes)) (λ p. record { bytes = p.0; writes = p.1 }) (λ _. refl)
+    code_by (List ℕ × CallsView) (coded× (coded_list coded_ℕ) calls_code) (λ v. (v.bytes, v.writes))
+    (λ p. record { bytes = p.0; writes = p.1 }) (λ _. refl)
 
 -- how many bytes the next read with this much room gives from a place on; none where it fails
 abbrev pub read_count : DepotView → List ℕ → ℕ → ℕ → Option ℕ
-read_count depot name at room = cond (is_failing depot.reads) None (option_map (λ bytes. min room (length bytes - at)) (map.get depot.files name))
+read_count depot name at room =
+    cond (is_failing depot.reads) None (option_map (λ bytes. min room (length bytes - at)) (map.get depot.files name))
 
 -- whether the next read is one that fails at a name that is held
 abbrev pub read_fails : DepotView → List ℕ → Bool

@@ -79,7 +79,9 @@ impl<'a, D: Depot> Feed<'a, D> {
         ensures kept { (0 < length (buffered_of self.old)) ⊎ (place_of self.old ≡ 2 ^ 64 - 1)
             → IsOk result × IfOk result (λ bytes. bytes.now ≡ buffered_of self.old) }
         ensures bound { IfOk result (λ bytes. length bytes.now ≤ most_at_once) }
-        ensures* after_borrow { sem 𝓛 (Rests (feed_row (record { mir = named 1; lft = [] }) D.row) self.entry (λ new. Filled D.Depot self.old new result)) }
+        ensures* after_borrow { sem 𝓛
+            (Rests (feed_row (record { mir = named 1; lft = [] }) D.row) self.entry
+            (λ new. Filled D.Depot self.old new result)) }
     {
         self.refill()?;
         Ok(self.buffered())

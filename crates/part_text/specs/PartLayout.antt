@@ -171,7 +171,9 @@ some_sharded list = list_any (λ b. is_sharded b.body) list
 
 -- no byte: version 2 has a block that is sharded
 abbrev pub sharded_test : ℕ → Bool → Layout LayoutFault (List ℕ)
-sharded_test version some = bytes_field (fault_at why.Short fields.PartSharded) (fault_at why.Value fields.PartSharded) 0 (λ none. version == 1 || some)
+sharded_test version some =
+    bytes_field (fault_at why.Short fields.PartSharded) (fault_at why.Value fields.PartSharded) 0
+    (λ none. version == 1 || some)
 
 -- all but the trailer
 unfoldable pub unsealed : Layout LayoutFault PartFields

@@ -7,9 +7,11 @@ ghost use Rattle.ident_core.specs.RangeText.{range_text, RangeFits};
 ghost use Rattle.part_text.specs.Output.{Wrote};
 ghost use Rattle.part_text.specs.PartLayout.{is_sharded as is_sharded_body, some_sharded as some_sharded_of};
 ghost use Rattle.part_text.specs.PartText.{kind_number, head_text, mode_of, planes_text, stage_text, width_of, approx_text};
-ghost use Rattle.part_text.specs.PartText.{mixed_text, leaf_mode, leaf_text, shard_text, sharded_text, body_text, block_text, version_of, unsealed_text};
+ghost use Rattle.part_text.specs.PartText.{mixed_text, leaf_mode, leaf_text, shard_text, sharded_text, body_text};
+ghost use Rattle.part_text.specs.PartText.{block_text, version_of, unsealed_text};
 ghost use Rattle.part_text.specs.PlaneBytes.{bytes_of_columns};
-ghost use Rattle.part_text.specs.Fitting.{PlanesFit, StageFits, FirstFits, MixedFits, LeafFits, ShardsFit, BodyFits, BlockFits, FitsHead, FitsPart};
+ghost use Rattle.part_text.specs.Fitting.{PlanesFit, StageFits, FirstFits, MixedFits, LeafFits, ShardsFit, BodyFits};
+ghost use Rattle.part_text.specs.Fitting.{BlockFits, FitsHead, FitsPart};
 
 use crate::output::Output;
 use card_core::{Block, Body, Leaf, Mixed, Part, Sharded, Stage};
@@ -128,7 +130,9 @@ fn put_plane<O: Output, L: Ledger>(
     steps: &mut Steps<L>,
 ) -> Result<(), O::Fault>
     requires { plane < length planes.now.columns }
-    ensures { OnOk result (Wrote O.given out.old out.new (bytes_of_columns (words_of planes.now.starts) (slice_index planes.now.columns plane))) }
+    ensures { OnOk result
+        (Wrote O.given out.old out.new
+        (bytes_of_columns (words_of planes.now.starts) (slice_index planes.now.columns plane))) }
 {
     for i in 0..words_for(planes.starts()) {
         let word = planes.word(plane, i, steps);
@@ -169,7 +173,8 @@ fn put_stage<O: Output>(out: &mut O, stage: &Stage) -> Result<(), O::Fault>
 }
 
 fn put_approx<O: Output>(out: &mut O, mixed: &Mixed) -> Result<(), O::Fault>
-    ensures text { OnOk result (Wrote O.given out.old out.new (to_be_bytes w8 (width_of mixed.now.approx) ++ approx_text mixed.now.approx)) }
+    ensures text { OnOk result
+        (Wrote O.given out.old out.new (to_be_bytes w8 (width_of mixed.now.approx) ++ approx_text mixed.now.approx)) }
     ensures fits { OnOk result (FirstFits mixed.now.approx) }
 {
     match mixed.approx() {

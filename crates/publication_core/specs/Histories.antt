@@ -121,7 +121,8 @@ chain jobs = with_jobs (of_jobs []) (map (in_format current) jobs)
 abbrev pub releases_of : History → List SealedFields → List Release
 releases_of (of_jobs jobs) parts = releases_after [] jobs parts
 releases_of (rebased h old moment without jobs) [] = []
-releases_of (rebased h old moment without jobs) (s ∷ parts) = releases_after (base_at moment (releases_without without (releases_of h old)) s.trailer ∷ []) jobs parts
+releases_of (rebased h old moment without jobs) (s ∷ parts) =
+    releases_after (base_at moment (releases_without without (releases_of h old)) s.trailer ∷ []) jobs parts
 
 -- Each job of the history may follow those before it, the base may stand for its history, and these are the parts that
 -- they publish.

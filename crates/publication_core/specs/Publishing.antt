@@ -33,5 +33,6 @@ Publishes ledger job (Ok p) =
     × (p.counts ≡ counts_after ledger (facts_of job))
 Publishes ledger job (Err (Admission fault)) = refusal limits.PUBLISHED ledger job ≡ Some fault
 Publishes ledger job (Err (SeedsExhausted issuer stage)) =
-    (refusal limits.PUBLISHED ledger job ≡ None) × IsFirstRefused (blocks_in current) sha256_row (groups_after ledger (facts_of job)) issuer stage
+    (refusal limits.PUBLISHED ledger job ≡ None)
+    × IsFirstRefused (blocks_in current) sha256_row (groups_after ledger (facts_of job)) issuer stage
 Publishes ledger job (Err NoMemory) = ⊥

@@ -9,7 +9,8 @@ use Rattle.ledger_core.specs.LedgerFields.{LedgerFields}
 use Rattle.ident_core.specs.Sets.{has_key}
 use Rattle.universe_core.specs.Formats.{dated}
 use Rattle.universe_core.specs.History.{Release, accepted_by, is_listed}
-use Rattle.universe_core.specs.Rebases.{ledger_without, count_left, is_lasting, issuers_in, kept, kept_revoked, count_pruned, rebased_head, rebased_groups, rebased_ledger}
+use Rattle.universe_core.specs.Rebases.{ledger_without, count_left, is_lasting, issuers_in, kept, kept_revoked}
+use Rattle.universe_core.specs.Rebases.{count_pruned, rebased_head, rebased_groups, rebased_ledger}
 use Rattle.history_core.specs.Bases.{all_issuers, kept_by, releases_without, is_lasting_by}
 use Rattle.builder_core.specs.Building.{IsFirstRefused}
 use Rattle.publication_core.specs.declared.base.BaseCounts.{BaseCounts}
@@ -58,7 +59,8 @@ pub record BasePublicationFields : Type 0 where
 abbrev pub PublishesBase : LedgerFields → ℕ → List (List ℕ) → Result BasePublicationFields BaseFault → Type 0
 PublishesBase ledger moment without (Ok p) =
     (length (issuers_in (ledger_without without ledger).parts) ≤ MAX_ISSUERS)
-    × IsSealedPart dated (rebased_head (ledger_without without ledger).parts) (rebased_groups (is_lasting moment) (ledger_without without ledger)) p.sealed
+    × IsSealedPart dated (rebased_head (ledger_without without ledger).parts)
+    (rebased_groups (is_lasting moment) (ledger_without without ledger)) p.sealed
     × (p.ledger ≡ rebased_ledger (is_lasting moment) (ledger_without without ledger) p.sealed.trailer)
     × (p.counts ≡ base_counts_after moment without ledger)
 PublishesBase ledger moment without (Err (TooMany what limit)) =

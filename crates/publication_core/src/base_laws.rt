@@ -1,6 +1,7 @@
 //! What follows for the base of every history, and what a ledger without some issuers is, with no call.
 
-ghost use Rattle.std.specs.Prelude.{◌≡◌, ◌≤◌, ◌+◌, ◌∷◌, ◌++◌, [], ℕ, Bool, List, Ok, Result, Some, filter, length, map, true, false, if◌then◌else◌};
+ghost use Rattle.std.specs.Prelude.{◌≡◌, ◌≤◌, ◌+◌, ◌∷◌, ◌++◌, [], ℕ, Bool, List, Ok, Result, Some, filter, length};
+ghost use Rattle.std.specs.Prelude.{map, true, false, if◌then◌else◌};
 ghost use Rattle.std.specs.List.{list_any};
 ghost use Rattle.ident_core.specs.declared.identity.Identity.{Identity};
 ghost use Rattle.ident_core.specs.declared.range.Sighting.{Sighting};
@@ -30,15 +31,22 @@ ghost use Rattle.publication_core.specs.Rebasing.{BasePublicationFields, Publish
 /// (`rebasable`), the history that begins with this base has its part (`history`) and its ledger (`ledger`), and its
 /// counts (`numbers`). Each history for which a base may stand is rebased (`complete`).
 pub fn bases_are_published()
-    ensures rebasable { (h : History) (parts : List SealedFields) (moment : ℕ) (without : List (List ℕ)) (p : BasePublicationFields) → IsHistory h parts → 1 ≤ members h
-        → PublishesBase (ledger_of (releases_of h parts)) moment without (Ok p) → IsRebasable moment (releases_without without (releases_of h parts)) }
-    ensures history { (h : History) (parts : List SealedFields) (moment : ℕ) (without : List (List ℕ)) (p : BasePublicationFields) → IsHistory h parts → 1 ≤ members h
-        → PublishesBase (ledger_of (releases_of h parts)) moment without (Ok p) → IsHistory (rebased h parts moment without []) (p.sealed ∷ []) }
-    ensures ledger { (h : History) (parts : List SealedFields) (moment : ℕ) (without : List (List ℕ)) (p : BasePublicationFields) → IsHistory h parts
+    ensures rebasable { (h : History) (parts : List SealedFields) (moment : ℕ) (without : List (List ℕ))
+        (p : BasePublicationFields) → IsHistory h parts → 1 ≤ members h
+        → PublishesBase (ledger_of (releases_of h parts)) moment without (Ok p)
+        → IsRebasable moment (releases_without without (releases_of h parts)) }
+    ensures history { (h : History) (parts : List SealedFields) (moment : ℕ) (without : List (List ℕ))
+        (p : BasePublicationFields) → IsHistory h parts → 1 ≤ members h
+        → PublishesBase (ledger_of (releases_of h parts)) moment without (Ok p)
+        → IsHistory (rebased h parts moment without []) (p.sealed ∷ []) }
+    ensures ledger { (h : History) (parts : List SealedFields) (moment : ℕ) (without : List (List ℕ))
+        (p : BasePublicationFields) → IsHistory h parts
         → PublishesBase (ledger_of (releases_of h parts)) moment without (Ok p)
         → p.ledger ≡ ledger_of (releases_of (rebased h parts moment without []) (p.sealed ∷ [])) }
-    ensures numbers { (h : History) (parts : List SealedFields) (moment : ℕ) (without : List (List ℕ)) (p : BasePublicationFields) → IsHistory h parts
-        → PublishesBase (ledger_of (releases_of h parts)) moment without (Ok p) → p.counts ≡ base_counts moment without (releases_of h parts) }
+    ensures numbers { (h : History) (parts : List SealedFields) (moment : ℕ) (without : List (List ℕ))
+        (p : BasePublicationFields) → IsHistory h parts
+        → PublishesBase (ledger_of (releases_of h parts)) moment without (Ok p)
+        → p.counts ≡ base_counts moment without (releases_of h parts) }
     ensures complete { (h : History) (parts : List SealedFields) (moment : ℕ) (without : List (List ℕ))
         → IsHistory h parts → IsRebasable moment (releases_without without (releases_of h parts))
         → (p : BasePublicationFields) × PublishesBase (ledger_of (releases_of h parts)) moment without (Ok p) }
@@ -50,7 +58,8 @@ pub fn bases_are_published()
 pub fn one_thing_comes_of_a_rebase()
     ensures outcome { (ledger : LedgerFields) (moment : ℕ) (without : List (List ℕ)) (a b : Result BasePublicationFields BaseFault)
         → PublishesBase ledger moment without a → PublishesBase ledger moment without b → a ≡ b }
-    ensures some { (ledger : LedgerFields) (moment : ℕ) (without : List (List ℕ)) → (o : Result BasePublicationFields BaseFault) × PublishesBase ledger moment without o }
+    ensures some { (ledger : LedgerFields) (moment : ℕ) (without : List (List ℕ))
+        → (o : Result BasePublicationFields BaseFault) × PublishesBase ledger moment without o }
     ensures complete { (ledger : LedgerFields) (moment : ℕ) (without : List (List ℕ))
         → length (issuers_in (ledger_without without ledger).parts) ≤ MAX_ISSUERS
         → HaveBlocks dated (rebased_groups (is_lasting moment) (ledger_without without ledger))
@@ -62,7 +71,8 @@ pub fn one_thing_comes_of_a_rebase()
 pub fn rebases_keep_verdicts()
     ensures { (h : History) (parts : List SealedFields) (moment : ℕ) (without : List (List ℕ)) (s : SealedFields)
         (x : Identity) (ss : List Sighting)
-        → IsHistory (rebased h parts moment without []) (s ∷ []) → has (kept_by (is_lasting_by moment (releases_of h parts)) (releases_of h parts)) x ≡ true
+        → IsHistory (rebased h parts moment without []) (s ∷ [])
+        → has (kept_by (is_lasting_by moment (releases_of h parts)) (releases_of h parts)) x ≡ true
         → has_key without x.issuer ≡ false
         → 1 ≤ length ss → ((t : Sighting) → Among ss t → Among (sightings x (seen (releases_of h parts))) t)
         → verdict (map (λ t. t.part) parts) x ss ≡ verdict (s.part ∷ []) x ss }
@@ -92,7 +102,8 @@ pub fn issuers_are_left_out()
     ensures items { (without : List (List ℕ)) (keeps : LedgerItem → Bool) (ledger : LedgerFields)
         → kept keeps (ledger_without without ledger) ≡ filter (is_of_other without) (kept keeps ledger) }
     ensures each { (without : List (List ℕ)) (keeps : LedgerItem → Bool) (ledger : LedgerFields)
-        → length (kept keeps (ledger_without without ledger)) + count_pruned keeps (ledger_without without ledger) + count_left without ledger
+        → length (kept keeps (ledger_without without ledger)) + count_pruned keeps (ledger_without without ledger)
+        + count_left without ledger
         ≡ length ledger.items }
     ensures none { (ledger : LedgerFields) → ledger_without [] ledger ≡ ledger }
 {}

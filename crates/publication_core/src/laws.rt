@@ -14,7 +14,8 @@ ghost use Rattle.universe_core.specs.Counting.{counts};
 ghost use Rattle.universe_core.specs.Step.{refusal, groups_after};
 ghost use Rattle.publication_core.specs.declared.fault.PublishFault.{PublishFault};
 ghost use Rattle.publication_core.specs.Formats.{current};
-ghost use Rattle.publication_core.specs.Histories.{IsPartOf, IsAdmissible, History, of_jobs, members, with_job, with_jobs, IsHistory, releases_of};
+ghost use Rattle.publication_core.specs.Histories.{IsPartOf, IsAdmissible, History, of_jobs, members, with_job};
+ghost use Rattle.publication_core.specs.Histories.{with_jobs, IsHistory, releases_of};
 ghost use Rattle.publication_core.specs.Building.{HaveBlocks};
 ghost use Rattle.publication_core.specs.Publishing.{PublicationFields, Publishes};
 
@@ -48,7 +49,8 @@ pub fn histories_are_published()
     ensures front { (h : History) (j : JobIn) (others : List JobIn) (parts all : List SealedFields) → IsHistory h parts
         → IsHistory (with_jobs h (j ∷ others)) all → IsAdmissible (releases_of h parts) j }
     ensures complete { (h : History) (parts : List SealedFields) (job : JobFields) → IsHistory h parts
-        → IsAdmissible (releases_of h parts) (in_format current job) → (p : PublicationFields) × Publishes (ledger_of (releases_of h parts)) job (Ok p) }
+        → IsAdmissible (releases_of h parts) (in_format current job)
+        → (p : PublicationFields) × Publishes (ledger_of (releases_of h parts)) job (Ok p) }
 {}
 
 /// A job is published behind any ledger, that of a history or not, where nothing refuses it and each enrolled issuer

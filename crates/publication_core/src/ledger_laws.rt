@@ -18,7 +18,8 @@ pub fn ledgers_are_read_back()
         → ledger (ledger_bytes h parts) 0 ≡ Ok (ledger_of (releases_of h parts), length (ledger_bytes h parts)) }
     ensures value { (h : History) (parts : List SealedFields) → IsHistory h parts → 1 ≤ members h
         → ledger_of_bytes (ledger_bytes h parts) ≡ Ok (ledger_of (releases_of h parts)) }
-    ensures undated { (h : History) (parts : List SealedFields) → IsHistory h parts → 1 ≤ members h → IsUndated h → HasNoDates (ledger_of (releases_of h parts)) }
+    ensures undated { (h : History) (parts : List SealedFields) → IsHistory h parts → 1 ≤ members h → IsUndated h
+        → HasNoDates (ledger_of (releases_of h parts)) }
     ensures old_read { (h : History) (parts : List SealedFields) → IsHistory h parts → 1 ≤ members h → IsUndated h
         → ledger (old_ledger_bytes h parts) 0 ≡ Ok (ledger_of (releases_of h parts), length (old_ledger_bytes h parts)) }
     ensures old_value { (h : History) (parts : List SealedFields) → IsHistory h parts → 1 ≤ members h → IsUndated h

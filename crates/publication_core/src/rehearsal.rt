@@ -50,7 +50,11 @@ impl Model for Rehearsal {
 }
 
 fn report_on(publication: &Publication) -> Report
-    ensures { result ≡ record { epoch = publication.now.sealed.part.head.epoch; place = publication.now.place; counts = publication.now.counts } }
+    ensures { result ≡ record {
+      epoch = publication.now.sealed.part.head.epoch;
+      place = publication.now.place;
+      counts = publication.now.counts;
+    } }
 {
     Report {
         epoch: publication.sealed().part().head().epoch(),

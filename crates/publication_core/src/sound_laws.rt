@@ -51,7 +51,8 @@ pub fn histories_are_sound()
     ensures listed_behind { (h : History) (old : List SealedFields) (moment : ℕ) (without : List (List ℕ)) (jobs : List JobIn)
         (parts : List SealedFields) (x : Identity) → IsHistory (rebased h old moment without jobs) parts
         → is_listed (releases_of (rebased h old moment without jobs) parts) x
-        ≡ ((has (kept_by (is_lasting_by moment (releases_without without (releases_of h old))) (releases_without without (releases_of h old))) x
+        ≡ ((has (kept_by (is_lasting_by moment (releases_without without (releases_of h old)))
+        (releases_without without (releases_of h old))) x
         && is_listed (releases_without without (releases_of h old)) x)
         || list_any (λ j. lists (facts_in j) x && is_enrolled (facts_in j) x.issuer)
         (drop (birth x (drop 1 (releases_of (rebased h old moment without jobs) parts))) jobs)) }

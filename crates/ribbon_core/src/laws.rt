@@ -26,7 +26,8 @@ pub fn least_is_unique()
 /// added, and so the same least one; and a refusal comes exactly where in some plane these and the new one have none.
 pub fn kept_are_the_added()
     ensures solutions { (es kept : List Equation) → AreAdded [] es kept → (plane Z : ℕ) → SolvesAll plane kept Z ↔ SolvesAll plane es Z }
-    ensures least { (es fs kept : List Equation) → AreAdded [] es kept → IsPermutation es fs → (plane Z : ℕ) → Least plane kept Z ↔ Least plane fs Z }
+    ensures least { (es fs kept : List Equation) → AreAdded [] es kept → IsPermutation es fs → (plane Z : ℕ)
+        → Least plane kept Z ↔ Least plane fs Z }
     ensures refused { (planes : ℕ) (es kept : List Equation) (e : Equation) → AreAdded [] es kept
         → IsContradicted planes kept e ↔ ((plane : ℕ) × (plane < planes) × (IsSolvable plane (es ++ e ∷ []) → ⊥)) }
 {}

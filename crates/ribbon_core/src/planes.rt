@@ -35,7 +35,10 @@ impl Model for Planes {
 
     ghost Value = { PlaneColumns };
 
-    ghost view = { λ p. record { starts = p.kept.value.starts; columns = kept_columns p.kept.value.starts p.kept.value.planes p.kept.value.words.items } };
+    ghost view = { λ p. record {
+      starts = p.kept.value.starts;
+      columns = kept_columns p.kept.value.starts p.kept.value.planes p.kept.value.words.items;
+    } };
 
     ghost invariant = { λ p. ArePlanes p.kept.value.starts p.kept.value.planes p.kept.value.words.items };
 }
@@ -56,7 +59,11 @@ impl Planes {
         requires room { length bytes.now ≡ 8 * (planes * words_of starts) }
         requires padding { (plane : ℕ) → plane < planes
             → plane_of_words (words_spelled (planes * words_of starts) bytes.now) (words_of starts) plane < 2 ^ (starts + 127) }
-        ensures { IfOk result (λ p. p ≡ record { starts = starts; columns = columns_of starts planes (words_spelled (planes * words_of starts) bytes.now) }) }
+        ensures { IfOk result (λ p.
+            p ≡ record {
+              starts = starts;
+              columns = columns_of starts planes (words_spelled (planes * words_of starts) bytes.now);
+            }) }
     {
         let (text, _) = bytes.as_chunks::<8>();
         Planes::spelled(alloc, starts, planes, text)
@@ -92,7 +99,8 @@ impl Planes {
         requires some_planes { 1 ≤ planes }
         requires few_planes { planes ≤ MAX_PLANES }
         requires room { length text.now ≡ planes * words_of starts }
-        requires padding { (plane : ℕ) → plane < planes → plane_of_words (map W.spells text.now) (words_of starts) plane < 2 ^ (starts + 127) }
+        requires padding { (plane : ℕ) → plane < planes
+            → plane_of_words (map W.spells text.now) (words_of starts) plane < 2 ^ (starts + 127) }
         ensures { IfOk result (λ p. p ≡ record { starts = starts; columns = columns_of starts planes (map W.spells text.now) }) }
     {
         let mut placed = vec![in alloc; 0u64; kept_length(starts, planes)]?;
@@ -109,7 +117,10 @@ impl Planes {
     // The same, of words that stand as the type keeps them.
     pub(crate) fn from_kept(kept: Box<KeptWords>) -> Planes
         requires { ArePlanes kept.value.starts kept.value.planes kept.value.words.items }
-        ensures { result ≡ record { starts = kept.value.starts; columns = kept_columns kept.value.starts kept.value.planes kept.value.words.items } }
+        ensures { result ≡ record {
+          starts = kept.value.starts;
+          columns = kept_columns kept.value.starts kept.value.planes kept.value.words.items;
+        } }
     {
         Planes { kept }
     }
@@ -147,7 +158,8 @@ impl Planes {
     /// step.
     pub fn parity<L: Ledger>(&self, row: &Row, words: &mut Steps<L>) -> u16
         requires { row.now.start < self.now.starts }
-        ensures sums { (plane : ℕ) → plane < length self.now.columns → bit_at result plane ≡ sum_of (equation_of row.now) (slice_index self.now.columns plane) }
+        ensures sums { (plane : ℕ) → plane < length self.now.columns
+            → bit_at result plane ≡ sum_of (equation_of row.now) (slice_index self.now.columns plane) }
         ensures few_planes { result < 2 ^ length self.now.columns }
         ensures steps { words.new ≡ words.old + length self.now.columns * (if row.now.start % 64 == 0 then 2 else 3) }
     {

@@ -12,7 +12,8 @@ pub fn solve_planes(coeffs: &[u128], targets: &[u16], planes: u8, width: usize, 
     requires bands { AreBanded coeffs.now targets.now planes }
     requires width { width ≡ (length coeffs.now + 63) / 64 }
     requires room { planes * width ≤ length words.old }
-    ensures { (plane : ℕ) → plane < planes → kept_plane words.new planes width plane ≡ solution_from plane coeffs.now targets.now 0 (length coeffs.now) }
+    ensures { (plane : ℕ) → plane < planes
+        → kept_plane words.new planes width plane ≡ solution_from plane coeffs.now targets.now 0 (length coeffs.now) }
 {
     let mut windows = [0u128; 16];
     for i in (0..width).rev() {

@@ -30,7 +30,11 @@ impl Model for System {
 
     ghost Value = { Kept };
 
-    ghost view = { λ s. record { starts = s.kept.value.starts; planes = s.kept.value.planes; equations = kept_from 0 s.coeffs.items s.targets.items } };
+    ghost view = { λ s. record {
+      starts = s.kept.value.starts;
+      planes = s.kept.value.planes;
+      equations = kept_from 0 s.coeffs.items s.targets.items;
+    } };
 
     ghost invariant = { λ s. IsSystem s.kept.value.starts s.kept.value.planes s.coeffs.items s.targets.items s.kept.value.words.items };
 }

@@ -29,10 +29,12 @@ pub fn samples_are_accepted()
     // Each CRL comes to its date, no next one, and the serials of the entries that it lists, in their order.
     ensures crls { (number count j : ℕ) → count ≤ MAX_SAMPLE → outcome (crl number count j).bytes ≡ Ok (crl_fields number count j) }
     // All together they bring as many serials as `SampleJob::revoked` answers.
-    ensures serials { (number count : ℕ) → count ≤ MAX_SAMPLE → kept_in (meaning_of (sample_contents number count)).crls ≡ sample_revoked count }
+    ensures serials { (number count : ℕ) → count ≤ MAX_SAMPLE
+        → kept_in (meaning_of (sample_contents number count)).crls ≡ sample_revoked count }
     ensures read { (number count : ℕ) → 1 ≤ count → count ≤ MAX_SAMPLE
         → job_of Limits.PUBLISHED (sample_text number count) ≡ Ok (meaning_of (sample_contents number count)) }
-    ensures accepted { (number count : ℕ) → count ≤ MAX_SAMPLE → All (λ c. IsOk c.outcome) (meaning_of (sample_contents number count)).crls }
+    ensures accepted { (number count : ℕ) → count ≤ MAX_SAMPLE
+        → All (λ c. IsOk c.outcome) (meaning_of (sample_contents number count)).crls }
     ensures within { (number count : ℕ) → count ≤ MAX_SAMPLE → IsWithinLimits Limits.PUBLISHED (meaning_of (sample_contents number count)) }
 {
     samples_are_jobs();

@@ -35,4 +35,5 @@ HoldsSome image = (capacity : ℕ) × (held : List ℕ) × IsDevice capacity hel
 -- a device whose picked slot holds these bytes, or what some image of those held
 abbrev pub HoldsStart : Images → List ℕ → Images
 HoldsStart start bytes image =
-    (earlier : List ℕ) × start earlier × (capacity : ℕ) × (held : List ℕ) × IsDevice capacity held earlier × IsEither capacity held bytes image
+    (earlier : List ℕ) × start earlier × (capacity : ℕ) × (held : List ℕ) × IsDevice capacity held earlier
+    × IsEither capacity held bytes image

@@ -51,4 +51,5 @@ pub data BreaksAt (device : List ℕ) : ℕ → Type 0 where
   no_mark : 1 ≤ length device → (piece 1 8 device ≡ magic → ⊥) → BreaksAt device 1
   no_version : piece 1 8 device ≡ magic → (piece 9 1 device ≡ 1 ∷ [] → ⊥) → BreaksAt device 9
   no_capacity : piece 1 8 device ≡ magic → piece 9 1 device ≡ 1 ∷ [] → ((n : ℕ) → IsHeader n device → ⊥) → BreaksAt device 10
-  no_slot : (n : ℕ) → IsHeader n device → ((bytes : List ℕ) → IsSlot (picked_at n device) n bytes device → ⊥) → BreaksAt device (picked_at n device)
+  no_slot : (n : ℕ) → IsHeader n device → ((bytes : List ℕ) → IsSlot (picked_at n device) n bytes device → ⊥)
+      → BreaksAt device (picked_at n device)

@@ -13,9 +13,15 @@ front at old = take at old ++ replicate (at - length old) 0
 
 pub length-front : (at : ℕ) (old : List ℕ) → length (front at old) ≡ at
 length-front at old =
-    omega (arith, length-append (take at old) (replicate (at - length old) 0), length-take at old, length-replicate {A = ℕ} (at - length old) 0)
+    omega (
+      arith,
+      length-append (take at old) (replicate (at - length old) 0),
+      length-take at old,
+      length-replicate {A = ℕ} (at - length old) 0,
+    )
 
-length-overwritten : (at : ℕ) (bytes old : List ℕ) → length (overwritten at bytes old) ≡ at + length bytes + (length old - (at + length bytes))
+length-overwritten : (at : ℕ) (bytes old : List ℕ)
+    → length (overwritten at bytes old) ≡ at + length bytes + (length old - (at + length bytes))
 length-overwritten at bytes old =
     omega (
       arith,
@@ -25,7 +31,8 @@ length-overwritten at bytes old =
       length-drop (at + length bytes) old,
     )
 
-overwritten-before : (at : ℕ) (bytes old : List ℕ) (k : ℕ) → k < length old → k < at → get_or (overwritten at bytes old) k 0 ≡ get_or old k 0
+overwritten-before : (at : ℕ) (bytes old : List ℕ) (k : ℕ) → k < length old → k < at
+    → get_or (overwritten at bytes old) k 0 ≡ get_or old k 0
 overwritten-before at bytes old k here before =
     let rest = drop (at + length bytes) old in
     let a : k < length (take at old) = omega (arith, length-take at old) in

@@ -42,7 +42,8 @@ after_call failed disk = cond failed (one_failed (one_made disk)) (one_made disk
 
 -- the same of a call that makes this step, and none where it failed
 abbrev pub after_step : Step → Bool → MemoryView → MemoryView
-after_step step failed disk = cond failed (one_failed (one_made disk)) (record disk { made = one_more disk.made; steps = disk.steps ++ step ∷ [] })
+after_step step failed disk =
+    cond failed (one_failed (one_made disk)) (record disk { made = one_more disk.made; steps = disk.steps ++ step ∷ [] })
 
 -- what a disk in memory means
 abbrev pub state_of : MemoryView → DiskState

@@ -17,7 +17,8 @@ const MAGIC: u64 = 0x434c_5542_534c_4f54;
 /// Whether the gate picks the second slot.
 fn read_gate<D: Disk>(disk: &mut D) -> Result<bool, SlotFault>
     ensures ok { IfOk result (λ second. Shows (D.state disk.old).told (λ device. (second ≡ picks_second device) × (1 ≤ length device))) }
-    ensures refusal { IfErr result (λ fault. Refuses (λ device at. (at ≡ 0) × (length device ≡ 0)) (D.state disk.old) (D.state disk.new) fault) }
+    ensures refusal { IfErr result (λ fault.
+        Refuses (λ device at. (at ≡ 0) × (length device ≡ 0)) (D.state disk.old) (D.state disk.new) fault) }
     ensures later { (D.state disk.old).faults ≤ (D.state disk.new).faults }
     ensures quiet { Quiet (D.state disk.old) (D.state disk.new) }
 {
@@ -30,7 +31,8 @@ fn read_gate<D: Disk>(disk: &mut D) -> Result<bool, SlotFault>
 
 fn check_magic<D: Disk>(disk: &mut D) -> Result<(), SlotFault>
     ensures ok { IfOk result (λ _. Shows (D.state disk.old).told (λ device. piece 1 8 device ≡ magic)) }
-    ensures refusal { IfErr result (λ fault. Refuses (λ device at. (at ≡ 1) × (piece 1 8 device ≡ magic → ⊥)) (D.state disk.old) (D.state disk.new) fault) }
+    ensures refusal { IfErr result (λ fault.
+        Refuses (λ device at. (at ≡ 1) × (piece 1 8 device ≡ magic → ⊥)) (D.state disk.old) (D.state disk.new) fault) }
     ensures later { (D.state disk.old).faults ≤ (D.state disk.new).faults }
     ensures quiet { Quiet (D.state disk.old) (D.state disk.new) }
 {
@@ -42,7 +44,8 @@ fn check_magic<D: Disk>(disk: &mut D) -> Result<(), SlotFault>
 
 fn check_version<D: Disk>(disk: &mut D) -> Result<(), SlotFault>
     ensures ok { IfOk result (λ _. Shows (D.state disk.old).told (λ device. piece 9 1 device ≡ 1 ∷ [])) }
-    ensures refusal { IfErr result (λ fault. Refuses (λ device at. (at ≡ 9) × (piece 9 1 device ≡ 1 ∷ [] → ⊥)) (D.state disk.old) (D.state disk.new) fault) }
+    ensures refusal { IfErr result (λ fault.
+        Refuses (λ device at. (at ≡ 9) × (piece 9 1 device ≡ 1 ∷ [] → ⊥)) (D.state disk.old) (D.state disk.new) fault) }
     ensures later { (D.state disk.old).faults ≤ (D.state disk.new).faults }
     ensures quiet { Quiet (D.state disk.old) (D.state disk.new) }
 {
@@ -57,7 +60,8 @@ fn check_version<D: Disk>(disk: &mut D) -> Result<(), SlotFault>
 fn read_header<D: Disk>(disk: &mut D) -> Result<u64, SlotFault>
     ensures ok { IfOk result (λ capacity. Shows (D.state disk.old).told (IsHeader capacity)) }
     ensures bound { IfOk result (λ capacity. capacity ≤ MAX_CAPACITY) }
-    ensures refusal { IfErr result (λ fault. Refuses (λ device at. 1 ≤ length device → BreaksAt device at) (D.state disk.old) (D.state disk.new) fault) }
+    ensures refusal { IfErr result (λ fault.
+        Refuses (λ device at. 1 ≤ length device → BreaksAt device at) (D.state disk.old) (D.state disk.new) fault) }
     ensures later { (D.state disk.old).faults ≤ (D.state disk.new).faults }
     ensures quiet { Quiet (D.state disk.old) (D.state disk.new) }
 {
@@ -73,10 +77,13 @@ fn read_header<D: Disk>(disk: &mut D) -> Result<u64, SlotFault>
 fn read_length<D: Disk>(disk: &mut D, at: u64, capacity: u64) -> Result<u64, SlotFault>
     requires low { at ≤ FIRST_SLOT + LENGTH + MAX_CAPACITY }
     requires high { capacity ≤ MAX_CAPACITY }
-    ensures ok { IfOk result (λ count. Shows (D.state disk.old).told (λ device. (bytes : List ℕ) × IsSlot at capacity bytes device × (count ≡ length bytes))) }
+    ensures ok { IfOk result (λ count.
+        Shows (D.state disk.old).told (λ device.
+        (bytes : List ℕ) × IsSlot at capacity bytes device × (count ≡ length bytes))) }
     ensures bound { IfOk result (λ count. count ≤ capacity) }
     ensures refusal { IfErr result (λ fault.
-        Refuses (λ device place. (place ≡ at) × ((bytes : List ℕ) → IsSlot at capacity bytes device → ⊥)) (D.state disk.old) (D.state disk.new) fault) }
+        Refuses (λ device place. (place ≡ at) × ((bytes : List ℕ) → IsSlot at capacity bytes device → ⊥))
+        (D.state disk.old) (D.state disk.new) fault) }
     ensures later { (D.state disk.old).faults ≤ (D.state disk.new).faults }
     ensures quiet { Quiet (D.state disk.old) (D.state disk.new) }
 {

@@ -16,7 +16,9 @@ const HEAD: [u8; 10] = [0, 0x43, 0x4c, 0x55, 0x42, 0x53, 0x4c, 0x4f, 0x54, 1];
 pub fn format<D: Disk>(disk: &mut D, capacity: u64, store: &[u8]) -> Result<(), SlotFault>
     requires low { 1 ≤ capacity }
     requires high { capacity ≤ MAX_CAPACITY }
-    ensures ok { OnOk result (Tells (λ _ device. IsDevice capacity store.now device × (slice_index device 0 ≡ 0)) (D.state disk.old) (D.state disk.new)) }
+    ensures ok { OnOk result
+        (Tells (λ _ device. IsDevice capacity store.now device × (slice_index device 0 ≡ 0)) (D.state disk.old)
+        (D.state disk.new)) }
     ensures durable { OnOk result (IsSynced (D.state disk.new)) }
     ensures too_long { capacity < length store.now → (result ≡ Err (TooLong capacity)) × (disk.new ≡ disk.old) }
     ensures refusal { IfErr result (λ fault. RefusesBytes capacity (length store.now) (D.state disk.old) (D.state disk.new) fault) }

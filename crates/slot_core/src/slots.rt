@@ -56,7 +56,8 @@ impl Slots {
 
     /// Syncs first, and then tests the header and the picked slot.
     pub fn attach<D: Disk>(disk: &mut D) -> Result<Slots, SlotFault>
-        ensures ok { IfOk result (λ slots. Shows (D.state disk.old).told (λ _. (bytes : List ℕ) × IsSlotsOf (D.state disk.new) slots bytes)) }
+        ensures ok { IfOk result (λ slots.
+            Shows (D.state disk.old).told (λ _. (bytes : List ℕ) × IsSlotsOf (D.state disk.new) slots bytes)) }
         ensures refusal { IfErr result (λ fault. RefusesDevice (D.state disk.old) (D.state disk.new) fault) }
         ensures broken { (at : ℕ)
             → Shows (D.state disk.old).told (λ device. BreaksAt device at → (result ≡ Err (BadDevice at)) ⊎ (result ≡ Err DiskFault)) }
@@ -87,12 +88,15 @@ impl Slots {
     /// Puts these bytes in the place of those that the picked slot holds. A crash at any moment leaves the one or the
     /// other. After a refusal but `TooLong` the disk is attached again.
     pub fn replace<D: Disk>(self, disk: &mut D, bytes: &[u8]) -> Result<Slots, SlotFault>
-        ensures ok { IfOk result (λ after. (held : List ℕ) → IsSlotsOf (D.state disk.old) self held → IsSlotsOf (D.state disk.new) after bytes.now) }
-        ensures turned { IfOk result (λ after. after ≡ record { capacity = self.capacity; second = not self.second; length = length bytes.now }) }
+        ensures ok { IfOk result (λ after.
+            (held : List ℕ) → IsSlotsOf (D.state disk.old) self held → IsSlotsOf (D.state disk.new) after bytes.now) }
+        ensures turned { IfOk result (λ after.
+            after ≡ record { capacity = self.capacity; second = not self.second; length = length bytes.now }) }
         ensures any_moment { (held : List ℕ) → IsSlotsOf (D.state disk.old) self held
             → LeavesOnly (D.state disk.old) (D.state disk.new) (IsEither self.capacity held bytes.now) }
         ensures too_long { self.capacity < length bytes.now → (result ≡ Err (TooLong self.capacity)) × (disk.new ≡ disk.old) }
-        ensures refusal { IfErr result (λ fault. RefusesBytes self.capacity (length bytes.now) (D.state disk.old) (D.state disk.new) fault) }
+        ensures refusal { IfErr result (λ fault.
+            RefusesBytes self.capacity (length bytes.now) (D.state disk.old) (D.state disk.new) fault) }
         ensures later { (D.state disk.old).faults ≤ (D.state disk.new).faults }
         ensures told { Tells any_bytes (D.state disk.old) (D.state disk.new) }
     {

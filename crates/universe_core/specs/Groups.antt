@@ -20,7 +20,12 @@ abbrev pub members_of : List ℕ → List Identity → List Identity
 members_of issuer xs = filter (λ x. bytes_eq issuer x.issuer) xs
 
 abbrev pub group_of : Release → List ℕ → GroupFields
-group_of r issuer = record { issuer = issuer; universe = members_of issuer r.accepted; revoked = map (has r.revoked) (members_of issuer r.accepted) }
+group_of r issuer =
+    record {
+      issuer = issuer;
+      universe = members_of issuer r.accepted;
+      revoked = map (has r.revoked) (members_of issuer r.accepted);
+    }
 
 -- in the order of the issuers
 unfoldable pub groups : Release → List GroupFields

@@ -1,6 +1,7 @@
 -- What a job says by itself: its CRLs and entries, its coverage, which issuers it enrolls and which identities it
 -- lists.
-use Rattle.std.specs.Prelude.{ℕ, ℤ, pos, ◌*ℤ◌, int_lt, List, map, filter, filter_map, Bool, false, not, ◌&&◌, Option, Some, None, Result, Ok, Err}
+use Rattle.std.specs.Prelude.{ℕ, ℤ, pos, ◌*ℤ◌, int_lt, List, map, filter, filter_map, Bool, false, not, ◌&&◌, Option}
+use Rattle.std.specs.Prelude.{Some, None, Result, Ok, Err}
 use Rattle.std.specs.List.{list_any, list_all}
 use Rattle.std.specs.Str.{bytes_eq}
 use Rattle.ident_core.specs.declared.identity.Identity.{Identity}
@@ -63,11 +64,15 @@ crls_of issuer job = filter (λ c. bytes_eq issuer c.issuer) job.crls
 
 -- The enrolled issuers: those with a CRL, none of whose CRLs is out of date.
 unfoldable pub enrolled : Job → List (List ℕ)
-enrolled job = filter (λ issuer. list_all (λ c. not (is_stale job.moment c.next_update)) (crls_of issuer job)) (key_set (map (λ c. c.issuer) job.crls))
+enrolled job =
+    filter (λ issuer. list_all (λ c. not (is_stale job.moment c.next_update)) (crls_of issuer job))
+    (key_set (map (λ c. c.issuer) job.crls))
 
 -- Whether the job enrolls an issuer, as a test. Of the enrolled issuers it is true, and of no other.
 unfoldable pub is_enrolled : Job → List ℕ → Bool
-is_enrolled job issuer = list_any (λ c. bytes_eq issuer c.issuer) job.crls && list_all (λ c. not (is_stale job.moment c.next_update)) (crls_of issuer job)
+is_enrolled job issuer =
+    list_any (λ c. bytes_eq issuer c.issuer) job.crls
+    && list_all (λ c. not (is_stale job.moment c.next_update)) (crls_of issuer job)
 
 -- whether the job lists an identity: a CRL of its issuer holds its serial
 unfoldable pub lists : Job → Identity → Bool

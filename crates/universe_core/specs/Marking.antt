@@ -27,4 +27,5 @@ pub record IsRunOf (issuer : List ℕ) (members : List LedgerItem) (run : Run) :
 pub record IsWindow (serial : List ℕ) (run : List LedgerItem) (window : Run) : Type 0 where
   pub order : window.start ≤ window.end
   pub within : window.end ≤ length run
-  pub none : has_key (serials_of (take (window.end - window.start) (drop window.start run))) serial ≡ false → has_key (serials_of run) serial ≡ false
+  pub none : has_key (serials_of (take (window.end - window.start) (drop window.start run))) serial ≡ false
+      → has_key (serials_of run) serial ≡ false

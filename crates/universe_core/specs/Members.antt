@@ -41,7 +41,8 @@ abbrev pub accepted_of : List JobCrl → List Crl
 accepted_of crls = filter_map accepted_crl (map crl_view crls)
 
 -- the CRLs, the enrolled issuers and the accepted identities are the job's
-pub record AreOf (ledger : LedgerFields) (job : Job) (cs : List JobCrl) (ks : List (List ℕ)) (is : List LedgerItem) (flags : List Bool) : Type 0 where
+pub record AreOf (ledger : LedgerFields) (job : Job) (cs : List JobCrl) (ks : List (List ℕ)) (is : List LedgerItem)
+    (flags : List Bool) : Type 0 where
   pub crls : job.crls ≡ accepted_of cs
   pub issuers : ks ≡ enrolled job
   pub members : AreMembers (members_in ledger job) is flags

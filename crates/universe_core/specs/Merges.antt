@@ -27,7 +27,8 @@ abbrev pub made_of_both : Context → List LedgerItem → List ReadEntry → Lis
 made_of_both c items entries = merged (judge_of c.parts.now) items (entries_of c.issuers.now c.ranges.now entries)
 
 -- the same behind the items and flags of old members, and how many entries are late
-pub record IsMergedBehind (c : Context) (items : List LedgerItem) (entries : List ReadEntry) (old_items : List LedgerItem) (old_settled : List Bool)
+pub record IsMergedBehind (c : Context) (items : List LedgerItem) (entries : List ReadEntry)
+    (old_items : List LedgerItem) (old_settled : List Bool)
     (new : Members) (late : ℕ) : Type 0 where
   pub made : new.items.items ≡ old_items ++ map as_item (made_of_both c items entries)
   pub settled : new.settled.items ≡ old_settled ++ map (λ m. m.settled) (made_of_both c items entries)

@@ -27,7 +27,8 @@ part_without without p = record p { issuers = filter (is_other without) p.issuer
 
 -- the ledger with neither these issuers in its parts nor their identities
 unfoldable pub ledger_without : List (List ℕ) → LedgerFields → LedgerFields
-ledger_without without ledger = record { parts = map (part_without without) ledger.parts; items = filter (is_of_other without) ledger.items }
+ledger_without without ledger =
+    record { parts = map (part_without without) ledger.parts; items = filter (is_of_other without) ledger.items }
 
 -- how many identities these issuers have
 abbrev pub count_left : List (List ℕ) → LedgerFields → ℕ
@@ -70,7 +71,8 @@ rebased_head parts = record { kind = kinds.Snapshot; epoch = epoch_by (newest pa
 
 -- the group of an issuer: its identities among these, and which of them are revoked
 abbrev pub group_among : List Identity → List Identity → List ℕ → GroupFields
-group_among xs revoked issuer = record { issuer = issuer; universe = members_of issuer xs; revoked = map (has revoked) (members_of issuer xs) }
+group_among xs revoked issuer =
+    record { issuer = issuer; universe = members_of issuer xs; revoked = map (has revoked) (members_of issuer xs) }
 
 -- a group for each issuer of all parts, in their order
 unfoldable pub rebased_groups : (LedgerItem → Bool) → LedgerFields → List GroupFields
@@ -79,11 +81,18 @@ rebased_groups keeps ledger = map (group_among (ids (kept keeps ledger)) (ids (k
 -- ---- the ledger
 
 abbrev pub rebased_part : List LedgerPartFields → List ℕ → LedgerPartFields
-rebased_part parts trailer = record { epoch = epoch_by (newest parts); trailer = trailer; ranges = ranges_by (newest parts); issuers = issuers_in parts }
+rebased_part parts trailer =
+    record {
+      epoch = epoch_by (newest parts);
+      trailer = trailer;
+      ranges = ranges_by (newest parts);
+      issuers = issuers_in parts;
+    }
 
 -- each is born with the one part, which is its last if it had one
 abbrev pub rebased_item : LedgerItem → LedgerItem
 rebased_item i = record { id = i.id; birth = 0; last = option_map (λ r. 0) i.last; until = i.until }
 
 abbrev pub rebased_ledger : (LedgerItem → Bool) → LedgerFields → List ℕ → LedgerFields
-rebased_ledger keeps ledger trailer = record { parts = rebased_part ledger.parts trailer ∷ []; items = map rebased_item (kept keeps ledger) }
+rebased_ledger keeps ledger trailer =
+    record { parts = rebased_part ledger.parts trailer ∷ []; items = map rebased_item (kept keeps ledger) }

@@ -80,12 +80,17 @@ fn accept<'a, T: Threading>(
     ensures crls { IfOk result (λ a. (job_of a.rest).crls.items ≡ (job_of job.entry).crls.items) }
     ensures issuers { IfOk result (λ a. a.issuers.items ≡ enrolled_of (facts_of_job (job_of job.entry))) }
     ensures members { IfOk result (λ a.
-        AreMembers (members_in (ledger_fields parts.now items.now) (facts_of_job (job_of job.entry))) a.members.items.items a.members.settled.items) }
-    ensures unread { IfOk result (λ a. a.tally.unread ≡ count class.Unread (past_by parts.now items.now) (facts_of_job (job_of job.entry))) }
-    ensures uncovered { IfOk result (λ a. a.tally.uncovered ≡ count class.Uncovered (past_by parts.now items.now) (facts_of_job (job_of job.entry))) }
-    ensures unenrolled { IfOk result (λ a. a.tally.unenrolled ≡ count class.Unenrolled (past_by parts.now items.now) (facts_of_job (job_of job.entry))) }
+        AreMembers (members_in (ledger_fields parts.now items.now)
+        (facts_of_job (job_of job.entry))) a.members.items.items a.members.settled.items) }
+    ensures unread { IfOk result (λ a.
+        a.tally.unread ≡ count class.Unread (past_by parts.now items.now) (facts_of_job (job_of job.entry))) }
+    ensures uncovered { IfOk result (λ a.
+        a.tally.uncovered ≡ count class.Uncovered (past_by parts.now items.now) (facts_of_job (job_of job.entry))) }
+    ensures unenrolled { IfOk result (λ a.
+        a.tally.unenrolled ≡ count class.Unenrolled (past_by parts.now items.now) (facts_of_job (job_of job.entry))) }
     ensures late { IfOk result (λ a. a.late ≡ count class.Late (past_by parts.now items.now) (facts_of_job (job_of job.entry))) }
-    ensures accepted { IfOk result (λ a. a.accepted ≡ count class.Accepted (past_by parts.now items.now) (facts_of_job (job_of job.entry))) }
+    ensures accepted { IfOk result (λ a.
+        a.accepted ≡ count class.Accepted (past_by parts.now items.now) (facts_of_job (job_of job.entry))) }
 {
     let whole = job.job();
     let issuers = enrolled(alloc, whole)?;
@@ -124,14 +129,18 @@ fn build<T: Threading>(
     requires ascend { IsStrictlySortedBy identity_cmp (ids members.items.items) }
     requires beside { length members.settled.items ≡ length members.items.items }
     requires few { length members.items.items ≤ 4294967295 }
-    ensures groups { (ledger : LedgerFields) (job : JobMeaning) → AreOf ledger job crls.now issuers.now members.items.items members.settled.items
+    ensures groups { (ledger : LedgerFields) (job : JobMeaning)
+        → AreOf ledger job crls.now issuers.now members.items.items members.settled.items
         → IfOk result (λ b. map group_fields b.groups.items ≡ groups_after ledger job) }
-    ensures items { (ledger : LedgerFields) (job : JobMeaning) → AreOf ledger job crls.now issuers.now members.items.items members.settled.items
+    ensures items { (ledger : LedgerFields) (job : JobMeaning)
+        → AreOf ledger job crls.now issuers.now members.items.items members.settled.items
         → place ≡ length ledger.parts
         → IfOk result (λ b. b.items.items ≡ map (next_item (past_in ledger) ledger job) (accepted_with (past_in ledger) job)) }
-    ensures universe { (ledger : LedgerFields) (job : JobMeaning) → AreOf ledger job crls.now issuers.now members.items.items members.settled.items
+    ensures universe { (ledger : LedgerFields) (job : JobMeaning)
+        → AreOf ledger job crls.now issuers.now members.items.items members.settled.items
         → IfOk result (λ b. b.universe ≡ length (universe (past_in ledger) job)) }
-    ensures revoked { (ledger : LedgerFields) (job : JobMeaning) → AreOf ledger job crls.now issuers.now members.items.items members.settled.items
+    ensures revoked { (ledger : LedgerFields) (job : JobMeaning)
+        → AreOf ledger job crls.now issuers.now members.items.items members.settled.items
         → IfOk result (λ b. b.revoked ≡ length (revoked (past_in ledger) job)) }
 {
     let flags = revoked_now(

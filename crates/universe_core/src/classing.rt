@@ -16,7 +16,8 @@ use log_core::Entry;
 
 /// Whether an entry is late behind a ledger, or where there is none. The place of the log's range is guessed.
 fn is_late_behind(ledger: Option<&Ledger>, entry: &Entry, near: usize) -> bool
-    ensures { result ≡ (past_in (ledger_or_none (option_map {U = LedgerFields} (λ l. l.now) ledger.entry))).lacked entry.now.id entry.now.sighting }
+    ensures { result ≡ (past_in
+        (ledger_or_none (option_map {U = LedgerFields} (λ l. l.now) ledger.entry))).lacked entry.now.id entry.now.sighting }
 {
     match ledger {
         Some(ledger) => known_of(ledger, entry, near, None).late,
@@ -29,7 +30,8 @@ fn is_late_behind(ledger: Option<&Ledger>, entry: &Entry, near: usize) -> bool
 pub fn class_of(ledger: Option<&Ledger>, job: &Job, entry: usize) -> Class
     requires within { entry < length job.now.entries.items }
     requires ranges { RangesFit job.now.ranges.items }
-    ensures { result ≡ class_told (past_in (ledger_or_none (option_map {U = LedgerFields} (λ l. l.now) ledger.entry))) (facts_of_job job.now)
+    ensures { result ≡ class_told
+        (past_in (ledger_or_none (option_map {U = LedgerFields} (λ l. l.now) ledger.entry))) (facts_of_job job.now)
         (get_or job.now.entries.items entry None) }
 {
     let Some(entry) = &job.entries[entry] else {

@@ -36,7 +36,8 @@ fn group(
 ) -> Result<Group, AllocError>
     requires ascend { IsStrictlySortedBy identity_cmp (ids items.now) }
     requires beside { length revoked.now ≡ length items.now }
-    ensures { (h : IdentityFields → Bool) → revoked.now ≡ map h (ids items.now) → IfOk result (λ g. group_fields g ≡ group_with h (ids items.now) issuer.now) }
+    ensures { (h : IdentityFields → Bool) → revoked.now ≡ map h (ids items.now)
+        → IfOk result (λ g. group_fields g ≡ group_with h (ids items.now) issuer.now) }
 {
     let run = run_of(items, issuer);
     let universe = ids_of(alloc, &items[run.start..run.end])?;

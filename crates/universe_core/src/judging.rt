@@ -155,7 +155,8 @@ fn facts_of(
     requires placed { All (IsPlaced context.now.issuers.now context.now.ranges.now) run.now }
     ensures late { result.late ≡ count_by (is_late_in context.now birth) run.now }
     ensures settled { result.settled ≡ last_covers (map part_fields context.now.parts.now) last
-        (sightings_of (filter (is_timely context.now.parts.now birth) (entries_of context.now.issuers.now context.now.ranges.now run.now))) }
+        (sightings_of (filter (is_timely context.now.parts.now birth)
+        (entries_of context.now.issuers.now context.now.ranges.now run.now))) }
     ensures date { result.date ≡ fold date_with date
         (map date_in (filter (is_timely_in context.now birth) run.now)) }
 {
@@ -185,8 +186,12 @@ pub(crate) fn judge(
     requires few { length context.now.parts.now < 256 }
     requires parts { All IsSearchable context.now.parts.now }
     requires placed { All (IsPlaced context.now.issuers.now context.now.ranges.now) run.now }
-    ensures member { result.member ≡ judge_of context.now.parts.now id.now old.now (entries_of context.now.issuers.now context.now.ranges.now run.now) }
-    ensures late { result.late ≡ count_by (is_late_beside context.now.parts.now old.now) (entries_of context.now.issuers.now context.now.ranges.now run.now) }
+    ensures member { result.member
+        ≡ judge_of context.now.parts.now id.now old.now
+        (entries_of context.now.issuers.now context.now.ranges.now run.now) }
+    ensures late { result.late
+        ≡ count_by (is_late_beside context.now.parts.now old.now)
+        (entries_of context.now.issuers.now context.now.ranges.now run.now) }
 {
     let birth = birth_of(context.parts, old);
     let last = last_of(old);

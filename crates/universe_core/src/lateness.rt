@@ -44,7 +44,8 @@ pub(crate) fn is_late(
     near: usize,
 ) -> bool
     requires { All IsSearchable parts.now }
-    ensures { result ≡ list_any (λ p. covers p.ranges sighting.now && has_key p.issuers issuer.now) (take birth (map part_fields parts.now)) }
+    ensures { result ≡ list_any (λ p. covers p.ranges sighting.now && has_key p.issuers issuer.now)
+        (take birth (map part_fields parts.now)) }
 {
     some_lacks(&parts[..birth.min(parts.len())], issuer, sighting, near)
 }

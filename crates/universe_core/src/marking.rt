@@ -1,7 +1,8 @@
 ghost use Rattle.std.specs.List.Sorted.{IsStrictlySortedBy};
 ghost use Rattle.std.specs.List.{list_any};
 ghost use Rattle.std.specs.Str.{bytes_eq};
-ghost use Rattle.std.specs.Prelude.{◌≡◌, ◌<◌, ◌-◌, ◌||◌, ◌&&◌, All, length, map, get_or, slice_get, Bool, IfOk, OnOk, IsErr, Some, true, false};
+ghost use Rattle.std.specs.Prelude.{◌≡◌, ◌<◌, ◌-◌, ◌||◌, ◌&&◌, All, length, map, get_or, slice_get, Bool, IfOk, OnOk};
+ghost use Rattle.std.specs.Prelude.{IsErr, Some, true, false};
 ghost use Rattle.ident_core.specs.Order.{identity_cmp, serial_cmp, is_same as same};
 ghost use Rattle.ident_core.specs.declared.identity.Identity.{Identity as IdentityFields};
 ghost use Rattle.ledger_core.specs.LedgerFields.{ids};
@@ -56,7 +57,8 @@ fn is_between(run: &[LedgerItem], start: usize, end: usize, listed: &Listed<'_>)
     requires start { start < length run.now }
     requires end { end < length run.now }
     requires key { IsListed listed.now }
-    ensures above { result ≡ true → 0 < start → (d : LedgerItem) → serial_cmp (get_or run.now (start - 1) d).id.serial listed.now.serial.now ≡ Less }
+    ensures above { result ≡ true → 0 < start → (d : LedgerItem)
+        → serial_cmp (get_or run.now (start - 1) d).id.serial listed.now.serial.now ≡ Less }
     ensures below { result ≡ true → (d : LedgerItem) → serial_cmp (get_or run.now end d).id.serial listed.now.serial.now ≡ Greater }
 {
     if start > 0 && !order(&run[start - 1], listed).is_lt() {

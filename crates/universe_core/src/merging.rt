@@ -102,7 +102,8 @@ fn keep(
     member: Option<Member>,
 ) -> Result<(), AllocError>
     ensures items { OnOk result (items.new.items ≡ items.old.items ++ cons_option (option_map as_item member) []) }
-    ensures settled { OnOk result (settled.new.items ≡ settled.old.items ++ cons_option (option_map {U = Bool} (λ m. m.settled) member) []) }
+    ensures settled { OnOk result
+        (settled.new.items ≡ settled.old.items ++ cons_option (option_map {U = Bool} (λ m. m.settled) member) []) }
 {
     if let Some(member) = member {
         items.push(item(&member))?;
@@ -187,10 +188,14 @@ pub(crate) fn members<T: Threading>(
     requires ascend { IsStrictlySortedBy identity_cmp (map (λ i. i.id) items.now) }
     requires issuers { IsStrictlySortedBy octets_cmp context.now.issuers.now }
     requires placed { All (IsPlaced context.now.issuers.now context.now.ranges.now) entries.items }
-    ensures members { (job : JobMeaning) → entries_of context.now.issuers.now context.now.ranges.now entries.items ≡ filter_map (if_read job.ranges (enrolled job)) job.entries
-        → IfOk result (λ m. AreMembers (members_in (ledger_fields context.now.parts.now items.now) job) m.members.items.items m.members.settled.items) }
+    ensures members { (job : JobMeaning)
+        → entries_of context.now.issuers.now context.now.ranges.now entries.items
+        ≡ filter_map (if_read job.ranges (enrolled job)) job.entries
+        → IfOk result (λ m. AreMembers
+        (members_in (ledger_fields context.now.parts.now items.now) job) m.members.items.items m.members.settled.items) }
     ensures late { IfOk result (λ m. m.late
-        ≡ count_by (is_lacked (ledger_fields context.now.parts.now items.now)) (entries_of context.now.issuers.now context.now.ranges.now entries.items)) }
+        ≡ count_by (is_lacked (ledger_fields context.now.parts.now items.now))
+        (entries_of context.now.issuers.now context.now.ranges.now entries.items)) }
 {
     let mut entries = entries;
     let merged = threading.merge(alloc, context, items, &mut entries)?;

@@ -121,7 +121,9 @@ pub(crate) fn read(
     requires sorted { IsStrictlySortedBy octets_cmp issuers.now }
     requires few_issuers { length issuers.now ≤ 65535 }
     requires few { length entries.now ≤ 4294967295 }
-    ensures entries { IfOk result (λ r. entries_of issuers.now ranges.now r.entries.items ≡ filter_map (λ e. if_read ranges.now issuers.now e) entries.now) }
+    ensures entries { IfOk result (λ r.
+        entries_of issuers.now ranges.now r.entries.items
+        ≡ filter_map (λ e. if_read ranges.now issuers.now e) entries.now) }
     ensures placed { IfOk result (λ r. All (IsPlaced issuers.now ranges.now) r.entries.items) }
     ensures unread { IfOk result (λ r. r.tally.unread
         ≡ count_by (λ e. is_class class.Unread (class_alone ranges.now issuers.now e)) entries.now) }

@@ -5,9 +5,11 @@ ghost use Rattle.der_core.specs.Elements.{der_of};
 ghost use Rattle.der_core.specs.Times.{time_of};
 ghost use Rattle.der_core.specs.Walk.{alone};
 ghost use Rattle.crl_core.specs.Findings.{found_in_crl};
-ghost use Rattle.crl_core.specs.Form.{known_version, time_if, dates, crl_extensions, tbs, certificate_list, crl_form, listed, entry, CrlForm};
+ghost use Rattle.crl_core.specs.Form.{known_version, time_if, dates, crl_extensions, tbs, certificate_list, crl_form};
+ghost use Rattle.crl_core.specs.Form.{listed, entry, CrlForm};
 ghost use Rattle.crl_core.specs.Grammar.{IsCrl};
-ghost use Rattle.crl_core.specs.Outcome.{summary, entries_view, outcome_of, outcome, CrlFieldsFit, ComesTo, Finds, GivesOutcome, fields_of, crl_of, tbs_view};
+ghost use Rattle.crl_core.specs.Outcome.{summary, entries_view, outcome_of, outcome, CrlFieldsFit, ComesTo, Finds};
+ghost use Rattle.crl_core.specs.Outcome.{GivesOutcome, fields_of, crl_of, tbs_view};
 
 use crate::crl::entry::entries_of;
 use crate::crl::{Crl, CrlFault, Entries, TbsList};

@@ -3,7 +3,8 @@ ghost use Rattle.std.specs.Option.{option_map};
 ghost use Rattle.der_core.specs.Elements.{der_of, items};
 ghost use Rattle.der_core.specs.Walk.{each};
 ghost use Rattle.crl_core.specs.Extensions.{ext_of, extension, crl_extension};
-ghost use Rattle.crl_core.specs.Findings.{nothing, both, is_known_in_entry, is_known_in_crl, entry_finding, crl_finding, found_in_entry, found_in_crl};
+ghost use Rattle.crl_core.specs.Findings.{nothing, both, is_known_in_entry, is_known_in_crl, entry_finding};
+ghost use Rattle.crl_core.specs.Findings.{crl_finding, found_in_entry, found_in_crl};
 
 use crate::extension::{Extension, extension_of, is_id_ce, point_of};
 use crate::findings::Findings;

@@ -126,7 +126,9 @@ impl Depot for MemoryDepot {
     fn begin(&mut self, name: &str) -> Result<(), Failed>
         // The trait's clauses.
         ensures ok { OnOk result (Some self.new.files ≡ putting (Some self.old.files) name.now []) }
-        ensures err { OnErr result ((Some self.new.files ≡ Some self.old.files) ⊎ (Some self.new.files ≡ putting (Some self.old.files) name.now [])) }
+        ensures err { OnErr result
+            ((Some self.new.files ≡ Some self.old.files)
+            ⊎ (Some self.new.files ≡ putting (Some self.old.files) name.now [])) }
         ensures cause { OnErr result (Rose self.old.writes.faults self.new.writes.faults) }
         ensures later { self.old.writes.faults ≤ self.new.writes.faults }
         ensures same_reads { self.new.reads.faults ≡ self.old.reads.faults }
