@@ -73,9 +73,3 @@ pub within-of : {X : Type 0} (view : X → JobFields) (limits : Limits) (bytes :
     → GivesUnless faults.NoMemory view r (job_of limits bytes) → IfOk r (λ x. IsWithinLimits limits (view x))
 within-of view limits bytes (Ok x) fits h = within-read limits bytes (view x) fits h
 within-of view limits bytes (Err e) fits h = tt
-
-pub fits-of : {X : Type 0} (view : X → JobFields) (limits : Limits) (bytes : List ℕ) (r : Result X JobFault) → IsBytes bytes → limits.ranges ≤ 1024
-    → IfOk r (λ x. All (λ c. IfOk c.outcome CrlFieldsFit) (view x).crls) → IfOk r (λ x. All (λ e. IfSome e EntryFieldsFit) (view x).entries)
-    → GivesUnless faults.NoMemory view r (job_of limits bytes) → IfOk r (λ x. FitsFields (view x))
-fits-of view limits bytes (Ok x) fits published crls entries h = fits-read limits bytes (view x) fits published crls entries h
-fits-of view limits bytes (Err e) fits published crls entries h = tt

@@ -1,7 +1,7 @@
 -- A job, by the bytes that a feed gave.
 use Rattle.std.proofs.Common.{◌≡◌, ℕ, ◌-◌, ◌^◌, ◌≤◌, ◌<◌, Bool, true, false, List, [], ◌∷◌, ◌++◌, length}
 use Rattle.std.proofs.Common.{take, Option, Some, None, Result, Ok, Err, refl, sym, ap, subst, ◌∙◌, arith, IfOk, length-append}
-use Rattle.std.specs.Prelude.{IfSome, All}
+use Rattle.std.specs.Prelude.{IfSome}
 use Rattle.std.specs.Option.{option_map}
 use Rattle.std.specs.FinMap.{get}
 use Rattle.std.proofs.lemmas.Bool.{le-ltb}
@@ -15,18 +15,18 @@ use Rattle.outside_core.specs.Reads.{ReadFailed}
 use Rattle.outside_core.specs.Filling.{IsInOrder}
 use Rattle.outside_core.specs.Standing.{depot_of, name_of, place_of, file_in, StandsIn}
 use Rattle.outside_core.proofs.Feeding.{windowed}
-use Rattle.crl_core.specs.Outcome.{CrlFieldsFit}
 use Rattle.job_core.specs.declared.bounds.Limits.{Limits}
 use Rattle.job_core.specs.declared.fault.JobFault.{JobFault}
 use Rattle.job_core.specs.declared.fault.JobFault.TheVariants as faults
-use Rattle.job_core.specs.JobFacts.{EntryFieldsFit, FitsFields, IsWithinLimits}
+use Rattle.job_core.specs.JobFacts.{FitsFields, IsWithinLimits}
 use Rattle.job_core.specs.JobFields.{JobFields}
 use Rattle.job_core.specs.JobLayout.{fielded, opening, begun, job_of}
 use Rattle.job_core.specs.Partial.{records_saying}
 use Rattle.outside_core.specs.Pulling.{Pulled}
 use Rattle.job_core.specs.Pulling.{IsOfBytes, Blames, Comes, Lies, Fetches, SeesMore, ReadsJob}
 use Rattle.job_core.proofs.Given.{lies-first, lies-both, lies-last, lies-self, lies-whole}
-use Rattle.job_core.proofs.JobFacts.{within-read, fits-read}
+use Rattle.job_core.proofs.JobFacts.{within-read}
+use Rattle.job_core.proofs.ReadFacts.{job-fits}
 use Rattle.job_core.proofs.Saying.{opening-fails, records-fail, end-comes, job-says}
 
 -- ---- the layout of all but the end
@@ -138,11 +138,9 @@ module _ {D X : Type 0} (g : Ghosts D) (limits : Limits) (view : X → JobFields
   within-given (Ok x) it = within-read limits it.given (view x) it.bytes (it.reads it.given (lies-self it.ended it.given))
   within-given (Err e) it = tt
 
-  pub fits-given : (r : Result X JobFault) → limits.ranges ≤ 1024 → IfOk r (λ x. All (λ c. IfOk c.outcome CrlFieldsFit) (view x).crls)
-      → IfOk r (λ x. All (λ e. IfSome e EntryFieldsFit) (view x).entries) → ReadsJob g view (job_of limits) feed r → IfOk r (λ x. FitsFields (view x))
-  fits-given (Ok x) published crls entries it =
-      fits-read limits it.given (view x) it.bytes published crls entries (it.reads it.given (lies-self it.ended it.given))
-  fits-given (Err e) published crls entries it = tt
+  pub fits-given : (r : Result X JobFault) → limits.ranges ≤ 1024 → ReadsJob g view (job_of limits) feed r → IfOk r (λ x. FitsFields (view x))
+  fits-given (Ok x) published it = job-fits limits it.given (view x) it.bytes published (it.reads it.given (lies-self it.ended it.given))
+  fits-given (Err e) published it = tt
 
   -- some bytes are read so, the file's where files are told
   pub given-of : (r : Result X JobFault) (told : Option Files) (name : List ℕ) → ReadsJob g view (job_of limits) feed r

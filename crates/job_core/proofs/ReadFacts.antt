@@ -6,6 +6,7 @@ use Rattle.std.specs.Prelude.{codes}
 use Rattle.std.proofs.lemmas.List.Elements.{All-nil, All-cons, All-head, All-tail}
 use Rattle.sha2.proofs.Facts256.{length-sha256}
 use Rattle.octets_core.specs.Numbers.{number, three_bytes}
+use Rattle.octets_core.specs.Reading.{GivesUnless}
 use Rattle.octets_core.proofs.Fields.{ok_is}
 use Rattle.octets_core.proofs.Texts.{IsBytes}
 use Rattle.crl_core.specs.declared.crl.CrlFault.{CrlFault}
@@ -19,6 +20,7 @@ use Rattle.log_core.proofs.DateLaws.{dated-fits}
 use Rattle.log_core.proofs.EntryLaws.{entry-taken}
 use Rattle.job_core.specs.declared.bounds.Limits.{Limits}
 use Rattle.job_core.specs.declared.fault.JobFault.{JobFault}
+use Rattle.job_core.specs.declared.fault.JobFault.TheVariants as faults
 use Rattle.job_core.specs.JobFields.{JobFields}
 use Rattle.job_core.specs.JobLayout.{CrlText, EntryText, job_of}
 use Rattle.job_core.specs.JobText.{JobContents, FitsEntry, range_record, crl_record, entry_record, spelling}
@@ -126,3 +128,16 @@ job-fits limits bytes f fits published h =
     fits-read limits bytes f fits published
     (subst (λ (g : JobFields). All (λ c. IfOk c.outcome CrlFieldsFit) g.crls) same (crls-fit j.crls))
     (subst (λ (g : JobFields). All (λ e. IfSome e EntryFieldsFit) g.entries) same (entries-fit j.entries fitting.entries leaves)) h
+
+pub fits-of : {X : Type 0} (view : X → JobFields) (limits : Limits) (bytes : List ℕ) (r : Result X JobFault) → IsBytes bytes → limits.ranges ≤ 1024
+    → GivesUnless faults.NoMemory view r (job_of limits bytes) → IfOk r (λ x. FitsFields (view x))
+fits-of view limits bytes (Ok x) fits published h = job-fits limits bytes (view x) fits published h
+fits-of view limits bytes (Err e) fits published h = tt
+
+pub crls-of : {X : Type 0} (view : X → JobFields) (r : Result X JobFault) → IfOk r (λ x. FitsFields (view x)) → IfOk r (λ x. All (λ c. IfOk c.outcome CrlFieldsFit) (view x).crls)
+crls-of view (Ok x) fits = fits.accepted
+crls-of view (Err e) fits = tt
+
+pub entries-of : {X : Type 0} (view : X → JobFields) (r : Result X JobFault) → IfOk r (λ x. FitsFields (view x)) → IfOk r (λ x. All (λ e. IfSome e EntryFieldsFit) (view x).entries)
+entries-of view (Ok x) fits = fits.publishing.entries
+entries-of view (Err e) fits = tt

@@ -1,5 +1,5 @@
 -- What holds of each job that was read.
-use Rattle.std.specs.Prelude.{◌≡◌, ◌<◌, ◌≤◌, ◌^◌, ℕ, List, length, Some, None, All, IfSome, IfOk}
+use Rattle.std.specs.Prelude.{◌≡◌, ◌<◌, ◌≤◌, ◌^◌, length, Some, None, All, IfSome, IfOk}
 use Rattle.std.specs.Int.{w64}
 use Rattle.std.specs.Int.RustNames.{FitsSigned}
 use Rattle.octets_core.specs.Linked.{Linked}
@@ -20,10 +20,6 @@ pub record EntryFieldsFit (e : Entry) : Type 0 where
   pub log : length e.sighting.log ≡ 32
   pub time : e.sighting.time < 2 ^ 64
   pub until : IfSome e.until (FitsSigned w64)
-
--- one octet or more, and the most or fewer
-abbrev pub SerialFits : List ℕ → Type 0
-SerialFits s = (1 ≤ length s) × (length s ≤ MAX_SERIAL)
 
 -- What publishing needs of a job: numbers, keys and the serials of entries fit their fields, and the ranges are as the
 -- head of a part holds them.

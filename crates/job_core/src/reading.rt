@@ -1,8 +1,7 @@
 //! Jobs from bytes.
 
-ghost use Rattle.std.specs.Prelude.{◌≡◌, ◌≢◌, ◌+◌, ◌≤◌, length, map, All, Ok, Err, IfSome, IfOk, IfErr, OnOk, FitsSigned};
-ghost use Rattle.std.specs.Int.{w64};
-ghost use Rattle.job_core.specs.JobFields.{outcome_view, crl_view, fields_of_job, AreWithin};
+ghost use Rattle.std.specs.Prelude.{◌≡◌, ◌≢◌, ◌+◌, ◌≤◌, length, Ok, Err, IfOk, IfErr, OnOk};
+ghost use Rattle.job_core.specs.JobFields.{outcome_view, fields_of_job, AreWithin};
 ghost use Rattle.job_core.specs.JobLayout.{OneRange, OneCrl, OneEntry, kept, saying_one, job_of};
 ghost use Rattle.job_core.specs.Partial.{TakesOne};
 ghost use Rattle.crl_core.specs.Outcome.{outcome};
@@ -10,8 +9,7 @@ ghost use Rattle.log_core.specs.Entries.{entry_of};
 ghost use Rattle.octets_core.specs.Reading.{GivesUnless};
 ghost use Rattle.job_core.specs.JobText.{JobContents, FitsJob, spelling};
 ghost use Rattle.job_core.specs.JobMeaning.{reading_of};
-ghost use Rattle.crl_core.specs.Outcome.{CrlFieldsFit};
-ghost use Rattle.job_core.specs.JobFacts.{SerialFits, EntryFieldsFit, FitsFields, IsWithinLimits};
+ghost use Rattle.job_core.specs.JobFacts.{FitsFields, IsWithinLimits};
 ghost use Rattle.job_core.specs.Offsets.{offset_in_job};
 
 use crate::bounds::{Limits, What};
@@ -19,7 +17,7 @@ use crate::fault::JobFault;
 use crate::meaning::{Job, JobCrl};
 use crate::reading_from::read_job_from;
 use crl_core::{Crl, CrlFault, read_crl};
-use ident_core::{Identity, Range, Serial};
+use ident_core::Range;
 use log_core::{Entry, read_entry};
 use octets_core::Key32;
 use outside_core::{Feed, SliceDepot};
@@ -99,84 +97,9 @@ pub fn put_entry(job: &mut Job, log: Key32, leaf: &[u8], extra: &[u8]) -> Result
     Ok(())
 }
 
-fn date_facts(seconds: i64)
-    ensures { FitsSigned w64 seconds }
-{}
-
-fn date_facts_if(seconds: Option<i64>)
-    ensures { IfSome seconds (FitsSigned w64) }
-{
-    if let Some(seconds) = seconds {
-        date_facts(seconds);
-    }
-}
-
-/// What the types of an entry's fields say of them; the calls do no more than bring it.
-fn field_facts(id: &Identity, log: &Key32, time: u64, until: Option<i64>)
-    ensures { EntryFieldsFit (record { id = id.now; sighting = record { log = log.now; time = time }; until = until }) }
-{
-    let _ = id.issuer.bytes();
-    let _ = id.serial.bytes();
-    let _ = log.bytes();
-    date_facts_if(until);
-}
-
-fn entry_facts(entry: &Option<Entry>)
-    ensures { IfSome entry.now EntryFieldsFit }
-{
-    if let Some(entry) = entry {
-        let sighting = &entry.sighting;
-        field_facts(&entry.id, &sighting.log, sighting.time, entry.until);
-    }
-}
-
-/// What the types of entries say of them.
-pub fn entries_facts(entries: &[Option<Entry>])
-    ensures { All (λ e. IfSome e EntryFieldsFit) entries.now }
-{
-    for entry in entries {
-        entry_facts(entry);
-    }
-}
-
-fn serial_facts(serial: &Serial)
-    ensures { SerialFits serial.now }
-{
-    let _ = serial.bytes();
-}
-
-fn serials_facts(serials: &[Serial])
-    ensures { All SerialFits serials.now }
-{
-    for serial in serials {
-        serial_facts(serial);
-    }
-}
-
-fn crl_facts(crl: &JobCrl)
-    ensures { IfOk (crl_view crl.now).outcome CrlFieldsFit }
-{
-    if let Ok(list) = &crl.outcome {
-        date_facts(list.this_update);
-        date_facts_if(list.next_update);
-        serials_facts(&list.serials);
-    }
-}
-
-/// What the types of CRLs say of them.
-pub fn crls_facts(crls: &[JobCrl])
-    ensures { All (λ c. IfOk c.outcome CrlFieldsFit) (map crl_view crls.now) }
-{
-    for crl in crls {
-        crl_facts(crl);
-    }
-}
-
 fn job_in(alloc: Global, bytes: &[u8], limits: &Limits) -> Result<Job, JobFault>
     requires { AreWithin limits.now Limits.PUBLISHED }
-    ensures exact { GivesUnless JobFault.NoMemory fields_of_job result (job_of limits.now bytes.now) }
-    ensures crls { IfOk result (λ job. All (λ c. IfOk c.outcome CrlFieldsFit) (map crl_view job.crls.items)) }
-    ensures entries { IfOk result (λ job. All (λ e. IfSome e EntryFieldsFit) job.entries.items) }
+    ensures { GivesUnless JobFault.NoMemory fields_of_job result (job_of limits.now bytes.now) }
 {
     let mut depot = SliceDepot::new(bytes);
     let mut feed = Feed::new(&mut depot, "");

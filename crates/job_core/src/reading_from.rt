@@ -18,7 +18,7 @@ use crate::fetch::fetch_end;
 use crate::meaning::Job;
 use crate::partial::{no_numbers, numbers_facts};
 use crate::raw::{RawEntry, no_entry};
-use crate::reading::{crls_facts, entries_facts, put_crl, put_entry, put_range};
+use crate::reading::{put_crl, put_entry, put_range};
 use crate::records::{Item, fetch_opening, next_item_from};
 use outside_core::{Depot, Feed};
 use std::alloc::Global;
@@ -115,8 +115,5 @@ pub fn read_job_from<D: Depot>(
     let Ok(()) = feed.refill() else {
         return Err(JobFault::ReadFault);
     };
-    let job = job_from(alloc, feed, limits)?;
-    crls_facts(&job.crls);
-    entries_facts(&job.entries);
-    Ok(job)
+    job_from(alloc, feed, limits)
 }

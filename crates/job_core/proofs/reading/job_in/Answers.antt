@@ -6,8 +6,8 @@ use Rattle.outside_core.proofs.SliceFiles.{only, file-there, never-fails, slice_
 use Rattle.job_core.proofs.JobGiven.{comes-from}
 use Rattle.job_core.proofs.reading.job_in.Goals as goal
 
-pub returns-clause-exact : goal.returns-clause-exact
-returns-clause-exact c =
+pub returns : goal.returns
+returns c =
     let e = c.read_job_from.ensures in
     let told = ap (λ (b : List ℕ). file_in (Some (only b)) []) c.new-depot.ensures.bytes ∙ file-there c.args.bytes.now c.new-depot.ensures.bound in
     comes-from slice_ghosts c.new-feed.result c.read_job_from.new.feed fields_of_job (job_of c.args.limits.now c.args.bytes.now) c.read_job_from.result
