@@ -3,10 +3,11 @@ pub mod FedJobs
 pub mod FilesRead
 pub mod LongestLedger
 pub mod LongestQueries
-pub mod PartsTaken
 pub mod Reading
-pub mod Scans
-pub mod StoresTaken
+pub mod Taken
+pub mod FedFiles
+pub mod PartFiles
+pub mod StoreFiles
 mod Steps
 pub mod QueryTexts
 pub mod QueryReads

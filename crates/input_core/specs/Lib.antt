@@ -1,10 +1,10 @@
 pub mod Certificates
 pub mod Faults
+pub mod Fed
 pub mod Inputs
 pub mod PartFile
 pub mod Readings
 pub mod Scanned
-pub mod Taking
 pub mod Queries
 pub mod QueryText
 pub mod QueryLayout

@@ -1,11 +1,11 @@
 -- What is known of a file that was scanned.
 use Rattle.std.specs.Prelude.{◌≡◌, ℕ, List, Option, Result, Ok, Err}
-use Rattle.octets_core.specs.declared.fault.LayoutFault.{LayoutFault}
 use Rattle.outside_core.specs.Files.{Files}
 use Rattle.part_text.specs.SealedFields.{SealedFields}
 use Rattle.part_codec.specs.Noting.{note_of}
 use Rattle.part_codec.specs.declared.scan.PartNote.{PartNote}
 use Rattle.input_core.specs.declared.fault.FileFault.{FileFault}
+use Rattle.input_core.specs.declared.fault.FileFault.TheVariants as faults
 use Rattle.input_core.specs.declared.scanning.ScanFault.{ScanFault}
 use Rattle.input_core.specs.declared.scanning.ScanFault.TheVariants as scans
 use Rattle.input_core.specs.Faults.{of_scan}
@@ -22,10 +22,15 @@ abbrev pub scanned : Result PartNote ScanFault → Result PartNote FileFault
 scanned (Ok note) = Ok note
 scanned (Err e) = Err (of_scan e)
 
--- what was noted of bytes
-abbrev pub layouts : Result PartNote LayoutFault → Result PartNote ScanFault
-layouts (Ok note) = Ok note
-layouts (Err e) = Err (scans.Layout e)
+-- what a scan answers where its file is read so
+abbrev pub unscanned : FileFault → ScanFault
+unscanned (faults.Layout f) = scans.Layout f
+unscanned fault = scans.Unread
+
+-- what is made of a file, without how many bytes it has
+abbrev pub first_of : {A : Type 0} → Result (A × ℕ) FileFault → Result A FileFault
+first_of (Ok x) = Ok x.0
+first_of (Err e) = Err e
 
 -- What came of a file that was read so. There is no want of memory.
 abbrev pub IsScan : Option Files → (Option (List ℕ) → Type 0) → List ℕ → Result PartNote ScanFault → Type 0

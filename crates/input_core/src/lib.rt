@@ -3,6 +3,7 @@
 
 mod certificates;
 mod fault;
+mod fed;
 mod input;
 mod inputs;
 mod jobs;

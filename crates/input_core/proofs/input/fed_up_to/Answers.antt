@@ -5,9 +5,7 @@ use Rattle.outside_core.specs.Feeding.{Offers}
 use Rattle.outside_core.specs.Reads.{ReadFailed}
 use Rattle.outside_core.specs.Standing.{depot_of, name_of, place_of}
 use Rattle.outside_core.proofs.Effects.{ReadFailed-then}
-use Rattle.input_core.proofs.Scans.{offers_there}
-use Rattle.input_core.proofs.PartsTaken.{none_taken, positive}
-use Rattle.input_core.proofs.Reading.{taken-next, taken-all}
+use Rattle.input_core.proofs.Taken.{none_taken, offers_there, positive, taken-next, taken-all}
 use Rattle.input_core.proofs.input.fed_up_to.Goals as goal
 
 pub pieces-init : goal.pieces-init

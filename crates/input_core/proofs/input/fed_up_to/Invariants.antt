@@ -3,7 +3,7 @@ use Rattle.outside_core.specs.Effects.{OnlyReads}
 use Rattle.outside_core.specs.Filling.{IsInOrder}
 use Rattle.outside_core.specs.Standing.{reference_of, depot_of, name_of, place_of}
 use Rattle.input_core.specs.Inputs.{IsHeld}
-use Rattle.input_core.specs.Taking.{AreTaken}
+use Rattle.input_core.proofs.Taken.{AreTaken}
 use Rattle.input_core.proofs.input.fed_up_to.Given as goal
 
 abbrev pub invariant-pieces : goal.invariant-pieces

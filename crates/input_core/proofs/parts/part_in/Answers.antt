@@ -1,10 +1,21 @@
-use Rattle.std.proofs.Common.{rules, subst}
-use Rattle.input_core.specs.Readings.{part_in}
+use Rattle.std.proofs.Common.{ℕ}
+use Rattle.std.proofs.lemmas.Result.{err_from_is_err_and}
+use Rattle.octets_core.specs.Reading.{GivesUnless}
+use Rattle.part_text.specs.SealedFields.{SealedFields}
 use Rattle.outside_core.specs.Reads.{WhichFailed}
-use Rattle.input_core.specs.Inputs.{IsInput}
+use Rattle.input_core.specs.declared.fault.FileFault.TheVariants.{NoMemory}
+use Rattle.input_core.specs.Readings.{part_in}
+use Rattle.input_core.proofs.FedFiles.{input-value, input-fault}
 use Rattle.input_core.proofs.parts.part_in.Goals as goal
+
+pub returns-in_err-sealed-clause-input : goal.returns-in_err-sealed-clause-input
+returns-in_err-sealed-clause-input g c =
+    let p = err_from_is_err_and c.from_residual.result c.from_residual.ensures.1 in
+    rw (p.1, p.2)
+    (input-fault (g.D.Depot.files c.args.depot.now) (WhichFailed g.D.Depot c.args.depot.now c.made_of.new.depot) c.args.name.now
+    (λ bytes r. GivesUnless NoMemory (λ (x : SealedFields × ℕ). x) r (part_in bytes)) part_in (λ (x : SealedFields × ℕ). x) c.in_err-sealed.field-0.0 (λ bytes h. h) c.in_err-sealed.ensures.fed)
 
 pub returns-clause-input : goal.returns-clause-input
 returns-clause-input g c =
-    subst (λ (d : g.row.D.Denot). IsInput (g.D.Depot.files c.args.depot.now) (WhichFailed g.D.Depot c.args.depot.now d) c.args.name.now part_in (λ x. x) c.fed_part.result) (search rules)
-    (rw (c.new-feed.ensures.depot, c.new-feed.ensures.name) at c.fed_part.ensures.input)
+    input-value (g.D.Depot.files c.args.depot.now) (WhichFailed g.D.Depot c.args.depot.now c.made_of.new.depot) c.args.name.now
+    (λ bytes r. GivesUnless NoMemory (λ (x : SealedFields × ℕ). x) r (part_in bytes)) part_in (λ (x : SealedFields × ℕ). x) _ _ (λ bytes h. h) c.in_ok-sealed.ensures.fed

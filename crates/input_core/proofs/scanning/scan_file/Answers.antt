@@ -1,9 +1,11 @@
-use Rattle.std.proofs.Common.{rules, subst}
 use Rattle.outside_core.specs.Reads.{WhichFailed}
-use Rattle.input_core.specs.Scanned.{IsScan}
+use Rattle.input_core.proofs.PartFiles.{scan-is, scan-fault}
 use Rattle.input_core.proofs.scanning.scan_file.Goals as goal
 
-pub returns-clause-scan : goal.returns-clause-scan
-returns-clause-scan g c =
-    subst (λ (d : g.row.D.Denot). IsScan (g.D.Depot.files c.args.depot.now) (WhichFailed g.D.Depot c.args.depot.now d) c.args.name.now c.scan_feed.result) (search rules)
-    (rw (c.new-feed.ensures.depot, c.new-feed.ensures.name) at c.scan_feed.ensures.scan)
+pub returns-in-Ok-clause-scan : goal.returns-in-Ok-clause-scan
+returns-in-Ok-clause-scan g c =
+    scan-is (g.D.Depot.files c.args.depot.now) (WhichFailed g.D.Depot c.args.depot.now c.made_of.new.depot) c.args.name.now _ c.in-Ok.ensures.fed
+
+pub returns-in-Err-clause-scan : goal.returns-in-Err-clause-scan
+returns-in-Err-clause-scan g c = rw c.scan_fault.ensures
+    (scan-fault (g.D.Depot.files c.args.depot.now) (WhichFailed g.D.Depot c.args.depot.now c.made_of.new.depot) c.args.name.now _ c.in-Err.ensures.fed)
