@@ -1,6 +1,7 @@
 -- Layouts of bytes: fields one after the other. Each has a width and a test, which depend on the fields before it
 -- alone. Reading goes from left to right, up to the first field that is short or fails its test.
-use Rattle.std.specs.Prelude.{ℕ, zero, suc, ◌+◌, List, [], ◌∷◌, length, take, drop, Bool, ◌&&◌, nat_lt, nat_le, if◌then◌else◌, Result, Ok, Err}
+use Rattle.std.specs.Prelude.{ℕ, zero, suc, ◌+◌, List, [], ◌∷◌, length, take, drop, Bool, ◌&&◌, nat_lt, nat_le}
+use Rattle.std.specs.Prelude.{if◌then◌else◌, Result, Ok, Err}
 use Rattle.std.specs.Int.{Width, byte_len, from_be_bytes}
 use Rattle.std.specs.Str.{bytes_eq}
 use Rattle.octets_core.specs.Position.{piece}
@@ -34,7 +35,9 @@ within low high n = nat_le low n && nat_le n high
 -- its first byte.
 unfoldable pub bytes_field : {E : Type 0} → (ℕ → E) → (ℕ → E) → ℕ → (List ℕ → Bool) → Layout E (List ℕ)
 bytes_field short wrong width test bytes at =
-    if nat_lt (length bytes) (at + width) then Err (short at) else if test (piece width bytes at) then Ok (piece width bytes at, at + width) else Err (wrong at)
+    if nat_lt (length bytes) (at + width) then Err (short at)
+    else if test (piece width bytes at) then Ok (piece width bytes at, at + width)
+    else Err (wrong at)
 
 -- A field that is a number from low to high, greatest byte first.
 unfoldable pub number_field : {E : Type 0} → (ℕ → E) → (ℕ → E) → Width → ℕ → ℕ → Layout E ℕ

@@ -19,7 +19,7 @@ pub use key::{Key32, is_after, key_of, key_order};
 pub use memory::NoMemory;
 pub use put::{put_bytes, put_u8, put_u16, put_u24, put_u32, put_u64};
 pub use reading::{
-    read_digest, read_end, read_key, read_key_after, read_magic, read_octets, read_u8, read_u16,
-    read_u24, read_u32, read_u64,
+    read_digest, read_end, read_key, read_key_after, read_magic, read_u8, read_u16, read_u32,
+    read_u64,
 };
 pub use steps::Steps;

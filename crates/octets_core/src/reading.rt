@@ -5,7 +5,7 @@
 ghost use Rattle.std.specs.Prelude.{◌≤◌, IfOk};
 ghost use Rattle.std.specs.Int.{w8, w16, w32, w64};
 ghost use Rattle.octets_core.specs.Linked.{is_after as is_key_after};
-ghost use Rattle.octets_core.specs.Reading.{ReadsField, number, octets, length_of_three, key, any_key, magic};
+ghost use Rattle.octets_core.specs.Reading.{ReadsField, number, key, any_key, magic};
 ghost use Rattle.octets_core.specs.Reading.{digest, end as end_of};
 
 use crate::cursor::{Cursor, Short};
@@ -47,18 +47,6 @@ pub fn read_u16(
     }
 }
 
-/// A number of three bytes.
-#[tactic(auto, unfolding(crate::specs::Layout::bytes_field, crate::specs::Reading::length_of_three))]
-pub fn read_u24(cursor: &mut Cursor<'_>, field: Field) -> Result<u32, LayoutFault>
-    ensures { ReadsField (λ n. n) (length_of_three field) cursor.old cursor.new result }
-{
-    let at = cursor.at();
-    match cursor.u24() {
-        Ok(n) => Ok(n),
-        Err(Short) => Err(LayoutFault::new(at, field, Why::Short)),
-    }
-}
-
 /// A number of four bytes, from `low` to `high`.
 #[tactic(auto, unfolding(crate::specs::Layout::number_field))]
 pub fn read_u32(
@@ -93,22 +81,6 @@ pub fn read_u64(
     match cursor.u64() {
         Ok(n) if low <= n && n <= high => Ok(n),
         Ok(_) => Err(LayoutFault::new(at, field, Why::Value)),
-        Err(Short) => Err(LayoutFault::new(at, field, Why::Short)),
-    }
-}
-
-/// So many bytes, where they stand.
-#[tactic(auto, unfolding(crate::specs::Layout::bytes_field))]
-pub fn read_octets<'a>(
-    cursor: &mut Cursor<'a>,
-    field: Field,
-    count: u32,
-) -> Result<&'a [u8], LayoutFault>
-    ensures { ReadsField (λ b. b.now) (octets field count) cursor.old cursor.new result }
-{
-    let at = cursor.at();
-    match cursor.take(count as usize) {
-        Ok(taken) => Ok(taken),
         Err(Short) => Err(LayoutFault::new(at, field, Why::Short)),
     }
 }
