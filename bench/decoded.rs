@@ -137,15 +137,15 @@ pub struct Row {
 /// A row of an identity, or its shard.
 pub enum Digest {
     Row { number: u8, seed: u8, starts: u64 },
-    Shard { shift: u8 },
+    Shard,
 }
 
 impl Digest {
     /// Whether both are cut from one digest.
-    fn is_of_one(&self, other: &Digest) -> bool {
+    pub fn is_cut_from_that_of(&self, other: &Digest) -> bool {
         let drawn = |it: &Digest| match *it {
             Digest::Row { number, seed, .. } => Some((number, seed)),
-            Digest::Shard { .. } => None,
+            Digest::Shard => None,
         };
         drawn(self) == drawn(other)
     }
@@ -244,13 +244,7 @@ pub fn verdict(parts: &[Part], issuer: &Key, serial: &[u8], sightings: &[Sightin
     verdict
 }
 
-// ---- The digests that a verdict must make, each once
-
-fn make(made: &mut Vec<Digest>, digest: Digest) {
-    if !made.iter().any(|one| one.is_of_one(&digest)) {
-        made.push(digest);
-    }
-}
+// ---- The digests that the parts ask of a verdict
 
 fn digests_of_leaf(leaf: &Leaf, issuer: &Key, serial: &[u8], made: &mut Vec<Digest>) {
     let Leaf::Mixed { approx, exact } = leaf else {
@@ -258,13 +252,13 @@ fn digests_of_leaf(leaf: &Leaf, issuer: &Key, serial: &[u8], made: &mut Vec<Dige
     };
     let row = |stage: &Stage, number| Digest::Row { number, seed: stage.seed, starts: stage.starts };
     if let Some(stage) = approx {
-        make(made, row(stage, 1));
+        made.push(row(stage, 1));
         let asked = stage.row(1, issuer, serial);
         if !stage.meets(&asked, asked.tag) {
             return;
         }
     }
-    make(made, row(exact, 2));
+    made.push(row(exact, 2));
 }
 
 /// Of a certificate that no part says is revoked, or that only the last one does.
@@ -278,7 +272,7 @@ pub fn digests_of(parts: &[Part], question: &Question) -> Vec<Digest> {
         match &part.filters[place] {
             Filter::Alone(leaf) => digests_of_leaf(leaf, issuer, serial, &mut made),
             Filter::Cut { shift, leaves } => {
-                make(&mut made, Digest::Shard { shift: *shift });
+                made.push(Digest::Shard);
                 let leaf = &leaves[usize::from(shard(issuer, serial, *shift))];
                 digests_of_leaf(leaf, issuer, serial, &mut made);
             }

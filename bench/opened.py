@@ -3,15 +3,18 @@
 digests that it must make (of rows and shards) and beside plain Rust that holds the store decoded
 (bench/opened_reference.rs, built here with rustc), and how many calls of the heap both make, by the library for C. The
 stores are the longest one, one of 65,535 mixed blocks, one of 64 parts, one of blocks that are cut into shards, and
-that of the generator's million, whose blocks are cut too. Run it at the top of the repository; FOLDER holds
-libclubcard.a:
+that of the generator's million, whose blocks are cut too. Serials have 16 octets, as most of the web's, so that each
+digest is one of two blocks; the mixed blocks are asked about serials of 12 octets too, where it is one of one block.
+Run it at the top of the repository; FOLDER holds libclubcard.a:
 
     python3 bench/opened.py FOLDER [TURNS [PROGRAM]]
 
 Instructions are those of callgrind. Times are the least of so many turns (30), in which the library, plain Rust and the
-digests alone, by the library's own functions, take the same hundred questions one after the other, in one process, from
-memory that is warm. PROGRAM makes the generator's store (the one that `./clubcard` runs). The status is 1 where a call
-of the heap is made; where the two answer otherwise, the script ends there.
+digests alone, by the library's own function for rows, take the same hundred questions one after the other, in one
+process: among the other 2,100 questions, and then again, so that what they read is in the nearest cache. The digests of
+a verdict are each row and shard that a part asks for; one that several parts ask for is made once. PROGRAM makes the
+generator's store (the one that `./clubcard` runs). The status is 1 where a call of the heap is made; where the two
+answer otherwise, the script ends there.
 """
 
 import hashlib
@@ -32,11 +35,8 @@ from program import path_of_program  # noqa: E402
 ASKS = 2000
 MILLION = 1000000
 NUMBER = 7  # of the generator's job
-# The library's functions that draw a row and a shard, and the names by which bench/opened_reference.rs calls them.
-DIGESTS = {
-    "equation_core::sha256_rows::RowBits::drawn": "library_row",
-    "equation_core::shards::shard_of": "library_shard",
-}
+# The library's function that draws a row, and the name by which bench/opened_reference.rs calls it.
+DRAWN, ROW = "equation_core::sha256_rows::RowBits::drawn", "library_row"
 BLOCKS = "sha2::block256::Core256::update"
 NAMES = ["not covered", "not enrolled", "good", "revoked"]
 HEAP = ["malloc", "calloc", "realloc", "free"]
@@ -133,10 +133,10 @@ def chain(length: int, count: int) -> bytes:
     return store(parts)
 
 
-def made(name: str, octets: bytes, keys: list[bytes]) -> Sample:
-    """A store of made parts, whose planes are zeros, asked about serials of 12 octets."""
+def made(name: str, octets: bytes, keys: list[bytes], length: int = 16) -> Sample:
+    """A store of made parts, whose planes are zeros, asked about serials of so many octets."""
     numbers = [spread(place) for place in range(ASKS)]
-    asked = [(keys[it % len(keys)], b"\1" + it.to_bytes(4, "little") + bytes(7)) for it in numbers]
+    asked = [(keys[it % len(keys)], (b"\1" + it.to_bytes(4, "little")).ljust(length, b"\0")) for it in numbers]
     return Sample(name, octets, (1).to_bytes(32, "big"), asked)
 
 
@@ -160,8 +160,9 @@ def generated(program: str, work: str) -> Sample:
 
 def samples(program: str, work: str) -> Iterator[Sample]:
     yield made("65,535 plain blocks", store([plain(65535)]), issuers(65535))
-    blocks = [key + mixed_leaf(1) for key in issuers(65535)]
-    yield made("65,535 mixed blocks", store([delta(1, bytes(32), blocks)]), issuers(65535))
+    mixed = store([delta(1, bytes(32), [key + mixed_leaf(1) for key in issuers(65535)])])
+    yield made("65,535 mixed blocks", mixed, issuers(65535))
+    yield made("65,535 mixed blocks, short serials", mixed, issuers(65535), 12)
     yield made("64 parts of 500 mixed blocks", chain(64, 500), issuers(500))
     yield made("20 blocks of 32 shards", store([sharded(20, 5, 18000)]), issuers(20))
     yield generated(program, work)
@@ -181,18 +182,14 @@ class Bench:
         self.has_digests = self.build_reference(library)
 
     def build_reference(self, library: str) -> bool:
-        """With the library's own functions for digests, where it has them under these names, and whether it has."""
-        names = [
-            word
-            for old, new in DIGESTS.items()
-            for word in (f"--redefine-sym={old}={new}", f"--globalize-symbol={new}")
-        ]
+        """With the library's own function for rows, where it has it under this name, and whether it has."""
+        names = [f"--redefine-sym={DRAWN}={ROW}", f"--globalize-symbol={ROW}"]
         subprocess.run(["objcopy", *names, library + "/libclubcard.a", self.path("libclubcard.a")], check=True)
         built = ["rustc", "--edition", "2021", "-O", "bench/opened_reference.rs", "-o", self.reference]
         built += ["-L", "native=" + self.work, "-l", "static=clubcard"]
         if subprocess.run([*built, "--cfg", "digests"], stderr=subprocess.DEVNULL, check=False).returncode == 0:
             return True
-        print("the library has no functions for rows and shards under the names that this script knows")
+        print("the library has no function for rows under the name that this script knows")
         subprocess.run(built, check=True)
         return False
 
@@ -215,7 +212,7 @@ class Bench:
         opened = self.counts([self.caller, self.path("store"), "/dev/null"])
         ours = self.counts([self.caller, self.path("store"), self.path("asked")])
         theirs = self.counts([self.reference, "count", self.path("store"), self.path("asked")])
-        digests = sum(ours.get(name, 0) for name in DIGESTS)
+        digests = theirs["opened_reference::all_digests"] if ROW in theirs else 0
         asked, plain_rust = ours["clubcard_ask"], theirs["opened_reference::all_by_plain_rust"]
         opening = f"open {opened['clubcard_open'] / opened[BLOCKS]:.2f} of its SHA-256"
         beside = f"{asked / digests:.2f} of its digests" if digests else "no digest"
@@ -229,16 +226,16 @@ class Bench:
         words = ["turns", self.path("store"), str(turns), self.path("asked"), self.path("others")]
         run = subprocess.run([self.reference, *words], stdout=subprocess.PIPE, check=True, text=True)
         opening, first, second = run.stdout.splitlines()
-        made, asked, plain_rust, digests = map(float, first.split()[4:])
-        beside = f"{asked / digests:.2f} of its digests ({made:.2f}, {digests:.0f} ns)" if made else "no digest"
-        if made and not self.has_digests:
-            beside = f"{made:.2f} digests, not timed"
+        made, distinct, digests, *asked = map(float, first.split()[4:])
+        lines = [f"open {int(opening) / 1e3:.0f} us; {made:.2f} digests, {distinct:.2f} distinct, {digests:.0f} ns"]
+        for way, ours, plain_rust in zip(("among others", "again"), asked[::2], asked[1::2]):
+            beside = f"{ours / digests:.2f} of its digests, " if made and self.has_digests else ""
+            lines.append(
+                f"{way}: ask {ours:.0f} ns, {beside}{ours / plain_rust:.2f} of plain Rust ({plain_rust:.0f} ns)"
+            )
         answers = zip(first.split(), second.split(), NAMES)
-        told = ", ".join(f"{int(one) + int(other)} {name}" for one, other, name in answers)
-        return (
-            f"open {int(opening) / 1e3:.0f} us; ask {asked:.0f} ns, {beside}, {asked / plain_rust:.2f} of plain Rust"
-            f" ({plain_rust:.0f} ns)\n  answers: {told}"
-        )
+        lines.append("answers: " + ", ".join(f"{int(one) + int(other)} {name}" for one, other, name in answers))
+        return "\n  ".join(lines)
 
     def heap(self) -> tuple[str, bool]:
         """How many calls of the heap there were in opening and verdicts, and whether there were none."""

@@ -5,11 +5,12 @@
 //!     opened_reference count STORE QUESTIONS
 //!     opened_reference turns STORE TURNS QUESTIONS ..
 //!
-//! `count` asks each question once of the decoded store, for callgrind. `turns` asks each of them of both, which must
-//! answer alike, a hundred at a time and TURNS times. It prints the least nanoseconds of opening the store by the
-//! library, and for each file of questions a line: how many were answered by each verdict, from not-covered to revoked,
-//! how many digests a verdict must make, and the nanoseconds of a verdict by the library, in plain Rust, and of its
-//! digests by the library's own functions (where `--cfg digests` says that they can be called). Of each hundred the
+//! `count` asks each question once of the decoded store, and makes its digests, for callgrind. `turns` asks each of
+//! them of both, which must answer alike, a hundred at a time and TURNS times: among all others, and at once again. It
+//! prints the least nanoseconds of opening the store by the library, and for each file of questions a line: how many
+//! were answered by each verdict, from not-covered to revoked, how many digests the parts ask of a verdict, how many of
+//! them differ, the nanoseconds of all by the library's own function for rows (where `--cfg digests` says that it can
+//! be called), and those of a verdict by the library and in plain Rust, among others and again. Of each hundred the
 //! least time counts.
 //!
 //! QUESTIONS are records of 112 bytes: an issuer (32), a serial with zeros behind it (32), its length (8), a log (32)
@@ -23,7 +24,7 @@ use std::time::Instant;
 
 mod decoded;
 mod sha256;
-use decoded::{digests_of, parts_of, row, shard, verdict, Digest, Part, Question, Sighting};
+use decoded::{digests_of, parts_of, row, verdict, Digest, Part, Question, Sighting};
 use sha256::Key;
 
 /// An identity, and what the digest of a row spells, as the library has them in memory.
@@ -42,49 +43,38 @@ struct LibraryRow {
     tag: u16,
 }
 
-// The library's own functions, under names that bench/opened.py gives them. Their parameters are those of the code that
-// the toolchain makes of them today; `is_right` sees whether they still are.
+// The library's own function, under a name that bench/opened.py gives it. Its parameters are those of the code that the
+// toolchain makes of it today; `is_right` sees whether they still are.
 #[cfg(digests)]
 extern "C" {
     fn library_row(row: *mut LibraryRow, number: u32, seed: u32, id: *const Identity);
-    fn library_shard(id: *const Identity, shift: u32) -> u8;
 }
 
-// Where they can't be called.
+// Where it can't be called.
 #[cfg(not(digests))]
 unsafe fn library_row(_: *mut LibraryRow, _: u32, _: u32, _: *const Identity) {}
-#[cfg(not(digests))]
-unsafe fn library_shard(_: *const Identity, _: u32) -> u8 {
-    0
-}
 
 impl Digest {
-    /// What the library makes of it: a row, or a shard as its start.
+    /// What the library makes of a row. It stands for a shard, whose message is a byte shorter and of as many blocks.
     fn by_library(&self, id: &Identity) -> LibraryRow {
+        let (number, seed, starts) = match *self {
+            Digest::Row { number, seed, starts } => (number, seed, starts),
+            Digest::Shard => (1, 0, 1),
+        };
         let mut row = LibraryRow::default();
-        // SAFETY: the functions read an identity and write a row.
-        unsafe {
-            match *self {
-                Digest::Row { number, seed, starts } => {
-                    library_row(&mut row, number.into(), seed.into(), id);
-                    row.start %= starts;
-                }
-                Digest::Shard { shift } => row.start = library_shard(id, shift.into()).into(),
-            }
-        }
+        // SAFETY: the function reads an identity and writes a row.
+        unsafe { library_row(&mut row, number.into(), seed.into(), id) };
+        row.start %= starts;
         row
     }
 
     fn is_right(&self, question: &Question, id: &Identity) -> bool {
-        let Question { issuer, serial, .. } = question;
+        let Digest::Row { number, seed, starts } = *self else {
+            return true;
+        };
         let ours = self.by_library(id);
-        match *self {
-            Digest::Row { number, seed, starts } => {
-                let row = row(number, seed, starts, issuer, serial);
-                (ours.start as usize, ours.coeff, ours.tag) == (row.start, row.coeff, row.tag)
-            }
-            Digest::Shard { shift } => ours.start == u64::from(shard(issuer, serial, shift)),
-        }
+        let row = row(number, seed, starts, &question.issuer, &question.serial);
+        (ours.start as usize, ours.coeff, ours.tag) == (row.start, row.coeff, row.tag)
     }
 }
 
@@ -102,6 +92,12 @@ impl Digests {
         let made = digests_of(parts, question);
         assert!(cfg!(not(digests)) || made.iter().all(|digest| digest.is_right(question, &id)), "digests");
         Digests { id, made }
+    }
+
+    /// How many there are, each counted once.
+    fn distinct(&self) -> usize {
+        let is_new = |at: &usize| !self.made[..*at].iter().any(|other| self.made[*at].is_cut_from_that_of(other));
+        (0..self.made.len()).filter(is_new).count()
     }
 }
 
@@ -234,13 +230,25 @@ fn timed<T>(least: &mut u128, call: impl FnOnce() -> T) -> T {
     answer
 }
 
-/// The questions of a batch, how they are answered, and the least times: by the library, in plain Rust, and of the
-/// library's digests alone.
+/// The least times of a batch: by the library, and in plain Rust.
+struct Times {
+    by_library: u128,
+    by_plain_rust: u128,
+}
+
+impl Times {
+    const NONE: Times = Times { by_library: u128::MAX, by_plain_rust: u128::MAX };
+}
+
+/// The questions of a batch, how they are answered, and the least times: of the library's digests alone, and of the
+/// verdicts among other questions, and at once again.
 struct Batch<'a> {
     questions: &'a [Question],
     digests: Vec<Digests>,
     counts: Counts,
-    least: [u128; 3],
+    of_digests: u128,
+    among: Times,
+    again: Times,
 }
 
 impl<'a> Batch<'a> {
@@ -252,18 +260,20 @@ impl<'a> Batch<'a> {
             assert_eq!(ours, verdict(parts, issuer, serial, sightings) as u32, "answers");
         }
         let digests = questions.iter().map(|question| Digests::new(parts, question)).collect();
-        Batch { questions, digests, counts: Counts::default(), least: [u128::MAX; 3] }
+        let counts = Counts::default();
+        Batch { questions, digests, counts, of_digests: u128::MAX, among: Times::NONE, again: Times::NONE }
     }
 
-    /// Asks both, the one first at even turns and the other at odd ones.
+    /// Asks both twice, the one first at even turns and the other at odd ones.
     fn ask(&mut self, turn: usize, opened: &Opened, parts: &[Part]) {
-        let [by_library, by_plain_rust, of_digests] = &mut self.least;
-        let mut ours = || timed(by_library, || all_by_library(opened, self.questions));
-        let mut theirs = || timed(by_plain_rust, || all_by_plain_rust(parts, self.questions));
-        let answers = if turn % 2 == 0 { (ours(), theirs()) } else { (theirs(), ours()) };
-        timed(of_digests, || all_digests(&self.digests));
-        assert_eq!(answers.0, answers.1, "answers");
-        self.counts = answers.0;
+        for times in [&mut self.among, &mut self.again] {
+            let mut ours = || timed(&mut times.by_library, || all_by_library(opened, self.questions));
+            let mut theirs = || timed(&mut times.by_plain_rust, || all_by_plain_rust(parts, self.questions));
+            let answers = if turn % 2 == 0 { (ours(), theirs()) } else { (theirs(), ours()) };
+            assert_eq!(answers.0, answers.1, "answers");
+            self.counts = answers.0;
+        }
+        timed(&mut self.of_digests, || all_digests(&self.digests));
     }
 }
 
@@ -271,11 +281,20 @@ impl<'a> Batch<'a> {
 fn told(batches: &[Batch<'_>]) -> String {
     let asked: usize = batches.iter().map(|batch| batch.questions.len()).sum();
     let count = |verdict: usize| batches.iter().map(|batch| batch.counts[verdict]).sum::<usize>();
-    let least = |which: usize| batches.iter().map(|batch| batch.least[which]).sum::<u128>() as f64 / asked as f64;
-    let digests: usize = batches.iter().flat_map(|batch| &batch.digests).map(|of| of.made.len()).sum();
+    let each = |least: fn(&Batch) -> u128| batches.iter().map(least).sum::<u128>() as f64 / asked as f64;
+    let digests: Vec<&Digests> = batches.iter().flat_map(|batch| &batch.digests).collect();
+    let made: usize = digests.iter().map(|of| of.made.len()).sum();
+    let distinct: usize = digests.iter().map(|of| of.distinct()).sum();
     let counts = [1, 2, 3, 4].map(|verdict| count(verdict).to_string()).join(" ");
-    let times = [0, 1, 2].map(|which| format!("{:.1}", least(which))).join(" ");
-    format!("{counts} {:.3} {times}", digests as f64 / asked as f64)
+    let least: [fn(&Batch) -> u128; 5] = [
+        |batch| batch.of_digests,
+        |batch| batch.among.by_library,
+        |batch| batch.among.by_plain_rust,
+        |batch| batch.again.by_library,
+        |batch| batch.again.by_plain_rust,
+    ];
+    let times = least.map(|of| format!("{:.1}", each(of))).join(" ");
+    format!("{counts} {:.3} {:.3} {times}", made as f64 / asked as f64, distinct as f64 / asked as f64)
 }
 
 /// The least nanoseconds of opening the store so many times, and of those before.
@@ -308,6 +327,8 @@ fn main() -> Result<(), Box<dyn Error>> {
         ["count", store, questions] => {
             let (parts, questions) = (parts_of(&fs::read(store)?), questions_of(questions)?);
             println!("{:?}", all_by_plain_rust(&parts, &questions));
+            let digests: Vec<Digests> = questions.iter().map(|question| Digests::new(&parts, question)).collect();
+            println!("{}", all_digests(&digests));
         }
         ["turns", store, turns, ref names @ ..] => {
             let files = names.iter().map(|name| questions_of(name)).collect::<Result<Vec<_>, _>>()?;
