@@ -8,7 +8,7 @@ use Rattle.std.specs.declared.cmp.Ordering.TheVariants.{Less, Equal, Greater}
 use Rattle.std.specs.Ordering.{match_ordering}
 use Rattle.std.proofs.Common.{◌≡◌, ◌≢◌, ℕ, zero, suc, ◌+◌, ◌<◌, ◌≤◌, List, [], ◌∷◌, map, length, take, Bool, true, false, cond, Option, Some, None, refl, sym, ap, ◌∙◌, subst, arith}
 use Rattle.std.proofs.lemmas.Bool.{false≢true, lt-leb, le-ltb}
-use Rattle.std.proofs.lemmas.List.{length-map}
+use Rattle.std.proofs.lemmas.List.{length-map, length-take}
 use Rattle.std.proofs.lemmas.Option.{slice_get_within}
 use Rattle.std.proofs.lemmas.List.Sums.{count_by-le-length, sum_by_push, sum_by-take-le}
 use Rattle.ident_core.specs.Order.{identity_cmp}
@@ -30,7 +30,7 @@ use Rattle.history_core.proofs.Releases.{accepted_by-push}
 use Rattle.history_core.proofs.Ledger.{past_in_ledger}
 use Rattle.audit_core.specs.Admitting.{IsCause, as_audit_fault, IsRefusal}
 use Rattle.audit_core.specs.Auditing.{releases_of, entries_of, refusal_behind, AreAdmitted}
-use Rattle.audit_core.proofs.Lists.{at_place, take_at, length-filter_map, length_take}
+use Rattle.audit_core.proofs.Lists.{at_place, take_at, length-filter_map}
 use Rattle.audit_core.proofs.Jobs.{release_behind, history_at, history-none, history_sound}
 use Rattle.audit_core.proofs.Knowing.{parts_length}
 
@@ -160,7 +160,7 @@ pub refused_named : (jobs : List JobFields) (i : ℕ) (job : JobFields) → slic
 refused_named jobs i job at admitted few entries crls ledger is fault h =
     let lt = slice_get_within jobs i job at in
     let parts = parts_length ledger (take i jobs) is in
-    let many = length_take jobs i (omega (arith, lt)) in
+    let many = length-take i jobs in
     let rs = releases_of (take i jobs) in
     let sound = history_sound jobs i (omega (arith, lt)) admitted in
     let past = ap (λ (l : LedgerFields). length (past_in l).accepted) is ∙ ap (λ (p : Past). length p.accepted) (past_in_ledger rs sound) ∙ ap length (accepted_is rs) in

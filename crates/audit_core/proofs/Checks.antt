@@ -1,7 +1,8 @@
 -- Entries that are asked, one after the other.
 use Rattle.std.specs.List.{slice_get}
 use Rattle.std.specs.Prelude.{is_some}
-use Rattle.std.proofs.Common.{◌≡◌, ◌⊎◌, ℕ, zero, suc, ◌+◌, ◌<◌, inl, inr, ⊎_elim, List, Bool, true, false, cond, Option, Some, None, refl, sym, ap, ◌∙◌, subst, arith}
+use Rattle.std.proofs.Common.{◌≡◌, ◌⊎◌, ℕ, ◌+◌, ◌<◌, inl, inr, ⊎_elim, List, Bool, true, false, cond, Option, Some, None, refl, sym, ap, ◌∙◌, subst, arith}
+use Rattle.std.proofs.lemmas.Bool.{cases_lt}
 use Rattle.card_core.specs.PartFields.{PartFields}
 use Rattle.card_core.specs.declared.verdict.Verdict.{Verdict}
 use Rattle.log_core.specs.declared.Entry.{Entry}
@@ -10,10 +11,7 @@ use Rattle.audit_core.specs.declared.checking.Agreement.TheVariants as agreement
 use Rattle.audit_core.specs.Checking.{agreement_by, agreement_of, IsFine, AreFine, is_told}
 
 pub below_or_at : (m i : ℕ) → m < i + 1 → (m < i) ⊎ (m ≡ i)
-below_or_at zero zero lt = inr refl
-below_or_at zero (suc i) lt = inl (omega arith)
-below_or_at (suc m) zero lt = absurd (omega arith)
-below_or_at (suc m) (suc i) lt = ⊎_elim (λ h. inl (omega (arith, h))) (λ e. inr (ap suc e)) (below_or_at m i (omega (arith, lt)))
+below_or_at m i lt = elim (cases_lt m i) [ inl below ↦ inl below | inr past ↦ inr (omega (arith, past, lt)) ]
 
 -- one entry more
 pub fine_more : (parts : List PartFields) (tells : Entry → Option Bool) (entries : List (Option Entry)) (i : ℕ) (o : Option Entry) → slice_get entries i ≡ Some o

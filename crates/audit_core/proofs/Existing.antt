@@ -23,6 +23,7 @@ use Rattle.audit_core.specs.Auditing.{releases_of, entries_of, IsAuditable, refu
 use Rattle.audit_core.specs.Checking.{is_truth}
 use Rattle.audit_core.proofs.Checks.{below_or_at}
 use Rattle.audit_core.proofs.Verdicts.{truth_is, truth_is_not}
+use Rattle.audit_core.proofs.Jobs.{accepted_in}
 use Rattle.audit_core.proofs.Causes.{IsNamed, refused_named}
 
 -- ---- the first place that fails
@@ -87,36 +88,28 @@ module _ (parts : List PartFields) (jobs : List JobFields) where
   said_by e false h = inr (truth_is_not (verdict parts e.id (e.sighting ∷ [])) (is_listed (releases_of jobs) e.id) h)
 
   module _ (j : ℕ) (job : JobFields) (at : slice_get jobs j ≡ Some job) where
-    entry_here : (n : ℕ) (e : Entry) → IsAccepted jobs j n e
-        → (slice_get job.entries n ≡ Some (Some e)) × (class_of (past_of (releases_of (take j jobs))) (facts_of job) (Some e) ≡ Accepted)
-    entry_here n e a =
-        let same = some_item a.job job (sym a.at ∙ at) in (
-          subst (λ (k : JobFields). slice_get k.entries n ≡ Some (Some e)) same a.entry,
-          subst (λ (k : JobFields). class_of (past_of (releases_of (take j jobs))) (facts_of k) (Some e) ≡ Accepted) same a.accepted,
-        )
-
     other_here : (n : ℕ) (e d : Entry) → slice_get job.entries n ≡ Some (Some e) → IsAccepted jobs j n d → d ≡ e
-    other_here n e d there a = some_item d e (some_item (Some d) (Some e) (sym (entry_here n d a).0 ∙ there))
+    other_here n e d there a = some_item d e (some_item (Some d) (Some e) (sym (accepted_in jobs j job at n d a).0 ∙ there))
 
     asked_by : (n : ℕ) (e : Entry) → slice_get job.entries n ≡ Some (Some e)
         → (class_of (past_of (releases_of (take j jobs))) (facts_of job) (Some e) ≡ Accepted)
         ⊎ (class_of (past_of (releases_of (take j jobs))) (facts_of job) (Some e) ≡ Accepted → ⊥)
         → Agrees parts jobs e ⊎ (Agrees parts jobs e → ⊥) → Fine j n ⊎ Wrong j n
     asked_by n e there (inr not) said =
-        inl (λ d a. absurd (not (subst (λ (x : Entry). class_of (past_of (releases_of (take j jobs))) (facts_of job) (Some x) ≡ Accepted) (other_here n e d there a) (entry_here n d a).1)))
+        inl (λ d a. absurd (not (subst (λ (x : Entry). class_of (past_of (releases_of (take j jobs))) (facts_of job) (Some x) ≡ Accepted) (other_here n e d there a) (accepted_in jobs j job at n d a).1)))
     asked_by n e there (inl accepted) (inl agrees) = inl (λ d a. subst (Agrees parts jobs) (sym (other_here n e d there a)) agrees)
     asked_by n e there (inl accepted) (inr differs) = inr (e, record { job = job; at = at; entry = there; accepted = accepted }, differs)
 
     entry_by : (n : ℕ) (o : Option (Option Entry)) → slice_get job.entries n ≡ o → Fine j n ⊎ Wrong j n
-    entry_by n None none = inl (λ d a. absurd (let e : ◌≡◌ {A = Option (Option Entry)} None (Some (Some d)) = sym none ∙ (entry_here n d a).0 in cc))
+    entry_by n None none = inl (λ d a. absurd (let e : ◌≡◌ {A = Option (Option Entry)} None (Some (Some d)) = sym none ∙ (accepted_in jobs j job at n d a).0 in cc))
     entry_by n (Some None) unread =
-        inl (λ d a. absurd (let e : None ≡ Some d = some_item None (Some d) (sym unread ∙ (entry_here n d a).0) in cc))
+        inl (λ d a. absurd (let e : None ≡ Some d = some_item None (Some d) (sym unread ∙ (accepted_in jobs j job at n d a).0) in cc))
     entry_by n (Some (Some e)) there =
         asked_by n e there (accepted_or_not (class_of (past_of (releases_of (take j jobs))) (facts_of job) (Some e)))
         (said_by e (is_truth (verdict parts e.id (e.sighting ∷ [])) (is_listed (releases_of jobs) e.id)) refl)
 
     entries_are : FirstOrAll (Fine j) (Wrong j) (length job.entries) → AllFine j ⊎ SomeWrong j
-    entries_are (inl all) = inl (λ n e a. all n (slice_get_within job.entries n (Some e) (entry_here n e a).0) e a)
+    entries_are (inl all) = inl (λ n e a. all n (slice_get_within job.entries n (Some e) (accepted_in jobs j job at n e a).0) e a)
     entries_are (inr first) = inr first
 
     job_is : AllFine j ⊎ SomeWrong j

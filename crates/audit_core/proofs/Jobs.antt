@@ -5,12 +5,15 @@ use Rattle.std.proofs.lemmas.List.{map-append, append-nil, length-map}
 use Rattle.ident_core.specs.HeadFields.{zero_key}
 use Rattle.job_core.specs.declared.bounds.TheConstants.Limits.{PUBLISHED}
 use Rattle.job_core.specs.JobFields.{JobFields}
+use Rattle.log_core.specs.declared.Entry.{Entry}
+use Rattle.ident_core.proofs.Elements.{some_item}
 use Rattle.universe_core.specs.Jobs.{Job, facts_of}
-use Rattle.universe_core.specs.History.{Release, past_of, released, releases}
+use Rattle.universe_core.specs.declared.class.Class.TheVariants.{Accepted}
+use Rattle.universe_core.specs.History.{Release, class_of, past_of, released, releases}
 use Rattle.history_core.specs.Facts.{IsSound}
 use Rattle.history_core.proofs.Sound.{nothing_sound, keeps_sound}
 use Rattle.history_core.proofs.Following.{admitted_follows}
-use Rattle.audit_core.specs.Auditing.{releases_of, AreAdmitted}
+use Rattle.audit_core.specs.Auditing.{releases_of, AreAdmitted, IsAccepted}
 use Rattle.audit_core.proofs.Lists.{at_place, cut_at, take_at}
 
 abbrev zeros : List Release → Job → List ℕ
@@ -89,3 +92,14 @@ history_sound jobs (suc n) le a =
     let longer : suc n ≡ n + 1 = omega arith in
     subst IsSound (sym (ap (λ k. releases_of (take k jobs)) longer ∙ history_at jobs n at.0 at.1))
     (keeps_sound (releases_of (take n jobs)) (facts_of at.0) zero_key before follows)
+
+-- ---- entries
+
+-- an accepted entry stands in the job of its place, which accepts it
+pub accepted_in : (jobs : List JobFields) (j : ℕ) (job : JobFields) → slice_get jobs j ≡ Some job → (n : ℕ) (e : Entry) → IsAccepted jobs j n e
+    → (slice_get job.entries n ≡ Some (Some e)) × (class_of (past_of (releases_of (take j jobs))) (facts_of job) (Some e) ≡ Accepted)
+accepted_in jobs j job at n e a =
+    let same = some_item a.job job (sym a.at ∙ at) in (
+      subst (λ (k : JobFields). slice_get k.entries n ≡ Some (Some e)) same a.entry,
+      subst (λ (k : JobFields). class_of (past_of (releases_of (take j jobs))) (facts_of k) (Some e) ≡ Accepted) same a.accepted,
+    )

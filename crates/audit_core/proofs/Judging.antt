@@ -4,6 +4,7 @@ use Rattle.std.specs.Prelude.{is_some}
 use Rattle.std.specs.Option.{option_map}
 use Rattle.std.proofs.Common.{◌≡◌, ◌≢◌, ℕ, ◌+◌, ◌<◌, ◌≤◌, List, [], ◌∷◌, ◌++◌, map, length, take, Bool, true, false, cond, Option, Some, None, refl, sym, ap, ◌∙◌, subst, length-append, arith}
 use Rattle.std.proofs.lemmas.Option.{slice_get-map, slice_get_within}
+use Rattle.std.proofs.lemmas.List.{length-take}
 use Rattle.std.proofs.lemmas.List.Sums.{sum_by_push, count_by-le-length}
 use Rattle.card_core.specs.PartFields.{PartFields}
 use Rattle.card_core.specs.declared.verdict.Verdict.{Verdict}
@@ -26,9 +27,9 @@ use Rattle.audit_core.specs.declared.checking.Agreement.{Agreement}
 use Rattle.audit_core.specs.declared.checking.Agreement.TheVariants as agreements
 use Rattle.audit_core.specs.Auditing.{releases_of, entries_of, IsAccepted, Agrees}
 use Rattle.audit_core.specs.Checking.{listing, is_truth, truth_by, agreement_by, agreement_of, IsFine, AreFine, is_told, IsFirstOf, IsFirstIn}
-use Rattle.audit_core.proofs.Lists.{take_at, length-filter_map, count_agree, length_take}
+use Rattle.audit_core.proofs.Lists.{take_at, length-filter_map, count_agree}
 use Rattle.audit_core.proofs.Verdicts.{truth_is, truth_is_not}
-use Rattle.audit_core.proofs.Jobs.{release_behind, history_at, history_cut, history-length}
+use Rattle.audit_core.proofs.Jobs.{accepted_in, release_behind, history_at, history_cut, history-length}
 use Rattle.audit_core.proofs.Accepting.{told_by, listing_is}
 
 slice_mid : {A : Type 0} (xs ys : List A) (x : A) → slice_get (xs ++ x ∷ ys) (length xs) ≡ Some x
@@ -90,8 +91,8 @@ module _ (jobs : List JobFields) (j : ℕ) (job : JobFields) (at : slice_get job
   place_is =
       let a = history-length (take j jobs) in
       let lt = slice_get_within jobs j job at in
-      let b = length_take jobs j (omega (arith, lt)) in
-      omega (arith, a, b)
+      let b = length-take j jobs in
+      omega (arith, a, b, lt)
 
   part_is : part ≡ part_from (release_behind (take j jobs) job)
   part_is =
@@ -110,24 +111,18 @@ module _ (jobs : List JobFields) (j : ℕ) (job : JobFields) (at : slice_get job
       ∙ subst (λ rs. listing (ledger_of rs) (part_from r) e ≡ told_by (class_of (past_of (releases_of (take j jobs))) (facts_of job) (Some e)) (is_listed rs e.id)) (sym cut.1)
       (listing_is (releases_of (take j jobs)) cut.0 (facts_of job) (subst IsSound cut.1 sound) e a)
 
-  entry_at : (n : ℕ) (e : Entry) → IsAccepted jobs j n e → slice_get job.entries n ≡ Some (Some e)
-  entry_at n e a = ap (λ (k : JobFields). slice_get k.entries n) (some_item job a.job (sym at ∙ a.at)) ∙ a.entry
-
-  accepted_at : (n : ℕ) (e : Entry) → IsAccepted jobs j n e → class_of (past_of (releases_of (take j jobs))) (facts_of job) (Some e) ≡ Accepted
-  accepted_at n e a = ap (λ k. class_of (past_of (releases_of (take j jobs))) (facts_of k) (Some e)) (some_item job a.job (sym at ∙ a.at)) ∙ a.accepted
-
   -- where the first entries are fine, the parts say the truth of the accepted ones
   pub agrees_to : (parts : List PartFields) (k : ℕ) → AreFine parts (listing ledger part) job.entries k → (n : ℕ) (e : Entry) → n < k → IsAccepted jobs j n e → Agrees parts jobs e
   agrees_to parts k f n e lt a =
       let t = is_listed (releases_of jobs) e.id in
       let v = verdict parts e.id (e.sighting ∷ []) in
-      let among = Among-from_place job.entries n (Some e) (entry_at n e a) in
-      let tells : listing ledger part e ≡ Some t = told e among ∙ ap (λ c. told_by c t) (accepted_at n e a) in
-      let fine : IsFine (cond (is_truth v t) agreements.Agrees (agreements.Disagrees v t)) = subst (λ o. IsFine (agreement_by parts e o)) tells (f n (Some e) lt (entry_at n e a)) in
+      let among = Among-from_place job.entries n (Some e) (accepted_in jobs j job at n e a).0 in
+      let tells : listing ledger part e ≡ Some t = told e among ∙ ap (λ c. told_by c t) ((accepted_in jobs j job at n e a).1) in
+      let fine : IsFine (cond (is_truth v t) agreements.Agrees (agreements.Disagrees v t)) = subst (λ o. IsFine (agreement_by parts e o)) tells (f n (Some e) lt (accepted_in jobs j job at n e a).0) in
       truth_is v t (fine_truth (is_truth v t) v t fine)
 
   pub agrees_all : (parts : List PartFields) → AreFine parts (listing ledger part) job.entries (length job.entries) → (n : ℕ) (e : Entry) → IsAccepted jobs j n e → Agrees parts jobs e
-  agrees_all parts f n e a = agrees_to parts (length job.entries) f n e (slice_get_within job.entries n (Some e) (entry_at n e a)) a
+  agrees_all parts f n e a = agrees_to parts (length job.entries) f n e (slice_get_within job.entries n (Some e) (accepted_in jobs j job at n e a).0) a
 
   is_told_at : (o : Option Entry) → Among job.entries o → is_told (listing ledger part) o ≡ is_some (if_accepted (class_of (past_of (releases_of (take j jobs))) (facts_of job) o) o)
   unfolding class_by

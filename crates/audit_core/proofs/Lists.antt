@@ -45,8 +45,3 @@ count_agree p q [] h = refl
 count_agree p q (x ∷ xs) h =
     sum_by-cons (λ y. cond (p y) 1 0) x xs ∙ ap (λ b. cond b 1 0 + count_by p xs) (h x (inl refl))
     ∙ ap (λ n. cond (q x) 1 0 + n) (count_agree p q xs (λ y a. h y (inr a))) ∙ sym (sum_by-cons (λ y. cond (q y) 1 0) x xs)
-
-pub length_take : {A : Type 0} (xs : List A) (k : ℕ) → k ≤ length xs → length (take k xs) ≡ k
-length_take xs zero le = refl
-length_take [] (suc k) le = absurd (omega (arith, le))
-length_take (x ∷ xs) (suc k) le = ap suc (length_take xs k (omega (arith, le)))

@@ -1,7 +1,8 @@
 -- An audit finds one thing.
 use Rattle.std.specs.List.{slice_get}
 use Rattle.std.specs.Prelude.{Result, Ok, Err}
-use Rattle.std.proofs.Common.{◌≡◌, ◌≢◌, ◌⊎◌, ℕ, zero, suc, ◌<◌, inl, inr, ⊎_elim, List, [], ◌∷◌, length, take, Bool, Option, Some, None, refl, sym, ap, ◌∙◌, subst, arith}
+use Rattle.std.proofs.Common.{◌≡◌, ◌≢◌, ◌⊎◌, ℕ, ◌<◌, inl, inr, ⊎_elim, List, [], ◌∷◌, length, take, Bool, Option, Some, None, refl, sym, ap, ◌∙◌, subst, arith}
+use Rattle.std.proofs.lemmas.Bool.{cases_lt}
 use Rattle.std.proofs.lemmas.Option.{slice_get_within}
 use Rattle.card_core.specs.PartFields.{PartFields}
 use Rattle.card_core.specs.declared.verdict.Verdict.{Verdict}
@@ -16,14 +17,15 @@ use Rattle.audit_core.specs.declared.auditing.Audited.{Audited}
 use Rattle.audit_core.specs.declared.fault.AuditFault.{AuditFault}
 use Rattle.audit_core.specs.declared.fault.AuditFault.TheVariants as faults
 use Rattle.audit_core.specs.Auditing.{releases_of, refusal_behind, AreAdmitted, IsRefused, IsAccepted, AllAgree, ComesBefore, Disagree, IsFound}
+use Rattle.audit_core.proofs.Jobs.{accepted_in}
 
 -- a place is before another, at it, or behind it
 compared : (m n : ℕ) → (m < n) ⊎ ((m ≡ n) ⊎ (n < m))
-compared zero zero = inr (inl refl)
-compared zero (suc n) = inl (omega arith)
-compared (suc m) zero = inr (inr (omega arith))
-compared (suc m) (suc n) =
-    ⊎_elim (λ lt. inl (omega (arith, lt))) (λ r. inr (⊎_elim (λ e. inl (ap suc e)) (λ gt. inr (omega (arith, gt))) r)) (compared m n)
+compared m n =
+    elim (cases_lt m n) [
+      | inl lt ↦ inl lt
+      | inr ge ↦ elim (cases_lt n m) [ inl gt ↦ inr (inr gt) | inr le ↦ inr (inl (omega (arith, ge, le))) ]
+    ]
 
 item_same : {A : Type 0} (x y : A) (o : Option A) → o ≡ Some x → o ≡ Some y → x ≡ y
 item_same x y o h k = some_item x y (sym h ∙ k)
@@ -74,11 +76,7 @@ module _ (parts : List PartFields) (jobs : List JobFields) where
       (λ s. ⊎_elim (λ h. h) (λ gt. absurd (before_not j m j n w v c b (inr (refl, gt)) e d)) s) (compared n m)
 
   accepted_same : (j n : ℕ) (d e : Entry) → IsAccepted jobs j n d → IsAccepted jobs j n e → d ≡ e
-  accepted_same j n d e a b =
-      let job = item_same a.job b.job (slice_get jobs j) a.at b.at in
-      some_item d e
-      (item_same (Some d) (Some e) (slice_get b.job.entries n)
-      (subst (λ (k : JobFields). slice_get k.entries n ≡ Some (Some d)) job a.entry) b.entry)
+  accepted_same j n d e a b = some_item d e (some_item (Some d) (Some e) (sym (accepted_in jobs j b.job b.at n d a).0 ∙ b.entry))
 
   said_same : (j n : ℕ) (v w : Verdict) (b c : Bool) → Disagree parts jobs j n v b → Disagree parts jobs j n w c → (v ≡ w) × (b ≡ c)
   said_same j n v w b c d e =
