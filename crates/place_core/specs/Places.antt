@@ -3,6 +3,8 @@ use Rattle.std.specs.Prelude.{ℕ, ◌%◌, List, [], ◌∷◌, ◌++◌, take,
 use Rattle.std.specs.Int.{from_be_bytes, w32}
 use Rattle.sha2.specs.Sha256.{sha256}
 use Rattle.ident_core.specs.declared.identity.Identity.{Identity}
+use Rattle.place_core.specs.declared.place.By.{By}
+use Rattle.place_core.specs.declared.place.By.TheVariants as ways
 use Rattle.place_core.specs.declared.place.TheConstants.{MAX_PLACES}
 
 -- so many places, if there may be so many
@@ -26,3 +28,8 @@ issuer_text issuer = codes "CCISSUER" ++ issuer
 
 abbrev pub issuer_place : List ℕ → ℕ → ℕ
 issuer_place issuer count = place_by (issuer_text issuer) count
+
+-- the place of an identity, by its issuer or by itself
+abbrev pub place_in : By → ℕ → Identity → ℕ
+place_in ways.Issuer count x = issuer_place x.issuer count
+place_in ways.Identity count x = place x count

@@ -4,4 +4,4 @@
 
 mod place;
 
-pub use place::{MAX_PLACES, PlaceCount, place_of, place_of_issuer};
+pub use place::{By, MAX_PLACES, PlaceCount, place_in, place_of, place_of_issuer};

@@ -1,6 +1,6 @@
 ghost use Rattle.std.specs.Prelude.{◌≡◌, ◌<◌, ◌≤◌, ◌%◌, take};
 ghost use Rattle.std.specs.Int.{from_be_bytes, w32};
-ghost use Rattle.place_core.specs.Places.{place, issuer_place};
+ghost use Rattle.place_core.specs.Places.{place, issuer_place, place_in};
 
 use ident_core::Identity;
 use octets_core::Key32;
@@ -9,6 +9,15 @@ use std::marker::Model;
 
 /// The most places into which a history is cut.
 pub const MAX_PLACES: u32 = 65_536;
+
+/// By what a history is cut: by issuers, whose identities stay together, or by each identity.
+#[derive(Clone, Copy, Debug, PartialEq, Eq)]
+pub enum By {
+    /// By the issuer.
+    Issuer,
+    /// By the identity.
+    Identity,
+}
 
 /// How many places there are: 1 to `MAX_PLACES`. Contracts see the number.
 #[derive(Clone, Copy, Debug, PartialEq, Eq)]
@@ -30,7 +39,8 @@ impl Model for PlaceCount {
 }
 
 impl PlaceCount {
-    ghost use Rattle.std.specs.Prelude.{◌≡◌};
+    ghost use Rattle.std.specs.Prelude.{◌≡◌, ◌≤◌};
+    ghost use Rattle.place_core.specs.declared.place.TheConstants.{MAX_PLACES};
     ghost use Rattle.place_core.specs.Places.{place_count};
 
     /// So many places, if there may be so many.
@@ -41,6 +51,14 @@ impl PlaceCount {
             return None;
         }
         Some(PlaceCount { count })
+    }
+
+    /// How many places.
+    pub fn get(&self) -> u32
+        ensures value { result ≡ self.now }
+        ensures bounds { (1 ≤ result) × (result ≤ MAX_PLACES) }
+    {
+        self.count
     }
 }
 
@@ -79,4 +97,15 @@ pub fn place_of_issuer(issuer: &Key32, count: PlaceCount) -> u32
     hasher.update(b"CCISSUER");
     hasher.update(issuer.bytes());
     reduced(hasher.finalize(), count)
+}
+
+/// The place of an identity among so many, by its issuer or by itself.
+pub fn place_in(by: By, id: &Identity, count: PlaceCount) -> u32
+    ensures value { result ≡ place_in by count id.now }
+    ensures below { result < count }
+{
+    match by {
+        By::Issuer => place_of_issuer(&id.issuer, count),
+        By::Identity => place_of(id, count),
+    }
 }
