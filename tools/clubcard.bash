@@ -10,7 +10,7 @@ _clubcard() {
     COMPREPLY=()
     if ((COMP_CWORD == 1)); then
         mapfile -t COMPREPLY < <(compgen -W "snapshot delta rebase rebase-without start install query query-cert check \
-            show rehearse sample gather audit device-format device-install device-query" -- "$word")
+            show rehearse sample gather audit place device-format device-install device-query" -- "$word")
         return
     fi
     # A command, and the places of the words behind it that name files.
@@ -20,6 +20,10 @@ _clubcard() {
     gather:2 | gather:[4-9] | gather:[1-9][0-9] | gather:[1-9][0-9][0-9] | gather:10[01][0-9] | gather:102[0-7]) ;;
     rehearse:2 | rehearse:[4-9] | rehearse:[1-5][0-9] | rehearse:6[0-7]) ;;
     audit:[2-9] | audit:[1-5][0-9] | audit:6[0-6]) ;;
+    place:2)
+        mapfile -t COMPREPLY < <(compgen -W "issuer identity" -- "$word")
+        return
+        ;;
     *) return ;;
     esac
     mapfile -t COMPREPLY < <(compgen -f -- "$word")

@@ -66,6 +66,7 @@ COMMANDS = (
     Command("sample", "NUMBER COUNT JOB", written="JOB"),
     Command("gather", "HEAD LOG JOB", "PAGE", 1024, written="JOB"),
     Command("audit", "STORE", "JOB", 64),
+    Command("place", "BY ISSUER SERIAL COUNT"),
     Command("device-format", "DEVICE CAPACITY STORE", written="DEVICE"),
     Command("device-install", "DEVICE PART", written="DEVICE"),
     Command("device-query", "DEVICE ISSUER SERIAL", "LOG TIME", 64),
@@ -171,6 +172,11 @@ def bounded_fault(least: int, most: int) -> Callable[[str], str | None]:
     return fault
 
 
+def way_fault(word: str) -> str | None:
+    """What is wrong with the word that says by what places are."""
+    return None if word in ("issuer", "identity") else "is neither `issuer` nor `identity`"
+
+
 def name_fault(word: str) -> str | None:
     """What is wrong with the name of a file."""
     if not word:
@@ -182,7 +188,10 @@ def name_fault(word: str) -> str | None:
     return None
 
 
+# What is wrong with a word of this name, of one command or of each.
 FAULTS: dict[str, Callable[[str], str | None]] = {
+    "BY": way_fault,
+    "place COUNT": bounded_fault(1, 65536),
     "ISSUER": issuer_fault,
     "LOG": log_fault,
     "SERIAL": serial_fault,
@@ -207,7 +216,7 @@ def same_names(command: Command, words: list[str]) -> Iterator[str]:
 def word_faults(command: Command, words: list[str]) -> Iterator[str]:
     """What is wrong with the words behind a command, whose number fits."""
     for name, word in command.named(words):
-        fault = FAULTS.get(name, name_fault)(word)
+        fault = FAULTS.get(f"{command.name} {name}", FAULTS.get(name, name_fault))(word)
         if fault:
             yield f"{name} {shown(word)} {fault}"
     yield from same_names(command, words)

@@ -6,7 +6,19 @@ from dataclasses import dataclass
 from typing import NamedTuple
 
 import scenario_words as words_of
-from reference import Part, Refused, SeedsExhausted, be, history_of, rebased, sample, store, verdict
+from reference import (
+    Part,
+    Refused,
+    SeedsExhausted,
+    be,
+    history_of,
+    issuer_place,
+    place,
+    rebased,
+    sample,
+    store,
+    verdict,
+)
 from reference_files import Disagrees, agreed, follow, read_ledger, read_part, read_queries
 from scenario_device import GREATEST, Device
 from scenario_pages import PAGE_BYTES, read_page
@@ -77,6 +89,7 @@ class World:
             "sample": Shape(3, 3, self.sample),
             "gather": Shape(4, 1027, self.gather),
             "audit": Shape(2, 65, self.audit),
+            "place": Shape(4, 4, self.place),
             "device-format": Shape(3, 3, self.device_format),
             "device-install": Shape(2, 2, self.device_install),
             "device-query": Shape(5, 131, self.device_query),
@@ -184,6 +197,11 @@ class World:
                 raise Limit("entries", ENTRIES)
         self.write(job, bytes(out) + b"\0")
         self.lines = [f"gather pages {len(pages)} entries {here} bytes {len(out) + 1}"]
+
+    def place(self, by: str, issuer: str, digits: str, count: str) -> None:
+        way, identity, many = words_of.by(by), words_of.identity(issuer, digits), words_of.number(count, 1, 65536)
+        found = issuer_place(identity[0], many) if way == "issuer" else place(identity, many)
+        self.lines = [f"place {found} of {many}"]
 
     # ---------- stores ----------
     def start(self, part_name: str, new: str) -> None:

@@ -68,6 +68,13 @@ def identity(issuer: str, digits: str) -> Identity:
     return key(issuer), len(octets), octets
 
 
+def by(word: str) -> str:
+    """By what a history is cut."""
+    if word not in ("issuer", "identity"):
+        raise Usage
+    return word
+
+
 def sightings(words: Sequence[str]) -> list[Sighting]:
     """Pairs of a log and a time, 1 to 64 of them."""
     if not 2 <= len(words) <= 128 or len(words) % 2:

@@ -27,7 +27,8 @@ WORDS = {
     "MOMENT": [*NUMBERS, "2023-11-14"],
     "NUMBER": NUMBERS,
     "WORKERS": [*NUMBERS, "four"],
-    "COUNT": ["1", "0", "1000001", "x"],
+    "COUNT": ["1", "65536", "65537", "0", "1000001", "x"],
+    "BY": ["issuer", "identity", "issuers", "ISSUER", ""],
     "CAPACITY": ["1", "0", "1099511627776", "1099511627777", "4k"],
 }
 NAMES = ["a", "b", "c", "d", "e", "-f", "", "a\x1fb", "a\x7f", "é", "n" * 4096, "n" * 4097]

@@ -2,7 +2,7 @@
 
 from collections.abc import Callable
 
-from scenario_words import Usage, apart, identity, key, keys, name, names, number, sightings, workers
+from scenario_words import Usage, apart, by, identity, key, keys, name, names, number, sightings, workers
 
 # The words behind a command: names of files that are read and written, a number, a key, a count of workers, and names
 # up to so many, or keys.
@@ -49,7 +49,8 @@ def test_shape(shape: str, words: list[str]) -> None:
 
 
 def command_text(words: list[str]) -> str:
-    """The command that words are; of a query its certificate and its sightings, of a sample its two numbers."""
+    """The command that words are; of a query its certificate and its sightings, of a sample its two numbers, of a place
+    by what it is, the certificate and the count."""
     match words:
         case ["query", store, issuer, digits, *seen]:
             name(store)
@@ -59,6 +60,10 @@ def command_text(words: list[str]) -> str:
         case ["sample", which, count, job]:
             name(job)
             return f"sample {number(which)} entries {number(count, 1, 1000000)}"
+        case ["place", way, issuer, digits, count]:
+            _, _, octets = identity(issuer, digits)
+            out = f"place by {by(way).capitalize()} issuer {key(issuer).hex()} serial {octets.hex()}"
+            return f"{out} of {number(count, 1, 65536)}"
         case [command, *rest] if command in SHAPES:
             test_shape(SHAPES[command], rest)
             return "command"

@@ -45,10 +45,12 @@ from .engine_lines import (
     rebased,
     verdict_of,
 )
+from .places import By
 
 __all__ = [
     "Audited",
     "BrokenChain",
+    "By",
     "DamagedDevice",
     "DiskFailed",
     "Engine",
@@ -165,6 +167,11 @@ class Engine:
         """Writes the generator's job of a number, with so many entries (1 to 1,000,000)."""
         read = _one(lambda line: Sampled(*numbers_of(line, "sample # entries # revoked # bytes #")))
         return self._run(read, "sample", number, count, job)
+
+    def place(self, by: By, issuer: bytes, serial: bytes, count: int) -> int:
+        """The place of a certificate, where a history is cut into so many (1 to 65,536), from 0 on."""
+        read = _one(lambda line: numbers_of(line, "place # of #")[0])
+        return self._run(read, "place", by.name.lower(), issuer.hex(), serial.hex(), count)
 
     def device_format(self, device: Name, capacity: int, store: Name) -> StoreFacts:
         """Writes a device of a capacity (1 to 2^40 bytes) that holds a store."""

@@ -48,6 +48,7 @@ READ: dict[str, Callable[[list[str]], Any]] = {
     "audit": alone(lambda line: NUMBERS(line, "audit jobs # entries # agree")),
     "gather": alone(lambda line: NUMBERS(line, "gather pages # entries # bytes #")),
     "sample": alone(lambda line: NUMBERS(line, "sample # entries # revoked # bytes #")),
+    "place": alone(lambda line: NUMBERS(line, "place # of #")),
 }
 
 
@@ -173,6 +174,13 @@ def test_a_chain(program: Engine, tmp_path: Path) -> None:
     with pytest.raises(engine.BrokenChain) as broken:
         program.install(at["newer"], at["next"], at["store"])
     assert broken.value.why == "parent" and broken.value.details[1] == shown.trailer.hex()
+
+
+def test_places(program: Engine) -> None:
+    assert program.place(engine.By.ISSUER, KEY, b"\x05", 65536) == 49925
+    assert program.place(engine.By.IDENTITY, KEY, b"\x05", 65536) == 44354
+    with pytest.raises(engine.WrongWords):
+        program.place(engine.By.IDENTITY, KEY, b"\x05", 65537)
 
 
 def test_asking(program: Engine) -> None:

@@ -39,7 +39,7 @@ use Rattle.word_core.proofs.Asked.{AreApart, names_apart}
 use Rattle.word_core.specs.declared.command.Command.TheVariants as commands
 use Rattle.word_core.specs.declared.command.{Query.Query, QueryCert.QueryCert, Snapshot.Snapshot, Delta.Delta}
 use Rattle.word_core.specs.declared.command.{Rebase.Rebase, Start.Start, Install.Install, Rehearse.Rehearse, Audit.Audit, Sample.Sample}
-use Rattle.word_core.specs.declared.command.{Gather.Gather}
+use Rattle.word_core.specs.declared.command.{Gather.Gather, Place.Place}
 use Rattle.input_core.specs.declared.certificates.Certificate.{Certificate}
 use Rattle.input_core.specs.declared.fault.FileFault.{FileFault}
 use Rattle.input_core.specs.declared.fault.FileFault.TheVariants as faults
@@ -50,7 +50,7 @@ use Rattle.input_core.specs.Queries.{Query as JobQuery}
 use Rattle.input_core.specs.Readings.{job_in, ledger_in, part_in, store_in}
 use Rattle.input_core.specs.Certificates.{certificate_in, issuer_in}
 use Rattle.command_core.specs.Commands.{◌>>=◌, named, input, query_done, query_cert_done, check_done, show_done, stored, begun_by, begun, installed_by, installed}
-use Rattle.command_core.specs.Commands.{publication_done, rehearsed, published_as, MakesPart, MakesSnapshot, MakesDelta, sample_done}
+use Rattle.command_core.specs.Commands.{publication_done, rehearsed, published_as, MakesPart, MakesSnapshot, MakesDelta, sample_done, place_done}
 use Rattle.command_core.specs.Commands.{head_in, page_in, room_for, pages_of, gather_done, AreJobs, Makes}
 use Rattle.command_core.specs.Rebasings.{base_done, rebased_as, MakesBase, MakesRebase}
 use Rattle.command_core.specs.Replies.{done, held_under, held_by}
@@ -408,6 +408,11 @@ module _ (call : Call) where
           same_done c.d said x.said c.given,
         )
 
+    pub place : (p : Place) → (did : Did call (commands.Place p)) → GivesDone call (place_done p)
+    place p did =
+        let c = came (commands.Place p) did in
+        same_done c.d (place_done p) (ok_same {E = NamedFault} c.d (place_done p) c.makes) c.given
+
   -- ---- what can be published
 
   read_in : {A : Type 0} (files : Files) → call.files_before ≡ Some files
@@ -577,5 +582,6 @@ module _ (call : Call) where
         gather_complete = gather_complete one publishable ends;
         audit = audit ends apart truthful;
         audit_complete = audit_complete one publishable ends;
+        place = place ends apart;
         complete = λ d. given call unique ends (Ok d);
       }

@@ -29,7 +29,7 @@ use Rattle.publication_core.specs.Rebasing.{BasePublicationFields, PublishesBase
 use Rattle.word_core.specs.declared.command.Command.TheVariants as commands
 use Rattle.word_core.specs.declared.command.{Query.Query as StoreQuery, QueryCert.QueryCert, Snapshot.Snapshot}
 use Rattle.word_core.specs.declared.command.{Delta.Delta, Rebase.Rebase, Start.Start, Install.Install}
-use Rattle.word_core.specs.declared.command.{Rehearse.Rehearse, Audit.Audit, Sample.Sample, Gather.Gather}
+use Rattle.word_core.specs.declared.command.{Rehearse.Rehearse, Audit.Audit, Sample.Sample, Gather.Gather, Place.Place}
 use Rattle.word_core.specs.Names.{inputs_of, outputs_of}
 use Rattle.line_core.specs.Lines.{line, audit_line}
 use Rattle.input_core.specs.declared.certificates.Certificate.{Certificate}
@@ -41,7 +41,7 @@ use Rattle.input_core.specs.Certificates.{certificate_in, issuer_in}
 use Rattle.outside_core.specs.Reads.{CouldNotRead}
 use Rattle.command_core.specs.Commands.{verdict_word, only, query_done, query_cert_done, check_done, show_done, stored}
 use Rattle.command_core.specs.Commands.{publication_done}
-use Rattle.command_core.specs.Commands.{rehearsed, sample_done, head_in, gather_done}
+use Rattle.command_core.specs.Commands.{rehearsed, sample_done, head_in, gather_done, place_done}
 use Rattle.command_core.specs.Rebasings.{base_done}
 use Rattle.command_core.specs.Replies.{usage, read_fault, refusal, done, IsReply}
 use Rattle.command_core.specs.Runs.{KeepsAllBut}
@@ -138,6 +138,8 @@ pub record Successes (call : Call) : Type 0 where
   pub audit_complete : (a : Audit) (parts : List SealedFields) (jobs : List JobFields)
       → call.asked ≡ commands.Audit a → Reads call a.store store_in parts → ReadsJobs call a.jobs jobs
       → AreWithinLimits jobs → IsAudited parts jobs → MustSucceed call
+  -- the place of the certificate, by its issuer or by itself, among COUNT
+  pub place : (p : Place) → Did call (commands.Place p) → GivesDone call (place_done p)
   -- every command: where what comes of it over the files that the call found is a success, that must be given. So a call
   -- must succeed where each input is held and read, and what they make isn't refused.
   pub complete : (d : Done) → Comes call (Ok d) → MustGive call (done d)

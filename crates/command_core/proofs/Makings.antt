@@ -69,7 +69,7 @@ use Rattle.command_core.specs.Statuses.{is_one_of, done, read_fault, no_memory, 
 use Rattle.command_core.specs.Commands.{◌>>=◌, named, input, begun_by, begun, installed_by, installed, stored, query_done, query_cert_done, check_done, show_done}
 use Rattle.command_core.specs.Commands.{query_makes, check_makes, show_makes, start_makes}
 use Rattle.command_core.specs.Commands.{publication_done, published_as, MakesSnapshot, MakesDelta, rehearsed, IsRefused, MakesRehearsal}
-use Rattle.command_core.specs.Commands.{sample_done, head_in, page_in, room_for, pages_of, gather_done, Makes}
+use Rattle.command_core.specs.Commands.{sample_done, head_in, page_in, room_for, pages_of, gather_done, place_done, Makes}
 use Rattle.command_core.specs.Audits.{job_behind, jobs_behind, audit_jobs, MakesAudit}
 use Rattle.command_core.specs.Rebasings.{base_done, rebased_as, MakesRebase}
 use Rattle.command_core.specs.Steps.{RehearsesOn}
@@ -191,6 +191,7 @@ done_names (commands.Gather f) at d m =
     let x = after_ok (input f.head head_in (at 0)) (gather_after f (rest_of at)) d m in
     names_after (f.job ∷ []) (gather_done f x.0) (λ y. refl) (pages_of f.job (length x.0.entries) f.pages (rest_of at)) d x.2
 done_names (commands.Audit a) at d m = audit_names a (input a.store store_in (at 0)) (audit_jobs a.jobs (rest_of at)) d m
+done_names (commands.Place p) at d m = ap (λ (e : Done). names_of e.outputs) (ok_same {E = NamedFault} d (place_done p) m)
 
 -- ---- inputs that can't be read
 
@@ -507,6 +508,7 @@ module _ (told : Option Files) (failed : Option (List ℕ) → Type 0) (e : Name
       (done_err (gather_done f j) (pages_of f.job (length j.entries) f.pages (rest_of at)) e h) in (inr c.0, c.1)) m
   unread_cause (commands.Audit a) at read m =
       audit_by a (at 0) (rest_of at) read.0 read.1 (store_or_jobs a (input a.store store_in (at 0)) (audit_jobs a.jobs (rest_of at)) e m u)
+  unread_cause (commands.Place p) at read m = absurd (not_ok (place_done p) e m)
 
 -- What a command makes of its inputs it makes of its files, unless it says that an input can't be read.
 pub over_files : (files : Files) (failed : Option (List ℕ) → Type 0) (c : Command) (at : Inputs) (o : Result Done NamedFault) → IsSeen o
@@ -534,3 +536,4 @@ over_files files failed (commands.Audit a) at o seen read m =
     one_over files failed a.store (λ g. MakesAudit a (input a.store store_in g) (audit_jobs a.jobs (held_under files a.jobs)) o) (at 0)
     (λ h. seen (unread a.store) h refl) read.0
     (audit_over a files (rest_of at) (input a.store store_in (at 0)) o seen (jobs_over files failed [] a.jobs (rest_of at) read.1) m)
+over_files files failed (commands.Place p) at o seen read m = m

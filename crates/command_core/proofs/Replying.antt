@@ -111,6 +111,7 @@ IsFirstFault (commands.Rehearse r) at e = input r.queries queries_in (at 0) ≡ 
 IsFirstFault (commands.Sample s) at e = ⊥
 IsFirstFault (commands.Gather f) at e = input f.head head_in (at 0) ≡ Err e
 IsFirstFault (commands.Audit a) at e = input a.store store_in (at 0) ≡ Err e
+IsFirstFault (commands.Place p) at e = ⊥
 
 stops : {A : Type 0} (r : Result A NamedFault) (next : A → Result Done NamedFault) (e : NamedFault) → r ≡ Err e → Err e ≡ (r >>= next)
 stops {A} r next e h = sym (ap (λ (x : Result A NamedFault). x >>= next) h)
@@ -131,6 +132,7 @@ first_fault (commands.Rehearse r) at e h = subst (λ (x : Result (List Query) Na
 first_fault (commands.Sample s) at e h = absurd h
 first_fault (commands.Gather f) at e h = stops (input f.head head_in (at 0)) (gather_after f (rest_of at)) e h
 first_fault (commands.Audit a) at e h = subst (λ (x : Result (List SealedFields) NamedFault). MakesAudit a x (audit_jobs a.jobs (rest_of at)) (Err e)) (sym h) refl
+first_fault (commands.Place p) at e h = absurd h
 
 pub first_refused : {A B : Type 0} (told : Option Files) (failed : Option (List ℕ) → Type 0) (r : Result Answer NoMemory) (c : Command) (name : List ℕ) (others : List (List ℕ))
     (read : List ℕ → Result A FileFault) (view : B → A) (fault : FileFault) → inputs_of c ≡ name ∷ others

@@ -28,12 +28,13 @@ use Rattle.publication_core.specs.declared.fault.PublishFault.{PublishFault}
 use Rattle.publication_core.specs.Publishing.{PublicationFields, Publishes}
 use Rattle.publication_core.specs.Formats.{current}
 use Rattle.publication_core.specs.Histories.{History, of_jobs, members, with_job, chain, IsHistory, releases_of}
+use Rattle.place_core.specs.Places.{place_in}
 use Rattle.word_core.specs.declared.command.Command.{Command}
 use Rattle.word_core.specs.declared.command.Command.TheVariants as commands
 use Rattle.word_core.specs.declared.command.{Query.Query as StoreQuery, QueryCert.QueryCert, Snapshot.Snapshot}
 use Rattle.word_core.specs.declared.command.{Delta.Delta, Start.Start, Install.Install, Rehearse.Rehearse}
-use Rattle.word_core.specs.declared.command.{Sample.Sample, Gather.Gather}
-use Rattle.line_core.specs.Lines.{line, check_line, show_text, store_line, report_line, sample_line, gather_line}
+use Rattle.word_core.specs.declared.command.{Sample.Sample, Gather.Gather, Place.Place}
+use Rattle.line_core.specs.Lines.{line, check_line, show_text, store_line, report_line, sample_line, gather_line, place_line}
 pub use Rattle.line_core.specs.Lines.{verdict_word}
 use Rattle.input_core.specs.declared.certificates.Certificate.{Certificate}
 use Rattle.input_core.specs.declared.fault.FileFault.{FileFault}
@@ -257,6 +258,12 @@ gather_makes g head inputs = do
   entries ← pages_of g.job (length j.entries) g.pages inputs
   Ok (gather_done g j entries)
 
+-- ---- places
+
+-- the place of the identity, and among how many
+abbrev pub place_done : Place → Done
+place_done p = only (place_line (place_in p.by p.count p.id) p.count)
+
 -- ---- commands
 
 -- What comes of a command: what it writes, or what is wrong with which file. `Usage` makes nothing.
@@ -275,3 +282,4 @@ Makes (commands.Rehearse r) at o = MakesRehearsal r (input r.queries queries_in 
 Makes (commands.Sample s) at o = o ≡ Ok (sample_done s)
 Makes (commands.Gather g) at o = o ≡ gather_makes g (at 0) (rest_of at)
 Makes (commands.Audit a) at o = MakesAudit a (input a.store store_in (at 0)) (audit_jobs a.jobs (rest_of at)) o
+Makes (commands.Place p) at o = o ≡ Ok (place_done p)

@@ -15,6 +15,7 @@ mod gathering;
 mod laws;
 mod output;
 mod pieces;
+mod placing;
 mod publishing;
 mod rebasing;
 mod rehearsing;
@@ -29,6 +30,7 @@ pub use laws::{rehearsals_go_file_by_file, replies_are_unique, replies_exist, wo
 use octets_core::NoMemory;
 pub use output::{Output, SampleOutput, write_outputs};
 use outside_core::Depot;
+use placing::answer_place;
 use publication_core::Gate;
 use publishing::{answer_delta, answer_snapshot};
 use rebasing::answer_rebase;
@@ -69,5 +71,6 @@ pub fn answer_to<'a, R: Threads + Sync, G: Gate + Sync, D: Depot>(
         Command::Sample(asked) => answer_sample(alloc, asked),
         Command::Gather(asked) => answer_gather(alloc, asked, depot),
         Command::Audit(asked) => answer_audit(alloc, asked, depot),
+        Command::Place(asked) => Ok(answer_place(asked)),
     }
 }

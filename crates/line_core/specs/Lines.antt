@@ -175,6 +175,10 @@ gather_line pages entries bytes =
     codes "gather pages " ++ decimal pages ++ codes " entries " ++ decimal entries
     ++ codes " bytes " ++ decimal bytes ++ 10 ∷ []
 
+-- place P of COUNT
+abbrev pub place_line : (place count : ℕ) → List ℕ
+place_line place count = codes "place " ++ decimal place ++ codes " of " ++ decimal count ++ 10 ∷ []
+
 abbrev pub verdict_word : Verdict → List ℕ
 verdict_word verdicts.NotCovered = codes "not-covered"
 verdict_word verdicts.NotEnrolled = codes "not-enrolled"

@@ -5,7 +5,7 @@ ghost use Rattle.hex.specs.Hex.{encode_lower};
 ghost use Rattle.part_text.specs.PartText.{width_of};
 ghost use Rattle.line_core.specs.Lines.{stage_words, approx_words, mixed_words, leaf_words, body_words, note_line, report_line};
 ghost use Rattle.line_core.specs.Lines.{store_line, rebase_line, rebase_without_line, sample_line, gather_line};
-ghost use Rattle.line_core.specs.Lines.{audit_line, disagreement_line, verdict_line};
+ghost use Rattle.line_core.specs.Lines.{place_line, audit_line, disagreement_line, verdict_line};
 ghost use Rattle.line_core.specs.Lines.{head_line, range_line, block_line, shard_line, trailer_line};
 ghost use Rattle.line_core.specs.Lines.{seeds_line};
 
@@ -260,6 +260,17 @@ pub fn gathered(pages: usize, entries: u64, bytes: u64) -> Line
     line.push_count(b"gather pages ", pages as u64);
     line.push_count(b" entries ", entries);
     line.push_count(b" bytes ", bytes);
+    line.push(b"\n");
+    line
+}
+
+/// `place P of COUNT`
+pub fn placed(place: u32, count: u32) -> Line
+    ensures { result ≡ place_line place count }
+{
+    let mut line = Line::new();
+    line.push_count(b"place ", place as u64);
+    line.push_count(b" of ", count as u64);
     line.push(b"\n");
     line
 }

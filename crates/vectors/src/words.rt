@@ -8,7 +8,8 @@ use std::test::Fail;
 use word_core::command::Command;
 use word_core::read_words;
 
-/// `usage`, or a command. Of a query its certificate and its sightings are told, of a sample its number and its count.
+/// `usage`, or a command. Of a query its certificate and its sightings are told, of a sample its number and its count,
+/// of a place by what it is, the certificate and the count.
 fn put_command(alloc: Global, text: &mut String, command: &Command<'_>) -> Result<(), Fail> {
     match command {
         Command::Usage => text.push_str("usage")?,
@@ -22,6 +23,12 @@ fn put_command(alloc: Global, text: &mut String, command: &Command<'_>) -> Resul
         Command::Sample(sample) => {
             let (number, count) = (sample.number, sample.count.get());
             write!(text, "sample {number} entries {count}")?;
+        }
+        Command::Place(place) => {
+            let (by, count) = (place.by, place.count.get());
+            write!(text, "place by {by:?} ")?;
+            put_identity(alloc, text, &place.id)?;
+            write!(text, " of {count}")?;
         }
         _ => text.push_str("command")?,
     }

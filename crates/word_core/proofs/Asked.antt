@@ -13,7 +13,7 @@ use Rattle.word_core.specs.declared.command.Command.TheVariants as commands
 use Rattle.word_core.specs.Names.{IsApart, HasFewJobs}
 use Rattle.word_core.specs.Words.{◌>>=◌, is_name, name_of, names_of, jobs_of, is_among, are_apart, asks, writes_of, asked_of, command_of}
 use Rattle.word_core.specs.Words.{inputs_of, outputs_of, query_of, query_cert_of, name_alone, snapshot_of, delta_of, rebase_of, rebase_without_of}
-use Rattle.word_core.specs.Words.{start_of, install_of, rehearse_of, sample_of, gather_of, audit_of}
+use Rattle.word_core.specs.Words.{start_of, install_of, rehearse_of, sample_of, gather_of, audit_of, place_of}
 
 -- ---- steps of reading
 
@@ -130,7 +130,8 @@ asked P p audits command words =
     (passes P (bytes_eq command (codes "show")) commands.Show (name_alone words) _ p (λ x. tt)
     (passes P (bytes_eq command (codes "rehearse")) commands.Rehearse (rehearse_of words) _ p (λ x. tt)
     (audited P (bytes_eq command (codes "audit")) (audit_of words) _ (p commands.Usage tt) (audits words)
-    (written P p command words))))))
+    (passes P (bytes_eq command (codes "place")) commands.Place (place_of words) _ p (λ x. tt)
+    (written P p command words)))))))
 
 few_of : (c : Command) → NoAudit c → HasFewJobs c
 few_of (commands.Audit a) none = absurd none

@@ -10,8 +10,11 @@ use Rattle.hex.specs.declared.error.FromHexError.{FromHexError}
 use Rattle.octets_core.specs.Layout.{within}
 use Rattle.ident_core.specs.declared.bounds.TheConstants.{MAX_PARTS, MAX_WORKERS, MAX_SAMPLE}
 use Rattle.ident_core.specs.declared.range.Sighting.{Sighting}
+use Rattle.place_core.specs.declared.place.By.{By}
+use Rattle.place_core.specs.declared.place.By.TheVariants as ways
+use Rattle.place_core.specs.Places.{place_count}
 use Rattle.word_core.specs.declared.command.TheConstants.{MAX_PAGES, MAX_SIGHTINGS, MAX_WITHOUT}
-use Rattle.word_core.specs.declared.command.{Audit.Audit, Command.Command, Delta.Delta, Gather.Gather, Install.Install, Query.Query}
+use Rattle.word_core.specs.declared.command.{Audit.Audit, Command.Command, Delta.Delta, Gather.Gather, Install.Install, Place.Place, Query.Query}
 use Rattle.word_core.specs.declared.command.{QueryCert.QueryCert, Rebase.Rebase, Rehearse.Rehearse, Sample.Sample}
 use Rattle.word_core.specs.declared.command.{Snapshot.Snapshot, Start.Start}
 use Rattle.word_core.specs.declared.command.Command.TheVariants as commands
@@ -217,6 +220,29 @@ gather_of (head ∷ log ∷ job ∷ pages) = do
   Some (record { head = names.0; log = l; job = names.1; pages = p })
 gather_of words = None
 
+-- issuer or identity
+abbrev pub by_of : List ℕ → Option By
+by_of word =
+    if bytes_eq word (codes "issuer") then Some ways.Issuer
+    else if bytes_eq word (codes "identity") then Some ways.Identity
+    else None
+
+-- one or more, and no more than there may be places
+abbrev pub places_of : List ℕ → Option ℕ
+places_of word = do
+  n ← number_of word
+  place_count n
+
+-- BY ISSUER SERIAL COUNT
+abbrev pub place_of : List (List ℕ) → Option Place
+place_of (by ∷ issuer ∷ serial ∷ count ∷ []) = do
+  b ← by_of by
+  i ← key_word issuer
+  s ← serial_of serial
+  n ← places_of count
+  Some (record { by = b; id = record { issuer = i; serial = s }; count = n })
+place_of words = None
+
 -- a command where its words are there, or none
 abbrev pub asks : {A : Type 0} → (A → Command) → Option A → Command
 asks command (Some x) = command x
@@ -244,6 +270,7 @@ asked_of command words =
     else if bytes_eq command (codes "show") then asks commands.Show (name_alone words)
     else if bytes_eq command (codes "rehearse") then asks commands.Rehearse (rehearse_of words)
     else if bytes_eq command (codes "audit") then asks commands.Audit (audit_of words)
+    else if bytes_eq command (codes "place") then asks commands.Place (place_of words)
     else writes_of command words
 
 -- the names of the files that a command reads, in the order of reading

@@ -4,6 +4,7 @@ use crate::bounded::{Listed, SampleCount, Workers};
 use crate::words::are_apart;
 use ident_core::{Identity, MAX_PARTS, Sighting};
 use octets_core::Key32;
+use place_core::{By, PlaceCount};
 use std::marker::Model;
 
 /// The most sightings that one query names.
@@ -150,6 +151,14 @@ pub struct Gather<'a> {
     pub pages: Listed<FileName<'a>, 1, MAX_PAGES>,
 }
 
+/// The place of a certificate among so many.
+#[derive(Debug, Drop)]
+pub struct Place {
+    pub by: By,
+    pub id: Identity,
+    pub count: PlaceCount,
+}
+
 /// What the words of a call ask for. The words lend the names of files.
 #[derive(Debug, Drop)]
 pub enum Command<'a> {
@@ -181,6 +190,8 @@ pub enum Command<'a> {
     Gather(Gather<'a>),
     /// Whether a store, whoever built it, says the truth of what jobs accept.
     Audit(Audit<'a>),
+    /// In which of so many histories a certificate is.
+    Place(Place),
 }
 
 impl Command<'_> {

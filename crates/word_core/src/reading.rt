@@ -3,16 +3,16 @@
 ghost use Rattle.std.specs.Prelude.{◌≡◌, ℕ, List, ◌∷◌, IfOk, IsOk, map, string_bytes};
 ghost use Rattle.word_core.specs.Words.{command_of, asked_of, writes_of, query_of, query_cert_of, name_alone};
 ghost use Rattle.word_core.specs.Words.{snapshot_of, delta_of, rebase_of, rebase_without_of, start_of, install_of};
-ghost use Rattle.word_core.specs.Words.{jobs_of, rehearse_of, audit_of, sample_of, gather_of};
+ghost use Rattle.word_core.specs.Words.{jobs_of, rehearse_of, audit_of, sample_of, gather_of, place_of};
 
 use crate::bounded::Listed;
 use crate::command::{
-    Audit, Command, Delta, FileName, Gather, Install, MAX_PAGES, MAX_SIGHTINGS, MAX_WITHOUT, Query,
-    QueryCert, Rebase, Rehearse, Sample, Snapshot, Start,
+    Audit, Command, Delta, FileName, Gather, Install, MAX_PAGES, MAX_SIGHTINGS, MAX_WITHOUT, Place,
+    Query, QueryCert, Rebase, Rehearse, Sample, Snapshot, Start,
 };
 use crate::words::{
-    count_word, key_word, number_word, read_keys, read_name, read_names, read_pairs,
-    read_two_names, serial_word, workers_word,
+    by_word, count_word, key_word, number_word, places_word, read_keys, read_name, read_names,
+    read_pairs, read_two_names, serial_word, workers_word,
 };
 use ident_core::{Identity, MAX_PARTS};
 use octets_core::{Key32, NoMemory};
@@ -284,6 +284,21 @@ fn read_gather(alloc: Global, words: &[String]) -> Result<Option<Gather<'_>>, No
     }))
 }
 
+/// The place of a certificate that words ask for, if they do.
+fn read_place(words: &[String]) -> Option<Place>
+    ensures { result ≡ place_of (map string_bytes words.now) }
+{
+    let [by, issuer, serial, count] = words else {
+        return None;
+    };
+    let by = by_word(by.as_str())?;
+    let issuer = key_word(issuer.as_str())?;
+    let serial = serial_word(serial.as_str())?;
+    let count = places_word(count.as_str())?;
+    let id = Identity { issuer, serial };
+    Some(Place { by, id, count })
+}
+
 /// What a word of a command that writes files, and those behind it, ask for.
 #[tactic(auto, using(crate::proofs::Commands::other))]
 fn read_writing<'a>(
@@ -332,6 +347,10 @@ fn read_command<'a>(
         "show" => Ok(read_name_alone(rest).map_or(Command::Usage, Command::Show)),
         "rehearse" => Ok(read_rehearse(alloc, rest)?.map_or(Command::Usage, Command::Rehearse)),
         "audit" => Ok(read_audit(alloc, rest)?.map_or(Command::Usage, Command::Audit)),
+        "place" => match read_place(rest) {
+            Some(place) => Ok(Command::Place(place)),
+            None => Ok(Command::Usage),
+        },
         _ => read_writing(alloc, command, rest),
     }
 }

@@ -6,13 +6,14 @@ ghost use Rattle.std.specs.Str.{bytes_eq};
 ghost use Rattle.std.specs.Char.{is_ascii_digit};
 ghost use Rattle.std.specs.Option.{option_map};
 ghost use Rattle.word_core.specs.Words.{name_of, names_of, two_names_of, pairs_of, key_word, keys_of, serial_of, number_of};
-ghost use Rattle.word_core.specs.Words.{workers_of, count_of, is_among, are_apart, is_name, is_plain};
+ghost use Rattle.word_core.specs.Words.{workers_of, count_of, by_of, places_of, is_among, are_apart, is_name, is_plain};
 
 use crate::bounded::{Count, SampleCount, Workers};
 use crate::command::FileName;
 use hex::FromHex;
 use ident_core::{MAX_SAMPLE, MAX_WORKERS, Serial, Sighting};
 use octets_core::{Key32, NoMemory};
+use place_core::{By, MAX_PLACES, PlaceCount};
 use std::alloc::Global;
 
 fn all_plain(bytes: &[u8]) -> bool
@@ -90,6 +91,28 @@ pub(crate) fn count_word(word: &str) -> Option<SampleCount>
         return None;
     }
     Some(Count::new(n as u32))
+}
+
+/// By what a history is cut, as a word says it.
+pub(crate) fn by_word(word: &str) -> Option<By>
+    ensures { result ≡ by_of word.now }
+{
+    match word {
+        "issuer" => Some(By::Issuer),
+        "identity" => Some(By::Identity),
+        _ => None,
+    }
+}
+
+/// The count of places that a word spells, 1 to `MAX_PLACES`.
+pub(crate) fn places_word(word: &str) -> Option<PlaceCount>
+    ensures { result ≡ places_of word.now }
+{
+    let n = number_word(word)?;
+    if n > MAX_PLACES as u64 {
+        return None;
+    }
+    PlaceCount::new(n as u32)
 }
 
 /// The sightings that words spell, two words each.
