@@ -16,6 +16,7 @@ What the program has no command for, tools/reference.py says: how many parts a s
 | each ISSUER SERIAL [LOG TIME ..] [| ISSUER SERIAL [LOG TIME ..] ..] | a number for each query, by one call |
 | cert CERT ISSUERCERT | the number of the answer; both words are names of files in DER |
 | until LOG | 0 MILLISECONDS, or 1 0 where the log isn't covered |
+| place BY ISSUER SERIAL COUNT | 0 PLACE, or the number of a refusal and 0 |
 | part FILE | 0 KIND EPOCH RANGES ISSUERS TRAILER, with KIND 0 of a snapshot and 1 of a delta; or a refusal |
 | install PART NEWSTORE | 0 LENGTH, and the file NEWSTORE is written; or a refusal |
 
@@ -58,7 +59,7 @@ CHAINS = {"not-snapshot": 32, "not-delta": 33, "parent": 34, "epoch": 35, "cover
 CERTS = {"malformed": 64, "no-scts": 65, "scts": 66, "many": 67}
 # tools/reference.py has no type hints.
 MAKE_PART: Callable[..., Part] = Part
-BAD_SERIAL, ISSUER_CERT_MALFORMED, NOT_COVERED = 48, 68, 1
+BAD_SERIAL, BAD_PLACES, ISSUER_CERT_MALFORMED, NOT_COVERED = 48, 50, 68, 1
 ENTRIES = 20000
 
 
@@ -226,6 +227,16 @@ class Desk:
         log = self.chance.choice([*covered, self.chance.randbytes(32)])
         return Case(f"until {log.hex()}", f"0 {covered[log]}" if log in covered else "1 0")
 
+    def place(self, _: str, __: Sequence[Part]) -> Case:
+        by, issuer, serial = self.chance.choice(["issuer", "identity"]), self.chance.randbytes(32), self.serial().hex()
+        any_count = self.chance.randrange(1 << self.chance.randrange(1, 65))
+        count = self.chance.choice([0, 1, 16, 65535, 65536, 65537, any_count])
+        words = f"place {by} {issuer.hex()} {serial or '-'} {count}"
+        match self.said("place", by, issuer.hex(), serial, str(count)):
+            case ["place", place, "of", _]:
+                return Case(words, f"0 {place}")
+        return Case(words, f"{BAD_PLACES if 2 <= len(serial) <= 64 else BAD_SERIAL} 0")
+
     def some_part(self) -> bytes:
         part = self.chance.choice(self.parts)
         return part if self.chance.randrange(3) else self.damaged(part, 0)
@@ -270,7 +281,11 @@ class Desk:
         parts = read_store(data)
         self.cases.append(Case(f"store {store}", f"0 {len(parts)} {parts[-1].epoch}"))
         kinds = (
-            [self.ask] * 20 + [self.each] * 4 + [self.cert] * 4 + [self.until] * 2 + [self.part] + [self.install] * 2
+            [self.ask] * 20
+            + [self.each] * 4
+            + [self.cert] * 4
+            + [self.until, self.install, self.place] * 2
+            + [self.part]
         )
         for _ in range(self.chance.randrange(1, 40)):
             self.cases.append(self.chance.choice(kinds)(store, parts))

@@ -111,6 +111,16 @@ static void answer_until(void) {
     printf("%u %llu\n", answer, (unsigned long long)until);
 }
 
+static void answer_place(void) {
+    uint8_t issuer[32], serial[256];
+    uint64_t place;
+    uint32_t by = strcmp(word(), "issuer") ? CLUBCARD_BY_IDENTITY : CLUBCARD_BY_ISSUER;
+    octets_of(issuer, sizeof issuer, word());
+    size_t len = octets_of(serial, sizeof serial, word());
+    uint32_t answer = clubcard_place(by, issuer, serial, len, strtoull(word(), NULL, 10), &place);
+    printf("%u %llu\n", answer, (unsigned long long)place);
+}
+
 static void answer_part(void) {
     mapped part = map_file(word());
     clubcard_part_facts facts = {.size = sizeof facts};
@@ -151,7 +161,7 @@ static const struct question {
     int of_store;
 } questions[] = {{"store", answer_store, 0}, {"ask", answer_ask, 1},   {"each", answer_each, 1},
                  {"cert", answer_cert, 1},   {"until", answer_until, 1}, {"part", answer_part, 0},
-                 {"install", answer_install, 1}};
+                 {"install", answer_install, 1}, {"place", answer_place, 0}};
 
 static void answer_line(char *line) {
     const char *name = strtok(line, " \n");

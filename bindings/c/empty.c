@@ -135,6 +135,13 @@ static void test_opened(const uint8_t *nothing, const clubcard_sighting *unseen,
     test("covered_until", answer, until - 1700000001000, CLUBCARD_DONE);
 }
 
+static void test_place(const uint8_t *nothing) {
+    uint8_t issuer[32] = {0};
+    uint64_t place = 1;
+    uint32_t answer = clubcard_place(CLUBCARD_BY_IDENTITY, issuer, nothing, 0, 1, &place);
+    test("place, no serial", answer, place, CLUBCARD_BAD_SERIAL);
+}
+
 static void test_parts(const uint8_t *nothing) {
     clubcard_part_facts part = {sizeof part, 0, 0, 0, 0, 0, 0, {0}};
     clubcard_install_facts facts = {sizeof facts, 0, 0, 0};
@@ -161,6 +168,7 @@ int main(int argc, char **argv) {
     test_examine(no_bytes), test_examine(&byte);
     test_query_cert(no_bytes), test_query_cert(&byte);
     test_opened(no_bytes, no_sightings, NULL), test_opened(&byte, &sighting, &query);
+    test_place(no_bytes), test_place(&byte);
     test_parts(no_bytes), test_parts(&byte);
     printf("%u calls, %u of them failed\n", calls, failures);
     return failures ? 1 : 0;

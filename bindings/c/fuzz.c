@@ -324,6 +324,26 @@ static void test_opened(void) {
     ask_it(0), ask_each(0);
 }
 
+/* A place is below the count, whose divisors' places it tells too. */
+static void place_it(void) {
+    uint64_t found = 1, other = 1, count = next() % 4 ? 1 + below(32768) : next() % 2 ? below(65540) : next();
+    uint32_t by = next() % 8 ? 1 + (uint32_t)below(2) : (uint32_t)next();
+    uint8_t issuer[32];
+    fill_issuer(issuer);
+    forbid_memory();
+    uint32_t answer = clubcard_place(by, issuer, or_null(&serial), serial.len, count, &found);
+    test_memory("memory of place", answer);
+    int is_serial = serial.len >= 1 && serial.len <= 32, is_by = by == CLUBCARD_BY_ISSUER || by == CLUBCARD_BY_IDENTITY;
+    int is_done = is_by && count >= 1 && count <= 65536;
+    uint32_t wanted = is_done ? CLUBCARD_DONE : CLUBCARD_BAD_PLACES;
+    if (answer != (is_serial ? wanted : CLUBCARD_BAD_SERIAL)) fail("place", answer);
+    answers[answer % 128]++;
+    if (answer ? found != 0 : found >= count) fail("the place", answer);
+    if (answer || count > 32768) return;
+    answer = clubcard_place(by, issuer, serial.data, serial.len, 2 * count, &other);
+    if (answer || other % count != found) fail("the place among twice as many", answer);
+}
+
 /* A part: a file as above, without the head of a store at times. */
 static void fill_part(void) {
     const size_t head = 10;
@@ -440,7 +460,7 @@ int main(int argc, char **argv) {
     for (time_t end = time(NULL) + atoi(argv[1]); time(NULL) < end; rounds++) {
         fill(&store), fill(&cert), fill(&issuer_cert), fill_queries();
         test_query(), test_cert(), test_examine(), test_each();
-        fill_part(), test_part(), test_install(), test_opened();
+        fill_part(), test_part(), test_install(), test_opened(), place_it();
     }
     printf("%llu rounds; answers:", (unsigned long long)rounds);
     for (uint32_t i = 0; i < 128; i++)

@@ -46,6 +46,7 @@ const (
 	StoreTooLong        Refusal = 38  // the store has 2^32 bytes or more
 	BadSerial           Refusal = 48  // the serial has no octet, or more than 32
 	BadSightings        Refusal = 49  // a query's sightings aren't among those that are lent
+	BadPlaces           Refusal = 50  // the places aren't 1 to 65,536, or are by neither issuers nor identities
 	CertMalformed       Refusal = 64  // the certificate isn't one of RFC 5280 in DER, or is longer than 1 MiB
 	CertNoScts          Refusal = 65  // the certificate carries no signed certificate timestamp of version 1
 	CertBadScts         Refusal = 66  // the certificate's list of timestamps can't be read
@@ -70,6 +71,7 @@ var refusals = map[Refusal]string{
 	StoreTooLong:        "the store has 2^32 bytes or more",
 	BadSerial:           "a serial has 1 to 32 octets",
 	BadSightings:        "a query's sightings aren't among those that are lent",
+	BadPlaces:           "places are 1 to 65,536, by issuers or by identities",
 	CertMalformed:       "the certificate isn't read",
 	CertNoScts:          "the certificate carries no timestamp",
 	CertBadScts:         "the certificate's timestamps aren't read",

@@ -31,6 +31,15 @@ const Interface = C.CLUBCARD_INTERFACE
 // maxSerial is the most octets of a serial.
 const maxSerial = 32
 
+// By is by what a history is cut: by issuers, whose certificates stay together, or by identities.
+type By uint32
+
+// The ways to cut a history.
+const (
+	ByIssuer   By = C.CLUBCARD_BY_ISSUER
+	ByIdentity By = C.CLUBCARD_BY_IDENTITY
+)
+
 // Sighting is when a log saw a certificate.
 type Sighting struct {
 	Log  [32]byte // the log's id (RFC 6962, 3.2)
@@ -180,6 +189,19 @@ func CheckPart(part []byte) (Part, error) {
 		checked.Trailer[place] = byte(octet)
 	}
 	return checked, nil
+}
+
+// Place is the place of a certificate, where a history is cut into so many, from 0 on. It is asked for in the store of
+// its place: any other may say Good of a revoked one. With a serial that hasn't 1 to 32 octets the error is BadSerial,
+// and with places that aren't 1 to 65,536 it is BadPlaces.
+func Place(by By, issuer [32]byte, serial []byte, count uint64) (uint64, error) {
+	var place C.uint64_t
+	number := C.clubcard_place(C.uint32_t(by), lend(issuer[:]), lend(serial), C.size_t(len(serial)), C.uint64_t(count),
+		&place)
+	if number != C.CLUBCARD_DONE {
+		return 0, refused(number, 0, 0)
+	}
+	return uint64(place), nil
 }
 
 // LibraryInterface is the version of the interface that the library has: Interface, where it is the one of this

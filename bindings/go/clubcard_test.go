@@ -108,6 +108,23 @@ func TestCertificates(t *testing.T) {
 	}
 }
 
+func TestPlaces(t *testing.T) {
+	for _, by := range []By{ByIssuer, ByIdentity} {
+		want := map[By]uint64{ByIssuer: 49925, ByIdentity: 44354}[by]
+		if place, err := Place(by, issuer, []byte{5}, 65536); place != want || err != nil {
+			t.Errorf("the place %d (%v), and not %d", place, err, want)
+		}
+	}
+	_, err := Place(ByIssuer, issuer, nil, 0)
+	mustRefuse(t, err, BadSerial, 0, "")
+	for _, count := range []uint64{0, 65537, 1<<32 + 1} {
+		_, err := Place(ByIdentity, issuer, []byte{5}, count)
+		mustRefuse(t, err, BadPlaces, 0, "")
+	}
+	_, err = Place(0, issuer, []byte{5}, 1)
+	mustRefuse(t, err, BadPlaces, 0, "")
+}
+
 func TestCoverage(t *testing.T) {
 	store := shippedStore(t)
 	if until, isCovered := store.CoveredUntil(seen.Log); until != 1700000001000 || !isCovered {

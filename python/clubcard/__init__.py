@@ -21,11 +21,13 @@ from typing import TYPE_CHECKING, Any
 
 from .answers import Refusal, Refused, Verdict
 from .octets import serial_from_int
+from .places import By
 
 if TYPE_CHECKING:
-    from .store import Facts, Part, Query, Sighting, Store, check_part
+    from .store import Facts, Part, Query, Sighting, Store, check_part, place
 
 __all__ = [
+    "By",
     "Facts",
     "Part",
     "Query",
@@ -35,6 +37,7 @@ __all__ = [
     "Store",
     "Verdict",
     "check_part",
+    "place",
     "serial_from_int",
 ]
 

@@ -35,6 +35,7 @@ class Refusal(_Answer):
     STORE_TOO_LONG = 38
     BAD_SERIAL = 48
     BAD_SIGHTINGS = 49
+    BAD_PLACES = 50
     CERT_MALFORMED = 64
     CERT_NO_SCTS = 65
     CERT_BAD_SCTS = 66

@@ -84,6 +84,7 @@ _CALLS: Dict[str, List[Any]] = {
     "clubcard_ask_cert": [*_OPENED, *_SLICE, *_SLICE],
     "clubcard_ask_each": [*_OPENED, *_SIGHTINGS, *_QUERIES],
     "clubcard_covered_until": [*_OPENED, ctypes.c_char_p, *_AT],
+    "clubcard_place": [ctypes.c_uint32, ctypes.c_char_p, *_SLICE, ctypes.c_uint64, *_AT],
     "clubcard_check_part": [*_SLICE, ctypes.POINTER(LentPartFacts)],
     "clubcard_install": [*_SLICE, *_SLICE, *_SLICE, ctypes.POINTER(LentInstallFacts)],
 }

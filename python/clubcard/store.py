@@ -20,8 +20,11 @@ from .library import (
     LentStoreFacts,
 )
 from .octets import MAX_SERIAL, BytesLike, bytes_like, key_of, lent, octets_of, serial_of
+from .places import By
 
 _ISSUER, _LOG = "an issuer's key hash", "a log's id"
+# The most places into which a history is cut (`MAX_PLACES` of the crate place_core).
+_MAX_PLACES = 65536
 # The fields of LentSighting and of LentQuery; bytes that are too short are filled up with zeros.
 _SIGHTING = struct.Struct("=32sQ")
 _QUERY = struct.Struct("=32s32s4I")
@@ -231,6 +234,22 @@ class Store:
                 if self._stays:
                     self._kept = kept
             yield kept
+
+
+def place(by: By, issuer: BytesLike, serial: BytesLike, count: int) -> int:
+    """The place of a certificate, where a history is cut into so many, from 0 on.
+
+    It is asked for in the store of its place: any other may say GOOD of a revoked one. With a serial that hasn't 1 to
+    32 octets, or places that aren't 1 to 65,536, it is `Refused`.
+    """
+    key, octets, found = key_of(issuer, _ISSUER), serial_of(serial), ctypes.c_uint64()
+    wanted = operator.index(count)
+    # Any other count is refused alike; a greater number might not fit the parameter.
+    places = wanted if 0 <= wanted <= _MAX_PLACES else 0
+    number = LIBRARY.clubcard_place(By(by).value, key, octets, len(octets), places, ctypes.byref(found))
+    if number != DONE:
+        raise refused_by(number)
+    return found.value
 
 
 def check_part(part: BytesLike) -> Part:

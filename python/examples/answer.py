@@ -7,7 +7,7 @@ import pathlib
 import sys
 from typing import Callable, Dict, List, Union
 
-from clubcard import Query, Refusal, Refused, Sighting, Store, Verdict, check_part
+from clubcard import By, Query, Refusal, Refused, Sighting, Store, Verdict, check_part, place
 
 
 def mapped(name: str) -> Union[bytes, mmap.mmap]:
@@ -38,6 +38,7 @@ class Desk:
             "each": self.each,
             "cert": self.cert,
             "until": self.until,
+            "place": self.place,
             "part": self.part,
             "install": self.install,
         }
@@ -50,6 +51,8 @@ class Desk:
         except Refused as refused:
             if name in ("ask", "cert"):
                 return str(refused.number)
+            if name == "place":
+                return f"{refused.number} 0"
             return f"{refused.number} {refused.offset} {refused.field or '-'}"
 
     def open(self, name: str) -> str:
@@ -71,6 +74,10 @@ class Desk:
     def until(self, log: str) -> str:
         moment = self.store.covered_until(bytes.fromhex(log))
         return "1 0" if moment is None else f"0 {moment}"
+
+    def place(self, by: str, issuer: str, serial: str, count: str) -> str:
+        query = query_of([issuer, serial])
+        return f"0 {place(By[by.upper()], query.issuer, query.serial, int(count))}"
 
     def part(self, name: str) -> str:
         part = check_part(mapped(name))

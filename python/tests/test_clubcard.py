@@ -16,6 +16,7 @@ from typing import Any, Callable, Iterator, List, Tuple
 import pytest
 
 from clubcard import (
+    By,
     Facts,
     Part,
     Query,
@@ -27,6 +28,7 @@ from clubcard import (
     answers,
     check_part,
     library,
+    place,
     serial_from_int,
 )
 
@@ -126,6 +128,22 @@ def test_the_field_at_fault(data: bytes, field: str) -> None:
     with pytest.raises(Refused) as raised:
         Store(data).examine()
     assert raised.value.field == field
+
+
+def test_places() -> None:
+    for by, serial, found in [(By.ISSUER, SERIAL, 49925), (By.ISSUER, b"\6", 49925), (By.IDENTITY, SERIAL, 44354)]:
+        assert place(by, ISSUER, bytearray(serial), 65536) == found
+        assert place(by, ISSUER, serial, 1) == 0
+    for serial, count, refusal in [
+        (b"", 0, Refusal.BAD_SERIAL),
+        (bytes(33), 1, Refusal.BAD_SERIAL),
+        *((SERIAL, count, Refusal.BAD_PLACES) for count in (-1, 0, 65537, (1 << 32) + 1, (1 << 64) + 1)),
+    ]:
+        with pytest.raises(Refused) as raised:
+            place(By.IDENTITY, ISSUER, serial, count)
+        assert raised.value.refusal is refusal
+    with pytest.raises(TypeError):
+        place(By.ISSUER, ISSUER, SERIAL, 1.5)  # type: ignore[arg-type]
 
 
 def test_covered_until(store: Store) -> None:

@@ -1,7 +1,7 @@
 //! Answers questions, each a line of the standard input, by lines that `bindings/compare.py` compares with those of the
 //! program and of the other bindings. That file says which questions there are, and how they are answered.
 
-use clubcard::{check_part, Query, Refused, Sighting, Store, Verdict};
+use clubcard::{check_part, place, By, Query, Refused, Sighting, Store, Verdict};
 use std::error::Error;
 use std::fs;
 use std::io;
@@ -55,6 +55,14 @@ fn answer_each(store: &Store<'_>, words: &[&str]) -> Answer {
     Ok(store.ask_each(&queries).into_iter().map(number_of).collect::<Vec<_>>().join(" "))
 }
 
+fn answer_place(by: &str, issuer: &str, serial: &str, count: &str) -> Answer {
+    let by = if by == "issuer" { By::Issuer } else { By::Identity };
+    Ok(match place(by, &key_of(issuer)?, &octets_of(serial)?, count.parse()?) {
+        Ok(place) => format!("0 {place}"),
+        Err(refused) => format!("{} 0", refused.refusal.number()),
+    })
+}
+
 fn answer_part(name: &str) -> Answer {
     Ok(match check_part(&fs::read(name)?) {
         Ok(part) => {
@@ -87,6 +95,7 @@ fn answer(store: &Store<'_>, words: &[&str]) -> Answer {
         ["until", log] => {
             Ok(store.covered_until(&key_of(log)?).map_or("1 0".to_string(), |until| format!("0 {until}")))
         }
+        ["place", by, issuer, serial, count] => answer_place(by, issuer, serial, count),
         ["part", name] => answer_part(name),
         ["install", part, name] => answer_install(store, part, name),
         _ => Err(format!("this is no question: {words:?}").into()),

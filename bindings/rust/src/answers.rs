@@ -57,6 +57,8 @@ pub enum Refusal {
     BadSerial,
     /// A query's sightings aren't among those that are lent.
     BadSightings,
+    /// The places aren't 1 to 65,536.
+    BadPlaces,
     /// The certificate isn't one of RFC 5280 in DER, or is longer than 1 MiB.
     CertMalformed,
     /// The certificate carries no signed certificate timestamp of version 1.
@@ -95,6 +97,7 @@ impl Refusal {
             Refusal::StoreTooLong => 38,
             Refusal::BadSerial => 48,
             Refusal::BadSightings => 49,
+            Refusal::BadPlaces => 50,
             Refusal::CertMalformed => 64,
             Refusal::CertNoScts => 65,
             Refusal::CertBadScts => 66,
@@ -123,6 +126,7 @@ impl Refusal {
             38 => Refusal::StoreTooLong,
             48 => Refusal::BadSerial,
             49 => Refusal::BadSightings,
+            50 => Refusal::BadPlaces,
             64 => Refusal::CertMalformed,
             65 => Refusal::CertNoScts,
             66 => Refusal::CertBadScts,
@@ -152,6 +156,7 @@ impl fmt::Display for Refusal {
             Refusal::StoreTooLong => "the store has 2^32 bytes or more",
             Refusal::BadSerial => "a serial has 1 to 32 octets",
             Refusal::BadSightings => "a query's sightings aren't among those that are lent",
+            Refusal::BadPlaces => "places are 1 to 65,536, by issuers or by identities",
             Refusal::CertMalformed => "the certificate isn't read",
             Refusal::CertNoScts => "the certificate carries no timestamp",
             Refusal::CertBadScts => "the certificate's timestamps aren't read",

@@ -48,6 +48,15 @@ const NO_MEMORY: u32 = 112;
 /// The most octets of a serial.
 const MAX_SERIAL: usize = 32;
 
+/// By what a history is cut.
+#[derive(Clone, Copy, Debug, PartialEq, Eq, Hash)]
+pub enum By {
+    /// By issuers, whose certificates stay together.
+    Issuer = 1,
+    /// By identities.
+    Identity = 2,
+}
+
 /// When a log saw a certificate.
 #[repr(C)]
 #[derive(Clone, Copy, Debug, PartialEq, Eq, Hash)]
@@ -261,6 +270,24 @@ pub fn check_part(part: &[u8]) -> Result<Part, Refused> {
     }
     let sys::PartFacts { kind, epoch, ranges, issuers, trailer, .. } = facts;
     Ok(Part { is_delta: kind == 1, epoch, ranges, issuers, trailer })
+}
+
+/// The place of a certificate, by its issuer key's hash and its serial, where a history is cut into so many, from 0 on.
+/// It is asked for in the store of its place: any other may say [`Verdict::Good`] of a revoked one.
+///
+/// # Errors
+///
+/// [`Refusal::BadSerial`], where the serial hasn't 1 to 32 octets, and [`Refusal::BadPlaces`], where the places aren't
+/// 1 to 65,536.
+pub fn place(by: By, issuer: &[u8; 32], serial: &[u8], count: u64) -> Result<u64, Refused> {
+    let mut place = 0;
+    // SAFETY: as in `check_part`; `issuer` has the 32 bytes that the call reads.
+    let number =
+        unsafe { sys::clubcard_place(by as u32, issuer.as_ptr(), serial.as_ptr(), serial.len(), count, &mut place) };
+    if number != DONE {
+        return Err(Refused::by(number));
+    }
+    Ok(place)
 }
 
 /// The version of the interface that the library has: [`INTERFACE`], where it is the one of this crate's tree.

@@ -107,6 +107,14 @@ extern "C" {
         log: *const u8,
         until: *mut u64,
     ) -> u32;
+    pub fn clubcard_place(
+        by: u32,
+        issuer: *const u8,
+        serial: *const u8,
+        serial_len: usize,
+        count: u64,
+        place: *mut u64,
+    ) -> u32;
     pub fn clubcard_check_part(part: *const u8, part_len: usize, facts: *mut PartFacts) -> u32;
     pub fn clubcard_install(
         store: *const u8,

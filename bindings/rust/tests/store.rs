@@ -1,6 +1,6 @@
 //! Asks the store that the repository ships (README.md, "Try it"), also where its bytes are damaged.
 
-use clubcard::{check_part, Facts, Part, Query, Refusal, Refused, Sighting, Store, Verdict};
+use clubcard::{check_part, place, By, Facts, Part, Query, Refusal, Refused, Sighting, Store, Verdict};
 use std::error::Error;
 use std::thread;
 
@@ -77,6 +77,16 @@ fn certificates() {
 fn coverage() {
     assert_eq!(store().covered_until(&SEEN.log), Some(1700000001000));
     assert_eq!(store().covered_until(&ISSUER), None);
+}
+
+#[test]
+fn places() {
+    assert_eq!(place(By::Issuer, &ISSUER, &[5], 65536), Ok(49925));
+    assert_eq!(place(By::Identity, &ISSUER, &[5], 65536), Ok(44354));
+    assert_eq!(refused(place(By::Issuer, &ISSUER, &[], 0)), (Refusal::BadSerial, 0, None));
+    for count in [0, 65537, (1 << 32) + 1] {
+        assert_eq!(refused(place(By::Identity, &ISSUER, &[5], count)), (Refusal::BadPlaces, 0, None));
+    }
 }
 
 #[test]

@@ -16,15 +16,15 @@ ghost use Rattle.lending_core.specs.declared.facts.TheConstants.{OPENED_SIZE, PA
 ghost use Rattle.lending_core.specs.declared.numbers.TheConstants.{DONE, LAYOUT_VALUE, BAD_SIZE};
 ghost use Rattle.lending_core.specs.Lent.{sighting_of, serial_of};
 ghost use Rattle.lending_core.specs.Asking.{store_of, query_gives, query_cert_gives};
-ghost use Rattle.lending_core.specs.Asking.{with_some, cert_reads, ask_gives, ask_cert_gives};
+ghost use Rattle.lending_core.specs.Asking.{with_some, cert_reads, ask_gives, ask_cert_gives, place_gives};
 ghost use Rattle.lending_core.specs.Facts.{opened_number, opened_facts, part_number, part_facts, install_number, install_facts};
 ghost use Rattle.lending_core.specs.Replies.{answer_of, verdict_number, answered};
-ghost use Rattle.lending_core.specs.Replies.{IsAnswer, AreFacts, AreAnswered, CoversUntil};
+ghost use Rattle.lending_core.specs.Replies.{IsAnswer, AreFacts, AreAnswered, CoversUntil, IsPlaced};
 
 use lending_core::{
     InstallFacts, LentQuery, LentSighting, OpenedFacts, PartFacts, StoreFacts, ask, ask_cert,
     ask_each, check_lent_part, covered_until, examine, index_words, install_lent, numbers,
-    open_store, query, query_cert, query_each,
+    open_store, place, query, query_cert, query_each,
 };
 use std::alloc::Global;
 
@@ -223,4 +223,18 @@ pub extern "C" fn clubcard_install(
     ensures len { length new_store.new ≡ length new_store.old }
 {
     install_lent(store, part, new_store, facts)
+}
+
+/// Writes the place of a certificate, by its issuer key's hash and its serial, among so many.
+#[unsafe(no_mangle)]
+pub extern "C" fn clubcard_place(
+    by: u32,
+    issuer: &[u8; 32],
+    serial: &[u8],
+    count: u64,
+    at: &mut u64,
+) -> u32
+    ensures { IsPlaced (place_gives by issuer.now serial.now count) at.new result }
+{
+    place(by, issuer, serial, count, at)
 }

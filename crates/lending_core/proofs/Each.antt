@@ -22,6 +22,7 @@ wants faults.NotSnapshot = inr (λ h. cc)
 wants (faults.Chain why) = inr (λ h. cc)
 wants faults.BadSerial = inr (λ h. cc)
 wants faults.BadSightings = inr (λ h. cc)
+wants faults.BadPlaces = inr (λ h. cc)
 wants (faults.BadCert f) = inr (λ h. cc)
 wants faults.BadIssuerCert = inr (λ h. cc)
 wants faults.NoMemory = inl refl

@@ -1,8 +1,11 @@
 -- What each call makes of what it is lent: a value, or the first fault in the order of reading.
-use Rattle.std.specs.Prelude.{ℕ, List, length, map, nat_lt, if◌then◌else◌, Option, Some, None, Result, Ok, Err}
+use Rattle.std.specs.Prelude.{ℕ, ◌==◌, List, length, map, nat_lt, if◌then◌else◌, Option, Some, None, Result, Ok, Err}
 use Rattle.sha2.specs.Sha256.{sha256}
 use Rattle.octets_core.specs.Reading.{value_of}
 use Rattle.ident_core.specs.declared.range.Sighting.{Sighting}
+use Rattle.place_core.specs.declared.place.By.{By}
+use Rattle.place_core.specs.declared.place.By.TheVariants as ways
+use Rattle.place_core.specs.Places.{place_count, place_in}
 use Rattle.log_core.specs.Certificates.{certificate_serial, certificate_key}
 use Rattle.sct_core.specs.declared.bounds.TheConstants.{MAX_CERTIFICATE}
 use Rattle.sct_core.specs.declared.fault.CertFault.TheVariants.{Malformed}
@@ -14,6 +17,7 @@ use Rattle.card_core.specs.declared.verdict.Verdict.{Verdict}
 use Rattle.lending_core.specs.declared.fault.LentFault.{LentFault}
 use Rattle.lending_core.specs.declared.fault.LentFault.TheVariants as faults
 use Rattle.lending_core.specs.declared.lent.LentQuery.{LentQuery}
+use Rattle.lending_core.specs.declared.placing.TheConstants.{BY_ISSUER, BY_IDENTITY}
 use Rattle.lending_core.specs.Faults.{of_store, faulted, ◌>>=◌}
 use Rattle.lending_core.specs.Lent.{serial_of, serial_in, slice_in}
 
@@ -94,3 +98,24 @@ abbrev pub query_cert_gives : (bytes cert issuer_cert : List ℕ) → Result Ver
 query_cert_gives bytes cert issuer_cert = do
   parts ← store_of bytes
   ask_cert_gives parts cert issuer_cert
+
+-- ---- a place
+
+-- by issuers or by identities
+abbrev pub way_of : ℕ → Result By LentFault
+way_of by =
+    if by == BY_ISSUER then Ok ways.Issuer
+    else if by == BY_IDENTITY then Ok ways.Identity
+    else Err faults.BadPlaces
+
+abbrev pub some_places : Option ℕ → Result ℕ LentFault
+some_places None = Err faults.BadPlaces
+some_places (Some count) = Ok count
+
+-- of the certificate with this issuer and serial, among so many
+abbrev pub place_gives : ℕ → (issuer octets : List ℕ) → ℕ → Result ℕ LentFault
+place_gives by issuer octets count = do
+  serial ← serial_of octets
+  way ← way_of by
+  n ← some_places (place_count count)
+  Ok (place_in way n (record { issuer = issuer; serial = serial }))

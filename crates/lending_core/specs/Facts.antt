@@ -100,6 +100,7 @@ field_of faults.NotSnapshot = 0
 field_of (faults.Chain why) = 0
 field_of faults.BadSerial = 0
 field_of faults.BadSightings = 0
+field_of faults.BadPlaces = 0
 field_of (faults.BadCert f) = 0
 field_of faults.BadIssuerCert = 0
 field_of faults.NoMemory = 0

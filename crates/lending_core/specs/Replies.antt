@@ -18,7 +18,7 @@ use Rattle.lending_core.specs.declared.lent.LentQuery.{LentQuery}
 use Rattle.lending_core.specs.declared.numbers.TheConstants.{DONE, NOT_COVERED, NOT_ENROLLED, GOOD, REVOKED}
 use Rattle.lending_core.specs.declared.numbers.TheConstants.{LAYOUT_SHORT, LAYOUT_VALUE, LAYOUT_DIGEST}
 use Rattle.lending_core.specs.declared.numbers.TheConstants.{NOT_SNAPSHOT, NOT_DELTA, WRONG_PARENT, OLD_EPOCH}
-use Rattle.lending_core.specs.declared.numbers.TheConstants.{COVERAGE_SHRINKS, CHAIN_FULL, BAD_SERIAL, BAD_SIGHTINGS}
+use Rattle.lending_core.specs.declared.numbers.TheConstants.{COVERAGE_SHRINKS, CHAIN_FULL, BAD_SERIAL, BAD_SIGHTINGS, BAD_PLACES}
 use Rattle.lending_core.specs.declared.numbers.TheConstants.{CERT_MALFORMED, CERT_NO_SCTS, CERT_BAD_SCTS}
 use Rattle.lending_core.specs.declared.numbers.TheConstants.{CERT_TOO_MANY_SCTS, ISSUER_CERT_MALFORMED, NO_MEMORY}
 use Rattle.lending_core.specs.declared.replies.Answer.{Answer}
@@ -63,6 +63,7 @@ fault_answer faults.NotSnapshot = alone NOT_SNAPSHOT
 fault_answer (faults.Chain why) = alone (refusal_number why)
 fault_answer faults.BadSerial = alone BAD_SERIAL
 fault_answer faults.BadSightings = alone BAD_SIGHTINGS
+fault_answer faults.BadPlaces = alone BAD_PLACES
 fault_answer (faults.BadCert f) = alone (cert_number f)
 fault_answer faults.BadIssuerCert = alone ISSUER_CERT_MALFORMED
 fault_answer faults.NoMemory = alone NO_MEMORY
@@ -122,3 +123,10 @@ AreAnswered read all old new given =
 abbrev pub CoversUntil : Option ℕ → (until number : ℕ) → Type 0
 CoversUntil (Some to) until number = (until ≡ to) × (number ≡ DONE)
 CoversUntil None until number = (until ≡ 0) × (number ≡ NOT_COVERED)
+
+-- ---- places
+
+-- the place that is written and the number that is answered
+abbrev pub IsPlaced : Result ℕ LentFault → (place number : ℕ) → Type 0
+IsPlaced (Ok p) place number = (place ≡ p) × (number ≡ DONE)
+IsPlaced (Err e) place number = (place ≡ 0) × (number ≡ (fault_answer e).number)

@@ -19,6 +19,8 @@ pub enum LentFault {
     BadSerial,
     /// The sightings of a query aren't among those that are lent.
     BadSightings,
+    /// The places aren't 1 to 65,536, or are by neither issuers nor identities.
+    BadPlaces,
     /// The certificate isn't read, or its timestamps aren't.
     BadCert(CertFault),
     /// The issuer's certificate isn't read.

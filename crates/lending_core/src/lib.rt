@@ -10,6 +10,7 @@ mod lent;
 pub mod numbers;
 mod opened;
 mod opening;
+mod placing;
 mod replies;
 
 pub use asking::{examine, query, query_cert, query_each};
@@ -19,4 +20,5 @@ pub use installing::{check_lent_part, install_lent};
 pub use lent::{LentQuery, LentSighting};
 pub use opened::{ask, ask_cert, ask_each, covered_until};
 pub use opening::{index_words, open_store};
+pub use placing::{BY_IDENTITY, BY_ISSUER, place};
 pub use replies::{Answer, StoreFacts};

@@ -39,6 +39,8 @@ pub const STORE_TOO_LONG: u32 = 38;
 pub const BAD_SERIAL: u32 = 48;
 /// The sightings of a query aren't among those that are lent.
 pub const BAD_SIGHTINGS: u32 = 49;
+/// The places aren't 1 to 65,536, or are by neither issuers nor identities.
+pub const BAD_PLACES: u32 = 50;
 
 /// The certificate isn't one of the profile.
 pub const CERT_MALFORMED: u32 = 64;

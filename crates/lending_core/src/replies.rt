@@ -94,6 +94,7 @@ pub(crate) fn fault_answer(fault: LentFault) -> Answer
         LentFault::Chain(why) => alone(refusal_number(why)),
         LentFault::BadSerial => alone(numbers::BAD_SERIAL),
         LentFault::BadSightings => alone(numbers::BAD_SIGHTINGS),
+        LentFault::BadPlaces => alone(numbers::BAD_PLACES),
         LentFault::BadCert(fault) => alone(cert_number(fault)),
         LentFault::BadIssuerCert => alone(numbers::ISSUER_CERT_MALFORMED),
         LentFault::NoMemory => alone(numbers::NO_MEMORY),

@@ -32,6 +32,7 @@ _REMEDIES = {
     Refusal.STORE_TOO_LONG: "a store of 4 GiB or more isn't asked: begin it with the snapshot of a newer chain",
     Refusal.BAD_SERIAL: "a serial has 1 to 32 octets: look at it again",
     Refusal.BAD_SIGHTINGS: "a certificate is asked about by 1 to 64 timestamps: give as many",
+    Refusal.BAD_PLACES: "places are 1 to 65,536: give another count",
     Refusal.CERT_NO_SCTS: "it carries no timestamp; ask by --issuer and --serial, with --log and --time of those that "
     "it has elsewhere",
     Refusal.CERT_BAD_SCTS: "its timestamps aren't of the form of RFC 6962; fetch it again",

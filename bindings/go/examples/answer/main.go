@@ -75,6 +75,16 @@ func answerEach(store *clubcard.Store, words []string) string {
 	return strings.Join(numbers, " ")
 }
 
+func answerPlace(words []string) string {
+	by := clubcard.ByIdentity
+	if words[0] == "issuer" {
+		by = clubcard.ByIssuer
+	}
+	query := queryOf(words[1:3])
+	place, err := clubcard.Place(by, query.Issuer, query.Serial, must(strconv.ParseUint(words[3], 10, 64)))
+	return fmt.Sprintf("%s %d", number(0, err), place)
+}
+
 func answerPart(name string) string {
 	part, err := clubcard.CheckPart(must(os.ReadFile(name)))
 	if err != nil {
@@ -113,6 +123,8 @@ func answer(store *clubcard.Store, words []string) string {
 		return "1 0"
 	case "part":
 		return answerPart(words[1])
+	case "place":
+		return answerPlace(words[1:])
 	case "install":
 		return answerInstall(store, words[1], words[2])
 	}
