@@ -17,10 +17,12 @@ use Rattle.universe_core.specs.Counting.{is_class, count, counts}
 use Rattle.universe_core.specs.declared.counts.Counts.{Counts}
 use Rattle.universe_core.specs.declared.class.Class.{Class}
 use Rattle.universe_core.specs.declared.class.Class.TheVariants.{Unread, Uncovered, Unenrolled, Late, Accepted}
-use Rattle.place_core.specs.Places.{place_text, issuer_text, issuer_place}
+use Rattle.place_core.specs.declared.place.By.{By}
+use Rattle.place_core.specs.declared.place.By.TheVariants as ways
+use Rattle.place_core.specs.Places.{place_text, issuer_text, issuer_place, place_in}
 use Rattle.cut_core.specs.Cutting.{is_kept, keeps_entry, cut_facts}
 use Rattle.cut_core.specs.Courses.{Course, left}
-use Rattle.cut_core.specs.InPlaces.{By, by_issuer, by_identity, place_in, entry_place, at_place}
+use Rattle.cut_core.specs.InPlaces.{entry_place, at_place}
 use Rattle.cut_core.specs.InPlaces.{job_at, course_at, over_places, counts_at, IssuersAddUp, AddUp}
 use Rattle.cut_core.proofs.Filters.{filter_all}
 use Rattle.cut_core.proofs.Adding.{over_each, tally, lengths}
@@ -34,30 +36,30 @@ and_true false = refl
 
 -- an identity is kept at its place, and at no other
 kept_at : (by : By) (n p : ℕ) (x : Identity) → is_kept (at_place by n p) x ≡ (place_in by n x == p)
-kept_at by_issuer n p x = and_true (issuer_place x.issuer n == p)
-kept_at by_identity n p x = refl
+kept_at ways.Issuer n p x = and_true (issuer_place x.issuer n == p)
+kept_at ways.Identity n p x = refl
 
 pub at_itself : (by : By) (n : ℕ) (x : Identity) → is_kept (at_place by n (place_in by n x)) x ≡ true
 at_itself by n x = kept_at by n (place_in by n x) x ∙ eq-eqb (place_in by n x) (place_in by n x) refl
 
 place_below : (by : By) (n : ℕ) (x : Identity) → 1 ≤ n → place_in by n x < n
-place_below by_issuer n x some = omega arith
-place_below by_identity n x some = omega arith
+place_below ways.Issuer n x some = omega arith
+place_below ways.Identity n x some = omega arith
 
 pub entry_below : (by : By) (n : ℕ) (o : Option Entry) → 1 ≤ n → entry_place by n o < n
 entry_below by n None some = omega arith
 entry_below by n (Some e) some = place_below by n e.id some
 
 entry_at : (by : By) (n p : ℕ) (o : Option Entry) → keeps_entry (at_place by n p) o ≡ (entry_place by n o == p)
-entry_at by_issuer n p None = refl
-entry_at by_identity n p None = refl
+entry_at ways.Issuer n p None = refl
+entry_at ways.Identity n p None = refl
 entry_at by n p (Some e) = kept_at by n p e.id
 
 pub parted : (by : By) (n p : ℕ) (es : List (Option Entry))
     → filter (keeps_entry (at_place by n p)) es ≡ filter (λ o. entry_place by n o == p) es
 parted by n p es = filter_agree (keeps_entry (at_place by n p)) (λ o. entry_place by n o == p) (entry_at by n p) es
 
-pub same_crls : (n p : ℕ) (job : JobFields) → (job_at by_identity n p job).crls ≡ job.crls
+pub same_crls : (n p : ℕ) (job : JobFields) → (job_at ways.Identity n p job).crls ≡ job.crls
 same_crls n p job = filter_all job.crls
 
 -- ---- a count that is a multiple
@@ -72,8 +74,8 @@ mod_again n c t some =
     ∙ mod-mul-add (n / (c * t) * t + r / c) c (r % c) (mod_below r c (omega arith))
 
 pub place_again : (by : By) (n times : ℕ) (x : Identity) → 1 ≤ n → place_in by n x ≡ place_in by (n * times) x % n
-place_again by_issuer n times x some = mod_again (from_be_bytes w32 (take 4 (sha256 (issuer_text x.issuer)))) n times some
-place_again by_identity n times x some = mod_again (from_be_bytes w32 (take 4 (sha256 (place_text x)))) n times some
+place_again ways.Issuer n times x some = mod_again (from_be_bytes w32 (take 4 (sha256 (issuer_text x.issuer)))) n times some
+place_again ways.Identity n times x some = mod_again (from_be_bytes w32 (take 4 (sha256 (place_text x)))) n times some
 
 -- ---- what places have together
 
@@ -124,15 +126,15 @@ module _ (by : By) (n : ℕ) (c : Course) (j : JobIn) (some : 1 ≤ n) where
 
 issuers_add : (by : By) (n : ℕ) (c : Course) (j : JobIn) → 1 ≤ n → IssuersAddUp by n c j
 unfolding counts
-issuers_add by_issuer n c j some =
-    by_counts by_issuer n c j some (λ k. k.issuers)
-    ∙ over_each n (λ p. length (enrolled (part by_issuer n c j some p)))
+issuers_add ways.Issuer n c j some =
+    by_counts ways.Issuer n c j some (λ k. k.issuers)
+    ∙ over_each n (λ p. length (enrolled (part ways.Issuer n c j some p)))
     (λ p. length (filter (λ issuer. issuer_place issuer n == p) (enrolled (facts_in j))))
-    (λ p. ap (λ (is : List (List ℕ)). length is) (enrolled_cut (at_place by_issuer n p) (facts_in j)))
+    (λ p. ap (λ (is : List (List ℕ)). length is) (enrolled_cut (at_place ways.Issuer n p) (facts_in j)))
     ∙ lengths (λ issuer. issuer_place issuer n) n (λ issuer. omega (arith, some)) (enrolled (facts_in j))
-issuers_add by_identity n c j some = λ p.
-    ap (λ (k : Counts). k.issuers) (counts_are by_identity n c j some p)
-    ∙ ap (λ (is : List (List ℕ)). length is) (enrolled_cut (at_place by_identity n p) (facts_in j) ∙ filter_all (enrolled (facts_in j)))
+issuers_add ways.Identity n c j some = λ p.
+    ap (λ (k : Counts). k.issuers) (counts_are ways.Identity n c j some p)
+    ∙ ap (λ (is : List (List ℕ)). length is) (enrolled_cut (at_place ways.Identity n p) (facts_in j) ∙ filter_all (enrolled (facts_in j)))
 
 pub add_up : (by : By) (n : ℕ) (c : Course) (j : JobIn) → 1 ≤ n → AddUp by n c j
 unfolding counts

@@ -7,19 +7,11 @@ use Rattle.universe_core.specs.Formats.{JobIn, facts_in}
 use Rattle.universe_core.specs.History.{past_of}
 use Rattle.universe_core.specs.Counting.{counts}
 use Rattle.universe_core.specs.declared.counts.Counts.{Counts}
-use Rattle.place_core.specs.Places.{place, issuer_place}
+use Rattle.place_core.specs.declared.place.By.{By}
+use Rattle.place_core.specs.declared.place.By.TheVariants as ways
+use Rattle.place_core.specs.Places.{place, issuer_place, place_in}
 use Rattle.cut_core.specs.Cutting.{Cut, cut_job, cut_in}
 use Rattle.cut_core.specs.Courses.{Course, left, cut_course}
-
--- by what a history is cut: by its issuers, whose identities stay together, or by each identity
-pub data By : Type 0 where
-  by_issuer : By
-  by_identity : By
-
--- the place of an identity
-abbrev pub place_in : By → ℕ → Identity → ℕ
-place_in by_issuer count x = issuer_place x.issuer count
-place_in by_identity count x = place x count
 
 -- the place of an entry; those that aren't read have the first
 abbrev pub entry_place : By → ℕ → Option Entry → ℕ
@@ -33,12 +25,12 @@ unread_at p = 0 == p
 -- What is kept at a place: by issuers, what is of the issuers that have it; by identities, all CRLs, and the identities
 -- that have it.
 abbrev pub at_place : By → ℕ → ℕ → Cut
-at_place by_issuer count p = record {
+at_place ways.Issuer count p = record {
   takes = λ issuer. issuer_place issuer count == p;
   chooses = λ x. true;
   unread = unread_at p;
 }
-at_place by_identity count p = record {
+at_place ways.Identity count p = record {
   takes = λ issuer. true;
   chooses = λ x. place x count == p;
   unread = unread_at p;
@@ -70,8 +62,8 @@ counts_at by count c j p = counts_of (course_at by count p c) (in_at by count p 
 
 -- by issuers, the issuers are the sum of what the places have; by identities, each place has them all
 abbrev pub IssuersAddUp : By → ℕ → Course → JobIn → Type 0
-IssuersAddUp by_issuer count c j = over_places count (λ p. (counts_at by_issuer count c j p).issuers) ≡ (counts_of c j).issuers
-IssuersAddUp by_identity count c j = (p : ℕ) → (counts_at by_identity count c j p).issuers ≡ (counts_of c j).issuers
+IssuersAddUp ways.Issuer count c j = over_places count (λ p. (counts_at ways.Issuer count c j p).issuers) ≡ (counts_of c j).issuers
+IssuersAddUp ways.Identity count c j = (p : ℕ) → (counts_at ways.Identity count c j p).issuers ≡ (counts_of c j).issuers
 
 -- all else is the sum of what the places have
 pub record AddUp (by : By) (count : ℕ) (c : Course) (j : JobIn) : Type 0 where

@@ -4,7 +4,8 @@ ghost use Rattle.std.specs.Prelude.{◌≡◌, ◌≤◌, ◌<◌, ◌==◌, ◌
 ghost use Rattle.ident_core.specs.declared.identity.Identity.{Identity};
 ghost use Rattle.ident_core.specs.declared.range.Sighting.{Sighting};
 ghost use Rattle.ident_core.specs.Among.{Among};
-ghost use Rattle.place_core.specs.Places.{issuer_place};
+ghost use Rattle.place_core.specs.declared.place.By.{By};
+ghost use Rattle.place_core.specs.Places.{issuer_place, place_in};
 ghost use Rattle.card_core.specs.PartFields.{PartFields};
 ghost use Rattle.card_core.specs.Verdict.{verdict};
 ghost use Rattle.part_text.specs.SealedFields.{SealedFields};
@@ -16,7 +17,7 @@ ghost use Rattle.history_core.specs.Truth.{truth};
 ghost use Rattle.publication_core.specs.Histories.{History, IsHistory, releases_of};
 ghost use Rattle.audit_core.specs.Auditing.{AllAgree, releases_of as audited_of};
 ghost use Rattle.cut_core.specs.Courses.{Course, left, course_of};
-ghost use Rattle.cut_core.specs.InPlaces.{By, by_issuer, by_identity, place_in, entry_place, job_at, course_at, AddUp};
+ghost use Rattle.cut_core.specs.InPlaces.{entry_place, job_at, course_at, AddUp};
 
 /// The jobs of the places have the entries of the whole job, each in the one job of its place (`below`), in their
 /// order (`parted`). By identities each has all its CRLs (`crls`), by issuers each CRL is in the one job of its
@@ -26,9 +27,9 @@ pub fn entries_have_one_place()
     ensures below { (by : By) (count : ℕ) (o : Option Entry) → 1 ≤ count → entry_place by count o < count }
     ensures parted { (by : By) (count p : ℕ) (job : JobFields)
         → (job_at by count p job).entries ≡ filter (λ o. entry_place by count o == p) job.entries }
-    ensures crls { (count p : ℕ) (job : JobFields) → (job_at by_identity count p job).crls ≡ job.crls }
+    ensures crls { (count p : ℕ) (job : JobFields) → (job_at By.Identity count p job).crls ≡ job.crls }
     ensures issuer_crls { (count p : ℕ) (job : JobFields)
-        → (job_at by_issuer count p job).crls ≡ filter (λ c. issuer_place c.issuer count == p) job.crls }
+        → (job_at By.Issuer count p job).crls ≡ filter (λ c. issuer_place c.issuer count == p) job.crls }
     ensures finer { (by : By) (count times : ℕ) (x : Identity) → 1 ≤ count
         → place_in by count x ≡ place_in by (count * times) x % count }
 {}

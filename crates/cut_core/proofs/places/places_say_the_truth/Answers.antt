@@ -1,4 +1,5 @@
-use Rattle.cut_core.specs.InPlaces.{place_in, at_place}
+use Rattle.place_core.specs.Places.{place_in}
+use Rattle.cut_core.specs.InPlaces.{at_place}
 use Rattle.cut_core.proofs.Audits.{cut_audit}
 use Rattle.cut_core.proofs.ByPlaces.{at_itself}
 use Rattle.cut_core.proofs.Courses.{cut_verdict}
