@@ -1,6 +1,7 @@
 -- How a call of the program may end.
 use Rattle.std.specs.Prelude.{ℕ, List, [], ◌∷◌}
-pub use Rattle.line_core.specs.Statuses.{done, usage, bad_layout, bad_crl, chain, too_many, seeds, read_fault, write_fault, bad_cert, bad_page, disagrees, no_memory}
+pub use Rattle.line_core.specs.Statuses.{done, usage, bad_layout, bad_crl, chain, too_many, seeds, read_fault, write_fault}
+pub use Rattle.line_core.specs.Statuses.{bad_cert, bad_page, disagrees, no_memory}
 pub use Rattle.reply_core.specs.Said.{is_one_of, unsaid}
 
 -- the statuses that say what is wrong with a file that was read

@@ -76,7 +76,8 @@ pub(crate) fn write_digested<R: Threads, D: Depot>(
     { digest_of(pieces) };
     let mut write = || -> Result<(), Failed>
         ensures { OnOk result (D.files depot.exit.now ≡ putting (D.files depot.entry.now) name.entry.now (joined pieces.entry.now))
-            × OnErr result (IsLeft (D.files depot.entry.now) (D.files depot.exit.now) (record { name = name.entry.now; bytes = joined pieces.entry.now }))
+            × OnErr result (IsLeft (D.files depot.entry.now) (D.files depot.exit.now)
+            (record { name = name.entry.now; bytes = joined pieces.entry.now }))
             × OnErr result (Rose (D.write_faults depot.entry.now) (D.write_faults depot.exit.now))
             × OnlyWrites D.Depot depot.entry.now depot.exit.now }
     { write_pieces(depot, name, pieces) };

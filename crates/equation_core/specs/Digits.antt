@@ -22,7 +22,8 @@ append-small (x ∷ xs) ys p q (suc i) = append-small xs ys (λ k. p (suc k)) q 
 digest_bytes-small : (h : List ℕ) (n : ℕ) → AreBytes (digest_bytes h n)
 unfolding digest_bytes
 digest_bytes-small h zero i = omega arith
-digest_bytes-small h (suc n) i = append-small (digest_bytes h n) (to_be_bytes w32 (get_or h n 0)) (digest_bytes-small h n) (be_bytes-small (get_or h n 0)) i
+digest_bytes-small h (suc n) i =
+    append-small (digest_bytes h n) (to_be_bytes w32 (get_or h n 0)) (digest_bytes-small h n) (be_bytes-small (get_or h n 0)) i
 
 pub digest-small : (m : List ℕ) → AreBytes (sha256 m)
 unfolding sha256

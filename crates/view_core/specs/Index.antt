@@ -65,4 +65,5 @@ has_shards s = some_sharded s.part.blocks
 -- how many words tell of parts and how many of shards, each part's index, and where the shards of all parts begin
 abbrev pub index_of : List SealedFields → List ℕ
 index_of parts =
-    length (parts_index STORE_HEAD parts) ∷ length (shards_index STORE_HEAD parts) ∷ parts_index STORE_HEAD parts ++ shards_index STORE_HEAD parts
+    length (parts_index STORE_HEAD parts) ∷ length (shards_index STORE_HEAD parts)
+    ∷ parts_index STORE_HEAD parts ++ shards_index STORE_HEAD parts

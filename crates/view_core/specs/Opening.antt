@@ -20,7 +20,9 @@ opened parts = record { note = store_note parts; words = length (index_of parts)
 
 -- what was read, where an index has room for so many words
 abbrev pub with_room : ℕ → Result (List SealedFields) StoreFault → Result Opened OpenFault
-with_room room (Ok parts) = if nat_lt room (length (index_of parts)) then Err (faults.IndexTooShort (length (index_of parts))) else Ok (opened parts)
+with_room room (Ok parts) =
+    if nat_lt room (length (index_of parts)) then Err (faults.IndexTooShort (length (index_of parts)))
+    else Ok (opened parts)
 with_room room (Err e) = Err (faults.Store e)
 
 -- What opening bytes comes to: they are fewer than 2^32, and a store, and there is room for its index; or the first of

@@ -14,7 +14,8 @@ use Rattle.place_core.specs.declared.place.By.{By}
 use Rattle.place_core.specs.declared.place.By.TheVariants as ways
 use Rattle.place_core.specs.Places.{place_count}
 use Rattle.word_core.specs.declared.command.TheConstants.{MAX_PAGES, MAX_SIGHTINGS, MAX_WITHOUT}
-use Rattle.word_core.specs.declared.command.{Audit.Audit, Command.Command, Delta.Delta, Gather.Gather, Install.Install, Place.Place, Query.Query}
+use Rattle.word_core.specs.declared.command.{Audit.Audit, Command.Command, Delta.Delta, Gather.Gather, Install.Install}
+use Rattle.word_core.specs.declared.command.{Place.Place, Query.Query}
 use Rattle.word_core.specs.declared.command.{QueryCert.QueryCert, Rebase.Rebase, Rehearse.Rehearse, Sample.Sample}
 use Rattle.word_core.specs.declared.command.{Snapshot.Snapshot, Start.Start}
 use Rattle.word_core.specs.declared.command.Command.TheVariants as commands
