@@ -8,13 +8,13 @@
  *
  * What a caller owes, and no call tests:
  *   - Each pointer is that of as many bytes, or elements, as its length says. Where the length is 0 it may be NULL.
- *     `issuer`, `log`, `facts`, `words`, `until` and `at`, which have no length, are never NULL.
- *   - Each pointer is aligned as its type is: on x86-64 `sightings`, `facts`, `words`, `until` and `at` to 8 bytes,
- *     `queries` and `index` to 4.
+ *     `issuer`, `log`, `facts`, `words`, `until`, `place` and `at`, which have no length, are never NULL.
+ *   - Each pointer is aligned as its type is: on x86-64 `sightings`, `facts`, `words`, `until`, `place` and `at` to 8
+ *     bytes, `queries` and `index` to 4.
  *   - A length is below 2^63 bytes in all.
- *   - What a call writes to (`at`, `facts`, `queries`, `words`, `until`, `new_store`, and `index` of clubcard_open)
- *     overlaps nothing else that the call is lent, and no other thread touches it during the call. What is only read
- *     may be shared by any number of threads, and nobody writes to it during the call.
+ *   - What a call writes to (`at`, `facts`, `queries`, `words`, `until`, `place`, `new_store`, and `index` of
+ *     clubcard_open) overlaps nothing else that the call is lent, and no other thread touches it during the call. What
+ *     is only read may be shared by any number of threads, and nobody writes to it during the call.
  *   - malloc, realloc and free are of one allocator. It aligns a block to each power of two up to 16 that divides the
  *     block's size. No call is made from a signal handler, nor in the child of a fork of a process with threads.
  *
@@ -79,6 +79,7 @@ enum {
     /* Refusals: of what is asked. */
     CLUBCARD_BAD_SERIAL = 48,    /* the serial has no octet, or more than 32 */
     CLUBCARD_BAD_SIGHTINGS = 49, /* a query's sightings aren't among those that are lent */
+    CLUBCARD_BAD_PLACES = 50,    /* the places aren't 1 to 65,536, or are by neither issuers nor identities */
 
     /* Refusals: of a certificate, or of its issuer's. */
     CLUBCARD_CERT_MALFORMED = 64,        /* it isn't a certificate of RFC 5280 in DER, or is longer than 1 MiB */
@@ -325,6 +326,20 @@ uint32_t clubcard_check_part(const uint8_t *part, size_t part_len, clubcard_part
 uint32_t clubcard_install(const uint8_t *store, size_t store_len, const uint8_t *part, size_t part_len,
                           uint8_t *new_store, size_t new_len, clubcard_install_facts *facts);
 
+/* By what a history is cut: by issuers, whose certificates stay together, or by identities. */
+#define CLUBCARD_BY_ISSUER 1
+#define CLUBCARD_BY_IDENTITY 2
+
+/*
+ * The place of a certificate, where a history is cut into `count` ones, from 0 on, as the command `place` prints it. A
+ * certificate is asked for in the store of its place: any other may say CLUBCARD_GOOD of a revoked one.
+ *
+ * It answers CLUBCARD_DONE and writes the place. Else it answers the refusal of the first fault, CLUBCARD_BAD_SERIAL or
+ * CLUBCARD_BAD_PLACES, and writes 0.
+ */
+uint32_t clubcard_place(uint32_t by, const uint8_t issuer[32], const uint8_t *serial, size_t serial_len,
+                        uint64_t count, uint64_t *place);
+
 /* What an answer says, in words for a line of a log. It is a constant, for any number. */
 static inline const char *clubcard_strerror(uint32_t answer) {
     switch (answer) {
@@ -345,6 +360,7 @@ static inline const char *clubcard_strerror(uint32_t answer) {
     case CLUBCARD_STORE_TOO_LONG: return "the store has 2^32 bytes or more";
     case CLUBCARD_BAD_SERIAL: return "a serial has 1 to 32 octets";
     case CLUBCARD_BAD_SIGHTINGS: return "a query's sightings aren't among those that are lent";
+    case CLUBCARD_BAD_PLACES: return "places are 1 to 65,536, by issuers or by identities";
     case CLUBCARD_CERT_MALFORMED: return "the certificate isn't read";
     case CLUBCARD_CERT_NO_SCTS: return "the certificate carries no timestamp";
     case CLUBCARD_CERT_BAD_SCTS: return "the certificate's timestamps aren't read";
