@@ -112,6 +112,11 @@ class Member:
         return any(of == log and a <= time <= b for of, a, b in self.ranges)
 
 
+def entry_record(entry):
+    """The record of an entry of a job."""
+    return b"\3" + entry.log + be(len(entry.leaf), 3) + entry.leaf + be(len(entry.extra), 3) + entry.extra
+
+
 class Job(Member):
     """A job, with the format in which it is taken. Its bytes don't tell the format."""
 
@@ -125,8 +130,7 @@ class Job(Member):
         head = b"CLUBJOB1" + be(self.epoch, 8) + be(self.moment, 8)
         ranges = [b"\1" + log + be(a, 8) + be(b, 8) for log, a, b in self.ranges]
         crls = [b"\2" + i + be(len(c.bytes), 4) + c.bytes for i, c in self.crls]
-        entries = [b"\3" + e.log + be(len(e.leaf), 3) + e.leaf + be(len(e.extra), 3) + e.extra for e in self.entries]
-        return [head] + ranges + crls + entries + [b"\0"]
+        return [head] + ranges + crls + [entry_record(entry) for entry in self.entries] + [b"\0"]
 
     def bytes(self):
         return b"".join(self.records())

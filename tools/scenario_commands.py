@@ -10,7 +10,7 @@ from reference import (
     Part,
     Refused,
     SeedsExhausted,
-    be,
+    entry_record,
     history_of,
     issuer_place,
     place,
@@ -26,6 +26,7 @@ from scenario_publishing import ENTRIES, SERIALS, Limit, Published, admit, publi
 from scenario_readers import (
     CERTIFICATE_BYTES,
     Fed,
+    FoundEntry,
     FoundJob,
     chain_fault,
     read_certificate,
@@ -88,6 +89,7 @@ class World:
             "rehearse": Shape(3, 66, self.rehearse),
             "sample": Shape(3, 3, self.sample),
             "gather": Shape(4, 1027, self.gather),
+            "merge": Shape(3, 1026, self.merge),
             "audit": Shape(2, 65, self.audit),
             "place": Shape(4, 4, self.place),
             "device-format": Shape(3, 3, self.device_format),
@@ -184,19 +186,43 @@ class World:
 
     def gather(self, head: str, log: str, job: str, *pages: str) -> None:
         log_key = words_of.key(log)
-        words_of.apart([job], [head, *pages])
+
+        def entries(page: str, _: FoundJob) -> list[FoundEntry]:
+            return [FoundEntry(log_key, *item) for item in read_page(self.front(page, PAGE_BYTES + 1))]
+
+        self.longer("gather pages", entries, head, job, pages)
+
+    def merge(self, head: str, job: str, *pieces: str) -> None:
+        def entries(piece: str, found: FoundJob) -> list[FoundEntry]:
+            read = read_job(self.fed(piece), counts_serials=False, crls=0)
+            if read.epoch != found.epoch:
+                raise Refused(5, f"chain epoch {found.epoch} {read.epoch}")
+            return read.entries
+
+        self.longer("merge pieces", entries, head, job, pieces)
+
+    def longer(
+        self,
+        said: str,
+        entries: Callable[[str, FoundJob], list[FoundEntry]],
+        head: str,
+        job: str,
+        names: Sequence[str],
+    ) -> None:
+        """Writes the job of a file with the entries of others behind its own."""
+        words_of.apart([job], [head, *names])
         data = self.fed(head)
-        entries = len(read_job(data, counts_serials=False).entries)
+        found = read_job(data, counts_serials=False)
         out, here = bytearray(data[:-1]), 0
-        for page in pages:
-            for leaf, extra in read_page(self.front(page, PAGE_BYTES + 1)):
-                out += b"\3" + log_key + be(len(leaf), 3) + leaf + be(len(extra), 3) + extra
-                here += 1
-            if entries + here > ENTRIES:
+        for name in names:
+            more = entries(name, found)
+            out += b"".join(map(entry_record, more))
+            here += len(more)
+            if len(found.entries) + here > ENTRIES:
                 self.blamed = job
                 raise Limit("entries", ENTRIES)
         self.write(job, bytes(out) + b"\0")
-        self.lines = [f"gather pages {len(pages)} entries {here} bytes {len(out) + 1}"]
+        self.lines = [f"{said} {len(names)} entries {here} bytes {len(out) + 1}"]
 
     def place(self, by: str, issuer: str, digits: str, count: str) -> None:
         way, identity, many = words_of.by(by), words_of.identity(issuer, digits), words_of.number(count, 1, 65536)

@@ -357,8 +357,8 @@ class FoundJob(Job):
     serials = 0
 
 
-def read_job(data: Fed | bytes, counts_serials: bool = True) -> FoundJob:
-    """The job of a file."""
+def read_job(data: Fed | bytes, counts_serials: bool = True, crls: int = CRLS) -> FoundJob:
+    """The job of a file, with so many CRLs at most."""
     fields = Fields(data)
     fields.magic("job.magic", b"CLUBJOB1")
     job = FoundJob(fields.number("job.epoch", 8), fields.number("job.moment", 8), [], [], [])
@@ -371,7 +371,7 @@ def read_job(data: Fed | bytes, counts_serials: bool = True) -> FoundJob:
         if kind == 1:
             read_range(fields, job)
         elif kind == 2:
-            read_crl(fields, job, counts_serials)
+            read_crl(fields, job, counts_serials, crls)
         else:
             read_entry(fields, job)
     fields.end()
@@ -385,10 +385,10 @@ def read_range(fields: Fields, job: FoundJob) -> None:
     job.ranges.append(reference_files.read_range(fields, job.ranges[-1][0] if job.ranges else None))
 
 
-def read_crl(fields: Fields, job: FoundJob, counts_serials: bool) -> None:
+def read_crl(fields: Fields, job: FoundJob, counts_serials: bool, most: int) -> None:
     """Reads the record of a CRL behind its kind."""
-    if len(job.crls) == CRLS:
-        raise Limit("crls", CRLS)
+    if len(job.crls) == most:
+        raise Limit("crls", most)
     issuer = fields.take("crl.issuer", 32)
     length = fields.number("crl.length", 4, lambda length: length <= CRL_BYTES)
     crl = found_crl(fields.take("crl.bytes", length))

@@ -18,6 +18,7 @@ SHAPES = {
     "show": "read",
     "rehearse": "read workers 64",
     "gather": "read key write 1024",
+    "merge": "read write 1024",
     "audit": "read 64",
 }
 

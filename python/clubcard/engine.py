@@ -31,6 +31,7 @@ from .engine_errors import (
 from .engine_lines import (
     Audited,
     Gathered,
+    Merged,
     PartFacts,
     PartShown,
     Published,
@@ -57,6 +58,7 @@ __all__ = [
     "EngineError",
     "FullDevice",
     "Gathered",
+    "Merged",
     "NoMemory",
     "NoSeeds",
     "PartFacts",
@@ -162,6 +164,11 @@ class Engine:
         """Writes a job with a log's pages (1 to 1,024) behind the records of another one."""
         read = _one(lambda line: Gathered(*numbers_of(line, "gather pages # entries # bytes #")))
         return self._run(read, "gather", head, log.hex(), job, *pages)
+
+    def merge(self, head: Name, job: Name, pieces: Sequence[Name]) -> Merged:
+        """Writes a job with the entries of pieces (1 to 1,024) of its epoch behind the records of another one."""
+        read = _one(lambda line: Merged(*numbers_of(line, "merge pieces # entries # bytes #")))
+        return self._run(read, "merge", head, job, *pieces)
 
     def sample(self, number: int, count: int, job: Name) -> Sampled:
         """Writes the generator's job of a number, with so many entries (1 to 1,000,000)."""

@@ -132,6 +132,15 @@ class Gathered:
 
 
 @dataclass(frozen=True)
+class Merged:
+    """Pieces stand behind a job: how many, with how many entries, and how many bytes the job has."""
+
+    pieces: int
+    entries: int
+    size: int
+
+
+@dataclass(frozen=True)
 class Sampled:
     """The generator's job: how many entries it has, how many of them its CRLs list, and how many bytes."""
 

@@ -47,6 +47,7 @@ READ: dict[str, Callable[[list[str]], Any]] = {
     "show": engine_lines.part_shown,
     "audit": alone(lambda line: NUMBERS(line, "audit jobs # entries # agree")),
     "gather": alone(lambda line: NUMBERS(line, "gather pages # entries # bytes #")),
+    "merge": alone(lambda line: NUMBERS(line, "merge pieces # entries # bytes #")),
     "sample": alone(lambda line: NUMBERS(line, "sample # entries # revoked # bytes #")),
     "place": alone(lambda line: NUMBERS(line, "place # of #")),
 }
@@ -225,6 +226,8 @@ def test_certificates_and_pages(program: Engine, tmp_path: Path) -> None:
     (tmp_path / "page").write_text('{"entries": []}')
     gathered = program.gather(tmp_path / "head", KEY, tmp_path / "job", [tmp_path / "page"] * 2)
     assert gathered == engine.Gathered(2, 0, (tmp_path / "job").stat().st_size)
+    merged = program.merge(tmp_path / "head", tmp_path / "merged", [tmp_path / "job", tmp_path / "head"])
+    assert merged == engine.Merged(2, 0, (tmp_path / "merged").stat().st_size)
     (tmp_path / "page").write_text('{"entries": [7]}')
     with pytest.raises(engine.UnreadPage):
         program.gather(tmp_path / "head", KEY, tmp_path / "job", [tmp_path / "page"])

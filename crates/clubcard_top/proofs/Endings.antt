@@ -40,6 +40,7 @@ refusal_unread name (faults.BadCrl place fault) eight = absurd (omega (arith, ei
 refusal_unread name (faults.TooMany thing limit) eight = absurd (omega (arith, eight))
 refusal_unread name (faults.Seeds issuer stage) eight = absurd (omega (arith, eight))
 refusal_unread name (faults.BadCert fault) eight = absurd (omega (arith, eight))
+refusal_unread name (faults.OtherEpoch held given) eight = absurd (omega (arith, eight))
 refusal_unread name (faults.BadPage fault) eight = absurd (omega (arith, eight))
 refusal_unread name (faults.Disagrees job entry held truth) eight = absurd (omega (arith, eight))
 refusal_unread name faults.NoMemory eight = absurd (omega (arith, eight))

@@ -11,7 +11,7 @@ use Rattle.outside_core.specs.Files.{Files}
 use Rattle.ident_core.specs.declared.bounds.TheConstants.{MAX_ISSUERS}
 use Rattle.ident_core.specs.declared.kind.Kind.{Kind}
 use Rattle.ident_core.specs.declared.kind.Kind.TheVariants as kinds
-use Rattle.gather_core.specs.Pages.{PageFields}
+use Rattle.job_core.specs.JobLayout.{EntryText}
 use Rattle.job_core.specs.declared.bounds.TheConstants.Limits as limits
 use Rattle.job_core.specs.declared.bounds.What.TheVariants as what
 use Rattle.job_core.specs.JobFields.{JobFields}
@@ -39,7 +39,7 @@ use Rattle.word_core.proofs.Asked.{AreApart, names_apart}
 use Rattle.word_core.specs.declared.command.Command.TheVariants as commands
 use Rattle.word_core.specs.declared.command.{Query.Query, QueryCert.QueryCert, Snapshot.Snapshot, Delta.Delta}
 use Rattle.word_core.specs.declared.command.{Rebase.Rebase, Start.Start, Install.Install, Rehearse.Rehearse, Audit.Audit, Sample.Sample}
-use Rattle.word_core.specs.declared.command.{Gather.Gather, Place.Place}
+use Rattle.word_core.specs.declared.command.Place.{Place}
 use Rattle.input_core.specs.declared.certificates.Certificate.{Certificate}
 use Rattle.input_core.specs.declared.fault.FileFault.{FileFault}
 use Rattle.input_core.specs.declared.fault.FileFault.TheVariants as faults
@@ -51,7 +51,10 @@ use Rattle.input_core.specs.Readings.{job_in, ledger_in, part_in, store_in}
 use Rattle.input_core.specs.Certificates.{certificate_in, issuer_in}
 use Rattle.command_core.specs.Commands.{◌>>=◌, named, input, query_done, query_cert_done, check_done, show_done, stored, begun_by, begun, installed_by, installed}
 use Rattle.command_core.specs.Commands.{publication_done, rehearsed, published_as, MakesPart, MakesSnapshot, MakesDelta, sample_done, place_done}
-use Rattle.command_core.specs.Commands.{head_in, page_in, room_for, pages_of, gather_done, AreJobs, Makes}
+use Rattle.command_core.specs.Commands.{AreJobs, Makes}
+use Rattle.command_core.specs.declared.lengthening.Source.{Source}
+use Rattle.command_core.specs.declared.lengthening.Source.TheVariants as sources
+use Rattle.command_core.specs.Longer.{head_in, entries_by, room_for, entries_of, longer_done, longer_makes}
 use Rattle.command_core.specs.Rebasings.{base_done, rebased_as, MakesBase, MakesRebase}
 use Rattle.command_core.specs.Replies.{done, held_under, held_by}
 use Rattle.command_core.specs.Runs.{with_outputs}
@@ -60,11 +63,11 @@ use Rattle.clubcard_top.specs.Endings.{Succeeds, Did, Gives, GivesDone, WantedMe
 use Rattle.command_core.specs.Audits.{audit_jobs, audit_done, MakesAudit, AreWithinLimits, IsAudited}
 use Rattle.clubcard_top.specs.Headline.{AsksToRehearse, IsRehearsed}
 use Rattle.clubcard_top.specs.Promises.{Successes}
-use Rattle.clubcard_top.specs.Successes.{ReadsPart, ReadsPages, ReadsJobs, SaysTheTruth}
+use Rattle.clubcard_top.specs.Successes.{ReadsPart, ReadsEntries, ReadsJobs, SaysTheTruth}
 use Rattle.command_core.proofs.AuditsMade.{named_value, audit_done_is, audit_jobs_back, audit_makes}
 use Rattle.command_core.proofs.Makings.{done_names}
-use Rattle.command_core.proofs.Following.{start_after, install_after, install_then, gather_after, page_last, page_then, cert_last, cert_then, cert_after}
-use Rattle.command_core.proofs.PagesPut.{behind_these, page_put}
+use Rattle.command_core.proofs.Following.{start_after, install_after, install_then, longer_after, entries_last, entries_then, cert_last, cert_then, cert_after}
+use Rattle.command_core.proofs.FilesPut.{behind_these, file_put}
 use Rattle.command_core.proofs.Results.{ok_same, not_ok, after_ok}
 use Rattle.command_core.proofs.Outputs.{names_of, keeps-written}
 use Rattle.command_core.proofs.Overs.{some_is}
@@ -100,13 +103,13 @@ input_ok : {A : Type 0} (name : List ℕ) (read : List ℕ → Result A FileFaul
 input_ok name read None x h = absurd (not_ok x (record { name = name; fault = faults.Unread }) h)
 input_ok name read (Some bytes) x h = (bytes, refl, named_value name (read bytes) x h)
 
-room_ok_by : (job : List ℕ) (page few : List PageFields) (b : Bool)
-    → if◌then◌else◌ {A = Result (List PageFields) NamedFault} b (Ok page) (Err (record { name = job; fault = faults.TooMany what.Entries limits.PUBLISHED.entries })) ≡ Ok few
+room_ok_by : (job : List ℕ) (page few : List EntryText) (b : Bool)
+    → if◌then◌else◌ {A = Result (List EntryText) NamedFault} b (Ok page) (Err (record { name = job; fault = faults.TooMany what.Entries limits.PUBLISHED.entries })) ≡ Ok few
     → page ≡ few
 room_ok_by job page few true h = ok_same {E = NamedFault} page few h
 room_ok_by job page few false h = absurd (not_ok few (record { name = job; fault = faults.TooMany what.Entries limits.PUBLISHED.entries }) h)
 
-room_ok : (job : List ℕ) (before : ℕ) (page few : List PageFields) → room_for job before page ≡ Ok few → page ≡ few
+room_ok : (job : List ℕ) (before : ℕ) (page few : List EntryText) → room_for job before page ≡ Ok few → page ≡ few
 room_ok job before page few h = room_ok_by job page few (nat_le (before + length page) limits.PUBLISHED.entries) h
 
 -- ---- parts of stores
@@ -226,20 +229,20 @@ module _ (call : Call) where
       → Reads call name read x
   reads files told name read x h = let i = input_ok name read (get files name) x h in (i.0, (files, told, i.1), i.2)
 
-  pages_read : (files : Files) → call.files_before ≡ Some files → (job : List ℕ) (before : ℕ) (names : List (List ℕ)) (entries : List PageFields)
-      → Ok entries ≡ pages_of job before names (held_under files names) → ReadsPages call names entries
-  pages_read files told job before [] entries h = ok_same {E = NamedFault} entries [] h
-  pages_read files told job before (name ∷ names) entries h =
+  entries_read : (files : Files) → call.files_before ≡ Some files → (source : Source) (epoch : ℕ) (job : List ℕ) (before : ℕ) (names : List (List ℕ)) (entries : List EntryText)
+      → Ok entries ≡ entries_of source epoch job before names (held_under files names) → ReadsEntries call (entries_by source epoch) names entries
+  entries_read files told source epoch job before [] entries h = ok_same {E = NamedFault} entries [] h
+  entries_read files told source epoch job before (name ∷ names) entries h =
       let others = held_under files names in
-      let one = after_ok (input name page_in (get files name)) (page_then job before names others) entries h in
-      let two = after_ok (room_for job before one.0) (page_last job before names others) entries one.2 in
-      let three = after_ok (pages_of job (before + length two.0) names others) (λ more. Ok (two.0 ++ more)) entries two.2 in (
+      let one = after_ok (input name (entries_by source epoch) (get files name)) (entries_then source epoch job before names others) entries h in
+      let two = after_ok (room_for job before one.0) (entries_last source epoch job before names others) entries one.2 in
+      let three = after_ok (entries_of source epoch job (before + length two.0) names others) (λ more. Ok (two.0 ++ more)) entries two.2 in (
         one.0,
         three.0,
-        reads files told name page_in one.0 one.1,
+        reads files told name (entries_by source epoch) one.0 one.1,
         ok_same {E = NamedFault} entries (two.0 ++ three.0) three.2
-            ∙ ap (λ (page : List PageFields). page ++ three.0) (sym (room_ok job before one.0 two.0 two.1)),
-        pages_read files told job (before + length two.0) names three.0 (sym three.1),
+            ∙ ap (λ (few : List EntryText). few ++ three.0) (sym (room_ok job before one.0 two.0 two.1)),
+        entries_read files told source epoch job (before + length two.0) names three.0 (sym three.1),
       )
 
   jobs_read : (files : Files) → call.files_before ≡ Some files → (names : List (List ℕ)) (jobs : List JobFields) → AreJobs names (held_under files names) jobs → ReadsJobs call names jobs
@@ -377,19 +380,20 @@ module _ (call : Call) where
         let c = came (commands.Sample s) did in
         same_done c.d (sample_done s) (ok_same {E = NamedFault} c.d (sample_done s) c.makes) c.given
 
-    pub gather : (g : Gather) → (did : Did call (commands.Gather g)) → (head : JobContents)
-        × (entries : List PageFields) × Reads call g.head head_in head × ReadsPages call g.pages entries
-        × GivesDone call (gather_done g head entries)
-    gather g did =
-        let c = came (commands.Gather g) did in
-        let others = held_under did.files g.pages in
-        let one = after_ok (input g.head head_in (get did.files g.head)) (gather_after g others) c.d c.makes in
-        let two = after_ok (pages_of g.job (length one.0.entries) g.pages others) (λ entries. Ok (gather_done g one.0 entries)) c.d one.2 in (
+    pub longer : (c : Command) (source : Source) (head job : List ℕ) (names : List (List ℕ)) → (did : Did call c)
+        → ((d : Done) → Makes c (held_by c did.files) (Ok d) → Ok d ≡ longer_makes source head job names (get did.files head) (held_under did.files names))
+        → (j : JobContents) × (entries : List EntryText) × Reads call head head_in j × ReadsEntries call (entries_by source j.epoch) names entries
+        × GivesDone call (longer_done source job names j entries)
+    longer command source head job names did makes =
+        let c = came command did in
+        let others = held_under did.files names in
+        let one = after_ok (input head head_in (get did.files head)) (longer_after source job names others) c.d (makes c.d c.makes) in
+        let two = after_ok (entries_of source one.0.epoch job (length one.0.entries) names others) (λ entries. Ok (longer_done source job names one.0 entries)) c.d one.2 in (
           one.0,
           two.0,
-          reads did.files did.told g.head head_in one.0 one.1,
-          pages_read did.files did.told g.job (length one.0.entries) g.pages two.0 (sym two.1),
-          same_done c.d (gather_done g one.0 two.0) (ok_same {E = NamedFault} c.d (gather_done g one.0 two.0) two.2) c.given,
+          reads did.files did.told head head_in one.0 one.1,
+          entries_read did.files did.told source one.0.epoch job (length one.0.entries) names two.0 (sym two.1),
+          same_done c.d (longer_done source job names one.0 two.0) (ok_same {E = NamedFault} c.d (longer_done source job names one.0 two.0) two.2) c.given,
         )
 
     pub audit : Truthful → (a : Audit) → (did : Did call (commands.Audit a)) → (parts : List SealedFields) × (jobs : List JobFields)
@@ -422,14 +426,15 @@ module _ (call : Call) where
       let same : others ≡ files = some_is others files (sym told_so ∙ told) in
       ap (input name read) (ap (λ (f : Files). get f name) (sym same) ∙ held) ∙ ap (named name) is
 
-  pages_back : (files : Files) → call.files_before ≡ Some files → (job : List ℕ) (before : ℕ) (names : List (List ℕ)) (entries : List PageFields)
-      → ReadsPages call names entries → before + length entries ≤ limits.PUBLISHED.entries → pages_of job before names (held_under files names) ≡ Ok entries
-  pages_back files told job before [] entries is few = ap (λ (l : List PageFields). Ok l) (sym is)
-  pages_back files told job before (name ∷ names) entries (page, others, page_reads, is, rest) few =
-      let size : length entries ≡ length page + length others = ap (λ (l : List PageFields). length l) is ∙ length-append page others in
-      page_put job name names before (held_under files (name ∷ names)) page (read_in files told name page_in page page_reads) (omega (arith, few, size))
-      ∙ ap (behind_these page) (pages_back files told job (before + length page) names others rest (omega (arith, few, size)))
-      ∙ ap (λ (l : List PageFields). Ok l) (sym is)
+  entries_back : (files : Files) → call.files_before ≡ Some files → (source : Source) (epoch : ℕ) (job : List ℕ) (before : ℕ) (names : List (List ℕ)) (entries : List EntryText)
+      → ReadsEntries call (entries_by source epoch) names entries → before + length entries ≤ limits.PUBLISHED.entries
+      → entries_of source epoch job before names (held_under files names) ≡ Ok entries
+  entries_back files told source epoch job before [] entries is few = ap (λ (l : List EntryText). Ok l) (sym is)
+  entries_back files told source epoch job before (name ∷ names) entries (one, others, one_reads, is, rest) few =
+      let size : length entries ≡ length one + length others = ap (λ (l : List EntryText). length l) is ∙ length-append one others in
+      file_put source job epoch name names before (held_under files (name ∷ names)) one (read_in files told name (entries_by source epoch) one one_reads) (omega (arith, few, size))
+      ∙ ap (behind_these one) (entries_back files told source epoch job (before + length one) names others rest (omega (arith, few, size)))
+      ∙ ap (λ (l : List EntryText). Ok l) (sym is)
 
   jobs_back : (files : Files) → call.files_before ≡ Some files → (names : List (List ℕ)) (jobs : List JobFields) → ReadsJobs call names jobs → AreJobs names (held_under files names) jobs
   jobs_back files told [] [] are = tt
@@ -511,19 +516,20 @@ module _ (call : Call) where
         ∙ ap (λ (r : Result (List ℕ) NamedFault). r >>= cert_last parts cert) issuer_is))
         quiet
 
-    -- pages that are read and aren't too many are gathered
-    pub gather_complete : (g : Gather) (head : JobContents) (entries : List PageFields) → call.asked ≡ commands.Gather g
-        → Reads call g.head head_in head → ReadsPages call g.pages entries → length head.entries + length entries ≤ limits.PUBLISHED.entries
+    -- files that are read, with entries that aren't too many, are put behind a job
+    pub longer_complete : (c : Command) (source : Source) (head job : List ℕ) (names : List (List ℕ)) (j : JobContents) (entries : List EntryText) → call.asked ≡ c → c ≢ commands.Usage
+        → ((files : Files) (o : Result Done NamedFault) → o ≡ longer_makes source head job names (get files head) (held_under files names) → Makes c (held_by c files) o)
+        → Reads call head head_in j → ReadsEntries call (entries_by source j.epoch) names entries → length j.entries + length entries ≤ limits.PUBLISHED.entries
         → NoFault call → Succeeds call ⊎ WantedMemory call
-    gather_complete g head entries asked (bytes, (files, told, held), is) page_reads few quiet =
-        let others = held_under files g.pages in
-        let head_is = read_in files told g.head head_in head (bytes, (files, told, held), is) in
-        let pages_are = pages_back files told g.job (length head.entries) g.pages entries page_reads few in
-        sure_of (commands.Gather g) files (gather_done g head entries) told asked
-        (λ none. cc)
-        (λ o m. sym
-        (ap (λ (r : Result JobContents NamedFault). r >>= gather_after g others) head_is
-        ∙ ap (λ (r : Result (List PageFields) NamedFault). r >>= (λ es. Ok (gather_done g head es))) pages_are))
+    longer_complete c source head job names j entries asked some makes (bytes, (files, told, held), is) all_read few quiet =
+        let others = held_under files names in
+        let head_is = read_in files told head head_in j (bytes, (files, told, held), is) in
+        let entries_are = entries_back files told source j.epoch job (length j.entries) names entries all_read few in
+        sure_of c files (longer_done source job names j entries) told asked
+        some
+        (λ o m. makes files (Ok (longer_done source job names j entries)) (sym
+        (ap (λ (r : Result JobContents NamedFault). r >>= longer_after source job names others) head_is
+        ∙ ap (λ (r : Result (List EntryText) NamedFault). r >>= (λ es. Ok (longer_done source job names j es))) entries_are)))
         quiet
 
     -- a store that says the truth of the accepted entries of jobs that are admitted is found to do so
@@ -578,8 +584,12 @@ module _ (call : Call) where
               subst (GivesDone call) l.5 (given_done did.files did.told apart a.d a.makes a.gives),
             );
         sample = sample ends apart;
-        gather = gather ends apart;
-        gather_complete = gather_complete one publishable ends;
+        gather = λ g did. longer ends apart (commands.Gather g) (sources.Pages g.log) g.head g.job g.pages did (λ d m. m);
+        gather_complete = λ g j entries asked.
+            longer_complete one publishable ends (commands.Gather g) (sources.Pages g.log) g.head g.job g.pages j entries asked (λ none. cc) (λ files o m. m);
+        merge = λ m did. longer ends apart (commands.Merge m) sources.Pieces m.head m.job m.pieces did (λ d made. made);
+        merge_complete = λ m j entries asked.
+            longer_complete one publishable ends (commands.Merge m) sources.Pieces m.head m.job m.pieces j entries asked (λ none. cc) (λ files o made. made);
         audit = audit ends apart truthful;
         audit_complete = audit_complete one publishable ends;
         place = place ends apart;

@@ -3,11 +3,11 @@ use Rattle.std.specs.Prelude.{◌≡◌, ◌≢◌, ℕ, ◌+◌, ◌≤◌, ◌
 use Rattle.ident_core.specs.declared.identity.Identity.{Identity}
 use Rattle.ident_core.specs.declared.kind.Kind.TheVariants as kinds
 use Rattle.ident_core.specs.declared.range.Sighting.{Sighting}
-use Rattle.gather_core.specs.Pages.{PageFields}
 use Rattle.input_core.specs.Queries.{Query}
 use Rattle.part_text.specs.SealedFields.{SealedFields}
 use Rattle.job_core.specs.declared.bounds.TheConstants.Limits as limits
 use Rattle.job_core.specs.JobFields.{JobFields}
+use Rattle.job_core.specs.JobLayout.{EntryText}
 use Rattle.job_core.specs.JobText.{JobContents}
 use Rattle.ledger_core.specs.LedgerFields.{LedgerFields}
 use Rattle.universe_core.specs.Formats.{dated, in_format}
@@ -29,7 +29,7 @@ use Rattle.publication_core.specs.Rebasing.{BasePublicationFields, PublishesBase
 use Rattle.word_core.specs.declared.command.Command.TheVariants as commands
 use Rattle.word_core.specs.declared.command.{Query.Query as StoreQuery, QueryCert.QueryCert, Snapshot.Snapshot}
 use Rattle.word_core.specs.declared.command.{Delta.Delta, Rebase.Rebase, Start.Start, Install.Install}
-use Rattle.word_core.specs.declared.command.{Rehearse.Rehearse, Audit.Audit, Sample.Sample, Gather.Gather, Place.Place}
+use Rattle.word_core.specs.declared.command.{Rehearse.Rehearse, Audit.Audit, Sample.Sample, Gather.Gather, Merge.Merge, Place.Place}
 use Rattle.word_core.specs.Names.{inputs_of, outputs_of}
 use Rattle.line_core.specs.Lines.{line, audit_line}
 use Rattle.input_core.specs.declared.certificates.Certificate.{Certificate}
@@ -41,7 +41,9 @@ use Rattle.input_core.specs.Certificates.{certificate_in, issuer_in}
 use Rattle.outside_core.specs.Reads.{CouldNotRead}
 use Rattle.command_core.specs.Commands.{verdict_word, only, query_done, query_cert_done, check_done, show_done, stored}
 use Rattle.command_core.specs.Commands.{publication_done}
-use Rattle.command_core.specs.Commands.{rehearsed, sample_done, head_in, gather_done, place_done}
+use Rattle.command_core.specs.Commands.{rehearsed, sample_done, place_done}
+use Rattle.command_core.specs.declared.lengthening.Source.TheVariants as sources
+use Rattle.command_core.specs.Longer.{head_in, page_entries, piece_entries, longer_done}
 use Rattle.command_core.specs.Rebasings.{base_done}
 use Rattle.command_core.specs.Replies.{usage, read_fault, refusal, done, IsReply}
 use Rattle.command_core.specs.Runs.{KeepsAllBut}
@@ -49,7 +51,7 @@ use Rattle.clubcard_top.specs.Calls.{Call, Found, FilesAreTold, Reads, Writes, C
 use Rattle.clubcard_top.specs.Endings.{Succeeds, Did, GivesTheReply, WantedMemory, SinkFailed, Torn, Ends}
 use Rattle.clubcard_top.specs.Endings.{GivesDone, MustSucceed, MustGive}
 use Rattle.command_core.specs.Audits.{AreWithinLimits, IsAudited}
-use Rattle.clubcard_top.specs.Successes.{ReadsPart, ReadsPages, ReadsJobs, SaysTheTruth}
+use Rattle.clubcard_top.specs.Successes.{ReadsPart, ReadsEntries, ReadsJobs, SaysTheTruth}
 use Rattle.clubcard_top.specs.Headline.{AsksToContinue, AsksToStore, AsksTruth, AsksCertTruth, AsksToRehearse}
 use Rattle.clubcard_top.specs.Headline.{AsksToRebase, IsRebasableWithout, AsksTheBase, AsksOfLeftOut, Brings}
 use Rattle.clubcard_top.specs.Headline.{base_of, done_by, truth_line, cert_truth_line}
@@ -124,10 +126,22 @@ pub record Successes (call : Call) : Type 0 where
   -- the raw job of HEAD with the entries of the pages, of the log LOG, behind its own; and where HEAD and the pages are
   -- read, and these are no more entries than a job may have, the call must succeed
   pub gather : (g : Gather) → Did call (commands.Gather g)
-      → (head : JobContents) × (entries : List PageFields)
-      × Reads call g.head head_in head × ReadsPages call g.pages entries × GivesDone call (gather_done g head entries)
-  pub gather_complete : (g : Gather) (head : JobContents) (entries : List PageFields)
-      → call.asked ≡ commands.Gather g → Reads call g.head head_in head → ReadsPages call g.pages entries
+      → (head : JobContents) × (entries : List EntryText)
+      × Reads call g.head head_in head × ReadsEntries call (page_entries g.log) g.pages entries
+      × GivesDone call (longer_done (sources.Pages g.log) g.job g.pages head entries)
+  pub gather_complete : (g : Gather) (head : JobContents) (entries : List EntryText)
+      → call.asked ≡ commands.Gather g → Reads call g.head head_in head
+      → ReadsEntries call (page_entries g.log) g.pages entries
+      → length head.entries + length entries ≤ limits.PUBLISHED.entries → MustSucceed call
+  -- the raw job of HEAD with the entries of the pieces behind its own, each of which has its epoch and no CRL; and where
+  -- HEAD and the pieces are read so, and these are no more entries than a job may have, the call must succeed
+  pub merge : (m : Merge) → Did call (commands.Merge m)
+      → (head : JobContents) × (entries : List EntryText)
+      × Reads call m.head head_in head × ReadsEntries call (piece_entries head.epoch) m.pieces entries
+      × GivesDone call (longer_done sources.Pieces m.job m.pieces head entries)
+  pub merge_complete : (m : Merge) (head : JobContents) (entries : List EntryText)
+      → call.asked ≡ commands.Merge m → Reads call m.head head_in head
+      → ReadsEntries call (piece_entries head.epoch) m.pieces entries
       → length head.entries + length entries ≤ limits.PUBLISHED.entries → MustSucceed call
   -- the jobs are admitted in order, and of each entry that they accept the parts of STORE say the truth: so they do of
   -- each certificate of the jobs' history, whoever built them; and where the files are read, the jobs together are

@@ -11,7 +11,7 @@ pub mod Fronts
 pub mod ReplyStatuses
 pub mod Makings
 pub mod Outputs
-pub mod PagesPut
+pub mod FilesPut
 pub mod PagesRead
 pub mod Overs
 pub mod Piecewise

@@ -1,6 +1,6 @@
 -- What comes of a command: its outputs, its statuses, and which inputs it rests on.
 use Rattle.std.proofs.Common.{◌≡◌, ℕ, Bool, true, false, ◌||◌, ◌⊎◌, inl, inr, List, [], ◌∷◌, ◌++◌, Option, Some, None, Result, Ok, Err, refl, sym, ap, ◌∙◌, subst}
-use Rattle.std.specs.Prelude.{IsTrue, IfErr, Bool, true, false, length, nat_lt, nat_le, ◌+◌, if◌then◌else◌}
+use Rattle.std.specs.Prelude.{IsTrue, IfErr, Bool, true, false, length, map, nat_lt, nat_le, ◌+◌, ◌==◌, if◌then◌else◌}
 use Rattle.octets_core.specs.Layout.{Layout, then_read, with_fault, mapped, whole}
 use Rattle.octets_core.specs.Reading.{end, value_of, GivesUnless}
 use Rattle.octets_core.specs.declared.fault.LayoutFault.{LayoutFault}
@@ -21,14 +21,14 @@ use Rattle.ledger_core.specs.declared.fault.LedgerFault.TheVariants as of_ledger
 use Rattle.job_core.specs.declared.bounds.TheConstants.Limits.{PUBLISHED}
 use Rattle.job_core.specs.declared.bounds.What.TheVariants as what
 use Rattle.job_core.specs.JobFields.{JobFields}
-use Rattle.job_core.specs.JobLayout.{job_of}
+use Rattle.job_core.specs.JobLayout.{EntryText, job_of}
 use Rattle.job_core.specs.JobText.{JobContents}
 use Rattle.gather_core.specs.Pages.{PageFields}
 use Rattle.gather_core.specs.Pages.{page_of}
 use Rattle.gather_core.specs.declared.fault.PageFault.{PageFault}
 use Rattle.gather_core.specs.declared.fault.PageFault.TheVariants as of_page_faults
 use Rattle.gather_core.specs.declared.page.TheConstants.{MAX_PAGE}
-use Rattle.gather_core.specs.Raw.{raw_job}
+use Rattle.gather_core.specs.Raw.{raw_job, piece_limits, of_log}
 use Rattle.gather_core.proofs.NoReads.{no_read}
 use Rattle.job_core.specs.declared.fault.JobFault.{JobFault}
 use Rattle.job_core.specs.declared.fault.JobFault.TheVariants as of_job_faults
@@ -54,7 +54,6 @@ use Rattle.word_core.specs.declared.command.Command.{Command}
 use Rattle.word_core.specs.declared.command.Command.TheVariants as commands
 use Rattle.word_core.specs.declared.command.{QueryCert.QueryCert, Snapshot.Snapshot, Delta.Delta, Rebase.Rebase}
 use Rattle.word_core.specs.declared.command.{Start.Start, Install.Install, Rehearse.Rehearse, Audit.Audit}
-use Rattle.word_core.specs.declared.command.{Gather.Gather}
 use Rattle.word_core.specs.Names.{inputs_of, outputs_of}
 use Rattle.input_core.specs.declared.certificates.Certificate.{Certificate}
 use Rattle.input_core.specs.declared.fault.FileFault.{FileFault}
@@ -69,15 +68,18 @@ use Rattle.command_core.specs.Statuses.{is_one_of, done, read_fault, no_memory, 
 use Rattle.command_core.specs.Commands.{◌>>=◌, named, input, begun_by, begun, installed_by, installed, stored, query_done, query_cert_done, check_done, show_done}
 use Rattle.command_core.specs.Commands.{query_makes, check_makes, show_makes, start_makes}
 use Rattle.command_core.specs.Commands.{publication_done, published_as, MakesSnapshot, MakesDelta, rehearsed, IsRefused, MakesRehearsal}
-use Rattle.command_core.specs.Commands.{sample_done, head_in, page_in, room_for, pages_of, gather_done, place_done, Makes}
+use Rattle.command_core.specs.Commands.{sample_done, place_done, Makes}
+use Rattle.command_core.specs.declared.lengthening.Source.{Source}
+use Rattle.command_core.specs.declared.lengthening.Source.TheVariants as sources
+use Rattle.command_core.specs.Longer.{head_in, page_in, piece_in, entries_of_log, entries_of_epoch, entries_by, room_for, entries_of, longer_done, longer_makes}
 use Rattle.command_core.specs.Audits.{job_behind, jobs_behind, audit_jobs, MakesAudit}
 use Rattle.command_core.specs.Rebasings.{base_done, rebased_as, MakesRebase}
 use Rattle.command_core.specs.Steps.{RehearsesOn}
 use Rattle.command_core.specs.Replies.{refusal, reply_of, held_under, held_by}
 use Rattle.input_core.specs.Inputs.{Inputs, rest_of, IsRead, AreRead}
 use Rattle.command_core.proofs.Outputs.{names_of}
-use Rattle.command_core.proofs.Following.{start_after, install_then, install_after, gather_after, cert_last, cert_then, cert_after, page_last, page_then}
-use Rattle.command_core.proofs.Overs.{IsSeen, unread, one_over, delta_over, install_over, query_cert_over, after_over, pages_over, jobs_over, rehearsal_over, audit_over}
+use Rattle.command_core.proofs.Following.{start_after, install_then, install_after, longer_after, entries_last, entries_then, cert_last, cert_then, cert_after}
+use Rattle.command_core.proofs.Overs.{IsSeen, unread, one_over, delta_over, install_over, query_cert_over, after_over, longer_over, jobs_over, rehearsal_over, audit_over}
 use Rattle.command_core.proofs.Results.{ok_same, err_same, not_ok, not_err, after_ok}
 use Rattle.command_core.proofs.AuditFaults.{audit_names, store_or_jobs, job_behind_read, jobs_stop}
 use Rattle.command_core.proofs.Prefixes.{from_first}
@@ -107,6 +109,7 @@ fault_status name (faults.BadCrl place fault) = refl
 fault_status name (faults.TooMany thing limit) = refl
 fault_status name (faults.Seeds issuer stage) = refl
 fault_status name (faults.BadCert fault) = refl
+fault_status name (faults.OtherEpoch held given) = refl
 fault_status name (faults.BadPage fault) = refl
 fault_status name (faults.Disagrees job entry held truth) = refl
 fault_status name faults.NoMemory = refl
@@ -165,6 +168,12 @@ rehearsal_names : (r : Rehearse) (queries : Result (List Query) NamedFault) (inp
 rehearsal_names r (Ok queries) inputs d m = rehearses_names queries [] [] r.jobs inputs d (from_first queries r.jobs inputs (Ok d) m)
 rehearsal_names r (Err e) inputs d m = absurd (not_err d e m)
 
+longer_names : (source : Source) (head job : List ℕ) (names : List (List ℕ)) (given : Option (List ℕ)) (inputs : Inputs) (d : Done)
+    → Ok d ≡ longer_makes source head job names given inputs → names_of d.outputs ≡ job ∷ []
+longer_names source head job names given inputs d m =
+    let x = after_ok (input head head_in given) (longer_after source job names inputs) d m in
+    names_after (job ∷ []) (longer_done source job names x.0) (λ y. refl) (entries_of source x.0.epoch job (length x.0.entries) names inputs) d x.2
+
 -- The outputs of a command that is done are those that it names.
 pub done_names : (c : Command) (inputs : Inputs) (d : Done) → Makes c inputs (Ok d) → names_of d.outputs ≡ outputs_of c
 done_names commands.Usage at d m = absurd m
@@ -187,9 +196,8 @@ done_names (commands.Install i) at d m =
     names_after (i.new_store ∷ []) (stored i.new_store) (λ z. refl) (named i.part (installed x.0 y.0.0)) d y.2
 done_names (commands.Rehearse r) at d m = rehearsal_names r (input r.queries queries_in (at 0)) (rest_of at) d m
 done_names (commands.Sample s) at d m = ap (λ (e : Done). names_of e.outputs) (ok_same {E = NamedFault} d (sample_done s) m)
-done_names (commands.Gather f) at d m =
-    let x = after_ok (input f.head head_in (at 0)) (gather_after f (rest_of at)) d m in
-    names_after (f.job ∷ []) (gather_done f x.0) (λ y. refl) (pages_of f.job (length x.0.entries) f.pages (rest_of at)) d x.2
+done_names (commands.Gather f) at d m = longer_names (sources.Pages f.log) f.head f.job f.pages (at 0) (rest_of at) d m
+done_names (commands.Merge f) at d m = longer_names sources.Pieces f.head f.job f.pieces (at 0) (rest_of at) d m
 done_names (commands.Audit a) at d m = audit_names a (input a.store store_in (at 0)) (audit_jobs a.jobs (rest_of at)) d m
 done_names (commands.Place p) at d m = ap (λ (e : Done). names_of e.outputs) (ok_same {E = NamedFault} d (place_done p) m)
 
@@ -299,6 +307,9 @@ head_faulted_read (Err e) read h = job_fault_read e (λ is. read (ap (λ (f : Jo
 head_read : (bytes : List ℕ) → head_in bytes ≡ Err faults.Unread → ⊥
 head_read bytes h = head_faulted_read (raw_job PUBLISHED bytes) (no_read PUBLISHED bytes) h
 
+piece_read : (bytes : List ℕ) → piece_in bytes ≡ Err faults.Unread → ⊥
+piece_read bytes h = head_faulted_read (raw_job piece_limits bytes) (no_read piece_limits bytes) h
+
 page_fault_read : (f : PageFault) → IsRead_fault (of_page f)
 page_fault_read of_page_faults.Json = λ h. cc
 page_fault_read (of_page_faults.Shape index) = λ h. cc
@@ -313,6 +324,22 @@ page_read_by false r read h = read h
 
 page_read : (bytes : List ℕ) → page_in bytes ≡ Err faults.Unread → ⊥
 page_read bytes h = page_read_by (nat_lt MAX_PAGE (length bytes)) (faulted of_page (page_of bytes)) (faulted_read of_page (page_of bytes) page_fault_read) h
+
+epoch_read_by : (epoch : ℕ) (j : JobContents) (b : Bool) → (if b then Ok j.entries else Err (faults.OtherEpoch epoch j.epoch)) ≡ Err faults.Unread → ⊥
+epoch_read_by epoch j true h = not_err j.entries faults.Unread h
+epoch_read_by epoch j false h = let g : faults.OtherEpoch epoch j.epoch ≡ faults.Unread = err_same {A = List EntryText} (faults.OtherEpoch epoch j.epoch) faults.Unread h in cc
+
+of_epoch_read : (epoch : ℕ) (r : Result JobContents FileFault) → (r ≡ Err faults.Unread → ⊥) → entries_of_epoch epoch r ≡ Err faults.Unread → ⊥
+of_epoch_read epoch (Ok j) read h = epoch_read_by epoch j (epoch == j.epoch) h
+of_epoch_read epoch (Err e) read h = read (ap (λ (f : FileFault). Err f) (err_same {A = List EntryText} e faults.Unread h))
+
+of_log_read : (log : List ℕ) (r : Result (List PageFields) FileFault) → (r ≡ Err faults.Unread → ⊥) → entries_of_log log r ≡ Err faults.Unread → ⊥
+of_log_read log (Ok page) read h = not_err (map (of_log log) page) faults.Unread h
+of_log_read log (Err e) read h = read (ap (λ (f : FileFault). Err f) (err_same {A = List EntryText} e faults.Unread h))
+
+entries_read : (source : Source) (epoch : ℕ) (bytes : List ℕ) → entries_by source epoch bytes ≡ Err faults.Unread → ⊥
+entries_read (sources.Pages log) epoch bytes h = of_log_read log (page_in bytes) (page_read bytes) h
+entries_read sources.Pieces epoch bytes h = of_epoch_read epoch (piece_in bytes) (piece_read bytes) h
 
 -- ---- which input it is
 
@@ -374,23 +401,23 @@ install_unread i parts x e h u =
     made_read i.part (installed parts x.0) (stored i.new_store) e (installed_read (refusal_of parts x.0) parts x.0)
     (after_err (named i.part (installed parts x.0)) (λ more. Ok (stored i.new_store more)) e h) u
 
-last_err : (page : List PageFields) (r : Result (List PageFields) NamedFault) (e : NamedFault) → Err e ≡ (r >>= (λ others. Ok (page ++ others))) → Err e ≡ r
+last_err : (page : List EntryText) (r : Result (List EntryText) NamedFault) (e : NamedFault) → Err e ≡ (r >>= (λ others. Ok (page ++ others))) → Err e ≡ r
 last_err page (Ok others) e h = absurd (not_err (page ++ others) e (sym h))
-last_err page (Err f) e h = ap (λ (k : NamedFault). Err k) (err_same {A = List PageFields} e f h)
+last_err page (Err f) e h = ap (λ (k : NamedFault). Err k) (err_same {A = List EntryText} e f h)
 
 done_err : {A : Type 0} (f : A → Done) (r : Result A NamedFault) (e : NamedFault) → Err e ≡ (r >>= (λ x. Ok (f x))) → Err e ≡ r
 done_err f (Ok x) e h = absurd (not_err (f x) e (sym h))
 done_err f (Err k) e h = ap (λ (n : NamedFault). Err n) (err_same {A = Done} e k h)
 
 -- too many entries aren't a file that can't be read
-room_read_by : (job : List ℕ) (page : List PageFields) (e : NamedFault) (b : Bool)
+room_read_by : (job : List ℕ) (page : List EntryText) (e : NamedFault) (b : Bool)
     → (if b then Ok page else Err (record { name = job; fault = faults.TooMany what.Entries PUBLISHED.entries })) ≡ Err e → e.fault ≡ faults.Unread → ⊥
 room_read_by job page e true h u = not_err page e h
 room_read_by job page e false h u =
     let g : faults.TooMany what.Entries PUBLISHED.entries ≡ faults.Unread
-    = ap (λ (k : NamedFault). k.fault) (err_same {A = List PageFields} (record { name = job; fault = faults.TooMany what.Entries PUBLISHED.entries }) e h) ∙ u in cc
+    = ap (λ (k : NamedFault). k.fault) (err_same {A = List EntryText} (record { name = job; fault = faults.TooMany what.Entries PUBLISHED.entries }) e h) ∙ u in cc
 
-room_read : (job : List ℕ) (before : ℕ) (page : List PageFields) (e : NamedFault) → room_for job before page ≡ Err e → e.fault ≡ faults.Unread → ⊥
+room_read : (job : List ℕ) (before : ℕ) (page : List EntryText) (e : NamedFault) → room_for job before page ≡ Err e → e.fault ≡ faults.Unread → ⊥
 room_read job before page e h u = room_read_by job page e (nat_le (before + length page) PUBLISHED.entries) h u
 
 module _ (told : Option Files) (failed : Option (List ℕ) → Type 0) (e : NamedFault) (u : e.fault ≡ faults.Unread) where
@@ -441,21 +468,29 @@ module _ (told : Option Files) (failed : Option (List ℕ) → Type 0) (e : Name
       cause_of (r.queries ∷ r.jobs) r.queries given (inl refl) first
       (input_unread r.queries queries_in given e queries_read (is ∙ ap (λ (k : NamedFault). Err k) (sym (err_same {A = Done} e f m))) u)
 
-  -- the entries behind those of a page
-  room_by : (job : List ℕ) (before : ℕ) (name : List ℕ) (names : List (List ℕ)) (inputs : Inputs) (page : List PageFields)
-      → ((n : ℕ) → Err e ≡ pages_of job n names inputs → Cause names)
-      → (room_for job before page ≡ Err e) ⊎ ((few : List PageFields) × (room_for job before page ≡ Ok few) × (Err e ≡ page_last job before names inputs few)) → Cause (name ∷ names)
-  room_by job before name names inputs page rest (inl h) = absurd (room_read job before page e h u)
-  room_by job before name names inputs page rest (inr (few, is, h)) =
-      let c = rest (before + length few) (last_err few (pages_of job (before + length few) names inputs) e h) in (inr c.0, c.1)
+  -- the entries behind those of a file
+  room_by : (source : Source) (epoch : ℕ) (job : List ℕ) (before : ℕ) (name : List ℕ) (names : List (List ℕ)) (inputs : Inputs) (read : List EntryText)
+      → ((n : ℕ) → Err e ≡ entries_of source epoch job n names inputs → Cause names)
+      → (room_for job before read ≡ Err e) ⊎ ((few : List EntryText) × (room_for job before read ≡ Ok few) × (Err e ≡ entries_last source epoch job before names inputs few))
+      → Cause (name ∷ names)
+  room_by source epoch job before name names inputs read rest (inl h) = absurd (room_read job before read e h u)
+  room_by source epoch job before name names inputs read rest (inr (few, is, h)) =
+      let c = rest (before + length few) (last_err few (entries_of source epoch job (before + length few) names inputs) e h) in (inr c.0, c.1)
 
-  pages_by : (job : List ℕ) (before : ℕ) (names : List (List ℕ)) (inputs : Inputs) → AreRead told failed names inputs
-      → Err e ≡ pages_of job before names inputs → Cause names
-  pages_by job before [] inputs read m = absurd (not_ok [] e m)
-  pages_by job before (name ∷ names) inputs read m =
-      step_unread (name ∷ names) name page_in (inputs 0) (page_then job before names (rest_of inputs)) page_read (inl refl) read.0
-      (λ page h. room_by job before name names (rest_of inputs) page (λ n k. pages_by job n names (rest_of inputs) read.1 k)
-      (after_err (room_for job before page) (page_last job before names (rest_of inputs)) e h)) m
+  entries_cause : (source : Source) (epoch : ℕ) (job : List ℕ) (before : ℕ) (names : List (List ℕ)) (inputs : Inputs) → AreRead told failed names inputs
+      → Err e ≡ entries_of source epoch job before names inputs → Cause names
+  entries_cause source epoch job before [] inputs read m = absurd (not_ok [] e m)
+  entries_cause source epoch job before (name ∷ names) inputs read m =
+      step_unread (name ∷ names) name (entries_by source epoch) (inputs 0) (entries_then source epoch job before names (rest_of inputs)) (entries_read source epoch) (inl refl) read.0
+      (λ x h. room_by source epoch job before name names (rest_of inputs) x (λ n k. entries_cause source epoch job n names (rest_of inputs) read.1 k)
+      (after_err (room_for job before x) (entries_last source epoch job before names (rest_of inputs)) e h)) m
+
+  longer_cause : (source : Source) (head job : List ℕ) (names : List (List ℕ)) (given : Option (List ℕ)) (inputs : Inputs) → IsRead told failed head given
+      → AreRead told failed names inputs → Err e ≡ longer_makes source head job names given inputs → Cause (head ∷ names)
+  longer_cause source head job names given inputs first others m =
+      step_unread (head ∷ names) head head_in given (longer_after source job names inputs) head_read (inl refl) first
+      (λ j h. let c = entries_cause source j.epoch job (length j.entries) names inputs others
+      (done_err (longer_done source job names j) (entries_of source j.epoch job (length j.entries) names inputs) e h) in (inr c.0, c.1)) m
 
   jobs_by : (before : List JobFields) (names : List (List ℕ)) (inputs : Inputs) → AreRead told failed names inputs
       → Err e ≡ jobs_behind before names inputs → Cause names
@@ -502,10 +537,8 @@ module _ (told : Option Files) (failed : Option (List ℕ) → Type 0) (e : Name
   unread_cause (commands.Rehearse r) at read m =
       rehearsal_by r (at 0) (rest_of at) (input r.queries queries_in (at 0)) read.0 read.1 refl m
   unread_cause (commands.Sample s) at read m = absurd (not_ok (sample_done s) e m)
-  unread_cause (commands.Gather f) at read m =
-      step_unread (f.head ∷ f.pages) f.head head_in (at 0) (gather_after f (rest_of at)) head_read (inl refl) read.0
-      (λ j h. let c = pages_by f.job (length j.entries) f.pages (rest_of at) read.1
-      (done_err (gather_done f j) (pages_of f.job (length j.entries) f.pages (rest_of at)) e h) in (inr c.0, c.1)) m
+  unread_cause (commands.Gather f) at read m = longer_cause (sources.Pages f.log) f.head f.job f.pages (at 0) (rest_of at) read.0 read.1 m
+  unread_cause (commands.Merge f) at read m = longer_cause sources.Pieces f.head f.job f.pieces (at 0) (rest_of at) read.0 read.1 m
   unread_cause (commands.Audit a) at read m =
       audit_by a (at 0) (rest_of at) read.0 read.1 (store_or_jobs a (input a.store store_in (at 0)) (audit_jobs a.jobs (rest_of at)) e m u)
   unread_cause (commands.Place p) at read m = absurd (not_ok (place_done p) e m)
@@ -530,8 +563,9 @@ over_files files failed (commands.Rehearse r) at o seen read m =
     (λ h. seen (unread r.queries) h refl) read.0 (rehearsal_over files failed r (input r.queries queries_in (at 0)) (rest_of at) o seen read.1 m)
 over_files files failed (commands.Sample s) at o seen read m = m
 over_files files failed (commands.Gather f) at o seen read m =
-    after_over files failed f.head head_in (at 0) (gather_after f (rest_of at)) (gather_after f (held_under files f.pages)) o seen read.0
-    (λ j. pages_over files failed o seen f.job (length j.entries) f.pages (rest_of at) read.1 (λ entries. Ok (gather_done f j entries))) m
+    longer_over files failed (sources.Pages f.log) f.head f.job f.pages (at 0) (rest_of at) o seen read.0 read.1 m
+over_files files failed (commands.Merge f) at o seen read m =
+    longer_over files failed sources.Pieces f.head f.job f.pieces (at 0) (rest_of at) o seen read.0 read.1 m
 over_files files failed (commands.Audit a) at o seen read m =
     one_over files failed a.store (λ g. MakesAudit a (input a.store store_in g) (audit_jobs a.jobs (held_under files a.jobs)) o) (at 0)
     (λ h. seen (unread a.store) h refl) read.0

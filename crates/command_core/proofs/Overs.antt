@@ -5,7 +5,7 @@ use Rattle.std.specs.FinMap.{get}
 use Rattle.outside_core.specs.Files.{Files}
 use Rattle.input_core.specs.Queries.{Query}
 use Rattle.job_core.specs.JobFields.{JobFields}
-use Rattle.gather_core.specs.Pages.{PageFields}
+use Rattle.job_core.specs.JobLayout.{EntryText}
 use Rattle.ledger_core.specs.LedgerFields.{LedgerFields}
 use Rattle.part_text.specs.SealedFields.{SealedFields}
 use Rattle.publication_core.specs.Histories.{History, chain}
@@ -21,12 +21,14 @@ use Rattle.input_core.specs.Readings.{queries_in, job_in, ledger_in, store_in}
 use Rattle.input_core.specs.Certificates.{certificate_in, issuer_in}
 use Rattle.input_core.specs.Inputs.{Inputs, rest_of, IsRead, AreRead}
 use Rattle.command_core.specs.Commands.{◌>>=◌, input, query_makes, query_cert_makes, check_makes, show_makes, start_makes, install_makes}
-use Rattle.command_core.specs.Commands.{MakesSnapshot, MakesDelta, IsRefused, MakesRehearsal, head_in, page_in, room_for, pages_of, gather_done, Makes}
+use Rattle.command_core.specs.Commands.{MakesSnapshot, MakesDelta, IsRefused, MakesRehearsal, Makes}
+use Rattle.command_core.specs.declared.lengthening.Source.{Source}
+use Rattle.command_core.specs.Longer.{head_in, entries_by, room_for, entries_of, longer_done, longer_makes}
 use Rattle.command_core.specs.Audits.{unless, job_behind, jobs_behind, bad_crl, audit_jobs, MakesAudit}
 use Rattle.command_core.specs.Steps.{RehearsesOn}
 use Rattle.command_core.specs.Rebasings.{MakesRebase}
 use Rattle.command_core.specs.Replies.{held_under, held_by}
-use Rattle.command_core.proofs.Following.{install_after, page_last, page_then, cert_last, cert_then, cert_after}
+use Rattle.command_core.proofs.Following.{install_after, longer_after, entries_last, entries_then, cert_last, cert_then, cert_after}
 use Rattle.command_core.proofs.Results.{err_same, not_err}
 use Rattle.command_core.proofs.Prefixes.{first_of, from_first}
 
@@ -160,23 +162,34 @@ back_through : {A C B : Type 0} (r : Result A NamedFault) (one : A → Result C 
 back_through (Ok x) one next o m = m
 back_through (Err e) one next o m = m
 
--- pages, behind which a step follows
-pub pages_over : {B : Type 0} (files : Files) (failed : Option (List ℕ) → Type 0) (o : Result B NamedFault) → IsSeen o
-    → (job : List ℕ) (before : ℕ) (names : List (List ℕ)) (inputs : Inputs) → AreRead (Some files) failed names inputs
-    → (next : List PageFields → Result B NamedFault) → o ≡ (pages_of job before names inputs >>= next) → o ≡ (pages_of job before names (held_under files names) >>= next)
-pages_over files failed o seen job before [] inputs read next m = m
-pages_over files failed o seen job before (name ∷ names) inputs read next m =
+-- files whose entries are put behind a job, behind which a step follows
+pub entries_over : {B : Type 0} (files : Files) (failed : Option (List ℕ) → Type 0) (o : Result B NamedFault) → IsSeen o
+    → (source : Source) (epoch : ℕ) (job : List ℕ) (before : ℕ) (names : List (List ℕ)) (inputs : Inputs) → AreRead (Some files) failed names inputs
+    → (next : List EntryText → Result B NamedFault) → o ≡ (entries_of source epoch job before names inputs >>= next)
+    → o ≡ (entries_of source epoch job before names (held_under files names) >>= next)
+entries_over files failed o seen source epoch job before [] inputs read next m = m
+entries_over files failed o seen source epoch job before (name ∷ names) inputs read next m =
     let others = rest_of inputs in
     let held = held_under files names in
-    back_through (input name page_in (get files name)) (page_then job before names held) next o
-    (after_over files failed name page_in (inputs 0) (λ page. page_then job before names others page >>= next) (λ page. page_then job before names held page >>= next) o seen read.0
-    (λ page h. back_through (room_for job before page) (page_last job before names held) next o
-    (after_same (room_for job before page) (λ few. page_last job before names others few >>= next) (λ few. page_last job before names held few >>= next) o
-    (λ few k. back_through (pages_of job (before + length few) names held) (λ more. Ok (few ++ more)) next o
-    (pages_over files failed o seen job (before + length few) names others read.1 (λ more. next (few ++ more))
-    (through (pages_of job (before + length few) names others) (λ more. Ok (few ++ more)) next o k)))
-    (through (room_for job before page) (page_last job before names others) next o h)))
-    (through (input name page_in (inputs 0)) (page_then job before names others) next o m))
+    let then_ = entries_then source epoch job before names in
+    let last_ = entries_last source epoch job before names in
+    back_through (input name (entries_by source epoch) (get files name)) (then_ held) next o
+    (after_over files failed name (entries_by source epoch) (inputs 0) (λ x. then_ others x >>= next) (λ x. then_ held x >>= next) o seen read.0
+    (λ x h. back_through (room_for job before x) (last_ held) next o
+    (after_same (room_for job before x) (λ few. last_ others few >>= next) (λ few. last_ held few >>= next) o
+    (λ few k. back_through (entries_of source epoch job (before + length few) names held) (λ more. Ok (few ++ more)) next o
+    (entries_over files failed o seen source epoch job (before + length few) names others read.1 (λ more. next (few ++ more))
+    (through (entries_of source epoch job (before + length few) names others) (λ more. Ok (few ++ more)) next o k)))
+    (through (room_for job before x) (last_ others) next o h)))
+    (through (input name (entries_by source epoch) (inputs 0)) (then_ others) next o m))
+
+-- a longer job
+pub longer_over : (files : Files) (failed : Option (List ℕ) → Type 0) (source : Source) (head job : List ℕ) (names : List (List ℕ)) (given : Option (List ℕ)) (inputs : Inputs)
+    (o : Result Done NamedFault) → IsSeen o → IsRead (Some files) failed head given → AreRead (Some files) failed names inputs
+    → o ≡ longer_makes source head job names given inputs → o ≡ longer_makes source head job names (get files head) (held_under files names)
+longer_over files failed source head job names given inputs o seen first others m =
+    after_over files failed head head_in given (longer_after source job names inputs) (longer_after source job names (held_under files names)) o seen first
+    (λ j. entries_over files failed o seen source j.epoch job (length j.entries) names inputs others (λ entries. Ok (longer_done source job names j entries))) m
 
 -- jobs of an audit: they are those that the files hold, or one can't be read
 abbrev SameJobs : Files → List JobFields → List (List ℕ) → Inputs → Type 0

@@ -37,12 +37,14 @@ use Rattle.input_core.proofs.FilesRead.{later_read, none_failed, blamed_later}
 use Rattle.command_core.specs.ReplyFields.{ReplyFields, Done, NamedFault}
 use Rattle.command_core.specs.Audits.{audit_jobs, MakesAudit}
 use Rattle.command_core.specs.Commands.{◌>>=◌, named, input, query_done, check_done, show_done, begun, installed, stored, publication_done}
-use Rattle.command_core.specs.Commands.{head_in, MakesPart, MakesSnapshot, MakesDelta, MakesRehearsal, Makes}
+use Rattle.command_core.specs.declared.lengthening.Source.TheVariants as sources
+use Rattle.command_core.specs.Longer.{head_in}
+use Rattle.command_core.specs.Commands.{MakesPart, MakesSnapshot, MakesDelta, MakesRehearsal, Makes}
 use Rattle.command_core.specs.Rebasings.{base_done, MakesBase, MakesRebase}
 use Rattle.command_core.specs.Replies.{done, refusal, reply_of, SaysWhich, IsReply}
 use Rattle.command_core.specs.Answering.{reply_fields}
 use Rattle.command_core.proofs.Fronts.{ahead, these, some_reads}
-use Rattle.command_core.proofs.Following.{start_after, install_then, install_after, gather_after, cert_after}
+use Rattle.command_core.proofs.Following.{start_after, install_then, install_after, longer_after, cert_after}
 use Rattle.command_core.proofs.Results.{err_same, not_ok}
 
 -- ---- files
@@ -110,6 +112,7 @@ IsFirstFault (commands.Install i) at e = input i.store store_in (at 0) ≡ Err e
 IsFirstFault (commands.Rehearse r) at e = input r.queries queries_in (at 0) ≡ Err e
 IsFirstFault (commands.Sample s) at e = ⊥
 IsFirstFault (commands.Gather f) at e = input f.head head_in (at 0) ≡ Err e
+IsFirstFault (commands.Merge f) at e = input f.head head_in (at 0) ≡ Err e
 IsFirstFault (commands.Audit a) at e = input a.store store_in (at 0) ≡ Err e
 IsFirstFault (commands.Place p) at e = ⊥
 
@@ -130,7 +133,8 @@ first_fault (commands.Start t) at e h = stops (input t.part part_in (at 0)) (sta
 first_fault (commands.Install i) at e h = stops (input i.store store_in (at 0)) (install_after i (at 1)) e h
 first_fault (commands.Rehearse r) at e h = subst (λ (x : Result (List Query) NamedFault). MakesRehearsal r x (rest_of at) (Err e)) (sym h) refl
 first_fault (commands.Sample s) at e h = absurd h
-first_fault (commands.Gather f) at e h = stops (input f.head head_in (at 0)) (gather_after f (rest_of at)) e h
+first_fault (commands.Gather f) at e h = stops (input f.head head_in (at 0)) (longer_after (sources.Pages f.log) f.job f.pages (rest_of at)) e h
+first_fault (commands.Merge f) at e h = stops (input f.head head_in (at 0)) (longer_after sources.Pieces f.job f.pieces (rest_of at)) e h
 first_fault (commands.Audit a) at e h = subst (λ (x : Result (List SealedFields) NamedFault). MakesAudit a x (audit_jobs a.jobs (rest_of at)) (Err e)) (sym h) refl
 first_fault (commands.Place p) at e h = absurd h
 

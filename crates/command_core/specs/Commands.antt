@@ -7,10 +7,7 @@ use Rattle.ident_core.specs.declared.kind.Kind.TheVariants as kinds
 use Rattle.part_text.specs.SealedFields.{SealedFields}
 use Rattle.input_core.specs.Queries.{Query}
 use Rattle.sample_core.specs.Sample.{sample_text, sample_revoked}
-use Rattle.gather_core.specs.Pages.{PageFields}
-use Rattle.gather_core.specs.Raw.{with_entries, of_log}
 use Rattle.job_core.specs.declared.bounds.TheConstants.Limits as limits
-use Rattle.job_core.specs.JobText.{JobContents, spelling as job_text}
 use Rattle.job_core.specs.JobFields.{JobFields}
 use Rattle.job_core.specs.JobFacts.{FitsFields, IsWithinLimits}
 use Rattle.ledger_core.specs.LedgerFields.{LedgerFields}
@@ -33,8 +30,8 @@ use Rattle.word_core.specs.declared.command.Command.{Command}
 use Rattle.word_core.specs.declared.command.Command.TheVariants as commands
 use Rattle.word_core.specs.declared.command.{Query.Query as StoreQuery, QueryCert.QueryCert, Snapshot.Snapshot}
 use Rattle.word_core.specs.declared.command.{Delta.Delta, Start.Start, Install.Install, Rehearse.Rehearse}
-use Rattle.word_core.specs.declared.command.{Sample.Sample, Gather.Gather, Place.Place}
-use Rattle.line_core.specs.Lines.{line, check_line, show_text, store_line, report_line, sample_line, gather_line, place_line}
+use Rattle.word_core.specs.declared.command.{Sample.Sample, Gather.Gather, Merge.Merge, Place.Place}
+use Rattle.line_core.specs.Lines.{line, check_line, show_text, store_line, report_line, sample_line, place_line}
 pub use Rattle.line_core.specs.Lines.{verdict_word}
 use Rattle.input_core.specs.declared.certificates.Certificate.{Certificate}
 use Rattle.input_core.specs.declared.fault.FileFault.{FileFault}
@@ -44,7 +41,8 @@ use Rattle.command_core.specs.ReplyFields.{Done, NamedFault}
 use Rattle.input_core.specs.Inputs.{Inputs, rest_of}
 use Rattle.input_core.specs.Readings.{queries_in, job_in, ledger_in, part_in, store_in}
 use Rattle.input_core.specs.Certificates.{certificate_in, issuer_in}
-pub use Rattle.command_core.specs.PageFiles.{head_in, page_in, room_for}
+use Rattle.command_core.specs.declared.lengthening.Source.TheVariants as sources
+use Rattle.command_core.specs.Longer.{longer_makes}
 pub use Rattle.command_core.specs.Outcomes.{◌>>=◌, named, input, only, both_files}
 use Rattle.command_core.specs.Audits.{audit_jobs, MakesAudit}
 use Rattle.command_core.specs.Rebasings.{MakesRebase}
@@ -230,33 +228,13 @@ sample_done s = record {
   outputs = record { name = s.job; bytes = sample_text s.number s.count } ∷ [];
 }
 
--- ---- gathering
-
--- The entries of the pages, behind so many others. Each page is read and then its entries are counted, before the next.
-abbrev pub pages_of : (job : List ℕ) (before : ℕ) → List (List ℕ) → Inputs → Result (List PageFields) NamedFault
-pages_of job before [] inputs = Ok []
-pages_of job before (name ∷ names) inputs = do
-  read ← input name page_in (inputs 0)
-  page ← room_for job before read
-  others ← pages_of job (before + length page) names (rest_of inputs)
-  Ok (page ++ others)
-
--- the job with these entries of the log behind its own
-abbrev pub longer : Gather → JobContents → List PageFields → JobContents
-longer g head entries = with_entries head (map (of_log g.log) entries)
-
--- how many pages and entries there are, and how many bytes the job has
-abbrev pub gather_done : Gather → JobContents → List PageFields → Done
-gather_done g head entries = record {
-  text = gather_line (length g.pages) (length entries) (length (job_text (longer g head entries)));
-  outputs = record { name = g.job; bytes = job_text (longer g head entries) } ∷ [];
-}
-
+-- the job with the pages' entries, of the log, behind its own
 abbrev pub gather_makes : Gather → Option (List ℕ) → Inputs → Result Done NamedFault
-gather_makes g head inputs = do
-  j ← input g.head head_in head
-  entries ← pages_of g.job (length j.entries) g.pages inputs
-  Ok (gather_done g j entries)
+gather_makes g head inputs = longer_makes (sources.Pages g.log) g.head g.job g.pages head inputs
+
+-- the job with the pieces' entries behind its own
+abbrev pub merge_makes : Merge → Option (List ℕ) → Inputs → Result Done NamedFault
+merge_makes m head inputs = longer_makes sources.Pieces m.head m.job m.pieces head inputs
 
 -- ---- places
 
@@ -281,5 +259,6 @@ Makes (commands.Install i) at o = o ≡ install_makes i (at 0) (at 1)
 Makes (commands.Rehearse r) at o = MakesRehearsal r (input r.queries queries_in (at 0)) (rest_of at) o
 Makes (commands.Sample s) at o = o ≡ Ok (sample_done s)
 Makes (commands.Gather g) at o = o ≡ gather_makes g (at 0) (rest_of at)
+Makes (commands.Merge m) at o = o ≡ merge_makes m (at 0) (rest_of at)
 Makes (commands.Audit a) at o = MakesAudit a (input a.store store_in (at 0)) (audit_jobs a.jobs (rest_of at)) o
 Makes (commands.Place p) at o = o ≡ Ok (place_done p)

@@ -2,9 +2,9 @@ pub mod Statuses
 pub mod ReplyFields
 pub mod Digested
 pub mod Faults
-pub mod Gathers
-pub mod PageFiles
 pub mod Outcomes
+pub mod Longer
+pub mod LongerJobs
 pub mod Audits
 pub mod AuditJobs
 pub mod Rebasings

@@ -11,8 +11,8 @@ mod answer;
 mod auditing;
 mod commands;
 mod fault;
-mod gathering;
 mod laws;
+mod lengthening;
 mod output;
 mod pieces;
 mod placing;
@@ -25,8 +25,9 @@ mod storing;
 pub use answer::Answer;
 use auditing::answer_audit;
 use commands::{answer_check, answer_query, answer_query_cert, answer_show};
-use gathering::answer_gather;
 pub use laws::{rehearsals_go_file_by_file, replies_are_unique, replies_exist, workers_are_free};
+pub use lengthening::Source;
+use lengthening::{answer_gather, answer_merge};
 use octets_core::NoMemory;
 pub use output::{Output, SampleOutput, write_outputs};
 use outside_core::Depot;
@@ -70,6 +71,7 @@ pub fn answer_to<'a, R: Threads + Sync, G: Gate + Sync, D: Depot>(
         Command::Rehearse(asked) => answer_rehearse(rt, alloc, gate, asked, depot),
         Command::Sample(asked) => answer_sample(alloc, asked),
         Command::Gather(asked) => answer_gather(alloc, asked, depot),
+        Command::Merge(asked) => answer_merge(alloc, asked, depot),
         Command::Audit(asked) => answer_audit(alloc, asked, depot),
         Command::Place(asked) => Ok(answer_place(asked)),
     }

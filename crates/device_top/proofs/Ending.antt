@@ -35,6 +35,7 @@ file_status name (faults.BadCrl place fault) of = absurd of
 file_status name (faults.TooMany what limit) of = absurd of
 file_status name (faults.Seeds issuer stage) of = absurd of
 file_status name (faults.BadCert fault) of = absurd of
+file_status name (faults.OtherEpoch held given) of = absurd of
 file_status name (faults.BadPage fault) of = absurd of
 file_status name (faults.Disagrees job entry held truth) of = absurd of
 
@@ -49,6 +50,7 @@ wants name (faults.BadCrl place fault) of is = absurd of
 wants name (faults.TooMany what limit) of is = absurd of
 wants name (faults.Seeds issuer stage) of is = absurd of
 wants name (faults.BadCert fault) of is = absurd of
+wants name (faults.OtherEpoch held given) of is = absurd of
 wants name (faults.BadPage fault) of is = absurd of
 wants name (faults.Disagrees job entry held truth) of is = absurd of
 

@@ -5,5 +5,6 @@ pub mod Sorting
 pub mod Reread
 pub mod Fronts
 pub mod Joining
+pub mod Taken
 pub mod Reading
 pub mod NoReads

@@ -3,6 +3,7 @@ use Rattle.std.proofs.Common.{◌≡◌, ℕ, ◌+◌, ◌≤◌, List, [], ◌�
 use Rattle.std.specs.Prelude.{Option}
 use Rattle.std.proofs.lemmas.List.{append_cancel_left, append-nil}
 use Rattle.octets_core.proofs.Fields.{ok_is}
+use Rattle.job_core.specs.declared.bounds.Limits.{Limits}
 use Rattle.job_core.specs.declared.bounds.TheConstants.Limits as limits
 use Rattle.job_core.specs.declared.fault.JobFault.{JobFault}
 use Rattle.job_core.specs.JobLayout.{Held, nothing_held, Item, OneRange, OneCrl, OneEntry, next_item, with_item}
@@ -10,7 +11,7 @@ use Rattle.job_core.specs.JobText.{record_text, FitsItem, Pass}
 use Rattle.job_core.specs.Reader.{no_serials}
 use Rattle.job_core.proofs.RecordTexts.{next-read}
 use Rattle.job_core.proofs.Passing.{texts_of}
-use Rattle.gather_core.specs.Raw.{entries_in}
+use Rattle.gather_core.specs.Raw.{ranges_in, entries_in}
 
 -- it might be the first record of a job
 abbrev pub Fits : Item → Type 0
@@ -20,15 +21,15 @@ abbrev pub AllFit : List Item → Type 0
 AllFit [] = Unit {0}
 AllFit (x ∷ xs) = Fits x × AllFit xs
 
--- a record that passes fits
-fits-first : (h : Held) (x : Item) → FitsItem limits.PUBLISHED h x → Fits x
-fits-first h (OneRange r) fits = (((refl, fits.0.0.1), fits.0.1), omega arith, omega arith)
-fits-first h (OneCrl c) fits = (fits.0, omega arith, omega arith)
-fits-first h (OneEntry e) fits = (fits.0, omega arith, omega arith)
+-- a record that passes, whatever the limits, fits
+fits-first : (l : Limits) (h : Held) (x : Item) → FitsItem l h x → Fits x
+fits-first l h (OneRange r) fits = (((refl, fits.0.0.1), fits.0.1), omega arith, omega arith)
+fits-first l h (OneCrl c) fits = (fits.0, omega arith, omega arith)
+fits-first l h (OneEntry e) fits = (fits.0, omega arith, omega arith)
 
-pub pass-fits : (h : Held) (serials : ℕ) (xs : List Item) → Pass no_serials limits.PUBLISHED h serials xs → AllFit xs
-pass-fits h serials [] pass = tt
-pass-fits h serials (x ∷ xs) pass = (fits-first h x pass.0, pass-fits (with_item h x) _ xs pass.2)
+pub pass-fits : (l : Limits) (h : Held) (serials : ℕ) (xs : List Item) → Pass no_serials l h serials xs → AllFit xs
+pass-fits l h serials [] pass = tt
+pass-fits l h serials (x ∷ xs) pass = (fits-first l h x pass.0, pass-fits l (with_item h x) _ xs pass.2)
 
 -- what a record is read as, whatever follows
 read_as : (x : Item) (a : List ℕ) → Fits x → next_item limits.PUBLISHED nothing_held (record_text x ++ a) 0 ≡ Ok (Some x, 0 + length (record_text x))
@@ -66,14 +67,21 @@ pub fits-more : (xs : List Item) (x : Item) → AllFit xs → Fits x → AllFit 
 fits-more [] x all fits = (fits, tt)
 fits-more (y ∷ ys) x all fits = (all.0, fits-more ys x all.1 fits)
 
+pub ranges-more : (xs : List Item) (x : Item) → length (ranges_in (xs ++ x ∷ [])) ≡ length (ranges_in xs) + length (ranges_in (x ∷ []))
+ranges-more [] x = omega arith
+ranges-more (OneRange r ∷ ys) x = omega (arith, ranges-more ys x)
+ranges-more (OneCrl c ∷ ys) x = ranges-more ys x
+ranges-more (OneEntry e ∷ ys) x = ranges-more ys x
+
 pub entries-more : (xs : List Item) (x : Item) → length (entries_in (xs ++ x ∷ [])) ≡ length (entries_in xs) + length (entries_in (x ∷ []))
 entries-more [] x = omega arith
 entries-more (OneRange r ∷ ys) x = entries-more ys x
 entries-more (OneCrl c ∷ ys) x = entries-more ys x
 entries-more (OneEntry e ∷ ys) x = omega (arith, entries-more ys x)
 
-pub entries-few : (xs : List Item) → length (entries_in xs) ≤ length (texts_of xs)
-entries-few [] = omega arith
-entries-few (OneRange r ∷ ys) = omega (arith, entries-few ys, length-append (record_text (OneRange r)) (texts_of ys))
-entries-few (OneCrl c ∷ ys) = omega (arith, entries-few ys, length-append (record_text (OneCrl c)) (texts_of ys))
-entries-few (OneEntry e ∷ ys) = omega (arith, entries-few ys, some_text (OneEntry e), length-append (record_text (OneEntry e)) (texts_of ys))
+-- ranges and entries have texts
+pub texts-few : (xs : List Item) → length (ranges_in xs) + length (entries_in xs) ≤ length (texts_of xs)
+texts-few [] = omega arith
+texts-few (OneRange r ∷ ys) = omega (arith, texts-few ys, some_text (OneRange r), length-append (record_text (OneRange r)) (texts_of ys))
+texts-few (OneCrl c ∷ ys) = omega (arith, texts-few ys, length-append (record_text (OneCrl c)) (texts_of ys))
+texts-few (OneEntry e ∷ ys) = omega (arith, texts-few ys, some_text (OneEntry e), length-append (record_text (OneEntry e)) (texts_of ys))

@@ -1,25 +1,58 @@
 -- What an open job stands for.
-use Rattle.std.specs.Prelude.{◌≡◌, ℕ, List, length, Result, Ok, Err}
+use Rattle.std.specs.Prelude.{◌≡◌, ℕ, List, length, flat_map, All, Result, Ok, Err}
 use Rattle.job_core.specs.declared.bounds.TheConstants.Limits as limits
+use Rattle.job_core.specs.declared.bounds.Limits.{Limits}
 use Rattle.job_core.specs.declared.fault.JobFault.{JobFault}
 use Rattle.job_core.specs.declared.reader.Record.{Record}
 use Rattle.job_core.specs.declared.reader.Record.TheVariants as records
-use Rattle.job_core.specs.JobText.{JobContents, FitsJob, spelling}
+use Rattle.job_core.specs.JobLayout.{EntryText}
+use Rattle.job_core.specs.JobText.{JobContents, FitsEntry, FitsJob, entry_record, spelling}
 use Rattle.job_core.specs.Pulling.{IsOfBytes}
+use Rattle.gather_core.specs.declared.counting.Tally.{Tally}
 use Rattle.gather_core.specs.declared.job.OpenJob.{OpenJob}
+use Rattle.gather_core.specs.declared.texts.EntryTexts.{EntryTexts}
 use Rattle.gather_core.specs.Raw.{raw_job, opened_text}
 
--- how many entries it has
+-- its epoch, and how many entries it has
+abbrev pub epoch_of : OpenJob → ℕ
+epoch_of o = o.epoch
+
 abbrev pub entries_of : OpenJob → ℕ
 entries_of o = o.entries
 
 -- its text is that of the job, without the end; it counts its entries; and the job fits its layout
 pub record Opens (o : OpenJob) (j : JobContents) : Type 0 where
   pub text : o.text.items ≡ opened_text j
+  pub epoch : o.epoch ≡ j.epoch
   pub count : o.entries ≡ length j.entries
   pub fits : FitsJob limits.PUBLISHED j
 
--- how many entries a record is
+abbrev pub count_of : EntryTexts → ℕ
+count_of t = t.count
+
+-- The text is that of the entries, one behind the other; it counts them; and each fits its record.
+pub record Holds (t : EntryTexts) (entries : List EntryText) : Type 0 where
+  pub text : t.text.items ≡ flat_map entry_record entries
+  pub count : t.count ≡ length entries
+  pub fit : All FitsEntry entries
+
+-- ---- records that are counted
+
+abbrev pub epoch_given : ℕ → Record → ℕ
+epoch_given before (records.Begin epoch moment) = epoch
+epoch_given before (records.Range r) = before
+epoch_given before (records.Crl c) = before
+epoch_given before (records.Entry e) = before
+epoch_given before records.End = before
+
+-- how many ranges a record is, and how many entries
+abbrev pub ranges_given : Record → ℕ
+ranges_given (records.Begin epoch moment) = 0
+ranges_given (records.Range r) = 1
+ranges_given (records.Crl c) = 0
+ranges_given (records.Entry e) = 0
+ranges_given records.End = 0
+
 abbrev pub entries_given : Record → ℕ
 entries_given (records.Begin epoch moment) = 0
 entries_given (records.Range r) = 0
@@ -27,9 +60,9 @@ entries_given (records.Crl c) = 0
 entries_given (records.Entry e) = 1
 entries_given records.End = 0
 
--- so many entries has the job of the bytes, which are its text; or that is their fault
-abbrev pub Counts : List ℕ → Result ℕ JobFault → Type 0
-Counts bytes (Ok n) =
-    (j : JobContents) × (raw_job limits.PUBLISHED bytes ≡ Ok j) × (bytes ≡ spelling j) × FitsJob limits.PUBLISHED j
-    × (n ≡ length j.entries)
-Counts bytes (Err e) = IsOfBytes e → raw_job limits.PUBLISHED bytes ≡ Err e
+-- so much has the job of the bytes, which are its text; or that is their fault
+abbrev pub Counts : Limits → List ℕ → Result Tally JobFault → Type 0
+Counts limits bytes (Ok n) =
+    (j : JobContents) × (raw_job limits bytes ≡ Ok j) × (bytes ≡ spelling j) × FitsJob limits j
+    × (n.epoch ≡ j.epoch) × (n.ranges ≡ length j.ranges) × (n.entries ≡ length j.entries)
+Counts limits bytes (Err e) = IsOfBytes e → raw_job limits bytes ≡ Err e

@@ -3,6 +3,7 @@ use Rattle.std.specs.Prelude.{ℕ, List, [], ◌∷◌, ◌++◌, flat_map, Resu
 use Rattle.octets_core.specs.Reading.{value_of}
 use Rattle.ident_core.specs.declared.range.Range.{Range}
 use Rattle.job_core.specs.declared.bounds.Limits.{Limits}
+use Rattle.job_core.specs.declared.bounds.TheConstants.Limits as limits
 use Rattle.job_core.specs.declared.fault.JobFault.{JobFault}
 use Rattle.job_core.specs.JobLayout.{CrlText, EntryText, Item, OneRange, OneCrl, OneEntry, JobTexts, job}
 use Rattle.job_core.specs.JobText.{JobContents, opening_text, range_record, crl_record, entry_record}
@@ -45,6 +46,10 @@ raw_by (Err e) = Err e
 -- what the records of a job hold, or the first fault of its layout; no CRL is read, so that none brings serials
 abbrev pub raw_job : Limits → List ℕ → Result JobContents JobFault
 raw_job limits bytes = raw_by (value_of (job no_serials limits bytes 0))
+
+-- the limits of a piece: those that are published, with no CRL
+abbrev pub piece_limits : Limits
+piece_limits = record limits.PUBLISHED { crls = 0 }
 
 -- ---- with entries behind its own
 

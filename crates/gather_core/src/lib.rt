@@ -5,7 +5,9 @@ mod counting;
 mod fault;
 mod job;
 mod page;
+mod texts;
 
 pub use fault::PageFault;
 pub use job::OpenJob;
 pub use page::{MAX_DATA, MAX_PAGE, PageEntry, read_page};
+pub use texts::{EntryTexts, Piece, read_piece};

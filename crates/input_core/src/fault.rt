@@ -28,6 +28,11 @@ pub enum FileFault {
         place: u32,
         fault: CrlFault,
     },
+    /// A piece of a job has another epoch (`given`) than the job (`held`).
+    OtherEpoch {
+        held: u64,
+        given: u64,
+    },
     /// There is one more than the limit.
     TooMany {
         what: What,

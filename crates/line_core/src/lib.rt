@@ -14,7 +14,7 @@ pub use about::{
 };
 pub use device::{device_line, full_line};
 pub use line::{
-    Line, audited, checked, disagreement_line, gathered, placed, rebased, rebased_without,
+    Line, audited, checked, disagreement_line, gathered, merged, placed, rebased, rebased_without,
     reported, sampled, seeds_line, stored, verdict_line,
 };
 pub use show::write_sealed;

@@ -4,8 +4,8 @@ ghost use Rattle.std.specs.Prelude.{◌≡◌, ◌+◌, ◌*◌, ◌≤◌, [], 
 ghost use Rattle.hex.specs.Hex.{encode_lower};
 ghost use Rattle.part_text.specs.PartText.{width_of};
 ghost use Rattle.line_core.specs.Lines.{stage_words, approx_words, mixed_words, leaf_words, body_words, note_line, report_line};
-ghost use Rattle.line_core.specs.Lines.{store_line, rebase_line, rebase_without_line, sample_line, gather_line};
-ghost use Rattle.line_core.specs.Lines.{place_line, audit_line, disagreement_line, verdict_line};
+ghost use Rattle.line_core.specs.Lines.{store_line, rebase_line, rebase_without_line, sample_line, longer_line};
+ghost use Rattle.line_core.specs.Lines.{gather_line, merge_line, place_line, audit_line, disagreement_line, verdict_line};
 ghost use Rattle.line_core.specs.Lines.{head_line, range_line, block_line, shard_line, trailer_line};
 ghost use Rattle.line_core.specs.Lines.{seeds_line};
 
@@ -252,16 +252,31 @@ pub fn sampled(number: u64, count: u32, revoked: u32, bytes: u64) -> Line
     line
 }
 
-/// `gather pages P entries N bytes B`
-pub fn gathered(pages: usize, entries: u64, bytes: u64) -> Line
-    ensures { result ≡ gather_line pages entries bytes }
+/// These words and how many files there are, with how many entries these have and how many bytes the longer job has.
+fn longer_line(words: &[u8], files: usize, entries: u64, bytes: u64) -> Line
+    requires { length words.now ≤ 64 }
+    ensures { result ≡ longer_line words.now files entries bytes }
 {
     let mut line = Line::new();
-    line.push_count(b"gather pages ", pages as u64);
+    line.push_count(words, files as u64);
     line.push_count(b" entries ", entries);
     line.push_count(b" bytes ", bytes);
     line.push(b"\n");
     line
+}
+
+/// `gather pages P entries N bytes B`
+pub fn gathered(pages: usize, entries: u64, bytes: u64) -> Line
+    ensures { result ≡ gather_line pages entries bytes }
+{
+    longer_line(b"gather pages ", pages, entries, bytes)
+}
+
+/// `merge pieces P entries N bytes B`
+pub fn merged(pieces: usize, entries: u64, bytes: u64) -> Line
+    ensures { result ≡ merge_line pieces entries bytes }
+{
+    longer_line(b"merge pieces ", pieces, entries, bytes)
 }
 
 /// `place P of COUNT`

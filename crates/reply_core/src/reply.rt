@@ -119,6 +119,9 @@ impl<'a> Reply<'a> {
             FileFault::BadCrl { place, fault } => {
                 Ok(Reply::of(Status::BAD_CRL, crl_line(place, fault, name)))
             }
+            FileFault::OtherEpoch { held, given } => {
+                Ok(Reply::of(Status::CHAIN, epoch_line(held, given, name)))
+            }
             FileFault::TooMany { what, limit } => {
                 Ok(Reply::of(Status::TOO_MANY, limit_line(what, limit, name)))
             }

@@ -13,9 +13,9 @@ use Rattle.ident_core.specs.declared.range.Sighting.{Sighting}
 use Rattle.place_core.specs.declared.place.By.{By}
 use Rattle.place_core.specs.declared.place.By.TheVariants as ways
 use Rattle.place_core.specs.Places.{place_count}
-use Rattle.word_core.specs.declared.command.TheConstants.{MAX_PAGES, MAX_SIGHTINGS, MAX_WITHOUT}
+use Rattle.word_core.specs.declared.command.TheConstants.{MAX_PAGES, MAX_PIECES, MAX_SIGHTINGS, MAX_WITHOUT}
 use Rattle.word_core.specs.declared.command.{Audit.Audit, Command.Command, Delta.Delta, Gather.Gather, Install.Install}
-use Rattle.word_core.specs.declared.command.{Place.Place, Query.Query}
+use Rattle.word_core.specs.declared.command.{Merge.Merge, Place.Place, Query.Query}
 use Rattle.word_core.specs.declared.command.{QueryCert.QueryCert, Rebase.Rebase, Rehearse.Rehearse, Sample.Sample}
 use Rattle.word_core.specs.declared.command.{Snapshot.Snapshot, Start.Start}
 use Rattle.word_core.specs.declared.command.Command.TheVariants as commands
@@ -172,9 +172,13 @@ names_of (word ∷ rest) = do
   others ← names_of rest
   Some (name ∷ others)
 
--- one name or more, and no more than a chain may have parts
+-- one name or more, and no more than so many
+abbrev pub names_within : ℕ → List (List ℕ) → Option (List (List ℕ))
+names_within most words = if within 1 most (length words) then names_of words else None
+
+-- no more than a chain may have parts
 abbrev pub jobs_of : List (List ℕ) → Option (List (List ℕ))
-jobs_of words = if within 1 MAX_PARTS (length words) then names_of words else None
+jobs_of words = names_within MAX_PARTS words
 
 -- QUERIES WORKERS, and the jobs
 abbrev pub rehearse_of : List (List ℕ) → Option Rehearse
@@ -208,18 +212,22 @@ sample_of (number ∷ count ∷ job ∷ []) = do
   Some (record { number = n; count = c; job = j })
 sample_of words = None
 
--- one name or more, and no more than may be gathered
-abbrev pub pages_of : List (List ℕ) → Option (List (List ℕ))
-pages_of words = if within 1 MAX_PAGES (length words) then names_of words else None
-
 -- HEAD LOG JOB, and the pages
 abbrev pub gather_of : List (List ℕ) → Option Gather
 gather_of (head ∷ log ∷ job ∷ pages) = do
   names ← two_names_of head job
   l ← key_word log
-  p ← pages_of pages
+  p ← names_within MAX_PAGES pages
   Some (record { head = names.0; log = l; job = names.1; pages = p })
 gather_of words = None
+
+-- HEAD JOB, and the pieces
+abbrev pub merge_of : List (List ℕ) → Option Merge
+merge_of (head ∷ job ∷ pieces) = do
+  names ← two_names_of head job
+  p ← names_within MAX_PIECES pieces
+  Some (record { head = names.0; job = names.1; pieces = p })
+merge_of words = None
 
 -- issuer or identity
 abbrev pub by_of : List ℕ → Option By
@@ -260,6 +268,7 @@ writes_of command words =
     else if bytes_eq command (codes "install") then asks commands.Install (install_of words)
     else if bytes_eq command (codes "sample") then asks commands.Sample (sample_of words)
     else if bytes_eq command (codes "gather") then asks commands.Gather (gather_of words)
+    else if bytes_eq command (codes "merge") then asks commands.Merge (merge_of words)
     else commands.Usage
 
 -- what a word and those behind it ask for, of files of any names
@@ -287,6 +296,7 @@ inputs_of (commands.Start start) = start.part ∷ []
 inputs_of (commands.Install install) = install.store ∷ install.part ∷ []
 inputs_of (commands.Rehearse rehearse) = rehearse.queries ∷ rehearse.jobs
 inputs_of (commands.Gather gather) = gather.head ∷ gather.pages
+inputs_of (commands.Merge merge) = merge.head ∷ merge.pieces
 inputs_of (commands.Audit audit) = audit.store ∷ audit.jobs
 -- each other command reads none
 inputs_of command = []
@@ -300,6 +310,7 @@ outputs_of (commands.Start start) = start.store ∷ []
 outputs_of (commands.Install install) = install.new_store ∷ []
 outputs_of (commands.Sample sample) = sample.job ∷ []
 outputs_of (commands.Gather gather) = gather.job ∷ []
+outputs_of (commands.Merge merge) = merge.job ∷ []
 -- each other command writes none
 outputs_of command = []
 

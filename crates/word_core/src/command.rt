@@ -1,5 +1,8 @@
 //! What the words of a call ask for. The words lend the names of files.
 
+ghost use Rattle.std.specs.Prelude.{◌≡◌, [], ◌∷◌};
+ghost use Rattle.word_core.specs.Words.{are_apart};
+
 use crate::bounded::{Listed, SampleCount, Workers};
 use crate::words::are_apart;
 use ident_core::{Identity, MAX_PARTS, Sighting};
@@ -12,6 +15,9 @@ pub const MAX_SIGHTINGS: usize = 64;
 
 /// The most pages that one call gathers.
 pub const MAX_PAGES: usize = 1024;
+
+/// The most pieces that one call merges.
+pub const MAX_PIECES: usize = 1024;
 
 /// The most issuers that one call leaves out.
 pub const MAX_WITHOUT: usize = 1024;
@@ -151,6 +157,15 @@ pub struct Gather<'a> {
     pub pages: Listed<FileName<'a>, 1, MAX_PAGES>,
 }
 
+/// Pieces of a job, whose entries are put behind those of the job in the file `head`. The longer job is written to the
+/// file `job`.
+#[derive(Debug, Drop)]
+pub struct Merge<'a> {
+    pub head: FileName<'a>,
+    pub job: FileName<'a>,
+    pub pieces: Listed<FileName<'a>, 1, MAX_PIECES>,
+}
+
 /// The place of a certificate among so many.
 #[derive(Debug, Drop)]
 pub struct Place {
@@ -188,10 +203,19 @@ pub enum Command<'a> {
     Sample(Sample<'a>),
     /// To write a job with the entries of a log's pages behind its own.
     Gather(Gather<'a>),
+    /// To write a job with the entries of pieces behind its own.
+    Merge(Merge<'a>),
     /// Whether a store, whoever built it, says the truth of what jobs accept.
     Audit(Audit<'a>),
     /// In which of so many histories a certificate is.
     Place(Place),
+}
+
+/// Whether a longer job has neither the name of its head nor that of a file whose entries are put behind it.
+fn is_longer_apart(head: &FileName<'_>, job: &FileName<'_>, files: &[FileName<'_>]) -> bool
+    ensures { result ≡ are_apart (head.now ∷ files.now) (job.now ∷ []) }
+{
+    are_apart(&[head.again()], &[job.again()]) && are_apart(files, &[job.again()])
 }
 
 impl Command<'_> {
@@ -221,9 +245,10 @@ impl Command<'_> {
                 &[asked.new_store.again()],
             ),
             Command::Gather(asked) => {
-                let pages = asked.pages.as_slice();
-                are_apart(&[asked.head.again()], &[asked.job.again()])
-                    && are_apart(pages, &[asked.job.again()])
+                is_longer_apart(&asked.head, &asked.job, asked.pages.as_slice())
+            }
+            Command::Merge(asked) => {
+                is_longer_apart(&asked.head, &asked.job, asked.pieces.as_slice())
             }
             _ => true,
         }

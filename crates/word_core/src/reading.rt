@@ -3,18 +3,18 @@
 ghost use Rattle.std.specs.Prelude.{◌≡◌, ℕ, List, ◌∷◌, IfOk, IsOk, map, string_bytes};
 ghost use Rattle.word_core.specs.Words.{command_of, asked_of, writes_of, query_of, query_cert_of, name_alone};
 ghost use Rattle.word_core.specs.Words.{snapshot_of, delta_of, rebase_of, rebase_without_of, start_of, install_of};
-ghost use Rattle.word_core.specs.Words.{jobs_of, rehearse_of, audit_of, sample_of, gather_of, place_of};
+ghost use Rattle.word_core.specs.Words.{names_within, rehearse_of, audit_of, sample_of, gather_of, merge_of, place_of};
 
 use crate::bounded::Listed;
 use crate::command::{
-    Audit, Command, Delta, FileName, Gather, Install, MAX_PAGES, MAX_SIGHTINGS, MAX_WITHOUT, Place,
+    Audit, Command, Delta, FileName, Gather, Install, MAX_SIGHTINGS, MAX_WITHOUT, Merge, Place,
     Query, QueryCert, Rebase, Rehearse, Sample, Snapshot, Start,
 };
 use crate::words::{
     by_word, count_word, key_word, number_word, places_word, read_keys, read_name, read_names,
     read_pairs, read_two_names, serial_word, workers_word,
 };
-use ident_core::{Identity, MAX_PARTS};
+use ident_core::Identity;
 use octets_core::{Key32, NoMemory};
 use std::alloc::Global;
 
@@ -172,14 +172,14 @@ fn read_install(words: &[String]) -> Option<Install<'_>>
     })
 }
 
-/// The names of jobs that words spell, if they spell some and not too many.
-fn read_jobs(
+/// The names that words spell, if they spell some and not too many.
+fn read_listed<const MAX: usize>(
     alloc: Global,
     words: &[String],
-) -> Result<Option<Listed<FileName<'_>, 1, MAX_PARTS>>, NoMemory>
-    ensures { IfOk result (λ o. o ≡ jobs_of (map string_bytes words.now)) }
+) -> Result<Option<Listed<FileName<'_>, 1, MAX>>, NoMemory>
+    ensures { IfOk result (λ o. o ≡ names_within MAX (map string_bytes words.now)) }
 {
-    if words.is_empty() || words.len() > MAX_PARTS {
+    if words.is_empty() || words.len() > MAX {
         return Ok(None);
     }
     let Some(names) = read_names(alloc, words)? else {
@@ -200,7 +200,7 @@ fn rehearse_named<'a>(
     let Some(workers) = workers_word(workers) else {
         return Ok(None);
     };
-    let Some(jobs) = read_jobs(alloc, jobs)? else {
+    let Some(jobs) = read_listed(alloc, jobs)? else {
         return Ok(None);
     };
     let Some(queries) = read_name(queries) else {
@@ -235,7 +235,7 @@ fn read_audit(alloc: Global, words: &[String]) -> Result<Option<Audit<'_>>, NoMe
     let [store, jobs @ ..] = words else {
         return Ok(None);
     };
-    let Some(jobs) = read_jobs(alloc, jobs)? else {
+    let Some(jobs) = read_listed(alloc, jobs)? else {
         return Ok(None);
     };
     let Some(store) = read_name(store.as_str()) else {
@@ -270,18 +270,31 @@ fn read_gather(alloc: Global, words: &[String]) -> Result<Option<Gather<'_>>, No
     let Some(log) = key_word(log.as_str()) else {
         return Ok(None);
     };
-    if pages.is_empty() || pages.len() > MAX_PAGES {
-        return Ok(None);
-    }
-    let Some(pages) = read_names(alloc, pages)? else {
+    let Some(pages) = read_listed(alloc, pages)? else {
         return Ok(None);
     };
     Ok(Some(Gather {
         head,
         log,
         job,
-        pages: Listed::new(pages),
+        pages,
     }))
+}
+
+/// The job with pieces behind it that words spell, if they spell one.
+fn read_merge(alloc: Global, words: &[String]) -> Result<Option<Merge<'_>>, NoMemory>
+    ensures { IfOk result (λ m. m ≡ merge_of (map string_bytes words.now)) }
+{
+    let [head, job, pieces @ ..] = words else {
+        return Ok(None);
+    };
+    let Some((head, job)) = read_two_names(head.as_str(), job.as_str()) else {
+        return Ok(None);
+    };
+    let Some(pieces) = read_listed(alloc, pieces)? else {
+        return Ok(None);
+    };
+    Ok(Some(Merge { head, job, pieces }))
 }
 
 /// The place of a certificate that words ask for, if they do.
@@ -325,6 +338,7 @@ fn read_writing<'a>(
         "install" => Ok(read_install(rest).map_or(Command::Usage, Command::Install)),
         "sample" => Ok(read_sample(rest).map_or(Command::Usage, Command::Sample)),
         "gather" => Ok(read_gather(alloc, rest)?.map_or(Command::Usage, Command::Gather)),
+        "merge" => Ok(read_merge(alloc, rest)?.map_or(Command::Usage, Command::Merge)),
         _ => Ok(Command::Usage),
     }
 }
@@ -356,8 +370,8 @@ fn read_command<'a>(
 }
 
 /// What words ask for. The words lend the names; room is taken for the sightings of a query, for the list of the jobs
-/// of a rehearsal or of an audit, for that of pages that are gathered and for that of issuers that are left out, and for
-/// nothing else.
+/// of a rehearsal or of an audit, for that of pages that are gathered, of pieces that are merged and of issuers that
+/// are left out, and for nothing else.
 pub fn read_words(alloc: Global, words: &[String]) -> Result<Command<'_>, NoMemory>
     ensures value { IfOk result (λ c. c ≡ command_of (map string_bytes words.now)) }
     // Words that ask for `check` are read without memory.

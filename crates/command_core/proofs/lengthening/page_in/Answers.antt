@@ -8,9 +8,9 @@ use Rattle.input_core.specs.declared.fault.FileFault.TheVariants as faults
 use Rattle.input_core.specs.Faults.{of_page}
 use Rattle.outside_core.specs.Reads.{WhichFailed}
 use Rattle.input_core.proofs.FilesRead.{input_err, input_front, faulted_ok, faulted_err}
-use Rattle.command_core.specs.Commands.{page_in}
+use Rattle.command_core.specs.Longer.{page_in}
 use Rattle.command_core.proofs.PagesRead.{page_front, page_long, page_short}
-use Rattle.command_core.proofs.gathering.page_in.Goals as goal
+use Rattle.command_core.proofs.lengthening.page_in.Goals as goal
 
 pub returns-in_err-bytes-clause-input : goal.returns-in_err-bytes-clause-input
 returns-in_err-bytes-clause-input g c =

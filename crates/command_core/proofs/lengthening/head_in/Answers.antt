@@ -6,9 +6,9 @@ use Rattle.input_core.specs.Faults.{of_job}
 use Rattle.outside_core.specs.Reads.{WhichFailed}
 use Rattle.input_core.proofs.FilesRead.{input_err, input_whole, faulted_err}
 use Rattle.input_core.proofs.Reading.{all_of}
-use Rattle.command_core.specs.Commands.{head_in}
+use Rattle.command_core.specs.Longer.{head_in}
 use Rattle.command_core.proofs.PagesRead.{head_opened}
-use Rattle.command_core.proofs.gathering.head_in.Goals as goal
+use Rattle.command_core.proofs.lengthening.head_in.Goals as goal
 
 pub returns-in_err-bytes-clause-refused : goal.returns-in_err-bytes-clause-refused
 returns-in_err-bytes-clause-refused g c =
