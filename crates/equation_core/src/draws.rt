@@ -5,13 +5,28 @@ ghost use Rattle.equation_core.specs.RowLaws.{sha256_row-is};
 ghost use Rattle.equation_core.specs.Shards.{shard as shard_at};
 
 use crate::hash::{Row, RowKey};
-use crate::sha256_rows::RowBits;
-use crate::shards::{MAX_SHIFT, first_bits_of, shard_of};
+use crate::sha256_rows::{self, RowBits};
+use crate::shards::{self, MAX_SHIFT, first_bits, first_bits_of};
 use ident_core::Identity;
+use lane_core::two_digests;
 use std::marker::Model;
 
+/// The shard among 256 of an identity and what stage 1 draws of seed 0, whose messages are digested side by side.
+fn octet_and_bits(id: &Identity) -> (u8, RowBits)
+    ensures octet { result.0 ≡ shard_at id.now MAX_SHIFT }
+    ensures bits { result.1 ≡ sha256_bits 1 0 id.now }
+{
+    let len = id.serial.bytes().len();
+    let [p, q] = two_digests(
+        &shards::message_of(id)[..shards::FRONT + 33 + len],
+        &sha256_rows::message_of(1, 0, id)[..sha256_rows::FRONT + 33 + len],
+    );
+    (first_bits(&p, MAX_SHIFT), RowBits::of_digest(&q))
+}
+
 /// The rows by SHA-256 and the shard of one identity, drawn when they are first asked for. The shard among 256 is kept
-/// from then on, and of seed 0 what stages 1 and 2 draw, whatever their starts.
+/// from then on, and of seed 0 what stages 1 and 2 draw, whatever their starts. Whoever asks for a shard nearly always
+/// asks for the row of stage 1 next, so both are drawn at once.
 #[derive(Drop)]
 pub struct Draws<'a> {
     id: &'a Identity,
@@ -101,8 +116,9 @@ impl<'a> Draws<'a> {
         ensures octet { result ≡ shard_at self.old MAX_SHIFT }
         ensures same { self.new ≡ self.old }
     {
-        let octet = shard_of(self.id, MAX_SHIFT);
+        let (octet, bits) = octet_and_bits(self.id);
         self.octet = Some(octet);
+        self.first = Some(bits);
         octet
     }
 

@@ -11,10 +11,10 @@ use lane_core::digests;
 use sha2::{Digest, Sha256};
 
 /// The bytes of a row's message before the identity.
-const FRONT: usize = 8;
+pub(crate) const FRONT: usize = 8;
 
 /// The message of a row, and zeros behind it.
-fn message_of(stage: u8, seed: u8, id: &Identity) -> [u8; FRONT + IDENTITY]
+pub(crate) fn message_of(stage: u8, seed: u8, id: &Identity) -> [u8; FRONT + IDENTITY]
     ensures { take (FRONT + 33 + length id.now.serial) result ≡ row_text stage seed id.now }
 {
     let mut message = [0; FRONT + IDENTITY];
@@ -38,7 +38,7 @@ impl RowBits {
     /// Bytes 0 to 15 of a digest are the coefficient, whose bit 0 is set, bytes 16 to 23 give the start, and bytes 24
     /// and 25 are the tag.
     #[inline(always)]
-    fn of_digest(d: &[u8; 32]) -> RowBits
+    pub(crate) fn of_digest(d: &[u8; 32]) -> RowBits
         ensures { result ≡ bits_of_digest d.now }
     {
         let coeff = u128::from_be_bytes([

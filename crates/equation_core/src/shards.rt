@@ -11,10 +11,10 @@ use sha2::{Digest, Sha256};
 pub const MAX_SHIFT: u8 = 8;
 
 /// The bytes of a shard's message before the identity.
-const FRONT: usize = 7;
+pub(crate) const FRONT: usize = 7;
 
 /// The message of a shard, and zeros behind it.
-fn message_of(id: &Identity) -> [u8; FRONT + IDENTITY]
+pub(crate) fn message_of(id: &Identity) -> [u8; FRONT + IDENTITY]
     ensures { take (FRONT + 33 + length id.now.serial) result ≡ shard_text id.now }
 {
     let mut message = [0; FRONT + IDENTITY];
@@ -34,7 +34,7 @@ pub(crate) fn first_bits_of(octet: u8, shift: u8) -> u8
 
 /// The number that the first `shift` bits of a digest spell.
 #[inline(always)]
-fn first_bits(digest: &[u8; 32], shift: u8) -> u8
+pub(crate) fn first_bits(digest: &[u8; 32], shift: u8) -> u8
     requires { shift ≤ MAX_SHIFT }
     ensures { result ≡ slice_index digest.now 0 / 2 ^ (MAX_SHIFT - shift) }
 {

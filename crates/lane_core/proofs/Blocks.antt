@@ -1,10 +1,10 @@
 -- Messages of at most two blocks with their padding.
-use Rattle.std.proofs.Common.{◌≡◌, ℕ, suc, ◌<◌, ◌≤◌, ◌+◌, ◌-◌, ◌*◌, ◌/◌, ◌%◌, ◌^◌, inl, inr, List, ◌∷◌, ◌++◌, length, take, drop, set, replicate, slice_index, refl, sym, ap, ◌∙◌, append_assoc, arith}
-use Rattle.std.proofs.lemmas.List.{get_or-take, get_or-drop, length-append, length-replicate, replicate-append-replicate, set_at, take_all, take_at}
+use Rattle.std.proofs.Common.{◌≡◌, ℕ, suc, ◌<◌, ◌≤◌, ◌+◌, ◌-◌, ◌*◌, ◌/◌, ◌%◌, ◌^◌, inl, inr, List, ◌∷◌, ◌++◌, length, take, drop, set, replicate, refl, sym, ap, ◌∙◌, append_assoc, arith}
+use Rattle.std.proofs.lemmas.List.{length-append, length-replicate, replicate-append-replicate, set_at, take_all, take_at}
 use Rattle.std.proofs.lemmas.Bool.{cases_lt}
 use Rattle.std.proofs.lemmas.Slice.{take-put_mid}
 use Rattle.std.specs.Int.{w64, to_be_bytes}
-use Rattle.sha2.specs.Sha256.{compress, digest_bytes, hash_after, initial_hash_256, padded_message, sha256, word_at}
+use Rattle.sha2.specs.Sha256.{compress, digest_bytes, hash_after, initial_hash_256, padded_message, sha256}
 use Rattle.sha2.proofs.Absorbing256.{hash_after_next}
 use borrow.Rule.Slice.PartMut.{put_mid}
 
@@ -50,16 +50,6 @@ padded-is m begun field n e k en few ee eb ef =
     ∙ append_assoc m (0x80 ∷ zeros z) field
     ∙ ap (λ (l : List ℕ). m ++ ((0x80 ∷ zeros z) ++ l)) same
     ∙ ap (λ (i : ℕ). m ++ ((0x80 ∷ zeros i) ++ to_be_bytes w64 (length m * 8 % 2 ^ 64))) gap
-
--- a word of a block that begins at a byte
-pub word_in_block : (bytes : List ℕ) (at k : ℕ) → k < 16 → word_at (take 64 (drop at bytes)) (4 * k) ≡ word_at bytes (at + 4 * k)
-word_in_block bytes at k h =
-    let one : (c : ℕ) → c < 4 → slice_index (take 64 (drop at bytes)) (4 * k + c) ≡ slice_index bytes (at + 4 * k + c) =
-    λ c lt. get_or-take 64 (drop at bytes) (4 * k + c) 0 (omega arith) ∙ get_or-drop at bytes (4 * k + c) 0
-    ∙ ap (λ (i : ℕ). slice_index bytes i) (omega arith) in
-    let zero : slice_index (take 64 (drop at bytes)) (4 * k) ≡ slice_index bytes (at + 4 * k) =
-    get_or-take 64 (drop at bytes) (4 * k) 0 (omega arith) ∙ get_or-drop at bytes (4 * k) 0 in
-    rw (zero, one 1 (omega arith), one 2 (omega arith), one 3 (omega arith)) refl
 
 length-padded : (m : List ℕ) → length m ≤ 119 → length (padded_message m) ≡ end_of (length m)
 length-padded m few =

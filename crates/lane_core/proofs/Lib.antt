@@ -1,3 +1,6 @@
 mod Blocks
 mod Majority
+mod Rotations
+mod Rounds
+mod Schedules
 mod Vectors

@@ -1,8 +1,7 @@
 // Messages with their padding (5.1.1), and the words of their blocks (5.2.1).
 
-ghost use Rattle.std.specs.Prelude.{◌≡◌, ◌<◌, ◌≤◌, ◌+◌, ◌*◌, ◌/◌, ℕ, [], length, take, drop, slice_index, slice_index_or};
+ghost use Rattle.std.specs.Prelude.{◌≡◌, ◌<◌, ◌≤◌, ◌+◌, ◌*◌, ◌/◌, ℕ, [], ◌∷◌, length, take, slice_index_or};
 ghost use Rattle.sha2.specs.Sha256.{padded_message, word_at};
-ghost use Rattle.lane_core.specs.Lanes.{lane};
 
 use std::simd::u32x4;
 
@@ -24,37 +23,38 @@ pub(crate) fn padded(message: &[u8]) -> [u8; 128]
 }
 
 #[inline(always)]
-fn word(bytes: &[u8; 128], i: usize) -> u32
-    requires { i + 4 ≤ 128 }
-    ensures { result ≡ word_at bytes.now i }
+fn word(block: &[u8], i: usize) -> u32
+    requires { i + 4 ≤ length block.now }
+    ensures { result ≡ word_at block.now i }
 {
-    u32::from_be_bytes([bytes[i], bytes[i + 1], bytes[i + 2], bytes[i + 3]])
+    u32::from_be_bytes([block[i], block[i + 1], block[i + 2], block[i + 3]])
 }
 
-// The word at byte `i` of each message.
+// The word at byte `i` of each block.
 #[inline(always)]
-fn word_of_each(messages: &[[u8; 128]; 4], i: usize) -> u32x4
-    requires { i + 4 ≤ 128 }
-    ensures { (j : ℕ) → j < 4 → slice_index result j ≡ word_at (slice_index_or messages.now j []) i }
+fn word_of_each(a: &[u8], b: &[u8], c: &[u8], d: &[u8], i: usize) -> u32x4
+    requires a { i + 4 ≤ length a.now }
+    requires b { i + 4 ≤ length b.now }
+    requires c { i + 4 ≤ length c.now }
+    requires d { i + 4 ≤ length d.now }
+    ensures { result ≡ word_at a.now i ∷ word_at b.now i ∷ word_at c.now i ∷ word_at d.now i ∷ [] }
 {
-    u32x4::from_array([
-        word(&messages[0], i),
-        word(&messages[1], i),
-        word(&messages[2], i),
-        word(&messages[3], i),
-    ])
+    u32x4::from_array([word(a, i), word(b, i), word(c, i), word(d, i)])
 }
 
-/// The words of the messages' blocks that begin at byte `at`.
+/// The words of four blocks, side by side.
 #[inline(always)]
-pub(crate) fn block_of_each(messages: &[[u8; 128]; 4], at: usize) -> [u32x4; 16]
-    requires { at + 64 ≤ 128 }
-    ensures { (j k : ℕ) → j < 4 → k < 16
-        → slice_index (lane j result) k ≡ word_at (take 64 (drop at (slice_index_or messages.now j []))) (4 * k) }
+pub(crate) fn words_of(a: &[u8], b: &[u8], c: &[u8], d: &[u8]) -> [u32x4; 16]
+    requires a { length a.now ≡ 64 }
+    requires b { length b.now ≡ 64 }
+    requires c { length c.now ≡ 64 }
+    requires d { length d.now ≡ 64 }
+    ensures { (k : ℕ) → k < 16 → slice_index_or result k []
+        ≡ word_at a.now (4 * k) ∷ word_at b.now (4 * k) ∷ word_at c.now (4 * k) ∷ word_at d.now (4 * k) ∷ [] }
 {
     let mut words = [u32x4::splat(0); 16];
-    'words: for i in 0..16 {
-        words[i] = word_of_each(messages, at + 4 * i);
+    'words: for k in 0..16 {
+        words[k] = word_of_each(a, b, c, d, 4 * k);
     }
     words
 }
