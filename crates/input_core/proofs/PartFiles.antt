@@ -1,5 +1,5 @@
 -- What the bytes of a file of one part are read as.
-use Rattle.std.proofs.Common.{◌≡◌, ℕ, ◌+◌, ◌≤◌, ◌<◌, ◌^◌, ◌-◌, List, ◌++◌, length, take, drop, true, false}
+use Rattle.std.proofs.Common.{◌≡◌, ℕ, ◌+◌, ◌≤◌, ◌<◌, ◌-◌, List, ◌++◌, length, take, drop, true, false}
 use Rattle.std.proofs.Common.{nat_lt, Option, Some, None, Result, Ok, Err, refl, sym, ap, subst, ◌∙◌, arith, inl, inr, length-append}
 use Rattle.std.proofs.lemmas.Bool.{cases_lt}
 use Rattle.std.proofs.lemmas.Bool.Decides.{nat_tests}
@@ -13,15 +13,9 @@ use Rattle.part_text.specs.SealedFields.{SealedFields}
 use Rattle.part_text.specs.PartLayout.{part, sealed}
 use Rattle.part_text.specs.declared.fault.PartFault.TheVariants as of
 use Rattle.part_codec.specs.ReaderStanding.{EndsAs}
-use Rattle.part_codec.specs.Standing.{StandsFor, HasFailed, EndsAt}
-use Rattle.part_codec.specs.Stepping.{AreStarts, skips, tail_of}
-use Rattle.part_codec.specs.declared.fields.Kept.{Kept}
-use Rattle.part_codec.specs.declared.fields.Open.{Open}
-use Rattle.part_codec.specs.declared.fields.Open.TheVariants as opens
+use Rattle.part_codec.specs.Standing.{EndsAt}
 use Rattle.part_codec.specs.Noting.{noted}
 use Rattle.part_codec.specs.declared.scan.PartNote.{PartNote}
-use Rattle.part_codec.specs.declared.scan.PartScan.{PartScan}
-use Rattle.part_codec.proofs.Scans.{by-none}
 use Rattle.outside_core.specs.Files.{Files}
 use Rattle.store_core.proofs.StoreReads.{piece-parts}
 use Rattle.input_core.specs.declared.fault.FileFault.{FileFault}
@@ -67,20 +61,6 @@ pub noted_by : (bytes : List ℕ) (x : Result (SealedFields × ℕ) LayoutFault)
 noted_by bytes (Ok p) r is same ends =
     ap noted_file (part_whole bytes p.0 p.1 (omega (arith, ends p.0 p.1 refl)) (ap (with_fault of.Layout) is)) ∙ ap (faulted faults.Layout) same
 noted_by bytes (Err e) r is same ends = noted_faulty bytes e is ∙ ap (faulted faults.Layout) same
-
--- a plane is the widest field
-width-bound : (o : Open) (k : Kept) → AreStarts k.starts → skips o k + tail_of o ≤ 1000000
-width-bound opens.ApproxPlane k starts = omega (arith, starts.1)
-width-bound opens.ExactPlane k starts = omega (arith, starts.1)
-width-bound o k starts = omega arith
-
--- bytes without a fault are fewer than can be numbered
-pub few-noted : (scan : PartScan) (f : Option LayoutFault) (b : List ℕ) → scan.fault ≡ f → ((e : LayoutFault) → HasFailed scan e → ⊥) → StandsFor scan b → length b < 2 ^ 64 - 1
-few-noted scan None b is well st =
-    let t = by-none scan.fault scan.machine scan.hasher b is st in
-    let m = scan.machine in
-    omega (arith, t.stands.place, m.few, m.before, m.room, width-bound m.field m.kept m.starts)
-few-noted scan (Some e) b is well st = absurd (well e is)
 
 -- nothing else is wrong with a file of one part
 pub only_layout : (bytes : List ℕ) (x : Result (SealedFields × ℕ) LayoutFault) (e : FileFault) → sealed bytes 0 ≡ x → noted_file (part_in bytes) ≡ Err e → (f : LayoutFault) × (e ≡ faults.Layout f)

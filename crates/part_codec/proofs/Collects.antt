@@ -1,7 +1,8 @@
 -- What is collected is what was seen.
-use Rattle.std.proofs.Common.{◌≡◌, ℕ, zero, suc, ◌+◌, ◌-◌, ◌*◌, ◌≤◌, ◌<◌, Bool, true, false, List, [], ◌∷◌, ◌++◌, length, take, drop, Option, Some, None, refl, sym, ap, subst, ◌∙◌, arith}
+use Rattle.std.proofs.Common.{◌≡◌, ℕ, zero, suc, ◌+◌, ◌-◌, ◌*◌, ◌≤◌, Bool, true, false, List, [], ◌∷◌, ◌++◌, length, take, drop, Option, Some, None, refl, sym, ap, subst, ◌∙◌, arith}
 use Rattle.std.specs.Int.{w8, w16, w32, w64, from_be_bytes}
-use Rattle.std.proofs.lemmas.List.{append_assoc, drop-append-le, append-nil}
+use Rattle.std.proofs.Math.Logic.{∥∥₁_map}
+use Rattle.std.proofs.lemmas.List.{append_assoc, drop-append-le, append-nil, length-drop}
 use Rattle.equation_core.specs.declared.hash.TheConstants.{MAX_PLANES}
 use Rattle.equation_core.specs.Sizes.{words_for}
 use Rattle.ident_core.specs.declared.range.Range.{Range}
@@ -22,14 +23,14 @@ use Rattle.part_codec.specs.declared.machine.Machine.{Machine}
 use Rattle.part_codec.specs.Remaining.{Seen, with_approx, with_plane, column_of, mixed_of, with_leaf as seen_with, shards_of, kept_range}
 use Rattle.part_codec.specs.Remaining.{kept_ranges, kept_issuers, kept_mode, kept_leaf_mode, kept_leaves}
 use Rattle.part_codec.specs.Stepping.{seen_mode, seen_leaf_mode, settled as settled_field, kept_after, open_range, open_block, open_mode, open_approx, open_plane, open_after}
-use Rattle.part_codec.specs.Stepping.{seen_after, AreStarts, InLeaf, Counts, Passed, open_leaf, in_front, tail_of, IsOpen}
-use Rattle.part_codec.specs.Scanning.{Stands, Moved, seen_when, hashed_to}
-use Rattle.part_codec.specs.Taking.{Advances, TakesTo}
+use Rattle.part_codec.specs.Stepping.{seen_after, AreStarts, InLeaf, Counts, Passed, open_leaf, in_front, IsOpen}
+use Rattle.part_codec.specs.Scanning.{Stands, Moved, seen_when}
+use Rattle.part_codec.specs.Taking.{IsFront, Advances, CanRead, Takes, Steps}
 use Rattle.part_codec.specs.Collecting.{with_whole, leaf_in, IsLast, exact_leaf, cleared, stage_by, pile_mode, pile_plane, pile_exact, pile_after, pile_when}
-use Rattle.part_codec.specs.Collecting.{pile_passed, CanCollect, FewPlanes, IsApprox, IsExact, Staged, Collects, Reads, ReadsFront, HasRead}
+use Rattle.part_codec.specs.Collecting.{pile_passed, CanCollect, FewPlanes, IsApprox, IsExact, Staged, Collects, Reads, ReadsFront, Holding, ReadsTo, FrontTo, CanPut}
 use Rattle.part_codec.proofs.FieldSteps.{leaf-starts}
 use Rattle.part_codec.proofs.MachineLaws.{leaf-mode}
-use Rattle.part_codec.proofs.MachineStands.{drop-all, front-moved}
+use Rattle.part_codec.proofs.MachineStands.{drop-all, front-moved, pieces-join}
 use Rattle.part_codec.proofs.Planes.{columns-more, are_read-more, none_read}
 
 staged-range : (n : ℕ) (k : Kept) (s : Seen) (p : PileFields) → Staged (open_range n) k s p []
@@ -396,23 +397,54 @@ reads-end w m n p b t last read moved st =
 pub reads-front : (w : Bool) (m n : Machine) (r : PileFields) (b : List ℕ) → in_front m.field ≡ true → Moved w m n b → Reads n r b → ReadsFront n r b
 reads-front w m n r b front moved read = record { reads = read; front = front-moved w m n b front moved }
 
--- ---- of a block that says none or all
+-- ---- what is put to a collector
 
--- where nothing is taken
-pub takes-none : (m : Machine) (p : PileFields) (piece : List ℕ) (o : Open) → ((at len : ℕ) → hashed_to o at len ≡ len) → m.field ≡ o → m.filled < tail_of m.field → ∥ HasRead m p ∥₁
-    → TakesTo m m p p piece 0
-takes-none m p piece o before is partial read = record {
-  reads = λ b r. record {
-    reads = subst (λ (l : List ℕ). Reads m p l) (sym (append-nil b)) r;
-    front = ap (λ (x : Open). hashed_to x m.at (length (b ++ []))) is ∙ before m.at (length (b ++ []));
-  };
-  read = read;
-  partial = λ goes. partial;
-  count = omega arith;
-}
+pub can-put : {C : Type 0} (H : Holding C) (m n : Machine) (c : C) (piece : List ℕ) (k : ℕ) (w : Bool) → CanRead H m c → Advances m n piece (k, w) → w ≡ true
+    → ∥ CanPut H c m.field n.kept (take k piece) ∥₁
+can-put H m n c piece k w can f is =
+    ∥∥₁_map can.read (λ r.
+    let p : PileFields = r.1.0 in
+    let read : Reads m p r.0 = r.1.2 in
+    let moved = f.moved read.0 r.0 read.1 in (
+      p,
+      r.1.1,
+      can-settle m n p (pile_passed m.field p (take k piece)) r.0 (take k piece) read refl
+          (subst (λ (v : Bool). Moved v m n (r.0 ++ take k piece)) is moved),
+    ))
 
--- its issuer came, which isn't collected before its mode
-pub reads-issuer : (m n : Machine) (p : PileFields) (piece : List ℕ) (k : ℕ) → m.field ≡ opens.BlockIssuer → Advances m n piece (k, true) → (b : List ℕ) → Reads m p b → Reads n p (b ++ take k piece)
-reads-issuer m n p piece k is f b read =
+pub steps-put : {C : Type 0} (H : Holding C) (m n : Machine) (c d : C) (piece : List ℕ) (k : ℕ) (w : Bool) → CanRead H m c → Advances m n piece (k, w)
+    → ((p : PileFields) → H c p → H d (pile_when w m.field n.kept (pile_passed m.field p (take k piece)))) → Steps H m n c d piece k
+steps-put H m n c d piece k w can f put =
     let t : List ℕ = take k piece in
-    reads-step true m n p (pile_passed m.field p t) p b t read refl (f.moved read.0 b read.1) (sym (ap (λ (o : Open). pile_when true o n.kept (pile_passed o p t)) is)) (f.stands read.0 b read.1)
+    let reads : (b : List ℕ) → ReadsTo H m c b → FrontTo H n d (b ++ t) = λ b r.
+    let p : PileFields = r.0 in
+    let q : PileFields = pile_passed m.field p t in
+    let read : Reads m p b = r.2 in
+    let front = reads-front w m n (pile_when w m.field n.kept q) (b ++ t) can.front.front (f.moved read.0 b read.1)
+    (reads-step w m n p q (pile_when w m.field n.kept q) b t read refl (f.moved read.0 b read.1) refl (f.stands read.0 b read.1)) in
+    record { reads = (pile_when w m.field n.kept q, put p r.1, front.reads); front = front.front } in
+    record {
+      takes = record { reads = reads; read = ∥∥₁_map can.read (λ r. (_, (reads r.0 r.1).reads)); partial = f.partial; count = f.count };
+      progress = f.progress;
+    }
+
+-- the issuer of a block isn't collected before its mode
+pub steps-issuer : {C : Type 0} (H : Holding C) (m n : Machine) (c : C) (piece : List ℕ) (k : ℕ) → CanRead H m c → m.field ≡ opens.BlockIssuer → Advances m n piece (k, true)
+    → Steps H m n c c piece k
+steps-issuer H m n c piece k can is f =
+    steps-put H m n c c piece k true can f (λ p h. subst (λ (o : Open). H c (pile_when true o n.kept (pile_passed o p (take k piece)))) (sym is) h)
+
+-- another field is open, which isn't the trailer
+pub can-next : {C : Type 0} (H : Holding C) (m n : Machine) (c d : C) (piece : List ℕ) (k : ℕ) → Steps H m n c d piece k → IsFront n → CanRead H n d
+can-next H m n c d piece k f front = record { front = front; read = f.takes.read }
+
+pub steps-from : {C : Type 0} (H : Holding C) (m n o : Machine) (c d e : C) (piece r : List ℕ) (k j : ℕ) → r ≡ drop k piece → Steps H m n c d piece k → Takes H n o d e r j → Steps H m o c e piece (k + j)
+steps-from H m n o c d e piece r k j is f g = record {
+  takes = record {
+    reads = λ b read. subst (λ (l : List ℕ). FrontTo H o e l) (pieces-join b piece k j r is) (g.reads (b ++ take k piece) (f.takes.reads b read).reads);
+    read = g.read;
+    partial = g.partial;
+    count = omega (arith, f.takes.count, g.count, ap (λ (l : List ℕ). length l) is, length-drop k piece);
+  };
+  progress = λ some. omega (arith, f.progress some);
+}

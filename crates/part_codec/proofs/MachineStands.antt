@@ -264,10 +264,6 @@ piece-fails b piece x n e h =
     ∙ append_assoc (b ++ take n piece) (drop n piece) x in
     ap (λ (l : List ℕ). sealed l 0) same ∙ h
 
-pub rest-piece-fails : (b piece x : List ℕ) (n : ℕ) (r : List ℕ) (e : LayoutFault) → r ≡ drop n piece → sealed ((b ++ take n piece) ++ r ++ x) 0 ≡ Err e → sealed (b ++ piece ++ x) 0 ≡ Err e
-rest-piece-fails b piece x n r e is h =
-    piece-fails b piece x n e (ap (λ (l : List ℕ). sealed l 0) (sym (append_assoc (b ++ take n piece) (drop n piece) x)) ∙ ap (λ (l : List ℕ). sealed ((b ++ take n piece) ++ l ++ x) 0) (sym is) ∙ h)
-
 pub pieces-join : (b piece : List ℕ) (n k : ℕ) (r : List ℕ) → r ≡ drop n piece → (b ++ take n piece) ++ take k r ≡ b ++ take (n + k) piece
 pieces-join b piece n k r is =
     ap (λ (l : List ℕ). (b ++ take n piece) ++ take k l) is ∙ append_assoc b (take n piece) (take k (drop n piece)) ∙ ap (λ (l : List ℕ). b ++ l) (sym (take-add n k piece))

@@ -1,5 +1,6 @@
 -- Facts that have at most one proof.
-use Rattle.std.proofs.Common.{◌≡◌, ℕ, ◌≤◌, List, [], ◌∷◌, true, refl}
+use Rattle.std.proofs.Common.{◌≡◌, ℕ, ◌+◌, ◌≤◌, List, [], ◌∷◌, ◌++◌, true, refl, subst}
+use Rattle.std.proofs.Math.Logic.{∥∥₁_elim}
 use Rattle.std.proofs.Props.{props}
 use Rattle.octets_core.specs.Linked.{Linked, is_after}
 use Rattle.part_codec.specs.ReadPlanes.{AreStageBytes}
@@ -13,9 +14,9 @@ use Rattle.part_codec.specs.PileFields.{PileFields}
 use Rattle.part_codec.specs.declared.fields.Kept.{Kept}
 use Rattle.part_codec.specs.declared.fields.Open.{Open}
 use Rattle.part_codec.specs.declared.fields.Open.TheVariants as opens
-use Rattle.part_codec.specs.Collecting.{IsLast, CanCollect}
+use Rattle.part_codec.specs.Collecting.{IsLast, CanCollect, pile_passed, IsPile, CanPut, CanPutPlanes}
 
-pub planes-once : (starts planes : ℕ) (bytes : List ℕ) → IsProp (AreStageBytes starts planes bytes)
+planes-once : (starts planes : ℕ) (bytes : List ℕ) → IsProp (AreStageBytes starts planes bytes)
 planes-once starts planes bytes = Prim.hlevel props
 
 last-once : (k : Kept) (p : PileFields) → IsProp (IsLast k p)
@@ -24,12 +25,19 @@ last-once k p = Prim.hlevel props
 exact-once : (starts planes done : ℕ) (bytes : List ℕ) (k : Kept) (p : PileFields) → IsProp (AreStageBytes starts planes bytes × (done ≡ 0) × IsLast k p)
 exact-once starts planes done bytes k p = Prim.hlevel props
 
-pub can-once : (o : Open) (k : Kept) (p : PileFields) → IsProp (CanCollect o k p)
+can-once : (o : Open) (k : Kept) (p : PileFields) → IsProp (CanCollect o k p)
 can-once opens.ApproxPlane k p = planes-once _ _ _
 can-once opens.ExactPlane k p = exact-once _ _ _ _ k p
 can-once opens.BlockMode k p = last-once k p
 can-once opens.ShardMode k p = last-once k p
 can-once o k p = λ a b. refl
+
+-- what can be put to a pile
+pub pile-can : (p : PileFields) (o : Open) (k : Kept) (t : List ℕ) → ∥ CanPut IsPile p o k t ∥₁ → CanCollect o k (pile_passed o p t)
+pile-can p o k t can = ∥∥₁_elim can (can-once o k (pile_passed o p t)) (λ r. subst (λ (q : PileFields). CanCollect o k (pile_passed o q t)) r.1 r.2)
+
+pub pile-can-planes : (p : PileFields) (k : Kept) (n : ℕ) (t : List ℕ) → ∥ CanPutPlanes IsPile p k n t ∥₁ → AreStageBytes k.starts (p.done + n) (p.bytes ++ t)
+pile-can-planes p k n t can = ∥∥₁_elim can (planes-once _ _ _) (λ r. subst (λ (q : PileFields). AreStageBytes k.starts (q.done + n) (q.bytes ++ t)) r.1 r.2)
 
 linked-once : {S X : Type 0} (P : S → X → Type 0) (next : S → X → S) → ((s : S) (x : X) → IsProp (P s x)) → (s : S) (xs : List X) → IsProp (Linked P next s xs)
 linked-once P next h s [] = λ a b. refl

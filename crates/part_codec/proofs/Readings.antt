@@ -1,5 +1,5 @@
 -- What a reader answers.
-use Rattle.std.proofs.Common.{◌≡◌, ℕ, ◌+◌, ◌<◌, ◌≤◌, List, [], ◌++◌, length, take, drop, Option, Some, None, Result, Ok, Err, refl, sym, ap, subst, ◌∙◌, append_assoc, inl, inr}
+use Rattle.std.proofs.Common.{◌≡◌, ℕ, ◌+◌, ◌^◌, ◌<◌, ◌≤◌, List, [], ◌++◌, length, take, drop, Option, Some, None, Result, Ok, Err, refl, sym, ap, subst, ◌∙◌, append_assoc, inl, inr}
 use Rattle.std.proofs.lemmas.Bool.{cases_lt}
 use Rattle.std.proofs.lemmas.List.{append-nil, length-take-le, take_all, take-append-drop}
 use Rattle.sha2.specs.declared.Sha256.{Sha256}
@@ -17,14 +17,15 @@ use Rattle.part_codec.specs.declared.fields.Kept.{Kept}
 use Rattle.part_codec.specs.declared.fields.Open.{Open}
 use Rattle.part_codec.specs.declared.fields.Open.TheVariants as opens
 use Rattle.part_codec.specs.declared.machine.Machine.{Machine}
+use Rattle.part_codec.specs.declared.reader.PartReader.{PartReader}
 use Rattle.part_codec.specs.Remaining.{nothing_seen, sealed_of}
 use Rattle.part_codec.specs.Stepping.{tail_of, name_of}
 use Rattle.part_codec.specs.Scanning.{Stands, Hashes}
-use Rattle.part_codec.specs.Collecting.{nothing_piled, Collects, Reads, HasRead}
-use Rattle.part_codec.specs.ReaderStanding.{ReadsBy, EndsAs}
+use Rattle.part_codec.specs.Collecting.{nothing_piled, Collects, Reads, ReadsTo, HasRead, IsPile}
+use Rattle.part_codec.specs.ReaderStanding.{ReadsBy, ReadsFor, EndsAs, HasFailed}
 use Rattle.part_text.proofs.PartTexts.{sealed-leaves}
 use Rattle.part_codec.proofs.MachineStands.{field-done, field-short}
-use Rattle.part_codec.proofs.Scans.{done-is, ends-at}
+use Rattle.part_codec.proofs.Scans.{done-is, ends-at, few-behind}
 use Rattle.octets_core.proofs.Fields.{mapped-ok}
 
 pub part-piece-fails : (b piece x : List ℕ) (n : ℕ) (r : List ℕ) (e : PartFault) → r ≡ drop n piece → part ((b ++ take n piece) ++ r ++ x) 0 ≡ Err e → part (b ++ piece ++ x) 0 ≡ Err e
@@ -44,13 +45,16 @@ pub done-part : (m : Machine) (p : PileFields) (b x : List ℕ) → Reads m p b 
 done-part m p b x r done =
     ap (λ (read : Result (SealedFields × ℕ) LayoutFault). with_fault faults.Layout read) (done-is m r.0 b x r.1 done) ∙ ap (λ (s : SealedFields). Ok (s, length b)) (same-part m p b r)
 
-pub done-fits : (m : Machine) (p : PileFields) → HasRead m p → m.field ≡ opens.Done → Fits (piled m.kept p)
+pub of-pile : (m : Machine) (p : PileFields) (b : List ℕ) → ReadsTo IsPile m p b → Reads m p b
+of-pile m p b r = subst (λ (q : PileFields). Reads m q b) r.1 r.2
+
+pub done-fits : (m : Machine) (p : PileFields) → HasRead IsPile m p → m.field ≡ opens.Done → Fits (piled m.kept p)
 done-fits m p h done =
     let b : List ℕ = h.0 in
-    let r = h.1 in
+    let r = of-pile m p b h.1 in
     subst Fits (same-part m p b r) ((sealed-leaves b r.1.opens.fits).each (sealed_of m.kept r.0, length b) (field-done m r.0 b r.1 done)).1
 
-pub read-none : (f : Option PartFault) (m : Machine) (p : PileFields) (h : Sha256) (b : List ℕ) → f ≡ None → ReadsBy f m p h b → Reads m p b × Hashes m h b
+pub read-none : (f : Option PartFault) (m : Machine) (p : PileFields) (h : Sha256) (b : List ℕ) → f ≡ None → ReadsBy f m p h b → ReadsTo IsPile m p b × Hashes m h b
 read-none f m p h b is st = subst (λ (g : Option PartFault). ReadsBy g m p h b) is st
 
 pub read-ends : (m : Machine) (p : PileFields) (b : List ℕ) → Reads m p b → m.field ≡ opens.Done → EndsAs b
@@ -90,3 +94,10 @@ pub part-ends-at : (m : Machine) (p : PileFields) (b piece : List ℕ) (n : ℕ)
     → m.filled < tail_of m.field) → n ≤ length piece
     → (n < length piece → m.field ≡ opens.Done) → part (b ++ piece) 0 ≡ Ok (s, end) → length b + n ≡ end
 part-ends-at m p b piece n s end r partial count all read = ends-at m b piece n s end (r.0, r.1) partial count all (mapped-ok faults.Layout sealed (b ++ piece) 0 (s, end) read)
+
+-- bytes without a fault are fewer than 2^49
+pub few-read : (reader : PartReader) (f : Option PartFault) (b : List ℕ) → reader.fault ≡ f → ((e : PartFault) → HasFailed reader e → ⊥) → ReadsFor reader b → length b < 2 ^ 49
+few-read reader None b is well st =
+    let r = of-pile reader.machine reader.pile b (read-none reader.fault reader.machine reader.pile reader.hasher b is st).0 in
+    few-behind reader.machine b (r.0, r.1)
+few-read reader (Some e) b is well st = absurd (well e is)

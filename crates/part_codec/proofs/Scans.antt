@@ -9,19 +9,24 @@ use Rattle.octets_core.specs.declared.fault.LayoutFault.{LayoutFault}
 use Rattle.octets_core.specs.Reading.{fault_at}
 use Rattle.octets_core.specs.declared.fault.Why.TheVariants as why
 use Rattle.octets_core.proofs.Fields.{ok_is}
+use Rattle.octets_core.specs.Layout.{with_fault}
 use Rattle.part_text.specs.SealedFields.{SealedFields}
+use Rattle.part_text.specs.declared.fault.PartFault.TheVariants as faults
 use Rattle.part_text.specs.PartLayout.{sealed}
 use Rattle.part_codec.specs.declared.fields.Kept.{Kept}
 use Rattle.part_codec.specs.declared.fields.Open.{Open}
 use Rattle.part_codec.specs.declared.fields.Open.TheVariants as opens
 use Rattle.part_codec.specs.declared.machine.Machine.{Machine}
+use Rattle.part_codec.specs.declared.collector.Nothing.{Nothing}
 use Rattle.part_codec.specs.declared.scan.PartNote.{PartNote}
+use Rattle.part_codec.specs.declared.scan.PartScan.{PartScan}
 use Rattle.part_codec.specs.Remaining.{Seen, sealed_of, rest}
 use Rattle.part_codec.specs.Stepping.{AreStarts, IsOpen, skips, tail_of, name_of}
 use Rattle.part_codec.specs.Noting.{note_of, noted, note_by}
-use Rattle.part_codec.specs.Scanning.{Stands, Scans}
+use Rattle.part_codec.specs.Scanning.{Stands, Hashes}
+use Rattle.part_codec.specs.Collecting.{ReadsTo, AnyPile}
 use Rattle.part_codec.specs.Taking.{IsPartial}
-use Rattle.part_codec.specs.Standing.{StandsBy, EndsAt, HasFault}
+use Rattle.part_codec.specs.Standing.{StandsBy, StandsFor, EndsAt, HasFault, HasFailed}
 use Rattle.part_codec.proofs.FieldSteps.{none-left}
 use Rattle.part_codec.proofs.MachineStands.{at-end, field-done, field-short}
 
@@ -29,14 +34,19 @@ use Rattle.part_codec.proofs.MachineStands.{at-end, field-done, field-short}
 abbrev pub Behind : Machine → List ℕ → Type 0
 Behind m b = (s : Seen) × Stands m s b
 
-pub by-none : (f : Option LayoutFault) (m : Machine) (h : Sha256) (b : List ℕ) → f ≡ None → StandsBy f m h b → Scans m h b
-by-none f m h b is st = subst (λ (g : Option LayoutFault). StandsBy g m h b) is st
+pub by-none : (f : Option LayoutFault) (m : Machine) (c : Nothing) (h : Sha256) (b : List ℕ) → f ≡ None → StandsBy f m c h b → ReadsTo AnyPile m c b × Hashes m h b
+by-none f m c h b is st = subst (λ (g : Option LayoutFault). StandsBy g m c h b) is st
 
-pub behind-of : (m : Machine) (h : Sha256) (b : List ℕ) → Scans m h b → Behind m b
-behind-of m h b t = (t.seen, t.stands)
+pub behind-of : (m : Machine) (c : Nothing) (b : List ℕ) → ReadsTo AnyPile m c b → Behind m b
+behind-of m c b r = (r.2.0, r.2.1)
 
-by-some : (f : Option LayoutFault) (e : LayoutFault) (m : Machine) (h : Sha256) (b x : List ℕ) → f ≡ Some e → StandsBy f m h b → sealed (b ++ x) 0 ≡ Err e
-by-some f e m h b x is st = (subst (λ (g : Option LayoutFault). StandsBy g m h b) is st) x
+by-some : (f : Option LayoutFault) (e : LayoutFault) (m : Machine) (c : Nothing) (h : Sha256) (b x : List ℕ) → f ≡ Some e → StandsBy f m c h b → sealed (b ++ x) 0 ≡ Err e
+by-some f e m c h b x is st = (subst (λ (g : Option LayoutFault). StandsBy g m c h b) is st) x
+
+-- no layout wants memory
+pub no-memory : (r : Result (SealedFields × ℕ) LayoutFault) → with_fault faults.Layout r ≡ Err faults.NoMemory → ⊥
+no-memory (Ok x) is = absurd cc
+no-memory (Err e) is = absurd cc
 
 pub done-is : (m : Machine) (s : Seen) (b x : List ℕ) → Stands m s b → m.field ≡ opens.Done → sealed (b ++ x) 0 ≡ Ok (sealed_of m.kept s, length b)
 unfolding rest
@@ -81,8 +91,8 @@ ends-at m b piece n s end t partial count all read =
 note-counts : (m : Machine) (s : Seen) (n : ℕ) → m.kept.ranges ≡ length s.ranges → m.kept.issuers ≡ length s.blocks → note_of (sealed_of m.kept s) n ≡ note_by m.kept n
 note-counts m s n ranges issuers = rw (ranges, issuers) refl
 
-pub faulty : (f : Option LayoutFault) (e : LayoutFault) (m : Machine) (h : Sha256) (b : List ℕ) → f ≡ Some e → StandsBy f m h b → noted (sealed b 0) ≡ Err e
-faulty f e m h b is st = ap (λ (l : List ℕ). noted (sealed l 0)) (sym (append-nil b)) ∙ ap noted (by-some f e m h b [] is st)
+pub faulty : (f : Option LayoutFault) (e : LayoutFault) (m : Machine) (c : Nothing) (h : Sha256) (b : List ℕ) → f ≡ Some e → StandsBy f m c h b → noted (sealed b 0) ≡ Err e
+faulty f e m c h b is st = ap (λ (l : List ℕ). noted (sealed l 0)) (sym (append-nil b)) ∙ ap noted (by-some f e m c h b [] is st)
 
 pub noted-done : (m : Machine) (b : List ℕ) → Behind m b → m.field ≡ opens.Done → noted (sealed b 0) ≡ Ok (note_by m.kept m.at)
 noted-done m b t done =
@@ -99,9 +109,9 @@ noted-short m b e t goes partial is = ap noted (field-short m t.0 b t.1 (partial
 -- ---- how many bytes it stands for
 
 -- a part is all of them
-pub ends-by : (f : Option LayoutFault) (m : Machine) (h : Sha256) (b : List ℕ) (s : SealedFields) (end : ℕ) → (f ≡ None → IsPartial m) → StandsBy f m h b → sealed b 0 ≡ Ok (s, end) → end ≡ length b
-ends-by None m h b s end partial st read = sym (whole-ends m b s end (behind-of m h b st) (partial refl) read)
-ends-by (Some e) m h b s end partial st read = absurd (not-both b s end e read (ap (λ (l : List ℕ). sealed l 0) (sym (append-nil b)) ∙ st []))
+pub ends-by : (f : Option LayoutFault) (m : Machine) (c : Nothing) (h : Sha256) (b : List ℕ) (s : SealedFields) (end : ℕ) → (f ≡ None → IsPartial m) → StandsBy f m c h b → sealed b 0 ≡ Ok (s, end) → end ≡ length b
+ends-by None m c h b s end partial st read = sym (whole-ends m b s end (behind-of m c b st.0) (partial refl) read)
+ends-by (Some e) m c h b s end partial st read = absurd (not-both b s end e read (ap (λ (l : List ℕ). sealed l 0) (sym (append-nil b)) ∙ st []))
 
 -- a plane is the widest field
 width-bound : (o : Open) (k : Kept) → AreStarts k.starts → skips o k + tail_of o ≤ 1000000
@@ -109,10 +119,14 @@ width-bound opens.ApproxPlane k starts = omega (arith, starts.1)
 width-bound opens.ExactPlane k starts = omega (arith, starts.1)
 width-bound o k starts = omega arith
 
-few-of : (m : Machine) (s : Seen) (b : List ℕ) → Stands m s b → length b < 2 ^ 64 - 1
-few-of m s b st = omega (arith, st.place, m.few, m.before, m.room, width-bound m.field m.kept m.starts)
+pub few-behind : (m : Machine) (b : List ℕ) → Behind m b → length b < 2 ^ 49
+few-behind m b t = omega (arith, t.1.place, m.few, m.before, m.room, width-bound m.field m.kept m.starts)
 
--- fewer than can be numbered, or they have a fault
-pub few-by : (f : Option LayoutFault) (m : Machine) (h : Sha256) (b : List ℕ) → StandsBy f m h b → length b < 2 ^ 64 - 1 ⊎ HasFault b
-few-by None m h b st = inl (few-of m st.seen b st.stands)
-few-by (Some e) m h b st = inr (e, st)
+-- so many are fewer than can be numbered, or they have a fault
+pub few-by : (f : Option LayoutFault) (m : Machine) (c : Nothing) (h : Sha256) (b : List ℕ) → StandsBy f m c h b → length b < 2 ^ 64 - 1 ⊎ HasFault b
+few-by None m c h b st = inl (omega (arith, few-behind m b (behind-of m c b st.0)))
+few-by (Some e) m c h b st = inr (e, st)
+
+pub few-scanned : (scan : PartScan) (f : Option LayoutFault) (b : List ℕ) → scan.fault ≡ f → ((e : LayoutFault) → HasFailed scan e → ⊥) → StandsFor scan b → length b < 2 ^ 49
+few-scanned scan None b is well st = few-behind scan.machine b (behind-of scan.machine scan.nothing b (by-none scan.fault scan.machine scan.nothing scan.hasher b is st).0)
+few-scanned scan (Some e) b is well st = absurd (well e is)

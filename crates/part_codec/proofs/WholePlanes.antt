@@ -2,7 +2,7 @@
 use Rattle.std.proofs.Common.{true, ◌≡◌, ℕ, zero, suc, ◌+◌, ◌-◌, ◌*◌, ◌≤◌, ◌<◌, Bool, false, List, [], ◌++◌, length, take, drop, Err, refl, subst, sym, ap, ◌∙◌, arith, length-append, inl, inr}
 use Rattle.std.specs.Prelude.{◌⊎◌}
 use Rattle.std.specs.Int.{w8, from_be_bytes}
-use Rattle.std.proofs.lemmas.List.{drop_at, drop-drop, take_rest, length-drop, length-take-le}
+use Rattle.std.proofs.lemmas.List.{drop_at, drop-drop, take_rest, length-take-le}
 use Rattle.octets_core.specs.Reading.{fault_at}
 use Rattle.octets_core.specs.declared.fault.Why.{Why}
 use Rattle.octets_core.specs.declared.fault.Why.TheVariants as why
@@ -16,10 +16,10 @@ use Rattle.part_codec.specs.declared.machine.Machine.{Machine}
 use Rattle.part_codec.specs.declared.machine.TheConstants.{MAX_PART}
 use Rattle.part_codec.specs.Remaining.{Seen, kept_mode}
 use Rattle.part_codec.specs.Stepping.{in_front, leads_on, skips, tail_of, width_of, passes_last, is_padded_last, kept_after, open_after, seen_after, name_of, open_approx, open_plane, open_block, open_mode, settled, AreLimits, still}
-use Rattle.part_codec.specs.Scanning.{Opened, IsWhole, Stands, StandsFront, Passes, Moved}
+use Rattle.part_codec.specs.Scanning.{Opened, IsWhole, Stands, Passes, Moved}
 use Rattle.part_codec.proofs.FieldSteps.{width-parts, room-steps, front-goes, wrong-front}
-use Rattle.part_codec.specs.Taking.{IsPartial, Advances, Takes}
-use Rattle.part_codec.proofs.MachineStands.{Opened-more, pieces-join, front-moved, field-fails, field-goes, passes-of, moved-of, bytes-front}
+use Rattle.part_codec.specs.Taking.{IsPartial, Advances}
+use Rattle.part_codec.proofs.MachineStands.{Opened-more, field-fails, field-goes, passes-of, moved-of, bytes-front}
 
 -- ---- it is the open field, of which nothing came before
 
@@ -84,30 +84,6 @@ whole-advances m n piece k bytes within some passed empty len goes settles parti
   progress = λ more. some;
 }
 
--- it and maybe the next field came
-pub takes-one : (m n : Machine) (piece : List ℕ) (r : ℕ × Bool) → in_front m.field ≡ true → Advances m n piece r → Takes m n piece r.0
-takes-one m n piece r front f = record {
-  stands = λ s b st. record { seen = _; stands = f.stands s b st; front = front-moved r.1 m n _ front (f.moved s b st) };
-  partial = f.partial;
-  count = f.count;
-}
-
-takes-next : (m n o : Machine) (piece r : List ℕ) (k j : ℕ) → in_front n.field ≡ true → r ≡ drop k piece → Advances m n piece (k, true) → Advances n o r (j, true) → Takes m o piece (k + j)
-takes-next m n o piece r k j front is f g = record {
-  stands = λ s b st.
-      let h = (takes-one n o r (j, true) front g).stands _ (b ++ take k piece) (f.stands s b st) in
-      subst (λ (l : List ℕ). StandsFront o l) (pieces-join b piece k j r is) h;
-  partial = g.partial;
-  count = omega (arith, f.count, g.count, ap length is, length-drop k piece);
-}
-
-pub takes-both : (m n o : Machine) (piece r : List ℕ) (k more : ℕ) → in_front m.field ≡ true → in_front n.field ≡ true → r ≡ drop k piece → Advances m n piece (k, true)
-    → (0 < more → Advances n o r (more, true)) → (more ≡ 0 → o ≡ n) → Takes m o piece (k + more)
-takes-both m n o piece r k zero front next is f some none =
-    let e : k ≡ k + 0 = omega arith in
-    subst (λ (x : Machine). Takes m x piece (k + 0)) (sym (none refl)) (subst (λ (i : ℕ). Takes m n piece i) e (takes-one m n piece (k, true) front f))
-takes-both m n o piece r k (suc j) front next is f some none = takes-next m n o piece r k (suc j) next is f (some (omega arith))
-
 -- ---- it is no plane, and one that has a byte comes behind it
 
 pub leads-alone : (o : Open) (k : Kept) → leads_on o ≡ true → skips o k ≡ 0
@@ -118,11 +94,6 @@ leads-alone opens.ApproxStarts k leads = refl
 leads-alone opens.ExactSeed k leads = refl
 leads-alone opens.ExactStarts k leads = refl
 leads-alone o k leads = absurd cc
-
-pub leads-front : (o : Open) → leads_on o ≡ true → in_front o ≡ true
-leads-front opens.Trailer leads = absurd cc
-leads-front opens.Done leads = absurd cc
-leads-front o leads = refl
 
 approx-leads : (n : ℕ) → (settled (open_approx n) ≡ open_approx n) × (0 < tail_of (open_approx n))
 approx-leads zero = (refl, omega arith)

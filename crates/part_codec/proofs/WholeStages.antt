@@ -1,5 +1,6 @@
 -- All approximate planes of a stage, which came whole in a piece.
-use Rattle.std.proofs.Common.{true, ◌≡◌, ℕ, zero, suc, ◌+◌, ◌-◌, ◌*◌, ◌≤◌, List, [], ◌++◌, length, take, drop, refl, sym, ap, subst, ◌∙◌, arith, append_assoc, length-append, inl}
+use Rattle.std.proofs.Common.{true, ◌≡◌, ℕ, zero, suc, ◌+◌, ◌-◌, ◌*◌, ◌≤◌, ◌<◌, List, [], ◌++◌, length, take, drop, refl, sym, ap, subst, ◌∙◌, arith, append_assoc, length-append, inl}
+use Rattle.std.proofs.Math.Logic.{∥∥₁_map}
 use Rattle.std.proofs.Math.Seq.{take-add}
 use Rattle.std.proofs.lemmas.List.{append-nil, drop-drop, drop-take, take_all, take-append-drop, length-take-le, length-drop, get_or-drop}
 use Rattle.octets_core.proofs.Texts.{IsBytes}
@@ -10,12 +11,11 @@ use Rattle.part_codec.specs.declared.fields.Kept.{Kept}
 use Rattle.part_codec.specs.declared.fields.Open.{Open}
 use Rattle.part_codec.specs.declared.fields.Open.TheVariants as opens
 use Rattle.part_codec.specs.declared.machine.Machine.{Machine}
-use Rattle.part_codec.specs.Remaining.{Seen}
-use Rattle.part_codec.specs.Stepping.{in_front, settled, is_padded_last, width_of, seen_after, ArePadded, open_plane}
-use Rattle.part_codec.specs.Scanning.{Stands, StandsFront, Moved}
-use Rattle.part_codec.specs.Taking.{Takes, PassesPlanes}
-use Rattle.part_codec.specs.Collecting.{with_bytes, with_whole, with_planes, pile_plane, pile_when, pile_passed, CanCollect, Reads, ReadsFront}
-use Rattle.part_codec.proofs.MachineStands.{bytes-front, front-moved}
+use Rattle.part_codec.specs.Stepping.{in_front, settled, is_padded_last, width_of, ArePadded, open_plane}
+use Rattle.part_codec.specs.Scanning.{Moved}
+use Rattle.part_codec.specs.Taking.{PassesPlanes, CanRead, Steps}
+use Rattle.part_codec.specs.Collecting.{with_bytes, with_whole, with_planes, pile_plane, pile_when, pile_passed, CanCollect, Reads, ReadsFront, Holding, ReadsTo, FrontTo, CanPutPlanes}
+use Rattle.part_codec.proofs.MachineStands.{bytes-front}
 use Rattle.part_codec.proofs.WholePlanes.{Goes, plane-width, whole-stands, whole-moved, Behind, one-plane-goes, more-planes, one-behind, field-partial}
 use Rattle.part_codec.proofs.Collects.{can-settle, reads-step, reads-front}
 
@@ -184,34 +184,6 @@ planes-split P keeps m n t is fits f holds =
       settles = f.field ∙ sym (ap settled f.field);
     }
 
--- ---- they are scanned
-
--- behind whatever was seen
-abbrev SomeStands : List ℕ → Machine → List ℕ → Type 0
-SomeStands b m u = (s : Seen) × Stands m s (b ++ u)
-
-stands-keeps : (b : List ℕ) → Keeps (SomeStands b)
-stands-keeps b m u t fits is passed empty len padded more x st =
-    let goes : Goes m x.next t = plane-goes-on m t is len padded more x in
-    let seen : Seen = seen_after m.field m.kept st.0 (drop m.at ((b ++ u) ++ t)) in
-    (seen, subst (λ (l : List ℕ). Stands x.next seen l) (append_assoc b u t) (whole-stands m x.next st.0 (b ++ u) t st.1 fits passed empty (plane-width m t (inl is) len) goes))
-
-pub planes-taken : (m n : Machine) (piece : List ℕ) (k : ℕ) → m.field ≡ opens.ApproxPlane → IsBytes piece → k ≤ length piece → PassesPlanes m n (take k piece) → Takes m n piece k
-planes-taken m n piece k is bytes within f = record {
-  stands = λ s b st.
-      let h = planes-split (SomeStands b) (stands-keeps b) m n (take k piece) is (bytes-front k piece bytes) f (s, subst (λ (l : List ℕ). Stands m s l) (sym (append-nil b)) st) in
-      let c : List ℕ = b ++ h.first in
-      let same : c ++ h.last ≡ b ++ take k piece = append_assoc b h.first h.last ∙ ap (λ (l : List ℕ). b ++ l) h.all in
-      subst (λ (l : List ℕ). StandsFront n l) same (record {
-        seen = _;
-        stands = whole-stands h.before n h.holds.0 c h.last h.holds.1 h.fits h.passed h.empty h.width h.goes;
-        front = front-moved true h.before n (c ++ h.last) (ap in_front h.field)
-            (whole-moved h.before n h.holds.0 c h.last h.holds.1 h.fits h.passed h.empty h.width h.goes h.settles);
-      });
-  partial = field-partial n opens.ExactSeed (omega arith) f.field f.empty.1;
-  count = within;
-}
-
 -- ---- they are collected
 
 -- so many are to come in all, of which those before the open one were put
@@ -268,4 +240,25 @@ planes-put m n p b t is fits f read =
           (reads-front true h.before n (pile_plane 0 n.kept (with_planes p c t)) ((b ++ h.first) ++ h.last) (ap in_front h.field) moved
           (reads-step true h.before n q (pile_passed h.before.field q h.last) (pile_plane 0 n.kept (with_planes p c t)) (b ++ h.first) h.last reads refl moved made
           (whole-stands h.before n reads.0 (b ++ h.first) h.last reads.1 h.fits h.passed h.empty h.width h.goes)));
+    }
+
+pub can-put-planes : {C : Type 0} (H : Holding C) (m n : Machine) (c : C) (t : List ℕ) → CanRead H m c → m.field ≡ opens.ApproxPlane → IsBytes t → PassesPlanes m n t
+    → ∥ CanPutPlanes H c n.kept m.kept.planes t ∥₁
+can-put-planes H m n c t can is fits f = ∥∥₁_map can.read (λ r. (r.1.0, r.1.1, (planes-put m n r.1.0 r.0 t is fits f r.1.2).planes))
+
+pub steps-planes : {C : Type 0} (H : Holding C) (m n : Machine) (c d : C) (piece : List ℕ) (k : ℕ) → CanRead H m c → m.field ≡ opens.ApproxPlane → IsBytes piece → k ≤ length piece → 0 < k
+    → PassesPlanes m n (take k piece) → ((p : PileFields) → H c p → H d (pile_plane 0 n.kept (with_planes p m.kept.planes (take k piece)))) → Steps H m n c d piece k
+steps-planes H m n c d piece k can is fits count some f put =
+    let t : List ℕ = take k piece in
+    let reads : (b : List ℕ) → ReadsTo H m c b → FrontTo H n d (b ++ t) = λ b r.
+    let front = (planes-put m n r.0 b t is (bytes-front k piece fits) f r.2).reads in
+    record { reads = (_, put r.0 r.1, front.reads); front = front.front } in
+    record {
+      takes = record {
+        reads = reads;
+        read = ∥∥₁_map can.read (λ r. (_, (reads r.0 r.1).reads));
+        partial = field-partial n opens.ExactSeed (omega arith) f.field f.empty.1;
+        count = count;
+      };
+      progress = λ more. some;
     }

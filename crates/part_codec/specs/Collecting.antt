@@ -150,10 +150,37 @@ pub record ReadsFront (m : Machine) (p : PileFields) (b : List ℕ) : Type 0 whe
   pub reads : Reads m p b
   pub front : hashed_to m.field m.at (length b) ≡ length b
 
+-- what a collector of this type may have collected
+abbrev pub Holding : Type 0 → Type 1
+Holding C = C → PileFields → Type 0
+
+-- it stands for b behind what this collector holds
+abbrev pub ReadsTo : {C : Type 0} → Holding C → Machine → C → List ℕ → Type 0
+ReadsTo H m c b = (p : PileFields) × H c p × Reads m p b
+
+-- and a field, or the last planes of an approximate stage, can be put to it
+abbrev pub CanPut : {C : Type 0} → Holding C → C → Open → Kept → List ℕ → Type 0
+CanPut H c o k t = (p : PileFields) × H c p × CanCollect o k (pile_passed o p t)
+
+abbrev pub CanPutPlanes : {C : Type 0} → Holding C → C → Kept → ℕ → List ℕ → Type 0
+CanPutPlanes H c k n t = (p : PileFields) × H c p × AreStageBytes k.starts (p.done + n) (p.bytes ++ t)
+
+pub record FrontTo {C : Type 0} (H : Holding C) (m : Machine) (c : C) (b : List ℕ) : Type 0 where
+  pub reads : ReadsTo H m c b
+  pub front : hashed_to m.field m.at (length b) ≡ length b
+
 -- for some bytes
-abbrev pub HasRead : Machine → PileFields → Type 0
-HasRead m p = (b : List ℕ) × Reads m p b
+abbrev pub HasRead : {C : Type 0} → Holding C → Machine → C → Type 0
+HasRead H m c = (b : List ℕ) × ReadsTo H m c b
 
 -- of which those before the trailer were hashed
-abbrev pub HasHashed : Machine → PileFields → Sha256 → Type 0
-HasHashed m p hasher = (b : List ℕ) × Reads m p b × Hashes m hasher b
+abbrev pub HasHashed : {C : Type 0} → Holding C → Machine → C → Sha256 → Type 0
+HasHashed H m c hasher = (b : List ℕ) × ReadsTo H m c b × Hashes m hasher b
+
+-- it is known which pile was collected
+abbrev pub IsPile : Holding PileFields
+IsPile p q = q ≡ p
+
+-- or nothing is
+abbrev pub AnyPile : {C : Type 0} → Holding C
+AnyPile c p = Unit {0}

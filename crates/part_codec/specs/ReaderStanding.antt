@@ -5,7 +5,7 @@ use Rattle.octets_core.specs.declared.fault.Why.TheVariants as why
 use Rattle.part_text.specs.SealedFields.{SealedFields}
 use Rattle.part_text.specs.PartLayout.{part}
 use Rattle.part_codec.specs.PileFields.{PileFields}
-use Rattle.part_codec.specs.Collecting.{Reads}
+use Rattle.part_codec.specs.Collecting.{ReadsTo, IsPile}
 use Rattle.part_codec.specs.Scanning.{Hashes}
 use Rattle.part_text.specs.declared.fault.PartFault.{PartFault}
 use Rattle.part_text.specs.declared.fault.PartFault.TheVariants as faults
@@ -15,7 +15,7 @@ use Rattle.part_codec.specs.declared.reader.PartReader.{PartReader}
 -- By its machine, what it collected and what was hashed, or these bytes have the fault, whatever follows. Want of
 -- memory says nothing of them.
 abbrev pub ReadsBy : Option PartFault → Machine → PileFields → Sha256 → List ℕ → Type 0
-ReadsBy None m p hasher b = Reads m p b × Hashes m hasher b
+ReadsBy None m p hasher b = ReadsTo IsPile m p b × Hashes m hasher b
 ReadsBy (Some e) m p hasher b = (e ≡ faults.NoMemory → ⊥) → (x : List ℕ) → part (b ++ x) 0 ≡ Err e
 
 abbrev pub ReadsFor : PartReader → List ℕ → Type 0

@@ -41,21 +41,9 @@ hashed_to opens.Trailer at len = at
 hashed_to opens.Done at len = at - TRAILER
 hashed_to o at len = len
 
--- it does behind what was seen, and no byte of the trailer came
-pub record StandsFront (m : Machine) (b : List ℕ) : Type 0 where
-  pub seen : Seen
-  pub stands : Stands m seen b
-  pub front : hashed_to m.field m.at (length b) ≡ length b
-
 -- the hasher was given the bytes of b before the trailer
 abbrev pub Hashes : Machine → Sha256 → List ℕ → Type 0
 Hashes m hasher b = Holds256 hasher (take (hashed_to m.field m.at (length b)) b)
-
--- behind whatever was seen
-pub record Scans (m : Machine) (hasher : Sha256) (b : List ℕ) : Type 0 where
-  pub seen : Seen
-  pub stands : Stands m seen b
-  pub hashed : Hashes m hasher b
 
 -- the open field passed
 pub record Passes (m n : Machine) (b : List ℕ) : Type 0 where

@@ -6,15 +6,17 @@ use Rattle.part_text.specs.SealedFields.{SealedFields}
 use Rattle.part_text.specs.PartLayout.{sealed}
 use Rattle.part_codec.specs.declared.machine.Machine.{Machine}
 use Rattle.part_codec.specs.declared.scan.PartScan.{PartScan}
-use Rattle.part_codec.specs.Scanning.{Scans}
+use Rattle.part_codec.specs.declared.collector.Nothing.{Nothing}
+use Rattle.part_codec.specs.Collecting.{ReadsTo, AnyPile}
+use Rattle.part_codec.specs.Scanning.{Hashes}
 
 -- by its machine and what was hashed, or these bytes have the fault, whatever follows
-abbrev pub StandsBy : Option LayoutFault → Machine → Sha256 → List ℕ → Type 0
-StandsBy None m hasher b = Scans m hasher b
-StandsBy (Some e) m hasher b = (x : List ℕ) → sealed (b ++ x) 0 ≡ Err e
+abbrev pub StandsBy : Option LayoutFault → Machine → Nothing → Sha256 → List ℕ → Type 0
+StandsBy None m nothing hasher b = ReadsTo AnyPile m nothing b × Hashes m hasher b
+StandsBy (Some e) m nothing hasher b = (x : List ℕ) → sealed (b ++ x) 0 ≡ Err e
 
 abbrev pub StandsFor : PartScan → List ℕ → Type 0
-StandsFor scan b = StandsBy scan.fault scan.machine scan.hasher b
+StandsFor scan b = StandsBy scan.fault scan.machine scan.nothing scan.hasher b
 
 -- it has answered this fault
 abbrev pub HasFailed : PartScan → LayoutFault → Type 0

@@ -9,10 +9,9 @@ use Rattle.part_codec.specs.declared.fields.Open.TheVariants as opens
 use Rattle.part_codec.specs.declared.machine.Machine.{Machine}
 use Rattle.part_codec.specs.Remaining.{Seen}
 use Rattle.equation_core.specs.Sizes.{words_for}
-use Rattle.part_codec.specs.Stepping.{in_front, tail_of, ArePadded}
-use Rattle.part_codec.specs.PileFields.{PileFields}
-use Rattle.part_codec.specs.Scanning.{Stands, StandsFront, Hashes, Scans, Moved, seen_when}
-use Rattle.part_codec.specs.Collecting.{Reads, ReadsFront, HasRead, HasHashed}
+use Rattle.part_codec.specs.Stepping.{in_front, skips, tail_of, seen_after, ArePadded}
+use Rattle.part_codec.specs.Scanning.{Stands, Hashes, Moved, seen_when}
+use Rattle.part_codec.specs.Collecting.{Holding, ReadsTo, FrontTo, HasRead, HasHashed}
 
 -- not all bytes of the open field came
 abbrev pub IsPartial : Machine → Type 0
@@ -23,6 +22,19 @@ pub record IsFront (m : Machine) : Type 0 where
   pub front : in_front m.field ≡ true
   pub partial : m.filled < tail_of m.field
 
+-- these are the last bytes of the open field, which isn't the trailer
+pub record EndsField (m : Machine) (rest : List ℕ) : Type 0 where
+  pub front : in_front m.field ≡ true
+  pub passed : m.passed ≡ skips m.field m.kept
+  pub len : m.filled + length rest ≡ tail_of m.field
+
+-- with these bytes the open field is whole: it stands behind that, and the next one is open
+abbrev pub StandsBehind : Machine → Machine → List ℕ → Type 0
+StandsBehind m n t = (s : Seen) (b : List ℕ) → Stands m s b → Stands n (seen_after m.field m.kept s (drop m.at (b ++ t))) (b ++ t)
+
+abbrev pub MovedBehind : Machine → Machine → List ℕ → Type 0
+MovedBehind m n t = (s : Seen) (b : List ℕ) → Stands m s b → Moved true m n (b ++ t)
+
 -- Up to the end of the open field: it took so many bytes, and that is whole or not.
 pub record Advances (m n : Machine) (piece : List ℕ) (r : ℕ × Bool) : Type 0 where
   pub stands : (s : Seen) (b : List ℕ) → Stands m s b → Stands n (seen_when r.1 m s (drop m.at (b ++ take r.0 piece))) (b ++ take r.0 piece)
@@ -30,12 +42,6 @@ pub record Advances (m n : Machine) (piece : List ℕ) (r : ℕ × Bool) : Type 
   pub partial : IsPartial n
   pub count : r.0 ≤ length piece
   pub progress : 0 < length piece → 0 < r.0
-
--- so many bytes, none of the trailer
-pub record Takes (m n : Machine) (piece : List ℕ) (taken : ℕ) : Type 0 where
-  pub stands : (s : Seen) (b : List ℕ) → Stands m s b → StandsFront n (b ++ take taken piece)
-  pub partial : IsPartial n
-  pub count : taken ≤ length piece
 
 -- They are the bytes of all approximate planes of a stage, which passed, and the next field is open.
 pub record PassesPlanes (m n : Machine) (t : List ℕ) : Type 0 where
@@ -63,32 +69,39 @@ Fails m piece e = (s : Seen) (b x : List ℕ) → Stands m s b → sealed (b ++ 
 abbrev pub FailsAtEnd : Machine → Sha256 → List ℕ → LayoutFault → Type 0
 FailsAtEnd m hasher piece e = (s : Seen) (b x : List ℕ) → Stands m s b → Hashes m hasher b → sealed (b ++ piece ++ x) 0 ≡ Err e
 
--- so many bytes, of which those before the trailer were hashed
-pub record ScansOn (m n : Machine) (hasher hashed : Sha256) (piece : List ℕ) (taken : ℕ) : Type 0 where
-  pub scans : (b : List ℕ) → Scans m hasher b → Scans n hashed (b ++ take taken piece)
+-- a collector that holds what was read of a part may go on
+pub record CanRead {C : Type 0} (H : Holding C) (m : Machine) (c : C) : Type 0 where
+  pub front : IsFront m
+  pub read : ∥ HasRead H m c ∥₁
+
+-- so may one that holds what was read and hashed
+pub record CanHash {C : Type 0} (H : Holding C) (m : Machine) (c : C) (hasher : Sha256) : Type 0 where
+  pub partial : IsPartial m
+  pub read : ∥ HasHashed H m c hasher ∥₁
+
+-- so many bytes, none of the trailer, were read
+pub record Takes {C : Type 0} (H : Holding C) (m n : Machine) (c d : C) (piece : List ℕ) (taken : ℕ) : Type 0 where
+  pub reads : (b : List ℕ) → ReadsTo H m c b → FrontTo H n d (b ++ take taken piece)
+  pub read : ∥ HasRead H n d ∥₁
   pub partial : IsPartial n
   pub count : taken ≤ length piece
 
-abbrev pub FailsScan : Machine → Sha256 → List ℕ → LayoutFault → Type 0
-FailsScan m hasher piece e = (b x : List ℕ) → Scans m hasher b → sealed (b ++ piece ++ x) 0 ≡ Err e
-
--- so many bytes, none of the trailer, were collected
-pub record TakesTo (m n : Machine) (p q : PileFields) (piece : List ℕ) (taken : ℕ) : Type 0 where
-  pub reads : (b : List ℕ) → Reads m p b → ReadsFront n q (b ++ take taken piece)
-  pub read : ∥ HasRead n q ∥₁
-  pub partial : IsPartial n
-  pub count : taken ≤ length piece
+-- and it took some, if there are any
+pub record Steps {C : Type 0} (H : Holding C) (m n : Machine) (c d : C) (piece : List ℕ) (taken : ℕ) : Type 0 where
+  pub takes : Takes H m n c d piece taken
+  pub progress : 0 < length piece → 0 < taken
 
 -- so many bytes were, and those before the trailer were hashed
-pub record ReadsOn (m n : Machine) (p q : PileFields) (hasher hashed : Sha256) (piece : List ℕ) (taken : ℕ) : Type 0 where
-  pub reads : (b : List ℕ) → Reads m p b → Hashes m hasher b → Reads n q (b ++ take taken piece) × Hashes n hashed (b ++ take taken piece)
-  pub read : ∥ HasHashed n q hashed ∥₁
+pub record ReadsOn {C : Type 0} (H : Holding C) (m n : Machine) (c d : C) (h g : Sha256) (piece : List ℕ) (taken : ℕ) : Type 0 where
+  pub reads : (b : List ℕ) → ReadsTo H m c b → Hashes m h b → ReadsTo H n d (b ++ take taken piece) × Hashes n g (b ++ take taken piece)
+  pub read : ∥ HasHashed H n d g ∥₁
   pub partial : IsPartial n
   pub count : taken ≤ length piece
 
--- want of memory apart
-abbrev pub FailsRead : Machine → PileFields → List ℕ → PartFault → Type 0
-FailsRead m p piece e = e ≢ faults.NoMemory → (b x : List ℕ) → Reads m p b → part (b ++ piece ++ x) 0 ≡ Err e
+-- want of memory apart, where there may be one
+abbrev pub FailsRead : {C : Type 0} → Holding C → Type 0 → Machine → C → List ℕ → PartFault → Type 0
+FailsRead H L m c piece e = (L → e ≢ faults.NoMemory) → (b x : List ℕ) → ReadsTo H m c b → part (b ++ piece ++ x) 0 ≡ Err e
 
-abbrev pub FailsHashed : Machine → PileFields → Sha256 → List ℕ → PartFault → Type 0
-FailsHashed m p hasher piece e = e ≢ faults.NoMemory → (b x : List ℕ) → Reads m p b → Hashes m hasher b → part (b ++ piece ++ x) 0 ≡ Err e
+abbrev pub FailsHashed : {C : Type 0} → Holding C → Type 0 → Machine → C → Sha256 → List ℕ → PartFault → Type 0
+FailsHashed H L m c hasher piece e =
+    (L → e ≢ faults.NoMemory) → (b x : List ℕ) → ReadsTo H m c b → Hashes m hasher b → part (b ++ piece ++ x) 0 ≡ Err e

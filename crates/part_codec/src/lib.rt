@@ -1,12 +1,14 @@
 //! The part that bytes begin with, whole and in pieces.
 #![tactic(auto)]
 
+mod collector;
 mod decode;
 mod fields;
 mod machine;
 mod pile;
 mod reader;
 mod scan;
+mod walk;
 
 pub use decode::decode_part;
 pub use part_text::{

@@ -9,13 +9,11 @@ ghost use Rattle.part_codec.specs.declared.machine.TheConstants.{MAX_PART};
 ghost use Rattle.part_text.specs.PartLayout.{sealed};
 ghost use Rattle.part_codec.specs.Remaining.{Seen, nothing_seen};
 ghost use Rattle.part_codec.specs.Stepping.{in_front, skips as skips_of, tail_of, kept_after, seen_after, open_after, settled};
-ghost use Rattle.part_codec.specs.Stepping.{AreStarts, AreLimits, leads_on, name_of, still};
+ghost use Rattle.part_codec.specs.Stepping.{AreStarts, AreLimits, name_of, still};
 
 mod whole;
 
-use crate::fields::{
-    Kept, Open, TRAILER, is_digest, is_front, keep, name, next_of, passes, skips, tail,
-};
+use crate::fields::{Kept, Open, TRAILER, is_digest, keep, name, next_of, passes, skips, tail};
 use card_core::MAX_BLOCKS;
 use ident_core::{MAX_RANGES, RANGE_BYTES};
 use octets_core::{Key32, LayoutFault, Why};
@@ -52,8 +50,9 @@ pub(crate) struct Machine {
 }
 
 impl Machine {
-    ghost use Rattle.part_codec.specs.Scanning.{Opened, IsWhole, Tested, Stands, StandsFront, Stays, Passes, Moved};
-    ghost use Rattle.part_codec.specs.Taking.{IsFront, IsPartial, Advances, Takes, Closes, Fails, FailsAtEnd};
+    ghost use Rattle.part_codec.specs.Scanning.{Opened, IsWhole, Tested, Stands, Stays, Passes, Moved};
+    ghost use Rattle.part_codec.specs.Taking.{IsFront, IsPartial, EndsField, StandsBehind, MovedBehind};
+    ghost use Rattle.part_codec.specs.Taking.{Advances, Closes, Fails, FailsAtEnd};
 
     /// At the first field.
     pub(crate) fn new() -> Machine
@@ -214,15 +213,11 @@ impl Machine {
     /// The last bytes of the open field came, of which some are held.
     #[inline(never)]
     fn complete_held(&mut self, rest: &[u8]) -> Result<(), LayoutFault>
-        requires front { in_front self.old.field ≡ true }
-        requires passed { self.old.passed ≡ skips_of self.old.field self.old.kept }
-        requires len { self.old.filled + length rest.now ≡ tail_of self.old.field }
-        ensures ok { OnOk result ((s : Seen) (b : List ℕ) → Stands self.old s b
-            → Stands self.new (seen_after self.old.field self.old.kept s (drop self.old.at (b ++ rest.now))) (b ++ rest.now)) }
-        ensures moved { OnOk result ((s : Seen) (b : List ℕ) → Stands self.old s b → Moved true self.old self.new (b ++ rest.now)) }
-        ensures err { IfErr result (λ e. (s : Seen) (b x : List ℕ) → Stands self.old s b → sealed (b ++ rest.now ++ x) 0 ≡ Err e) }
+        requires { EndsField self.old rest.now }
+        ensures ok { OnOk result (StandsBehind self.old self.new rest.now) }
+        ensures moved { OnOk result (MovedBehind self.old self.new rest.now) }
+        ensures err { IfErr result (Fails self.old rest.now) }
         ensures partial { OnOk result (IsPartial self.new) }
-        ensures empty { OnOk result (self.new.filled ≡ 0) }
     {
         self.hold(rest);
         let held = self.held;
@@ -232,15 +227,11 @@ impl Machine {
     /// The last bytes of the open field came.
     #[inline(always)]
     fn complete_with(&mut self, rest: &[u8]) -> Result<(), LayoutFault>
-        requires front { in_front self.old.field ≡ true }
-        requires passed { self.old.passed ≡ skips_of self.old.field self.old.kept }
-        requires len { self.old.filled + length rest.now ≡ tail_of self.old.field }
-        ensures ok { OnOk result ((s : Seen) (b : List ℕ) → Stands self.old s b
-            → Stands self.new (seen_after self.old.field self.old.kept s (drop self.old.at (b ++ rest.now))) (b ++ rest.now)) }
-        ensures moved { OnOk result ((s : Seen) (b : List ℕ) → Stands self.old s b → Moved true self.old self.new (b ++ rest.now)) }
-        ensures err { IfErr result (λ e. (s : Seen) (b x : List ℕ) → Stands self.old s b → sealed (b ++ rest.now ++ x) 0 ≡ Err e) }
+        requires { EndsField self.old rest.now }
+        ensures ok { OnOk result (StandsBehind self.old self.new rest.now) }
+        ensures moved { OnOk result (MovedBehind self.old self.new rest.now) }
+        ensures err { IfErr result (Fails self.old rest.now) }
         ensures partial { OnOk result (IsPartial self.new) }
-        ensures empty { OnOk result (self.new.filled ≡ 0) }
     {
         if self.filled == 0 {
             return self.complete(rest);
@@ -321,119 +312,6 @@ impl Machine {
             Open::ExactPlane => self.advance_exact(piece),
             _ => self.step(piece),
         }
-    }
-
-    /// Takes bytes of this field of a mixed leaf, which isn't a plane. Answers how many.
-    #[inline(always)]
-    fn take_field(&mut self, field: Open, piece: &[u8]) -> Result<usize, LayoutFault>
-        requires field { self.old.field ≡ field }
-        requires leads { leads_on field ≡ true }
-        requires front { IsFront self.old }
-        ensures ok { IfOk result (Takes self.old self.new piece.now) }
-        ensures err { IfErr result (Fails self.old piece.now) }
-        ensures progress { IfOk result (λ n. 0 < length piece.now → 0 < n) }
-    {
-        let n = self.whole_field(field, piece);
-        if n == 0 {
-            let (n, _) = self.step_apart(piece)?;
-            return Ok(n);
-        }
-        Ok(n)
-    }
-
-    /// Takes bytes of the seed of a stage, and of its starts where both are whole in the piece. Answers how many.
-    #[inline(always)]
-    fn take_head(&mut self, seed: Open, starts: Open, piece: &[u8]) -> Result<usize, LayoutFault>
-        requires field { self.old.field ≡ seed }
-        requires leads { (leads_on seed ≡ true) × (leads_on starts ≡ true) }
-        requires follows { (k : Kept) → open_after seed k ≡ starts }
-        requires front { IsFront self.old }
-        ensures ok { IfOk result (Takes self.old self.new piece.now) }
-        ensures err { IfErr result (Fails self.old piece.now) }
-        ensures progress { IfOk result (λ n. 0 < length piece.now → 0 < n) }
-    {
-        let n = self.whole_field(seed, piece);
-        if n == 0 {
-            let (n, _) = self.step_apart(piece)?;
-            return Ok(n);
-        }
-        let more = self.whole_field(starts, &piece[n..]);
-        Ok(n + more)
-    }
-
-    /// Takes bytes of an approximate stage's planes: all that are left, where they are whole in the piece, or else of
-    /// the open one. Answers how many.
-    #[inline(always)]
-    fn take_planes(&mut self, piece: &[u8]) -> Result<usize, LayoutFault>
-        requires field { self.old.field ≡ Open.ApproxPlane }
-        requires front { IsFront self.old }
-        ensures ok { IfOk result (Takes self.old self.new piece.now) }
-        ensures err { IfErr result (Fails self.old piece.now) }
-        ensures progress { IfOk result (λ n. 0 < length piece.now → 0 < n) }
-    {
-        let n = self.whole_planes(piece);
-        if n == 0 {
-            let (n, _) = self.step_apart(piece)?;
-            return Ok(n);
-        }
-        Ok(n)
-    }
-
-    /// Takes bytes of the issuer of a block, and of its mode where both are whole in the piece. Answers how many.
-    #[inline(always)]
-    fn take_block(&mut self, piece: &[u8]) -> Result<usize, LayoutFault>
-        requires field { self.old.field ≡ Open.BlockIssuer }
-        requires front { IsFront self.old }
-        ensures ok { IfOk result (Takes self.old self.new piece.now) }
-        ensures err { IfErr result (Fails self.old piece.now) }
-        ensures progress { IfOk result (λ n. 0 < length piece.now → 0 < n) }
-    {
-        let n = self.whole_field(Open::BlockIssuer, piece);
-        if n == 0 {
-            let (n, _) = self.step_apart(piece)?;
-            return Ok(n);
-        }
-        let more = self.whole_mode(&piece[n..]);
-        Ok(n + more)
-    }
-
-    /// Takes bytes up to the end of the open field, or of fields that stand together. Answers how many.
-    #[inline(always)]
-    fn walk(&mut self, piece: &[u8]) -> Result<usize, LayoutFault>
-        requires { IsFront self.old }
-        ensures ok { IfOk result (Takes self.old self.new piece.now) }
-        ensures err { IfErr result (Fails self.old piece.now) }
-        ensures progress { IfOk result (λ n. 0 < length piece.now → 0 < n) }
-    {
-        match self.field {
-            Open::BlockIssuer => self.take_block(piece),
-            Open::BlockK => self.take_field(Open::BlockK, piece),
-            Open::ApproxSeed => self.take_head(Open::ApproxSeed, Open::ApproxStarts, piece),
-            Open::ApproxPlane => self.take_planes(piece),
-            Open::ExactSeed => self.take_head(Open::ExactSeed, Open::ExactStarts, piece),
-            _ => {
-                let (n, _) = self.advance(piece)?;
-                Ok(n)
-            }
-        }
-    }
-
-    /// Takes the next piece up to the trailer. Answers how many bytes it took.
-    pub(crate) fn read(&mut self, piece: &[u8]) -> Result<usize, LayoutFault>
-        requires { IsFront self.old }
-        ensures ok { IfOk result (Takes self.old self.new piece.now) }
-        ensures err { IfErr result (Fails self.old piece.now) }
-        ensures all { IfOk result (λ n. n < length piece.now → in_front self.new.field ≡ false) }
-    {
-        let mut taken = 0;
-        while taken < piece.len() {
-            if !is_front(self.field) {
-                return Ok(taken);
-            }
-            let n = self.walk(&piece[taken..])?;
-            taken += n;
-        }
-        Ok(taken)
     }
 
     /// The trailer, these bytes, is whole: tests it, and closes the part.

@@ -2,10 +2,11 @@
 
 ghost use Rattle.std.specs.Prelude.{◌≡◌, ◌<◌, ◌≤◌, ◌+◌, ◌++◌, [], IfOk, OnOk, true};
 ghost use Rattle.part_codec.specs.Collecting.{nothing_piled, with_bytes, with_whole, with_body, with_shard, with_leaf, IsLast};
-ghost use Rattle.part_codec.specs.Collecting.{with_planes, stage_by, cleared, pile_mode, pile_plane, pile_exact};
-ghost use Rattle.part_codec.specs.Collecting.{pile_after, pile_when, pile_passed, CanCollect};
+ghost use Rattle.part_codec.specs.Collecting.{stage_by, cleared, pile_mode, pile_plane, pile_exact};
+ghost use Rattle.part_codec.specs.Collecting.{pile_after, pile_passed, CanCollect, IsPile};
 ghost use Rattle.part_codec.specs.ReadPlanes.{AreStageBytes};
 
+use crate::collector::Collector;
 use crate::fields::{Kept, LEAST_BLOCK, Open};
 use card_core::{Block, Body, Leaf, Mixed, Sharded, Stage};
 use ident_core::{RANGE_BYTES, Range};
@@ -18,6 +19,7 @@ use std::mem;
 /// The ranges and blocks that came whole, and of the open block its shards and stages.
 #[derive(Drop)]
 pub(crate) struct Pile {
+    alloc: Global,
     ranges: Vec<Range>,
     blocks: Vec<Block>,
     /// The leaves of the open block, where it is sharded.
@@ -48,6 +50,7 @@ impl Pile {
         ensures { result ≡ nothing_piled }
     {
         Pile {
+            alloc,
             ranges: Vec::new(alloc),
             blocks: Vec::new(alloc),
             leaves: Vec::new(alloc),
@@ -81,11 +84,11 @@ impl Pile {
         Ok(())
     }
 
-    fn stage(&self, alloc: Global, kept: &Kept) -> Result<Stage, NoMemory>
+    fn stage(&self, kept: &Kept) -> Result<Stage, NoMemory>
         requires { AreStageBytes kept.now.starts self.now.done self.now.bytes }
         ensures { IfOk result (λ s. s ≡ stage_by kept.now self.now) }
     {
-        let planes = Planes::of_bytes(alloc, kept.starts, self.done, &self.bytes)?;
+        let planes = Planes::of_bytes(self.alloc, kept.starts, self.done, &self.bytes)?;
         Ok(Stage {
             seed: kept.seed,
             planes,
@@ -104,7 +107,7 @@ impl Pile {
     }
 
     /// The leaf of a shard. With the last one the block is whole.
-    fn push_shard(&mut self, alloc: Global, kept: &Kept, leaf: Leaf) -> Result<(), NoMemory>
+    fn push_shard(&mut self, kept: &Kept, leaf: Leaf) -> Result<(), NoMemory>
         requires some { 1 ≤ kept.now.shift }
         requires last { IsLast kept.now self.old }
         ensures { OnOk result (self.new ≡ with_shard kept.now.leaves kept.now leaf self.old) }
@@ -112,7 +115,7 @@ impl Pile {
         self.leaves.push(leaf)?;
         match kept.leaves {
             0 => {
-                let leaves = mem::replace(&mut self.leaves, Vec::new(alloc));
+                let leaves = mem::replace(&mut self.leaves, Vec::new(self.alloc));
                 self.push_body(kept, Body::Sharded(Sharded::new(kept.shift, leaves)))
             }
             _ => Ok(()),
@@ -120,70 +123,48 @@ impl Pile {
     }
 
     #[inline(always)]
-    fn push_leaf(&mut self, alloc: Global, kept: &Kept, leaf: Leaf) -> Result<(), NoMemory>
+    fn push_leaf(&mut self, kept: &Kept, leaf: Leaf) -> Result<(), NoMemory>
         requires { IsLast kept.now self.old }
         ensures { OnOk result (self.new ≡ with_leaf kept.now leaf self.old) }
     {
         match kept.shift {
             0 => self.push_body(kept, Body::from(leaf)),
-            _ => self.push_shard(alloc, kept, leaf),
+            _ => self.push_shard(kept, leaf),
         }
     }
 
     #[inline(always)]
-    pub(crate) fn approx_plane(
-        &mut self,
-        alloc: Global,
-        kept: &Kept,
-        last: &[u8],
-    ) -> Result<(), NoMemory>
+    fn approx_plane(&mut self, kept: &Kept, last: &[u8]) -> Result<(), NoMemory>
         requires { AreStageBytes kept.now.starts (self.old.done + 1) (self.old.bytes ++ last.now) }
         ensures { OnOk result (self.new ≡ pile_plane kept.now.planes kept.now (with_whole (with_bytes self.old last.now))) }
     {
         self.close_plane(last)?;
         if kept.planes == 0 {
-            self.approx = Some(self.stage(alloc, kept)?);
+            self.approx = Some(self.stage(kept)?);
         }
         Ok(())
     }
 
-    /// The last planes of an approximate stage, so many, of which these are the bytes.
-    pub(crate) fn approx_planes(
-        &mut self,
-        alloc: Global,
-        kept: &Kept,
-        count: u8,
-        bytes: &[u8],
-    ) -> Result<(), NoMemory>
-        requires { AreStageBytes kept.now.starts (self.old.done + count) (self.old.bytes ++ bytes.now) }
-        ensures { OnOk result (self.new ≡ pile_plane 0 kept.now (with_planes self.old count bytes.now)) }
-    {
-        self.bytes.extend_from_slice(bytes)?;
-        self.done += count;
-        self.approx = Some(self.stage(alloc, kept)?);
-        Ok(())
-    }
-
-    fn exact_plane(&mut self, alloc: Global, kept: &Kept, last: &[u8]) -> Result<(), NoMemory>
+    fn exact_plane(&mut self, kept: &Kept, last: &[u8]) -> Result<(), NoMemory>
         requires planes { AreStageBytes kept.now.starts (self.old.done + 1) (self.old.bytes ++ last.now) }
         requires one { self.old.done ≡ 0 }
         requires last { IsLast kept.now self.old }
         ensures { OnOk result (self.new ≡ pile_exact kept.now (with_bytes self.old last.now)) }
     {
         self.close_plane(last)?;
-        let exact = self.stage(alloc, kept)?;
+        let exact = self.stage(kept)?;
         let approx = self.approx.take();
-        self.push_leaf(alloc, kept, Leaf::Mixed(Mixed::new(approx, exact)))
+        self.push_leaf(kept, Leaf::Mixed(Mixed::new(approx, exact)))
     }
 
     #[inline(always)]
-    pub(crate) fn plain(&mut self, alloc: Global, kept: &Kept) -> Result<(), NoMemory>
+    fn plain(&mut self, kept: &Kept) -> Result<(), NoMemory>
         requires { IsLast kept.now self.old }
         ensures { OnOk result (self.new ≡ pile_mode kept.now.mode kept.now self.old) }
     {
         match kept.mode {
-            0 => self.push_leaf(alloc, kept, Leaf::Clean),
-            1 => self.push_leaf(alloc, kept, Leaf::Every),
+            0 => self.push_leaf(kept, Leaf::Clean),
+            1 => self.push_leaf(kept, Leaf::Every),
             _ => Ok(()),
         }
     }
@@ -228,7 +209,6 @@ impl Pile {
     #[inline(always)]
     fn collect(
         &mut self,
-        alloc: Global,
         field: Open,
         kept: &Kept,
         piece: &[u8],
@@ -245,35 +225,15 @@ impl Pile {
                 to: kept.to,
             })?,
             Open::Issuers => self.clear_blocks(kept.issuers, bytes)?,
-            Open::BlockMode | Open::ShardMode => self.plain(alloc, kept)?,
+            Open::BlockMode | Open::ShardMode => self.plain(kept)?,
             Open::BlockShift => self.clear_leaves(kept.leaves, bytes)?,
             Open::BlockK => self.approx = None,
             Open::ApproxStarts | Open::ExactStarts => self.clear_stage(),
-            Open::ApproxPlane => self.approx_plane(alloc, kept, piece)?,
-            Open::ExactPlane => self.exact_plane(alloc, kept, piece)?,
+            Open::ApproxPlane => self.approx_plane(kept, piece)?,
+            Open::ExactPlane => self.exact_plane(kept, piece)?,
             _ => {}
         }
         Ok(())
-    }
-
-    /// Collects bytes of a field, and what it tells if it is whole with them. So many are at hand behind them.
-    #[inline(always)]
-    pub(crate) fn put(
-        &mut self,
-        alloc: Global,
-        field: Open,
-        kept: &Kept,
-        piece: &[u8],
-        whole: bool,
-        bytes: usize,
-    ) -> Result<(), NoMemory>
-        requires { whole ≡ true → CanCollect field kept.now (pile_passed field self.old piece.now) }
-        ensures { OnOk result (self.new ≡ pile_when whole field kept.now (pile_passed field self.old piece.now)) }
-    {
-        match whole {
-            true => self.collect(alloc, field, kept, piece, bytes),
-            false => self.pass(field, piece),
-        }
     }
 
     pub(crate) fn lists(self) -> (Vec<Range>, Vec<Block>)
@@ -281,5 +241,33 @@ impl Pile {
         ensures blocks { result.1.items ≡ self.blocks }
     {
         (self.ranges, self.blocks)
+    }
+}
+
+impl Collector for Pile {
+    ghost holds = { IsPile };
+
+    ghost wants = { Unit {0} };
+
+    #[inline(always)]
+    fn put(
+        &mut self,
+        field: Open,
+        kept: &Kept,
+        piece: &[u8],
+        whole: bool,
+        bytes: usize,
+    ) -> Result<(), NoMemory> {
+        match whole {
+            true => self.collect(field, kept, piece, bytes),
+            false => self.pass(field, piece),
+        }
+    }
+
+    fn put_planes(&mut self, kept: &Kept, count: u8, bytes: &[u8]) -> Result<(), NoMemory> {
+        self.bytes.extend_from_slice(bytes)?;
+        self.done += count;
+        self.approx = Some(self.stage(kept)?);
+        Ok(())
     }
 }

@@ -1,264 +1,29 @@
 //! Parts that are read in pieces.
 
-ghost use Rattle.std.specs.Prelude.{◌≡◌, ◌≢◌, ◌++◌, ◌+◌, ◌≤◌, ◌<◌, ℕ, List, [], length, take, true, false};
+ghost use Rattle.std.specs.Prelude.{◌≡◌, ◌≢◌, ◌++◌, ◌+◌, ◌≤◌, ◌<◌, ℕ, List, [], length, take};
 ghost use Rattle.std.specs.Prelude.{None, Ok, Err, IfOk, OnOk, IfErr};
 ghost use Rattle.part_text.specs.SealedFields.{SealedFields};
 ghost use Rattle.part_codec.specs.declared.fields.Open.TheVariants as opens;
 ghost use Rattle.part_text.specs.declared.fault.PartFault.TheVariants as faults;
 ghost use Rattle.part_text.specs.PartLayout.{part};
-ghost use Rattle.part_codec.specs.Stepping.{in_front, leads_on};
-ghost use Rattle.part_codec.specs.Collecting.{Reads, HasRead, HasHashed};
-ghost use Rattle.part_codec.specs.Taking.{IsFront, IsPartial, TakesTo, ReadsOn, FailsRead, FailsHashed};
+ghost use Rattle.part_codec.specs.Collecting.{ReadsTo, HasRead, HasHashed, IsPile};
+ghost use Rattle.part_codec.specs.Taking.{IsPartial};
 
-use crate::fields::{Open, is_done, is_front, kind};
+use crate::fields::{is_done, kind};
 use crate::machine::Machine;
 use crate::pile::Pile;
+use crate::walk::read_on;
 use card_core::Part;
 use ident_core::Head;
 use part_text::{PartFault, Sealed};
 use sha2::{Digest, Sha256};
 use std::alloc::Global;
 
-/// Takes bytes up to the end of the open field, which isn't the trailer, and collects what they make whole.
-#[inline(always)]
-fn step(
-    alloc: Global,
-    machine: &mut Machine,
-    pile: &mut Pile,
-    piece: &[u8],
-) -> Result<usize, PartFault>
-    requires front { IsFront machine.old }
-    requires read { ∥ HasRead machine.old pile.old ∥₁ }
-    ensures ok { IfOk result (TakesTo machine.old machine.new pile.old pile.new piece.now) }
-    ensures err { IfErr result (FailsRead machine.old pile.old piece.now) }
-    ensures progress { IfOk result (λ n. 0 < length piece.now → 0 < n) }
-{
-    let field = machine.field;
-    let (n, whole) = machine.advance(piece)?;
-    pile.put(
-        alloc,
-        field,
-        &machine.kept,
-        &piece[..n],
-        whole,
-        piece.len() - n,
-    )?;
-    Ok(n)
-}
-
-/// `step`, which isn't copied to where this is called.
-#[inline(never)]
-fn step_apart(
-    alloc: Global,
-    machine: &mut Machine,
-    pile: &mut Pile,
-    piece: &[u8],
-) -> Result<usize, PartFault>
-    requires front { IsFront machine.old }
-    requires read { ∥ HasRead machine.old pile.old ∥₁ }
-    ensures ok { IfOk result (TakesTo machine.old machine.new pile.old pile.new piece.now) }
-    ensures err { IfErr result (FailsRead machine.old pile.old piece.now) }
-    ensures progress { IfOk result (λ n. 0 < length piece.now → 0 < n) }
-{
-    step(alloc, machine, pile, piece)
-}
-
-/// `step` at this field of a mixed leaf, which isn't a plane. Where it is whole in the piece, nothing goes by the open
-/// field.
-#[inline(always)]
-fn step_field(
-    alloc: Global,
-    machine: &mut Machine,
-    pile: &mut Pile,
-    field: Open,
-    piece: &[u8],
-) -> Result<usize, PartFault>
-    requires field { machine.old.field ≡ field }
-    requires leads { leads_on field ≡ true }
-    requires front { IsFront machine.old }
-    requires read { ∥ HasRead machine.old pile.old ∥₁ }
-    ensures ok { IfOk result (TakesTo machine.old machine.new pile.old pile.new piece.now) }
-    ensures err { IfErr result (FailsRead machine.old pile.old piece.now) }
-    ensures progress { IfOk result (λ n. 0 < length piece.now → 0 < n) }
-{
-    let n = machine.whole_field(field, piece);
-    if n == 0 {
-        return step_apart(alloc, machine, pile, piece);
-    }
-    let left = piece.len() - n;
-    pile.put(alloc, field, &machine.kept, &piece[..n], true, left)?;
-    Ok(n)
-}
-
-/// `step` at an approximate plane. Where all that are left of the stage are whole in the piece, they are taken at once.
-#[inline(always)]
-fn step_planes(
-    alloc: Global,
-    machine: &mut Machine,
-    pile: &mut Pile,
-    piece: &[u8],
-) -> Result<usize, PartFault>
-    requires field { machine.old.field ≡ opens.ApproxPlane }
-    requires front { IsFront machine.old }
-    requires read { ∥ HasRead machine.old pile.old ∥₁ }
-    ensures ok { IfOk result (TakesTo machine.old machine.new pile.old pile.new piece.now) }
-    ensures err { IfErr result (FailsRead machine.old pile.old piece.now) }
-    ensures progress { IfOk result (λ n. 0 < length piece.now → 0 < n) }
-{
-    let count = machine.kept.planes;
-    let n = machine.whole_planes(piece);
-    if n > 0 {
-        pile.approx_planes(alloc, &machine.kept, count, &piece[..n])?;
-        return Ok(n);
-    }
-    step_apart(alloc, machine, pile, piece)
-}
-
-/// Takes the mode of a block, if it is at hand and more than the trailer follows, and collects the block where it says
-/// none or all.
-#[inline(always)]
-fn step_mode(
-    alloc: Global,
-    machine: &mut Machine,
-    pile: &mut Pile,
-    piece: &[u8],
-) -> Result<usize, PartFault>
-    requires field { machine.old.field ≡ opens.BlockMode }
-    requires front { IsFront machine.old }
-    requires read { ∥ HasRead machine.old pile.old ∥₁ }
-    ensures ok { IfOk result (TakesTo machine.old machine.new pile.old pile.new piece.now) }
-    ensures err { IfErr result (FailsRead machine.old pile.old piece.now) }
-{
-    let n = machine.whole_mode(piece);
-    if n == 0 {
-        return Ok(0);
-    }
-    pile.plain(alloc, &machine.kept)?;
-    Ok(n)
-}
-
-/// `step` at the issuer of a block, and at its mode where both are at hand.
-#[inline(always)]
-fn step_block(
-    alloc: Global,
-    machine: &mut Machine,
-    pile: &mut Pile,
-    piece: &[u8],
-) -> Result<usize, PartFault>
-    requires field { machine.old.field ≡ opens.BlockIssuer }
-    requires front { IsFront machine.old }
-    requires read { ∥ HasRead machine.old pile.old ∥₁ }
-    ensures ok { IfOk result (TakesTo machine.old machine.new pile.old pile.new piece.now) }
-    ensures err { IfErr result (FailsRead machine.old pile.old piece.now) }
-    ensures progress { IfOk result (λ n. 0 < length piece.now → 0 < n) }
-{
-    let n = machine.whole_field(Open::BlockIssuer, piece);
-    if n == 0 {
-        return step_apart(alloc, machine, pile, piece);
-    }
-    let more = step_mode(alloc, machine, pile, &piece[n..])?;
-    Ok(n + more)
-}
-
-/// Takes bytes of a field, of a block that says none or all, or of planes that stand together.
-#[inline(always)]
-fn walk(
-    alloc: Global,
-    machine: &mut Machine,
-    pile: &mut Pile,
-    piece: &[u8],
-) -> Result<usize, PartFault>
-    requires front { IsFront machine.old }
-    requires read { ∥ HasRead machine.old pile.old ∥₁ }
-    ensures ok { IfOk result (TakesTo machine.old machine.new pile.old pile.new piece.now) }
-    ensures err { IfErr result (FailsRead machine.old pile.old piece.now) }
-    ensures progress { IfOk result (λ n. 0 < length piece.now → 0 < n) }
-{
-    match machine.field {
-        Open::BlockIssuer => step_block(alloc, machine, pile, piece),
-        Open::BlockK => step_field(alloc, machine, pile, Open::BlockK, piece),
-        Open::ApproxSeed => step_field(alloc, machine, pile, Open::ApproxSeed, piece),
-        Open::ApproxStarts => step_field(alloc, machine, pile, Open::ApproxStarts, piece),
-        Open::ApproxPlane => step_planes(alloc, machine, pile, piece),
-        Open::ExactSeed => step_field(alloc, machine, pile, Open::ExactSeed, piece),
-        Open::ExactStarts => step_field(alloc, machine, pile, Open::ExactStarts, piece),
-        _ => step(alloc, machine, pile, piece),
-    }
-}
-
-/// Takes the bytes of the piece before the trailer.
-fn read_fields(
-    alloc: Global,
-    machine: &mut Machine,
-    pile: &mut Pile,
-    piece: &[u8],
-) -> Result<usize, PartFault>
-    requires front { IsFront machine.old }
-    requires read { ∥ HasRead machine.old pile.old ∥₁ }
-    ensures ok { IfOk result (TakesTo machine.old machine.new pile.old pile.new piece.now) }
-    ensures err { IfErr result (FailsRead machine.old pile.old piece.now) }
-    ensures all { IfOk result (λ n. n < length piece.now → in_front machine.new.field ≡ false) }
-{
-    let mut taken = 0;
-    while taken < piece.len() {
-        if !is_front(machine.field) {
-            return Ok(taken);
-        }
-        let n = walk(alloc, machine, pile, &piece[taken..])?;
-        taken += n;
-    }
-    Ok(taken)
-}
-
-/// Takes the bytes of the piece before the trailer, and hashes them at once.
-fn read_front(
-    alloc: Global,
-    machine: &mut Machine,
-    pile: &mut Pile,
-    hasher: &mut Sha256,
-    piece: &[u8],
-) -> Result<usize, PartFault>
-    requires partial { IsPartial machine.old }
-    requires read { ∥ HasHashed machine.old pile.old hasher.old ∥₁ }
-    ensures ok { IfOk result (ReadsOn machine.old machine.new pile.old pile.new hasher.old hasher.new piece.now) }
-    ensures err { IfErr result (FailsHashed machine.old pile.old hasher.old piece.now) }
-    ensures all { IfOk result (λ n. n < length piece.now → in_front machine.new.field ≡ false) }
-{
-    if !is_front(machine.field) {
-        return Ok(0);
-    }
-    let taken = read_fields(alloc, machine, pile, piece)?;
-    hasher.update(&piece[..taken]);
-    Ok(taken)
-}
-
-/// Takes the bytes of the piece that belong to the part.
-fn read_on(
-    alloc: Global,
-    machine: &mut Machine,
-    pile: &mut Pile,
-    hasher: &mut Sha256,
-    piece: &[u8],
-) -> Result<usize, PartFault>
-    requires partial { IsPartial machine.old }
-    requires read { ∥ HasHashed machine.old pile.old hasher.old ∥₁ }
-    ensures ok { IfOk result (ReadsOn machine.old machine.new pile.old pile.new hasher.old hasher.new piece.now) }
-    ensures err { IfErr result (FailsHashed machine.old pile.old hasher.old piece.now) }
-    ensures all { IfOk result (λ n. n < length piece.now → machine.new.field ≡ opens.Done) }
-{
-    let taken = read_front(alloc, machine, pile, hasher, piece)?;
-    if is_front(machine.field) {
-        return Ok(taken);
-    }
-    let (last, _) = machine.end(hasher, &piece[taken..])?;
-    Ok(taken + last)
-}
-
 /// The part that was collected.
 fn finished(machine: Machine, pile: Pile) -> Sealed
     requires done { machine.field ≡ opens.Done }
-    requires read { ∥ HasRead machine pile ∥₁ }
-    ensures { (b x : List ℕ) → Reads machine pile b → part (b ++ x) 0 ≡ Ok (result, length b) }
+    requires read { ∥ HasRead IsPile machine pile ∥₁ }
+    ensures { (b x : List ℕ) → ReadsTo IsPile machine pile b → part (b ++ x) 0 ≡ Ok (result, length b) }
 {
     let kept = machine.kept;
     let (ranges, blocks) = pile.lists();
@@ -269,13 +34,12 @@ fn finished(machine: Machine, pile: Pile) -> Sealed
 /// A part that is read in pieces.
 #[derive(Drop)]
 pub struct PartReader {
-    alloc: Global,
     machine: Machine,
     pile: Pile,
     hasher: Sha256,
     fault: Option<PartFault>,
     ghost partial: { fault ≡ None → IsPartial machine },
-    ghost read: { fault ≡ None → ∥ HasHashed machine pile hasher ∥₁ },
+    ghost read: { fault ≡ None → ∥ HasHashed IsPile machine pile hasher ∥₁ },
 }
 
 impl PartReader {
@@ -290,7 +54,6 @@ impl PartReader {
         let pile = Pile::new(alloc);
         let hasher = Sha256::new();
         PartReader {
-            alloc,
             machine,
             pile,
             hasher,
@@ -321,13 +84,7 @@ impl PartReader {
         if let Some(fault) = self.fault {
             return Err(fault);
         }
-        match read_on(
-            self.alloc,
-            &mut self.machine,
-            &mut self.pile,
-            &mut self.hasher,
-            piece,
-        ) {
+        match read_on(&mut self.machine, &mut self.pile, &mut self.hasher, piece) {
             Ok(n) => Ok(n),
             Err(fault) => {
                 self.fault = Some(fault);

@@ -1,20 +1,22 @@
 //! Parts that are scanned in pieces, with no memory.
 
-ghost use Rattle.std.specs.Prelude.{◌≡◌, ◌++◌, ◌+◌, ◌-◌, ◌^◌, ◌≤◌, ◌<◌, ◌⊎◌, ℕ, List, [], length, take, false};
+ghost use Rattle.std.specs.Prelude.{◌≡◌, ◌++◌, ◌+◌, ◌-◌, ◌^◌, ◌≤◌, ◌<◌, ◌⊎◌, ℕ, List, [], length, take};
 ghost use Rattle.std.specs.Prelude.{None, Ok, Err, IfOk, OnOk, IfErr};
 ghost use Rattle.octets_core.specs.declared.fault.LayoutFault.{LayoutFault};
 ghost use Rattle.octets_core.specs.declared.fault.Why.TheVariants as why;
 ghost use Rattle.part_text.specs.SealedFields.{SealedFields};
-ghost use Rattle.part_codec.specs.declared.fields.Open.TheVariants as opens;
 ghost use Rattle.part_text.specs.PartLayout.{sealed};
-ghost use Rattle.part_codec.specs.Stepping.{in_front};
-ghost use Rattle.part_codec.specs.Taking.{IsPartial, ScansOn, FailsScan};
+ghost use Rattle.part_codec.specs.Taking.{IsPartial};
+ghost use Rattle.part_codec.specs.Collecting.{HasHashed, AnyPile};
 ghost use Rattle.part_codec.specs.Noting.{noted, note_by};
 
-use crate::fields::{is_done, is_front, kind};
+use crate::collector::Nothing;
+use crate::fields::{is_done, kind};
 use crate::machine::Machine;
+use crate::walk::read_on;
 use ident_core::Kind;
 use octets_core::{Key32, LayoutFault};
+use part_text::PartFault;
 use sha2::{Digest, Sha256};
 
 /// What is known of a part that was scanned.
@@ -35,9 +37,11 @@ pub struct PartNote {
 #[derive(Drop)]
 pub struct PartScan {
     machine: Machine,
+    nothing: Nothing,
     hasher: Sha256,
     fault: Option<LayoutFault>,
     ghost partial: { fault ≡ None → IsPartial machine },
+    ghost read: { fault ≡ None → ∥ HasHashed AnyPile machine nothing hasher ∥₁ },
 }
 
 fn note(machine: &Machine) -> PartNote
@@ -53,37 +57,6 @@ fn note(machine: &Machine) -> PartNote
     }
 }
 
-/// Takes the bytes of the piece before the trailer, and hashes them at once.
-fn scan_front(
-    machine: &mut Machine,
-    hasher: &mut Sha256,
-    piece: &[u8],
-) -> Result<usize, LayoutFault>
-    requires { IsPartial machine.old }
-    ensures ok { IfOk result (ScansOn machine.old machine.new hasher.old hasher.new piece.now) }
-    ensures err { IfErr result (FailsScan machine.old hasher.old piece.now) }
-    ensures all { IfOk result (λ n. n < length piece.now → in_front machine.new.field ≡ false) }
-{
-    if !is_front(machine.field) {
-        return Ok(0);
-    }
-    let taken = machine.read(piece)?;
-    hasher.update(&piece[..taken]);
-    Ok(taken)
-}
-
-/// Takes the bytes of the piece that belong to the part.
-fn scan_on(machine: &mut Machine, hasher: &mut Sha256, piece: &[u8]) -> Result<usize, LayoutFault>
-    requires { IsPartial machine.old }
-    ensures ok { IfOk result (ScansOn machine.old machine.new hasher.old hasher.new piece.now) }
-    ensures err { IfErr result (FailsScan machine.old hasher.old piece.now) }
-    ensures all { IfOk result (λ n. n < length piece.now → machine.new.field ≡ opens.Done) }
-{
-    let taken = scan_front(machine, hasher, piece)?;
-    let (last, _) = machine.end(hasher, &piece[taken..])?;
-    Ok(taken + last)
-}
-
 impl PartScan {
     ghost use Rattle.part_codec.specs.Standing.{StandsFor, EndsAt, HasFault, HasFailed};
 
@@ -96,6 +69,7 @@ impl PartScan {
         let hasher = Sha256::new();
         PartScan {
             machine,
+            nothing: Nothing {},
             hasher,
             fault: None,
         }
@@ -123,12 +97,18 @@ impl PartScan {
         if let Some(fault) = self.fault {
             return Err(fault);
         }
-        match scan_on(&mut self.machine, &mut self.hasher, piece) {
+        match read_on(
+            &mut self.machine,
+            &mut self.nothing,
+            &mut self.hasher,
+            piece,
+        ) {
             Ok(n) => Ok(n),
-            Err(fault) => {
+            Err(PartFault::Layout(fault)) => {
                 self.fault = Some(fault);
                 Err(fault)
             }
+            Err(PartFault::NoMemory) => unreachable!(),
         }
     }
 

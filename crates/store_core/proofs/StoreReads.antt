@@ -21,12 +21,8 @@ use Rattle.part_text.specs.Offsets.{offset_in_part}
 use Rattle.part_text.specs.declared.fault.PartFault.{PartFault}
 use Rattle.part_text.specs.declared.fault.PartFault.TheVariants as of_part
 use Rattle.part_text.proofs.PartBounds.{at-of}
-use Rattle.part_codec.specs.ReaderStanding.{ReadsFor as PartReadsFor, ReadsBy as PartReadsBy, HasFailed as PartHasFailed, EndsAs as PartEndsAs}
-use Rattle.part_codec.specs.Stepping.{AreStarts, skips, tail_of}
-use Rattle.part_codec.specs.declared.fields.Kept.{Kept}
-use Rattle.part_codec.specs.declared.fields.Open.{Open}
-use Rattle.part_codec.specs.declared.fields.Open.TheVariants as opens
-use Rattle.part_codec.specs.declared.reader.PartReader.{PartReader}
+use Rattle.part_codec.specs.ReaderStanding.{ReadsFor as PartReadsFor, HasFailed as PartHasFailed, EndsAs as PartEndsAs}
+use Rattle.part_codec.proofs.Readings.{few-read as few-part}
 use Rattle.store_core.specs.declared.chain.Refusal.{Refusal}
 use Rattle.store_core.specs.declared.fault.StoreFault.{StoreFault}
 use Rattle.store_core.specs.declared.fault.StoreFault.TheVariants as faults
@@ -161,23 +157,6 @@ none-came p b count is store left at end reads well =
           ∙ ap (λ (r : Result (ℕ × ℕ) LayoutFault). then_read (with_fault faults.Layout r) (λ n. left_of n None) (b ++ x)) (opening-same b x (omega (arith, o.room)) ∙ is));
     }
 
--- a plane is the widest field
-width-bound : (o : Open) (k : Kept) → AreStarts k.starts → skips o k + tail_of o ≤ 1000000
-width-bound opens.ApproxPlane k starts = omega (arith, starts.1)
-width-bound opens.ExactPlane k starts = omega (arith, starts.1)
-width-bound o k starts = omega arith
-
-no-fault : (reader : PartReader) (f : Option PartFault) → reader.fault ≡ f → ((e : PartFault) → PartHasFailed reader e → ⊥) → reader.fault ≡ None
-no-fault reader None is well = is
-no-fault reader (Some e) is well = absurd (well e is)
-
--- a part has less than 2^49 bytes
-pub few-bytes : (reader : PartReader) (b : List ℕ) → ((e : PartFault) → PartHasFailed reader e → ⊥) → PartReadsFor reader b → length b < 2 ^ 49
-few-bytes reader b well st =
-    let reads = subst (λ (f : Option PartFault). PartReadsBy f reader.machine reader.pile reader.hasher b) (no-fault reader reader.fault refl well) st in
-    let m = reader.machine in
-    omega (arith, reads.0.1.place, m.few, m.before, m.room, width-bound m.field m.kept m.starts)
-
 abbrev Longer : Option (List SealedFields) → SealedFields → List SealedFields → Type 0
 Longer store s parts =
     (count at end : ℕ) (bytes : List ℕ) → 0 < count → embedded moved part bytes at ≡ Ok (s, end) → left_of count store bytes at ≡ left_of (count - 1) (Some parts) bytes end
@@ -196,7 +175,7 @@ pub closed : (old new : Parts) (b : List ℕ) (s : SealedFields) (parts : List S
     → new.store ≡ Some parts → new.left ≡ old.left - 1 → new.at ≡ old.end → new.end ≡ old.end → PartReadsFor new.part [] → ((e : PartFault) → PartHasFailed new.part e → ⊥)
     → PartsRead old b → PartsRead new b
 closed old new b s parts some whole longer store left at end reads well r =
-    let few = few-bytes old.part r.came r.well r.reads in
+    let few = few-part old.part old.part.fault r.came refl r.well r.reads in
     let size : length b ≡ length r.before + length r.came = ap (λ (l : List ℕ). length l) r.is ∙ length-append r.before r.came in
     record {
       before = b;
@@ -240,7 +219,7 @@ pub not-whole : (p : Parts) (f : PartFault) (e : StoreFault) → 0 < p.left → 
     → (x ≡ []) ⊎ PartEndsAs r.came → store_parts (b ++ x) 0 ≡ Err e
 not-whole p of_part.NoMemory e some fits is fails_by wants b x r ends = absurd (wants (is (omega (arith, fits))))
 not-whole p (of_part.Layout f) e some fits is fails_by wants b x r (inl none) =
-    let few = few-bytes p.part r.came r.well r.reads in
+    let few = few-part p.part p.part.fault r.came refl r.well r.reads in
     let within : f.at ≤ length r.came = at-of r.came (Err (of_part.Layout f)) (λ known. fails_by known r.came r.reads) in
     faulty p b x (of_part.Layout f) e r some (is (omega (arith, within, few, r.near)))
     (ap (λ (l : List ℕ). part l 0) (ap (λ (l : List ℕ). r.came ++ l) none ∙ append-nil r.came) ∙ fails_by (not_memory f) r.came r.reads)
@@ -255,7 +234,7 @@ unfoldable pub more-came : (old new : Parts) (b w : List ℕ) (n : ℕ) → 0 < 
     → ((e : PartFault) → PartHasFailed new.part e → ⊥) → PartsRead old b → PartsRead new (b ++ take n w)
 more-came old new b w n some le store left at end reads well r =
     let more = reads r.came r.reads in
-    let few = few-bytes new.part (r.came ++ take n w) well more in
+    let few = few-part new.part new.part.fault (r.came ++ take n w) refl well more in
     let taken : length (take n w) ≡ n = omega (arith, length-take n w, le) in
     let size : length b ≡ length r.before + length r.came = ap (λ (l : List ℕ). length l) r.is ∙ length-append r.before r.came in
     let fits : old.end + n < 2 ^ 64 = omega (arith, few, length-append r.came (take n w), taken, size, r.at, r.end, r.near) in
@@ -278,7 +257,7 @@ pub piece-faulty : (p : Parts) (f : PartFault) (e : StoreFault) (w : List ℕ) �
     → store_parts (b ++ w ++ x) 0 ≡ Err e
 piece-faulty p of_part.NoMemory e w some at few is fails_by wants b x r = absurd (wants (is (omega (arith, at))))
 piece-faulty p (of_part.Layout f) e w some at few is fails_by wants b x r =
-    let short = few-bytes p.part r.came r.well r.reads in
+    let short = few-part p.part p.part.fault r.came refl r.well r.reads in
     let within : f.at ≤ length (r.came ++ w ++ []) = at-of (r.came ++ w ++ []) (Err (of_part.Layout f)) (λ known. fails_by known r.came [] r.reads) in
     let size : length (r.came ++ w ++ []) ≡ length r.came + length w = ap (λ (l : List ℕ). length l) (append-nil (r.came ++ w)) ∙ length-append r.came w in
     ap (λ (l : List ℕ). store_parts l 0) (append_assoc b w x)
@@ -355,7 +334,7 @@ front-all f front b w x n is all = ap (λ (l : List ℕ). l ++ (drop n w ++ x)) 
 few-by : (o : Option Parts) (front b : List ℕ) → CameBy front o b → length b < 2 ^ 63
 few-by None front b came = omega (arith, came.1, ap (λ (l : List ℕ). length l) came.0)
 few-by (Some p) front b r =
-    omega (arith, few-bytes p.part r.came r.well r.reads, r.at, r.near, ap (λ (l : List ℕ). length l) r.is, length-append r.before r.came)
+    omega (arith, few-part p.part p.part.fault r.came refl r.well r.reads, r.at, r.near, ap (λ (l : List ℕ). length l) r.is, length-append r.before r.came)
 
 few-where : (r : StoreReader) (b : List ℕ) (f : Option StoreFault) → r.fault ≡ f → ((e : StoreFault) → HasFailed r e → ⊥) → ReadsFor r b → length b < 2 ^ 63
 few-where r b None is well st = few-by r.parts r.front b (subst (λ (f : Option StoreFault). ReadsBy f r.front r.parts b) is st)

@@ -1,9 +1,8 @@
 //! Fields that are whole in a piece, which the machine takes at once.
 
-ghost use Rattle.std.specs.Prelude.{◌≡◌, ◌≤◌, ◌<◌, ◌+◌, ◌*◌, ◌++◌, ℕ, List, length, take, drop, true, IfOk, OnOk, IfErr};
+ghost use Rattle.std.specs.Prelude.{◌≡◌, ◌≤◌, ◌<◌, ◌+◌, ◌*◌, ℕ, List, length, take, true, IfOk, OnOk, IfErr};
 ghost use Rattle.equation_core.specs.Sizes.{words_for as words_of};
-ghost use Rattle.part_codec.specs.Remaining.{Seen};
-ghost use Rattle.part_codec.specs.Stepping.{leads_on, kept_after, seen_after, open_after};
+ghost use Rattle.part_codec.specs.Stepping.{leads_on, kept_after, open_after};
 
 use crate::fields::{Open, are_padded, at_leaf, is_last_padded, keep_leaf, number8, passes, tail};
 use crate::machine::Machine;
@@ -11,8 +10,7 @@ use equation_core::words_for;
 use octets_core::{LayoutFault, Why};
 
 impl Machine {
-    ghost use Rattle.part_codec.specs.Scanning.{Stands, Moved};
-    ghost use Rattle.part_codec.specs.Taking.{IsFront, IsPartial, Advances, Takes, PassesPlanes, Fails};
+    ghost use Rattle.part_codec.specs.Taking.{IsFront, IsPartial, StandsBehind, MovedBehind, Advances, PassesPlanes, Fails};
 
     /// Takes the open field, which this is, where it is whole in the piece and passes its test, and opens the next one.
     /// Answers how many bytes it has, or 0 where nothing is taken.
@@ -132,9 +130,8 @@ impl Machine {
         requires passed { self.old.passed ≡ 0 }
         requires empty { self.old.filled ≡ 0 }
         requires len { length plane.now ≡ 8 * words_of self.old.kept.starts }
-        ensures ok { OnOk result ((s : Seen) (b : List ℕ) → Stands self.old s b
-            → Stands self.new (seen_after self.old.field self.old.kept s (drop self.old.at (b ++ plane.now))) (b ++ plane.now)) }
-        ensures moved { OnOk result ((s : Seen) (b : List ℕ) → Stands self.old s b → Moved true self.old self.new (b ++ plane.now)) }
+        ensures ok { OnOk result (StandsBehind self.old self.new plane.now) }
+        ensures moved { OnOk result (MovedBehind self.old self.new plane.now) }
         ensures err { IfErr result (Fails self.old plane.now) }
         ensures partial { OnOk result (IsPartial self.new) }
     {

@@ -1,6 +1,6 @@
 use Rattle.std.proofs.Math.Logic.{∥∥₁_elim}
 use Rattle.part_codec.proofs.Onces.{head-once, part-once, bytes-once}
-use Rattle.part_codec.proofs.Readings.{done-fits, done-part}
+use Rattle.part_codec.proofs.Readings.{of-pile, done-fits, done-part}
 use Rattle.part_codec.proofs.reader.finished.Goals as goal
 
 pub new-head-requires : goal.new-head-requires
@@ -19,4 +19,4 @@ new-requires-2 c =
 
 pub returns : goal.returns
 returns c = λ b x r.
-    rw (c.new-2.ensures, c.new.ensures, c.lists-ranges.ensures.blocks, c.new-head.ensures, c.kind.ensures, c.lists-ranges.ensures.ranges) (done-part c.args.machine c.args.pile b x r c.requires.done)
+    rw (c.new-2.ensures, c.new.ensures, c.lists-ranges.ensures.blocks, c.new-head.ensures, c.kind.ensures, c.lists-ranges.ensures.ranges) (done-part c.args.machine c.args.pile b x (of-pile _ _ _ r) c.requires.done)

@@ -1,4 +1,4 @@
-use Rattle.std.proofs.Common.{[]}
+use Rattle.std.proofs.Common.{[], refl}
 use Rattle.part_codec.proofs.MachineStands.{hashes-new}
 use Rattle.part_codec.proofs.Readings.{read-new}
 use Rattle.part_codec.proofs.reader.PartReader.new.Goals as goal
@@ -8,13 +8,13 @@ invariant_of-result c = record {
   partial = λ none goes. c.new-machine.ensures.partial;
   read = λ none. ∣ (
     [],
-    read-new c.new-machine.result c.new-pile.result c.new-machine.ensures.stands c.new-machine.ensures.field c.new-pile.ensures,
+    (c.new-pile.result, refl, read-new c.new-machine.result c.new-pile.result c.new-machine.ensures.stands c.new-machine.ensures.field c.new-pile.ensures),
     hashes-new c.new-machine.result c.new-hasher.result c.new-hasher.ensures,
   ) ∣₁;
 }
 
 pub returns-clause-stands : goal.returns-clause-stands
 returns-clause-stands c = (
-  read-new c.new-machine.result c.new-pile.result c.new-machine.ensures.stands c.new-machine.ensures.field c.new-pile.ensures,
+  (c.new-pile.result, refl, read-new c.new-machine.result c.new-pile.result c.new-machine.ensures.stands c.new-machine.ensures.field c.new-pile.ensures),
   hashes-new c.new-machine.result c.new-hasher.result c.new-hasher.ensures,
 )
