@@ -1,0 +1,102 @@
+"""What tasks make. Each file is written under a name of the task's own and put in place whole; one that is there stays.
+
+A task that was given up may live on, on a node that nobody reaches, and end beside another run of it or behind it. Both
+make the same bytes: else the later one fails, and changes nothing. Beside each file stands its record (`.made`): its
+digest and those of the made files of which it was made, by which they are compared before they are used or published.
+"""
+
+import json
+import os
+import secrets
+from collections.abc import Iterable, Mapping
+from dataclasses import dataclass
+from pathlib import Path
+from typing import Any
+
+from clubcard.placing import digest_of, new_name, sync
+
+
+class Differs(Exception):
+    """A file hasn't the bytes that it must have; the text names it."""
+
+
+@dataclass(frozen=True)
+class Record:
+    """The SHA-256 of a file in hexadecimal, its size, what the program said of it, and the SHA-256 of each made file of
+    which it was made."""
+
+    sha256: str
+    size: int
+    said: Mapping[str, Any]
+    of: Mapping[str, str]
+
+
+def own_name(path: Path) -> Path:
+    """Where a task writes a file before it is put in place: a name that no other one has."""
+    return new_name(path.with_name(f"{path.name}.{secrets.token_hex(8)}"))
+
+
+def record_name(path: str) -> Path:
+    """Where the record of a file stands."""
+    return Path(f"{path}.made")
+
+
+def put(own: Path, path: Path) -> str:
+    """Puts a file in place, once it is on the disk; its SHA-256. Raises Differs where another one is there."""
+    sync(own)
+    made = _digest(own)
+    while not _linked(own, path):
+        there = digest_of(path)
+        if there is not None and there.hex() != made:
+            own.unlink()
+            raise Differs(f"{path}: it is there with other bytes: SHA-256 {there.hex()} in place of {made}")
+        if there is not None:
+            break
+    own.unlink()
+    sync(path.parent)
+    return made
+
+
+def _linked(own: Path, path: Path) -> bool:
+    """Gives a file its name, where no file has it."""
+    try:
+        os.link(own, path)
+    except FileExistsError:
+        return False
+    return True
+
+
+def put_text(text: str, path: Path) -> None:
+    """Puts a text in place as a file."""
+    own = own_name(path)
+    own.write_text(text, encoding="utf-8")
+    put(own, path)
+
+
+def put_made(own: Path, path: str, said: Mapping[str, Any], of: Mapping[str, str]) -> None:
+    """Puts a file in place, and then its record."""
+    size = own.stat().st_size
+    record = {"sha256": put(own, Path(path)), "size": size, "said": dict(said), "of": dict(of)}
+    put_text(json.dumps(record, indent=1, sort_keys=True) + "\n", record_name(path))
+
+
+def record_of(path: str) -> Record:
+    """The record of a file."""
+    return Record(**json.loads(record_name(path).read_text(encoding="utf-8")))
+
+
+def compared(paths: Iterable[str]) -> dict[str, str]:
+    """The SHA-256 of each file, which is that of its record. Raises Differs where one isn't."""
+    found = {}
+    for path in paths:
+        found[path] = _digest(Path(path))
+        if found[path] != record_of(path).sha256:
+            raise Differs(f"{path}: its SHA-256 is {found[path]}, and its record has {record_of(path).sha256}")
+    return found
+
+
+def _digest(path: Path) -> str:
+    digest = digest_of(path)
+    if digest is None:
+        raise Differs(f"{path}: it isn't there any more")
+    return digest.hex()

@@ -1,0 +1,48 @@
+#!/usr/bin/python3
+"""The program, with the faults that files in the folder FAULTS order; each is taken away by the call that it meets.
+
+    kill-COMMAND   writes half of what is written first, and kills the task and itself
+    hold-COMMAND   waits before it writes, until there is a file `go`; `held` then tells the host
+    slow           waits before each `gather` for the seconds in it; stays
+"""
+
+import os
+import signal
+import socket
+import subprocess
+import sys
+import time
+from pathlib import Path
+
+OUTPUT = {"gather": 4, "merge": 3, "snapshot": 3, "delta": 4, "start": 3}
+"""Which word names the first file that a command writes."""
+
+
+def met(fault: Path) -> bool:
+    """Whether a fault is ordered, and no other call has met it."""
+    try:
+        fault.unlink()
+    except FileNotFoundError:
+        return False
+    return True
+
+
+def main() -> None:
+    command, faults, program = sys.argv[1], Path(os.environ["FAULTS"]), os.environ["FAULTY_PROGRAM"]
+    if command == "gather" and (faults / "slow").exists():
+        time.sleep(float((faults / "slow").read_text()))
+    if met(faults / f"hold-{command}"):
+        (faults / "held").write_text(socket.gethostname())
+        while not (faults / "go").exists():
+            time.sleep(0.02)
+    if met(faults / f"kill-{command}"):
+        subprocess.run([program, *sys.argv[1:]], stdout=subprocess.DEVNULL, check=True)
+        file = Path(sys.argv[OUTPUT[command]])
+        os.truncate(file, file.stat().st_size // 2)
+        os.kill(os.getppid(), signal.SIGKILL)
+        os.kill(os.getpid(), signal.SIGKILL)
+    os.execv(program, [program, *sys.argv[1:]])
+
+
+if __name__ == "__main__":
+    main()

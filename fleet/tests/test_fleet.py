@@ -1,0 +1,176 @@
+"""The workflow on this machine, held against one `gather` of all pages and one `snapshot` or `delta`."""
+
+import json
+import os
+import signal
+import subprocess
+import time
+from collections.abc import Iterable
+from pathlib import Path
+
+import pytest
+
+from fleet.plan import HEAD, MADE
+from fleet.tests.made_epochs import LOGS, PROGRAM, World, make_world, page_of
+
+
+def program(*words: str | Path | int) -> str:
+    """The line of the program."""
+    return subprocess.run([PROGRAM, *map(str, words)], stdout=subprocess.PIPE, text=True, check=True).stdout
+
+
+def gathered(world: World, folder: Path) -> Path:
+    """The job of all pages, a log behind the other, without pieces."""
+    job: Path = world.folder / HEAD
+    for log in sorted(LOGS):
+        pages = sorted((world.epoch.parent / log.hex()[:8]).iterdir(), key=lambda page: int(page.stem))
+        longer = folder / f"{log.hex()}.job"
+        program("gather", job, log.hex(), longer, *pages)
+        job = longer
+    return job
+
+
+def bytes_of(world: World) -> dict[str, bytes]:
+    """What was made of the whole, and what names it."""
+    files = [*(f"whole/{name}" for name in MADE), "published.json"]
+    return {name: (world.folder / name).read_bytes() for name in files}
+
+
+def times(world: World) -> dict[str, int]:
+    """When each file was put in place."""
+    return {str(path): path.stat().st_mtime_ns for path in world.folder.glob("[pw]*/**/*") if path.is_file()}
+
+
+def left(world: World) -> Iterable[Path]:
+    """What was half written and isn't removed."""
+    return (path for path in world.folder.rglob(".*.new") if ".snakemake" not in path.parts)
+
+
+@pytest.fixture(name="first", scope="module")
+def first_epoch(tmp_path_factory: pytest.TempPathFactory) -> World:
+    """The first epoch, published."""
+    world = make_world(tmp_path_factory.mktemp("fleet"))
+    done = world.run()
+    assert done.returncode == 0, done.stderr
+    return world
+
+
+def wait_for(path: Path) -> None:
+    """Waits until a file is there."""
+    for _ in range(1000):
+        if path.exists():
+            return
+        time.sleep(0.02)
+    raise AssertionError(f"{path} didn't come")
+
+
+def test_it_makes_what_one_machine_makes(first: World, tmp_path: Path) -> None:
+    assert len(list(first.folder.glob("pieces/*/*.job"))) == 6
+    job, part, ledger, store = (tmp_path / name for name in MADE)
+    program("snapshot", gathered(first, tmp_path), part, ledger, 1)
+    program("start", part, store)
+    made = bytes_of(first)
+    assert made["whole/job"] == first.job.bytes()
+    assert [made[f"whole/{file.name}"] for file in (part, ledger, store)] == [
+        file.read_bytes() for file in (part, ledger, store)
+    ]
+    assert not list(left(first))
+
+
+def test_a_second_epoch_is_a_delta(first: World, tmp_path: Path) -> None:
+    second = make_world(tmp_path, 2, first)
+    done = second.run()
+    assert done.returncode == 0, done.stderr
+    part, ledger, store = (tmp_path / name for name in ("part", "ledger", "store"))
+    before = first.folder / "whole"
+    program("delta", gathered(second, tmp_path), before / "ledger", part, ledger, 1)
+    program("install", before / "store", part, store)
+    made = bytes_of(second)
+    assert made["whole/job"] == second.job.bytes()
+    assert all(made[f"whole/{file.name}"] == file.read_bytes() for file in (part, ledger, store))
+    said = json.loads(made["published.json"])["said"]["whole"]
+    assert (said["epoch"], said["part"], said["accepted"]) == (2, 1, 3000)
+
+
+def test_killed_tasks_are_run_again(first: World, tmp_path: Path) -> None:
+    world = make_world(tmp_path)
+    for command in ("gather", "merge", "snapshot", "start"):
+        world.order(f"kill-{command}")
+    done = world.run()
+    assert done.returncode == 0, done.stderr
+    assert not list(world.faults.iterdir())
+    assert len(list(left(world))) >= 4
+    assert bytes_of(world) == bytes_of(first)
+
+
+def test_a_killed_workflow_goes_on(first: World, tmp_path: Path) -> None:
+    world = make_world(tmp_path)
+    world.order("slow", "2")
+    running = subprocess.Popen(world.words(), env=world.environment, stderr=subprocess.DEVNULL)
+    wait_for(world.folder / "pieces" / min(LOGS).hex() / "0000.job.made")
+    assert world.run().returncode == 4
+    os.kill(running.pid, signal.SIGKILL)
+    running.wait()
+    made = {path: time for path, time in times(world).items() if path.endswith(".made")}
+    done = world.run()
+    assert done.returncode == 0, done.stderr
+    assert 1 <= len(made) < 6
+    assert bytes_of(world) == bytes_of(first)
+    assert not list(left(world))
+
+
+def test_a_late_writer_changes_nothing(first: World, tmp_path: Path) -> None:
+    world = make_world(tmp_path)
+    assert world.run("--until", "heads").returncode == 0
+    world.order("hold-gather")
+    late = world.task("gather", min(LOGS).hex(), "0002")
+    wait_for(world.faults / "held")
+    done = world.run()
+    assert done.returncode == 0, done.stderr
+    before = times(world)
+    world.order("go")
+    _, told = late.communicate()
+    assert late.returncode == 0, told
+    assert (times(world), bytes_of(world)) == (before, bytes_of(first))
+
+
+def test_a_published_epoch_stays(first: World) -> None:
+    before = times(first)
+    done = first.run()
+    assert (done.returncode, times(first)) == (0, before), done.stderr
+
+
+def test_a_late_writer_of_the_same_bytes_ends_well(first: World) -> None:
+    before = times(first)
+    late = first.task("gather", min(LOGS).hex(), "0002")
+    _, told = late.communicate()
+    assert late.returncode == 0, told
+    assert times(first) == before
+
+
+def test_a_late_writer_of_other_bytes_fails(tmp_path: Path) -> None:
+    world = make_world(tmp_path)
+    assert world.run("--until", "heads").returncode == 0
+    assert world.task("gather", min(LOGS).hex(), "0002").wait() == 0
+    before = times(world)
+    page = world.epoch.parent / min(LOGS).hex()[:8] / "1200.json"
+    page.write_text(page_of(world.job.entries[:3]))
+    late = world.task("gather", min(LOGS).hex(), "0002")
+    _, told = late.communicate()
+    assert late.returncode == 1 and "other bytes" in told
+    assert times(world) == before
+    # Nor does a run go on whose pages were changed.
+    done = world.run()
+    assert done.returncode == 3 and "other files" in done.stderr
+
+
+def test_a_changed_piece_is_not_merged(tmp_path: Path) -> None:
+    world = make_world(tmp_path)
+    assert world.run("--until", "gather").returncode == 0
+    piece = world.folder / "pieces" / min(LOGS).hex() / "0001.job"
+    octets, time_ns = piece.read_bytes(), piece.stat().st_mtime_ns
+    piece.write_bytes(octets[:-2] + b"\1" + octets[-1:])
+    os.utime(piece, ns=(time_ns, time_ns))
+    done = world.run("--restart-times", "0")
+    assert done.returncode != 0 and "its record has" in done.stderr
+    assert not (world.folder / "published.json").exists()
