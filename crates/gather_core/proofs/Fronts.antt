@@ -5,7 +5,7 @@ use Rattle.std.proofs.lemmas.Nat.{from_be_bytes-to_be_bytes_8}
 use Rattle.std.proofs.lemmas.List.{append_cancel_right, append-nil}
 use Rattle.job_core.specs.declared.bounds.Limits.{Limits}
 use Rattle.job_core.specs.declared.reader.Stage.TheVariants as stages
-use Rattle.job_core.specs.JobLayout.{Item, Held}
+use Rattle.job_core.specs.JobLayout.{Item, HeldSoFar}
 use Rattle.job_core.specs.JobText.{opening_text, record_text}
 use Rattle.job_core.specs.Reader.{StandsAt}
 use Rattle.job_core.proofs.Passing.{texts_of}
@@ -63,7 +63,7 @@ same_epoch e m f n a b fits also same =
     sym (from_be_bytes-to_be_bytes_8 e fits) ∙ ap (λ (l : List ℕ). from_be_bytes w64 (take 8 (drop 8 l))) same ∙ from_be_bytes-to_be_bytes_8 f also
 
 -- The end was read behind it: the job is whole, and counts so much.
-pub front-whole : (l : Limits) (numbers : Held) (file b : List ℕ) (n : Tally) → n.epoch < 2 ^ 64 → Front b n → file ≡ b ++ to_be_bytes w8 0
+pub front-whole : (l : Limits) (numbers : HeldSoFar) (file b : List ℕ) (n : Tally) → n.epoch < 2 ^ 64 → Front b n → file ≡ b ++ to_be_bytes w8 0
     → StandsAt stages.Ended l numbers file → Counts l file (Ok n)
 front-whole l numbers file b n fits f is (h, c, t, ends, begins) =
     let same : c ≡ b = append_cancel_right c b (to_be_bytes w8 0) (sym ends ∙ is) in

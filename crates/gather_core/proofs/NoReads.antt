@@ -12,7 +12,7 @@ use Rattle.job_core.specs.declared.bounds.What.{What}
 use Rattle.job_core.specs.declared.bounds.What.TheVariants as what
 use Rattle.job_core.specs.declared.fault.JobFault.{JobFault}
 use Rattle.job_core.specs.declared.fault.JobFault.TheVariants as faults
-use Rattle.job_core.specs.JobLayout.{fielded, record_kind, crl, entry, opening, Held, nothing_held, Item, with_item, with_serials, at_most, range_item, crl_item, entry_item, item_of, next_item}
+use Rattle.job_core.specs.JobLayout.{fielded, record_kind, crl, entry, opening, HeldSoFar, nothing_held, Item, with_item, with_serials, at_most, range_item, crl_item, entry_item, item_of, next_item}
 use Rattle.job_core.specs.JobLayout.{with_others, records_within, records, JobTexts, job}
 use Rattle.job_core.specs.JobText.{JobContents}
 use Rattle.job_core.specs.Reader.{no_serials}
@@ -53,33 +53,33 @@ over-never thing limit = record { each = λ bytes at h. let g : ◌≡◌ {A = R
 limit-never : (thing : What) (limit count : ℕ) → Never (at_most thing limit count)
 limit-never thing limit count = either-never (nat_le count limit) (whole tt) (refused (faults.TooMany thing limit)) (whole-never tt) (over-never thing limit)
 
-range_item-never : (limits : Limits) (h : Held) → Never (range_item limits h)
+range_item-never : (limits : Limits) (h : HeldSoFar) → Never (range_item limits h)
 unfolding range_item
 range_item-never limits h = limit-never what.Ranges limits.ranges (h.ranges + 1) >>> λ room. fielded-never (range h.log) >>> λ r. whole-never _
 
-crl_item-never : (limits : Limits) (h : Held) → Never (crl_item limits h)
+crl_item-never : (limits : Limits) (h : HeldSoFar) → Never (crl_item limits h)
 unfolding crl_item
 crl_item-never limits h = limit-never what.Crls limits.crls (h.crls + 1) >>> λ room. fielded-never crl >>> λ c. whole-never _
 
-entry_item-never : (limits : Limits) (h : Held) → Never (entry_item limits h)
+entry_item-never : (limits : Limits) (h : HeldSoFar) → Never (entry_item limits h)
 unfolding entry_item
 entry_item-never limits h = limit-never what.Entries limits.entries (h.entries + 1) >>> λ room. fielded-never entry >>> λ e. whole-never _
 
-item-never : (kind : ℕ) (limits : Limits) (h : Held) → Never (item_of kind limits h)
+item-never : (kind : ℕ) (limits : Limits) (h : HeldSoFar) → Never (item_of kind limits h)
 item-never kind limits h =
     either-never _ (range_item limits h) _ (range_item-never limits h) (either-never _ (crl_item limits h) (entry_item limits h) (crl_item-never limits h) (entry_item-never limits h))
 
-next-never : (limits : Limits) (h : Held) → Never (next_item limits h)
+next-never : (limits : Limits) (h : HeldSoFar) → Never (next_item limits h)
 unfolding next_item
 next-never limits h = fielded-never (record_kind h.kind) >>> λ kind. either-never _ _ _ (whole-never None) (item-never kind limits h >>> λ x. whole-never _)
 
-others-never : (brings : List ℕ → ℕ) (others : Held → ℕ → Layout JobFault (List Item)) (limits : Limits) (h : Held) (serials : ℕ) (x : Option Item)
-    → ((t : Held) (k : ℕ) → Never (others t k)) → Never (with_others brings others limits h serials x)
+others-never : (brings : List ℕ → ℕ) (others : HeldSoFar → ℕ → Layout JobFault (List Item)) (limits : Limits) (h : HeldSoFar) (serials : ℕ) (x : Option Item)
+    → ((t : HeldSoFar) (k : ℕ) → Never (others t k)) → Never (with_others brings others limits h serials x)
 others-never brings others limits h serials None each = whole-never _
 others-never brings others limits h serials (Some x) each =
     limit-never what.Serials limits.serials (with_serials brings serials x) >>> λ few. each (with_item h x) (with_serials brings serials x) >>> λ xs. whole-never _
 
-records-never : (brings : List ℕ → ℕ) (count : ℕ) (limits : Limits) (h : Held) (serials : ℕ) → Never (records_within brings count limits h serials)
+records-never : (brings : List ℕ → ℕ) (count : ℕ) (limits : Limits) (h : HeldSoFar) (serials : ℕ) → Never (records_within brings count limits h serials)
 unfolding records_within
 records-never brings zero limits h serials = record {
   each = λ bytes at k. let g : ◌≡◌ {A = Result (List Item × ℕ) JobFault} (Err (faults.Layout (fault_at why.Short fields.RecordKind at))) (Err faults.ReadFault) = k in cc;
@@ -87,7 +87,7 @@ records-never brings zero limits h serials = record {
 records-never brings (suc count) limits h serials =
     next-never limits h >>> λ x. others-never brings (records_within brings count limits) limits h serials x (λ t k. records-never brings count limits t k)
 
-all-never : (brings : List ℕ → ℕ) (limits : Limits) (h : Held) (serials : ℕ) → Never (records brings limits h serials)
+all-never : (brings : List ℕ → ℕ) (limits : Limits) (h : HeldSoFar) (serials : ℕ) → Never (records brings limits h serials)
 all-never brings limits h serials = record { each = λ bytes at is. (records-never brings (length bytes - at) limits h serials).each bytes at is }
 
 job-never : (limits : Limits) → Never (job no_serials limits)

@@ -6,7 +6,7 @@ use Rattle.octets_core.proofs.Fields.{ok_is}
 use Rattle.job_core.specs.declared.bounds.Limits.{Limits}
 use Rattle.job_core.specs.declared.bounds.TheConstants.Limits as limits
 use Rattle.job_core.specs.declared.fault.JobFault.{JobFault}
-use Rattle.job_core.specs.JobLayout.{Held, nothing_held, Item, OneRange, OneCrl, OneEntry, next_item, with_item}
+use Rattle.job_core.specs.JobLayout.{HeldSoFar, nothing_held, Item, OneRange, OneCrl, OneEntry, next_item, with_item}
 use Rattle.job_core.specs.JobText.{record_text, FitsItem, Pass}
 use Rattle.job_core.specs.Reader.{no_serials}
 use Rattle.job_core.proofs.RecordTexts.{next-read}
@@ -22,12 +22,12 @@ AllFit [] = Unit {0}
 AllFit (x ∷ xs) = Fits x × AllFit xs
 
 -- a record that passes, whatever the limits, fits
-fits-first : (l : Limits) (h : Held) (x : Item) → FitsItem l h x → Fits x
+fits-first : (l : Limits) (h : HeldSoFar) (x : Item) → FitsItem l h x → Fits x
 fits-first l h (OneRange r) fits = (((refl, fits.0.0.1), fits.0.1), omega arith, omega arith)
 fits-first l h (OneCrl c) fits = (fits.0, omega arith, omega arith)
 fits-first l h (OneEntry e) fits = (fits.0, omega arith, omega arith)
 
-pub pass-fits : (l : Limits) (h : Held) (serials : ℕ) (xs : List Item) → Pass no_serials l h serials xs → AllFit xs
+pub pass-fits : (l : Limits) (h : HeldSoFar) (serials : ℕ) (xs : List Item) → Pass no_serials l h serials xs → AllFit xs
 pass-fits l h serials [] pass = tt
 pass-fits l h serials (x ∷ xs) pass = (fits-first l h x pass.0, pass-fits l (with_item h x) _ xs pass.2)
 

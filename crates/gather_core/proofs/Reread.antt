@@ -5,7 +5,7 @@ use Rattle.std.proofs.lemmas.List.{append-nil}
 use Rattle.octets_core.specs.Layout.{then_read, ◌>>=◌, whole}
 use Rattle.octets_core.specs.Reading.{value_of, end}
 use Rattle.job_core.specs.declared.bounds.Limits.{Limits}
-use Rattle.job_core.specs.JobLayout.{fielded, Held, nothing_held, Item, next_item, records, JobTexts, job}
+use Rattle.job_core.specs.JobLayout.{fielded, HeldSoFar, nothing_held, Item, next_item, records, JobTexts, job}
 use Rattle.job_core.specs.JobText.{opening_text, spelling, FitsJob, Pass, held_behind, serials_behind, behind}
 use Rattle.job_core.specs.Reader.{no_serials}
 use Rattle.job_core.proofs.JobReads.{opening-read, behind-opening, ends-at, spelling-is}
@@ -20,7 +20,7 @@ records-end : (limits : Limits) (xs : List Item) (before : List ℕ) → Pass no
 records-end limits xs before pass =
     let zero : List ℕ = to_be_bytes w8 0 in
     let B : List ℕ = before ++ (texts_of xs ++ zero) in
-    let H : Held = held_behind nothing_held xs in
+    let H : HeldSoFar = held_behind nothing_held xs in
     let S : ℕ = serials_behind no_serials 0 xs in
     let moved : (before ++ texts_of xs) ++ (zero ++ []) ≡ B = append_assoc before (texts_of xs) (zero ++ []) ∙ ap (λ (l : List ℕ). before ++ (texts_of xs ++ l)) (append-nil zero) in
     let at : length (before ++ texts_of xs) ≡ length before + length (texts_of xs) = length-append before (texts_of xs) in

@@ -6,13 +6,13 @@ use Rattle.octets_core.specs.Linked.{Linked}
 use Rattle.ident_core.specs.declared.range.Range.{Range}
 use Rattle.ident_core.specs.RangeText.{FitsRange}
 use Rattle.job_core.specs.declared.bounds.Limits.{Limits}
-use Rattle.job_core.specs.JobLayout.{CrlText, EntryText, Held, Item, OneRange, OneCrl, OneEntry, with_item}
+use Rattle.job_core.specs.JobLayout.{CrlText, EntryText, HeldSoFar, Item, OneRange, OneCrl, OneEntry, with_item}
 use Rattle.job_core.specs.JobText.{FitsCrl, FitsEntry, Pass}
 use Rattle.job_core.specs.Reader.{no_serials}
 use Rattle.job_core.proofs.Items.{items}
 use Rattle.gather_core.specs.Raw.{ranges_in, crls_in, entries_in}
 
-pub record Sorts (limits : Limits) (h : Held) (xs : List Item) : Type 0 where
+pub record Sorts (limits : Limits) (h : HeldSoFar) (xs : List Item) : Type 0 where
   pub is : items (ranges_in xs) (crls_in xs) (entries_in xs) ≡ xs
   pub few_ranges : h.ranges ≤ limits.ranges → h.ranges + length (ranges_in xs) ≤ limits.ranges
   pub few_crls : h.crls ≤ limits.crls → h.crls + length (crls_in xs) ≤ limits.crls
@@ -34,7 +34,7 @@ entries-first e xs [] [] no_ranges no_crls is = ap (λ (l : List Item). OneEntry
 entries-first e xs (r ∷ rs) cs no_ranges no_crls is = absurd cc
 entries-first e xs [] (c ∷ cs) no_ranges no_crls is = absurd cc
 
-pub sorted : (limits : Limits) (h : Held) (serials : ℕ) (xs : List Item) → Pass no_serials limits h serials xs → Sorts limits h xs
+pub sorted : (limits : Limits) (h : HeldSoFar) (serials : ℕ) (xs : List Item) → Pass no_serials limits h serials xs → Sorts limits h xs
 sorted limits h serials [] pass = record {
   is = refl;
   few_ranges = λ le. omega (arith, le);

@@ -18,7 +18,7 @@ use Rattle.job_core.specs.declared.raw.RawCrl.{RawCrl}
 use Rattle.job_core.specs.declared.raw.RawEntry.{RawEntry}
 use Rattle.job_core.specs.declared.records.Item.{Item as Taken}
 use Rattle.job_core.specs.declared.records.Item.TheVariants as takens
-use Rattle.job_core.specs.JobLayout.{fielded, is_kind, record_kind, crl, entry, opening, Held, EntryText, Item, OneRange, OneCrl, OneEntry}
+use Rattle.job_core.specs.JobLayout.{fielded, is_kind, record_kind, crl, entry, opening, HeldSoFar, EntryText, Item, OneRange, OneCrl, OneEntry}
 use Rattle.job_core.specs.JobLayout.{range_item, crl_item, entry_item, item_of, some_of, next_item}
 use Rattle.job_core.specs.JobText.{crl_held, entry_held}
 use Rattle.job_core.specs.Records.{item_of_record, some_record}
@@ -207,67 +207,67 @@ pub kind-is : (previous : ℕ) (file : List ℕ) (at : ℕ) → fielded (record_
 unfolding record_kind
 kind-is previous file at = refl
 
-range_item-room : (limits : Limits) (h : Held) → nat_le (h.ranges + 1) limits.ranges ≡ true → (file : List ℕ) (at : ℕ)
+range_item-room : (limits : Limits) (h : HeldSoFar) → nat_le (h.ranges + 1) limits.ranges ≡ true → (file : List ℕ) (at : ℕ)
     → range_item limits h file at ≡ (fielded (range h.log) >>= λ x. whole (OneRange x)) file at
 unfolding range_item
 range_item-room limits h room file at = rw room refl
 
-pub range_item-over : {D : Type 0} (g : Ghosts D) (n : RawEntry) (limits : Limits) (h : Held) (feed : Feed D) → nat_le (h.ranges + 1) limits.ranges ≡ false
+pub range_item-over : {D : Type 0} (g : Ghosts D) (n : RawEntry) (limits : Limits) (h : HeldSoFar) (feed : Feed D) → nat_le (h.ranges + 1) limits.ranges ≡ false
     → Fetches g (item_of_record n) (range_item limits h) feed feed (Err (faults.TooMany what.Ranges limits.ranges))
 unfolding range_item
 range_item-over g n limits h feed over = fetched-refused g (item_of_record n) (range_item limits h) feed _ (λ same. absurd cc) (λ of file. rw over refl)
 
-pub range_item-err : {D : Type 0} (g : Ghosts D) (n : RawEntry) (limits : Limits) (h : Held) (old new : Feed D) (e : JobFault) → nat_le (h.ranges + 1) limits.ranges ≡ true
+pub range_item-err : {D : Type 0} (g : Ghosts D) (n : RawEntry) (limits : Limits) (h : HeldSoFar) (old new : Feed D) (e : JobFault) → nat_le (h.ranges + 1) limits.ranges ≡ true
     → Fetches g (λ (r : Range). r) (fielded (range h.log)) old new (Err e) → Fetches g (item_of_record n) (range_item limits h) old new (Err e)
 range_item-err g n limits h old new e room one =
     fetched-same g (item_of_record n) (fielded (range h.log) >>= λ x. whole (OneRange x)) (range_item limits h) old new (Err e) (range_item-room limits h room)
     (fetched-err g (λ (r : Range). r) (item_of_record n) (fielded (range h.log)) (λ x. whole (OneRange x)) old new e one)
 
-pub range_item-fetched : {D : Type 0} (g : Ghosts D) (n : RawEntry) (limits : Limits) (h : Held) (old new : Feed D) (x : Range) → nat_le (h.ranges + 1) limits.ranges ≡ true
+pub range_item-fetched : {D : Type 0} (g : Ghosts D) (n : RawEntry) (limits : Limits) (h : HeldSoFar) (old new : Feed D) (x : Range) → nat_le (h.ranges + 1) limits.ranges ≡ true
     → Fetches g (λ (r : Range). r) (fielded (range h.log)) old new (Ok x) → Fetches g (item_of_record n) (range_item limits h) old new (Ok (takens.Range x))
 range_item-fetched g n limits h old new x room one =
     fetched-same g (item_of_record n) (fielded (range h.log) >>= λ x. whole (OneRange x)) (range_item limits h) old new _ (range_item-room limits h room)
     (fetched-then g (λ (r : Range). r) (item_of_record n) (fielded (range h.log)) (λ x. whole (OneRange x)) old new new x _ one (fetched-whole g (item_of_record n) _ new (takens.Range x) refl))
 
-crl_item-room : (limits : Limits) (h : Held) → nat_le (h.crls + 1) limits.crls ≡ true → (file : List ℕ) (at : ℕ)
+crl_item-room : (limits : Limits) (h : HeldSoFar) → nat_le (h.crls + 1) limits.crls ≡ true → (file : List ℕ) (at : ℕ)
     → crl_item limits h file at ≡ (fielded (crl) >>= λ x. whole (OneCrl x)) file at
 unfolding crl_item
 crl_item-room limits h room file at = rw room refl
 
-pub crl_item-over : {D : Type 0} (g : Ghosts D) (n : RawEntry) (limits : Limits) (h : Held) (feed : Feed D) → nat_le (h.crls + 1) limits.crls ≡ false
+pub crl_item-over : {D : Type 0} (g : Ghosts D) (n : RawEntry) (limits : Limits) (h : HeldSoFar) (feed : Feed D) → nat_le (h.crls + 1) limits.crls ≡ false
     → Fetches g (item_of_record n) (crl_item limits h) feed feed (Err (faults.TooMany what.Crls limits.crls))
 unfolding crl_item
 crl_item-over g n limits h feed over = fetched-refused g (item_of_record n) (crl_item limits h) feed _ (λ same. absurd cc) (λ of file. rw over refl)
 
-pub crl_item-err : {D : Type 0} (g : Ghosts D) (n : RawEntry) (limits : Limits) (h : Held) (old new : Feed D) (e : JobFault) → nat_le (h.crls + 1) limits.crls ≡ true
+pub crl_item-err : {D : Type 0} (g : Ghosts D) (n : RawEntry) (limits : Limits) (h : HeldSoFar) (old new : Feed D) (e : JobFault) → nat_le (h.crls + 1) limits.crls ≡ true
     → Fetches g crl_held (fielded (crl)) old new (Err e) → Fetches g (item_of_record n) (crl_item limits h) old new (Err e)
 crl_item-err g n limits h old new e room one =
     fetched-same g (item_of_record n) (fielded (crl) >>= λ x. whole (OneCrl x)) (crl_item limits h) old new (Err e) (crl_item-room limits h room)
     (fetched-err g crl_held (item_of_record n) (fielded (crl)) (λ x. whole (OneCrl x)) old new e one)
 
-pub crl_item-fetched : {D : Type 0} (g : Ghosts D) (n : RawEntry) (limits : Limits) (h : Held) (old new : Feed D) (x : RawCrl) → nat_le (h.crls + 1) limits.crls ≡ true
+pub crl_item-fetched : {D : Type 0} (g : Ghosts D) (n : RawEntry) (limits : Limits) (h : HeldSoFar) (old new : Feed D) (x : RawCrl) → nat_le (h.crls + 1) limits.crls ≡ true
     → Fetches g crl_held (fielded (crl)) old new (Ok x) → Fetches g (item_of_record n) (crl_item limits h) old new (Ok (takens.Crl x))
 crl_item-fetched g n limits h old new x room one =
     fetched-same g (item_of_record n) (fielded (crl) >>= λ x. whole (OneCrl x)) (crl_item limits h) old new _ (crl_item-room limits h room)
     (fetched-then g crl_held (item_of_record n) (fielded (crl)) (λ x. whole (OneCrl x)) old new new x _ one (fetched-whole g (item_of_record n) _ new (takens.Crl x) refl))
 
-entry_item-room : (limits : Limits) (h : Held) → nat_le (h.entries + 1) limits.entries ≡ true → (file : List ℕ) (at : ℕ)
+entry_item-room : (limits : Limits) (h : HeldSoFar) → nat_le (h.entries + 1) limits.entries ≡ true → (file : List ℕ) (at : ℕ)
     → entry_item limits h file at ≡ (fielded (entry) >>= λ x. whole (OneEntry x)) file at
 unfolding entry_item
 entry_item-room limits h room file at = rw room refl
 
-pub entry_item-over : {D : Type 0} (g : Ghosts D) (n : RawEntry) (limits : Limits) (h : Held) (feed : Feed D) → nat_le (h.entries + 1) limits.entries ≡ false
+pub entry_item-over : {D : Type 0} (g : Ghosts D) (n : RawEntry) (limits : Limits) (h : HeldSoFar) (feed : Feed D) → nat_le (h.entries + 1) limits.entries ≡ false
     → Fetches g (item_of_record n) (entry_item limits h) feed feed (Err (faults.TooMany what.Entries limits.entries))
 unfolding entry_item
 entry_item-over g n limits h feed over = fetched-refused g (item_of_record n) (entry_item limits h) feed _ (λ same. absurd cc) (λ of file. rw over refl)
 
-pub entry_item-err : {D : Type 0} (g : Ghosts D) (n : RawEntry) (limits : Limits) (h : Held) (old new : Feed D) (e : JobFault) → nat_le (h.entries + 1) limits.entries ≡ true
+pub entry_item-err : {D : Type 0} (g : Ghosts D) (n : RawEntry) (limits : Limits) (h : HeldSoFar) (old new : Feed D) (e : JobFault) → nat_le (h.entries + 1) limits.entries ≡ true
     → Fetches g (λ (u : Unit {0}). entry_held n) (fielded (entry)) old new (Err e) → Fetches g (item_of_record n) (entry_item limits h) old new (Err e)
 entry_item-err g n limits h old new e room one =
     fetched-same g (item_of_record n) (fielded (entry) >>= λ x. whole (OneEntry x)) (entry_item limits h) old new (Err e) (entry_item-room limits h room)
     (fetched-err g (λ (u : Unit {0}). entry_held n) (item_of_record n) (fielded (entry)) (λ x. whole (OneEntry x)) old new e one)
 
-pub entry_item-fetched : {D : Type 0} (g : Ghosts D) (n : RawEntry) (limits : Limits) (h : Held) (old new : Feed D) (x : Unit {0}) → nat_le (h.entries + 1) limits.entries ≡ true
+pub entry_item-fetched : {D : Type 0} (g : Ghosts D) (n : RawEntry) (limits : Limits) (h : HeldSoFar) (old new : Feed D) (x : Unit {0}) → nat_le (h.entries + 1) limits.entries ≡ true
     → Fetches g (λ (u : Unit {0}). entry_held n) (fielded (entry)) old new (Ok x) → Fetches g (item_of_record n) (entry_item limits h) old new (Ok takens.Entry)
 entry_item-fetched g n limits h old new x room one =
     fetched-same g (item_of_record n) (fielded (entry) >>= λ x. whole (OneEntry x)) (entry_item limits h) old new _ (entry_item-room limits h room)
@@ -275,21 +275,21 @@ entry_item-fetched g n limits h old new x room one =
 
 -- ---- the next record
 
-abbrev behind_kind : Limits → Held → ℕ → Layout JobFault (Option Item)
+abbrev behind_kind : Limits → HeldSoFar → ℕ → Layout JobFault (Option Item)
 behind_kind limits h kind = if kind == 0 then whole None else some_of (item_of kind limits h)
 
-pub next-err : {D : Type 0} (g : Ghosts D) (n : RawEntry) (limits : Limits) (h : Held) (old new : Feed D) (e : JobFault)
+pub next-err : {D : Type 0} (g : Ghosts D) (n : RawEntry) (limits : Limits) (h : HeldSoFar) (old new : Feed D) (e : JobFault)
     → Fetches g (λ (k : ℕ). k) (fielded (record_kind h.kind)) old new (Err e) → Fetches g (some_record n) (next_item limits h) old new (Err e)
 unfolding next_item
 next-err g n limits h old new e one = fetched-err g (λ (k : ℕ). k) (some_record n) (fielded (record_kind h.kind)) (behind_kind limits h) old new e one
 
-pub next-over : {D : Type 0} (g : Ghosts D) (n : RawEntry) (limits : Limits) (h : Held) (old new : Feed D) (kind : ℕ) → kind ≡ 0
+pub next-over : {D : Type 0} (g : Ghosts D) (n : RawEntry) (limits : Limits) (h : HeldSoFar) (old new : Feed D) (kind : ℕ) → kind ≡ 0
     → Fetches g (λ (k : ℕ). k) (fielded (record_kind h.kind)) old new (Ok kind) → Fetches g (some_record n) (next_item limits h) old new (Ok None)
 unfolding next_item
 next-over g n limits h old new kind is one =
     fetched-then g (λ (k : ℕ). k) (some_record n) (fielded (record_kind h.kind)) (behind_kind limits h) old new new kind (Ok None) one (rw is (fetched-whole g (some_record n) None new None refl))
 
-pub next-one-err : {D : Type 0} (g : Ghosts D) (n : RawEntry) (limits : Limits) (h : Held) (old mid new : Feed D) (kind : ℕ) (e : JobFault) → (kind == 0) ≡ false
+pub next-one-err : {D : Type 0} (g : Ghosts D) (n : RawEntry) (limits : Limits) (h : HeldSoFar) (old mid new : Feed D) (kind : ℕ) (e : JobFault) → (kind == 0) ≡ false
     → Fetches g (λ (k : ℕ). k) (fielded (record_kind h.kind)) old mid (Ok kind) → Fetches g (item_of_record n) (item_of kind limits h) mid new (Err e)
     → Fetches g (some_record n) (next_item limits h) old new (Err e)
 unfolding next_item
@@ -297,7 +297,7 @@ next-one-err g n limits h old mid new kind e some one two =
     fetched-then g (λ (k : ℕ). k) (some_record n) (fielded (record_kind h.kind)) (behind_kind limits h) old mid new kind (Err e) one
     (rw some (fetched-err g (item_of_record n) (some_record n) (item_of kind limits h) (λ x. whole (Some x)) mid new e two))
 
-pub next-one : {D : Type 0} (g : Ghosts D) (n : RawEntry) (limits : Limits) (h : Held) (old mid new : Feed D) (kind : ℕ) (x : Taken) → (kind == 0) ≡ false
+pub next-one : {D : Type 0} (g : Ghosts D) (n : RawEntry) (limits : Limits) (h : HeldSoFar) (old mid new : Feed D) (kind : ℕ) (x : Taken) → (kind == 0) ≡ false
     → Fetches g (λ (k : ℕ). k) (fielded (record_kind h.kind)) old mid (Ok kind) → Fetches g (item_of_record n) (item_of kind limits h) mid new (Ok x)
     → Fetches g (some_record n) (next_item limits h) old new (Ok (Some x))
 unfolding next_item

@@ -14,7 +14,7 @@ use Rattle.job_core.specs.declared.raw.RawCrl.{RawCrl}
 use Rattle.job_core.specs.declared.raw.RawEntry.{RawEntry}
 use Rattle.job_core.specs.declared.records.Item.{Item as Taken}
 use Rattle.job_core.specs.declared.records.Item.TheVariants as takens
-use Rattle.job_core.specs.JobLayout.{Held, Item, OneRange, OneCrl, OneEntry, next_item}
+use Rattle.job_core.specs.JobLayout.{HeldSoFar, Item, OneRange, OneCrl, OneEntry, next_item}
 use Rattle.job_core.specs.JobText.{FitsItem, FitsCrl, FitsEntry, crl_held, entry_held}
 use Rattle.job_core.specs.Pulling.{AreBytes, Lies, Fetches}
 use Rattle.job_core.specs.Records.{item_of_record, some_record}
@@ -46,7 +46,7 @@ zeros-bytes at given fits = λ i. elim (cases_lt i at) [
       omega (arith, b, fits (i - at))
 ]
 
-pub item-fits : {D : Type 0} (g : Ghosts D) (limits : Limits) (h : Held) (entry : RawEntry) (old new : Feed D) (x : Taken)
+pub item-fits : {D : Type 0} (g : Ghosts D) (limits : Limits) (h : HeldSoFar) (entry : RawEntry) (old new : Feed D) (x : Taken)
     → Fetches g (some_record entry) (next_item limits h) old new (Ok (Some x)) → FitsItem limits h (item_of_record entry x)
 item-fits g limits h entry old new x f =
     let at : ℕ = place_of old in
@@ -56,18 +56,18 @@ item-fits g limits h entry old new x f =
     let says = (next-leaves limits h file (zeros-bytes at f.given going.0) at).each (Some (item_of_record entry x), place_of new) (f.reads file lies) in
     says.1
 
-pub range-fits : {D : Type 0} (g : Ghosts D) (limits : Limits) (h : Held) (entry : RawEntry) (old new : Feed D) (o : Option Taken) (r : Range) → o ≡ Some (takens.Range r)
+pub range-fits : {D : Type 0} (g : Ghosts D) (limits : Limits) (h : HeldSoFar) (entry : RawEntry) (old new : Feed D) (o : Option Taken) (r : Range) → o ≡ Some (takens.Range r)
     → Fetches g (some_record entry) (next_item limits h) old new (Ok o) → FitsRange None r
 range-fits g limits h entry old new o r is f =
     let fits = item-fits g limits h entry old new (takens.Range r) (subst (λ (p : Option Taken). Fetches g (some_record entry) (next_item limits h) old new (Ok p)) is f) in
     ((refl, fits.0.0.1), fits.0.1)
 
-pub crl-fits : {D : Type 0} (g : Ghosts D) (limits : Limits) (h : Held) (entry : RawEntry) (old new : Feed D) (o : Option Taken) (c : RawCrl) → o ≡ Some (takens.Crl c)
+pub crl-fits : {D : Type 0} (g : Ghosts D) (limits : Limits) (h : HeldSoFar) (entry : RawEntry) (old new : Feed D) (o : Option Taken) (c : RawCrl) → o ≡ Some (takens.Crl c)
     → Fetches g (some_record entry) (next_item limits h) old new (Ok o) → FitsCrl (crl_held c)
 crl-fits g limits h entry old new o c is f =
     (item-fits g limits h entry old new (takens.Crl c) (subst (λ (p : Option Taken). Fetches g (some_record entry) (next_item limits h) old new (Ok p)) is f)).0
 
-pub entry-fits : {D : Type 0} (g : Ghosts D) (limits : Limits) (h : Held) (entry : RawEntry) (old new : Feed D) (o : Option Taken) → o ≡ Some takens.Entry
+pub entry-fits : {D : Type 0} (g : Ghosts D) (limits : Limits) (h : HeldSoFar) (entry : RawEntry) (old new : Feed D) (o : Option Taken) → o ≡ Some takens.Entry
     → Fetches g (some_record entry) (next_item limits h) old new (Ok o) → FitsEntry (entry_held entry)
 entry-fits g limits h entry old new o is f =
     (item-fits g limits h entry old new takens.Entry (subst (λ (p : Option Taken). Fetches g (some_record entry) (next_item limits h) old new (Ok p)) is f)).0

@@ -10,7 +10,7 @@ use Rattle.job_core.specs.declared.fault.JobFault.TheVariants as faults
 use Rattle.job_core.specs.declared.partial.Numbers.{Numbers}
 use Rattle.job_core.specs.declared.records.Item.{Item as Taken}
 use Rattle.job_core.specs.JobFields.{JobFields}
-use Rattle.job_core.specs.JobLayout.{Item, OneRange, OneCrl, OneEntry, Held, nothing_held, with_item, serials_of, with_serials, next_item, records, saying_one}
+use Rattle.job_core.specs.JobLayout.{Item, OneRange, OneCrl, OneEntry, HeldSoFar, nothing_held, with_item, serials_of, with_serials, next_item, records, saying_one}
 use Rattle.job_core.specs.Partial.{held_in, said_behind, records_saying}
 use Rattle.outside_core.specs.Pulling.{Pulled}
 use Rattle.job_core.specs.Pulling.{AreBytes, NoneFailed, Lies, Fetches}
@@ -20,7 +20,7 @@ use Rattle.job_core.proofs.Fetching.{bytes-none, bytes-both, blames-then}
 use Rattle.job_core.proofs.Saying.{says_more, says_all, says_over, says_fault}
 
 -- these bytes were given, and in each file in which they lie so the records behind them say the rest of what all say
-pub record Gathers {D : Type 0} (g : Ghosts D) (limits : Limits) (first f : JobFields) (h : Held) (serials : ℕ) (old now : Feed D) : Type 0 where
+pub record Gathers {D : Type 0} (g : Ghosts D) (limits : Limits) (first f : JobFields) (h : HeldSoFar) (serials : ℕ) (old now : Feed D) : Type 0 where
   pub given : List ℕ
   pub place : place_of now ≡ place_of old + length given
   pub bytes : AreBytes given
@@ -28,16 +28,16 @@ pub record Gathers {D : Type 0} (g : Ghosts D) (limits : Limits) (first f : JobF
   pub reads : (file : List ℕ) → Lies false file (place_of old) given
       → said_behind f (records serials_of limits h serials file (place_of now)) ≡ records_saying limits first file (place_of old)
 
-pub gathers-none : {D : Type 0} (g : Ghosts D) (limits : Limits) (f : JobFields) (h : Held) (feed : Feed D) → h ≡ nothing_held → Gathers g limits f f h 0 feed feed
+pub gathers-none : {D : Type 0} (g : Ghosts D) (limits : Limits) (f : JobFields) (h : HeldSoFar) (feed : Feed D) → h ≡ nothing_held → Gathers g limits f f h 0 feed feed
 gathers-none g limits f h feed none = record {
   given = [];
   place = omega arith;
   bytes = bytes-none;
   lies = λ file stands. lies-none file (place_of feed) (omega (arith, stands.window.within));
-  reads = λ file lies. ap (λ (k : Held). said_behind f (records serials_of limits k 0 file (place_of feed))) none;
+  reads = λ file lies. ap (λ (k : HeldSoFar). said_behind f (records serials_of limits k 0 file (place_of feed))) none;
 }
 
-module _ {D : Type 0} (g : Ghosts D) (limits : Limits) (first f : JobFields) (h : Held) (serials : ℕ) (old mid new : Feed D)
+module _ {D : Type 0} (g : Ghosts D) (limits : Limits) (first f : JobFields) (h : HeldSoFar) (serials : ℕ) (old mid new : Feed D)
     (s : Gathers g limits first f h serials old mid) (pulled : Pulled g old mid) where
   both-lie : (more : List ℕ) (ended : Bool) → ((file : List ℕ) → StandsIn g mid file → Lies ended file (place_of mid) more)
       → (file : List ℕ) → StandsIn g old file → Lies ended file (place_of old) (s.given ++ more)
@@ -64,7 +64,7 @@ module _ {D : Type 0} (g : Ghosts D) (limits : Limits) (first f : JobFields) (h 
         e.reads file (subst (λ (b : Bool). Lies b file (place_of mid) e.given) (sym e.going.1) (behind e.given false file lies)) ∙ ap (λ (y : Option Item). Ok (y, place_of new)) is
 
     -- a record more
-    pub gathers-more : (x : Item) (k : Held) (n : ℕ) (next : JobFields) → view o ≡ Some x → next ≡ saying_one f x → k ≡ with_item h x
+    pub gathers-more : (x : Item) (k : HeldSoFar) (n : ℕ) (next : JobFields) → view o ≡ Some x → next ≡ saying_one f x → k ≡ with_item h x
         → n ≡ with_serials serials_of serials x → n ≤ limits.serials → Gathers g limits first next k n old new
     gathers-more x k n next is says holds counts few = record {
       given = s.given ++ e.given;
@@ -131,9 +131,9 @@ count_of n = n.ranges + n.crls + n.entries
 -- a record more, which is not longer than the longest
 pub near-more : (old new : Numbers) (x : Item) (from mid to : ℕ) → held_in new ≡ with_item (held_in old) x → mid ≤ from + count_of old * (2 ^ 27 + 1) → to ≤ mid + (2 ^ 27 + 1)
     → to ≤ from + count_of new * (2 ^ 27 + 1)
-near-more old new (OneRange r) from mid to is few next = omega (arith, few, next, ap (λ (h : Held). h.ranges) is, ap (λ (h : Held). h.crls) is, ap (λ (h : Held). h.entries) is)
-near-more old new (OneCrl c) from mid to is few next = omega (arith, few, next, ap (λ (h : Held). h.ranges) is, ap (λ (h : Held). h.crls) is, ap (λ (h : Held). h.entries) is)
-near-more old new (OneEntry e) from mid to is few next = omega (arith, few, next, ap (λ (h : Held). h.ranges) is, ap (λ (h : Held). h.crls) is, ap (λ (h : Held). h.entries) is)
+near-more old new (OneRange r) from mid to is few next = omega (arith, few, next, ap (λ (h : HeldSoFar). h.ranges) is, ap (λ (h : HeldSoFar). h.crls) is, ap (λ (h : HeldSoFar). h.entries) is)
+near-more old new (OneCrl c) from mid to is few next = omega (arith, few, next, ap (λ (h : HeldSoFar). h.ranges) is, ap (λ (h : HeldSoFar). h.crls) is, ap (λ (h : HeldSoFar). h.entries) is)
+near-more old new (OneEntry e) from mid to is few next = omega (arith, few, next, ap (λ (h : HeldSoFar). h.ranges) is, ap (λ (h : HeldSoFar). h.crls) is, ap (λ (h : HeldSoFar). h.entries) is)
 
 -- how far the longest job goes, since its records are numbered
 pub near-all : (n : Numbers) (from mid to : ℕ) → n.ranges < 2 ^ 32 → n.crls < 2 ^ 32 → n.entries < 2 ^ 32 → mid ≤ from + count_of n * (2 ^ 27 + 1) → to ≤ mid + (2 ^ 27 + 1) → to ≤ from + 2 ^ 62

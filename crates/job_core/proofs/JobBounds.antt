@@ -17,7 +17,7 @@ use Rattle.job_core.specs.declared.bounds.What.TheVariants as what
 use Rattle.job_core.specs.declared.fault.JobFault.{JobFault}
 use Rattle.job_core.specs.declared.fault.JobFault.TheVariants as faults
 use Rattle.job_core.specs.JobFields.{JobFields}
-use Rattle.job_core.specs.JobLayout.{fielded, record_kind, crl, entry, Held, nothing_held, Item, at_most, range_item, crl_item, entry_item, item_of}
+use Rattle.job_core.specs.JobLayout.{fielded, record_kind, crl, entry, HeldSoFar, nothing_held, Item, at_most, range_item, crl_item, entry_item, item_of}
 use Rattle.job_core.specs.JobLayout.{next_item, with_item, serials_of, with_serials, with_others, records_within, records, opening, JobTexts, job, said_by, job_of}
 use Rattle.job_core.specs.Offsets.{offset_in_job}
 
@@ -89,53 +89,53 @@ limit-bounded : (n : ℕ) (thing : What) (limit count : ℕ) → IsBounded (plac
 limit-bounded n thing limit count =
     either-bounded n (nat_le count limit) (whole tt) (refused (faults.TooMany thing limit)) (whole-bounded (place n) tt) (record { each = λ bytes at le. omega arith })
 
-range_item-bounded : (n : ℕ) (limits : Limits) (h : Held) → IsBounded (place n) (range_item limits h)
+range_item-bounded : (n : ℕ) (limits : Limits) (h : HeldSoFar) → IsBounded (place n) (range_item limits h)
 unfolding range_item
 range_item-bounded n limits h =
     limit-bounded n what.Ranges limits.ranges (h.ranges + 1) >>> λ room.
     fielded-bounded n _ (range-bounded h.log) >>> λ r.
     whole-bounded (place n) _
 
-crl_item-bounded : (n : ℕ) (limits : Limits) (h : Held) → IsBounded (place n) (crl_item limits h)
+crl_item-bounded : (n : ℕ) (limits : Limits) (h : HeldSoFar) → IsBounded (place n) (crl_item limits h)
 unfolding crl_item
 crl_item-bounded n limits h =
     limit-bounded n what.Crls limits.crls (h.crls + 1) >>> λ room.
     fielded-bounded n crl crl-bounded >>> λ c.
     whole-bounded (place n) _
 
-entry_item-bounded : (n : ℕ) (limits : Limits) (h : Held) → IsBounded (place n) (entry_item limits h)
+entry_item-bounded : (n : ℕ) (limits : Limits) (h : HeldSoFar) → IsBounded (place n) (entry_item limits h)
 unfolding entry_item
 entry_item-bounded n limits h =
     limit-bounded n what.Entries limits.entries (h.entries + 1) >>> λ room.
     fielded-bounded n entry entry-bounded >>> λ e.
     whole-bounded (place n) _
 
-item-bounded : (n kind : ℕ) (limits : Limits) (h : Held) → IsBounded (place n) (item_of kind limits h)
+item-bounded : (n kind : ℕ) (limits : Limits) (h : HeldSoFar) → IsBounded (place n) (item_of kind limits h)
 item-bounded n kind limits h =
     either-bounded n _ (range_item limits h) _ (range_item-bounded n limits h)
     (either-bounded n _ (crl_item limits h) (entry_item limits h) (crl_item-bounded n limits h) (entry_item-bounded n limits h))
 
-next-bounded : (n : ℕ) (limits : Limits) (h : Held) → IsBounded (place n) (next_item limits h)
+next-bounded : (n : ℕ) (limits : Limits) (h : HeldSoFar) → IsBounded (place n) (next_item limits h)
 unfolding next_item
 next-bounded n limits h =
     fielded-bounded n _ (kind-bounded h.kind) >>> λ kind.
     either-bounded n _ _ _ (whole-bounded (place n) None) (item-bounded n kind limits h >>> λ x. whole-bounded (place n) _)
 
-others-bounded : (brings : List ℕ → ℕ) (n : ℕ) (others : Held → ℕ → Layout JobFault (List Item)) (limits : Limits) (h : Held) (serials : ℕ) (x : Option Item)
-    → ((t : Held) (k : ℕ) → IsBounded (place n) (others t k)) → IsBounded (place n) (with_others brings others limits h serials x)
+others-bounded : (brings : List ℕ → ℕ) (n : ℕ) (others : HeldSoFar → ℕ → Layout JobFault (List Item)) (limits : Limits) (h : HeldSoFar) (serials : ℕ) (x : Option Item)
+    → ((t : HeldSoFar) (k : ℕ) → IsBounded (place n) (others t k)) → IsBounded (place n) (with_others brings others limits h serials x)
 others-bounded brings n others limits h serials None each = whole-bounded (place n) []
 others-bounded brings n others limits h serials (Some x) each =
     limit-bounded n what.Serials limits.serials (with_serials brings serials x) >>> λ few.
     each (with_item h x) (with_serials brings serials x) >>> λ xs.
     whole-bounded (place n) (x ∷ xs)
 
-records-bounded : (brings : List ℕ → ℕ) (n count : ℕ) (limits : Limits) (h : Held) (serials : ℕ) → IsBounded (place n) (records_within brings count limits h serials)
+records-bounded : (brings : List ℕ → ℕ) (n count : ℕ) (limits : Limits) (h : HeldSoFar) (serials : ℕ) → IsBounded (place n) (records_within brings count limits h serials)
 unfolding records_within
 records-bounded brings n zero limits h serials = record { each = λ bytes at le. le }
 records-bounded brings n (suc count) limits h serials =
     next-bounded n limits h >>> λ x. others-bounded brings n (records_within brings count limits) limits h serials x (λ t k. records-bounded brings n count limits t k)
 
-all-bounded : (brings : List ℕ → ℕ) (n : ℕ) (limits : Limits) (h : Held) (serials : ℕ) → IsBounded (place n) (records brings limits h serials)
+all-bounded : (brings : List ℕ → ℕ) (n : ℕ) (limits : Limits) (h : HeldSoFar) (serials : ℕ) → IsBounded (place n) (records brings limits h serials)
 all-bounded brings n limits h serials = record { each = λ bytes at le. (records-bounded brings n (length bytes - at) limits h serials).each bytes at le }
 
 opening-bounded : IsBounded offset opening

@@ -18,7 +18,7 @@ use Rattle.job_core.specs.declared.bounds.What.TheVariants as what
 use Rattle.job_core.specs.declared.fault.JobFault.{JobFault}
 use Rattle.job_core.specs.declared.fault.JobFault.TheVariants as faults
 use Rattle.job_core.specs.JobFields.{JobFields}
-use Rattle.job_core.specs.JobLayout.{fielded, CrlText, EntryText, Held, nothing_held, Item, OneRange, OneCrl, OneEntry, with_item, serials_of, with_serials, next_item, records}
+use Rattle.job_core.specs.JobLayout.{fielded, CrlText, EntryText, HeldSoFar, nothing_held, Item, OneRange, OneCrl, OneEntry, with_item, serials_of, with_serials, next_item, records}
 use Rattle.job_core.specs.JobLayout.{opening, JobTexts, job, said_by, job_of}
 use Rattle.job_core.specs.JobText.{JobContents, range_record, crl_record, entry_record, record_text, opening_text, spelling}
 use Rattle.job_core.specs.JobText.{FitsCrl, FitsEntry, FitsJob, FitsItem, Pass, held_behind, serials_behind, behind}
@@ -40,17 +40,17 @@ abbrev too_many : Limits → JobFault
 too_many limits = faults.TooMany what.Serials limits.serials
 
 -- some records pass, and the next one brings too many serials
-abbrev Over : Limits → Held → ℕ → List Item → Type 0
+abbrev Over : Limits → HeldSoFar → ℕ → List Item → Type 0
 Over limits h serials [] = ⊥
 Over limits h serials (x ∷ xs) =
     FitsItem limits h x × ((limits.serials < with_serials serials_of serials x)
     ⊎ ((with_serials serials_of serials x ≤ limits.serials) × Over limits (with_item h x) (with_serials serials_of serials x) xs))
 
 -- what ranges leave: other counts as they are
-abbrev AfterRanges : (Held → Type 0) → Held → Type 0
-AfterRanges P h = (t : Held) → t.kind ≤ 1 → t.crls ≡ h.crls → t.entries ≡ h.entries → P t
+abbrev AfterRanges : (HeldSoFar → Type 0) → HeldSoFar → Type 0
+AfterRanges P h = (t : HeldSoFar) → t.kind ≤ 1 → t.crls ≡ h.crls → t.entries ≡ h.entries → P t
 
-ranges-pass : (limits : Limits) (rs : List Range) (h : Held) (serials : ℕ) (xs : List Item) → h.kind ≤ 1 → h.ranges + length rs ≤ limits.ranges
+ranges-pass : (limits : Limits) (rs : List Range) (h : HeldSoFar) (serials : ℕ) (xs : List Item) → h.kind ≤ 1 → h.ranges + length rs ≤ limits.ranges
     → Linked FitsRange (λ previous r. Some r.log) h.log rs → serials ≤ limits.serials → AfterRanges (λ t. Pass serials_of limits t serials xs) h
     → Pass serials_of limits h serials (map (λ r. OneRange r) rs ++ xs)
 ranges-pass limits [] h serials xs low few fits under each = each h low refl refl
@@ -60,7 +60,7 @@ ranges-pass limits (r ∷ rs) h serials xs low few fits under each = (
   ranges-pass limits rs (with_item h (OneRange r)) serials xs (omega arith) (omega (arith, few)) fits.1 under each,
 )
 
-ranges-over : (limits : Limits) (rs : List Range) (h : Held) (serials : ℕ) (xs : List Item) → h.kind ≤ 1 → h.ranges + length rs ≤ limits.ranges
+ranges-over : (limits : Limits) (rs : List Range) (h : HeldSoFar) (serials : ℕ) (xs : List Item) → h.kind ≤ 1 → h.ranges + length rs ≤ limits.ranges
     → Linked FitsRange (λ previous r. Some r.log) h.log rs → serials ≤ limits.serials → AfterRanges (λ t. Over limits t serials xs) h
     → Over limits h serials (map (λ r. OneRange r) rs ++ xs)
 ranges-over limits [] h serials xs low few fits under each = each h low refl refl
@@ -69,9 +69,9 @@ ranges-over limits (r ∷ rs) h serials xs low few fits under each = (
   inr (under, ranges-over limits rs (with_item h (OneRange r)) serials xs (omega arith) (omega (arith, few)) fits.1 under each),
 )
 
-crls-pass : (limits : Limits) (cs : List CrlText) (h : Held) (serials : ℕ) (xs : List Item) → h.kind ≤ 2 → h.crls + length cs ≤ limits.crls
+crls-pass : (limits : Limits) (cs : List CrlText) (h : HeldSoFar) (serials : ℕ) (xs : List Item) → h.kind ≤ 2 → h.crls + length cs ≤ limits.crls
     → serials + brought cs ≤ limits.serials → All FitsCrl cs
-    → ((t : Held) → t.kind ≤ 2 → t.entries ≡ h.entries → Pass serials_of limits t (serials + brought cs) xs)
+    → ((t : HeldSoFar) → t.kind ≤ 2 → t.entries ≡ h.entries → Pass serials_of limits t (serials + brought cs) xs)
     → Pass serials_of limits h serials (map (λ c. OneCrl c) cs ++ xs)
 crls-pass limits [] h serials xs low few under fits each = subst (λ (n : ℕ). Pass serials_of limits h n xs) (omega arith) (each h low refl)
 crls-pass limits (c ∷ cs) h serials xs low few under fits each =
@@ -83,7 +83,7 @@ crls-pass limits (c ∷ cs) h serials xs low few under fits each =
           (others_of FitsCrl c cs fits) (λ t kind entries. subst (λ (n : ℕ). Pass serials_of limits t n xs) next (each t kind entries)),
     )
 
-crls-over : (limits : Limits) (cs : List CrlText) (h : Held) (serials : ℕ) (xs : List Item) → h.kind ≤ 2 → h.crls + length cs ≤ limits.crls
+crls-over : (limits : Limits) (cs : List CrlText) (h : HeldSoFar) (serials : ℕ) (xs : List Item) → h.kind ≤ 2 → h.crls + length cs ≤ limits.crls
     → serials ≤ limits.serials → limits.serials < serials + brought cs → All FitsCrl cs → Over limits h serials (map (λ c. OneCrl c) cs ++ xs)
 crls-over limits [] h serials xs low few under over fits = absurd (omega (arith, under, over))
 crls-over limits (c ∷ cs) h serials xs low few under over fits =
@@ -99,7 +99,7 @@ crls-over limits (c ∷ cs) h serials xs low few under over fits =
       ],
     )
 
-entries-pass : (limits : Limits) (es : List EntryText) (h : Held) (serials : ℕ) → h.kind ≤ 3 → h.entries + length es ≤ limits.entries
+entries-pass : (limits : Limits) (es : List EntryText) (h : HeldSoFar) (serials : ℕ) → h.kind ≤ 3 → h.entries + length es ≤ limits.entries
     → serials ≤ limits.serials → All FitsEntry es → Pass serials_of limits h serials (map (λ e. OneEntry e) es)
 entries-pass limits [] h serials low few under fits = tt
 entries-pass limits (e ∷ es) h serials low few under fits = (
@@ -123,7 +123,7 @@ job-over limits j fits over =
 
 -- ---- what they are read as
 
-records-over : (limits : Limits) (h : Held) (serials : ℕ) (xs : List Item) (before rest : List ℕ) → Over limits h serials xs
+records-over : (limits : Limits) (h : HeldSoFar) (serials : ℕ) (xs : List Item) (before rest : List ℕ) → Over limits h serials xs
     → records serials_of limits h serials (before ++ (texts_of xs ++ rest)) (length before) ≡ Err (too_many limits)
 records-over limits h serials [] before rest over = absurd over
 records-over limits h serials (x ∷ xs) before rest (fits, over) =
@@ -149,7 +149,7 @@ records-end : (brings : List ℕ → ℕ) (limits : Limits) (xs : List Item) (be
 records-end brings limits xs before pass =
     let zero : List ℕ = to_be_bytes w8 0 in
     let B : List ℕ = before ++ (texts_of xs ++ zero) in
-    let H : Held = held_behind nothing_held xs in
+    let H : HeldSoFar = held_behind nothing_held xs in
     let S : ℕ = serials_behind brings 0 xs in
     let moved : (before ++ texts_of xs) ++ (zero ++ []) ≡ B = append_assoc before (texts_of xs) (zero ++ []) ∙ ap (λ (l : List ℕ). before ++ (texts_of xs ++ l)) (append-nil zero) in
     let at : length (before ++ texts_of xs) ≡ length before + length (texts_of xs) = length-append before (texts_of xs) in

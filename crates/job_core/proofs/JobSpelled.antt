@@ -21,7 +21,7 @@ use Rattle.job_core.specs.declared.bounds.Limits.{Limits}
 use Rattle.job_core.specs.declared.fault.JobFault.{JobFault}
 use Rattle.job_core.specs.declared.fault.JobFault.TheVariants as faults
 use Rattle.job_core.specs.JobFields.{JobFields}
-use Rattle.job_core.specs.JobLayout.{CrlText, EntryText, Held, nothing_held, Item, OneRange, OneCrl, OneEntry, with_item, serials_of, with_serials, with_others, records_within, records}
+use Rattle.job_core.specs.JobLayout.{CrlText, EntryText, HeldSoFar, nothing_held, Item, OneRange, OneCrl, OneEntry, with_item, serials_of, with_serials, with_others, records_within, records}
 use Rattle.job_core.specs.JobLayout.{opening, JobTexts, job, saying, begun, said_by, job_of}
 use Rattle.job_core.specs.JobText.{JobContents, record_text, opening_text, spelling, FitsCrl, FitsEntry, FitsJob, FitsItem, Pass}
 use Rattle.job_core.specs.JobMeaning.{meaning_of, kept_in, reading_of}
@@ -33,8 +33,8 @@ use Rattle.job_core.proofs.JobReads.{spelling-is}
 
 -- ---- records
 
-others-leave : (brings : List ℕ → ℕ) (limits : Limits) (n : ℕ) (h : Held) (serials : ℕ) (bytes : List ℕ) → IsBytes bytes → (at : ℕ) (x : Option Item) (p : ℕ) → Says limits h bytes at x p
-    → ((t : Held) (k q : ℕ) → Leaves (records_within brings n limits t k) bytes q (λ xs r. Takes bytes q (texts_of xs ++ to_be_bytes w8 0) r × Pass brings limits t k xs))
+others-leave : (brings : List ℕ → ℕ) (limits : Limits) (n : ℕ) (h : HeldSoFar) (serials : ℕ) (bytes : List ℕ) → IsBytes bytes → (at : ℕ) (x : Option Item) (p : ℕ) → Says limits h bytes at x p
+    → ((t : HeldSoFar) (k q : ℕ) → Leaves (records_within brings n limits t k) bytes q (λ xs r. Takes bytes q (texts_of xs ++ to_be_bytes w8 0) r × Pass brings limits t k xs))
     → Leaves (with_others brings (records_within brings n limits) limits h serials x) bytes p (λ xs q. Takes bytes at (texts_of xs ++ to_be_bytes w8 0) q × Pass brings limits h serials xs)
 others-leave brings limits n h serials bytes fits at None p said each = whole-leaves [] bytes p _ (said, tt)
 others-leave brings limits n h serials bytes fits at (Some x) p said each =
@@ -46,7 +46,7 @@ others-leave brings limits n h serials bytes fits at (Some x) p said each =
       (said.1, a.1, b.1),
     )
 
-records-leave : (brings : List ℕ → ℕ) (limits : Limits) (n : ℕ) (h : Held) (serials : ℕ) (bytes : List ℕ) → IsBytes bytes → (at : ℕ)
+records-leave : (brings : List ℕ → ℕ) (limits : Limits) (n : ℕ) (h : HeldSoFar) (serials : ℕ) (bytes : List ℕ) → IsBytes bytes → (at : ℕ)
     → Leaves (records_within brings n limits h serials) bytes at (λ xs q. Takes bytes at (texts_of xs ++ to_be_bytes w8 0) q × Pass brings limits h serials xs)
 unfolding records_within
 records-leave brings limits zero h serials bytes fits at = record { each = λ x is. absurd cc }
@@ -56,7 +56,7 @@ records-leave brings limits (suc n) h serials bytes fits at =
 -- ---- which records they are
 
 -- Records that pass are ranges, then CRLs, then entries, and these keep the limits.
-record Sorts (limits : Limits) (h : Held) (serials : ℕ) (xs : List Item) (rs : List Range) (cs : List CrlText) (es : List EntryText) : Type 0 where
+record Sorts (limits : Limits) (h : HeldSoFar) (serials : ℕ) (xs : List Item) (rs : List Range) (cs : List CrlText) (es : List EntryText) : Type 0 where
   is : items rs cs es ≡ xs
   few_ranges : h.ranges ≤ limits.ranges → h.ranges + length rs ≤ limits.ranges
   few_crls : h.crls ≤ limits.crls → h.crls + length cs ≤ limits.crls
@@ -68,10 +68,10 @@ record Sorts (limits : Limits) (h : Held) (serials : ℕ) (xs : List Item) (rs :
   no_ranges : 2 ≤ h.kind → rs ≡ []
   no_crls : 3 ≤ h.kind → cs ≡ []
 
-abbrev SortedBy : Limits → Held → ℕ → List Item → Type 0
+abbrev SortedBy : Limits → HeldSoFar → ℕ → List Item → Type 0
 SortedBy limits h serials xs = (rs : List Range) × (cs : List CrlText) × (es : List EntryText) × Sorts limits h serials xs rs cs es
 
-range-sorted : (limits : Limits) (h : Held) (serials : ℕ) (r : Range) (xs : List Item) → FitsItem limits h (OneRange r) → SortedBy limits (with_item h (OneRange r)) serials xs
+range-sorted : (limits : Limits) (h : HeldSoFar) (serials : ℕ) (r : Range) (xs : List Item) → FitsItem limits h (OneRange r) → SortedBy limits (with_item h (OneRange r)) serials xs
     → SortedBy limits h serials (OneRange r ∷ xs)
 range-sorted limits h serials r xs fits (rs, cs, es, s) = (
   r ∷ rs,
@@ -91,7 +91,7 @@ range-sorted limits h serials r xs fits (rs, cs, es, s) = (
   },
 )
 
-crl-sorted : (limits : Limits) (h : Held) (serials : ℕ) (c : CrlText) (xs : List Item) (rs : List Range) (cs : List CrlText) (es : List EntryText)
+crl-sorted : (limits : Limits) (h : HeldSoFar) (serials : ℕ) (c : CrlText) (xs : List Item) (rs : List Range) (cs : List CrlText) (es : List EntryText)
     → FitsItem limits h (OneCrl c) → serials + serials_of c.bytes ≤ limits.serials → rs ≡ []
     → Sorts limits (with_item h (OneCrl c)) (serials + serials_of c.bytes) xs rs cs es → SortedBy limits h serials (OneCrl c ∷ xs)
 crl-sorted limits h serials c xs (r ∷ rs) cs es fits few none s = absurd cc
@@ -113,7 +113,7 @@ crl-sorted limits h serials c xs [] cs es fits few none s = (
   },
 )
 
-entry-sorted : (limits : Limits) (h : Held) (serials : ℕ) (e : EntryText) (xs : List Item) (rs : List Range) (cs : List CrlText) (es : List EntryText)
+entry-sorted : (limits : Limits) (h : HeldSoFar) (serials : ℕ) (e : EntryText) (xs : List Item) (rs : List Range) (cs : List CrlText) (es : List EntryText)
     → FitsItem limits h (OneEntry e) → rs ≡ [] → cs ≡ [] → Sorts limits (with_item h (OneEntry e)) serials xs rs cs es → SortedBy limits h serials (OneEntry e ∷ xs)
 entry-sorted limits h serials e xs (r ∷ rs) cs es fits no_ranges no_crls s = absurd cc
 entry-sorted limits h serials e xs [] (c ∷ cs) es fits no_ranges no_crls s = absurd cc
@@ -135,7 +135,7 @@ entry-sorted limits h serials e xs [] [] es fits no_ranges no_crls s = (
   },
 )
 
-sorted : (limits : Limits) (h : Held) (serials : ℕ) (xs : List Item) → Pass serials_of limits h serials xs → SortedBy limits h serials xs
+sorted : (limits : Limits) (h : HeldSoFar) (serials : ℕ) (xs : List Item) → Pass serials_of limits h serials xs → SortedBy limits h serials xs
 sorted limits h serials [] pass = (
   [],
   [],

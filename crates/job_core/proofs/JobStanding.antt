@@ -14,7 +14,7 @@ use Rattle.octets_core.proofs.Fields.{mapped-ok}
 use Rattle.octets_core.proofs.Texts.{IsBytes, Takes}
 use Rattle.job_core.specs.declared.bounds.Limits.{Limits}
 use Rattle.job_core.specs.declared.fault.JobFault.{JobFault}
-use Rattle.job_core.specs.JobLayout.{fielded, Item, OneRange, OneCrl, OneEntry, Held, nothing_held, with_item, with_serials, next_item, opening, records, JobTexts, job}
+use Rattle.job_core.specs.JobLayout.{fielded, Item, OneRange, OneCrl, OneEntry, HeldSoFar, nothing_held, with_item, with_serials, next_item, opening, records, JobTexts, job}
 use Rattle.job_core.specs.JobText.{opening_text, record_text, FitsItem, Pass, held_behind, serials_behind, behind}
 use Rattle.job_core.specs.declared.fault.JobFault.TheVariants as faults
 use Rattle.job_core.specs.declared.reader.JobReader.{JobReader}
@@ -83,11 +83,11 @@ module _ (file : List ℕ) (at end : ℕ) (le : at ≤ end) (room : end ≤ leng
       let l = (opening-leaves (padded file at end) padded-bytes at).each (o, end) (read-padded opening opening-advances o is) in
       (unpadded (opening_text o.0 o.1) l.0, l.1, l.2)
 
-  found-says : (limits : Limits) (h : Held) (x : Option Item) → Says limits h (padded file at end) at x end → Says limits h file at x end
+  found-says : (limits : Limits) (h : HeldSoFar) (x : Option Item) → Says limits h (padded file at end) at x end → Says limits h file at x end
   found-says limits h None says = unpadded (to_be_bytes w8 0) says
   found-says limits h (Some x) says = (unpadded (record_text x) says.0, says.1)
 
-  pub next-found : (limits : Limits) (h : Held) (x : Option Item) → next_item limits h file at ≡ Ok (x, end) → Says limits h file at x end
+  pub next-found : (limits : Limits) (h : HeldSoFar) (x : Option Item) → next_item limits h file at ≡ Ok (x, end) → Says limits h file at x end
   next-found limits h x is =
       found-says limits h x ((next-leaves limits h (padded file at end) padded-bytes at).each (x, end) (read-padded (next_item limits h) (next-advances limits h) x is))
 
@@ -98,19 +98,19 @@ same_serials n (OneRange r) = refl
 same_serials n (OneCrl c) = omega arith
 same_serials n (OneEntry e) = refl
 
-pass-more : (limits : Limits) (h : Held) (n : ℕ) (xs : List Item) (x : Item) → n ≤ limits.serials → Pass no_serials limits h n xs → FitsItem limits (held_behind h xs) x
+pass-more : (limits : Limits) (h : HeldSoFar) (n : ℕ) (xs : List Item) (x : Item) → n ≤ limits.serials → Pass no_serials limits h n xs → FitsItem limits (held_behind h xs) x
     → Pass no_serials limits h n (xs ++ x ∷ [])
 pass-more limits h n [] x le pass fits = (fits, omega (arith, le, same_serials n x), tt)
 pass-more limits h n (y ∷ xs) x le pass fits = (pass.0, pass.1, pass-more limits (with_item h y) (with_serials no_serials n y) xs x pass.1 pass.2 fits)
 
-held-more : (h : Held) (xs : List Item) (x : Item) → held_behind h (xs ++ x ∷ []) ≡ with_item (held_behind h xs) x
+held-more : (h : HeldSoFar) (xs : List Item) (x : Item) → held_behind h (xs ++ x ∷ []) ≡ with_item (held_behind h xs) x
 held-more h [] x = refl
 held-more h (y ∷ xs) x = held-more (with_item h y) xs x
 
 abbrev pub with_record : JobTexts → Item → JobTexts
 with_record t x = record { epoch = t.epoch; moment = t.moment; items = t.items ++ x ∷ [] }
 
-pub begins-more : (limits : Limits) (numbers later : Held) (b : List ℕ) (t : JobTexts) (x : Item) → Begins limits numbers b t → FitsItem limits numbers x → later ≡ with_item numbers x
+pub begins-more : (limits : Limits) (numbers later : HeldSoFar) (b : List ℕ) (t : JobTexts) (x : Item) → Begins limits numbers b t → FitsItem limits numbers x → later ≡ with_item numbers x
     → Begins limits later (b ++ record_text x) (with_record t x)
 begins-more limits numbers later b t x begins fits holds =
     let O : List ℕ = opening_text t.epoch t.moment in
@@ -121,8 +121,8 @@ begins-more limits numbers later b t x begins fits holds =
           (ap (λ (l : List ℕ). texts_of t.items ++ l) (sym (append-nil (record_text x))) ∙ sym (flat_map-append record_text t.items (x ∷ [])));
       epoch = begins.epoch;
       moment = begins.moment;
-      pass = pass-more limits nothing_held 0 t.items x (omega arith) begins.pass (subst (λ (h : Held). FitsItem limits h x) begins.held fits);
-      held = holds ∙ ap (λ (h : Held). with_item h x) begins.held ∙ sym (held-more nothing_held t.items x);
+      pass = pass-more limits nothing_held 0 t.items x (omega arith) begins.pass (subst (λ (h : HeldSoFar). FitsItem limits h x) begins.held fits);
+      held = holds ∙ ap (λ (h : HeldSoFar). with_item h x) begins.held ∙ sym (held-more nothing_held t.items x);
     }
 
 pub begins-first : (limits : Limits) (epoch moment : ℕ) → epoch < 2 ^ 64 → moment < 2 ^ 64
@@ -141,7 +141,7 @@ pub opening-fault : (limits : Limits) (file : List ℕ) (e : JobFault) → field
 unfolding job
 opening-fault limits file e is = ap (λ r. then_read r (behind_opening no_serials limits) file) is
 
-module _ (limits : Limits) (numbers : Held) (file : List ℕ) (at : ℕ) (t : JobTexts) (begins : Begins limits numbers (take at file) t) (within : at ≤ length file) where
+module _ (limits : Limits) (numbers : HeldSoFar) (file : List ℕ) (at : ℕ) (t : JobTexts) (begins : Begins limits numbers (take at file) t) (within : at ≤ length file) where
   abbrev O : List ℕ
   O = opening_text t.epoch t.moment
 
@@ -167,7 +167,7 @@ module _ (limits : Limits) (numbers : Held) (file : List ℕ) (at : ℕ) (t : Jo
       ∙ passes no_serials limits nothing_held 0 t.items O rest begins.pass
       ∙ ap (λ (l : List ℕ). behind t.items (records no_serials limits (held_behind nothing_held t.items) (serials_behind no_serials 0 t.items) l (length O + length T))) (sym file-is)
       ∙ ap (λ (n : ℕ). behind t.items (records no_serials limits (held_behind nothing_held t.items) (serials_behind no_serials 0 t.items) file n)) (sym place-is)
-      ∙ ap (λ (h : Held). behind t.items (records no_serials limits h (serials_behind no_serials 0 t.items) file at)) (sym begins.held) in
+      ∙ ap (λ (h : HeldSoFar). behind t.items (records no_serials limits h (serials_behind no_serials 0 t.items) file at)) (sym begins.held) in
       behind-opening no_serials limits file 0 (t.epoch, t.moment) (length O) opened
       ∙ ap (λ r. then_read r (λ xs. fielded end_of >>= λ over. whole (record { epoch = t.epoch; moment = t.moment; items = xs })) file) passed
 
@@ -232,7 +232,7 @@ module _ (old new : JobReader) (file : List ℕ) (at end : ℕ) (le : at ≤ end
       let text : take end file ≡ opening_text o.0 o.1 = found.0.parts ∙ ap (λ (l : List ℕ). l ++ opening_text o.0 o.1) none.0 in
       let first : Begins new.limits (held_in new.numbers) (take end file) t
       = subst (λ (b : List ℕ). Begins new.limits (held_in new.numbers) b t) (sym text)
-      (subst (λ (h : Held). Begins new.limits h (opening_text o.0 o.1) t) (sym (holds ∙ none.1)) (begins-first new.limits o.0 o.1 found.1 found.2)) in (
+      (subst (λ (h : HeldSoFar). Begins new.limits h (opening_text o.0 o.1) t) (sym (holds ∙ none.1)) (begins-first new.limits o.0 o.1 found.1 found.2)) in (
         found.0.parts,
         stands-later stages.Records is (t, first),
         λ same. absurd cc,

@@ -3,7 +3,7 @@ use Rattle.std.proofs.Common.{◌≡◌, ℕ, ◌+◌, List, [], ◌∷◌, ◌+
 use Rattle.std.specs.Prelude.{flat_map}
 use Rattle.job_core.specs.declared.bounds.Limits.{Limits}
 use Rattle.job_core.specs.declared.fault.JobFault.{JobFault}
-use Rattle.job_core.specs.JobLayout.{Item, Held, with_item, next_item, with_serials, records}
+use Rattle.job_core.specs.JobLayout.{Item, HeldSoFar, with_item, next_item, with_serials, records}
 use Rattle.job_core.specs.JobText.{record_text, Pass, held_behind, serials_behind, behind}
 use Rattle.job_core.proofs.RecordTexts.{next-read}
 use Rattle.job_core.proofs.Steps.{goes_on}
@@ -23,7 +23,7 @@ none-behind : (r : Result (List Item × ℕ) JobFault) → r ≡ behind [] r
 none-behind (Ok y) = refl
 none-behind (Err e) = refl
 
-pub passes : (brings : List ℕ → ℕ) (limits : Limits) (h : Held) (serials : ℕ) (xs : List Item) (before rest : List ℕ) → Pass brings limits h serials xs
+pub passes : (brings : List ℕ → ℕ) (limits : Limits) (h : HeldSoFar) (serials : ℕ) (xs : List Item) (before rest : List ℕ) → Pass brings limits h serials xs
     → records brings limits h serials (before ++ (texts_of xs ++ rest)) (length before)
     ≡ behind xs (records brings limits (held_behind h xs) (serials_behind brings serials xs) (before ++ (texts_of xs ++ rest)) (length before + length (texts_of xs)))
 passes brings limits h serials [] before rest pass =
@@ -38,7 +38,7 @@ passes brings limits h serials (x ∷ xs) before rest pass =
     let place : length before + length (record_text x) ≡ length (before ++ record_text x) = omega (arith, length-append before (record_text x)) in
     let end : length (before ++ record_text x) + length (texts_of xs) ≡ length before + length (texts_of (x ∷ xs))
     = omega (arith, length-append before (record_text x), length-append (record_text x) (texts_of xs)) in
-    let H : Held = held_behind (with_item h x) xs in
+    let H : HeldSoFar = held_behind (with_item h x) xs in
     let S : ℕ = serials_behind brings n xs in
     rw (split before x xs rest)
     (goes_on brings limits h serials B (length before) x (length before + length (record_text x)) next pass.1

@@ -17,7 +17,7 @@ use Rattle.job_core.specs.declared.bounds.What.{What}
 use Rattle.job_core.specs.declared.bounds.What.TheVariants as what
 use Rattle.job_core.specs.declared.fault.JobFault.{JobFault}
 use Rattle.job_core.specs.declared.fault.JobFault.TheVariants as faults
-use Rattle.job_core.specs.JobLayout.{fielded, is_kind, record_kind, CrlText, crl, EntryText, entry, Held, Item, OneRange, OneCrl, OneEntry, at_most}
+use Rattle.job_core.specs.JobLayout.{fielded, is_kind, record_kind, CrlText, crl, EntryText, entry, HeldSoFar, Item, OneRange, OneCrl, OneEntry, at_most}
 use Rattle.job_core.specs.JobLayout.{range_item, crl_item, entry_item, item_of, some_of, next_item}
 use Rattle.job_core.specs.JobText.{record_text, FitsCrl, FitsEntry, FitsItem}
 
@@ -53,7 +53,7 @@ entry-read before e fits = from_front
 at_most-read : (thing : What) (limit count : ℕ) → count ≤ limit → (before : List ℕ) → IsRead (at_most thing limit count) before tt []
 at_most-read thing limit count le before = rw (le-leb count limit le) (whole-read before tt)
 
-range_item-read : (limits : Limits) (h : Held) (before : List ℕ) (r : Range) → h.ranges + 1 ≤ limits.ranges → FitsRange h.log r
+range_item-read : (limits : Limits) (h : HeldSoFar) (before : List ℕ) (r : Range) → h.ranges + 1 ≤ limits.ranges → FitsRange h.log r
     → IsRead (range_item limits h) before (OneRange r) (range_text r)
 unfolding range_item
 range_item-read limits h before r room fits = from_front
@@ -64,7 +64,7 @@ range_item-read limits h before r room fits = from_front
 abbrev pub crl_body : CrlText → List ℕ
 crl_body c = c.issuer ++ to_be_bytes w32 (length c.bytes) ++ c.bytes
 
-crl_item-read : (limits : Limits) (h : Held) (before : List ℕ) (c : CrlText) → h.crls + 1 ≤ limits.crls → FitsCrl c
+crl_item-read : (limits : Limits) (h : HeldSoFar) (before : List ℕ) (c : CrlText) → h.crls + 1 ≤ limits.crls → FitsCrl c
     → IsRead (crl_item limits h) before (OneCrl c) (crl_body c)
 unfolding crl_item
 crl_item-read limits h before c room fits = from_front
@@ -75,7 +75,7 @@ crl_item-read limits h before c room fits = from_front
 abbrev pub entry_body : EntryText → List ℕ
 entry_body e = e.log ++ three_bytes (length e.leaf) ++ e.leaf ++ three_bytes (length e.extra) ++ e.extra
 
-entry_item-read : (limits : Limits) (h : Held) (before : List ℕ) (e : EntryText) → h.entries + 1 ≤ limits.entries → FitsEntry e
+entry_item-read : (limits : Limits) (h : HeldSoFar) (before : List ℕ) (e : EntryText) → h.entries + 1 ≤ limits.entries → FitsEntry e
     → IsRead (entry_item limits h) before (OneEntry e) (entry_body e)
 unfolding entry_item
 entry_item-read limits h before e room fits = from_front
@@ -85,7 +85,7 @@ entry_item-read limits h before e room fits = from_front
 
 -- ---- with their kinds
 
-abbrev pub behind_kind : Limits → Held → ℕ → Layout JobFault (Option Item)
+abbrev pub behind_kind : Limits → HeldSoFar → ℕ → Layout JobFault (Option Item)
 behind_kind limits h kind = if kind == 0 then whole None else some_of (item_of kind limits h)
 
 or-true : (b : Bool) → (b || true) ≡ true
@@ -100,7 +100,7 @@ kind-passes previous (suc kind) low high = rw (le-leb previous (suc kind) low, l
 kind-read : (previous kind : ℕ) → previous ≤ kind → kind ≤ 3 → (before : List ℕ) → IsRead (fielded (record_kind previous)) before kind (to_be_bytes w8 kind)
 kind-read previous kind low high before = mapped-read faults.Layout _ _ _ _ (record_kind-read previous kind (omega (arith, high)) (kind-passes previous kind low high) before)
 
-kind-then : (limits : Limits) (h : Held) (before : List ℕ) (kind : ℕ) (x : Item) (t : List ℕ) → h.kind ≤ kind → kind ≤ 3
+kind-then : (limits : Limits) (h : HeldSoFar) (before : List ℕ) (kind : ℕ) (x : Item) (t : List ℕ) → h.kind ≤ kind → kind ≤ 3
     → IsRead (behind_kind limits h kind) (before ++ to_be_bytes w8 kind) (Some x) t → IsRead (next_item limits h) before (Some x) (to_be_bytes w8 kind ++ t)
 unfolding next_item
 kind-then limits h before kind x t low high one = then-read (fielded (record_kind h.kind)) (behind_kind limits h) before kind (Some x) (to_be_bytes w8 kind) t
@@ -110,7 +110,7 @@ some-read : (layout : Layout JobFault Item) (before : List ℕ) (x : Item) (t : 
 some-read layout before x t one = ends-read (λ (y : Item). Some y) one
 
 -- a record that fits is the next
-pub next-read : (limits : Limits) (h : Held) (before : List ℕ) (x : Item) → FitsItem limits h x → IsRead (next_item limits h) before (Some x) (record_text x)
+pub next-read : (limits : Limits) (h : HeldSoFar) (before : List ℕ) (x : Item) → FitsItem limits h x → IsRead (next_item limits h) before (Some x) (record_text x)
 next-read limits h before (OneRange r) fits =
     kind-then limits h before 1 (OneRange r) (range_text r) fits.1 (omega arith) (some-read (range_item limits h) _ (OneRange r) (range_text r) (range_item-read limits h _ r fits.2 fits.0))
 next-read limits h before (OneCrl c) fits =
@@ -119,7 +119,7 @@ next-read limits h before (OneEntry e) fits =
     kind-then limits h before 3 (OneEntry e) (entry_body e) fits.1 (omega arith) (some-read (entry_item limits h) _ (OneEntry e) (entry_body e) (entry_item-read limits h _ e fits.2 fits.0))
 
 -- the end of a job, behind any record
-pub next-none : (limits : Limits) (h : Held) (before : List ℕ) → IsRead (next_item limits h) before None (to_be_bytes w8 0)
+pub next-none : (limits : Limits) (h : HeldSoFar) (before : List ℕ) → IsRead (next_item limits h) before None (to_be_bytes w8 0)
 unfolding next_item
 next-none limits h before =
     then-read (fielded (record_kind h.kind)) (behind_kind limits h) before 0 None (to_be_bytes w8 0) []

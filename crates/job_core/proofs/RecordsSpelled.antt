@@ -17,7 +17,7 @@ use Rattle.job_core.specs.declared.bounds.What.{What}
 use Rattle.job_core.specs.declared.bounds.What.TheVariants as what
 use Rattle.job_core.specs.declared.fault.JobFault.{JobFault}
 use Rattle.job_core.specs.declared.fault.JobFault.TheVariants as faults
-use Rattle.job_core.specs.JobLayout.{is_kind, record_kind, crl, entry, Held, Item, OneRange, OneCrl, OneEntry, at_most, range_item, crl_item, entry_item, some_of, next_item}
+use Rattle.job_core.specs.JobLayout.{is_kind, record_kind, crl, entry, HeldSoFar, Item, OneRange, OneCrl, OneEntry, at_most, range_item, crl_item, entry_item, some_of, next_item}
 use Rattle.job_core.specs.JobText.{record_text, FitsCrl, FitsEntry, FitsItem}
 use Rattle.job_core.proofs.RecordTexts.{behind_kind, crl_body, entry_body}
 
@@ -71,7 +71,7 @@ entry-leaves bytes fits at =
 
 -- ---- a record, and where it lies
 
-abbrev pub Says : Limits → Held → List ℕ → ℕ → Option Item → ℕ → Type 0
+abbrev pub Says : Limits → HeldSoFar → List ℕ → ℕ → Option Item → ℕ → Type 0
 Says limits h bytes at None q = Takes bytes at (to_be_bytes w8 0) q
 Says limits h bytes at (Some x) q = Takes bytes at (record_text x) q × FitsItem limits h x
 
@@ -86,7 +86,7 @@ at_most-leaves thing limit count bytes at =
 from_kind : (bytes : List ℕ) (at p q r : ℕ) (k t : List ℕ) → Takes bytes at k p → q ≡ p → Takes bytes q t r → Takes bytes at (k ++ t) r
 from_kind bytes at p q r k t one same two = one >>> subst (λ (n : ℕ). Takes bytes n t r) same two
 
-range_item-leaves : (limits : Limits) (h : Held) (bytes : List ℕ) → IsBytes bytes → (at p : ℕ) → Takes bytes at (to_be_bytes w8 1) p → h.kind ≤ 1
+range_item-leaves : (limits : Limits) (h : HeldSoFar) (bytes : List ℕ) → IsBytes bytes → (at p : ℕ) → Takes bytes at (to_be_bytes w8 1) p → h.kind ≤ 1
     → Leaves (range_item limits h) bytes p (λ x q. Says limits h bytes at (Some x) q)
 unfolding range_item
 range_item-leaves limits h bytes fits at p one low =
@@ -94,7 +94,7 @@ range_item-leaves limits h bytes fits at p one low =
     mapped-leaves faults.Layout (range h.log) bytes q _ (range-leaves bytes fits h.log q) >>- λ r end b.
     whole-leaves (OneRange r) bytes end _ (from_kind bytes at p q end _ _ one a.0 b.0, (b.1, low, a.1))
 
-crl_item-leaves : (limits : Limits) (h : Held) (bytes : List ℕ) → IsBytes bytes → (at p : ℕ) → Takes bytes at (to_be_bytes w8 2) p → h.kind ≤ 2
+crl_item-leaves : (limits : Limits) (h : HeldSoFar) (bytes : List ℕ) → IsBytes bytes → (at p : ℕ) → Takes bytes at (to_be_bytes w8 2) p → h.kind ≤ 2
     → Leaves (crl_item limits h) bytes p (λ x q. Says limits h bytes at (Some x) q)
 unfolding crl_item
 crl_item-leaves limits h bytes fits at p one low =
@@ -102,7 +102,7 @@ crl_item-leaves limits h bytes fits at p one low =
     mapped-leaves faults.Layout crl bytes q _ (crl-leaves bytes fits q) >>- λ c end b.
     whole-leaves (OneCrl c) bytes end _ (from_kind bytes at p q end _ _ one a.0 b.0, (b.1, low, a.1))
 
-entry_item-leaves : (limits : Limits) (h : Held) (bytes : List ℕ) → IsBytes bytes → (at p : ℕ) → Takes bytes at (to_be_bytes w8 3) p → h.kind ≤ 3
+entry_item-leaves : (limits : Limits) (h : HeldSoFar) (bytes : List ℕ) → IsBytes bytes → (at p : ℕ) → Takes bytes at (to_be_bytes w8 3) p → h.kind ≤ 3
     → Leaves (entry_item limits h) bytes p (λ x q. Says limits h bytes at (Some x) q)
 unfolding entry_item
 entry_item-leaves limits h bytes fits at p one low =
@@ -110,7 +110,7 @@ entry_item-leaves limits h bytes fits at p one low =
     mapped-leaves faults.Layout entry bytes q _ (entry-leaves bytes fits q) >>- λ e end b.
     whole-leaves (OneEntry e) bytes end _ (from_kind bytes at p q end _ _ one a.0 b.0, (b.1, low, a.1))
 
-some-leaves : (limits : Limits) (h : Held) (layout : Layout JobFault Item) (bytes : List ℕ) (at p : ℕ)
+some-leaves : (limits : Limits) (h : HeldSoFar) (layout : Layout JobFault Item) (bytes : List ℕ) (at p : ℕ)
     → Leaves layout bytes p (λ x q. Says limits h bytes at (Some x) q) → Leaves (some_of layout) bytes p (Says limits h bytes at)
 some-leaves limits h layout bytes at p one = one >>- λ x q said. whole-leaves (Some x) bytes q _ said
 
@@ -122,7 +122,7 @@ kind-tells previous kind false not h =
     let both = and_parts (nat_le previous kind) (nat_le kind 3) h in
     (leb-true previous kind both.0, leb-true kind 3 both.1)
 
-behind-leaves : (limits : Limits) (h : Held) (bytes : List ℕ) → IsBytes bytes → (at p kind : ℕ) → Takes bytes at (to_be_bytes w8 kind) p → is_kind h.kind kind ≡ true
+behind-leaves : (limits : Limits) (h : HeldSoFar) (bytes : List ℕ) → IsBytes bytes → (at p kind : ℕ) → Takes bytes at (to_be_bytes w8 kind) p → is_kind h.kind kind ≡ true
     → Leaves (behind_kind limits h kind) bytes p (Says limits h bytes at)
 behind-leaves limits h bytes fits at p zero one passed = whole-leaves None bytes p _ one
 behind-leaves limits h bytes fits at p (suc zero) one passed =
@@ -135,7 +135,7 @@ behind-leaves limits h bytes fits at p (suc (suc (suc (suc k)))) one passed =
     let few = (kind-tells h.kind (suc (suc (suc (suc k)))) (suc (suc (suc (suc k))) == 0) (ne_eqb (suc (suc (suc (suc k)))) 0 (omega arith)) passed).1 in
     absurd (omega (arith, few))
 
-pub next-leaves : (limits : Limits) (h : Held) (bytes : List ℕ) → IsBytes bytes → (at : ℕ) → Leaves (next_item limits h) bytes at (Says limits h bytes at)
+pub next-leaves : (limits : Limits) (h : HeldSoFar) (bytes : List ℕ) → IsBytes bytes → (at : ℕ) → Leaves (next_item limits h) bytes at (Says limits h bytes at)
 unfolding next_item
 next-leaves limits h bytes fits at =
     mapped-leaves faults.Layout (record_kind h.kind) bytes at _ (kind-leaves h.kind bytes fits at) >>- λ kind p a. behind-leaves limits h bytes fits at p kind a.0 a.1

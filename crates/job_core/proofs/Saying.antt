@@ -9,7 +9,7 @@ use Rattle.job_core.specs.declared.bounds.What.TheVariants as what
 use Rattle.job_core.specs.declared.fault.JobFault.{JobFault}
 use Rattle.job_core.specs.declared.fault.JobFault.TheVariants as faults
 use Rattle.job_core.specs.JobFields.{JobFields}
-use Rattle.job_core.specs.JobLayout.{fielded, Item, Held, with_item, serials_of, with_serials, next_item, records, opening, JobTexts, job, saying_one, saying, begun, said_by, job_of}
+use Rattle.job_core.specs.JobLayout.{fielded, Item, HeldSoFar, with_item, serials_of, with_serials, next_item, records, opening, JobTexts, job, saying_one, saying, begun, said_by, job_of}
 use Rattle.job_core.specs.JobText.{behind}
 use Rattle.job_core.specs.Partial.{said_behind, records_saying}
 use Rattle.job_core.proofs.Steps.{fails, ends, goes_on, runs_over}
@@ -17,7 +17,7 @@ use Rattle.job_core.proofs.JobReads.{behind-opening}
 
 -- ---- records
 
-module _ (limits : Limits) (f : JobFields) (h : Held) (serials : ℕ) (bytes : List ℕ) (at : ℕ) (total : Result (JobFields × ℕ) JobFault) where
+module _ (limits : Limits) (f : JobFields) (h : HeldSoFar) (serials : ℕ) (bytes : List ℕ) (at : ℕ) (total : Result (JobFields × ℕ) JobFault) where
   abbrev IsTotal : Type 0
   IsTotal = said_behind f (records serials_of limits h serials bytes at) ≡ total
 
@@ -25,7 +25,7 @@ module _ (limits : Limits) (f : JobFields) (h : Held) (serials : ℕ) (bytes : L
   behind-said x (Ok y) = refl
   behind-said x (Err e) = refl
 
-  pub says_more : (x : Item) (q : ℕ) (g : JobFields) (k : Held) (n : ℕ) (later : List ℕ) → next_item limits h bytes at ≡ Ok (Some x, q)
+  pub says_more : (x : Item) (q : ℕ) (g : JobFields) (k : HeldSoFar) (n : ℕ) (later : List ℕ) → next_item limits h bytes at ≡ Ok (Some x, q)
       → g ≡ saying_one f x → k ≡ with_item h x → n ≡ with_serials serials_of serials x → n ≤ limits.serials → later ≡ bytes → IsTotal
       → said_behind g (records serials_of limits k n later q) ≡ total
   says_more x q g k n later is says holds counts few same before =

@@ -21,7 +21,7 @@ use Rattle.job_core.specs.declared.bounds.What.{What}
 use Rattle.job_core.specs.declared.bounds.What.TheVariants as what
 use Rattle.job_core.specs.declared.fault.JobFault.{JobFault}
 use Rattle.job_core.specs.declared.fault.JobFault.TheVariants as faults
-use Rattle.job_core.specs.JobLayout.{fielded, is_kind, record_kind, opening, crl, entry, Item, Held, with_item, at_most, range_item, crl_item, entry_item, item_of, some_of, next_item}
+use Rattle.job_core.specs.JobLayout.{fielded, is_kind, record_kind, opening, crl, entry, Item, HeldSoFar, with_item, at_most, range_item, crl_item, entry_item, item_of, some_of, next_item}
 use Rattle.job_core.specs.JobLayout.{with_serials, with_others, records_within, records}
 use Rattle.job_core.specs.JobText.{behind}
 
@@ -147,19 +147,19 @@ entry-advances =
     bytes-advances _ _ extra_width _ >>> λ extra.
     whole-advances _
 
-range_item-advances : (limits : Limits) (h : Held) → Advances (range_item limits h)
+range_item-advances : (limits : Limits) (h : HeldSoFar) → Advances (range_item limits h)
 unfolding range_item
 range_item-advances limits h = limit-advances _ _ _ >>> λ room. mapped-advances faults.Layout _ (range-advances h.log) >>> λ r. whole-advances _
 
-crl_item-advances : (limits : Limits) (h : Held) → Advances (crl_item limits h)
+crl_item-advances : (limits : Limits) (h : HeldSoFar) → Advances (crl_item limits h)
 unfolding crl_item
 crl_item-advances limits h = limit-advances _ _ _ >>> λ room. mapped-advances faults.Layout _ crl-advances >>> λ c. whole-advances _
 
-entry_item-advances : (limits : Limits) (h : Held) → Advances (entry_item limits h)
+entry_item-advances : (limits : Limits) (h : HeldSoFar) → Advances (entry_item limits h)
 unfolding entry_item
 entry_item-advances limits h = limit-advances _ _ _ >>> λ room. mapped-advances faults.Layout _ entry-advances >>> λ e. whole-advances _
 
-item-advances : (kind : ℕ) (limits : Limits) (h : Held) → Advances (item_of kind limits h)
+item-advances : (kind : ℕ) (limits : Limits) (h : HeldSoFar) → Advances (item_of kind limits h)
 item-advances kind limits h =
     either-advances _ (range_item limits h) _ (range_item-advances limits h)
     (either-advances _ (crl_item limits h) (entry_item limits h) (crl_item-advances limits h) (entry_item-advances limits h))
@@ -168,7 +168,7 @@ kind-advances : (previous : ℕ) → Advances (record_kind previous)
 unfolding record_kind
 kind-advances previous = bytes-advances _ _ 1 _ >>> λ byte. whole-advances _
 
-pub next-advances : (limits : Limits) (h : Held) → Advances (next_item limits h)
+pub next-advances : (limits : Limits) (h : HeldSoFar) → Advances (next_item limits h)
 unfolding next_item
 next-advances limits h =
     mapped-advances faults.Layout _ (kind-advances h.kind) >>> λ kind.
@@ -193,10 +193,10 @@ kind-further previous bytes at x h =
     let same = ap (λ (p : ℕ × ℕ). p.1) (ok_is {E = LayoutFault} (from_be_bytes w8 a.0.0, a.0.1) x a.2) in
     omega (arith, on, same)
 
-abbrev behind_kind : Limits → Held → ℕ → Layout JobFault (Option Item)
+abbrev behind_kind : Limits → HeldSoFar → ℕ → Layout JobFault (Option Item)
 behind_kind limits h kind = if Rattle.std.specs.Prelude.nat_eq kind 0 then whole None else some_of (item_of kind limits h)
 
-pub next-further : (limits : Limits) (h : Held) (bytes : List ℕ) (at : ℕ) (x : Option Item × ℕ) → next_item limits h bytes at ≡ Ok x → at < x.1
+pub next-further : (limits : Limits) (h : HeldSoFar) (bytes : List ℕ) (at : ℕ) (x : Option Item × ℕ) → next_item limits h bytes at ≡ Ok x → at < x.1
 unfolding next_item
 next-further limits h bytes at x is =
     let a = then_read-ok (fielded (record_kind h.kind) bytes at) (behind_kind limits h) bytes x is in
@@ -207,7 +207,7 @@ next-further limits h bytes at x is =
 
 -- ---- as many steps as bytes are left
 
-pub next-short : (limits : Limits) (h : Held) (bytes : List ℕ) (at : ℕ) → length bytes ≤ at → next_item limits h bytes at ≡ Err (faults.Layout (fault_at why.Short fields.RecordKind at))
+pub next-short : (limits : Limits) (h : HeldSoFar) (bytes : List ℕ) (at : ℕ) → length bytes ≤ at → next_item limits h bytes at ≡ Err (faults.Layout (fault_at why.Short fields.RecordKind at))
 unfolding next_item record_kind bytes_field
 next-short limits h bytes at le = rw (lt-ltb (length bytes) (at + 1) (omega (arith, le))) refl
 
@@ -225,8 +225,8 @@ limit-place thing limit count bytes at q u h =
           ap (λ p. p.1) (ok_is {E = JobFault} (tt {0}, at) (u, q) (sym is ∙ h))
     ]
 
-others-same : (brings : List ℕ → ℕ) (first second : Held → ℕ → Layout JobFault (List Item)) (limits : Limits) (h : Held) (serials : ℕ) (bytes : List ℕ) (q : ℕ) (x : Option Item)
-    → ((t : Held) (n : ℕ) → first t n bytes q ≡ second t n bytes q)
+others-same : (brings : List ℕ → ℕ) (first second : HeldSoFar → ℕ → Layout JobFault (List Item)) (limits : Limits) (h : HeldSoFar) (serials : ℕ) (bytes : List ℕ) (q : ℕ) (x : Option Item)
+    → ((t : HeldSoFar) (n : ℕ) → first t n bytes q ≡ second t n bytes q)
     → with_others brings first limits h serials x bytes q ≡ with_others brings second limits h serials x bytes q
 others-same brings first second limits h serials bytes q None same = refl
 others-same brings first second limits h serials bytes q (Some x) same =
@@ -237,7 +237,7 @@ others-same brings first second limits h serials bytes q (Some x) same =
     let place = limit-place what.Serials limits.serials n bytes q p u is in
     rw (sym place) (ap (λ r. then_read r (λ xs. whole (x ∷ xs)) bytes) (same (with_item h x) n)))
 
-pub enough : (brings : List ℕ → ℕ) (limits : Limits) (n m : ℕ) (h : Held) (serials : ℕ) (bytes : List ℕ) (at : ℕ) → length bytes ≤ at + n → length bytes ≤ at + m
+pub enough : (brings : List ℕ → ℕ) (limits : Limits) (n m : ℕ) (h : HeldSoFar) (serials : ℕ) (bytes : List ℕ) (at : ℕ) → length bytes ≤ at + n → length bytes ≤ at + m
     → records_within brings n limits h serials bytes at ≡ records_within brings m limits h serials bytes at
 unfolding records_within
 enough brings limits zero zero h serials bytes at a b = refl
@@ -254,7 +254,7 @@ enough brings limits (suc n) (suc m) h serials bytes at a b =
     (λ t k. enough brings limits n m t k bytes q (omega (arith, a, on)) (omega (arith, b, on))))
 
 -- the next record, and the others
-unfolded : (brings : List ℕ → ℕ) (limits : Limits) (h : Held) (serials : ℕ) (bytes : List ℕ) (at : ℕ)
+unfolded : (brings : List ℕ → ℕ) (limits : Limits) (h : HeldSoFar) (serials : ℕ) (bytes : List ℕ) (at : ℕ)
     → records brings limits h serials bytes at ≡ then_read (next_item limits h bytes at) (with_others brings (records brings limits) limits h serials) bytes
 unfolding records_within
 unfolded brings limits h serials bytes at =
@@ -266,12 +266,12 @@ unfolded brings limits h serials bytes at =
 
 -- ---- one record
 
-pub fails : (brings : List ℕ → ℕ) (limits : Limits) (h : Held) (serials : ℕ) (bytes : List ℕ) (at : ℕ) (e : JobFault)
+pub fails : (brings : List ℕ → ℕ) (limits : Limits) (h : HeldSoFar) (serials : ℕ) (bytes : List ℕ) (at : ℕ) (e : JobFault)
     → next_item limits h bytes at ≡ Err e → records brings limits h serials bytes at ≡ Err e
 fails brings limits h serials bytes at e is =
     unfolded brings limits h serials bytes at ∙ ap (λ r. then_read r (with_others brings (records brings limits) limits h serials) bytes) is
 
-pub ends : (brings : List ℕ → ℕ) (limits : Limits) (h : Held) (serials : ℕ) (bytes : List ℕ) (at q : ℕ)
+pub ends : (brings : List ℕ → ℕ) (limits : Limits) (h : HeldSoFar) (serials : ℕ) (bytes : List ℕ) (at q : ℕ)
     → next_item limits h bytes at ≡ Ok (None, q) → records brings limits h serials bytes at ≡ Ok ([], q)
 ends brings limits h serials bytes at q is =
     unfolded brings limits h serials bytes at ∙ ap (λ r. then_read r (with_others brings (records brings limits) limits h serials) bytes) is
@@ -280,7 +280,7 @@ behind-one : (x : Item) (bytes : List ℕ) (r : Result (List Item × ℕ) JobFau
 behind-one x bytes (Ok y) = refl
 behind-one x bytes (Err e) = refl
 
-pub goes_on : (brings : List ℕ → ℕ) (limits : Limits) (h : Held) (serials : ℕ) (bytes : List ℕ) (at : ℕ) (x : Item) (q : ℕ)
+pub goes_on : (brings : List ℕ → ℕ) (limits : Limits) (h : HeldSoFar) (serials : ℕ) (bytes : List ℕ) (at : ℕ) (x : Item) (q : ℕ)
     → next_item limits h bytes at ≡ Ok (Some x, q) → with_serials brings serials x ≤ limits.serials
     → records brings limits h serials bytes at ≡ behind (x ∷ []) (records brings limits (with_item h x) (with_serials brings serials x) bytes q)
 goes_on brings limits h serials bytes at x q is few =
@@ -290,7 +290,7 @@ goes_on brings limits h serials bytes at x q is few =
     ∙ ap (λ r. then_read r (λ u. records brings limits (with_item h x) (with_serials brings serials x) >>= λ xs. whole (x ∷ xs)) bytes) few_is
     ∙ behind-one x bytes (records brings limits (with_item h x) (with_serials brings serials x) bytes q)
 
-pub runs_over : (brings : List ℕ → ℕ) (limits : Limits) (h : Held) (serials : ℕ) (bytes : List ℕ) (at : ℕ) (x : Item) (q : ℕ)
+pub runs_over : (brings : List ℕ → ℕ) (limits : Limits) (h : HeldSoFar) (serials : ℕ) (bytes : List ℕ) (at : ℕ) (x : Item) (q : ℕ)
     → next_item limits h bytes at ≡ Ok (Some x, q) → limits.serials < with_serials brings serials x
     → records brings limits h serials bytes at ≡ Err (faults.TooMany what.Serials limits.serials)
 runs_over brings limits h serials bytes at x q is over =

@@ -70,7 +70,7 @@ pub data Item : Type 0 where
   OneEntry : EntryText → Item
 
 -- What is held of the records so far: the last one's kind, the last range's log, and how many there are of each kind.
-pub record Held : Type 0 where
+pub record HeldSoFar : Type 0 where
   pub kind : ℕ
   pub log : Option (List ℕ)
   pub ranges : ℕ
@@ -78,11 +78,11 @@ pub record Held : Type 0 where
   pub entries : ℕ
 
 -- before the first record
-abbrev pub nothing_held : Held
+abbrev pub nothing_held : HeldSoFar
 nothing_held = record { kind = 0; log = None; ranges = 0; crls = 0; entries = 0 }
 
 -- with one record more
-abbrev pub with_item : Held → Item → Held
+abbrev pub with_item : HeldSoFar → Item → HeldSoFar
 with_item h (OneRange r) = record { kind = 1; log = Some r.log; ranges = h.ranges + 1; crls = h.crls; entries = h.entries }
 with_item h (OneCrl c) = record { kind = 2; log = h.log; ranges = h.ranges; crls = h.crls + 1; entries = h.entries }
 with_item h (OneEntry e) = record { kind = 3; log = h.log; ranges = h.ranges; crls = h.crls; entries = h.entries + 1 }
@@ -91,26 +91,26 @@ with_item h (OneEntry e) = record { kind = 3; log = h.log; ranges = h.ranges; cr
 abbrev pub at_most : What → ℕ → ℕ → Layout JobFault (Unit {0})
 at_most thing limit count = if nat_le count limit then whole tt else refused (faults.TooMany thing limit)
 
-unfoldable pub range_item : Limits → Held → Layout JobFault Item
+unfoldable pub range_item : Limits → HeldSoFar → Layout JobFault Item
 range_item limits h = do
   room ← at_most what.Ranges limits.ranges (h.ranges + 1)
   r ← fielded (range h.log)
   whole (OneRange r)
 
-unfoldable pub crl_item : Limits → Held → Layout JobFault Item
+unfoldable pub crl_item : Limits → HeldSoFar → Layout JobFault Item
 crl_item limits h = do
   room ← at_most what.Crls limits.crls (h.crls + 1)
   c ← fielded crl
   whole (OneCrl c)
 
-unfoldable pub entry_item : Limits → Held → Layout JobFault Item
+unfoldable pub entry_item : Limits → HeldSoFar → Layout JobFault Item
 entry_item limits h = do
   room ← at_most what.Entries limits.entries (h.entries + 1)
   e ← fielded entry
   whole (OneEntry e)
 
 -- behind a kind
-abbrev pub item_of : ℕ → Limits → Held → Layout JobFault Item
+abbrev pub item_of : ℕ → Limits → HeldSoFar → Layout JobFault Item
 item_of kind limits h = if kind == 1 then range_item limits h else if kind == 2 then crl_item limits h else entry_item limits h
 
 abbrev pub some_of : {A : Type 0} → Layout JobFault A → Layout JobFault (Option A)
@@ -119,7 +119,7 @@ some_of layout = do
   whole (Some x)
 
 -- a record behind those so far; none, where the job ends
-unfoldable pub next_item : Limits → Held → Layout JobFault (Option Item)
+unfoldable pub next_item : Limits → HeldSoFar → Layout JobFault (Option Item)
 next_item limits h = do
   kind ← fielded (record_kind h.kind)
   if kind == 0 then whole None else some_of (item_of kind limits h)
@@ -148,7 +148,7 @@ abbrev pub short_kind : {A : Type 0} → Layout JobFault A
 short_kind bytes at = Err (faults.Layout (fault_at why.Short fields.RecordKind at))
 
 -- a record with those behind it, where the serials that are kept of all CRLs so far are no more than the limit
-abbrev pub with_others : (List ℕ → ℕ) → (Held → ℕ → Layout JobFault (List Item)) → Limits → Held → ℕ → Option Item
+abbrev pub with_others : (List ℕ → ℕ) → (HeldSoFar → ℕ → Layout JobFault (List Item)) → Limits → HeldSoFar → ℕ → Option Item
     → Layout JobFault (List Item)
 with_others brings others limits h serials None = whole []
 with_others brings others limits h serials (Some x) = do
@@ -158,13 +158,13 @@ with_others brings others limits h serials (Some x) = do
 
 -- Records, each of one byte or more, up to the one that ends the job. The number is the most that is read; what is read
 -- doesn't depend on it, and `a_job_is_its_text` says it over texts.
-unfoldable pub records_within : (List ℕ → ℕ) → ℕ → Limits → Held → ℕ → Layout JobFault (List Item)
+unfoldable pub records_within : (List ℕ → ℕ) → ℕ → Limits → HeldSoFar → ℕ → Layout JobFault (List Item)
 records_within brings zero limits h serials = short_kind
 records_within brings (suc n) limits h serials = do
   x ← next_item limits h
   with_others brings (records_within brings n limits) limits h serials x
 
-abbrev pub records : (List ℕ → ℕ) → Limits → Held → ℕ → Layout JobFault (List Item)
+abbrev pub records : (List ℕ → ℕ) → Limits → HeldSoFar → ℕ → Layout JobFault (List Item)
 records brings limits h serials bytes at = records_within brings (length bytes - at) limits h serials bytes at
 
 -- ---- the job

@@ -13,7 +13,7 @@ use Rattle.job_core.specs.declared.records.TheConstants.{MAX_CRL}
 use Rattle.job_core.specs.declared.raw.RawCrl.{RawCrl}
 use Rattle.job_core.specs.declared.raw.RawEntry.{RawEntry}
 use Rattle.job_core.specs.declared.raw.RawJob.{RawJob}
-use Rattle.job_core.specs.JobLayout.{CrlText, EntryText, Item, OneRange, OneCrl, OneEntry, Held, with_item, with_serials}
+use Rattle.job_core.specs.JobLayout.{CrlText, EntryText, Item, OneRange, OneCrl, OneEntry, HeldSoFar, with_item, with_serials}
 
 -- what the records of a job hold, in their order, with CRLs and entries as they stand
 pub record JobContents : Type 0 where
@@ -71,20 +71,20 @@ pub record FitsJob (limits : Limits) (j : JobContents) : Type 0 where
 -- ---- which records pass behind those before them
 
 -- its kind doesn't descend, there are no more of its kind than the limit, and its values fit their fields
-abbrev pub FitsItem : Limits → Held → Item → Type 0
+abbrev pub FitsItem : Limits → HeldSoFar → Item → Type 0
 FitsItem limits h (OneRange r) = FitsRange h.log r × (h.kind ≤ 1) × (h.ranges + 1 ≤ limits.ranges)
 FitsItem limits h (OneCrl c) = FitsCrl c × (h.kind ≤ 2) × (h.crls + 1 ≤ limits.crls)
 FitsItem limits h (OneEntry e) = FitsEntry e × (h.kind ≤ 3) × (h.entries + 1 ≤ limits.entries)
 
 -- each of them fits, and brings no more serials than there may be
-abbrev pub Pass : (List ℕ → ℕ) → Limits → Held → ℕ → List Item → Type 0
+abbrev pub Pass : (List ℕ → ℕ) → Limits → HeldSoFar → ℕ → List Item → Type 0
 Pass brings limits h serials [] = Unit {0}
 Pass brings limits h serials (x ∷ xs) =
     FitsItem limits h x × (with_serials brings serials x ≤ limits.serials)
     × Pass brings limits (with_item h x) (with_serials brings serials x) xs
 
 -- what is held behind them, and how many serials they brought
-abbrev pub held_behind : Held → List Item → Held
+abbrev pub held_behind : HeldSoFar → List Item → HeldSoFar
 held_behind h [] = h
 held_behind h (x ∷ xs) = held_behind (with_item h x) xs
 

@@ -1,6 +1,6 @@
 -- What the code holds of a job of which some records are read.
 use Rattle.std.specs.Prelude.{◌≡◌, ◌<◌, ◌≤◌, ℕ, List, Result, Ok, Err}
-use Rattle.job_core.specs.JobLayout.{Item, Held}
+use Rattle.job_core.specs.JobLayout.{Item, HeldSoFar}
 use Rattle.job_core.specs.JobLayout.{nothing_held, serials_of, with_serials, saying_one, saying, records}
 use Rattle.octets_core.specs.Layout.{Layout}
 use Rattle.job_core.specs.declared.bounds.Limits.{Limits}
@@ -10,7 +10,7 @@ use Rattle.job_core.specs.declared.fault.JobFault.TheVariants as faults
 use Rattle.job_core.specs.JobFields.{JobFields}
 use Rattle.job_core.specs.declared.partial.Numbers.{Numbers}
 
-abbrev pub held_in : Numbers → Held
+abbrev pub held_in : Numbers → HeldSoFar
 held_in n = record { kind = n.kind; log = n.log; ranges = n.ranges; crls = n.crls; entries = n.entries }
 
 -- what adding a record to a job left: the job with what it says, and how many serials are kept; or they are too many

@@ -12,7 +12,7 @@ use Rattle.job_core.specs.declared.reader.Stage.{Stage}
 use Rattle.job_core.specs.declared.reader.Stage.TheVariants as stages
 use Rattle.job_core.specs.declared.reader.Record.{Record}
 use Rattle.job_core.specs.declared.reader.Record.TheVariants as records
-use Rattle.job_core.specs.JobLayout.{Held, nothing_held, OneRange, OneCrl, OneEntry, JobTexts, job}
+use Rattle.job_core.specs.JobLayout.{HeldSoFar, nothing_held, OneRange, OneCrl, OneEntry, JobTexts, job}
 use Rattle.job_core.specs.JobText.{opening_text, record_text, Pass, held_behind, crl_held, entry_held, FitsCrl, FitsEntry}
 use Rattle.job_core.specs.Partial.{held_in}
 use Rattle.job_core.specs.Pulling.{IsOfBytes}
@@ -22,17 +22,17 @@ abbrev pub no_serials : List ℕ → ℕ
 no_serials bytes = 0
 
 -- the opening, then the texts of records that pass, behind which these numbers are held
-pub record Begins (limits : Limits) (numbers : Held) (b : List ℕ) (t : JobTexts) : Type 0 where
+pub record Begins (limits : Limits) (numbers : HeldSoFar) (b : List ℕ) (t : JobTexts) : Type 0 where
   pub spelled : b ≡ opening_text t.epoch t.moment ++ flat_map record_text t.items
   pub epoch : t.epoch < 2 ^ 64
   pub moment : t.moment < 2 ^ 64
   pub pass : Pass no_serials limits nothing_held 0 t.items
   pub held : numbers ≡ held_behind nothing_held t.items
 
-abbrev pub StandsAt : Stage → Limits → Held → List ℕ → Type 0
+abbrev pub StandsAt : Stage → Limits → HeldSoFar → List ℕ → Type 0
 StandsAt stages.Opening limits numbers b = (b ≡ []) × (numbers ≡ nothing_held)
 StandsAt stages.Records limits numbers b = (t : JobTexts) × Begins limits numbers b t
-StandsAt stages.Ended limits numbers b = (h : Held) × (c : List ℕ) × (t : JobTexts) × (b ≡ c ++ to_be_bytes w8 0) × Begins limits h c t
+StandsAt stages.Ended limits numbers b = (h : HeldSoFar) × (c : List ℕ) × (t : JobTexts) × (b ≡ c ++ to_be_bytes w8 0) × Begins limits h c t
 StandsAt (stages.Failed e) limits numbers b = Unit {0}
 
 -- The bytes that a reader has read: none; the opening and records; or a whole job. A reader that has answered a fault

@@ -4,7 +4,7 @@ ghost use Rattle.std.specs.Prelude.{◌≡◌, ◌+◌, ◌<◌, ◌≤◌, ◌+
 ghost use Rattle.job_core.specs.declared.bounds.Limits.{Limits};
 ghost use Rattle.job_core.specs.JobFields.{JobFields};
 ghost use Rattle.job_core.specs.declared.fault.JobFault.{JobFault};
-ghost use Rattle.job_core.specs.JobLayout.{Item, Held, next_item, records_within, records, serials_of, saying, begun, job_of};
+ghost use Rattle.job_core.specs.JobLayout.{Item, HeldSoFar, next_item, records_within, records, serials_of, saying, begun, job_of};
 ghost use Rattle.job_core.specs.JobText.{JobContents, FitsJob, spelling, record_text, Pass, held_behind, serials_behind, behind};
 ghost use Rattle.job_core.specs.JobMeaning.{kept_in, reading_of};
 
@@ -21,16 +21,16 @@ pub fn a_job_is_its_text()
 /// The definition of a job's records, over texts.
 pub fn records_are_texts()
     // Behind records that pass, what is left is read from what is held behind them.
-    ensures passed { (brings : List ℕ → ℕ) (limits : Limits) (h : Held) (serials : ℕ) (xs : List Item) (before rest : List ℕ)
+    ensures passed { (brings : List ℕ → ℕ) (limits : Limits) (h : HeldSoFar) (serials : ℕ) (xs : List Item) (before rest : List ℕ)
         → Pass brings limits h serials xs
         → records brings limits h serials (before ++ (flat_map record_text xs ++ rest)) (length before)
         ≡ behind xs (records brings limits (held_behind h xs) (serials_behind brings serials xs)
         (before ++ (flat_map record_text xs ++ rest)) (length before + length (flat_map record_text xs))) }
     // A fault is that of the next record.
-    ensures fault { (brings : List ℕ → ℕ) (limits : Limits) (h : Held) (serials : ℕ) (bytes : List ℕ) (at : ℕ) (e : JobFault)
+    ensures fault { (brings : List ℕ → ℕ) (limits : Limits) (h : HeldSoFar) (serials : ℕ) (bytes : List ℕ) (at : ℕ) (e : JobFault)
         → next_item limits h bytes at ≡ Err e → records brings limits h serials bytes at ≡ Err e }
     // As many steps as bytes are left are enough.
-    ensures steps { (brings : List ℕ → ℕ) (n : ℕ) (limits : Limits) (h : Held) (serials : ℕ) (bytes : List ℕ) (at : ℕ)
+    ensures steps { (brings : List ℕ → ℕ) (n : ℕ) (limits : Limits) (h : HeldSoFar) (serials : ℕ) (bytes : List ℕ) (at : ℕ)
         → length bytes ≤ at + n → records_within brings n limits h serials bytes at ≡ records brings limits h serials bytes at }
     // The count of serials is that of the CRLs that were read.
     ensures serials { (xs : List Item) → serials_behind serials_of 0 xs ≡ kept_in (saying (begun 0 0) xs).crls }
