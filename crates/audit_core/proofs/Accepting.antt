@@ -10,8 +10,8 @@ use Rattle.log_core.specs.declared.Entry.{Entry}
 use Rattle.ident_core.specs.Among.{Among}
 use Rattle.ident_core.specs.Sets.{has, has_key}
 use Rattle.ident_core.proofs.Elements.{Among-cases, Among-left, Among-right, found, any_at}
-use Rattle.universe_core.specs.Jobs.{Job, enrolled}
-use Rattle.universe_core.specs.History.{Release, class_by, class_of, is_lacked_by, is_listed, past_of, released, shown}
+use Rattle.universe_core.specs.Jobs.{JobFacts, enrolled}
+use Rattle.universe_core.specs.History.{Release, class_by, class_of, comes_late_behind, is_listed, past_of, released, shown}
 use Rattle.universe_core.specs.Ledgers.{ledger_of, part_from}
 use Rattle.universe_core.specs.Counting.{is_class}
 use Rattle.universe_core.specs.declared.class.Class.{Class}
@@ -21,7 +21,7 @@ use Rattle.history_core.proofs.Accepting.{shown_has}
 use Rattle.history_core.proofs.Ledger.{past_in_ledger}
 use Rattle.audit_core.specs.Checking.{is_seen, listing_by, listing}
 
--- ---- an entry that an earlier release doesn't lack isn't lacked later
+-- ---- an entry that an earlier release doesn't lack isn't comes_late later
 
 abbrev lacks : Identity → Sighting → Release → Bool
 lacks x s r = covers r.ranges s && has_key r.issuers x.issuer && not (has r.accepted x)
@@ -44,8 +44,8 @@ widens_at [] after r q w a = w.0 q a
 widens_at (p ∷ before) after r q w a = widens_at before after r q w.1 a
 
 lacked_on : (before after : List Release) (r : Release) (x : Identity) (s : Sighting) → Widens (before ++ r ∷ after) → has r.accepted x ≡ true
-    → is_lacked_by before x s ≡ false → is_lacked_by (before ++ r ∷ after) x s ≡ false
-unfolding is_lacked_by
+    → comes_late_behind before x s ≡ false → comes_late_behind (before ++ r ∷ after) x s ≡ false
+unfolding comes_late_behind
 lacked_on before after r x s w h n = none_any (lacks x s) (before ++ r ∷ after) (λ q a.
     ⊎_elim (λ b. none_at (lacks x s) before q n b)
     (λ b. ⊎_elim
@@ -53,8 +53,8 @@ lacked_on before after r x s w h n = none_any (lacks x s) (before ++ r ∷ after
     (λ i. and_not (covers q.ranges s) (has_key q.issuers x.issuer) (has q.accepted x) ((widens_at before after r q w i).accepted x h)) b)
     (Among-cases before (r ∷ after) q a))
 
-lacked_left : (before others : List Release) (x : Identity) (s : Sighting) → is_lacked_by before x s ≡ true → is_lacked_by (before ++ others) x s ≡ true
-unfolding is_lacked_by
+lacked_left : (before others : List Release) (x : Identity) (s : Sighting) → comes_late_behind before x s ≡ true → comes_late_behind (before ++ others) x s ≡ true
+unfolding comes_late_behind
 lacked_left before others x s h = let f = found (lacks x s) before h in any_at (lacks x s) (before ++ others) f.0 (Among-left before others f.0 f.1) f.2
 
 -- ---- the class of an entry, by the whole history
@@ -72,9 +72,9 @@ class_same false b l m t h = refl
 abbrev pub told_by : Class → Bool → Option Bool
 told_by c t = cond (is_class Accepted c) (Some t) None
 
-module _ (before after : List Release) (job : Job) (sound : IsSound (before ++ released (past_of before) job zero_key ∷ after)) where
+module _ (before after : List Release) (job : JobFacts) (sound : IsSound (before ++ released (past_of before) job zero_key ∷ after)) where
   same_late : (e : Entry) → Among job.entries (Some e) → covers job.ranges e.sighting ≡ true → has_key (enrolled job) e.id.issuer ≡ true
-      → (b : Bool) → is_lacked_by before e.id e.sighting ≡ b → b ≡ is_lacked_by (before ++ released (past_of before) job zero_key ∷ after) e.id e.sighting
+      → (b : Bool) → comes_late_behind before e.id e.sighting ≡ b → b ≡ comes_late_behind (before ++ released (past_of before) job zero_key ∷ after) e.id e.sighting
   unfolding past_of
   same_late e a c k true h = sym (lacked_left before (released (past_of before) job zero_key ∷ after) e.id e.sighting h)
   same_late e a c k false h =
@@ -89,6 +89,6 @@ module _ (before after : List Release) (job : Job) (sound : IsSound (before ++ r
   unfolding past_of class_by
   listing_is e a =
       let rs = before ++ released (past_of before) job zero_key ∷ after in
-      ap (λ past. listing_by (is_seen (part_from (released (past_of before) job zero_key)) e) (past.lacked e.id e.sighting) (past.was_listed e.id)) (past_in_ledger rs sound)
-      ∙ class_same (covers job.ranges e.sighting) (has_key (enrolled job) e.id.issuer) (is_lacked_by before e.id e.sighting) (is_lacked_by rs e.id e.sighting) (is_listed rs e.id)
-      (λ c k. same_late e a c k (is_lacked_by before e.id e.sighting) refl)
+      ap (λ past. listing_by (is_seen (part_from (released (past_of before) job zero_key)) e) (past.comes_late e.id e.sighting) (past.listed_before e.id)) (past_in_ledger rs sound)
+      ∙ class_same (covers job.ranges e.sighting) (has_key (enrolled job) e.id.issuer) (comes_late_behind before e.id e.sighting) (comes_late_behind rs e.id e.sighting) (is_listed rs e.id)
+      (λ c k. same_late e a c k (comes_late_behind before e.id e.sighting) refl)

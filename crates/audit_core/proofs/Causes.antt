@@ -20,7 +20,7 @@ use Rattle.job_core.specs.declared.bounds.TheConstants.Limits.{PUBLISHED}
 use Rattle.job_core.specs.JobFields.{CrlMeaning, JobFields}
 use Rattle.ledger_core.specs.LedgerFields.{LedgerFields, LedgerPartFields, newest}
 use Rattle.ident_core.specs.Sets.{all_inserted}
-use Rattle.universe_core.specs.Jobs.{Job, facts_of}
+use Rattle.universe_core.specs.Jobs.{JobFacts, facts_of}
 use Rattle.universe_core.specs.History.{Past, Release, class_of, if_accepted, shown, accepted_with, accepted_by, past_of}
 use Rattle.universe_core.specs.Ledgers.{past_in, ledger_of}
 use Rattle.universe_core.specs.Step.{refusal, bad_crl_at, bad_crl_from, old_epoch, shrunk, chain_full, too_many}
@@ -73,7 +73,7 @@ epoch_cause : (p : Option LedgerPartFields) (epoch : ℕ) → Causes (old_epoch 
 epoch_cause None epoch = tt
 epoch_cause (Some p) epoch = elim (nat_le epoch p.epoch) as (λ b. Causes (cond b (Some (faults.OldEpoch p.epoch epoch)) None)) [ true ↦ tt | false ↦ tt ]
 
-shrunk_cause : (p : Option LedgerPartFields) (job : Job) → Causes (shrunk p job)
+shrunk_cause : (p : Option LedgerPartFields) (job : JobFacts) → Causes (shrunk p job)
 shrunk_cause None job = tt
 shrunk_cause (Some p) job = elim (first_outside p.ranges job.ranges) as (λ o. Causes (option_map faults.CoverageShrinks o)) [ None ↦ tt | Some k ↦ tt ]
 
@@ -105,14 +105,14 @@ unfolding all_inserted
 set_few cmp [] ys = omega arith
 set_few cmp (x ∷ xs) ys = let n = set_few cmp xs (insert_key cmp ys x) in let m = insert_few cmp x ys in omega arith
 
-shown_few : (past : Past) (job : Job) → length (shown past job) ≤ length job.entries
+shown_few : (past : Past) (job : JobFacts) → length (shown past job) ≤ length job.entries
 unfolding shown
 shown_few past job =
     let a = length-filter_map (λ o. if_accepted (class_of past job o) o) job.entries in
     let b = count_by-le-length (λ o. is_some (if_accepted (class_of past job o) o)) job.entries in
     omega (arith, a, b)
 
-pub accepted_few : (past : Past) (job : Job) → length (accepted_with past job) ≤ length past.accepted + length job.entries
+pub accepted_few : (past : Past) (job : JobFacts) → length (accepted_with past job) ≤ length past.accepted + length job.entries
 unfolding accepted_with
 accepted_few past job =
     let a = set_few identity_cmp (map (λ (e : Entry). e.id) (shown past job)) past.accepted in

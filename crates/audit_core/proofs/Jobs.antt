@@ -7,7 +7,7 @@ use Rattle.job_core.specs.declared.bounds.TheConstants.Limits.{PUBLISHED}
 use Rattle.job_core.specs.JobFields.{JobFields}
 use Rattle.log_core.specs.declared.Entry.{Entry}
 use Rattle.ident_core.proofs.Elements.{some_item}
-use Rattle.universe_core.specs.Jobs.{Job, facts_of}
+use Rattle.universe_core.specs.Jobs.{JobFacts, facts_of}
 use Rattle.universe_core.specs.declared.class.Class.TheVariants.{Accepted}
 use Rattle.universe_core.specs.History.{Release, class_of, past_of, released, releases}
 use Rattle.history_core.specs.Facts.{IsSound}
@@ -16,18 +16,18 @@ use Rattle.history_core.proofs.Following.{admitted_follows}
 use Rattle.audit_core.specs.Auditing.{releases_of, AreAdmitted, IsAccepted}
 use Rattle.audit_core.proofs.Lists.{at_place, cut_at, take_at}
 
-abbrev zeros : List Release → Job → List ℕ
+abbrev zeros : List Release → JobFacts → List ℕ
 zeros rs job = zero_key
 
 -- ---- releases
 
-releases-append : (trailer : List Release → Job → List ℕ) (rs : List Release) (xs ys : List Job) → releases trailer rs (xs ++ ys) ≡ releases trailer (releases trailer rs xs) ys
+releases-append : (trailer : List Release → JobFacts → List ℕ) (rs : List Release) (xs ys : List JobFacts) → releases trailer rs (xs ++ ys) ≡ releases trailer (releases trailer rs xs) ys
 unfolding releases
 releases-append t rs [] ys = refl
 releases-append t rs (x ∷ xs) ys = releases-append t (rs ++ released (past_of rs) x (t rs x) ∷ []) xs ys
 
 -- they begin with those that were there
-releases-rest : (trailer : List Release → Job → List ℕ) (rs : List Release) (jobs : List Job) → (rest : List Release) × (releases trailer rs jobs ≡ rs ++ rest)
+releases-rest : (trailer : List Release → JobFacts → List ℕ) (rs : List Release) (jobs : List JobFacts) → (rest : List Release) × (releases trailer rs jobs ≡ rs ++ rest)
 unfolding releases
 releases-rest t rs [] = ([], sym (append-nil rs))
 releases-rest t rs (job ∷ jobs) =
@@ -35,7 +35,7 @@ releases-rest t rs (job ∷ jobs) =
     let n = releases-rest t (rs ++ r ∷ []) jobs in
     (r ∷ n.0, n.1 ∙ append_assoc rs (r ∷ []) n.0)
 
-releases-length : (trailer : List Release → Job → List ℕ) (rs : List Release) (jobs : List Job) → length (releases trailer rs jobs) ≡ length rs + length jobs
+releases-length : (trailer : List Release → JobFacts → List ℕ) (rs : List Release) (jobs : List JobFacts) → length (releases trailer rs jobs) ≡ length rs + length jobs
 unfolding releases
 releases-length t rs [] = omega arith
 releases-length t rs (job ∷ jobs) =

@@ -10,7 +10,7 @@ use Rattle.card_core.specs.PartFields.{PartFields}
 use Rattle.log_core.specs.declared.Entry.{Entry}
 use Rattle.ledger_core.specs.declared.fields.LedgerPart.{LedgerPart}
 use Rattle.ledger_core.specs.LedgerFields.{LedgerFields, LedgerPartFields, part_fields}
-use Rattle.job_core.specs.declared.meaning.Job.{Job as CodeJob}
+use Rattle.job_core.specs.declared.meaning.Job.{Job}
 use Rattle.job_core.specs.JobFields.{JobFields, fields_of_job}
 use Rattle.universe_core.specs.History.{seen}
 use Rattle.universe_core.specs.Ledgers.{ledger_of, part_from}
@@ -43,7 +43,7 @@ sound_all jobs n e a = subst (λ l. IsSound (releases_of l)) (take_all n jobs (o
 pub parts_length : (ledger : LedgerFields) (jobs : List JobFields) → ledger ≡ ledger_of (releases_of jobs) → length ledger.parts ≡ length jobs
 parts_length ledger jobs is = ap (λ (l : LedgerFields). length l.parts) is ∙ ap length (parts_are (releases_of jobs)) ∙ length-map (releases_of jobs) part_from ∙ history-length jobs
 
-pub known_length : (parts : List LedgerPart) (jobs : List CodeJob) (ledger : LedgerFields) → map part_fields parts ≡ ledger.parts → ledger ≡ ledger_of (releases_of (map fields_of_job jobs))
+pub known_length : (parts : List LedgerPart) (jobs : List Job) (ledger : LedgerFields) → map part_fields parts ≡ ledger.parts → ledger ≡ ledger_of (releases_of (map fields_of_job jobs))
     → length parts ≡ length jobs
 known_length parts jobs ledger p is = sym (length-map parts part_fields) ∙ ap length p ∙ parts_length ledger (map fields_of_job jobs) is ∙ length-map jobs fields_of_job
 
@@ -55,7 +55,7 @@ pub record Known (jobs : List JobFields) (j : ℕ) (ledger : LedgerFields) (job 
   pub here : slice_get ledger.parts j ≡ Some part
   pub same : entries ≡ job.entries
 
-pub known : (jobs : List CodeJob) (j : ℕ) (ledger : LedgerFields) (parts : List LedgerPart) (job : CodeJob) (part : LedgerPart) (entries : List (Option Entry)) → j < length jobs
+pub known : (jobs : List Job) (j : ℕ) (ledger : LedgerFields) (parts : List LedgerPart) (job : Job) (part : LedgerPart) (entries : List (Option Entry)) → j < length jobs
     → AreAdmitted (map fields_of_job jobs) (length jobs) → ledger ≡ ledger_of (releases_of (map fields_of_job jobs)) → map part_fields parts ≡ ledger.parts
     → job ≡ get_or jobs j job → part ≡ get_or parts j part → entries ≡ (get_or jobs j job).entries.items
     → Known (map fields_of_job jobs) j ledger (fields_of_job job) (part_fields part) entries
@@ -66,7 +66,7 @@ known jobs j ledger parts job part entries lt admitted is p at_job at_part from 
       sound = sound_all (map fields_of_job jobs) (length jobs) (sym (length-map jobs fields_of_job)) admitted;
       is = is;
       here = ap (λ ps. slice_get ps j) (sym p) ∙ mapped_at part_fields parts j part (omega (arith, lt, many)) at_part;
-      same = from ∙ ap (λ (k : CodeJob). k.entries.items) (sym at_job);
+      same = from ∙ ap (λ (k : Job). k.entries.items) (sym at_job);
     }
 
 pub known_agree : (jobs : List JobFields) (j : ℕ) (ledger : LedgerFields) (job : JobFields) (part : LedgerPartFields) (entries : List (Option Entry)) → Known jobs j ledger job part entries
@@ -90,7 +90,7 @@ known_first jobs j ledger job part entries k store fault f =
     first_is jobs j job k.at k.sound ledger k.is part k.here store fault (subst (λ es. IsFirstOf store (listing ledger part) j es fault) k.same f)
 
 -- what is asked of each job holds of one that was read
-pub auditable_at : (jobs : List CodeJob) (i : ℕ) (job : CodeJob) → i < length jobs → job ≡ get_or jobs i job → All IsAuditable (map fields_of_job jobs) → IsAuditable (fields_of_job job)
+pub auditable_at : (jobs : List Job) (i : ℕ) (job : Job) → i < length jobs → job ≡ get_or jobs i job → All IsAuditable (map fields_of_job jobs) → IsAuditable (fields_of_job job)
 auditable_at jobs i job lt is all =
     let n = length-map jobs fields_of_job in
     subst IsAuditable (get_or-map fields_of_job jobs i job ∙ ap fields_of_job (sym is)) (all i (fields_of_job job) (omega (arith, lt, n)))

@@ -28,7 +28,7 @@ listing_by seen late listed = if seen && not late then Some listed else None
 
 -- Of an entry that the job of a part accepts, whether its certificate is listed; nothing of another entry.
 abbrev pub listing : LedgerFields → LedgerPartFields → Entry → Option Bool
-listing ledger part e = listing_by (is_seen part e) ((past_in ledger).lacked e.id e.sighting) ((past_in ledger).was_listed e.id)
+listing ledger part e = listing_by (is_seen part e) ((past_in ledger).comes_late e.id e.sighting) ((past_in ledger).listed_before e.id)
 
 -- what is to be said of a certificate that is listed or not
 abbrev pub truth_by : Bool → Verdict

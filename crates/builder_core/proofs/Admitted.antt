@@ -18,7 +18,7 @@ use Rattle.ident_core.proofs.Runs.{other_issuer}
 use Rattle.ident_core.proofs.Sets.{bytes_same, bytes_refl}
 use Rattle.universe_core.specs.declared.fault.AdmitFault.{AdmitFault}
 use Rattle.universe_core.specs.declared.fault.AdmitFault.TheVariants as faults
-use Rattle.universe_core.specs.Jobs.{Job, facts_of, enrolled}
+use Rattle.universe_core.specs.Jobs.{JobFacts, facts_of, enrolled}
 use Rattle.universe_core.specs.History.{Release, released, accepted_with}
 use Rattle.universe_core.specs.Ledgers.{past_in}
 use Rattle.universe_core.specs.Groups.{GroupFields, members_of, group_of, groups}
@@ -38,7 +38,7 @@ pub issuers_are : (r : Release) → issuers_of (groups r) ≡ r.issuers
 unfolding groups
 issuers_are r = issuers_among r.accepted r.revoked r.issuers
 
-pub groups_ascend : (ledger : LedgerFields) (job : Job) (gs : List GroupFields) → gs ≡ groups_after ledger job → IsStrictlySortedBy octets_cmp (issuers_of gs)
+pub groups_ascend : (ledger : LedgerFields) (job : JobFacts) (gs : List GroupFields) → gs ≡ groups_after ledger job → IsStrictlySortedBy octets_cmp (issuers_of gs)
 groups_ascend ledger job gs is =
     let e : issuers_of gs ≡ enrolled job = ap issuers_of is ∙ issuers_are (released (past_in ledger) job []) in
     subst (IsStrictlySortedBy octets_cmp) (sym e) (enrolled_ascend job)

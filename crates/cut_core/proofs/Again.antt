@@ -1,6 +1,7 @@
 -- What is cut is cut again.
 use Rattle.std.specs.List.{filter}
 use Rattle.std.proofs.Common.{◌≡◌, List, Bool, true, false, ◌&&◌, Option, Some, None, refl, sym, ap, ◌∙◌}
+use Rattle.std.proofs.lemmas.Bool.{and_parts}
 use Rattle.std.proofs.lemmas.List.Elements.{filter_agree}
 use Rattle.ident_core.specs.declared.identity.Identity.{Identity}
 use Rattle.job_core.specs.JobFields.{CrlMeaning, JobFields}
@@ -49,8 +50,9 @@ module _ (a b : Cut) where
     epoch = second.epoch ∙ first.epoch;
     ranges = second.ranges ∙ first.ranges;
     issuers = second.issuers ∙ ap (filter b.takes) first.issuers ∙ sym (filter_both a.takes b.takes r.issuers);
+    lists = λ x k.
+        let p = and_parts (is_kept a x) (is_kept b x) (kept_again x ∙ k) in second.lists x p.1 ∙ first.lists x p.0;
     shown = second.shown ∙ ap (filter (λ (e : Entry). is_kept b e.id)) first.shown ∙ shown_again r.shown;
     accepted = second.accepted ∙ ap (filter (is_kept b)) first.accepted ∙ ids_again r.accepted;
-    listed = second.listed ∙ ap (filter (is_kept b)) first.listed ∙ ids_again r.listed;
     revoked = second.revoked ∙ ap (filter (is_kept b)) first.revoked ∙ ids_again r.revoked;
   }

@@ -8,7 +8,7 @@ use Rattle.card_core.specs.PartFields.{PartFields}
 use Rattle.card_core.specs.Verdict.{verdict}
 use Rattle.job_core.specs.JobFields.{JobFields}
 use Rattle.ident_core.specs.Among.{Among}
-use Rattle.universe_core.specs.Jobs.{Job, facts_of}
+use Rattle.universe_core.specs.Jobs.{JobFacts, facts_of}
 use Rattle.universe_core.specs.History.{releases, seen, sightings}
 use Rattle.history_core.specs.Truth.{truth}
 use Rattle.audit_core.specs.Auditing.{AllAgree, releases_of}
@@ -25,7 +25,7 @@ module _ (cut : Cut) where
   pub audited_beside : (jobs : List JobFields) → AllZip (IsCut cut) (releases_of jobs) (releases_of (map (cut_job cut) jobs))
   unfolding releases_of
   audited_beside jobs =
-      subst (λ (fs : List Job). AllZip (IsCut cut) (releases (λ r j. zero_key) [] (map facts_of jobs)) (releases (λ r j. zero_key) [] fs))
+      subst (λ (fs : List JobFacts). AllZip (IsCut cut) (releases (λ r j. zero_key) [] (map facts_of jobs)) (releases (λ r j. zero_key) [] fs))
       (sym (all_facts jobs))
       (releases_beside cut (λ r j. zero_key) (λ r j. zero_key) [] [] (map facts_of jobs) tt (λ r a. absurd a))
 

@@ -74,9 +74,9 @@ module _ (cut : Cut) where
       epoch = epoch_after 0 0 rs qs refl z;
       ranges = ranges_after [] [] rs qs refl z;
       issuers = ap key_set (issuers_beside rs qs z) ∙ key_set_kept cut.takes (flat_map (λ (r : Release). r.issuers) rs);
+      lists = λ x k. listed_beside cut x k rs qs z;
       shown = shown_base;
       accepted = accepted_base;
-      listed = listed_base;
       revoked = listed_base;
     }
 
@@ -99,7 +99,7 @@ module _ (cut : Cut) where
           ∙ filter_kept (λ (e : Entry). is_kept cut e.id) (λ (e : Entry). is_other without e.id.issuer)
           (λ (e : Entry). is_other without e.id.issuer) (λ e k. refl) r.shown;
       accepted = ap (filter other) c.accepted ∙ less_kept r.accepted;
-      listed = ap (filter other) c.listed ∙ less_kept r.listed;
+      lists = c.lists;
       revoked = ap (filter other) c.revoked ∙ less_kept r.revoked;
     }
 
@@ -152,6 +152,6 @@ module _ (cut : Cut) (lasts : Identity → Bool) (rs : List Release) where
     issuers = refl;
     shown = filter_both (λ (e : Entry). lasts e.id) (λ (e : Entry). is_kept cut e.id) (seen rs);
     accepted = filter_both lasts (is_kept cut) (accepted_by [] rs);
-    listed = listed_both;
+    lists = λ x k. refl;
     revoked = listed_both;
   }

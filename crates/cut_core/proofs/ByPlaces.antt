@@ -10,7 +10,7 @@ use Rattle.std.proofs.lemmas.Nat.{div-add-mod', mod-mul-add, mod_below}
 use Rattle.sha2.specs.Sha256.{sha256}
 use Rattle.ident_core.specs.declared.identity.Identity.{Identity}
 use Rattle.job_core.specs.JobFields.{JobFields}
-use Rattle.universe_core.specs.Jobs.{Entry, Job, enrolled}
+use Rattle.universe_core.specs.Jobs.{Entry, JobFacts, enrolled}
 use Rattle.universe_core.specs.Formats.{JobIn, facts_in}
 use Rattle.universe_core.specs.History.{Past, past_of, class_of, universe, revoked}
 use Rattle.universe_core.specs.Counting.{is_class, count, counts}
@@ -83,13 +83,13 @@ module _ (by : By) (n : ℕ) (c : Course) (j : JobIn) (some : 1 ≤ n) where
   abbrev whole : Past
   whole = past_of (left c)
 
-  abbrev job : Job
+  abbrev job : JobFacts
   job = facts_in j
 
   abbrev told_at : ℕ → Past
   told_at p = past_of (left (course_at by n p c))
 
-  abbrev part : ℕ → Job
+  abbrev part : ℕ → JobFacts
   part p = cut_facts (at_place by n p) job
 
   told : (p : ℕ) → IsCutPast (is_kept (at_place by n p)) whole (told_at p)

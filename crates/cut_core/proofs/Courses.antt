@@ -13,7 +13,7 @@ use Rattle.crl_core.specs.declared.crl.CrlFault.{CrlFault}
 use Rattle.crl_core.specs.Outcome.{CrlFields}
 use Rattle.job_core.specs.JobFields.{CrlMeaning, JobFields}
 use Rattle.ident_core.proofs.Elements.{some_item}
-use Rattle.universe_core.specs.Jobs.{Entry, Crl, Job, crl_by, accepted_crl, facts_of}
+use Rattle.universe_core.specs.Jobs.{Entry, Crl, JobFacts, crl_by, accepted_crl, facts_of}
 use Rattle.universe_core.specs.Formats.{JobIn, undated, reads_dates, entries_in, facts_in}
 use Rattle.universe_core.specs.History.{Release, past_of, released, releases, seen, sightings}
 use Rattle.history_core.specs.Bases.{releases_without, base_at}
@@ -85,7 +85,7 @@ module _ (cut : Cut) where
   left_beside : (rs qs : List Release) (jobs : List JobIn) → AllZip (IsCut cut) rs qs → Ascend rs
       → AllZip (IsCut cut) (left_after rs jobs) (left_after qs (map (cut_in cut) jobs))
   left_beside rs qs jobs z up =
-      subst (λ (js : List Job). AllZip (IsCut cut) (left_after rs jobs) (releases (λ r j. zero_key) qs js)) (sym (all_facts_cut jobs))
+      subst (λ (js : List JobFacts). AllZip (IsCut cut) (left_after rs jobs) (releases (λ r j. zero_key) qs js)) (sym (all_facts_cut jobs))
       (releases_beside cut (λ r j. zero_key) (λ r j. zero_key) rs qs (map facts_in jobs) z up)
 
   pub left_ascends : (c : Course) → Ascend (left c)
@@ -107,7 +107,7 @@ module _ (cut : Cut) where
   next_beside : (rs qs : List Release) (j : JobIn) (s : SealedFields) → AllZip (IsCut cut) rs qs → Ascend rs
       → AllZip (IsCut cut) (rs ++ released (past_of rs) (facts_in j) zero_key ∷ []) (qs ++ release_of qs (cut_in cut j) s ∷ [])
   next_beside rs qs j s z up =
-      subst (λ (job : Job). AllZip (IsCut cut) (rs ++ released (past_of rs) (facts_in j) zero_key ∷ [])
+      subst (λ (job : JobFacts). AllZip (IsCut cut) (rs ++ released (past_of rs) (facts_in j) zero_key ∷ [])
       (qs ++ released (past_of qs) job s.trailer ∷ [])) (sym (facts_cut j))
       (more_beside cut rs qs (facts_in j) zero_key s.trailer z up)
 

@@ -4,7 +4,7 @@ use Rattle.std.proofs.Common.{◌≡◌, List, [], ◌∷◌, map, drop, Bool, t
 use Rattle.std.proofs.lemmas.List.{drop-map}
 use Rattle.ident_core.specs.declared.identity.Identity.{Identity}
 use Rattle.part_text.specs.SealedFields.{SealedFields}
-use Rattle.universe_core.specs.Jobs.{Job, is_enrolled, lists}
+use Rattle.universe_core.specs.Jobs.{JobFacts, is_enrolled, lists}
 use Rattle.universe_core.specs.Formats.{JobIn, facts_in}
 use Rattle.universe_core.specs.History.{birth, is_listed}
 use Rattle.universe_core.proofs.Enrolled.{enrolled_test}
@@ -17,10 +17,10 @@ use Rattle.cut_core.proofs.Releases.{listed_beside, birth_beside}
 use Rattle.cut_core.proofs.Courses.{facts_cut, history_beside}
 
 module _ (cut : Cut) (x : Identity) (k : is_kept cut x ≡ true) where
-  abbrev says : Job → Bool
+  abbrev says : JobFacts → Bool
   says job = lists job x && is_enrolled job x.issuer
 
-  says_cut : (job : Job) → says (cut_facts cut job) ≡ says job
+  says_cut : (job : JobFacts) → says (cut_facts cut job) ≡ says job
   says_cut job =
       ap (λ (b : Bool). b && is_enrolled (cut_facts cut job) x.issuer) (lists_kept cut job x k)
       ∙ ap (λ (b : Bool). lists job x && b) (sym (enrolled_test (cut_facts cut job) x.issuer) ∙ enrolls_kept cut job x k

@@ -15,14 +15,14 @@ use Rattle.ident_core.proofs.Elements.{Among-push_cases}
 use Rattle.ident_core.proofs.Order.{sorted_none}
 use Rattle.ident_core.proofs.Sets.{identity_total}
 use Rattle.card_core.specs.declared.verdict.Verdict.TheVariants.{Good, Revoked}
-use Rattle.universe_core.specs.Jobs.{Entry, Job, enrolled}
+use Rattle.universe_core.specs.Jobs.{Entry, JobFacts, enrolled}
 use Rattle.universe_core.specs.Dates.{dates, greatest, until}
 use Rattle.universe_core.specs.History.{Release, past_of, released, releases, class_of, covers_all}
-use Rattle.universe_core.specs.History.{sightings, accepted_by, seen, birth, is_listed, is_settled_by, is_lacked_by}
+use Rattle.universe_core.specs.History.{sightings, accepted_by, seen, birth, enrolls_and_lists, is_listed, already_revoked_by, comes_late_behind}
 use Rattle.universe_core.specs.Ledgers.{later, last_place, last}
 use Rattle.history_core.specs.Truth.{truth}
 use Rattle.history_core.proofs.Accepting.{accepted_ascend}
-use Rattle.history_core.proofs.Releases.{accepted_by-ascend}
+use Rattle.history_core.proofs.Releases.{accepted_by-ascend, listed-cons}
 use Rattle.history_core.proofs.Words.{zip_push}
 use Rattle.cut_core.specs.Cutting.{Cut, is_kept, cut_facts, IsCut}
 use Rattle.cut_core.proofs.Filters.{any_beside, position_beside}
@@ -66,14 +66,29 @@ module _ (cut : Cut) (x : Identity) (k : is_kept cut x ≡ true) where
   pub accepted_at : (r q : Release) → IsCut cut r q → has q.accepted x ≡ has r.accepted x
   accepted_at r q c = ap (λ (xs : List Identity). has xs x) c.accepted ∙ has_kept (is_kept cut) r.accepted x k
 
-  pub listed_at : (r q : Release) → IsCut cut r q → has q.listed x ≡ has r.listed x
-  listed_at r q c = ap (λ (xs : List Identity). has xs x) c.listed ∙ has_kept (is_kept cut) r.listed x k
-
   pub revoked_at : (r q : Release) → IsCut cut r q → has q.revoked x ≡ has r.revoked x
   revoked_at r q c = ap (λ (xs : List Identity). has xs x) c.revoked ∙ has_kept (is_kept cut) r.revoked x k
 
   enrolled_at : (r q : Release) → IsCut cut r q → has_key q.issuers x.issuer ≡ has_key r.issuers x.issuer
   enrolled_at r q c = ap (λ (ks : List (List ℕ)). has_key ks x.issuer) c.issuers ∙ has_key_kept cut.takes r.issuers x.issuer (taken cut x k)
+
+  lists_at : (r q : Release) → IsCut cut r q → enrolls_and_lists x q ≡ enrolls_and_lists x r
+  lists_at r q c = ap (λ (b : Bool). b && has_key q.issuers x.issuer) (c.lists x k) ∙ ap (λ (b : Bool). r.lists x && b) (enrolled_at r q c)
+
+  listed_step : (r q : Release) (rs qs : List Release) (b : Bool) → has r.accepted x ≡ b → IsCut cut r q → AllZip (IsCut cut) rs qs
+      → is_listed qs x ≡ is_listed rs x → is_listed (q ∷ qs) x ≡ is_listed (r ∷ rs) x
+  listed_step r q rs qs true e c z next =
+      listed-cons q qs x true (accepted_at r q c ∙ e)
+      ∙ any_beside (IsCut cut) (enrolls_and_lists x) (enrolls_and_lists x) lists_at (r ∷ rs) (q ∷ qs) (c, z)
+      ∙ sym (listed-cons r rs x true e)
+  listed_step r q rs qs false e c z next =
+      listed-cons q qs x false (accepted_at r q c ∙ e) ∙ next ∙ sym (listed-cons r rs x false e)
+
+  pub listed_beside : (rs qs : List Release) → AllZip (IsCut cut) rs qs → is_listed qs x ≡ is_listed rs x
+  listed_beside [] [] z = refl
+  listed_beside [] (q ∷ qs) z = absurd z
+  listed_beside (r ∷ rs) [] z = absurd z
+  listed_beside (r ∷ rs) (q ∷ qs) z = listed_step r q rs qs (has r.accepted x) refl z.0 z.1 (listed_beside rs qs z.1)
 
   lacked_at : (s : Sighting) (r q : Release) → IsCut cut r q
       → (covers q.ranges s && has_key q.issuers x.issuer && not (has q.accepted x))
@@ -93,21 +108,17 @@ module _ (cut : Cut) (x : Identity) (k : is_kept cut x ≡ true) where
     pub known_beside : has (accepted_by [] qs) x ≡ has (accepted_by [] rs) x
     known_beside = ap (λ (xs : List Identity). has xs x) (accepted_beside cut rs qs z) ∙ has_kept (is_kept cut) (accepted_by [] rs) x k
 
-    pub lacked_beside : (s : Sighting) → is_lacked_by qs x s ≡ is_lacked_by rs x s
-    unfolding is_lacked_by
+    pub lacked_beside : (s : Sighting) → comes_late_behind qs x s ≡ comes_late_behind rs x s
+    unfolding comes_late_behind
     lacked_beside s =
         any_beside (IsCut cut) (λ (r : Release). covers r.ranges s && has_key r.issuers x.issuer && not (has r.accepted x))
         (λ (q : Release). covers q.ranges s && has_key q.issuers x.issuer && not (has q.accepted x)) (lacked_at s) rs qs z
 
-    pub listed_beside : is_listed qs x ≡ is_listed rs x
-    unfolding is_listed
-    listed_beside = any_beside (IsCut cut) (λ (r : Release). has r.listed x) (λ (q : Release). has q.listed x) listed_at rs qs z
-
     pub truth_beside : truth qs x ≡ truth rs x
-    truth_beside = ap (λ (b : Bool). cond b Revoked Good) listed_beside
+    truth_beside = ap (λ (b : Bool). cond b Revoked Good) (listed_beside rs qs z)
 
-    pub settled_beside : (ss : List Sighting) → is_settled_by qs x ss ≡ is_settled_by rs x ss
-    unfolding is_settled_by
+    pub settled_beside : (ss : List Sighting) → already_revoked_by qs x ss ≡ already_revoked_by rs x ss
+    unfolding already_revoked_by
     settled_beside ss =
         any_beside (IsCut cut) (λ (r : Release). has r.revoked x && covers_all r.ranges ss)
         (λ (q : Release). has q.revoked x && covers_all q.ranges ss) (settled_at ss) rs qs z
@@ -154,7 +165,7 @@ past_ascends : (rs : List Release) → Ascend rs → IsStrictlySortedBy identity
 unfolding past_of
 past_ascends rs up = known_ascend rs up
 
-pub Ascend-push : (rs : List Release) (job : Job) (trailer : List ℕ) → Ascend rs → Ascend (rs ++ released (past_of rs) job trailer ∷ [])
+pub Ascend-push : (rs : List Release) (job : JobFacts) (trailer : List ℕ) → Ascend rs → Ascend (rs ++ released (past_of rs) job trailer ∷ [])
 Ascend-push rs job trailer up r a =
     ⊎_elim (λ old. up r old) (λ (e : released (past_of rs) job trailer
     ≡ r). subst (λ (q : Release). IsStrictlySortedBy identity_cmp q.accepted) e (accepted_ascend (past_of rs) job (past_ascends rs up)))
@@ -166,24 +177,24 @@ module _ (cut : Cut) where
   past_cut rs qs z up = record {
     accepted = accepted_beside cut rs qs z;
     ascend = known_ascend rs up;
-    lacked = λ x s k. lacked_beside cut x k rs qs z s;
-    was_listed = λ x k. listed_beside cut x k rs qs z;
-    is_settled = λ x ss k.
-        ap (λ (ts : List Sighting). is_settled_by qs x (ts ++ ss)) (sightings_beside cut x k rs qs z)
+    comes_late = λ x s k. lacked_beside cut x k rs qs z s;
+    listed_before = λ x k. listed_beside cut x k rs qs z;
+    already_revoked = λ x ss k.
+        ap (λ (ts : List Sighting). already_revoked_by qs x (ts ++ ss)) (sightings_beside cut x k rs qs z)
         ∙ settled_beside cut x k rs qs z (sightings x (seen rs) ++ ss);
   }
 
-  pub released_beside : (rs qs : List Release) (job : Job) (trailer other : List ℕ) → AllZip (IsCut cut) rs qs → Ascend rs
+  pub released_beside : (rs qs : List Release) (job : JobFacts) (trailer other : List ℕ) → AllZip (IsCut cut) rs qs → Ascend rs
       → IsCut cut (released (past_of rs) job trailer) (released (past_of qs) (cut_facts cut job) other)
   released_beside rs qs job trailer other z up = released_cut cut job (past_of rs) (past_of qs) (past_cut rs qs z up) trailer other
 
-  pub more_beside : (rs qs : List Release) (job : Job) (trailer other : List ℕ) → AllZip (IsCut cut) rs qs → Ascend rs
+  pub more_beside : (rs qs : List Release) (job : JobFacts) (trailer other : List ℕ) → AllZip (IsCut cut) rs qs → Ascend rs
       → AllZip (IsCut cut) (rs ++ released (past_of rs) job trailer ∷ []) (qs ++ released (past_of qs) (cut_facts cut job) other ∷ [])
   more_beside rs qs job trailer other z up =
       zip_push (IsCut cut) rs qs (released (past_of rs) job trailer) (released (past_of qs) (cut_facts cut job) other) z
       (released_beside rs qs job trailer other z up)
 
-  pub releases_beside : (trailer other : List Release → Job → List ℕ) (rs qs : List Release) (jobs : List Job) → AllZip (IsCut cut) rs qs
+  pub releases_beside : (trailer other : List Release → JobFacts → List ℕ) (rs qs : List Release) (jobs : List JobFacts) → AllZip (IsCut cut) rs qs
       → Ascend rs
       → AllZip (IsCut cut) (releases trailer rs jobs) (releases other qs (map (cut_facts cut) jobs))
   unfolding releases
@@ -193,7 +204,7 @@ module _ (cut : Cut) where
       (qs ++ released (past_of qs) (cut_facts cut job) (other qs (cut_facts cut job)) ∷ []) jobs
       (more_beside rs qs job (trailer rs job) (other qs (cut_facts cut job)) z up) (Ascend-push rs job (trailer rs job) up)
 
-  pub releases_ascend : (trailer : List Release → Job → List ℕ) (rs : List Release) (jobs : List Job) → Ascend rs
+  pub releases_ascend : (trailer : List Release → JobFacts → List ℕ) (rs : List Release) (jobs : List JobFacts) → Ascend rs
       → Ascend (releases trailer rs jobs)
   unfolding releases
   releases_ascend trailer rs [] up = up
@@ -201,7 +212,7 @@ module _ (cut : Cut) where
       releases_ascend trailer (rs ++ released (past_of rs) job (trailer rs job) ∷ []) jobs (Ascend-push rs job (trailer rs job) up)
 
   -- an entry of a kept identity has its class
-  pub class_beside : (rs qs : List Release) (job : Job) (e : Entry) → AllZip (IsCut cut) rs qs → is_kept cut e.id ≡ true
+  pub class_beside : (rs qs : List Release) (job : JobFacts) (e : Entry) → AllZip (IsCut cut) rs qs → is_kept cut e.id ≡ true
       → class_of (past_of qs) (cut_facts cut job) (Some e) ≡ class_of (past_of rs) job (Some e)
   unfolding past_of
   class_beside rs qs job e z k =

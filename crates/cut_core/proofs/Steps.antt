@@ -12,10 +12,10 @@ use Rattle.ident_core.specs.Order.{is_same, identity_cmp}
 use Rattle.ident_core.specs.Coverage.{covers}
 use Rattle.ident_core.specs.Sets.{has, has_key, with_all, key_set}
 use Rattle.ident_core.proofs.Sets.{same_is, bytes_same}
-use Rattle.universe_core.specs.Jobs.{Entry, Crl, Job, is_stale, crls_of, enrolled, lists}
+use Rattle.universe_core.specs.Jobs.{Entry, Crl, JobFacts, is_stale, crls_of, enrolled, lists}
 use Rattle.universe_core.specs.Dates.{dates}
 use Rattle.universe_core.specs.History.{Past, class_by, class_of, if_accepted, shown, sightings}
-use Rattle.universe_core.specs.History.{accepted_with, universe, listed_now, is_revoked, revoked, released}
+use Rattle.universe_core.specs.History.{accepted_with, universe, is_revoked, revoked, released}
 use Rattle.universe_core.specs.declared.class.Class.{Class}
 use Rattle.universe_core.specs.declared.class.Class.TheVariants.{Unread, Uncovered, Unenrolled, Late, Accepted}
 use Rattle.cut_core.specs.Cutting.{Cut, is_kept, keeps_entry, cut_facts, IsCut}
@@ -62,13 +62,13 @@ taken cut x k = (and_parts (cut.takes x.issuer) (cut.chooses x) k).0
 pub record IsCutPast (keeps : Identity → Bool) (whole cut : Past) : Type 0 where
   pub accepted : cut.accepted ≡ filter keeps whole.accepted
   pub ascend : IsStrictlySortedBy identity_cmp whole.accepted
-  pub lacked : (x : Identity) (s : Sighting) → keeps x ≡ true → cut.lacked x s ≡ whole.lacked x s
-  pub was_listed : (x : Identity) → keeps x ≡ true → cut.was_listed x ≡ whole.was_listed x
-  pub is_settled : (x : Identity) (ss : List Sighting) → keeps x ≡ true → cut.is_settled x ss ≡ whole.is_settled x ss
+  pub comes_late : (x : Identity) (s : Sighting) → keeps x ≡ true → cut.comes_late x s ≡ whole.comes_late x s
+  pub listed_before : (x : Identity) → keeps x ≡ true → cut.listed_before x ≡ whole.listed_before x
+  pub already_revoked : (x : Identity) (ss : List Sighting) → keeps x ≡ true → cut.already_revoked x ss ≡ whole.already_revoked x ss
 
 -- ---- CRLs
 
-module _ (cut : Cut) (job : Job) where
+module _ (cut : Cut) (job : JobFacts) where
   crls_kept : (issuer : List ℕ) → cut.takes issuer ≡ true → crls_of issuer (cut_facts cut job) ≡ crls_of issuer job
   crls_kept issuer t =
       filter_within (λ (c : Crl). bytes_eq issuer c.issuer) (λ (c : Crl). cut.takes c.issuer)
@@ -101,14 +101,14 @@ module _ (cut : Cut) (job : Job) where
 -- ---- classes
 
 pub class_known : (ranges : List Range) (is js : List (List ℕ)) (p q : Past) (e : Entry) → has_key js e.id.issuer ≡ has_key is e.id.issuer
-    → q.lacked e.id e.sighting ≡ p.lacked e.id e.sighting
+    → q.comes_late e.id e.sighting ≡ p.comes_late e.id e.sighting
     → class_by ranges js q (Some e) ≡ class_by ranges is p (Some e)
 unfolding class_by
 class_known ranges is js p q e i h =
-    ap (λ b. cond (not (covers ranges e.sighting)) Uncovered (cond (not b) Unenrolled (cond (q.lacked e.id e.sighting) Late Accepted))) i
+    ap (λ b. cond (not (covers ranges e.sighting)) Uncovered (cond (not b) Unenrolled (cond (q.comes_late e.id e.sighting) Late Accepted))) i
     ∙ ap (λ b. cond (not (covers ranges e.sighting)) Uncovered (cond (not (has_key is e.id.issuer)) Unenrolled (cond b Late Accepted))) h
 
-pub class_none : (job : Job) (p : Past) → class_of p job None ≡ Unread
+pub class_none : (job : JobFacts) (p : Past) → class_of p job None ≡ Unread
 unfolding class_by
 class_none job p = refl
 
@@ -126,13 +126,13 @@ accepted_is Unenrolled o e h = absurd cc
 accepted_is Late o e h = absurd cc
 accepted_is Accepted o e h = h
 
-module _ (cut : Cut) (job : Job) (p q : Past) (told : IsCutPast (is_kept cut) p q) where
-  abbrev part : Job
+module _ (cut : Cut) (job : JobFacts) (p q : Past) (told : IsCutPast (is_kept cut) p q) where
+  abbrev part : JobFacts
   part = cut_facts cut job
 
   -- a kept entry has its class
   pub class_kept : (e : Entry) → is_kept cut e.id ≡ true → class_of q part (Some e) ≡ class_of p job (Some e)
-  class_kept e k = class_known job.ranges (enrolled job) (enrolled part) p q e (enrolls_kept cut job e.id k) (told.lacked e.id e.sighting k)
+  class_kept e k = class_known job.ranges (enrolled job) (enrolled part) p q e (enrolls_kept cut job e.id k) (told.comes_late e.id e.sighting k)
 
   left_same : (o : Option Entry) → keeps_entry cut o ≡ true → if_accepted (class_of q part o) o ≡ if_accepted (class_of p job o) o
   left_same None k = none_accepted (class_of q part None) ∙ sym (none_accepted (class_of p job None))
@@ -161,23 +161,16 @@ module _ (cut : Cut) (job : Job) (p q : Past) (told : IsCutPast (is_kept cut) p 
       ∙ filter_kept (is_kept cut) (λ x. has_key (enrolled job) x.issuer) (λ x. has_key (enrolled part) x.issuer)
       (enrolls_kept cut job) (accepted_with p job)
 
-  listed_cut : listed_now q part ≡ filter (is_kept cut) (listed_now p job)
-  unfolding listed_now
-  listed_cut =
-      ap (filter (lists part)) universe_cut ∙ filter_kept (is_kept cut) (lists job) (lists part) (lists_kept cut job) (universe p job)
-
   is_revoked_kept : (x : Identity) → is_kept cut x ≡ true → is_revoked q part x ≡ is_revoked p job x
   unfolding is_revoked
   is_revoked_kept x k =
-      let now : has (listed_now q part) x ≡ has (listed_now p job) x =
-      ap (λ (xs : List Identity). has xs x) listed_cut ∙ has_kept (is_kept cut) (listed_now p job) x k in
       let seen_now : sightings x (shown q part) ≡ sightings x (shown p job) =
       ap (sightings x) shown_cut ∙ sightings_kept (is_kept cut) x (shown p job) k in
-      let settled : q.is_settled x (sightings x (shown q part)) ≡ p.is_settled x (sightings x (shown p job)) =
-      ap (q.is_settled x) seen_now ∙ told.is_settled x (sightings x (shown p job)) k in
-      ap (λ b. (b || has (listed_now q part) x) && not (q.is_settled x (sightings x (shown q part)))) (told.was_listed x k)
-      ∙ ap (λ b. (p.was_listed x || b) && not (q.is_settled x (sightings x (shown q part)))) now
-      ∙ ap (λ b. (p.was_listed x || has (listed_now p job) x) && not b) settled
+      let settled : q.already_revoked x (sightings x (shown q part)) ≡ p.already_revoked x (sightings x (shown p job)) =
+      ap (q.already_revoked x) seen_now ∙ told.already_revoked x (sightings x (shown p job)) k in
+      ap (λ b. (b || lists part x) && not (q.already_revoked x (sightings x (shown q part)))) (told.listed_before x k)
+      ∙ ap (λ b. (p.listed_before x || b) && not (q.already_revoked x (sightings x (shown q part)))) (lists_kept cut job x k)
+      ∙ ap (λ b. (p.listed_before x || lists job x) && not b) settled
 
   pub revoked_cut : revoked q part ≡ filter (is_kept cut) (revoked p job)
   unfolding revoked
@@ -193,6 +186,6 @@ module _ (cut : Cut) (job : Job) (p q : Past) (told : IsCutPast (is_kept cut) p 
     issuers = enrolled_cut cut job;
     shown = shown_cut;
     accepted = accepted_cut;
-    listed = listed_cut;
+    lists = lists_kept cut job;
     revoked = revoked_cut;
   }

@@ -1,8 +1,8 @@
 -- Jobs of which some is kept, and what they leave beside what the whole jobs leave.
-use Rattle.std.specs.Prelude.{◌≡◌, ◌&&◌, ℕ, List, filter, Bool, Option, Some, None}
+use Rattle.std.specs.Prelude.{◌≡◌, ◌&&◌, ℕ, List, filter, Bool, true, Option, Some, None}
 use Rattle.ident_core.specs.declared.identity.Identity.{Identity}
 use Rattle.job_core.specs.JobFields.{JobFields}
-use Rattle.universe_core.specs.Jobs.{Entry, Job}
+use Rattle.universe_core.specs.Jobs.{Entry, JobFacts}
 use Rattle.universe_core.specs.Formats.{JobIn}
 use Rattle.universe_core.specs.History.{Release}
 use Rattle.history_core.specs.Bases.{all_issuers, base_with}
@@ -44,7 +44,7 @@ abbrev pub cut_in : Cut → JobIn → JobIn
 cut_in cut j = record j { job = cut_job cut j.job }
 
 -- the same of what a job says
-abbrev pub cut_facts : Cut → Job → Job
+abbrev pub cut_facts : Cut → JobFacts → JobFacts
 cut_facts cut job = record job {
   crls = filter (λ c. cut.takes c.issuer) job.crls;
   entries = filter (keeps_entry cut) job.entries;
@@ -57,9 +57,9 @@ pub record IsCut (cut : Cut) (whole kept : Release) : Type 0 where
   pub epoch : kept.epoch ≡ whole.epoch
   pub ranges : kept.ranges ≡ whole.ranges
   pub issuers : kept.issuers ≡ filter cut.takes whole.issuers
+  pub lists : (x : Identity) → is_kept cut x ≡ true → kept.lists x ≡ whole.lists x
   pub shown : kept.shown ≡ filter (λ e. is_kept cut e.id) whole.shown
   pub accepted : kept.accepted ≡ filter (is_kept cut) whole.accepted
-  pub listed : kept.listed ≡ filter (is_kept cut) whole.listed
   pub revoked : kept.revoked ≡ filter (is_kept cut) whole.revoked
 
 -- A base of releases that aren't cut, which keeps what lasts of the kept identities alone: so a chain is begun anew, cut.

@@ -10,7 +10,7 @@ ghost use Rattle.part_text.specs.SealedFields.{SealedFields};
 ghost use Rattle.job_core.specs.declared.bounds.TheConstants.Limits.{PUBLISHED};
 ghost use Rattle.job_core.specs.JobFields.{JobFields};
 ghost use Rattle.job_core.specs.JobFacts.{FitsPublishing, IsWithinLimits};
-ghost use Rattle.universe_core.specs.Jobs.{Entry, Job};
+ghost use Rattle.universe_core.specs.Jobs.{Entry, JobFacts};
 ghost use Rattle.universe_core.specs.Formats.{JobIn, facts_in};
 ghost use Rattle.universe_core.specs.Dates.{until};
 ghost use Rattle.universe_core.specs.History.{Release, past_of, releases, class_of, accepted_with};
@@ -30,7 +30,7 @@ ghost use Rattle.cut_core.specs.Courses.{Course, left, cut_course, course_of};
 /// (`bases`). A chain that isn't cut is begun anew, cut, by a base that keeps what lasts of the kept identities
 /// alone (`splits`). What is cut is cut again (`again`), as its jobs are (`again_jobs`).
 pub fn cuts_leave_what_is_kept()
-    ensures jobs { (cut : Cut) (trailer other : List Release → Job → List ℕ) (jobs : List Job)
+    ensures jobs { (cut : Cut) (trailer other : List Release → JobFacts → List ℕ) (jobs : List JobFacts)
         → AllZip (IsCut cut) (releases trailer [] jobs) (releases other [] (map (cut_facts cut) jobs)) }
     ensures courses { (cut : Cut) (c : Course) → AllZip (IsCut cut) (left c) (left (cut_course cut c)) }
     ensures histories { (cut : Cut) (c : Course) (h : History) (parts : List SealedFields)
@@ -66,9 +66,9 @@ pub fn cuts_know_what_is_kept()
     ensures truth { (cut : Cut) (rs qs : List Release) (x : Identity) → AllZip (IsCut cut) rs qs → is_kept cut x ≡ true
         → truth qs x ≡ truth rs x }
     ensures each { (cut : Cut) (r q : Release) (x : Identity) → IsCut cut r q → is_kept cut x ≡ true
-        → (has q.accepted x ≡ has r.accepted x) × (has q.listed x ≡ has r.listed x)
+        → (has q.accepted x ≡ has r.accepted x) × (q.lists x ≡ r.lists x)
         × (has q.revoked x ≡ has r.revoked x) }
-    ensures class { (cut : Cut) (rs qs : List Release) (job : Job) (e : Entry) → AllZip (IsCut cut) rs qs
+    ensures class { (cut : Cut) (rs qs : List Release) (job : JobFacts) (e : Entry) → AllZip (IsCut cut) rs qs
         → is_kept cut e.id ≡ true
         → class_of (past_of qs) (cut_facts cut job) (Some e) ≡ class_of (past_of rs) job (Some e) }
     ensures enrolled { (cut : Cut) (r q : Release) (issuer : List ℕ) → IsCut cut r q → cut.takes issuer ≡ true

@@ -9,8 +9,8 @@ use Rattle.ident_core.specs.Among.{Among}
 use Rattle.ident_core.specs.Sets.{has, has_key}
 use Rattle.ident_core.proofs.Elements.{found, any_at, bool_same}
 use Rattle.ident_core.proofs.Sets.{same_is, same_refl}
-use Rattle.universe_core.specs.Jobs.{Entry, Job, enrolled, lists}
-use Rattle.universe_core.specs.History.{Release, past_of, accepted_by, shown, accepted_with, universe, listed_now, is_revoked, revoked, is_listed, is_settled_by, is_lacked_by, released, releases}
+use Rattle.universe_core.specs.Jobs.{Entry, JobFacts, enrolled, lists}
+use Rattle.universe_core.specs.History.{Release, past_of, accepted_by, shown, accepted_with, universe, is_revoked, revoked, birth, is_listed, already_revoked_by, comes_late_behind, released, releases}
 use Rattle.universe_core.specs.Groups.{groups}
 use Rattle.universe_core.specs.Ledgers.{no_ledger, past_in, next_ledger, ledger_of}
 use Rattle.universe_core.specs.Step.{groups_after}
@@ -20,7 +20,8 @@ use Rattle.history_core.proofs.Accepting.{IsShown, shown_is, shown_has, shown_en
 use Rattle.history_core.proofs.Sound.{nothing_sound}
 use Rattle.history_core.proofs.Histories.{releases_sound}
 use Rattle.history_core.proofs.Ledger.{past_in_ledger, next_is, groups_are}
-use Rattle.history_core.proofs.Words.{has-filter, or-false, leaves}
+use Rattle.history_core.proofs.Releases.{listed_one}
+use Rattle.history_core.proofs.Words.{has-filter}
 
 -- the ledger of no release is the empty one
 pub ledger_of_none : ledger_of [] ≡ no_ledger
@@ -32,33 +33,33 @@ pub past_in_none : past_in no_ledger ≡ past_of []
 past_in_none = ap past_in (sym ledger_of_none) ∙ past_in_ledger [] nothing_sound
 
 -- the facts hold after a first job
-pub first_sound : (trailer : List Release → Job → List ℕ) (job : Job) → IsSound (releases trailer [] (job ∷ []))
+pub first_sound : (trailer : List Release → JobFacts → List ℕ) (job : JobFacts) → IsSound (releases trailer [] (job ∷ []))
 first_sound trailer job = releases_sound trailer [] (job ∷ []) nothing_sound (tt, tt)
 
 -- the groups of a first job are those of its release, whatever the trailer of its part
-pub first_groups : (job : Job) (trailer : List ℕ) → groups_after no_ledger job ≡ groups (released (past_of []) job trailer)
+pub first_groups : (job : JobFacts) (trailer : List ℕ) → groups_after no_ledger job ≡ groups (released (past_of []) job trailer)
 first_groups job trailer = ap (λ ledger. groups_after ledger job) (sym ledger_of_none) ∙ groups_are [] nothing_sound job trailer
 
 -- and the ledger after it is that of its release
-pub first_ledger : (job : Job) (trailer : List ℕ) → next_ledger no_ledger job trailer ≡ ledger_of (released (past_of []) job trailer ∷ [])
+pub first_ledger : (job : JobFacts) (trailer : List ℕ) → next_ledger no_ledger job trailer ≡ ledger_of (released (past_of []) job trailer ∷ [])
 first_ledger job trailer = ap (λ ledger. next_ledger ledger job trailer) (sym ledger_of_none) ∙ next_is [] nothing_sound job trailer
 
 -- ---- what a first job accepts
 
-none_lacked : (x : Identity) (s : Sighting) → (past_of []).lacked x s ≡ false
-unfolding past_of is_lacked_by
+none_lacked : (x : Identity) (s : Sighting) → (past_of []).comes_late x s ≡ false
+unfolding past_of comes_late_behind
 none_lacked x s = refl
 
 none_accepted : (x : Identity) → has (past_of []).accepted x ≡ false
 unfolding past_of accepted_by
 none_accepted x = refl
 
-entry_seen : (job : Job) (x : Identity) (e : Entry) → Among (shown (past_of []) job) e → e.id ≡ x → sees job x ≡ true
+entry_seen : (job : JobFacts) (x : Identity) (e : Entry) → Among (shown (past_of []) job) e → e.id ≡ x → sees job x ≡ true
 entry_seen job x e a i =
     any_at (is_entry_of job x) job.entries (Some e) (shown_entry (past_of []) job e a)
     (and_from (covers job.ranges e.sighting) (is_same x e.id) (shown_is (past_of []) job e a).covered (ap (is_same x) i ∙ same_refl x))
 
-accepted_if : (job : Job) (x : Identity) (o : Option Entry) → Among job.entries o → is_entry_of job x o ≡ true → has_key (enrolled job) x.issuer ≡ true → has (accepted_with (past_of []) job) x ≡ true
+accepted_if : (job : JobFacts) (x : Identity) (o : Option Entry) → Among job.entries o → is_entry_of job x o ≡ true → has_key (enrolled job) x.issuer ≡ true → has (accepted_with (past_of []) job) x ≡ true
 accepted_if job x None a h k = absurd (false≢true h)
 accepted_if job x (Some e) a h k =
     let p = and_parts (covers job.ranges e.sighting) (is_same x e.id) h in
@@ -71,7 +72,7 @@ accepted_if job x (Some e) a h k =
     ap (has (accepted_with (past_of []) job)) i ∙ accepted_new (past_of []) job e (shown_has (past_of []) job e a is)
 
 -- of an enrolled issuer: what the job sees
-accepted_first : (job : Job) (x : Identity) → has_key (enrolled job) x.issuer ≡ true → has (accepted_with (past_of []) job) x ≡ sees job x
+accepted_first : (job : JobFacts) (x : Identity) → has_key (enrolled job) x.issuer ≡ true → has (accepted_with (past_of []) job) x ≡ sees job x
 accepted_first job x k =
     bool_same (has (accepted_with (past_of []) job) x) (sees job x)
     (λ h. ⊎_elim (λ old. absurd (false≢true (sym (none_accepted x) ∙ old))) (λ n. entry_seen job x n.0 n.1 n.2) (accepted_cases (past_of []) job x h))
@@ -83,29 +84,25 @@ and_under false c d h = refl
 
 -- ---- what it lists, and revokes
 
-listed_only : (job : Job) (trailer : List ℕ) (x : Identity) → is_listed (released (past_of []) job trailer ∷ []) x ≡ has (listed_now (past_of []) job) x
-unfolding is_listed
-listed_only job trailer x = or-false (has (listed_now (past_of []) job) x)
-
-pub first_listed : (trailer : List Release → Job → List ℕ) (job : Job) (x : Identity) → is_listed (releases trailer [] (job ∷ [])) x ≡ (lists job x && (has_key (enrolled job) x.issuer && sees job x))
+pub first_listed : (trailer : List Release → JobFacts → List ℕ) (job : JobFacts) (x : Identity) → is_listed (releases trailer [] (job ∷ [])) x ≡ (lists job x && (has_key (enrolled job) x.issuer && sees job x))
 unfolding releases
 first_listed trailer job x =
-    listed_only job (trailer [] job) x ∙ (leaves (past_of []) job (trailer [] job)).listed x
+    listed_one (released (past_of []) job (trailer [] job)) x
     ∙ ap (λ b. lists job x && b) (and_under (has_key (enrolled job) x.issuer) (has (accepted_with (past_of []) job) x) (sees job x) (accepted_first job x))
 
-and-twice : (a u : Bool) → (((false || (a && u)) && not false) && u) ≡ (a && u)
-and-twice true true = refl
-and-twice true false = refl
+and-twice : (a u : Bool) → (((false || a) && not false) && u) ≡ (a && u)
+and-twice true u = refl
 and-twice false u = refl
 
-revoked_only : (job : Job) (x : Identity) → has (revoked (past_of []) job) x ≡ has (listed_now (past_of []) job) x
-unfolding revoked is_revoked past_of is_listed is_settled_by listed_now
+revoked_only : (job : JobFacts) (x : Identity)
+    → has (revoked (past_of []) job) x ≡ (lists job x && (has_key (enrolled job) x.issuer && has (accepted_with (past_of []) job) x))
+unfolding revoked universe is_revoked past_of birth is_listed already_revoked_by
 revoked_only job x =
     has-filter (is_revoked (past_of []) job) (universe (past_of []) job) x
-    ∙ ap (λ b. ((false || b) && not false) && has (universe (past_of []) job) x) (has-filter (lists job) (universe (past_of []) job) x)
-    ∙ and-twice (lists job x) (has (universe (past_of []) job) x) ∙ sym (has-filter (lists job) (universe (past_of []) job) x)
+    ∙ and-twice (lists job x) (has (universe (past_of []) job) x)
+    ∙ ap (λ b. lists job x && b) (has-filter (λ y. has_key (enrolled job) y.issuer) (accepted_with (past_of []) job) x)
 
 -- it revokes what it lists
-pub first_revoked : (trailer : List Release → Job → List ℕ) (job : Job) (x : Identity) → has (revoked (past_of []) job) x ≡ is_listed (releases trailer [] (job ∷ [])) x
+pub first_revoked : (trailer : List Release → JobFacts → List ℕ) (job : JobFacts) (x : Identity) → has (revoked (past_of []) job) x ≡ is_listed (releases trailer [] (job ∷ [])) x
 unfolding releases
-first_revoked trailer job x = revoked_only job x ∙ sym (listed_only job (trailer [] job) x)
+first_revoked trailer job x = revoked_only job x ∙ sym (listed_one (released (past_of []) job (trailer [] job)) x)

@@ -9,7 +9,7 @@ use Rattle.ident_core.specs.Coverage.{covers, is_within, lies_in}
 use Rattle.ident_core.specs.Among.{Among}
 use Rattle.ident_core.proofs.Elements.{found, any_at, all_at}
 use Rattle.ident_core.proofs.Sets.{bytes_same, bytes_refl}
-use Rattle.universe_core.specs.Jobs.{Job}
+use Rattle.universe_core.specs.Jobs.{JobFacts}
 use Rattle.universe_core.specs.History.{lie_within, Release}
 use Rattle.history_core.specs.Facts.{Widens, KeepsCoverage}
 
@@ -33,7 +33,7 @@ covers_wider C D s w h =
     any_at (is_within s) D b.0 b.1 (is_within_wider s a.0 b.0 a.2 b.2)
 
 -- what a release covers the next job covers
-pub covers_next : (rs : List Release) (job : Job) (r : Release) (s : Sighting) → KeepsCoverage rs job → Widens rs → Among rs r → covers r.ranges s ≡ true → covers job.ranges s ≡ true
+pub covers_next : (rs : List Release) (job : JobFacts) (r : Release) (s : Sighting) → KeepsCoverage rs job → Widens rs → Among rs r → covers r.ranges s ≡ true → covers job.ranges s ≡ true
 covers_next [] job r s f w a h = absurd a
 covers_next (q ∷ []) job r s f w (inl e) h = covers_wider q.ranges job.ranges s f (ap (λ (z : Release). covers z.ranges s) e ∙ h)
 covers_next (q ∷ []) job r s f w (inr a) h = absurd a

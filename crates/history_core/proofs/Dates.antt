@@ -13,7 +13,7 @@ use Rattle.ident_core.specs.Sets.{has}
 use Rattle.ident_core.proofs.Elements.{Among-in_filter, Among-in_map}
 use Rattle.ident_core.proofs.Runs.{filter_none}
 use Rattle.ident_core.proofs.Sets.{same_is, same_refl}
-use Rattle.universe_core.specs.Jobs.{Entry, Job}
+use Rattle.universe_core.specs.Jobs.{Entry, JobFacts}
 use Rattle.universe_core.specs.History.{Release, past_of, released, shown, accepted_by, seen}
 use Rattle.universe_core.specs.Dates.{later_of, greatest, dates, until}
 use Rattle.history_core.specs.Facts.{IsSound}
@@ -58,7 +58,7 @@ module _ (rs : List Release) (sound : IsSound rs) (x : Identity) where
   by_item now false h = ap (λ ds. greatest (ds ++ now)) (sym (no_dates h))
 
   -- an item's date, if there is an item, and the dates now give the date with the job
-  pub until_next : (job : Job) (trailer : List ℕ) → greatest (cond (has (accepted_by [] rs) x) (until x rs ∷ []) [] ++ dates x (shown (past_of rs) job)) ≡ until x (rs ++ released (past_of rs) job trailer ∷ [])
+  pub until_next : (job : JobFacts) (trailer : List ℕ) → greatest (cond (has (accepted_by [] rs) x) (until x rs ∷ []) [] ++ dates x (shown (past_of rs) job)) ≡ until x (rs ++ released (past_of rs) job trailer ∷ [])
   unfolding until
   until_next job trailer =
       by_item (dates x (shown (past_of rs) job)) (has (accepted_by [] rs) x) refl

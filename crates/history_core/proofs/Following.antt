@@ -7,7 +7,7 @@ use Rattle.ident_core.specs.Coverage.{lies_in_some, first_outside}
 use Rattle.job_core.specs.declared.bounds.Limits.{Limits}
 use Rattle.job_core.specs.JobFields.{JobFields}
 use Rattle.ledger_core.specs.LedgerFields.{newest}
-use Rattle.universe_core.specs.Jobs.{Job, facts_of}
+use Rattle.universe_core.specs.Jobs.{JobFacts, facts_of}
 use Rattle.universe_core.specs.History.{Release}
 use Rattle.universe_core.specs.Ledgers.{ledger_of, part_from}
 use Rattle.universe_core.specs.Step.{bad_crl_from, old_epoch, shrunk, refusal}
@@ -33,7 +33,7 @@ all_without : {A : Type 0} (p : A → Bool) (xs : List A) → find (λ y. not (p
 all_without p [] h = refl
 all_without p (x ∷ xs) h = all_step p x xs (p x) refl (all_without p xs) h
 
-follows_from : (rs : List Release) (job : Job) → shrunk (newest (map part_from rs)) job ≡ None → KeepsCoverage rs job
+follows_from : (rs : List Release) (job : JobFacts) → shrunk (newest (map part_from rs)) job ≡ None → KeepsCoverage rs job
 follows_from [] job h = tt
 follows_from (r ∷ []) job h =
     all_without (lies_in_some job.ranges) r.ranges

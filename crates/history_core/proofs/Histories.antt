@@ -1,11 +1,11 @@
 -- The facts hold after each job of a history.
 use Rattle.std.proofs.Common.{ℕ, List, [], ◌∷◌, ◌++◌}
-use Rattle.universe_core.specs.Jobs.{Job}
+use Rattle.universe_core.specs.Jobs.{JobFacts}
 use Rattle.universe_core.specs.History.{Release, past_of, released, releases}
 use Rattle.history_core.specs.Facts.{IsSound, AllKeepCoverage}
 use Rattle.history_core.proofs.Sound.{keeps_sound}
 
-pub releases_sound : (trailer : List Release → Job → List ℕ) (rs : List Release) (jobs : List Job) → IsSound rs → AllKeepCoverage trailer rs jobs → IsSound (releases trailer rs jobs)
+pub releases_sound : (trailer : List Release → JobFacts → List ℕ) (rs : List Release) (jobs : List JobFacts) → IsSound rs → AllKeepCoverage trailer rs jobs → IsSound (releases trailer rs jobs)
 unfolding releases
 releases_sound trailer rs [] s f = s
 releases_sound trailer rs (job ∷ jobs) s f =

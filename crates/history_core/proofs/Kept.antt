@@ -1,18 +1,19 @@
 -- What a base keeps of an identity: its sightings, its date, and whether it is listed.
 use Rattle.std.specs.List.{filter}
 use Rattle.std.proofs.Common.{◌≡◌, ℕ, List, [], ◌∷◌, map, Bool, true, false, cond, ◌&&◌, refl, sym, ap, ◌∙◌}
-use Rattle.std.proofs.lemmas.Bool.{true≢false}
+use Rattle.std.proofs.lemmas.Bool.{true≢false, false≢true}
 use Rattle.std.proofs.lemmas.List.{append-nil}
 use Rattle.ident_core.specs.declared.identity.Identity.{Identity}
 use Rattle.ident_core.specs.Order.{is_same}
-use Rattle.ident_core.specs.Sets.{has}
+use Rattle.ident_core.specs.Sets.{has, has_key}
 use Rattle.ident_core.proofs.Sets.{same_is, Among-from_has}
 use Rattle.ident_core.proofs.Elements.{Among-filter}
 use Rattle.universe_core.specs.Jobs.{Entry}
 use Rattle.universe_core.specs.History.{Release, accepted_by, seen, sightings, is_listed}
 use Rattle.universe_core.specs.Dates.{dates, greatest, until}
-use Rattle.history_core.specs.Bases.{kept_by, base_with}
-use Rattle.history_core.proofs.Words.{has-filter, or-false}
+use Rattle.history_core.specs.Bases.{all_issuers, kept_by, base_with}
+use Rattle.history_core.proofs.Releases.{listed_one}
+use Rattle.history_core.proofs.Bases.{enrolls_listed}
 
 filter_step : (x : Identity) (e : Entry) (kept rest : List Entry) (b k : Bool) → is_same x e.id ≡ b → (b ≡ true → k ≡ true) → filter (λ (d : Entry). is_same x d.id) kept ≡ rest
     → filter (λ (d : Entry). is_same x d.id) (cond k (e ∷ kept) kept) ≡ cond b (e ∷ rest) rest
@@ -37,9 +38,20 @@ pub dates_filter : (keeps : Identity → Bool) (x : Identity) (es : List Entry) 
 unfolding dates
 dates_filter keeps x es k = ap (map (λ (e : Entry). e.until)) (filter_kept keeps x es k)
 
-and_one : (b : Bool) → (b && true) ≡ b
-and_one true = refl
-and_one false = refl
+enrolled_and_kept : (l e k : Bool) → (l ≡ true → e ≡ true) → (l && (e && k)) ≡ (k && l)
+enrolled_and_kept true true true h = refl
+enrolled_and_kept true true false h = refl
+enrolled_and_kept true false k h = absurd (false≢true (h refl))
+enrolled_and_kept false e true h = refl
+enrolled_and_kept false e false h = refl
+
+-- a base lists what it keeps and was listed
+pub base_lists : (keeps : Identity → Bool) (rs : List Release) (trailer : List ℕ) (x : Identity)
+    → is_listed (base_with keeps rs trailer ∷ []) x ≡ (has (kept_by keeps rs) x && is_listed rs x)
+unfolding base_with
+base_lists keeps rs trailer x =
+    listed_one (base_with keeps rs trailer) x
+    ∙ enrolled_and_kept (is_listed rs x) (has_key (all_issuers rs) x.issuer) (has (kept_by keeps rs) x) (enrolls_listed rs x)
 
 module _ (keeps : Identity → Bool) (rs : List Release) (trailer : List ℕ) (x : Identity) (kept : has (kept_by keeps rs) x ≡ true) where
   is_kept : keeps x ≡ true
@@ -57,7 +69,4 @@ module _ (keeps : Identity → Bool) (rs : List Release) (trailer : List ℕ) (x
   until_kept = ap (λ es. greatest (dates x es)) seen_base ∙ ap greatest (dates_filter keeps x (seen rs) is_kept)
 
   pub listed_kept : is_listed (base_with keeps rs trailer ∷ []) x ≡ is_listed rs x
-  unfolding is_listed base_with
-  listed_kept =
-      or-false (has (filter (is_listed rs) (kept_by keeps rs)) x) ∙ has-filter (is_listed rs) (kept_by keeps rs) x
-      ∙ ap (λ b. is_listed rs x && b) kept ∙ and_one (is_listed rs x)
+  listed_kept = base_lists keeps rs trailer x ∙ ap (λ b. b && is_listed rs x) kept

@@ -16,8 +16,8 @@ use Rattle.ident_core.specs.Among.{Among}
 use Rattle.ident_core.specs.Sets.{has, has_key}
 use Rattle.ident_core.proofs.Elements.{Among-cases, Among-right, all_at, all_from, bool_same, map_agree, map_back}
 use Rattle.ident_core.proofs.Sets.{same_is, has-from_Among}
-use Rattle.universe_core.specs.Jobs.{Job}
-use Rattle.universe_core.specs.History.{Release, past_of, released, shown, revoked, accepted_with, accepted_by, seen, sightings, is_listed, is_settled_by, birth, covers_all}
+use Rattle.universe_core.specs.Jobs.{JobFacts}
+use Rattle.universe_core.specs.History.{Release, past_of, released, shown, revoked, accepted_with, accepted_by, seen, sightings, is_listed, already_revoked_by, birth, covers_all}
 use Rattle.universe_core.specs.Dates.{greatest, dates, until}
 use Rattle.universe_core.specs.Ledgers.{item_of, birth_or, last_or_none, old_dates, parts_before, part_covers, last_covers, past_in, next_item, next_with, next_ledger, last, item_from, part_from, ledger_of}
 use Rattle.universe_core.specs.Groups.{groups}
@@ -26,7 +26,7 @@ use Rattle.universe_core.specs.Step.{groups_after, counts_after}
 use Rattle.history_core.specs.Facts.{IsSound}
 use Rattle.history_core.proofs.Dates.{until_next}
 use Rattle.history_core.proofs.Releases.{accepted_by-has, accepted_by-push, settled_parts, settled_from}
-use Rattle.history_core.proofs.Places.{birth-push, birth-none, lacked_before_birth, last-push, IsLast, last_is}
+use Rattle.history_core.proofs.Places.{birth-push, birth-none, lacked_before_birth, last-push, CoversAll, last_is}
 
 -- ---- an identity's item
 
@@ -57,7 +57,7 @@ module _ (rs : List Release) (sound : IsSound rs) where
   birth_case x true e = refl
   birth_case x false e = sym (birth-none x rs (unknown x e))
 
-  unrevoked_last : (x : Identity) (o : Option ℕ) → IsLast x rs o → ((r : Release) → Among rs r → has r.revoked x ≡ false) → None ≡ o
+  unrevoked_last : (x : Identity) (o : Option ℕ) → CoversAll x rs o → ((r : Release) → Among rs r → has r.revoked x ≡ false) → None ≡ o
   unrevoked_last x None l n = refl
   unrevoked_last x (Some k) l n = absurd (true≢false (sym l.3 ∙ n l.0 l.1))
 
@@ -77,29 +77,29 @@ module _ (rs : List Release) (sound : IsSound rs) where
 
   -- ---- the three sentences that a ledger reads otherwise
 
-  lacked_in : (x : Identity) (s : Sighting) → (past_in (ledger_of rs)).lacked x s ≡ (past_of rs).lacked x s
+  lacked_in : (x : Identity) (s : Sighting) → (past_in (ledger_of rs)).comes_late x s ≡ (past_of rs).comes_late x s
   unfolding past_in past_of parts_before
   lacked_in x s =
       ap (λ n. list_any (λ (p : LedgerPartFields). covers p.ranges s && has_key p.issuers x.issuer) (take n (ledger_of rs).parts)) (birth_in x)
       ∙ ap (λ ps. list_any (λ (p : LedgerPartFields). covers p.ranges s && has_key p.issuers x.issuer) (take (birth x rs) ps)) (parts_are rs)
       ∙ lacked_before_birth x s rs sound.widens
 
-  pub listed_case : (x : Identity) (o : Option ℕ) → IsLast x rs o → is_some o ≡ is_listed rs x
+  pub listed_case : (x : Identity) (o : Option ℕ) → CoversAll x rs o → is_some o ≡ is_listed rs x
   listed_case x None l =
       sym (false_from_ne_true (is_listed rs x) (λ h.
       let st = settled_parts rs x (sightings x (seen rs)) (sound.settled x h) in
       true≢false (sym st.revoked ∙ l st.by st.among)))
   listed_case x (Some k) l = sym (sound.revoked x l.0 l.1 l.3)
 
-  listed_in : (x : Identity) → (past_in (ledger_of rs)).was_listed x ≡ (past_of rs).was_listed x
+  listed_in : (x : Identity) → (past_in (ledger_of rs)).listed_before x ≡ (past_of rs).listed_before x
   unfolding past_in past_of
   listed_in x = ap is_some (last_in x) ∙ listed_case x (last x rs) (last_is x rs sound.widens)
 
   covers_case : (x : Identity) (now : List Sighting) (r : Release) → Among rs r → has r.revoked x ≡ true
       → ((q : Release) → Among rs q → has q.revoked x ≡ true → (s : Sighting) → covers q.ranges s ≡ true → covers r.ranges s ≡ true)
-      → covers_all r.ranges now ≡ is_settled_by rs x (sightings x (seen rs) ++ now)
+      → covers_all r.ranges now ≡ already_revoked_by rs x (sightings x (seen rs) ++ now)
   covers_case x now r a v w =
-      bool_same (covers_all r.ranges now) (is_settled_by rs x (sightings x (seen rs) ++ now))
+      bool_same (covers_all r.ranges now) (already_revoked_by rs x (sightings x (seen rs) ++ now))
       (λ h.
       let old = settled_parts rs x (sightings x (seen rs)) (sound.settled x (sound.revoked x r a v)) in
       settled_from rs x (sightings x (seen rs) ++ now) (record {
@@ -112,15 +112,15 @@ module _ (rs : List Release) (sound : IsSound rs) where
       let st = settled_parts rs x (sightings x (seen rs) ++ now) h in
       all_from (covers r.ranges) now (λ s i. w st.by st.among st.revoked s (st.covered s (Among-right (sightings x (seen rs)) now s i))))
 
-  settled_case : (x : Identity) (now : List Sighting) (o : Option ℕ) → IsLast x rs o → last_covers (map part_from rs) o now ≡ is_settled_by rs x (sightings x (seen rs) ++ now)
+  settled_case : (x : Identity) (now : List Sighting) (o : Option ℕ) → CoversAll x rs o → last_covers (map part_from rs) o now ≡ already_revoked_by rs x (sightings x (seen rs) ++ now)
   settled_case x now None l =
-      sym (false_from_ne_true (is_settled_by rs x (sightings x (seen rs) ++ now)) (λ h.
+      sym (false_from_ne_true (already_revoked_by rs x (sightings x (seen rs) ++ now)) (λ h.
       let st = settled_parts rs x (sightings x (seen rs) ++ now) h in
       true≢false (sym st.revoked ∙ l st.by st.among)))
   settled_case x now (Some k) l =
       ap (λ o. part_covers o now) (slice_get-map part_from rs k ∙ ap (option_map part_from) l.2) ∙ covers_case x now l.0 l.1 l.3 l.4
 
-  settled_in : (x : Identity) (now : List Sighting) → (past_in (ledger_of rs)).is_settled x now ≡ (past_of rs).is_settled x now
+  settled_in : (x : Identity) (now : List Sighting) → (past_in (ledger_of rs)).already_revoked x now ≡ (past_of rs).already_revoked x now
   unfolding past_in past_of
   settled_in x now =
       ap (λ o. last_covers (ledger_of rs).parts o now) (last_in x) ∙ ap (λ ps. last_covers ps (last x rs) now) (parts_are rs)
@@ -134,14 +134,14 @@ module _ (rs : List Release) (sound : IsSound rs) where
   pub past_in_ledger : past_in (ledger_of rs) ≡ past_of rs
   past_in_ledger = λ i. record {
     accepted = accepted_in i;
-    lacked = λ x s. lacked_in x s i;
-    was_listed = λ x. listed_in x i;
-    is_settled = λ x now. settled_in x now i;
+    comes_late = λ x s. lacked_in x s i;
+    listed_before = λ x. listed_in x i;
+    already_revoked = λ x now. settled_in x now i;
   }
 
   -- ---- the next ledger
 
-  last_next : (job : Job) (x : Identity) → (if has (revoked (past_of rs) job) x then Some (length (ledger_of rs).parts) else last_or_none (item_of (ledger_of rs) x))
+  last_next : (job : JobFacts) (x : Identity) → (if has (revoked (past_of rs) job) x then Some (length (ledger_of rs).parts) else last_or_none (item_of (ledger_of rs) x))
       ≡ cond (has (revoked (past_of rs) job) x) (Some (length rs)) (last x rs)
   last_next job x =
       ap (λ n. cond (has (revoked (past_of rs) job) x) (Some n) (last_or_none (item_of (ledger_of rs) x))) (ap length (parts_are rs) ∙ length-map rs part_from)
@@ -151,13 +151,13 @@ module _ (rs : List Release) (sound : IsSound rs) where
   old_case x true = refl
   old_case x false = refl
 
-  date_next : (job : Job) (trailer : List ℕ) (x : Identity)
+  date_next : (job : JobFacts) (trailer : List ℕ) (x : Identity)
       → greatest (old_dates (item_of (ledger_of rs) x) ++ dates x (shown (past_of rs) job)) ≡ until x (rs ++ released (past_of rs) job trailer ∷ [])
   date_next job trailer x =
       ap (λ ds. greatest (ds ++ dates x (shown (past_of rs) job))) (ap old_dates (item_is rs x) ∙ old_case x (has (accepted_by [] rs) x))
       ∙ until_next rs sound x job trailer
 
-  item_next : (job : Job) (trailer : List ℕ) (x : Identity) → has (accepted_with (past_of rs) job) x ≡ true
+  item_next : (job : JobFacts) (trailer : List ℕ) (x : Identity) → has (accepted_with (past_of rs) job) x ≡ true
       → next_item (past_of rs) (ledger_of rs) job x ≡ item_from (rs ++ released (past_of rs) job trailer ∷ []) x
   item_next job trailer x h = λ i. record {
     id = x;
@@ -166,14 +166,14 @@ module _ (rs : List Release) (sound : IsSound rs) where
     until = date_next job trailer x i;
   }
 
-  next_items : (job : Job) (trailer : List ℕ) → map (next_item (past_of rs) (ledger_of rs) job) (accepted_with (past_of rs) job)
+  next_items : (job : JobFacts) (trailer : List ℕ) → map (next_item (past_of rs) (ledger_of rs) job) (accepted_with (past_of rs) job)
       ≡ map (item_from (rs ++ released (past_of rs) job trailer ∷ [])) (accepted_by [] (rs ++ released (past_of rs) job trailer ∷ []))
   next_items job trailer =
       map_agree (next_item (past_of rs) (ledger_of rs) job) (item_from (rs ++ released (past_of rs) job trailer ∷ [])) (accepted_with (past_of rs) job)
       (λ x a. item_next job trailer x (has-from_Among (accepted_with (past_of rs) job) x a))
       ∙ ap (map (item_from (rs ++ released (past_of rs) job trailer ∷ []))) (sym (accepted_by-push [] rs (released (past_of rs) job trailer)))
 
-  next_with_past : (job : Job) (trailer : List ℕ) → next_with (past_of rs) (ledger_of rs) job trailer ≡ ledger_of (rs ++ released (past_of rs) job trailer ∷ [])
+  next_with_past : (job : JobFacts) (trailer : List ℕ) → next_with (past_of rs) (ledger_of rs) job trailer ≡ ledger_of (rs ++ released (past_of rs) job trailer ∷ [])
   unfolding ledger_of
   next_with_past job trailer = λ i. record {
     parts = sym (map-append part_from rs (released (past_of rs) job trailer ∷ [])) i;
@@ -181,13 +181,13 @@ module _ (rs : List Release) (sound : IsSound rs) where
   }
 
   -- The next ledger of a history's ledger is that of the history with the job.
-  pub next_is : (job : Job) (trailer : List ℕ) → next_ledger (ledger_of rs) job trailer ≡ ledger_of (rs ++ released (past_of rs) job trailer ∷ [])
+  pub next_is : (job : JobFacts) (trailer : List ℕ) → next_ledger (ledger_of rs) job trailer ≡ ledger_of (rs ++ released (past_of rs) job trailer ∷ [])
   next_is job trailer = ap (λ past. next_with past (ledger_of rs) job trailer) past_in_ledger ∙ next_with_past job trailer
 
   -- The groups and the counts of a history's ledger are those of the history.
-  pub groups_are : (job : Job) (trailer : List ℕ) → groups_after (ledger_of rs) job ≡ groups (released (past_of rs) job trailer)
+  pub groups_are : (job : JobFacts) (trailer : List ℕ) → groups_after (ledger_of rs) job ≡ groups (released (past_of rs) job trailer)
   unfolding groups
   groups_are job trailer = ap (λ past. groups (released past job [])) past_in_ledger
 
-  pub counts_are : (job : Job) → counts_after (ledger_of rs) job ≡ counts (past_of rs) job
+  pub counts_are : (job : JobFacts) → counts_after (ledger_of rs) job ≡ counts (past_of rs) job
   counts_are job = ap (λ past. counts past job) past_in_ledger

@@ -9,9 +9,9 @@ use Rattle.ident_core.specs.Coverage.{covers}
 use Rattle.ledger_core.specs.LedgerFields.{LedgerPartFields}
 use Rattle.ident_core.specs.Among.{Among}
 use Rattle.ident_core.specs.Sets.{has, has_key}
-use Rattle.universe_core.specs.History.{Release, birth, is_lacked_by}
+use Rattle.universe_core.specs.History.{Release, birth, comes_late_behind}
 use Rattle.universe_core.specs.Ledgers.{later, last_place, last, part_from}
-use Rattle.history_core.specs.Facts.{IsWider, Widens}
+use Rattle.history_core.specs.Facts.{IsLastRevoking, IsWider, Widens}
 
 -- ---- the first place
 
@@ -77,8 +77,8 @@ lacked_all x s [] w = refl
 lacked_all x s (r ∷ rs) w = lacked_step x s r rs (has r.accepted x) refl w.0 (lacked_all x s rs w.1)
 
 pub lacked_before_birth : (x : Identity) (s : Sighting) (rs : List Release) → Widens rs
-    → list_any (λ (p : LedgerPartFields). covers p.ranges s && has_key p.issuers x.issuer) (take (birth x rs) (map part_from rs)) ≡ is_lacked_by rs x s
-unfolding birth is_lacked_by
+    → list_any (λ (p : LedgerPartFields). covers p.ranges s && has_key p.issuers x.issuer) (take (birth x rs) (map part_from rs)) ≡ comes_late_behind rs x s
+unfolding birth comes_late_behind
 lacked_before_birth x s rs w = lacked_all x s rs w
 
 -- ---- the last place
@@ -100,25 +100,40 @@ pub last-push : (x : Identity) (rs : List Release) (r : Release) → last x (rs 
 unfolding last
 last-push x rs r = last_push (λ (q : Release). has q.revoked x) rs r
 
--- what the last place tells
-abbrev pub IsLast : Identity → List Release → Option ℕ → Type 0
-IsLast x rs None = (r : Release) → Among rs r → has r.revoked x ≡ false
-IsLast x rs (Some k) = (r : Release) × Among rs r × (slice_get rs k ≡ Some r) × (has r.revoked x ≡ true)
+-- the release at the last place covers what each that revokes does
+abbrev pub CoversAll : Identity → List Release → Option ℕ → Type 0
+CoversAll x rs None = (r : Release) → Among rs r → has r.revoked x ≡ false
+CoversAll x rs (Some k) = (r : Release) × Among rs r × (slice_get rs k ≡ Some r) × (has r.revoked x ≡ true)
     × ((q : Release) → Among rs q → has q.revoked x ≡ true → (s : Sighting) → covers q.ranges s ≡ true → covers r.ranges s ≡ true)
 
 last_step : (x : Identity) (r : Release) (rs : List Release) (o : Option ℕ) (b : Bool) → has r.revoked x ≡ b → ((q : Release) → Among rs q → IsWider r q)
-    → IsLast x rs o → IsLast x (r ∷ rs) (later o b)
+    → CoversAll x rs o → CoversAll x (r ∷ rs) (later o b)
 last_step x r rs (Some k) b e w l =
     (l.0, inr l.1, l.2, l.3, λ q a v s c. ⊎_elim (λ (i : r ≡ q). (w l.0 l.1).covered s (ap (λ (z : Release). covers z.ranges s) i ∙ c)) (λ i. l.4 q i v s c) a)
 last_step x r rs None true e w l =
     (r, inl refl, refl, e, λ q a v s c. ⊎_elim (λ (i : r ≡ q). ap (λ (z : Release). covers z.ranges s) i ∙ c) (λ i. absurd (true≢false (sym v ∙ l q i))) a)
 last_step x r rs None false e w l = λ q a. ⊎_elim (λ (i : r ≡ q). ap (λ (z : Release). has z.revoked x) (sym i) ∙ e) (λ i. l q i) a
 
-last_all : (x : Identity) (rs : List Release) → Widens rs → IsLast x rs (last_place (λ (q : Release). has q.revoked x) rs)
+last_all : (x : Identity) (rs : List Release) → Widens rs → CoversAll x rs (last_place (λ (q : Release). has q.revoked x) rs)
 unfolding last_place
 last_all x [] w = λ r a. absurd a
 last_all x (r ∷ rs) w = last_step x r rs (last_place (λ (q : Release). has q.revoked x) rs) (has r.revoked x) refl w.0 (last_all x rs w.1)
 
-pub last_is : (x : Identity) (rs : List Release) → Widens rs → IsLast x rs (last x rs)
+pub last_is : (x : Identity) (rs : List Release) → Widens rs → CoversAll x rs (last x rs)
 unfolding last
 last_is x rs w = last_all x rs w
+
+-- and that no later one revokes
+last_behind : (x : Identity) (r : Release) (rs : List Release) (o : Option ℕ) (b : Bool) → has r.revoked x ≡ b → IsLastRevoking x rs o → IsLastRevoking x (r ∷ rs) (later o b)
+last_behind x r rs (Some k) b e l = l
+last_behind x r rs None true e l = ((r, refl, e), l)
+last_behind x r rs None false e l = λ q a. ⊎_elim (λ (i : r ≡ q). ap (λ (z : Release). has z.revoked x) (sym i) ∙ e) (λ i. l q i) a
+
+last_of_all : (x : Identity) (rs : List Release) → IsLastRevoking x rs (last_place (λ (q : Release). has q.revoked x) rs)
+unfolding last_place
+last_of_all x [] = λ r a. absurd a
+last_of_all x (r ∷ rs) = last_behind x r rs (last_place (λ (q : Release). has q.revoked x) rs) (has r.revoked x) refl (last_of_all x rs)
+
+pub last_in_words : (x : Identity) (rs : List Release) → IsLastRevoking x rs (last x rs)
+unfolding last
+last_in_words x rs = last_of_all x rs

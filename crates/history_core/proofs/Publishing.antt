@@ -11,7 +11,7 @@ use Rattle.ident_core.proofs.Sets.{bytes_same, bytes_refl, Among-from_has, has-f
 use Rattle.universe_core.specs.History.{Release}
 use Rattle.universe_core.specs.Groups.{GroupFields, group_of, groups}
 use Rattle.history_core.specs.Showing.{Shows}
-use Rattle.history_core.specs.Publishing.{IsExact, part_of}
+use Rattle.history_core.specs.Publishing.{IsExactOnGroups, part_of}
 
 bytes_swap : (a b : List ℕ) → bytes_eq a b ≡ bytes_eq b a
 bytes_swap a b =
@@ -35,7 +35,7 @@ consulted_is : (positive : GroupFields → Identity → Bool) (r : Release) (x :
 unfolding groups
 consulted_is positive r x = ap (option_map (λ g. positive g x)) (find_group r x.issuer r.issuers)
 
-pub part_shows : (positive : GroupFields → Identity → Bool) (r : Release) → IsExact positive r → Shows (part_of positive r) r
+pub part_shows : (positive : GroupFields → Identity → Bool) (r : Release) → IsExactOnGroups positive r → Shows (part_of positive r) r
 part_shows positive r exact = record {
   ranges = refl;
   other = λ x h. consulted_is positive r x ∙ ap (λ b. option_map (λ g. positive g x) (cond b (Some (group_of r x.issuer)) None)) h;
@@ -47,7 +47,7 @@ part_shows positive r exact = record {
   );
 }
 
-pub parts_show : (positive : GroupFields → Identity → Bool) (rs : List Release) → ((r : Release) → Among rs r → IsExact positive r) → AllZip Shows (map (part_of positive) rs) rs
+pub parts_show : (positive : GroupFields → Identity → Bool) (rs : List Release) → ((r : Release) → Among rs r → IsExactOnGroups positive r) → AllZip Shows (map (part_of positive) rs) rs
 parts_show positive [] exact = tt
 parts_show positive (r ∷ rs) exact = (part_shows positive r (exact r (inl refl)), parts_show positive rs (λ q a. exact q (inr a)))
 
@@ -58,7 +58,7 @@ flag_at R f [] x z a = absurd a
 flag_at R f (y ∷ xs) x z (inl e) = subst (λ w. R w (f w)) e z.0
 flag_at R f (y ∷ xs) x z (inr a) = flag_at R f xs x z.1 a
 
-pub exact_from_flags : (positive : GroupFields → Identity → Bool) (r : Release) → ((g : GroupFields) → Among (groups r) g → AllZip (λ x b. positive g x ≡ b) g.universe g.revoked) → IsExact positive r
+pub exact_from_flags : (positive : GroupFields → Identity → Bool) (r : Release) → ((g : GroupFields) → Among (groups r) g → AllZip (λ x b. positive g x ≡ b) g.universe g.revoked) → IsExactOnGroups positive r
 unfolding groups
 exact_from_flags positive r h = record {
   at = λ issuer k x u. flag_at (λ y b. positive (group_of r issuer) y ≡ b) (has r.revoked) (group_of r issuer).universe x

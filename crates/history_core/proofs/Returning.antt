@@ -9,8 +9,8 @@ use Rattle.ident_core.specs.Among.{Among}
 use Rattle.ident_core.specs.Sets.{has, has_key}
 use Rattle.ident_core.proofs.Elements.{Among-filter, Among-map, Among-right, Among-cases}
 use Rattle.ident_core.proofs.Sets.{Among-from_has_key, Among-from_key_set}
-use Rattle.universe_core.specs.Jobs.{Entry, Job, enrolled}
-use Rattle.universe_core.specs.History.{Release, past_of, released, shown, seen, is_lacked_by}
+use Rattle.universe_core.specs.Jobs.{Entry, JobFacts, enrolled}
+use Rattle.universe_core.specs.History.{Release, past_of, released, shown, seen, comes_late_behind}
 use Rattle.universe_core.specs.Rebases.{is_other}
 use Rattle.history_core.specs.Bases.{all_issuers, base_with, release_without, releases_without}
 use Rattle.history_core.proofs.Accepting.{IsShown, shown_has}
@@ -54,18 +54,18 @@ lacks_not true false c h = refl
 lacks_not false b c h = refl
 
 -- none is late while no release enrolls the issuer
-pub none_lacked : (rs : List Release) (x : Identity) (s : Sighting) → ((r : Release) → Among rs r → has_key r.issuers x.issuer ≡ false) → is_lacked_by rs x s ≡ false
-unfolding is_lacked_by
+pub none_lacked : (rs : List Release) (x : Identity) (s : Sighting) → ((r : Release) → Among rs r → has_key r.issuers x.issuer ≡ false) → comes_late_behind rs x s ≡ false
+unfolding comes_late_behind
 none_lacked [] x s h = refl
 none_lacked (r ∷ rs) x s h =
     λ i. lacks_not (covers r.ranges s) (has_key r.issuers x.issuer) (has r.accepted x) (h r (inl refl)) i || none_lacked rs x s (λ q a. h q (inr a)) i
 
-lacked_is : (rs : List Release) (x : Identity) (s : Sighting) → (past_of rs).lacked x s ≡ is_lacked_by rs x s
+lacked_is : (rs : List Release) (x : Identity) (s : Sighting) → (past_of rs).comes_late x s ≡ comes_late_behind rs x s
 unfolding past_of
 lacked_is rs x s = refl
 
 -- so a job that covers and enrolls it accepts each
-pub entry_seen : (rs : List Release) (job : Job) (trailer : List ℕ) (e : Entry) → ((r : Release) → Among rs r → has_key r.issuers e.id.issuer ≡ false)
+pub entry_seen : (rs : List Release) (job : JobFacts) (trailer : List ℕ) (e : Entry) → ((r : Release) → Among rs r → has_key r.issuers e.id.issuer ≡ false)
     → Among job.entries (Some e) → covers job.ranges e.sighting ≡ true → has_key (enrolled job) e.id.issuer ≡ true
     → Among (seen (rs ++ released (past_of rs) job trailer ∷ [])) e
 entry_seen rs job trailer e h a v k =

@@ -1,7 +1,7 @@
 -- An admitted job keeps the facts.
 use Rattle.std.specs.List.Sorted.{IsStrictlySortedBy}
 use Rattle.std.proofs.Common.{◌≡◌, ℕ, ◌⊎◌, inl, inr, ⊎_elim, List, [], ◌∷◌, ◌++◌, true, false, ◌||◌, refl, sym, ap, ◌∙◌, subst}
-use Rattle.std.proofs.lemmas.Bool.{or_cases, or_left, or_right, cases_Bool, true≢false, false≢true}
+use Rattle.std.proofs.lemmas.Bool.{or_cases, or_left, or_right, and_from, and_parts, cases_Bool, true≢false, false≢true}
 use Rattle.ident_core.specs.declared.identity.Identity.{Identity}
 use Rattle.ident_core.specs.declared.range.Sighting.{Sighting}
 use Rattle.ident_core.specs.Order.{identity_cmp}
@@ -11,18 +11,18 @@ use Rattle.ident_core.specs.Sets.{has, has_key}
 use Rattle.ident_core.proofs.Elements.{Among-left, Among-right, Among-push, Among-push_cases, Among-cases}
 use Rattle.ident_core.proofs.Sets.{identity_total}
 use Rattle.ident_core.proofs.Order.{sorted_none}
-use Rattle.universe_core.specs.Jobs.{Entry, Job, enrolled}
-use Rattle.universe_core.specs.History.{Release, past_of, released, sightings, accepted_by, seen, is_listed, is_settled_by, shown, accepted_with, universe, listed_now, revoked}
+use Rattle.universe_core.specs.Jobs.{Entry, JobFacts, enrolled, lists}
+use Rattle.universe_core.specs.History.{Release, past_of, released, sightings, accepted_by, seen, birth, is_listed, already_revoked_by, shown, accepted_with, universe, enrolls_and_lists, revoked}
 use Rattle.history_core.specs.Facts.{Widens, IsFormed, IsSound, KeepsCoverage}
 use Rattle.history_core.proofs.Sightings.{Among-sightings}
 use Rattle.history_core.proofs.Coverage.{covers_next}
-use Rattle.history_core.proofs.Accepting.{shown_is, accepted_cases, accepted_old, accepted_new, universe_is, universe_has, listed_is, revoked_is}
+use Rattle.history_core.proofs.Accepting.{shown_is, accepted_cases, accepted_old, accepted_new, universe_is, universe_has, revoked_is}
 use Rattle.history_core.proofs.Accepting.{revoked_listed, not_revoked, enrolled_ascend, accepted_ascend}
 use Rattle.history_core.proofs.Releases.{seen-push, sightings-append, accepted_by-push, accepted_by-has, Widens-push, is_listed_at, is_listed_by}
 use Rattle.history_core.proofs.Releases.{IsSettled, settled_parts, settled_from, not_lacked, accepted_by-ascend}
 
 pub nothing_sound : IsSound []
-unfolding is_listed seen accepted_by
+unfolding is_listed birth seen accepted_by
 nothing_sound = record {
   widens = tt;
   formed = λ r a. absurd a;
@@ -43,16 +43,16 @@ accepted_past : (rs : List Release) (x : Identity) → has (past_of rs).accepted
 unfolding past_of
 accepted_past rs x h = h
 
-past_timely : (rs : List Release) (x : Identity) (s : Sighting) (r : Release) → (past_of rs).lacked x s ≡ false → Among rs r → covers r.ranges s ≡ true
+past_timely : (rs : List Release) (x : Identity) (s : Sighting) (r : Release) → (past_of rs).comes_late x s ≡ false → Among rs r → covers r.ranges s ≡ true
     → has_key r.issuers x.issuer ≡ true → has r.accepted x ≡ true
 unfolding past_of
 past_timely rs x s r h = not_lacked rs x s r h
 
-past_listed : (rs : List Release) (x : Identity) → (past_of rs).was_listed x ≡ is_listed rs x
+past_listed : (rs : List Release) (x : Identity) → (past_of rs).listed_before x ≡ is_listed rs x
 unfolding past_of
 past_listed rs x = refl
 
-past_settled : (rs : List Release) (x : Identity) (now : List Sighting) → (past_of rs).is_settled x now ≡ is_settled_by rs x (sightings x (seen rs) ++ now)
+past_settled : (rs : List Release) (x : Identity) (now : List Sighting) → (past_of rs).already_revoked x now ≡ already_revoked_by rs x (sightings x (seen rs) ++ now)
 unfolding past_of
 past_settled rs x now = refl
 
@@ -60,7 +60,7 @@ past_ascends : (rs : List Release) → IsSound rs → IsStrictlySortedBy identit
 unfolding past_of
 past_ascends rs sound = accepted_by-ascend [] rs (sorted_none identity_cmp identity_total) (λ r a. (sound.formed r a).accepted_ascend)
 
-module _ (rs : List Release) (job : Job) (trailer : List ℕ) (sound : IsSound rs) (follows : KeepsCoverage rs job) where
+module _ (rs : List Release) (job : JobFacts) (trailer : List ℕ) (sound : IsSound rs) (follows : KeepsCoverage rs job) where
   abbrev after : List Release
   after = rs ++ released (past_of rs) job trailer ∷ []
 
@@ -92,7 +92,6 @@ module _ (rs : List Release) (job : Job) (trailer : List ℕ) (sound : IsSound r
     accepted_ascend = accepted_ascend (past_of rs) job (past_ascends rs sound);
     enrolled = λ x h. (universe_is (past_of rs) job x (revoked_is (past_of rs) job x h).0).1;
     accepted = λ x h. (universe_is (past_of rs) job x (revoked_is (past_of rs) job x h).0).0;
-    listed = λ x h. (universe_is (past_of rs) job x (listed_is (past_of rs) job x h)).0;
     shown = λ e h. accepted_new (past_of rs) job e h;
   }
 
@@ -128,26 +127,39 @@ module _ (rs : List Release) (job : Job) (trailer : List ℕ) (sound : IsSound r
       (accepted_cases (past_of rs) job x (ap (λ xs. has xs x) (sym (accepted_by-push [] rs (released (past_of rs) job trailer))) ∙ h))
 
   -- listed before or now is listed
-  listed_before : (x : Identity) → is_listed rs x ≡ true → is_listed after x ≡ true
-  listed_before x h = let l = is_listed_by rs x h in is_listed_at after l.0 x (Among-left rs (released (past_of rs) job trailer ∷ []) l.0 l.1) l.2
+  still_listed : (x : Identity) → is_listed rs x ≡ true → is_listed after x ≡ true
+  still_listed x h =
+      let l = is_listed_by rs x h in
+      is_listed_at after l.by x (Among-left rs (released (past_of rs) job trailer ∷ []) l.by l.among) (l.accepted sound.widens) l.lists
 
-  listed_with : (x : Identity) → has (listed_now (past_of rs) job) x ≡ true → is_listed after x ≡ true
-  listed_with x h = is_listed_at after (released (past_of rs) job trailer) x (Among-push rs (released (past_of rs) job trailer)) h
+  listed_with : (x : Identity) → has (universe (past_of rs) job) x ≡ true → lists job x ≡ true → is_listed after x ≡ true
+  listed_with x u l =
+      let i = universe_is (past_of rs) job x u in
+      is_listed_at after (released (past_of rs) job trailer) x (Among-push rs (released (past_of rs) job trailer)) i.0
+      (and_from (lists job x) (has_key (enrolled job) x.issuer) l i.1)
 
-  listed_cases : (x : Identity) → is_listed after x ≡ true → (is_listed rs x ≡ true) ⊎ (has (listed_now (past_of rs) job) x ≡ true)
+  listed_now : (x : Identity) → has (accepted_with (past_of rs) job) x ≡ true
+      → enrolls_and_lists x (released (past_of rs) job trailer) ≡ true → (has (universe (past_of rs) job) x ≡ true) × (lists job x ≡ true)
+  listed_now x a h =
+      let p = and_parts (lists job x) (has_key (enrolled job) x.issuer) h in (universe_has (past_of rs) job x a p.1, p.0)
+
+  listed_cases : (x : Identity) → is_listed after x ≡ true
+      → (is_listed rs x ≡ true) ⊎ ((has (universe (past_of rs) job) x ≡ true) × (lists job x ≡ true))
   listed_cases x h =
       let l = is_listed_by after x h in
-      ⊎_elim (λ old. inl (is_listed_at rs l.0 x old l.2)) (λ (q : released (past_of rs) job trailer ≡ l.0). inr (ap (λ (z : Release). has z.listed x) q ∙ l.2))
-      (Among-push_cases rs (released (past_of rs) job trailer) l.0 l.1)
+      ⊎_elim (λ old. inl (is_listed_at rs l.by x old (l.accepted widens) l.lists))
+      (λ (q : released (past_of rs) job trailer ≡ l.by). inr (listed_now x (ap (λ (z : Release). has z.accepted x) q ∙ l.accepted widens)
+      (ap (enrolls_and_lists x) q ∙ l.lists)))
+      (Among-push_cases rs (released (past_of rs) job trailer) l.by l.among)
 
   revoked_now : (x : Identity) → has (revoked (past_of rs) job) x ≡ true → is_listed after x ≡ true
   revoked_now x h =
-      ⊎_elim (λ l. listed_before x (sym (past_listed rs x) ∙ l)) (λ l. listed_with x l)
-      (or_cases ((past_of rs).was_listed x) (has (listed_now (past_of rs) job) x) (revoked_listed (past_of rs) job x h))
+      ⊎_elim (λ l. still_listed x (sym (past_listed rs x) ∙ l)) (λ l. listed_with x (revoked_is (past_of rs) job x h).0 l)
+      (or_cases ((past_of rs).listed_before x) (lists job x) (revoked_listed (past_of rs) job x h))
 
   revoked_listed_after : (x : Identity) (r : Release) → Among after r → has r.revoked x ≡ true → is_listed after x ≡ true
   revoked_listed_after x r a h =
-      ⊎_elim (λ old. listed_before x (sound.revoked x r old h)) (λ (q : released (past_of rs) job trailer ≡ r). revoked_now x (ap (λ (z : Release). has z.revoked x) q ∙ h))
+      ⊎_elim (λ old. still_listed x (sound.revoked x r old h)) (λ (q : released (past_of rs) job trailer ≡ r). revoked_now x (ap (λ (z : Release). has z.revoked x) q ∙ h))
       (Among-push_cases rs (released (past_of rs) job trailer) r a)
 
   -- a release that covers an identity's old and new sightings covers all of them
@@ -156,7 +168,7 @@ module _ (rs : List Release) (job : Job) (trailer : List ℕ) (sound : IsSound r
       subst (λ (ss : List Sighting). Among ss s) (ap (sightings x) (seen-push rs (released (past_of rs) job trailer)) ∙ sightings-append x (seen rs) (shown (past_of rs) job)) a
 
   -- settled by the new release itself
-  settled_by_new : (x : Identity) → has (revoked (past_of rs) job) x ≡ true → is_settled_by after x (sightings x (seen after)) ≡ true
+  settled_by_new : (x : Identity) → has (revoked (past_of rs) job) x ≡ true → already_revoked_by after x (sightings x (seen after)) ≡ true
   settled_by_new x h = settled_from after x (sightings x (seen after)) (record {
     by = released (past_of rs) job trailer;
     among = Among-push rs (released (past_of rs) job trailer);
@@ -167,7 +179,7 @@ module _ (rs : List Release) (job : Job) (trailer : List ℕ) (sound : IsSound r
   })
 
   -- settled by an older one
-  settled_by_old : (x : Identity) → IsSettled rs x (sightings x (seen rs) ++ sightings x (shown (past_of rs) job)) → is_settled_by after x (sightings x (seen after)) ≡ true
+  settled_by_old : (x : Identity) → IsSettled rs x (sightings x (seen rs) ++ sightings x (shown (past_of rs) job)) → already_revoked_by after x (sightings x (seen after)) ≡ true
   settled_by_old x h = settled_from after x (sightings x (seen after)) (record {
     by = h.by;
     among = Among-left rs (released (past_of rs) job trailer ∷ []) h.by h.among;
@@ -176,18 +188,18 @@ module _ (rs : List Release) (job : Job) (trailer : List ℕ) (sound : IsSound r
   })
 
   listed_accepted : (x : Identity) → is_listed rs x ≡ true → has (accepted_with (past_of rs) job) x ≡ true
-  listed_accepted x h = let l = is_listed_by rs x h in kept l.0 x l.1 ((sound.formed l.0 l.1).listed x l.2)
+  listed_accepted x h = let l = is_listed_by rs x h in kept l.by x l.among (l.accepted sound.widens)
 
   -- of the universe, listed, and not revoked now
-  settled_in_universe : (x : Identity) → has (universe (past_of rs) job) x ≡ true → (is_listed rs x || has (listed_now (past_of rs) job) x) ≡ true → has (revoked (past_of rs) job) x ≡ false
-      → is_settled_by after x (sightings x (seen after)) ≡ true
+  settled_in_universe : (x : Identity) → has (universe (past_of rs) job) x ≡ true → (is_listed rs x || lists job x) ≡ true → has (revoked (past_of rs) job) x ≡ false
+      → already_revoked_by after x (sightings x (seen after)) ≡ true
   settled_in_universe x u l n =
-      let was : ((past_of rs).was_listed x || has (listed_now (past_of rs) job) x) ≡ true = ap (λ b. b || has (listed_now (past_of rs) job) x) (past_listed rs x) ∙ l in
-      let s : (past_of rs).is_settled x (sightings x (shown (past_of rs) job)) ≡ true = not_revoked (past_of rs) job x u was n in
+      let was : ((past_of rs).listed_before x || lists job x) ≡ true = ap (λ b. b || lists job x) (past_listed rs x) ∙ l in
+      let s : (past_of rs).already_revoked x (sightings x (shown (past_of rs) job)) ≡ true = not_revoked (past_of rs) job x u was n in
       settled_by_old x (settled_parts rs x (sightings x (seen rs) ++ sightings x (shown (past_of rs) job)) (sym (past_settled rs x (sightings x (shown (past_of rs) job))) ∙ s))
 
   -- listed before, and its issuer isn't enrolled: it has no new sighting
-  settled_elsewhere : (x : Identity) → is_listed rs x ≡ true → has_key (enrolled job) x.issuer ≡ false → is_settled_by after x (sightings x (seen after)) ≡ true
+  settled_elsewhere : (x : Identity) → is_listed rs x ≡ true → has_key (enrolled job) x.issuer ≡ false → already_revoked_by after x (sightings x (seen after)) ≡ true
   settled_elsewhere x l n =
       let old = settled_parts rs x (sightings x (seen rs)) (sound.settled x l) in
       settled_by_old x (record {
@@ -201,16 +213,17 @@ module _ (rs : List Release) (job : Job) (trailer : List ℕ) (sound : IsSound r
             (Among-cases (sightings x (seen rs)) (sightings x (shown (past_of rs) job)) s a);
       })
 
-  settled_unrevoked : (x : Identity) → has (revoked (past_of rs) job) x ≡ false → (is_listed rs x ≡ true) ⊎ (has (listed_now (past_of rs) job) x ≡ true)
-      → is_settled_by after x (sightings x (seen after)) ≡ true
+  settled_unrevoked : (x : Identity) → has (revoked (past_of rs) job) x ≡ false
+      → (is_listed rs x ≡ true) ⊎ ((has (universe (past_of rs) job) x ≡ true) × (lists job x ≡ true))
+      → already_revoked_by after x (sightings x (seen after)) ≡ true
   settled_unrevoked x n (inl l) =
       ⊎_elim
-      (λ e. settled_in_universe x (universe_has (past_of rs) job x (listed_accepted x l) e) (or_left (is_listed rs x) (has (listed_now (past_of rs) job) x) l) n)
+      (λ e. settled_in_universe x (universe_has (past_of rs) job x (listed_accepted x l) e) (or_left (is_listed rs x) (lists job x) l) n)
       (λ e. settled_elsewhere x l e) (cases_Bool (has_key (enrolled job) x.issuer))
   settled_unrevoked x n (inr l) =
-      settled_in_universe x (listed_is (past_of rs) job x l) (or_right (is_listed rs x) (has (listed_now (past_of rs) job) x) l) n
+      settled_in_universe x l.0 (or_right (is_listed rs x) (lists job x) l.1) n
 
-  settled : (x : Identity) → is_listed after x ≡ true → is_settled_by after x (sightings x (seen after)) ≡ true
+  settled : (x : Identity) → is_listed after x ≡ true → already_revoked_by after x (sightings x (seen after)) ≡ true
   settled x h =
       ⊎_elim (λ e. settled_by_new x e) (λ e. settled_unrevoked x e (listed_cases x h)) (cases_Bool (has (revoked (past_of rs) job) x))
 

@@ -1,7 +1,7 @@
 -- Releases without some issuers.
-use Rattle.std.specs.List.{filter}
+use Rattle.std.specs.List.{filter, list_any}
 use Rattle.std.proofs.Common.{◌≡◌, ℕ, ◌+◌, List, [], ◌∷◌, ◌++◌, map, length, Bool, true, false, cond, not, ◌&&◌, ◌||◌, refl, sym, ap, ◌∙◌, subst}
-use Rattle.std.proofs.lemmas.Bool.{false≢true}
+use Rattle.std.proofs.lemmas.Bool.{false≢true, and_parts}
 use Rattle.std.proofs.lemmas.List.{length-map}
 use Rattle.std.proofs.lemmas.List.Elements.{filter-append}
 use Rattle.std.proofs.lemmas.List.Kept.{IsStrictlySortedBy-filter}
@@ -14,18 +14,18 @@ use Rattle.ident_core.specs.Order.{identity_cmp, octets_cmp}
 use Rattle.ident_core.specs.Coverage.{covers}
 use Rattle.ident_core.specs.Among.{Among}
 use Rattle.ident_core.specs.Sets.{has, has_key}
-use Rattle.ident_core.proofs.Elements.{Among-filter, Among-in_filter, Among-map, Among-in_map, map_agree}
+use Rattle.ident_core.proofs.Elements.{Among-filter, Among-in_filter, Among-map, Among-in_map, map_agree, bool_same}
 use Rattle.ident_core.proofs.Sets.{Among-from_has, has-from_Among, has_key-from_Among, Among-from_has_key}
 use Rattle.universe_core.specs.Dates.{dates, greatest, until}
 use Rattle.universe_core.specs.Jobs.{Entry, is_stale}
-use Rattle.universe_core.specs.History.{Release, accepted_by, seen, sightings, birth, is_listed}
+use Rattle.universe_core.specs.History.{Release, accepted_by, seen, sightings, birth, enrolls_and_lists, is_listed}
 use Rattle.universe_core.specs.Ledgers.{later, last, last_place, item_from, part_from, ledger_of}
 use Rattle.universe_core.specs.Rebases.{is_other, is_of_other, part_without, ledger_without}
 use Rattle.history_core.specs.Facts.{IsWider, Widens, IsFormed, IsSound}
 use Rattle.history_core.specs.Bases.{newest_ranges, newest_epoch, kept_by, is_lasting_by, release_without, releases_without, base_head}
 use Rattle.history_core.proofs.BaseLedgers.{filter_items}
 use Rattle.history_core.proofs.Kept.{sightings_filter, dates_filter}
-use Rattle.history_core.proofs.Releases.{IsSettled, settled_parts, settled_from, is_listed_by}
+use Rattle.history_core.proofs.Releases.{IsSettled, settled_parts, settled_from, listed-cons, is_listed_by}
 use Rattle.history_core.proofs.Words.{has-filter}
 
 -- ---- lists of identities
@@ -65,10 +65,33 @@ module _ (w : List (List ℕ)) where
   seen_less (r ∷ rs) =
       ap (λ es. filter (λ (e : Entry). stays e.id) r.shown ++ es) (seen_less rs) ∙ sym (filter-append (λ (e : Entry). stays e.id) r.shown (seen rs))
 
+  key_in : (r : Release) (k : List ℕ) → has_key r.issuers k ≡ true → is_other w k ≡ true → has_key (less r).issuers k ≡ true
+  key_in r k h o = has_key-from_Among (filter (is_other w) r.issuers) k (Among-in_filter (is_other w) r.issuers k (Among-from_has_key r.issuers k h) o)
+
+  key_of : (r : Release) (k : List ℕ) → has_key (less r).issuers k ≡ true → (has_key r.issuers k ≡ true) × (is_other w k ≡ true)
+  key_of r k h =
+      let f = Among-filter (is_other w) r.issuers k (Among-from_has_key (filter (is_other w) r.issuers) k h) in
+      (has_key-from_Among r.issuers k f.0, f.1)
+
+  lists_less : (rs : List Release) (x : Identity) → stays x ≡ true
+      → list_any (enrolls_and_lists x) (map less rs) ≡ list_any (enrolls_and_lists x) rs
+  lists_less [] x k = refl
+  lists_less (r ∷ rs) x k =
+      let same : has_key (less r).issuers x.issuer ≡ has_key r.issuers x.issuer =
+      bool_same (has_key (less r).issuers x.issuer) (has_key r.issuers x.issuer)
+      (λ h. (key_of r x.issuer h).0) (λ h. key_in r x.issuer h k) in
+      λ i. (r.lists x && same i) || lists_less rs x k i
+
+  listed_step : (r : Release) (rs : List Release) (x : Identity) (b : Bool) → stays x ≡ true → has r.accepted x ≡ b
+      → is_listed (map less rs) x ≡ is_listed rs x → is_listed (map less (r ∷ rs)) x ≡ is_listed (r ∷ rs) x
+  listed_step r rs x true k e next =
+      listed-cons (less r) (map less rs) x true (same_of stays r.accepted x k ∙ e) ∙ lists_less (r ∷ rs) x k ∙ sym (listed-cons r rs x true e)
+  listed_step r rs x false k e next =
+      listed-cons (less r) (map less rs) x false (same_of stays r.accepted x k ∙ e) ∙ next ∙ sym (listed-cons r rs x false e)
+
   listed_less : (rs : List Release) (x : Identity) → stays x ≡ true → is_listed (map less rs) x ≡ is_listed rs x
-  unfolding is_listed
   listed_less [] x k = refl
-  listed_less (r ∷ rs) x k = λ i. same_of stays r.listed x k i || listed_less rs x k i
+  listed_less (r ∷ rs) x k = listed_step r rs x (has r.accepted x) k refl (listed_less rs x k)
 
   birth_less : (rs : List Release) (x : Identity) → stays x ≡ true → birth x (map less rs) ≡ birth x rs
   unfolding birth
@@ -111,7 +134,6 @@ module _ (w : List (List ℕ)) where
         has_key-from_Among (filter (is_other w) r.issuers) x.issuer
         (Among-in_filter (is_other w) r.issuers x.issuer (Among-from_has_key r.issuers x.issuer (h.enrolled x b.0)) b.1);
     accepted = λ x a. let b = both_of stays r.revoked x a in has_in stays r.accepted x (h.accepted x b.0) b.1;
-    listed = λ x a. let b = both_of stays r.listed x a in has_in stays r.accepted x (h.listed x b.0) b.1;
     shown = λ e a. let f = Among-filter (λ (d : Entry). stays d.id) r.shown e a in has_in stays r.accepted e.id (h.shown e f.0) f.1;
   }
 
@@ -121,22 +143,17 @@ module _ (w : List (List ℕ)) where
   entry_in : (rs : List Release) (e : Entry) → Among (seen rs) e → stays e.id ≡ true → Among (seen (map less rs)) e
   entry_in rs e a k = subst (λ (es : List Entry). Among es e) (sym (seen_less rs)) (Among-in_filter (λ (d : Entry). stays d.id) (seen rs) e a k)
 
-  key_in : (r : Release) (k : List ℕ) → has_key r.issuers k ≡ true → is_other w k ≡ true → has_key (less r).issuers k ≡ true
-  key_in r k h o = has_key-from_Among (filter (is_other w) r.issuers) k (Among-in_filter (is_other w) r.issuers k (Among-from_has_key r.issuers k h) o)
-
-  key_of : (r : Release) (k : List ℕ) → has_key (less r).issuers k ≡ true → has_key r.issuers k ≡ true
-  key_of r k h = has_key-from_Among r.issuers k (Among-filter (is_other w) r.issuers k (Among-from_has_key (filter (is_other w) r.issuers) k h)).0
-
   listed_stays : (rs : List Release) (x : Identity) → is_listed (map less rs) x ≡ true → stays x ≡ true
   listed_stays rs x h =
       let l = is_listed_by (map less rs) x h in
-      let m = Among-map less rs l.0 l.1 in
-      (both_of stays m.0.listed x (ap (λ (z : Release). has z.listed x) m.2 ∙ l.2)).1
+      let m = Among-map less rs l.by l.among in
+      let enrolls = (and_parts (l.by.lists x) (has_key l.by.issuers x.issuer) l.lists).1 in
+      (key_of m.0 x.issuer (ap (λ (z : Release). has_key z.issuers x.issuer) m.2 ∙ enrolls)).1
 
   module _ (rs : List Release) (sound : IsSound rs) where
     timely_less : (e : Entry) → Among (seen (map less rs)) e → (r : Release) → Among rs r → covers r.ranges e.sighting ≡ true → has_key (less r).issuers e.id.issuer ≡ true
         → has (less r).accepted e.id ≡ true
-    timely_less e a r i c k = let n = entry_of rs e a in has_in stays r.accepted e.id (sound.timely e n.0 r i c (key_of r e.id.issuer k)) n.1
+    timely_less e a r i c k = let n = entry_of rs e a in has_in stays r.accepted e.id (sound.timely e n.0 r i c (key_of r e.id.issuer k).0) n.1
 
     settled_less : (x : Identity) → is_listed (map less rs) x ≡ true → IsSettled (map less rs) x (sightings x (seen (map less rs)))
     settled_less x h =
@@ -261,7 +278,7 @@ release_all r = λ i. record {
   issuers = filter-all r.issuers i;
   shown = filter-all r.shown i;
   accepted = filter-all r.accepted i;
-  listed = filter-all r.listed i;
+  lists = r.lists;
   revoked = filter-all r.revoked i;
 }
 

@@ -36,9 +36,9 @@ base_with keeps rs trailer = record {
   trailer = trailer;
   ranges = newest_ranges [] rs;
   issuers = all_issuers rs;
+  lists = is_listed rs;
   shown = filter (λ e. keeps e.id) (seen rs);
   accepted = kept_by keeps rs;
-  listed = filter (is_listed rs) (kept_by keeps rs);
   revoked = filter (is_listed rs) (kept_by keeps rs);
 }
 
@@ -55,9 +55,9 @@ release_without without r = record {
   trailer = r.trailer;
   ranges = r.ranges;
   issuers = filter (is_other without) r.issuers;
+  lists = r.lists;
   shown = filter (λ e. is_other without e.id.issuer) r.shown;
   accepted = filter (λ x. is_other without x.issuer) r.accepted;
-  listed = filter (λ x. is_other without x.issuer) r.listed;
   revoked = filter (λ x. is_other without x.issuer) r.revoked;
 }
 

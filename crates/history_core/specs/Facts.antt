@@ -1,5 +1,6 @@
 -- What holds of the releases of a history, after each job.
-use Rattle.std.specs.Prelude.{◌≡◌, ℕ, List, [], ◌∷◌, ◌++◌, ◌&&◌, true}
+use Rattle.std.specs.Prelude.{◌≡◌, ℕ, suc, List, [], ◌∷◌, ◌++◌, drop, true, false, Option, Some, None}
+use Rattle.std.specs.List.{slice_get}
 use Rattle.std.specs.List.Sorted.{IsStrictlySortedBy}
 use Rattle.ident_core.specs.declared.identity.Identity.{Identity}
 use Rattle.ident_core.specs.declared.range.Sighting.{Sighting}
@@ -7,8 +8,8 @@ use Rattle.ident_core.specs.Order.{octets_cmp, identity_cmp}
 use Rattle.ident_core.specs.Coverage.{covers}
 use Rattle.ident_core.specs.Among.{Among}
 use Rattle.ident_core.specs.Sets.{has, has_key}
-use Rattle.universe_core.specs.Jobs.{Entry, Job, enrolled, lists}
-use Rattle.universe_core.specs.History.{Release, accepted_by, seen, is_listed, is_settled_by, sightings, past_of, released, lie_within}
+use Rattle.universe_core.specs.Jobs.{Entry, JobFacts, enrolled, lists}
+use Rattle.universe_core.specs.History.{Release, accepted_by, seen, is_listed, already_revoked_by, sightings, past_of, released, lie_within}
 
 -- q covers and has accepted all that r did
 pub record IsWider (r q : Release) : Type 0 where
@@ -26,7 +27,6 @@ pub record IsFormed (r : Release) : Type 0 where
   pub accepted_ascend : IsStrictlySortedBy identity_cmp r.accepted
   pub enrolled : (x : Identity) → has r.revoked x ≡ true → has_key r.issuers x.issuer ≡ true
   pub accepted : (x : Identity) → has r.revoked x ≡ true → has r.accepted x ≡ true
-  pub listed : (x : Identity) → has r.listed x ≡ true → has r.accepted x ≡ true
   pub shown : (e : Entry) → Among r.shown e → has r.accepted e.id ≡ true
 
 -- The facts from which the ledger's step and the answers follow.
@@ -44,21 +44,29 @@ pub record IsSound (rs : List Release) : Type 0 where
   -- what is revoked is listed
   pub revoked : (x : Identity) (r : Release) → Among rs r → has r.revoked x ≡ true → is_listed rs x ≡ true
   -- what is listed is revoked by some release that covers all its sightings
-  pub settled : (x : Identity) → is_listed rs x ≡ true → is_settled_by rs x (sightings x (seen rs)) ≡ true
+  pub settled : (x : Identity) → is_listed rs x ≡ true → already_revoked_by rs x (sightings x (seen rs)) ≡ true
 
 -- each of the newest release's ranges lies in one of the job's
-abbrev pub KeepsCoverage : List Release → Job → Type 0
+abbrev pub KeepsCoverage : List Release → JobFacts → Type 0
 KeepsCoverage [] job = Unit {0}
 KeepsCoverage (r ∷ []) job = lie_within r.ranges job.ranges ≡ true
 KeepsCoverage (r ∷ q ∷ rs) job = KeepsCoverage (q ∷ rs) job
 
 -- each job keeps the coverage of those before it
-abbrev pub AllKeepCoverage : (List Release → Job → List ℕ) → List Release → List Job → Type 0
+abbrev pub AllKeepCoverage : (List Release → JobFacts → List ℕ) → List Release → List JobFacts → Type 0
 AllKeepCoverage trailer rs [] = Unit {0}
 AllKeepCoverage trailer rs (job ∷ jobs) =
     KeepsCoverage rs job × AllKeepCoverage trailer (rs ++ released (past_of rs) job (trailer rs job) ∷ []) jobs
 
+-- What the last part that revokes an identity is, apart from how it is found: none where no release revokes it, else
+-- the place of one that does, behind which none does.
+abbrev pub IsLastRevoking : Identity → List Release → Option ℕ → Type 0
+IsLastRevoking x rs None = (r : Release) → Among rs r → has r.revoked x ≡ false
+IsLastRevoking x rs (Some k) =
+    ((r : Release) × (slice_get rs k ≡ Some r) × (has r.revoked x ≡ true))
+    × ((r : Release) → Among (drop (suc k) rs) r → has r.revoked x ≡ false)
+
 -- what a release has of its job
-pub record Leaves (job : Job) (r : Release) : Type 0 where
+pub record Leaves (job : JobFacts) (r : Release) : Type 0 where
   pub issuers : r.issuers ≡ enrolled job
-  pub listed : (x : Identity) → has r.listed x ≡ (lists job x && (has_key (enrolled job) x.issuer && has r.accepted x))
+  pub lists : (x : Identity) → r.lists x ≡ lists job x

@@ -9,7 +9,7 @@ use Rattle.universe_core.specs.Groups.{GroupFields, group_of, groups}
 use Rattle.history_core.specs.Showing.{PartView}
 
 -- the test answers for the universe of each group of the release what the release says
-pub record IsExact (positive : GroupFields → Identity → Bool) (r : Release) : Type 0 where
+pub record IsExactOnGroups (positive : GroupFields → Identity → Bool) (r : Release) : Type 0 where
   pub at : (issuer : List ℕ) → has_key r.issuers issuer ≡ true → (x : Identity)
       → has (group_of r issuer).universe x ≡ true → positive (group_of r issuer) x ≡ has r.revoked x
 

@@ -10,10 +10,10 @@ ghost use Rattle.job_core.specs.JobFields.{JobFields};
 ghost use Rattle.ledger_core.specs.declared.fields.LedgerItem.{LedgerItem};
 ghost use Rattle.ident_core.specs.Among.{Among};
 ghost use Rattle.ident_core.specs.Sets.{has, has_key};
-ghost use Rattle.universe_core.specs.Jobs.{Entry, Job, facts_of, enrolled, lists};
+ghost use Rattle.universe_core.specs.Jobs.{Entry, JobFacts, facts_of, enrolled, lists};
 ghost use Rattle.universe_core.specs.History.{Release, Past, past_of, released, releases, accepted_by, seen};
-ghost use Rattle.universe_core.specs.History.{sightings, birth, is_listed, is_settled_by, is_lacked_by, revoked};
-ghost use Rattle.universe_core.specs.History.{universe};
+ghost use Rattle.universe_core.specs.History.{sightings, birth, enrolls_and_lists, is_listed, already_revoked_by, comes_late_behind};
+ghost use Rattle.universe_core.specs.History.{revoked, universe};
 ghost use Rattle.universe_core.specs.Dates.{IsGreatest, greatest as greatest_of, until};
 ghost use Rattle.universe_core.specs.Groups.{GroupFields, groups};
 ghost use Rattle.universe_core.specs.Counting.{count, counts};
@@ -21,9 +21,9 @@ ghost use Rattle.universe_core.specs.declared.class.Class.TheVariants.{Unread, U
 ghost use Rattle.universe_core.specs.Ledgers.{no_ledger, past_in, next_ledger, item_from, ledger_of, last};
 ghost use Rattle.universe_core.specs.Rebases.{is_other, ledger_without, is_lasting, rebased_head, rebased_groups, rebased_ledger};
 ghost use Rattle.universe_core.specs.Step.{refusal, groups_after, counts_after};
-ghost use Rattle.history_core.specs.Facts.{IsSound, KeepsCoverage, AllKeepCoverage, Leaves, Widens};
+ghost use Rattle.history_core.specs.Facts.{IsSound, KeepsCoverage, AllKeepCoverage, IsLastRevoking, Leaves, Widens};
 ghost use Rattle.history_core.specs.Showing.{PartView, Shows, answers_of, said};
-ghost use Rattle.history_core.specs.Publishing.{IsExact, part_of};
+ghost use Rattle.history_core.specs.Publishing.{IsExactOnGroups, part_of};
 ghost use Rattle.history_core.specs.Beginnings.{sees};
 ghost use Rattle.history_core.specs.Bases.{kept_by, base_with, base_head, releases_without, is_lasting_by, base_at};
 ghost use Rattle.history_core.specs.Example.{certificate, second_job, after_first};
@@ -36,9 +36,9 @@ pub fn facts_hold()
     ensures next { (limits : Limits) (rs : List Release) (job : JobFields) (trailer : List ℕ) → IsSound rs
         → refusal limits (ledger_of rs) job ≡ None
         → IsSound (rs ++ released (past_of rs) (facts_of job) trailer ∷ []) }
-    ensures kept { (rs : List Release) (job : Job) (trailer : List ℕ) → IsSound rs → KeepsCoverage rs job
+    ensures kept { (rs : List Release) (job : JobFacts) (trailer : List ℕ) → IsSound rs → KeepsCoverage rs job
         → IsSound (rs ++ released (past_of rs) job trailer ∷ []) }
-    ensures history { (trailer : List Release → Job → List ℕ) (rs : List Release) (jobs : List Job) → IsSound rs
+    ensures history { (trailer : List Release → JobFacts → List ℕ) (rs : List Release) (jobs : List JobFacts) → IsSound rs
         → AllKeepCoverage trailer rs jobs → IsSound (releases trailer rs jobs) }
     ensures admitted { (limits : Limits) (rs : List Release) (job : JobFields)
         → refusal limits (ledger_of rs) job ≡ None → KeepsCoverage rs (facts_of job) }
@@ -48,11 +48,11 @@ pub fn facts_hold()
 /// and the next ledger is that of the history with the job.
 pub fn ledger_step_is_the_historys()
     ensures told { (rs : List Release) → IsSound rs → past_in (ledger_of rs) ≡ past_of rs }
-    ensures next { (rs : List Release) → IsSound rs → (job : Job) (trailer : List ℕ)
+    ensures next { (rs : List Release) → IsSound rs → (job : JobFacts) (trailer : List ℕ)
         → next_ledger (ledger_of rs) job trailer ≡ ledger_of (rs ++ released (past_of rs) job trailer ∷ []) }
-    ensures groups { (rs : List Release) → IsSound rs → (job : Job) (trailer : List ℕ)
+    ensures groups { (rs : List Release) → IsSound rs → (job : JobFacts) (trailer : List ℕ)
         → groups_after (ledger_of rs) job ≡ groups (released (past_of rs) job trailer) }
-    ensures counts { (rs : List Release) → IsSound rs → (job : Job) → counts_after (ledger_of rs) job ≡ counts (past_of rs) job }
+    ensures counts { (rs : List Release) → IsSound rs → (job : JobFacts) → counts_after (ledger_of rs) job ≡ counts (past_of rs) job }
 {}
 
 /// Asked with accepted sightings of a certificate, the parts of a history answer the truth: some part answers, and one
@@ -66,13 +66,13 @@ pub fn answers_are_the_truth()
         → (a : Bool) × (others : List Bool) × (answers_of x (s ∷ ss) parts ≡ a ∷ others)
         × (list_any (λ b. b) (a ∷ others) ≡ is_listed rs x) }
     ensures published { (positive : GroupFields → Identity → Bool) (rs : List Release) (x : Identity) (s : Sighting)
-        (ss : List Sighting) → IsSound rs → ((r : Release) → Among rs r → IsExact positive r)
+        (ss : List Sighting) → IsSound rs → ((r : Release) → Among rs r → IsExactOnGroups positive r)
         → ((t : Sighting) → Among (s ∷ ss) t → Among (sightings x (seen rs)) t)
         → (a : Bool) × (others : List Bool) × (answers_of x (s ∷ ss) (map (part_of positive) rs) ≡ a ∷ others)
         × (list_any (λ b. b) (a ∷ others) ≡ is_listed rs x) }
     ensures flags { (positive : GroupFields → Identity → Bool) (r : Release)
         → ((g : GroupFields) → Among (groups r) g → AllZip (λ x b. positive g x ≡ b) g.universe g.revoked)
-        → IsExact positive r }
+        → IsExactOnGroups positive r }
 {}
 
 /// The last part of an identity covers all its accepted sightings, and it has one exactly if it is listed.
@@ -133,8 +133,8 @@ pub fn left_out_issuers_come_back()
     ensures unenrolled { (keeps : Identity → Bool) (without : List (List ℕ)) (rs : List Release) (trailer issuer : List ℕ)
         → has_key without issuer ≡ true → has_key (base_with keeps (releases_without without rs) trailer).issuers issuer ≡ false }
     ensures timely { (rs : List Release) (x : Identity) (s : Sighting)
-        → ((r : Release) → Among rs r → has_key r.issuers x.issuer ≡ false) → is_lacked_by rs x s ≡ false }
-    ensures accepted { (rs : List Release) (job : Job) (trailer : List ℕ) (e : Entry)
+        → ((r : Release) → Among rs r → has_key r.issuers x.issuer ≡ false) → comes_late_behind rs x s ≡ false }
+    ensures accepted { (rs : List Release) (job : JobFacts) (trailer : List ℕ) (e : Entry)
         → ((r : Release) → Among rs r → has_key r.issuers e.id.issuer ≡ false) → Among job.entries (Some e)
         → covers job.ranges e.sighting ≡ true → has_key (enrolled job) e.id.issuer ≡ true
         → Among (seen (rs ++ released (past_of rs) job trailer ∷ [])) e }
@@ -155,36 +155,41 @@ pub fn rebase_makes_the_base()
 {}
 
 /// The definitions in other words. The revoked set: of the universe, what is listed up to now, without what an earlier
-/// part revokes while it covers all its sightings. Listed: some job since the identity's birth enrolls its issuer and
-/// lists it; of any releases that leave what their jobs say (`listed`). No releases and no jobs are so, and a job more
+/// part revokes while it covers all its sightings. Listed: some job that had accepted the identity by then enrolls its
+/// issuer and lists it (`listed_once`); or, by the jobs of any releases that leave what their jobs say, some job from
+/// its first acceptance on does (`listed`). No releases and no jobs are so, and a job more
 /// with what it leaves keeps it (`leaves_none`, `leaves_more`), so those of a history are (`leaves`, `listed_by_jobs`).
 /// Behind a base: the base lists it, or such a job does (`listed_behind`).
-/// The five classes add up to the entries. The greatest of some dates is none where there is none or one isn't told,
+/// The five classes add up to the entries. The last part that revokes an identity is the one behind which none does
+/// (`last`). The greatest of some dates is none where there is none or one isn't told,
 /// and else one of them that no other is above (`greatest`).
 pub fn words_hold()
-    ensures revoked_set { (rs : List Release) (job : Job) (trailer : List ℕ) (x : Identity)
+    ensures revoked_set { (rs : List Release) (job : JobFacts) (trailer : List ℕ) (x : Identity)
         → has (revoked (past_of rs) job) x
         ≡ ((is_listed (rs ++ released (past_of rs) job trailer ∷ []) x
-        && not (is_settled_by rs x (sightings x (seen (rs ++ released (past_of rs) job trailer ∷ [])))))
+        && not (already_revoked_by rs x (sightings x (seen (rs ++ released (past_of rs) job trailer ∷ [])))))
         && has (universe (past_of rs) job) x) }
-    ensures listed { (x : Identity) (jobs : List Job) (rs : List Release) → AllZip Leaves jobs rs → Widens rs
+    ensures listed_once { (rs : List Release) (x : Identity) → Widens rs
+        → is_listed rs x ≡ list_any (λ r. has r.accepted x && enrolls_and_lists x r) rs }
+    ensures listed { (x : Identity) (jobs : List JobFacts) (rs : List Release) → AllZip Leaves jobs rs
         → is_listed rs x ≡ list_any (λ job. lists job x && has_key (enrolled job) x.issuer) (drop (birth x rs) jobs) }
-    ensures listed_behind { (x : Identity) (jobs : List Job) (base : Release) (rs : List Release)
+    ensures listed_behind { (x : Identity) (jobs : List JobFacts) (base : Release) (rs : List Release)
         → AllZip Leaves jobs rs → Widens (base ∷ rs)
         → is_listed (base ∷ rs) x
-        ≡ (has base.listed x || list_any (λ job. lists job x && has_key (enrolled job) x.issuer) (drop (birth x rs) jobs)) }
+        ≡ (is_listed (base ∷ []) x || list_any (λ job. lists job x && has_key (enrolled job) x.issuer) (drop (birth x rs) jobs)) }
     ensures leaves_none { AllZip Leaves [] [] }
-    ensures leaves_more { (jobs : List Job) (job : Job) (rs : List Release) (trailer : List ℕ) → AllZip Leaves jobs rs
+    ensures leaves_more { (jobs : List JobFacts) (job : JobFacts) (rs : List Release) (trailer : List ℕ) → AllZip Leaves jobs rs
         → AllZip Leaves (jobs ++ job ∷ []) (rs ++ released (past_of rs) job trailer ∷ []) }
-    ensures listed_by_jobs { (trailer : List Release → Job → List ℕ) (jobs : List Job) (x : Identity) → AllKeepCoverage trailer [] jobs
+    ensures listed_by_jobs { (trailer : List Release → JobFacts → List ℕ) (jobs : List JobFacts) (x : Identity)
         → is_listed (releases trailer [] jobs) x
         ≡ list_any (λ job. lists job x && has_key (enrolled job) x.issuer)
         (drop (birth x (releases trailer [] jobs)) jobs) }
-    ensures leaves { (trailer : List Release → Job → List ℕ) (jobs before : List Job) (rs : List Release)
+    ensures leaves { (trailer : List Release → JobFacts → List ℕ) (jobs before : List JobFacts) (rs : List Release)
         → AllZip Leaves before rs → AllZip Leaves (before ++ jobs) (releases trailer rs jobs) }
-    ensures classes { (past : Past) (job : Job)
+    ensures classes { (past : Past) (job : JobFacts)
         → count Unread past job + count Uncovered past job + count Unenrolled past job + count Late past job
         + count Accepted past job ≡ length job.entries }
+    ensures last { (rs : List Release) (x : Identity) → IsLastRevoking x rs (last x rs) }
     ensures greatest { (ds : List (Option ℤ)) → IsGreatest ds (greatest_of ds) }
 {}
 
@@ -193,18 +198,18 @@ pub fn words_hold()
 /// part.
 pub fn first_job_is_sound()
     ensures told { past_in no_ledger ≡ past_of [] }
-    ensures sound { (trailer : List Release → Job → List ℕ) (job : Job) → IsSound (releases trailer [] (job ∷ [])) }
-    ensures groups { (job : Job) (trailer : List ℕ) → groups_after no_ledger job ≡ groups (released (past_of []) job trailer) }
-    ensures next { (job : Job) (trailer : List ℕ) → next_ledger no_ledger job trailer ≡ ledger_of (released (past_of []) job trailer ∷ []) }
+    ensures sound { (trailer : List Release → JobFacts → List ℕ) (job : JobFacts) → IsSound (releases trailer [] (job ∷ [])) }
+    ensures groups { (job : JobFacts) (trailer : List ℕ) → groups_after no_ledger job ≡ groups (released (past_of []) job trailer) }
+    ensures next { (job : JobFacts) (trailer : List ℕ) → next_ledger no_ledger job trailer ≡ ledger_of (released (past_of []) job trailer ∷ []) }
 {}
 
 /// In a history of one job a certificate is listed exactly if the job lists it, enrolls its issuer and covers an entry
 /// of it; and the job revokes what it lists.
 pub fn first_job_in_words()
-    ensures listed { (trailer : List Release → Job → List ℕ) (job : Job) (x : Identity)
+    ensures listed { (trailer : List Release → JobFacts → List ℕ) (job : JobFacts) (x : Identity)
         → is_listed (releases trailer [] (job ∷ [])) x
         ≡ (lists job x && (has_key (enrolled job) x.issuer && sees job x)) }
-    ensures revoked { (trailer : List Release → Job → List ℕ) (job : Job) (x : Identity)
+    ensures revoked { (trailer : List Release → JobFacts → List ℕ) (job : JobFacts) (x : Identity)
         → has (revoked (past_of []) job) x ≡ is_listed (releases trailer [] (job ∷ [])) x }
 {}
 

@@ -3,7 +3,7 @@ use Rattle.std.specs.List.{filter}
 use Rattle.std.specs.List.Sorted.{IsStrictlySortedBy}
 use Rattle.std.specs.Option.{option_map}
 use Rattle.std.specs.Prelude.{IfSome, count_by, is_some, not}
-use Rattle.std.proofs.Common.{◌≡◌, ℕ, ◌+◌, ◌<◌, ◌≤◌, List, [], ◌∷◌, map, length, All, Bool, ◌&&◌, Option, Some, None, refl, sym, ap, ◌∙◌, subst, arith}
+use Rattle.std.proofs.Common.{◌≡◌, ℕ, ◌+◌, ◌<◌, ◌≤◌, List, [], ◌∷◌, map, length, All, Bool, false, ◌&&◌, Option, Some, None, refl, sym, ap, ◌∙◌, subst, arith}
 use Rattle.std.proofs.lemmas.List.{length-map}
 use Rattle.std.proofs.lemmas.List.Elements.{All-map}
 use Rattle.std.proofs.lemmas.List.Filters.{length-filter_both}
@@ -69,7 +69,7 @@ counted w keeps ledger seen also items left s t i e =
 
 -- a release with these identities, whose groups are of the same form
 abbrev of_kept : List Identity → List Identity → Release
-of_kept xs revoked = record { epoch = 0; trailer = []; ranges = []; issuers = []; shown = []; accepted = xs; listed = []; revoked = revoked }
+of_kept xs revoked = record { epoch = 0; trailer = []; ranges = []; issuers = []; lists = λ x. false; shown = []; accepted = xs; revoked = revoked }
 
 module _ (keeps : LedgerItem → Bool) (ledger : LedgerFields) where
   pub groups_are : (issuers : List (List ℕ)) (items : List LedgerItem) (out : List GroupFields) → issuers ≡ issuers_in ledger.parts

@@ -1,7 +1,6 @@
 -- What holds of every history: the last part of an identity, and what is listed in the words of jobs.
 use Rattle.std.specs.List.{list_any, slice_get, AllZip}
 use Rattle.std.proofs.Common.{◌≡◌, ℕ, zero, suc, List, [], ◌∷◌, ◌++◌, map, drop, length, Bool, true, ◌&&◌, ◌||◌, Some, refl, sym, ap, ◌∙◌, subst, append_assoc}
-use Rattle.std.proofs.Math.Bool.{and_comm}
 use Rattle.std.proofs.Math.Seq.{drop-append_seam}
 use Rattle.std.proofs.lemmas.List.{append-nil, drop-map}
 use Rattle.ident_core.specs.declared.identity.Identity.{Identity}
@@ -12,15 +11,16 @@ use Rattle.part_text.specs.SealedFields.{SealedFields}
 use Rattle.ident_core.specs.Among.{Among}
 use Rattle.ident_core.specs.Sets.{has, has_key}
 use Rattle.ident_core.proofs.Elements.{some_item}
-use Rattle.universe_core.specs.Jobs.{Job, enrolled, is_enrolled, lists}
+use Rattle.universe_core.specs.Jobs.{JobFacts, enrolled, is_enrolled, lists}
 use Rattle.universe_core.specs.Formats.{JobIn, facts_in}
 use Rattle.universe_core.specs.History.{Release, past_of, seen, sightings, birth, is_listed}
 use Rattle.universe_core.specs.Ledgers.{last}
 use Rattle.universe_core.proofs.Enrolled.{enrolled_test}
-use Rattle.history_core.specs.Bases.{kept_by, is_lasting_by, base_with, releases_without, base_at}
+use Rattle.history_core.specs.Bases.{kept_by, is_lasting_by, releases_without, base_at}
 use Rattle.history_core.specs.Facts.{Leaves, Widens}
 use Rattle.history_core.specs.Showing.{Shows}
-use Rattle.history_core.proofs.Words.{has-filter, last_covers_sightings, leaves, zip_push, listed_in_words, listed_behind}
+use Rattle.history_core.proofs.Kept.{base_lists}
+use Rattle.history_core.proofs.Words.{last_covers_sightings, leaves, zip_push, listed_in_words, listed_behind}
 use Rattle.publication_core.specs.Histories.{release_of, releases_after, AreAdmissible, History, of_jobs, rebased, IsHistory, releases_of}
 use Rattle.publication_core.proofs.Histories.{history_sound}
 use Rattle.publication_core.proofs.Shown.{shown_by}
@@ -47,7 +47,7 @@ last_part h parts x k is e =
 -- ---- what is listed
 
 -- behind a front of releases, each release leaves what its job says
-leaves_after : (front : List Release) (before : List Job) (rs : List Release) (jobs : List JobIn) (parts : List SealedFields) → AllZip Leaves before rs
+leaves_after : (front : List Release) (before : List JobFacts) (rs : List Release) (jobs : List JobIn) (parts : List SealedFields) → AllZip Leaves before rs
     → AreAdmissible (front ++ rs) jobs parts → AllZip Leaves (before ++ map facts_in jobs) (drop (length front) (releases_after (front ++ rs) jobs parts))
 leaves_after front before rs [] [] z h = rw (append-nil, drop-append_seam front rs) z
 leaves_after front before rs [] (s ∷ parts) z h = absurd h
@@ -57,15 +57,15 @@ leaves_after front before rs (j ∷ jobs) (s ∷ parts) z h =
     let pushed : AllZip Leaves (before ++ facts_in j ∷ []) (rs ++ r ∷ []) = zip_push Leaves before rs (facts_in j) r z (leaves (past_of (front ++ rs)) (facts_in j) s.trailer) in
     let assoc : (front ++ rs) ++ r ∷ [] ≡ front ++ (rs ++ r ∷ []) = append_assoc front rs (r ∷ []) in
     let rest = leaves_after front (before ++ facts_in j ∷ []) (rs ++ r ∷ []) jobs parts pushed (subst (λ (qs : List Release). AreAdmissible qs jobs parts) assoc h.2) in
-    subst (λ (js : List Job). AllZip Leaves js (drop (length front) (releases_after ((front ++ rs) ++ r ∷ []) jobs parts))) (append_assoc before (facts_in j ∷ []) (map facts_in jobs))
+    subst (λ (js : List JobFacts). AllZip Leaves js (drop (length front) (releases_after ((front ++ rs) ++ r ∷ []) jobs parts))) (append_assoc before (facts_in j ∷ []) (map facts_in jobs))
     (subst (λ (qs : List Release). AllZip Leaves ((before ++ facts_in j ∷ []) ++ map facts_in jobs) (drop (length front) (releases_after qs jobs parts))) (sym assoc) rest)
 
 -- whether some job enrolls the issuer and lists the identity, the enrolled told by a list or by a test
-any_lists : (x : Identity) (jobs : List JobIn) → list_any (λ (job : Job). lists job x && has_key (enrolled job) x.issuer) (map facts_in jobs)
+any_lists : (x : Identity) (jobs : List JobIn) → list_any (λ (job : JobFacts). lists job x && has_key (enrolled job) x.issuer) (map facts_in jobs)
     ≡ list_any (λ j. lists (facts_in j) x && is_enrolled (facts_in j) x.issuer) jobs
 any_lists x [] = refl
 any_lists x (j ∷ jobs) =
-    ap (λ b. (lists (facts_in j) x && b) || list_any (λ (job : Job). lists job x && has_key (enrolled job) x.issuer) (map facts_in jobs)) (enrolled_test (facts_in j) x.issuer)
+    ap (λ b. (lists (facts_in j) x && b) || list_any (λ (job : JobFacts). lists job x && has_key (enrolled job) x.issuer) (map facts_in jobs)) (enrolled_test (facts_in j) x.issuer)
     ∙ ap (λ b. (lists (facts_in j) x && is_enrolled (facts_in j) x.issuer) || b) (any_lists x jobs)
 
 pub listed_in_jobs : (jobs : List JobIn) (parts : List SealedFields) (x : Identity) → IsHistory (of_jobs jobs) parts
@@ -73,8 +73,8 @@ pub listed_in_jobs : (jobs : List JobIn) (parts : List SealedFields) (x : Identi
     ≡ list_any (λ j. lists (facts_in j) x && is_enrolled (facts_in j) x.issuer) (drop (birth x (releases_of (of_jobs jobs) parts)) jobs)
 listed_in_jobs jobs parts x is =
     let born : ℕ = birth x (releases_of (of_jobs jobs) parts) in
-    let says : Job → Bool = λ job. lists job x && has_key (enrolled job) x.issuer in
-    listed_in_words x (map facts_in jobs) (releases_of (of_jobs jobs) parts) (leaves_after [] [] [] jobs parts tt is) (history_sound (of_jobs jobs) parts is).widens
+    let says : JobFacts → Bool = λ job. lists job x && has_key (enrolled job) x.issuer in
+    listed_in_words x (map facts_in jobs) (releases_of (of_jobs jobs) parts) (leaves_after [] [] [] jobs parts tt is)
     ∙ ap (list_any says) (drop-map facts_in born jobs) ∙ any_lists x (drop born jobs)
 
 -- releases behind a base begin with it
@@ -83,11 +83,6 @@ begins : (base : Release) (rs : List Release) (jobs : List JobIn) (parts : List 
 begins base rs [] parts = refl
 begins base rs (j ∷ jobs) [] = refl
 begins base rs (j ∷ jobs) (s ∷ parts) = begins base (rs ++ release_of (base ∷ rs) j s ∷ []) jobs parts
-
--- a base lists what it keeps and was listed
-base_lists : (keeps : Identity → Bool) (rs : List Release) (trailer : List ℕ) (x : Identity) → has (base_with keeps rs trailer).listed x ≡ (has (kept_by keeps rs) x && is_listed rs x)
-unfolding base_with
-base_lists keeps rs trailer x = has-filter (is_listed rs) (kept_by keeps rs) x ∙ and_comm (is_listed rs x) (has (kept_by keeps rs) x)
 
 listed_after : (moment : ℕ) (rs : List Release) (trailer : List ℕ) (jobs : List JobIn) (parts : List SealedFields) (x : Identity)
     → AreAdmissible (base_at moment rs trailer ∷ []) jobs parts → Widens (releases_after (base_at moment rs trailer ∷ []) jobs parts)
@@ -98,7 +93,7 @@ listed_after moment rs trailer jobs parts x h widens =
     let base : Release = base_at moment rs trailer in
     let all : List Release = releases_after (base ∷ []) jobs parts in
     let born : ℕ = birth x (drop 1 all) in
-    let says : Job → Bool = λ job. lists job x && has_key (enrolled job) x.issuer in
+    let says : JobFacts → Bool = λ job. lists job x && has_key (enrolled job) x.issuer in
     let first : all ≡ base ∷ drop 1 all = begins base [] jobs parts in
     ap (λ (qs : List Release). is_listed qs x) first
     ∙ listed_behind x (map facts_in jobs) base (drop 1 all) (leaves_after (base ∷ []) [] [] jobs parts tt h) (subst Widens first widens)

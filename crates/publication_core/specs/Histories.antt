@@ -11,7 +11,7 @@ use Rattle.ident_core.specs.declared.bounds.TheConstants.{MAX_ISSUERS, MAX_PARTS
 use Rattle.ledger_core.specs.LedgerText.{ledger_text, old_ledger_text}
 use Rattle.ident_core.specs.Among.{Among}
 use Rattle.ident_core.specs.Sets.{has_key}
-use Rattle.universe_core.specs.Jobs.{Job, is_enrolled}
+use Rattle.universe_core.specs.Jobs.{JobFacts, is_enrolled}
 use Rattle.universe_core.specs.Formats.{dated, JobIn, in_format, reads_dates, facts_in}
 use Rattle.universe_core.specs.History.{Release, past_of, released, accepted_with}
 use Rattle.universe_core.specs.Groups.{GroupFields, groups}
@@ -25,7 +25,7 @@ use Rattle.publication_core.specs.Building.{HaveBlocks, IsSealedPart}
 -- ---- one job
 
 -- what a job's blocks are built of, behind these releases
-abbrev pub groups_of : List Release → Job → List GroupFields
+abbrev pub groups_of : List Release → JobFacts → List GroupFields
 groups_of rs job = groups (released (past_of rs) job [])
 
 -- the part of a job behind these releases: a block for each enrolled issuer

@@ -17,14 +17,14 @@ use Rattle.ident_core.specs.Order.{octets_cmp, identity_cmp}
 use Rattle.job_core.specs.declared.bounds.Limits.{Limits}
 use Rattle.job_core.specs.declared.bounds.What.TheVariants as what
 use Rattle.job_core.specs.JobFields.{CrlMeaning, JobFields, crl_view, fields_of_job}
-use Rattle.job_core.specs.declared.meaning.Job.{Job as CodeJob}
+use Rattle.job_core.specs.declared.meaning.Job.{Job}
 use Rattle.ledger_core.specs.declared.fields.LedgerItem.{LedgerItem}
 use Rattle.ledger_core.specs.LedgerFields.{LedgerFields}
 use Rattle.ident_core.specs.Sets.{has, all_inserted, key_set}
 use Rattle.ident_core.proofs.Canonical.{all_from}
 use Rattle.ident_core.proofs.Elements.{map_back, Among-filter}
 use Rattle.ident_core.proofs.Sets.{bytes_same}
-use Rattle.universe_core.specs.Jobs.{Crl, Job, facts_of_job, accepted_crl, facts_of, enrolled}
+use Rattle.universe_core.specs.Jobs.{Crl, JobFacts, facts_of_job, accepted_crl, facts_of, enrolled}
 use Rattle.universe_core.specs.History.{Past, Release}
 use Rattle.universe_core.specs.Ledgers.{next_item}
 use Rattle.universe_core.specs.Groups.{IsGroup, group_of, members_of}
@@ -52,7 +52,7 @@ unfolding all_inserted
 set_few cmp [] ys = omega arith
 set_few cmp (x ∷ xs) ys = let n = set_few cmp xs (insert_key cmp ys x) in let m = insert_few cmp x ys in omega arith
 
-pub enrolled_few : (job : Job) → length (enrolled job) ≤ length job.crls
+pub enrolled_few : (job : JobFacts) → length (enrolled job) ≤ length job.crls
 unfolding enrolled
 enrolled_few job = few_of _ (key_set (map (λ (c : Crl). c.issuer) job.crls)) (set_few octets_cmp (map (λ (c : Crl). c.issuer) job.crls) [])
   where
@@ -68,12 +68,12 @@ accepted_few (c ∷ cs) =
 pub issuers_few : (job : JobFields) → length (enrolled (facts_of job)) ≤ length job.crls
 issuers_few job = let a = enrolled_few (facts_of job) in let b = accepted_few job.crls in omega arith
 
-pub job_issuers_few : (job : CodeJob) → length job.crls.items ≤ 65535 → length (enrolled (facts_of_job job)) ≤ 65535
+pub job_issuers_few : (job : Job) → length job.crls.items ≤ 65535 → length (enrolled (facts_of_job job)) ≤ 65535
 job_issuers_few job h = let a = issuers_few (fields_of_job job) in let b = length-map job.crls.items crl_view in omega arith
 
 -- ---- the first ledger
 
-pub ids_are : (past : Past) (ledger : LedgerFields) (job : Job) (xs : List Identity) → map (λ (i : LedgerItem). i.id) (map (next_item past ledger job) xs) ≡ xs
+pub ids_are : (past : Past) (ledger : LedgerFields) (job : JobFacts) (xs : List Identity) → map (λ (i : LedgerItem). i.id) (map (next_item past ledger job) xs) ≡ xs
 ids_are past ledger job xs = map_back (next_item past ledger job) (λ (i : LedgerItem). i.id) xs (λ x. refl)
 
 pub every : {A : Type 0} (P : A → Type 0) (xs : List A) → ((x : A) → P x) → All P xs

@@ -5,7 +5,7 @@ use Rattle.job_core.specs.declared.meaning.JobCrl.{JobCrl}
 use Rattle.ledger_core.specs.declared.fields.LedgerItem.{LedgerItem}
 use Rattle.ledger_core.specs.LedgerFields.{LedgerFields, ids}
 use Rattle.ident_core.specs.Sets.{has}
-use Rattle.universe_core.specs.Jobs.{Job, enrolled}
+use Rattle.universe_core.specs.Jobs.{JobFacts, enrolled}
 use Rattle.universe_core.specs.History.{accepted_with, revoked}
 use Rattle.universe_core.specs.Ledgers.{past_in, next_item}
 use Rattle.universe_core.specs.Groups.{GroupFields, groups}
@@ -13,7 +13,7 @@ use Rattle.universe_core.specs.Members.{AreMembers, AreOf, members_in, next_of, 
 use Rattle.universe_core.specs.Step.{groups_after}
 use Rattle.universe_core.proofs.Revoking.{items_are, of_items}
 
-module _ (ledger : LedgerFields) (job : Job) (items : List LedgerItem) (settled : List Bool) (ms : AreMembers (members_in ledger job) items settled) where
+module _ (ledger : LedgerFields) (job : JobFacts) (items : List LedgerItem) (settled : List Bool) (ms : AreMembers (members_in ledger job) items settled) where
   pub ids_in : ids items ≡ accepted_with (past_in ledger) job
   ids_in = of_items ledger job items settled ms (λ (i : LedgerItem). i.id) ∙ map_self (accepted_with (past_in ledger) job)
     where
@@ -39,6 +39,6 @@ module _ (ledger : LedgerFields) (job : Job) (items : List LedgerItem) (settled 
       ∙ items_are ledger job items settled ms
 
 -- the same, of items and flags as slices show them
-pub shown_of : {ledger : LedgerFields} {job : Job} {crls : List JobCrl} {issuers : List (List ℕ)} {items seen : List LedgerItem} {settled shown : List Bool}
+pub shown_of : {ledger : LedgerFields} {job : JobFacts} {crls : List JobCrl} {issuers : List (List ℕ)} {items seen : List LedgerItem} {settled shown : List Bool}
     → AreOf ledger job crls issuers items settled → seen ≡ items → shown ≡ settled → AreOf ledger job crls issuers seen shown
 shown_of of e s = record { crls = of.crls; issuers = of.issuers; members = record { items = e ∙ of.members.items; settled = s ∙ of.members.settled } }

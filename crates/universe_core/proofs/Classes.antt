@@ -23,7 +23,7 @@ use Rattle.universe_core.specs.Reading.{if_read, entry_fields, class_alone, one_
 use Rattle.universe_core.specs.declared.class.Class.TheVariants.{Unread, Uncovered, Unenrolled, Late, Accepted}
 
 -- without parts nothing is late
-pub none_late : (x : Identity) (s : Sighting) → (past_in no_ledger).lacked x s ≡ false
+pub none_late : (x : Identity) (s : Sighting) → (past_in no_ledger).comes_late x s ≡ false
 unfolding past_in parts_before item_of
 none_late x s = refl
 
@@ -41,11 +41,11 @@ module _ (ranges : List Range) (issuers : List (List ℕ)) (past : Past) where
   unfolding class_by
   told_unenrolled e c n = rw (c, n) refl
 
-  pub told_late : (e : Entry) → covers ranges e.sighting ≡ true → has_key issuers e.id.issuer ≡ true → past.lacked e.id e.sighting ≡ true → Late ≡ class_by ranges issuers past (Some e)
+  pub told_late : (e : Entry) → covers ranges e.sighting ≡ true → has_key issuers e.id.issuer ≡ true → past.comes_late e.id e.sighting ≡ true → Late ≡ class_by ranges issuers past (Some e)
   unfolding class_by
   told_late e c n l = rw (c, n, l) refl
 
-  pub told_accepted : (e : Entry) → covers ranges e.sighting ≡ true → has_key issuers e.id.issuer ≡ true → past.lacked e.id e.sighting ≡ false → Accepted ≡ class_by ranges issuers past (Some e)
+  pub told_accepted : (e : Entry) → covers ranges e.sighting ≡ true → has_key issuers e.id.issuer ≡ true → past.comes_late e.id e.sighting ≡ false → Accepted ≡ class_by ranges issuers past (Some e)
   unfolding class_by
   told_accepted e c n l = rw (c, n, l) refl
 

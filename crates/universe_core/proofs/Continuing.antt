@@ -16,7 +16,7 @@ use Rattle.ident_core.specs.Coverage.{RangesFit, first_outside}
 use Rattle.ident_core.proofs.Within.{within-iff}
 use Rattle.job_core.specs.declared.bounds.Limits.{Limits}
 use Rattle.job_core.specs.declared.bounds.What.TheVariants as what
-use Rattle.job_core.specs.declared.meaning.Job.{Job as CodeJob}
+use Rattle.job_core.specs.declared.meaning.Job.{Job}
 use Rattle.job_core.specs.JobFields.{JobFields, crl_view, fields_of_job}
 use Rattle.ledger_core.specs.declared.fields.LedgerItem.{LedgerItem}
 use Rattle.ledger_core.specs.declared.fields.LedgerPart.{LedgerPart}
@@ -28,7 +28,7 @@ use Rattle.ident_core.specs.Sets.{has}
 use Rattle.ident_core.proofs.Canonical.{Contains-from_Among}
 use Rattle.ident_core.proofs.Order.{sorted_none}
 use Rattle.ident_core.proofs.Sets.{identity_total, with_all_ascends}
-use Rattle.universe_core.specs.Jobs.{Job, facts_of, enrolled}
+use Rattle.universe_core.specs.Jobs.{JobFacts, facts_of, enrolled}
 use Rattle.universe_core.specs.History.{shown, accepted_with, universe, revoked, released}
 use Rattle.universe_core.specs.Ledgers.{no_ledger, past_in, item_of, birth_or, last_or_none, next_item, next_ledger}
 use Rattle.universe_core.specs.Groups.{GroupFields, IsGroup, group_of, groups}
@@ -64,7 +64,7 @@ unfolding refusal
 refusal_is limits ledger job =
     first_last (bad_crl_from 0 job.crls) (old_epoch (newest ledger.parts) job.epoch) (shrunk (newest ledger.parts) (facts_of job)) (chain_full ledger.parts) (too_many limits ledger (facts_of job))
 
-pub refused_as : (limits : Limits) (ledger : LedgerFields) (job : CodeJob) (e : AdmitFault) → refusal limits ledger (fields_of_job job) ≡ Some e → IsAdmission limits ledger job (Err e)
+pub refused_as : (limits : Limits) (ledger : LedgerFields) (job : Job) (e : AdmitFault) → refusal limits ledger (fields_of_job job) ≡ Some e → IsAdmission limits ledger job (Err e)
 refused_as limits ledger job e h = record { admitted = tt; refused = λ n. h; head = tt; groups = tt; facts = tt; counts = tt; next = tt }
 
 pub refusal_early : (limits : Limits) (ledger : LedgerFields) (job : JobFields) (e : AdmitFault) → early ledger.parts job ≡ Some e → refusal limits ledger job ≡ Some e
@@ -99,7 +99,7 @@ kind_some : (ps : List LedgerPartFields) (p : LedgerPartFields) → newest ps �
 kind_some [] p h = absurd cc
 kind_some (q ∷ ps) p h = refl
 
-pub head_some : (ps : List LedgerPart) (p : LedgerPart) (job : Job) (ranges : List Range) → Some p ≡ slice_get ps (length ps - 1) → ranges ≡ job.ranges
+pub head_some : (ps : List LedgerPart) (p : LedgerPart) (job : JobFacts) (ranges : List Range) → Some p ≡ slice_get ps (length ps - 1) → ranges ≡ job.ranges
     → ◌≡◌ {A = HeadFields} (record { kind = kinds.Delta; epoch = job.epoch; parent = p.trailer; ranges = ranges }) (head_after (map part_fields ps) job)
 head_some ps p job ranges h r =
     let n : Some (part_fields p) ≡ newest (map part_fields ps) = ap (option_map part_fields) h ∙ newest_code ps in
@@ -122,7 +122,7 @@ none_of : (o : Option (List ℕ)) → option_map faults.CoverageShrinks o ≡ No
 none_of None h = refl
 none_of (Some x) h = absurd cc
 
-follows : (o : Option LedgerPartFields) (job : Job) (issuers : List (List ℕ)) → old_epoch o job.epoch ≡ None → shrunk o job ≡ None → Continues o (first_part job.epoch job.ranges issuers)
+follows : (o : Option LedgerPartFields) (job : JobFacts) (issuers : List (List ℕ)) → old_epoch o job.epoch ≡ None → shrunk o job ≡ None → Continues o (first_part job.epoch job.ranges issuers)
 follows None job issuers a b = tt
 follows (Some q) job issuers a b = (
   leb-false job.epoch q.epoch (not_so (nat_le job.epoch q.epoch) (faults.OldEpoch q.epoch job.epoch) a),
@@ -151,7 +151,7 @@ item_by n x until None false h = record { birth = omega arith; last = tt }
 item_by n x until (Some i) true h = let b = h.birth in record { birth = omega arith; last = (omega arith, omega arith) }
 item_by n x until (Some i) false h = let m = IsItemOf-more n (n + 1) i (omega arith) h in record { birth = m.birth; last = m.last }
 
-module _ (ledger : LedgerFields) (job : Job) (before : IsBefore ledger) where
+module _ (ledger : LedgerFields) (job : JobFacts) (before : IsBefore ledger) where
   pub accepted_ascends : IsStrictlySortedBy identity_cmp (accepted_with (past_in ledger) job)
   unfolding accepted_with past_in
   accepted_ascends = with_all_ascends (map (λ e. e.id) (shown (past_in ledger) job)) (ids ledger.items) before.items_ascend
@@ -176,7 +176,7 @@ module _ (ledger : LedgerFields) (job : Job) (before : IsBefore ledger) where
   pub ids_ascend : (items : List LedgerItem) (settled : List Bool) → AreMembers (members_in ledger job) items settled → IsStrictlySortedBy identity_cmp (ids items)
   ids_ascend items settled ms = subst (λ z. IsStrictlySortedBy identity_cmp z) (sym (ids_in ledger job items settled ms)) accepted_ascends
 
-pub members_many : (ledger : LedgerFields) (job : Job) (items : List LedgerItem) (settled : List Bool) → AreMembers (members_in ledger job) items settled
+pub members_many : (ledger : LedgerFields) (job : JobFacts) (items : List LedgerItem) (settled : List Bool) → AreMembers (members_in ledger job) items settled
     → length items ≡ length (accepted_with (past_in ledger) job)
 members_many ledger job items settled ms = sym (length-map items (λ (i : LedgerItem). i.id)) ∙ ap length (ids_in ledger job items settled ms)
 
@@ -210,14 +210,14 @@ is_next ledger job issuers items before none r k i few some =
       items = subst (λ m. All (IsItemOf m) items) (sym len) (subst (λ z. All (IsItemOf (length ledger.parts + 1)) z) (sym i) (next_items ledger (facts_of job) before));
     }
 
-pub next_is : (ledger : LedgerFields) (job : Job) (issuers : List (List ℕ)) (items : List LedgerItem) (trailer : List ℕ) → issuers ≡ enrolled job
+pub next_is : (ledger : LedgerFields) (job : JobFacts) (issuers : List (List ℕ)) (items : List LedgerItem) (trailer : List ℕ) → issuers ≡ enrolled job
     → items ≡ map (next_item (past_in ledger) ledger job) (accepted_with (past_in ledger) job)
     → sealed_with (record { parts = ledger.parts ++ first_part job.epoch job.ranges issuers ∷ []; items = items }) trailer ≡ next_ledger ledger job trailer
 next_is ledger job issuers items trailer k i =
     let s = sealed-append ledger.parts (first_part job.epoch job.ranges issuers) trailer in
     (λ j. record { parts = s j; items = items }) ∙ (λ j. record { parts = ledger.parts ++ record { epoch = job.epoch; trailer = trailer; ranges = job.ranges; issuers = k j } ∷ []; items = i j })
 
-pub counts_are : (ledger : LedgerFields) (job : Job) (n : Counts) → n.issuers ≡ length (enrolled job) → n.universe ≡ length (universe (past_in ledger) job)
+pub counts_are : (ledger : LedgerFields) (job : JobFacts) (n : Counts) → n.issuers ≡ length (enrolled job) → n.universe ≡ length (universe (past_in ledger) job)
     → n.revoked ≡ length (revoked (past_in ledger) job)
     → n.unread ≡ count Unread (past_in ledger) job → n.uncovered ≡ count Uncovered (past_in ledger) job → n.unenrolled ≡ count Unenrolled (past_in ledger) job
     → n.late ≡ count Late (past_in ledger) job → n.accepted ≡ count Accepted (past_in ledger) job → n ≡ counts_after ledger job
@@ -227,5 +227,5 @@ counts_are ledger job n a b c d e f g h = λ j. record { issuers = a j; universe
 pub shows : (ledger : LedgerFields) (parts : List LedgerPart) (items : List LedgerItem) → map part_fields parts ≡ ledger.parts → items ≡ ledger.items → ledger_fields parts items ≡ ledger
 shows ledger parts items p q = λ i. record { parts = p i; items = q i }
 
-pub crls_few : (limits : Limits) (job : CodeJob) → length (map crl_view job.crls.items) ≤ limits.crls → limits.crls ≤ 65535 → length job.crls.items ≤ 65535
+pub crls_few : (limits : Limits) (job : Job) → length (map crl_view job.crls.items) ≤ limits.crls → limits.crls ≤ 65535 → length job.crls.items ≤ 65535
 crls_few limits job a b = let m = length-map job.crls.items crl_view in omega arith

@@ -8,7 +8,7 @@ use Rattle.job_core.specs.JobFields.{crl_view}
 use Rattle.ident_core.specs.Sets.{has_key, key_set}
 use Rattle.ident_core.proofs.Elements.{bool_same, Among-filter, Among-in_filter}
 use Rattle.ident_core.proofs.Sets.{Among-from_has_key, has_key-from_Among, Among-key_set, Among-from_key_set}
-use Rattle.universe_core.specs.Jobs.{Crl, Job, accepted_crl, is_stale, crls_of, enrolled, is_enrolled}
+use Rattle.universe_core.specs.Jobs.{Crl, JobFacts, accepted_crl, is_stale, crls_of, enrolled, is_enrolled}
 use Rattle.universe_core.specs.Enrolling.{facts_of_crl, is_of, is_stale_of}
 
 has_issuer : (k : List ℕ) (cs : List Crl) → has_key (map (λ (c : Crl). c.issuer) cs) k ≡ list_any (λ (c : Crl). bytes_eq k c.issuer) cs
@@ -16,7 +16,7 @@ has_issuer k [] = refl
 has_issuer k (c ∷ cs) = ap (λ (b : Bool). bytes_eq k c.issuer || b) (has_issuer k cs)
 
 -- of the enrolled issuers the test is true, and of no other
-pub enrolled_test : (job : Job) (k : List ℕ) → has_key (enrolled job) k ≡ is_enrolled job k
+pub enrolled_test : (job : JobFacts) (k : List ℕ) → has_key (enrolled job) k ≡ is_enrolled job k
 unfolding enrolled is_enrolled
 enrolled_test job k =
     let P : List ℕ → Bool = λ issuer. list_all (λ c. not (is_stale job.moment c.next_update)) (crls_of issuer job) in
@@ -58,7 +58,7 @@ fresh_told moment k (c ∷ cs) =
           (list_any (λ e. is_stale_of moment k (facts_of_crl e)) cs) refl (fresh_told moment k cs)
     ])
 
-enrolled_told : (job : Job) (k : List ℕ) (crls : List JobCrl) → job.crls ≡ told crls
+enrolled_told : (job : JobFacts) (k : List ℕ) (crls : List JobCrl) → job.crls ≡ told crls
     → (list_any (λ c. is_of k (facts_of_crl c)) crls && not (list_any (λ c. is_stale_of job.moment k (facts_of_crl c)) crls)) ≡ is_enrolled job k
 unfolding is_enrolled
 enrolled_told job k crls t =
@@ -66,12 +66,12 @@ enrolled_told job k crls t =
     ∙ ap (λ (b : Bool). list_any (λ (c : Crl). bytes_eq k c.issuer) job.crls && b)
     (fresh_told job.moment k crls ∙ ap (λ (cs : List Crl). list_all (λ (c : Crl). not (is_stale job.moment c.next_update)) (filter (λ (c : Crl). bytes_eq k c.issuer) cs)) (sym t))
 
-pub enrolled_yes : (job : Job) (k : List ℕ) (crls : List JobCrl) → job.crls ≡ told crls → (some stale : Bool) → some ≡ list_any (λ c. is_of k (facts_of_crl c)) crls
+pub enrolled_yes : (job : JobFacts) (k : List ℕ) (crls : List JobCrl) → job.crls ≡ told crls → (some stale : Bool) → some ≡ list_any (λ c. is_of k (facts_of_crl c)) crls
     → stale ≡ list_any (λ c. is_stale_of job.moment k (facts_of_crl c)) crls → some ≡ true → not stale ≡ is_enrolled job k
 enrolled_yes job k crls t some stale a b is =
     ap not b ∙ ap (λ (h : Bool). h && not (list_any (λ c. is_stale_of job.moment k (facts_of_crl c)) crls)) (sym is ∙ a) ∙ enrolled_told job k crls t
 
-pub enrolled_no : (job : Job) (k : List ℕ) (crls : List JobCrl) → job.crls ≡ told crls → (some : Bool) → some ≡ list_any (λ c. is_of k (facts_of_crl c)) crls
+pub enrolled_no : (job : JobFacts) (k : List ℕ) (crls : List JobCrl) → job.crls ≡ told crls → (some : Bool) → some ≡ list_any (λ c. is_of k (facts_of_crl c)) crls
     → some ≡ false → some ≡ is_enrolled job k
 enrolled_no job k crls t some a is =
     is ∙ ap (λ (h : Bool). h && not (list_any (λ c. is_stale_of job.moment k (facts_of_crl c)) crls)) (sym is ∙ a) ∙ enrolled_told job k crls t

@@ -10,10 +10,10 @@ use Rattle.job_core.specs.JobFields.{crl_view}
 use Rattle.ident_core.specs.Sets.{has_key, key_set}
 use Rattle.ident_core.proofs.Elements.{bool_same}
 use Rattle.ident_core.proofs.Sets.{Among-from_has_key, has_key-from_Among, Among-key_set, Among-from_key_set, key_set_ascends}
-use Rattle.universe_core.specs.Jobs.{Crl, Job, accepted_crl, is_stale, crls_of, enrolled}
+use Rattle.universe_core.specs.Jobs.{Crl, JobFacts, accepted_crl, is_stale, crls_of, enrolled}
 use Rattle.universe_core.specs.Enrolling.{facts_of_crl, issuer_if, stale_issuer_if}
 
-pub enrolled_ascend : (job : Job) → IsStrictlySortedBy octets_cmp (enrolled job)
+pub enrolled_ascend : (job : JobFacts) → IsStrictlySortedBy octets_cmp (enrolled job)
 unfolding enrolled
 enrolled_ascend job =
     IsStrictlySortedBy-filter octets_cmp (λ issuer. list_all (λ c. not (is_stale job.moment c.next_update)) (crls_of issuer job)) (key_set (map (λ c. c.issuer) job.crls))
@@ -50,7 +50,7 @@ module _ (moment : ℕ) (k : List ℕ) where
 filter_agree : {A : Type 0} (p q : A → Bool) (xs : List A) → ((x : A) → p x ≡ q x) → filter p xs ≡ filter q xs
 filter_agree p q xs h = ap (λ f. filter f xs) (λ i. λ x. h x i)
 
-enrolled_is : (job : Job) → filter (λ k. not (has_key (key_set (issuers_in (stale_in job.moment job.crls))) k)) (key_set (issuers_in job.crls)) ≡ enrolled job
+enrolled_is : (job : JobFacts) → filter (λ k. not (has_key (key_set (issuers_in (stale_in job.moment job.crls))) k)) (key_set (issuers_in job.crls)) ≡ enrolled job
 unfolding enrolled
 enrolled_is job =
     filter_agree (λ k. not (has_key (key_set (issuers_in (stale_in job.moment job.crls))) k))
@@ -76,7 +76,7 @@ stale_told moment (c ∷ cs) =
     ≡ issuers_in (stale_in moment (cons_option o (filter_map accepted_crl (map crl_view cs)))))
     [ None ↦ stale_told moment cs | Some d ↦ stale_step moment d _ (stale_in moment (filter_map accepted_crl (map crl_view cs))) (is_stale moment d.next_update) (stale_told moment cs) ])
 
-pub enrolled_from : (job : Job) (crls : List JobCrl) (keys others left : List (List ℕ)) → job.crls ≡ filter_map accepted_crl (map crl_view crls)
+pub enrolled_from : (job : JobFacts) (crls : List JobCrl) (keys others left : List (List ℕ)) → job.crls ≡ filter_map accepted_crl (map crl_view crls)
     → keys ≡ key_set (filter_map (λ c. issuer_if (facts_of_crl c)) crls)
     → others ≡ key_set (filter_map (λ c. stale_issuer_if job.moment (facts_of_crl c)) crls)
     → left ≡ filter (λ k. not (has_key others k)) keys → left ≡ enrolled job

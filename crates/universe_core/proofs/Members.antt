@@ -17,14 +17,14 @@ use Rattle.ident_core.specs.Among.{Among}
 use Rattle.ident_core.specs.declared.identity.Identity.{Identity}
 use Rattle.ident_core.specs.declared.range.Sighting.{Sighting}
 use Rattle.ident_core.specs.declared.range.Range.{Range}
-use Rattle.universe_core.specs.Jobs.{Entry, Job, enrolled}
+use Rattle.universe_core.specs.Jobs.{Entry, JobFacts, enrolled}
 use Rattle.ident_core.specs.Order.{is_same, identity_cmp}
 use Rattle.ident_core.specs.Sets.{has_key}
 use Rattle.ident_core.specs.Coverage.{covers}
 use Rattle.universe_core.specs.declared.class.Class.TheVariants.{Uncovered, Unenrolled, Late, Accepted}
 use Rattle.universe_core.specs.History.{Past, class_by, class_of, if_accepted, shown, sightings, accepted_with, covers_all}
 use Rattle.universe_core.specs.Dates.{greatest, dates}
-use Rattle.universe_core.specs.Ledgers.{past_in, parts_before, item_of, birth_or, last_or_none, last_covers, part_covers, lacked_by, old_dates}
+use Rattle.universe_core.specs.Ledgers.{past_in, parts_before, item_of, birth_or, last_or_none, last_covers, part_covers, covered_and_enrolled_by, old_dates}
 use Rattle.ledger_core.specs.LedgerFields.{LedgerFields, LedgerPartFields, part_fields, ledger_fields}
 use Rattle.ledger_core.specs.declared.fields.LedgerPart.{LedgerPart}
 use Rattle.ledger_core.specs.declared.fields.LedgerItem.{LedgerItem}
@@ -64,27 +64,27 @@ accept_is true false l d e h = absurd cc
 accept_is false n l d e h = absurd cc
 
 -- the sorted entries of a job are those that its ranges cover and whose issuers are enrolled
-pub record AreRead (job : Job) (sorted : List Entry) : Type 0 where
+pub record AreRead (job : JobFacts) (sorted : List Entry) : Type 0 where
   pub among : (e : Entry) → Among sorted e → Among job.entries (Some e) × (covers job.ranges e.sighting ≡ true) × (has_key (enrolled job) e.id.issuer ≡ true)
   pub all : (e : Entry) → Among job.entries (Some e) → covers job.ranges e.sighting ≡ true → has_key (enrolled job) e.id.issuer ≡ true → Among sorted e
 
-module _ (past : Past) (job : Job) (sorted : List Entry) (reads : AreRead job sorted) where
-  shown_to : (d : Entry) → Among sorted d → past.lacked d.id d.sighting ≡ false → Among (shown past job) d
+module _ (past : Past) (job : JobFacts) (sorted : List Entry) (reads : AreRead job sorted) where
+  shown_to : (d : Entry) → Among sorted d → past.comes_late d.id d.sighting ≡ false → Among (shown past job) d
   unfolding shown class_by
   shown_to d a l =
       let r = reads.among d a in
       Among-in_filter_map (λ o. if_accepted (class_of past job o) o) job.entries (Some d) d r.0
-      (accept_yes (covers job.ranges d.sighting) (has_key (enrolled job) d.id.issuer) (past.lacked d.id d.sighting) d r.1 r.2 l)
+      (accept_yes (covers job.ranges d.sighting) (has_key (enrolled job) d.id.issuer) (past.comes_late d.id d.sighting) d r.1 r.2 l)
 
   from_entry : (o : Option Entry) (e : Entry) → Among job.entries o → if_accepted (class_of past job o) o ≡ Some e
-      → Among sorted e × (past.lacked e.id e.sighting ≡ false)
+      → Among sorted e × (past.comes_late e.id e.sighting ≡ false)
   unfolding class_by
   from_entry None e a h = absurd cc
   from_entry (Some d) e a h =
-      let t = accept_is (covers job.ranges d.sighting) (has_key (enrolled job) d.id.issuer) (past.lacked d.id d.sighting) d e h in
-      (subst (λ z. Among sorted z) t.0 (reads.all d a t.1 t.2), subst (λ (z : Entry). past.lacked z.id z.sighting ≡ false) t.0 t.3)
+      let t = accept_is (covers job.ranges d.sighting) (has_key (enrolled job) d.id.issuer) (past.comes_late d.id d.sighting) d e h in
+      (subst (λ z. Among sorted z) t.0 (reads.all d a t.1 t.2), subst (λ (z : Entry). past.comes_late z.id z.sighting ≡ false) t.0 t.3)
 
-  shown_from : (e : Entry) → Among (shown past job) e → Among sorted e × (past.lacked e.id e.sighting ≡ false)
+  shown_from : (e : Entry) → Among (shown past job) e → Among sorted e × (past.comes_late e.id e.sighting ≡ false)
   unfolding shown
   shown_from e a =
       let f = Among-filter_map (λ o. if_accepted (class_of past job o) o) job.entries e a in
@@ -133,11 +133,11 @@ any_parts x s zero parts = refl
 any_parts x s (suc n) [] = refl
 any_parts x s (suc n) (p ∷ parts) = ap (λ (b : Bool). (covers p.ranges.items s && has_key p.issuers.items x.issuer) || b) (any_parts x s n parts)
 
-pub lacked_is : (parts : List LedgerPart) (items : List LedgerItem) (x : Identity) (s : Sighting) → (past_in (ledger_fields parts items)).lacked x s
-    ≡ lacked_by (take (birth_or (length parts) (find (λ (i : LedgerItem). is_same x i.id) items)) (map part_fields parts)) x s
+pub lacked_is : (parts : List LedgerPart) (items : List LedgerItem) (x : Identity) (s : Sighting) → (past_in (ledger_fields parts items)).comes_late x s
+    ≡ covered_and_enrolled_by (take (birth_or (length parts) (find (λ (i : LedgerItem). is_same x i.id) items)) (map part_fields parts)) x s
 unfolding past_in parts_before item_of
 lacked_is parts items x s =
-    ap (λ n. lacked_by (take (birth_or n (find (λ (i : LedgerItem). is_same x i.id) items)) (map part_fields parts)) x s) (length-map parts part_fields)
+    ap (λ n. covered_and_enrolled_by (take (birth_or n (find (λ (i : LedgerItem). is_same x i.id) items)) (map part_fields parts)) x s) (length-map parts part_fields)
 
 kept_of : {A B : Type 0} (f : A → B) (p : B → Bool) (xs : List A) → map f (filter (λ x. p (f x)) xs) ≡ filter p (map f xs)
 kept_of f p [] = refl
@@ -189,7 +189,7 @@ judged_is parts x old run accepted birth last settled until a b l s u =
 
 -- with the item of each entry, late is what a part before the birth of its identity lacks
 pub told_lacked : (parts : List LedgerPart) (items : List LedgerItem) (es : List Entry)
-    → count_told (is_late_beside parts) items es ≡ count_by (λ (e : Entry). (past_in (ledger_fields parts items)).lacked e.id e.sighting) es
+    → count_told (is_late_beside parts) items es ≡ count_by (λ (e : Entry). (past_in (ledger_fields parts items)).comes_late e.id e.sighting) es
 told_lacked parts items es = ap (λ f. count_by f es) (λ i. λ (e : Entry). sym (lacked_is parts items e.id e.sighting) i)
 
 item_step : (x : Identity) (i : LedgerItem) (is : List LedgerItem) (b : Bool) → is_same x i.id ≡ b → (Among (item_ids is) x → is_some (find (λ (j : LedgerItem). is_same x j.id) is) ≡ true)
@@ -211,7 +211,7 @@ item_some : (x : Identity) (is : List LedgerItem) → is_some (find (λ (j : Led
 item_some x [] h = absurd (true≢false (sym h))
 item_some x (i ∷ is) h = back_step x i is (is_same x i.id) refl (item_some x is) h
 
-module _ (parts : List LedgerPart) (items : List LedgerItem) (job : Job) (sorted : List Entry) (reads : AreRead job sorted) where
+module _ (parts : List LedgerPart) (items : List LedgerItem) (job : JobFacts) (sorted : List Entry) (reads : AreRead job sorted) where
   abbrev ledger : LedgerFields
   ledger = ledger_fields parts items
 
@@ -222,13 +222,13 @@ module _ (parts : List LedgerPart) (items : List LedgerItem) (job : Job) (sorted
   run_at x = filter (λ (e : Entry). is_same x e.id) sorted
 
   abbrev late_in : Identity → Entry → Bool
-  late_in x e = lacked_by (take (birth_or (length parts) (item_at x)) (map part_fields parts)) e.id e.sighting
+  late_in x e = covered_and_enrolled_by (take (birth_or (length parts) (item_at x)) (map part_fields parts)) e.id e.sighting
 
-  late_is : (x : Identity) (e : Entry) → x ≡ e.id → late_in x e ≡ (past_in ledger).lacked e.id e.sighting
+  late_is : (x : Identity) (e : Entry) → x ≡ e.id → late_in x e ≡ (past_in ledger).comes_late e.id e.sighting
   late_is x e h =
-      subst (λ y. late_in y e ≡ (past_in ledger).lacked e.id e.sighting) (sym h) (sym (lacked_is parts items e.id e.sighting))
+      subst (λ y. late_in y e ≡ (past_in ledger).comes_late e.id e.sighting) (sym h) (sym (lacked_is parts items e.id e.sighting))
 
-  timely_to : (x : Identity) (e : Entry) → Among (timely parts (item_at x) (run_at x)) e → Among sorted e × (x ≡ e.id) × ((past_in ledger).lacked e.id e.sighting ≡ false)
+  timely_to : (x : Identity) (e : Entry) → Among (timely parts (item_at x) (run_at x)) e → Among sorted e × (x ≡ e.id) × ((past_in ledger).comes_late e.id e.sighting ≡ false)
   timely_to x e a =
       let f = Among-filter (is_timely parts (birth_or (length parts) (item_at x))) (run_at x) e a in
       let g = Among-filter (λ (d : Entry). is_same x d.id) sorted e f.0 in
@@ -238,10 +238,10 @@ module _ (parts : List LedgerPart) (items : List LedgerItem) (job : Job) (sorted
   run_from : (x : Identity) (e : Entry) → Among sorted e → x ≡ e.id → Among (run_at x) e
   run_from x e a i = Among-in_filter (λ (d : Entry). is_same x d.id) sorted e a (subst (λ y. is_same x y ≡ true) i (same_refl x))
 
-  timely_at : (x : Identity) (e : Entry) → x ≡ e.id → (past_in ledger).lacked e.id e.sighting ≡ false → is_timely parts (birth_or (length parts) (item_at x)) e ≡ true
+  timely_at : (x : Identity) (e : Entry) → x ≡ e.id → (past_in ledger).comes_late e.id e.sighting ≡ false → is_timely parts (birth_or (length parts) (item_at x)) e ≡ true
   timely_at x e i l = not_no (late_in x e) (late_is x e i ∙ l)
 
-  timely_from : (x : Identity) (e : Entry) → Among sorted e → x ≡ e.id → (past_in ledger).lacked e.id e.sighting ≡ false → Among (timely parts (item_at x) (run_at x)) e
+  timely_from : (x : Identity) (e : Entry) → Among sorted e → x ≡ e.id → (past_in ledger).comes_late e.id e.sighting ≡ false → Among (timely parts (item_at x) (run_at x)) e
   timely_from x e a i l = Among-in_filter (is_timely parts (birth_or (length parts) (item_at x))) (run_at x) e (run_from x e a i) (timely_at x e i l)
 
   -- ---- the fields of a member
@@ -304,7 +304,7 @@ module _ (parts : List LedgerPart) (items : List LedgerItem) (job : Job) (sorted
     id = x;
     birth = birth_or (length ledger.parts) (item_of ledger x);
     last = last_or_none (item_of ledger x);
-    settled = (past_in ledger).is_settled x (sightings x (shown (past_in ledger) job));
+    settled = (past_in ledger).already_revoked x (sightings x (shown (past_in ledger) job));
     until = greatest (old_dates (item_of ledger x) ++ dates x (shown (past_in ledger) job));
   }
 
@@ -345,7 +345,7 @@ module _ (parts : List LedgerPart) (items : List LedgerItem) (job : Job) (sorted
       sorted_all_inserted identity_cmp identity_total (map (λ (e : Entry). e.id) (shown (past_in ledger) job)) (item_ids items)
       s
 
-  shown_id : (z : Identity) (e : Entry) → Among sorted e → z ≡ e.id → (past_in ledger).lacked e.id e.sighting ≡ false → Among (map (λ (d : Entry). d.id) (shown (past_in ledger) job)) z
+  shown_id : (z : Identity) (e : Entry) → Among sorted e → z ≡ e.id → (past_in ledger).comes_late e.id e.sighting ≡ false → Among (map (λ (d : Entry). d.id) (shown (past_in ledger) job)) z
   shown_id z e a i l =
       subst (λ y. Among (map (λ (d : Entry). d.id) (shown (past_in ledger) job)) y) (sym i)
       (Among-in_map (λ (d : Entry). d.id) (shown (past_in ledger) job) e (shown_to (past_in ledger) job sorted reads e a l))

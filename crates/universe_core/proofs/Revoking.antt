@@ -14,60 +14,52 @@ use Rattle.ledger_core.specs.declared.fields.LedgerItem.{LedgerItem}
 use Rattle.ident_core.specs.Sets.{has, has_key}
 use Rattle.ident_core.proofs.Elements.{Among-filter, Among-in_filter, bool_same, map_agree}
 use Rattle.ident_core.proofs.Sets.{Among-from_has, has-from_Among}
-use Rattle.universe_core.specs.Jobs.{Crl, Job, accepted_crl, enrolled, lists}
+use Rattle.universe_core.specs.Jobs.{Crl, JobFacts, accepted_crl, enrolled, lists}
 use Rattle.universe_core.specs.Enrolling.{facts_of_crl, holds}
-use Rattle.universe_core.specs.History.{Past, shown, sightings, accepted_with, universe, listed_now, is_revoked, revoked}
+use Rattle.universe_core.specs.History.{Past, shown, sightings, accepted_with, universe, is_revoked, revoked}
 use Rattle.universe_core.specs.Ledgers.{past_in, item_of, last_or_none, next_item}
 use Rattle.universe_core.specs.Members.{AreMembers, AreOf, as_item, member_in, members_in, next_of}
 use Rattle.universe_core.specs.declared.member.Member.{Member}
 
-pub universe_is : (past : Past) (job : Job) (x : Identity) → has (universe past job) x ≡ true → (has (accepted_with past job) x ≡ true) × (has_key (enrolled job) x.issuer ≡ true)
+pub universe_is : (past : Past) (job : JobFacts) (x : Identity) → has (universe past job) x ≡ true → (has (accepted_with past job) x ≡ true) × (has_key (enrolled job) x.issuer ≡ true)
 unfolding universe
 universe_is past job x h =
     let f = Among-filter (λ y. has_key (enrolled job) y.issuer) (accepted_with past job) x (Among-from_has (universe past job) x h) in
     (has-from_Among (accepted_with past job) x f.0, f.1)
 
-pub universe_has : (past : Past) (job : Job) (x : Identity) → has (accepted_with past job) x ≡ true → has_key (enrolled job) x.issuer ≡ true → has (universe past job) x ≡ true
+pub universe_has : (past : Past) (job : JobFacts) (x : Identity) → has (accepted_with past job) x ≡ true → has_key (enrolled job) x.issuer ≡ true → has (universe past job) x ≡ true
 unfolding universe
 universe_has past job x a e = has-from_Among (universe past job) x (Among-in_filter (λ y. has_key (enrolled job) y.issuer) (accepted_with past job) x (Among-from_has (accepted_with past job) x a) e)
 
-pub revoked_is : (past : Past) (job : Job) (x : Identity) → has (revoked past job) x ≡ true → (has (universe past job) x ≡ true) × (is_revoked past job x ≡ true)
+pub revoked_is : (past : Past) (job : JobFacts) (x : Identity) → has (revoked past job) x ≡ true → (has (universe past job) x ≡ true) × (is_revoked past job x ≡ true)
 unfolding revoked
 revoked_is past job x h =
     let f = Among-filter (is_revoked past job) (universe past job) x (Among-from_has (revoked past job) x h) in
     (has-from_Among (universe past job) x f.0, f.1)
 
-pub revoked_has : (past : Past) (job : Job) (x : Identity) → has (universe past job) x ≡ true → is_revoked past job x ≡ true → has (revoked past job) x ≡ true
+pub revoked_has : (past : Past) (job : JobFacts) (x : Identity) → has (universe past job) x ≡ true → is_revoked past job x ≡ true → has (revoked past job) x ≡ true
 unfolding revoked
 revoked_has past job x u r = has-from_Among (revoked past job) x (Among-in_filter (is_revoked past job) (universe past job) x (Among-from_has (universe past job) x u) r)
 
-listed_at : (past : Past) (job : Job) (x : Identity) → has (universe past job) x ≡ true → has (listed_now past job) x ≡ lists job x
-unfolding listed_now
-listed_at past job x u =
-    bool_same (has (listed_now past job) x) (lists job x)
-    (λ h. (Among-filter (lists job) (universe past job) x (Among-from_has (listed_now past job) x h)).1)
-    (λ h. has-from_Among (listed_now past job) x (Among-in_filter (lists job) (universe past job) x (Among-from_has (universe past job) x u) h))
-
 -- a member of the universe is revoked where it was listed or is, and isn't settled
-pub revoked_at : (past : Past) (job : Job) (x : Identity) → has (universe past job) x ≡ true
-    → has (revoked past job) x ≡ ((past.was_listed x || lists job x) && not (past.is_settled x (sightings x (shown past job))))
+pub revoked_at : (past : Past) (job : JobFacts) (x : Identity) → has (universe past job) x ≡ true
+    → has (revoked past job) x ≡ ((past.listed_before x || lists job x) && not (past.already_revoked x (sightings x (shown past job))))
 unfolding is_revoked
 revoked_at past job x u =
     bool_same (has (revoked past job) x) (is_revoked past job x) (λ h. (revoked_is past job x h).1) (revoked_has past job x u)
-    ∙ ap (λ b. (past.was_listed x || b) && not (past.is_settled x (sightings x (shown past job)))) (listed_at past job x u)
 
 -- and no other is revoked
-revoked_outside : (past : Past) (job : Job) (x : Identity) → has (universe past job) x ≡ false → has (revoked past job) x ≡ false
+revoked_outside : (past : Past) (job : JobFacts) (x : Identity) → has (universe past job) x ≡ false → has (revoked past job) x ≡ false
 revoked_outside past job x u = false_from_ne_true (has (revoked past job) x) (λ h. absurd (true≢false (sym (revoked_is past job x h).0 ∙ u)))
 
-flag_by : (past : Past) (job : Job) (x : Identity) (b : Bool) → has_key (enrolled job) x.issuer ≡ b → has (accepted_with past job) x ≡ true
-    → has (revoked past job) x ≡ (b && ((past.was_listed x || lists job x) && not (past.is_settled x (sightings x (shown past job)))))
+flag_by : (past : Past) (job : JobFacts) (x : Identity) (b : Bool) → has_key (enrolled job) x.issuer ≡ b → has (accepted_with past job) x ≡ true
+    → has (revoked past job) x ≡ (b && ((past.listed_before x || lists job x) && not (past.already_revoked x (sightings x (shown past job)))))
 flag_by past job x true e a = revoked_at past job x (universe_has past job x a e)
 flag_by past job x false e a = revoked_outside past job x (false_from_ne_true (has (universe past job) x) (λ h. absurd (true≢false (sym (universe_is past job x h).1 ∙ e))))
 
 -- an accepted identity is revoked where its issuer is enrolled, it was listed or is, and it isn't settled
-pub flag_is : (past : Past) (job : Job) (x : Identity) → has (accepted_with past job) x ≡ true
-    → has (revoked past job) x ≡ (has_key (enrolled job) x.issuer && ((past.was_listed x || lists job x) && not (past.is_settled x (sightings x (shown past job)))))
+pub flag_is : (past : Past) (job : JobFacts) (x : Identity) → has (accepted_with past job) x ≡ true
+    → has (revoked past job) x ≡ (has_key (enrolled job) x.issuer && ((past.listed_before x || lists job x) && not (past.already_revoked x (sightings x (shown past job)))))
 flag_is past job x a = flag_by past job x (has_key (enrolled job) x.issuer) refl a
 
 -- ---- what the marks say
@@ -88,7 +80,7 @@ lists_all : (x : Identity) (cs : List JobCrl) → list_any (λ (d : Crl). has_ke
 lists_all x [] = refl
 lists_all x (c ∷ cs) = lists_step x (facts_of_crl c) (filter_map accepted_crl (map crl_view cs)) (list_any (λ d. holds (facts_of_crl d) x) cs) (lists_all x cs)
 
-pub lists_is : (job : Job) (crls : List JobCrl) (x : Identity) → job.crls ≡ filter_map accepted_crl (map crl_view crls) → lists job x ≡ list_any (λ c. holds (facts_of_crl c) x) crls
+pub lists_is : (job : JobFacts) (crls : List JobCrl) (x : Identity) → job.crls ≡ filter_map accepted_crl (map crl_view crls) → lists job x ≡ list_any (λ c. holds (facts_of_crl c) x) crls
 unfolding lists
 lists_is job crls x t = ap (λ cs. list_any (λ (d : Crl). has_key d.serials x.serial) (filter (λ (d : Crl). bytes_eq x.issuer d.issuer) cs)) t ∙ lists_all x crls
 
@@ -98,35 +90,35 @@ pub map_map : {A B C : Type 0} (f : A → B) (g : B → C) (xs : List A) → map
 map_map f g [] = refl
 map_map f g (x ∷ xs) = ap (λ z. g (f x) ∷ z) (map_map f g xs)
 
-module _ (ledger : LedgerFields) (job : Job) where
+module _ (ledger : LedgerFields) (job : JobFacts) where
   abbrev past : Past
   past = past_in ledger
 
-  was_is : (x : Identity) → is_some (last_or_none (item_of ledger x)) ≡ past.was_listed x
+  was_is : (x : Identity) → is_some (last_or_none (item_of ledger x)) ≡ past.listed_before x
   unfolding past_in
   was_is x = refl
 
   -- the flags of the members are those of the revoked set
-  pub flags_are : map (λ x. has_key (enrolled job) x.issuer && ((is_some (last_or_none (item_of ledger x)) || lists job x) && not (past.is_settled x (sightings x (shown past job)))))
+  pub flags_are : map (λ x. has_key (enrolled job) x.issuer && ((is_some (last_or_none (item_of ledger x)) || lists job x) && not (past.already_revoked x (sightings x (shown past job)))))
       (accepted_with past job) ≡ map (has (revoked past job)) (accepted_with past job)
   flags_are =
       map_agree (λ x. has_key (enrolled job) x.issuer && ((is_some (last_or_none (item_of ledger x)) || lists job x) && not
-      (past.is_settled x (sightings x (shown past job))))) (has (revoked past job)) (accepted_with past job)
-      (λ x a. ap (λ b. has_key (enrolled job) x.issuer && ((b || lists job x) && not (past.is_settled x (sightings x (shown past job))))) (was_is x) ∙ sym
+      (past.already_revoked x (sightings x (shown past job))))) (has (revoked past job)) (accepted_with past job)
+      (λ x a. ap (λ b. has_key (enrolled job) x.issuer && ((b || lists job x) && not (past.already_revoked x (sightings x (shown past job))))) (was_is x) ∙ sym
       (flag_is past job x (has-from_Among (accepted_with past job) x a)))
 
 -- ---- what is said of members, by their items and what stands beside them
 
-module _ (ledger : LedgerFields) (job : Job) (items : List LedgerItem) (settled : List Bool) (ms : AreMembers (members_in ledger job) items settled) where
+module _ (ledger : LedgerFields) (job : JobFacts) (items : List LedgerItem) (settled : List Bool) (ms : AreMembers (members_in ledger job) items settled) where
   pub of_items : {A : Type 0} (f : LedgerItem → A) → map f items ≡ map (λ x. f (as_item (member_in ledger job x))) (accepted_with (past_in ledger) job)
   of_items f =
       ap (map f) ms.items ∙ map_map as_item f (members_in ledger job)
       ∙ map_map (member_in ledger job) (λ (m : Member). f (as_item m)) (accepted_with (past_in ledger) job)
 
-  settled_by : settled ≡ map (λ (i : LedgerItem). (past_in ledger).is_settled i.id (sightings i.id (shown (past_in ledger) job))) items
+  settled_by : settled ≡ map (λ (i : LedgerItem). (past_in ledger).already_revoked i.id (sightings i.id (shown (past_in ledger) job))) items
   settled_by =
       ms.settled ∙ map_map (member_in ledger job) (λ (m : Member). m.settled) (accepted_with (past_in ledger) job)
-      ∙ sym (of_items (λ (i : LedgerItem). (past_in ledger).is_settled i.id (sightings i.id (shown (past_in ledger) job))))
+      ∙ sym (of_items (λ (i : LedgerItem). (past_in ledger).already_revoked i.id (sightings i.id (shown (past_in ledger) job))))
 
   -- the items are those of the next ledger
   pub items_are : map (λ (i : LedgerItem). next_of (length ledger.parts) (has (revoked (past_in ledger) job) i.id) i) items
@@ -138,7 +130,7 @@ module _ (ledger : LedgerFields) (job : Job) (items : List LedgerItem) (settled 
       → flags ≡ map (λ i. has_key issuers i.id.issuer && ((is_some i.last || g i.id) && not (s i.id))) items)
       → flags ≡ map (has (revoked (past_in ledger) job)) (accepted_with (past_in ledger) job)
   flags_by issuers listed flags k l f =
-      let s : Identity → Bool = λ x. (past_in ledger).is_settled x (sightings x (shown (past_in ledger) job)) in
+      let s : Identity → Bool = λ x. (past_in ledger).already_revoked x (sightings x (shown (past_in ledger) job)) in
       f s (lists job) settled_by l
       ∙ ap (λ ks. map (λ (i : LedgerItem). has_key ks i.id.issuer && ((is_some i.last || lists job i.id) && not (s i.id))) items) k
       ∙ of_items (λ (i : LedgerItem). has_key (enrolled job) i.id.issuer && ((is_some i.last || lists job i.id) && not (s i.id)))
@@ -146,7 +138,7 @@ module _ (ledger : LedgerFields) (job : Job) (items : List LedgerItem) (settled 
 
 -- ---- from the marks to the revoked set
 
-pub told_flags : (ledger : LedgerFields) (job : Job) (crls : List JobCrl) (issuers : List (List ℕ)) (items : List LedgerItem) (settled listed flags : List Bool)
+pub told_flags : (ledger : LedgerFields) (job : JobFacts) (crls : List JobCrl) (issuers : List (List ℕ)) (items : List LedgerItem) (settled listed flags : List Bool)
     → AreOf ledger job crls issuers items settled → listed ≡ map (λ x. list_any (λ c. holds (facts_of_crl c) x) crls) (ids items)
     → ((s g : Identity → Bool) → settled ≡ map (λ i. s i.id) items → listed ≡ map (λ i. g i.id) items
     → flags ≡ map (λ i. has_key issuers i.id.issuer && ((is_some i.last || g i.id) && not (s i.id))) items)

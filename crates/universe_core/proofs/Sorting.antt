@@ -13,7 +13,7 @@ use Rattle.ident_core.specs.declared.range.Range.{Range}
 use Rattle.ident_core.specs.Sets.{has_key}
 use Rattle.ident_core.specs.Order.{identity_cmp, octets_cmp}
 use Rattle.ident_core.specs.Coverage.{covers}
-use Rattle.universe_core.specs.Jobs.{Job, Entry, enrolled}
+use Rattle.universe_core.specs.Jobs.{JobFacts, Entry, enrolled}
 use Rattle.ident_core.proofs.Elements.{Among-filter_map, Among-in_filter_map, Among-map}
 use Rattle.universe_core.specs.declared.read_entry.ReadEntry.{ReadEntry}
 use Rattle.universe_core.specs.Merging.{IsRising}
@@ -71,7 +71,7 @@ read_is ranges issuers (Some d) e h =
     (ap Some p.0, subst (λ (z : Entry). covers ranges z.sighting && has_key issuers z.id.issuer ≡ true) p.0 p.1)
 
 -- the sorted entries are those that are read
-pub are_read : (job : Job) (left sorted : List Entry) → left ≡ filter_map (if_read job.ranges (enrolled job)) job.entries → IsPermutation left sorted → AreRead job sorted
+pub are_read : (job : JobFacts) (left sorted : List Entry) → left ≡ filter_map (if_read job.ranges (enrolled job)) job.entries → IsPermutation left sorted → AreRead job sorted
 are_read job left sorted l p = record {
   among = λ e a.
       let c : Among left e = Among-from_Contains left e (Contains-permutation sorted left e (IsPermutation-sym left sorted p) (Contains-from_Among sorted e a)) in

@@ -5,14 +5,14 @@ use Rattle.std.proofs.lemmas.Bool.{false_from_ne_true, true≢false}
 use Rattle.std.proofs.lemmas.List.Sums.{length-filter}
 use Rattle.ident_core.specs.declared.identity.Identity.{Identity}
 use Rattle.ident_core.specs.declared.range.Range.{Range}
-use Rattle.job_core.specs.declared.meaning.Job.{Job as CodeJob}
+use Rattle.job_core.specs.declared.meaning.Job.{Job}
 use Rattle.ledger_core.specs.LedgerFields.{LedgerFields}
 use Rattle.ledger_core.specs.declared.fields.LedgerItem.{LedgerItem}
 use Rattle.ident_core.specs.Among.{Among}
 use Rattle.ident_core.specs.Sets.{has, has_key}
 use Rattle.ident_core.proofs.Elements.{bool_same}
 use Rattle.ident_core.proofs.Sets.{has-from_Among}
-use Rattle.universe_core.specs.Jobs.{Entry, Job, facts_of_job, enrolled}
+use Rattle.universe_core.specs.Jobs.{Entry, JobFacts, facts_of_job, enrolled}
 use Rattle.universe_core.specs.History.{Past, accepted_with, universe, is_revoked, revoked}
 use Rattle.universe_core.specs.Ledgers.{no_ledger, past_in}
 use Rattle.universe_core.specs.Counting.{is_class, count}
@@ -34,14 +34,14 @@ count_by-map p f xs = sym (length-filter p (map f xs)) ∙ length_mapped p f xs 
 
 -- ---- of a job, as slices show it
 
-pub count_job : (k : Class) (job : CodeJob) (ranges : List Range) (issuers : List (List ℕ)) (es : List (Option Entry)) (n : ℕ)
+pub count_job : (k : Class) (job : Job) (ranges : List Range) (issuers : List (List ℕ)) (es : List (Option Entry)) (n : ℕ)
     → ranges ≡ job.ranges.items → issuers ≡ enrolled (facts_of_job job) → es ≡ job.entries.items
     → n ≡ count_by (λ e. is_class k (class_alone ranges issuers e)) es → n ≡ count k (past_in no_ledger) (facts_of_job job)
 count_job k job ranges issuers es n r i e h =
     h ∙ ap (λ z. count_by (λ d. is_class k (class_alone z issuers d)) es) r ∙ ap (λ z. count_by (λ d. is_class k (class_alone job.ranges.items z d)) es) i
     ∙ ap (count_by (λ d. is_class k (class_alone job.ranges.items (enrolled (facts_of_job job)) d))) e
 
-pub read_job : (job : CodeJob) (ranges : List Range) (issuers : List (List ℕ)) (es : List (Option Entry)) (left : List Entry)
+pub read_job : (job : Job) (ranges : List Range) (issuers : List (List ℕ)) (es : List (Option Entry)) (left : List Entry)
     → ranges ≡ job.ranges.items → issuers ≡ enrolled (facts_of_job job) → es ≡ job.entries.items
     → left ≡ filter_map (λ e. if_read ranges issuers e) es
     → left ≡ filter_map (if_read job.ranges.items (enrolled (facts_of_job job))) job.entries.items
@@ -60,7 +60,7 @@ placed_again issuers keys ranges shown left k s h = subst (λ is. All (IsPlaced 
 
 -- ---- the universe and the revoked set
 
-pub universe_count : (ledger : LedgerFields) (job : Job) (issuers : List (List ℕ)) (items : List LedgerItem) → issuers ≡ enrolled job
+pub universe_count : (ledger : LedgerFields) (job : JobFacts) (issuers : List (List ℕ)) (items : List LedgerItem) → issuers ≡ enrolled job
     → items ≡ map as_item (members_in ledger job)
     → count_by (λ i. has_key issuers i.id.issuer) items ≡ length (universe (past_in ledger) job)
 unfolding universe
@@ -70,7 +70,7 @@ universe_count ledger job issuers items k m =
     ∙ count_by-map (λ (d : Member). has_key (enrolled job) d.id.issuer) (member_in ledger job) (accepted_with (past_in ledger) job)
     ∙ sym (length-filter (λ x. has_key (enrolled job) x.issuer) (accepted_with (past_in ledger) job))
 
-test_by : (past : Past) (job : Job) (x : Identity) (b : Bool) → has_key (enrolled job) x.issuer ≡ b → has (accepted_with past job) x ≡ true → has (revoked past job) x ≡ (b && is_revoked past job x)
+test_by : (past : Past) (job : JobFacts) (x : Identity) (b : Bool) → has_key (enrolled job) x.issuer ≡ b → has (accepted_with past job) x ≡ true → has (revoked past job) x ≡ (b && is_revoked past job x)
 test_by past job x true e a = bool_same (has (revoked past job) x) (is_revoked past job x) (λ h. (revoked_is past job x h).1) (revoked_has past job x (universe_has past job x a e))
 test_by past job x false e a = false_from_ne_true (has (revoked past job) x) (λ h. absurd (true≢false (sym (universe_is past job x (revoked_is past job x h).0).1 ∙ e)))
 
@@ -82,13 +82,13 @@ filter_twice : {A : Type 0} (p q r : A → Bool) (xs : List A) → ((x : A) → 
 filter_twice p q r [] h = refl
 filter_twice p q r (x ∷ xs) h = twice_step p x (filter q xs) (filter r xs) (q x) (r x) (h x (inl refl)) (filter_twice p q r xs (λ y a. h y (inr a)))
 
-revoked_filter : (past : Past) (job : Job) → revoked past job ≡ filter (has (revoked past job)) (accepted_with past job)
+revoked_filter : (past : Past) (job : JobFacts) → revoked past job ≡ filter (has (revoked past job)) (accepted_with past job)
 unfolding revoked universe
 revoked_filter past job =
     filter_twice (is_revoked past job) (λ x. has_key (enrolled job) x.issuer) (has (revoked past job)) (accepted_with past job)
     (λ x a. test_by past job x (has_key (enrolled job) x.issuer) refl (has-from_Among (accepted_with past job) x a))
 
-pub revoked_count : (past : Past) (job : Job) (flags : List Bool) → flags ≡ map (has (revoked past job)) (accepted_with past job) → count_by (λ b. b) flags ≡ length (revoked past job)
+pub revoked_count : (past : Past) (job : JobFacts) (flags : List Bool) → flags ≡ map (has (revoked past job)) (accepted_with past job) → count_by (λ b. b) flags ≡ length (revoked past job)
 revoked_count past job flags f =
     ap (count_by (λ b. b)) f ∙ count_by-map (λ b. b) (has (revoked past job)) (accepted_with past job)
     ∙ sym (length-filter (has (revoked past job)) (accepted_with past job)) ∙ ap length (sym (revoked_filter past job))

@@ -2,7 +2,7 @@
 use Rattle.std.specs.Prelude.{List, map, Bool, true, false, if◌then◌else◌, Option, None}
 use Rattle.std.specs.Option.{option_map}
 use Rattle.job_core.specs.JobFields.{JobFields}
-use Rattle.universe_core.specs.Jobs.{Entry, Job, facts_of}
+use Rattle.universe_core.specs.Jobs.{Entry, JobFacts, facts_of}
 
 -- plain: each block is one leaf; sharded: the blocks of large issuers are cut into shards; dated: the same, and the
 -- dates of entries are read
@@ -37,5 +37,5 @@ abbrev pub read_in : JobIn → JobFields
 read_in j = record j.job { entries = entries_in j.format j.job.entries }
 
 -- what a job in its format says
-abbrev pub facts_in : JobIn → Job
+abbrev pub facts_in : JobIn → JobFacts
 facts_in j = facts_of (read_in j)

@@ -9,7 +9,7 @@ use Rattle.ident_core.specs.declared.range.Range.{Range}
 use Rattle.crl_core.specs.declared.crl.CrlFault.{CrlFault}
 use Rattle.crl_core.specs.Outcome.{CrlFields}
 pub use Rattle.log_core.specs.declared.Entry.{Entry}
-use Rattle.job_core.specs.declared.meaning.Job.{Job as JobInCode}
+use Rattle.job_core.specs.declared.meaning.Job.{Job}
 use Rattle.job_core.specs.JobFields.{CrlMeaning, JobFields, fields_of_job}
 use Rattle.ident_core.specs.Sets.{has_key, key_set}
 
@@ -20,7 +20,7 @@ pub record Crl : Type 0 where
   pub serials : List (List ℕ)
 
 -- A job whose CRLs are all accepted. The moment is in milliseconds since 1970; an entry that isn't read is none.
-pub record Job : Type 0 where
+pub record JobFacts : Type 0 where
   pub epoch : ℕ
   pub moment : ℕ
   pub ranges : List Range
@@ -38,7 +38,7 @@ abbrev pub accepted_crl : CrlMeaning → Option Crl
 accepted_crl c = crl_by c.issuer c.outcome
 
 -- the epoch, the moment, the coverage, the CRLs that are accepted, and the entries
-abbrev pub facts_of : JobFields → Job
+abbrev pub facts_of : JobFields → JobFacts
 facts_of j = record {
   epoch = j.epoch;
   moment = j.moment;
@@ -48,32 +48,32 @@ facts_of j = record {
 }
 
 -- the same of a job as the code has it
-abbrev pub facts_of_job : JobInCode → Job
+abbrev pub facts_of_job : Job → JobFacts
 facts_of_job j = facts_of (fields_of_job j)
 
 -- ---- enrolment and listing
 
--- whether a CRL is out of date at a moment: its nextUpdate is there, and lies before it
+-- whether a CRL is out of date at a moment: its nextUpdate (RFC 5280, 5.1.2.5) is there, and lies before it
 abbrev pub is_stale : ℕ → Option ℤ → Bool
 is_stale moment None = false
 is_stale moment (Some seconds) = int_lt (pos 1000 *ℤ seconds) (pos moment)
 
 -- the CRLs of an issuer
-abbrev pub crls_of : List ℕ → Job → List Crl
+abbrev pub crls_of : List ℕ → JobFacts → List Crl
 crls_of issuer job = filter (λ c. bytes_eq issuer c.issuer) job.crls
 
 -- The enrolled issuers: those with a CRL, none of whose CRLs is out of date.
-unfoldable pub enrolled : Job → List (List ℕ)
+unfoldable pub enrolled : JobFacts → List (List ℕ)
 enrolled job =
     filter (λ issuer. list_all (λ c. not (is_stale job.moment c.next_update)) (crls_of issuer job))
     (key_set (map (λ c. c.issuer) job.crls))
 
 -- Whether the job enrolls an issuer, as a test. Of the enrolled issuers it is true, and of no other.
-unfoldable pub is_enrolled : Job → List ℕ → Bool
+unfoldable pub is_enrolled : JobFacts → List ℕ → Bool
 is_enrolled job issuer =
     list_any (λ c. bytes_eq issuer c.issuer) job.crls
     && list_all (λ c. not (is_stale job.moment c.next_update)) (crls_of issuer job)
 
--- whether the job lists an identity: a CRL of its issuer holds its serial
-unfoldable pub lists : Job → Identity → Bool
+-- whether the job lists an identity: a CRL of its issuer has its serial among the revoked (RFC 5280, 5.1.2.6)
+unfoldable pub lists : JobFacts → Identity → Bool
 lists job x = list_any (λ c. has_key c.serials x.serial) (crls_of x.issuer job)

@@ -11,7 +11,7 @@ use Rattle.ledger_core.specs.declared.fields.LedgerPart.{LedgerPart}
 use Rattle.ledger_core.specs.declared.fields.LedgerItem.{LedgerItem}
 use Rattle.ledger_core.specs.LedgerFields.{part_fields}
 use Rattle.universe_core.specs.Dates.{later_of, greatest}
-use Rattle.universe_core.specs.Ledgers.{birth_or, last_or_none, last_covers, lacked_by, old_dates}
+use Rattle.universe_core.specs.Ledgers.{birth_or, last_or_none, last_covers, covered_and_enrolled_by, old_dates}
 use Rattle.universe_core.specs.Jobs.{Entry}
 use Rattle.universe_core.specs.Reading.{entry_fields}
 use Rattle.universe_core.specs.declared.judging.Context.{Context}
@@ -25,7 +25,7 @@ pub record IsSearchable (p : LedgerPart) : Type 0 where
 
 -- whether an entry is late, of an identity that was born before so many of the parts
 abbrev pub is_late_by : List LedgerPart → ℕ → Entry → Bool
-is_late_by parts birth e = lacked_by (take birth (map part_fields parts)) e.id e.sighting
+is_late_by parts birth e = covered_and_enrolled_by (take birth (map part_fields parts)) e.id e.sighting
 
 -- the same of an identity with this item
 abbrev pub is_late_beside : List LedgerPart → Option LedgerItem → Entry → Bool

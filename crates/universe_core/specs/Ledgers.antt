@@ -11,7 +11,7 @@ use Rattle.ledger_core.specs.declared.fields.LedgerItem.{LedgerItem}
 use Rattle.ledger_core.specs.declared.fields.LedgerPart.{LedgerPart}
 use Rattle.ledger_core.specs.LedgerFields.{LedgerPartFields, LedgerFields, ledger_fields}
 use Rattle.ident_core.specs.Sets.{has, has_key}
-use Rattle.universe_core.specs.Jobs.{Job, enrolled}
+use Rattle.universe_core.specs.Jobs.{JobFacts, enrolled}
 use Rattle.universe_core.specs.History.{Release, Past, covers_all, shown, accepted_with, revoked, birth, accepted_by}
 use Rattle.universe_core.specs.Dates.{greatest, dates, until}
 
@@ -46,8 +46,8 @@ unfoldable pub parts_before : LedgerFields → Identity → List LedgerPartField
 parts_before ledger x = take (birth_or (length ledger.parts) (item_of ledger x)) ledger.parts
 
 -- whether one of the parts covers the sighting and enrolls the issuer
-abbrev pub lacked_by : List LedgerPartFields → Identity → Sighting → Bool
-lacked_by parts x s = list_any (λ p. covers p.ranges s && has_key p.issuers x.issuer) parts
+abbrev pub covered_and_enrolled_by : List LedgerPartFields → Identity → Sighting → Bool
+covered_and_enrolled_by parts x s = list_any (λ p. covers p.ranges s && has_key p.issuers x.issuer) parts
 
 abbrev pub part_covers : Option LedgerPartFields → List Sighting → Bool
 part_covers None ss = false
@@ -61,9 +61,9 @@ last_covers parts (Some r) ss = part_covers (slice_get parts r) ss
 unfoldable pub past_in : LedgerFields → Past
 past_in ledger = record {
   accepted = map (λ i. i.id) ledger.items;
-  lacked = λ x s. lacked_by (parts_before ledger x) x s;
-  was_listed = λ x. is_some (last_or_none (item_of ledger x));
-  is_settled = λ x now. last_covers ledger.parts (last_or_none (item_of ledger x)) now;
+  comes_late = λ x s. covered_and_enrolled_by (parts_before ledger x) x s;
+  listed_before = λ x. is_some (last_or_none (item_of ledger x));
+  already_revoked = λ x now. last_covers ledger.parts (last_or_none (item_of ledger x)) now;
 }
 
 -- the same of a ledger as the code has it
@@ -74,7 +74,7 @@ past_by parts items = past_in (ledger_fields parts items)
 
 -- an identity keeps its birth, and a new one is born now; a revoked one has this part as its last; the date is the
 -- greatest of the item's and of those that the job's accepted entries tell, and none where one of these isn't told
-abbrev pub next_item : Past → LedgerFields → Job → Identity → LedgerItem
+abbrev pub next_item : Past → LedgerFields → JobFacts → Identity → LedgerItem
 next_item past ledger job x = record {
   id = x;
   birth = birth_or (length ledger.parts) (item_of ledger x);
@@ -82,16 +82,16 @@ next_item past ledger job x = record {
   until = greatest (old_dates (item_of ledger x) ++ dates x (shown past job));
 }
 
-abbrev pub part_after : Job → List ℕ → LedgerPartFields
+abbrev pub part_after : JobFacts → List ℕ → LedgerPartFields
 part_after job trailer = record { epoch = job.epoch; trailer = trailer; ranges = job.ranges; issuers = enrolled job }
 
-abbrev pub next_with : Past → LedgerFields → Job → List ℕ → LedgerFields
+abbrev pub next_with : Past → LedgerFields → JobFacts → List ℕ → LedgerFields
 next_with past ledger job trailer = record {
   parts = ledger.parts ++ part_after job trailer ∷ [];
   items = map (next_item past ledger job) (accepted_with past job);
 }
 
-abbrev pub next_ledger : LedgerFields → Job → List ℕ → LedgerFields
+abbrev pub next_ledger : LedgerFields → JobFacts → List ℕ → LedgerFields
 next_ledger ledger job trailer = next_with (past_in ledger) ledger job trailer
 
 -- ---- the ledger of a history

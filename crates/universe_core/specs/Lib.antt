@@ -20,4 +20,4 @@ pub mod Merges
 pub mod Merging
 pub mod Judging
 pub mod Members
-pub mod Held
+pub mod HeldJobs

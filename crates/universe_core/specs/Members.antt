@@ -8,24 +8,24 @@ use Rattle.ledger_core.specs.declared.fields.LedgerPart.{LedgerPart}
 use Rattle.ledger_core.specs.LedgerFields.{LedgerFields, LedgerPartFields, part_fields}
 use Rattle.job_core.specs.declared.meaning.JobCrl.{JobCrl}
 use Rattle.job_core.specs.JobFields.{crl_view}
-use Rattle.universe_core.specs.Jobs.{Crl, Job, accepted_crl, enrolled}
+use Rattle.universe_core.specs.Jobs.{Crl, JobFacts, accepted_crl, enrolled}
 use Rattle.universe_core.specs.History.{shown, sightings, accepted_with}
 use Rattle.universe_core.specs.Dates.{greatest, dates}
 use Rattle.universe_core.specs.Ledgers.{past_in, item_of, birth_or, last_or_none, old_dates}
 use Rattle.universe_core.specs.Groups.{GroupFields, members_of}
 use Rattle.universe_core.specs.declared.member.Member.{Member}
 
-abbrev pub member_in : LedgerFields → Job → Identity → Member
+abbrev pub member_in : LedgerFields → JobFacts → Identity → Member
 member_in ledger job x = record {
   id = x;
   birth = birth_or (length ledger.parts) (item_of ledger x);
   last = last_or_none (item_of ledger x);
-  settled = (past_in ledger).is_settled x (sightings x (shown (past_in ledger) job));
+  settled = (past_in ledger).already_revoked x (sightings x (shown (past_in ledger) job));
   until = greatest (old_dates (item_of ledger x) ++ dates x (shown (past_in ledger) job));
 }
 
 -- the identities accepted so far, each with what is said of it
-abbrev pub members_in : LedgerFields → Job → List Member
+abbrev pub members_in : LedgerFields → JobFacts → List Member
 members_in ledger job = map (member_in ledger job) (accepted_with (past_in ledger) job)
 
 abbrev pub as_item : Member → LedgerItem
@@ -41,7 +41,7 @@ abbrev pub accepted_of : List JobCrl → List Crl
 accepted_of crls = filter_map accepted_crl (map crl_view crls)
 
 -- the CRLs, the enrolled issuers and the accepted identities are the job's
-pub record AreOf (ledger : LedgerFields) (job : Job) (cs : List JobCrl) (ks : List (List ℕ)) (is : List LedgerItem)
+pub record AreOf (ledger : LedgerFields) (job : JobFacts) (cs : List JobCrl) (ks : List (List ℕ)) (is : List LedgerItem)
     (flags : List Bool) : Type 0 where
   pub crls : job.crls ≡ accepted_of cs
   pub issuers : ks ≡ enrolled job
@@ -60,7 +60,7 @@ abbrev pub first_part : ℕ → List Range → List (List ℕ) → LedgerPartFie
 first_part epoch ranges issuers = record { epoch = epoch; trailer = zero_key; ranges = ranges; issuers = issuers }
 
 -- the next ledger, but for its newest part's trailer
-abbrev pub unsealed : List LedgerPart → Job → List (List ℕ) → List LedgerItem → LedgerFields
+abbrev pub unsealed : List LedgerPart → JobFacts → List (List ℕ) → List LedgerItem → LedgerFields
 unsealed parts job issuers items = record {
   parts = map part_fields parts ++ first_part job.epoch job.ranges issuers ∷ [];
   items = items;

@@ -63,5 +63,5 @@ with_class c t = record {
 }
 
 -- whether a part before its identity's birth covers the entry and enrolls its issuer
-abbrev pub is_lacked : LedgerFields → Entry → Bool
-is_lacked ledger e = (past_in ledger).lacked e.id e.sighting
+abbrev pub comes_late_in : LedgerFields → Entry → Bool
+comes_late_in ledger e = (past_in ledger).comes_late e.id e.sighting

@@ -11,11 +11,11 @@ use Rattle.crl_core.specs.declared.crl.CrlFault.{CrlFault}
 use Rattle.crl_core.specs.Outcome.{CrlFields}
 use Rattle.job_core.specs.declared.bounds.Limits.{Limits}
 use Rattle.job_core.specs.declared.bounds.What.TheVariants as what
-use Rattle.job_core.specs.declared.meaning.Job.{Job as CodeJob}
+use Rattle.job_core.specs.declared.meaning.Job.{Job}
 use Rattle.job_core.specs.JobFields.{CrlMeaning, JobFields, fields_of_job}
 use Rattle.ident_core.specs.declared.bounds.TheConstants.{MAX_PARTS}
 use Rattle.ledger_core.specs.LedgerFields.{LedgerPartFields, LedgerFields, newest, sealed_with}
-use Rattle.universe_core.specs.Jobs.{Job, facts_of, facts_of_job}
+use Rattle.universe_core.specs.Jobs.{JobFacts, facts_of, facts_of_job}
 use Rattle.universe_core.specs.History.{accepted_with, released}
 use Rattle.universe_core.specs.Ledgers.{past_in, next_ledger}
 use Rattle.universe_core.specs.Groups.{GroupFields, IsGroup, group_fields, groups}
@@ -48,7 +48,7 @@ old_epoch None epoch = None
 old_epoch (Some p) epoch = if nat_le epoch p.epoch then Some (faults.OldEpoch p.epoch epoch) else None
 
 -- a range of the newest part lies in none of the job's
-abbrev pub shrunk : Option LedgerPartFields → Job → Option AdmitFault
+abbrev pub shrunk : Option LedgerPartFields → JobFacts → Option AdmitFault
 shrunk None job = None
 shrunk (Some p) job = option_map faults.CoverageShrinks (first_outside p.ranges job.ranges)
 
@@ -57,7 +57,7 @@ abbrev pub chain_full : List LedgerPartFields → Option AdmitFault
 chain_full parts = if nat_le MAX_PARTS (length parts) then Some faults.ChainFull else None
 
 -- there are more accepted identities than the limit
-abbrev pub too_many : Limits → LedgerFields → Job → Option AdmitFault
+abbrev pub too_many : Limits → LedgerFields → JobFacts → Option AdmitFault
 too_many limits ledger job =
     if nat_lt limits.identities (length (accepted_with (past_in ledger) job)) then Some (faults.TooMany what.Identities limits.identities)
     else None
@@ -80,17 +80,17 @@ kind_by [] = kinds.Snapshot
 kind_by (p ∷ ps) = kinds.Delta
 
 -- the head of the part after these
-abbrev pub head_after : List LedgerPartFields → Job → HeadFields
+abbrev pub head_after : List LedgerPartFields → JobFacts → HeadFields
 head_after parts job = record { kind = kind_by parts; epoch = job.epoch; parent = parent_by (newest parts); ranges = job.ranges }
 
-abbrev pub groups_after : LedgerFields → Job → List GroupFields
+abbrev pub groups_after : LedgerFields → JobFacts → List GroupFields
 groups_after ledger job = groups (released (past_in ledger) job [])
 
-abbrev pub counts_after : LedgerFields → Job → Counts
+abbrev pub counts_after : LedgerFields → JobFacts → Counts
 counts_after ledger job = counts (past_in ledger) job
 
 -- the job is admitted behind the ledger, or refused with the first cause that holds, or memory is wanting
-pub record IsAdmission (limits : Limits) (ledger : LedgerFields) (job : CodeJob) (result : Result Admitted AdmitFault) : Type 0 where
+pub record IsAdmission (limits : Limits) (ledger : LedgerFields) (job : Job) (result : Result Admitted AdmitFault) : Type 0 where
   pub admitted : OnOk result (refusal limits ledger (fields_of_job job) ≡ None)
   pub refused : IfErr result (λ e. e ≢ faults.NoMemory → refusal limits ledger (fields_of_job job) ≡ Some e)
   pub head : IfOk result (λ a. a.head ≡ head_after ledger.parts (facts_of_job job))

@@ -7,8 +7,8 @@ ghost use Rattle.ident_core.specs.Coverage.{RangesFit};
 ghost use Rattle.job_core.specs.JobFields.{AreWithin, fields_of_job};
 ghost use Rattle.ident_core.specs.declared.bounds.TheConstants.{MAX_PARTS};
 ghost use Rattle.ledger_core.specs.LedgerFields.{LedgerFields, ids, ledger_fields};
-ghost use Rattle.universe_core.specs.Jobs.{Job as JobMeaning, facts_of_job, enrolled as enrolled_of};
-ghost use Rattle.universe_core.specs.Held.{job_of};
+ghost use Rattle.universe_core.specs.Jobs.{JobFacts, facts_of_job, enrolled as enrolled_of};
+ghost use Rattle.universe_core.specs.HeldJobs.{job_held};
 ghost use Rattle.universe_core.specs.History.{accepted_with, universe, revoked};
 ghost use Rattle.universe_core.specs.Counting.{count};
 ghost use Rattle.universe_core.specs.Groups.{group_fields};
@@ -26,12 +26,12 @@ use crate::enrolling::enrolled;
 use crate::fault::AdmitFault;
 use crate::flagging::{revoked_now, set_lasts};
 use crate::following::{check_early, next_draft, next_head};
-use crate::held::Held;
+use crate::held::HeldJob;
 use crate::judging::Context;
 use crate::member::Members;
 use crate::merging::members;
 use crate::reading::{Tally, read};
-use crate::threading::{ByWorkers, OneThread, Threading};
+use crate::threading::{ByWorkers, CallersThread, Threading};
 use job_core::{Job, JobCrl, Limits, What};
 use ledger_core::{Ledger, LedgerItem, LedgerPart};
 use octets_core::Key32;
@@ -42,7 +42,7 @@ use std::thread::Threads;
 /// the job is beside it.
 #[derive(Drop)]
 struct Acceptance<'a> {
-    rest: Held<'a>,
+    rest: HeldJob<'a>,
     issuers: Vec<Key32>,
     members: Members,
     tally: Tally,
@@ -53,7 +53,7 @@ struct Acceptance<'a> {
 /// What accepted identities make: the groups, the items of the next ledger, and how many are of the universe and
 /// revoked.
 #[derive(Drop)]
-struct Built {
+struct Made {
     groups: Vec<Group>,
     items: Vec<LedgerItem>,
     universe: u32,
@@ -66,31 +66,31 @@ fn accept<'a, T: Threading>(
     alloc: Global,
     parts: &[LedgerPart],
     items: &[LedgerItem],
-    job: Held<'a>,
+    job: HeldJob<'a>,
 ) -> Result<Acceptance<'a>, AllocError>
     requires shared { T.shared threading.now }
     requires few_parts { length parts.now < 256 }
     requires parts { All IsSearchable parts.now }
-    requires ranges { RangesFit (job_of job).ranges.items }
-    requires few_crls { length (job_of job).crls.items ≤ 65535 }
+    requires ranges { RangesFit (job_held job).ranges.items }
+    requires few_crls { length (job_held job).crls.items ≤ 65535 }
     requires ascend { IsStrictlySortedBy identity_cmp (map (λ i. i.id) items.now) }
-    requires few_entries { length (job_of job).entries.items ≤ 4294967295 }
-    ensures epoch { IfOk result (λ a. (job_of a.rest).epoch ≡ (job_of job.entry).epoch) }
-    ensures ranges { IfOk result (λ a. (job_of a.rest).ranges.items ≡ (job_of job.entry).ranges.items) }
-    ensures crls { IfOk result (λ a. (job_of a.rest).crls.items ≡ (job_of job.entry).crls.items) }
-    ensures issuers { IfOk result (λ a. a.issuers.items ≡ enrolled_of (facts_of_job (job_of job.entry))) }
+    requires few_entries { length (job_held job).entries.items ≤ 4294967295 }
+    ensures epoch { IfOk result (λ a. (job_held a.rest).epoch ≡ (job_held job.entry).epoch) }
+    ensures ranges { IfOk result (λ a. (job_held a.rest).ranges.items ≡ (job_held job.entry).ranges.items) }
+    ensures crls { IfOk result (λ a. (job_held a.rest).crls.items ≡ (job_held job.entry).crls.items) }
+    ensures issuers { IfOk result (λ a. a.issuers.items ≡ enrolled_of (facts_of_job (job_held job.entry))) }
     ensures members { IfOk result (λ a.
         AreMembers (members_in (ledger_fields parts.now items.now)
-        (facts_of_job (job_of job.entry))) a.members.items.items a.members.settled.items) }
+        (facts_of_job (job_held job.entry))) a.members.items.items a.members.settled.items) }
     ensures unread { IfOk result (λ a.
-        a.tally.unread ≡ count class.Unread (past_by parts.now items.now) (facts_of_job (job_of job.entry))) }
+        a.tally.unread ≡ count class.Unread (past_by parts.now items.now) (facts_of_job (job_held job.entry))) }
     ensures uncovered { IfOk result (λ a.
-        a.tally.uncovered ≡ count class.Uncovered (past_by parts.now items.now) (facts_of_job (job_of job.entry))) }
+        a.tally.uncovered ≡ count class.Uncovered (past_by parts.now items.now) (facts_of_job (job_held job.entry))) }
     ensures unenrolled { IfOk result (λ a.
-        a.tally.unenrolled ≡ count class.Unenrolled (past_by parts.now items.now) (facts_of_job (job_of job.entry))) }
-    ensures late { IfOk result (λ a. a.late ≡ count class.Late (past_by parts.now items.now) (facts_of_job (job_of job.entry))) }
+        a.tally.unenrolled ≡ count class.Unenrolled (past_by parts.now items.now) (facts_of_job (job_held job.entry))) }
+    ensures late { IfOk result (λ a. a.late ≡ count class.Late (past_by parts.now items.now) (facts_of_job (job_held job.entry))) }
     ensures accepted { IfOk result (λ a.
-        a.accepted ≡ count class.Accepted (past_by parts.now items.now) (facts_of_job (job_of job.entry))) }
+        a.accepted ≡ count class.Accepted (past_by parts.now items.now) (facts_of_job (job_held job.entry))) }
 {
     let whole = job.job();
     let issuers = enrolled(alloc, whole)?;
@@ -123,23 +123,23 @@ fn build<T: Threading>(
     issuers: &[Key32],
     members: Members,
     place: u8,
-) -> Result<Built, AllocError>
+) -> Result<Made, AllocError>
     requires shared { T.shared threading.now }
     requires issuers { IsStrictlySortedBy octets_cmp issuers.now }
     requires ascend { IsStrictlySortedBy identity_cmp (ids members.items.items) }
     requires beside { length members.settled.items ≡ length members.items.items }
     requires few { length members.items.items ≤ 4294967295 }
-    ensures groups { (ledger : LedgerFields) (job : JobMeaning)
+    ensures groups { (ledger : LedgerFields) (job : JobFacts)
         → AreOf ledger job crls.now issuers.now members.items.items members.settled.items
         → IfOk result (λ b. map group_fields b.groups.items ≡ groups_after ledger job) }
-    ensures items { (ledger : LedgerFields) (job : JobMeaning)
+    ensures items { (ledger : LedgerFields) (job : JobFacts)
         → AreOf ledger job crls.now issuers.now members.items.items members.settled.items
         → place ≡ length ledger.parts
         → IfOk result (λ b. b.items.items ≡ map (next_item (past_in ledger) ledger job) (accepted_with (past_in ledger) job)) }
-    ensures universe { (ledger : LedgerFields) (job : JobMeaning)
+    ensures universe { (ledger : LedgerFields) (job : JobFacts)
         → AreOf ledger job crls.now issuers.now members.items.items members.settled.items
         → IfOk result (λ b. b.universe ≡ length (universe (past_in ledger) job)) }
-    ensures revoked { (ledger : LedgerFields) (job : JobMeaning)
+    ensures revoked { (ledger : LedgerFields) (job : JobFacts)
         → AreOf ledger job crls.now issuers.now members.items.items members.settled.items
         → IfOk result (λ b. b.revoked ≡ length (revoked (past_in ledger) job)) }
 {
@@ -156,7 +156,7 @@ fn build<T: Threading>(
     set_lasts(&mut items, &flags.revoked, place);
     let groups = threading.groups(alloc, issuers, &items, &flags.revoked)?;
     let revoked = set_flags(&flags.revoked);
-    Ok(Built {
+    Ok(Made {
         groups,
         items,
         universe: flags.universe,
@@ -185,16 +185,16 @@ fn step<T: Threading>(
     alloc: Global,
     parts: &[LedgerPart],
     items: &[LedgerItem],
-    job: Held<'_>,
+    job: HeldJob<'_>,
     limits: &Limits,
 ) -> Result<Admitted, AdmitFault>
     requires shared { T.shared threading.now }
     requires published { AreWithin limits.now Limits.PUBLISHED }
-    requires ranges { RangesFit (job_of job).ranges.items }
-    requires few { KeepsLimits limits.now (fields_of_job (job_of job)) }
+    requires ranges { RangesFit (job_held job).ranges.items }
+    requires few { KeepsLimits limits.now (fields_of_job (job_held job)) }
     requires few_parts { length parts.now ≤ MAX_PARTS }
     requires before { IsBefore (ledger_fields parts.now items.now) }
-    ensures { IsAdmission limits.now (ledger_fields parts.now items.now) (job_of job.entry) result }
+    ensures { IsAdmission limits.now (ledger_fields parts.now items.now) (job_held job.entry) result }
 {
     check_early(parts, job.job())?;
     let accepted = accept(threading, alloc, parts, items, job)?;
@@ -236,7 +236,7 @@ pub fn first(alloc: Global, job: &Job, limits: &Limits) -> Result<Admitted, Admi
     requires few { KeepsLimits limits.now (fields_of_job job.now) }
     ensures { IsAdmission limits.now no_ledger job.now result }
 {
-    step(&OneThread, alloc, &[], &[], Held::Lent(job), limits)
+    step(&CallersThread, alloc, &[], &[], HeldJob::Lent(job), limits)
 }
 
 /// Admits a job behind a ledger. Its ranges fit, and its numbers of ranges, CRLs and entries keep the limits. The
@@ -253,11 +253,11 @@ pub fn admit(
     ensures { IsAdmission limits.now ledger.now job.now result }
 {
     step(
-        &OneThread,
+        &CallersThread,
         alloc,
         ledger.parts(),
         ledger.items(),
-        Held::Lent(job),
+        HeldJob::Lent(job),
         limits,
     )
 }
@@ -282,7 +282,7 @@ pub fn first_of<R: Threads + Sync>(
         alloc,
         &[],
         &[],
-        Held::Given(job),
+        HeldJob::Given(job),
         limits,
     )
 }
@@ -308,7 +308,7 @@ pub fn admit_of<R: Threads + Sync>(
         alloc,
         ledger.parts(),
         ledger.items(),
-        Held::Given(job),
+        HeldJob::Given(job),
         limits,
     )
 }

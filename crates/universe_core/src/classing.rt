@@ -17,7 +17,7 @@ use log_core::Entry;
 /// Whether an entry is late behind a ledger, or where there is none. The place of the log's range is guessed.
 fn is_late_behind(ledger: Option<&Ledger>, entry: &Entry, near: usize) -> bool
     ensures { result ≡ (past_in
-        (ledger_or_none (option_map {U = LedgerFields} (λ l. l.now) ledger.entry))).lacked entry.now.id entry.now.sighting }
+        (ledger_or_none (option_map {U = LedgerFields} (λ l. l.now) ledger.entry))).comes_late entry.now.id entry.now.sighting }
 {
     match ledger {
         Some(ledger) => known_of(ledger, entry, near, None).late,

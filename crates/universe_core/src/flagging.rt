@@ -7,7 +7,7 @@ ghost use Rattle.ident_core.specs.declared.identity.Identity.{Identity as Identi
 ghost use Rattle.ledger_core.specs.LedgerFields.{LedgerFields, ids};
 ghost use Rattle.ident_core.specs.Sets.{has, has_key};
 ghost use Rattle.universe_core.specs.Flagging.{AreFlags};
-ghost use Rattle.universe_core.specs.Jobs.{Job as JobMeaning};
+ghost use Rattle.universe_core.specs.Jobs.{JobFacts};
 ghost use Rattle.universe_core.specs.History.{accepted_with, revoked as revoked_of};
 ghost use Rattle.universe_core.specs.Ledgers.{past_in};
 ghost use Rattle.universe_core.specs.Members.{AreOf, next_of};
@@ -145,12 +145,12 @@ fn flag_halves<R: Threads + Sync>(
     let (one, two) = join(rt, front, back);
     let first_flags = one?;
     let rest_flags = two?;
-    let flags = joined(first_flags, rest_flags)?;
+    let flags = flags_of_both(first_flags, rest_flags)?;
     Ok(flags)
 }
 
 /// The flags of some members and of those behind them.
-fn joined(front: Flags, back: Flags) -> Result<Flags, AllocError>
+fn flags_of_both(front: Flags, back: Flags) -> Result<Flags, AllocError>
     requires { front.universe + back.universe ≤ 4294967295 }
     ensures revoked { IfOk result (λ f. f.revoked.items ≡ front.revoked.items ++ back.revoked.items) }
     ensures universe { IfOk result (λ f. f.universe ≡ front.universe + back.universe) }
@@ -176,7 +176,7 @@ pub(crate) fn revoked_now<T: Threading>(
     requires ascend { IsStrictlySortedBy identity_cmp (ids members.now) }
     requires beside { length settled.now ≡ length members.now }
     requires few { length members.now ≤ 4294967295 }
-    ensures revoked { (ledger : LedgerFields) (job : JobMeaning) → AreOf ledger job crls.now issuers.now members.now settled.now
+    ensures revoked { (ledger : LedgerFields) (job : JobFacts) → AreOf ledger job crls.now issuers.now members.now settled.now
         → IfOk result (λ f. f.revoked.items ≡ map (has (revoked_of (past_in ledger) job)) (accepted_with (past_in ledger) job)) }
     ensures beside { IfOk result (λ f. length f.revoked.items ≡ length members.now) }
     ensures universe { IfOk result (λ f. f.universe ≡ count_by (λ m. has_key issuers.now m.id.issuer) members.now) }

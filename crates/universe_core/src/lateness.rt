@@ -81,8 +81,8 @@ pub struct Known {
 /// What a ledger tells of an entry. The places of the log's range and of the certificate's item are guessed. It takes
 /// no memory.
 pub fn known_of(ledger: &Ledger, entry: &Entry, near: usize, guess: Option<usize>) -> Known
-    ensures late { result.late ≡ (past_in ledger.now).lacked entry.now.id entry.now.sighting }
-    ensures listed { result.listed ≡ (past_in ledger.now).was_listed entry.now.id }
+    ensures late { result.late ≡ (past_in ledger.now).comes_late entry.now.id entry.now.sighting }
+    ensures listed { result.listed ≡ (past_in ledger.now).listed_before entry.now.id }
 {
     let parts = ledger.parts();
     let item = item_of(ledger.items(), &entry.id, guess);

@@ -1,11 +1,11 @@
 ghost use Rattle.std.specs.Prelude.{◌≡◌, ℕ, List, All, Option, None, IfSome};
 ghost use Rattle.ident_core.specs.Sets.{has_key};
-ghost use Rattle.universe_core.specs.Jobs.{Entry, Job, enrolled, is_enrolled};
+ghost use Rattle.universe_core.specs.Jobs.{Entry, JobFacts, enrolled, is_enrolled};
 ghost use Rattle.universe_core.specs.Formats.{plain, sharded, dated, entries_in};
 
 /// The enrolled issuers of a job are those that it enrolls by the test.
 pub fn enrolment_is_a_test()
-    ensures { (job : Job) (issuer : List ℕ) → has_key (enrolled job) issuer ≡ is_enrolled job issuer }
+    ensures { (job : JobFacts) (issuer : List ℕ) → has_key (enrolled job) issuer ≡ is_enrolled job issuer }
 {}
 
 /// In the formats before dates no entry tells one, whatever its certificate says. In the dated format each entry is as it

@@ -8,8 +8,8 @@ ghost use Rattle.universe_core.specs.Merging.{IsRising, least_of, run_of, first_
 ghost use Rattle.universe_core.specs.Merges.{AreMergeable, IsMergedBehind, IsMergeOf};
 ghost use Rattle.universe_core.specs.Judging.{IsSearchable};
 ghost use Rattle.ledger_core.specs.LedgerFields.{ledger_fields};
-ghost use Rattle.universe_core.specs.Jobs.{Job as JobMeaning, enrolled};
-ghost use Rattle.universe_core.specs.Reading.{if_read, IsPlaced, entries_of, is_lacked};
+ghost use Rattle.universe_core.specs.Jobs.{JobFacts, enrolled};
+ghost use Rattle.universe_core.specs.Reading.{if_read, IsPlaced, entries_of, comes_late_in};
 ghost use Rattle.universe_core.specs.Members.{AreMembers, as_item, members_in};
 
 use crate::judging::{Context, judge};
@@ -188,13 +188,13 @@ pub(crate) fn members<T: Threading>(
     requires ascend { IsStrictlySortedBy identity_cmp (map (λ i. i.id) items.now) }
     requires issuers { IsStrictlySortedBy octets_cmp context.now.issuers.now }
     requires placed { All (IsPlaced context.now.issuers.now context.now.ranges.now) entries.items }
-    ensures members { (job : JobMeaning)
+    ensures members { (job : JobFacts)
         → entries_of context.now.issuers.now context.now.ranges.now entries.items
         ≡ filter_map (if_read job.ranges (enrolled job)) job.entries
         → IfOk result (λ m. AreMembers
         (members_in (ledger_fields context.now.parts.now items.now) job) m.members.items.items m.members.settled.items) }
     ensures late { IfOk result (λ m. m.late
-        ≡ count_by (is_lacked (ledger_fields context.now.parts.now items.now))
+        ≡ count_by (comes_late_in (ledger_fields context.now.parts.now items.now))
         (entries_of context.now.issuers.now context.now.ranges.now entries.items)) }
 {
     let mut entries = entries;

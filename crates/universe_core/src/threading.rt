@@ -76,9 +76,9 @@ pub(crate) trait Threading {
 
 /// The caller's thread alone.
 #[derive(Drop)]
-pub(crate) struct OneThread;
+pub(crate) struct CallersThread;
 
-impl Threading for OneThread {
+impl Threading for CallersThread {
     ghost shared = { λ threading. Unit {0} };
 
     fn merge(

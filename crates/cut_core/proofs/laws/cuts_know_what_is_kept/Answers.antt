@@ -1,5 +1,5 @@
 use Rattle.cut_core.proofs.Releases.{known_beside, birth_beside, sightings_beside, until_beside, last_beside, listed_beside, truth_beside}
-use Rattle.cut_core.proofs.Releases.{accepted_at, listed_at, revoked_at, class_beside, other_beside, enrolled_kept, enrolled_other}
+use Rattle.cut_core.proofs.Releases.{accepted_at, revoked_at, class_beside, other_beside, enrolled_kept, enrolled_other}
 use Rattle.cut_core.proofs.laws.cuts_know_what_is_kept.Goals as goal
 
 pub returns : goal.returns
@@ -11,7 +11,7 @@ returns c = record {
   last = λ cut rs qs x z k. last_beside cut x k rs qs z;
   listed = λ cut rs qs x z k. listed_beside cut x k rs qs z;
   truth = λ cut rs qs x z k. truth_beside cut x k rs qs z;
-  each = λ cut r q x i k. (accepted_at cut x k r q i, listed_at cut x k r q i, revoked_at cut x k r q i);
+  each = λ cut r q x i k. (accepted_at cut x k r q i, i.lists x k, revoked_at cut x k r q i);
   class = λ cut rs qs job e z k. class_beside cut rs qs job e z k;
   enrolled = λ cut r q issuer i t. enrolled_kept cut r q issuer i t;
   unenrolled = λ cut r q issuer i t. enrolled_other cut r q issuer i t;

@@ -5,14 +5,14 @@ use Rattle.ident_core.specs.declared.identity.Identity.{Identity}
 use Rattle.ident_core.specs.Order.{is_same}
 use Rattle.ledger_core.specs.declared.fields.LedgerItem.{LedgerItem}
 use Rattle.ledger_core.specs.LedgerFields.{AreParts, LedgerFields, part_fields}
-use Rattle.universe_core.specs.Ledgers.{past_in, item_of, birth_or, last_or_none, lacked_by}
+use Rattle.universe_core.specs.Ledgers.{past_in, item_of, birth_or, last_or_none, covered_and_enrolled_by}
 use Rattle.universe_core.proofs.Continuing.{shows}
 use Rattle.universe_core.proofs.Members.{lacked_is}
 use Rattle.universe_core.proofs.Searchable.{parts_searchable}
 use Rattle.universe_core.proofs.lateness.known_of.Goals as goal
 
 listed_is : (ledger : LedgerFields) (items : List LedgerItem) (x : Identity) → items ≡ ledger.items
-    → (past_in ledger).was_listed x ≡ is_some (last_or_none (find (λ (i : LedgerItem). is_same x i.id) items))
+    → (past_in ledger).listed_before x ≡ is_some (last_or_none (find (λ (i : LedgerItem). is_same x i.id) items))
 unfolding past_in item_of
 listed_is ledger items x i = ap (λ l. is_some (last_or_none (find (λ (j : LedgerItem). is_same x j.id) l))) (sym i)
 
@@ -24,9 +24,9 @@ returns-clause-late c =
     let e = c.args.entry.now in
     let parts = c.parts-parts.result.now in
     c.is_late.ensures
-    ∙ ap (λ n. lacked_by (take n (map part_fields parts)) e.id e.sighting) (c.birth_of-birth.ensures ∙ ap (birth_or (length parts)) c.item_of-item.ensures)
+    ∙ ap (λ n. covered_and_enrolled_by (take n (map part_fields parts)) e.id e.sighting) (c.birth_of-birth.ensures ∙ ap (birth_or (length parts)) c.item_of-item.ensures)
     ∙ sym (lacked_is parts c.items.result.now e.id e.sighting)
-    ∙ ap (λ l. (past_in l).lacked e.id e.sighting) (shows c.args.ledger.now parts c.items.result.now c.parts-parts.ensures.value c.items.ensures.value)
+    ∙ ap (λ l. (past_in l).comes_late e.id e.sighting) (shows c.args.ledger.now parts c.items.result.now c.parts-parts.ensures.value c.items.ensures.value)
 
 pub returns-clause-listed : goal.returns-clause-listed
 returns-clause-listed c =

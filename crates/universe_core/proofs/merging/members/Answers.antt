@@ -6,7 +6,7 @@ use Rattle.universe_core.specs.Judging.{judge_of}
 use Rattle.universe_core.specs.Members.{as_item, members_in}
 use Rattle.universe_core.specs.Merging.{merged}
 use Rattle.universe_core.specs.declared.member.Member.{Member}
-use Rattle.universe_core.specs.Reading.{IsPlaced, entry_fields, entries_of, is_lacked}
+use Rattle.universe_core.specs.Reading.{IsPlaced, entry_fields, entries_of, comes_late_in}
 use Rattle.universe_core.proofs.Members.{members_are, told_lacked}
 use Rattle.universe_core.proofs.Sorting.{are_read}
 use Rattle.universe_core.proofs.merging.members.Goals as goal
@@ -45,5 +45,5 @@ returns-clause-late g c =
     let same : IsPermutation c.args.entries.items left = subst (λ es. IsPermutation es left) c.deref_mut.ensures.value c.in_ok-merged.ensures.same in
     c.in_ok-merged.ensures.merged.told
     ∙ told_lacked c.args.context.now.parts.now c.args.items.now (entries_of issuers ranges left)
-    ∙ sum_by-IsPermutation (λ e. cond (is_lacked ledger e) 1 0) (entries_of issuers ranges c.args.entries.items) (entries_of issuers ranges left)
+    ∙ sum_by-IsPermutation (λ e. cond (comes_late_in ledger e) 1 0) (entries_of issuers ranges c.args.entries.items) (entries_of issuers ranges left)
     (IsPermutation-map (entry_fields issuers ranges) c.args.entries.items left same)
