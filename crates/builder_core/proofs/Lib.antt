@@ -1,5 +1,6 @@
 pub mod GroupBlocks
 pub mod TaskLists
+pub mod Shifts
 pub mod Assembly
 pub mod OutcomeLaws
 pub mod Faults

@@ -1,12 +1,13 @@
 -- What holds of the blocks of all groups, and of a refusal.
-use Rattle.std.specs.Prelude.{◌≡◌, ◌<◌, ◌⊎◌, ℕ, false, List, length, map, slice_index_or, Result, Ok}
+use Rattle.std.specs.Prelude.{◌≡◌, ◌<◌, ◌≤◌, ◌+◌, ◌*◌, ◌^◌, ◌⊎◌, ℕ, false, List, length, map, slice_index_or, Result, Ok}
 use Rattle.std.specs.Borrow.{Bor}
 use Rattle.std.specs.declared.alloc.Global.{Global}
 use Rattle.std.specs.declared.vec.Vec.{Vec}
 use Rattle.ident_core.specs.declared.identity.Identity.{Identity}
 use Rattle.equation_core.specs.Rows.{Rows}
 use Rattle.card_core.specs.declared.block.Block.{Block}
-use Rattle.card_core.specs.Filter.{is_positive}
+use Rattle.equation_core.specs.declared.shards.TheConstants.{MAX_SHIFT}
+use Rattle.card_core.specs.Filter.{is_positive, shift_for}
 use Rattle.universe_core.specs.Groups.{GroupFields}
 use Rattle.claim_core.specs.Work.{IsInPlace}
 use Rattle.builder_core.specs.declared.format.Format.{Format}
@@ -17,6 +18,18 @@ use Rattle.builder_core.specs.Building.{IsGroupBlock, AreGroupBlocks, IsFirstRef
 use Rattle.builder_core.specs.Drawing.{AreDrawnAt}
 use Rattle.builder_core.specs.Tasks.{TaskFields, tasks_in}
 use Rattle.builder_core.specs.Outcomes.{IsOutcomeAt, AreOutcomes, IsFirstFault}
+
+-- How far a universe of so many revoked and others is cut, apart from how that is found: not at all where none or all
+-- are revoked, and else by the greatest shift that leaves 16,384 identities a shard on average, if there is one.
+pub record IsShift (revoked others shift : ℕ) : Type 0 where
+  pub most : shift ≤ MAX_SHIFT
+  pub none : (revoked ≡ 0) ⊎ (others ≡ 0) → shift ≡ 0
+  pub room : 1 ≤ shift → 2 ^ shift * 16384 ≤ revoked + others
+  pub greatest : 1 ≤ revoked → 1 ≤ others
+      → (j : ℕ) → 1 ≤ j → j ≤ MAX_SHIFT → 2 ^ j * 16384 ≤ revoked + others → j ≤ shift
+
+abbrev pub ShiftsAreGreatest : Type 0
+ShiftsAreGreatest = (revoked others : ℕ) → IsShift revoked others (shift_for revoked others)
 
 -- in each format the test of each identity of a group is its flag
 abbrev pub GroupBlockIsExact : Type 0

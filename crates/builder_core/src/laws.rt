@@ -1,11 +1,16 @@
 //! Laws of the definitions, apart from all code. Each is a function that does nothing, and its clause says the law.
 
 ghost use Rattle.builder_core.specs.Laws.{GroupBlockIsExact, GroupBlocksAreUnique, OneIsFirstRefused, OutcomesGiveBlocks};
-ghost use Rattle.builder_core.specs.Laws.{OutcomesAreUnique, RefusedHasNoBlocks, ShardsAreUnique};
+ghost use Rattle.builder_core.specs.Laws.{OutcomesAreUnique, RefusedHasNoBlocks, ShardsAreUnique, ShiftsAreGreatest};
 
 /// In each format the block of a group tests positive for exactly those of its universe that are revoked.
 pub fn group_block_is_exact()
     ensures { GroupBlockIsExact }
+{}
+
+/// A universe is cut by the greatest shift that leaves its shards enough identities.
+pub fn shifts_are_greatest()
+    ensures { ShiftsAreGreatest }
 {}
 
 /// In each format groups have one list of blocks at most.
