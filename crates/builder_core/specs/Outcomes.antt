@@ -6,7 +6,7 @@ use Rattle.std.specs.declared.vec.Vec.{Vec}
 use Rattle.octets_core.specs.declared.memory.NoMemory.{NoMemory as Want}
 use Rattle.equation_core.specs.Rows.{Rows}
 use Rattle.card_core.specs.declared.block.Block.{Block}
-use Rattle.card_core.specs.Leaf.{flagged, IsLeaf, IsRefused}
+use Rattle.card_core.specs.Leaf.{flagged, IsLeaf, IsStageRefused}
 use Rattle.card_core.specs.Filter.{in_shard, IsBlock, IsBlockRefused}
 use Rattle.stage_core.specs.declared.fault.BlockFault.{BlockFault}
 use Rattle.stage_core.specs.declared.fault.BlockFault.TheVariants as block
@@ -29,7 +29,7 @@ IsBuilt rows t (builts.Leaf s) =
 abbrev pub IsTaskRefused : Rows → GroupFields → ℕ → ℕ → ℕ → Type 0
 IsTaskRefused rows g zero shard stage = IsBlockRefused rows 0 g.universe g.revoked stage
 IsTaskRefused rows g (suc s) shard stage =
-    IsRefused rows (in_shard (suc s) shard (flagged g.universe g.revoked))
+    IsStageRefused rows (in_shard (suc s) shard (flagged g.universe g.revoked))
     (in_shard (suc s) shard (flagged g.universe (map not g.revoked))) stage
 
 -- a leaf, or the refusal, or want of memory

@@ -15,7 +15,7 @@ use Rattle.ribbon_core.proofs.LeastOrNone.{FirstBelow, first_or_none, least_or_n
 use Rattle.card_core.specs.declared.stage.Stage.{Stage}
 use Rattle.card_core.specs.declared.leaf.Leaf.{Leaf}
 use Rattle.card_core.specs.declared.leaf.Leaf.TheVariants.{Clean, Every, Mixed}
-use Rattle.card_core.specs.Leaf.{IsWidth, Solvable, IsStage, IsExhausted, approx_equations, exact_equations, IsApprox, false_positives, IsLeaf, IsRefused}
+use Rattle.card_core.specs.Leaf.{IsWidth, Solvable, IsStage, IsExhausted, approx_equations, exact_equations, IsApproxIfAny, IsApproxExhausted, IsExactExhausted, false_positives, IsLeaf, IsStageRefused}
 use Rattle.card_core.specs.Filter.{alone, cut, in_shard}
 use Rattle.card_core.specs.Laws.{LeafOrRefusal, FilterOrRefusal}
 
@@ -115,40 +115,38 @@ module _ (r n : ℕ) where
 -- ---- a leaf
 
 module _ (rows : Rows) (revoked others : List Identity) where
-  -- the approximate stage is unsolvable at each seed
-  abbrev ApproxRefused : Type 0
-  ApproxRefused = (k : ℕ) × (1 ≤ k) × IsWidth (length revoked) (length others) k × IsExhausted (approx_equations rows revoked) k
-
-  approx_of : (k : ℕ) → IsWidth (length revoked) (length others) k → ((approx : Option Stage) × IsApprox rows revoked others approx) ⊎ ApproxRefused
+  approx_of : (k : ℕ) → IsWidth (length revoked) (length others) k → ((approx : Option Stage) × IsApproxIfAny rows revoked others approx) ⊎ IsApproxExhausted rows revoked others
   approx_of zero w = inl (None, w)
   approx_of (suc k) w = elim (stage_or_none (approx_equations rows revoked) (starts_for (length revoked)) (suc k)) [
-    | inr none ↦ inr (suc k, omega arith, w, none)
+    | inr none ↦ inr (record { planes = suc k; some = omega arith; width = w; exhausted = none })
     | inl s ↦
         (let e : suc k ≡ length s.0.planes.columns = sym s.1.count in
         inl (
           Some s.0,
-          (
-            omega (arith, e),
-            subst (IsWidth (length revoked) (length others)) e w,
-            subst (λ (n : ℕ). IsStage (approx_equations rows revoked) (starts_for (length revoked)) n s.0) e s.1,
-          ),
+          record {
+            some = omega (arith, e);
+            width = subst (IsWidth (length revoked) (length others)) e w;
+            stage = subst (λ (n : ℕ). IsStage (approx_equations rows revoked) (starts_for (length revoked)) n s.0) e s.1;
+          },
         ))
   ]
 
-  approx_or_refused : ((approx : Option Stage) × IsApprox rows revoked others approx) ⊎ ApproxRefused
+  approx_or_refused : ((approx : Option Stage) × IsApproxIfAny rows revoked others approx) ⊎ IsApproxExhausted rows revoked others
   approx_or_refused = let w = width_exists (length revoked) (length others) in approx_of w.0 w.1
 
   -- the leaf, or a stage that is refused
   abbrev Either : Type 0
-  Either = ((leaf : Leaf) × IsLeaf rows revoked others leaf) ⊎ ((stage : ℕ) × IsRefused rows revoked others stage)
+  Either = ((leaf : Leaf) × IsLeaf rows revoked others leaf) ⊎ ((stage : ℕ) × IsStageRefused rows revoked others stage)
 
   mixed_or_refused : 1 ≤ length revoked → 1 ≤ length others → Either
   mixed_or_refused some some_others = elim approx_or_refused [
-    | inr r ↦ inr (1, (some, some_others, inl (refl, r)))
+    | inr r ↦ inr (1, record { some_revoked = some; some_others = some_others; cause = inl (refl, r) })
     | inl a ↦
         (let passed : List Identity = false_positives rows a.0 others in
         elim (stage_or_none (exact_equations rows revoked passed) (starts_for (length revoked + length passed)) 1) [
-          | inr none ↦ inr (2, (some, some_others, inr (refl, (a.0, a.1, none))))
+          | inr none ↦ (
+              let behind : IsExactExhausted rows revoked others = record { approx = a.0; is_approx = a.1; exhausted = none } in
+              inr (2, record { some_revoked = some; some_others = some_others; cause = inr (refl, behind) }))
           | inl s ↦
               inl (
                 Mixed (record { approx = a.0; exact = s.0 }),
@@ -174,7 +172,7 @@ module _ (rows : Rows) (shift : ℕ) (revoked others : List Identity) where
 
   abbrev RefusedBelow : ℕ → Type 0
   RefusedBelow n = (place : ℕ) × (place < n) × ((j : ℕ) → j < place → (leaf : Leaf) × IsLeafAt j leaf)
-      × ((stage : ℕ) × IsRefused rows (in_shard shift place revoked) (in_shard shift place others) stage)
+      × ((stage : ℕ) × IsStageRefused rows (in_shard shift place revoked) (in_shard shift place others) stage)
 
   leaves_push : (n : ℕ) (l : LeavesBelow n) (leaf : Leaf) → IsLeafAt n leaf → LeavesBelow (suc n)
   leaves_push n l leaf is = (

@@ -14,7 +14,7 @@ use Rattle.ribbon_core.proofs.LeastLaws.{least_unique}
 use Rattle.card_core.specs.declared.stage.Stage.{Stage}
 use Rattle.card_core.specs.declared.leaf.Leaf.TheVariants.{Clean, Every, Mixed}
 use Rattle.card_core.specs.MixedFields.{MixedFields}
-use Rattle.card_core.specs.Leaf.{IsWidth, Solvable, IsStage, IsExhausted, approx_equations, exact_equations, passes, exact_sum, is_leaf_positive, IsApprox, false_positives, IsExact, IsMixed}
+use Rattle.card_core.specs.Leaf.{IsWidth, Solvable, IsStage, IsExhausted, approx_equations, exact_equations, passes, exact_sum, is_leaf_positive, IsApproxIfAny, IsApproxExhausted, false_positives, IsExactStage, IsMixed}
 use Rattle.card_core.specs.Laws.{IsExactOn, LeafIsExact, LeafIsUnique, OneStageIsRefused, RefusedHasNoLeaf}
 
 -- a test that holds at each number of a range
@@ -49,18 +49,18 @@ module _ {X : Type 0} (p : X → Bool) where
 
 module _ (rows : Rows) (revoked others : List Identity) where
   -- a revoked identity is passed
-  passes_revoked : (approx : Option Stage) → IsApprox rows revoked others approx → (x : Identity) → Contains revoked x → passes rows approx x ≡ true
+  passes_revoked : (approx : Option Stage) → IsApproxIfAny rows revoked others approx → (x : Identity) → Contains revoked x → passes rows approx x ≡ true
   passes_revoked None h x c = refl
   passes_revoked (Some s) h x c =
       all_from _ 0 (length s.planes.columns) (λ p low high.
       let g : Identity → Equation = λ y. equation_of (rows 1 s.seed y (starts_for (length revoked))) in
-      let all : SolvesAll p (map g revoked) (get_or s.planes.columns p 0) = (h.2.least p (omega arith)).0 in
+      let all : SolvesAll p (map g revoked) (get_or s.planes.columns p 0) = (h.stage.least p (omega arith)).0 in
       let one : Solves p (g x) (get_or s.planes.columns p 0) =
       All-contains (λ e. Solves p e (get_or s.planes.columns p 0)) (map g revoked) (g x) all (contains_mapped g revoked x c) in
-      let at : Solves p (equation_of (rows 1 s.seed x s.planes.starts)) (get_or s.planes.columns p 0) = rw h.2.size one in
+      let at : Solves p (equation_of (rows 1 s.seed x s.planes.starts)) (get_or s.planes.columns p 0) = rw h.stage.size one in
       eq-eqb _ _ at)
 
-module _ (rows : Rows) (revoked passed : List Identity) (s : Stage) (h : IsExact rows revoked passed s) where
+module _ (rows : Rows) (revoked passed : List Identity) (s : Stage) (h : IsExactStage rows revoked passed s) where
   exact_all : SolvesAll 0 (exact_equations rows revoked passed s.seed) (get_or s.planes.columns 0 0)
   exact_all = (h.least 0 (omega arith)).0
 
@@ -138,21 +138,21 @@ module _ (equations : ℕ → List Equation) (starts planes : ℕ) where
       λ i. record { seed = e i; planes = record { starts = size i; columns = columns i } }
 
 module _ (rows : Rows) (revoked others : List Identity) where
-  pub approx_same : (a b : Option Stage) → IsApprox rows revoked others a → IsApprox rows revoked others b → a ≡ b
+  pub approx_same : (a b : Option Stage) → IsApproxIfAny rows revoked others a → IsApproxIfAny rows revoked others b → a ≡ b
   approx_same None None h k = refl
-  approx_same None (Some s) h k = absurd (omega (arith, k.0, width_same _ _ _ _ h k.1))
-  approx_same (Some s) None h k = absurd (omega (arith, h.0, width_same _ _ _ _ h.1 k))
+  approx_same None (Some s) h k = absurd (omega (arith, k.some, width_same _ _ _ _ h k.width))
+  approx_same (Some s) None h k = absurd (omega (arith, h.some, width_same _ _ _ _ h.width k))
   approx_same (Some s) (Some t) h k =
-      let e : length t.planes.columns ≡ length s.planes.columns = width_same _ _ _ _ k.1 h.1 in
+      let e : length t.planes.columns ≡ length s.planes.columns = width_same _ _ _ _ k.width h.width in
       let k' : IsStage (approx_equations rows revoked) (starts_for (length revoked)) (length s.planes.columns) t =
-      subst (λ (n : ℕ). IsStage (approx_equations rows revoked) (starts_for (length revoked)) n t) e k.2 in
-      ap Some (stage_same (approx_equations rows revoked) (starts_for (length revoked)) (length s.planes.columns) s t h.2 k')
+      subst (λ (n : ℕ). IsStage (approx_equations rows revoked) (starts_for (length revoked)) n t) e k.stage in
+      ap Some (stage_same (approx_equations rows revoked) (starts_for (length revoked)) (length s.planes.columns) s t h.stage k')
 
   mixed_same : (a b : MixedFields) → IsMixed rows revoked others a → IsMixed rows revoked others b → a ≡ b
   mixed_same a b h k =
       let e = approx_same a.approx b.approx h.approx k.approx in
-      let h' : IsExact rows revoked (false_positives rows b.approx others) a.exact =
-      subst (λ (o : Option Stage). IsExact rows revoked (false_positives rows o others) a.exact) e h.exact in
+      let h' : IsExactStage rows revoked (false_positives rows b.approx others) a.exact =
+      subst (λ (o : Option Stage). IsExactStage rows revoked (false_positives rows o others) a.exact) e h.exact in
       let passed = false_positives rows b.approx others in
       let x = stage_same (exact_equations rows revoked passed) (starts_for (length revoked + length passed)) 1 a.exact b.exact h' k.exact in
       λ i. record { approx = e i; exact = x i }
@@ -169,39 +169,39 @@ leaf_unique rows revoked others (Mixed m) Every h k = absurd (omega (arith, k.1,
 leaf_unique rows revoked others (Mixed m) (Mixed n) h k = ap Mixed (mixed_same rows revoked others m n h k)
 
 module _ (rows : Rows) (revoked others : List Identity) where
-  approx_refused : (approx : Option Stage) (k : ℕ) → IsApprox rows revoked others approx → 1 ≤ k → IsWidth (length revoked) (length others) k → IsExhausted (approx_equations rows revoked) k → ⊥
-  approx_refused None k h some w none = absurd (omega (arith, some, width_same _ _ _ _ h w))
-  approx_refused (Some s) k h some w none =
-      let e = width_same _ _ _ _ h.1 w in
-      let h' : IsStage (approx_equations rows revoked) (starts_for (length revoked)) k s =
-      subst (λ (n : ℕ). IsStage (approx_equations rows revoked) (starts_for (length revoked)) n s) e h.2 in
-      none s.seed h'.below (stage_solvable (approx_equations rows revoked) (starts_for (length revoked)) k s h')
+  approx_refused : (approx : Option Stage) → IsApproxExhausted rows revoked others → IsApproxIfAny rows revoked others approx → ⊥
+  approx_refused None r h = absurd (omega (arith, r.some, width_same _ _ _ _ h r.width))
+  approx_refused (Some s) r h =
+      let e = width_same _ _ _ _ h.width r.width in
+      let h' : IsStage (approx_equations rows revoked) (starts_for (length revoked)) r.planes s =
+      subst (λ (n : ℕ). IsStage (approx_equations rows revoked) (starts_for (length revoked)) n s) e h.stage in
+      r.exhausted s.seed h'.below (stage_solvable (approx_equations rows revoked) (starts_for (length revoked)) r.planes s h')
 
-  exact_refused : (approx other : Option Stage) (s : Stage) → IsApprox rows revoked others approx → IsApprox rows revoked others other
-      → IsExact rows revoked (false_positives rows approx others) s → IsExhausted (exact_equations rows revoked (false_positives rows other others)) 1 → ⊥
+  exact_refused : (approx other : Option Stage) (s : Stage) → IsApproxIfAny rows revoked others approx → IsApproxIfAny rows revoked others other
+      → IsExactStage rows revoked (false_positives rows approx others) s → IsExhausted (exact_equations rows revoked (false_positives rows other others)) 1 → ⊥
   exact_refused approx other s h k x none =
       let e = approx_same rows revoked others approx other h k in
-      let x' : IsExact rows revoked (false_positives rows other others) s =
-      subst (λ (o : Option Stage). IsExact rows revoked (false_positives rows o others) s) e x in
+      let x' : IsExactStage rows revoked (false_positives rows other others) s =
+      subst (λ (o : Option Stage). IsExactStage rows revoked (false_positives rows o others) s) e x in
       let passed = false_positives rows other others in
       none s.seed x'.below (stage_solvable (exact_equations rows revoked passed) (starts_for (length revoked + length passed)) 1 s x')
 
 pub refused_no_leaf : RefusedHasNoLeaf
-refused_no_leaf rows revoked others stage Clean r h = absurd (omega (arith, r.0, h))
-refused_no_leaf rows revoked others stage Every r h = absurd (omega (arith, r.1, h.1))
-refused_no_leaf rows revoked others stage (Mixed m) r h = elim r.2 [
-  | inl a ↦ approx_refused rows revoked others m.approx a.1.0 h.approx a.1.1 a.1.2 a.1.3
-  | inr b ↦ exact_refused rows revoked others m.approx b.1.0 m.exact h.approx b.1.1 h.exact b.1.2
+refused_no_leaf rows revoked others stage Clean r h = absurd (omega (arith, r.some_revoked, h))
+refused_no_leaf rows revoked others stage Every r h = absurd (omega (arith, r.some_others, h.1))
+refused_no_leaf rows revoked others stage (Mixed m) r h = elim r.cause [
+  | inl a ↦ approx_refused rows revoked others m.approx a.1 h.approx
+  | inr b ↦ exact_refused rows revoked others m.approx b.1.approx m.exact h.approx b.1.is_approx h.exact b.1.exhausted
 ]
 
 pub refused_once : OneStageIsRefused
-refused_once rows revoked others stage other r t = elim r.2 [
-  | inl a ↦ elim t.2 [
+refused_once rows revoked others stage other r t = elim r.cause [
+  | inl a ↦ elim t.cause [
     | inl b ↦ a.0 ∙ sym b.0
-    | inr b ↦ absurd (approx_refused rows revoked others b.1.0 a.1.0 b.1.1 a.1.1 a.1.2 a.1.3)
+    | inr b ↦ absurd (approx_refused rows revoked others b.1.approx a.1 b.1.is_approx)
   ]
-  | inr a ↦ elim t.2 [
-    | inl b ↦ absurd (approx_refused rows revoked others a.1.0 b.1.0 a.1.1 b.1.1 b.1.2 b.1.3)
+  | inr a ↦ elim t.cause [
+    | inl b ↦ absurd (approx_refused rows revoked others a.1.approx b.1 a.1.is_approx)
     | inr b ↦ a.0 ∙ sym b.0
   ]
 ]

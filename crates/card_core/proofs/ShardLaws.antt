@@ -8,7 +8,7 @@ use Rattle.equation_core.specs.Shards.{shard}
 use Rattle.equation_core.proofs.Cutting.{shard_below}
 use Rattle.card_core.specs.declared.leaf.Leaf.{Leaf}
 use Rattle.card_core.specs.declared.leaf.Leaf.TheVariants.{Clean}
-use Rattle.card_core.specs.Leaf.{IsRefused, is_leaf_positive}
+use Rattle.card_core.specs.Leaf.{IsStageRefused, is_leaf_positive}
 use Rattle.card_core.specs.Filter.{alone, cut, in_shard, is_filtered, AreShards, IsRefusedShard}
 use Rattle.card_core.specs.Laws.{FilterIsExact, FilterIsUnique, RefusedHasNoFilter, OneShardIsRefused, OneStageRefusesFilter}
 use Rattle.card_core.proofs.LeafLaws.{contains_filtered, leaf_exact, leaf_unique, refused_no_leaf, refused_once}
@@ -61,7 +61,7 @@ module _ (rows : Rows) (shift : ℕ) (revoked others : List Identity) where
 
   stage_same : (s t : ℕ) → IsRefusedShard rows shift revoked others s → IsRefusedShard rows shift revoked others t → s ≡ t
   stage_same s t r q =
-      let moved = subst (λ (j : ℕ). IsRefused rows (in_shard shift j revoked) (in_shard shift j others) s) (place_same s t r q) r.refused in
+      let moved = subst (λ (j : ℕ). IsStageRefused rows (in_shard shift j revoked) (in_shard shift j others) s) (place_same s t r q) r.refused in
       refused_once rows (in_shard shift q.place revoked) (in_shard shift q.place others) s t moved q.refused
 
 pub shard_once : OneShardIsRefused

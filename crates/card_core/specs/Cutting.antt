@@ -20,15 +20,15 @@ CutIsOfShard = (p : Identity → Bool) (xs : List Identity) (flags : List Bool) 
     × (length (flags_of p xs flags) ≡ length (filter p xs))
 
 -- the filter of the leaves of all shards
-abbrev pub joined : ℕ → List Leaf → Filter
-joined zero [] = cut 0 []
-joined zero (leaf ∷ leaves) = alone leaf
-joined (suc s) leaves = cut (suc s) leaves
+abbrev pub filter_of_leaves : ℕ → List Leaf → Filter
+filter_of_leaves zero [] = cut 0 []
+filter_of_leaves zero (leaf ∷ leaves) = alone leaf
+filter_of_leaves (suc s) leaves = cut (suc s) leaves
 
 -- The leaves of all shards make the filter, also where there is one shard.
 abbrev pub ShardsMakeFilter : Type 0
 ShardsMakeFilter = (rows : Rows) (shift : ℕ) (revoked others : List Identity) (leaves : List Leaf)
-    → AreShards rows shift revoked others leaves → IsFilter rows shift revoked others (joined shift leaves)
+    → AreShards rows shift revoked others leaves → IsFilter rows shift revoked others (filter_of_leaves shift leaves)
 
 -- A shard that is refused refuses the filter.
 abbrev pub ShardRefusesFilter : Type 0

@@ -10,7 +10,7 @@ use Rattle.card_core.specs.declared.leaf.Leaf.TheVariants as leafs
 use Rattle.card_core.specs.declared.block.Block.{Block}
 use Rattle.card_core.specs.declared.block.Body.{Body}
 use Rattle.card_core.specs.declared.block.Body.TheVariants as bodies
-use Rattle.card_core.specs.Leaf.{flagged, is_leaf_positive, IsLeaf, IsRefused}
+use Rattle.card_core.specs.Leaf.{flagged, is_leaf_positive, IsLeaf, IsStageRefused}
 
 -- one leaf, or a shift and a leaf for each of its shards, in order
 pub data Filter : Type 0 where
@@ -71,11 +71,11 @@ pub record IsRefusedShard (rows : Rows) (shift : ℕ) (revoked others : List Ide
   pub place : ℕ
   pub below : place < 2 ^ shift
   pub before : (j : ℕ) → j < place → (leaf : Leaf) × IsLeaf rows (in_shard shift j revoked) (in_shard shift j others) leaf
-  pub refused : IsRefused rows (in_shard shift place revoked) (in_shard shift place others) stage
+  pub refused : IsStageRefused rows (in_shard shift place revoked) (in_shard shift place others) stage
 
 -- the stage for which there is no filter
 abbrev pub IsRefusedIn : Rows → ℕ → List Identity → List Identity → ℕ → Type 0
-IsRefusedIn rows zero revoked others stage = IsRefused rows revoked others stage
+IsRefusedIn rows zero revoked others stage = IsStageRefused rows revoked others stage
 IsRefusedIn rows (suc s) revoked others stage = IsRefusedShard rows (suc s) revoked others stage
 
 -- the block of an issuer whose identities have these flags, cut by this shift

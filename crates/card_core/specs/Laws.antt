@@ -4,14 +4,14 @@ use Rattle.ident_core.specs.declared.identity.Identity.{Identity}
 use Rattle.equation_core.specs.Rows.{Rows}
 use Rattle.card_core.specs.declared.block.Block.{Block}
 use Rattle.card_core.specs.declared.leaf.Leaf.{Leaf}
-use Rattle.card_core.specs.Leaf.{IsLeaf, IsRefused, is_leaf_positive}
+use Rattle.card_core.specs.Leaf.{IsLeaf, IsStageRefused, is_leaf_positive}
 use Rattle.card_core.specs.Filter.{Filter, IsBlock, IsBlockRefused, IsFilter, IsRefusedIn, IsRefusedShard, as_body}
 use Rattle.card_core.specs.Filter.{is_filtered, is_positive}
 
 -- each universe and its revoked part have a leaf, or a stage is refused
 abbrev pub LeafOrRefusal : Type 0
 LeafOrRefusal = (rows : Rows) (revoked others : List Identity)
-    → ((leaf : Leaf) × IsLeaf rows revoked others leaf) ⊎ ((stage : ℕ) × IsRefused rows revoked others stage)
+    → ((leaf : Leaf) × IsLeaf rows revoked others leaf) ⊎ ((stage : ℕ) × IsStageRefused rows revoked others stage)
 
 -- and a filter, however far it is cut, or a stage is refused for it
 abbrev pub FilterOrRefusal : Type 0
@@ -35,12 +35,12 @@ LeafIsUnique =
 -- where a stage is refused there is no leaf
 abbrev pub RefusedHasNoLeaf : Type 0
 RefusedHasNoLeaf = (rows : Rows) (revoked others : List Identity) (stage : ℕ) (leaf : Leaf)
-    → IsRefused rows revoked others stage → IsLeaf rows revoked others leaf → ⊥
+    → IsStageRefused rows revoked others stage → IsLeaf rows revoked others leaf → ⊥
 
 -- only one stage is refused
 abbrev pub OneStageIsRefused : Type 0
 OneStageIsRefused = (rows : Rows) (revoked others : List Identity) (stage other : ℕ)
-    → IsRefused rows revoked others stage → IsRefused rows revoked others other → stage ≡ other
+    → IsStageRefused rows revoked others stage → IsStageRefused rows revoked others other → stage ≡ other
 
 abbrev pub FilterIsExact : Type 0
 FilterIsExact = (rows : Rows) (shift : ℕ) (revoked others : List Identity) (f : Filter)

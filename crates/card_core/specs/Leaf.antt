@@ -76,26 +76,29 @@ is_leaf_positive rows x Clean = false
 is_leaf_positive rows x Every = true
 is_leaf_positive rows x (Mixed m) = passes rows m.approx x && exact_sum rows m.exact x == 1
 
--- the approximate stage, where the width isn't 0
-abbrev pub IsApprox : Rows → List Identity → List Identity → Option Stage → Type 0
-IsApprox rows revoked others None = IsWidth (length revoked) (length others) 0
-IsApprox rows revoked others (Some s) =
-    (1 ≤ length s.planes.columns)
-    × IsWidth (length revoked) (length others) (length s.planes.columns)
-    × IsStage (approx_equations rows revoked) (starts_for (length revoked)) (length s.planes.columns) s
+-- the approximate stage, of as many planes as the width
+pub record IsApproxStage (rows : Rows) (revoked others : List Identity) (s : Stage) : Type 0 where
+  pub some : 1 ≤ length s.planes.columns
+  pub width : IsWidth (length revoked) (length others) (length s.planes.columns)
+  pub stage : IsStage (approx_equations rows revoked) (starts_for (length revoked)) (length s.planes.columns) s
+
+-- there is one where the width isn't 0
+abbrev pub IsApproxIfAny : Rows → List Identity → List Identity → Option Stage → Type 0
+IsApproxIfAny rows revoked others None = IsWidth (length revoked) (length others) 0
+IsApproxIfAny rows revoked others (Some s) = IsApproxStage rows revoked others s
 
 abbrev pub false_positives : Rows → Option Stage → List Identity → List Identity
 false_positives rows approx others = filter (passes rows approx) others
 
 -- the exact stage
-abbrev pub IsExact : Rows → List Identity → List Identity → Stage → Type 0
-IsExact rows revoked passed s = IsStage (exact_equations rows revoked passed) (starts_for (length revoked + length passed)) 1 s
+abbrev pub IsExactStage : Rows → List Identity → List Identity → Stage → Type 0
+IsExactStage rows revoked passed s = IsStage (exact_equations rows revoked passed) (starts_for (length revoked + length passed)) 1 s
 
 pub record IsMixed (rows : Rows) (revoked others : List Identity) (m : MixedFields) : Type 0 where
   pub some_revoked : 1 ≤ length revoked
   pub some_others : 1 ≤ length others
-  pub approx : IsApprox rows revoked others m.approx
-  pub exact : IsExact rows revoked (false_positives rows m.approx others) m.exact
+  pub approx : IsApproxIfAny rows revoked others m.approx
+  pub exact : IsExactStage rows revoked (false_positives rows m.approx others) m.exact
 
 -- the leaf of the revoked and the other identities of a universe
 abbrev pub IsLeaf : Rows → List Identity → List Identity → Leaf → Type 0
@@ -103,10 +106,21 @@ IsLeaf rows revoked others Clean = length revoked ≡ 0
 IsLeaf rows revoked others Every = (1 ≤ length revoked) × (length others ≡ 0)
 IsLeaf rows revoked others (Mixed m) = IsMixed rows revoked others m
 
--- the stage that is unsolvable at each seed
-abbrev pub IsRefused : Rows → List Identity → List Identity → ℕ → Type 0
-IsRefused rows revoked others stage =
-    (1 ≤ length revoked) × (1 ≤ length others)
-    × (((stage ≡ 1) × ((k : ℕ) × (1 ≤ k) × IsWidth (length revoked) (length others) k × IsExhausted (approx_equations rows revoked) k))
-    ⊎ ((stage ≡ 2) × ((approx : Option Stage) × IsApprox rows revoked others approx
-    × IsExhausted (exact_equations rows revoked (false_positives rows approx others)) 1)))
+-- the approximate stage is unsolvable at each seed
+pub record IsApproxExhausted (rows : Rows) (revoked others : List Identity) : Type 0 where
+  pub planes : ℕ
+  pub some : 1 ≤ planes
+  pub width : IsWidth (length revoked) (length others) planes
+  pub exhausted : IsExhausted (approx_equations rows revoked) planes
+
+-- the exact stage is, behind the approximate one
+pub record IsExactExhausted (rows : Rows) (revoked others : List Identity) : Type 0 where
+  pub approx : Option Stage
+  pub is_approx : IsApproxIfAny rows revoked others approx
+  pub exhausted : IsExhausted (exact_equations rows revoked (false_positives rows approx others)) 1
+
+-- the stage, 1 or 2, that is unsolvable at each seed, so that there is no leaf
+pub record IsStageRefused (rows : Rows) (revoked others : List Identity) (stage : ℕ) : Type 0 where
+  pub some_revoked : 1 ≤ length revoked
+  pub some_others : 1 ≤ length others
+  pub cause : ((stage ≡ 1) × IsApproxExhausted rows revoked others) ⊎ ((stage ≡ 2) × IsExactExhausted rows revoked others)

@@ -40,14 +40,14 @@ said_by x (Err said) = said
 
 -- What two lists of parts say together: Revoked goes before Good, Good before NotEnrolled, and NotEnrolled before
 -- NotCovered.
-abbrev pub joined : Verdict → Verdict → Verdict
-joined Revoked other = Revoked
-joined one Revoked = Revoked
-joined Good other = Good
-joined one Good = Good
-joined NotEnrolled other = NotEnrolled
-joined one NotEnrolled = NotEnrolled
-joined NotCovered NotCovered = NotCovered
+abbrev pub said_by_both : Verdict → Verdict → Verdict
+said_by_both Revoked other = Revoked
+said_by_both one Revoked = Revoked
+said_by_both Good other = Good
+said_by_both one Good = Good
+said_by_both NotEnrolled other = NotEnrolled
+said_by_both one NotEnrolled = NotEnrolled
+said_by_both NotCovered NotCovered = NotCovered
 
 -- So many probes, the sum of those of each part: p of a part with n blocks, where 2 ^ p is at most 2 n + 1.
 abbrev pub AreProbes : List PartFields → ℕ → Type 0

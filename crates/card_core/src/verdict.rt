@@ -1,7 +1,7 @@
 //! What parts say of a certificate.
 
 ghost use Rattle.std.specs.Prelude.{◌≡◌, ◌≤◌, ◌+◌, ◌-◌, ◌*◌, [], ◌∷◌, length};
-ghost use Rattle.card_core.specs.Verdict.{verdict, covering, joined, AreProbes};
+ghost use Rattle.card_core.specs.Verdict.{verdict, covering, said_by_both, AreProbes};
 
 use crate::part::Part;
 use equation_core::Sha256Rows;
@@ -25,7 +25,7 @@ pub enum Verdict {
 impl Verdict {
     /// What two lists of parts say together, of which one says `self` and the other says `other`.
     pub fn joined_with(self, other: Verdict) -> Verdict
-        ensures { result ≡ joined self other }
+        ensures { result ≡ said_by_both self other }
     {
         match (self, other) {
             (Verdict::Revoked, _) | (_, Verdict::Revoked) => Verdict::Revoked,

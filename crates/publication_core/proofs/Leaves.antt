@@ -23,7 +23,7 @@ use Rattle.card_core.specs.declared.leaf.Leaf.TheVariants as leafs
 use Rattle.card_core.specs.declared.block.Body.{Body}
 use Rattle.card_core.specs.declared.block.Body.TheVariants as bodies
 use Rattle.card_core.specs.MixedFields.{MixedFields}
-use Rattle.card_core.specs.Leaf.{IsStage, approx_equations, exact_equations, passes, IsApprox, false_positives, IsLeaf, IsMixed, flagged}
+use Rattle.card_core.specs.Leaf.{IsStage, approx_equations, exact_equations, passes, IsApproxIfAny, false_positives, IsLeaf, IsMixed, flagged}
 use Rattle.card_core.specs.ShardedFields.{ShardedFields}
 use Rattle.card_core.specs.Filter.{cut, filter_of, in_shard, IsFilter}
 use Rattle.part_text.specs.Fitting.{StageFits, FirstFits, MixedFits, LeafFits, ShardsFit, BodyFits, BlockFits}
@@ -109,14 +109,14 @@ module _ (rows : Rows) (formed : (stage seed : ℕ) (id : Identity) (starts : �
       (mapped_within (λ x. 1) 2 seed starts revoked (starts_some keys))
       (mapped_within (λ x. 0) 2 seed starts passed (starts_some keys))
 
-  approx_fits : (revoked others : List Identity) (approx : Option Stage) → length revoked ≤ 4194304 → IsApprox rows revoked others approx → FirstFits approx
+  approx_fits : (revoked others : List Identity) (approx : Option Stage) → length revoked ≤ 4194304 → IsApproxIfAny rows revoked others approx → FirstFits approx
   approx_fits revoked others None few h = tt
   approx_fits revoked others (Some s) few h =
       let keys : ℕ = length revoked in
       record {
-        stage = stage_fits (approx_equations rows revoked) (starts_for keys) (length s.planes.columns) s (starts_some keys) (starts_few keys few) (approx_within revoked) h.2;
-        some = h.0;
-        few = h.1.most;
+        stage = stage_fits (approx_equations rows revoked) (starts_for keys) (length s.planes.columns) s (starts_some keys) (starts_few keys few) (approx_within revoked) h.stage;
+        some = h.some;
+        few = h.width.most;
       }
 
   mixed_fits : (revoked others : List Identity) (m : MixedFields) → length revoked + length others ≤ 4194304 → IsMixed rows revoked others m → MixedFits m

@@ -11,7 +11,7 @@ use Rattle.ribbon_core.specs.Rows.{equation_of}
 use Rattle.ribbon_core.specs.Equations.{Equation, Solves, SolvesAll}
 use Rattle.ribbon_core.proofs.LeastLaws.{least_same}
 use Rattle.card_core.specs.declared.stage.Stage.{Stage}
-use Rattle.card_core.specs.Leaf.{Solvable, IsStage, IsExhausted, IsWidth, IsApprox, IsExact, IsMixed, approx_equations, exact_equations, false_positives}
+use Rattle.card_core.specs.Leaf.{Solvable, IsStage, IsExhausted, IsWidth, IsApproxIfAny, IsExactExhausted, IsExactStage, IsMixed, approx_equations, exact_equations, false_positives}
 use Rattle.stage_core.specs.Keys.{stage_equations, key_equation}
 use Rattle.stage_core.specs.declared.keys.KeyTarget.TheVariants.{Tag}
 use Rattle.stage_core.specs.declared.fault.BlockFault.{BlockFault}
@@ -77,26 +77,31 @@ module _ (rows : Rows) (revoked : List Identity) (k : ℕ) where
 
 module _ (rows : Rows) (revoked others : List Identity) where
   pub approx_found : (k : ℕ) (s : Stage) → (k ≡ 0 → ⊥) → IsWidth (length revoked) (length others) k
-      → IsStage (approx_equations rows revoked) (starts_for (length revoked)) k s → IsApprox rows revoked others (Some s)
+      → IsStage (approx_equations rows revoked) (starts_for (length revoked)) k s → IsApproxIfAny rows revoked others (Some s)
   approx_found k s some w h =
-      let e : k ≡ length s.planes.columns = sym h.count in (
-        omega (arith, e, some),
-        subst (λ (n : ℕ). IsWidth (length revoked) (length others) n) e w,
-        subst (λ (n : ℕ). IsStage (approx_equations rows revoked) (starts_for (length revoked)) n s) e h,
-      )
+      let e : k ≡ length s.planes.columns = sym h.count in record {
+        some = omega (arith, e, some);
+        width = subst (λ (n : ℕ). IsWidth (length revoked) (length others) n) e w;
+        stage = subst (λ (n : ℕ). IsStage (approx_equations rows revoked) (starts_for (length revoked)) n s) e h;
+      }
 
   -- a refusal of the exact stage is the filter's
-  pub exact_fault : (approx : Option Stage) (passed : List Identity) (e : BlockFault) → 1 ≤ length revoked → 1 ≤ length others → IsApprox rows revoked others approx
+  pub exact_fault : (approx : Option Stage) (passed : List Identity) (e : BlockFault) → 1 ≤ length revoked → 1 ≤ length others → IsApproxIfAny rows revoked others approx
       → passed ≡ false_positives rows approx others → BuildsExact rows revoked passed (Err e) → BuildsLeaf rows revoked others (Err e)
   exact_fault approx passed NoMemory r n a p h = tt
   exact_fault approx passed (SeedsExhausted stage) r n a p h =
-      (r, n, inr (h.0, (approx, a, subst (λ (l : List Identity). IsExhausted (exact_equations rows revoked l) 1) p h.1)))
+      let behind : IsExactExhausted rows revoked others = record {
+        approx = approx;
+        is_approx = a;
+        exhausted = subst (λ (l : List Identity). IsExhausted (exact_equations rows revoked l) 1) p h.1;
+      } in
+      record { some_revoked = r; some_others = n; cause = inr (h.0, behind) }
 
-  pub mixed_found : (approx : Option Stage) (exact : Stage) (passed : List Identity) → 1 ≤ length revoked → 1 ≤ length others → IsApprox rows revoked others approx
-      → passed ≡ false_positives rows approx others → IsExact rows revoked passed exact → IsMixed rows revoked others (record { approx = approx; exact = exact })
+  pub mixed_found : (approx : Option Stage) (exact : Stage) (passed : List Identity) → 1 ≤ length revoked → 1 ≤ length others → IsApproxIfAny rows revoked others approx
+      → passed ≡ false_positives rows approx others → IsExactStage rows revoked passed exact → IsMixed rows revoked others (record { approx = approx; exact = exact })
   mixed_found approx exact passed r n a p h = record {
     some_revoked = r;
     some_others = n;
     approx = a;
-    exact = subst (λ (l : List Identity). IsExact rows revoked l exact) p h;
+    exact = subst (λ (l : List Identity). IsExactStage rows revoked l exact) p h;
   }

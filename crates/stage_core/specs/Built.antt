@@ -1,5 +1,5 @@
 -- What building a filter gives.
-use Rattle.std.specs.Prelude.{◌≡◌, ◌≤◌, ◌<◌, ℕ, Bool, List, length, slice_index, Option, Some, None, Result, Ok, Err}
+use Rattle.std.specs.Prelude.{◌≡◌, ◌<◌, ℕ, Bool, List, length, slice_index, Option, Some, None, Result, Ok, Err}
 use Rattle.ident_core.specs.declared.identity.Identity.{Identity}
 use Rattle.equation_core.specs.Rows.{Rows}
 use Rattle.ribbon_core.specs.Equations.{Equation, Least, SolvesAll}
@@ -7,7 +7,7 @@ use Rattle.ribbon_core.specs.PlaneWords.{PlaneColumns}
 use Rattle.card_core.specs.declared.stage.Stage.{Stage}
 use Rattle.card_core.specs.declared.block.Block.{Block}
 use Rattle.card_core.specs.declared.leaf.Leaf.{Leaf}
-use Rattle.card_core.specs.Leaf.{IsLeaf, IsRefused, IsStage, IsExhausted, IsWidth, IsApprox, IsExact, approx_equations, exact_equations}
+use Rattle.card_core.specs.Leaf.{IsLeaf, IsStageRefused, IsStage, IsExhausted, IsApproxIfAny, IsApproxExhausted, IsExactStage, exact_equations}
 use Rattle.card_core.specs.Filter.{IsBlock, IsBlockRefused}
 use Rattle.stage_core.specs.declared.fault.BlockFault.{BlockFault}
 use Rattle.stage_core.specs.declared.fault.BlockFault.TheVariants.{SeedsExhausted, NoMemory}
@@ -24,13 +24,12 @@ IsSolved es starts planes (Some s) =
     (s.starts ≡ starts) × (length s.columns ≡ planes) × ((p : ℕ) → p < planes → Least p es (slice_index s.columns p))
 
 abbrev pub BuildsApprox : Rows → List Identity → List Identity → Result (Option Stage) BlockFault → Type 0
-BuildsApprox rows revoked others (Ok approx) = IsApprox rows revoked others approx
+BuildsApprox rows revoked others (Ok approx) = IsApproxIfAny rows revoked others approx
 BuildsApprox rows revoked others (Err NoMemory) = Unit {0}
-BuildsApprox rows revoked others (Err (SeedsExhausted stage)) =
-    (stage ≡ 1) × ((k : ℕ) × (1 ≤ k) × IsWidth (length revoked) (length others) k × IsExhausted (approx_equations rows revoked) k)
+BuildsApprox rows revoked others (Err (SeedsExhausted stage)) = (stage ≡ 1) × IsApproxExhausted rows revoked others
 
 abbrev pub BuildsExact : Rows → List Identity → List Identity → Result Stage BlockFault → Type 0
-BuildsExact rows revoked passed (Ok s) = IsExact rows revoked passed s
+BuildsExact rows revoked passed (Ok s) = IsExactStage rows revoked passed s
 BuildsExact rows revoked passed (Err NoMemory) = Unit {0}
 BuildsExact rows revoked passed (Err (SeedsExhausted stage)) = (stage ≡ 2) × IsExhausted (exact_equations rows revoked passed) 1
 
@@ -38,7 +37,7 @@ BuildsExact rows revoked passed (Err (SeedsExhausted stage)) = (stage ≡ 2) × 
 abbrev pub BuildsLeaf : Rows → List Identity → List Identity → Result Leaf BlockFault → Type 0
 BuildsLeaf rows revoked others (Ok leaf) = IsLeaf rows revoked others leaf
 BuildsLeaf rows revoked others (Err NoMemory) = Unit {0}
-BuildsLeaf rows revoked others (Err (SeedsExhausted stage)) = IsRefused rows revoked others stage
+BuildsLeaf rows revoked others (Err (SeedsExhausted stage)) = IsStageRefused rows revoked others stage
 
 -- the block that isn't cut, or the same
 abbrev pub BuildsBlock : Rows → List ℕ → List Identity → List Bool → Result Block BlockFault → Type 0

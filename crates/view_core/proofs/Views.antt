@@ -7,7 +7,7 @@ use Rattle.ident_core.specs.declared.range.Sighting.{Sighting}
 use Rattle.card_core.specs.declared.verdict.Verdict.{Verdict}
 use Rattle.card_core.specs.declared.verdict.Verdict.TheVariants.{NotCovered}
 use Rattle.card_core.specs.PartFields.{PartFields}
-use Rattle.card_core.specs.Verdict.{joined}
+use Rattle.card_core.specs.Verdict.{said_by_both}
 use Rattle.card_core.proofs.Verdicts.{IsAsked, asked-append, asked-none}
 use Rattle.part_text.specs.SealedFields.{SealedFields}
 use Rattle.view_core.specs.Index.{parts_index, shards_index}
@@ -35,7 +35,7 @@ none_asked bytes words a b id ss parts p w fits opened a_is b_is = record {
 pub record AsksNext (bytes shards others : List ℕ) (id : Identity) (ss : List Sighting) (parts : List SealedFields) (said : Verdict) (p0 p1 w0 w1 : ℕ) (part : PartAt) : Type 0 where
   pub next : SealedFields
   pub is : IsPartAt bytes shards part next.part
-  pub then : (now : Verdict) (p2 w2 : ℕ) → IsAsked id ss (next.part ∷ []) now p1 p2 w1 w2 → AreAsked bytes shards others id ss parts (joined said now) p0 p2 w0 w2
+  pub then : (now : Verdict) (p2 w2 : ℕ) → IsAsked id ss (next.part ∷ []) now p1 p2 w1 w2 → AreAsked bytes shards others id ss parts (said_by_both said now) p0 p2 w0 w2
 
 pub next_asked : (bytes shards words others : List ℕ) (id : Identity) (ss : List Sighting) (parts : List SealedFields) (said : Verdict) (p0 p1 w0 w1 : ℕ) (part : PartAt)
     → AreAsked bytes shards words id ss parts said p0 p1 w0 w1 → Tells words part others → AsksNext bytes shards others id ss parts said p0 p1 w0 w1 part
@@ -47,7 +47,7 @@ next_asked bytes shards words others id ss parts said p0 p1 w0 w1 part a tells =
       then = λ now p2 w2 one. record {
         asked = a.asked ++ n.next ∷ [];
         walked = n.then;
-        said_is = subst (λ (l : List PartFields). IsAsked id ss l (joined said now) p0 p2 w0 w2) (sym (map-append (λ (t : SealedFields). t.part) a.asked (n.next ∷ [])))
+        said_is = subst (λ (l : List PartFields). IsAsked id ss l (said_by_both said now) p0 p2 w0 w2) (sym (map-append (λ (t : SealedFields). t.part) a.asked (n.next ∷ [])))
             (asked-append id ss (map (λ (t : SealedFields). t.part) a.asked) (n.next.part ∷ []) said now p0 p1 p2 w0 w1 w2 a.said_is one);
       };
     }

@@ -35,10 +35,11 @@ returns-in-None g c =
     let h = rw c.in-None.is at c.in_ok-stage.ensures.ok in
     let some : 1 ≤ c.width_for-planes.result = omega (arith, c.if-planes-eq0.false) in (
       refl,
-      (
-        c.width_for-planes.result,
-        some,
-        w,
-        approx_exhausted (g.W.Hashing.row_of c.args.hashing.now) (flagged xs fs) c.width_for-planes.result c.starts_for.result (flagged xs []) size (flagged_nil xs) h,
-      ),
+      record {
+        planes = c.width_for-planes.result;
+        some = some;
+        width = w;
+        exhausted = approx_exhausted (g.W.Hashing.row_of c.args.hashing.now) (flagged xs fs) c.width_for-planes.result c.starts_for.result (flagged xs []) size
+            (flagged_nil xs) h;
+      },
     )
