@@ -10,7 +10,7 @@ use Rattle.card_core.specs.declared.leaf.Leaf.{Leaf}
 use Rattle.card_core.specs.MixedFields.{MixedFields}
 use Rattle.card_core.specs.ShardedFields.{ShardedFields, IsSharded}
 use Rattle.part_text.specs.PlaneBytes.{bytes_of_columns}
-use Rattle.part_text.specs.PartText.{planes_text, stage_text, width_of, approx_text, mixed_text, leaf_mode, leaf_text, shard_text, sharded_text}
+use Rattle.part_text.specs.PartText.{planes_text, stage_text, width_of, approx_text, mixed_text, leaf_mode, leaf_text, shard_leaf_text, sharded_text}
 use Rattle.part_text.proofs.PlaneBytes.{length-bytes}
 
 length-planes : (n : ℕ) (columns : List ℕ) → length (flat_map (bytes_of_columns n) columns) ≡ length columns * (8 * n)
@@ -35,12 +35,12 @@ unfolding mixed_text
 length_mixed m =
     omega (arith, length-append (to_be_bytes w8 (width_of m.approx) ++ approx_text m.approx) (stage_text m.exact), length-append (to_be_bytes w8 (width_of m.approx)) (approx_text m.approx))
 
-pub length_shard : (l : Leaf) → length (shard_text l) ≡ 1 + length (leaf_text l)
+pub length_shard : (l : Leaf) → length (shard_leaf_text l) ≡ 1 + length (leaf_text l)
 length_shard l = omega (arith, length-append (to_be_bytes w8 (leaf_mode l)) (leaf_text l))
 
-pub length_sharded : (s : ShardedFields) → length (sharded_text s) ≡ 1 + length (flat_map shard_text s.leaves)
+pub length_sharded : (s : ShardedFields) → length (sharded_text s) ≡ 1 + length (flat_map shard_leaf_text s.leaves)
 unfolding sharded_text
-length_sharded s = omega (arith, length-append (to_be_bytes w8 s.shift) (flat_map shard_text s.leaves))
+length_sharded s = omega (arith, length-append (to_be_bytes w8 s.shift) (flat_map shard_leaf_text s.leaves))
 
 pub few_shards : (s : ShardedFields) → IsSharded s → length s.leaves ≤ 256
 few_shards s facts =

@@ -29,7 +29,7 @@ use Rattle.equation_core.specs.declared.hash.TheConstants.{MAX_PLANES}
 use Rattle.equation_core.specs.declared.sizes.TheConstants.{MAX_STARTS}
 use Rattle.part_text.specs.PlaneBytes.{columns_of_bytes, bytes_of_columns, is_padded}
 use Rattle.part_text.specs.PartLayout.{plane_bytes, plane, planes, approx_stage, approx, exact, mixed, leaf, shard, shards, sharded, plain, body_of}
-use Rattle.part_text.specs.PartText.{leaf_mode, mode_of, planes_text, stage_text, width_of, approx_text, mixed_text, leaf_text, shard_text, sharded_text, body_text}
+use Rattle.part_text.specs.PartText.{leaf_mode, mode_of, planes_text, stage_text, width_of, approx_text, mixed_text, leaf_text, shard_leaf_text, sharded_text, body_text}
 use Rattle.part_text.specs.Fitting.{PlanesFit, StageFits, FirstFits, MixedFits, LeafFits, ShardsFit, BodyFits}
 use Rattle.part_text.proofs.PlaneBytes.{length-bytes, columns-again, bytes-back}
 
@@ -213,14 +213,14 @@ leaf_mode-few leaves.Clean = omega arith
 leaf_mode-few leaves.Every = omega arith
 leaf_mode-few (leaves.Mixed m) = omega arith
 
-shard-read : (before : List ℕ) (l : Leaf) → LeafFits l → IsRead shard before l (shard_text l)
+shard-read : (before : List ℕ) (l : Leaf) → LeafFits l → IsRead shard before l (shard_leaf_text l)
 unfolding shard
 shard-read before l fits =
     then-read _ (λ mode. leaf mode) before (leaf_mode l) l _ (leaf_text l)
     (number_field-read _ _ w8 (2 ^ 8) 0 2 wide8 before (leaf_mode l) (omega arith) (leaf_mode-few l) (omega (arith, leaf_mode-few l)))
     (leaf-read (before ++ to_be_bytes w8 (leaf_mode l)) l fits)
 
-shard-leaves : (bytes : List ℕ) → IsBytes bytes → (at : ℕ) → Leaves shard bytes at (λ l end. Takes bytes at (shard_text l) end × LeafFits l)
+shard-leaves : (bytes : List ℕ) → IsBytes bytes → (at : ℕ) → Leaves shard bytes at (λ l end. Takes bytes at (shard_leaf_text l) end × LeafFits l)
 unfolding shard
 shard-leaves bytes fits at =
     number_field-leaves _ _ w8 (2 ^ 8) 0 2 wide8 bytes fits at >>- λ mode q a. record {
@@ -231,10 +231,10 @@ shard-leaves bytes fits at =
           );
     }
 
-shards-read : (before : List ℕ) (n : ℕ) (list : List Leaf) → length list ≡ n → All LeafFits list → IsRead (shards n) before list (flat_map shard_text list)
+shards-read : (before : List ℕ) (n : ℕ) (list : List Leaf) → length list ≡ n → All LeafFits list → IsRead (shards n) before list (flat_map shard_leaf_text list)
 shards-read before n list count fits =
-    subst (λ (m : ℕ). IsRead (shards m) before list (flat_map shard_text list)) count
-    (repeated-read (λ (s : Unit {0}). shard) step (λ s. LeafFits) shard_text (λ s. shard-read) tt before list (linked-from_all LeafFits list fits))
+    subst (λ (m : ℕ). IsRead (shards m) before list (flat_map shard_leaf_text list)) count
+    (repeated-read (λ (s : Unit {0}). shard) step (λ s. LeafFits) shard_leaf_text (λ s. shard-read) tt before list (linked-from_all LeafFits list fits))
 
 sharded-read : (before : List ℕ) (s : ShardedFields) → ShardsFit s → IsRead sharded before s (sharded_text s)
 unfolding sharded sharded_text
@@ -247,7 +247,7 @@ sharded-leaves : (bytes : List ℕ) → IsBytes bytes → (at : ℕ) → Leaves 
 unfolding sharded sharded_text
 sharded-leaves bytes fits at =
     number_field-leaves _ _ w8 (2 ^ 8) 1 MAX_SHIFT wide8 bytes fits at >>- λ shift q a.
-    repeated-leaves (λ (s : Unit {0}). shard) step (λ s. LeafFits) shard_text bytes (λ s. shard-leaves bytes fits) (2 ^ shift) tt q a.takes.room >>- λ list end b.
+    repeated-leaves (λ (s : Unit {0}). shard) step (λ s. LeafFits) shard_leaf_text bytes (λ s. shard-leaves bytes fits) (2 ^ shift) tt q a.takes.room >>- λ list end b.
     whole-leaves _ bytes end _ (
       a.takes >>> b.0,
       record { facts = record { some = a.from_low; few = a.to_high; count = b.2 }; leaves = all-from_linked LeafFits list b.1 },

@@ -70,11 +70,11 @@ leaf_text leaves.Clean = []
 leaf_text leaves.Every = []
 leaf_text (leaves.Mixed m) = mixed_text m
 
-abbrev pub shard_text : Leaf → List ℕ
-shard_text l = to_be_bytes w8 (leaf_mode l) ++ leaf_text l
+abbrev pub shard_leaf_text : Leaf → List ℕ
+shard_leaf_text l = to_be_bytes w8 (leaf_mode l) ++ leaf_text l
 
 unfoldable pub sharded_text : ShardedFields → List ℕ
-sharded_text s = to_be_bytes w8 s.shift ++ flat_map shard_text s.leaves
+sharded_text s = to_be_bytes w8 s.shift ++ flat_map shard_leaf_text s.leaves
 
 abbrev pub body_text : Body → List ℕ
 body_text bodies.Clean = []

@@ -3,7 +3,7 @@
 ghost use Rattle.std.specs.Prelude.{◌≡◌, ◌≤◌, ◌+◌, ◌*◌, length, OnOk, IfOk, flat_map};
 ghost use Rattle.card_core.specs.declared.part.TheConstants.{MAX_BLOCKS};
 ghost use Rattle.part_text.specs.declared.encode.TheConstants.{MAX_STAGE, MAX_LEAF, MAX_BLOCK};
-ghost use Rattle.part_text.specs.PartText.{stage_text, approx_text, mixed_text, shard_text, sharded_text, body_text, block_text, spelling};
+ghost use Rattle.part_text.specs.PartText.{stage_text, approx_text, mixed_text, shard_leaf_text, sharded_text, body_text, block_text, spelling};
 ghost use Rattle.part_text.specs.Fitting.{Fits};
 
 use crate::sealed::Sealed;
@@ -58,7 +58,7 @@ fn mixed_len(mixed: &Mixed) -> usize
 
 #[tactic(auto, using(crate::proofs::Lengths::length_shard))]
 fn shard_len(leaf: &Leaf) -> usize
-    ensures value { result ≡ length (shard_text leaf.now) }
+    ensures value { result ≡ length (shard_leaf_text leaf.now) }
     ensures few { result ≤ MAX_LEAF }
 {
     match leaf {
@@ -70,7 +70,7 @@ fn shard_len(leaf: &Leaf) -> usize
 // The bytes of all shards.
 fn shards_len(leaves: &[Leaf]) -> usize
     requires { length leaves.now ≤ 256 }
-    ensures value { result ≡ length (flat_map shard_text leaves.now) }
+    ensures value { result ≡ length (flat_map shard_leaf_text leaves.now) }
     ensures few { result ≤ 256 * MAX_LEAF }
 {
     let mut len = 0;

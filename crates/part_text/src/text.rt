@@ -7,7 +7,7 @@ ghost use Rattle.ident_core.specs.RangeText.{range_text, RangeFits};
 ghost use Rattle.part_text.specs.Output.{Wrote};
 ghost use Rattle.part_text.specs.PartLayout.{is_sharded as is_sharded_body, some_sharded as some_sharded_of};
 ghost use Rattle.part_text.specs.PartText.{kind_number, head_text, mode_of, planes_text, stage_text, width_of, approx_text};
-ghost use Rattle.part_text.specs.PartText.{mixed_text, leaf_mode, leaf_text, shard_text, sharded_text, body_text};
+ghost use Rattle.part_text.specs.PartText.{mixed_text, leaf_mode, leaf_text, shard_leaf_text, sharded_text, body_text};
 ghost use Rattle.part_text.specs.PartText.{block_text, version_of, unsealed_text};
 ghost use Rattle.part_text.specs.PlaneBytes.{bytes_of_columns};
 ghost use Rattle.part_text.specs.Fitting.{PlanesFit, StageFits, FirstFits, MixedFits, LeafFits, ShardsFit, BodyFits};
@@ -207,7 +207,7 @@ fn put_leaf<O: Output>(out: &mut O, leaf: &Leaf) -> Result<(), O::Fault>
 }
 
 fn put_shard<O: Output>(out: &mut O, leaf: &Leaf) -> Result<(), O::Fault>
-    ensures text { OnOk result (Wrote O.given out.old out.new (shard_text leaf.now)) }
+    ensures text { OnOk result (Wrote O.given out.old out.new (shard_leaf_text leaf.now)) }
     ensures fits { OnOk result (LeafFits leaf.now) }
 {
     put_u8(out, leaf_mode_byte(leaf))?;
@@ -216,7 +216,7 @@ fn put_shard<O: Output>(out: &mut O, leaf: &Leaf) -> Result<(), O::Fault>
 }
 
 fn put_shards<O: Output>(out: &mut O, leaves: &[Leaf]) -> Result<(), O::Fault>
-    ensures text { OnOk result (Wrote O.given out.old out.new (flat_map shard_text leaves.now)) }
+    ensures text { OnOk result (Wrote O.given out.old out.new (flat_map shard_leaf_text leaves.now)) }
     ensures fits { OnOk result (All LeafFits leaves.now) }
 {
     for leaf in leaves {

@@ -12,7 +12,7 @@ use Rattle.card_core.specs.declared.block.Body.TheVariants as bodies
 use Rattle.card_core.specs.declared.leaf.Leaf.{Leaf}
 use Rattle.part_text.specs.SealedFields.{SealedFields}
 use Rattle.part_text.specs.Fitting.{BlockFits, Fits}
-use Rattle.part_text.specs.PartText.{shard_text, body_text, block_text, spelling}
+use Rattle.part_text.specs.PartText.{shard_leaf_text, body_text, block_text, spelling}
 use Rattle.part_text.proofs.Lengths.{length_shard, length_sharded}
 use Rattle.view_core.specs.Index.{blocks_at, shards_in, shards_of, shards_index}
 use Rattle.view_core.specs.Texts.{Stands, places_of}
@@ -61,7 +61,7 @@ places_rise text some at (x ∷ xs) =
       rise_from (at + 1) (at + length (text x)) _ _ (omega (arith, some x)) rest,
     )
 
-shard_some : (l : Leaf) → 0 < length (shard_text l)
+shard_some : (l : Leaf) → 0 < length (shard_leaf_text l)
 shard_some l = omega (arith, length_shard l)
 
 body_rises : (at : ℕ) (body : Body) → Rise at (at + 33 + length (body_text body)) (shards_in at body)
@@ -69,8 +69,8 @@ body_rises at bodies.Clean = omega arith
 body_rises at bodies.Every = omega arith
 body_rises at (bodies.Mixed m) = omega arith
 body_rises at (bodies.Sharded s) =
-    let e : at + 33 + 1 + length (flat_map shard_text s.leaves) ≡ at + 33 + length (body_text (bodies.Sharded s)) = omega (arith, length_sharded s) in
-    rise_from at (at + 33 + 1) _ _ (omega arith) (subst (λ (n : ℕ). Rise (at + 33 + 1) n (places_of shard_text (at + 33 + 1) s.leaves)) e (places_rise shard_text shard_some (at + 33 + 1) s.leaves))
+    let e : at + 33 + 1 + length (flat_map shard_leaf_text s.leaves) ≡ at + 33 + length (body_text (bodies.Sharded s)) = omega (arith, length_sharded s) in
+    rise_from at (at + 33 + 1) _ _ (omega arith) (subst (λ (n : ℕ). Rise (at + 33 + 1) n (places_of shard_leaf_text (at + 33 + 1) s.leaves)) e (places_rise shard_leaf_text shard_some (at + 33 + 1) s.leaves))
 
 block_rises : (at : ℕ) (b : Block) → BlockFits b → Rise at (at + length (block_text b)) (shards_in at b.body)
 block_rises at b fits =

@@ -15,7 +15,7 @@ use Rattle.card_core.specs.declared.block.Body.TheVariants as bodies
 use Rattle.card_core.specs.MixedFields.{MixedFields}
 use Rattle.card_core.specs.ShardedFields.{ShardedFields}
 use Rattle.part_text.specs.Fitting.{MixedFits, LeafFits, ShardsFit, BodyFits, BlockFits}
-use Rattle.part_text.specs.PartText.{stage_text, width_of, approx_text, mixed_text, leaf_mode, leaf_text, shard_text, sharded_text}
+use Rattle.part_text.specs.PartText.{stage_text, width_of, approx_text, mixed_text, leaf_mode, leaf_text, shard_leaf_text, sharded_text}
 use Rattle.part_text.specs.PartText.{mode_of, body_text, block_text}
 use Rattle.part_text.proofs.Lengths.{length_stage}
 use Rattle.view_core.specs.declared.leaf.StageHead.{StageHead}
@@ -81,7 +81,7 @@ pub record HoldsShard (bytes : List ℕ) (at : ℕ) (l : Leaf) : Type 0 where
   pub few : leaf_mode l < 2 ^ 8
   pub leaf : Stands bytes (at + 1) (leaf_text l)
 
-pub standing_shard : (bytes : List ℕ) (at : ℕ) (l : Leaf) → Stands bytes at (shard_text l) → HoldsShard bytes at l
+pub standing_shard : (bytes : List ℕ) (at : ℕ) (l : Leaf) → Stands bytes at (shard_leaf_text l) → HoldsShard bytes at l
 standing_shard bytes at l s = record {
   mode = stands_first bytes at (to_be_bytes w8 (leaf_mode l)) (leaf_text l) s;
   few = mode_fits l;
@@ -92,7 +92,7 @@ standing_shard bytes at l s = record {
 pub record HoldsSharded (bytes : List ℕ) (at : ℕ) (s : ShardedFields) : Type 0 where
   pub shift : Stands bytes at (to_be_bytes w8 s.shift)
   pub few : s.shift < 2 ^ 8
-  pub shards : Stands bytes (at + 1) (flat_map shard_text s.leaves)
+  pub shards : Stands bytes (at + 1) (flat_map shard_leaf_text s.leaves)
 
 pub standing_sharded : (bytes : List ℕ) (at : ℕ) (s : ShardedFields) → ShardsFit s → Stands bytes at (sharded_text s)
     → HoldsSharded bytes at s

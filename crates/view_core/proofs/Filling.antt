@@ -15,7 +15,7 @@ use Rattle.card_core.specs.ShardedFields.{ShardedFields}
 use Rattle.part_text.specs.SealedFields.{SealedFields}
 use Rattle.part_text.specs.Fitting.{ShardsFit, BodyFits, BlockFits, Fits}
 use Rattle.part_text.specs.PartLayout.{is_sharded, some_sharded}
-use Rattle.part_text.specs.PartText.{shard_text, sharded_text, mode_of, version_of, body_text, block_text, spelling}
+use Rattle.part_text.specs.PartText.{shard_leaf_text, sharded_text, mode_of, version_of, body_text, block_text, spelling}
 use Rattle.part_text.proofs.Lengths.{length_shard, length_sharded}
 use Rattle.store_core.specs.StoreLayout.{store, store_text}
 use Rattle.store_core.proofs.StoreSpelled.{found}
@@ -318,17 +318,17 @@ pub sharded_walked : (store old new : List ℕ) (from : Walk) (body : Body) (wid
     → width ≡ 33 + length (body_text body)
     → BodyFits body → Stands store (from.at + 33) (body_text body) → 3 ≤ mode_of body
     → ((s : ShardedFields) → ShardsFit s → Stands store (from.at + 33) (sharded_text s)
-    → Walked old new (record { at = from.at + 33 + 1; to = from.to }) (length (flat_map shard_text s.leaves))
-    (places_of shard_text (from.at + 33 + 1) s.leaves) result)
+    → Walked old new (record { at = from.at + 33 + 1; to = from.to }) (length (flat_map shard_leaf_text s.leaves))
+    (places_of shard_leaf_text (from.at + 33 + 1) s.leaves) result)
     → Walked old new from width (shards_in from.at body) result
 sharded_walked store old new from bodies.Clean width result long fits stands many each = absurd (omega arith)
 sharded_walked store old new from bodies.Every width result long fits stands many each = absurd (omega arith)
 sharded_walked store old new from (bodies.Mixed m) width result long fits stands many each = absurd (omega arith)
 sharded_walked store old new from (bodies.Sharded s) width result long fits stands many each =
     let walked = each s fits stands in
-    let at : from.at + 33 + 1 + length (flat_map shard_text s.leaves) ≡ from.at + width = omega (arith, long, length_sharded s) in
+    let at : from.at + 33 + 1 + length (flat_map shard_leaf_text s.leaves) ≡ from.at + width = omega (arith, long, length_sharded s) in
     record {
-      is = let to : ℕ = from.to + length (places_of shard_text (from.at + 33 + 1) s.leaves) in
+      is = let to : ℕ = from.to + length (places_of shard_leaf_text (from.at + 33 + 1) s.leaves) in
           walked.is ∙ ap (λ (n : ℕ). let w : Walk = record { at = n; to = to } in Some w) at;
       wrote = walked.wrote;
     }
@@ -356,8 +356,8 @@ shards_short at bodies.Every = omega arith
 shards_short at (bodies.Mixed m) = omega arith
 shards_short at (bodies.Sharded s) =
     let first : ℕ = at + 33 + 1 in
-    let each = indexed_short shard_text place (λ l. Unit {0}) (λ n l u. omega (arith, length_shard l)) first s.leaves (λ k d lt. tt) in
-    omega (arith, each, ap length (places_indexed shard_text first s.leaves), length_sharded s)
+    let each = indexed_short shard_leaf_text place (λ l. Unit {0}) (λ n l u. omega (arith, length_shard l)) first s.leaves (λ k d lt. tt) in
+    omega (arith, each, ap length (places_indexed shard_leaf_text first s.leaves), length_sharded s)
 
 -- the length of a part by those of its blocks
 long_part : (s : SealedFields) → Fits s

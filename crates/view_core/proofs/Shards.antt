@@ -23,7 +23,7 @@ use Rattle.card_core.specs.declared.leaf.Leaf.TheVariants as leaves
 use Rattle.card_core.specs.ShardedFields.{ShardedFields}
 use Rattle.card_core.specs.Leaf.{is_leaf_positive}
 use Rattle.card_core.specs.Filter.{is_positive, is_filtered, cut}
-use Rattle.part_text.specs.PartText.{leaf_mode, leaf_text, shard_text, sharded_text, mode_of, body_text, block_text}
+use Rattle.part_text.specs.PartText.{leaf_mode, leaf_text, shard_leaf_text, sharded_text, mode_of, body_text, block_text}
 use Rattle.part_text.specs.Fitting.{LeafFits, ShardsFit, BodyFits, BlockFits}
 use Rattle.view_core.specs.Index.{shards_in}
 use Rattle.view_core.specs.Texts.{Stands, places_of}
@@ -108,11 +108,11 @@ first_begins text at (x ∷ xs) some = refl
 
 pub stands_shift : (bytes : List ℕ) (at : ℕ) (s : ShardedFields) → Stands bytes at (sharded_text s) → Stands bytes at (to_be_bytes w8 s.shift)
 unfolding sharded_text
-stands_shift bytes at s h = stands_first bytes at (to_be_bytes w8 s.shift) (flat_map shard_text s.leaves) h
+stands_shift bytes at s h = stands_first bytes at (to_be_bytes w8 s.shift) (flat_map shard_leaf_text s.leaves) h
 
-pub stands_leaves : (bytes : List ℕ) (at : ℕ) (s : ShardedFields) → Stands bytes at (sharded_text s) → Stands bytes (at + 1) (flat_map shard_text s.leaves)
+pub stands_leaves : (bytes : List ℕ) (at : ℕ) (s : ShardedFields) → Stands bytes at (sharded_text s) → Stands bytes (at + 1) (flat_map shard_leaf_text s.leaves)
 unfolding sharded_text
-stands_leaves bytes at s h = stands_then bytes at (to_be_bytes w8 s.shift) (flat_map shard_text s.leaves) (at + 1) refl h
+stands_leaves bytes at s h = stands_then bytes at (to_be_bytes w8 s.shift) (flat_map shard_leaf_text s.leaves) (at + 1) refl h
 
 -- ---- a block: its issuer, its mode and its body
 
@@ -143,7 +143,7 @@ module _ (bytes places : List ℕ) (at : ℕ) (id : Identity) (said : Bool) wher
 
   -- and what is said of shards, of a sharded one
   pub says_shards : ((s : ShardedFields) (before behind : List ℕ) → ShardsFit s → Stands bytes (at + 33) (sharded_text s) → IsStrictlySortedBy nat_cmp places
-      → places ≡ before ++ places_of shard_text (at + 33 + 1) s.leaves ++ behind → said ≡ is_filtered sha256_row id (cut s.shift s.leaves))
+      → places ≡ before ++ places_of shard_leaf_text (at + 33 + 1) s.leaves ++ behind → said ≡ is_filtered sha256_row id (cut s.shift s.leaves))
       → (body : Body) (before behind : List ℕ) → BodyFits body → mode_of body ≡ 3 → Stands bytes (at + 33) (body_text body) → IsStrictlySortedBy nat_cmp places
       → places ≡ before ++ shards_in at body ++ behind → said ≡ is_positive sha256_row id body
   says_shards says bodies.Clean before behind fits is h up are = absurd (omega (arith, is))

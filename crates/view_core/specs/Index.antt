@@ -9,7 +9,7 @@ use Rattle.card_core.specs.declared.block.Body.TheVariants as bodies
 use Rattle.card_core.specs.PartFields.{PartFields}
 use Rattle.part_text.specs.SealedFields.{SealedFields}
 use Rattle.part_text.specs.PartLayout.{some_sharded}
-use Rattle.part_text.specs.PartText.{shard_text, block_text, spelling}
+use Rattle.part_text.specs.PartText.{shard_leaf_text, block_text, spelling}
 use Rattle.view_core.specs.Texts.{places_of}
 use Rattle.view_core.specs.declared.layout.TheConstants.{STORE_HEAD, PART_HEAD, COUNT, BLOCK_HEAD}
 
@@ -48,7 +48,7 @@ abbrev pub shards_in : ℕ → Body → List ℕ
 shards_in at bodies.Clean = []
 shards_in at bodies.Every = []
 shards_in at (bodies.Mixed m) = []
-shards_in at (bodies.Sharded s) = places_of shard_text (at + BLOCK_HEAD + 1) s.leaves
+shards_in at (bodies.Sharded s) = places_of shard_leaf_text (at + BLOCK_HEAD + 1) s.leaves
 
 abbrev pub shards_of : ℕ → List Block → List ℕ
 shards_of at [] = []

@@ -7,7 +7,7 @@ ghost use Rattle.equation_core.specs.Rows.{sha256_row};
 ghost use Rattle.card_core.specs.declared.block.Block.{Block};
 ghost use Rattle.card_core.specs.ShardedFields.{ShardedFields};
 ghost use Rattle.card_core.specs.Filter.{is_positive, is_filtered, cut};
-ghost use Rattle.part_text.specs.PartText.{block_text, shard_text, sharded_text};
+ghost use Rattle.part_text.specs.PartText.{block_text, shard_leaf_text, sharded_text};
 ghost use Rattle.part_text.specs.Fitting.{BlockFits, ShardsFit};
 ghost use Rattle.view_core.specs.Texts.{Stands, places_of};
 ghost use Rattle.view_core.specs.Standing.{HoldShards};
@@ -43,7 +43,7 @@ fn sharded_says<M: Ledger>(
     requires place { at < 2 ^ 63 }
     ensures value { (s : ShardedFields) (before behind : List ℕ) → ShardsFit s → Stands bytes.now at (sharded_text s)
         → IsStrictlySortedBy nat_cmp places.now
-        → places.now ≡ before ++ places_of shard_text (at + 1) s.leaves ++ behind
+        → places.now ≡ before ++ places_of shard_leaf_text (at + 1) s.leaves ++ behind
         → result ≡ is_filtered sha256_row draws.old (cut s.shift s.leaves) }
     ensures same { draws.new ≡ draws.old }
     ensures more { words.old ≤ words.new }

@@ -6,7 +6,7 @@ ghost use Rattle.card_core.specs.declared.leaf.Leaf.{Leaf};
 ghost use Rattle.card_core.specs.declared.block.Block.{Block};
 ghost use Rattle.card_core.specs.declared.block.Body.{Body};
 ghost use Rattle.card_core.specs.MixedFields.{MixedFields};
-ghost use Rattle.part_text.specs.PartText.{stage_text, approx_text, mixed_text, leaf_mode, leaf_text, shard_text};
+ghost use Rattle.part_text.specs.PartText.{stage_text, approx_text, mixed_text, leaf_mode, leaf_text, shard_leaf_text};
 ghost use Rattle.part_text.specs.PartText.{mode_of, body_text, block_text, width_of};
 ghost use Rattle.part_text.specs.Fitting.{StageFits, FirstFits, MixedFits, LeafFits, BodyFits, BlockFits};
 ghost use Rattle.view_core.specs.Texts.{Stands};
@@ -68,8 +68,8 @@ fn leaf_end(bytes: &[u8], at: usize, mode: u8) -> Option<usize>
 
 /// Where a shard ends that stands at this place.
 pub(crate) fn shard_end(bytes: &[u8], at: usize) -> Option<usize>
-    ensures value { (l : Leaf) → LeafFits l → Stands bytes.now at (shard_text l)
-        → result ≡ Some (at + length (shard_text l)) }
+    ensures value { (l : Leaf) → LeafFits l → Stands bytes.now at (shard_leaf_text l)
+        → result ≡ Some (at + length (shard_leaf_text l)) }
     ensures within { IfSome result (λ end. end ≤ length bytes.now) }
 {
     if bytes.len() <= at {
@@ -81,7 +81,7 @@ pub(crate) fn shard_end(bytes: &[u8], at: usize) -> Option<usize>
 /// Where so many shards end, one after the other, of which the first stands at this place.
 fn shards_end(bytes: &[u8], at: usize, count: u16) -> Option<usize>
     ensures value { (leaves : List Leaf) → All LeafFits leaves → length leaves ≡ count
-        → Stands bytes.now at (flat_map shard_text leaves) → result ≡ Some (at + length (flat_map shard_text leaves)) }
+        → Stands bytes.now at (flat_map shard_leaf_text leaves) → result ≡ Some (at + length (flat_map shard_leaf_text leaves)) }
     ensures within { at ≤ length bytes.now → IfSome result (λ end. end ≤ length bytes.now) }
 {
     let mut end = at;

@@ -8,7 +8,7 @@ ghost use Rattle.card_core.specs.declared.leaf.Leaf.{Leaf};
 ghost use Rattle.card_core.specs.declared.block.Block.{Block};
 ghost use Rattle.part_text.specs.SealedFields.{SealedFields};
 ghost use Rattle.part_text.specs.PartLayout.{some_sharded};
-ghost use Rattle.part_text.specs.PartText.{shard_text, block_text, spelling};
+ghost use Rattle.part_text.specs.PartText.{shard_leaf_text, block_text, spelling};
 ghost use Rattle.part_text.specs.Fitting.{LeafFits, BlockFits, Fits};
 ghost use Rattle.store_core.specs.StoreLayout.{store as store_layout};
 ghost use Rattle.view_core.specs.Texts.{Stands, places_of};
@@ -185,8 +185,8 @@ fn put_shards(store: &[u8], from: Walk, count: u16, index: &mut [u32]) -> Option
     requires place { from.at ≤ length store.now }
     requires room { from.to ≤ 2 ^ 62 }
     ensures value { (leaves : List Leaf) → All LeafFits leaves → length leaves ≡ count
-        → Stands store.now from.at (flat_map shard_text leaves)
-        → Walked index.old index.new from (length (flat_map shard_text leaves)) (places_of shard_text from.at leaves)
+        → Stands store.now from.at (flat_map shard_leaf_text leaves)
+        → Walked index.old index.new from (length (flat_map shard_leaf_text leaves)) (places_of shard_leaf_text from.at leaves)
         result }
     ensures went { IfSome result (WentOn (length store.now) (2 ^ 16) from) }
 {

@@ -10,7 +10,7 @@ ghost use Rattle.card_core.specs.declared.leaf.Leaf.TheVariants.{Mixed};
 ghost use Rattle.card_core.specs.MixedFields.{MixedFields};
 ghost use Rattle.card_core.specs.Leaf.{is_leaf_positive, accepts as is_accepted, passes as is_passed, exact_sum};
 ghost use Rattle.part_text.specs.PartText.{stage_text, approx_text, width_of};
-ghost use Rattle.part_text.specs.PartText.{mixed_text, leaf_mode, leaf_text, shard_text};
+ghost use Rattle.part_text.specs.PartText.{mixed_text, leaf_mode, leaf_text, shard_leaf_text};
 ghost use Rattle.part_text.specs.Fitting.{StageFits, FirstFits, MixedFits, LeafFits};
 ghost use Rattle.view_core.specs.Texts.{Stands};
 ghost use Rattle.view_core.specs.Stages.{head_of, IsStageHead};
@@ -175,7 +175,7 @@ pub(crate) fn shard_says<M: Ledger>(
     words: &mut Steps<M>,
 ) -> bool
     requires place { at < 2 ^ 32 }
-    ensures value { (l : Leaf) → LeafFits l → Stands bytes.now at (shard_text l)
+    ensures value { (l : Leaf) → LeafFits l → Stands bytes.now at (shard_leaf_text l)
         → result ≡ is_leaf_positive sha256_row draws.old l }
     ensures same { draws.new ≡ draws.old }
     ensures more { words.old ≤ words.new }
