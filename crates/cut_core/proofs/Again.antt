@@ -7,7 +7,8 @@ use Rattle.ident_core.specs.declared.identity.Identity.{Identity}
 use Rattle.job_core.specs.JobFields.{CrlMeaning, JobFields}
 use Rattle.universe_core.specs.Jobs.{Entry}
 use Rattle.universe_core.specs.History.{Release}
-use Rattle.cut_core.specs.Cutting.{Cut, is_kept, keeps_entry, both, cut_job, IsCut}
+use Rattle.piece_core.specs.Cuts.{Cut, is_kept, keeps_entry, both}
+use Rattle.cut_core.specs.Cutting.{cut_job, IsCut}
 use Rattle.cut_core.proofs.Filters.{filter_both}
 
 regrouped : (p q v w : Bool) → ((p && v) && (q && w)) ≡ ((p && q) && (v && w))

@@ -16,7 +16,8 @@ use Rattle.universe_core.specs.History.{Release, accepted_by, seen, is_listed}
 use Rattle.universe_core.specs.Rebases.{is_other}
 use Rattle.history_core.specs.Bases.{newest_ranges, newest_epoch, kept_by, base_with}
 use Rattle.history_core.specs.Bases.{release_without, releases_without, is_lasting_by, base_at}
-use Rattle.cut_core.specs.Cutting.{Cut, is_kept, IsCut, split_base}
+use Rattle.piece_core.specs.Cuts.{Cut, is_kept}
+use Rattle.cut_core.specs.Cutting.{IsCut, split_base}
 use Rattle.cut_core.proofs.Filters.{filter_both, filter_kept, key_set_kept}
 use Rattle.cut_core.proofs.Releases.{accepted_beside, seen_beside, listed_beside, until_beside, Ascend, known_ascend}
 

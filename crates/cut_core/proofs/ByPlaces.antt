@@ -3,7 +3,7 @@ use Rattle.std.specs.List.{filter, count_by}
 use Rattle.std.specs.Prelude.{◌==◌}
 use Rattle.std.specs.Int.{from_be_bytes, w32}
 use Rattle.std.proofs.Common.{◌≡◌, ℕ, ◌+◌, ◌*◌, ◌/◌, ◌%◌, ◌<◌, ◌≤◌, List, length, take}
-use Rattle.std.proofs.Common.{Bool, true, false, ◌&&◌, Option, Some, None, refl, sym, ap, ◌∙◌, arith}
+use Rattle.std.proofs.Common.{true, Option, Some, None, refl, sym, ap, ◌∙◌, arith}
 use Rattle.std.proofs.lemmas.Bool.{eq-eqb}
 use Rattle.std.proofs.lemmas.List.Elements.{filter_agree}
 use Rattle.std.proofs.lemmas.Nat.{div-add-mod', mod-mul-add, mod_below}
@@ -20,24 +20,16 @@ use Rattle.universe_core.specs.declared.class.Class.TheVariants.{Unread, Uncover
 use Rattle.place_core.specs.declared.place.By.{By}
 use Rattle.place_core.specs.declared.place.By.TheVariants as ways
 use Rattle.place_core.specs.Places.{place_text, issuer_text, issuer_place, place_in}
-use Rattle.cut_core.specs.Cutting.{is_kept, keeps_entry, cut_facts}
+use Rattle.piece_core.specs.Cuts.{is_kept, keeps_entry, entry_place, at_place}
+use Rattle.piece_core.proofs.Places.{kept_at, entry_at}
+use Rattle.cut_core.specs.Cutting.{cut_facts}
 use Rattle.cut_core.specs.Courses.{Course, left}
-use Rattle.cut_core.specs.InPlaces.{entry_place, at_place}
 use Rattle.cut_core.specs.InPlaces.{job_at, course_at, over_places, counts_at, IssuersAddUp, AddUp}
 use Rattle.cut_core.proofs.Filters.{filter_all}
 use Rattle.cut_core.proofs.Adding.{over_each, tally, lengths}
 use Rattle.cut_core.proofs.Courses.{facts_cut, course_beside, left_ascends}
 use Rattle.cut_core.proofs.Releases.{past_cut}
 use Rattle.cut_core.proofs.Steps.{IsCutPast, class_kept, class_none, enrolled_cut, universe_cut, revoked_cut}
-
-and_true : (b : Bool) → (b && true) ≡ b
-and_true true = refl
-and_true false = refl
-
--- an identity is kept at its place, and at no other
-kept_at : (by : By) (n p : ℕ) (x : Identity) → is_kept (at_place by n p) x ≡ (place_in by n x == p)
-kept_at ways.Issuer n p x = and_true (issuer_place x.issuer n == p)
-kept_at ways.Identity n p x = refl
 
 pub at_itself : (by : By) (n : ℕ) (x : Identity) → is_kept (at_place by n (place_in by n x)) x ≡ true
 at_itself by n x = kept_at by n (place_in by n x) x ∙ eq-eqb (place_in by n x) (place_in by n x) refl
@@ -49,11 +41,6 @@ place_below ways.Identity n x some = omega arith
 pub entry_below : (by : By) (n : ℕ) (o : Option Entry) → 1 ≤ n → entry_place by n o < n
 entry_below by n None some = omega arith
 entry_below by n (Some e) some = place_below by n e.id some
-
-entry_at : (by : By) (n p : ℕ) (o : Option Entry) → keeps_entry (at_place by n p) o ≡ (entry_place by n o == p)
-entry_at ways.Issuer n p None = refl
-entry_at ways.Identity n p None = refl
-entry_at by n p (Some e) = kept_at by n p e.id
 
 pub parted : (by : By) (n p : ℕ) (es : List (Option Entry))
     → filter (keeps_entry (at_place by n p)) es ≡ filter (λ o. entry_place by n o == p) es

@@ -20,7 +20,8 @@ use Rattle.history_core.specs.Bases.{releases_without, base_at}
 use Rattle.history_core.specs.Truth.{truth}
 use Rattle.publication_core.specs.Histories.{History, of_jobs, rebased, IsHistory, releases_of, releases_after, AreAdmissible, release_of}
 use Rattle.publication_core.proofs.Verdicts.{history_verdict}
-use Rattle.cut_core.specs.Cutting.{Cut, is_kept, keeps_entry, cut_job, cut_in, cut_facts, IsCut}
+use Rattle.piece_core.specs.Cuts.{Cut, is_kept, keeps_entry}
+use Rattle.cut_core.specs.Cutting.{cut_job, cut_in, cut_facts, IsCut}
 use Rattle.cut_core.specs.Courses.{Course, from_jobs, from_base, left_after, left, cut_course, course_of}
 use Rattle.cut_core.proofs.Filters.{filter_map_kept}
 use Rattle.cut_core.proofs.Releases.{Ascend, Ascend-push, releases_beside, releases_ascend, more_beside, sightings_beside, truth_beside}

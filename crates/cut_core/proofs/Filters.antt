@@ -3,7 +3,7 @@ use Rattle.std.specs.List.{filter, filter_map, cons_option, list_any, position_o
 use Rattle.std.specs.List.Sorted.{IsStrictlySortedBy}
 use Rattle.std.specs.Cmp.{IsTotalOrder}
 use Rattle.std.specs.declared.cmp.Ordering.{Ordering}
-use Rattle.std.proofs.Common.{◌≡◌, ℕ, ◌+◌, inl, inr, ⊎_elim, List, [], ◌∷◌, map, Bool, true}
+use Rattle.std.proofs.Common.{◌≡◌, ℕ, ◌+◌, inl, inr, ⊎_elim, List, [], ◌∷◌, Bool, true}
 use Rattle.std.proofs.Common.{false, cond, not, ◌&&◌, ◌||◌, Option, Some, None, refl, sym, ap, ◌∙◌}
 use Rattle.std.proofs.lemmas.Cmp.{nat_list_cmp_total}
 use Rattle.std.proofs.lemmas.Map.Lookups.{CmpEqualImpliesEq, exact_bytes}
@@ -72,15 +72,6 @@ module _ {A B : Type 0} (f g : A → Option B) (keeps : A → Bool) (k : B → B
   pub filter_map_kept : (xs : List A) → filter_map g (filter keeps xs) ≡ filter k (filter_map f xs)
   filter_map_kept [] = refl
   filter_map_kept (a ∷ xs) = map_step a (filter keeps xs) (filter_map f xs) (keeps a) (f a) refl refl (filter_map_kept xs)
-
-pushed_through : {A B : Type 0} (f : A → B) (k : B → Bool) (a : A) (xs : List A) (ys : List B) (b : Bool) → map f xs ≡ ys
-    → map f (cond b (a ∷ xs) xs) ≡ cond b (f a ∷ ys) ys
-pushed_through {A} {B} f k a xs ys true next = ap (λ (l : List B). f a ∷ l) next
-pushed_through {A} {B} f k a xs ys false next = next
-
-pub map_filter : {A B : Type 0} (f : A → B) (k : B → Bool) (xs : List A) → map f (filter (λ a. k (f a)) xs) ≡ filter k (map f xs)
-map_filter f k [] = refl
-map_filter f k (a ∷ xs) = pushed_through f k a (filter (λ a. k (f a)) xs) (filter k (map f xs)) (k (f a)) (map_filter f k xs)
 
 -- ---- a set
 

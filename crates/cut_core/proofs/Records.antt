@@ -11,9 +11,10 @@ use Rattle.job_core.specs.JobText.{JobContents}
 use Rattle.job_core.specs.JobMeaning.{meaning_of}
 use Rattle.gather_core.specs.Raw.{with_entries}
 use Rattle.universe_core.specs.Jobs.{Entry}
-use Rattle.cut_core.specs.Cutting.{Cut, keeps_entry, cut_job}
-use Rattle.cut_core.specs.Texts.{kept_texts, cut_contents, IsPiece, IsMerged}
-use Rattle.cut_core.proofs.Filters.{map_filter}
+use Rattle.piece_core.specs.Cuts.{Cut, keeps_entry, kept_texts, cut_contents}
+use Rattle.cut_core.specs.Cutting.{cut_job}
+use Rattle.cut_core.specs.Texts.{IsPiece, IsMerged}
+use Rattle.piece_core.proofs.Keeping.{map_filter}
 
 abbrev entries_of : List JobContents → List EntryText
 entries_of jobs = flat_map (λ (j : JobContents). j.entries) jobs

@@ -24,7 +24,8 @@ use Rattle.history_core.specs.Truth.{truth}
 use Rattle.history_core.proofs.Accepting.{accepted_ascend}
 use Rattle.history_core.proofs.Releases.{accepted_by-ascend, listed-cons}
 use Rattle.history_core.proofs.Words.{zip_push}
-use Rattle.cut_core.specs.Cutting.{Cut, is_kept, cut_facts, IsCut}
+use Rattle.piece_core.specs.Cuts.{Cut, is_kept}
+use Rattle.cut_core.specs.Cutting.{cut_facts, IsCut}
 use Rattle.cut_core.proofs.Filters.{any_beside, position_beside}
 use Rattle.cut_core.proofs.Steps.{taken, has_kept, has_other, has_key_kept, has_key_other}
 use Rattle.cut_core.proofs.Steps.{sightings_kept, dates_kept, enrolls_kept, class_known, IsCutPast, released_cut}

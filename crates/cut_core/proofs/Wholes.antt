@@ -13,7 +13,8 @@ use Rattle.universe_core.specs.Formats.{JobIn}
 use Rattle.universe_core.specs.History.{seen, sightings}
 use Rattle.history_core.specs.Truth.{truth}
 use Rattle.publication_core.specs.Histories.{History, IsHistory, releases_of}
-use Rattle.cut_core.specs.Cutting.{Cut, is_kept, keeps_entry, cut_job, cut_in, IsCut}
+use Rattle.piece_core.specs.Cuts.{Cut, is_kept, keeps_entry}
+use Rattle.cut_core.specs.Cutting.{cut_job, cut_in, IsCut}
 use Rattle.cut_core.specs.Courses.{Course, from_jobs, from_base, left, cut_course, course_of}
 use Rattle.cut_core.proofs.Filters.{filter_all}
 use Rattle.cut_core.proofs.Releases.{sightings_beside, truth_beside}

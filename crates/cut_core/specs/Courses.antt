@@ -6,7 +6,8 @@ use Rattle.universe_core.specs.Formats.{JobIn, facts_in}
 use Rattle.universe_core.specs.History.{Release, releases}
 use Rattle.history_core.specs.Bases.{releases_without, base_at}
 use Rattle.publication_core.specs.Histories.{History, of_jobs, rebased}
-use Rattle.cut_core.specs.Cutting.{Cut, cut_in}
+use Rattle.piece_core.specs.Cuts.{Cut}
+use Rattle.cut_core.specs.Cutting.{cut_in}
 
 -- Jobs from the first on; or a base, which stands at a moment and without some issuers for all before it, and the jobs
 -- behind it.

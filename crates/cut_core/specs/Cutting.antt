@@ -1,34 +1,12 @@
 -- Jobs of which some is kept, and what they leave beside what the whole jobs leave.
-use Rattle.std.specs.Prelude.{◌≡◌, ◌&&◌, ℕ, List, filter, Bool, true, Option, Some, None}
+use Rattle.std.specs.Prelude.{◌≡◌, ◌&&◌, ℕ, List, filter, Bool}
 use Rattle.ident_core.specs.declared.identity.Identity.{Identity}
 use Rattle.job_core.specs.JobFields.{JobFields}
+use Rattle.piece_core.specs.Cuts.{Cut, is_kept, keeps_entry}
 use Rattle.universe_core.specs.Jobs.{Entry, JobFacts}
 use Rattle.universe_core.specs.Formats.{JobIn}
 use Rattle.universe_core.specs.History.{Release}
 use Rattle.history_core.specs.Bases.{all_issuers, base_with}
-
--- A cut: of which issuers the CRLs and identities are taken, which identities of these are chosen, and whether the
--- entries that aren't read are kept.
-pub record Cut : Type 0 where
-  pub takes : List ℕ → Bool
-  pub chooses : Identity → Bool
-  pub unread : Bool
-
--- an identity is kept where its issuer is taken and it is chosen
-abbrev pub is_kept : Cut → Identity → Bool
-is_kept cut x = cut.takes x.issuer && cut.chooses x
-
-abbrev pub keeps_entry : Cut → Option Entry → Bool
-keeps_entry cut None = cut.unread
-keeps_entry cut (Some e) = is_kept cut e.id
-
--- what both cuts keep
-abbrev pub both : Cut → Cut → Cut
-both a b = record {
-  takes = λ issuer. a.takes issuer && b.takes issuer;
-  chooses = λ x. a.chooses x && b.chooses x;
-  unread = a.unread && b.unread;
-}
 
 -- ---- jobs
 

@@ -1,40 +1,15 @@
 -- Histories that are cut by places, among so many.
-use Rattle.std.specs.Prelude.{◌≡◌, ℕ, zero, suc, ◌+◌, ◌==◌, Bool, true, Option, Some, None}
-use Rattle.ident_core.specs.declared.identity.Identity.{Identity}
+use Rattle.std.specs.Prelude.{◌≡◌, ℕ, zero, suc, ◌+◌}
 use Rattle.job_core.specs.JobFields.{JobFields}
-use Rattle.universe_core.specs.Jobs.{Entry}
 use Rattle.universe_core.specs.Formats.{JobIn, facts_in}
 use Rattle.universe_core.specs.History.{past_of}
 use Rattle.universe_core.specs.Counting.{counts}
 use Rattle.universe_core.specs.declared.counts.Counts.{Counts}
 use Rattle.place_core.specs.declared.place.By.{By}
 use Rattle.place_core.specs.declared.place.By.TheVariants as ways
-use Rattle.place_core.specs.Places.{place, issuer_place, place_in}
-use Rattle.cut_core.specs.Cutting.{Cut, cut_job, cut_in}
+use Rattle.piece_core.specs.Cuts.{at_place}
+use Rattle.cut_core.specs.Cutting.{cut_job, cut_in}
 use Rattle.cut_core.specs.Courses.{Course, left, cut_course}
-
--- the place of an entry; those that aren't read have the first
-abbrev pub entry_place : By → ℕ → Option Entry → ℕ
-entry_place by count None = 0
-entry_place by count (Some e) = place_in by count e.id
-
--- whether a place keeps the entries that aren't read: the first does
-abbrev pub unread_at : ℕ → Bool
-unread_at p = 0 == p
-
--- What is kept at a place: by issuers, what is of the issuers that have it; by identities, all CRLs, and the identities
--- that have it.
-abbrev pub at_place : By → ℕ → ℕ → Cut
-at_place ways.Issuer count p = record {
-  takes = λ issuer. issuer_place issuer count == p;
-  chooses = λ x. true;
-  unread = unread_at p;
-}
-at_place ways.Identity count p = record {
-  takes = λ issuer. true;
-  chooses = λ x. place x count == p;
-  unread = unread_at p;
-}
 
 -- a job at a place; the same of a job in a format, and of each job of a course
 abbrev pub job_at : By → ℕ → ℕ → JobFields → JobFields

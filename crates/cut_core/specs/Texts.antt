@@ -1,17 +1,7 @@
 -- Cuts of what jobs hold as it stands, and pieces put together again.
-use Rattle.std.specs.Prelude.{◌≡◌, List, [], filter, flat_map, All}
-use Rattle.job_core.specs.JobLayout.{EntryText, entry_meaning}
+use Rattle.std.specs.Prelude.{◌≡◌, List, [], flat_map, All}
 use Rattle.job_core.specs.JobText.{JobContents}
 use Rattle.gather_core.specs.Raw.{with_entries}
-use Rattle.cut_core.specs.Cutting.{Cut, keeps_entry}
-
--- the entries that are kept, as they stand, by what they mean
-abbrev pub kept_texts : Cut → List EntryText → List EntryText
-kept_texts cut es = filter (λ e. keeps_entry cut (entry_meaning e)) es
-
--- what is kept of a job's records
-abbrev pub cut_contents : Cut → JobContents → JobContents
-cut_contents cut j = record j { crls = filter (λ c. cut.takes c.issuer) j.crls; entries = kept_texts cut j.entries }
 
 -- The job may be put behind the head: it has the head's epoch, and no CRLs that would be lost.
 pub record IsPiece (head piece : JobContents) : Type 0 where

@@ -21,7 +21,8 @@ ghost use Rattle.history_core.specs.Truth.{truth};
 ghost use Rattle.publication_core.specs.Building.{HaveBlocks};
 ghost use Rattle.publication_core.specs.Histories.{History, IsHistory, releases_of};
 ghost use Rattle.publication_core.specs.Histories.{newest_of, groups_of, GoesOn, IsAdmissible};
-ghost use Rattle.cut_core.specs.Cutting.{Cut, is_kept, both, cut_job, cut_in, cut_facts, IsCut, split_base};
+ghost use Rattle.piece_core.specs.Cuts.{Cut, is_kept, both};
+ghost use Rattle.cut_core.specs.Cutting.{cut_job, cut_in, cut_facts, IsCut, split_base};
 ghost use Rattle.cut_core.specs.Courses.{Course, left, cut_course, course_of};
 
 /// What cut jobs leave is what the whole jobs leave, without what isn't kept, whichever that is, and however many

@@ -17,7 +17,8 @@ ghost use Rattle.history_core.specs.Truth.{truth};
 ghost use Rattle.publication_core.specs.Histories.{History, IsHistory, releases_of};
 ghost use Rattle.audit_core.specs.Auditing.{AllAgree, releases_of as audited_of};
 ghost use Rattle.cut_core.specs.Courses.{Course, left, course_of};
-ghost use Rattle.cut_core.specs.InPlaces.{entry_place, job_at, course_at, AddUp};
+ghost use Rattle.piece_core.specs.Cuts.{entry_place};
+ghost use Rattle.cut_core.specs.InPlaces.{job_at, course_at, AddUp};
 
 /// The jobs of the places have the entries of the whole job, each in the one job of its place (`below`), in their
 /// order (`parted`). By identities each has all its CRLs (`crls`), by issuers each CRL is in the one job of its

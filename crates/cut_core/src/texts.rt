@@ -3,8 +3,9 @@
 ghost use Rattle.std.specs.Prelude.{◌≡◌, ◌++◌, List, All, map};
 ghost use Rattle.job_core.specs.JobText.{JobContents};
 ghost use Rattle.job_core.specs.JobMeaning.{meaning_of};
-ghost use Rattle.cut_core.specs.Cutting.{Cut, cut_job};
-ghost use Rattle.cut_core.specs.Texts.{cut_contents, IsMerged};
+ghost use Rattle.piece_core.specs.Cuts.{Cut, cut_contents};
+ghost use Rattle.cut_core.specs.Cutting.{cut_job};
+ghost use Rattle.cut_core.specs.Texts.{IsMerged};
 
 /// What jobs hold as it stands is cut to what the jobs mean, cut (`meaning`). Cut pieces, put together behind a cut
 /// head, are what the whole ones are behind the whole head, cut (`merged`). More pieces behind what was put

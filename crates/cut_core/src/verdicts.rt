@@ -15,7 +15,8 @@ ghost use Rattle.universe_core.specs.History.{seen, sightings, birth, is_listed}
 ghost use Rattle.history_core.specs.Truth.{truth};
 ghost use Rattle.publication_core.specs.Histories.{History, of_jobs, IsHistory, releases_of};
 ghost use Rattle.audit_core.specs.Auditing.{AllAgree, releases_of as audited_of};
-ghost use Rattle.cut_core.specs.Cutting.{Cut, is_kept, cut_job, cut_in};
+ghost use Rattle.piece_core.specs.Cuts.{Cut, is_kept};
+ghost use Rattle.cut_core.specs.Cutting.{cut_job, cut_in};
 ghost use Rattle.cut_core.specs.Courses.{Course, from_jobs, left, cut_course, course_of};
 
 /// Where cut jobs are a history with parts, the verdict of these parts for a kept certificate, asked with one or

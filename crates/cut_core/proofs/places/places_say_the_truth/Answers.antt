@@ -1,5 +1,5 @@
 use Rattle.place_core.specs.Places.{place_in}
-use Rattle.cut_core.specs.InPlaces.{at_place}
+use Rattle.piece_core.specs.Cuts.{at_place}
 use Rattle.cut_core.proofs.Audits.{cut_audit}
 use Rattle.cut_core.proofs.ByPlaces.{at_itself}
 use Rattle.cut_core.proofs.Courses.{cut_verdict}

@@ -1,0 +1,5 @@
+pub mod Growing
+pub mod Places
+pub mod Keeping
+pub mod Fronts
+pub mod Going

@@ -1,0 +1,4 @@
+pub mod Cuts
+pub mod Texts
+pub mod Records
+pub mod Pieces

@@ -1,0 +1,54 @@
+//! Which pieces keep a record.
+
+ghost use Rattle.std.specs.Prelude.{◌≡◌, ◌↔◌, ◌<◌, IfSome, IsTrue};
+ghost use Rattle.job_core.specs.JobLayout.{entry_meaning};
+ghost use Rattle.job_core.specs.JobText.{entry_held};
+ghost use Rattle.gather_core.specs.Opened.{entries_given};
+ghost use Rattle.piece_core.specs.Cuts.{entry_place};
+ghost use Rattle.piece_core.specs.Records.{place_of_record};
+
+use job_core::{RawEntry, Record};
+use log_core::read_entry;
+use place_core::{By, PlaceCount, place_in, place_of_issuer};
+
+/// The place of an entry; one that can't be read has the first.
+fn place_of_entry(by: By, count: PlaceCount, entry: &RawEntry) -> u32
+    ensures value { result ≡ entry_place by count (entry_meaning (entry_held entry.now)) }
+    ensures below { result < count }
+{
+    match read_entry(entry.log, &entry.leaf, &entry.extra) {
+        Ok(entry) => place_in(by, &entry.id, count),
+        Err(_) => 0,
+    }
+}
+
+/// The place whose piece alone keeps the record; or none, where each piece does.
+pub fn place_of(by: By, count: PlaceCount, record: &Record) -> Option<u32>
+    ensures value { result ≡ place_of_record by count record.now }
+    ensures below { IfSome result (λ p. p < count) }
+{
+    match record {
+        Record::Crl(crl) => match by {
+            By::Issuer => Some(place_of_issuer(&crl.issuer, count)),
+            By::Identity => None,
+        },
+        Record::Entry(entry) => Some(place_of_entry(by, count, entry)),
+        _ => None,
+    }
+}
+
+pub fn is_end(record: &Record) -> bool
+    ensures { IsTrue result ↔ record.now ≡ Record.End }
+{
+    matches!(record, Record::End)
+}
+
+/// How many entries a record is.
+pub fn entries_of(record: &Record) -> u64
+    ensures { result ≡ entries_given record.now }
+{
+    match record {
+        Record::Entry(_) => 1,
+        _ => 0,
+    }
+}
