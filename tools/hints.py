@@ -66,6 +66,7 @@ COMMANDS = (
     Command("sample", "NUMBER COUNT JOB", written="JOB"),
     Command("gather", "HEAD LOG JOB", "PAGE", 1024, written="JOB"),
     Command("merge", "HEAD JOB", "PIECE", 1024, written="JOB"),
+    Command("cut", "BY JOB", "PIECE", 1024, written="PIECE"),
     Command("audit", "STORE", "JOB", 64),
     Command("place", "BY ISSUER SERIAL COUNT"),
     Command("device-format", "DEVICE CAPACITY STORE", written="DEVICE"),

@@ -112,6 +112,11 @@ class Member:
         return any(of == log and a <= time <= b for of, a, b in self.ranges)
 
 
+def crl_record(issuer, octets):
+    """The record of a CRL of a job."""
+    return b"\2" + issuer + be(len(octets), 4) + octets
+
+
 def entry_record(entry):
     """The record of an entry of a job."""
     return b"\3" + entry.log + be(len(entry.leaf), 3) + entry.leaf + be(len(entry.extra), 3) + entry.extra
@@ -129,7 +134,7 @@ class Job(Member):
     def records(self):
         head = b"CLUBJOB1" + be(self.epoch, 8) + be(self.moment, 8)
         ranges = [b"\1" + log + be(a, 8) + be(b, 8) for log, a, b in self.ranges]
-        crls = [b"\2" + i + be(len(c.bytes), 4) + c.bytes for i, c in self.crls]
+        crls = [crl_record(issuer, crl.bytes) for issuer, crl in self.crls]
         return [head] + ranges + crls + [entry_record(entry) for entry in self.entries] + [b"\0"]
 
     def bytes(self):

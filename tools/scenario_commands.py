@@ -7,9 +7,11 @@ from typing import NamedTuple
 
 import scenario_words as words_of
 from reference import (
+    Job,
     Part,
     Refused,
     SeedsExhausted,
+    crl_record,
     entry_record,
     history_of,
     issuer_place,
@@ -58,6 +60,11 @@ class Ending:
     changed: Files
 
 
+def place_by(way: str, identity: words_of.Identity, count: int) -> int | None:
+    """The place of an identity among so many, by its issuer or by itself."""
+    return issuer_place(identity[0], count) if way == "issuer" else place(identity, count)
+
+
 class Shape(NamedTuple):
     """How many words a command has behind it, and what it does with them."""
 
@@ -90,6 +97,7 @@ class World:
             "sample": Shape(3, 3, self.sample),
             "gather": Shape(4, 1027, self.gather),
             "merge": Shape(3, 1026, self.merge),
+            "cut": Shape(3, 1026, self.cut),
             "audit": Shape(2, 65, self.audit),
             "place": Shape(4, 4, self.place),
             "device-format": Shape(3, 3, self.device_format),
@@ -224,9 +232,28 @@ class World:
         self.write(job, bytes(out) + b"\0")
         self.lines = [f"{said} {len(names)} entries {here} bytes {len(out) + 1}"]
 
+    def cut(self, by: str, job: str, *pieces: str) -> None:
+        way, count = words_of.by(by), len(pieces)
+        words_of.apart(pieces, [job])
+        data = self.fed(job)
+        found = read_job(data, counts_serials=False)
+        texts = []
+        for here in range(count):
+            head = Job(found.epoch, found.moment, found.ranges, [], []).bytes()[:-1]
+            crls = [
+                crl_record(of, crl.octets)
+                for of, crl in found.crls
+                if way == "identity" or issuer_place(of, count) == here
+            ]
+            entries = [entry_record(e) for e in found.entries if (place_by(way, e.id, count) if e.id else 0) == here]
+            texts.append(head + b"".join(crls + entries) + b"\0")
+        for piece, text in zip(pieces, texts):
+            self.write(piece, text)
+        self.lines = [f"cut pieces {count} entries {len(found.entries)} bytes {len(data)}"]
+
     def place(self, by: str, issuer: str, digits: str, count: str) -> None:
         way, identity, many = words_of.by(by), words_of.identity(issuer, digits), words_of.number(count, 1, 65536)
-        found = issuer_place(identity[0], many) if way == "issuer" else place(identity, many)
+        found = place_by(way, identity, many)
         self.lines = [f"place {found} of {many}"]
 
     # ---------- stores ----------

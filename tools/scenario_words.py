@@ -28,7 +28,7 @@ def names(words: Sequence[str], most: int = 64) -> Sequence[str]:
 
 def apart(outputs: Sequence[str], inputs: Sequence[str]) -> None:
     """The names of outputs differ from each other and from those of inputs."""
-    names(outputs)
+    names(outputs, 1024)
     names(inputs, 1025)
     if len(set(outputs)) < len(outputs) or set(outputs) & set(inputs):
         raise Usage

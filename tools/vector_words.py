@@ -4,8 +4,8 @@ from collections.abc import Callable
 
 from scenario_words import Usage, apart, by, identity, key, keys, name, names, number, sightings, workers
 
-# The words behind a command: names of files that are read and written, a number, a key, a count of workers, and names
-# up to so many, or keys.
+# The words behind a command: names of files that are read and written, a number, a key, a way, a count of workers, and
+# names up to so many, names that are written, or keys.
 SHAPES = {
     "snapshot": "read write write workers",
     "delta": "read read write write workers",
@@ -19,6 +19,7 @@ SHAPES = {
     "rehearse": "read workers 64",
     "gather": "read key write 1024",
     "merge": "read write 1024",
+    "cut": "by read writes",
     "audit": "read 64",
 }
 
@@ -28,11 +29,14 @@ def test_shape(shape: str, words: list[str]) -> None:
     read: list[str] = []
     written: list[str] = []
     tests: dict[str, Callable[[str], object]]
-    tests = {"read": read.append, "write": written.append, "workers": workers, "number": number, "key": key}
+    tests = {"read": read.append, "write": written.append, "workers": workers, "number": number, "key": key, "by": by}
     rest = list(words)
     for kind in shape.split():
         if kind.isdecimal():
             read += names(rest, int(kind))
+            rest = []
+        elif kind == "writes":
+            written += names(rest, 1024)
             rest = []
         elif kind == "keys":
             keys(rest, 1024)

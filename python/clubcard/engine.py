@@ -30,6 +30,7 @@ from .engine_errors import (
 )
 from .engine_lines import (
     Audited,
+    Divided,
     Gathered,
     Merged,
     PartFacts,
@@ -55,6 +56,7 @@ __all__ = [
     "DamagedDevice",
     "DiskFailed",
     "Engine",
+    "Divided",
     "EngineError",
     "FullDevice",
     "Gathered",
@@ -169,6 +171,11 @@ class Engine:
         """Writes a job with the entries of pieces (1 to 1,024) of its epoch behind the records of another one."""
         read = _one(lambda line: Merged(*numbers_of(line, "merge pieces # entries # bytes #")))
         return self._run(read, "merge", head, job, *pieces)
+
+    def cut(self, by: str, job: Name, pieces: Sequence[Name]) -> Divided:
+        """Writes what places (1 to 1,024, by `issuer` or `identity`) keep of a job, a piece each."""
+        read = _one(lambda line: Divided(*numbers_of(line, "cut pieces # entries # bytes #")))
+        return self._run(read, "cut", by, job, *pieces)
 
     def sample(self, number: int, count: int, job: Name) -> Sampled:
         """Writes the generator's job of a number, with so many entries (1 to 1,000,000)."""

@@ -141,6 +141,15 @@ class Merged:
 
 
 @dataclass(frozen=True)
+class Divided:
+    """A job is cut: into how many pieces, and how many entries and bytes it has."""
+
+    pieces: int
+    entries: int
+    size: int
+
+
+@dataclass(frozen=True)
 class Sampled:
     """The generator's job: how many entries it has, how many of them its CRLs list, and how many bytes."""
 

@@ -48,6 +48,7 @@ READ: dict[str, Callable[[list[str]], Any]] = {
     "audit": alone(lambda line: NUMBERS(line, "audit jobs # entries # agree")),
     "gather": alone(lambda line: NUMBERS(line, "gather pages # entries # bytes #")),
     "merge": alone(lambda line: NUMBERS(line, "merge pieces # entries # bytes #")),
+    "cut": alone(lambda line: NUMBERS(line, "cut pieces # entries # bytes #")),
     "sample": alone(lambda line: NUMBERS(line, "sample # entries # revoked # bytes #")),
     "place": alone(lambda line: NUMBERS(line, "place # of #")),
 }
@@ -228,6 +229,8 @@ def test_certificates_and_pages(program: Engine, tmp_path: Path) -> None:
     assert gathered == engine.Gathered(2, 0, (tmp_path / "job").stat().st_size)
     merged = program.merge(tmp_path / "head", tmp_path / "merged", [tmp_path / "job", tmp_path / "head"])
     assert merged == engine.Merged(2, 0, (tmp_path / "merged").stat().st_size)
+    divided = program.cut("identity", tmp_path / "merged", [tmp_path / "one", tmp_path / "two"])
+    assert divided == engine.Divided(2, 0, (tmp_path / "merged").stat().st_size)
     (tmp_path / "page").write_text('{"entries": [7]}')
     with pytest.raises(engine.UnreadPage):
         program.gather(tmp_path / "head", KEY, tmp_path / "job", [tmp_path / "page"])

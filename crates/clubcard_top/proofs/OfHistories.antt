@@ -32,7 +32,7 @@ use Rattle.clubcard_top.specs.Headline.{AsksCertTruth, cert_truth_line}
 use Rattle.clubcard_top.specs.Headline.{AsksToRebase, BeginsAnew, IsRebasableWithout, base_of, AsksTheBase, AsksOfLeftOut, Brings}
 use Rattle.clubcard_top.specs.Promises.{Histories}
 use Rattle.command_core.proofs.Results.{ok_same}
-use Rattle.clubcard_top.proofs.Promised.{answers, given, sure}
+use Rattle.clubcard_top.proofs.Promised.{answers, sure}
 use Rattle.word_core.specs.Names.{IsApart}
 use Rattle.clubcard_top.proofs.Succeeded.{given_done}
 

@@ -39,7 +39,7 @@ use Rattle.word_core.proofs.Asked.{AreApart, names_apart}
 use Rattle.word_core.specs.declared.command.Command.TheVariants as commands
 use Rattle.word_core.specs.declared.command.{Query.Query, QueryCert.QueryCert, Snapshot.Snapshot, Delta.Delta}
 use Rattle.word_core.specs.declared.command.{Rebase.Rebase, Start.Start, Install.Install, Rehearse.Rehearse, Audit.Audit, Sample.Sample}
-use Rattle.word_core.specs.declared.command.Place.{Place}
+use Rattle.word_core.specs.declared.command.{Cut.Cut, Place.Place}
 use Rattle.input_core.specs.declared.certificates.Certificate.{Certificate}
 use Rattle.input_core.specs.declared.fault.FileFault.{FileFault}
 use Rattle.input_core.specs.declared.fault.FileFault.TheVariants as faults
@@ -55,6 +55,7 @@ use Rattle.command_core.specs.Commands.{AreJobs, Makes}
 use Rattle.command_core.specs.declared.lengthening.Source.{Source}
 use Rattle.command_core.specs.declared.lengthening.Source.TheVariants as sources
 use Rattle.command_core.specs.Longer.{head_in, entries_by, room_for, entries_of, longer_done, longer_makes}
+use Rattle.command_core.specs.Cuts.{cut_done}
 use Rattle.command_core.specs.Rebasings.{base_done, rebased_as, MakesBase, MakesRebase}
 use Rattle.command_core.specs.Replies.{done, held_under, held_by}
 use Rattle.command_core.specs.Runs.{with_outputs}
@@ -66,7 +67,7 @@ use Rattle.clubcard_top.specs.Promises.{Successes}
 use Rattle.clubcard_top.specs.Successes.{ReadsPart, ReadsEntries, ReadsJobs, SaysTheTruth}
 use Rattle.command_core.proofs.AuditsMade.{named_value, audit_done_is, audit_jobs_back, audit_makes}
 use Rattle.command_core.proofs.Makings.{done_names}
-use Rattle.command_core.proofs.Following.{start_after, install_after, install_then, longer_after, entries_last, entries_then, cert_last, cert_then, cert_after}
+use Rattle.command_core.proofs.Following.{start_after, install_after, install_then, longer_after, cut_after, entries_last, entries_then, cert_last, cert_then, cert_after}
 use Rattle.command_core.proofs.FilesPut.{behind_these, file_put}
 use Rattle.command_core.proofs.Results.{ok_same, not_ok, after_ok}
 use Rattle.command_core.proofs.Outputs.{names_of, keeps-written}
@@ -396,6 +397,13 @@ module _ (call : Call) where
           same_done c.d (longer_done source job names one.0 two.0) (ok_same {E = NamedFault} c.d (longer_done source job names one.0 two.0) two.2) c.given,
         )
 
+    pub cut : (k : Cut) → (did : Did call (commands.Cut k)) → (job : JobContents) × Reads call k.job head_in job × GivesDone call (cut_done k.by k.pieces job)
+    cut k did =
+        let c = came (commands.Cut k) did in
+        let s = after_ok (input k.job head_in (get did.files k.job)) (cut_after k) c.d c.makes in
+        let d = cut_done k.by k.pieces s.0 in
+        (s.0, reads did.files did.told k.job head_in s.0 s.1, same_done c.d d (ok_same {E = NamedFault} c.d d s.2) c.given)
+
     pub audit : Truthful → (a : Audit) → (did : Did call (commands.Audit a)) → (parts : List SealedFields) × (jobs : List JobFields)
         × Reads call a.store store_in parts × ReadsJobs call a.jobs jobs × IsAudited parts jobs × SaysTheTruth parts jobs
         × GivesDone call (audit_done jobs (record { entries = length (seen (audited_releases jobs)) }))
@@ -454,6 +462,12 @@ module _ (call : Call) where
         let x = subst (λ (c : Command). Makes c (held_by c files) o) asked m in
         (d, one command (held_by command files) o (Ok d) x (law o x)))
         quiet
+
+    pub cut_complete : (k : Cut) (job : JobContents) → call.asked ≡ commands.Cut k → Reads call k.job head_in job → NoFault call → Succeeds call ⊎ WantedMemory call
+    cut_complete k job asked (bytes, (files, told, held), is) quiet =
+        let job_is = read_in files told k.job head_in job (bytes, (files, told, held), is) in
+        sure_of (commands.Cut k) files (cut_done k.by k.pieces job) told asked (λ none. cc)
+        (λ o m. sym (ap (λ (r : Result JobContents NamedFault). r >>= cut_after k) job_is)) quiet
 
     pub snapshot_complete : (s : Snapshot) (job : JobFields) → call.asked ≡ commands.Snapshot s
         → Reads call s.job job_in job → refusal limits.PUBLISHED no_ledger job ≡ None → HaveBlocks current (groups_after no_ledger (facts_of job))
@@ -590,6 +604,8 @@ module _ (call : Call) where
         merge = λ m did. longer ends apart (commands.Merge m) sources.Pieces m.head m.job m.pieces did (λ d made. made);
         merge_complete = λ m j entries asked.
             longer_complete one publishable ends (commands.Merge m) sources.Pieces m.head m.job m.pieces j entries asked (λ none. cc) (λ files o made. made);
+        cut = cut ends apart;
+        cut_complete = cut_complete one publishable ends;
         audit = audit ends apart truthful;
         audit_complete = audit_complete one publishable ends;
         place = place ends apart;

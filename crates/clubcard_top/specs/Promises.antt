@@ -29,7 +29,7 @@ use Rattle.publication_core.specs.Rebasing.{BasePublicationFields, PublishesBase
 use Rattle.word_core.specs.declared.command.Command.TheVariants as commands
 use Rattle.word_core.specs.declared.command.{Query.Query as StoreQuery, QueryCert.QueryCert, Snapshot.Snapshot}
 use Rattle.word_core.specs.declared.command.{Delta.Delta, Rebase.Rebase, Start.Start, Install.Install}
-use Rattle.word_core.specs.declared.command.{Rehearse.Rehearse, Audit.Audit, Sample.Sample, Gather.Gather, Merge.Merge, Place.Place}
+use Rattle.word_core.specs.declared.command.{Rehearse.Rehearse, Audit.Audit, Sample.Sample, Gather.Gather, Merge.Merge, Cut.Cut, Place.Place}
 use Rattle.word_core.specs.Names.{inputs_of, outputs_of}
 use Rattle.line_core.specs.Lines.{line, audit_line}
 use Rattle.input_core.specs.declared.certificates.Certificate.{Certificate}
@@ -44,6 +44,7 @@ use Rattle.command_core.specs.Commands.{publication_done}
 use Rattle.command_core.specs.Commands.{rehearsed, sample_done, place_done}
 use Rattle.command_core.specs.declared.lengthening.Source.TheVariants as sources
 use Rattle.command_core.specs.Longer.{head_in, page_entries, piece_entries, longer_done}
+use Rattle.command_core.specs.Cuts.{cut_done}
 use Rattle.command_core.specs.Rebasings.{base_done}
 use Rattle.command_core.specs.Replies.{usage, read_fault, refusal, done, IsReply}
 use Rattle.command_core.specs.Runs.{KeepsAllBut}
@@ -143,6 +144,11 @@ pub record Successes (call : Call) : Type 0 where
       → call.asked ≡ commands.Merge m → Reads call m.head head_in head
       → ReadsEntries call (piece_entries head.epoch) m.pieces entries
       → length head.entries + length entries ≤ limits.PUBLISHED.entries → MustSucceed call
+  -- the pieces of the raw job of JOB at as many places as there are names; and where JOB is read, the call must succeed
+  pub cut : (c : Cut) → Did call (commands.Cut c)
+      → (job : JobContents) × Reads call c.job head_in job × GivesDone call (cut_done c.by c.pieces job)
+  pub cut_complete : (c : Cut) (job : JobContents)
+      → call.asked ≡ commands.Cut c → Reads call c.job head_in job → MustSucceed call
   -- the jobs are admitted in order, and of each entry that they accept the parts of STORE say the truth: so they do of
   -- each certificate of the jobs' history, whoever built them; and where the files are read, the jobs together are
   -- within the limits of one, their CRLs are accepted, and all that is so, the call must succeed

@@ -37,7 +37,7 @@ use Rattle.input_core.specs.Readings.{faulted, queries_in, job_in, ledger_in, st
 use Rattle.command_core.specs.ReplyFields.{Done, NamedFault, ReplyFields}
 use Rattle.command_core.specs.Faults.{of_publishing}
 use Rattle.command_core.proofs.Results.{ok_same, not_ok}
-use Rattle.command_core.specs.Commands.{named, input, query_makes, query_cert_makes, check_makes, show_makes, start_makes, install_makes, gather_makes, merge_makes, published_as, sample_done, rehearsed}
+use Rattle.command_core.specs.Commands.{named, input, published_as, rehearsed}
 use Rattle.command_core.specs.Commands.{MakesPart, MakesSnapshot, MakesDelta, MakesRehearsal, Makes}
 use Rattle.command_core.specs.Commands.{AreJobs}
 use Rattle.command_core.specs.Audits.{audit_jobs, audited_as, MakesAudit}

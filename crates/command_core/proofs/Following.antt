@@ -4,7 +4,7 @@ use Rattle.std.specs.Prelude.{length, ◌+◌}
 use Rattle.part_text.specs.SealedFields.{SealedFields}
 use Rattle.job_core.specs.JobText.{JobContents}
 use Rattle.job_core.specs.JobLayout.{EntryText}
-use Rattle.word_core.specs.declared.command.{QueryCert.QueryCert, Start.Start, Install.Install}
+use Rattle.word_core.specs.declared.command.{QueryCert.QueryCert, Start.Start, Install.Install, Cut.Cut}
 use Rattle.input_core.specs.declared.certificates.Certificate.{Certificate}
 use Rattle.input_core.specs.Readings.{part_in}
 use Rattle.input_core.specs.Certificates.{certificate_in, issuer_in}
@@ -13,6 +13,7 @@ use Rattle.command_core.specs.ReplyFields.{Done, NamedFault}
 use Rattle.command_core.specs.Commands.{◌>>=◌, named, input, begun, installed, stored, query_cert_done}
 use Rattle.command_core.specs.declared.lengthening.Source.{Source}
 use Rattle.command_core.specs.Longer.{room_for, entries_of, longer_done}
+use Rattle.command_core.specs.Cuts.{cut_done}
 
 abbrev pub start_after : Start → SealedFields × ℕ → Result Done NamedFault
 start_after t x = named t.part (begun x.0) >>= (λ parts. Ok (stored t.store parts))
@@ -26,6 +27,9 @@ install_after i p parts = input i.part part_in p >>= install_then i parts
 abbrev pub longer_after : Source → List ℕ → List (List ℕ) → Inputs → JobContents → Result Done NamedFault
 longer_after source to names inputs j =
     entries_of source j.epoch to (length j.entries) names inputs >>= (λ entries. Ok (longer_done source to names j entries))
+
+abbrev pub cut_after : Cut → JobContents → Result Done NamedFault
+cut_after c j = Ok (cut_done c.by c.pieces j)
 
 abbrev pub cert_last : List SealedFields → Certificate → List ℕ → Result Done NamedFault
 cert_last parts cert issuer = Ok (query_cert_done parts cert issuer)

@@ -12,6 +12,7 @@ pub mod ReplyStatuses
 pub mod Makings
 pub mod Outputs
 pub mod FilesPut
+pub mod CutFiles
 pub mod PagesRead
 pub mod Overs
 pub mod Piecewise

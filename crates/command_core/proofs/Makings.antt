@@ -50,12 +50,12 @@ use Rattle.publication_core.specs.declared.base_fault.BaseFault.TheVariants as b
 use Rattle.publication_core.specs.Publishing.{PublicationFields}
 use Rattle.publication_core.specs.Rebasing.{BasePublicationFields}
 use Rattle.publication_core.specs.Histories.{History, chain}
+use Rattle.place_core.specs.declared.place.By.{By}
 use Rattle.word_core.specs.declared.command.Command.{Command}
 use Rattle.word_core.specs.declared.command.Command.TheVariants as commands
-use Rattle.word_core.specs.declared.command.{QueryCert.QueryCert, Snapshot.Snapshot, Delta.Delta, Rebase.Rebase}
+use Rattle.word_core.specs.declared.command.{Snapshot.Snapshot, Delta.Delta, Rebase.Rebase}
 use Rattle.word_core.specs.declared.command.{Start.Start, Install.Install, Rehearse.Rehearse, Audit.Audit}
 use Rattle.word_core.specs.Names.{inputs_of, outputs_of}
-use Rattle.input_core.specs.declared.certificates.Certificate.{Certificate}
 use Rattle.input_core.specs.declared.fault.FileFault.{FileFault}
 use Rattle.input_core.specs.declared.fault.FileFault.TheVariants as faults
 use Rattle.input_core.specs.Faults.{of_queries, of_job, of_ledger, of_part, of_store, of_page}
@@ -72,14 +72,15 @@ use Rattle.command_core.specs.Commands.{sample_done, place_done, Makes}
 use Rattle.command_core.specs.declared.lengthening.Source.{Source}
 use Rattle.command_core.specs.declared.lengthening.Source.TheVariants as sources
 use Rattle.command_core.specs.Longer.{head_in, page_in, piece_in, entries_of_log, entries_of_epoch, entries_by, room_for, entries_of, longer_done, longer_makes}
+use Rattle.command_core.specs.Cuts.{pieces_from, cut_done, cut_makes}
 use Rattle.command_core.specs.Audits.{job_behind, jobs_behind, audit_jobs, MakesAudit}
 use Rattle.command_core.specs.Rebasings.{base_done, rebased_as, MakesRebase}
 use Rattle.command_core.specs.Steps.{RehearsesOn}
 use Rattle.command_core.specs.Replies.{refusal, reply_of, held_under, held_by}
 use Rattle.input_core.specs.Inputs.{Inputs, rest_of, IsRead, AreRead}
 use Rattle.command_core.proofs.Outputs.{names_of}
-use Rattle.command_core.proofs.Following.{start_after, install_then, install_after, longer_after, entries_last, entries_then, cert_last, cert_then, cert_after}
-use Rattle.command_core.proofs.Overs.{IsSeen, unread, one_over, delta_over, install_over, query_cert_over, after_over, longer_over, jobs_over, rehearsal_over, audit_over}
+use Rattle.command_core.proofs.Following.{start_after, install_then, install_after, longer_after, cut_after, entries_last, entries_then, cert_last, cert_then, cert_after}
+use Rattle.command_core.proofs.Overs.{IsSeen, unread, one_over, delta_over, install_over, query_cert_over, longer_over, jobs_over, rehearsal_over, audit_over}
 use Rattle.command_core.proofs.Results.{ok_same, err_same, not_ok, not_err, after_ok}
 use Rattle.command_core.proofs.AuditFaults.{audit_names, store_or_jobs, job_behind_read, jobs_stop}
 use Rattle.command_core.proofs.Prefixes.{from_first}
@@ -174,6 +175,10 @@ longer_names source head job names given inputs d m =
     let x = after_ok (input head head_in given) (longer_after source job names inputs) d m in
     names_after (job ∷ []) (longer_done source job names x.0) (λ y. refl) (entries_of source x.0.epoch job (length x.0.entries) names inputs) d x.2
 
+pieces_names : (by : By) (n p : ℕ) (names : List (List ℕ)) (j : JobContents) → names_of (pieces_from by n p names j) ≡ names
+pieces_names by n p [] j = refl
+pieces_names by n p (name ∷ names) j = ap (λ (l : List (List ℕ)). name ∷ l) (pieces_names by n (p + 1) names j)
+
 -- The outputs of a command that is done are those that it names.
 pub done_names : (c : Command) (inputs : Inputs) (d : Done) → Makes c inputs (Ok d) → names_of d.outputs ≡ outputs_of c
 done_names commands.Usage at d m = absurd m
@@ -198,6 +203,8 @@ done_names (commands.Rehearse r) at d m = rehearsal_names r (input r.queries que
 done_names (commands.Sample s) at d m = ap (λ (e : Done). names_of e.outputs) (ok_same {E = NamedFault} d (sample_done s) m)
 done_names (commands.Gather f) at d m = longer_names (sources.Pages f.log) f.head f.job f.pages (at 0) (rest_of at) d m
 done_names (commands.Merge f) at d m = longer_names sources.Pieces f.head f.job f.pieces (at 0) (rest_of at) d m
+done_names (commands.Cut c) at d m =
+    names_after c.pieces (cut_done c.by c.pieces) (λ j. pieces_names c.by (length c.pieces) 0 c.pieces j) (input c.job head_in (at 0)) d m
 done_names (commands.Audit a) at d m = audit_names a (input a.store store_in (at 0)) (audit_jobs a.jobs (rest_of at)) d m
 done_names (commands.Place p) at d m = ap (λ (e : Done). names_of e.outputs) (ok_same {E = NamedFault} d (place_done p) m)
 
@@ -539,6 +546,8 @@ module _ (told : Option Files) (failed : Option (List ℕ) → Type 0) (e : Name
   unread_cause (commands.Sample s) at read m = absurd (not_ok (sample_done s) e m)
   unread_cause (commands.Gather f) at read m = longer_cause (sources.Pages f.log) f.head f.job f.pages (at 0) (rest_of at) read.0 read.1 m
   unread_cause (commands.Merge f) at read m = longer_cause sources.Pieces f.head f.job f.pieces (at 0) (rest_of at) read.0 read.1 m
+  unread_cause (commands.Cut c) at read m =
+      step_unread (c.job ∷ []) c.job head_in (at 0) (cut_after c) head_read (inl refl) read.0 (λ j h. absurd (not_ok (cut_done c.by c.pieces j) e h)) m
   unread_cause (commands.Audit a) at read m =
       audit_by a (at 0) (rest_of at) read.0 read.1 (store_or_jobs a (input a.store store_in (at 0)) (audit_jobs a.jobs (rest_of at)) e m u)
   unread_cause (commands.Place p) at read m = absurd (not_ok (place_done p) e m)
@@ -566,6 +575,7 @@ over_files files failed (commands.Gather f) at o seen read m =
     longer_over files failed (sources.Pages f.log) f.head f.job f.pages (at 0) (rest_of at) o seen read.0 read.1 m
 over_files files failed (commands.Merge f) at o seen read m =
     longer_over files failed sources.Pieces f.head f.job f.pieces (at 0) (rest_of at) o seen read.0 read.1 m
+over_files files failed (commands.Cut c) at o seen read m = one_over files failed c.job (λ g. o ≡ cut_makes c g) (at 0) (λ h. seen (unread c.job) h refl) read.0 m
 over_files files failed (commands.Audit a) at o seen read m =
     one_over files failed a.store (λ g. MakesAudit a (input a.store store_in g) (audit_jobs a.jobs (held_under files a.jobs)) o) (at 0)
     (λ h. seen (unread a.store) h refl) read.0

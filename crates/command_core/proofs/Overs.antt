@@ -9,25 +9,21 @@ use Rattle.job_core.specs.JobLayout.{EntryText}
 use Rattle.ledger_core.specs.LedgerFields.{LedgerFields}
 use Rattle.part_text.specs.SealedFields.{SealedFields}
 use Rattle.publication_core.specs.Histories.{History, chain}
-use Rattle.word_core.specs.declared.command.Command.{Command}
-use Rattle.word_core.specs.declared.command.Command.TheVariants as commands
 use Rattle.word_core.specs.declared.command.{QueryCert.QueryCert, Delta.Delta, Install.Install, Rehearse.Rehearse}
 use Rattle.word_core.specs.declared.command.{Audit.Audit}
-use Rattle.word_core.specs.Names.{inputs_of}
 use Rattle.input_core.specs.declared.fault.FileFault.{FileFault}
 use Rattle.input_core.specs.declared.fault.FileFault.TheVariants as faults
 use Rattle.command_core.specs.ReplyFields.{Done, NamedFault}
-use Rattle.input_core.specs.Readings.{queries_in, job_in, ledger_in, store_in}
+use Rattle.input_core.specs.Readings.{job_in, ledger_in, store_in}
 use Rattle.input_core.specs.Certificates.{certificate_in, issuer_in}
 use Rattle.input_core.specs.Inputs.{Inputs, rest_of, IsRead, AreRead}
-use Rattle.command_core.specs.Commands.{◌>>=◌, input, query_makes, query_cert_makes, check_makes, show_makes, start_makes, install_makes}
-use Rattle.command_core.specs.Commands.{MakesSnapshot, MakesDelta, IsRefused, MakesRehearsal, Makes}
+use Rattle.command_core.specs.Commands.{◌>>=◌, input, query_cert_makes, install_makes}
+use Rattle.command_core.specs.Commands.{MakesDelta, IsRefused, MakesRehearsal}
 use Rattle.command_core.specs.declared.lengthening.Source.{Source}
 use Rattle.command_core.specs.Longer.{head_in, entries_by, room_for, entries_of, longer_done, longer_makes}
 use Rattle.command_core.specs.Audits.{unless, job_behind, jobs_behind, bad_crl, audit_jobs, MakesAudit}
 use Rattle.command_core.specs.Steps.{RehearsesOn}
-use Rattle.command_core.specs.Rebasings.{MakesRebase}
-use Rattle.command_core.specs.Replies.{held_under, held_by}
+use Rattle.command_core.specs.Replies.{held_under}
 use Rattle.command_core.proofs.Following.{install_after, longer_after, entries_last, entries_then, cert_last, cert_then, cert_after}
 use Rattle.command_core.proofs.Results.{err_same, not_err}
 use Rattle.command_core.proofs.Prefixes.{first_of, from_first}

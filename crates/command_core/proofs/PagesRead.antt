@@ -24,7 +24,7 @@ use Rattle.input_core.specs.declared.fault.FileFault.TheVariants as faults
 use Rattle.input_core.specs.declared.input.InputFault.TheVariants as reads
 use Rattle.input_core.specs.Faults.{of_job, of_page}
 use Rattle.input_core.specs.Readings.{faulted}
-use Rattle.input_core.specs.Inputs.{IsHeld, IsBlamed, IsRead, IsInput}
+use Rattle.input_core.specs.Inputs.{IsHeld, IsBlamed, IsInput}
 use Rattle.input_core.proofs.FilesRead.{input_whole, none_failed}
 use Rattle.command_core.specs.Longer.{head_in, page_in, page_entries, piece_entries, entries_of_log, entries_of_epoch}
 

@@ -10,6 +10,7 @@ use Rattle.ident_core.specs.Among.{Among}
 use Rattle.part_text.specs.SealedFields.{SealedFields}
 use Rattle.input_core.specs.Queries.{Query}
 use Rattle.job_core.specs.declared.bounds.TheConstants.Limits.{PUBLISHED}
+use Rattle.job_core.specs.JobText.{JobContents}
 use Rattle.job_core.specs.JobFields.{JobFields}
 use Rattle.job_core.specs.JobFacts.{FitsFields, IsWithinLimits}
 use Rattle.ledger_core.specs.LedgerFields.{LedgerFields}
@@ -23,7 +24,7 @@ use Rattle.publication_core.specs.Rebasing.{BasePublicationFields, PublishesBase
 use Rattle.word_core.specs.declared.command.Command.{Command}
 use Rattle.word_core.specs.declared.command.Command.TheVariants as commands
 use Rattle.word_core.specs.declared.command.{Query.Query as StoreQuery, Snapshot.Snapshot, Delta.Delta, Rebase.Rebase, Start.Start}
-use Rattle.word_core.specs.declared.command.{Install.Install}
+use Rattle.word_core.specs.declared.command.{Install.Install, Cut.Cut}
 use Rattle.word_core.specs.Names.{inputs_of}
 use Rattle.command_core.specs.declared.answer.Answer.{Answer}
 use Rattle.input_core.specs.declared.fault.FileFault.{FileFault}
@@ -39,12 +40,13 @@ use Rattle.command_core.specs.Audits.{audit_jobs, MakesAudit}
 use Rattle.command_core.specs.Commands.{◌>>=◌, named, input, query_done, check_done, show_done, begun, installed, stored, publication_done}
 use Rattle.command_core.specs.declared.lengthening.Source.TheVariants as sources
 use Rattle.command_core.specs.Longer.{head_in}
+use Rattle.command_core.specs.Cuts.{cut_done}
 use Rattle.command_core.specs.Commands.{MakesPart, MakesSnapshot, MakesDelta, MakesRehearsal, Makes}
 use Rattle.command_core.specs.Rebasings.{base_done, MakesBase, MakesRebase}
 use Rattle.command_core.specs.Replies.{done, refusal, reply_of, SaysWhich, IsReply}
 use Rattle.command_core.specs.Answering.{reply_fields}
 use Rattle.command_core.proofs.Fronts.{ahead, these, some_reads}
-use Rattle.command_core.proofs.Following.{start_after, install_then, install_after, longer_after, cert_after}
+use Rattle.command_core.proofs.Following.{start_after, install_then, install_after, longer_after, cut_after, cert_after}
 use Rattle.command_core.proofs.Results.{err_same, not_ok}
 
 -- ---- files
@@ -113,6 +115,7 @@ IsFirstFault (commands.Rehearse r) at e = input r.queries queries_in (at 0) ≡ 
 IsFirstFault (commands.Sample s) at e = ⊥
 IsFirstFault (commands.Gather f) at e = input f.head head_in (at 0) ≡ Err e
 IsFirstFault (commands.Merge f) at e = input f.head head_in (at 0) ≡ Err e
+IsFirstFault (commands.Cut c) at e = input c.job head_in (at 0) ≡ Err e
 IsFirstFault (commands.Audit a) at e = input a.store store_in (at 0) ≡ Err e
 IsFirstFault (commands.Place p) at e = ⊥
 
@@ -135,6 +138,7 @@ first_fault (commands.Rehearse r) at e h = subst (λ (x : Result (List Query) Na
 first_fault (commands.Sample s) at e h = absurd h
 first_fault (commands.Gather f) at e h = stops (input f.head head_in (at 0)) (longer_after (sources.Pages f.log) f.job f.pages (rest_of at)) e h
 first_fault (commands.Merge f) at e h = stops (input f.head head_in (at 0)) (longer_after sources.Pieces f.job f.pieces (rest_of at)) e h
+first_fault (commands.Cut c) at e h = stops (input c.job head_in (at 0)) (cut_after c) e h
 first_fault (commands.Audit a) at e h = subst (λ (x : Result (List SealedFields) NamedFault). MakesAudit a x (audit_jobs a.jobs (rest_of at)) (Err e)) (sym h) refl
 first_fault (commands.Place p) at e h = absurd h
 
@@ -166,6 +170,12 @@ module _ (told : Option Files) (failed : Option (List ℕ) → Type 0) (r : Resu
   show_made name view x (given, read, gives, blamed) is =
       made (commands.Show name) told failed (these (given ∷ [])) (Ok (show_done (view x))) r (read, λ i. refl) (inl (none_failed failed name faults.Unread x blamed))
       (sym (ap (λ (y : Result (SealedFields × ℕ) FileFault). named name y >>= (λ z. Ok (show_done z))) gives)) is
+
+  pub cut_made : (c : Cut) (j : JobContents) → IsInput told failed c.job head_in (λ (k : JobContents). k) (Ok j) → IfOk r (λ a. reply_fields a ≡ done (cut_done c.by c.pieces j))
+      → IfOk r (λ a. IsReply (commands.Cut c) told failed (reply_fields a))
+  cut_made c j (given, read, gives, blamed) is =
+      made (commands.Cut c) told failed (these (given ∷ [])) (Ok (cut_done c.by c.pieces j)) r (read, λ i. refl) (inl (none_failed failed c.job faults.Unread j blamed))
+      (sym (ap (λ (y : Result JobContents FileFault). named c.job y >>= cut_after c) gives)) is
 
   -- ---- start
 

@@ -1,5 +1,5 @@
 -- What each command makes of its inputs.
-use Rattle.std.specs.Prelude.{◌≡◌, ℕ, ◌+◌, List, [], ◌∷◌, ◌++◌, ◌⊎◌, map, flat_map, length, take, slice_get, All}
+use Rattle.std.specs.Prelude.{◌≡◌, ℕ, List, [], ◌∷◌, ◌++◌, ◌⊎◌, map, flat_map, length, take, slice_get, All}
 use Rattle.std.specs.Prelude.{Option, Some, None, Result, Ok, Err}
 use Rattle.ident_core.specs.declared.identity.Identity.{Identity}
 use Rattle.ident_core.specs.declared.kind.Kind.{Kind}
@@ -43,6 +43,7 @@ use Rattle.input_core.specs.Readings.{queries_in, job_in, ledger_in, part_in, st
 use Rattle.input_core.specs.Certificates.{certificate_in, issuer_in}
 use Rattle.command_core.specs.declared.lengthening.Source.TheVariants as sources
 use Rattle.command_core.specs.Longer.{longer_makes}
+use Rattle.command_core.specs.Cuts.{cut_makes}
 pub use Rattle.command_core.specs.Outcomes.{◌>>=◌, named, input, only, both_files}
 use Rattle.command_core.specs.Audits.{audit_jobs, MakesAudit}
 use Rattle.command_core.specs.Rebasings.{MakesRebase}
@@ -260,5 +261,6 @@ Makes (commands.Rehearse r) at o = MakesRehearsal r (input r.queries queries_in 
 Makes (commands.Sample s) at o = o ≡ Ok (sample_done s)
 Makes (commands.Gather g) at o = o ≡ gather_makes g (at 0) (rest_of at)
 Makes (commands.Merge m) at o = o ≡ merge_makes m (at 0) (rest_of at)
+Makes (commands.Cut c) at o = o ≡ cut_makes c (at 0)
 Makes (commands.Audit a) at o = MakesAudit a (input a.store store_in (at 0)) (audit_jobs a.jobs (rest_of at)) o
 Makes (commands.Place p) at o = o ≡ Ok (place_done p)

@@ -5,6 +5,7 @@ pub mod Faults
 pub mod Outcomes
 pub mod Longer
 pub mod LongerJobs
+pub mod Cuts
 pub mod Audits
 pub mod AuditJobs
 pub mod Rebasings

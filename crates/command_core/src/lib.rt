@@ -10,6 +10,7 @@ ghost use Rattle.command_core.specs.Replies.{IsReply};
 mod answer;
 mod auditing;
 mod commands;
+mod cutting;
 mod fault;
 mod laws;
 mod lengthening;
@@ -25,6 +26,7 @@ mod storing;
 pub use answer::Answer;
 use auditing::answer_audit;
 use commands::{answer_check, answer_query, answer_query_cert, answer_show};
+use cutting::answer_cut;
 pub use laws::{rehearsals_go_file_by_file, replies_are_unique, replies_exist, workers_are_free};
 pub use lengthening::Source;
 use lengthening::{answer_gather, answer_merge};
@@ -72,6 +74,7 @@ pub fn answer_to<'a, R: Threads + Sync, G: Gate + Sync, D: Depot>(
         Command::Sample(asked) => answer_sample(alloc, asked),
         Command::Gather(asked) => answer_gather(alloc, asked, depot),
         Command::Merge(asked) => answer_merge(alloc, asked, depot),
+        Command::Cut(asked) => answer_cut(alloc, asked, depot),
         Command::Audit(asked) => answer_audit(alloc, asked, depot),
         Command::Place(asked) => Ok(answer_place(asked)),
     }

@@ -1,9 +1,9 @@
 -- Jobs of which some is kept, and what they leave beside what the whole jobs leave.
-use Rattle.std.specs.Prelude.{◌≡◌, ◌&&◌, ℕ, List, filter, Bool}
+use Rattle.std.specs.Prelude.{◌≡◌, ◌&&◌, ℕ, List, filter, Bool, true}
 use Rattle.ident_core.specs.declared.identity.Identity.{Identity}
 use Rattle.job_core.specs.JobFields.{JobFields}
 use Rattle.piece_core.specs.Cuts.{Cut, is_kept, keeps_entry}
-use Rattle.universe_core.specs.Jobs.{Entry, JobFacts}
+use Rattle.universe_core.specs.Jobs.{JobFacts}
 use Rattle.universe_core.specs.Formats.{JobIn}
 use Rattle.universe_core.specs.History.{Release}
 use Rattle.history_core.specs.Bases.{all_issuers, base_with}

@@ -169,7 +169,7 @@ sample_line number count revoked bytes =
     codes "sample " ++ decimal number ++ codes " entries " ++ decimal count
     ++ codes " revoked " ++ decimal revoked ++ codes " bytes " ++ decimal bytes ++ 10 ∷ []
 
--- how many files there are, and how many entries they have and bytes the longer job has
+-- how many files there are, how many entries and how many bytes
 abbrev pub longer_line : (words : List ℕ) (files entries bytes : ℕ) → List ℕ
 longer_line words files entries bytes =
     words ++ decimal files ++ codes " entries " ++ decimal entries ++ codes " bytes " ++ decimal bytes ++ 10 ∷ []
@@ -181,6 +181,10 @@ gather_line pages entries bytes = longer_line (codes "gather pages ") pages entr
 -- merge pieces P entries N bytes B
 abbrev pub merge_line : (pieces entries bytes : ℕ) → List ℕ
 merge_line pieces entries bytes = longer_line (codes "merge pieces ") pieces entries bytes
+
+-- cut pieces P entries N bytes B
+abbrev pub cut_line : (pieces entries bytes : ℕ) → List ℕ
+cut_line pieces entries bytes = longer_line (codes "cut pieces ") pieces entries bytes
 
 -- place P of COUNT
 abbrev pub place_line : (place count : ℕ) → List ℕ

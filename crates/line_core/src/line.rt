@@ -5,7 +5,8 @@ ghost use Rattle.hex.specs.Hex.{encode_lower};
 ghost use Rattle.part_text.specs.PartText.{width_of};
 ghost use Rattle.line_core.specs.Lines.{stage_words, approx_words, mixed_words, leaf_words, body_words, note_line, report_line};
 ghost use Rattle.line_core.specs.Lines.{store_line, rebase_line, rebase_without_line, sample_line, longer_line};
-ghost use Rattle.line_core.specs.Lines.{gather_line, merge_line, place_line, audit_line, disagreement_line, verdict_line};
+ghost use Rattle.line_core.specs.Lines.{gather_line, merge_line, cut_line, place_line, audit_line};
+ghost use Rattle.line_core.specs.Lines.{disagreement_line, verdict_line};
 ghost use Rattle.line_core.specs.Lines.{head_line, range_line, block_line, shard_line, trailer_line};
 ghost use Rattle.line_core.specs.Lines.{seeds_line};
 
@@ -252,7 +253,7 @@ pub fn sampled(number: u64, count: u32, revoked: u32, bytes: u64) -> Line
     line
 }
 
-/// These words and how many files there are, with how many entries these have and how many bytes the longer job has.
+/// These words and how many files there are, how many entries and how many bytes.
 fn longer_line(words: &[u8], files: usize, entries: u64, bytes: u64) -> Line
     requires { length words.now ≤ 64 }
     ensures { result ≡ longer_line words.now files entries bytes }
@@ -277,6 +278,13 @@ pub fn merged(pieces: usize, entries: u64, bytes: u64) -> Line
     ensures { result ≡ merge_line pieces entries bytes }
 {
     longer_line(b"merge pieces ", pieces, entries, bytes)
+}
+
+/// `cut pieces P entries N bytes B`
+pub fn cut(pieces: usize, entries: u64, bytes: u64) -> Line
+    ensures { result ≡ cut_line pieces entries bytes }
+{
+    longer_line(b"cut pieces ", pieces, entries, bytes)
 }
 
 /// `place P of COUNT`

@@ -4,7 +4,7 @@ use Rattle.std.proofs.Common.{◌≡◌, ℕ, ◌+◌, ◌≤◌, ◌<◌, List,
 use Rattle.std.proofs.lemmas.List.{append_cancel_right, append-nil}
 use Rattle.job_core.specs.declared.bounds.TheConstants.Limits as limits
 use Rattle.job_core.specs.declared.reader.Stage.TheVariants as stages
-use Rattle.job_core.specs.JobLayout.{Item, Held}
+use Rattle.job_core.specs.JobLayout.{Item, HeldSoFar}
 use Rattle.job_core.specs.JobText.{JobContents, opening_text, record_text, spelling}
 use Rattle.job_core.specs.Reader.{StandsAt}
 use Rattle.job_core.proofs.Passing.{texts_of}
@@ -69,7 +69,7 @@ openings : (e m f n : ℕ) (a b : List ℕ) → opening_text e m ++ a ≡ openin
 openings e m f n a b same = (ap (take 24) same, ap (drop 24) same)
 
 -- The end was read behind it: the job is whole, and the pieces are its pieces.
-pub front-whole : (by : By) (n : ℕ) (numbers : Held) (file b : List ℕ) (old : List (Vec ℕ Global)) (pieces : Pieces)
+pub front-whole : (by : By) (n : ℕ) (numbers : HeldSoFar) (file b : List ℕ) (old : List (Vec ℕ Global)) (pieces : Pieces)
     → length pieces.texts.items ≡ n → n ≤ length old → Front by n b old pieces.entries → file ≡ b ++ to_be_bytes w8 0
     → IsLonger None (to_be_bytes w8 0) old pieces.texts.items → StandsAt stages.Ended limits.PUBLISHED numbers file
     → pieces.bytes ≡ length file → (j : JobContents) × (raw_job limits.PUBLISHED file ≡ Ok j) × AreOf by n j pieces

@@ -14,7 +14,7 @@ use Rattle.place_core.specs.declared.place.By.{By}
 use Rattle.place_core.specs.declared.place.By.TheVariants as ways
 use Rattle.place_core.specs.Places.{place_count}
 use Rattle.word_core.specs.declared.command.TheConstants.{MAX_PAGES, MAX_PIECES, MAX_SIGHTINGS, MAX_WITHOUT}
-use Rattle.word_core.specs.declared.command.{Audit.Audit, Command.Command, Delta.Delta, Gather.Gather, Install.Install}
+use Rattle.word_core.specs.declared.command.{Audit.Audit, Command.Command, Cut.Cut, Delta.Delta, Gather.Gather, Install.Install}
 use Rattle.word_core.specs.declared.command.{Merge.Merge, Place.Place, Query.Query}
 use Rattle.word_core.specs.declared.command.{QueryCert.QueryCert, Rebase.Rebase, Rehearse.Rehearse, Sample.Sample}
 use Rattle.word_core.specs.declared.command.{Snapshot.Snapshot, Start.Start}
@@ -236,6 +236,15 @@ by_of word =
     else if bytes_eq word (codes "identity") then Some ways.Identity
     else None
 
+-- BY JOB, and the pieces
+abbrev pub cut_of : List (List ℕ) → Option Cut
+cut_of (by ∷ job ∷ pieces) = do
+  b ← by_of by
+  j ← name_of job
+  p ← names_within MAX_PIECES pieces
+  Some (record { by = b; job = j; pieces = p })
+cut_of words = None
+
 -- one or more, and no more than there may be places
 abbrev pub places_of : List ℕ → Option ℕ
 places_of word = do
@@ -269,6 +278,7 @@ writes_of command words =
     else if bytes_eq command (codes "sample") then asks commands.Sample (sample_of words)
     else if bytes_eq command (codes "gather") then asks commands.Gather (gather_of words)
     else if bytes_eq command (codes "merge") then asks commands.Merge (merge_of words)
+    else if bytes_eq command (codes "cut") then asks commands.Cut (cut_of words)
     else commands.Usage
 
 -- what a word and those behind it ask for, of files of any names
@@ -297,6 +307,7 @@ inputs_of (commands.Install install) = install.store ∷ install.part ∷ []
 inputs_of (commands.Rehearse rehearse) = rehearse.queries ∷ rehearse.jobs
 inputs_of (commands.Gather gather) = gather.head ∷ gather.pages
 inputs_of (commands.Merge merge) = merge.head ∷ merge.pieces
+inputs_of (commands.Cut cut) = cut.job ∷ []
 inputs_of (commands.Audit audit) = audit.store ∷ audit.jobs
 -- each other command reads none
 inputs_of command = []
@@ -311,6 +322,7 @@ outputs_of (commands.Install install) = install.new_store ∷ []
 outputs_of (commands.Sample sample) = sample.job ∷ []
 outputs_of (commands.Gather gather) = gather.job ∷ []
 outputs_of (commands.Merge merge) = merge.job ∷ []
+outputs_of (commands.Cut cut) = cut.pieces
 -- each other command writes none
 outputs_of command = []
 

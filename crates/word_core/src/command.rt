@@ -16,7 +16,7 @@ pub const MAX_SIGHTINGS: usize = 64;
 /// The most pages that one call gathers.
 pub const MAX_PAGES: usize = 1024;
 
-/// The most pieces that one call merges.
+/// The most pieces that one call merges, or into which it cuts a job.
 pub const MAX_PIECES: usize = 1024;
 
 /// The most issuers that one call leaves out.
@@ -166,6 +166,14 @@ pub struct Merge<'a> {
     pub pieces: Listed<FileName<'a>, 1, MAX_PIECES>,
 }
 
+/// A job that is cut by issuers or identities into so many pieces, each to a file.
+#[derive(Debug, Drop)]
+pub struct Cut<'a> {
+    pub by: By,
+    pub job: FileName<'a>,
+    pub pieces: Listed<FileName<'a>, 1, MAX_PIECES>,
+}
+
 /// The place of a certificate among so many.
 #[derive(Debug, Drop)]
 pub struct Place {
@@ -205,6 +213,8 @@ pub enum Command<'a> {
     Gather(Gather<'a>),
     /// To write a job with the entries of pieces behind its own.
     Merge(Merge<'a>),
+    /// To write the pieces of a job.
+    Cut(Cut<'a>),
     /// Whether a store, whoever built it, says the truth of what jobs accept.
     Audit(Audit<'a>),
     /// In which of so many histories a certificate is.
@@ -250,6 +260,7 @@ impl Command<'_> {
             Command::Merge(asked) => {
                 is_longer_apart(&asked.head, &asked.job, asked.pieces.as_slice())
             }
+            Command::Cut(asked) => are_apart(&[asked.job.again()], asked.pieces.as_slice()),
             _ => true,
         }
     }

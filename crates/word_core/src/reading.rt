@@ -3,12 +3,13 @@
 ghost use Rattle.std.specs.Prelude.{◌≡◌, ℕ, List, ◌∷◌, IfOk, IsOk, map, string_bytes};
 ghost use Rattle.word_core.specs.Words.{command_of, asked_of, writes_of, query_of, query_cert_of, name_alone};
 ghost use Rattle.word_core.specs.Words.{snapshot_of, delta_of, rebase_of, rebase_without_of, start_of, install_of};
-ghost use Rattle.word_core.specs.Words.{names_within, rehearse_of, audit_of, sample_of, gather_of, merge_of, place_of};
+ghost use Rattle.word_core.specs.Words.{names_within, rehearse_of, audit_of, sample_of, gather_of, merge_of, cut_of};
+ghost use Rattle.word_core.specs.Words.{place_of};
 
 use crate::bounded::Listed;
 use crate::command::{
-    Audit, Command, Delta, FileName, Gather, Install, MAX_SIGHTINGS, MAX_WITHOUT, Merge, Place,
-    Query, QueryCert, Rebase, Rehearse, Sample, Snapshot, Start,
+    Audit, Command, Cut, Delta, FileName, Gather, Install, MAX_SIGHTINGS, MAX_WITHOUT, Merge,
+    Place, Query, QueryCert, Rebase, Rehearse, Sample, Snapshot, Start,
 };
 use crate::words::{
     by_word, count_word, key_word, number_word, places_word, read_keys, read_name, read_names,
@@ -297,6 +298,25 @@ fn read_merge(alloc: Global, words: &[String]) -> Result<Option<Merge<'_>>, NoMe
     Ok(Some(Merge { head, job, pieces }))
 }
 
+/// The pieces of a job that words spell, if they spell them.
+fn read_cut(alloc: Global, words: &[String]) -> Result<Option<Cut<'_>>, NoMemory>
+    ensures { IfOk result (λ c. c ≡ cut_of (map string_bytes words.now)) }
+{
+    let [by, job, pieces @ ..] = words else {
+        return Ok(None);
+    };
+    let Some(by) = by_word(by.as_str()) else {
+        return Ok(None);
+    };
+    let Some(job) = read_name(job.as_str()) else {
+        return Ok(None);
+    };
+    let Some(pieces) = read_listed(alloc, pieces)? else {
+        return Ok(None);
+    };
+    Ok(Some(Cut { by, job, pieces }))
+}
+
 /// The place of a certificate that words ask for, if they do.
 fn read_place(words: &[String]) -> Option<Place>
     ensures { result ≡ place_of (map string_bytes words.now) }
@@ -339,6 +359,7 @@ fn read_writing<'a>(
         "sample" => Ok(read_sample(rest).map_or(Command::Usage, Command::Sample)),
         "gather" => Ok(read_gather(alloc, rest)?.map_or(Command::Usage, Command::Gather)),
         "merge" => Ok(read_merge(alloc, rest)?.map_or(Command::Usage, Command::Merge)),
+        "cut" => Ok(read_cut(alloc, rest)?.map_or(Command::Usage, Command::Cut)),
         _ => Ok(Command::Usage),
     }
 }
@@ -370,8 +391,8 @@ fn read_command<'a>(
 }
 
 /// What words ask for. The words lend the names; room is taken for the sightings of a query, for the list of the jobs
-/// of a rehearsal or of an audit, for that of pages that are gathered, of pieces that are merged and of issuers that
-/// are left out, and for nothing else.
+/// of a rehearsal or of an audit, for that of pages that are gathered, of pieces that are merged or cut and of
+/// issuers that are left out, and for nothing else.
 pub fn read_words(alloc: Global, words: &[String]) -> Result<Command<'_>, NoMemory>
     ensures value { IfOk result (λ c. c ≡ command_of (map string_bytes words.now)) }
     // Words that ask for `check` are read without memory.

@@ -1,4 +1,4 @@
-use Rattle.std.proofs.Common.{List, Vec, Global, map, refl}
+use Rattle.std.proofs.Common.{List, Vec, Global, map}
 use Rattle.std.proofs.lemmas.Result.{err_from_is_err_and}
 use Rattle.gather_core.specs.declared.page.PageEntry.{PageEntry}
 use Rattle.gather_core.specs.Pages.{PageFields, fields_of}

@@ -1,4 +1,4 @@
-use Rattle.std.proofs.Common.{List, Ok, Err, refl, sym}
+use Rattle.std.proofs.Common.{List, Ok, refl, sym}
 use Rattle.std.proofs.lemmas.Result.{err_from_is_err_and}
 use Rattle.job_core.specs.JobLayout.{EntryText}
 use Rattle.outside_core.specs.Reads.{WhichFailed}
