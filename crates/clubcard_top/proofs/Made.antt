@@ -21,7 +21,7 @@ use Rattle.job_core.specs.JobFields.{JobFields}
 use Rattle.job_core.specs.JobLayout.{job_of}
 use Rattle.job_core.specs.JobFacts.{FitsFields, FitsPublishing, IsWithinLimits}
 use Rattle.ledger_core.specs.LedgerFields.{LedgerFields}
-use Rattle.ledger_core.specs.LedgerReading.{ledger_of as ledger_of_bytes}
+use Rattle.ledger_core.specs.LedgerReading.{ledger_of_bytes}
 use Rattle.ledger_core.specs.declared.fault.LedgerFault.{LedgerFault}
 use Rattle.ident_core.specs.Among.{Among}
 use Rattle.universe_core.specs.Formats.{in_format}

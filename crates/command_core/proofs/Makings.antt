@@ -14,7 +14,7 @@ use Rattle.input_core.specs.Queries.{Query}
 use Rattle.input_core.specs.QueryReading.{queries_in as queries_of}
 use Rattle.input_core.specs.declared.fault.QueriesFault.{QueriesFault}
 use Rattle.input_core.specs.declared.fault.QueriesFault.TheVariants as of_query_faults
-use Rattle.ledger_core.specs.LedgerReading.{ledger_of}
+use Rattle.ledger_core.specs.LedgerReading.{ledger_of_bytes}
 use Rattle.ledger_core.specs.LedgerFields.{LedgerFields}
 use Rattle.ledger_core.specs.declared.fault.LedgerFault.{LedgerFault}
 use Rattle.ledger_core.specs.declared.fault.LedgerFault.TheVariants as of_ledger_faults
@@ -67,7 +67,7 @@ use Rattle.command_core.specs.ReplyFields.{Done, NamedFault}
 use Rattle.command_core.specs.Statuses.{is_one_of, done, read_fault, no_memory, of_refusals}
 use Rattle.command_core.specs.Commands.{◌>>=◌, named, input, begun_by, begun, installed_by, installed, stored, query_done, query_cert_done, check_done, show_done}
 use Rattle.command_core.specs.Commands.{query_makes, check_makes, show_makes, start_makes}
-use Rattle.command_core.specs.Commands.{publication_done, published_as, MakesSnapshot, MakesDelta, rehearsed, IsRefused, MakesRehearsal}
+use Rattle.command_core.specs.Commands.{publication_done, published_as, MakesSnapshot, MakesDelta, rehearsed, IsFileRefused, MakesRehearsal}
 use Rattle.command_core.specs.Commands.{sample_done, place_done, Makes}
 use Rattle.command_core.specs.declared.lengthening.Source.{Source}
 use Rattle.command_core.specs.declared.lengthening.Source.TheVariants as sources
@@ -289,7 +289,7 @@ job_read bytes h =
     job_faulted_read (job_of PUBLISHED bytes) (never-of (λ job. job) PUBLISHED bytes (job_of PUBLISHED bytes) (given (job_of PUBLISHED bytes))) h
 
 ledger_read : (bytes : List ℕ) → ledger_in bytes ≡ Err faults.Unread → ⊥
-ledger_read bytes h = faulted_read of_ledger (ledger_of bytes) ledger_fault_read h
+ledger_read bytes h = faulted_read of_ledger (ledger_of_bytes bytes) ledger_fault_read h
 
 part_read : (bytes : List ℕ) → part_in bytes ≡ Err faults.Unread → ⊥
 unfolding part_file
@@ -454,7 +454,7 @@ module _ (told : Option Files) (failed : Option (List ℕ) → Type 0) (e : Name
   delta_by t j l first second (inr h) = cause_of (t.job ∷ t.ledger ∷ []) t.ledger l (inr (inl refl)) second (input_unread t.ledger ledger_in l e ledger_read h u)
 
   refused_by : (h : History) (parts : List SealedFields) (name : List ℕ) (given : Option (List ℕ)) (names : List (List ℕ))
-      → IsRead told failed name given → IsRefused h parts name given e → Cause (name ∷ names)
+      → IsRead told failed name given → IsFileRefused h parts name given e → Cause (name ∷ names)
   refused_by h parts name given names read (inl is) = cause_of (name ∷ names) name given (inl refl) read (input_unread name job_in given e job_read is u)
   refused_by h parts name given names read (inr (job, fault, is, publishes, same)) = absurd (publish_fault_read fault (sym (ap (λ (k : NamedFault). k.fault) same) ∙ u))
 
@@ -462,7 +462,7 @@ module _ (told : Option Files) (failed : Option (List ℕ) → Type 0) (e : Name
       → RehearsesOn queries jobs parts names inputs (Err e) → Cause names
   rehearses_by queries jobs parts [] inputs read m = absurd (not_ok (rehearsed queries jobs parts) e m)
   rehearses_by queries jobs parts (name ∷ names) inputs read (inl (f, refused, is)) =
-      refused_by (chain jobs) parts name (inputs 0) names read.0 (subst (IsRefused (chain jobs) parts name (inputs 0)) (sym (err_same {A = Done} e f is)) refused)
+      refused_by (chain jobs) parts name (inputs 0) names read.0 (subst (IsFileRefused (chain jobs) parts name (inputs 0)) (sym (err_same {A = Done} e f is)) refused)
   rehearses_by queries jobs parts (name ∷ names) inputs read (inr (job, more, is_read, fits, is, rest)) =
       let c = rehearses_by queries (jobs ++ job ∷ []) more names (rest_of inputs) read.1 rest in (inr c.0, c.1)
 

@@ -18,7 +18,7 @@ use Rattle.input_core.specs.Readings.{job_in, ledger_in, store_in}
 use Rattle.input_core.specs.Certificates.{certificate_in, issuer_in}
 use Rattle.input_core.specs.Inputs.{Inputs, rest_of, IsRead, AreRead}
 use Rattle.command_core.specs.Commands.{◌>>=◌, input, query_cert_makes, install_makes}
-use Rattle.command_core.specs.Commands.{MakesDelta, IsRefused, MakesRehearsal}
+use Rattle.command_core.specs.Commands.{MakesDelta, IsFileRefused, MakesRehearsal}
 use Rattle.command_core.specs.declared.lengthening.Source.{Source}
 use Rattle.command_core.specs.Longer.{head_in, entries_by, room_for, entries_of, longer_done, longer_makes}
 use Rattle.command_core.specs.Audits.{unless, job_behind, jobs_behind, bad_crl, audit_jobs, MakesAudit}
@@ -118,7 +118,7 @@ job_over files failed name given r seen read is =
     sym (one_over files failed name (λ g. r ≡ input name job_in g) given (λ h. seen (unread name) h refl) read (sym is))
 
 refused_over : (files : Files) (failed : Option (List ℕ) → Type 0) (h : History) (parts : List SealedFields) (name : List ℕ) (given : Option (List ℕ)) (e : NamedFault)
-    → (e.fault ≡ faults.Unread → ⊥) → IsRead (Some files) failed name given → IsRefused h parts name given e → IsRefused h parts name (get files name) e
+    → (e.fault ≡ faults.Unread → ⊥) → IsRead (Some files) failed name given → IsFileRefused h parts name given e → IsFileRefused h parts name (get files name) e
 refused_over files failed h parts name given e seen read (inl is) =
     inl (job_over files failed name given (Err e) (λ f k u. seen (ap (λ (n : NamedFault). n.fault) (err_same {A = JobFields} e f k) ∙ u)) read is)
 refused_over files failed h parts name given e seen read (inr (job, fault, is, not, same)) =

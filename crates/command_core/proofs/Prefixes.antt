@@ -11,7 +11,7 @@ use Rattle.publication_core.specs.Histories.{chain, IsHistory}
 use Rattle.publication_core.proofs.Unique.{history_unique}
 use Rattle.input_core.specs.Inputs.{Inputs, rest_of}
 use Rattle.command_core.specs.ReplyFields.{Done, NamedFault}
-use Rattle.command_core.specs.Commands.{rehearsed, IsRefused, AreJobs, Rehearses}
+use Rattle.command_core.specs.Commands.{rehearsed, IsFileRefused, AreJobs, Rehearses}
 use Rattle.command_core.specs.Steps.{RehearsesOn}
 use Rattle.command_core.proofs.Chains.{chain_next}
 
@@ -20,7 +20,7 @@ abbrev Then : List Query → List JobFields → List SealedFields → ℕ → Li
 Then queries all parts n names inputs o =
     ((n ≡ length names) × (o ≡ Ok (rehearsed queries all parts)))
     ⊎ ((name : List ℕ) × (e : NamedFault) × (slice_get names n ≡ Some name)
-    × IsRefused (chain all) parts name (inputs n) e × (o ≡ Err e))
+    × IsFileRefused (chain all) parts name (inputs n) e × (o ≡ Err e))
 
 -- ---- from file by file
 
@@ -109,13 +109,13 @@ refused_here : (queries : List Query) (before all : List JobFields) (parts other
     (names : List (List ℕ)) (inputs : Inputs)
     (o : Result Done NamedFault) → all ≡ before → others ≡ parts
     → Then queries all others 0 (name ∷ names) inputs o
-    → (e : NamedFault) × IsRefused (chain before) parts name (inputs 0) e × (o ≡ Err e)
+    → (e : NamedFault) × IsFileRefused (chain before) parts name (inputs 0) e × (o ≡ Err e)
 refused_here queries before all parts others name names inputs o js ps (inl (is, done)) = absurd (omega (arith, is))
 refused_here queries before all parts others name names inputs o js ps (inr (m, e, at, refused, is)) = (
   e,
-  subst (λ (k : List ℕ). IsRefused (chain before) parts k (inputs 0) e) (sym (some_name name m at))
-      (subst (λ (p : List SealedFields). IsRefused (chain before) p m (inputs 0) e) ps
-      (subst (λ (j : List JobFields). IsRefused (chain j) others m (inputs 0) e) js refused)),
+  subst (λ (k : List ℕ). IsFileRefused (chain before) parts k (inputs 0) e) (sym (some_name name m at))
+      (subst (λ (p : List SealedFields). IsFileRefused (chain before) p m (inputs 0) e) ps
+      (subst (λ (j : List JobFields). IsFileRefused (chain j) others m (inputs 0) e) js refused)),
   is,
 )
 

@@ -21,7 +21,7 @@ use Rattle.input_core.specs.declared.fault.FileFault.{FileFault}
 use Rattle.input_core.specs.declared.fault.FileFault.TheVariants as faults
 use Rattle.command_core.specs.ReplyFields.{Done, NamedFault}
 use Rattle.input_core.specs.Readings.{queries_in, job_in, input_as}
-use Rattle.command_core.specs.Commands.{named, input, report_behind, reports, rehearsed, verdict_line, IsRefused, MakesRehearsal}
+use Rattle.command_core.specs.Commands.{named, input, report_behind, reports, rehearsed, verdict_line, IsFileRefused, MakesRehearsal}
 use Rattle.command_core.specs.Steps.{RehearsesOn}
 use Rattle.outside_core.specs.Reads.{WhichFailed}
 use Rattle.input_core.specs.Inputs.{Inputs, IsBlamed, IsRead, IsInput}
@@ -113,7 +113,7 @@ module _ (told : Option Files) (names : List (List ℕ)) where
     -- what is wrong with it is what is wrong with all
     pub gone_refused : {A : Type 0} (later : Option (List ℕ) → Type 0) (fault : FileFault) → ((which : Option (List ℕ)) → here which → later which)
         → IsBlamed {A = A} here name faults.Unread (Err fault)
-        → ((h : History) → IsOf h r → IsRefused h r.parts name g (record { name = name; fault = fault }))
+        → ((h : History) → IsOf h r → IsFileRefused h r.parts name g (record { name = name; fault = fault }))
         → IsRefusedFrom told later names (record { name = name; fault = fault })
     gone_refused {A} later fault wider blamed refused =
         let rest = some_reads told later (drop (i + 1) names) in

@@ -24,7 +24,7 @@ use Rattle.word_core.specs.declared.command.{Audit.Audit}
 use Rattle.command_core.specs.ReplyFields.{Done, NamedFault, ReplyFields}
 use Rattle.input_core.specs.Inputs.{Inputs, rest_of}
 use Rattle.input_core.specs.Readings.{queries_in, job_in, ledger_in, store_in}
-use Rattle.command_core.specs.Commands.{input, published_as, MakesPart, MakesSnapshot, MakesDelta, IsRefused, MakesRehearsal, Makes}
+use Rattle.command_core.specs.Commands.{input, published_as, MakesPart, MakesSnapshot, MakesDelta, IsFileRefused, MakesRehearsal, Makes}
 use Rattle.command_core.specs.Audits.{audit_jobs, audited_as, MakesAudit}
 use Rattle.command_core.specs.Rebasings.{rebased_as, MakesRebase}
 use Rattle.command_core.specs.Steps.{RehearsesOn}
@@ -101,7 +101,7 @@ module _ (publishing : Publishing) where
   publish_fault_same x y h = cc
 
   refused_same : (h : History) (parts : List SealedFields) (name : List ℕ) (given : Option (List ℕ)) (e f : NamedFault)
-      → IsRefused h parts name given e → IsRefused h parts name given f → e ≡ f
+      → IsFileRefused h parts name given e → IsFileRefused h parts name given f → e ≡ f
   refused_same h parts name given e f (inl x) (inl y) = fault_same e f (input name job_in given) x y
   refused_same h parts name given e f (inl x) (inr (job, fault, is, not, same)) = absurd (not_both job e (input name job_in given) is x)
   refused_same h parts name given e f (inr (job, fault, is, not, same)) (inl y) = absurd (not_both job f (input name job_in given) is y)
@@ -114,7 +114,7 @@ module _ (publishing : Publishing) where
 
   pub refused_follows : (jobs : List JobFields) (parts : List SealedFields) (name : List ℕ) (given : Option (List ℕ)) (e : NamedFault) (job : JobFields)
       (others : List JobFields) (all : List SealedFields)
-      → IsHistory (chain jobs) parts → input name job_in given ≡ Ok job → IsHistory (chain (jobs ++ job ∷ others)) all → IsRefused (chain jobs) parts name given e → ⊥
+      → IsHistory (chain jobs) parts → input name job_in given ≡ Ok job → IsHistory (chain (jobs ++ job ∷ others)) all → IsFileRefused (chain jobs) parts name given e → ⊥
   refused_follows jobs parts name given e job others all is is_job is_all (inl h) = not_both job e (input name job_in given) is_job h
   refused_follows jobs parts name given e job others all is is_job is_all (inr (other, fault, is_other, not, same)) =
       not_published jobs parts job others all fault is is_all

@@ -185,8 +185,8 @@ rehearsed queries jobs parts = only (reports (of_jobs []) [] jobs parts ++ flat_
 
 -- what is wrong with the file of a job that doesn't follow a history: it isn't read as a job, or the job isn't
 -- published
-abbrev pub IsRefused : History → List SealedFields → List ℕ → Option (List ℕ) → NamedFault → Type 0
-IsRefused h parts name given e =
+abbrev pub IsFileRefused : History → List SealedFields → List ℕ → Option (List ℕ) → NamedFault → Type 0
+IsFileRefused h parts name given e =
     (input name job_in given ≡ Err e)
     ⊎ ((job : JobFields) × (fault : PublishFault) × (input name job_in given ≡ Ok job)
     × Publishes (ledger_of (releases_of h parts)) job (Err fault)
@@ -214,7 +214,7 @@ pub record Rehearses
   pub is_history : IsHistory (chain jobs) parts
   pub then : ((n ≡ length names) × (o ≡ Ok (rehearsed queries jobs parts)))
       ⊎ ((name : List ℕ) × (e : NamedFault) × (slice_get names n ≡ Some name)
-      × IsRefused (chain jobs) parts name (inputs n) e × (o ≡ Err e))
+      × IsFileRefused (chain jobs) parts name (inputs n) e × (o ≡ Err e))
 
 abbrev pub MakesRehearsal : Rehearse → Result (List Query) NamedFault → Inputs → Result Done NamedFault → Type 0
 MakesRehearsal r (Ok queries) inputs o = Rehearses queries r.jobs inputs o

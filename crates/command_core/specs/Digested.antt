@@ -6,10 +6,10 @@ use Rattle.command_core.specs.declared.output.Text.{Text}
 use Rattle.command_core.specs.declared.output.Text.TheVariants as texts
 
 -- the text that pieces make, one behind the other
-abbrev pub joined : {A : Type 0} → List (Vec ℕ A) → List ℕ
-joined pieces = flat_map (λ piece. piece.items) pieces
+abbrev pub concatenated : {A : Type 0} → List (Vec ℕ A) → List ℕ
+concatenated pieces = flat_map (λ piece. piece.items) pieces
 
 -- a text, and behind one in pieces its digest
 abbrev pub bytes_of : Text → List ℕ
 bytes_of (texts.Whole text) = text.items
-bytes_of (texts.Digested pieces) = joined pieces.items ++ sha256 (joined pieces.items)
+bytes_of (texts.Digested pieces) = concatenated pieces.items ++ sha256 (concatenated pieces.items)

@@ -8,7 +8,7 @@ use Rattle.publication_core.specs.Histories.{chain, IsHistory}
 use Rattle.command_core.specs.ReplyFields.{Done, NamedFault}
 use Rattle.input_core.specs.Inputs.{Inputs, rest_of}
 use Rattle.input_core.specs.Readings.{job_in}
-use Rattle.command_core.specs.Commands.{input, rehearsed, IsRefused}
+use Rattle.command_core.specs.Commands.{input, rehearsed, IsFileRefused}
 
 -- What comes of files that hold jobs, behind a history: the first that doesn't follow those before it is refused; and
 -- where each follows, the parts of all of them are asked the queries.
@@ -16,7 +16,7 @@ abbrev pub RehearsesOn : List Query → List JobFields → List SealedFields
     → List (List ℕ) → Inputs → Result Done NamedFault → Type 0
 RehearsesOn queries jobs parts [] inputs o = o ≡ Ok (rehearsed queries jobs parts)
 RehearsesOn queries jobs parts (name ∷ names) inputs o =
-    ((e : NamedFault) × IsRefused (chain jobs) parts name (inputs 0) e × (o ≡ Err e))
+    ((e : NamedFault) × IsFileRefused (chain jobs) parts name (inputs 0) e × (o ≡ Err e))
     ⊎ ((job : JobFields) × (more : List SealedFields)
     × (input name job_in (inputs 0) ≡ Ok job) × FitsFields job × IsHistory (chain (jobs ++ job ∷ [])) more
     × RehearsesOn queries (jobs ++ job ∷ []) more names (rest_of inputs) o)

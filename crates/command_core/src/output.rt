@@ -5,7 +5,7 @@ ghost use Rattle.sha2.specs.Sha256.{sha256};
 ghost use Rattle.outside_core.specs.Effects.{OnlyWrites};
 ghost use Rattle.outside_core.specs.Files.{Rose, putting};
 ghost use Rattle.sample_core.specs.Sample.{sample_text};
-ghost use Rattle.command_core.specs.Digested.{joined};
+ghost use Rattle.command_core.specs.Digested.{concatenated};
 ghost use Rattle.command_core.specs.Runs.{with_outputs, IsLeft, IsTorn};
 
 use crate::pieces::{write_digested, write_whole};
@@ -53,7 +53,7 @@ impl<'a> Output<'a> {
     /// The output of the text that these pieces make, one behind the other, and its SHA-256 (FIPS 180-4) to the file of
     /// this name.
     pub fn digested(name: &'a str, pieces: Vec<Vec<u8>>) -> Output<'a>
-        ensures { result ≡ record { name = name.now; bytes = joined pieces.items ++ sha256 (joined pieces.items) } }
+        ensures { result ≡ record { name = name.now; bytes = concatenated pieces.items ++ sha256 (concatenated pieces.items) } }
     {
         Output {
             name,

@@ -4,7 +4,7 @@ ghost use Rattle.std.specs.Prelude.{◌≡◌, ◌≤◌, ◌++◌, OnOk, OnErr}
 ghost use Rattle.sha2.specs.Sha256.{sha256};
 ghost use Rattle.outside_core.specs.Effects.{OnlyWrites};
 ghost use Rattle.outside_core.specs.Files.{Rose, Torn, extending, putting};
-ghost use Rattle.command_core.specs.Digested.{joined};
+ghost use Rattle.command_core.specs.Digested.{concatenated};
 ghost use Rattle.command_core.specs.Runs.{IsLeft};
 
 use outside_core::{Depot, Failed, append_all};
@@ -13,7 +13,7 @@ use std::thread::{Threads, join_mut};
 
 /// The SHA-256 (FIPS 180-4) of the pieces, one behind the other.
 fn digest_of(pieces: &[Vec<u8>]) -> [u8; 32]
-    ensures { result ≡ sha256 (joined pieces.now) }
+    ensures { result ≡ sha256 (concatenated pieces.now) }
 {
     let mut hasher = Sha256::new();
     for piece in pieces {
@@ -24,8 +24,8 @@ fn digest_of(pieces: &[Vec<u8>]) -> [u8; 32]
 
 /// Adds the pieces in their order behind what a file holds.
 fn append_pieces<D: Depot>(depot: &mut D, name: &str, pieces: &[Vec<u8>]) -> Result<(), Failed>
-    ensures ok { OnOk result (D.files depot.new ≡ extending (D.files depot.old) name.now (joined pieces.now)) }
-    ensures err { OnErr result (Torn (D.files depot.old) (D.files depot.new) name.now (joined pieces.now)) }
+    ensures ok { OnOk result (D.files depot.new ≡ extending (D.files depot.old) name.now (concatenated pieces.now)) }
+    ensures err { OnErr result (Torn (D.files depot.old) (D.files depot.new) name.now (concatenated pieces.now)) }
     ensures cause { OnErr result (Rose (D.write_faults depot.old) (D.write_faults depot.new)) }
     ensures only_writes { OnlyWrites D.Depot depot.old depot.new }
 {
@@ -48,8 +48,8 @@ pub(crate) fn write_whole<D: Depot>(depot: &mut D, name: &str, bytes: &[u8]) -> 
 
 /// Begins the file of this name, and adds the pieces in their order.
 fn write_pieces<D: Depot>(depot: &mut D, name: &str, pieces: &[Vec<u8>]) -> Result<(), Failed>
-    ensures ok { OnOk result (D.files depot.new ≡ putting (D.files depot.old) name.now (joined pieces.now)) }
-    ensures err { OnErr result (IsLeft (D.files depot.old) (D.files depot.new) (record { name = name.now; bytes = joined pieces.now })) }
+    ensures ok { OnOk result (D.files depot.new ≡ putting (D.files depot.old) name.now (concatenated pieces.now)) }
+    ensures err { OnErr result (IsLeft (D.files depot.old) (D.files depot.new) (record { name = name.now; bytes = concatenated pieces.now })) }
     ensures cause { OnErr result (Rose (D.write_faults depot.old) (D.write_faults depot.new)) }
     ensures only_writes { OnlyWrites D.Depot depot.old depot.new }
 {
@@ -65,19 +65,19 @@ pub(crate) fn write_digested<R: Threads, D: Depot>(
     name: &str,
     pieces: &[Vec<u8>],
 ) -> Result<(), Failed>
-    ensures ok { OnOk result (D.files depot.new ≡ putting (D.files depot.old) name.now (joined pieces.now ++ sha256 (joined pieces.now))) }
+    ensures ok { OnOk result (D.files depot.new ≡ putting (D.files depot.old) name.now (concatenated pieces.now ++ sha256 (concatenated pieces.now))) }
     ensures err { OnErr result (IsLeft (D.files depot.old) (D.files depot.new)
-        (record { name = name.now; bytes = joined pieces.now ++ sha256 (joined pieces.now) })) }
+        (record { name = name.now; bytes = concatenated pieces.now ++ sha256 (concatenated pieces.now) })) }
     ensures cause { OnErr result (Rose (D.write_faults depot.old) (D.write_faults depot.new)) }
     ensures only_writes { OnlyWrites D.Depot depot.old depot.new }
 {
     let mut draw = || -> [u8; 32]
-        ensures { result ≡ sha256 (joined pieces.entry.now) }
+        ensures { result ≡ sha256 (concatenated pieces.entry.now) }
     { digest_of(pieces) };
     let mut write = || -> Result<(), Failed>
-        ensures { OnOk result (D.files depot.exit.now ≡ putting (D.files depot.entry.now) name.entry.now (joined pieces.entry.now))
+        ensures { OnOk result (D.files depot.exit.now ≡ putting (D.files depot.entry.now) name.entry.now (concatenated pieces.entry.now))
             × OnErr result (IsLeft (D.files depot.entry.now) (D.files depot.exit.now)
-            (record { name = name.entry.now; bytes = joined pieces.entry.now }))
+            (record { name = name.entry.now; bytes = concatenated pieces.entry.now }))
             × OnErr result (Rose (D.write_faults depot.entry.now) (D.write_faults depot.exit.now))
             × OnlyWrites D.Depot depot.entry.now depot.exit.now }
     { write_pieces(depot, name, pieces) };

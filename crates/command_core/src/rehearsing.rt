@@ -10,7 +10,7 @@ ghost use Rattle.word_core.specs.declared.command.Command.{Command};
 ghost use Rattle.input_core.specs.Readings.{job_in as job_of};
 ghost use Rattle.outside_core.specs.Reads.{WhichFailed};
 ghost use Rattle.input_core.specs.Inputs.{IsBlamed, IsRead};
-ghost use Rattle.command_core.specs.Commands.{IsRefused, input, verdict_line as line_of_verdict};
+ghost use Rattle.command_core.specs.Commands.{IsFileRefused, input, verdict_line as line_of_verdict};
 ghost use Rattle.command_core.specs.Rehearsals.{AddsJob, IsRefusedFrom, IsRehearsedFrom};
 ghost use Rattle.command_core.specs.Answering.{reply_fields};
 ghost use Rattle.command_core.specs.Replies.{IsReply};
@@ -58,7 +58,7 @@ fn with_file<R: Threads + Sync, G: Gate + Sync, D: Depot>(
     ensures refused { IfErr result (λ e. e ≢ FileFault.NoMemory → (given : Option (List ℕ))
         × IsRead (D.files depot.old) (WhichFailed D.Depot depot.old depot.new) name.now given
         × ((h : History) → IsOf h before
-        → IsRefused h before.parts name.now given (record { name = name.now; fault = e }))) }
+        → IsFileRefused h before.parts name.now given (record { name = name.now; fault = e }))) }
     ensures blamed { IsBlamed (WhichFailed D.Depot depot.old depot.new) name.now FileFault.Unread result }
     ensures only_reads { OnlyReads D.Depot depot.old depot.new }
 {

@@ -15,7 +15,7 @@ use Rattle.ledger_core.specs.declared.fault.LedgerFault.TheVariants as faults
 use Rattle.ledger_core.specs.declared.fields.LedgerItem.{LedgerItem}
 use Rattle.ledger_core.specs.LedgerFields.{LedgerPartFields, LedgerFields}
 use Rattle.ledger_core.specs.LedgerLayout.{least_epoch, is_from, ledger_part, last_place, until_field, some_until, date, item, body, digested, ledger}
-use Rattle.ledger_core.specs.LedgerReading.{ledger_of}
+use Rattle.ledger_core.specs.LedgerReading.{ledger_of_bytes}
 use Rattle.input_core.specs.declared.inputs.TheConstants.{LONGEST_LEDGER}
 use Rattle.store_core.proofs.Extents.{ReadsAtMost, Any, wider, bytes-at_most, number-at_most, sum_field-at_most, whole-at_most, ◌>>>◌, several, front-same}
 
@@ -100,5 +100,5 @@ unfolding ledger
 file-same file = front-same LONGEST_LEDGER (Any {A = LedgerFields}) digested digested-at_most file
 
 -- a ledger is read by its bytes up to the longest text and one more
-pub ledger-same : (file : List ℕ) → ledger_of (take (LONGEST_LEDGER + 1) file) ≡ ledger_of file
+pub ledger-same : (file : List ℕ) → ledger_of_bytes (take (LONGEST_LEDGER + 1) file) ≡ ledger_of_bytes file
 ledger-same file = ap (λ (r : Result (LedgerFields × ℕ) LayoutFault). value_of (with_fault faults.Layout r)) (file-same file)

@@ -7,7 +7,7 @@ use Rattle.job_core.specs.declared.bounds.TheConstants.Limits as limits
 use Rattle.job_core.specs.JobFields.{JobFields}
 use Rattle.job_core.specs.JobLayout.{job_of}
 use Rattle.ledger_core.specs.LedgerFields.{LedgerFields}
-use Rattle.ledger_core.specs.LedgerReading.{ledger_of}
+use Rattle.ledger_core.specs.LedgerReading.{ledger_of_bytes}
 use Rattle.part_text.specs.SealedFields.{SealedFields}
 use Rattle.store_core.specs.StoreLayout.{store}
 use Rattle.input_core.specs.declared.fault.FileFault.{FileFault}
@@ -26,7 +26,7 @@ abbrev pub job_in : List ℕ → Result JobFields FileFault
 job_in bytes = faulted of_job (job_of limits.PUBLISHED bytes)
 
 abbrev pub ledger_in : List ℕ → Result LedgerFields FileFault
-ledger_in bytes = faulted of_ledger (ledger_of bytes)
+ledger_in bytes = faulted of_ledger (ledger_of_bytes bytes)
 
 -- the part, and how many bytes it has
 abbrev pub part_in : List ℕ → Result (SealedFields × ℕ) FileFault

@@ -3,7 +3,7 @@
 ghost use Rattle.std.specs.Prelude.{map};
 ghost use Rattle.outside_core.specs.Effects.{OnlyReads};
 ghost use Rattle.input_core.specs.Queries.{as_query};
-ghost use Rattle.input_core.specs.Readings.{queries_in as queries_of, ledger_in as ledger_of};
+ghost use Rattle.input_core.specs.Readings.{queries_in as queries_of, ledger_in as ledger_of_file};
 ghost use Rattle.outside_core.specs.Reads.{WhichFailed};
 ghost use Rattle.input_core.specs.Inputs.{IsInput};
 
@@ -49,7 +49,7 @@ pub fn queries_in<D: Depot>(
 /// The ledger of the file of this name.
 pub fn ledger_in<D: Depot>(alloc: Global, depot: &mut D, name: &str) -> Result<Ledger, FileFault>
     ensures input { IsInput (D.files depot.old) (WhichFailed D.Depot depot.old depot.new) name.now
-        ledger_of (λ l. l) result }
+        ledger_of_file (λ l. l) result }
     ensures only_reads { OnlyReads D.Depot depot.old depot.new }
 {
     let bytes = read_up_to(alloc, depot, name, LONGEST_LEDGER)?;

@@ -16,7 +16,7 @@ use Rattle.ledger_core.specs.declared.fault.LedgerFault.{LedgerFault}
 use Rattle.ledger_core.specs.declared.fault.LedgerFault.TheVariants as faults
 use Rattle.ledger_core.specs.LedgerFields.{LedgerPartFields, LedgerFields}
 use Rattle.ledger_core.specs.LedgerLayout.{ledger_part, last_place, until_field, some_until, date, item, body, digested, ledger}
-use Rattle.ledger_core.specs.LedgerReading.{fielded, ledger_of, offset_in_ledger}
+use Rattle.ledger_core.specs.LedgerReading.{fielded, ledger_of_bytes, offset_in_ledger}
 
 abbrev offset : LayoutFault → ℕ
 offset f = f.at
@@ -126,11 +126,11 @@ within-err : (bytes : List ℕ) (f : LayoutFault) (read : Result (LedgerFields �
 within-err bytes f (Ok x) h is = absurd cc
 within-err bytes f (Err e) h is = subst (λ (r : Result LedgerFields LedgerFault). IfErr r (λ e. offset_in_ledger e ≤ length bytes)) is h
 
-fault-within : (e : LedgerFault) (bytes : List ℕ) → ((e ≡ faults.NoMemory → ⊥) → ledger_of bytes ≡ Err e) → offset_in_ledger e ≤ length bytes
+fault-within : (e : LedgerFault) (bytes : List ℕ) → ((e ≡ faults.NoMemory → ⊥) → ledger_of_bytes bytes ≡ Err e) → offset_in_ledger e ≤ length bytes
 fault-within faults.NoMemory bytes h = omega arith
 fault-within (faults.Layout f) bytes h = within-err bytes f (fielded ledger bytes 0) (ledger-bounded.each bytes 0 (omega arith)) (h (λ e. cc))
 
 -- a fault lies within the bytes
-pub at-of : (bytes : List ℕ) (r : Result LedgerFields LedgerFault) → GivesUnless faults.NoMemory (λ (l : LedgerFields). l) r (ledger_of bytes) → IfErr r (λ e. offset_in_ledger e ≤ length bytes)
+pub at-of : (bytes : List ℕ) (r : Result LedgerFields LedgerFault) → GivesUnless faults.NoMemory (λ (l : LedgerFields). l) r (ledger_of_bytes bytes) → IfErr r (λ e. offset_in_ledger e ≤ length bytes)
 at-of bytes (Ok l) h = tt
 at-of bytes (Err e) h = fault-within e bytes h

@@ -31,8 +31,8 @@ abbrev pub before : Option (Bor LedgerPart) → Option LedgerPartFields
 before previous = option_map part_fields (option_copied previous)
 
 -- the ledger of these bytes, all of them, or the first field that is short or fails its test
-abbrev pub ledger_of : List ℕ → Result LedgerFields LedgerFault
-ledger_of bytes = value_of (fielded ledger bytes 0)
+abbrev pub ledger_of_bytes : List ℕ → Result LedgerFields LedgerFault
+ledger_of_bytes bytes = value_of (fielded ledger bytes 0)
 
 -- the offset of the field, if the fault is one of a field
 abbrev pub offset_in_ledger : LedgerFault → ℕ

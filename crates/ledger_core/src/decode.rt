@@ -12,7 +12,7 @@ ghost use Rattle.ledger_core.specs.LedgerLayout.{tested, least_epoch, coverage_b
 ghost use Rattle.ledger_core.specs.LedgerLayout.{issuers as issuers_layout, ledger_parts, is_from, is_behind};
 ghost use Rattle.ledger_core.specs.LedgerLayout.{last_place, until_field, date as date_layout, date_in, item};
 ghost use Rattle.ledger_core.specs.LedgerLayout.{items as items_layout, body};
-ghost use Rattle.ledger_core.specs.LedgerReading.{Reads, before, ledger_of, offset_in_ledger};
+ghost use Rattle.ledger_core.specs.LedgerReading.{Reads, before, ledger_of_bytes, offset_in_ledger};
 ghost use Rattle.ledger_core.specs.Fitting.{Fits};
 
 use crate::encode::{ISSUER, ITEM, NONE};
@@ -290,7 +290,7 @@ fn body_of(
 
 #[tactic(auto, unfolding(crate::specs::LedgerLayout::ledger, crate::specs::LedgerLayout::digested))]
 fn ledger_in(alloc: Global, bytes: &[u8]) -> Result<Ledger, LedgerFault>
-    ensures { GivesUnless LedgerFault.NoMemory (λ l. l) result (ledger_of bytes.now) }
+    ensures { GivesUnless LedgerFault.NoMemory (λ l. l) result (ledger_of_bytes bytes.now) }
 {
     let mut cursor = Cursor::new(bytes);
     let (parts, items) = body_of(alloc, &mut cursor)?;
@@ -304,7 +304,7 @@ fn ledger_in(alloc: Global, bytes: &[u8]) -> Result<Ledger, LedgerFault>
 /// However great a count is, no more memory is asked for than the bytes behind it could fill.
 pub fn decode_ledger(alloc: Global, bytes: &[u8]) -> Result<Ledger, LedgerFault>
     // Which ledger or fault it is.
-    ensures exact { GivesUnless LedgerFault.NoMemory (λ l. l) result (ledger_of bytes.now) }
+    ensures exact { GivesUnless LedgerFault.NoMemory (λ l. l) result (ledger_of_bytes bytes.now) }
     // What is read is spelled so, each byte of it, in one of the versions.
     ensures spelled { IfOk result (λ l. IsText l bytes.now) }
     ensures fits { IfOk result (λ l. Fits l) }

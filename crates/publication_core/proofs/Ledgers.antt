@@ -28,7 +28,7 @@ use Rattle.ledger_core.specs.declared.fields.LedgerItem.{LedgerItem}
 use Rattle.ledger_core.specs.LedgerFields.{LedgerPartFields, LedgerFields, IsLedger, ids, newest}
 use Rattle.ledger_core.specs.Fitting.{IsKey, PartFits, ItemFits, Fits}
 use Rattle.ledger_core.specs.LedgerLayout.{ledger}
-use Rattle.ledger_core.specs.LedgerReading.{ledger_of as read_ledger}
+use Rattle.ledger_core.specs.LedgerReading.{ledger_of_bytes}
 use Rattle.ledger_core.specs.LedgerText.{HasNoDates}
 use Rattle.ledger_core.proofs.LedgerTexts.{ledger-again, old-again}
 use Rattle.ledger_core.proofs.Seals.{IsLedger-sealed}
@@ -367,8 +367,8 @@ module _ (h : History) (parts : List SealedFields) (is : IsHistory h parts) (som
   pub history_old_read : IsUndated h → ledger (old_ledger_bytes h parts) 0 ≡ Ok (ledger_of (releases_of h parts), length (old_ledger_bytes h parts))
   history_old_read none = old-again (ledger_of (releases_of h parts)) history_ledger_fits (history_undated none)
 
-  pub history_old_value : IsUndated h → read_ledger (old_ledger_bytes h parts) ≡ Ok (ledger_of (releases_of h parts))
+  pub history_old_value : IsUndated h → ledger_of_bytes (old_ledger_bytes h parts) ≡ Ok (ledger_of (releases_of h parts))
   history_old_value none = ap (λ r. value_of (with_fault ledger_faults.Layout r)) (history_old_read none)
 
-  pub history_ledger_value : read_ledger (ledger_bytes h parts) ≡ Ok (ledger_of (releases_of h parts))
+  pub history_ledger_value : ledger_of_bytes (ledger_bytes h parts) ≡ Ok (ledger_of (releases_of h parts))
   history_ledger_value = ap (λ r. value_of (with_fault ledger_faults.Layout r)) history_ledger_read

@@ -4,7 +4,7 @@ ghost use Rattle.std.specs.Prelude.{◌≡◌, ◌≤◌, List, Ok, length};
 ghost use Rattle.part_text.specs.SealedFields.{SealedFields};
 ghost use Rattle.ledger_core.specs.Fitting.{Fits};
 ghost use Rattle.ledger_core.specs.LedgerLayout.{ledger};
-ghost use Rattle.ledger_core.specs.LedgerReading.{ledger_of as ledger_of_bytes};
+ghost use Rattle.ledger_core.specs.LedgerReading.{ledger_of_bytes};
 ghost use Rattle.ledger_core.specs.LedgerText.{HasNoDates};
 ghost use Rattle.universe_core.specs.Ledgers.{ledger_of};
 ghost use Rattle.publication_core.specs.Histories.{History, members, IsHistory, releases_of, ledger_bytes, old_ledger_bytes, IsUndated};
