@@ -29,7 +29,8 @@ use Rattle.publication_core.specs.Rebasing.{BasePublicationFields, PublishesBase
 use Rattle.word_core.specs.declared.command.Command.TheVariants as commands
 use Rattle.word_core.specs.declared.command.{Query.Query as StoreQuery, QueryCert.QueryCert, Snapshot.Snapshot}
 use Rattle.word_core.specs.declared.command.{Delta.Delta, Rebase.Rebase, Start.Start, Install.Install}
-use Rattle.word_core.specs.declared.command.{Rehearse.Rehearse, Audit.Audit, Sample.Sample, Gather.Gather, Merge.Merge, Cut.Cut, Place.Place}
+use Rattle.word_core.specs.declared.command.{Rehearse.Rehearse, Audit.Audit, Sample.Sample}
+use Rattle.word_core.specs.declared.command.{Gather.Gather, Merge.Merge, Cut.Cut, Place.Place}
 use Rattle.word_core.specs.Names.{inputs_of, outputs_of}
 use Rattle.line_core.specs.Lines.{line, audit_line}
 use Rattle.input_core.specs.declared.certificates.Certificate.{Certificate}

@@ -49,7 +49,8 @@ pub(crate) fn write_whole<D: Depot>(depot: &mut D, name: &str, bytes: &[u8]) -> 
 /// Begins the file of this name, and adds the pieces in their order.
 fn write_pieces<D: Depot>(depot: &mut D, name: &str, pieces: &[Vec<u8>]) -> Result<(), Failed>
     ensures ok { OnOk result (D.files depot.new ≡ putting (D.files depot.old) name.now (concatenated pieces.now)) }
-    ensures err { OnErr result (IsLeft (D.files depot.old) (D.files depot.new) (record { name = name.now; bytes = concatenated pieces.now })) }
+    ensures err { OnErr result (IsLeft (D.files depot.old) (D.files depot.new)
+        (record { name = name.now; bytes = concatenated pieces.now })) }
     ensures cause { OnErr result (Rose (D.write_faults depot.old) (D.write_faults depot.new)) }
     ensures only_writes { OnlyWrites D.Depot depot.old depot.new }
 {
@@ -65,7 +66,8 @@ pub(crate) fn write_digested<R: Threads, D: Depot>(
     name: &str,
     pieces: &[Vec<u8>],
 ) -> Result<(), Failed>
-    ensures ok { OnOk result (D.files depot.new ≡ putting (D.files depot.old) name.now (concatenated pieces.now ++ sha256 (concatenated pieces.now))) }
+    ensures ok { OnOk result (D.files depot.new ≡ putting (D.files depot.old) name.now
+        (concatenated pieces.now ++ sha256 (concatenated pieces.now))) }
     ensures err { OnErr result (IsLeft (D.files depot.old) (D.files depot.new)
         (record { name = name.now; bytes = concatenated pieces.now ++ sha256 (concatenated pieces.now) })) }
     ensures cause { OnErr result (Rose (D.write_faults depot.old) (D.write_faults depot.new)) }

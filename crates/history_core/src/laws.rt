@@ -200,7 +200,8 @@ pub fn first_job_is_sound()
     ensures told { past_in no_ledger ≡ past_of [] }
     ensures sound { (trailer : List Release → JobFacts → List ℕ) (job : JobFacts) → IsSound (releases trailer [] (job ∷ [])) }
     ensures groups { (job : JobFacts) (trailer : List ℕ) → groups_after no_ledger job ≡ groups (released (past_of []) job trailer) }
-    ensures next { (job : JobFacts) (trailer : List ℕ) → next_ledger no_ledger job trailer ≡ ledger_of (released (past_of []) job trailer ∷ []) }
+    ensures next { (job : JobFacts) (trailer : List ℕ)
+        → next_ledger no_ledger job trailer ≡ ledger_of (released (past_of []) job trailer ∷ []) }
 {}
 
 /// In a history of one job a certificate is listed exactly if the job lists it, enrolls its issuer and covers an entry

@@ -3,7 +3,8 @@
 ghost use Rattle.std.specs.Prelude.{◌≡◌, ◌≤◌, ◌+◌, ◌*◌, length, OnOk, IfOk, flat_map};
 ghost use Rattle.card_core.specs.declared.part.TheConstants.{MAX_BLOCKS};
 ghost use Rattle.part_text.specs.declared.encode.TheConstants.{MAX_STAGE, MAX_LEAF, MAX_BLOCK};
-ghost use Rattle.part_text.specs.PartText.{stage_text, approx_text, mixed_text, shard_leaf_text, sharded_text, body_text, block_text, spelling};
+ghost use Rattle.part_text.specs.PartText.{stage_text, approx_text, mixed_text, shard_leaf_text, sharded_text};
+ghost use Rattle.part_text.specs.PartText.{body_text, block_text, spelling};
 ghost use Rattle.part_text.specs.Fitting.{Fits};
 
 use crate::sealed::Sealed;

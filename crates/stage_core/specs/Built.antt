@@ -7,7 +7,8 @@ use Rattle.ribbon_core.specs.PlaneWords.{PlaneColumns}
 use Rattle.card_core.specs.declared.stage.Stage.{Stage}
 use Rattle.card_core.specs.declared.block.Block.{Block}
 use Rattle.card_core.specs.declared.leaf.Leaf.{Leaf}
-use Rattle.card_core.specs.Leaf.{IsLeaf, IsStageRefused, IsStage, IsExhausted, IsApproxIfAny, IsApproxExhausted, IsExactStage, exact_equations}
+use Rattle.card_core.specs.Leaf.{IsLeaf, IsStageRefused, IsStage, IsExhausted, IsApproxIfAny, IsApproxExhausted}
+use Rattle.card_core.specs.Leaf.{IsExactStage, exact_equations}
 use Rattle.card_core.specs.Filter.{IsBlock, IsBlockRefused}
 use Rattle.stage_core.specs.declared.fault.BlockFault.{BlockFault}
 use Rattle.stage_core.specs.declared.fault.BlockFault.TheVariants.{SeedsExhausted, NoMemory}
